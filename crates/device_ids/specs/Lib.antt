@@ -1,0 +1,4 @@
+pub mod Cuts
+pub mod Folding
+pub mod Ids
+pub mod Faults

@@ -1,0 +1,162 @@
+ghost use Rattle.std.specs.Prelude.{◌≡◌, ◌≢◌, ◌↔◌, ◌≤◌, ◌<◌, ◌+◌, ◌++◌, ℕ, [], ◌∷◌, length, take, drop, Some, None, false, true, IsTrue, IfOk, OnOk, OnErr, IsErrOf, IsOkUnless, MatchOption, Err, ◌⊎◌};
+ghost use Rattle.device_ids.specs.Faults.{path_fault};
+ghost use Rattle.device_ids.specs.declared.error.PathError.{PathError};
+ghost use Rattle.device_ids.specs.Folding.{folded, same};
+ghost use Rattle.device_ids.specs.Ids.{joined, has_parts, has_ids, is_path, Sides};
+
+use crate::cuts::split_once;
+use crate::error::PathError;
+use crate::id::{DeviceId, is_legal};
+use crate::text::WantOfMemory;
+use std::alloc::{AllocError, Global};
+use std::marker::Model;
+
+/// The place of the last backslash, where the bytes are three parts between two, none of them empty.
+fn last_backslash(bytes: &[u8]) -> Option<usize>
+    ensures { MatchOption result (has_parts bytes.now ≡ false) (λ at. Sides bytes.now at) }
+{
+    let (bus, rest) = split_once(bytes, b'\\')?;
+    let (name, instance) = split_once(rest, b'\\')?;
+    if let Some((_, _)) = split_once(instance, b'\\') {
+        return None;
+    }
+    if bus.is_empty() || name.is_empty() || instance.is_empty() {
+        return None;
+    }
+    Some(bus.len() + 1 + name.len())
+}
+
+/// Why the bytes are no path, if they are none: the first test that fails.
+fn path_fault(bytes: &[u8]) -> Option<PathError>
+    ensures { result ≡ path_fault bytes.now }
+{
+    let Some(at) = last_backslash(bytes) else {
+        return Some(PathError::Parts);
+    };
+    if is_legal(&bytes[..at]) && is_legal(&bytes[at + 1..]) {
+        return None;
+    }
+    Some(PathError::BadId)
+}
+
+/// The name of a device in the tree: device ID, backslash, instance ID (the driver kit, "Device Instance
+/// IDs"). A contract sees the list of its bytes. The folded text is kept beside, so that a look-up by it
+/// takes no memory.
+#[derive(Debug, Drop)]
+pub struct InstancePath {
+    bytes: Vec<u8>,
+    folded_bytes: Vec<u8>,
+}
+
+impl Model for InstancePath {
+    ghost use Rattle.std.specs.Prelude.{List, ℕ, IsTrue, ◌≡◌};
+    ghost use Rattle.device_ids.specs.Folding.{folded};
+    ghost use Rattle.device_ids.specs.Ids.{is_path};
+
+    ghost Value = { List ℕ };
+
+    ghost view = { λ p. p.bytes.items };
+
+    ghost invariant = { λ p. IsTrue (is_path p.bytes.items) × (p.folded_bytes.items ≡ folded p.bytes.items) };
+}
+
+impl InstancePath {
+    /// The path of these bytes.
+    #[tactic(auto, using(crate::proofs::Legal::no_path_fault, crate::proofs::Legal::a_path_fault))]
+    fn of_bytes(alloc: Global, bytes: Vec<u8>) -> Result<InstancePath, PathError>
+        ensures ok { IfOk result (λ path. (path ≡ bytes.items) × IsTrue (is_path path)) }
+        ensures fault { (fault : PathError) → path_fault bytes.items ≡ Some fault → result ≡ Err fault }
+        ensures legal { IsTrue (is_path bytes.items) → IsOkUnless result PathError.WantOfMemory }
+    {
+        if let Some(fault) = path_fault(&bytes) {
+            return Err(fault);
+        }
+        let Ok(mut folded_bytes) = Vec::from_slice(alloc, &bytes) else {
+            return Err(PathError::WantOfMemory);
+        };
+        folded_bytes.make_ascii_lowercase();
+        Ok(InstancePath {
+            bytes,
+            folded_bytes,
+        })
+    }
+
+    /// Device ID, backslash, instance ID. Errors: those of `read` at the joined bytes, or want of memory,
+    /// which joining them takes first. Cost: the length.
+    pub fn join(
+        alloc: Global,
+        device: &DeviceId,
+        instance: &DeviceId,
+    ) -> Result<InstancePath, PathError>
+        ensures ok { IfOk result (λ path. (path ≡ joined device.now instance.now) × IsTrue (is_path path)) }
+        ensures fault { (fault : PathError) → path_fault (joined device.now instance.now) ≡ Some fault → (result ≡ Err fault) ⊎ (result ≡ Err PathError.WantOfMemory) }
+        ensures legal { IsTrue (is_path (joined device.now instance.now)) → IsOkUnless result PathError.WantOfMemory }
+    {
+        match joined(alloc, device.bytes(), instance.bytes()) {
+            Ok(bytes) => InstancePath::of_bytes(alloc, bytes),
+            Err(_) => Err(PathError::WantOfMemory),
+        }
+    }
+
+    /// The path of these bytes. Errors, the first that holds: `Parts` where they are not three non-empty
+    /// parts between two backslashes, `BadId` where a side of the last backslash is no legal identifier;
+    /// and `WantOfMemory`. Cost: the length.
+    #[tactic(auto, using(crate::proofs::Legal::no_path_fault, crate::proofs::Legal::a_path_fault))]
+    pub fn read(alloc: Global, bytes: &[u8]) -> Result<InstancePath, PathError>
+        ensures ok { IfOk result (λ path. (path ≡ bytes.now) × IsTrue (is_path path)) }
+        ensures fault { (fault : PathError) → path_fault bytes.now ≡ Some fault → result ≡ Err fault }
+        ensures legal { IsTrue (is_path bytes.now) → IsOkUnless result PathError.WantOfMemory }
+    {
+        if let Some(fault) = path_fault(bytes) {
+            return Err(fault);
+        }
+        match Vec::from_slice(alloc, bytes) {
+            Ok(bytes) => InstancePath::of_bytes(alloc, bytes),
+            Err(_) => Err(PathError::WantOfMemory),
+        }
+    }
+
+    /// Whether both agree after ASCII letters are folded. Cost: the length.
+    pub fn same(&self, other: &InstancePath) -> bool
+        ensures { result ≡ same self.now other.now }
+    {
+        self.bytes().eq_ignore_ascii_case(other.bytes())
+    }
+
+    /// The bytes, as they were given.
+    pub fn bytes(&self) -> &[u8]
+        ensures bytes { result.now ≡ self.now }
+        ensures legal { IsTrue (is_path self.now) }
+    {
+        &self.bytes
+    }
+
+    /// The bytes with ASCII letters folded: equal for paths that are the same.
+    pub fn folded(&self) -> &[u8]
+        ensures { result.now ≡ folded self.now }
+    {
+        &self.folded_bytes
+    }
+
+    /// An equal path. Cost: the length.
+    pub fn copy(&self, alloc: Global) -> Result<InstancePath, WantOfMemory>
+        ensures { IfOk result (λ path. path ≡ self.now) }
+    {
+        let bytes = Vec::from_slice(alloc, &self.bytes)?;
+        let folded_bytes = Vec::from_slice(alloc, &self.folded_bytes)?;
+        Ok(InstancePath {
+            bytes,
+            folded_bytes,
+        })
+    }
+}
+
+/// Both, with a backslash between them.
+fn joined(alloc: Global, device: &[u8], instance: &[u8]) -> Result<Vec<u8>, AllocError>
+    ensures { IfOk result (λ bytes. bytes.items ≡ joined device.now instance.now) }
+{
+    let mut bytes = Vec::from_slice(alloc, device)?;
+    bytes.push(b'\\')?;
+    bytes.extend_from_slice(instance)?;
+    Ok(bytes)
+}
