@@ -1,0 +1,240 @@
+use crate::states::{DevState, Problem};
+use crate::words::Minor;
+use device_ids::{InstancePath, Text};
+use resource_reqs::ResList;
+
+/// Which event a label speaks of: one variant for each of `Event`.
+#[derive(Clone, Copy, Debug, PartialEq, Eq)]
+pub enum EventWord {
+    Plug,
+    Pull,
+    Name,
+    Teach,
+    Disable,
+    Enable,
+    Eject,
+    Relate,
+    Reserve,
+    Complete,
+}
+
+/// Why an event was refused: this project's own.
+#[derive(Clone, Copy, Debug, PartialEq, Eq)]
+pub enum Reason {
+    /// The world has no device of the parent's path.
+    NoParent,
+    /// The world has a device of the path.
+    SameId,
+    /// The world has 4,096 devices besides the root.
+    WorldFull,
+    /// There is no device of the path.
+    NoDevice,
+    /// The path is the root's.
+    RootStays,
+    /// A driver has the name.
+    SameName,
+    /// No unnamed driver of the kind is left.
+    RackEmpty,
+    /// No driver has the name.
+    NoDriver,
+    /// The driver answers by no script.
+    NotTeachable,
+    /// The driver's book has 64 rules.
+    BookFull,
+    /// The path is in the disabled list.
+    AlreadyDisabled,
+    /// The path is not in the disabled list.
+    NotDisabled,
+    /// An operation runs.
+    Busy,
+    /// Owner and member are one device.
+    SelfRelation,
+    /// The same kind, owner and member are related already.
+    SameRelation,
+    /// The owner depends on the member.
+    RelationCycle,
+    /// One of the two is not Started.
+    NotStarted,
+    /// The range clashes with one that is held or reserved.
+    InUse,
+    /// No request of that minor waits at the device.
+    NoSuchRequest,
+}
+
+/// What an ask or a completion shows: an answer, or a failure that must not be (this project's own name
+/// for it).
+#[derive(Clone, Copy, Debug, PartialEq, Eq)]
+pub enum Shown {
+    Ok,
+    Fail,
+    Pend,
+    /// A failure of a request that may not be failed: it counts as success.
+    Violation,
+}
+
+/// What waits to be done for a device: this project's own.
+#[derive(Clone, Copy, Debug, PartialEq, Eq)]
+pub enum TaskKind {
+    /// Its children in the tree are compared with those in the world.
+    List,
+    /// Its drivers are chosen and its start begins.
+    Start,
+    /// The operation of that name begins for it.
+    Rebalance,
+    Disable,
+    Eject,
+    Surprise,
+}
+
+/// The operations, of which one runs at a time: this project's own.
+#[derive(Clone, Copy, Debug, PartialEq, Eq)]
+pub enum OpKind {
+    /// Devices stop so that one more can have its resources.
+    Rebalance,
+    /// A device and its dependents lose their drivers, and it stays disabled.
+    Disable,
+    /// A device and its dependents lose their drivers, and it leaves.
+    Eject,
+    /// A device has gone without a word.
+    Surprise,
+}
+
+/// How an operation ended: this project's own.
+#[derive(Debug, Drop)]
+pub enum OpEnd {
+    /// The resources were found and given.
+    Moved,
+    /// There is no assignment of resources.
+    NoFit,
+    /// The search was given up at its budget.
+    Spent,
+    /// Nothing is left to do.
+    Done,
+    /// The device of this path refused.
+    Veto(Text),
+}
+
+/// What a step of the machine prints: one line of the trace. This project's own.
+#[derive(Debug, Drop)]
+pub enum Label {
+    /// An event was taken.
+    Did {
+        word: EventWord,
+        what: Text,
+    },
+    /// An event was refused.
+    Refused {
+        word: EventWord,
+        reason: Reason,
+    },
+    /// A task had nothing to do.
+    Skip {
+        task: TaskKind,
+        serial: u64,
+    },
+    /// A device of the world got a node.
+    Join {
+        serial: u64,
+        path: Text,
+    },
+    /// A device is in the world no more.
+    Gone {
+        path: Text,
+    },
+    /// The children of a device were compared with the world.
+    Listed {
+        path: Text,
+    },
+    /// Drivers were chosen.
+    Install {
+        path: Text,
+        rank: u32,
+        driver: Text,
+    },
+    /// A device got a problem.
+    Trouble {
+        path: Text,
+        problem: Problem,
+    },
+    /// A driver was asked to add a device.
+    Add {
+        path: Text,
+        driver: Text,
+        ok: bool,
+    },
+    /// A device got its resources.
+    Assign {
+        path: Text,
+        held: ResList,
+    },
+    /// A rebalance found an assignment.
+    Fits {
+        path: Text,
+    },
+    /// There is no assignment.
+    NoFit {
+        path: Text,
+    },
+    /// The search was given up.
+    Spent {
+        path: Text,
+    },
+    /// A driver was asked a request.
+    Asked {
+        minor: Minor,
+        path: Text,
+        driver: Text,
+        shown: Shown,
+    },
+    /// A request went through the whole stack: the device has this state.
+    State {
+        path: Text,
+        state: DevState,
+    },
+    /// An operation began.
+    Begin {
+        op: OpKind,
+        path: Text,
+    },
+    /// The holdings of so many devices were replaced at once.
+    Commit {
+        movers: u64,
+    },
+    /// A node left the tree.
+    Leave {
+        path: Text,
+    },
+    /// The target of an eject left world and tree.
+    Ejected {
+        path: Text,
+    },
+    /// An operation ended.
+    End {
+        op: OpKind,
+        path: Text,
+        result: OpEnd,
+    },
+}
+
+/// A step of a removal or of a surprise removal, with what the machine has to do beside it: this project's own.
+#[derive(Debug, Drop)]
+pub enum RemoveStep {
+    /// Nothing.
+    Did(Label),
+    /// The node of that path and birth number left: where the world has it anew, it is listed again.
+    Left {
+        label: Label,
+        path: InstancePath,
+        born: u64,
+    },
+    /// The path of the target joins the disabled list.
+    Disabled(Label),
+    /// The target left: the world loses it, and then as for `Left`.
+    Ejected {
+        label: Label,
+        path: InstancePath,
+        born: u64,
+    },
+    /// The operation closes.
+    Over(Label),
+}
