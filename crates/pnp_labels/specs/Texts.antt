@@ -1,5 +1,5 @@
 -- The printed words, and the line of each label.
-use Rattle.std.specs.Prelude.{ℕ, Bool, true, false, List, [], ◌∷◌, ◌++◌, codes}
+use Rattle.std.specs.Prelude.{ℕ, ◌-◌, Bool, true, false, List, [], ◌∷◌, ◌++◌, codes, length, map, replicate}
 use Rattle.std.specs.Fmt.{decimal, digits}
 use Rattle.resource_reqs.specs.Resources.{Res}
 use Rattle.resource_reqs.specs.declared.kind.Kind.{Kind}
@@ -29,10 +29,15 @@ use Rattle.pnp_labels.specs.declared.label.Label.TheVariants as Label
 abbrev pub Text : Type 0
 Text = List ℕ
 
+-- a space before each
+abbrev pub after_spaces : List Text → Text
+after_spaces [] = []
+after_spaces (t ∷ ts) = 32 ∷ t ++ after_spaces ts
+
+-- a space between any two
 abbrev pub spaced : List Text → Text
 spaced [] = []
-spaced (t ∷ []) = t
-spaced (t ∷ u ∷ ts) = t ++ 32 ∷ spaced (u ∷ ts)
+spaced (t ∷ ts) = t ++ after_spaces ts
 
 abbrev pub minor_text : Minor → Text
 minor_text Minor.Start = codes "START_DEVICE"
@@ -144,22 +149,11 @@ range_text kinds.Dma lo hi = codes "dma:" ++ decimal lo ++ 45 ∷ decimal hi
 abbrev pub res_text : Res → Text
 res_text res = range_text res.kind res.lo res.hi ++ share_text res.shared
 
-abbrev pub each_res : List Res → Text
-each_res [] = []
-each_res (res ∷ held) = 32 ∷ res_text res ++ each_res held
-
-abbrev pub zeros : List ℕ
-zeros = codes "00000000"
-
--- the zeros that a number lacks to eight digits
-abbrev pub rank_zeros : List ℕ → Text → Text
-rank_zeros zs [] = zs
-rank_zeros [] (d ∷ ds) = []
-rank_zeros (z ∷ zs) (d ∷ ds) = rank_zeros zs ds
-
+-- eight lower-case hexadecimal digits, or more where the number has more
 abbrev pub rank_text : ℕ → Text
-rank_text n = rank_zeros zeros (digits 16 false n) ++ digits 16 false n
+rank_text n = replicate (8 - length (digits 16 false n)) 48 ++ digits 16 false n
 
+-- the line of a label, without its end
 abbrev pub label_line : Label → Text
 label_line (Label.Did word what) = spaced (codes "event" ∷ word_text word ∷ what ∷ [])
 label_line (Label.Refused word reason) = spaced (codes "refused" ∷ word_text word ∷ reason_text reason ∷ [])
@@ -170,7 +164,7 @@ label_line (Label.Listed path) = spaced (codes "listed" ∷ path ∷ [])
 label_line (Label.Install path rank driver) = spaced (codes "install" ∷ path ∷ rank_text rank ∷ driver ∷ [])
 label_line (Label.Trouble path problem) = spaced (codes "problem" ∷ path ∷ problem_text problem ∷ [])
 label_line (Label.Add path driver ok) = spaced (codes "add" ∷ path ∷ driver ∷ ok_text ok ∷ [])
-label_line (Label.Assign path held) = spaced (codes "assign" ∷ path ∷ []) ++ each_res held
+label_line (Label.Assign path held) = spaced (codes "assign" ∷ path ∷ map res_text held)
 label_line (Label.Fits path) = spaced (codes "fits" ∷ path ∷ [])
 label_line (Label.NoFit path) = spaced (codes "nofit" ∷ path ∷ [])
 label_line (Label.Spent path) = spaced (codes "spent" ∷ path ∷ [])
