@@ -1,0 +1,15 @@
+pub mod Keyed
+pub mod Determined
+mod RowBase
+mod RowsStarts
+mod RowsChoices
+mod RowsTroubles
+mod RowsBooks
+mod RowsRebalances
+mod RowsRestarts
+mod RowsRemovals
+mod RowsRelations
+mod RowsReturns
+mod RowsBoard
+mod RowsMixed
+mod RowsMixedMore
