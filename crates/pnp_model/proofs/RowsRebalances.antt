@@ -1,5 +1,5 @@
 -- Rebalances: whole outputs, as the definition computes them.
-use Rattle.std.proofs.Common.{List, [], ◌∷◌, Some, None, ◌≡◌, refl, true, false}
+use Rattle.std.proofs.Common.{List, [], ◌∷◌, Some, ◌≡◌, refl, true, false}
 use Rattle.std.specs.Prelude.{codes}
 use Rattle.std.specs.Fmt.{digits}
 use Rattle.resource_reqs.specs.Spelling.Answer.{assignment, no_fit, spent}
@@ -11,8 +11,6 @@ use Rattle.pnp_model.specs.Runs.{traced, opening}
 use Rattle.pnp_model.specs.Endings.{lines}
 use Rattle.pnp_model.proofs.RowBase.{settings_of, small_rack, Known}
 use Rattle.resource_reqs.specs.declared.kind.Kind.TheVariants as kinds
-use Rattle.pnp_labels.specs.declared.event.Event.TheVariants as Event
-use Rattle.pnp_labels.specs.declared.words.DriverKind.TheVariants as DriverKind
 
 -- rebalance
 abbrev row_rebalance_known : List Known

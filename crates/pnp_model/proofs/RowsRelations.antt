@@ -1,5 +1,5 @@
 -- Relations: whole outputs, as the definition computes them.
-use Rattle.std.proofs.Common.{List, [], ◌∷◌, Some, None, ◌≡◌, refl, true, false}
+use Rattle.std.proofs.Common.{List, [], ◌∷◌, Some, ◌≡◌, refl}
 use Rattle.std.specs.Prelude.{codes}
 use Rattle.std.specs.Fmt.{digits}
 use Rattle.resource_reqs.specs.Spelling.Answer.{assignment}
@@ -11,9 +11,6 @@ use Rattle.pnp_model.specs.Runs.{traced, opening}
 use Rattle.pnp_model.specs.Endings.{lines}
 use Rattle.pnp_model.proofs.RowBase.{settings_of, small_rack, Known}
 use Rattle.pnp_labels.specs.declared.words.RelKind.{RelKind}
-use Rattle.pnp_labels.specs.declared.event.Event.TheVariants as Event
-use Rattle.pnp_labels.specs.declared.words.DriverKind.TheVariants as DriverKind
-use Rattle.pnp_labels.specs.declared.words.RelKind.TheVariants as RelKind
 
 -- held by a disable
 abbrev row_held_by_a_disable_known : List Known

@@ -14,11 +14,6 @@ use Rattle.pnp_model.specs.Runs.{traced, opening}
 use Rattle.pnp_model.specs.Endings.{lines}
 use Rattle.pnp_model.proofs.RowBase.{settings_of, small_rack, Known}
 use Rattle.resource_reqs.specs.declared.kind.Kind.TheVariants as kinds
-use Rattle.pnp_labels.specs.declared.event.Event.TheVariants as Event
-use Rattle.pnp_labels.specs.declared.words.DriverKind.TheVariants as DriverKind
-use Rattle.pnp_labels.specs.declared.words.Minor.TheVariants as Minor
-use Rattle.pnp_labels.specs.declared.words.AskWhat.TheVariants as AskWhat
-use Rattle.pnp_labels.specs.declared.words.Answer.TheVariants as Answer
 
 -- empty script
 abbrev row_empty_script_known : List Known

@@ -1,5 +1,5 @@
 -- Problems and refusals: whole outputs, as the definition computes them.
-use Rattle.std.proofs.Common.{List, [], ◌∷◌, Some, None, ◌≡◌, refl, true, false}
+use Rattle.std.proofs.Common.{List, [], ◌∷◌, Some, None, ◌≡◌, refl}
 use Rattle.std.specs.Prelude.{codes}
 use Rattle.std.specs.Fmt.{digits}
 use Rattle.resource_reqs.specs.Spelling.Answer.{assignment}
@@ -14,12 +14,6 @@ use Rattle.pnp_model.specs.Runs.{traced, opening}
 use Rattle.pnp_model.specs.Endings.{lines}
 use Rattle.pnp_model.proofs.RowBase.{settings_of, small_rack, Known}
 use Rattle.pnp_labels.specs.declared.words.RelKind.{RelKind}
-use Rattle.pnp_labels.specs.declared.event.Event.TheVariants as Event
-use Rattle.pnp_labels.specs.declared.words.DriverKind.TheVariants as DriverKind
-use Rattle.pnp_labels.specs.declared.words.Minor.TheVariants as Minor
-use Rattle.pnp_labels.specs.declared.words.AskWhat.TheVariants as AskWhat
-use Rattle.pnp_labels.specs.declared.words.Answer.TheVariants as Answer
-use Rattle.pnp_labels.specs.declared.words.RelKind.TheVariants as RelKind
 
 -- same path
 abbrev row_same_path_known : List Known

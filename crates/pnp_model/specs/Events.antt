@@ -1,5 +1,5 @@
 -- What an event does to a quiet machine: a label, and the state after it.
-use Rattle.std.specs.Prelude.{ℕ, ◌==◌, Bool, true, false, not, ◌&&◌, List, [], ◌∷◌, ◌++◌, Option, Some, None, nat_le, nat_lt, find, length}
+use Rattle.std.specs.Prelude.{ℕ, ◌==◌, Bool, true, false, ◌&&◌, List, [], ◌∷◌, ◌++◌, Option, Some, None, nat_le, nat_lt, find, length}
 use Rattle.std.specs.List.{list_any}
 use Rattle.resource_reqs.specs.Resources.{Res, Reqs, clashes}
 use Rattle.pnp_model.specs.Keyed.{changed_first}
@@ -25,12 +25,6 @@ use Rattle.pnp_labels.specs.declared.event.Event.{Event}
 use Rattle.pnp_labels.specs.declared.label.EventWord.{EventWord}
 use Rattle.pnp_labels.specs.declared.label.Reason.{Reason}
 use Rattle.pnp_labels.specs.declared.label.Label.{Label}
-use Rattle.pnp_labels.specs.declared.words.Answer.TheVariants as Answer
-use Rattle.pnp_labels.specs.declared.label.OpKind.TheVariants as OpKind
-use Rattle.pnp_labels.specs.declared.event.Event.TheVariants as Event
-use Rattle.pnp_labels.specs.declared.label.EventWord.TheVariants as EventWord
-use Rattle.pnp_labels.specs.declared.label.Reason.TheVariants as Reason
-use Rattle.pnp_labels.specs.declared.label.Label.TheVariants as Label
 
 abbrev pub refused : EventWord → Reason → State → Step
 refused word reason s = record { label = Label.Refused word reason; state = s }

@@ -12,8 +12,6 @@ use Rattle.pnp_labels.specs.declared.words.Minor.{Minor}
 use Rattle.pnp_labels.specs.declared.words.AskWhat.{AskWhat}
 use Rattle.pnp_labels.specs.declared.words.Answer.{Answer}
 use Rattle.pnp_labels.specs.declared.label.Label.{Label}
-use Rattle.pnp_labels.specs.declared.words.AskWhat.TheVariants as AskWhat
-use Rattle.pnp_labels.specs.declared.label.Label.TheVariants as Label
 
 -- a step of a frame: what is printed, what nodes, relations and rack are then, the frame then, and what
 -- the machine has to do beside it

@@ -6,12 +6,9 @@ use Rattle.pnp_labels.specs.Texts.{Text}
 use Rattle.pnp_labels.specs.declared.states.DevState.{DevState}
 use Rattle.pnp_labels.specs.declared.states.DevState.TheVariants.{NoStack, Started, StopPending, Stopped, RemovePending}
 use Rattle.pnp_labels.specs.declared.states.Problem.{Problem}
-use Rattle.pnp_labels.specs.declared.states.Problem.TheVariants as Problem
 use Rattle.pnp_labels.specs.declared.label.OpKind.{OpKind}
-use Rattle.pnp_labels.specs.declared.label.OpKind.TheVariants as OpKind
 use Rattle.pnp_labels.specs.declared.label.OpEnd.TheVariants as OpEnd
 use Rattle.pnp_labels.specs.declared.label.Label.{Label}
-use Rattle.pnp_labels.specs.declared.label.Label.TheVariants as Label
 use Rattle.pnp_model.specs.Tests.{has}
 use Rattle.pnp_model.specs.Keyed.{changed_first}
 use Rattle.pnp_model.specs.Cores.{node_at, is_node, with_problem}
@@ -146,7 +143,7 @@ FutileLaw =
     → Reaches settings rack earlier before → Goes settings before (Did (Label.Begin OpKind.Rebalance path)) begun
     → Run settings begun entries last → AllWithin entries
     → (Goes settings last (Did (Label.End OpKind.Rebalance end_path OpEnd.NoFit)) after
-        ⊎ Goes settings last (Did (Label.End OpKind.Rebalance end_path OpEnd.Spent)) after)
+    ⊎ Goes settings last (Did (Label.End OpKind.Rebalance end_path OpEnd.Spent)) after)
     → RestoresBut path before.core after.core
 
 -- dependents lose their drivers first, and a node leaves only without children

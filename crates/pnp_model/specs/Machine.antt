@@ -15,8 +15,6 @@ use Rattle.pnp_model.specs.Records.Phase.{Adding, Searching, Starting, Removing,
 use Rattle.pnp_labels.specs.declared.words.Minor.{Minor}
 use Rattle.pnp_labels.specs.declared.label.OpKind.{OpKind}
 use Rattle.pnp_labels.specs.declared.label.Label.{Label}
-use Rattle.pnp_labels.specs.declared.words.Minor.TheVariants as Minor
-use Rattle.pnp_labels.specs.declared.label.OpKind.TheVariants as OpKind
 
 -- Frames become steps ---------------------------------------------------------
 

@@ -16,11 +16,6 @@ use Rattle.pnp_labels.specs.declared.words.Minor.{Minor}
 use Rattle.pnp_labels.specs.declared.states.Problem.{Problem}
 use Rattle.pnp_labels.specs.declared.label.OpKind.{OpKind}
 use Rattle.pnp_labels.specs.declared.label.OpEnd.{OpEnd}
-use Rattle.pnp_labels.specs.declared.label.Label.TheVariants as Label
-use Rattle.pnp_labels.specs.declared.words.Minor.TheVariants as Minor
-use Rattle.pnp_labels.specs.declared.states.Problem.TheVariants as Problem
-use Rattle.pnp_labels.specs.declared.label.OpKind.TheVariants as OpKind
-use Rattle.pnp_labels.specs.declared.label.OpEnd.TheVariants as OpEnd
 
 -- what the machine has to do: nothing; put the surprise task of a device at the head; or close the
 -- operation, after which the target has an activity before its START walk, before its REMOVE walk, or none

@@ -15,11 +15,6 @@ use Rattle.pnp_labels.specs.declared.states.Problem.{Problem}
 use Rattle.pnp_labels.specs.declared.label.OpKind.{OpKind}
 use Rattle.pnp_labels.specs.declared.label.OpEnd.{OpEnd}
 use Rattle.pnp_labels.specs.declared.words.RelKind.{RelKind}
-use Rattle.pnp_labels.specs.declared.label.Label.TheVariants as Label
-use Rattle.pnp_labels.specs.declared.words.Minor.TheVariants as Minor
-use Rattle.pnp_labels.specs.declared.states.Problem.TheVariants as Problem
-use Rattle.pnp_labels.specs.declared.label.OpEnd.TheVariants as OpEnd
-use Rattle.pnp_labels.specs.declared.words.RelKind.TheVariants as RelKind
 
 -- what the machine has to do: nothing; a node left; the path joins the disabled list; the device was
 -- ejected and its node left; the operation closes

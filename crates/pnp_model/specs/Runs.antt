@@ -8,7 +8,6 @@ use Rattle.pnp_labels.specs.Texts.{Text}
 use Rattle.pnp_labels.specs.declared.states.DevState.{DevState}
 use Rattle.pnp_labels.specs.declared.event.Event.{Event}
 use Rattle.pnp_labels.specs.declared.label.Label.{Label}
-use Rattle.pnp_labels.specs.declared.states.DevState.TheVariants as DevState
 
 -- what happens from outside, and what the machine does
 pub data Entry : Type 0 where

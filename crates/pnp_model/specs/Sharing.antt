@@ -1,5 +1,5 @@
 -- Common resources: no two of one state clash.
-use Rattle.std.specs.Prelude.{ℕ, ◌≡◌, ◌≢◌, List, Option, Some, None, Contains, length}
+use Rattle.std.specs.Prelude.{ℕ, ◌≡◌, ◌≢◌, List, Some, Contains}
 use Rattle.resource_reqs.specs.Resources.{Res, Clash, NoClash}
 use Rattle.pnp_model.specs.Cores.{node_at}
 use Rattle.pnp_model.specs.Records.{Node}

@@ -15,10 +15,6 @@ use Rattle.pnp_labels.specs.declared.label.Label.{Label}
 use Rattle.pnp_labels.specs.declared.words.Minor.{Minor}
 use Rattle.pnp_labels.specs.declared.states.Problem.{Problem}
 use Rattle.pnp_labels.specs.declared.words.Answer.TheVariants.{Ok, Fail, Pend}
-use Rattle.pnp_labels.specs.declared.words.AskWhat.TheVariants as AskWhat
-use Rattle.pnp_labels.specs.declared.label.Label.TheVariants as Label
-use Rattle.pnp_labels.specs.declared.words.Minor.TheVariants as Minor
-use Rattle.pnp_labels.specs.declared.states.Problem.TheVariants as Problem
 
 -- what the machine has to do: nothing; append the rebalance of the device; append its listing; in all
 -- but the first the activity ends

@@ -14,11 +14,6 @@ use Rattle.pnp_labels.specs.declared.words.Minor.{Minor}
 use Rattle.pnp_labels.specs.declared.states.Problem.{Problem}
 use Rattle.pnp_labels.specs.declared.label.OpKind.{OpKind}
 use Rattle.pnp_labels.specs.declared.label.OpEnd.{OpEnd}
-use Rattle.pnp_labels.specs.declared.label.Label.TheVariants as Label
-use Rattle.pnp_labels.specs.declared.words.Minor.TheVariants as Minor
-use Rattle.pnp_labels.specs.declared.states.Problem.TheVariants as Problem
-use Rattle.pnp_labels.specs.declared.label.OpKind.TheVariants as OpKind
-use Rattle.pnp_labels.specs.declared.label.OpEnd.TheVariants as OpEnd
 
 abbrev pub SurpriseMove : Type 0
 SurpriseMove = Move Surprise RemoveBeside

@@ -20,9 +20,6 @@ use Rattle.pnp_labels.specs.declared.label.OpKind.{OpKind}
 use Rattle.pnp_labels.specs.declared.label.Label.{Label}
 use Rattle.pnp_labels.specs.declared.states.DevState.TheVariants.{NoStack, NotStarted, Started}
 use Rattle.pnp_model.specs.Records.Duty.{Listing, Starting, Begins}
-use Rattle.pnp_labels.specs.declared.states.Problem.TheVariants as Problem
-use Rattle.pnp_labels.specs.declared.label.OpKind.TheVariants as OpKind
-use Rattle.pnp_labels.specs.declared.label.Label.TheVariants as Label
 
 abbrev pub skip : Duty → ℕ → State → Step
 skip kind k s = record { label = Label.Skip (task_word kind) k; state = drop_task s }

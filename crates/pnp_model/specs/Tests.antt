@@ -4,7 +4,6 @@ use Rattle.std.specs.List.{list_any}
 use Rattle.device_ids.specs.Folding.{same}
 use Rattle.pnp_labels.specs.Texts.{Text}
 use Rattle.pnp_labels.specs.declared.label.TaskKind.{TaskKind}
-use Rattle.pnp_labels.specs.declared.label.TaskKind.TheVariants as TaskKind
 use Rattle.pnp_labels.specs.declared.states.DevState.{DevState}
 use Rattle.pnp_labels.specs.declared.words.Minor.{Minor}
 use Rattle.pnp_labels.specs.declared.words.AskWhat.{AskWhat}
@@ -18,7 +17,6 @@ use Rattle.pnp_labels.specs.declared.words.AskWhat.TheVariants.{Add, Irp}
 use Rattle.pnp_labels.specs.declared.words.DriverKind.TheVariants.{Scripted, Steady, Stubborn}
 use Rattle.pnp_labels.specs.declared.words.RelKind.TheVariants.{Removal, Ejection}
 use Rattle.pnp_model.specs.Records.Duty.{Listing, Starting, Begins}
-use Rattle.pnp_labels.specs.declared.label.OpKind.TheVariants as OpKind
 
 abbrev pub has : List ℕ → ℕ → Bool
 has serials k = list_any (λ j. j == k) serials

@@ -8,7 +8,6 @@ use Rattle.pnp_labels.specs.declared.states.DevState.{DevState}
 use Rattle.pnp_labels.specs.declared.words.Minor.TheVariants.{Start, QueryRemove, Remove, CancelRemove, Stop, QueryStop, CancelStop, SurpriseRemoval}
 use Rattle.pnp_labels.specs.declared.words.Answer.TheVariants.{Ok, Fail, Pend}
 use Rattle.pnp_labels.specs.declared.states.DevState.TheVariants.{NoStack, Started, StopPending, Stopped, RemovePending, SurpriseRemoved}
-use Rattle.pnp_labels.specs.declared.label.Shown.TheVariants as Shown
 
 abbrev pub walk_of : Minor → Walk
 walk_of minor = record { minor = minor; asked = 0; failed = false; waits = false }
