@@ -5,13 +5,14 @@ mod event;
 mod label;
 mod line;
 mod lists;
+pub mod spaced;
 mod states;
 mod texts;
 mod words;
 
 pub use event::{Ask, Event, Rule};
 pub use label::{EventWord, Label, OpEnd, OpKind, Reason, RemoveStep, Shown, TaskKind};
-pub use line::{label_line, res_text};
+pub use line::{decimal, label_line, res_text};
 pub use lists::{BornList, SerialList, Stack};
 pub use states::{DevState, Problem, Verdict};
 pub use texts::{minor_text, problem_text, shown_text, state_text};

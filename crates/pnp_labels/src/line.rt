@@ -3,6 +3,7 @@ ghost use Rattle.std.specs.Fmt.{decimal, digits};
 ghost use Rattle.pnp_labels.specs.Texts.{label_line, res_text, spaced, range_text, rank_text, ok_text, end_text};
 
 use crate::label::{Label, OpEnd, OpKind, TaskKind};
+use crate::spaced::{four, three, two};
 use crate::texts::{
     minor_text, op_text, problem_text, reason_text, shown_text, state_text, task_text, word_text,
 };
@@ -10,8 +11,8 @@ use device_ids::WantOfMemory;
 use resource_reqs::{Kind, Res, ResList};
 use std::alloc::Global;
 
-/// A number in decimal.
-fn decimal(alloc: Global, number: u64) -> Result<String, WantOfMemory>
+/// A number in decimal digits. Cost: their number. This project's own.
+pub fn decimal(alloc: Global, number: u64) -> Result<String, WantOfMemory>
     ensures { IfOk result (λ text. string_bytes text ≡ decimal number) }
 {
     format!(in alloc; "{number}")
@@ -22,18 +23,6 @@ fn hexadecimal(alloc: Global, number: u64) -> Result<String, WantOfMemory>
     ensures { IfOk result (λ text. string_bytes text ≡ digits 16 false number) }
 {
     format!(in alloc; "{number:x}")
-}
-
-/// The first text, and the others with a space before each.
-fn spaced(alloc: Global, first: &[u8], others: &[&[u8]]) -> Result<Vec<u8>, WantOfMemory>
-    ensures { IfOk result (λ line. line.items ≡ spaced (first.now ∷ map (λ t. t.now) others.now)) }
-{
-    let mut line = Vec::from_slice(alloc, first)?;
-    for text in others {
-        line.push(b' ')?;
-        line.extend_from_slice(text)?;
-    }
-    Ok(line)
 }
 
 /// A number in at least eight lower-case hexadecimal digits.
@@ -96,44 +85,12 @@ fn end_text(alloc: Global, end: &OpEnd) -> Result<Vec<u8>, WantOfMemory>
 fn assign_line(alloc: Global, path: &[u8], held: &ResList) -> Result<Vec<u8>, WantOfMemory>
     ensures { IfOk result (λ line. line.items ≡ spaced (codes "assign" ∷ path.now ∷ map res_text held.now)) }
 {
-    let mut line = spaced(alloc, b"assign", &[path])?;
+    let mut line = two(alloc, b"assign", path)?;
     for at in 0..held.len() {
         line.push(b' ')?;
         line.extend_from_slice(&res_text(alloc, held.get(at))?)?;
     }
     Ok(line)
-}
-
-/// Two words with a space between them.
-fn two<'a>(alloc: Global, first: &'a [u8], second: &'a [u8]) -> Result<Vec<u8>, WantOfMemory>
-    ensures { IfOk result (λ line. line.items ≡ spaced (first.now ∷ second.now ∷ [])) }
-{
-    spaced(alloc, first, &[second])
-}
-
-/// Three words with a space between any two.
-fn three<'a>(
-    alloc: Global,
-    first: &'a [u8],
-    second: &'a [u8],
-    third: &'a [u8],
-) -> Result<Vec<u8>, WantOfMemory>
-    ensures { IfOk result (λ line. line.items ≡ spaced (first.now ∷ second.now ∷ third.now ∷ [])) }
-{
-    spaced(alloc, first, &[second, third])
-}
-
-/// Four words with a space between any two.
-fn four<'a>(
-    alloc: Global,
-    first: &'a [u8],
-    second: &'a [u8],
-    third: &'a [u8],
-    fourth: &'a [u8],
-) -> Result<Vec<u8>, WantOfMemory>
-    ensures { IfOk result (λ line. line.items ≡ spaced (first.now ∷ second.now ∷ third.now ∷ fourth.now ∷ [])) }
-{
-    spaced(alloc, first, &[second, third, fourth])
 }
 
 fn skip_line(alloc: Global, task: TaskKind, serial: u64) -> Result<Vec<u8>, WantOfMemory>

@@ -1,6 +1,6 @@
 use Rattle.std.proofs.Common.{◌≡◌, ◌++◌, ◌∷◌, drop, map}
 use Rattle.pnp_labels.specs.Texts.{after_spaces, spaced}
-use Rattle.pnp_labels.proofs.line.spaced.Given as goal
+use Rattle.pnp_labels.proofs.spaced.join.Given as goal
 
 abbrev pub invariant-loop-text : goal.invariant-loop-text
 invariant-loop-text l =
