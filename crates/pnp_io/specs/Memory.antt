@@ -14,7 +14,7 @@ pub record HeldFiles : Type 0 where
 -- the bytes taken, the most that are taken, the numbers of the writes that fail, and how many writes were made and
 -- how many failed
 pub record HeldSink : Type 0 where
-  pub bytes : List ℕ
+  pub taken : List ℕ
   pub room : ℕ
   pub listed : List ℕ
   pub calls : ℕ
@@ -43,7 +43,7 @@ after_read held name = record held { calls = raised held.calls; faults = if read
 
 -- how many bytes a sink still takes
 abbrev pub room_left : HeldSink → ℕ
-room_left held = held.room - length held.bytes
+room_left held = held.room - length held.taken
 
 -- the next write fails: it is listed, or the piece is not empty and the room is used up
 abbrev pub write_fails : HeldSink → List ℕ → Bool
@@ -53,7 +53,7 @@ write_fails held piece = is_next_listed held.listed held.calls || (room_left hel
 -- one more fault is counted
 abbrev pub after_write : HeldSink → List ℕ → HeldSink
 after_write held piece = record held {
-  bytes = if write_fails held piece then held.bytes else held.bytes ++ take (room_left held) piece;
+  taken = if write_fails held piece then held.taken else held.taken ++ take (room_left held) piece;
   calls = raised held.calls;
   faults = if write_fails held piece then raised held.faults else held.faults;
 }

@@ -5,6 +5,8 @@
 mod host;
 mod memory;
 mod outside;
+#[cfg(test)]
+mod tests;
 mod whole;
 
 pub use host::{HostFiles, HostSink};

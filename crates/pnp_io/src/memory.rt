@@ -193,7 +193,7 @@ impl Files for MemFiles {
 /// own.
 #[derive(Drop)]
 pub struct MemSink {
-    bytes: Vec<u8>,
+    taken: Vec<u8>,
     room: usize,
     listed: Vec<u64>,
     calls: u64,
@@ -206,20 +206,20 @@ impl Model for MemSink {
 
     ghost Value = { HeldSink };
 
-    ghost view = { λ s. record { bytes = s.bytes.items; room = s.room; listed = s.listed.items; calls = s.calls; faults = s.faults } };
+    ghost view = { λ s. record { taken = s.taken.items; room = s.room; listed = s.listed.items; calls = s.calls; faults = s.faults } };
 
-    ghost invariant = { λ s. s.room ≤ vec_capacity s.bytes };
+    ghost invariant = { λ s. s.room ≤ vec_capacity s.taken };
 }
 
 impl MemSink {
     /// A sink with memory for `room` bytes, which took none yet.
     pub fn new(alloc: Global, room: u64) -> Result<MemSink, WantOfMemory>
-        ensures { IfOk result (λ sink. sink ≡ record { bytes = []; room = room; listed = []; calls = 0; faults = 0 }) }
+        ensures { IfOk result (λ sink. sink ≡ record { taken = []; room = room; listed = []; calls = 0; faults = 0 }) }
     {
         let room = room as usize;
-        let bytes = Vec::with_capacity(alloc, room)?;
+        let taken = Vec::with_capacity(alloc, room)?;
         Ok(MemSink {
-            bytes,
+            taken,
             room,
             listed: Vec::new(alloc),
             calls: 0,
@@ -238,16 +238,16 @@ impl MemSink {
 
     /// The bytes that were taken.
     pub fn taken(&self) -> &[u8]
-        ensures { result.now ≡ self.now.bytes }
+        ensures { result.now ≡ self.now.taken }
     {
-        &self.bytes
+        &self.taken
     }
 }
 
 impl Sink for MemSink {
     ghost use Rattle.std.specs.Prelude.{Some};
 
-    ghost taken = { λ held. Some held.bytes };
+    ghost taken = { λ held. Some held.taken };
 
     ghost faults = { λ held. held.faults };
 
@@ -257,8 +257,8 @@ impl Sink for MemSink {
     fn write(&mut self, bytes: &[u8]) -> Result<usize, Failed>
         ensures within { IfOk result (λ n. n ≤ length bytes.now) }
         ensures some { IfOk result (λ n. 0 < length bytes.now → 0 < n) }
-        ensures took { IfOk result (λ n. self.new.bytes ≡ self.old.bytes ++ take n bytes.now) }
-        ensures nothing { OnErr result (self.new.bytes ≡ self.old.bytes) }
+        ensures took { IfOk result (λ n. self.new.taken ≡ self.old.taken ++ take n bytes.now) }
+        ensures nothing { OnErr result (self.new.taken ≡ self.old.taken) }
         ensures count { IfOk result (λ n. n ≡ min (length bytes.now) (room_left self.old)) }
         ensures fails { is_err result ≡ write_fails self.old bytes.now }
         ensures after { self.new ≡ after_write self.old bytes.now }
@@ -266,13 +266,13 @@ impl Sink for MemSink {
         ensures counts { self.old.faults ≤ self.new.faults }
     {
         self.calls = self.calls.saturating_add(1);
-        let left = self.room.saturating_sub(self.bytes.len());
+        let left = self.room.saturating_sub(self.taken.len());
         if self.listed.contains(&self.calls) || (left == 0 && !bytes.is_empty()) {
             self.faults = self.faults.saturating_add(1);
             return Err(Failed);
         }
         let n = bytes.len().min(left);
-        self.bytes.extend_from_slice(&bytes[..n]).unwrap();
+        self.taken.extend_from_slice(&bytes[..n]).unwrap();
         Ok(n)
     }
 }

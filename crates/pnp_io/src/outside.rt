@@ -21,7 +21,8 @@ pub trait Files {
 
     /// Reads bytes of the named file from the place `at` on to the front of the buffer, and answers how many:
     /// at least one, unless the file ends there or the buffer is empty. `Failed` comes only where the count
-    /// of the name rose (or stands at 2^64 - 1). No read changes what the names hold.
+    /// of the name rose (or stands at 2^64 - 1), and then the buffer may hold anything. No read changes what the
+    /// names hold.
     fn read(&mut self, name: &[u8], at: u64, into: &mut [u8]) -> Result<usize, Failed>
         ensures within { IfOk result (λ n. n ≤ length into.old) }
         ensures told { IfOk result (λ n. ReadsTold (contents self.old) name.now at n into.old into.new) }
