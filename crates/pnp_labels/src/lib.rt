@@ -7,6 +7,8 @@ mod line;
 mod lists;
 pub mod spaced;
 mod states;
+#[cfg(test)]
+mod tests;
 mod texts;
 mod words;
 
