@@ -1,5 +1,5 @@
 -- What naming, asking and teaching change in a rack: one driver of the list, and all others stay.
-use Rattle.std.specs.Prelude.{ℕ, ◌≡◌, ◌≢◌, ◌≤◌, ◌<◌, List, [], ◌∷◌, ◌++◌, Option, Some, None, Ok, Err, Result, length, position, slice_get, slice_set}
+use Rattle.std.specs.Prelude.{ℕ, Bool, false, ◌≡◌, ◌≢◌, ◌≤◌, ◌<◌, List, [], ◌∷◌, ◌++◌, Option, Some, None, Ok, Err, Result, length, position, slice_get, slice_set}
 use Rattle.pnp_labels.specs.Texts.{Text}
 use Rattle.pnp_labels.specs.declared.event.Rule.{Rule}
 use Rattle.pnp_labels.specs.declared.words.AskWhat.{AskWhat}
@@ -47,3 +47,17 @@ pub record Taught (k : ℕ) (rule : Rule) (result : Result (Unit {0}) TeachError
   pub driver : Driver
   pub was : slice_get old k ≡ Some driver
   pub taught : TaughtOne driver k rule result old new
+
+abbrev pub passes : {A : Type 0} → (A → Bool) → Option A → Bool
+passes test None = false
+passes test (Some x) = test x
+
+-- What the drivers of a rack are, by functions that tell the kind and the book of each.
+
+abbrev pub unnamed : DriverKind → List Rule → Driver
+unnamed kind book = record { kind = kind; name = None; book = book }
+
+abbrev pub rows_of : {D : Type 0} → (D → DriverKind) → (D → List Rule) → List (Option Text) → List D → List Driver
+rows_of kind_of book (name ∷ names) (driver ∷ drivers) =
+    (record { kind = kind_of driver; name = name; book = book driver }) ∷ rows_of kind_of book names drivers
+rows_of kind_of book _ _ = []

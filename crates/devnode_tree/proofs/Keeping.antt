@@ -1,0 +1,19 @@
+-- The changes that leave serial, parent and path.
+use Rattle.std.proofs.Common.{ℕ, List, Option, refl}
+use Rattle.pnp_labels.specs.declared.states.DevState.{DevState}
+use Rattle.pnp_labels.specs.declared.states.Problem.{Problem}
+use Rattle.pnp_model.specs.Cores.{with_state, with_problem, with_holds, with_drivers}
+use Rattle.resource_reqs.specs.Resources.{Res}
+use Rattle.devnode_tree.proofs.Changes.{KeepsLinks}
+
+pub keeps_state : (state : DevState) → KeepsLinks (with_state state)
+keeps_state state = record { serial = λ n. refl; parent = λ n. refl; path = λ n. refl }
+
+pub keeps_problem : (problem : Option Problem) → KeepsLinks (with_problem problem)
+keeps_problem problem = record { serial = λ n. refl; parent = λ n. refl; path = λ n. refl }
+
+pub keeps_holds : (holds : List Res) → KeepsLinks (with_holds holds)
+keeps_holds holds = record { serial = λ n. refl; parent = λ n. refl; path = λ n. refl }
+
+pub keeps_drivers : (stack : List ℕ) → KeepsLinks (with_drivers stack)
+keeps_drivers stack = record { serial = λ n. refl; parent = λ n. refl; path = λ n. refl }

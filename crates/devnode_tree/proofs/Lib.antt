@@ -1,0 +1,10 @@
+pub mod Ascending
+pub mod KeyedMaps
+pub mod Changes
+pub mod Keeping
+pub mod Lookups
+pub mod Joins
+pub mod Faults
+pub mod Leaves
+pub mod Printing
+pub mod Facts

@@ -1,0 +1,35 @@
+use Rattle.std.proofs.Common.{◌≡◌, ◌∙◌, ap, sym, subst, refl, remove, length}
+use Rattle.pnp_model.specs.Keyed.{changed_first}
+use Rattle.indexmap.proofs.SetLemmas.{map-remove}
+use Rattle.devnode_tree.specs.Entries.{has_serial, without_child}
+use Rattle.devnode_tree.specs.Trees.{Tree, CanLeave}
+use Rattle.devnode_tree.proofs.Changes.{nodes_tree}
+use Rattle.devnode_tree.proofs.Leaves.{kept_left, nodes_left, none_left, children_ascend, whole}
+use Rattle.devnode_tree.proofs.tree.Tree.leave.Goals as goal
+
+pub forget_child-requires-clause-children : goal.forget_child-requires-clause-children
+forget_child-requires-clause-children c = rw c.deref_mut.ensures.value (children_ascend _ c.self.inside.entries.items c.self.inside.next c.self.invariant)
+
+pub invariant_of-self : goal.invariant_of-self
+invariant_of-self c =
+    let can = subst (λ (t : Tree). CanLeave c.args.serial t.nodes) (sym c.self.view_is) c.requires in
+    let forgotten : c.forget_child.new.entries ≡ changed_first (has_serial c.index.result.now.node.parent) (without_child c.args.serial) c.self.inside.entries.items =
+    rw (c.forget_child.ensures, c.deref_mut.ensures.value, c.parent-parent.ensures) refl in
+    let entries_are : c.remove.new.self.items ≡ remove (changed_first (has_serial c.index.result.now.node.parent) (without_child c.args.serial) c.self.inside.entries.items) c.in-Some.place =
+    c.remove.ensures.items
+    ∙ ap (λ l. remove l c.in-Some.place)
+    (whole c.self.inside.entries.len c.forget_child.new.entries c.self.inside.entries.items (sym c.self.inside.entries.ok.0) (c.forget_child.auto.entries ∙ ap length c.deref_mut.ensures.value) ∙ forgotten) in
+    rw (entries_are, c.shift_remove_index.ensures.keys, map-remove) (kept_left _ c.self.inside.entries.items c.deref.result.now c.deref.ensures.value c.self.inside.next c.self.invariant c.args.serial c.in-Some.place c.in-Some.ensures c.index.result.now c.index.ensures can.no_root can.alone)
+
+pub returns-in-Some : goal.returns-in-Some
+returns-in-Some c =
+    let forgotten : c.forget_child.new.entries ≡ changed_first (has_serial c.index.result.now.node.parent) (without_child c.args.serial) c.self.inside.entries.items =
+    rw (c.forget_child.ensures, c.deref_mut.ensures.value, c.parent-parent.ensures) refl in
+    let entries_are : c.remove.new.self.items ≡ remove (changed_first (has_serial c.index.result.now.node.parent) (without_child c.args.serial) c.self.inside.entries.items) c.in-Some.place =
+    c.remove.ensures.items
+    ∙ ap (λ l. remove l c.in-Some.place)
+    (whole c.self.inside.entries.len c.forget_child.new.entries c.self.inside.entries.items (sym c.self.inside.entries.ok.0) (c.forget_child.auto.entries ∙ ap length c.deref_mut.ensures.value) ∙ forgotten) in
+    rw (← c.self.view_is, entries_are) (ap (nodes_tree c.self.inside.next) (nodes_left _ c.self.inside.entries.items c.deref.result.now c.deref.ensures.value c.self.inside.next c.self.invariant c.args.serial c.in-Some.place c.in-Some.ensures c.index.result.now c.index.ensures))
+
+pub returns-in_default : goal.returns-in_default
+returns-in_default c = rw (← c.self.view_is) (none_left c.self.inside.entries.items c.deref.result.now c.deref.ensures.value c.self.inside.next c.args.serial c.in_default.ensures)

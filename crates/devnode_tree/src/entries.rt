@@ -1,0 +1,72 @@
+ghost use Rattle.std.specs.Prelude.{◌≡◌, ◌++◌, [], ◌∷◌, false, OnOk, OnErr, map, position};
+ghost use Rattle.std.specs.List.{list_any, All};
+ghost use Rattle.std.specs.Str.{bytes_eq};
+ghost use Rattle.device_ids.specs.Folding.{folded};
+ghost use Rattle.pnp_model.specs.Cores.{serials_of};
+ghost use Rattle.pnp_model.specs.Keyed.{changed_first};
+ghost use Rattle.devnode_tree.specs.Entries.{nodes_of, has_serial, with_child, without_child, lone};
+ghost use Rattle.devnode_tree.specs.Trees.{Ascends};
+
+use crate::entry::Entry;
+use crate::node::Node;
+use device_ids::WantOfMemory;
+use indexmap::IndexSet;
+
+/// The place of the node with a serial.
+pub(crate) fn place_of(entries: &[Entry], serial: u64) -> Option<usize>
+    requires { Ascends 0 (serials_of (nodes_of entries.now)) }
+    ensures { result ≡ position (has_serial serial) entries.now }
+{
+    entries
+        .binary_search_by_key(&serial, |entry| entry.node.serial)
+        .ok()
+}
+
+/// Notes a child beside its parent.
+fn note_child(entries: &mut [Entry], parent: u64, serial: u64) -> Result<(), WantOfMemory>
+    requires { Ascends 0 (serials_of (nodes_of entries.old)) }
+    ensures noted { OnOk result (entries.new ≡ changed_first (has_serial parent) (with_child serial) entries.old) }
+    ensures err { OnErr result (entries.new ≡ entries.old) }
+{
+    if let Some(place) = place_of(entries, parent) {
+        entries[place].add_child(serial)?;
+    }
+    Ok(())
+}
+
+/// Takes a child from those of its parent.
+pub(crate) fn forget_child(entries: &mut [Entry], parent: u64, serial: u64)
+    requires ascends { Ascends 0 (serials_of (nodes_of entries.old)) }
+    requires children { All (λ e. Ascends 0 e.children) entries.old }
+    ensures { entries.new ≡ changed_first (has_serial parent) (without_child serial) entries.old }
+{
+    if let Some(place) = place_of(entries, parent) {
+        entries[place].forget_child(serial);
+    }
+}
+
+/// Adds a node as the last, with its path, and notes it beside its parent.
+pub(crate) fn add(
+    paths: &mut IndexSet<Vec<u8>>,
+    entries: &mut Vec<Entry>,
+    node: Node,
+) -> Result<(), WantOfMemory>
+    requires ascends { Ascends 0 (serials_of (nodes_of entries.old.items)) }
+    requires new { list_any (λ path. bytes_eq (folded node.path) path.items) paths.old.keys ≡ false }
+    ensures path { OnOk result (map (λ path. path.items) paths.new.keys ≡ map (λ path. path.items) paths.old.keys ++ folded node.path ∷ []) }
+    ensures entry { OnOk result (entries.new.items ≡ changed_first (has_serial node.parent) (with_child node.serial) entries.old.items ++ lone node ∷ []) }
+    ensures err { OnErr result (paths.new.keys ≡ paths.old.keys) }
+    ensures entries_err { OnErr result (entries.new.items ≡ entries.old.items) }
+{
+    let alloc = *entries.allocator();
+    let key = Vec::from_slice(alloc, node.path.folded())?;
+    paths.reserve(1)?;
+    entries.reserve(1)?;
+    note_child(entries, node.parent, node.serial)?;
+    let _ = paths.insert(key);
+    let _ = entries.push(Entry {
+        node,
+        children: Vec::new(alloc),
+    });
+    Ok(())
+}

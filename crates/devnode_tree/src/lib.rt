@@ -1,0 +1,16 @@
+//! The tree of device nodes: who stands below whom, and what each node is at.
+#![tactic(auto)]
+
+mod entries;
+mod entry;
+mod error;
+mod node;
+mod print;
+#[cfg(test)]
+mod tests;
+mod tree;
+
+pub use error::JoinError;
+pub use node::Node;
+pub use print::PrintRow;
+pub use tree::Tree;

@@ -1,0 +1,12 @@
+pub mod Ends
+pub mod Scans
+pub mod Encodings
+pub mod LineLemmas
+pub mod TokenLemmas
+pub mod MapLemmas
+pub mod Bounds
+pub mod Digits
+pub mod Least
+pub mod Passes
+pub mod MeaningLemmas
+pub mod Refusals

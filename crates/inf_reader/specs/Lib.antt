@@ -1,0 +1,14 @@
+pub mod Cuts
+pub mod Text
+pub mod Symbols
+pub mod Items
+pub mod Tokens
+pub mod Entries
+pub mod Numbers
+pub mod Filters
+pub mod Sections
+pub mod Models
+pub mod Meaning
+pub mod Maps
+pub mod Found
+pub mod Reading

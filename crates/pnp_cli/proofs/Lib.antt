@@ -1,0 +1,9 @@
+pub mod Buses
+pub mod Printing
+pub mod Plugs
+pub mod Names
+pub mod Trees
+pub mod Texts
+pub mod Answering
+pub mod Turning
+pub mod Fronts

@@ -1,0 +1,66 @@
+-- What is printed for a trace: one text at most, and step by step.
+use Rattle.std.proofs.Common.{◌≡◌, ℕ, List, [], ◌∷◌, ◌++◌, Option, Some, None, refl, sym, ◌∙◌, ap, ap₂, subst, append_assoc}
+use Rattle.pnp_labels.specs.Texts.{Text}
+use Rattle.pnp_labels.specs.declared.event.Event.{Event}
+use Rattle.pnp_labels.specs.declared.label.Label.{Label}
+use Rattle.pnp_model.specs.Records.{State, Step, Settings}
+use Rattle.pnp_model.specs.Machine.{Steps, IsStep, IsQuiet, next}
+use Rattle.pnp_model.specs.Events.{happens}
+use Rattle.pnp_model.proofs.Determined.{one_label, one_state}
+use Rattle.script_reader.specs.Script.{Trace, gives, waits, ends, stops}
+use Rattle.pnp_cli.specs.Outputs.{Settles, Follows, Prints, text_of}
+
+no_step : (settings : Settings) (s new : State) (label : Label) → IsQuiet settings s → Steps settings s label new → ⊥
+no_step settings s new label quiet step =
+    subst (λ o. IsStep settings o (record { label = label; state = new })) quiet step
+
+-- the same labels, and the same state
+pub record SameEnd (ls ls' : List Label) (a b : State) : Type 0 where
+  pub labels : ls ≡ ls'
+  pub state : a ≡ b
+
+settles_one : (settings : Settings) (s a b : State) (labels labels' : List Label)
+    → Settles settings s labels a → Settles settings s labels' b → SameEnd labels labels' a b
+settles_one settings s a b [] [] h g = record { labels = refl; state = h.0 ∙ sym g.0 }
+settles_one settings s a b [] (label ∷ labels) h (mid, step, more) = absurd (no_step settings s mid label h.1 step)
+settles_one settings s a b (label ∷ labels) [] (mid, step, more) g = absurd (no_step settings s mid label g.1 step)
+settles_one settings s a b (label ∷ labels) (label' ∷ labels') (mid, step, more) (mid', step', more') =
+    let state : mid ≡ mid' = one_state settings s label label' mid mid' step step' in
+    let rest : SameEnd labels labels' a b = settles_one settings mid' a b labels labels' (subst (λ m. Settles settings m labels a) state more) more' in
+    record {
+      labels = ap₂ (λ x xs. x ∷ xs) (one_label settings s label label' mid mid' step step') rest.labels;
+      state = rest.state;
+    }
+
+abbrev label_of_step : Step → Label
+label_of_step step = step.label
+
+abbrev state_of_step : Step → State
+state_of_step step = step.state
+
+follows_one : (settings : Settings) (s a b : State) (event : Event) (labels labels' : List Label)
+    → Follows settings s event labels a → Follows settings s event labels' b → SameEnd labels labels' a b
+follows_one settings s a b event labels labels' h g =
+    let step : record { label = h.first; state = h.begun } ≡ record { label = g.first; state = g.begun } = sym h.happened ∙ g.happened in
+    let begun : h.begun ≡ g.begun = ap state_of_step step in
+    let rest : SameEnd h.more g.more a b =
+    settles_one settings g.begun a b h.more g.more (subst (λ m. Settles settings m h.more a) begun h.settled) g.settled in
+    record {
+      labels = h.printed ∙ ap₂ (λ x xs. x ∷ xs) (ap label_of_step step) rest.labels ∙ sym g.printed;
+      state = rest.state;
+    }
+
+-- a script has one output at most
+pub prints_one : (settings : Settings) (s : State) (t : Trace) (x y : Text) → Prints settings s t x → Prints settings s t y → x ≡ y
+prints_one settings s (gives number event rest) x y (labels, new, more, follows, prints, is) (labels', new', more', follows', prints', is') =
+    let same : SameEnd labels labels' new new' = follows_one settings s new new' event labels labels' follows follows' in
+    let texts : more ≡ more' = prints_one settings new' rest more more' (subst (λ m. Prints settings m rest more) same.state prints) prints' in
+    is ∙ ap₂ (λ ls m. text_of ls ++ m) same.labels texts ∙ sym is'
+prints_one settings s ends x y h g = h ∙ sym g
+prints_one settings s (stops number) x y h g = h ∙ sym g
+prints_one settings s waits x y h g = absurd h
+
+-- one event more
+pub prints_more : (settings : Settings) (s new : State) (number : ℕ) (event : Event) (rest : Trace) (labels : List Label) (more : Text)
+    → Follows settings s event labels new → Prints settings new rest more → Prints settings s (gives number event rest) (text_of labels ++ more)
+prints_more settings s new number event rest labels more follows prints = (labels, new, more, follows, prints, refl)

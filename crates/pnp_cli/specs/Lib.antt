@@ -1,0 +1,5 @@
+pub mod Outputs
+pub mod RootBuses
+pub mod Turns
+pub mod Runs
+pub mod Rows

@@ -1,0 +1,13 @@
+pub mod Digits
+pub mod Gathering
+pub mod Errors
+pub mod Sifting
+pub mod Scripts
+pub mod Skipping
+pub mod Moving
+pub mod Feeding
+pub mod Rows
+pub mod Shapes
+pub mod Taking
+pub mod Pieces
+pub mod OneReading

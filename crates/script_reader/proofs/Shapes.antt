@@ -1,0 +1,22 @@
+-- Lines of too few words, or of too many.
+use Rattle.std.proofs.Common.{◌≡◌, ℕ, List, [], ◌∷◌, length, None, refl}
+use Rattle.script_reader.specs.Lines.{relate_of, reserve_of, complete_of}
+
+pub relate_other : (words : List (List ℕ)) → (length words ≡ 3 → ⊥) → relate_of words ≡ None
+relate_other [] other = refl
+relate_other (a ∷ []) other = refl
+relate_other (a ∷ b ∷ []) other = refl
+relate_other (a ∷ b ∷ c ∷ []) other = absurd (other refl)
+relate_other (a ∷ b ∷ c ∷ d ∷ more) other = refl
+
+pub reserve_other : (words : List (List ℕ)) → (length words ≡ 1 → ⊥) → reserve_of words ≡ None
+reserve_other [] other = refl
+reserve_other (a ∷ []) other = absurd (other refl)
+reserve_other (a ∷ b ∷ more) other = refl
+
+pub complete_other : (words : List (List ℕ)) → (length words ≡ 3 → ⊥) → complete_of words ≡ None
+complete_other [] other = refl
+complete_other (a ∷ []) other = refl
+complete_other (a ∷ b ∷ []) other = refl
+complete_other (a ∷ b ∷ c ∷ []) other = absurd (other refl)
+complete_other (a ∷ b ∷ c ∷ d ∷ more) other = refl

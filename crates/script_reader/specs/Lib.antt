@@ -1,0 +1,12 @@
+pub mod Faults
+pub mod Tables
+pub mod Words
+pub mod Numbers
+pub mod Wants
+pub mod Lines
+pub mod Script
+pub mod Steps
+pub mod Meanings
+pub mod Reading
+pub mod Answers
+pub mod Whole

@@ -1,0 +1,44 @@
+ghost use Rattle.std.specs.Prelude.{map};
+ghost use Rattle.script_reader.specs.Faults.{Gives};
+ghost use Rattle.script_reader.specs.Lines.{event_of, event_by};
+
+use crate::fault::LineError;
+use crate::lines::{
+    complete_of, disable_of, driver_of, eject_of, enable_of, pull_of, relate_of, reserve_of,
+    teach_of,
+};
+use crate::plug::plug_of;
+use crate::tables::keyword_of;
+use pnp_labels::{Event, EventWord};
+use std::alloc::Global;
+
+/// The event of the words after a keyword.
+fn event_by(alloc: Global, keyword: EventWord, words: &[&[u8]]) -> Result<Event, LineError>
+    ensures { Gives result (event_by keyword (map (λ w. w.now) words.now)) }
+{
+    match keyword {
+        EventWord::Plug => plug_of(alloc, words),
+        EventWord::Pull => pull_of(alloc, words),
+        EventWord::Name => driver_of(alloc, words),
+        EventWord::Teach => teach_of(alloc, words),
+        EventWord::Disable => disable_of(alloc, words),
+        EventWord::Enable => enable_of(alloc, words),
+        EventWord::Eject => eject_of(alloc, words),
+        EventWord::Relate => relate_of(alloc, words),
+        EventWord::Reserve => reserve_of(words),
+        EventWord::Complete => complete_of(alloc, words),
+    }
+}
+
+/// The event of a line's words.
+pub fn event_of(alloc: Global, words: &[&[u8]]) -> Result<Event, LineError>
+    ensures { Gives result (event_of (map (λ w. w.now) words.now)) }
+{
+    let [word, words @ ..] = words else {
+        return Err(LineError::Bad);
+    };
+    let Some(keyword) = keyword_of(word) else {
+        return Err(LineError::Bad);
+    };
+    event_by(alloc, keyword, words)
+}

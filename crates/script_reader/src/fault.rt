@@ -1,0 +1,8 @@
+/// Why a line gives no event.
+#[derive(Clone, Copy, Debug, PartialEq, Eq)]
+pub enum LineError {
+    /// It is outside the grammar.
+    Bad,
+    /// Memory ran out.
+    WantOfMemory,
+}

@@ -1,0 +1,263 @@
+ghost use Rattle.std.specs.Prelude.{◌≡◌, ◌<◌, length, map, IfOk, Some, None};
+ghost use Rattle.std.specs.Option.{option_map};
+ghost use Rattle.script_reader.specs.Faults.{Gives};
+ghost use Rattle.script_reader.specs.Lines.{path_of, name_of, rule_path_of, is_answerable, rule_of, uses_of, pull_of, disable_of, enable_of, eject_of, driver_of, uses_by, teach_of, related, relate_of, res_of, reserved, reserve_of, completed, complete_of};
+
+use crate::fault::LineError;
+use crate::numbers::{number_of, range_of};
+use crate::tables::{answer_of, ask_of, driver_kind_of, kind_of, minor_of, ok_of, rel_kind_of};
+use crate::words::is_name;
+use device_ids::{InstancePath, Text, split_once};
+use pnp_labels::{Answer, AskWhat, Event, RelKind, Rule};
+use resource_reqs::Res;
+use std::alloc::Global;
+
+/// The greatest number of uses of a rule.
+const MOST_USES: u64 = 1_000_000;
+
+/// The path that the word is.
+pub fn path_of(alloc: Global, word: &[u8]) -> Result<InstancePath, LineError>
+    ensures { Gives result (path_of word.now) }
+{
+    Ok(InstancePath::read(alloc, word)?)
+}
+
+/// The name that the word is.
+fn name_of(alloc: Global, word: &[u8]) -> Result<Text, LineError>
+    ensures { Gives result (name_of word.now) }
+{
+    if !is_name(word) {
+        return Err(LineError::Bad);
+    }
+    Ok(Text::make(alloc, word)?)
+}
+
+/// `pull PATH`.
+pub fn pull_of(alloc: Global, words: &[&[u8]]) -> Result<Event, LineError>
+    ensures { Gives result (pull_of (map (λ w. w.now) words.now)) }
+{
+    let [path] = words else {
+        return Err(LineError::Bad);
+    };
+    let path = path_of(alloc, path)?;
+    Ok(Event::Pull { path })
+}
+
+/// `driver NAME KIND`.
+pub fn driver_of(alloc: Global, words: &[&[u8]]) -> Result<Event, LineError>
+    ensures { Gives result (driver_of (map (λ w. w.now) words.now)) }
+{
+    let [name, kind] = words else {
+        return Err(LineError::Bad);
+    };
+    let name = name_of(alloc, name)?;
+    let Some(kind) = driver_kind_of(kind) else {
+        return Err(LineError::Bad);
+    };
+    Ok(Event::Name { name, kind })
+}
+
+/// `disable PATH`.
+pub fn disable_of(alloc: Global, words: &[&[u8]]) -> Result<Event, LineError>
+    ensures { Gives result (disable_of (map (λ w. w.now) words.now)) }
+{
+    let [path] = words else {
+        return Err(LineError::Bad);
+    };
+    let path = path_of(alloc, path)?;
+    Ok(Event::Disable { path })
+}
+
+/// `enable PATH`.
+pub fn enable_of(alloc: Global, words: &[&[u8]]) -> Result<Event, LineError>
+    ensures { Gives result (enable_of (map (λ w. w.now) words.now)) }
+{
+    let [path] = words else {
+        return Err(LineError::Bad);
+    };
+    let path = path_of(alloc, path)?;
+    Ok(Event::Enable { path })
+}
+
+/// `eject PATH`.
+pub fn eject_of(alloc: Global, words: &[&[u8]]) -> Result<Event, LineError>
+    ensures { Gives result (eject_of (map (λ w. w.now) words.now)) }
+{
+    let [path] = words else {
+        return Err(LineError::Bad);
+    };
+    let path = path_of(alloc, path)?;
+    Ok(Event::Eject { path })
+}
+
+/// The path of a rule, none for every path.
+fn rule_path_of(alloc: Global, word: &[u8]) -> Result<Option<InstancePath>, LineError>
+    ensures { Gives result (rule_path_of word.now) }
+{
+    if word == b"*".as_slice() {
+        return Ok(None);
+    }
+    let path = path_of(alloc, word)?;
+    Ok(Some(path))
+}
+
+/// Whether what is asked may be answered so: only a request may be left unanswered.
+fn is_answerable(what: AskWhat, answer: Answer) -> bool
+    ensures { result ≡ is_answerable what answer }
+{
+    match what {
+        AskWhat::Add => match answer {
+            Answer::Pend => false,
+            _ => true,
+        },
+        AskWhat::Irp(_) => true,
+    }
+}
+
+/// The rule of `teach`, by its words.
+fn rule_of(
+    alloc: Global,
+    ask: &[u8],
+    path: &[u8],
+    answer: &[u8],
+    uses: Option<u32>,
+) -> Result<Rule, LineError>
+    ensures { Gives result (rule_of ask.now path.now answer.now uses) }
+{
+    let Some(what) = ask_of(ask) else {
+        return Err(LineError::Bad);
+    };
+    let path = rule_path_of(alloc, path)?;
+    let Some(answer) = answer_of(answer) else {
+        return Err(LineError::Bad);
+    };
+    if !is_answerable(what, answer) {
+        return Err(LineError::Bad);
+    }
+    Ok(Rule {
+        what,
+        path,
+        answer,
+        uses,
+    })
+}
+
+/// The number of uses of a rule.
+fn uses_of(word: &[u8]) -> Option<u32>
+    ensures { result ≡ uses_of word.now }
+{
+    let uses = number_of(word)?;
+    if uses < 1 || uses > MOST_USES {
+        return None;
+    }
+    Some(uses as u32)
+}
+
+/// The uses that end a `teach`, none where there is no word for them.
+fn uses_by(words: &[&[u8]]) -> Option<Option<u32>>
+    ensures { result ≡ uses_by (map (λ w. w.now) words.now) }
+{
+    match words {
+        [] => Some(None),
+        [uses] => {
+            let uses = uses_of(uses)?;
+            Some(Some(uses))
+        }
+        _ => None,
+    }
+}
+
+/// `teach NAME ASK PATH ANSWER` and, if wanted, `N`.
+pub fn teach_of(alloc: Global, words: &[&[u8]]) -> Result<Event, LineError>
+    ensures { Gives result (teach_of (map (λ w. w.now) words.now)) }
+{
+    let [name, ask, path, answer, uses @ ..] = words else {
+        return Err(LineError::Bad);
+    };
+    let name = name_of(alloc, name)?;
+    let Some(uses) = uses_by(uses) else {
+        return Err(LineError::Bad);
+    };
+    let rule = rule_of(alloc, ask, path, answer, uses)?;
+    Ok(Event::Teach { name, rule })
+}
+
+/// The relation that the words name.
+fn related(alloc: Global, kind: &[u8], owner: &[u8], member: &[u8]) -> Result<Event, LineError>
+    ensures { Gives result (related kind.now owner.now member.now) }
+{
+    let Some(kind) = rel_kind_of(kind) else {
+        return Err(LineError::Bad);
+    };
+    let owner = path_of(alloc, owner)?;
+    let member = path_of(alloc, member)?;
+    Ok(Event::Relate {
+        kind,
+        owner,
+        member,
+    })
+}
+
+/// `relate KIND OWNER MEMBER`.
+pub fn relate_of(alloc: Global, words: &[&[u8]]) -> Result<Event, LineError>
+    ensures { Gives result (relate_of (map (λ w. w.now) words.now)) }
+{
+    let [kind, owner, member] = words else {
+        return Err(LineError::Bad);
+    };
+    related(alloc, kind, owner, member)
+}
+
+/// The resource that is reserved.
+fn res_of(word: &[u8]) -> Option<Res>
+    ensures { result ≡ res_of word.now }
+{
+    let (kind, range) = split_once(word, b':')?;
+    let kind = kind_of(kind)?;
+    let (lo, hi) = range_of(range)?;
+    Res::make(kind, lo, hi, false)
+}
+
+/// The resource of this word is reserved.
+fn reserved(word: &[u8]) -> Result<Event, LineError>
+    ensures { Gives result (reserved word.now) }
+{
+    match res_of(word) {
+        Some(res) => Ok(Event::Reserve { res }),
+        None => Err(LineError::Bad),
+    }
+}
+
+/// `reserve KIND:RANGE`.
+pub fn reserve_of(words: &[&[u8]]) -> Result<Event, LineError>
+    ensures { Gives result (reserve_of (map (λ w. w.now) words.now)) }
+{
+    let [res] = words else {
+        return Err(LineError::Bad);
+    };
+    reserved(res)
+}
+
+/// The request that the words name is completed so.
+fn completed(alloc: Global, path: &[u8], minor: &[u8], ok: &[u8]) -> Result<Event, LineError>
+    ensures { Gives result (completed path.now minor.now ok.now) }
+{
+    let path = path_of(alloc, path)?;
+    let Some(minor) = minor_of(minor) else {
+        return Err(LineError::Bad);
+    };
+    let Some(ok) = ok_of(ok) else {
+        return Err(LineError::Bad);
+    };
+    Ok(Event::Complete { path, minor, ok })
+}
+
+/// `complete PATH MINOR ok` or `complete PATH MINOR fail`.
+pub fn complete_of(alloc: Global, words: &[&[u8]]) -> Result<Event, LineError>
+    ensures { Gives result (complete_of (map (λ w. w.now) words.now)) }
+{
+    let [path, minor, ok] = words else {
+        return Err(LineError::Bad);
+    };
+    completed(alloc, path, minor, ok)
+}
