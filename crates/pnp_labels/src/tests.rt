@@ -54,7 +54,7 @@ fn labels_of_devices(rt: HostRuntime) -> Result<(), Fail> {
 }
 
 #[test]
-fn labels_of_events_and_operations(rt: HostRuntime) -> Result<(), Fail> {
+fn labels_of_events(rt: HostRuntime) -> Result<(), Fail> {
     let alloc = rt.alloc();
     let label = Label::Refused {
         word: EventWord::Name,
@@ -65,7 +65,12 @@ fn labels_of_events_and_operations(rt: HostRuntime) -> Result<(), Fail> {
         task: TaskKind::List,
         serial: 12,
     };
-    prints(&rt, alloc, &label, b"skip list 12\n")?;
+    prints(&rt, alloc, &label, b"skip list 12\n")
+}
+
+#[test]
+fn labels_of_operations(rt: HostRuntime) -> Result<(), Fail> {
+    let alloc = rt.alloc();
     let path = Text::make(alloc, b"P")?;
     let refuser = Text::make(alloc, b"Q")?;
     let veto = OpEnd::Veto(refuser);
