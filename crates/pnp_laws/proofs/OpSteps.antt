@@ -1,0 +1,131 @@
+-- What all operations' steps share.
+use Rattle.std.proofs.Common.{ℕ, ◌≡◌, ◌≢◌, inl, inr, true, false, List, [], ◌∷◌, ◌++◌, map, Some, None, refl, sym, ap, ◌∙◌, subst, arith, reverse}
+use Rattle.std.proofs.lemmas.Bool.{cases_eq}
+use Rattle.std.proofs.lemmas.Bool.Decides.{nat_tests}
+use Rattle.std.proofs.lemmas.List.{reverse-append}
+use Rattle.pnp_model.specs.Keyed.{changed_first}
+use Rattle.pnp_model.specs.Records.{Node, State, Operation}
+use Rattle.pnp_model.specs.Cores.{is_node, node_at}
+use Rattle.pnp_model.specs.Tests.{has, is_started}
+use Rattle.pnp_laws.specs.Kept.{Good, Lawful, Each, HasStackOf, OperationFits, Distinct, Waits, is_calm, is_stopped, is_stop_pending, is_remove_pending}
+use Rattle.pnp_model.specs.Diagram.{Change}
+use Rattle.pnp_labels.specs.declared.states.DevState.{DevState}
+use Rattle.pnp_labels.specs.declared.label.Label.{Label}
+use Rattle.pnp_labels.specs.declared.states.DevState.TheVariants.{NoStack, NotStarted, Started, StopPending, Stopped, RemovePending, SurpriseRemoved}
+use Rattle.pnp_laws.proofs.Lookups.{node_changed_other, node_at-map}
+use Rattle.pnp_laws.proofs.Diagrams.{diagram_same, diagram_changed}
+use Rattle.pnp_laws.proofs.Kept.{lawful_by, Good_changed, Good_nodes}
+use Rattle.pnp_laws.proofs.Lists.{has-append}
+
+-- one node is changed, and the operation goes on
+pub lawful_walked : (s t : State) (label : Label) (f : Node → Node) (node : Node) (o p : Operation) → t.next_serial ≡ s.next_serial →
+    t.core.nodes ≡ changed_first (is_node node.serial) f s.core.nodes → t.activities ≡ [] → t.operation ≡ Some p → ((x : Node) → (f x).serial ≡ x.serial) →
+    node_at node.serial s.core.nodes ≡ Some node → HasStackOf node.serial (f node).state (f node).stack → OperationFits (Some p) (changed_first (is_node node.serial) f s.core.nodes) →
+    Change label node.state (f node).state → Good s.next_serial s.core.nodes [] (Some o) → Lawful s (record { label = label; state = t })
+lawful_walked s t label f node o p a b c d keeps at stack fits change good =
+    lawful_by s t label s.next_serial (changed_first (is_node node.serial) f s.core.nodes) [] (Some p) a b c d
+    (Good_changed s.next_serial node.serial f node s.core.nodes [] [] (Some o) (Some p) keeps at stack tt (λ k d. refl) (λ x g. absurd (cc)) refl fits good)
+    (diagram_changed label node.serial f s.core.nodes node keeps at change)
+
+-- no node is changed, and the operation goes on
+pub lawful_still : (s t : State) (label : Label) (o p : Operation) → t.next_serial ≡ s.next_serial → t.core.nodes ≡ s.core.nodes → t.activities ≡ [] → t.operation ≡ Some p →
+    OperationFits (Some p) s.core.nodes → Good s.next_serial s.core.nodes [] (Some o) → Lawful s (record { label = label; state = t })
+lawful_still s t label o p a b c d fits good =
+    lawful_by s t label s.next_serial s.core.nodes [] (Some p) a b c d
+    (Good_nodes s.next_serial s.core.nodes [] [] (Some o) (Some p) tt (λ k x g. absurd (cc)) refl fits good)
+    (diagram_same label s.core.nodes)
+
+-- the operation closes, and nothing follows
+pub lawful_close : (s t : State) (label : Label) (o : Operation) → t.next_serial ≡ s.next_serial → t.core.nodes ≡ s.core.nodes → t.activities ≡ [] → t.operation ≡ None →
+    Each (λ k x. is_calm x) s.core.nodes → Good s.next_serial s.core.nodes [] (Some o) → Lawful s (record { label = label; state = t })
+lawful_close s t label o a b c d fits good =
+    lawful_by s t label s.next_serial s.core.nodes [] None a b c d
+    (Good_nodes s.next_serial s.core.nodes [] [] (Some o) None tt (λ k x g. absurd (cc)) tt fits good)
+    (diagram_same label s.core.nodes)
+
+-- a device that had drivers has them still
+pub up_stack : (j : ℕ) (x y : DevState) (stack : List ℕ) → HasStackOf j x stack → x ≢ NoStack → y ≢ NoStack → j ≢ 0 → HasStackOf j y stack
+up_stack j x y stack old d e up =
+    record { none = λ h. absurd (e h); some = λ z h. absurd (d (old.some z h)); root = λ z. absurd (up z) }
+
+-- the device of a rebalance waits on
+
+pub waits_changed : (k j : ℕ) (f : Node → Node) (nodes : List Node) (n : Node) → ((x : Node) → (f x).serial ≡ x.serial) → node_at j nodes ≡ Some n → n.state ≢ NotStarted →
+    Waits k nodes → Waits k (changed_first (is_node j) f nodes)
+waits_changed k j f nodes n keeps at up w =
+    elim (cases_eq j k) [
+      | inl e ↦
+          let at_k = subst (λ (i : ℕ). node_at i nodes ≡ Some n) e at in
+          let there = w.1 in
+          let same : n ≡ w.0 = cc in
+          absurd (up (ap (λ (x : Node). x.state) same ∙ w.2))
+      | inr d ↦ (w.0, node_changed_other j k f nodes keeps d ∙ w.1, w.2)
+    ]
+
+pub waits_mapped : (k : ℕ) (f : Node → Node) (nodes : List Node) → ((x : Node) → (f x).serial ≡ x.serial) → ((x : Node) → (f x).state ≡ x.state) → Waits k nodes → Waits k (map f nodes)
+waits_mapped k f nodes keeps state w =
+    let there = w.1 in
+    (f w.0, node_at-map k f nodes keeps ∙ (grind (arith)), state w.0 ∙ w.2)
+
+-- states
+
+pub is_Started : (x : DevState) → is_started x ≡ true → x ≡ Started
+is_Started NoStack h = cc
+is_Started NotStarted h = cc
+is_Started Started h = refl
+is_Started StopPending h = cc
+is_Started Stopped h = cc
+is_Started RemovePending h = cc
+is_Started SurpriseRemoved h = cc
+
+pub is_StopPending : (x : DevState) → is_stop_pending x ≡ true → x ≡ StopPending
+is_StopPending NoStack h = cc
+is_StopPending NotStarted h = cc
+is_StopPending Started h = cc
+is_StopPending StopPending h = refl
+is_StopPending Stopped h = cc
+is_StopPending RemovePending h = cc
+is_StopPending SurpriseRemoved h = cc
+
+pub is_Stopped : (x : DevState) → is_stopped x ≡ true → x ≡ Stopped
+is_Stopped NoStack h = cc
+is_Stopped NotStarted h = cc
+is_Stopped Started h = cc
+is_Stopped StopPending h = cc
+is_Stopped Stopped h = refl
+is_Stopped RemovePending h = cc
+is_Stopped SurpriseRemoved h = cc
+
+pub is_RemovePending : (x : DevState) → is_remove_pending x ≡ true → x ≡ RemovePending
+is_RemovePending NoStack h = cc
+is_RemovePending NotStarted h = cc
+is_RemovePending Started h = cc
+is_RemovePending StopPending h = cc
+is_RemovePending Stopped h = cc
+is_RemovePending RemovePending h = refl
+is_RemovePending SurpriseRemoved h = cc
+
+pub started_calm : (x : DevState) → is_started x ≡ true → is_calm x ≡ true
+started_calm x h = ap is_calm (is_Started x h)
+
+pub stopped_calm : (x : DevState) → is_stopped x ≡ true → is_calm x ≡ true
+stopped_calm x h = ap is_calm (is_Stopped x h)
+
+-- turned round
+
+pub has-reverse : (xs : List ℕ) (k : ℕ) → has (reverse xs) k ≡ has xs k
+has-reverse [] k = refl
+has-reverse (x ∷ xs) k =
+    let turn : reverse (x ∷ xs) ≡ reverse xs ++ x ∷ [] = reverse-append (x ∷ []) xs in
+    rw turn (grind (arith, nat_tests, has-append (reverse xs) (x ∷ []) k, has-reverse xs k))
+
+Distinct-append : (xs : List ℕ) (x : ℕ) → has xs x ≡ false → Distinct xs → Distinct (xs ++ x ∷ [])
+Distinct-append [] x h d = (refl, tt)
+Distinct-append (y ∷ xs) x h d =
+    (grind (arith, nat_tests, has-append xs (x ∷ []) y), Distinct-append xs x (grind (arith, nat_tests)) d.1)
+
+pub Distinct-reverse : (xs : List ℕ) → Distinct xs → Distinct (reverse xs)
+Distinct-reverse [] d = tt
+Distinct-reverse (x ∷ xs) d =
+    let turn : reverse (x ∷ xs) ≡ reverse xs ++ x ∷ [] = reverse-append (x ∷ []) xs in
+    subst (λ (ys : List ℕ). Distinct ys) (sym turn) (Distinct-append (reverse xs) x (has-reverse xs x ∙ d.0) (Distinct-reverse xs d.1))

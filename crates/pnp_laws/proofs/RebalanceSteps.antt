@@ -1,0 +1,490 @@
+-- Each step of a rebalance keeps what a run keeps and follows the diagram.
+use Rattle.std.proofs.Common.{ℕ, ◌≡◌, ◌≢◌, ◌==◌, inl, inr, Bool, true, false, not, ◌&&◌, cond, List, [], ◌∷◌, map, length, Option, Some, None, refl, sym, ap, ◌∙◌, subst, arith, reverse}
+use Rattle.std.proofs.lemmas.Bool.{cases_eq}
+use Rattle.std.proofs.lemmas.Bool.Decides.{nat_tests}
+use Rattle.std.specs.Option.{option_map}
+use Rattle.resource_reqs.specs.Spelling.Answer.{assignment, no_fit, spent}
+use Rattle.pnp_model.specs.Keyed.{changed_first, those}
+use Rattle.pnp_model.specs.Records.{Node, Activity, Phase, State, Operation, Rebalance, RebalanceStage, Walk, Found, doing_map}
+use Rattle.pnp_model.specs.Records.RebalanceStage.{Asking, TakingBack, Searching, Cancelling, Stuck, Stopping, Committing, Restarting, Failed, Ending}
+use Rattle.pnp_model.specs.Cores.{is_node, node_at, with_state, with_problem, serials_of}
+use Rattle.pnp_model.specs.Walks.{is_bad, walk_of}
+use Rattle.pnp_model.specs.Tests.{has, is_started}
+use Rattle.pnp_model.specs.Trees.{stands_up}
+use Rattle.pnp_model.specs.Frames.{first_node, rest}
+use Rattle.pnp_model.specs.Rebalances.{ask_on, cancel_on, stop_on, startable, restart_from, restart_on, is_asked, begun_rebalance, is_not_above, end_ask, ask_step, take_back, searched, cancel_step, trouble_of, stuck, stop_step, committed, movers, plan_of, commit_step, end_restart, restart_step, failed, over, moved_on, rebalance_step}
+use Rattle.pnp_model.specs.Machine.{rebalance_lifted}
+use Rattle.pnp_laws.specs.Kept.{Good, Lawful, Each, OperationFits, Distinct, Apart, Within, Waits, RebalanceKeeps, asking_state, pending_state, stopping_state, stopped_state, Fits, is_calm, is_stopped}
+use Rattle.pnp_model.specs.Diagram.{Change, Row}
+use Rattle.pnp_model.specs.Diagram.Row.{query_stop, cancel_stop_refused, cancel_stop, stop, restart}
+use Rattle.pnp_labels.specs.declared.states.DevState.{DevState}
+use Rattle.pnp_labels.specs.declared.words.Minor.{Minor}
+use Rattle.pnp_labels.specs.declared.label.Label.{Label}
+use Rattle.pnp_labels.specs.declared.states.Problem.{Problem}
+use Rattle.pnp_labels.specs.declared.states.DevState.TheVariants.{NoStack, NotStarted, Started, StopPending, Stopped}
+use Rattle.pnp_laws.proofs.Lookups.{own_serial, found_self, node_changed_same, node_changed_other}
+use Rattle.pnp_model.specs.States.{entered}
+use Rattle.pnp_model.specs.Records.Phase.{Starting, Removing}
+use Rattle.pnp_laws.proofs.Diagrams.{Each_changed, Each_same, Each_mapped, diagram_mapped, diagram_same}
+use Rattle.pnp_laws.proofs.Kept.{lawful_by, Good_nodes, Good_mapped, LawfulNext}
+use Rattle.pnp_laws.proofs.Lists.{HeadIs, head_found, head_has, rest_has, rest_not, rest_distinct, rest_within, those_has, those_not, those_distinct, those_found, serials_distinct}
+use Rattle.pnp_laws.proofs.OpSteps.{lawful_walked, lawful_still, lawful_close, up_stack, waits_changed, waits_mapped, is_Started, is_StopPending, is_Stopped, started_calm, stopped_calm, has-reverse, Distinct-reverse}
+
+-- What comes next keeps the facts ------------------------------------------------
+
+fits_ask_on : (r : Rebalance) (ks : List ℕ) (nodes : List Node) → Distinct ks → Distinct r.agreed → has ks 0 ≡ false → has r.agreed 0 ≡ false → Apart ks r.agreed →
+    Each (asking_state ks r.agreed) nodes → Waits r.target nodes → OperationFits (Some (Operation.Rebalancing (ask_on r ks))) nodes
+fits_ask_on r [] nodes a b c d e each waits = record { todo = tt; agreed = b; rootless = refl; no_root = d; asks = tt; each = each; waits = waits }
+fits_ask_on r (k ∷ ks) nodes a b c d e each waits = record { todo = a; agreed = b; rootless = c; no_root = d; asks = e; each = each; waits = waits }
+
+fits_cancel_on : (r : Rebalance) (ks : List ℕ) (nodes : List Node) → Distinct ks → Distinct r.agreed → has ks 0 ≡ false → has r.agreed 0 ≡ false →
+    Each (pending_state ks) nodes → Waits r.target nodes → OperationFits (Some (Operation.Rebalancing (cancel_on r ks))) nodes
+fits_cancel_on r [] nodes a b c d each waits = record { todo = tt; agreed = b; rootless = refl; no_root = d; asks = tt; each = each; waits = waits }
+fits_cancel_on r (k ∷ ks) nodes a b c d each waits = record { todo = a; agreed = b; rootless = c; no_root = d; asks = tt; each = each; waits = waits }
+
+fits_stop_on : (r : Rebalance) (ks : List ℕ) (nodes : List Node) → Distinct ks → Distinct r.agreed → has ks 0 ≡ false → has r.agreed 0 ≡ false → Within ks r.agreed →
+    Each (stopping_state ks r.agreed) nodes → Waits r.target nodes → OperationFits (Some (Operation.Rebalancing (stop_on r ks))) nodes
+fits_stop_on r [] nodes a b c d e each waits = record { todo = tt; agreed = b; rootless = refl; no_root = d; asks = tt; each = each; waits = waits }
+fits_stop_on r (k ∷ ks) nodes a b c d e each waits = record { todo = a; agreed = b; rootless = c; no_root = d; asks = e; each = each; waits = waits }
+
+fits_restart_from : (r : Rebalance) (ks : List ℕ) (nodes : List Node) → Distinct ks → Distinct r.agreed → has ks 0 ≡ false → has r.agreed 0 ≡ false →
+    Each (stopped_state ks) nodes → Waits r.target nodes → OperationFits (Some (Operation.Rebalancing (restart_from r ks))) nodes
+fits_restart_from r [] nodes a b c d each waits = record { todo = tt; agreed = b; rootless = refl; no_root = d; asks = tt; each = each; waits = waits }
+fits_restart_from r (k ∷ ks) nodes a b c d each waits = record { todo = a; agreed = b; rootless = c; no_root = d; asks = tt; each = each; waits = waits }
+
+-- those that can be restarted are among these
+startable_has : (nodes : List Node) (ks : List ℕ) (k : ℕ) → has ks k ≡ false → has (startable nodes ks) k ≡ false
+startable_has nodes [] k h = refl
+startable_has nodes (j ∷ js) k h = grind (arith, nat_tests, startable_has nodes js k)
+
+startable_distinct : (nodes : List Node) (ks : List ℕ) → Distinct ks → Distinct (startable nodes ks)
+startable_distinct nodes [] d = tt
+startable_distinct nodes (j ∷ js) d =
+    let by_test : (b : Bool) → Distinct (cond b (j ∷ js) (startable nodes js)) =
+    λ b. elim b as (λ b. Distinct (cond b (j ∷ js) (startable nodes js))) [ true ↦ d | false ↦ startable_distinct nodes js d.1 ] in
+    by_test (stands_up nodes j)
+
+fewer_stopped : (ks js : List ℕ) (k : ℕ) (x : DevState) → (has js k ≡ false → has ks k ≡ false) → stopped_state js k x ≡ true → stopped_state ks k x ≡ true
+fewer_stopped ks js k x within h =
+    let by_two : (a b : Bool) → (b ≡ false → a ≡ false) → cond b (is_stopped x) (is_calm x) ≡ true → cond a (is_stopped x) (is_calm x) ≡ true =
+    λ a b. elim b as (λ b. (b ≡ false → a ≡ false) → cond b (is_stopped x) (is_calm x) ≡ true → cond a (is_stopped x) (is_calm x) ≡ true) [
+      | true ↦ λ w g. elim a as (λ a. cond a (is_stopped x) (is_calm x) ≡ true) [ true ↦ g | false ↦ stopped_calm x g ]
+      | false ↦ λ w g. subst (λ (c : Bool). cond c (is_stopped x) (is_calm x) ≡ true) (sym (w refl)) g
+    ] in
+    by_two (has ks k) (has js k) within h
+
+fits_restart_on : (others : List Node) (r : Rebalance) (ks : List ℕ) (nodes : List Node) → Distinct ks → Distinct r.agreed → has ks 0 ≡ false → has r.agreed 0 ≡ false →
+    Each (stopped_state ks) nodes → Waits r.target nodes → OperationFits (Some (Operation.Rebalancing (restart_on others r ks))) nodes
+fits_restart_on others r ks nodes a b c d each waits =
+    fits_restart_from r (startable others ks) nodes (startable_distinct others ks a) b (startable_has others ks 0 c) d
+    (Each_same (stopped_state ks) (stopped_state (startable others ks)) nodes
+    (λ k x h. fewer_stopped (startable others ks) ks k x (startable_has others ks k) h) each) waits
+
+-- how the states of others are seen as lists change
+
+asked_here : (todo agreed : List ℕ) (j : ℕ) → has todo j ≡ false → asking_state todo (j ∷ agreed) j StopPending ≡ true
+asked_here todo agreed j h = grind (arith, nat_tests)
+
+asked_there : (todo more agreed : List ℕ) (j k : ℕ) (x : DevState) → j ≢ k → has more k ≡ has todo k → asking_state todo agreed k x ≡ true → asking_state more (j ∷ agreed) k x ≡ true
+asked_there todo more agreed j k x d e h = grind (arith, nat_tests)
+
+asked_apart : (todo more agreed : List ℕ) (j : ℕ) → has more j ≡ false → ((k : ℕ) → has more k ≡ true → has todo k ≡ true) → Apart todo agreed → Apart more (j ∷ agreed)
+asked_apart todo more agreed j h within apart k g =
+    let a = within k g in
+    let b = apart k a in
+    elim (cases_eq j k) [ inl e ↦ absurd (let z = subst (λ (i : ℕ). has more i ≡ false) e h in cc) | inr d ↦ grind (arith, nat_tests) ]
+
+fewer_asked : (todo more agreed : List ℕ) (k : ℕ) (x : DevState) → (has more k ≡ true → has todo k ≡ true) → (has todo k ≡ true → has agreed k ≡ false) → asking_state todo agreed k x ≡ true → asking_state more agreed k x ≡ true
+fewer_asked todo more agreed k x within apart h = grind (arith, nat_tests, started_calm x)
+
+-- the head of what is to do
+
+rootless_head : (j : ℕ) (todo : List ℕ) → HeadIs j todo → has todo 0 ≡ false → j ≢ 0
+rootless_head j todo h g = λ z. let there = head_has j todo h in let here = subst (λ (i : ℕ). has todo i ≡ true) z there in cc
+
+rest_rootless : (todo : List ℕ) → has todo 0 ≡ false → has (rest todo) 0 ≡ false
+rest_rootless [] h = h
+rest_rootless (i ∷ is) h = grind (arith, nat_tests)
+
+head_started : (todo agreed : List ℕ) (j : ℕ) (x : DevState) → has todo j ≡ true → asking_state todo agreed j x ≡ true → x ≡ Started
+head_started todo agreed j x h g = is_Started x (grind (arith))
+
+head_pending : (todo : List ℕ) (j : ℕ) (x : DevState) → has todo j ≡ true → pending_state todo j x ≡ true → x ≡ StopPending
+head_pending todo j x h g = is_StopPending x (grind (arith))
+
+head_stopping : (todo agreed : List ℕ) (j : ℕ) (x : DevState) → has todo j ≡ true → stopping_state todo agreed j x ≡ true → x ≡ StopPending
+head_stopping todo agreed j x h g = is_StopPending x (grind (arith))
+
+head_stopped : (todo : List ℕ) (j : ℕ) (x : DevState) → has todo j ≡ true → stopped_state todo j x ≡ true → x ≡ Stopped
+head_stopped todo j x h g = is_Stopped x (grind (arith))
+
+-- a device of the walk that is in state x, where the operation runs
+record AtWork (s : State) (node : Node) (todo : List ℕ) (o : Operation) (x : DevState) : Type 0 where
+  alone : s.activities ≡ []
+  runs : s.operation ≡ Some o
+  head : HeadIs node.serial todo
+  at : node_at node.serial s.core.nodes ≡ Some node
+  up : node.serial ≢ 0
+  state : node.state ≡ x
+  good : Good s.next_serial s.core.nodes [] (Some o)
+
+-- the walk ended, and the device has the state y
+walked : (s t : State) (label : Label) (node : Node) (todo : List ℕ) (o p : Operation) (x y : DevState) → AtWork s node todo o x → t.next_serial ≡ s.next_serial →
+    t.core.nodes ≡ changed_first (is_node node.serial) (with_state y) s.core.nodes → t.activities ≡ s.activities → t.operation ≡ Some p → x ≢ NoStack → y ≢ NoStack →
+    OperationFits (Some p) (changed_first (is_node node.serial) (with_state y) s.core.nodes) → Change label node.state y → Lawful s (record { label = label; state = t })
+walked s t label node todo o p x y w a b c d xn yn fits change =
+    lawful_walked s t label (with_state y) node o p a b (c ∙ w.alone) d (λ x. refl) w.at
+    (up_stack node.serial node.state y node.stack (w.good.stacks node.serial node w.at) (λ e. xn (sym w.state ∙ e)) yn w.up) fits change w.good
+
+row : (path : List ℕ) (a b y : DevState) (minor : Minor) (bad : Bool) → a ≡ b → Row b minor bad y → Change (Label.State path y) a y
+row path a b y minor bad e r = inr (refl, (minor, bad, subst (λ (z : DevState). Row z minor bad y) (sym e) r))
+
+-- The steps --------------------------------------------------------------------------
+
+lawful_end_ask : (s : State) (r : Rebalance) (node : Node) (w : Walk) (bad : Bool) → RebalanceKeeps r (Asking w) s.core.nodes → AtWork s node r.todo (Operation.Rebalancing r) Started →
+    Lawful s (rebalance_lifted s (end_ask s.core r node bad))
+lawful_end_ask s r node w false keeps work =
+    let j = node.serial in
+    let not_rest = rest_not j r.todo work.head keeps.todo in
+    walked s _ _ node r.todo (Operation.Rebalancing r) _ Started StopPending work refl refl refl refl (λ e. cc) (λ e. cc)
+    (fits_ask_on (record r { agreed = j ∷ r.agreed }) (rest r.todo) (changed_first (is_node j) (with_state StopPending) s.core.nodes)
+    (rest_distinct r.todo keeps.todo)
+    (keeps.asks j (head_has j r.todo work.head), keeps.agreed)
+    (rest_rootless r.todo keeps.rootless)
+    (let up = work.up in let old = keeps.no_root in grind (arith, nat_tests))
+    (asked_apart r.todo (rest r.todo) r.agreed j not_rest (λ k h. rest_within k r.todo h) keeps.asks)
+    (Each_changed (asking_state r.todo r.agreed) (asking_state (rest r.todo) (j ∷ r.agreed)) j (with_state StopPending) s.core.nodes node (λ x. refl) work.at
+    (asked_here (rest r.todo) r.agreed j not_rest)
+    (λ k x d h. asked_there r.todo (rest r.todo) r.agreed j k x d (rest_has j k r.todo work.head d) h) keeps.each)
+    (waits_changed r.target j (with_state StopPending) s.core.nodes node (λ x. refl) work.at (λ e. let z = work.state in cc) keeps.waits))
+    (row node.path node.state Started StopPending Minor.QueryStop false work.state query_stop)
+lawful_end_ask s r node w true keeps work =
+    let j = node.serial in
+    walked s _ _ node r.todo (Operation.Rebalancing r) _ Started node.state work refl refl refl refl (λ e. cc) (λ e. let z = work.state in cc)
+    (record {
+      todo = keeps.todo;
+      agreed = keeps.agreed;
+      rootless = keeps.rootless;
+      no_root = keeps.no_root;
+      asks = keeps.asks;
+      each =
+          Each_changed (asking_state r.todo r.agreed) (asking_state r.todo r.agreed) j (with_state node.state) s.core.nodes node (λ x. refl) work.at
+          (keeps.each j node work.at) (λ k x d h. h) keeps.each;
+      waits = waits_changed r.target j (with_state node.state) s.core.nodes node (λ x. refl) work.at (λ e. let z = work.state in cc) keeps.waits;
+    })
+    (inl refl)
+
+-- an ask changes no node: the same facts hold of the frame with its walk
+lawful_ask_step : (s : State) (r : Rebalance) (node : Node) (w : Walk) (ends : Bool) → RebalanceKeeps r (Asking w) s.core.nodes → AtWork s node r.todo (Operation.Rebalancing r) Started →
+    Lawful s (rebalance_lifted s (ask_step s.core r node w ends))
+lawful_ask_step s r node w true keeps work = lawful_end_ask s r node w (is_bad w) keeps work
+lawful_ask_step s r node w false keeps work =
+    lawful_still s _ _ (Operation.Rebalancing r) _ refl refl work.alone refl
+    (record { todo = keeps.todo; agreed = keeps.agreed; rootless = keeps.rootless; no_root = keeps.no_root; asks = keeps.asks; each = keeps.each; waits = keeps.waits })
+    work.good
+
+back_here : (todo agreed more : List ℕ) (j : ℕ) → has todo j ≡ true → has more j ≡ false → Apart todo agreed → asking_state more agreed j Started ≡ true
+back_here todo agreed more j h g apart = let a = apart j h in grind (arith)
+
+lawful_take_back : (s : State) (r : Rebalance) (node : Node) (w : Walk) (ends : Bool) → RebalanceKeeps r (TakingBack w) s.core.nodes → AtWork s node r.todo (Operation.Rebalancing r) Started →
+    Lawful s (rebalance_lifted s (take_back s.core r node w ends))
+lawful_take_back s r node w true keeps work =
+    let j = node.serial in
+    let more = those (is_not_above s.core.nodes j) (rest r.todo) in
+    let not_more = those_not (is_not_above s.core.nodes j) (rest r.todo) j (rest_not j r.todo work.head keeps.todo) in
+    let within : (k : ℕ) → has more k ≡ true → has r.todo k ≡ true = λ k h. rest_within k r.todo (those_has (is_not_above s.core.nodes j) (rest r.todo) k h).0 in
+    walked s _ _ node r.todo (Operation.Rebalancing r) _ Started Started work refl refl refl refl (λ e. cc) (λ e. cc)
+    (fits_ask_on r more (changed_first (is_node j) (with_state Started) s.core.nodes)
+    (those_distinct (is_not_above s.core.nodes j) (rest r.todo) (rest_distinct r.todo keeps.todo))
+    keeps.agreed
+    (those_not (is_not_above s.core.nodes j) (rest r.todo) 0 (rest_rootless r.todo keeps.rootless))
+    keeps.no_root
+    (λ k h. keeps.asks k (within k h))
+    (Each_changed (asking_state r.todo r.agreed) (asking_state more r.agreed) j (with_state Started) s.core.nodes node (λ x. refl) work.at
+    (back_here r.todo r.agreed more j (head_has j r.todo work.head) not_more keeps.asks)
+    (λ k x d h. fewer_asked r.todo more r.agreed k x (within k) (keeps.asks k) h) keeps.each)
+    (waits_changed r.target j (with_state Started) s.core.nodes node (λ x. refl) work.at (λ e. let z = work.state in cc) keeps.waits))
+    (row node.path node.state Started Started Minor.CancelStop false work.state cancel_stop_refused)
+lawful_take_back s r node w false keeps work =
+    lawful_still s _ _ (Operation.Rebalancing r) _ refl refl work.alone refl
+    (record { todo = keeps.todo; agreed = keeps.agreed; rootless = keeps.rootless; no_root = keeps.no_root; asks = keeps.asks; each = keeps.each; waits = keeps.waits })
+    work.good
+
+turned_stopping : (agreed : List ℕ) (k : ℕ) (x : DevState) → pending_state agreed k x ≡ true → stopping_state (reverse agreed) agreed k x ≡ true
+turned_stopping agreed k x h = let e = has-reverse agreed k in grind (arith)
+
+lawful_searched : (s : State) (r : Rebalance) (found : Found) → s.activities ≡ [] → RebalanceKeeps r Searching s.core.nodes → Good s.next_serial s.core.nodes [] (Some (Operation.Rebalancing r)) →
+    Lawful s (rebalance_lifted s (searched s.core r found))
+lawful_searched s r (assignment plan) alone keeps good =
+    lawful_still s _ _ (Operation.Rebalancing r) _ refl refl alone refl
+    (fits_stop_on (record r { found = assignment plan }) (reverse r.agreed) s.core.nodes (Distinct-reverse r.agreed keeps.agreed) keeps.agreed
+    (has-reverse r.agreed 0 ∙ keeps.no_root) keeps.no_root
+    (λ k h. sym (has-reverse r.agreed k) ∙ h)
+    (Each_same (pending_state r.agreed) (stopping_state (reverse r.agreed) r.agreed) s.core.nodes (λ k x h. turned_stopping r.agreed k x h) keeps.each)
+    keeps.waits) good
+lawful_searched s r no_fit alone keeps good =
+    lawful_still s _ _ (Operation.Rebalancing r) _ refl refl alone refl
+    (fits_cancel_on (record r { found = no_fit }) r.agreed s.core.nodes keeps.agreed keeps.agreed keeps.no_root keeps.no_root keeps.each keeps.waits) good
+lawful_searched s r spent alone keeps good =
+    lawful_still s _ _ (Operation.Rebalancing r) _ refl refl alone refl
+    (fits_cancel_on (record r { found = spent }) r.agreed s.core.nodes keeps.agreed keeps.agreed keeps.no_root keeps.no_root keeps.each keeps.waits) good
+
+rest_pending : (todo : List ℕ) (k : ℕ) (x : DevState) → has (rest todo) k ≡ has todo k → pending_state todo k x ≡ true → pending_state (rest todo) k x ≡ true
+rest_pending todo k x e h = grind (arith)
+
+calm_pending : (todo : List ℕ) (k : ℕ) → has todo k ≡ false → pending_state todo k Started ≡ true
+calm_pending todo k h = grind (arith)
+
+lawful_cancel : (s : State) (r : Rebalance) (node : Node) (w : Walk) (ends : Bool) → RebalanceKeeps r (Cancelling w) s.core.nodes → AtWork s node r.todo (Operation.Rebalancing r) StopPending →
+    Lawful s (rebalance_lifted s (cancel_step s.core r node w ends))
+lawful_cancel s r node w true keeps work =
+    let j = node.serial in
+    walked s _ _ node r.todo (Operation.Rebalancing r) _ StopPending Started work refl refl refl refl (λ e. cc) (λ e. cc)
+    (fits_cancel_on r (rest r.todo) (changed_first (is_node j) (with_state Started) s.core.nodes)
+    (rest_distinct r.todo keeps.todo) keeps.agreed (rest_rootless r.todo keeps.rootless) keeps.no_root
+    (Each_changed (pending_state r.todo) (pending_state (rest r.todo)) j (with_state Started) s.core.nodes node (λ x. refl) work.at
+    (calm_pending (rest r.todo) j (rest_not j r.todo work.head keeps.todo))
+    (λ k x d h. rest_pending r.todo k x (rest_has j k r.todo work.head d) h) keeps.each)
+    (waits_changed r.target j (with_state Started) s.core.nodes node (λ x. refl) work.at (λ e. let z = work.state in cc) keeps.waits))
+    (row node.path node.state StopPending Started Minor.CancelStop false work.state cancel_stop)
+lawful_cancel s r node w false keeps work =
+    lawful_still s _ _ (Operation.Rebalancing r) _ refl refl work.alone refl
+    (record { todo = keeps.todo; agreed = keeps.agreed; rootless = keeps.rootless; no_root = keeps.no_root; asks = keeps.asks; each = keeps.each; waits = keeps.waits })
+    work.good
+
+-- a problem of a node changes no state
+problem_each : (test : ℕ → DevState → Bool) (j : ℕ) (problem : Option Problem) (nodes : List Node) (n : Node) → node_at j nodes ≡ Some n → Each test nodes → Each test (changed_first (is_node j) (with_problem problem) nodes)
+problem_each test j problem nodes n at each =
+    Each_changed test test j (with_problem problem) nodes n (λ x. refl) at (each j n at) (λ k x d h. h) each
+
+problem_waits : (k j : ℕ) (problem : Option Problem) (nodes : List Node) → Waits k nodes → Waits k (changed_first (is_node j) (with_problem problem) nodes)
+problem_waits k j problem nodes w =
+    elim (cases_eq j k) [
+      | inl e ↦
+          let same = node_changed_same k (with_problem problem) nodes (λ x. refl) in
+          let there = w.1 in
+          (with_problem problem w.0, subst (λ (i : ℕ). node_at k (changed_first (is_node i) (with_problem problem) nodes) ≡ Some (with_problem problem w.0)) (sym e) (same ∙ ap (option_map (with_problem problem)) there), w.2)
+      | inr d ↦ (w.0, node_changed_other j k (with_problem problem) nodes (λ x. refl) d ∙ w.1, w.2)
+    ]
+
+lawful_stuck : (s : State) (r : Rebalance) → s.activities ≡ [] → RebalanceKeeps r Stuck s.core.nodes → Good s.next_serial s.core.nodes [] (Some (Operation.Rebalancing r)) →
+    Lawful s (rebalance_lifted s (stuck s.core r))
+lawful_stuck s r alone keeps good =
+    let node = keeps.waits.0 in
+    let own = own_serial r.target node s.core.nodes keeps.waits.1 in
+    let at = found_self r.target s.core.nodes node keeps.waits.1 in
+    let f = with_problem (Some (trouble_of r.found)) in
+    lawful_walked s _ (Label.Trouble r.path (trouble_of r.found)) f node (Operation.Rebalancing r) (Operation.Rebalancing (record r { stage = Ending })) refl
+    (ap (λ (i : ℕ). changed_first (is_node i) f s.core.nodes) (sym own)) alone refl (λ x. refl) at (good.stacks node.serial node at)
+    (record {
+      todo = keeps.todo;
+      agreed = keeps.agreed;
+      rootless = keeps.rootless;
+      no_root = keeps.no_root;
+      asks = tt;
+      each = problem_each (λ k x. is_calm x) node.serial (Some (trouble_of r.found)) s.core.nodes node at keeps.each;
+      waits = problem_waits r.target node.serial (Some (trouble_of r.found)) s.core.nodes keeps.waits;
+    })
+    refl good
+
+stop_here : (todo agreed : List ℕ) (j : ℕ) → has todo j ≡ false → has agreed j ≡ true → stopping_state todo agreed j Stopped ≡ true
+stop_here todo agreed j h g = grind (arith)
+
+rest_stopping : (todo agreed : List ℕ) (k : ℕ) (x : DevState) → has (rest todo) k ≡ has todo k → stopping_state todo agreed k x ≡ true → stopping_state (rest todo) agreed k x ≡ true
+rest_stopping todo agreed k x e h = grind (arith)
+
+lawful_stop : (s : State) (r : Rebalance) (node : Node) (w : Walk) (ends : Bool) → RebalanceKeeps r (Stopping w) s.core.nodes → AtWork s node r.todo (Operation.Rebalancing r) StopPending →
+    Lawful s (rebalance_lifted s (stop_step s.core r node w ends))
+lawful_stop s r node w true keeps work =
+    let j = node.serial in
+    walked s _ _ node r.todo (Operation.Rebalancing r) _ StopPending Stopped work refl refl refl refl (λ e. cc) (λ e. cc)
+    (fits_stop_on r (rest r.todo) (changed_first (is_node j) (with_state Stopped) s.core.nodes)
+    (rest_distinct r.todo keeps.todo) keeps.agreed (rest_rootless r.todo keeps.rootless) keeps.no_root
+    (λ k h. keeps.asks k (rest_within k r.todo h))
+    (Each_changed (stopping_state r.todo r.agreed) (stopping_state (rest r.todo) r.agreed) j (with_state Stopped) s.core.nodes node (λ x. refl) work.at
+    (stop_here (rest r.todo) r.agreed j (rest_not j r.todo work.head keeps.todo) (keeps.asks j (head_has j r.todo work.head)))
+    (λ k x d h. rest_stopping r.todo r.agreed k x (rest_has j k r.todo work.head d) h) keeps.each)
+    (waits_changed r.target j (with_state Stopped) s.core.nodes node (λ x. refl) work.at (λ e. let z = work.state in cc) keeps.waits))
+    (row node.path node.state StopPending Stopped Minor.Stop false work.state stop)
+lawful_stop s r node w false keeps work =
+    lawful_still s _ _ (Operation.Rebalancing r) _ refl refl work.alone refl
+    (record { todo = keeps.todo; agreed = keeps.agreed; rootless = keeps.rootless; no_root = keeps.no_root; asks = keeps.asks; each = keeps.each; waits = keeps.waits })
+    work.good
+
+lawful_commit : (s : State) (r : Rebalance) → s.activities ≡ [] → RebalanceKeeps r Committing s.core.nodes → Good s.next_serial s.core.nodes [] (Some (Operation.Rebalancing r)) →
+    Lawful s (rebalance_lifted s (commit_step s.core r))
+lawful_commit s r alone keeps good =
+    let f = committed (movers r) (plan_of r.found) in
+    let fits = fits_restart_on s.core.nodes r r.agreed (map f s.core.nodes) keeps.agreed keeps.agreed keeps.no_root keeps.no_root
+    (Each_mapped (stopped_state r.agreed) (stopped_state r.agreed) f s.core.nodes (λ x. refl) (λ x. refl) (λ k x h. h) keeps.each)
+    (waits_mapped r.target f s.core.nodes (λ x. refl) (λ x. refl) keeps.waits) in
+    lawful_by s _ (Label.Commit (length (movers r))) s.next_serial (map f s.core.nodes) [] (Some (Operation.Rebalancing (restart_on s.core.nodes r r.agreed))) refl refl alone refl
+    (Good_mapped s.next_serial f s.core.nodes (Some (Operation.Rebalancing r)) (Some (Operation.Rebalancing (restart_on s.core.nodes r r.agreed))) (λ x. refl) (λ x. refl) (λ x. refl) fits refl good)
+    (diagram_mapped (Label.Commit (length (movers r))) f s.core.nodes (λ x. refl) (λ x. refl))
+
+rest_stopped : (todo : List ℕ) (k : ℕ) (x : DevState) → has (rest todo) k ≡ has todo k → stopped_state todo k x ≡ true → stopped_state (rest todo) k x ≡ true
+rest_stopped todo k x e h = grind (arith)
+
+calm_stopped : (todo : List ℕ) (k : ℕ) (x : DevState) → has todo k ≡ false → is_calm x ≡ true → stopped_state todo k x ≡ true
+calm_stopped todo k x h g = grind (arith)
+
+lawful_end_restart : (s : State) (r : Rebalance) (node : Node) (w : Walk) (bad : Bool) → RebalanceKeeps r (Restarting w) s.core.nodes → AtWork s node r.todo (Operation.Rebalancing r) Stopped →
+    Lawful s (rebalance_lifted s (end_restart s.core r node bad))
+lawful_end_restart s r node w true keeps work =
+    let j = node.serial in
+    walked s _ _ node r.todo (Operation.Rebalancing r) _ Stopped node.state work refl refl refl refl (λ e. cc) (λ e. let z = work.state in cc)
+    (record {
+      todo = keeps.todo;
+      agreed = keeps.agreed;
+      rootless = keeps.rootless;
+      no_root = keeps.no_root;
+      asks = tt;
+      each =
+          Each_changed (stopped_state r.todo) (stopped_state r.todo) j (with_state node.state) s.core.nodes node (λ x. refl) work.at
+          (keeps.each j node work.at) (λ k x d h. h) keeps.each;
+      waits = waits_changed r.target j (with_state node.state) s.core.nodes node (λ x. refl) work.at (λ e. let z = work.state in cc) keeps.waits;
+    })
+    (inl refl)
+lawful_end_restart s r node w false keeps work =
+    let j = node.serial in
+    let nodes = changed_first (is_node j) (with_state Started) s.core.nodes in
+    walked s _ _ node r.todo (Operation.Rebalancing r) _ Stopped Started work refl refl refl refl (λ e. cc) (λ e. cc)
+    (fits_restart_on nodes r (rest r.todo) nodes
+    (rest_distinct r.todo keeps.todo) keeps.agreed (rest_rootless r.todo keeps.rootless) keeps.no_root
+    (Each_changed (stopped_state r.todo) (stopped_state (rest r.todo)) j (with_state Started) s.core.nodes node (λ x. refl) work.at
+    (calm_stopped (rest r.todo) j Started (rest_not j r.todo work.head keeps.todo) refl)
+    (λ k x d h. rest_stopped r.todo k x (rest_has j k r.todo work.head d) h) keeps.each)
+    (waits_changed r.target j (with_state Started) s.core.nodes node (λ x. refl) work.at (λ e. let z = work.state in cc) keeps.waits))
+    (row node.path node.state Stopped Started Minor.Start false work.state restart)
+
+lawful_restart : (s : State) (r : Rebalance) (node : Node) (w : Walk) (ends : Bool) → RebalanceKeeps r (Restarting w) s.core.nodes → AtWork s node r.todo (Operation.Rebalancing r) Stopped →
+    Lawful s (rebalance_lifted s (restart_step s.core r node w ends))
+lawful_restart s r node w true keeps work = lawful_end_restart s r node w (is_bad w) keeps work
+lawful_restart s r node w false keeps work =
+    lawful_still s _ _ (Operation.Rebalancing r) _ refl refl work.alone refl
+    (record { todo = keeps.todo; agreed = keeps.agreed; rootless = keeps.rootless; no_root = keeps.no_root; asks = keeps.asks; each = keeps.each; waits = keeps.waits })
+    work.good
+
+lawful_failed : (s : State) (r : Rebalance) (node : Node) → RebalanceKeeps r Failed s.core.nodes → AtWork s node r.todo (Operation.Rebalancing r) Stopped →
+    Lawful s (rebalance_lifted s (failed s.core r node))
+lawful_failed s r node keeps work =
+    let j = node.serial in
+    let nodes = changed_first (is_node j) (with_problem (Some Problem.FailedStart)) s.core.nodes in
+    lawful_walked s _ (Label.Trouble node.path Problem.FailedStart) (with_problem (Some Problem.FailedStart)) node (Operation.Rebalancing r) _ refl
+    refl work.alone refl (λ x. refl) work.at (work.good.stacks j node work.at)
+    (fits_restart_on s.core.nodes r (rest r.todo) nodes
+    (rest_distinct r.todo keeps.todo) keeps.agreed (rest_rootless r.todo keeps.rootless) keeps.no_root
+    (Each_changed (stopped_state r.todo) (stopped_state (rest r.todo)) j (with_problem (Some Problem.FailedStart)) s.core.nodes node (λ x. refl) work.at
+    (calm_stopped (rest r.todo) j node.state (rest_not j r.todo work.head keeps.todo) (ap is_calm work.state))
+    (λ k x d h. rest_stopped r.todo k x (rest_has j k r.todo work.head d) h) keeps.each)
+    (problem_waits r.target j (Some Problem.FailedStart) s.core.nodes keeps.waits))
+    refl work.good
+
+-- the end: the target has an activity, or none
+
+lawful_then : (s t : State) (label : Label) (r : Rebalance) (phase : Phase) → t.next_serial ≡ s.next_serial → t.core.nodes ≡ s.core.nodes → t.activities ≡ entered (record { serial = r.target; phase = phase }) s.activities → t.operation ≡ None →
+    s.activities ≡ [] → Fits phase NotStarted → RebalanceKeeps r Ending s.core.nodes → Good s.next_serial s.core.nodes [] (Some (Operation.Rebalancing r)) → Lawful s (record { label = label; state = t })
+lawful_then s t label r phase a b c d alone fit keeps good =
+    let node = keeps.waits.0 in
+    let x : Activity = record { serial = r.target; phase = phase } in
+    lawful_by s t label s.next_serial s.core.nodes (x ∷ []) None a b (c ∙ ap (entered x) alone) d
+    (Good_nodes s.next_serial s.core.nodes [] (x ∷ []) (Some (Operation.Rebalancing r)) None (omega arith, tt)
+    (λ k y g.
+    let at = keeps.waits.1 in
+    let e : r.target ≡ k = grind (arith, nat_tests) in
+    let same : x ≡ y = grind (arith, nat_tests) in (
+      node,
+      subst (λ (i : ℕ). node_at i s.core.nodes ≡ Some node) e at,
+      (λ z. let up = (good.stacks r.target node at).root (e ∙ z) in let w = keeps.waits.2 in cc),
+      subst (λ (v : Activity). Fits v.phase node.state) same (subst (λ (v : DevState). Fits phase v) (sym keeps.waits.2) fit),
+    ))
+    tt keeps.each good)
+    (diagram_same label s.core.nodes)
+
+lawful_moved : (s : State) (r : Rebalance) (up : Bool) (label : Label) → s.activities ≡ [] → RebalanceKeeps r Ending s.core.nodes → Good s.next_serial s.core.nodes [] (Some (Operation.Rebalancing r)) →
+    Lawful s (rebalance_lifted s (record { label = label; core = s.core; frame = r; beside = moved_on up }))
+lawful_moved s r true label alone keeps good = lawful_then s _ label r (Starting (walk_of Minor.Start)) refl refl refl refl alone refl keeps good
+lawful_moved s r false label alone keeps good = lawful_close s _ label (Operation.Rebalancing r) refl refl alone refl keeps.each good
+
+lawful_over : (s : State) (r : Rebalance) (found : Found) (label : Label) → s.activities ≡ [] → RebalanceKeeps r Ending s.core.nodes → Good s.next_serial s.core.nodes [] (Some (Operation.Rebalancing r)) →
+    Lawful s (rebalance_lifted s (record { label = label; core = s.core; frame = r; beside = over s.core r found }))
+lawful_over s r (assignment plan) label alone keeps good = lawful_moved s r (stands_up s.core.nodes r.target) label alone keeps good
+lawful_over s r no_fit label alone keeps good = lawful_then s _ label r (Removing (walk_of Minor.Remove)) refl refl refl refl alone refl keeps good
+lawful_over s r spent label alone keeps good = lawful_then s _ label r (Removing (walk_of Minor.Remove)) refl refl refl refl alone refl keeps good
+
+at_work : (s : State) (r : Rebalance) (node : Node) (x : DevState) → s.activities ≡ [] → s.operation ≡ Some (Operation.Rebalancing r) → first_node s.core.nodes r.todo ≡ Some node → has r.todo 0 ≡ false →
+    (has r.todo node.serial ≡ true → node_at node.serial s.core.nodes ≡ Some node → node.state ≡ x) → Good s.next_serial s.core.nodes [] (Some (Operation.Rebalancing r)) →
+    AtWork s node r.todo (Operation.Rebalancing r) x
+at_work s r node x alone runs first rootless state good =
+    let h = head_found s.core.nodes r.todo node first in
+    record { alone = alone; runs = runs; head = h.0; at = h.1; up = rootless_head node.serial r.todo h.0 rootless; state = state (head_has node.serial r.todo h.0) h.1; good = good }
+
+pub lawful_rebalance : (s : State) (r : Rebalance) (stage : RebalanceStage) (o : Option Node) → first_node s.core.nodes r.todo ≡ o → s.activities ≡ [] → s.operation ≡ Some (Operation.Rebalancing r) →
+    RebalanceKeeps r stage s.core.nodes → Good s.next_serial s.core.nodes [] (Some (Operation.Rebalancing r)) →
+    LawfulNext s (option_map (doing_map (rebalance_lifted s)) (rebalance_step s.core r stage o))
+lawful_rebalance s r Searching o first alone runs keeps good = λ found. lawful_searched s r found alone keeps good
+lawful_rebalance s r Stuck o first alone runs keeps good = lawful_stuck s r alone keeps good
+lawful_rebalance s r Committing o first alone runs keeps good = lawful_commit s r alone keeps good
+lawful_rebalance s r Ending o first alone runs keeps good = lawful_over s r r.found _ alone keeps good
+lawful_rebalance s r (Asking w) (Some node) first alone runs keeps good =
+    lawful_ask_step s r node w _ keeps (at_work s r node Started alone runs first keeps.rootless (λ h at. head_started r.todo r.agreed node.serial node.state h (keeps.each node.serial node at)) good)
+lawful_rebalance s r (TakingBack w) (Some node) first alone runs keeps good =
+    lawful_take_back s r node w _ keeps (at_work s r node Started alone runs first keeps.rootless (λ h at. head_started r.todo r.agreed node.serial node.state h (keeps.each node.serial node at)) good)
+lawful_rebalance s r (Cancelling w) (Some node) first alone runs keeps good =
+    lawful_cancel s r node w _ keeps (at_work s r node StopPending alone runs first keeps.rootless (λ h at. head_pending r.todo node.serial node.state h (keeps.each node.serial node at)) good)
+lawful_rebalance s r (Stopping w) (Some node) first alone runs keeps good =
+    lawful_stop s r node w _ keeps (at_work s r node StopPending alone runs first keeps.rootless (λ h at. head_stopping r.todo r.agreed node.serial node.state h (keeps.each node.serial node at)) good)
+lawful_rebalance s r (Restarting w) (Some node) first alone runs keeps good =
+    lawful_restart s r node w _ keeps (at_work s r node Stopped alone runs first keeps.rootless (λ h at. head_stopped r.todo node.serial node.state h (keeps.each node.serial node at)) good)
+lawful_rebalance s r Failed (Some node) first alone runs keeps good =
+    lawful_failed s r node keeps (at_work s r node Stopped alone runs first keeps.rootless (λ h at. head_stopped r.todo node.serial node.state h (keeps.each node.serial node at)) good)
+lawful_rebalance s r (Asking w) None first alone runs keeps good = tt
+lawful_rebalance s r (TakingBack w) None first alone runs keeps good = tt
+lawful_rebalance s r (Cancelling w) None first alone runs keeps good = tt
+lawful_rebalance s r (Stopping w) None first alone runs keeps good = tt
+lawful_rebalance s r (Restarting w) None first alone runs keeps good = tt
+lawful_rebalance s r Failed None first alone runs keeps good = tt
+
+-- The begin ---------------------------------------------------------------------------
+
+both : (a b : Bool) → (a && b) ≡ true → (a ≡ true) × (b ≡ true)
+both true true h = (refl, refl)
+both true false h = absurd (cc)
+both false b h = absurd (cc)
+
+asked_up : (n : Node) → is_asked n ≡ true → (n.state ≡ Started) × (n.serial ≢ 0)
+asked_up n h =
+    let two = both (is_started n.state) (not (n.serial == 0)) h in
+    let t1 = two.1 in
+    (is_Started n.state two.0, grind (arith, nat_tests))
+
+begun_each : (nodes : List Node) (ks : List ℕ) → ((k : ℕ) (n : Node) → has ks k ≡ true → node_at k nodes ≡ Some n → n.state ≡ Started) → Each (λ k x. is_calm x) nodes → Each (asking_state ks []) nodes
+begun_each nodes ks up each k n at =
+    let by_test : (b : Bool) → has ks k ≡ b → cond b (is_started n.state) (is_calm n.state) ≡ true =
+    λ b. elim b as (λ b. has ks k ≡ b → cond b (is_started n.state) (is_calm n.state) ≡ true) [
+      | true ↦ λ h. ap is_started (up k n h at)
+      | false ↦ λ h. each k n at
+    ] in
+    by_test (has ks k) refl
+
+pub fits_begun_rebalance : (s : State) (node : Node) → node_at node.serial s.core.nodes ≡ Some node → node.state ≡ NotStarted → Good s.next_serial s.core.nodes s.activities None →
+    OperationFits (Some (Operation.Rebalancing (begun_rebalance s.core node))) s.core.nodes
+fits_begun_rebalance s node at e good =
+    let ks = serials_of (those is_asked s.core.nodes) in
+    let found : (k : ℕ) → has (reverse ks) k ≡ true → (n : Node) × (node_at k s.core.nodes ≡ Some n) × (is_asked n ≡ true) =
+    λ k h. those_found 0 is_asked s.core.nodes k good.serials (sym (has-reverse ks k) ∙ h) in
+    fits_ask_on (record { target = node.serial; path = node.path; todo = []; agreed = []; refused = []; found = no_fit; stage = Searching }) (reverse ks) s.core.nodes
+    (Distinct-reverse ks (serials_distinct 0 is_asked s.core.nodes good.serials)) tt
+    (let by_test : (b : Bool) → has (reverse ks) 0 ≡ b → b ≡ false =
+    λ b. elim b as (λ b. has (reverse ks) 0 ≡ b → b ≡ false) [
+      | true ↦ λ h.
+          let f = found 0 h in
+          let own = own_serial 0 f.0 s.core.nodes f.1 in
+          absurd ((asked_up f.0 f.2).1 own)
+      | false ↦ λ h. refl
+    ] in by_test (has (reverse ks) 0) refl)
+    refl (λ k h. refl)
+    (begun_each s.core.nodes (reverse ks)
+    (λ k n h g. let f = found k h in let same : f.0 ≡ n = let q = f.1 in cc in subst (λ (z : Node). z.state ≡ Started) same (asked_up f.0 f.2).0)
+    good.fits)
+    (node, at, e)

@@ -1,0 +1,374 @@
+-- Each step of a removal keeps what a run keeps and follows the diagram.
+use Rattle.std.proofs.Common.{ℕ, ◌≡◌, ◌≢◌, inl, inr, Bool, true, false, cond, List, [], ◌∷◌, Option, Some, None, refl, sym, ap, ◌∙◌, subst, arith}
+use Rattle.std.proofs.lemmas.Bool.{cases_eq}
+use Rattle.std.proofs.lemmas.Bool.Decides.{nat_tests}
+use Rattle.std.specs.Option.{option_map}
+use Rattle.pnp_model.specs.Keyed.{changed_first, without_first, those}
+use Rattle.pnp_model.specs.Records.{Node, State, Operation, Removal, RemovalStage, Walk}
+use Rattle.pnp_model.specs.Records.Doing.{Does}
+use Rattle.pnp_model.specs.Records.RemovalStage.{Asking, TakingBack, Cancelling, Removing, Settling, Ending}
+use Rattle.pnp_model.specs.Cores.{is_node, node_at, with_state, with_problem, bare, stack_of}
+use Rattle.pnp_model.specs.Walks.{is_bad}
+use Rattle.pnp_model.specs.Tests.{has, is_started, is_eject}
+use Rattle.pnp_model.specs.Trees.{is_up}
+use Rattle.pnp_model.specs.States.{unplug, set_operation, with_core}
+use Rattle.pnp_model.specs.Frames.{first_node, rest}
+use Rattle.pnp_model.specs.Removals.{ejecting, RemoveBeside, finish_with, finish_on, ask_on, cancel_on, begun_with, end_ask, ask_step, take_back, cancel_step, remove_step, leaves, settle_related, settle_target, settle_outer, settle, removal_step}
+use Rattle.pnp_model.specs.Machine.{removal_lifted}
+use Rattle.pnp_laws.specs.Kept.{Good, Lawful, Each, HasStackOf, OperationFits, Distinct, Apart, Within, RemovalKeeps, Ascending, querying_state, refusing_state, restoring_state, finishing_state, settling_state, removing_state, is_calm, is_idle, is_stopped}
+use Rattle.pnp_model.specs.Diagram.{Change, Row}
+use Rattle.pnp_model.specs.Diagram.Row.{query_remove, cancel_remove_refused, cancel_remove}
+use Rattle.pnp_labels.specs.declared.states.DevState.{DevState}
+use Rattle.pnp_labels.specs.declared.words.Minor.{Minor}
+use Rattle.pnp_labels.specs.declared.label.Label.{Label}
+use Rattle.pnp_labels.specs.declared.states.Problem.{Problem}
+use Rattle.pnp_labels.specs.declared.label.OpKind.{OpKind}
+use Rattle.pnp_labels.specs.declared.states.DevState.TheVariants.{NoStack, NotStarted, Started, StopPending, Stopped, RemovePending, SurpriseRemoved}
+use Rattle.pnp_laws.proofs.Lookups.{node_from, left_from}
+use Rattle.pnp_laws.proofs.Diagrams.{Each_changed, Each_same, Each_left, diagram_left}
+use Rattle.pnp_laws.proofs.Kept.{lawful_by, Good_left, LawfulNext}
+use Rattle.pnp_laws.proofs.Lists.{HeadIs, head_found, head_has, rest_has, rest_not, rest_distinct, rest_within, those_has, those_keeps, those_distinct}
+use Rattle.pnp_laws.proofs.OpSteps.{lawful_walked, lawful_still, lawful_close, up_stack, is_Started, is_RemovePending, started_calm}
+use Rattle.pnp_laws.proofs.StartSteps.{idle_calm}
+use Rattle.pnp_laws.proofs.Finishing.{StacksFit, settle_each, remove_each, head_stripped, head_bare, stripped_here, stripped_there, settled_there, calm_here, stack_kept, stack_left, strips, relist_only}
+
+-- What comes next keeps the facts --------------------------------------------------
+
+fits_with : (o : Removal) (k : ℕ) (ks : List ℕ) (stack : List ℕ) (nodes : List Node) → stack_of (node_at k nodes) ≡ stack → Distinct o.set → has o.set 0 ≡ false → Distinct (k ∷ ks) → Distinct o.agreed → Within (k ∷ ks) o.set →
+    StacksFit nodes → Each (finishing_state (k ∷ ks)) nodes → OperationFits (Some (Operation.Removing (finish_with o (k ∷ ks) stack))) nodes
+fits_with o k ks [] nodes e a b c d within stacks each =
+    let up : k ≢ 0 = λ z. let w = within k (grind (arith, nat_tests)) in let w0 = subst (λ (i : ℕ). has o.set i ≡ true) z w in cc in
+    record { set = a; rootless = b; todo = c; agreed = d; asks = within; each = settle_each k ks nodes stacks up e each }
+fits_with o k ks (x ∷ xs) nodes e a b c d within stacks each =
+    record { set = a; rootless = b; todo = c; agreed = d; asks = within; each = remove_each k ks nodes x xs stacks e each }
+
+-- `others` are the nodes in which the next stack was looked up
+fits_finish_on : (others : List Node) (o : Removal) (ks : List ℕ) (nodes : List Node) → ((k : ℕ) → has ks k ≡ true → stack_of (node_at k nodes) ≡ stack_of (node_at k others)) → Distinct o.set → has o.set 0 ≡ false → Distinct ks → Distinct o.agreed → Within ks o.set →
+    StacksFit nodes → Each (finishing_state ks) nodes → OperationFits (Some (Operation.Removing (finish_on others o ks))) nodes
+fits_finish_on others o [] nodes same a b c d within stacks each = record { set = a; rootless = b; todo = tt; agreed = d; asks = λ k h. absurd (cc); each = each }
+fits_finish_on others o (k ∷ ks) nodes same a b c d within stacks each =
+    fits_with o k ks (stack_of (node_at k others)) nodes (same k (grind (arith, nat_tests))) a b c d within stacks each
+
+-- all were asked: those of the set may lose their drivers
+queried_over : (agreed set : List ℕ) (k : ℕ) (x : DevState) → (has agreed k ≡ true → has set k ≡ true) → querying_state [] agreed set k x ≡ true → finishing_state set k x ≡ true
+queried_over agreed set k NoStack within h = grind (arith)
+queried_over agreed set k NotStarted within h = grind (arith)
+queried_over agreed set k Started within h = grind (arith)
+queried_over agreed set k StopPending within h = grind (arith)
+queried_over agreed set k Stopped within h = grind (arith)
+queried_over agreed set k RemovePending within h = grind (arith)
+queried_over agreed set k SurpriseRemoved within h = grind (arith)
+
+fits_ask_on : (others : List Node) (o : Removal) (ks : List ℕ) (nodes : List Node) → ((k : ℕ) → stack_of (node_at k nodes) ≡ stack_of (node_at k others)) → Distinct o.set → has o.set 0 ≡ false → Distinct ks → Distinct o.agreed → Apart ks o.agreed → Within o.agreed o.set → Within ks o.set →
+    StacksFit nodes → Each (querying_state ks o.agreed o.set) nodes → OperationFits (Some (Operation.Removing (ask_on others o ks))) nodes
+fits_ask_on others o [] nodes same a b c d apart within inside stacks each =
+    fits_finish_on others o o.set nodes (λ k h. same k) a b a d (λ k h. h) stacks
+    (Each_same (querying_state [] o.agreed o.set) (finishing_state o.set) nodes (λ k x h. queried_over o.agreed o.set k x (within k) h) each)
+fits_ask_on others o (k ∷ ks) nodes same a b c d apart within inside stacks each = record { set = a; rootless = b; todo = c; agreed = d; asks = (apart, within, inside); each = each }
+
+fits_cancel_on : (o : Removal) (ks : List ℕ) (nodes : List Node) → Distinct o.set → has o.set 0 ≡ false → Distinct ks → Distinct o.agreed → Within ks o.set →
+    Each (restoring_state ks) nodes → OperationFits (Some (Operation.Removing (cancel_on o ks))) nodes
+fits_cancel_on o [] nodes a b c d within each = record { set = a; rootless = b; todo = tt; agreed = d; asks = λ k h. absurd (cc); each = each }
+fits_cancel_on o (k ∷ ks) nodes a b c d within each = record { set = a; rootless = b; todo = c; agreed = d; asks = within; each = each }
+
+-- states as lists change
+
+asked_here : (todo agreed set : List ℕ) (j : ℕ) → has todo j ≡ false → querying_state todo (j ∷ agreed) set j RemovePending ≡ true
+asked_here todo agreed set j h = grind (arith, nat_tests)
+
+asked_there : (todo more agreed set : List ℕ) (j k : ℕ) (x : DevState) → j ≢ k → has more k ≡ has todo k → querying_state todo agreed set k x ≡ true → querying_state more (j ∷ agreed) set k x ≡ true
+asked_there todo more agreed set j k x d e h = grind (arith, nat_tests)
+
+refused_state : (todo agreed set : List ℕ) (k : ℕ) (x : DevState) → querying_state todo agreed set k x ≡ true → refusing_state todo agreed k x ≡ true
+refused_state todo agreed set k x h = grind (arith, idle_calm x)
+
+back_here : (todo agreed : List ℕ) (j : ℕ) → has todo j ≡ true → (has todo j ≡ true → has agreed j ≡ false) → restoring_state agreed j Started ≡ true
+back_here todo agreed j h apart = let a = apart h in grind (arith)
+
+back_there : (todo agreed : List ℕ) (k : ℕ) (x : DevState) → (has todo k ≡ true → has agreed k ≡ false) → refusing_state todo agreed k x ≡ true → restoring_state agreed k x ≡ true
+back_there todo agreed k x apart h = grind (arith, started_calm x)
+
+rest_restoring : (todo : List ℕ) (k : ℕ) (x : DevState) → has (rest todo) k ≡ has todo k → restoring_state todo k x ≡ true → restoring_state (rest todo) k x ≡ true
+rest_restoring todo k x e h = grind (arith)
+
+calm_restoring : (todo : List ℕ) (k : ℕ) → has todo k ≡ false → restoring_state todo k Started ≡ true
+calm_restoring todo k h = grind (arith)
+
+pub head_querying : (todo agreed set : List ℕ) (j : ℕ) (x : DevState) → has todo j ≡ true → querying_state todo agreed set j x ≡ true → x ≡ Started
+head_querying todo agreed set j x h g = is_Started x (grind (arith))
+
+pub head_refusing : (todo agreed : List ℕ) (j : ℕ) (x : DevState) → has todo j ≡ true → refusing_state todo agreed j x ≡ true → x ≡ Started
+head_refusing todo agreed j x h g = is_Started x (grind (arith))
+
+head_restoring : (todo : List ℕ) (j : ℕ) (x : DevState) → has todo j ≡ true → restoring_state todo j x ≡ true → x ≡ RemovePending
+head_restoring todo j x h g = is_RemovePending x (grind (arith))
+
+asked_apart : (todo more agreed : List ℕ) (j : ℕ) → has more j ≡ false → ((k : ℕ) → has more k ≡ true → has todo k ≡ true) → Apart todo agreed → Apart more (j ∷ agreed)
+asked_apart todo more agreed j h within apart k g =
+    let a = within k g in
+    let b = apart k a in
+    elim (cases_eq j k) [ inl e ↦ absurd (let z = subst (λ (i : ℕ). has more i ≡ false) e h in cc) | inr d ↦ grind (arith, nat_tests) ]
+
+asked_within : (agreed set : List ℕ) (j : ℕ) → has set j ≡ true → Within agreed set → Within (j ∷ agreed) set
+asked_within agreed set j h within k g =
+    elim (cases_eq j k) [ inl e ↦ subst (λ (i : ℕ). has set i ≡ true) e h | inr d ↦ within k (grind (arith, nat_tests)) ]
+
+-- a device of the operation, which stands first
+record AtWork (s : State) (node : Node) (o : Removal) : Type 0 where
+  alone : s.activities ≡ []
+  head : HeadIs node.serial o.todo
+  at : node_at node.serial s.core.nodes ≡ Some node
+  good : Good s.next_serial s.core.nodes [] (Some (Operation.Removing o))
+
+pub not_root : (set todo : List ℕ) (j : ℕ) → has set 0 ≡ false → Within todo set → has todo j ≡ true → j ≢ 0
+not_root set todo j h within g = λ z. let w = within j g in let w0 = subst (λ (i : ℕ). has set i ≡ true) z w in cc
+
+row : (path : List ℕ) (a b y : DevState) (minor : Minor) (bad : Bool) → a ≡ b → Row b minor bad y → Change (Label.State path y) a y
+row path a b y minor bad e r = inr (refl, (minor, bad, subst (λ (z : DevState). Row z minor bad y) (sym e) r))
+
+pub stacks_changed : (j : ℕ) (y : DevState) (node : Node) (nodes : List Node) → StacksFit nodes → node_at j nodes ≡ Some node → HasStackOf j y node.stack → StacksFit (changed_first (is_node j) (with_state y) nodes)
+stacks_changed j y node nodes stacks at stack k m g =
+    elim (node_from j k (with_state y) nodes m (λ x. refl) g) [
+      | inl (e, (n, q, r)) ↦
+          let at_k = subst (λ (i : ℕ). node_at i nodes ≡ Some node) e at in
+          let same : with_state y node ≡ m = let yn : node ≡ n = cc in cc in
+          subst (λ (z : Node). HasStackOf k z.state z.stack) same (subst (λ (i : ℕ). HasStackOf i y node.stack) e stack)
+      | inr (d, q) ↦ stacks k m q
+    ]
+
+walked : (s t : State) (label : Label) (node : Node) (o : Removal) (p : Operation) (x y : DevState) → AtWork s node o → node.state ≡ x → node.serial ≢ 0 → t.next_serial ≡ s.next_serial →
+    t.core.nodes ≡ changed_first (is_node node.serial) (with_state y) s.core.nodes → t.activities ≡ s.activities → t.operation ≡ Some p → x ≢ NoStack → y ≢ NoStack →
+    (StacksFit (changed_first (is_node node.serial) (with_state y) s.core.nodes) → OperationFits (Some p) (changed_first (is_node node.serial) (with_state y) s.core.nodes)) →
+    Change label node.state y → Lawful s (record { label = label; state = t })
+walked s t label node o p x y w e up a b c d xn yn fits change =
+    let stack = up_stack node.serial node.state y node.stack (w.good.stacks node.serial node w.at) (λ z. xn (sym e ∙ z)) yn up in
+    lawful_walked s t label (with_state y) node (Operation.Removing o) p a b (c ∙ w.alone) d (λ x. refl) w.at stack
+    (fits (stacks_changed node.serial y node s.core.nodes w.good.stacks w.at stack)) change w.good
+
+-- The steps ----------------------------------------------------------------------------
+
+lawful_end_ask : (s : State) (o : Removal) (node : Node) (w : Walk) (bad : Bool) → RemovalKeeps o (Asking w) s.core.nodes → AtWork s node o → Lawful s (removal_lifted s (end_ask s.core o node bad))
+lawful_end_ask s o node w false keeps work =
+    let j = node.serial in
+    let here = head_has j o.todo work.head in
+    let state = head_querying o.todo o.agreed o.set j node.state here (keeps.each j node work.at) in
+    let not_rest = rest_not j o.todo work.head keeps.todo in
+    walked s _ _ node o _ Started RemovePending work state (not_root o.set o.todo j keeps.rootless keeps.asks.2 here) refl refl refl refl (λ e. cc) (λ e. cc)
+    (λ stacks. fits_ask_on s.core.nodes (record o { agreed = j ∷ o.agreed }) (rest o.todo) (changed_first (is_node j) (with_state RemovePending) s.core.nodes)
+    (λ k. stack_kept j k (with_state RemovePending) s.core.nodes (λ x. refl) (λ x. refl))
+    keeps.set keeps.rootless
+    (rest_distinct o.todo keeps.todo)
+    (keeps.asks.0 j here, keeps.agreed)
+    (asked_apart o.todo (rest o.todo) o.agreed j not_rest (λ k h. rest_within k o.todo h) keeps.asks.0)
+    (asked_within o.agreed o.set j (keeps.asks.2 j here) keeps.asks.1)
+    (λ k h. keeps.asks.2 k (rest_within k o.todo h))
+    stacks
+    (Each_changed (querying_state o.todo o.agreed o.set) (querying_state (rest o.todo) (j ∷ o.agreed) o.set) j (with_state RemovePending) s.core.nodes node (λ x. refl) work.at
+    (asked_here (rest o.todo) o.agreed o.set j not_rest)
+    (λ k x d h. asked_there o.todo (rest o.todo) o.agreed o.set j k x d (rest_has j k o.todo work.head d) h) keeps.each))
+    (row node.path node.state Started RemovePending Minor.QueryRemove false state query_remove)
+lawful_end_ask s o node w true keeps work =
+    let j = node.serial in
+    let here = head_has j o.todo work.head in
+    let state = head_querying o.todo o.agreed o.set j node.state here (keeps.each j node work.at) in
+    walked s _ _ node o _ Started node.state work state (not_root o.set o.todo j keeps.rootless keeps.asks.2 here) refl refl refl refl (λ e. cc) (λ e. let z = state in cc)
+    (λ stacks. record {
+      set = keeps.set;
+      rootless = keeps.rootless;
+      todo = keeps.todo;
+      agreed = keeps.agreed;
+      asks = keeps.asks;
+      each =
+          Each_changed (querying_state o.todo o.agreed o.set) (refusing_state o.todo o.agreed) j (with_state node.state) s.core.nodes node (λ x. refl) work.at
+          (refused_state o.todo o.agreed o.set j node.state (keeps.each j node work.at)) (λ k x d h. refused_state o.todo o.agreed o.set k x h) keeps.each;
+    })
+    (inl refl)
+
+lawful_ask_step : (s : State) (o : Removal) (node : Node) (w : Walk) (ends : Bool) → RemovalKeeps o (Asking w) s.core.nodes → AtWork s node o → Lawful s (removal_lifted s (ask_step s.core o node w ends))
+lawful_ask_step s o node w true keeps work = lawful_end_ask s o node w (is_bad w) keeps work
+lawful_ask_step s o node w false keeps work =
+    lawful_still s _ _ (Operation.Removing o) _ refl refl work.alone refl
+    (record { set = keeps.set; rootless = keeps.rootless; todo = keeps.todo; agreed = keeps.agreed; asks = keeps.asks; each = keeps.each }) work.good
+
+lawful_take_back : (s : State) (o : Removal) (node : Node) (w : Walk) (ends : Bool) → RemovalKeeps o (TakingBack w) s.core.nodes → AtWork s node o → Lawful s (removal_lifted s (take_back s.core o node w ends))
+lawful_take_back s o node w true keeps work =
+    let j = node.serial in
+    let here = head_has j o.todo work.head in
+    let state = head_refusing o.todo o.agreed j node.state here (keeps.each j node work.at) in
+    walked s _ _ node o _ Started Started work state (not_root o.set o.todo j keeps.rootless keeps.asks.2 here) refl refl refl refl (λ e. cc) (λ e. cc)
+    (λ stacks. fits_cancel_on o o.agreed (changed_first (is_node j) (with_state Started) s.core.nodes) keeps.set keeps.rootless keeps.agreed keeps.agreed keeps.asks.1
+    (Each_changed (refusing_state o.todo o.agreed) (restoring_state o.agreed) j (with_state Started) s.core.nodes node (λ x. refl) work.at
+    (back_here o.todo o.agreed j here (keeps.asks.0 j))
+    (λ k x d h. back_there o.todo o.agreed k x (keeps.asks.0 k) h) keeps.each))
+    (row node.path node.state Started Started Minor.CancelRemove false state cancel_remove_refused)
+lawful_take_back s o node w false keeps work =
+    lawful_still s _ _ (Operation.Removing o) _ refl refl work.alone refl
+    (record { set = keeps.set; rootless = keeps.rootless; todo = keeps.todo; agreed = keeps.agreed; asks = keeps.asks; each = keeps.each }) work.good
+
+lawful_cancel : (s : State) (o : Removal) (node : Node) (w : Walk) (ends : Bool) → RemovalKeeps o (Cancelling w) s.core.nodes → AtWork s node o → Lawful s (removal_lifted s (cancel_step s.core o node w ends))
+lawful_cancel s o node w true keeps work =
+    let j = node.serial in
+    let here = head_has j o.todo work.head in
+    let state = head_restoring o.todo j node.state here (keeps.each j node work.at) in
+    walked s _ _ node o _ RemovePending Started work state (not_root o.set o.todo j keeps.rootless keeps.asks here) refl refl refl refl (λ e. cc) (λ e. cc)
+    (λ stacks. fits_cancel_on o (rest o.todo) (changed_first (is_node j) (with_state Started) s.core.nodes) keeps.set keeps.rootless (rest_distinct o.todo keeps.todo) keeps.agreed
+    (λ k h. keeps.asks k (rest_within k o.todo h))
+    (Each_changed (restoring_state o.todo) (restoring_state (rest o.todo)) j (with_state Started) s.core.nodes node (λ x. refl) work.at
+    (calm_restoring (rest o.todo) j (rest_not j o.todo work.head keeps.todo))
+    (λ k x d h. rest_restoring o.todo k x (rest_has j k o.todo work.head d) h) keeps.each))
+    (row node.path node.state RemovePending Started Minor.CancelRemove false state cancel_remove)
+lawful_cancel s o node w false keeps work =
+    lawful_still s _ _ (Operation.Removing o) _ refl refl work.alone refl
+    (record { set = keeps.set; rootless = keeps.rootless; todo = keeps.todo; agreed = keeps.agreed; asks = keeps.asks; each = keeps.each }) work.good
+
+lawful_remove : (s : State) (o : Removal) (node : Node) (w : Walk) (ends : Bool) → RemovalKeeps o (Removing w) s.core.nodes → AtWork s node o → Lawful s (removal_lifted s (remove_step s.core o node w ends))
+lawful_remove s o node w true keeps work =
+    let j = node.serial in
+    let up = not_root o.set o.todo j keeps.rootless keeps.asks (head_has j o.todo work.head) in
+    lawful_walked s _ (Label.State node.path NoStack) bare node (Operation.Removing o) _ refl refl work.alone refl (λ x. refl) work.at
+    (record { none = λ h. refl; some = λ d h. refl; root = λ z. absurd (up z) })
+    (record {
+      set = keeps.set;
+      rootless = keeps.rootless;
+      todo = keeps.todo;
+      agreed = keeps.agreed;
+      asks = keeps.asks;
+      each =
+          Each_changed (removing_state o.todo) (settling_state o.todo) j bare s.core.nodes node (λ x. refl) work.at (stripped_here o.todo j work.head)
+          (λ k x d h. stripped_there o.todo j k x work.head d h) keeps.each;
+    })
+    (inr (refl, (Minor.Remove, false, strips node.state (head_stripped o.todo j node.state work.head (keeps.each j node work.at)))))
+    work.good
+lawful_remove s o node w false keeps work =
+    lawful_still s _ _ (Operation.Removing o) _ refl refl work.alone refl
+    (record { set = keeps.set; rootless = keeps.rootless; todo = keeps.todo; agreed = keeps.agreed; asks = keeps.asks; each = keeps.each }) work.good
+
+pub stacks_problem : (j : ℕ) (problem : Option Problem) (nodes : List Node) → StacksFit nodes → StacksFit (changed_first (is_node j) (with_problem problem) nodes)
+stacks_problem j problem nodes stacks k m g =
+    elim (node_from j k (with_problem problem) nodes m (λ x. refl) g) [
+      | inl (e, (n, q, r)) ↦ subst (λ (z : Node). HasStackOf k z.state z.stack) (sym r) (stacks k n q)
+      | inr (d, q) ↦ stacks k m q
+    ]
+
+-- the device remains, with a problem
+lawful_remains : (s t : State) (o : Removal) (node : Node) (problem : Problem) → t.next_serial ≡ s.next_serial → t.core.nodes ≡ changed_first (is_node node.serial) (with_problem (Some problem)) s.core.nodes → t.activities ≡ s.activities →
+    t.operation ≡ Some (Operation.Removing (finish_on s.core.nodes o (rest o.todo))) → RemovalKeeps o Settling s.core.nodes → AtWork s node o → Lawful s (record { label = Label.Trouble node.path problem; state = t })
+lawful_remains s t o node problem a b c d keeps work =
+    let j = node.serial in
+    let f = with_problem (Some problem) in
+    let state = head_bare o.todo j node.state work.head (keeps.each j node work.at) in
+    lawful_walked s t (Label.Trouble node.path problem) f node (Operation.Removing o) _ a b (c ∙ work.alone) d (λ x. refl) work.at (work.good.stacks j node work.at)
+    (fits_finish_on s.core.nodes o (rest o.todo) (changed_first (is_node j) f s.core.nodes)
+    (λ k h. stack_kept j k f s.core.nodes (λ x. refl) (λ x. refl)) keeps.set keeps.rootless (rest_distinct o.todo keeps.todo) keeps.agreed
+    (λ k h. keeps.asks k (rest_within k o.todo h))
+    (stacks_problem j (Some problem) s.core.nodes work.good.stacks)
+    (Each_changed (settling_state o.todo) (finishing_state (rest o.todo)) j f s.core.nodes node (λ x. refl) work.at
+    (subst (λ (x : DevState). finishing_state (rest o.todo) j x ≡ true) (sym state) (calm_here (rest o.todo) j (rest_not j o.todo work.head keeps.todo)))
+    (λ k x d h. settled_there o.todo j k x work.head d h) keeps.each))
+    refl work.good
+
+pub stacks_left : (j : ℕ) (nodes : List Node) → Ascending 0 nodes → StacksFit nodes → StacksFit (without_first (is_node j) nodes)
+stacks_left j nodes order stacks k m g = stacks k m (left_from j k nodes m order g).1
+
+-- the device leaves
+lawful_leaves : (s t : State) (o : Removal) (node : Node) (label : Label) → t.next_serial ≡ s.next_serial → t.core.nodes ≡ without_first (is_node node.serial) s.core.nodes → t.activities ≡ s.activities →
+    t.operation ≡ Some (Operation.Removing (finish_on s.core.nodes o (rest o.todo))) → RemovalKeeps o Settling s.core.nodes → AtWork s node o → Lawful s (record { label = label; state = t })
+lawful_leaves s t o node label a b c d keeps work =
+    let j = node.serial in
+    let nodes = without_first (is_node j) s.core.nodes in
+    let state = head_bare o.todo j node.state work.head (keeps.each j node work.at) in
+    let not_rest = rest_not j o.todo work.head keeps.todo in
+    lawful_by s t label s.next_serial nodes [] (Some (Operation.Removing (finish_on s.core.nodes o (rest o.todo)))) a b (c ∙ work.alone) d
+    (Good_left s.next_serial j s.core.nodes (Some (Operation.Removing o)) _
+    (fits_finish_on s.core.nodes o (rest o.todo) nodes
+    (λ k h. stack_left j k s.core.nodes (λ e. let z = subst (λ (i : ℕ). has (rest o.todo) i ≡ false) e not_rest in cc))
+    keeps.set keeps.rootless (rest_distinct o.todo keeps.todo) keeps.agreed
+    (λ k h. keeps.asks k (rest_within k o.todo h))
+    (stacks_left j s.core.nodes work.good.serials work.good.stacks)
+    (Each_left (settling_state o.todo) (finishing_state (rest o.todo)) j s.core.nodes work.good.serials (λ k x d h. settled_there o.todo j k x work.head d h) keeps.each))
+    refl work.good)
+    (diagram_left label j s.core.nodes node work.good.serials work.at state)
+
+lawful_related : (s : State) (o : Removal) (node : Node) (b : Bool) → RemovalKeeps o Settling s.core.nodes → AtWork s node o → Lawful s (removal_lifted s (settle_related s.core o node b))
+lawful_related s o node true keeps work = lawful_remains s _ o node Problem.HeldForEject refl refl refl refl keeps work
+lawful_related s o node false keeps work = lawful_remains s _ o node Problem.Held refl refl refl refl keeps work
+
+lawful_target : (s : State) (o : Removal) (node : Node) (b : Bool) → RemovalKeeps o Settling s.core.nodes → AtWork s node o → Lawful s (removal_lifted s (settle_target s.core o node b))
+lawful_target s o node true keeps work =
+    let m = leaves s.core o node (Label.Ejected node.path) (RemoveBeside.Ejected node.path node.born) in
+    let only = relist_only node.path node.born (unplug node.born (set_operation (Some (Operation.Removing m.frame)) (with_core m.core s))) in
+    lawful_leaves s _ o node (Label.Ejected node.path) only.serial only.nodes only.activities only.operation keeps work
+lawful_target s o node false keeps work = lawful_remains s _ o node Problem.Disabled refl refl refl refl keeps work
+
+lawful_outer : (s : State) (o : Removal) (node : Node) (b : Bool) → RemovalKeeps o Settling s.core.nodes → AtWork s node o → Lawful s (removal_lifted s (settle_outer s.core o node b))
+lawful_outer s o node true keeps work = lawful_target s o node (is_eject o.kind) keeps work
+lawful_outer s o node false keeps work = lawful_related s o node _ keeps work
+
+lawful_settle : (s : State) (o : Removal) (node : Node) (b : Bool) → RemovalKeeps o Settling s.core.nodes → AtWork s node o → Lawful s (removal_lifted s (settle s.core o node b))
+lawful_settle s o node true keeps work =
+    let m = leaves s.core o node (Label.Leave node.path) (RemoveBeside.Left node.path node.born) in
+    let only = relist_only node.path node.born (set_operation (Some (Operation.Removing m.frame)) (with_core m.core s)) in
+    lawful_leaves s _ o node (Label.Leave node.path) only.serial only.nodes only.activities only.operation keeps work
+lawful_settle s o node false keeps work = lawful_outer s o node _ keeps work
+
+at_work : (s : State) (o : Removal) (node : Node) → s.activities ≡ [] → first_node s.core.nodes o.todo ≡ Some node → Good s.next_serial s.core.nodes [] (Some (Operation.Removing o)) → AtWork s node o
+at_work s o node alone first good = let h = head_found s.core.nodes o.todo node first in record { alone = alone; head = h.0; at = h.1; good = good }
+
+pub lawful_removal : (s : State) (o : Removal) (stage : RemovalStage) (n : Option Node) → first_node s.core.nodes o.todo ≡ n → s.activities ≡ [] →
+    RemovalKeeps o stage s.core.nodes → Good s.next_serial s.core.nodes [] (Some (Operation.Removing o)) →
+    LawfulNext s (option_map (λ m. Does (removal_lifted s m)) (removal_step s.core o stage n))
+lawful_removal s o Ending n first alone keeps good = lawful_close s _ _ (Operation.Removing o) refl refl alone refl keeps.each good
+lawful_removal s o (Asking w) (Some node) first alone keeps good = lawful_ask_step s o node w _ keeps (at_work s o node alone first good)
+lawful_removal s o (TakingBack w) (Some node) first alone keeps good = lawful_take_back s o node w _ keeps (at_work s o node alone first good)
+lawful_removal s o (Cancelling w) (Some node) first alone keeps good = lawful_cancel s o node w _ keeps (at_work s o node alone first good)
+lawful_removal s o (Removing w) (Some node) first alone keeps good = lawful_remove s o node w _ keeps (at_work s o node alone first good)
+lawful_removal s o Settling (Some node) first alone keeps good = lawful_settle s o node _ keeps (at_work s o node alone first good)
+lawful_removal s o (Asking w) None first alone keeps good = tt
+lawful_removal s o (TakingBack w) None first alone keeps good = tt
+lawful_removal s o (Cancelling w) None first alone keeps good = tt
+lawful_removal s o (Removing w) None first alone keeps good = tt
+lawful_removal s o Settling None first alone keeps good = tt
+
+-- The begin: no device of the set is Stopped -----------------------------------------------
+
+idle_or_up : (x : DevState) → is_calm x ≡ true → is_stopped x ≡ false → is_started x ≡ false → is_idle x ≡ true
+idle_or_up NoStack a b c = refl
+idle_or_up NotStarted a b c = refl
+idle_or_up Started a b c = cc
+idle_or_up StopPending a b c = cc
+idle_or_up Stopped a b c = cc
+idle_or_up RemovePending a b c = cc
+idle_or_up SurpriseRemoved a b c = cc
+
+-- what the begin of a removal needs of its set
+pub record SetFits (set : List ℕ) (nodes : List Node) : Type 0 where
+  pub distinct : Distinct set
+  pub rootless : has set 0 ≡ false
+  pub none_stopped : (k : ℕ) (n : Node) → has set k ≡ true → node_at k nodes ≡ Some n → is_stopped n.state ≡ false
+
+pub not_true : (b : Bool) → (b ≡ true → ⊥) → b ≡ false
+not_true true h = absurd (h refl)
+not_true false h = refl
+
+begun_one : (up : ℕ → Bool) (set : List ℕ) (k : ℕ) (x : DevState) → up k ≡ is_started x → is_calm x ≡ true → (has set k ≡ true → is_stopped x ≡ false) →
+    querying_state (those up set) [] set k x ≡ true
+begun_one up set k x e calm stopped =
+    let in_todo = those_has up set k in
+    let kept = those_keeps up set k in
+    let by_two : (a b : Bool) → has (those up set) k ≡ a → has set k ≡ b → cond a (is_started x) (cond b (is_idle x) (is_calm x)) ≡ true =
+    λ a b. elim a as (λ a. has (those up set) k ≡ a → has set k ≡ b → cond a (is_started x) (cond b (is_idle x) (is_calm x)) ≡ true) [
+      | true ↦ λ h g. let t = in_todo h in sym e ∙ t.1
+      | false ↦ λ h. elim b as (λ b. has set k ≡ b → cond b (is_idle x) (is_calm x) ≡ true) [
+        | true ↦ λ g. idle_or_up x calm (stopped g) (let no : up k ≡ true → ⊥ = λ u. let t = kept g u in cc in not_true (is_started x) (λ z. no (e ∙ z)))
+        | false ↦ λ g. calm
+      ]
+    ] in
+    by_two (has (those up set) k) (has set k) refl refl
+
+pub fits_begun_removal : (s : State) (kind : OpKind) (node : Node) (set : List ℕ) → SetFits set s.core.nodes → Good s.next_serial s.core.nodes s.activities None →
+    OperationFits (Some (Operation.Removing (begun_with s.core kind node set))) s.core.nodes
+fits_begun_removal s kind node set fits good =
+    let up : ℕ → Bool = λ k. is_up (node_at k s.core.nodes) in
+    fits_ask_on s.core.nodes (record { kind = kind; target = node.serial; path = node.path; set = set; ejecting = ejecting s.core set; todo = []; agreed = []; refuser = None; stage = Ending }) (those up set) s.core.nodes (λ k. refl) fits.distinct fits.rootless (those_distinct up set fits.distinct) tt (λ k h. refl) (λ k h. absurd {0} (cc))
+    (λ k h. (those_has up set k h).0) good.stacks
+    (λ k n at. begun_one up set k n.state (ap is_up at) (good.fits k n at) (λ h. fits.none_stopped k n h at))

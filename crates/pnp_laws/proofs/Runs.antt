@@ -1,0 +1,51 @@
+-- Every run follows the diagram.
+use Rattle.std.proofs.Common.{ℕ, ◌≡◌, true, List, [], ◌∷◌, Some, refl, sym, subst, arith}
+use Rattle.std.proofs.lemmas.Bool.Decides.{nat_tests}
+use Rattle.pnp_model.specs.Records.{Node, Driver, State, Step, Settings}
+use Rattle.pnp_model.specs.Cores.{node_at}
+use Rattle.pnp_laws.specs.Kept.{IsGood, Lawful, BeginsWell, HasStackOf, is_calm}
+use Rattle.pnp_model.specs.Diagram.{FollowsDiagram}
+use Rattle.pnp_model.specs.Runs.{Entry, Goes, printed, opening, root_node}
+use Rattle.pnp_laws.specs.RunsWell.{RunWell}
+use Rattle.pnp_model.specs.Runs.Entry.{Happens, Did}
+use Rattle.pnp_laws.proofs.MachineSteps.{lawful_step}
+use Rattle.pnp_laws.proofs.EventSteps.{lawful_happens}
+
+pub lawful_goes : (settings : Settings) (old : State) (entry : Entry) (new : State) → BeginsWell old.core old.tasks → IsGood old → Goes settings old entry new → Lawful old (record { label = printed entry; state = new })
+lawful_goes settings old (Happens event label) new begins good h = subst (λ (t : Step). Lawful old t) h.1 (lawful_happens old event good)
+lawful_goes settings old (Did label) new begins good h = lawful_step settings old (record { label = label; state = new }) begins good h
+
+pub run_is_good : (settings : Settings) (old : State) (entries : List Entry) (new : State) → RunWell settings old entries new → IsGood old → IsGood new
+run_is_good settings old [] new h good = subst (λ (s : State). IsGood s) (sym h) good
+run_is_good settings old (entry ∷ rest) new h good =
+    let run = h.1 in
+    run_is_good settings run.0 rest new run.2 (lawful_goes settings old entry run.0 h.0 good run.1).good
+
+pub root_is : (k : ℕ) (n : Node) → node_at k (root_node ∷ []) ≡ Some n → (root_node ≡ n) × (k ≡ 0)
+root_is k n h = (grind (arith, nat_tests), grind (arith, nat_tests))
+
+pub opening_is_good : (rack : List Driver) → IsGood (opening rack)
+opening_is_good rack =
+    record {
+      begun = omega arith;
+      serials = (omega arith, tt);
+      below = λ k n h. let e = (root_is k n h).1 in omega arith;
+      stacks =
+          λ k n h.
+          let e = root_is k n h in
+          let k0 = e.1 in
+          subst (λ (x : Node). HasStackOf k x.state x.stack) e.0 (record { none = λ q. refl; some = λ d q. absurd (d k0); root = λ z. refl });
+      order = tt;
+      phases = λ k a h. absurd (cc);
+      alone = tt;
+      fits = λ k n h. subst (λ (x : Node). is_calm x.state ≡ true) (root_is k n h).0 refl;
+    }
+
+pub run_follows_diagram : (settings : Settings) (rack : List Driver) (entries : List Entry) (mid : State) (entry : Entry) (new : State) →
+    RunWell settings (opening rack) entries mid → BeginsWell mid.core mid.tasks → Goes settings mid entry new → FollowsDiagram (printed entry) mid.core.nodes new.core.nodes
+run_follows_diagram settings rack entries mid entry new run begins goes =
+    (lawful_goes settings mid entry new begins (run_is_good settings (opening rack) entries mid run (opening_is_good rack)) goes).diagram
+
+pub run_has_stacks : (settings : Settings) (rack : List Driver) (entries : List Entry) (mid : State) (k : ℕ) (n : Node) →
+    RunWell settings (opening rack) entries mid → node_at k mid.core.nodes ≡ Some n → HasStackOf k n.state n.stack
+run_has_stacks settings rack entries mid k n run at = (run_is_good settings (opening rack) entries mid run (opening_is_good rack)).stacks k n at

@@ -1,0 +1,188 @@
+-- Each step of a removal keeps what a veto is to restore.
+use Rattle.std.proofs.Common.{ℕ, ◌≡◌, ◌==◌, inl, inr, Bool, true, false, cond, List, [], ◌∷◌, length, Option, Some, None, refl, sym, ap, ◌∙◌, subst, arith}
+use Rattle.std.proofs.lemmas.Bool.{cases_eq}
+use Rattle.std.proofs.lemmas.Bool.Decides.{nat_tests}
+use Rattle.pnp_model.specs.Keyed.{those}
+use Rattle.pnp_model.specs.Records.{Node, Core, Removal, RemovalStage, Walk}
+use Rattle.pnp_model.specs.Records.RemovalStage.{Asking, TakingBack, Cancelling, Removing, Settling, Ending}
+use Rattle.pnp_model.specs.Cores.{node_at, with_state, stack_of}
+use Rattle.pnp_model.specs.Tests.{has}
+use Rattle.pnp_model.specs.Trees.{is_up}
+use Rattle.pnp_model.specs.Walks.{is_bad, has_ended}
+use Rattle.pnp_model.specs.Frames.{first_node, rest}
+use Rattle.pnp_model.specs.Removals.{RemovalMove, RemoveBeside, finish_with, finish_on, ask_on, cancel_on, begun_with, ejecting, end_ask, ask_step, take_back, cancel_step, remove_step, settle_related, settle_target, settle_outer, settle, close, removal_step}
+use Rattle.pnp_laws.specs.Kept.{RemovalKeeps}
+use Rattle.pnp_laws.specs.Vetoes.{turned, marked, Held, Since}
+use Rattle.pnp_labels.specs.declared.states.DevState.{DevState}
+use Rattle.pnp_labels.specs.declared.label.OpKind.{OpKind}
+use Rattle.pnp_labels.specs.declared.states.DevState.TheVariants.{Started, RemovePending}
+use Rattle.pnp_laws.proofs.Lookups.{own_serial}
+use Rattle.pnp_laws.proofs.Lists.{head_found, head_has}
+use Rattle.pnp_laws.proofs.RemovalSteps.{head_querying, head_refusing}
+
+-- to give a node the state that it has changes nothing
+pub turned_same : (k : ℕ) (x : DevState) (nodes : List Node) (n : Node) → node_at k nodes ≡ Some n → n.state ≡ x → turned x k nodes ≡ nodes
+turned_same k x [] n at e = refl
+turned_same k x (m ∷ ms) n at e =
+    elim (cases_eq m.serial k) [
+      | inl z ↦
+          let same : m ≡ n = grind (arith, nat_tests) in
+          let state : x ≡ m.state = sym e ∙ ap (λ (v : Node). v.state) (sym same) in
+          let own : with_state x m ≡ m = ap (λ (y : DevState). with_state y m) state in
+          let test : (m.serial == k) ≡ true = grind (arith, nat_tests) in
+          ap (λ (b : Bool). cond b (with_state x m ∷ ms) (m ∷ turned x k ms)) test ∙ ap (λ (v : Node). v ∷ ms) own
+      | inr d ↦
+          let more = turned_same k x ms n (grind (arith, nat_tests)) e in
+          let test : (m.serial == k) ≡ false = grind (arith, nat_tests) in
+          ap (λ (b : Bool). cond b (with_state x m ∷ ms) (m ∷ turned x k ms)) test ∙ ap (λ (vs : List Node). m ∷ vs) more
+    ]
+
+-- the last state counts
+turned_twice : (k : ℕ) (x y : DevState) (nodes : List Node) → turned x k (turned y k nodes) ≡ turned x k nodes
+turned_twice k x y [] = refl
+turned_twice k x y (m ∷ ms) =
+    let more = turned_twice k x y ms in
+    let by_test : (b : Bool) → (m.serial == k) ≡ b → turned x k (cond b (with_state y m ∷ ms) (m ∷ turned y k ms)) ≡ cond b (with_state x m ∷ ms) (m ∷ turned x k ms) =
+    λ b. elim b as (λ b. (m.serial == k) ≡ b → turned x k (cond b (with_state y m ∷ ms) (m ∷ turned y k ms)) ≡ cond b (with_state x m ∷ ms) (m ∷ turned x k ms)) [
+      | true ↦ λ e. ap (λ (c : Bool). cond c (with_state x m ∷ ms) (with_state y m ∷ turned x k ms)) e
+      | false ↦ λ e. ap (λ (c : Bool). cond c (with_state x m ∷ turned y k ms) (m ∷ turned x k (turned y k ms))) e ∙ ap (λ (vs : List Node). m ∷ vs) more
+    ] in
+    by_test (m.serial == k) refl
+
+-- one more agrees
+held_agreed : (before now : Core) (k : ℕ) (agreed : List ℕ) (n : Node) → node_at k now.nodes ≡ Some n → n.state ≡ Started → Held before now agreed →
+    Held before (record now { nodes = turned RemovePending k now.nodes }) (k ∷ agreed)
+held_agreed before now k agreed n at e h =
+    record {
+      nodes = ap (λ (x : List Node). turned RemovePending k x) h.nodes;
+      back = (turned_same k Started (marked agreed before.nodes) n (sym (ap (λ (x : List Node). node_at k x) h.nodes) ∙ at) e, h.back);
+      relations = h.relations;
+      reserved = h.reserved;
+    }
+
+-- a Started device is made Started
+held_same : (before now : Core) (k : ℕ) (x : DevState) (agreed : List ℕ) (n : Node) → node_at k now.nodes ≡ Some n → n.state ≡ x → Held before now agreed →
+    Held before (record now { nodes = turned x k now.nodes }) agreed
+held_same before now k x agreed n at e h =
+    record { nodes = turned_same k x now.nodes n at e ∙ h.nodes; back = h.back; relations = h.relations; reserved = h.reserved }
+
+-- one is taken back
+held_back : (before now : Core) (k : ℕ) (ks : List ℕ) → Held before now (k ∷ ks) → Held before (record now { nodes = turned Started k now.nodes }) ks
+held_back before now k ks h =
+    record {
+      nodes = ap (λ (x : List Node). turned Started k x) h.nodes ∙ turned_twice k Started RemovePending (marked ks before.nodes) ∙ h.back.0;
+      back = h.back.1;
+      relations = h.relations;
+      reserved = h.reserved;
+    }
+
+-- what comes next
+
+since_finish_with : (before now : Core) (o : Removal) (todo stack : List ℕ) → o.refuser ≡ None → Since before now (finish_with o todo stack) (finish_with o todo stack).stage
+since_finish_with before now o todo [] e = e
+since_finish_with before now o todo (d ∷ ds) e = e
+
+since_finish_on : (before now : Core) (nodes : List Node) (o : Removal) (todo : List ℕ) → o.refuser ≡ None → Since before now (finish_on nodes o todo) (finish_on nodes o todo).stage
+since_finish_on before now nodes o [] e = inl e
+since_finish_on before now nodes o (k ∷ ks) e = since_finish_with before now o (k ∷ ks) (stack_of (node_at k nodes)) e
+
+since_ask_on : (before now : Core) (nodes : List Node) (o : Removal) (todo : List ℕ) → Held before now o.agreed → o.refuser ≡ None → Since before now (ask_on nodes o todo) (ask_on nodes o todo).stage
+since_ask_on before now nodes o [] h e = since_finish_on before now nodes o o.set e
+since_ask_on before now nodes o (k ∷ ks) h e = (h, e)
+
+since_cancel_on : (before now : Core) (o : Removal) (todo : List ℕ) → Held before now todo → Since before now (cancel_on o todo) (cancel_on o todo).stage
+since_cancel_on before now o [] h = inr h
+since_cancel_on before now o (k ∷ ks) h = h
+
+-- the steps
+
+abbrev SinceMove : Core → RemovalMove → Type 0
+SinceMove before m = Since before m.core m.frame m.frame.stage
+
+since_end_ask : (before c : Core) (o : Removal) (node : Node) (bad : Bool) → node_at node.serial c.nodes ≡ Some node → node.state ≡ Started → Held before c o.agreed → o.refuser ≡ None → SinceMove before (end_ask c o node bad)
+since_end_ask before c o node false at e h none =
+    since_ask_on before _ c.nodes (record o { agreed = node.serial ∷ o.agreed }) (rest o.todo) (held_agreed before c node.serial o.agreed node at e h) none
+since_end_ask before c o node true at e h none = held_same before c node.serial node.state o.agreed node at refl h
+
+since_ask : (before c : Core) (o : Removal) (node : Node) (w : Walk) (ends : Bool) → node_at node.serial c.nodes ≡ Some node → node.state ≡ Started → Held before c o.agreed → o.refuser ≡ None → SinceMove before (ask_step c o node w ends)
+since_ask before c o node w true at e h none = since_end_ask before c o node (is_bad w) at e h none
+since_ask before c o node w false at e h none = (record { nodes = h.nodes; back = h.back; relations = h.relations; reserved = h.reserved }, none)
+
+since_take_back : (before c : Core) (o : Removal) (node : Node) (w : Walk) (ends : Bool) → node_at node.serial c.nodes ≡ Some node → node.state ≡ Started → Held before c o.agreed → SinceMove before (take_back c o node w ends)
+since_take_back before c o node w true at e h = since_cancel_on before _ o o.agreed (held_same before c node.serial Started o.agreed node at e h)
+since_take_back before c o node w false at e h = record { nodes = h.nodes; back = h.back; relations = h.relations; reserved = h.reserved }
+
+since_cancel_head : (before c : Core) (o : Removal) (todo : List ℕ) (node : Node) → first_node c.nodes todo ≡ Some node → Held before c todo →
+    Since before (record c { nodes = turned Started node.serial c.nodes }) (cancel_on o (rest todo)) (cancel_on o (rest todo)).stage
+since_cancel_head before c o [] node first h = absurd (cc)
+since_cancel_head before c o (k ∷ ks) node first h =
+    let own = own_serial k node c.nodes first in
+    subst (λ (i : ℕ). Since before (record c { nodes = turned Started i c.nodes }) (cancel_on o ks) (cancel_on o ks).stage) (sym own)
+    (since_cancel_on before (record c { nodes = turned Started k c.nodes }) o ks (held_back before c k ks h))
+
+since_cancel : (before c : Core) (o : Removal) (node : Node) (w : Walk) (ends : Bool) → first_node c.nodes o.todo ≡ Some node → Held before c o.todo → SinceMove before (cancel_step c o node w ends)
+since_cancel before c o node w true first h = since_cancel_head before c o o.todo node first h
+since_cancel before c o node w false first h = record { nodes = h.nodes; back = h.back; relations = h.relations; reserved = h.reserved }
+
+since_remove : (before c : Core) (o : Removal) (node : Node) (w : Walk) (ends : Bool) → o.refuser ≡ None → SinceMove before (remove_step c o node w ends)
+since_remove before c o node w true e = e
+since_remove before c o node w false e = e
+
+since_related : (before c : Core) (o : Removal) (node : Node) (b : Bool) → o.refuser ≡ None → SinceMove before (settle_related c o node b)
+since_related before c o node true e = since_finish_on before _ c.nodes o (rest o.todo) e
+since_related before c o node false e = since_finish_on before _ c.nodes o (rest o.todo) e
+
+since_target : (before c : Core) (o : Removal) (node : Node) (b : Bool) → o.refuser ≡ None → SinceMove before (settle_target c o node b)
+since_target before c o node true e = since_finish_on before _ c.nodes o (rest o.todo) e
+since_target before c o node false e = since_finish_on before _ c.nodes o (rest o.todo) e
+
+since_outer : (before c : Core) (o : Removal) (node : Node) (b : Bool) → o.refuser ≡ None → SinceMove before (settle_outer c o node b)
+since_outer before c o node true e = since_target before c o node _ e
+since_outer before c o node false e = since_related before c o node _ e
+
+since_settle : (before c : Core) (o : Removal) (node : Node) (b : Bool) → o.refuser ≡ None → SinceMove before (settle c o node b)
+since_settle before c o node true e = since_finish_on before _ c.nodes o (rest o.todo) e
+since_settle before c o node false e = since_outer before c o node _ e
+
+-- the operation goes on
+abbrev pub IsOn : RemoveBeside → Type 0
+IsOn RemoveBeside.Over = ⊥
+IsOn _ = Unit {0}
+
+pub since_step : (before c : Core) (o : Removal) (stage : RemovalStage) (n : Option Node) (m : RemovalMove) → first_node c.nodes o.todo ≡ n → RemovalKeeps o stage c.nodes → Since before c o stage → removal_step c o stage n ≡ Some m → IsOn m.beside → SinceMove before m
+since_step before c o Ending n m first keeps since e on = let same : close c o ≡ m = cc in absurd (subst (λ (x : RemovalMove). IsOn x.beside) (sym same) on)
+since_step before c o (Asking w) (Some node) m first keeps since e on =
+    let h = head_found c.nodes o.todo node first in
+    let state = head_querying o.todo o.agreed o.set node.serial node.state (head_has node.serial o.todo h.0) (keeps.each node.serial node h.1) in
+    let same : ask_step c o node w (has_ended w (length node.stack)) ≡ m = cc in
+    subst (λ (x : RemovalMove). SinceMove before x) same (since_ask before c o node w _ h.1 state since.0 since.1)
+since_step before c o (TakingBack w) (Some node) m first keeps since e on =
+    let h = head_found c.nodes o.todo node first in
+    let state = head_refusing o.todo o.agreed node.serial node.state (head_has node.serial o.todo h.0) (keeps.each node.serial node h.1) in
+    let same : take_back c o node w (has_ended w (length node.stack)) ≡ m = cc in
+    subst (λ (x : RemovalMove). SinceMove before x) same (since_take_back before c o node w _ h.1 state since)
+since_step before c o (Cancelling w) (Some node) m first keeps since e on =
+    let same : cancel_step c o node w (has_ended w (length node.stack)) ≡ m = cc in
+    subst (λ (x : RemovalMove). SinceMove before x) same (since_cancel before c o node w _ first since)
+since_step before c o (Removing w) (Some node) m first keeps since e on =
+    let same : remove_step c o node w (has_ended w (length node.stack)) ≡ m = cc in
+    subst (λ (x : RemovalMove). SinceMove before x) same (since_remove before c o node w _ since)
+since_step before c o Settling (Some node) m first keeps since e on =
+    let same : settle c o node (has o.set node.parent) ≡ m = cc in
+    subst (λ (x : RemovalMove). SinceMove before x) same (since_settle before c o node _ since)
+since_step before c o (Asking w) None m first keeps since e on = absurd (cc)
+since_step before c o (TakingBack w) None m first keeps since e on = absurd (cc)
+since_step before c o (Cancelling w) None m first keeps since e on = absurd (cc)
+since_step before c o (Removing w) None m first keeps since e on = absurd (cc)
+since_step before c o Settling None m first keeps since e on = absurd (cc)
+
+-- the begin
+pub since_begun : (c : Core) (kind : OpKind) (node : Node) (set : List ℕ) → Since c c (begun_with c kind node set) (begun_with c kind node set).stage
+since_begun c kind node set =
+    since_ask_on c c c.nodes (record { kind = kind; target = node.serial; path = node.path; set = set; ejecting = ejecting c set; todo = []; agreed = []; refuser = None; stage = Ending }) (those (λ k. is_up (node_at k c.nodes)) set)
+    (record { nodes = refl; back = tt; relations = refl; reserved = refl }) refl
+
+-- a veto restores
+pub veto_restores : (before c : Core) (o : Removal) (q : ℕ) → o.refuser ≡ Some q → Since before c o Ending → (c.nodes ≡ before.nodes) × (c.relations ≡ before.relations) × (c.reserved ≡ before.reserved)
+veto_restores before c o q e (inl none) = absurd (cc)
+veto_restores before c o q e (inr h) = (h.nodes, h.relations, h.reserved)

@@ -1,0 +1,5 @@
+pub mod Kept
+pub mod Plans
+pub mod RunsWell
+pub mod Vetoes
+pub mod Due
