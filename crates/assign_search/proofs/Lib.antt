@@ -1,0 +1,10 @@
+pub mod Picking
+pub mod Rest
+pub mod Touching
+pub mod Extensions
+pub mod Held
+pub mod SameHeld
+pub mod Searching
+pub mod Planning
+pub mod SameAnswers
+pub mod Fixing

@@ -1,0 +1,21 @@
+//! The answer to a problem of resources and a budget.
+#![tactic(auto)]
+
+mod board;
+mod children;
+pub mod laws;
+mod look;
+mod mover;
+mod plan;
+mod problem;
+mod search;
+mod spelled;
+mod spots;
+
+pub use mover::Mover;
+pub use plan::{Found, Plan};
+pub use problem::answer;
+pub use resource_reqs::WantOfMemory;
+
+#[cfg(test)]
+mod tests;

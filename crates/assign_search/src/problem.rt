@@ -1,0 +1,106 @@
+ghost use Rattle.std.specs.Prelude.{◌≡◌, ◌≤◌, ◌<◌, ◌+◌, ◌^◌, ◌++◌, length, map, IfOk, OnOk, IsPermutation};
+ghost use Rattle.std.specs.List.Sorted.{IsNonDecreasing};
+ghost use Rattle.resource_reqs.specs.declared.kind.Kind.{Kind};
+ghost use Rattle.resource_reqs.specs.Spelling.{IsAnswer};
+ghost use Rattle.trial_journal.specs.Four.{of_kind, all_pairs, lists_of};
+ghost use Rattle.assign_search.specs.Fixed.{serial_of, reqs_of, is_mover, fixed_pairs, fixed_of, answer_of};
+
+use crate::board::add;
+use crate::mover::Mover;
+use crate::plan::Found;
+use crate::search::search;
+use resource_reqs::{Kind, Owner, WantOfMemory};
+use std::alloc::Global;
+use trial_journal::Arbiters;
+
+/// The serial of each mover.
+fn serials_in(alloc: Global, movers: &[Mover]) -> Result<Vec<u64>, WantOfMemory>
+    ensures { IfOk result (λ serials. serials.items ≡ map serial_of movers.now) }
+{
+    movers.iter().map(|mover| mover.serial).collect(alloc)
+}
+
+/// The serials of the movers, ascending.
+fn serials_of(alloc: Global, movers: &[Mover]) -> Result<Vec<u64>, WantOfMemory>
+    ensures ascending { IfOk result (λ serials. IsNonDecreasing serials.items) }
+    ensures same { IfOk result (λ serials. IsPermutation (map serial_of movers.now) serials.items) }
+{
+    let mut serials = serials_in(alloc, movers)?;
+    serials.sort_unstable();
+    Ok(serials)
+}
+
+/// Whether the owner is a device of one of these ascending serials.
+fn owns_moving(serials: &[u64], owner: Owner) -> bool
+    requires { IsNonDecreasing serials.now }
+    ensures { result ≡ is_mover serials.now owner }
+{
+    match owner {
+        Owner::Reserved => false,
+        Owner::Device(serial) => serials.binary_search(&serial).is_ok(),
+    }
+}
+
+/// Puts on a board what the arbiter of a kind holds for none of these serials.
+fn copy_fixed(
+    arbiters: &Arbiters,
+    board: &mut Arbiters,
+    serials: &[u64],
+    kind: Kind,
+) -> Result<(), WantOfMemory>
+    requires ascending { IsNonDecreasing serials.now }
+    requires few { length (all_pairs board.old) + length (of_kind arbiters.now kind).pairs < 2 ^ 32 }
+    ensures copied { OnOk result (IsPermutation (all_pairs board.old ++ fixed_pairs serials.now (of_kind arbiters.now kind).pairs) (all_pairs board.new)) }
+    ensures few { OnOk result (length (all_pairs board.new) ≤ length (all_pairs board.old) + length (of_kind arbiters.now kind).pairs) }
+{
+    let mut at = 0;
+    'pairs: while let Some(pair) = arbiters.held(kind, at) {
+        if !owns_moving(serials, pair.0) {
+            add(board, pair.0, pair.1)?;
+        }
+        at += 1;
+    }
+    Ok(())
+}
+
+/// A board with all pairs whose owner is no mover.
+fn fixed_board(
+    alloc: Global,
+    arbiters: &Arbiters,
+    movers: &[Mover],
+) -> Result<Arbiters, WantOfMemory>
+    requires { (kind : Kind) → length (of_kind arbiters.now kind).pairs ≤ 2 ^ 29 }
+    ensures fixed { IfOk result (λ board. IsPermutation (fixed_pairs (map serial_of movers.now) (all_pairs arbiters.now)) (all_pairs board)) }
+    ensures few { IfOk result (λ board. length (all_pairs board) ≤ 2 ^ 31) }
+{
+    let ascending = serials_of(alloc, movers)?;
+    let serials: &[u64] = &ascending;
+    let mut board = Arbiters::new(alloc)?;
+    copy_fixed(arbiters, &mut board, serials, Kind::Port)?;
+    copy_fixed(arbiters, &mut board, serials, Kind::Irq)?;
+    copy_fixed(arbiters, &mut board, serials, Kind::Mem)?;
+    copy_fixed(arbiters, &mut board, serials, Kind::Dma)?;
+    Ok(board)
+}
+
+/// The answer to a problem: what is fixed is all that is held by others than the movers; each mover asks for
+/// one whole list; and the budget is the most prefixes of spellings that may be tried. It is the first
+/// assignment in the order of preference, where so many are enough to find it; `NoFit`, where none exists and
+/// so many are enough to see that; else `Spent`. The lists of the arbiters are as before, whatever is answered
+/// (this project's own; the kernel's arbiters search likewise, the driver kit, "Arbiter Interface"). Cost: the
+/// pairs held, and for each prefix that is tried the wants of its group and of the groups and movers that its
+/// place touches.
+pub fn answer(
+    alloc: Global,
+    arbiters: &mut Arbiters,
+    movers: &[Mover],
+    budget: u64,
+) -> Result<Found, WantOfMemory>
+    requires few { (kind : Kind) → length (of_kind arbiters.old kind).pairs ≤ 2 ^ 29 }
+    requires budget { budget ≤ 1000000 }
+    ensures answer { IfOk result (λ found. IsAnswer (fixed_of (map serial_of movers.now) (all_pairs arbiters.old)) (map reqs_of movers.now) budget (answer_of found)) }
+    ensures same { lists_of arbiters.new ≡ lists_of arbiters.old }
+{
+    let mut board = fixed_board(alloc, arbiters, movers)?;
+    search(alloc, &mut board, movers, budget)
+}

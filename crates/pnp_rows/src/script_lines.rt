@@ -1,0 +1,403 @@
+//! Every form of the script's language, and lines that are none, with the event or the refusal that the language's
+//! description gives.
+use device_ids::IdList;
+use pnp_labels::{Event, Rule};
+use resource_reqs::{AltList, Reqs};
+use script_reader::{ScriptEnd, read_events};
+use std::alloc::{AllocError, Global};
+use std::process::Abort;
+use std::test::Fail;
+
+fn put(text: &mut Vec<u8>, word: &[u8]) -> Result<(), AllocError> {
+    text.extend_from_slice(word)?;
+    text.push(b' ')?;
+    Ok(())
+}
+
+fn put_words(text: &mut Vec<u8>, words: &[&[u8]]) -> Result<(), AllocError> {
+    for word in words {
+        put(text, word)?;
+    }
+    Ok(())
+}
+
+fn put_ids(text: &mut Vec<u8>, name: &[u8], ids: &IdList) -> Result<(), AllocError> {
+    put(text, name)?;
+    for at in 0..ids.len() {
+        put(text, ids.get(at).bytes())?;
+    }
+    Ok(())
+}
+
+fn put_list(alloc: Global, text: &mut Vec<u8>, list: &AltList) -> Result<(), AllocError> {
+    put(text, b"list")?;
+    for at in 0..list.len() {
+        put(text, b"group")?;
+        let group = list.get(at);
+        for place in 0..group.len() {
+            let want = group.get(place);
+            let shown = format!(in alloc;
+                "{:?} {}-{} {} {} {}",
+                want.kind, want.min, want.max, want.len, want.align, want.shared
+            )?;
+            put(text, shown.as_bytes())?;
+        }
+    }
+    Ok(())
+}
+
+fn put_reqs(alloc: Global, text: &mut Vec<u8>, reqs: &Reqs) -> Result<(), AllocError> {
+    for at in 0..reqs.len() {
+        put_list(alloc, text, reqs.get(at))?;
+    }
+    Ok(())
+}
+
+fn put_rule(alloc: Global, text: &mut Vec<u8>, rule: &Rule) -> Result<(), AllocError> {
+    let shown = format!(in alloc; "{:?}", rule.what)?;
+    put(text, shown.as_bytes())?;
+    match &rule.path {
+        Some(path) => put(text, path.bytes())?,
+        None => put(text, b"*")?,
+    }
+    let shown = format!(in alloc; "{:?} {:?}", rule.answer, rule.uses)?;
+    put(text, shown.as_bytes())
+}
+
+fn put_operation(text: &mut Vec<u8>, event: &Event) -> Result<(), AllocError> {
+    match event {
+        Event::Pull { path } => put_words(text, &[b"Pull", path.bytes()]),
+        Event::Disable { path } => put_words(text, &[b"Disable", path.bytes()]),
+        Event::Enable { path } => put_words(text, &[b"Enable", path.bytes()]),
+        Event::Eject { path } => put_words(text, &[b"Eject", path.bytes()]),
+        _ => Ok(()),
+    }
+}
+
+fn put_plug(alloc: Global, text: &mut Vec<u8>, event: &Event) -> Result<(), AllocError> {
+    if let Event::Plug {
+        parent,
+        path,
+        hw,
+        compat,
+        reqs,
+    } = event
+    {
+        put_words(text, &[b"Plug", parent.bytes(), path.bytes()])?;
+        put_ids(text, b"hw", hw)?;
+        put_ids(text, b"compat", compat)?;
+        put_reqs(alloc, text, reqs)?;
+    }
+    Ok(())
+}
+
+/// An event with its fields, each followed by a space.
+fn shown(alloc: Global, event: &Event) -> Result<Vec<u8>, AllocError> {
+    let mut text = Vec::new(alloc);
+    match event {
+        Event::Plug { .. } => put_plug(alloc, &mut text, event)?,
+        Event::Name { name, kind } => {
+            let kind = format!(in alloc; "{:?}", kind)?;
+            put_words(&mut text, &[b"Name", name.bytes(), kind.as_bytes()])?;
+        }
+        Event::Teach { name, rule } => {
+            put_words(&mut text, &[b"Teach", name.bytes()])?;
+            put_rule(alloc, &mut text, rule)?;
+        }
+        Event::Relate {
+            kind,
+            owner,
+            member,
+        } => {
+            let kind = format!(in alloc; "{:?}", kind)?;
+            put_words(
+                &mut text,
+                &[b"Relate", kind.as_bytes(), owner.bytes(), member.bytes()],
+            )?;
+        }
+        Event::Reserve { res } => {
+            let res = format!(in alloc;
+                "Reserve {:?} {}-{} {}",
+                res.kind, res.lo, res.hi, res.shared
+            )?;
+            put(&mut text, res.as_bytes())?;
+        }
+        Event::Complete { path, minor, ok } => {
+            let end = format!(in alloc; "{:?} {}", minor, ok)?;
+            put_words(&mut text, &[b"Complete", path.bytes(), end.as_bytes()])?;
+        }
+        _ => put_operation(&mut text, event)?,
+    }
+    Ok(text)
+}
+
+/// What a line of its own is read as: its event, `none` without one, or `bad`.
+fn told(alloc: Global, line: &[u8]) -> Result<Vec<u8>, Fail> {
+    let mut text = Vec::from_slice(alloc, line)?;
+    text.push(b'\n')?;
+    let script = read_events(alloc, &text)?;
+    if script.ends != ScriptEnd::End {
+        return Ok(Vec::from_slice(alloc, b"bad ")?);
+    }
+    match script.lines.first() {
+        Some(line) => Ok(shown(alloc, &line.event)?),
+        None => Ok(Vec::from_slice(alloc, b"none ")?),
+    }
+}
+
+/// Each line is read as the table says.
+fn reads(rt: &impl Abort, alloc: Global, rows: &[(&[u8], &[u8])]) -> Result<(), Fail> {
+    for (line, event) in rows {
+        let told = told(alloc, line)?;
+        assert!(rt; told.as_slice() == *event, "{told:?}");
+    }
+    Ok(())
+}
+
+const DRIVERS: [(&[u8], &[u8]); 26] = [
+    (b"driver dev steady", b"Name dev Steady "),
+    (b"driver dev scripted", b"Name dev Scripted "),
+    (b"driver dev stubborn", b"Name dev Stubborn "),
+    (b"\tdriver \t dev\t\tsteady  ", b"Name dev Steady "),
+    (b"driver d-e_v.2 steady", b"Name d-e_v.2 Steady "),
+    (b"driver DEV steady", b"Name DEV Steady "),
+    (b"driver 0 steady", b"Name 0 Steady "),
+    (b"driver - steady", b"Name - Steady "),
+    (b"driver . steady", b"Name . Steady "),
+    (b"Driver dev steady", b"bad "),
+    (b"DRIVER dev steady", b"bad "),
+    (b"driver dev Steady", b"bad "),
+    (b"driver dev", b"bad "),
+    (b"driver", b"bad "),
+    (b"driver dev steady now", b"bad "),
+    (b"driver dev steady # note", b"bad "),
+    (b"driver d\\v steady", b"bad "),
+    (b"driver d:v steady", b"bad "),
+    (b"driver d*v steady", b"bad "),
+    (b"driver d,v steady", b"bad "),
+    (b"driver d\x01v steady", b"bad "),
+    (b"drive dev steady", b"bad "),
+    (b"drivers dev steady", b"bad "),
+    (b"dev driver steady", b"bad "),
+    (b"driver dev steadyy", b"bad "),
+    (b"driver dev stead", b"bad "),
+];
+
+const OTHERS: [(&[u8], &[u8]); 37] = [
+    (b"", b"none "),
+    (b"   ", b"none "),
+    (b"\t \t", b"none "),
+    (b"#", b"none "),
+    (b"# driver dev steady", b"none "),
+    (b"   # note", b"none "),
+    (b"#driver dev steady", b"none "),
+    (b"\r", b"none "),
+    (b"# note\r", b"none "),
+    (b"pull OWN\\DEV\\1", b"Pull OWN\\DEV\\1 "),
+    (b"pull OWN\\DEV\\1\r", b"Pull OWN\\DEV\\1 "),
+    (b"pull OWN\\DEV\\1\r\r", b"bad "),
+    (b"pull\r OWN\\DEV\\1", b"bad "),
+    (b"pull", b"bad "),
+    (b"pull OWN\\DEV", b"bad "),
+    (b"pull OWN\\DEV\\1 OWN\\DEV\\1", b"bad "),
+    (b"pull \\DEV\\1", b"bad "),
+    (b"pull OWN\\DEV\\", b"bad "),
+    (b"pull OWN\\D,V\\1", b"bad "),
+    (b"Pull OWN\\DEV\\1", b"bad "),
+    (b"disable OWN\\DEV\\1", b"Disable OWN\\DEV\\1 "),
+    (b"disable HTREE\\ROOT\\0", b"Disable HTREE\\ROOT\\0 "),
+    (b"disable", b"bad "),
+    (b"disable OWN\\DEV\\1 now", b"bad "),
+    (b"enable OWN\\DEV\\1", b"Enable OWN\\DEV\\1 "),
+    (b"enable own\\dev\\1", b"Enable own\\dev\\1 "),
+    (b"enable OWN", b"bad "),
+    (b"eject OWN\\DEV\\1", b"Eject OWN\\DEV\\1 "),
+    (b"eject OWN\\DEV\\1\\2", b"bad "),
+    (b"eject", b"bad "),
+    (b"; note", b"bad "),
+    (b"// note", b"bad "),
+    (b"open OWN\\DEV\\1", b"bad "),
+    (b"restart OWN\\DEV\\1", b"bad "),
+    (b"plag", b"bad "),
+    (b"\0", b"bad "),
+    (b"\xff", b"bad "),
+];
+
+const LESSONS: [(&[u8], &[u8]); 25] = [
+    (b"teach dev add * ok", b"Teach dev Add * Ok None "),
+    (b"teach dev add OWN\\DEV\\1 fail", b"Teach dev Add OWN\\DEV\\1 Fail None "),
+    (b"teach dev START_DEVICE * ok 1", b"Teach dev Irp(Start) * Ok Some(1) "),
+    (b"teach dev START_DEVICE * pend", b"Teach dev Irp(Start) * Pend None "),
+    (b"teach dev QUERY_REMOVE_DEVICE * fail", b"Teach dev Irp(QueryRemove) * Fail None "),
+    (b"teach dev REMOVE_DEVICE * fail", b"Teach dev Irp(Remove) * Fail None "),
+    (b"teach dev CANCEL_REMOVE_DEVICE * ok", b"Teach dev Irp(CancelRemove) * Ok None "),
+    (b"teach dev STOP_DEVICE * fail", b"Teach dev Irp(Stop) * Fail None "),
+    (b"teach dev QUERY_STOP_DEVICE * pend 1000000", b"Teach dev Irp(QueryStop) * Pend Some(1000000) "),
+    (b"teach dev CANCEL_STOP_DEVICE * ok 0x10", b"Teach dev Irp(CancelStop) * Ok Some(16) "),
+    (b"teach dev SURPRISE_REMOVAL * ok 0007", b"Teach dev Irp(SurpriseRemoval) * Ok Some(7) "),
+    (b"teach dev add * ok 1000001", b"bad "),
+    (b"teach dev add * ok 0", b"bad "),
+    (b"teach dev add * ok x", b"bad "),
+    (b"teach dev add * ok 1 1", b"bad "),
+    (b"teach dev add * pend", b"bad "),
+    (b"teach dev ADD * ok", b"bad "),
+    (b"teach dev start_device * ok", b"bad "),
+    (b"teach dev START_DEVICE * Ok", b"bad "),
+    (b"teach dev START_DEVICE ok", b"bad "),
+    (b"teach dev START_DEVICE OWN\\DEV ok", b"bad "),
+    (b"teach dev START_DEVICE ** ok", b"bad "),
+    (b"teach d\\v add * ok", b"bad "),
+    (b"teach add * ok", b"bad "),
+    (b"teach", b"bad "),
+];
+
+const RELATIONS: [(&[u8], &[u8]); 41] = [
+    (b"relate removal OWN\\DEV\\1 HTREE\\ROOT\\0", b"Relate Removal OWN\\DEV\\1 HTREE\\ROOT\\0 "),
+    (b"relate ejection HTREE\\ROOT\\0 OWN\\DEV\\1", b"Relate Ejection HTREE\\ROOT\\0 OWN\\DEV\\1 "),
+    (b"relate removal OWN\\DEV\\1 OWN\\DEV\\1", b"Relate Removal OWN\\DEV\\1 OWN\\DEV\\1 "),
+    (b"relate Removal OWN\\DEV\\1 HTREE\\ROOT\\0", b"bad "),
+    (b"relate bus OWN\\DEV\\1 HTREE\\ROOT\\0", b"bad "),
+    (b"relate removal OWN\\DEV\\1", b"bad "),
+    (b"relate removal OWN\\DEV\\1 HTREE\\ROOT\\0 HTREE\\ROOT\\0", b"bad "),
+    (b"relate removal OWN\\DEV HTREE\\ROOT\\0", b"bad "),
+    (b"relate removal HTREE\\ROOT\\0 OWN\\DEV", b"bad "),
+    (b"relate", b"bad "),
+    (b"reserve irq:4", b"Reserve Irq 4-4 false "),
+    (b"reserve port:0x3F8-0x3ff", b"Reserve Port 1016-1023 false "),
+    (b"reserve mem:0-18446744073709551615", b"Reserve Mem 0-18446744073709551615 false "),
+    (b"reserve dma:7-7", b"Reserve Dma 7-7 false "),
+    (b"reserve port:0xffffffffffffffff", b"Reserve Port 18446744073709551615-18446744073709551615 false "),
+    (b"reserve mem:0x00000000000000000001", b"Reserve Mem 1-1 false "),
+    (b"reserve mem:000000000000000000000000000000012", b"Reserve Mem 12-12 false "),
+    (b"reserve port:18446744073709551616", b"bad "),
+    (b"reserve port:0x10000000000000000", b"bad "),
+    (b"reserve port:2-1", b"bad "),
+    (b"reserve port:1-", b"bad "),
+    (b"reserve port:-1", b"bad "),
+    (b"reserve port:", b"bad "),
+    (b"reserve port", b"bad "),
+    (b"reserve port:0x", b"bad "),
+    (b"reserve port:0X10", b"bad "),
+    (b"reserve port:1g", b"bad "),
+    (b"reserve port:1-2-3", b"bad "),
+    (b"reserve irq:4:shared", b"bad "),
+    (b"reserve Irq:4", b"bad "),
+    (b"reserve bus:4", b"bad "),
+    (b"reserve irq: 4", b"bad "),
+    (b"reserve", b"bad "),
+    (b"complete OWN\\DEV\\1 START_DEVICE ok", b"Complete OWN\\DEV\\1 Start true "),
+    (b"complete OWN\\DEV\\1 QUERY_STOP_DEVICE fail", b"Complete OWN\\DEV\\1 QueryStop false "),
+    (b"complete OWN\\DEV\\1 SURPRISE_REMOVAL ok", b"Complete OWN\\DEV\\1 SurpriseRemoval true "),
+    (b"complete OWN\\DEV\\1 START_DEVICE pend", b"bad "),
+    (b"complete OWN\\DEV\\1 add ok", b"bad "),
+    (b"complete OWN\\DEV\\1 START_DEVICE", b"bad "),
+    (b"complete START_DEVICE OWN\\DEV\\1 ok", b"bad "),
+    (b"complete OWN\\DEV\\1 START_DEVICE ok 1", b"bad "),
+];
+
+const PLUGS: [(&[u8], &[u8]); 29] = [
+    (b"plug HTREE\\ROOT\\0 OWN\\DEV 1", b"Plug HTREE\\ROOT\\0 OWN\\DEV\\1 hw OWN\\DEV compat "),
+    (b"plug HTREE\\ROOT\\0 own\\dev 1", b"Plug HTREE\\ROOT\\0 own\\dev\\1 hw own\\dev compat "),
+    (b"plug OWN\\DEV\\1 A B", b"bad "),
+    (b"plug OWN\\DEV\\1 A B\\C", b"Plug OWN\\DEV\\1 A\\B\\C hw A compat "),
+    (b"plug HTREE\\ROOT\\0 OWN\\DEV 1 hw=OWN\\A", b"Plug HTREE\\ROOT\\0 OWN\\DEV\\1 hw OWN\\A compat "),
+    (b"plug HTREE\\ROOT\\0 OWN\\DEV 1 hw=OWN\\A,OWN\\B", b"Plug HTREE\\ROOT\\0 OWN\\DEV\\1 hw OWN\\A OWN\\B compat "),
+    (b"plug HTREE\\ROOT\\0 OWN\\DEV 1 compat=*PNP0501", b"Plug HTREE\\ROOT\\0 OWN\\DEV\\1 hw OWN\\DEV compat *PNP0501 "),
+    (b"plug HTREE\\ROOT\\0 OWN\\DEV 1 compat=A,B,A", b"Plug HTREE\\ROOT\\0 OWN\\DEV\\1 hw OWN\\DEV compat A B A "),
+    (b"plug HTREE\\ROOT\\0 OWN\\DEV 1 compat=C hw=H", b"Plug HTREE\\ROOT\\0 OWN\\DEV\\1 hw H compat C "),
+    (b"plug HTREE\\ROOT\\0 OWN\\DEV 1 hw=H need=irq:5 compat=C", b"Plug HTREE\\ROOT\\0 OWN\\DEV\\1 hw H compat C list group Irq 5-5 1 1 false "),
+    (b"plug HTREE\\ROOT\\0 OWN\\DEV 1 hw=", b"bad "),
+    (b"plug HTREE\\ROOT\\0 OWN\\DEV 1 hw=A,", b"bad "),
+    (b"plug HTREE\\ROOT\\0 OWN\\DEV 1 hw=,A", b"bad "),
+    (b"plug HTREE\\ROOT\\0 OWN\\DEV 1 hw=A,,B", b"bad "),
+    (b"plug HTREE\\ROOT\\0 OWN\\DEV 1 hw=A hw=B", b"bad "),
+    (b"plug HTREE\\ROOT\\0 OWN\\DEV 1 compat=A compat=B", b"bad "),
+    (b"plug HTREE\\ROOT\\0 OWN\\DEV 1 compat=", b"bad "),
+    (b"plug HTREE\\ROOT\\0 OWN\\DEV 1 hw=A\\B,C*", b"Plug HTREE\\ROOT\\0 OWN\\DEV\\1 hw A\\B C* compat "),
+    (b"plug HTREE\\ROOT\\0 OWN\\DEV 1 HW=A", b"bad "),
+    (b"plug HTREE\\ROOT\\0 OWN\\DEV 1 note", b"bad "),
+    (b"plug HTREE\\ROOT\\0 OWN\\DEV 1 hw = A", b"bad "),
+    (b"plug HTREE\\ROOT\\0 OWN\\DEV", b"bad "),
+    (b"plug HTREE\\ROOT\\0", b"bad "),
+    (b"plug", b"bad "),
+    (b"plug ROOT OWN\\DEV 1", b"bad "),
+    (b"plug HTREE\\ROOT\\0 OWN\\D,V 1", b"bad "),
+    (b"plug HTREE\\ROOT\\0 OWN\\DEV 1,2", b"bad "),
+    (b"plug HTREE\\ROOT\\0 \\DEV 1", b"bad "),
+    (b"plug HTREE\\ROOT\\0 A \\B", b"bad "),
+];
+
+const WANTS: [(&[u8], &[u8]); 42] = [
+    (b"plug HTREE\\ROOT\\0 OWN\\DEV 1 need=irq:5", b"Plug HTREE\\ROOT\\0 OWN\\DEV\\1 hw OWN\\DEV compat list group Irq 5-5 1 1 false "),
+    (b"plug HTREE\\ROOT\\0 OWN\\DEV 1 need=irq:3-7:shared", b"Plug HTREE\\ROOT\\0 OWN\\DEV\\1 hw OWN\\DEV compat list group Irq 3-7 1 1 true "),
+    (b"plug HTREE\\ROOT\\0 OWN\\DEV 1 need=dma:1", b"Plug HTREE\\ROOT\\0 OWN\\DEV\\1 hw OWN\\DEV compat list group Dma 1-1 1 1 false "),
+    (b"plug HTREE\\ROOT\\0 OWN\\DEV 1 need=dma:0-3:shared", b"Plug HTREE\\ROOT\\0 OWN\\DEV\\1 hw OWN\\DEV compat list group Dma 0-3 1 1 true "),
+    (b"plug HTREE\\ROOT\\0 OWN\\DEV 1 need=port:0x3f8-0x3ff/8", b"Plug HTREE\\ROOT\\0 OWN\\DEV\\1 hw OWN\\DEV compat list group Port 1016-1023 8 1 false "),
+    (b"plug HTREE\\ROOT\\0 OWN\\DEV 1 need=port:8-15/8@8", b"Plug HTREE\\ROOT\\0 OWN\\DEV\\1 hw OWN\\DEV compat list group Port 8-15 8 8 false "),
+    (b"plug HTREE\\ROOT\\0 OWN\\DEV 1 need=port:8-15@8", b"Plug HTREE\\ROOT\\0 OWN\\DEV\\1 hw OWN\\DEV compat list group Port 8-15 1 8 false "),
+    (b"plug HTREE\\ROOT\\0 OWN\\DEV 1 need=port:8-15@8:shared", b"Plug HTREE\\ROOT\\0 OWN\\DEV\\1 hw OWN\\DEV compat list group Port 8-15 1 8 true "),
+    (b"plug HTREE\\ROOT\\0 OWN\\DEV 1 need=mem:0-0xff/0x10@0x10:shared", b"Plug HTREE\\ROOT\\0 OWN\\DEV\\1 hw OWN\\DEV compat list group Mem 0-255 16 16 true "),
+    (b"plug HTREE\\ROOT\\0 OWN\\DEV 1 need=mem:4", b"Plug HTREE\\ROOT\\0 OWN\\DEV\\1 hw OWN\\DEV compat list group Mem 4-4 1 1 false "),
+    (b"plug HTREE\\ROOT\\0 OWN\\DEV 1 need=irq:5|irq:7", b"Plug HTREE\\ROOT\\0 OWN\\DEV\\1 hw OWN\\DEV compat list group Irq 5-5 1 1 false Irq 7-7 1 1 false "),
+    (b"plug HTREE\\ROOT\\0 OWN\\DEV 1 need=irq:5;port:8-15/8", b"Plug HTREE\\ROOT\\0 OWN\\DEV\\1 hw OWN\\DEV compat list group Irq 5-5 1 1 false group Port 8-15 8 1 false "),
+    (b"plug HTREE\\ROOT\\0 OWN\\DEV 1 need=irq:5|irq:7;dma:1|dma:2:shared", b"Plug HTREE\\ROOT\\0 OWN\\DEV\\1 hw OWN\\DEV compat list group Irq 5-5 1 1 false Irq 7-7 1 1 false group Dma 1-1 1 1 false Dma 2-2 1 1 true "),
+    (b"plug HTREE\\ROOT\\0 OWN\\DEV 1 need=irq:5 need=irq:6", b"Plug HTREE\\ROOT\\0 OWN\\DEV\\1 hw OWN\\DEV compat list group Irq 5-5 1 1 false list group Irq 6-6 1 1 false "),
+    (b"plug HTREE\\ROOT\\0 OWN\\DEV 1 need=irq:1 need=irq:1 need=irq:1 need=irq:1 need=irq:1 need=irq:1 need=irq:1 need=irq:1 need=irq:1", b"bad "),
+    (b"plug HTREE\\ROOT\\0 OWN\\DEV 1 need=", b"bad "),
+    (b"plug HTREE\\ROOT\\0 OWN\\DEV 1 need=irq:5;", b"bad "),
+    (b"plug HTREE\\ROOT\\0 OWN\\DEV 1 need=;irq:5", b"bad "),
+    (b"plug HTREE\\ROOT\\0 OWN\\DEV 1 need=irq:5|", b"bad "),
+    (b"plug HTREE\\ROOT\\0 OWN\\DEV 1 need=|irq:5", b"bad "),
+    (b"plug HTREE\\ROOT\\0 OWN\\DEV 1 need=irq:5;;irq:6", b"bad "),
+    (b"plug HTREE\\ROOT\\0 OWN\\DEV 1 need=irq", b"bad "),
+    (b"plug HTREE\\ROOT\\0 OWN\\DEV 1 need=irq:", b"bad "),
+    (b"plug HTREE\\ROOT\\0 OWN\\DEV 1 need=irq:7-3", b"bad "),
+    (b"plug HTREE\\ROOT\\0 OWN\\DEV 1 need=irq:5/1", b"bad "),
+    (b"plug HTREE\\ROOT\\0 OWN\\DEV 1 need=irq:5@1", b"bad "),
+    (b"plug HTREE\\ROOT\\0 OWN\\DEV 1 need=dma:5/1", b"bad "),
+    (b"plug HTREE\\ROOT\\0 OWN\\DEV 1 need=irq:5:Shared", b"bad "),
+    (b"plug HTREE\\ROOT\\0 OWN\\DEV 1 need=irq:5:shared:shared", b"bad "),
+    (b"plug HTREE\\ROOT\\0 OWN\\DEV 1 need=port:8-15@8/8", b"bad "),
+    (b"plug HTREE\\ROOT\\0 OWN\\DEV 1 need=port:8-15/8/8", b"bad "),
+    (b"plug HTREE\\ROOT\\0 OWN\\DEV 1 need=port:8-15:shared@8", b"bad "),
+    (b"plug HTREE\\ROOT\\0 OWN\\DEV 1 need=port:8-15/0", b"bad "),
+    (b"plug HTREE\\ROOT\\0 OWN\\DEV 1 need=port:8-15@0", b"bad "),
+    (b"plug HTREE\\ROOT\\0 OWN\\DEV 1 need=port:8-15@3", b"Plug HTREE\\ROOT\\0 OWN\\DEV\\1 hw OWN\\DEV compat list group Port 8-15 1 3 false "),
+    (b"plug HTREE\\ROOT\\0 OWN\\DEV 1 need=port:8-15/9", b"bad "),
+    (b"plug HTREE\\ROOT\\0 OWN\\DEV 1 need=port:8-15/", b"bad "),
+    (b"plug HTREE\\ROOT\\0 OWN\\DEV 1 need=port:8-15@", b"bad "),
+    (b"plug HTREE\\ROOT\\0 OWN\\DEV 1 need=bus:1", b"bad "),
+    (b"plug HTREE\\ROOT\\0 OWN\\DEV 1 need=irq:5,irq:6", b"bad "),
+    (b"plug HTREE\\ROOT\\0 OWN\\DEV 1 need=mem:0-0xffffffffffffffff/0x8000000000000000", b"Plug HTREE\\ROOT\\0 OWN\\DEV\\1 hw OWN\\DEV compat list group Mem 0-18446744073709551615 9223372036854775808 1 false "),
+    (b"plug HTREE\\ROOT\\0 OWN\\DEV 1 need=mem:0-18446744073709551616", b"bad "),
+];
+
+#[test]
+fn drivers(rt: HostRuntime) -> Result<(), Fail> {
+    reads(&rt, rt.alloc(), &DRIVERS)
+}
+
+#[test]
+fn others(rt: HostRuntime) -> Result<(), Fail> {
+    reads(&rt, rt.alloc(), &OTHERS)
+}
+
+#[test]
+fn lessons(rt: HostRuntime) -> Result<(), Fail> {
+    reads(&rt, rt.alloc(), &LESSONS)
+}
+
+#[test]
+fn relations(rt: HostRuntime) -> Result<(), Fail> {
+    reads(&rt, rt.alloc(), &RELATIONS)
+}
+
+#[test]
+fn plugs(rt: HostRuntime) -> Result<(), Fail> {
+    reads(&rt, rt.alloc(), &PLUGS)
+}
+
+#[test]
+fn wants(rt: HostRuntime) -> Result<(), Fail> {
+    reads(&rt, rt.alloc(), &WANTS)
+}

@@ -1,0 +1,5 @@
+pub mod Reaching
+pub mod PairOrder
+pub mod Sweeping
+pub mod Keeping
+pub mod PairLists
