@@ -225,16 +225,46 @@ const OTHERS: [(&[u8], &[u8]); 37] = [
 
 const LESSONS: [(&[u8], &[u8]); 25] = [
     (b"teach dev add * ok", b"Teach dev Add * Ok None "),
-    (b"teach dev add OWN\\DEV\\1 fail", b"Teach dev Add OWN\\DEV\\1 Fail None "),
-    (b"teach dev START_DEVICE * ok 1", b"Teach dev Irp(Start) * Ok Some(1) "),
-    (b"teach dev START_DEVICE * pend", b"Teach dev Irp(Start) * Pend None "),
-    (b"teach dev QUERY_REMOVE_DEVICE * fail", b"Teach dev Irp(QueryRemove) * Fail None "),
-    (b"teach dev REMOVE_DEVICE * fail", b"Teach dev Irp(Remove) * Fail None "),
-    (b"teach dev CANCEL_REMOVE_DEVICE * ok", b"Teach dev Irp(CancelRemove) * Ok None "),
-    (b"teach dev STOP_DEVICE * fail", b"Teach dev Irp(Stop) * Fail None "),
-    (b"teach dev QUERY_STOP_DEVICE * pend 1000000", b"Teach dev Irp(QueryStop) * Pend Some(1000000) "),
-    (b"teach dev CANCEL_STOP_DEVICE * ok 0x10", b"Teach dev Irp(CancelStop) * Ok Some(16) "),
-    (b"teach dev SURPRISE_REMOVAL * ok 0007", b"Teach dev Irp(SurpriseRemoval) * Ok Some(7) "),
+    (
+        b"teach dev add OWN\\DEV\\1 fail",
+        b"Teach dev Add OWN\\DEV\\1 Fail None ",
+    ),
+    (
+        b"teach dev START_DEVICE * ok 1",
+        b"Teach dev Irp(Start) * Ok Some(1) ",
+    ),
+    (
+        b"teach dev START_DEVICE * pend",
+        b"Teach dev Irp(Start) * Pend None ",
+    ),
+    (
+        b"teach dev QUERY_REMOVE_DEVICE * fail",
+        b"Teach dev Irp(QueryRemove) * Fail None ",
+    ),
+    (
+        b"teach dev REMOVE_DEVICE * fail",
+        b"Teach dev Irp(Remove) * Fail None ",
+    ),
+    (
+        b"teach dev CANCEL_REMOVE_DEVICE * ok",
+        b"Teach dev Irp(CancelRemove) * Ok None ",
+    ),
+    (
+        b"teach dev STOP_DEVICE * fail",
+        b"Teach dev Irp(Stop) * Fail None ",
+    ),
+    (
+        b"teach dev QUERY_STOP_DEVICE * pend 1000000",
+        b"Teach dev Irp(QueryStop) * Pend Some(1000000) ",
+    ),
+    (
+        b"teach dev CANCEL_STOP_DEVICE * ok 0x10",
+        b"Teach dev Irp(CancelStop) * Ok Some(16) ",
+    ),
+    (
+        b"teach dev SURPRISE_REMOVAL * ok 0007",
+        b"Teach dev Irp(SurpriseRemoval) * Ok Some(7) ",
+    ),
     (b"teach dev add * ok 1000001", b"bad "),
     (b"teach dev add * ok 0", b"bad "),
     (b"teach dev add * ok x", b"bad "),
@@ -252,23 +282,50 @@ const LESSONS: [(&[u8], &[u8]); 25] = [
 ];
 
 const RELATIONS: [(&[u8], &[u8]); 41] = [
-    (b"relate removal OWN\\DEV\\1 HTREE\\ROOT\\0", b"Relate Removal OWN\\DEV\\1 HTREE\\ROOT\\0 "),
-    (b"relate ejection HTREE\\ROOT\\0 OWN\\DEV\\1", b"Relate Ejection HTREE\\ROOT\\0 OWN\\DEV\\1 "),
-    (b"relate removal OWN\\DEV\\1 OWN\\DEV\\1", b"Relate Removal OWN\\DEV\\1 OWN\\DEV\\1 "),
+    (
+        b"relate removal OWN\\DEV\\1 HTREE\\ROOT\\0",
+        b"Relate Removal OWN\\DEV\\1 HTREE\\ROOT\\0 ",
+    ),
+    (
+        b"relate ejection HTREE\\ROOT\\0 OWN\\DEV\\1",
+        b"Relate Ejection HTREE\\ROOT\\0 OWN\\DEV\\1 ",
+    ),
+    (
+        b"relate removal OWN\\DEV\\1 OWN\\DEV\\1",
+        b"Relate Removal OWN\\DEV\\1 OWN\\DEV\\1 ",
+    ),
     (b"relate Removal OWN\\DEV\\1 HTREE\\ROOT\\0", b"bad "),
     (b"relate bus OWN\\DEV\\1 HTREE\\ROOT\\0", b"bad "),
     (b"relate removal OWN\\DEV\\1", b"bad "),
-    (b"relate removal OWN\\DEV\\1 HTREE\\ROOT\\0 HTREE\\ROOT\\0", b"bad "),
+    (
+        b"relate removal OWN\\DEV\\1 HTREE\\ROOT\\0 HTREE\\ROOT\\0",
+        b"bad ",
+    ),
     (b"relate removal OWN\\DEV HTREE\\ROOT\\0", b"bad "),
     (b"relate removal HTREE\\ROOT\\0 OWN\\DEV", b"bad "),
     (b"relate", b"bad "),
     (b"reserve irq:4", b"Reserve Irq 4-4 false "),
-    (b"reserve port:0x3F8-0x3ff", b"Reserve Port 1016-1023 false "),
-    (b"reserve mem:0-18446744073709551615", b"Reserve Mem 0-18446744073709551615 false "),
+    (
+        b"reserve port:0x3F8-0x3ff",
+        b"Reserve Port 1016-1023 false ",
+    ),
+    (
+        b"reserve mem:0-18446744073709551615",
+        b"Reserve Mem 0-18446744073709551615 false ",
+    ),
     (b"reserve dma:7-7", b"Reserve Dma 7-7 false "),
-    (b"reserve port:0xffffffffffffffff", b"Reserve Port 18446744073709551615-18446744073709551615 false "),
-    (b"reserve mem:0x00000000000000000001", b"Reserve Mem 1-1 false "),
-    (b"reserve mem:000000000000000000000000000000012", b"Reserve Mem 12-12 false "),
+    (
+        b"reserve port:0xffffffffffffffff",
+        b"Reserve Port 18446744073709551615-18446744073709551615 false ",
+    ),
+    (
+        b"reserve mem:0x00000000000000000001",
+        b"Reserve Mem 1-1 false ",
+    ),
+    (
+        b"reserve mem:000000000000000000000000000000012",
+        b"Reserve Mem 12-12 false ",
+    ),
     (b"reserve port:18446744073709551616", b"bad "),
     (b"reserve port:0x10000000000000000", b"bad "),
     (b"reserve port:2-1", b"bad "),
@@ -285,9 +342,18 @@ const RELATIONS: [(&[u8], &[u8]); 41] = [
     (b"reserve bus:4", b"bad "),
     (b"reserve irq: 4", b"bad "),
     (b"reserve", b"bad "),
-    (b"complete OWN\\DEV\\1 START_DEVICE ok", b"Complete OWN\\DEV\\1 Start true "),
-    (b"complete OWN\\DEV\\1 QUERY_STOP_DEVICE fail", b"Complete OWN\\DEV\\1 QueryStop false "),
-    (b"complete OWN\\DEV\\1 SURPRISE_REMOVAL ok", b"Complete OWN\\DEV\\1 SurpriseRemoval true "),
+    (
+        b"complete OWN\\DEV\\1 START_DEVICE ok",
+        b"Complete OWN\\DEV\\1 Start true ",
+    ),
+    (
+        b"complete OWN\\DEV\\1 QUERY_STOP_DEVICE fail",
+        b"Complete OWN\\DEV\\1 QueryStop false ",
+    ),
+    (
+        b"complete OWN\\DEV\\1 SURPRISE_REMOVAL ok",
+        b"Complete OWN\\DEV\\1 SurpriseRemoval true ",
+    ),
     (b"complete OWN\\DEV\\1 START_DEVICE pend", b"bad "),
     (b"complete OWN\\DEV\\1 add ok", b"bad "),
     (b"complete OWN\\DEV\\1 START_DEVICE", b"bad "),
@@ -296,16 +362,43 @@ const RELATIONS: [(&[u8], &[u8]); 41] = [
 ];
 
 const PLUGS: [(&[u8], &[u8]); 29] = [
-    (b"plug HTREE\\ROOT\\0 OWN\\DEV 1", b"Plug HTREE\\ROOT\\0 OWN\\DEV\\1 hw OWN\\DEV compat "),
-    (b"plug HTREE\\ROOT\\0 own\\dev 1", b"Plug HTREE\\ROOT\\0 own\\dev\\1 hw own\\dev compat "),
+    (
+        b"plug HTREE\\ROOT\\0 OWN\\DEV 1",
+        b"Plug HTREE\\ROOT\\0 OWN\\DEV\\1 hw OWN\\DEV compat ",
+    ),
+    (
+        b"plug HTREE\\ROOT\\0 own\\dev 1",
+        b"Plug HTREE\\ROOT\\0 own\\dev\\1 hw own\\dev compat ",
+    ),
     (b"plug OWN\\DEV\\1 A B", b"bad "),
-    (b"plug OWN\\DEV\\1 A B\\C", b"Plug OWN\\DEV\\1 A\\B\\C hw A compat "),
-    (b"plug HTREE\\ROOT\\0 OWN\\DEV 1 hw=OWN\\A", b"Plug HTREE\\ROOT\\0 OWN\\DEV\\1 hw OWN\\A compat "),
-    (b"plug HTREE\\ROOT\\0 OWN\\DEV 1 hw=OWN\\A,OWN\\B", b"Plug HTREE\\ROOT\\0 OWN\\DEV\\1 hw OWN\\A OWN\\B compat "),
-    (b"plug HTREE\\ROOT\\0 OWN\\DEV 1 compat=*PNP0501", b"Plug HTREE\\ROOT\\0 OWN\\DEV\\1 hw OWN\\DEV compat *PNP0501 "),
-    (b"plug HTREE\\ROOT\\0 OWN\\DEV 1 compat=A,B,A", b"Plug HTREE\\ROOT\\0 OWN\\DEV\\1 hw OWN\\DEV compat A B A "),
-    (b"plug HTREE\\ROOT\\0 OWN\\DEV 1 compat=C hw=H", b"Plug HTREE\\ROOT\\0 OWN\\DEV\\1 hw H compat C "),
-    (b"plug HTREE\\ROOT\\0 OWN\\DEV 1 hw=H need=irq:5 compat=C", b"Plug HTREE\\ROOT\\0 OWN\\DEV\\1 hw H compat C list group Irq 5-5 1 1 false "),
+    (
+        b"plug OWN\\DEV\\1 A B\\C",
+        b"Plug OWN\\DEV\\1 A\\B\\C hw A compat ",
+    ),
+    (
+        b"plug HTREE\\ROOT\\0 OWN\\DEV 1 hw=OWN\\A",
+        b"Plug HTREE\\ROOT\\0 OWN\\DEV\\1 hw OWN\\A compat ",
+    ),
+    (
+        b"plug HTREE\\ROOT\\0 OWN\\DEV 1 hw=OWN\\A,OWN\\B",
+        b"Plug HTREE\\ROOT\\0 OWN\\DEV\\1 hw OWN\\A OWN\\B compat ",
+    ),
+    (
+        b"plug HTREE\\ROOT\\0 OWN\\DEV 1 compat=*PNP0501",
+        b"Plug HTREE\\ROOT\\0 OWN\\DEV\\1 hw OWN\\DEV compat *PNP0501 ",
+    ),
+    (
+        b"plug HTREE\\ROOT\\0 OWN\\DEV 1 compat=A,B,A",
+        b"Plug HTREE\\ROOT\\0 OWN\\DEV\\1 hw OWN\\DEV compat A B A ",
+    ),
+    (
+        b"plug HTREE\\ROOT\\0 OWN\\DEV 1 compat=C hw=H",
+        b"Plug HTREE\\ROOT\\0 OWN\\DEV\\1 hw H compat C ",
+    ),
+    (
+        b"plug HTREE\\ROOT\\0 OWN\\DEV 1 hw=H need=irq:5 compat=C",
+        b"Plug HTREE\\ROOT\\0 OWN\\DEV\\1 hw H compat C list group Irq 5-5 1 1 false ",
+    ),
     (b"plug HTREE\\ROOT\\0 OWN\\DEV 1 hw=", b"bad "),
     (b"plug HTREE\\ROOT\\0 OWN\\DEV 1 hw=A,", b"bad "),
     (b"plug HTREE\\ROOT\\0 OWN\\DEV 1 hw=,A", b"bad "),
@@ -313,7 +406,10 @@ const PLUGS: [(&[u8], &[u8]); 29] = [
     (b"plug HTREE\\ROOT\\0 OWN\\DEV 1 hw=A hw=B", b"bad "),
     (b"plug HTREE\\ROOT\\0 OWN\\DEV 1 compat=A compat=B", b"bad "),
     (b"plug HTREE\\ROOT\\0 OWN\\DEV 1 compat=", b"bad "),
-    (b"plug HTREE\\ROOT\\0 OWN\\DEV 1 hw=A\\B,C*", b"Plug HTREE\\ROOT\\0 OWN\\DEV\\1 hw A\\B C* compat "),
+    (
+        b"plug HTREE\\ROOT\\0 OWN\\DEV 1 hw=A\\B,C*",
+        b"Plug HTREE\\ROOT\\0 OWN\\DEV\\1 hw A\\B C* compat ",
+    ),
     (b"plug HTREE\\ROOT\\0 OWN\\DEV 1 HW=A", b"bad "),
     (b"plug HTREE\\ROOT\\0 OWN\\DEV 1 note", b"bad "),
     (b"plug HTREE\\ROOT\\0 OWN\\DEV 1 hw = A", b"bad "),
@@ -328,21 +424,66 @@ const PLUGS: [(&[u8], &[u8]); 29] = [
 ];
 
 const WANTS: [(&[u8], &[u8]); 42] = [
-    (b"plug HTREE\\ROOT\\0 OWN\\DEV 1 need=irq:5", b"Plug HTREE\\ROOT\\0 OWN\\DEV\\1 hw OWN\\DEV compat list group Irq 5-5 1 1 false "),
-    (b"plug HTREE\\ROOT\\0 OWN\\DEV 1 need=irq:3-7:shared", b"Plug HTREE\\ROOT\\0 OWN\\DEV\\1 hw OWN\\DEV compat list group Irq 3-7 1 1 true "),
-    (b"plug HTREE\\ROOT\\0 OWN\\DEV 1 need=dma:1", b"Plug HTREE\\ROOT\\0 OWN\\DEV\\1 hw OWN\\DEV compat list group Dma 1-1 1 1 false "),
-    (b"plug HTREE\\ROOT\\0 OWN\\DEV 1 need=dma:0-3:shared", b"Plug HTREE\\ROOT\\0 OWN\\DEV\\1 hw OWN\\DEV compat list group Dma 0-3 1 1 true "),
-    (b"plug HTREE\\ROOT\\0 OWN\\DEV 1 need=port:0x3f8-0x3ff/8", b"Plug HTREE\\ROOT\\0 OWN\\DEV\\1 hw OWN\\DEV compat list group Port 1016-1023 8 1 false "),
-    (b"plug HTREE\\ROOT\\0 OWN\\DEV 1 need=port:8-15/8@8", b"Plug HTREE\\ROOT\\0 OWN\\DEV\\1 hw OWN\\DEV compat list group Port 8-15 8 8 false "),
-    (b"plug HTREE\\ROOT\\0 OWN\\DEV 1 need=port:8-15@8", b"Plug HTREE\\ROOT\\0 OWN\\DEV\\1 hw OWN\\DEV compat list group Port 8-15 1 8 false "),
-    (b"plug HTREE\\ROOT\\0 OWN\\DEV 1 need=port:8-15@8:shared", b"Plug HTREE\\ROOT\\0 OWN\\DEV\\1 hw OWN\\DEV compat list group Port 8-15 1 8 true "),
-    (b"plug HTREE\\ROOT\\0 OWN\\DEV 1 need=mem:0-0xff/0x10@0x10:shared", b"Plug HTREE\\ROOT\\0 OWN\\DEV\\1 hw OWN\\DEV compat list group Mem 0-255 16 16 true "),
-    (b"plug HTREE\\ROOT\\0 OWN\\DEV 1 need=mem:4", b"Plug HTREE\\ROOT\\0 OWN\\DEV\\1 hw OWN\\DEV compat list group Mem 4-4 1 1 false "),
-    (b"plug HTREE\\ROOT\\0 OWN\\DEV 1 need=irq:5|irq:7", b"Plug HTREE\\ROOT\\0 OWN\\DEV\\1 hw OWN\\DEV compat list group Irq 5-5 1 1 false Irq 7-7 1 1 false "),
-    (b"plug HTREE\\ROOT\\0 OWN\\DEV 1 need=irq:5;port:8-15/8", b"Plug HTREE\\ROOT\\0 OWN\\DEV\\1 hw OWN\\DEV compat list group Irq 5-5 1 1 false group Port 8-15 8 1 false "),
-    (b"plug HTREE\\ROOT\\0 OWN\\DEV 1 need=irq:5|irq:7;dma:1|dma:2:shared", b"Plug HTREE\\ROOT\\0 OWN\\DEV\\1 hw OWN\\DEV compat list group Irq 5-5 1 1 false Irq 7-7 1 1 false group Dma 1-1 1 1 false Dma 2-2 1 1 true "),
-    (b"plug HTREE\\ROOT\\0 OWN\\DEV 1 need=irq:5 need=irq:6", b"Plug HTREE\\ROOT\\0 OWN\\DEV\\1 hw OWN\\DEV compat list group Irq 5-5 1 1 false list group Irq 6-6 1 1 false "),
-    (b"plug HTREE\\ROOT\\0 OWN\\DEV 1 need=irq:1 need=irq:1 need=irq:1 need=irq:1 need=irq:1 need=irq:1 need=irq:1 need=irq:1 need=irq:1", b"bad "),
+    (
+        b"plug HTREE\\ROOT\\0 OWN\\DEV 1 need=irq:5",
+        b"Plug HTREE\\ROOT\\0 OWN\\DEV\\1 hw OWN\\DEV compat list group Irq 5-5 1 1 false ",
+    ),
+    (
+        b"plug HTREE\\ROOT\\0 OWN\\DEV 1 need=irq:3-7:shared",
+        b"Plug HTREE\\ROOT\\0 OWN\\DEV\\1 hw OWN\\DEV compat list group Irq 3-7 1 1 true ",
+    ),
+    (
+        b"plug HTREE\\ROOT\\0 OWN\\DEV 1 need=dma:1",
+        b"Plug HTREE\\ROOT\\0 OWN\\DEV\\1 hw OWN\\DEV compat list group Dma 1-1 1 1 false ",
+    ),
+    (
+        b"plug HTREE\\ROOT\\0 OWN\\DEV 1 need=dma:0-3:shared",
+        b"Plug HTREE\\ROOT\\0 OWN\\DEV\\1 hw OWN\\DEV compat list group Dma 0-3 1 1 true ",
+    ),
+    (
+        b"plug HTREE\\ROOT\\0 OWN\\DEV 1 need=port:0x3f8-0x3ff/8",
+        b"Plug HTREE\\ROOT\\0 OWN\\DEV\\1 hw OWN\\DEV compat list group Port 1016-1023 8 1 false ",
+    ),
+    (
+        b"plug HTREE\\ROOT\\0 OWN\\DEV 1 need=port:8-15/8@8",
+        b"Plug HTREE\\ROOT\\0 OWN\\DEV\\1 hw OWN\\DEV compat list group Port 8-15 8 8 false ",
+    ),
+    (
+        b"plug HTREE\\ROOT\\0 OWN\\DEV 1 need=port:8-15@8",
+        b"Plug HTREE\\ROOT\\0 OWN\\DEV\\1 hw OWN\\DEV compat list group Port 8-15 1 8 false ",
+    ),
+    (
+        b"plug HTREE\\ROOT\\0 OWN\\DEV 1 need=port:8-15@8:shared",
+        b"Plug HTREE\\ROOT\\0 OWN\\DEV\\1 hw OWN\\DEV compat list group Port 8-15 1 8 true ",
+    ),
+    (
+        b"plug HTREE\\ROOT\\0 OWN\\DEV 1 need=mem:0-0xff/0x10@0x10:shared",
+        b"Plug HTREE\\ROOT\\0 OWN\\DEV\\1 hw OWN\\DEV compat list group Mem 0-255 16 16 true ",
+    ),
+    (
+        b"plug HTREE\\ROOT\\0 OWN\\DEV 1 need=mem:4",
+        b"Plug HTREE\\ROOT\\0 OWN\\DEV\\1 hw OWN\\DEV compat list group Mem 4-4 1 1 false ",
+    ),
+    (
+        b"plug HTREE\\ROOT\\0 OWN\\DEV 1 need=irq:5|irq:7",
+        b"Plug HTREE\\ROOT\\0 OWN\\DEV\\1 hw OWN\\DEV compat list group Irq 5-5 1 1 false Irq 7-7 1 1 false ",
+    ),
+    (
+        b"plug HTREE\\ROOT\\0 OWN\\DEV 1 need=irq:5;port:8-15/8",
+        b"Plug HTREE\\ROOT\\0 OWN\\DEV\\1 hw OWN\\DEV compat list group Irq 5-5 1 1 false group Port 8-15 8 1 false ",
+    ),
+    (
+        b"plug HTREE\\ROOT\\0 OWN\\DEV 1 need=irq:5|irq:7;dma:1|dma:2:shared",
+        b"Plug HTREE\\ROOT\\0 OWN\\DEV\\1 hw OWN\\DEV compat list group Irq 5-5 1 1 false Irq 7-7 1 1 false group Dma 1-1 1 1 false Dma 2-2 1 1 true ",
+    ),
+    (
+        b"plug HTREE\\ROOT\\0 OWN\\DEV 1 need=irq:5 need=irq:6",
+        b"Plug HTREE\\ROOT\\0 OWN\\DEV\\1 hw OWN\\DEV compat list group Irq 5-5 1 1 false list group Irq 6-6 1 1 false ",
+    ),
+    (
+        b"plug HTREE\\ROOT\\0 OWN\\DEV 1 need=irq:1 need=irq:1 need=irq:1 need=irq:1 need=irq:1 need=irq:1 need=irq:1 need=irq:1 need=irq:1",
+        b"bad ",
+    ),
     (b"plug HTREE\\ROOT\\0 OWN\\DEV 1 need=", b"bad "),
     (b"plug HTREE\\ROOT\\0 OWN\\DEV 1 need=irq:5;", b"bad "),
     (b"plug HTREE\\ROOT\\0 OWN\\DEV 1 need=;irq:5", b"bad "),
@@ -356,20 +497,41 @@ const WANTS: [(&[u8], &[u8]); 42] = [
     (b"plug HTREE\\ROOT\\0 OWN\\DEV 1 need=irq:5@1", b"bad "),
     (b"plug HTREE\\ROOT\\0 OWN\\DEV 1 need=dma:5/1", b"bad "),
     (b"plug HTREE\\ROOT\\0 OWN\\DEV 1 need=irq:5:Shared", b"bad "),
-    (b"plug HTREE\\ROOT\\0 OWN\\DEV 1 need=irq:5:shared:shared", b"bad "),
-    (b"plug HTREE\\ROOT\\0 OWN\\DEV 1 need=port:8-15@8/8", b"bad "),
-    (b"plug HTREE\\ROOT\\0 OWN\\DEV 1 need=port:8-15/8/8", b"bad "),
-    (b"plug HTREE\\ROOT\\0 OWN\\DEV 1 need=port:8-15:shared@8", b"bad "),
+    (
+        b"plug HTREE\\ROOT\\0 OWN\\DEV 1 need=irq:5:shared:shared",
+        b"bad ",
+    ),
+    (
+        b"plug HTREE\\ROOT\\0 OWN\\DEV 1 need=port:8-15@8/8",
+        b"bad ",
+    ),
+    (
+        b"plug HTREE\\ROOT\\0 OWN\\DEV 1 need=port:8-15/8/8",
+        b"bad ",
+    ),
+    (
+        b"plug HTREE\\ROOT\\0 OWN\\DEV 1 need=port:8-15:shared@8",
+        b"bad ",
+    ),
     (b"plug HTREE\\ROOT\\0 OWN\\DEV 1 need=port:8-15/0", b"bad "),
     (b"plug HTREE\\ROOT\\0 OWN\\DEV 1 need=port:8-15@0", b"bad "),
-    (b"plug HTREE\\ROOT\\0 OWN\\DEV 1 need=port:8-15@3", b"Plug HTREE\\ROOT\\0 OWN\\DEV\\1 hw OWN\\DEV compat list group Port 8-15 1 3 false "),
+    (
+        b"plug HTREE\\ROOT\\0 OWN\\DEV 1 need=port:8-15@3",
+        b"Plug HTREE\\ROOT\\0 OWN\\DEV\\1 hw OWN\\DEV compat list group Port 8-15 1 3 false ",
+    ),
     (b"plug HTREE\\ROOT\\0 OWN\\DEV 1 need=port:8-15/9", b"bad "),
     (b"plug HTREE\\ROOT\\0 OWN\\DEV 1 need=port:8-15/", b"bad "),
     (b"plug HTREE\\ROOT\\0 OWN\\DEV 1 need=port:8-15@", b"bad "),
     (b"plug HTREE\\ROOT\\0 OWN\\DEV 1 need=bus:1", b"bad "),
     (b"plug HTREE\\ROOT\\0 OWN\\DEV 1 need=irq:5,irq:6", b"bad "),
-    (b"plug HTREE\\ROOT\\0 OWN\\DEV 1 need=mem:0-0xffffffffffffffff/0x8000000000000000", b"Plug HTREE\\ROOT\\0 OWN\\DEV\\1 hw OWN\\DEV compat list group Mem 0-18446744073709551615 9223372036854775808 1 false "),
-    (b"plug HTREE\\ROOT\\0 OWN\\DEV 1 need=mem:0-18446744073709551616", b"bad "),
+    (
+        b"plug HTREE\\ROOT\\0 OWN\\DEV 1 need=mem:0-0xffffffffffffffff/0x8000000000000000",
+        b"Plug HTREE\\ROOT\\0 OWN\\DEV\\1 hw OWN\\DEV compat list group Mem 0-18446744073709551615 9223372036854775808 1 false ",
+    ),
+    (
+        b"plug HTREE\\ROOT\\0 OWN\\DEV 1 need=mem:0-18446744073709551616",
+        b"bad ",
+    ),
 ];
 
 #[test]
