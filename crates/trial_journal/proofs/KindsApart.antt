@@ -1,11 +1,11 @@
 -- What is open beside the pairs of one kind is open beside all pairs; and the kinds through a put and a take.
-use Rattle.std.proofs.Common.{◌≡◌, ℕ, ◌+◌, ◌<◌, ◌≤◌, ◌-◌, ◌⊎◌, inl, inr, List, [], ◌∷◌, ◌++◌, map, length, get_or, Contains, All, Option, Some, None, IfSome, IfNone, refl, sym, ◌∙◌, ap, subst, arith}
+use Rattle.std.proofs.Common.{◌≡◌, ℕ, ◌+◌, ◌<◌, ◌≤◌, ◌⊎◌, inl, inr, List, [], ◌∷◌, ◌++◌, length, Contains, All, Option, Some, None, IfSome, IfNone, refl, sym, ◌∙◌, ap, subst, arith}
 use Rattle.std.specs.List.{AllByRecursion}
 use Rattle.std.proofs.lemmas.List.Elements.{All-append, All-map, All-nil, All-cons, All-tail, All-weaker, All-from_recursion, recursion_from_All}
-use Rattle.std.proofs.lemmas.List.Sorted.{All-permutation, IsPermutation-sym}
+use Rattle.std.proofs.lemmas.List.Sorted.{All-permutation, Contains-permutation, IsPermutation-sym}
 use Rattle.resource_reqs.specs.declared.kind.Kind.{Kind}
 use Rattle.resource_reqs.specs.declared.kind.Kind.TheVariants.{Port, Irq, Mem, Dma}
-use Rattle.resource_reqs.specs.Resources.{Res, Want, Clash, Free, May, IsOpen, res_at}
+use Rattle.resource_reqs.specs.Resources.{Res, Want, Clash, Free, IsOpen, res_at}
 use Rattle.range_arbiter.specs.Pairs.{Pair, Arbiter, pairs_with, res_list}
 use Rattle.range_arbiter.proofs.Sweeping.{free_at}
 use Rattle.range_arbiter.proofs.PairLists.{with_permutation, length-pairs_with}
@@ -174,3 +174,16 @@ length-put a b p k is =
     go (inr there) =
         let first : length (of_kind (with_kind a p.1.kind (arbiter_with (of_kind a p.1.kind) p)) k).pairs ≡ length (of_kind a k).pairs = ap (λ (x : Arbiter). length x.pairs) there in
         omega arith
+
+-- a pair that is put in is held
+pub Contains-put : (a b : Arbiters) (p : Pair) → b ≡ arbiters_with a p → Contains (of_kind b p.1.kind).pairs p
+Contains-put a b p is = subst (λ x. Contains (of_kind x p.1.kind).pairs p) (sym is) (at p.1.kind)
+  where
+    there : (pairs : List Pair) → Contains (pairs_with pairs p) p
+    there pairs = Contains-permutation (p ∷ pairs) (pairs_with pairs p) p (with_permutation pairs p) (0, omega arith, refl)
+
+    at : (k : Kind) → Contains (of_kind (with_kind a k (arbiter_with (of_kind a k) p)) k).pairs p
+    at Port = there a.port.pairs
+    at Irq = there a.irq.pairs
+    at Mem = there a.mem.pairs
+    at Dma = there a.dma.pairs

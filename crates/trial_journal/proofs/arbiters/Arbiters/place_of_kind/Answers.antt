@@ -1,6 +1,5 @@
 use Rattle.std.proofs.Common.{◌≡◌, ◌≤◌, ◌<◌, ℕ, IfSome, IfNone, sym, ◌∙◌, ap, ap₂, subst}
 use Rattle.resource_reqs.specs.Resources.{Want, IsOpen}
-use Rattle.resource_reqs.specs.declared.kind.Kind.TheVariants.{Port, Irq, Mem, Dma}
 use Rattle.range_arbiter.specs.Pairs.{Arbiter, res_list}
 use Rattle.trial_journal.specs.Four.{of_kind}
 use Rattle.trial_journal.proofs.arbiters.Arbiters.place_of_kind.Goals as goal

@@ -1,6 +1,4 @@
-use Rattle.std.proofs.Common.{◌≡◌, sym, ◌∙◌, ap}
 use Rattle.resource_reqs.specs.declared.kind.Kind.TheVariants.{Port, Irq, Mem, Dma}
-use Rattle.resource_reqs.specs.Resources.{Res}
 use Rattle.trial_journal.proofs.KindsApart.{take_is_of}
 use Rattle.trial_journal.proofs.arbiters.Arbiters.take.Goals as goal
 
