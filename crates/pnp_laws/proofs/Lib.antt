@@ -24,3 +24,7 @@ pub mod RunsShare
 pub mod Vetoes
 pub mod VetoSteps
 pub mod RunsVeto
+pub mod Reached
+pub mod EventChanges
+pub mod Turns
+pub mod WholeSteps

@@ -3,3 +3,5 @@ pub mod Plans
 pub mod RunsWell
 pub mod Vetoes
 pub mod Due
+pub mod Reached
+pub mod Holdings
