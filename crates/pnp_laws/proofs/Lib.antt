@@ -28,3 +28,7 @@ pub mod Reached
 pub mod EventChanges
 pub mod Turns
 pub mod WholeSteps
+pub mod WholeOperations
+pub mod WholeRemovals
+pub mod WholeMachine
+pub mod RunsWhole
