@@ -22,7 +22,7 @@ use Rattle.pnp_model.specs.Events as ev
 
 -- the operation is as it was, but for the answer that its walk got
 abbrev pub Answered : Option Operation → Option Operation → Type 0
-Answered old new = (new ≡ old) ⊎ ((answer : Answer) × (o : Operation) × (old ≡ Some o) × (new ≡ Some (ev.completed answer o)))
+Answered old new = (new ≡ old) ⊎ ((ok : Bool) × (o : Operation) × (old ≡ Some o) × (new ≡ Some (ev.completed (ev.answer_of ok) o)))
 
 pub record Outside (s t : State) : Type 0 where
   pub nodes : t.core.nodes ≡ s.core.nodes
@@ -182,7 +182,7 @@ complete_active s node minor ok (Some a) e = complete_activity s node minor ok a
 
 complete_operation : (s : State) (node : Node) (minor : Minor) (ok : Bool) (o : Operation) (b : Bool) → s.operation ≡ Some o → Outside s (ev.complete_operation s node minor ok o b).state
 complete_operation s node minor ok o true e =
-    record { nodes = refl; relations = λ p h. refl; reserved = λ p h. refl; activities = λ k a at. (a, at, refl); operation = inr (ev.answer_of ok, o, e, refl) }
+    record { nodes = refl; relations = λ p h. refl; reserved = λ p h. refl; activities = λ k a at. (a, at, refl); operation = inr (ok, o, e, refl) }
 complete_operation s node minor ok o false e = complete_active s node minor ok (activity_at node.serial s.activities) refl
 
 complete_node : (s : State) (node : Node) (minor : Minor) (ok : Bool) (o : Option Operation) → s.operation ≡ o → Outside s (ev.complete_node s node minor ok o).state

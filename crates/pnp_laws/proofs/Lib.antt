@@ -32,3 +32,8 @@ pub mod WholeOperations
 pub mod WholeRemovals
 pub mod WholeMachine
 pub mod RunsWhole
+pub mod Pauses
+pub mod Askings
+pub mod RebalanceMoves
+pub mod Begins
+pub mod RebalanceRuns

@@ -214,7 +214,7 @@ plans_restart r [] c = tt
 plans_restart r (k ∷ ks) c = tt
 
 -- what others hold, where a device changes in other parts
-beside_changed : (j : ℕ) (f : Node → Node) (movers : List ℕ) (nodes : List Node) → ((x : Node) → (f x).serial ≡ x.serial) → ((x : Node) → (f x).holds ≡ x.holds) →
+pub beside_changed : (j : ℕ) (f : Node → Node) (movers : List ℕ) (nodes : List Node) → ((x : Node) → (f x).serial ≡ x.serial) → ((x : Node) → (f x).holds ≡ x.holds) →
     held_by (those (is_beside movers) (changed_first (is_node j) f nodes)) ≡ held_by (those (is_beside movers) nodes)
 beside_changed j f movers [] keeps holds = refl
 beside_changed j f movers (n ∷ ns) keeps holds =

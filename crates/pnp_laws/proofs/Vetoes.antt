@@ -38,7 +38,7 @@ turned_same k x (m ∷ ms) n at e =
     ]
 
 -- the last state counts
-turned_twice : (k : ℕ) (x y : DevState) (nodes : List Node) → turned x k (turned y k nodes) ≡ turned x k nodes
+pub turned_twice : (k : ℕ) (x y : DevState) (nodes : List Node) → turned x k (turned y k nodes) ≡ turned x k nodes
 turned_twice k x y [] = refl
 turned_twice k x y (m ∷ ms) =
     let more = turned_twice k x y ms in

@@ -282,8 +282,8 @@ completed_whole answer (Operation.Surprising o) nodes h = tt
 
 answered_whole : (old new : Option Operation) (nodes : List Node) → Answered old new → OperationWhole old nodes → OperationWhole new nodes
 answered_whole old new nodes (inl e) h = subst (λ (x : Option Operation). OperationWhole x nodes) (sym e) h
-answered_whole old new nodes (inr (answer, o, e, q)) h =
-    subst (λ (x : Option Operation). OperationWhole x nodes) (sym q) (completed_whole answer o nodes (subst (λ (x : Option Operation). OperationWhole x nodes) e h))
+answered_whole old new nodes (inr (ok, o, e, q)) h =
+    subst (λ (x : Option Operation). OperationWhole x nodes) (sym q) (completed_whole (ev.answer_of ok) o nodes (subst (λ (x : Option Operation). OperationWhole x nodes) e h))
 
 pub turned_happens : (s : State) (event : Event) → IsWhole s → Turned s (ev.happens s event).state
 turned_happens s event old =

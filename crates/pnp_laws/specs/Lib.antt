@@ -5,3 +5,4 @@ pub mod Vetoes
 pub mod Due
 pub mod Reached
 pub mod Holdings
+pub mod Rebalanced

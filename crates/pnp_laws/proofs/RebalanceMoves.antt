@@ -1,0 +1,349 @@
+-- Each step of a rebalance: what it would restore, and whom it asked.
+use Rattle.std.proofs.Common.{ℕ, ◌≡◌, ◌⊎◌, inl, inr, Bool, true, false, not, ◌||◌, List, [], ◌∷◌, map, length, Option, Some, None, refl, sym, ap, ◌∙◌, subst, arith, reverse, nat_le}
+use Rattle.std.proofs.lemmas.Bool.{cases_eq}
+use Rattle.std.proofs.lemmas.Bool.Decides.{nat_tests}
+use Rattle.resource_reqs.specs.Spelling.{IsAnswer}
+use Rattle.resource_reqs.specs.Spelling.Answer.{assignment, no_fit, spent}
+use Rattle.resource_reqs.proofs.Answering.{no_fit_means}
+use Rattle.pnp_model.specs.Keyed.{changed_first, those}
+use Rattle.pnp_model.specs.Records.{Node, Core, Rebalance, RebalanceStage, Walk, Found, Doing}
+use Rattle.pnp_model.specs.Records.Doing.{Does, Searches}
+use Rattle.pnp_model.specs.Records.RebalanceStage.{Asking, TakingBack, Searching, Cancelling, Stuck, Stopping, Committing, Restarting, Failed, Ending}
+use Rattle.pnp_model.specs.Cores.{is_node, node_at, with_problem}
+use Rattle.pnp_model.specs.Tests.{has}
+use Rattle.pnp_model.specs.Trees.{above}
+use Rattle.pnp_model.specs.Walks.{is_bad, has_ended, may_fail, after}
+use Rattle.pnp_model.specs.Books.{rack_reply}
+use Rattle.pnp_model.specs.Frames.{first_node, rest, ended, asked, next_driver, fixed_beside}
+use Rattle.pnp_model.specs.Laws.{IsWithin, NothingFits}
+use Rattle.pnp_labels.specs.declared.states.DevState.{DevState}
+use Rattle.pnp_labels.specs.declared.states.Problem.{Problem}
+use Rattle.pnp_labels.specs.declared.words.Minor.{Minor}
+use Rattle.pnp_labels.specs.declared.words.AskWhat.{AskWhat}
+use Rattle.pnp_labels.specs.declared.words.Answer.{Answer}
+use Rattle.pnp_labels.specs.declared.words.Answer.TheVariants.{Ok, Fail, Pend}
+use Rattle.pnp_labels.specs.declared.label.Label.{Label}
+use Rattle.pnp_labels.specs.declared.states.DevState.TheVariants.{Started}
+use Rattle.pnp_laws.specs.Kept.{RebalanceKeeps, asking_state}
+use Rattle.pnp_laws.specs.Holdings.{Placed, has_plan}
+use Rattle.pnp_laws.specs.Rebalanced.{Paused, Troubled, Undone, Asks, EndsBad, IsHopeless, AskedSince, Refusing}
+use Rattle.pnp_laws.proofs.Lookups.{own_serial}
+use Rattle.pnp_laws.proofs.Lists.{HeadIs, head_found, head_has}
+use Rattle.pnp_laws.proofs.OpSteps.{is_Started}
+use Rattle.pnp_laws.proofs.Pauses.{paused_agreed, paused_same, paused_back, paused_still, above_paused, hopeless_before}
+use Rattle.pnp_laws.proofs.Askings.{cons_cases, cons_here, cons_there, asks_agreed, asks_refused}
+use Rattle.pnp_model.specs.Rebalances as re
+
+-- What a step is to show --------------------------------------------------------------
+
+-- the operation goes on
+abbrev pub GoesOn : re.RebalanceBeside → Type 0
+GoesOn re.RebalanceBeside.On = Unit {0}
+GoesOn (re.RebalanceBeside.FailedRestart k) = Unit {0}
+GoesOn _ = ⊥
+
+-- it does not print problem 12
+abbrev pub NoConflict : Label → Type 0
+NoConflict (Label.Trouble path Problem.NormalConflict) = ⊥
+NoConflict _ = Unit {0}
+
+pub record SameDevice (r f : Rebalance) : Type 0 where
+  pub target : f.target ≡ r.target
+  pub path : f.path ≡ r.path
+
+pub record MovesOn (before c : Core) (r : Rebalance) (stage : RebalanceStage) (m : re.RebalanceMove) : Type 0 where
+  pub within : IsWithin m.label
+  pub on : GoesOn m.beside
+  pub device : SameDevice r m.frame
+  pub undone : Undone before m.core m.frame m.frame.stage
+  pub asked : AskedSince before m.frame m.frame.stage
+  pub told : (k : ℕ) → has m.frame.refused k ≡ true → (has r.refused k ≡ true) ⊎ Refusing c r stage k
+  pub keeps : (k : ℕ) → has r.refused k ≡ true → has m.frame.refused k ≡ true
+  pub tells : (k : ℕ) → Refusing c r stage k → has m.frame.refused k ≡ true
+  pub quiet : NoConflict m.label ⊎ ((stage ≡ Stuck) × (m.label ≡ Label.Trouble r.path (re.trouble_of r.found)))
+
+-- nobody is asked in this stage
+abbrev NotAsking : RebalanceStage → Type 0
+NotAsking (Asking w) = ⊥
+NotAsking _ = Unit {0}
+
+-- who refused stays the same
+pub record SameFrame (r f : Rebalance) : Type 0 where
+  pub device : SameDevice r f
+  pub refused : f.refused ≡ r.refused
+
+not_asking : (c : Core) (r : Rebalance) (stage : RebalanceStage) (k : ℕ) → NotAsking stage → Refusing c r stage k → ⊥
+not_asking c r stage k none (w, node, e, first, own, bad) = subst (λ (x : RebalanceStage). NotAsking x) e none
+
+-- a step that asks nobody
+asks_nobody : (before c : Core) (r : Rebalance) (stage : RebalanceStage) (m : re.RebalanceMove) → NotAsking stage → IsWithin m.label → GoesOn m.beside → SameFrame r m.frame →
+    Undone before m.core m.frame m.frame.stage → AskedSince before m.frame m.frame.stage → (NoConflict m.label ⊎ ((stage ≡ Stuck) × (m.label ≡ Label.Trouble r.path (re.trouble_of r.found)))) → MovesOn before c r stage m
+asks_nobody before c r stage m none within on same undone asked quiet =
+    record {
+      within = within;
+      on = on;
+      device = same.device;
+      undone = undone;
+      asked = asked;
+      told = λ k h. inl (subst (λ (x : List ℕ). has x k ≡ true) same.refused h);
+      keeps = λ k h. subst (λ (x : List ℕ). has x k ≡ true) (sym same.refused) h;
+      tells = λ k h. absurd (not_asking c r stage k none h);
+      quiet = quiet;
+    }
+
+-- What comes next -----------------------------------------------------------------------
+
+pub same_ask_on : (r f : Rebalance) (ks : List ℕ) → SameFrame r f → SameFrame r (re.ask_on f ks)
+same_ask_on r f [] h = record { device = record { target = h.device.target; path = h.device.path }; refused = h.refused }
+same_ask_on r f (k ∷ ks) h = record { device = record { target = h.device.target; path = h.device.path }; refused = h.refused }
+
+same_cancel_on : (r f : Rebalance) (ks : List ℕ) → SameFrame r f → SameFrame r (re.cancel_on f ks)
+same_cancel_on r f [] h = record { device = record { target = h.device.target; path = h.device.path }; refused = h.refused }
+same_cancel_on r f (k ∷ ks) h = record { device = record { target = h.device.target; path = h.device.path }; refused = h.refused }
+
+same_stop_on : (r f : Rebalance) (ks : List ℕ) → SameFrame r f → SameFrame r (re.stop_on f ks)
+same_stop_on r f [] h = record { device = record { target = h.device.target; path = h.device.path }; refused = h.refused }
+same_stop_on r f (k ∷ ks) h = record { device = record { target = h.device.target; path = h.device.path }; refused = h.refused }
+
+same_restart : (r : Rebalance) (ks : List ℕ) → SameFrame r (re.restart_from r ks)
+same_restart r [] = record { device = record { target = refl; path = refl }; refused = refl }
+same_restart r (k ∷ ks) = record { device = record { target = refl; path = refl }; refused = refl }
+
+pub own_frame : (r : Rebalance) → SameFrame r r
+own_frame r = record { device = record { target = refl; path = refl }; refused = refl }
+
+pub undone_ask_on : (before now : Core) (r : Rebalance) (ks : List ℕ) → Paused before now r.agreed → Undone before now (re.ask_on r ks) (re.ask_on r ks).stage
+undone_ask_on before now r [] h = h
+undone_ask_on before now r (k ∷ ks) h = h
+
+undone_cancel_on : (before now : Core) (r : Rebalance) (ks : List ℕ) → Paused before now ks → has_plan r.found ≡ false → Undone before now (re.cancel_on r ks) (re.cancel_on r ks).stage
+undone_cancel_on before now r [] h e = (h, e)
+undone_cancel_on before now r (k ∷ ks) h e = (h, e)
+
+undone_stop_on : (before now : Core) (r : Rebalance) (ks : List ℕ) → has_plan r.found ≡ true → Undone before now (re.stop_on r ks) (re.stop_on r ks).stage
+undone_stop_on before now r [] h = h
+undone_stop_on before now r (k ∷ ks) h = h
+
+undone_restart : (before now : Core) (r : Rebalance) (ks : List ℕ) → has_plan r.found ≡ true → Undone before now (re.restart_from r ks) (re.restart_from r ks).stage
+undone_restart before now r [] h = inl h
+undone_restart before now r (k ∷ ks) h = h
+
+pub asked_ask_on : (before : Core) (r : Rebalance) (ks : List ℕ) → Asks before.nodes ks r.agreed r.refused → AskedSince before (re.ask_on r ks) (re.ask_on r ks).stage
+asked_ask_on before r [] h = h
+asked_ask_on before r (k ∷ ks) h = (h, λ e. absurd (cc))
+
+asked_cancel_on : (before : Core) (r : Rebalance) (ks : List ℕ) → Asks before.nodes [] r.agreed r.refused → IsHopeless before r → AskedSince before (re.cancel_on r ks) (re.cancel_on r ks).stage
+asked_cancel_on before r [] h g = (h, g)
+asked_cancel_on before r (k ∷ ks) h g = (h, g)
+
+asked_stop_on : (before : Core) (r : Rebalance) (ks : List ℕ) → AskedSince before (re.stop_on r ks) (re.stop_on r ks).stage
+asked_stop_on before r [] = tt
+asked_stop_on before r (k ∷ ks) = tt
+
+asked_restart : (before : Core) (r : Rebalance) (ks : List ℕ) → AskedSince before (re.restart_from r ks) (re.restart_from r ks).stage
+asked_restart before r [] = tt
+asked_restart before r (k ∷ ks) = tt
+
+-- Asking --------------------------------------------------------------------------------------
+
+-- the head of what is to do
+pub head_form : (j : ℕ) (todo : List ℕ) → HeadIs j todo → todo ≡ j ∷ rest todo
+head_form j [] h = absurd h
+head_form j (i ∷ is) h = ap (λ (x : ℕ). x ∷ is) h
+
+-- the device that is asked, at the head
+record AtHead (c : Core) (r : Rebalance) (node : Node) : Type 0 where
+  first : first_node c.nodes r.todo ≡ Some node
+  form : r.todo ≡ node.serial ∷ rest r.todo
+  at : node_at node.serial c.nodes ≡ Some node
+  state : node.state ≡ Started
+
+on_agreed : (before c : Core) (r : Rebalance) (node : Node) (w : Walk) → is_bad w ≡ false → AtHead c r node → Paused before c r.agreed → Asks before.nodes r.todo r.agreed r.refused → MovesOn before c r (Asking w) (re.end_ask c r node false)
+on_agreed before c r node w good head paused asks =
+    let f = record r { agreed = node.serial ∷ r.agreed } in
+    let frame = same_ask_on r f (rest r.todo) (record { device = record { target = refl; path = refl }; refused = refl }) in
+    let asks2 = asks_agreed before.nodes node.serial (rest r.todo) r.agreed r.refused (subst (λ (x : List ℕ). Asks before.nodes x r.agreed r.refused) head.form asks) in
+    record {
+      within = tt;
+      on = tt;
+      device = frame.device;
+      undone = undone_ask_on before _ f (rest r.todo) (paused_agreed before c node.serial r.agreed node head.at head.state paused);
+      asked = asked_ask_on before f (rest r.todo) asks2;
+      told = λ k h. inl (subst (λ (x : List ℕ). has x k ≡ true) frame.refused h);
+      keeps = λ k h. subst (λ (x : List ℕ). has x k ≡ true) (sym frame.refused) h;
+      tells = λ k h. absurd (let q = h.2 in let bad = h.5 in cc);
+      quiet = inl tt;
+    }
+
+on_refused : (before c : Core) (r : Rebalance) (node : Node) (w : Walk) → is_bad w ≡ true → AtHead c r node → Paused before c r.agreed → Asks before.nodes r.todo r.agreed r.refused → MovesOn before c r (Asking w) (re.end_ask c r node true)
+on_refused before c r node w bad head paused asks =
+    record {
+      within = tt;
+      on = tt;
+      device = record { target = refl; path = refl };
+      undone = paused_same before c node.serial node.state r.agreed node head.at refl paused;
+      asked = (node.serial, r.refused, refl, head.form, asks);
+      told =
+          λ k h. elim (cons_cases node.serial r.refused k h) [
+            | inl e ↦ inr (w, node, refl, head.first, e, bad)
+            | inr e ↦ inl e
+          ];
+      keeps = λ k h. cons_there node.serial r.refused k h;
+      tells =
+          λ k h.
+          let first = head.first in
+          let there = h.3 in
+          let same_node : node ≡ h.1 = cc in
+          subst (λ (i : ℕ). has (node.serial ∷ r.refused) i ≡ true) (ap (λ (x : Node). x.serial) same_node ∙ h.4) (cons_here node.serial r.refused);
+      quiet = inl tt;
+    }
+
+on_end_ask : (before c : Core) (r : Rebalance) (node : Node) (w : Walk) (bad : Bool) → is_bad w ≡ bad → AtHead c r node → Paused before c r.agreed → Asks before.nodes r.todo r.agreed r.refused → MovesOn before c r (Asking w) (re.end_ask c r node bad)
+on_end_ask before c r node w false e head paused asks = on_agreed before c r node w e head paused asks
+on_end_ask before c r node w true e head paused asks = on_refused before c r node w e head paused asks
+
+-- a walk that has not ended is not bad, and after one more answer it waits only where it is not bad
+
+not_bad : (w : Walk) (n : ℕ) → has_ended w n ≡ false → is_bad w ≡ false
+not_bad w n h = by_bad (is_bad w) (nat_le n w.asked) h
+  where
+    by_bad : (a b : Bool) → (a || b) ≡ false → a ≡ false
+    by_bad true b h = cc
+    by_bad false b h = refl
+
+after_ends : (w : Walk) (answer : Answer) → is_bad w ≡ false → EndsBad (after w answer)
+after_ends w Ok h e = refl
+after_ends w Fail h e = refl
+after_ends w Pend h e = absurd (cc)
+
+on_ask : (before c : Core) (r : Rebalance) (node : Node) (w : Walk) (ends : Bool) → has_ended w (length node.stack) ≡ ends → AtHead c r node → Paused before c r.agreed → Asks before.nodes r.todo r.agreed r.refused → MovesOn before c r (Asking w) (re.ask_step c r node w ends)
+on_ask before c r node w true e head paused asks = on_end_ask before c r node w (is_bad w) refl head paused asks
+on_ask before c r node w false e head paused asks =
+    let good = not_bad w (length node.stack) e in
+    record {
+      within = tt;
+      on = tt;
+      device = record { target = refl; path = refl };
+      undone = paused_still before c _ r.agreed refl refl refl paused;
+      asked = (asks, after_ends w (rack_reply (AskWhat.Irp w.minor) node.path c.rack (next_driver node w)) good);
+      told = λ k h. inl h;
+      keeps = λ k h. h;
+      tells = λ k h. absurd (let q = h.2 in let bad = h.5 in cc);
+      quiet = inl tt;
+    }
+
+on_take_back : (before c : Core) (r : Rebalance) (node : Node) (w : Walk) (ends : Bool) → Placed before.nodes → AtHead c r node → Paused before c r.agreed → AskedSince before r (TakingBack w) → MovesOn before c r (TakingBack w) (re.take_back c r node w ends)
+on_take_back before c r node w true placed head paused (j, more, refused, form, asks) =
+    let test = re.is_not_above c.nodes node.serial in
+    let own : j ≡ node.serial = let f = head.form in cc in
+    let up : above c.nodes node.serial ≡ above before.nodes node.serial =
+    ap (λ (x : List Node). above x node.serial) paused.nodes ∙ above_paused r.agreed before.nodes node.serial in
+    let asks2 = asks_refused before.nodes node.serial (rest r.todo) r.agreed more placed (subst (λ (x : List ℕ). Asks before.nodes x r.agreed more) head.form asks) in
+    let asks3 = subst (λ (x : List ℕ). Asks before.nodes (those (λ i. not (has x i)) (rest r.todo)) r.agreed (node.serial ∷ more)) (sym up) asks2 in
+    let asks4 = subst (λ (x : List ℕ). Asks before.nodes (those test (rest r.todo)) r.agreed x) (ap (λ (i : ℕ). i ∷ more) (sym own) ∙ sym refused) asks3 in
+    asks_nobody before c r (TakingBack w) _ tt tt tt (same_ask_on r r (those test (rest r.todo)) (own_frame r))
+    (undone_ask_on before _ r (those test (rest r.todo)) (paused_same before c node.serial Started r.agreed node head.at head.state paused))
+    (asked_ask_on before r (those test (rest r.todo)) asks4) (inl tt)
+on_take_back before c r node w false placed head paused asked =
+    asks_nobody before c r (TakingBack w) _ tt tt tt (record { device = record { target = refl; path = refl }; refused = refl }) (paused_still before c _ r.agreed refl refl refl paused) asked (inl tt)
+
+-- The search ------------------------------------------------------------------------------------
+
+on_searched : (before c : Core) (r : Rebalance) (budget : ℕ) (found : Found) → IsAnswer (fixed_beside c (re.movers r)) (map (λ k. re.reqs_of (node_at k c.nodes)) (re.movers r)) budget found → Paused before c r.agreed → Asks before.nodes [] r.agreed r.refused →
+    MovesOn before c r Searching (re.searched c r found)
+on_searched before c r budget (assignment plan) answer paused asks =
+    let f = record r { found = assignment plan } in
+    asks_nobody before c r Searching _ tt tt tt (same_stop_on r f (reverse r.agreed) (record { device = record { target = refl; path = refl }; refused = refl })) (undone_stop_on before c f (reverse r.agreed) refl) (asked_stop_on before f (reverse r.agreed)) (inl tt)
+on_searched before c r budget no_fit answer paused asks =
+    let f = record r { found = no_fit } in
+    let none : NothingFits c (re.movers r) = ((no_fit_means (fixed_beside c (re.movers r)) (map (λ k. re.reqs_of (node_at k c.nodes)) (re.movers r)) budget).0 answer).0 in
+    asks_nobody before c r Searching _ tt tt tt (same_cancel_on r f r.agreed (record { device = record { target = refl; path = refl }; refused = refl })) (undone_cancel_on before c f r.agreed paused refl)
+    (asked_cancel_on before f r.agreed asks (λ e. hopeless_before before c r.agreed (re.movers r) paused none)) (inl tt)
+on_searched before c r budget spent answer paused asks =
+    let f = record r { found = spent } in
+    asks_nobody before c r Searching _ tt tt tt (same_cancel_on r f r.agreed (record { device = record { target = refl; path = refl }; refused = refl })) (undone_cancel_on before c f r.agreed paused refl)
+    (asked_cancel_on before f r.agreed asks (λ e. absurd (cc))) (inl tt)
+
+-- Nothing was found -------------------------------------------------------------------------------
+
+on_cancel : (before c : Core) (r : Rebalance) (node : Node) (w : Walk) (ends : Bool) → r.todo ≡ node.serial ∷ rest r.todo → Undone before c r (Cancelling w) → AskedSince before r (Cancelling w) → MovesOn before c r (Cancelling w) (re.cancel_step c r node w ends)
+on_cancel before c r node w true form undone asked =
+    let back = paused_back before c node.serial (rest r.todo) (subst (λ (x : List ℕ). Paused before c x) form undone.0) in
+    asks_nobody before c r (Cancelling w) _ tt tt tt (same_cancel_on r r (rest r.todo) (own_frame r)) (undone_cancel_on before _ r (rest r.todo) back undone.1)
+    (asked_cancel_on before r (rest r.todo) asked.0 asked.1) (inl tt)
+on_cancel before c r node w false form undone asked =
+    asks_nobody before c r (Cancelling w) _ tt tt tt (record { device = record { target = refl; path = refl }; refused = refl }) (paused_still before c _ r.todo refl refl refl undone.0, undone.1) asked (inl tt)
+
+on_stuck : (before c : Core) (r : Rebalance) → Undone before c r Stuck → MovesOn before c r Stuck (re.stuck c r)
+on_stuck before c r undone =
+    asks_nobody before c r Stuck _ tt tt tt (record { device = record { target = refl; path = refl }; refused = refl })
+    (inr (record { nodes = ap (λ (x : List Node). changed_first (is_node r.target) (with_problem (Some (re.trouble_of r.found))) x) undone.0.nodes; relations = undone.0.relations; reserved = undone.0.reserved }))
+    tt (inr (refl, refl))
+
+-- A plan was found ----------------------------------------------------------------------------------
+
+on_stop : (before c : Core) (r : Rebalance) (node : Node) (w : Walk) (ends : Bool) → has_plan r.found ≡ true → MovesOn before c r (Stopping w) (re.stop_step c r node w ends)
+on_stop before c r node w true h =
+    asks_nobody before c r (Stopping w) _ tt tt tt (same_stop_on r r (rest r.todo) (own_frame r)) (undone_stop_on before _ r (rest r.todo) h) (asked_stop_on before r (rest r.todo)) (inl tt)
+on_stop before c r node w false h = asks_nobody before c r (Stopping w) _ tt tt tt (record { device = record { target = refl; path = refl }; refused = refl }) h tt (inl tt)
+
+on_commit : (before c : Core) (r : Rebalance) → has_plan r.found ≡ true → MovesOn before c r Committing (re.commit_step c r)
+on_commit before c r h =
+    let ks = re.startable c.nodes r.agreed in
+    asks_nobody before c r Committing _ tt tt tt (same_restart r ks) (undone_restart before _ r ks h) (asked_restart before r ks) (inl tt)
+
+on_end_restart : (before c : Core) (r : Rebalance) (node : Node) (w : Walk) (bad : Bool) → has_plan r.found ≡ true → MovesOn before c r (Restarting w) (re.end_restart c r node bad)
+on_end_restart before c r node w true h = asks_nobody before c r (Restarting w) _ tt tt tt (record { device = record { target = refl; path = refl }; refused = refl }) h tt (inl tt)
+on_end_restart before c r node w false h =
+    let ks = re.startable (ended c node Minor.Start false).nodes (rest r.todo) in
+    asks_nobody before c r (Restarting w) _ tt tt tt (same_restart r ks) (undone_restart before _ r ks h) (asked_restart before r ks) (inl tt)
+
+on_restart : (before c : Core) (r : Rebalance) (node : Node) (w : Walk) (ends : Bool) → has_plan r.found ≡ true → MovesOn before c r (Restarting w) (re.restart_step c r node w ends)
+on_restart before c r node w true h = on_end_restart before c r node w (is_bad w) h
+on_restart before c r node w false h = asks_nobody before c r (Restarting w) _ tt tt tt (record { device = record { target = refl; path = refl }; refused = refl }) h tt (inl tt)
+
+on_failed : (before c : Core) (r : Rebalance) (node : Node) → has_plan r.found ≡ true → MovesOn before c r Failed (re.failed c r node)
+on_failed before c r node h =
+    let ks = re.startable c.nodes (rest r.todo) in
+    asks_nobody before c r Failed _ tt tt tt (same_restart r ks) (undone_restart before _ r ks h) (asked_restart before r ks) (inl tt)
+
+-- All steps -------------------------------------------------------------------------------------------
+
+-- it goes on, or closes in the last stage
+abbrev pub OnOrOver : Core → Core → Rebalance → RebalanceStage → re.RebalanceMove → Type 0
+OnOrOver before c r stage m = MovesOn before c r stage m ⊎ ((stage ≡ Ending) × (m ≡ re.close c r))
+
+abbrev pub OnDoing : ℕ → Core → Core → Rebalance → RebalanceStage → Doing re.RebalanceMove → Type 0
+OnDoing budget before c r stage (Does m) = OnOrOver before c r stage m
+OnDoing budget before c r stage (Searches problem by_answer) = (found : Found) → IsAnswer problem.fixed problem.movers budget found → OnOrOver before c r stage (by_answer found)
+
+abbrev pub OnNext : ℕ → Core → Core → Rebalance → RebalanceStage → Option (Doing re.RebalanceMove) → Type 0
+OnNext budget before c r stage None = Unit {0}
+OnNext budget before c r stage (Some doing) = OnDoing budget before c r stage doing
+
+started_head : (c : Core) (r : Rebalance) (node : Node) → first_node c.nodes r.todo ≡ Some node → ((k : ℕ) (n : Node) → node_at k c.nodes ≡ Some n → asking_state r.todo r.agreed k n.state ≡ true) → AtHead c r node
+started_head c r node first each =
+    let h = head_found c.nodes r.todo node first in
+    let here = head_has node.serial r.todo h.0 in
+    let test = each node.serial node h.1 in
+    record { first = first; form = head_form node.serial r.todo h.0; at = h.1; state = is_Started node.state (grind (arith)) }
+
+pub rebalance_moves : (budget : ℕ) (before c : Core) (r : Rebalance) (stage : RebalanceStage) (o : Option Node) → first_node c.nodes r.todo ≡ o → Placed before.nodes → RebalanceKeeps r stage c.nodes → Undone before c r stage → AskedSince before r stage →
+    OnNext budget before c r stage (re.rebalance_step c r stage o)
+rebalance_moves budget before c r Searching o first placed keeps undone asked = λ found answer. inl (on_searched before c r budget found answer undone asked)
+rebalance_moves budget before c r Stuck o first placed keeps undone asked = inl (on_stuck before c r undone)
+rebalance_moves budget before c r Committing o first placed keeps undone asked = inl (on_commit before c r undone)
+rebalance_moves budget before c r Ending o first placed keeps undone asked = inr (refl, refl)
+rebalance_moves budget before c r (Asking w) (Some node) first placed keeps undone asked = inl (on_ask before c r node w _ refl (started_head c r node first keeps.each) undone asked.0)
+rebalance_moves budget before c r (TakingBack w) (Some node) first placed keeps undone asked = inl (on_take_back before c r node w _ placed (started_head c r node first keeps.each) undone asked)
+rebalance_moves budget before c r (Cancelling w) (Some node) first placed keeps undone asked =
+    inl (on_cancel before c r node w _ (head_form node.serial r.todo (head_found c.nodes r.todo node first).0) undone asked)
+rebalance_moves budget before c r (Stopping w) (Some node) first placed keeps undone asked = inl (on_stop before c r node w _ undone)
+rebalance_moves budget before c r (Restarting w) (Some node) first placed keeps undone asked = inl (on_restart before c r node w _ undone)
+rebalance_moves budget before c r Failed (Some node) first placed keeps undone asked = inl (on_failed before c r node undone)
+rebalance_moves budget before c r (Asking w) None first placed keeps undone asked = tt
+rebalance_moves budget before c r (TakingBack w) None first placed keeps undone asked = tt
+rebalance_moves budget before c r (Cancelling w) None first placed keeps undone asked = tt
+rebalance_moves budget before c r (Stopping w) None first placed keeps undone asked = tt
+rebalance_moves budget before c r (Restarting w) None first placed keeps undone asked = tt
+rebalance_moves budget before c r Failed None first placed keeps undone asked = tt

@@ -1,0 +1,293 @@
+-- A rebalance from its begin on: what it would restore, and who refused, in each state until its end.
+use Rattle.std.proofs.Common.{ℕ, ◌≡◌, ◌⊎◌, inl, inr, Bool, true, false, List, [], ◌∷◌, Option, Some, None, refl, sym, ap, ◌∙◌, subst, reverse}
+use Rattle.std.specs.Option.{option_map}
+use Rattle.resource_reqs.specs.Spelling.Answer.{no_fit}
+use Rattle.pnp_model.specs.Keyed.{those}
+use Rattle.pnp_model.specs.Records.{Node, Core, Driver, Walk, State, Step, Settings, Operation, Rebalance, RebalanceStage, Doing, doing_map}
+use Rattle.pnp_model.specs.Records.Doing.{Does, Searches}
+use Rattle.pnp_model.specs.Records.RebalanceStage.{Asking, TakingBack, Searching, Cancelling, Stuck, Stopping, Committing, Restarting, Failed, Ending}
+use Rattle.pnp_model.specs.Cores.{node_at, serials_of}
+use Rattle.pnp_model.specs.Tests.{has}
+use Rattle.pnp_model.specs.States.{with_core}
+use Rattle.pnp_model.specs.Walks.{after}
+use Rattle.pnp_model.specs.Frames.{first_node}
+use Rattle.pnp_model.specs.Runs.{Entry, Goes, Run, printed}
+use Rattle.pnp_model.specs.Runs.Entry.{Happens, Did}
+use Rattle.pnp_model.specs.Laws.{IsWithin, AllWithin, Passes, Refuses, RefusedSince}
+use Rattle.pnp_labels.specs.declared.label.Label.{Label}
+use Rattle.pnp_labels.specs.declared.label.OpKind.{OpKind}
+use Rattle.pnp_laws.specs.Kept.{Ascending, IsGood, OperationFits, RebalanceKeeps}
+use Rattle.pnp_laws.specs.Reached.{IsReached, EachBeginsWell}
+use Rattle.pnp_laws.specs.Holdings.{Placed}
+use Rattle.pnp_laws.specs.Rebalanced.{Paused, Undone, Asks, EndsBad, AskedSince, Refusing, Underway}
+use Rattle.pnp_laws.proofs.Reached.{reached_on, reached_is_good}
+use Rattle.pnp_laws.proofs.EventChanges.{Outside, Answered, happens_outside}
+use Rattle.pnp_laws.proofs.Pauses.{paused_still}
+use Rattle.pnp_laws.proofs.Askings.{asks_begun}
+use Rattle.pnp_laws.proofs.Begins.{Begun}
+use Rattle.pnp_laws.proofs.RebalanceMoves.{GoesOn, MovesOn, OnNext, SameFrame, same_ask_on, own_frame, undone_ask_on, asked_ask_on, rebalance_moves}
+use Rattle.pnp_model.specs.Machine as ma
+use Rattle.pnp_model.specs.Events as ev
+use Rattle.pnp_model.specs.Rebalances as re
+
+-- A step ---------------------------------------------------------------------------------
+
+pub record Stepped (before : Core) (s : State) (r : Rebalance) (step : Step) : Type 0 where
+  pub move : re.RebalanceMove
+  pub is : step ≡ ma.rebalance_lifted s move
+  pub moves : MovesOn before s.core r r.stage move
+
+pub record IsOver (s : State) (r : Rebalance) (step : Step) : Type 0 where
+  pub ending : r.stage ≡ Ending
+  pub is : step ≡ ma.rebalance_lifted s (re.close s.core r)
+
+by_doing : (before : Core) (settings : Settings) (s : State) (r : Rebalance) (o : Option (Doing re.RebalanceMove)) (step : Step) → OnNext settings.budget before s.core r r.stage o →
+    ma.IsStep settings (option_map (doing_map (ma.rebalance_lifted s)) o) step → Stepped before s r step ⊎ IsOver s r step
+by_doing before settings s r None step l h = absurd h
+by_doing before settings s r (Some (Does m)) step (inl on) h = inl (record { move = m; is = h; moves = on })
+by_doing before settings s r (Some (Does m)) step (inr (ending, close)) h = inr (record { ending = ending; is = h ∙ ap (ma.rebalance_lifted s) close })
+by_doing before settings s r (Some (Searches problem by_answer)) step l h =
+    elim (l h.0 h.1) [
+      | inl on ↦ inl (record { move = by_answer h.0; is = h.2; moves = on })
+      | inr (ending, close) ↦ inr (record { ending = ending; is = h.2 ∙ ap (ma.rebalance_lifted s) close })
+    ]
+
+by_wait : (before : Core) (settings : Settings) (s : State) (r : Rebalance) (waits : Bool) (step : Step) → OnNext settings.budget before s.core r r.stage (re.rebalanced s.core r) →
+    ma.IsStep settings (ma.operation_next s (Operation.Rebalancing r) waits) step → Stepped before s r step ⊎ IsOver s r step
+by_wait before settings s r true step l h = absurd h
+by_wait before settings s r false step l h = by_doing before settings s r (re.rebalanced s.core r) step l h
+
+pub rebalance_stepped : (path : List ℕ) (before : Core) (settings : Settings) (s : State) (step : Step) (u : Underway path before s) → Placed before.nodes → IsGood s → ma.IsStep settings (ma.next settings s) step →
+    Stepped before s u.frame step ⊎ IsOver s u.frame step
+rebalance_stepped path before settings s step u placed good h =
+    let r = u.frame in
+    let keeps = subst (λ (x : Option Operation). OperationFits x s.core.nodes) u.runs good.fits in
+    by_wait before settings s r (ma.is_waiting (ma.operation_walk (Operation.Rebalancing r))) step
+    (rebalance_moves settings.budget before s.core r r.stage (first_node s.core.nodes r.todo) refl placed keeps u.undone u.asked)
+    (subst (λ (x : Option Operation). ma.IsStep settings (ma.next_of settings s x) step) u.runs h)
+
+-- The next state ------------------------------------------------------------------------------
+
+-- it is still under way, and who refused is told
+record Follows (path : List ℕ) (before : Core) (s : State) (r : Rebalance) (t : State) : Type 0 where
+  under : Underway path before t
+  told : (k : ℕ) → has under.frame.refused k ≡ true → (has r.refused k ≡ true) ⊎ Refuses s k
+  keeps : (k : ℕ) → has r.refused k ≡ true → has under.frame.refused k ≡ true
+  tells : (k : ℕ) → Refuses s k → has under.frame.refused k ≡ true
+
+pub after_core : (r : Rebalance) (beside : re.RebalanceBeside) (c : Core) (s : State) → (ma.after_rebalance r beside (with_core c s)).core ≡ c
+after_core r re.RebalanceBeside.On c s = refl
+after_core r (re.RebalanceBeside.FailedRestart k) c s = refl
+after_core r re.RebalanceBeside.OverStart c s = refl
+after_core r re.RebalanceBeside.OverUndo c s = refl
+after_core r re.RebalanceBeside.OverDropped c s = refl
+
+after_runs : (r : Rebalance) (beside : re.RebalanceBeside) (s : State) → GoesOn beside → (ma.after_rebalance r beside s).operation ≡ Some (Operation.Rebalancing r)
+after_runs r re.RebalanceBeside.On s on = refl
+after_runs r (re.RebalanceBeside.FailedRestart k) s on = refl
+after_runs r re.RebalanceBeside.OverStart s on = absurd on
+after_runs r re.RebalanceBeside.OverUndo s on = absurd on
+after_runs r re.RebalanceBeside.OverDropped s on = absurd on
+
+one_frame : (o : Option Operation) (r f : Rebalance) → o ≡ Some (Operation.Rebalancing r) → o ≡ Some (Operation.Rebalancing f) → r ≡ f
+one_frame o r f h g = cc
+
+-- what a refusing state says of the frame
+refusing : (s : State) (r : Rebalance) (k : ℕ) → s.operation ≡ Some (Operation.Rebalancing r) → Refuses s k → Refusing s.core r r.stage k
+refusing s r k runs (f, w, node, runs2, stage, first, own, bad) =
+    let same = one_frame s.operation f r runs2 runs in
+    (w, node, subst (λ (x : Rebalance). x.stage ≡ Asking w) same stage, subst (λ (x : Rebalance). first_node s.core.nodes x.todo ≡ Some node) same first, own, bad)
+
+refuses : (s : State) (r : Rebalance) (k : ℕ) → s.operation ≡ Some (Operation.Rebalancing r) → Refusing s.core r r.stage k → Refuses s k
+refuses s r k runs (w, node, stage, first, own, bad) = (r, w, node, runs, stage, first, own, bad)
+
+follows_step : (path : List ℕ) (before : Core) (s : State) (label : Label) (t : State) (u : Underway path before s) → Stepped before s u.frame (record { label = label; state = t }) → Follows path before s u.frame t
+follows_step path before s label t u h =
+    let r = u.frame in
+    let m = h.move in
+    let on = h.moves in
+    let state : t ≡ (ma.rebalance_lifted s m).state = ap (λ (x : Step). x.state) h.is in
+    let core : t.core ≡ m.core = ap (λ (x : State). x.core) state ∙ after_core m.frame m.beside m.core s in
+    record {
+      under = record {
+        frame = m.frame;
+        runs = ap (λ (x : State). x.operation) state ∙ after_runs m.frame m.beside (with_core m.core s) on.on;
+        named = on.device.path ∙ u.named;
+        target = (u.target.0, subst (λ (i : ℕ). node_at i before.nodes ≡ Some u.target.0) (sym on.device.target) u.target.1, u.target.2);
+        undone = subst (λ (c : Core). Undone before c m.frame m.frame.stage) (sym core) on.undone;
+        asked = on.asked;
+      };
+      told = λ k g. elim (on.told k g) [ inl e ↦ inl e | inr e ↦ inr (refuses s r k u.runs e) ];
+      keeps = on.keeps;
+      tells = λ k g. on.tells k (refusing s r k u.runs g);
+    }
+
+-- An event -----------------------------------------------------------------------------------------
+
+-- nodes, relations and ranges stay
+undone_still : (before c d : Core) (r : Rebalance) (stage : RebalanceStage) → d.nodes ≡ c.nodes → d.relations ≡ c.relations → d.reserved ≡ c.reserved → Undone before c r stage → Undone before d r stage
+undone_still before c d r (Asking w) a b e h = paused_still before c d r.agreed a b e h
+undone_still before c d r (TakingBack w) a b e h = paused_still before c d r.agreed a b e h
+undone_still before c d r Searching a b e h = paused_still before c d r.agreed a b e h
+undone_still before c d r (Cancelling w) a b e h = (paused_still before c d r.todo a b e h.0, h.1)
+undone_still before c d r Stuck a b e h = (paused_still before c d [] a b e h.0, h.1)
+undone_still before c d r (Stopping w) a b e h = h
+undone_still before c d r Committing a b e h = h
+undone_still before c d r (Restarting w) a b e h = h
+undone_still before c d r Failed a b e h = h
+undone_still before c d r Ending a b e (inl h) = inl h
+undone_still before c d r Ending a b e (inr h) = inr (record { nodes = a ∙ h.nodes; relations = b ∙ h.relations; reserved = e ∙ h.reserved })
+
+answered_undone : (before c : Core) (ok : Bool) (r : Rebalance) (stage : RebalanceStage) → Undone before c r stage →
+    Undone before c (record r { stage = ev.completed_rebalance (ev.answer_of ok) stage }) (ev.completed_rebalance (ev.answer_of ok) stage)
+answered_undone before c ok r (Asking w) h = h
+answered_undone before c ok r (TakingBack w) h = h
+answered_undone before c ok r Searching h = h
+answered_undone before c ok r (Cancelling w) h = h
+answered_undone before c ok r Stuck h = h
+answered_undone before c ok r (Stopping w) h = h
+answered_undone before c ok r Committing h = h
+answered_undone before c ok r (Restarting w) h = h
+answered_undone before c ok r Failed h = h
+answered_undone before c ok r Ending (inl h) = inl h
+answered_undone before c ok r Ending (inr h) = inr (record { nodes = h.nodes; relations = h.relations; reserved = h.reserved })
+
+answer_ends : (ok : Bool) (w : Walk) → EndsBad (after w (ev.answer_of ok))
+answer_ends true w e = refl
+answer_ends false w e = refl
+
+answered_asked : (before : Core) (ok : Bool) (r : Rebalance) (stage : RebalanceStage) → AskedSince before r stage →
+    AskedSince before (record r { stage = ev.completed_rebalance (ev.answer_of ok) stage }) (ev.completed_rebalance (ev.answer_of ok) stage)
+answered_asked before ok r (Asking w) h = (h.0, answer_ends ok w)
+answered_asked before ok r (TakingBack w) h = h
+answered_asked before ok r Searching h = h
+answered_asked before ok r (Cancelling w) h = h
+answered_asked before ok r Stuck h = h
+answered_asked before ok r (Stopping w) h = tt
+answered_asked before ok r Committing h = tt
+answered_asked before ok r (Restarting w) h = tt
+answered_asked before ok r Failed h = tt
+answered_asked before ok r Ending h = tt
+
+-- a state in which a device has just refused is not quiet
+not_quiet : (settings : Settings) (s : State) (r : Rebalance) (k : ℕ) → s.operation ≡ Some (Operation.Rebalancing r) → ((w : Walk) → r.stage ≡ Asking w → EndsBad w) → Refusing s.core r r.stage k → ma.next settings s ≡ None → ⊥
+not_quiet settings s r k runs ends (w, node, stage, first, own, bad) quiet =
+    let waits : ma.is_waiting (ma.rebalance_walk r.stage) ≡ false = ap (λ (x : RebalanceStage). ma.is_waiting (ma.rebalance_walk x)) stage ∙ ends w stage bad in
+    let goes : ma.next settings s ≡ option_map (doing_map (ma.rebalance_lifted s)) (re.rebalanced s.core r) =
+    ap (λ (x : Option Operation). ma.next_of settings s x) runs ∙ ap (λ (b : Bool). ma.operation_next s (Operation.Rebalancing r) b) waits in
+    let step : re.rebalanced s.core r ≡ re.rebalance_step s.core r (Asking w) (Some node) =
+    ap (λ (x : RebalanceStage). re.rebalance_step s.core r x (first_node s.core.nodes r.todo)) stage ∙ ap (λ (o : Option Node). re.rebalance_step s.core r (Asking w) o) first in
+    let none : option_map (doing_map (ma.rebalance_lifted s)) (re.rebalance_step s.core r (Asking w) (Some node)) ≡ None =
+    sym (goes ∙ ap (λ (o : Option (Doing re.RebalanceMove)). option_map (doing_map (ma.rebalance_lifted s)) o) step) ∙ quiet in
+    absurd (cc)
+
+asking_ends : (before : Core) (r : Rebalance) (stage : RebalanceStage) (w : Walk) → stage ≡ Asking w → AskedSince before r stage → EndsBad w
+asking_ends before r stage w e h = (subst (λ (x : RebalanceStage). AskedSince before r x) e h).1
+
+same_core : (s t : State) (r : Rebalance) (before : Core) → s.operation ≡ Some (Operation.Rebalancing r) → Outside s t → Undone before s.core r r.stage → Undone before t.core r r.stage
+same_core s t r before runs out h = undone_still before s.core t.core r r.stage out.nodes (out.relations (Operation.Rebalancing r) runs) (out.reserved (Operation.Rebalancing r) runs) h
+
+follows_answer : (path : List ℕ) (before : Core) (settings : Settings) (s t : State) (u : Underway path before s) → ma.next settings s ≡ None → Outside s t → Answered s.operation t.operation → Follows path before s u.frame t
+follows_answer path before settings s t u quiet out (inl e) =
+    let r = u.frame in
+    record {
+      under = record { frame = r; runs = e ∙ u.runs; named = u.named; target = u.target; undone = same_core s t r before u.runs out u.undone; asked = u.asked };
+      told = λ k h. inl h;
+      keeps = λ k h. h;
+      tells = λ k h. absurd (not_quiet settings s r k u.runs (λ w z. asking_ends before r r.stage w z u.asked) (refusing s r k u.runs h) quiet);
+    }
+follows_answer path before settings s t u quiet out (inr (ok, o, e, q)) =
+    let r = u.frame in
+    let runs = u.runs in
+    let same : o ≡ Operation.Rebalancing r = cc in
+    record {
+      under = record {
+        frame = record r { stage = ev.completed_rebalance (ev.answer_of ok) r.stage };
+        runs = q ∙ ap (λ (x : Operation). Some (ev.completed (ev.answer_of ok) x)) same;
+        named = u.named;
+        target = u.target;
+        undone = answered_undone before t.core ok r r.stage (same_core s t r before u.runs out u.undone);
+        asked = answered_asked before ok r r.stage u.asked;
+      };
+      told = λ k h. inl h;
+      keeps = λ k h. h;
+      tells = λ k h. absurd (not_quiet settings s r k u.runs (λ w z. asking_ends before r r.stage w z u.asked) (refusing s r k u.runs h) quiet);
+    }
+
+-- One entry of a run -------------------------------------------------------------------------------
+
+not_over : (s : State) (r : Rebalance) (label : Label) (t : State) → IsWithin label → IsOver s r (record { label = label; state = t }) → ⊥
+not_over s r label t within over = subst (λ (x : Step). IsWithin x.label) over.is within
+
+follows : (path : List ℕ) (before : Core) (settings : Settings) (s : State) (entry : Entry) (t : State) (u : Underway path before s) → Placed before.nodes → IsGood s → IsWithin (printed entry) → Goes settings s entry t → Follows path before s u.frame t
+follows path before settings s (Happens event label) t u placed good within goes =
+    let state : t ≡ (ev.happens s event).state = ap (λ (x : Step). x.state) (sym goes.1) in
+    let out = subst (λ (x : State). Outside s x) (sym state) (happens_outside s event) in
+    follows_answer path before settings s t u goes.0 out out.operation
+follows path before settings s (Did label) t u placed good within goes =
+    elim (rebalance_stepped path before settings s (record { label = label; state = t }) u placed good goes) [
+      | inl h ↦ follows_step path before s label t u h
+      | inr over ↦ absurd (not_over s u.frame label t within over)
+    ]
+
+-- A run ---------------------------------------------------------------------------------------------
+
+-- from a state with frame r the rebalance goes on, and who refused meanwhile is told at its end
+pub record Lasts (settings : Settings) (path : List ℕ) (before : Core) (s : State) (r : Rebalance) (entries : List Entry) (t : State) : Type 0 where
+  pub under : Underway path before t
+  pub told : (k : ℕ) → has under.frame.refused k ≡ true → (has r.refused k ≡ true) ⊎ RefusedSince settings s entries t k
+  pub keeps : (k : ℕ) → has r.refused k ≡ true → has under.frame.refused k ≡ true
+  pub tells : (k : ℕ) → Refuses s k → Refuses t k ⊎ (has under.frame.refused k ≡ true)
+
+-- what was refused later was refused since
+refused_later : (settings : Settings) (s mid t : State) (entry : Entry) (rest : List Entry) (k : ℕ) → Goes settings s entry mid → RefusedSince settings mid rest t k → RefusedSince settings s (entry ∷ rest) t k
+refused_later settings s mid t entry rest k goes (x, (xs, ys, e, run, more), h) =
+    (x, (entry ∷ xs, ys, ap (λ (l : List Entry). entry ∷ l) e, (mid, goes, run), more), h)
+
+pub lasts : EachBeginsWell → (settings : Settings) (rack : List Driver) (path : List ℕ) (before : Core) → Placed before.nodes →
+    (s : State) (entries : List Entry) (t : State) → IsReached settings rack s → (u : Underway path before s) → AllWithin entries → Run settings s entries t → Lasts settings path before s u.frame entries t
+lasts begins settings rack path before placed s [] t reached u within run =
+    let here : Lasts settings path before s u.frame [] s = record { under = u; told = λ k h. inl h; keeps = λ k h. h; tells = λ k h. inl h } in
+    subst (λ (x : State). Lasts settings path before s u.frame [] x) (sym run) here
+lasts begins settings rack path before placed s (entry ∷ rest) t reached u within (mid, goes, run) =
+    let next = follows path before settings s entry mid u placed (reached_is_good begins settings rack s reached) within.0 goes in
+    let more = lasts begins settings rack path before placed mid rest t (reached_on settings rack s entry mid reached goes) next.under within.1 run in
+    record {
+      under = more.under;
+      told =
+          λ k h. elim (more.told k h) [
+            | inl e ↦ elim (next.told k e) [
+              | inl old ↦ inl old
+              | inr now ↦ inr (s, ([], entry ∷ rest, refl, refl, (mid, goes, run)), now)
+            ]
+            | inr e ↦ inr (refused_later settings s mid t entry rest k goes e)
+          ];
+      keeps = λ k h. more.keeps k (next.keeps k h);
+      tells = λ k h. inr (more.keeps k (next.tells k h));
+    }
+
+-- The begin -----------------------------------------------------------------------------------------
+
+abbrev fresh : Node → Rebalance
+fresh node = record { target = node.serial; path = node.path; todo = []; agreed = []; refused = []; found = no_fit; stage = Searching }
+
+pub underway_begun : (path : List ℕ) (s t : State) (b : Begun s OpKind.Rebalance path t) → Ascending 0 s.core.nodes →
+    (u : Underway path s.core t) × (u.frame.refused ≡ [])
+underway_begun path s t b order =
+    let node = b.node in
+    let ks = reverse (serials_of (those re.is_asked s.core.nodes)) in
+    let r = re.begun_rebalance s.core node in
+    let same : SameFrame (fresh node) r = same_ask_on (fresh node) (fresh node) ks (own_frame (fresh node)) in
+    let core : t.core ≡ s.core = ap (λ (x : State). x.core) b.is in
+    (
+      record {
+        frame = r;
+        runs = ap (λ (x : State). x.operation) b.is;
+        named = same.device.path ∙ b.named;
+        target = (node, subst (λ (i : ℕ). node_at i s.core.nodes ≡ Some node) (sym same.device.target) b.at, b.named);
+        undone = subst (λ (c : Core). Undone s.core c r r.stage) (sym core)
+        (undone_ask_on s.core s.core (fresh node) ks (record { nodes = refl; back = tt; relations = refl; reserved = refl }));
+        asked = asked_ask_on s.core (fresh node) ks (asks_begun s.core.nodes order);
+      },
+      same.refused,
+    )

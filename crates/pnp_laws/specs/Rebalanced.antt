@@ -1,0 +1,112 @@
+-- What a rebalance keeps since its begin: what it restores where it finds nothing, and who was asked.
+use Rattle.std.specs.Prelude.{ℕ, ◌≡◌, ◌<◌, ◌⊎◌, Bool, true, false, List, [], ◌∷◌, Some}
+use Rattle.resource_reqs.specs.Spelling.Answer.{no_fit}
+use Rattle.pnp_model.specs.Keyed.{changed_first}
+use Rattle.pnp_model.specs.Tests.{has}
+use Rattle.pnp_model.specs.Cores.{is_node, node_at, with_problem}
+use Rattle.pnp_model.specs.Trees.{above}
+use Rattle.pnp_model.specs.Walks.{is_bad}
+use Rattle.pnp_model.specs.Frames.{first_node, rest}
+use Rattle.pnp_model.specs.Rebalances.{is_asked, movers, trouble_of}
+use Rattle.pnp_model.specs.Laws.{NothingFits}
+use Rattle.pnp_model.specs.Records.{Node, Core, Walk, State, Operation, Rebalance, RebalanceStage}
+use Rattle.pnp_model.specs.Records.RebalanceStage.{Asking, TakingBack, Searching, Cancelling, Stuck, Stopping, Committing, Restarting, Failed, Ending}
+use Rattle.pnp_labels.specs.declared.states.DevState.TheVariants.{Started, StopPending}
+use Rattle.pnp_laws.specs.Vetoes.{turned}
+use Rattle.pnp_laws.specs.Holdings.{has_plan}
+
+-- What is restored ---------------------------------------------------------------
+
+-- the nodes, with those that agreed StopPending
+abbrev pub paused : List ℕ → List Node → List Node
+paused [] nodes = nodes
+paused (k ∷ ks) nodes = turned StopPending k (paused ks nodes)
+
+-- each that agreed is as before where it is Started again
+abbrev pub Resumed : List ℕ → List Node → Type 0
+Resumed [] nodes = Unit {0}
+Resumed (k ∷ ks) nodes = (turned Started k (paused ks nodes) ≡ paused ks nodes) × Resumed ks nodes
+
+-- nothing has changed since but for those that agreed
+pub record Paused (before now : Core) (agreed : List ℕ) : Type 0 where
+  pub nodes : now.nodes ≡ paused agreed before.nodes
+  pub back : Resumed agreed before.nodes
+  pub relations : now.relations ≡ before.relations
+  pub reserved : now.reserved ≡ before.reserved
+
+-- nothing has changed since but for the problem of the device
+pub record Troubled (before now : Core) (r : Rebalance) : Type 0 where
+  pub nodes : now.nodes ≡ changed_first (is_node r.target) (with_problem (Some (trouble_of r.found))) before.nodes
+  pub relations : now.relations ≡ before.relations
+  pub reserved : now.reserved ≡ before.reserved
+
+abbrev pub Undone : Core → Core → Rebalance → RebalanceStage → Type 0
+Undone before now r (Asking w) = Paused before now r.agreed
+Undone before now r (TakingBack w) = Paused before now r.agreed
+Undone before now r Searching = Paused before now r.agreed
+Undone before now r (Cancelling w) = Paused before now r.todo × (has_plan r.found ≡ false)
+Undone before now r Stuck = Paused before now [] × (has_plan r.found ≡ false)
+Undone before now r (Stopping w) = has_plan r.found ≡ true
+Undone before now r Committing = has_plan r.found ≡ true
+Undone before now r (Restarting w) = has_plan r.found ≡ true
+Undone before now r Failed = has_plan r.found ≡ true
+Undone before now r Ending = (has_plan r.found ≡ true) ⊎ Troubled before now r
+
+-- Who was asked --------------------------------------------------------------------
+
+-- it is Started, and not the root
+abbrev pub IsAskedAt : ℕ → List Node → Type 0
+IsAskedAt k nodes = (n : Node) × (node_at k nodes ≡ Some n) × (is_asked n ≡ true)
+
+abbrev pub Falling : List ℕ → Type 0
+Falling [] = Unit {0}
+Falling (k ∷ ks) = ((j : ℕ) → has ks j ≡ true → j < k) × Falling ks
+
+abbrev pub Rising : List ℕ → Type 0
+Rising [] = Unit {0}
+Rising (k ∷ ks) = ((j : ℕ) → has ks j ≡ true → k < j) × Rising ks
+
+-- it refused, or stands above one that did
+abbrev pub StaysOut : List Node → List ℕ → ℕ → Type 0
+StaysOut nodes refused k = (has refused k ≡ true) ⊎ ((j : ℕ) × (has refused j ≡ true) × (has (above nodes j) k ≡ true))
+
+-- the devices still to ask, those that agreed, and those that refused
+pub record Asks (nodes : List Node) (todo agreed refused : List ℕ) : Type 0 where
+  pub falling : Falling todo
+  pub rising : Rising agreed
+  pub over : (j k : ℕ) → has todo j ≡ true → has agreed k ≡ true → j < k
+  pub asks : (k : ℕ) → has todo k ≡ true → IsAskedAt k nodes
+  pub agrees : (k : ℕ) → has agreed k ≡ true → IsAskedAt k nodes
+  pub refuses : (j : ℕ) → has refused j ≡ true → (has todo j ≡ false) × (has agreed j ≡ false)
+  pub above : (j k : ℕ) → has refused j ≡ true → has (above nodes j) k ≡ true → (has todo k ≡ false) × (has agreed k ≡ false)
+  pub each : (k : ℕ) → IsAskedAt k nodes → (has todo k ≡ true) ⊎ ((has agreed k ≡ true) ⊎ StaysOut nodes refused k)
+
+-- a walk that ended badly does not wait
+abbrev pub EndsBad : Walk → Type 0
+EndsBad w = is_bad w ≡ true → w.waits ≡ false
+
+-- nothing fits the device and those that agreed, as all was before
+abbrev pub IsHopeless : Core → Rebalance → Type 0
+IsHopeless before r = r.found ≡ no_fit → NothingFits before (movers r)
+
+abbrev pub AskedSince : Core → Rebalance → RebalanceStage → Type 0
+AskedSince before r (Asking w) = Asks before.nodes r.todo r.agreed r.refused × EndsBad w
+AskedSince before r (TakingBack w) = (j : ℕ) × (more : List ℕ) × (r.refused ≡ j ∷ more) × (r.todo ≡ j ∷ rest r.todo) × Asks before.nodes r.todo r.agreed more
+AskedSince before r Searching = Asks before.nodes [] r.agreed r.refused
+AskedSince before r (Cancelling w) = Asks before.nodes [] r.agreed r.refused × IsHopeless before r
+AskedSince before r Stuck = Asks before.nodes [] r.agreed r.refused × IsHopeless before r
+AskedSince before r _ = Unit {0}
+
+-- the walk that asks k to stop has just ended badly
+abbrev pub Refusing : Core → Rebalance → RebalanceStage → ℕ → Type 0
+Refusing c r stage k =
+    (w : Walk) × (node : Node) × (stage ≡ Asking w) × (first_node c.nodes r.todo ≡ Some node) × (node.serial ≡ k) × (is_bad w ≡ true)
+
+-- a rebalance for the device of this path runs
+pub record Underway (path : List ℕ) (before : Core) (s : State) : Type 0 where
+  pub frame : Rebalance
+  pub runs : s.operation ≡ Some (Operation.Rebalancing frame)
+  pub named : frame.path ≡ path
+  pub target : (n : Node) × (node_at frame.target before.nodes ≡ Some n) × (n.path ≡ path)
+  pub undone : Undone before s.core frame frame.stage
+  pub asked : AskedSince before frame frame.stage
