@@ -37,3 +37,6 @@ pub mod Askings
 pub mod RebalanceMoves
 pub mod Begins
 pub mod RebalanceRuns
+pub mod Ascents
+pub mod RunsFutile
+pub mod RunsConflict

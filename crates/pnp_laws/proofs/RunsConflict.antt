@@ -1,0 +1,182 @@
+-- In each run problem 12 comes only where nothing fits the device and all that can move.
+use Rattle.std.proofs.Common.{ℕ, ◌≡◌, ◌≢◌, ◌==◌, ◌⊎◌, inl, inr, Bool, true, false, not, ◌&&◌, List, [], ◌∷◌, ◌++◌, map, Option, Some, None, refl, sym, ap, ◌∙◌, subst, arith}
+use Rattle.std.specs.Prelude.{Contains}
+use Rattle.std.proofs.lemmas.Bool.Decides.{nat_tests}
+use Rattle.resource_reqs.specs.Resources.{Res, Reqs, Fits}
+use Rattle.resource_reqs.specs.Spelling.Answer.{assignment, no_fit, spent}
+use Rattle.pnp_model.specs.Keyed.{those}
+use Rattle.pnp_model.specs.Records.{Node, Core, Driver, State, Step, Settings, Operation, Rebalance, RebalanceStage, Found}
+use Rattle.pnp_model.specs.Records.RebalanceStage.{Asking, Stuck}
+use Rattle.pnp_model.specs.Cores.{node_at}
+use Rattle.pnp_model.specs.Tests.{has, is_started}
+use Rattle.pnp_model.specs.Trees.{above}
+use Rattle.pnp_model.specs.Frames.{held_by, is_beside, fixed_beside}
+use Rattle.pnp_model.specs.Rebalances.{is_asked, reqs_of, trouble_of, movers}
+use Rattle.pnp_model.specs.Runs.{Entry, Goes, Run}
+use Rattle.pnp_model.specs.Runs.Entry.{Did}
+use Rattle.pnp_model.specs.Laws.{AllWithin, Refuses, RefusedSince, StaysSince, AreFree, NothingFits, ConflictLaw}
+use Rattle.pnp_labels.specs.Texts.{Text}
+use Rattle.pnp_labels.specs.declared.states.Problem.{Problem}
+use Rattle.pnp_labels.specs.declared.states.DevState.TheVariants.{Started}
+use Rattle.pnp_labels.specs.declared.label.Label.{Label}
+use Rattle.pnp_laws.specs.Reached.{IsReached, EachBeginsWell}
+use Rattle.pnp_laws.specs.Holdings.{Placed, has_plan}
+use Rattle.pnp_laws.specs.Rebalanced.{Paused, Undone, AskedSince, Asks, StaysOut, IsAskedAt, IsHopeless, Underway}
+use Rattle.pnp_laws.proofs.Lookups.{own_serial}
+use Rattle.pnp_laws.proofs.OpSteps.{is_Started}
+use Rattle.pnp_laws.proofs.Reached.{reached_is_good}
+use Rattle.pnp_laws.proofs.RunsWhole.{reached_is_settled}
+use Rattle.pnp_laws.proofs.RebalanceMoves.{NoConflict}
+use Rattle.pnp_laws.proofs.RebalanceRuns.{Stepped, IsOver, rebalance_stepped, lasts}
+use Rattle.pnp_laws.proofs.RunsFutile.{Since, since_begin, reached_after}
+use Rattle.pnp_laws.proofs.Ascents.{has_from_contains, contains_from_has, rising_from_increasing, same_ascent}
+
+-- The step that prints problem 12 -----------------------------------------------------------
+
+-- it is the one of a stuck rebalance that found no fit
+pub record IsStuck (path : Text) (r : Rebalance) : Type 0 where
+  pub stage : r.stage ≡ Stuck
+  pub device : path ≡ r.path
+  pub trouble : Problem.NormalConflict ≡ trouble_of r.found
+
+stuck_move : (s : State) (r : Rebalance) (path : Text) (t : State) (label : Label) → label ≡ Label.Trouble path Problem.NormalConflict → (NoConflict label ⊎ ((r.stage ≡ Stuck) × (label ≡ Label.Trouble r.path (trouble_of r.found)))) → IsStuck path r
+stuck_move s r path t label e (inl none) = absurd (subst (λ (x : Label). NoConflict x) e none)
+stuck_move s r path t label e (inr (stage, is)) =
+    let both : Label.Trouble path Problem.NormalConflict ≡ Label.Trouble r.path (trouble_of r.found) = sym e ∙ is in
+    record { stage = stage; device = cc; trouble = cc }
+
+stuck_step : (path begin_path : Text) (before : Core) (settings : Settings) (s t : State) (u : Underway begin_path before s) → Stepped before s u.frame (record { label = Label.Trouble path Problem.NormalConflict; state = t }) ⊎ IsOver s u.frame (record { label = Label.Trouble path Problem.NormalConflict; state = t }) → IsStuck path u.frame
+stuck_step path begin_path before settings s t u (inl h) = stuck_move s u.frame path t h.move.label (sym (ap (λ (x : Step). x.label) h.is)) h.moves.quiet
+stuck_step path begin_path before settings s t u (inr over) = let label = ap (λ (x : Step). x.label) over.is in absurd (cc)
+
+no_fit_found : (found : Found) → has_plan found ≡ false → Problem.NormalConflict ≡ trouble_of found → found ≡ no_fit
+no_fit_found (assignment plan) h e = absurd (cc)
+no_fit_found no_fit h e = refl
+no_fit_found spent h e = absurd (cc)
+
+-- Who can move --------------------------------------------------------------------------------
+
+both : (a b : Bool) → (a && b) ≡ true → (a ≡ true) × (b ≡ true)
+both true true h = (refl, refl)
+both true false h = absurd (cc)
+both false b h = absurd (cc)
+
+asked_node : (n : Node) → n.state ≡ Started → n.serial ≢ 0 → is_asked n ≡ true
+asked_node n state up =
+    let one : is_started n.state ≡ true = ap is_started state in
+    let two : (n.serial == 0) ≡ false = grind (arith, nat_tests) in
+    grind (arith)
+
+asked_parts : (n : Node) → is_asked n ≡ true → (n.state ≡ Started) × (n.serial ≢ 0)
+asked_parts n h =
+    let two = both (is_started n.state) (not (n.serial == 0)) h in
+    let t1 = two.1 in
+    (is_Started n.state two.0, grind (arith, nat_tests))
+
+not_both : (ks : List ℕ) (k : ℕ) → has ks k ≡ true → has ks k ≡ false → ⊥
+not_both ks k h g = cc
+
+within_split : (xs ys : List Entry) → AllWithin (xs ++ ys) → AllWithin xs × AllWithin ys
+within_split [] ys h = (tt, h)
+within_split (x ∷ xs) ys h = let more = within_split xs ys h.1 in ((h.0, more.0), more.1)
+
+-- a stuck rebalance, at the end of a run from its begin on
+record AtStuck (settings : Settings) (rack : List Driver) (path : Text) (before begun : State) (entries : List Entry) (last : State) (u : Underway path before.core last) : Type 0 where
+  stage : u.frame.stage ≡ Stuck
+  nodes : last.core.nodes ≡ before.core.nodes
+  reserved : last.core.reserved ≡ before.core.reserved
+  asks : Asks before.core.nodes [] u.frame.agreed u.frame.refused
+  told : (k : ℕ) → has u.frame.refused k ≡ true → RefusedSince settings begun entries last k
+  tells : (k : ℕ) → RefusedSince settings begun entries last k → has u.frame.refused k ≡ true
+
+-- a device that can move is one that agreed
+free_agreed : (settings : Settings) (rack : List Driver) (path : Text) (before begun : State) (entries : List Entry) (last : State) (u : Underway path before.core last) (ms : List ℕ) → AtStuck settings rack path before begun entries last u →
+    AreFree settings begun entries last ms → (k : ℕ) → has ms k ≡ true → has u.frame.agreed k ≡ true
+free_agreed settings rack path before begun entries last u ms stuck free k h =
+    let is = (free.each k).0 (contains_from_has ms k h) in
+    let node = is.1.0 in
+    let at : node_at k before.core.nodes ≡ Some node = subst (λ (x : List Node). node_at k x ≡ Some node) stuck.nodes is.1.1 in
+    let own = own_serial k node before.core.nodes at in
+    let asked : IsAskedAt k before.core.nodes = (node, at, asked_node node is.1.2 (λ z. is.0 (sym own ∙ z))) in
+    elim (stuck.asks.each k asked) [
+      | inl e ↦ absurd (cc)
+      | inr (inl e) ↦ e
+      | inr (inr (inl e)) ↦ absurd (is.2 (inl (stuck.told k e)))
+      | inr (inr (inr (j, e, up))) ↦
+          absurd (is.2 (inr (j, stuck.told j e, subst (λ (x : List Node). has (above x j) k ≡ true) (sym stuck.nodes) up)))
+    ]
+
+-- a device that agreed can move
+agreed_free : (settings : Settings) (rack : List Driver) (path : Text) (before begun : State) (entries : List Entry) (last : State) (u : Underway path before.core last) (ms : List ℕ) → AtStuck settings rack path before begun entries last u →
+    AreFree settings begun entries last ms → (k : ℕ) → has u.frame.agreed k ≡ true → has ms k ≡ true
+agreed_free settings rack path before begun entries last u ms stuck free k h =
+    let asked = stuck.asks.agrees k h in
+    let node = asked.0 in
+    let parts = asked_parts node asked.2 in
+    let own = own_serial k node before.core.nodes asked.1 in
+    let stays : StaysSince settings begun entries last k → ⊥ =
+    λ out. elim out [
+      | inl since ↦ not_both u.frame.agreed k h (stuck.asks.refuses k (stuck.tells k since)).1
+      | inr (j, since, up) ↦ not_both u.frame.agreed k h (stuck.asks.above j k (stuck.tells j since) (subst (λ (x : List Node). has (above x j) k ≡ true) stuck.nodes up)).1
+    ] in
+    has_from_contains ms k
+    ((free.each k).1 ((λ z. parts.1 (own ∙ z)), (node, subst (λ (x : List Node). node_at k x ≡ Some node) (sym stuck.nodes) asked.1, parts.0), stays))
+
+-- The law ---------------------------------------------------------------------------------------
+
+-- nodes and ranges are the same
+nothing_fits_still : (c d : Core) (ms : List ℕ) → d.nodes ≡ c.nodes → d.reserved ≡ c.reserved → NothingFits c ms → NothingFits d ms
+nothing_fits_still c d ms a b none fits =
+    let fixed : fixed_beside d ms ≡ fixed_beside c ms =
+    ap (λ (x : List Node). d.reserved ++ held_by (those (is_beside ms) x)) a ∙ ap (λ (x : List Res). x ++ held_by (those (is_beside ms) c.nodes)) b in
+    let reqs : map (λ k. reqs_of (node_at k d.nodes)) ms ≡ map (λ k. reqs_of (node_at k c.nodes)) ms = ap (λ (x : List Node). map (λ k. reqs_of (node_at k x)) ms) a in
+    none (subst (λ (x : List Res). Fits x (map (λ k. reqs_of (node_at k c.nodes)) ms)) fixed (subst (λ (x : List Reqs). Fits (fixed_beside d ms) x) reqs fits))
+
+-- whoever refused since the begin is told at the end
+refusers_told : EachBeginsWell → (settings : Settings) (rack : List Driver) (path : Text) (before begun : State) (entries : List Entry) (last : State) → Placed before.core.nodes → Since settings rack path before begun entries last → AllWithin entries →
+    (u : Underway path before.core last) → u.frame.stage ≡ Stuck → (k : ℕ) → RefusedSince settings begun entries last k → has u.frame.refused k ≡ true
+refusers_told begins settings rack path before begun entries last placed since within u stage k (s, (xs, ys, e, run, more), refuses) =
+    let split = within_split xs ys (subst (λ (l : List Entry). AllWithin l) e within) in
+    let there = lasts begins settings rack path before.core placed begun xs s since.reached since.first split.0 run in
+    let at_s = reached_after settings rack begun xs s since.reached run in
+    let on = lasts begins settings rack path before.core placed s ys last at_s there.under split.1 more in
+    let same : on.under.frame ≡ u.frame = (let a = on.under.runs in let b = u.runs in cc) in
+    elim (on.tells k refuses) [
+      | inl now ↦ absurd (asks_now now)
+      | inr told ↦ subst (λ (x : Rebalance). has x.refused k ≡ true) same told
+    ]
+  where
+    asks_now : Refuses last k → ⊥
+    asks_now (f, w, node, runs, asking, first, own, bad) =
+        let same : f ≡ u.frame = (let b = u.runs in cc) in
+        let asks : u.frame.stage ≡ Asking w = subst (λ (x : Rebalance). x.stage ≡ Asking w) same asking in
+        cc
+
+pub conflict_law : EachBeginsWell → ConflictLaw
+conflict_law begins settings rack earlier entries before begun last after begin_path path reaches goes run within ends k n at named ms free =
+    let at_before : IsReached settings rack before = (earlier, reaches) in
+    let placed = (reached_is_settled begins settings rack before at_before).placed in
+    let since = since_begin begins settings rack earlier entries before begun last begin_path reaches goes run within in
+    let good = reached_is_good begins settings rack last (reached_after settings rack begun entries last since.reached run) in
+    let u = since.lasts.under in
+    let r = u.frame in
+    let is_stuck = stuck_step path begin_path before.core settings last after u (rebalance_stepped begin_path before.core settings last (record { label = Label.Trouble path Problem.NormalConflict; state = after }) u placed good ends) in
+    let undone : Undone before.core last.core r Stuck = subst (λ (x : RebalanceStage). Undone before.core last.core r x) is_stuck.stage u.undone in
+    let asked : AskedSince before.core r Stuck = subst (λ (x : RebalanceStage). AskedSince before.core r x) is_stuck.stage u.asked in
+    let found = no_fit_found r.found undone.1 is_stuck.trouble in
+    let stuck : AtStuck settings rack begin_path before begun entries last u =
+    record {
+      stage = is_stuck.stage;
+      nodes = undone.0.nodes;
+      reserved = undone.0.reserved;
+      asks = asked.0;
+      told = λ j h. elim (since.lasts.told j h) [ inl e ↦ absurd (let none = since.fresh in let h2 = subst (λ (x : List ℕ). has x j ≡ true) none e in cc) | inr e ↦ e ];
+      tells = refusers_told begins settings rack begin_path before begun entries last placed since within u is_stuck.stage;
+    } in
+    let same_movers : ms ≡ r.agreed =
+    same_ascent ms r.agreed (rising_from_increasing ms free.ascending) stuck.asks.rising
+    (free_agreed settings rack begin_path before begun entries last u ms stuck free) (agreed_free settings rack begin_path before begun entries last u ms stuck free) in
+    let was : node_at k before.core.nodes ≡ Some n = subst (λ (x : List Node). node_at k x ≡ Some n) stuck.nodes at in
+    let device : k ≡ r.target = placed.paths k r.target n u.target.0 was u.target.1 (named ∙ is_stuck.device ∙ u.named ∙ sym u.target.2) in
+    let none : NothingFits last.core (movers r) = nothing_fits_still before.core last.core (movers r) undone.0.nodes undone.0.reserved (asked.1 found) in
+    subst (λ (i : ℕ). NothingFits last.core (i ∷ ms)) (sym device) (subst (λ (l : List ℕ). NothingFits last.core (r.target ∷ l)) (sym same_movers) none)
