@@ -1,5 +1,5 @@
 -- Ascending lists of serials: two with the same members are the same.
-use Rattle.std.proofs.Common.{ℕ, zero, suc, ◌+◌, ◌<◌, ◌≤◌, ◌≡◌, inl, inr, Bool, true, false, List, [], ◌∷◌, length, refl, sym, ap, ◌∙◌, subst, arith}
+use Rattle.std.proofs.Common.{ℕ, suc, ◌+◌, ◌<◌, ◌≤◌, ◌≡◌, inl, inr, true, List, [], ◌∷◌, refl, sym, ap, ◌∙◌, subst, arith}
 use Rattle.std.specs.Prelude.{Contains, slice_index}
 use Rattle.std.specs.List.Sorted.{IsStrictlyIncreasing}
 use Rattle.std.proofs.lemmas.List.Elements.{Contains-append_right}
@@ -35,11 +35,13 @@ rising_from_increasing [] h = tt
 rising_from_increasing (x ∷ []) h = (λ j e. absurd (cc), tt)
 rising_from_increasing (x ∷ y ∷ ys) h =
     let more = rising_from_increasing (y ∷ ys) (increasing_tail x (y ∷ ys) h) in
-    let low : x < y = h 0 (omega arith) in
-    ((λ j e. elim (cons_cases y ys j e) [
-      | inl q ↦ subst (λ (i : ℕ). x < i) q low
-      | inr q ↦ let up = more.0 j q in omega arith
-    ]), more)
+    let low : x < y = h 0 (omega arith) in (
+      (λ j e. elim (cons_cases y ys j e) [
+        | inl q ↦ subst (λ (i : ℕ). x < i) q low
+        | inr q ↦ let up = more.0 j q in omega arith
+      ]),
+      more,
+    )
 
 -- the same members, and so the same list
 

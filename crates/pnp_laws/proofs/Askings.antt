@@ -1,11 +1,11 @@
 -- Who is asked to stop, in which order, and who stays out: by each answer.
-use Rattle.std.proofs.Common.{ℕ, suc, ◌<◌, ◌≤◌, ◌≡◌, ◌≢◌, ◌⊎◌, inl, inr, Bool, true, false, not, cond, List, [], ◌∷◌, ◌++◌, Some, refl, sym, ap, ◌∙◌, subst, arith, reverse}
+use Rattle.std.proofs.Common.{ℕ, suc, ◌<◌, ◌≤◌, ◌≡◌, ◌≢◌, ◌⊎◌, inl, inr, Bool, true, false, not, cond, List, [], ◌∷◌, ◌++◌, refl, sym, ap, ◌∙◌, subst, arith, reverse}
 use Rattle.std.proofs.lemmas.Bool.{cases_eq}
 use Rattle.std.proofs.lemmas.Bool.Decides.{nat_tests}
 use Rattle.std.proofs.lemmas.List.{reverse-append}
 use Rattle.pnp_model.specs.Keyed.{those}
 use Rattle.pnp_model.specs.Records.{Node}
-use Rattle.pnp_model.specs.Cores.{node_at, serials_of}
+use Rattle.pnp_model.specs.Cores.{serials_of}
 use Rattle.pnp_model.specs.Tests.{has}
 use Rattle.pnp_model.specs.Trees.{above}
 use Rattle.pnp_model.specs.Rebalances.{is_asked, is_not_above}
@@ -56,15 +56,16 @@ falling_those test (k ∷ ks) h =
 
 falling_push : (ks : List ℕ) (x : ℕ) → Falling ks → ((j : ℕ) → has ks j ≡ true → x < j) → Falling (ks ++ x ∷ [])
 falling_push [] x h g = (λ j e. absurd (cc), tt)
-falling_push (k ∷ ks) x h g =
-    ((λ j e. elim (member ks j) [
-      | inl q ↦ h.0 j q
-      | inr q ↦
-          let both = has-append ks (x ∷ []) j in
-          let in_last : has (x ∷ []) j ≡ true = grind (arith) in
-          elim (cons_cases x [] j in_last) [ inl z ↦ let low = g k (cons_here k ks) in omega arith | inr z ↦ absurd (cc) ]
-    ]),
-    falling_push ks x h.1 (λ j e. g j (cons_there k ks j e)))
+falling_push (k ∷ ks) x h g = (
+  (λ j e. elim (member ks j) [
+    | inl q ↦ h.0 j q
+    | inr q ↦
+        let both = has-append ks (x ∷ []) j in
+        let in_last : has (x ∷ []) j ≡ true = grind (arith) in
+        elim (cons_cases x [] j in_last) [ inl z ↦ let low = g k (cons_here k ks) in omega arith | inr z ↦ absurd (cc) ]
+  ]),
+  falling_push ks x h.1 (λ j e. g j (cons_there k ks j e)),
+)
 
 falling_reverse : (ks : List ℕ) → Rising ks → Falling (reverse ks)
 falling_reverse [] h = tt

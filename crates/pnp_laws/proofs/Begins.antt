@@ -13,7 +13,7 @@ use Rattle.pnp_model.specs.Walks.{is_bad}
 use Rattle.pnp_model.specs.Frames.{first_node}
 use Rattle.pnp_model.specs.States.{activity_at}
 use Rattle.pnp_model.specs.Starts.{StartMove, add_driver, searched, end_start, start_on, remove_on, undo, act}
-use Rattle.pnp_model.specs.Tasks.{skip, joining, gone_child, gone_or_listed, join_or_on, list_up, list_step, numbered, install_named, install_few, install_service, install_best, start_enabled, start_idle, start_bare, start_step, begin, rebalance_idle, rebalance_task, disable_task, begin_step}
+use Rattle.pnp_model.specs.Tasks.{joining, gone_child, gone_or_listed, join_or_on, list_up, list_step, numbered, install_named, install_few, install_service, install_best, start_enabled, start_idle, start_bare, start_step, begin, rebalance_idle, rebalance_task, disable_task, begin_step}
 use Rattle.pnp_labels.specs.Texts.{Text}
 use Rattle.pnp_labels.specs.declared.states.DevState.{DevState}
 use Rattle.pnp_labels.specs.declared.states.Problem.{Problem}

@@ -1,13 +1,12 @@
 -- What an event leaves as it is: every node; and in an operation all but its walk.
-use Rattle.std.proofs.Common.{ℕ, ◌≡◌, ◌⊎◌, inl, inr, Bool, true, false, List, [], ◌∷◌, Option, Some, None, refl, sym, ap, ◌∙◌, subst}
-use Rattle.std.specs.List.{find, list_any}
-use Rattle.resource_reqs.specs.Resources.{Res, Reqs, clashes}
+use Rattle.std.proofs.Common.{ℕ, ◌≡◌, ◌⊎◌, inl, inr, Bool, true, false, List, Option, Some, None, refl, ap, ◌∙◌, subst}
+use Rattle.std.specs.List.{find}
+use Rattle.resource_reqs.specs.Resources.{Res, Reqs}
 use Rattle.device_ids.specs.Folding.{same}
 use Rattle.pnp_model.specs.Keyed.{changed_first}
 use Rattle.pnp_model.specs.Records.{Node, Core, Device, Driver, Activity, Phase, State, Operation}
 use Rattle.pnp_model.specs.Records.Phase.{Adding, Searching, Starting, Removing, Due}
 use Rattle.pnp_model.specs.Books.{is_named, is_unnamed}
-use Rattle.pnp_model.specs.Frames.{held_by}
 use Rattle.pnp_model.specs.States.{activity_at, is_activity, with_phase, list_node, node_born, node_of, device_of, plug, unplug, enable_path}
 use Rattle.pnp_labels.specs.Texts.{Text}
 use Rattle.pnp_labels.specs.declared.words.Minor.{Minor}

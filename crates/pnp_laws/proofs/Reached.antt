@@ -1,5 +1,5 @@
 -- What each step keeps holds of each state of each run.
-use Rattle.std.proofs.Common.{◌≡◌, List, [], ◌∷◌, ◌++◌, refl, sym, subst}
+use Rattle.std.proofs.Common.{List, [], ◌∷◌, ◌++◌, refl, sym, subst}
 use Rattle.pnp_model.specs.Records.{Driver, State, Settings}
 use Rattle.pnp_model.specs.Runs.{Entry, Goes, Run, opening}
 use Rattle.pnp_laws.specs.Reached.{IsReached, EachBeginsWell}

@@ -1,7 +1,5 @@
 -- Each step of a rebalance: what it would restore, and whom it asked.
 use Rattle.std.proofs.Common.{ℕ, ◌≡◌, ◌⊎◌, inl, inr, Bool, true, false, not, ◌||◌, List, [], ◌∷◌, map, length, Option, Some, None, refl, sym, ap, ◌∙◌, subst, arith, reverse, nat_le}
-use Rattle.std.proofs.lemmas.Bool.{cases_eq}
-use Rattle.std.proofs.lemmas.Bool.Decides.{nat_tests}
 use Rattle.resource_reqs.specs.Spelling.{IsAnswer}
 use Rattle.resource_reqs.specs.Spelling.Answer.{assignment, no_fit, spent}
 use Rattle.resource_reqs.proofs.Answering.{no_fit_means}
@@ -12,11 +10,10 @@ use Rattle.pnp_model.specs.Records.RebalanceStage.{Asking, TakingBack, Searching
 use Rattle.pnp_model.specs.Cores.{is_node, node_at, with_problem}
 use Rattle.pnp_model.specs.Tests.{has}
 use Rattle.pnp_model.specs.Trees.{above}
-use Rattle.pnp_model.specs.Walks.{is_bad, has_ended, may_fail, after}
+use Rattle.pnp_model.specs.Walks.{is_bad, has_ended, after}
 use Rattle.pnp_model.specs.Books.{rack_reply}
 use Rattle.pnp_model.specs.Frames.{first_node, rest, ended, asked, next_driver, fixed_beside}
 use Rattle.pnp_model.specs.Laws.{IsWithin, NothingFits}
-use Rattle.pnp_labels.specs.declared.states.DevState.{DevState}
 use Rattle.pnp_labels.specs.declared.states.Problem.{Problem}
 use Rattle.pnp_labels.specs.declared.words.Minor.{Minor}
 use Rattle.pnp_labels.specs.declared.words.AskWhat.{AskWhat}
@@ -26,8 +23,7 @@ use Rattle.pnp_labels.specs.declared.label.Label.{Label}
 use Rattle.pnp_labels.specs.declared.states.DevState.TheVariants.{Started}
 use Rattle.pnp_laws.specs.Kept.{RebalanceKeeps, asking_state}
 use Rattle.pnp_laws.specs.Holdings.{Placed, has_plan}
-use Rattle.pnp_laws.specs.Rebalanced.{Paused, Troubled, Undone, Asks, EndsBad, IsHopeless, AskedSince, Refusing}
-use Rattle.pnp_laws.proofs.Lookups.{own_serial}
+use Rattle.pnp_laws.specs.Rebalanced.{Paused, Undone, Asks, EndsBad, IsHopeless, AskedSince, Refusing}
 use Rattle.pnp_laws.proofs.Lists.{HeadIs, head_found, head_has}
 use Rattle.pnp_laws.proofs.OpSteps.{is_Started}
 use Rattle.pnp_laws.proofs.Pauses.{paused_agreed, paused_same, paused_back, paused_still, above_paused, hopeless_before}

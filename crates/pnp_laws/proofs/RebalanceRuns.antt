@@ -13,13 +13,13 @@ use Rattle.pnp_model.specs.Walks.{after}
 use Rattle.pnp_model.specs.Frames.{first_node}
 use Rattle.pnp_model.specs.Runs.{Entry, Goes, Run, printed}
 use Rattle.pnp_model.specs.Runs.Entry.{Happens, Did}
-use Rattle.pnp_model.specs.Laws.{IsWithin, AllWithin, Passes, Refuses, RefusedSince}
+use Rattle.pnp_model.specs.Laws.{IsWithin, AllWithin, Refuses, RefusedSince}
 use Rattle.pnp_labels.specs.declared.label.Label.{Label}
 use Rattle.pnp_labels.specs.declared.label.OpKind.{OpKind}
-use Rattle.pnp_laws.specs.Kept.{Ascending, IsGood, OperationFits, RebalanceKeeps}
+use Rattle.pnp_laws.specs.Kept.{Ascending, IsGood, OperationFits}
 use Rattle.pnp_laws.specs.Reached.{IsReached, EachBeginsWell}
 use Rattle.pnp_laws.specs.Holdings.{Placed}
-use Rattle.pnp_laws.specs.Rebalanced.{Paused, Undone, Asks, EndsBad, AskedSince, Refusing, Underway}
+use Rattle.pnp_laws.specs.Rebalanced.{Undone, EndsBad, AskedSince, Refusing, Underway}
 use Rattle.pnp_laws.proofs.Reached.{reached_on, reached_is_good}
 use Rattle.pnp_laws.proofs.EventChanges.{Outside, Answered, happens_outside}
 use Rattle.pnp_laws.proofs.Pauses.{paused_still}
@@ -278,15 +278,14 @@ underway_begun path s t b order =
     let ks = reverse (serials_of (those re.is_asked s.core.nodes)) in
     let r = re.begun_rebalance s.core node in
     let same : SameFrame (fresh node) r = same_ask_on (fresh node) (fresh node) ks (own_frame (fresh node)) in
-    let core : t.core ≡ s.core = ap (λ (x : State). x.core) b.is in
-    (
+    let core : t.core ≡ s.core = ap (λ (x : State). x.core) b.is in (
       record {
         frame = r;
         runs = ap (λ (x : State). x.operation) b.is;
         named = same.device.path ∙ b.named;
         target = (node, subst (λ (i : ℕ). node_at i s.core.nodes ≡ Some node) (sym same.device.target) b.at, b.named);
         undone = subst (λ (c : Core). Undone s.core c r r.stage) (sym core)
-        (undone_ask_on s.core s.core (fresh node) ks (record { nodes = refl; back = tt; relations = refl; reserved = refl }));
+            (undone_ask_on s.core s.core (fresh node) ks (record { nodes = refl; back = tt; relations = refl; reserved = refl }));
         asked = asked_ask_on s.core (fresh node) ks (asks_begun s.core.nodes order);
       },
       same.refused,

@@ -1,19 +1,17 @@
 -- In each run problem 12 comes only where nothing fits the device and all that can move.
-use Rattle.std.proofs.Common.{ℕ, ◌≡◌, ◌≢◌, ◌==◌, ◌⊎◌, inl, inr, Bool, true, false, not, ◌&&◌, List, [], ◌∷◌, ◌++◌, map, Option, Some, None, refl, sym, ap, ◌∙◌, subst, arith}
-use Rattle.std.specs.Prelude.{Contains}
+use Rattle.std.proofs.Common.{ℕ, ◌≡◌, ◌≢◌, ◌==◌, ◌⊎◌, inl, inr, Bool, true, false, not, ◌&&◌, List, [], ◌∷◌, ◌++◌, map, Some, refl, sym, ap, ◌∙◌, subst, arith}
 use Rattle.std.proofs.lemmas.Bool.Decides.{nat_tests}
 use Rattle.resource_reqs.specs.Resources.{Res, Reqs, Fits}
 use Rattle.resource_reqs.specs.Spelling.Answer.{assignment, no_fit, spent}
 use Rattle.pnp_model.specs.Keyed.{those}
-use Rattle.pnp_model.specs.Records.{Node, Core, Driver, State, Step, Settings, Operation, Rebalance, RebalanceStage, Found}
+use Rattle.pnp_model.specs.Records.{Node, Core, Driver, State, Step, Settings, Rebalance, RebalanceStage, Found}
 use Rattle.pnp_model.specs.Records.RebalanceStage.{Asking, Stuck}
 use Rattle.pnp_model.specs.Cores.{node_at}
 use Rattle.pnp_model.specs.Tests.{has, is_started}
 use Rattle.pnp_model.specs.Trees.{above}
 use Rattle.pnp_model.specs.Frames.{held_by, is_beside, fixed_beside}
 use Rattle.pnp_model.specs.Rebalances.{is_asked, reqs_of, trouble_of, movers}
-use Rattle.pnp_model.specs.Runs.{Entry, Goes, Run}
-use Rattle.pnp_model.specs.Runs.Entry.{Did}
+use Rattle.pnp_model.specs.Runs.{Entry}
 use Rattle.pnp_model.specs.Laws.{AllWithin, Refuses, RefusedSince, StaysSince, AreFree, NothingFits, ConflictLaw}
 use Rattle.pnp_labels.specs.Texts.{Text}
 use Rattle.pnp_labels.specs.declared.states.Problem.{Problem}
@@ -21,7 +19,7 @@ use Rattle.pnp_labels.specs.declared.states.DevState.TheVariants.{Started}
 use Rattle.pnp_labels.specs.declared.label.Label.{Label}
 use Rattle.pnp_laws.specs.Reached.{IsReached, EachBeginsWell}
 use Rattle.pnp_laws.specs.Holdings.{Placed, has_plan}
-use Rattle.pnp_laws.specs.Rebalanced.{Paused, Undone, AskedSince, Asks, StaysOut, IsAskedAt, IsHopeless, Underway}
+use Rattle.pnp_laws.specs.Rebalanced.{Undone, AskedSince, Asks, IsAskedAt, Underway}
 use Rattle.pnp_laws.proofs.Lookups.{own_serial}
 use Rattle.pnp_laws.proofs.OpSteps.{is_Started}
 use Rattle.pnp_laws.proofs.Reached.{reached_is_good}

@@ -1,11 +1,8 @@
 -- In each run a rebalance that found nothing restores everything but the problem of its device.
-use Rattle.std.proofs.Common.{ℕ, ◌≡◌, ◌⊎◌, inl, inr, true, false, List, [], ◌∷◌, Some, None, refl, sym, ap, ◌∙◌, subst}
+use Rattle.std.proofs.Common.{◌≡◌, ◌⊎◌, inl, inr, false, List, [], ◌∷◌, Some, refl, sym, ap, ◌∙◌, subst}
 use Rattle.resource_reqs.specs.Spelling.Answer.{assignment, no_fit, spent}
-use Rattle.pnp_model.specs.Keyed.{changed_first}
-use Rattle.pnp_model.specs.Records.{Node, Core, Driver, State, Step, Settings, Rebalance, RebalanceStage, Found}
-use Rattle.pnp_model.specs.Cores.{is_node, with_problem}
-use Rattle.pnp_model.specs.Tests.{has}
-use Rattle.pnp_model.specs.Rebalances.{end_of, trouble_of, close, over}
+use Rattle.pnp_model.specs.Records.{Core, Driver, State, Step, Settings, Rebalance, RebalanceStage, Found}
+use Rattle.pnp_model.specs.Rebalances.{end_of, trouble_of, over}
 use Rattle.pnp_model.specs.Runs.{Entry, Goes, Run}
 use Rattle.pnp_model.specs.Runs.Entry.{Did}
 use Rattle.pnp_model.specs.Laws.{Reaches, IsWithin, AllWithin, RestoresBut, FutileLaw}
@@ -16,7 +13,7 @@ use Rattle.pnp_labels.specs.declared.label.OpEnd.{OpEnd}
 use Rattle.pnp_laws.specs.Reached.{IsReached, EachBeginsWell}
 use Rattle.pnp_laws.specs.Holdings.{has_plan}
 use Rattle.pnp_laws.specs.Rebalanced.{Undone, Underway}
-use Rattle.pnp_laws.proofs.Reached.{run_on, reached_on, reached_is_good}
+use Rattle.pnp_laws.proofs.Reached.{reached_on, reached_is_good}
 use Rattle.pnp_laws.proofs.RunsWhole.{reached_is_settled}
 use Rattle.pnp_laws.proofs.Begins.{begins_right}
 use Rattle.pnp_laws.proofs.RebalanceRuns.{IsOver, rebalance_stepped, after_core, Lasts, lasts, underway_begun}

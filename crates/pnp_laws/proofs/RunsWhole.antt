@@ -1,14 +1,13 @@
 -- In each run devices that are up hold one whole alternative, and devices without drivers hold nothing.
-use Rattle.std.proofs.Common.{ℕ, ◌≤◌, ◌-◌, ◌≡◌, inl, List, [], ◌∷◌, Some, refl, sym, ap, ◌∙◌, subst, arith}
+use Rattle.std.proofs.Common.{◌≤◌, ◌-◌, ◌≡◌, inl, List, [], ◌∷◌, refl, sym, ◌∙◌, subst, arith}
 use Rattle.resource_reqs.specs.Resources.{Whole}
 use Rattle.pnp_model.specs.Records.{Node, Driver, State, Step, Settings}
-use Rattle.pnp_model.specs.Cores.{node_at}
 use Rattle.pnp_model.specs.Runs.{Entry, Goes, opening, root_node}
 use Rattle.pnp_model.specs.Runs.Entry.{Happens, Did}
 use Rattle.pnp_model.specs.Laws.{WholeLaw, HoldsWhole}
 use Rattle.pnp_laws.specs.Kept.{IsGood}
 use Rattle.pnp_laws.specs.Reached.{IsReached, EachBeginsWell}
-use Rattle.pnp_laws.specs.Holdings.{HeldWell, IsWhole, Turned, Placed}
+use Rattle.pnp_laws.specs.Holdings.{IsWhole, Turned, Placed}
 use Rattle.pnp_laws.proofs.Runs.{root_is}
 use Rattle.pnp_laws.proofs.Reached.{kept, reached_is_good}
 use Rattle.pnp_laws.proofs.Turns.{holds_turn, placed_turn}

@@ -1,17 +1,14 @@
 -- What a turn of the nodes keeps: that holdings fit states, that paths differ, that parents have lower serials.
-use Rattle.std.proofs.Common.{ℕ, ◌≤◌, ◌-◌, ◌≡◌, ◌≢◌, ◌⊎◌, inl, inr, Bool, true, false, not, List, [], ◌∷◌, ◌++◌, map, Option, Some, None, refl, sym, ap, ◌∙◌, subst, arith}
+use Rattle.std.proofs.Common.{ℕ, ◌≤◌, ◌-◌, ◌≡◌, ◌⊎◌, inl, inr, true, false, List, [], ◌∷◌, ◌++◌, Some, refl, sym, ap, ◌∙◌, subst, arith}
 use Rattle.std.specs.Str.{bytes_eq}
 use Rattle.std.proofs.lemmas.Bool.Decides.{nat_tests}
 use Rattle.std.proofs.lemmas.Bool.{cases_eq}
-use Rattle.resource_reqs.specs.Resources.{Whole}
-use Rattle.pnp_model.specs.Keyed.{changed_first, without_first}
-use Rattle.pnp_model.specs.Records.{Node, Activity}
-use Rattle.pnp_model.specs.Cores.{is_node, node_at}
-use Rattle.pnp_model.specs.States.{activity_at}
+use Rattle.pnp_model.specs.Records.{Node}
+use Rattle.pnp_model.specs.Cores.{node_at}
 use Rattle.pnp_model.specs.Tasks.{has_path}
 use Rattle.pnp_model.specs.Laws.{HoldsWhole}
 use Rattle.pnp_labels.specs.Texts.{Text}
-use Rattle.pnp_laws.specs.Holdings.{Plain, HeldWell, Turn, Placed}
+use Rattle.pnp_laws.specs.Holdings.{HeldWell, Turn, Placed}
 use Rattle.pnp_laws.proofs.Lookups.{node_from, map_from, joined_from, left_from, some_same}
 use Rattle.device_ids.specs.Folding as folding
 

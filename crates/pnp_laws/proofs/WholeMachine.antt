@@ -1,13 +1,10 @@
 -- Each step of the machine and each event keep that devices hold whole alternatives.
-use Rattle.std.proofs.Common.{ℕ, ◌≤◌, ◌<◌, ◌-◌, ◌≡◌, ◌≢◌, inl, inr, Bool, true, false, not, ◌&&◌, ◌==◌, List, [], ◌∷◌, ◌++◌, Option, Some, None, refl, sym, ap, ◌∙◌, subst, arith, reverse}
+use Rattle.std.proofs.Common.{ℕ, ◌≡◌, inl, inr, Bool, true, false, not, ◌&&◌, ◌==◌, List, [], ◌∷◌, ◌++◌, Option, Some, None, refl, sym, ◌∙◌, subst, arith, reverse}
 use Rattle.std.specs.List.{find, slice_get}
-use Rattle.std.proofs.lemmas.Bool.Decides.{nat_tests}
-use Rattle.resource_reqs.specs.Resources.{Whole}
 use Rattle.resource_reqs.specs.Spelling.Answer.{no_fit}
 use Rattle.pnp_model.specs.Keyed.{changed_first, those}
 use Rattle.pnp_model.specs.Records.{Node, Device, Activity, Task, State, Step, Settings, Choice, Operation, Rebalance, RebalanceStage, Doing, Duty}
 use Rattle.pnp_model.specs.Records.Doing.{Does, Searches}
-use Rattle.pnp_model.specs.Records.Phase.{Adding, Searching}
 use Rattle.pnp_model.specs.Cores.{is_node, node_at, new_node, with_problem, serials_of}
 use Rattle.pnp_model.specs.Tests.{has_same}
 use Rattle.pnp_model.specs.Books.{driver_named}
@@ -26,10 +23,10 @@ use Rattle.pnp_labels.specs.declared.label.OpKind.{OpKind}
 use Rattle.pnp_labels.specs.declared.event.Event.{Event}
 use Rattle.pnp_labels.specs.declared.states.DevState.TheVariants.{NoStack, NotStarted, Started, StopPending, Stopped, RemovePending, SurpriseRemoved}
 use Rattle.pnp_laws.specs.Kept.{Good, IsGood, Fits, OperationFits}
-use Rattle.pnp_laws.specs.Holdings.{Turn, HeldWell, is_starting, StartsWhole, StageWhole, OperationWhole, IsWhole, Turned}
-use Rattle.pnp_laws.proofs.Lookups.{own_serial, found_self, ready_found, joined_from, entered_same}
+use Rattle.pnp_laws.specs.Holdings.{Turn, is_starting, StartsWhole, StageWhole, OperationWhole, IsWhole, Turned}
+use Rattle.pnp_laws.proofs.Lookups.{found_self, ready_found, joined_from, entered_same}
 use Rattle.pnp_laws.proofs.EventChanges.{Answered, happens_outside}
-use Rattle.pnp_laws.proofs.WholeSteps.{held, troubled_well, plain_problem, OthersStay, changed_starts, entered_others, turned_by, TurnedDoing, TurnedNext, whole_act}
+use Rattle.pnp_laws.proofs.WholeSteps.{held, troubled_well, plain_problem, changed_starts, entered_others, turned_by, TurnedNext, whole_act}
 use Rattle.pnp_laws.proofs.WholeOperations.{whole_ask_on, whole_rebalance}
 use Rattle.pnp_laws.proofs.WholeRemovals.{whole_removal, whole_surprise}
 use Rattle.pnp_model.specs.Machine as ma
@@ -137,10 +134,10 @@ whole_install s node rank driver drivers at free w =
     (Turn.changed node.serial f node refl at (plain_problem None) (troubled_well node None (held s node.serial node at w.old)))
     (changed_starts node.serial f node s.core.nodes s.activities (entered new s.activities) (plain_problem None) at (entered_others new s.activities)
     (λ a g st. absurd (
-      let own = entered_same new s.activities free in
-      let same : new ≡ a = cc in
-      let quiet = subst (λ (x : Activity). is_starting x.phase ≡ false) same (adding_quiet drivers) in
-      cc))
+    let own = entered_same new s.activities free in
+    let same : new ≡ a = cc in
+    let quiet = subst (λ (x : Activity). is_starting x.phase ≡ false) same (adding_quiet drivers) in
+    cc))
     w.old.starts)
 
 whole_named : (s : State) (node : Node) (rank : ℕ) (lower : Option (List ℕ)) (driver : Option ℕ) (upper : Option (List ℕ)) → node_at node.serial s.core.nodes ≡ Some node → activity_at node.serial s.activities ≡ None → AtRest s → Turned s (install_named s node rank lower driver upper).state

@@ -1,5 +1,5 @@
 -- Each step of a rebalance keeps that devices hold whole alternatives.
-use Rattle.std.proofs.Common.{ℕ, ◌≡◌, ◌≢◌, ◌⊎◌, inl, inr, Bool, true, false, cond, List, [], ◌∷◌, map, Option, Some, None, refl, sym, ap, ◌∙◌, subst, arith, reverse}
+use Rattle.std.proofs.Common.{ℕ, ◌≡◌, ◌≢◌, ◌⊎◌, inl, inr, Bool, true, false, List, [], ◌∷◌, map, Option, Some, None, refl, sym, ap, ◌∙◌, subst, arith, reverse}
 use Rattle.std.specs.List.{AllZip}
 use Rattle.std.specs.Option.{option_map}
 use Rattle.std.proofs.lemmas.Bool.{cases_eq}
@@ -28,7 +28,7 @@ use Rattle.pnp_labels.specs.declared.states.DevState.TheVariants.{NoStack, NotSt
 use Rattle.pnp_laws.specs.Kept.{RebalanceKeeps, asking_state, pending_state, stopping_state, stopped_state}
 use Rattle.pnp_laws.specs.Holdings.{Plain, HeldWell, Turn, is_starting, has_plan, WholeAt, PartsFit, StageWhole, OperationWhole, IsWhole, Turned}
 use Rattle.pnp_laws.proofs.Lookups.{node_changed_same, node_changed_other, own_serial, node_from, map_from, some_same}
-use Rattle.pnp_laws.proofs.Lists.{HeadIs, head_found, head_has}
+use Rattle.pnp_laws.proofs.Lists.{head_found, head_has}
 use Rattle.pnp_laws.proofs.OpSteps.{is_Started, is_StopPending, is_Stopped}
 use Rattle.pnp_laws.proofs.WholeSteps.{held, moved_well, troubled_well, plain_state, plain_problem, none_starts, same_starts, entered_others, turned_by, TurnedNext}
 use Rattle.pnp_model.specs.Rebalances as re

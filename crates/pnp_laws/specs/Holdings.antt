@@ -9,7 +9,7 @@ use Rattle.pnp_model.specs.States.{activity_at}
 use Rattle.pnp_model.specs.Tasks.{has_path}
 use Rattle.pnp_model.specs.Rebalances.{movers, plan_of, reqs_of}
 use Rattle.pnp_model.specs.Records.{Node, Activity, Phase, State, Operation, Rebalance, RebalanceStage, Found}
-use Rattle.pnp_model.specs.Records.Phase.{Adding, Searching, Starting, Removing, Due}
+use Rattle.pnp_model.specs.Records.Phase.{Starting}
 use Rattle.pnp_model.specs.Laws.{is_up_to_now, HoldsWhole}
 use Rattle.pnp_labels.specs.declared.states.DevState.TheVariants.{NoStack}
 use Rattle.pnp_laws.specs.Kept.{Ascending}
