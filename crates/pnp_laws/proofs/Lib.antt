@@ -6,6 +6,11 @@ pub mod Closures
 pub mod Orders
 pub mod Ranks
 pub mod Due
+pub mod Aboves
+pub mod Standing
+pub mod TreeChanges
+pub mod TreeMoves
+pub mod Sounds
 pub mod Finishing
 pub mod OpSteps
 pub mod StartSteps
