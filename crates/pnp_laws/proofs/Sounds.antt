@@ -7,8 +7,8 @@ use Rattle.std.proofs.lemmas.Bool.Decides.{nat_tests}
 use Rattle.pnp_model.specs.Keyed.{changed_first, without_first, those}
 use Rattle.pnp_model.specs.Tests.{has, is_surprise_task}
 use Rattle.pnp_model.specs.Records.{Node, Core, Task, State, Step, Duty, Operation}
-use Rattle.pnp_model.specs.Cores.{is_node, node_at, with_state, strip}
-use Rattle.pnp_model.specs.Trees.{children, is_child, above}
+use Rattle.pnp_model.specs.Cores.{is_node, node_at, with_state, strip, bare, drop_node}
+use Rattle.pnp_model.specs.Trees.{children, is_child, above, dependents}
 use Rattle.pnp_model.specs.Diagram.{Walked, Row}
 use Rattle.pnp_model.specs.Laws.{DependentsFirst}
 use Rattle.pnp_labels.specs.Texts.{Text}
@@ -18,12 +18,12 @@ use Rattle.pnp_labels.specs.declared.label.Label.{Label}
 use Rattle.pnp_labels.specs.declared.states.DevState.TheVariants.{NoStack, Stopped}
 use Rattle.pnp_laws.specs.Kept.{Ascending, is_idle}
 use Rattle.pnp_laws.specs.Due.{leads, is_due}
-use Rattle.pnp_laws.proofs.Lookups.{own_serial, some_same, node_from, node_missing, node_changed_same, left_missing}
-use Rattle.pnp_laws.proofs.Due.{leads_append, none_leads}
+use Rattle.pnp_laws.proofs.Lookups.{own_serial, some_same, node_from, node_missing, node_changed_same, left_missing, left_from}
+use Rattle.pnp_laws.proofs.Due.{leads_append, none_leads, RootIsOwn}
 use Rattle.pnp_laws.proofs.Aboves.{due_more, has_cases}
 use Rattle.pnp_laws.proofs.Standing.{Tree, TasksUp, DutyUp, DueBut, waiting, StageKept, Stands, Sound}
-use Rattle.pnp_laws.proofs.TreeChanges.{Alike, SameTree, same_still, same_changed, tree_same, above_same}
-use Rattle.pnp_laws.proofs.TreeMoves.{Childless}
+use Rattle.pnp_laws.proofs.TreeChanges.{Alike, SameTree, SameNodes, same_still, same_changed, tree_same, nodes_same, above_same}
+use Rattle.pnp_laws.proofs.TreeMoves.{Childless, was_stripped, now_stripped, tree_stripped, tree_left, above_left}
 use Rattle.pnp_laws.proofs.Closures.{tail_at}
 use Rattle.pnp_laws.proofs.Ranks.{and_both}
 
@@ -61,15 +61,15 @@ leads_first tasks task kind j h = grind (arith, nat_tests)
 -- Due ---------------------------------------------------------------------------------------
 
 -- the nodes are the same but for states, and only those that wait become Stopped
-pub due_same : (rest next : List ℕ) (tasks more : List Task) (c d : Core) → SameTree c d → LeadsMore tasks more →
-    ((k : ℕ) (n m : Node) → node_at k c.nodes ≡ Some n → node_at k d.nodes ≡ Some m → m.state ≡ Stopped → (n.state ≡ Stopped) ⊎ (has next k ≡ true)) →
-    ((k : ℕ) (m : Node) → node_at k d.nodes ≡ Some m → m.state ≡ Stopped → has rest k ≡ true → (is_due more d.nodes k ≡ true) ⊎ (has next k ≡ true)) →
-    DueBut rest tasks c.nodes → DueBut next more d.nodes
-due_same rest next tasks more c d same leads states left due k m at stopped =
-    let old = same.from k m at in
-    elim (states k old.0 m old.1 at stopped) [
-      | inl was ↦ elim (due k old.0 old.1 was) [
-        | inl h ↦ inl (due_more tasks more c.nodes d.nodes k leads (above_same c d same k m at) h)
+pub due_same : (rest next : List ℕ) (tasks more : List Task) (old new : List Node) → SameNodes old new → LeadsMore tasks more →
+    ((k : ℕ) (n m : Node) → node_at k old ≡ Some n → node_at k new ≡ Some m → m.state ≡ Stopped → (n.state ≡ Stopped) ⊎ (has next k ≡ true)) →
+    ((k : ℕ) (m : Node) → node_at k new ≡ Some m → m.state ≡ Stopped → has rest k ≡ true → (is_due more new k ≡ true) ⊎ (has next k ≡ true)) →
+    DueBut rest tasks old → DueBut next more new
+due_same rest next tasks more old new same leads states left due k m at stopped =
+    let was = same.from k m at in
+    elim (states k was.0 m was.1 at stopped) [
+      | inl is ↦ elim (due k was.0 was.1 is) [
+        | inl h ↦ inl (due_more tasks more old new k leads (above_same old new same k) h)
         | inr h ↦ left k m at stopped h
       ]
       | inr h ↦ inr h
@@ -84,31 +84,31 @@ due_still rest next tasks more old new same leads left due k m at stopped =
       | inr h ↦ inr (left k h)
     ]
 
--- one node changes its state
-pub due_changed : (rest next : List ℕ) (tasks more : List Task) (c d : Core) (j : ℕ) (f : Node → Node) (node : Node) → d.nodes ≡ changed_first (is_node j) f c.nodes → ((x : Node) → (f x).serial ≡ x.serial) → node_at j c.nodes ≡ Some node →
-    SameTree c d → LeadsMore tasks more → ((f node).state ≡ Stopped → (node.state ≡ Stopped) ⊎ (has next j ≡ true)) →
-    ((k : ℕ) → has rest k ≡ true → (has next k ≡ true) ⊎ ((j ≡ k) × (((f node).state ≡ Stopped) → is_due more d.nodes j ≡ true))) →
-    DueBut rest tasks c.nodes → DueBut next more d.nodes
-due_changed rest next tasks more c d j f node is keeps at same leads state left due =
-    let now : node_at j d.nodes ≡ Some (f node) = subst (λ (x : List Node). node_at j x ≡ Some (f node)) (sym is) (node_changed_same j f c.nodes keeps ∙ ap (option_map f) at) in
-    due_same rest next tasks more c d same leads
+-- one node changes
+pub due_changed : (rest next : List ℕ) (tasks more : List Task) (old new : List Node) (j : ℕ) (f : Node → Node) (node : Node) → new ≡ changed_first (is_node j) f old → ((x : Node) → (f x).serial ≡ x.serial) → node_at j old ≡ Some node →
+    SameNodes old new → LeadsMore tasks more → ((f node).state ≡ Stopped → (node.state ≡ Stopped) ⊎ (has next j ≡ true)) →
+    ((k : ℕ) → has rest k ≡ true → (has next k ≡ true) ⊎ ((j ≡ k) × (((f node).state ≡ Stopped) → is_due more new j ≡ true))) →
+    DueBut rest tasks old → DueBut next more new
+due_changed rest next tasks more old new j f node is keeps at same leads state left due =
+    let now : node_at j new ≡ Some (f node) = subst (λ (x : List Node). node_at j x ≡ Some (f node)) (sym is) (node_changed_same j f old keeps ∙ ap (option_map f) at) in
+    due_same rest next tasks more old new same leads
     (λ k n m was there stopped.
-    elim (node_from j k f c.nodes m keeps (subst (λ (x : List Node). node_at k x ≡ Some m) is there)) [
+    elim (node_from j k f old m keeps (subst (λ (x : List Node). node_at k x ≡ Some m) is there)) [
       | inl (e, (y, q, r)) ↦
-          let at_k = subst (λ (i : ℕ). node_at i c.nodes ≡ Some node) e at in
-          let one : node ≡ y = some_same (node_at k c.nodes) node y at_k q in
-          let two : node ≡ n = some_same (node_at k c.nodes) node n at_k was in
+          let at_k = subst (λ (i : ℕ). node_at i old ≡ Some node) e at in
+          let one : node ≡ y = some_same (node_at k old) node y at_k q in
+          let two : node ≡ n = some_same (node_at k old) node n at_k was in
           let now2 : (f node).state ≡ Stopped = ap (λ (z : Node). (f z).state) one ∙ sym (ap (λ (z : Node). z.state) r) ∙ stopped in
           elim (state now2) [ inl h ↦ inl (ap (λ (z : Node). z.state) (sym two) ∙ h) | inr h ↦ inr (subst (λ (i : ℕ). has next i ≡ true) e h) ]
-      | inr (e, q) ↦ inl (let one : n ≡ m = some_same (node_at k c.nodes) n m was q in ap (λ (z : Node). z.state) one ∙ stopped)
+      | inr (d, q) ↦ inl (let one : n ≡ m = some_same (node_at k old) n m was q in ap (λ (z : Node). z.state) one ∙ stopped)
     ])
     (λ k m there stopped h.
     elim (left k h) [
       | inl g ↦ inr g
       | inr (e, g) ↦
-          let there_j = subst (λ (i : ℕ). node_at i d.nodes ≡ Some m) (sym e) there in
-          let one : f node ≡ m = some_same (node_at j d.nodes) (f node) m now there_j in
-          inl (subst (λ (i : ℕ). is_due more d.nodes i ≡ true) e (g (ap (λ (z : Node). z.state) one ∙ stopped)))
+          let there_j = subst (λ (i : ℕ). node_at i new ≡ Some m) (sym e) there in
+          let one : f node ≡ m = some_same (node_at j new) (f node) m now there_j in
+          inl (subst (λ (i : ℕ). is_due more new i ≡ true) e (g (ap (λ (z : Node). z.state) one ∙ stopped)))
     ])
     due
 
@@ -200,3 +200,62 @@ sound_walk s t node minor bad y is same next at up row tasks stage due stands =
         childless = λ k n there gone. absurd (stay_same s.core t.core same k n there gone);
       };
     }
+
+-- a device lost its drivers
+pub sound_strip : (s t : State) (node : Node) → t.core ≡ strip node.serial s.core → t.next_serial ≡ s.next_serial → node_at node.serial s.core.nodes ≡ Some node → Row node.state Minor.Remove false NoStack → Childless node.serial s.core.nodes →
+    ((j : ℕ) (m : Node) → has (dependents s.core node.serial) j ≡ true → node_at j t.core.nodes ≡ Some m → m.stack ≡ []) → TasksUp t.tasks → StageKept t.operation t.core → DueBut (waiting t.operation) t.tasks t.core.nodes →
+    Stands s → Sound s (record { label = Label.State node.path NoStack; state = t })
+sound_strip s t node is next at row alone bare_first tasks stage due stands =
+    let now : node_at node.serial t.core.nodes ≡ Some (bare node) =
+    subst (λ (c : Core). node_at node.serial c.nodes ≡ Some (bare node)) (sym is) (node_changed_same node.serial bare s.core.nodes (λ x. refl) ∙ ap (option_map bare) at) in
+    record {
+      stands = record { tree = subst (λ (i : ℕ). Tree i t.core) (sym next) (subst (λ (c : Core). Tree s.next_serial c) (sym is) (tree_stripped s.next_serial node.serial s.core alone stands.tree)); up = tasks; stage = stage; due = due };
+      walked = (node.serial, node, bare node, Minor.Remove, false, at, now, refl, refl, row);
+      first = record {
+        bare = λ path e k n there own j m dep there_j.
+            let f : node.path ≡ path = cc in
+            let k_is : k ≡ node.serial = stands.tree.paths k node.serial n node there at (own ∙ sym f) in
+            bare_first j m (subst (λ (i : ℕ). has (dependents s.core i) j ≡ true) k_is dep) there_j;
+        childless = λ k n there gone.
+            absurd (let kept = now_stripped node.serial k s.core n there in let kept2 = subst (λ (c : Core). node_at k c.nodes ≡ Some kept.0) (sym is) kept.1 in cc);
+      };
+    }
+
+pub nodes_stripped : (j : ℕ) (c : Core) → SameNodes c.nodes (strip j c).nodes
+nodes_stripped j c =
+    record {
+      from = λ k m at. let was = was_stripped j k c m at in (was.node, was.at, was.parent);
+      to = λ k n at. now_stripped j k c n at;
+    }
+
+-- nothing becomes Stopped by losing drivers
+pub due_stripped : (rest : List ℕ) (tasks more : List Task) (c d : Core) (j : ℕ) (node : Node) → d ≡ strip j c → node_at j c.nodes ≡ Some node → LeadsMore tasks more → DueBut rest tasks c.nodes → DueBut rest more d.nodes
+due_stripped rest tasks more c d j node is at leads due =
+    due_changed rest rest tasks more c.nodes d.nodes j bare node (ap (λ (x : Core). x.nodes) is) (λ x. refl) at
+    (subst (λ (x : Core). SameNodes c.nodes x.nodes) (sym is) (nodes_stripped j c)) leads (λ e. absurd (cc)) (λ k h. inl h) due
+
+-- a device left
+pub sound_left : (s t : State) (label : Label) (node : Node) → IsPlain label → t.core ≡ drop_node node.serial s.core → t.next_serial ≡ s.next_serial → Ascending 0 s.core.nodes → Childless node.serial s.core.nodes →
+    TasksUp t.tasks → StageKept t.operation t.core → DueBut (waiting t.operation) t.tasks t.core.nodes → Stands s → Sound s (record { label = label; state = t })
+sound_left s t label node plain is next order alone tasks stage due stands =
+    record {
+      stands = record { tree = subst (λ (i : ℕ). Tree i t.core) (sym next) (subst (λ (c : Core). Tree s.next_serial c) (sym is) (tree_left s.next_serial node.serial s.core order alone stands.tree)); up = tasks; stage = stage; due = due };
+      walked = walked_plain label s.core.nodes t.core.nodes plain;
+      first = record {
+        bare = λ path e. absurd (not_state label path NoStack plain e);
+        childless = λ k n there gone.
+            let gone2 = subst (λ (c : Core). node_at k c.nodes ≡ None) is gone in
+            let k_is : node.serial ≡ k = left_missing node.serial k s.core.nodes n there gone2 in
+            subst (λ (i : ℕ). children i s.core.nodes ≡ []) k_is (no_children 0 node.serial s.core.nodes order alone);
+      };
+    }
+
+pub due_left : (rest : List ℕ) (tasks more : List Task) (c d : Core) (j : ℕ) → d ≡ drop_node j c → Ascending 0 c.nodes → Childless j c.nodes → RootIsOwn c.nodes → j ≢ 0 → LeadsMore tasks more → DueBut rest tasks c.nodes → DueBut rest more d.nodes
+due_left rest tasks more c d j is order alone root up leads due =
+    subst (λ (x : Core). DueBut rest more x.nodes) (sym is)
+    (λ k m at stopped.
+    let from = left_from j k c.nodes m order at in
+    elim (due k m from.1 stopped) [
+      | inl h ↦ inl (due_more tasks more c.nodes (drop_node j c).nodes k leads (above_left k j c alone root up k from.0) h)
+      | inr h ↦ inr h
+    ])

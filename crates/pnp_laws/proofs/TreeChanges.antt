@@ -116,31 +116,41 @@ tree_same next c d same tree =
           tree.paths j k a.0 b.0 a.1 b.1 (sym a.2.path ∙ e ∙ b.2.path);
     }
 
--- what stands above is the same
-above_alike : (n : ℕ) (c d : Core) → SameTree c d → (k : ℕ) (m : Node) → node_at k d.nodes ≡ Some m → (above_in n d.nodes k ≡ above_in n c.nodes k)
-above_alike n c d same k m at = by_fuel n k (node_at k d.nodes) refl
-  where
-    up : List Node → ℕ → Option Node → List ℕ
-    up nodes n o = elim o as (λ _. List ℕ) [ None ↦ [] | Some node ↦ node.parent ∷ above_in n nodes node.parent ]
+-- The same devices with the same parents
 
-    none_back : (k : ℕ) (o : Option Node) → node_at k c.nodes ≡ o → node_at k d.nodes ≡ None → o ≡ None
+pub record SameNodes (old new : List Node) : Type 0 where
+  pub from : (k : ℕ) (m : Node) → node_at k new ≡ Some m → (n : Node) × (node_at k old ≡ Some n) × (m.parent ≡ n.parent)
+  pub to : (k : ℕ) (n : Node) → node_at k old ≡ Some n → (m : Node) × (node_at k new ≡ Some m)
+
+pub nodes_same : (c d : Core) → SameTree c d → SameNodes c.nodes d.nodes
+nodes_same c d same =
+    record {
+      from = λ k m at. let old = same.from k m at in (old.0, old.1, old.2.parent);
+      to = λ k n at. let now = same.to k n at in (now.0, now.1);
+    }
+
+-- what stands above is the same
+above_alike : (n : ℕ) (old new : List Node) → SameNodes old new → (k : ℕ) → above_in n new k ≡ above_in n old k
+above_alike n old new same k = by_fuel n k (node_at k new) refl
+  where
+    none_back : (k : ℕ) (o : Option Node) → node_at k old ≡ o → node_at k new ≡ None → o ≡ None
     none_back k None e h = refl
     none_back k (Some n) e h = absurd (let now = same.to k n e in let q = now.1 in cc)
 
-    by_fuel : (n k : ℕ) (o : Option Node) → node_at k d.nodes ≡ o → above_in n d.nodes k ≡ above_in n c.nodes k
+    by_fuel : (n k : ℕ) (o : Option Node) → node_at k new ≡ o → above_in n new k ≡ above_in n old k
     by_fuel zero k o e = refl
     by_fuel (suc n) k None e =
-        let gone = none_back k (node_at k c.nodes) refl e in
-        ap (λ (o : Option Node). elim o as (λ _. List ℕ) [ None ↦ [] | Some node ↦ node.parent ∷ above_in n d.nodes node.parent ]) e
-        ∙ sym (ap (λ (o : Option Node). elim o as (λ _. List ℕ) [ None ↦ [] | Some node ↦ node.parent ∷ above_in n c.nodes node.parent ]) gone)
+        let gone = none_back k (node_at k old) refl e in
+        ap (λ (o : Option Node). elim o as (λ _. List ℕ) [ None ↦ [] | Some node ↦ node.parent ∷ above_in n new node.parent ]) e
+        ∙ sym (ap (λ (o : Option Node). elim o as (λ _. List ℕ) [ None ↦ [] | Some node ↦ node.parent ∷ above_in n old node.parent ]) gone)
     by_fuel (suc n) k (Some m) e =
-        let old = same.from k m e in
-        let p = old.2.parent in
-        let more = by_fuel n m.parent (node_at m.parent d.nodes) refl in
-        ap (λ (o : Option Node). elim o as (λ _. List ℕ) [ None ↦ [] | Some node ↦ node.parent ∷ above_in n d.nodes node.parent ]) e
+        let was = same.from k m e in
+        let p = was.2 in
+        let more = by_fuel n m.parent (node_at m.parent new) refl in
+        ap (λ (o : Option Node). elim o as (λ _. List ℕ) [ None ↦ [] | Some node ↦ node.parent ∷ above_in n new node.parent ]) e
         ∙ ap (λ (ks : List ℕ). m.parent ∷ ks) more
-        ∙ ap (λ (i : ℕ). i ∷ above_in n c.nodes i) p
-        ∙ sym (ap (λ (o : Option Node). elim o as (λ _. List ℕ) [ None ↦ [] | Some node ↦ node.parent ∷ above_in n c.nodes node.parent ]) old.1)
+        ∙ ap (λ (i : ℕ). i ∷ above_in n old i) p
+        ∙ sym (ap (λ (o : Option Node). elim o as (λ _. List ℕ) [ None ↦ [] | Some node ↦ node.parent ∷ above_in n old node.parent ]) was.1)
 
-pub above_same : (c d : Core) → SameTree c d → (k : ℕ) (m : Node) → node_at k d.nodes ≡ Some m → above d.nodes k ≡ above c.nodes k
-above_same c d same k m at = above_alike k c d same k m at
+pub above_same : (old new : List Node) → SameNodes old new → (k : ℕ) → above new k ≡ above old k
+above_same old new same k = above_alike k old new same k
