@@ -11,6 +11,8 @@ pub mod Standing
 pub mod TreeChanges
 pub mod TreeMoves
 pub mod Sounds
+pub mod SoundStarts
+pub mod Finishes
 pub mod Finishing
 pub mod OpSteps
 pub mod StartSteps
