@@ -13,6 +13,7 @@ pub mod TreeMoves
 pub mod Sounds
 pub mod SoundStarts
 pub mod Finishes
+pub mod SoundOps
 pub mod Finishing
 pub mod OpSteps
 pub mod StartSteps

@@ -112,7 +112,7 @@ abbrev pub SurpriseOrder : Core → Surprise → SurpriseStage → Type 0
 SurpriseOrder c o (SurpriseStage.Telling w) = Finishes c o.set o.set
 SurpriseOrder c o (SurpriseStage.Removing w) = Finishes c o.set o.todo
 SurpriseOrder c o SurpriseStage.Settling = Finishes c o.set o.todo
-SurpriseOrder c o SurpriseStage.Ending = Finishes c o.set o.todo
+SurpriseOrder c o SurpriseStage.Ending = Finishes c o.set []
 
 abbrev pub StageKept : Option Operation → Core → Type 0
 StageKept None c = Unit {0}
