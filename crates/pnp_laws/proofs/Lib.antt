@@ -14,6 +14,7 @@ pub mod Sounds
 pub mod SoundStarts
 pub mod Finishes
 pub mod SoundOps
+pub mod SoundRemovals
 pub mod Finishing
 pub mod OpSteps
 pub mod StartSteps
