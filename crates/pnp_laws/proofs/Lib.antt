@@ -15,6 +15,8 @@ pub mod SoundStarts
 pub mod Finishes
 pub mod SoundOps
 pub mod SoundRemovals
+pub mod Restarts
+pub mod SoundRebalances
 pub mod Finishing
 pub mod OpSteps
 pub mod StartSteps
