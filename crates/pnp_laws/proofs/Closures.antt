@@ -20,7 +20,7 @@ tail_at lo x xs j m g at =
       | inr d ↦ grind (arith, nat_tests)
     ]
 
-head_at : (x : Node) (xs : List Node) → node_at x.serial (x ∷ xs) ≡ Some x
+pub head_at : (x : Node) (xs : List Node) → node_at x.serial (x ∷ xs) ≡ Some x
 head_at x xs = grind (arith, nat_tests)
 
 -- of the nodes, as many pass the one test as pass the other

@@ -17,6 +17,8 @@ pub mod SoundOps
 pub mod SoundRemovals
 pub mod Restarts
 pub mod SoundRebalances
+pub mod SoundTasks
+pub mod SoundMachine
 pub mod Finishing
 pub mod OpSteps
 pub mod StartSteps

@@ -87,7 +87,7 @@ no_dependents c k order none j h =
 
 -- The cases ------------------------------------------------------------------------------------
 
-plain_alike : (f : Node → Node) (node : Node) → (f node).serial ≡ node.serial → (f node).parent ≡ node.parent → (f node).path ≡ node.path → (f node).state ≡ node.state → Alike node (f node)
+pub plain_alike : (f : Node → Node) (node : Node) → (f node).serial ≡ node.serial → (f node).parent ≡ node.parent → (f node).path ≡ node.path → (f node).state ≡ node.state → Alike node (f node)
 plain_alike f node a b c d = record { serial = a; parent = b; path = c; idle = λ h. ap is_idle (sym d) ∙ h }
 
 sound_add : (s : State) (c : Core) (node : Node) (d : ℕ) (ds : List ℕ) (answer : Answer) → c.nodes ≡ s.core.nodes → c.relations ≡ s.core.relations → s.operation ≡ None → node_at node.serial s.core.nodes ≡ Some node → is_idle node.state ≡ true → Stands s →

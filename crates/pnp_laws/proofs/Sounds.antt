@@ -119,7 +119,7 @@ abbrev pub IsPlain : Label → Type 0
 IsPlain (Label.State path state) = ⊥
 IsPlain _ = Unit {0}
 
-walked_plain : (label : Label) (old new : List Node) → IsPlain label → Walked label old new
+pub walked_plain : (label : Label) (old new : List Node) → IsPlain label → Walked label old new
 walked_plain (Label.State p x) old new h = absurd h
 walked_plain (Label.Add p d x) old new h = tt
 walked_plain (Label.Did w x) old new h = tt
@@ -151,7 +151,7 @@ AllStay old new = (k : ℕ) (n : Node) → node_at k old ≡ Some n → node_at 
 pub stay_same : (c d : Core) → SameTree c d → AllStay c.nodes d.nodes
 stay_same c d same k n at gone = let now = same.to k n at in let there = now.1 in cc
 
-first_stays : (label : Label) (c d : Core) → IsPlain label → AllStay c.nodes d.nodes → DependentsFirst label c d
+pub first_stays : (label : Label) (c d : Core) → IsPlain label → AllStay c.nodes d.nodes → DependentsFirst label c d
 first_stays label c d plain stay =
     record { bare = λ path e. absurd (not_state label path NoStack plain e); childless = λ k n at gone. absurd (stay k n at gone) }
 
