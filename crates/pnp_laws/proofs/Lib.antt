@@ -29,6 +29,8 @@ pub mod TaskSteps
 pub mod EventSteps
 pub mod MachineSteps
 pub mod Runs
+pub mod EventsPlain
+pub mod RunsStand
 pub mod Sharing
 pub mod SharingSteps
 pub mod SharingRemovals
