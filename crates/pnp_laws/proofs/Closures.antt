@@ -13,14 +13,14 @@ use Rattle.pnp_laws.proofs.Lookups.{own_serial, none_below}
 use Rattle.pnp_laws.proofs.Lists.{those_found, serials_distinct}
 
 -- a node of the tail is found in the whole
-tail_at : (lo : ℕ) (x : Node) (xs : List Node) (j : ℕ) (m : Node) → Ascending lo (x ∷ xs) → node_at j xs ≡ Some m → node_at j (x ∷ xs) ≡ Some m
+pub tail_at : (lo : ℕ) (x : Node) (xs : List Node) (j : ℕ) (m : Node) → Ascending lo (x ∷ xs) → node_at j xs ≡ Some m → node_at j (x ∷ xs) ≡ Some m
 tail_at lo x xs j m g at =
     elim (cases_eq x.serial j) [
       | inl e ↦ absurd (let none = none_below (suc x.serial) j xs (omega arith) g.1 in cc)
       | inr d ↦ grind (arith, nat_tests)
     ]
 
-head_at : (x : Node) (xs : List Node) → node_at x.serial (x ∷ xs) ≡ Some x
+pub head_at : (x : Node) (xs : List Node) → node_at x.serial (x ∷ xs) ≡ Some x
 head_at x xs = grind (arith, nat_tests)
 
 -- of the nodes, as many pass the one test as pass the other

@@ -21,7 +21,7 @@ use Rattle.pnp_laws.proofs.OpSteps.{is_Stopped}
 use Rattle.pnp_laws.proofs.Lists.{those_found}
 
 -- where another kind of task comes first, nothing leads
-none_leads : (tasks : List Task) (task : Task) → slice_get tasks 0 ≡ Some task → is_surprise_task task.kind ≡ false → leads tasks ≡ []
+pub none_leads : (tasks : List Task) (task : Task) → slice_get tasks 0 ≡ Some task → is_surprise_task task.kind ≡ false → leads tasks ≡ []
 none_leads [] task h e = refl
 none_leads (t ∷ tasks) task h e = grind (arith)
 
@@ -81,7 +81,7 @@ child_in c k j m closed at up h =
 abbrev pub RootIsOwn : List Node → Type 0
 RootIsOwn nodes = (m : Node) → node_at 0 nodes ≡ Some m → m.parent ≡ 0
 
-above_zero : (n : ℕ) (nodes : List Node) (j : ℕ) → RootIsOwn nodes → has (above_in n nodes 0) j ≡ true → 0 ≡ j
+pub above_zero : (n : ℕ) (nodes : List Node) (j : ℕ) → RootIsOwn nodes → has (above_in n nodes 0) j ≡ true → 0 ≡ j
 above_zero zero nodes j root h = absurd (cc)
 above_zero (suc n) nodes j root h = by_node (λ g. above_zero n nodes j root g) (node_at 0 nodes) refl h
   where

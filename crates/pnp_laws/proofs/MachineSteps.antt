@@ -12,6 +12,7 @@ use Rattle.pnp_model.specs.Removals.{begun_removal}
 use Rattle.pnp_model.specs.Tasks.{begin, rebalance_idle, rebalance_task, disable_task, begin_step}
 use Rattle.pnp_model.specs.Machine.{operation_walk, is_waiting, is_ready, operation_next, is_target_in_world, activity_next, begin_alone, task_of, task_next, idle_next, next_of, next, IsStep}
 use Rattle.pnp_laws.specs.Kept.{Good, IsGood, Lawful, Fits, OperationFits, BeginsWell, OrderFits, removes, is_stopped}
+use Rattle.pnp_laws.specs.RunsWell.{MayBegin}
 use Rattle.pnp_labels.specs.declared.states.DevState.{DevState}
 use Rattle.pnp_labels.specs.declared.label.Label.{Label}
 use Rattle.pnp_labels.specs.declared.label.OpKind.{OpKind}
@@ -119,14 +120,14 @@ lawful_operation s (Operation.Surprising o) false runs good =
     let g = subst (λ (x : List Activity). Good s.next_serial s.core.nodes x (Some (Operation.Surprising o))) good.alone good in
     lawful_surprise s o (is_target_in_world s o) o.stage (first_node s.core.nodes o.todo) refl good.alone good.fits g
 
-lawful_next_of : (settings : Settings) (s : State) (o : Option Operation) → s.operation ≡ o → BeginsWell s.core s.tasks → IsGood s → LawfulNext s (next_of settings s o)
+lawful_next_of : (settings : Settings) (s : State) (o : Option Operation) → s.operation ≡ o → MayBegin s → IsGood s → LawfulNext s (next_of settings s o)
 lawful_next_of settings s (Some o) h begins good =
     lawful_operation s o (is_waiting (operation_walk o)) h (subst (λ (x : Option Operation). Good s.next_serial s.core.nodes s.activities x) h good)
 lawful_next_of settings s None h begins good =
-    lawful_idle_next settings s (find is_ready s.activities) refl h begins good
+    lawful_idle_next settings s (find is_ready s.activities) refl h (begins h) good
     (subst (λ (x : Option Operation). Good s.next_serial s.core.nodes s.activities x) h good)
 
-pub lawful_next : (settings : Settings) (s : State) → BeginsWell s.core s.tasks → IsGood s → LawfulNext s (next settings s)
+pub lawful_next : (settings : Settings) (s : State) → MayBegin s → IsGood s → LawfulNext s (next settings s)
 lawful_next settings s begins good = lawful_next_of settings s s.operation refl begins good
 
 lawful_doing : (settings : Settings) (s : State) (o : Option (Doing Step)) (step : Step) → LawfulNext s o → IsStep settings o step → Lawful s step
@@ -134,5 +135,5 @@ lawful_doing settings s None step l h = absurd h
 lawful_doing settings s (Some (Does one)) step l h = subst (λ (x : Step). Lawful s x) (sym h) l
 lawful_doing settings s (Some (Searches problem by_answer)) step l h = subst (λ (x : Step). Lawful s x) (sym h.2) (l h.0)
 
-pub lawful_step : (settings : Settings) (s : State) (step : Step) → BeginsWell s.core s.tasks → IsGood s → IsStep settings (next settings s) step → Lawful s step
+pub lawful_step : (settings : Settings) (s : State) (step : Step) → MayBegin s → IsGood s → IsStep settings (next settings s) step → Lawful s step
 lawful_step settings s step begins good h = lawful_doing settings s (next settings s) step (lawful_next settings s begins good) h

@@ -25,7 +25,7 @@ pub RootFree_less : (c d : Core) → NoNewEdge c d → RootFree c → RootFree d
 RootFree_less c d less free k m at h = let old = less k 0 m at h in free k old.0 old.1 old.2
 
 -- an edge is seen by serial and parent alone
-same_edge : (c : Core) (k : ℕ) (m n : Node) → m.serial ≡ n.serial → m.parent ≡ n.parent → hangs_on c (k ∷ []) m ≡ hangs_on c (k ∷ []) n
+pub same_edge : (c : Core) (k : ℕ) (m n : Node) → m.serial ≡ n.serial → m.parent ≡ n.parent → hangs_on c (k ∷ []) m ≡ hangs_on c (k ∷ []) n
 same_edge c k m n e f =
     ap (λ (i : ℕ). (has (k ∷ []) m.parent && not (i == 0)) || list_any (λ r. r.member == i && has (k ∷ []) r.owner) c.relations) e
     ∙ ap (λ (p : ℕ). (has (k ∷ []) p && not (n.serial == 0)) || list_any (λ r. r.member == n.serial && has (k ∷ []) r.owner) c.relations) f
@@ -40,7 +40,7 @@ edges_changed j f c keeps parent k i m at h =
 pub edges_left : (j : ℕ) (c : Core) → Ascending 0 c.nodes → NoNewEdge c (drop_node j c)
 edges_left j c order k i m at h = (m, (left_from j i c.nodes m order at).1, h)
 
-or_cases : (a b : Bool) → (a || b) ≡ true → (a ≡ true) ⊎ (b ≡ true)
+pub or_cases : (a b : Bool) → (a || b) ≡ true → (a ≡ true) ⊎ (b ≡ true)
 or_cases true b h = inl refl
 or_cases false b h = inr h
 
@@ -78,12 +78,12 @@ edges_stripped j c k i m at h =
 
 -- A device joins ---------------------------------------------------------------------------
 
-and_both : (a b : Bool) → (a && b) ≡ true → (a ≡ true) × (b ≡ true)
+pub and_both : (a b : Bool) → (a && b) ≡ true → (a ≡ true) × (b ≡ true)
 and_both true true h = (refl, refl)
 and_both true false h = absurd (cc)
 and_both false b h = absurd (cc)
 
-one_has : (k i : ℕ) → has (k ∷ []) i ≡ true → k ≡ i
+pub one_has : (k i : ℕ) → has (k ∷ []) i ≡ true → k ≡ i
 one_has k i h = grind (arith, nat_tests)
 
 -- relations are of devices with lower serials
@@ -91,7 +91,7 @@ abbrev pub RelationsBelow : ℕ → List Relation → Type 0
 RelationsBelow hi [] = Unit {0}
 RelationsBelow hi (r ∷ rs) = (r.owner < hi) × (r.member < hi) × RelationsBelow hi rs
 
-related_below : (hi k i : ℕ) (rs : List Relation) → RelationsBelow hi rs → list_any (λ r. r.member == i && has (k ∷ []) r.owner) rs ≡ true → (k < hi) × (i < hi)
+pub related_below : (hi k i : ℕ) (rs : List Relation) → RelationsBelow hi rs → list_any (λ r. r.member == i && has (k ∷ []) r.owner) rs ≡ true → (k < hi) × (i < hi)
 related_below hi k i [] g h = absurd (cc)
 related_below hi k i (r ∷ rs) g h =
     elim (or_cases (r.member == i && has (k ∷ []) r.owner) (list_any (λ r. r.member == i && has (k ∷ []) r.owner) rs) h) [
@@ -107,7 +107,7 @@ related_below hi k i (r ∷ rs) g h =
     ]
 
 -- an edge goes from a lower number to a lower number
-edge_below : (hi : ℕ) (c : Core) (k j : ℕ) (m : Node) → RelationsBelow hi c.relations → j < hi → m.parent < hi → m.serial ≡ j → hangs_on c (k ∷ []) m ≡ true → k < hi
+pub edge_below : (hi : ℕ) (c : Core) (k j : ℕ) (m : Node) → RelationsBelow hi c.relations → j < hi → m.parent < hi → m.serial ≡ j → hangs_on c (k ∷ []) m ≡ true → k < hi
 edge_below hi c k j m rs low parent own h =
     elim (or_cases (has (k ∷ []) m.parent && not (m.serial == 0)) (list_any (λ r. r.member == m.serial && has (k ∷ []) r.owner) c.relations) h) [
       | inl a ↦ let e = one_has k m.parent (and_both (has (k ∷ []) m.parent) (not (m.serial == 0)) a).0 in omega arith
@@ -170,7 +170,7 @@ grown_direct : (c : Core) (k j : ℕ) (m : Node) → Ascending 0 c.nodes → nod
 grown_direct c k j m g at h = those_serial 0 (hangs_on c (k ∷ [])) c.nodes j m g at h
 
 -- an edge of the new relations is old, or the new one
-new_edge : (c : Core) (r : Relation) (k : ℕ) (m : Node) → hangs_on (add_relation r c) (k ∷ []) m ≡ true → (hangs_on c (k ∷ []) m ≡ true) ⊎ ((m.serial ≡ r.member) × (k ≡ r.owner))
+pub new_edge : (c : Core) (r : Relation) (k : ℕ) (m : Node) → hangs_on (add_relation r c) (k ∷ []) m ≡ true → (hangs_on c (k ∷ []) m ≡ true) ⊎ ((m.serial ≡ r.member) × (k ≡ r.owner))
 new_edge c r k m h =
     elim (or_cases (has (k ∷ []) m.parent && not (m.serial == 0)) (list_any (λ r. r.member == m.serial && has (k ∷ []) r.owner) (c.relations ++ r ∷ [])) h) [
       | inl a ↦ inl (or_left (has (k ∷ []) m.parent && not (m.serial == 0)) (list_any (λ r. r.member == m.serial && has (k ∷ []) r.owner) c.relations) a)

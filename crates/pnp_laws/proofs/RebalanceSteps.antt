@@ -99,23 +99,23 @@ fewer_asked todo more agreed k x within apart h = grind (arith, nat_tests, start
 
 -- the head of what is to do
 
-rootless_head : (j : ℕ) (todo : List ℕ) → HeadIs j todo → has todo 0 ≡ false → j ≢ 0
+pub rootless_head : (j : ℕ) (todo : List ℕ) → HeadIs j todo → has todo 0 ≡ false → j ≢ 0
 rootless_head j todo h g = λ z. let there = head_has j todo h in let here = subst (λ (i : ℕ). has todo i ≡ true) z there in cc
 
 rest_rootless : (todo : List ℕ) → has todo 0 ≡ false → has (rest todo) 0 ≡ false
 rest_rootless [] h = h
 rest_rootless (i ∷ is) h = grind (arith, nat_tests)
 
-head_started : (todo agreed : List ℕ) (j : ℕ) (x : DevState) → has todo j ≡ true → asking_state todo agreed j x ≡ true → x ≡ Started
+pub head_started : (todo agreed : List ℕ) (j : ℕ) (x : DevState) → has todo j ≡ true → asking_state todo agreed j x ≡ true → x ≡ Started
 head_started todo agreed j x h g = is_Started x (grind (arith))
 
-head_pending : (todo : List ℕ) (j : ℕ) (x : DevState) → has todo j ≡ true → pending_state todo j x ≡ true → x ≡ StopPending
+pub head_pending : (todo : List ℕ) (j : ℕ) (x : DevState) → has todo j ≡ true → pending_state todo j x ≡ true → x ≡ StopPending
 head_pending todo j x h g = is_StopPending x (grind (arith))
 
-head_stopping : (todo agreed : List ℕ) (j : ℕ) (x : DevState) → has todo j ≡ true → stopping_state todo agreed j x ≡ true → x ≡ StopPending
+pub head_stopping : (todo agreed : List ℕ) (j : ℕ) (x : DevState) → has todo j ≡ true → stopping_state todo agreed j x ≡ true → x ≡ StopPending
 head_stopping todo agreed j x h g = is_StopPending x (grind (arith))
 
-head_stopped : (todo : List ℕ) (j : ℕ) (x : DevState) → has todo j ≡ true → stopped_state todo j x ≡ true → x ≡ Stopped
+pub head_stopped : (todo : List ℕ) (j : ℕ) (x : DevState) → has todo j ≡ true → stopped_state todo j x ≡ true → x ≡ Stopped
 head_stopped todo j x h g = is_Stopped x (grind (arith))
 
 -- a device of the walk that is in state x, where the operation runs

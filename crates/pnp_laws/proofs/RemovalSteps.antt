@@ -100,7 +100,7 @@ head_querying todo agreed set j x h g = is_Started x (grind (arith))
 pub head_refusing : (todo agreed : List ℕ) (j : ℕ) (x : DevState) → has todo j ≡ true → refusing_state todo agreed j x ≡ true → x ≡ Started
 head_refusing todo agreed j x h g = is_Started x (grind (arith))
 
-head_restoring : (todo : List ℕ) (j : ℕ) (x : DevState) → has todo j ≡ true → restoring_state todo j x ≡ true → x ≡ RemovePending
+pub head_restoring : (todo : List ℕ) (j : ℕ) (x : DevState) → has todo j ≡ true → restoring_state todo j x ≡ true → x ≡ RemovePending
 head_restoring todo j x h g = is_RemovePending x (grind (arith))
 
 asked_apart : (todo more agreed : List ℕ) (j : ℕ) → has more j ≡ false → ((k : ℕ) → has more k ≡ true → has todo k ≡ true) → Apart todo agreed → Apart more (j ∷ agreed)

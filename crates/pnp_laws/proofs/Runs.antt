@@ -3,15 +3,15 @@ use Rattle.std.proofs.Common.{ℕ, ◌≡◌, true, List, [], ◌∷◌, Some, r
 use Rattle.std.proofs.lemmas.Bool.Decides.{nat_tests}
 use Rattle.pnp_model.specs.Records.{Node, Driver, State, Step, Settings}
 use Rattle.pnp_model.specs.Cores.{node_at}
-use Rattle.pnp_laws.specs.Kept.{IsGood, Lawful, BeginsWell, HasStackOf, is_calm}
+use Rattle.pnp_laws.specs.Kept.{IsGood, Lawful, HasStackOf, is_calm}
 use Rattle.pnp_model.specs.Diagram.{FollowsDiagram}
 use Rattle.pnp_model.specs.Runs.{Entry, Goes, printed, opening, root_node}
-use Rattle.pnp_laws.specs.RunsWell.{RunWell}
+use Rattle.pnp_laws.specs.RunsWell.{MayBegin, RunWell}
 use Rattle.pnp_model.specs.Runs.Entry.{Happens, Did}
 use Rattle.pnp_laws.proofs.MachineSteps.{lawful_step}
 use Rattle.pnp_laws.proofs.EventSteps.{lawful_happens}
 
-pub lawful_goes : (settings : Settings) (old : State) (entry : Entry) (new : State) → BeginsWell old.core old.tasks → IsGood old → Goes settings old entry new → Lawful old (record { label = printed entry; state = new })
+pub lawful_goes : (settings : Settings) (old : State) (entry : Entry) (new : State) → MayBegin old → IsGood old → Goes settings old entry new → Lawful old (record { label = printed entry; state = new })
 lawful_goes settings old (Happens event label) new begins good h = subst (λ (t : Step). Lawful old t) h.1 (lawful_happens old event good)
 lawful_goes settings old (Did label) new begins good h = lawful_step settings old (record { label = label; state = new }) begins good h
 
@@ -42,7 +42,7 @@ opening_is_good rack =
     }
 
 pub run_follows_diagram : (settings : Settings) (rack : List Driver) (entries : List Entry) (mid : State) (entry : Entry) (new : State) →
-    RunWell settings (opening rack) entries mid → BeginsWell mid.core mid.tasks → Goes settings mid entry new → FollowsDiagram (printed entry) mid.core.nodes new.core.nodes
+    RunWell settings (opening rack) entries mid → MayBegin mid → Goes settings mid entry new → FollowsDiagram (printed entry) mid.core.nodes new.core.nodes
 run_follows_diagram settings rack entries mid entry new run begins goes =
     (lawful_goes settings mid entry new begins (run_is_good settings (opening rack) entries mid run (opening_is_good rack)) goes).diagram
 

@@ -14,9 +14,9 @@ use Rattle.pnp_model.specs.States.{activity_at}
 use Rattle.pnp_model.specs.Starts.{add_driver, searched, end_start, start_on, remove_on, undo, act}
 use Rattle.pnp_model.specs.Removals.{begun_removal, end_of}
 use Rattle.pnp_model.specs.Tasks.{skip, joining, gone_child, gone_or_listed, join_or_on, list_up, list_step, numbered, install_named, install_few, install_service, install_best, start_enabled, start_idle, start_bare, start_step, begin, rebalance_idle, rebalance_task, disable_task, begin_step}
-use Rattle.pnp_laws.specs.Kept.{IsGood, BeginsWell, removes}
+use Rattle.pnp_laws.specs.Kept.{IsGood, removes}
 use Rattle.pnp_model.specs.Runs.{Entry, Goes, printed, opening}
-use Rattle.pnp_laws.specs.RunsWell.{RunWell}
+use Rattle.pnp_laws.specs.RunsWell.{MayBegin, RunWell}
 use Rattle.pnp_model.specs.Laws.{IsWithin, AllWithin}
 use Rattle.pnp_model.specs.Runs.Entry.{Happens, Did}
 use Rattle.pnp_labels.specs.Texts.{Text}
@@ -262,7 +262,7 @@ right_next settings s step none is =
 
 -- The law -------------------------------------------------------------------------------------
 
-pub veto_law : (settings : Settings) (s0 s1 s2 s3 : State) (mid : List Entry) (kind end_kind : OpKind) (path end_path q : Text) → IsGood s0 → BeginsWell s0.core s0.tasks → s0.operation ≡ None →
+pub veto_law : (settings : Settings) (s0 s1 s2 s3 : State) (mid : List Entry) (kind end_kind : OpKind) (path end_path q : Text) → IsGood s0 → MayBegin s0 → s0.operation ≡ None →
     removes kind ≡ true → Goes settings s0 (Did (Label.Begin kind path)) s1 → RunWell settings s1 mid s2 → AllWithin mid → Goes settings s2 (Did (Label.End end_kind end_path (OpEnd.Veto q))) s3 →
     (s3.core.nodes ≡ s0.core.nodes) × (s3.core.relations ≡ s0.core.relations) × (s3.core.reserved ≡ s0.core.reserved)
 veto_law settings s0 s1 s2 s3 mid kind end_kind path end_path q good begins none r g0 run w g3 =
@@ -275,7 +275,7 @@ veto_law settings s0 s1 s2 s3 mid kind end_kind path end_path q good begins none
     let two = veto_run s0.core settings s1 mid s2 w good1 run since1 in
     veto_end s0.core settings s2 s3 end_kind end_path q two.1 two.0 g3
 
-pub run_veto : (settings : Settings) (rack : List Driver) (pre mid : List Entry) (s0 s1 s2 s3 : State) (kind end_kind : OpKind) (path end_path q : Text) → RunWell settings (opening rack) pre s0 → BeginsWell s0.core s0.tasks → s0.operation ≡ None →
+pub run_veto : (settings : Settings) (rack : List Driver) (pre mid : List Entry) (s0 s1 s2 s3 : State) (kind end_kind : OpKind) (path end_path q : Text) → RunWell settings (opening rack) pre s0 → MayBegin s0 → s0.operation ≡ None →
     removes kind ≡ true → Goes settings s0 (Did (Label.Begin kind path)) s1 → RunWell settings s1 mid s2 → AllWithin mid → Goes settings s2 (Did (Label.End end_kind end_path (OpEnd.Veto q))) s3 →
     (s3.core.nodes ≡ s0.core.nodes) × (s3.core.relations ≡ s0.core.relations) × (s3.core.reserved ≡ s0.core.reserved)
 run_veto settings rack pre mid s0 s1 s2 s3 kind end_kind path end_path q first begins none r g0 run w g3 =

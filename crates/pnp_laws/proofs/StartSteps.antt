@@ -103,7 +103,7 @@ idle_calm Stopped h = cc
 idle_calm RemovePending h = cc
 idle_calm SurpriseRemoved h = cc
 
-stacked_idle : (x : DevState) → is_idle x ≡ true → stacked x ≡ NotStarted
+pub stacked_idle : (x : DevState) → is_idle x ≡ true → stacked x ≡ NotStarted
 stacked_idle NoStack h = refl
 stacked_idle NotStarted h = refl
 stacked_idle Started h = cc

@@ -57,10 +57,10 @@ told_here todo set j h g = grind (arith)
 told_there : (todo more set : List ℕ) (k : ℕ) (x : DevState) → has more k ≡ has todo k → telling_state todo set k x ≡ true → telling_state more set k x ≡ true
 told_there todo more set k x e h = grind (arith)
 
-head_told : (todo set : List ℕ) (j : ℕ) (x : DevState) → has todo j ≡ true → telling_state todo set j x ≡ true → is_told x ≡ true
+pub head_told : (todo set : List ℕ) (j : ℕ) (x : DevState) → has todo j ≡ true → telling_state todo set j x ≡ true → is_told x ≡ true
 head_told todo set j x h g = grind (arith)
 
-told_or : (x : DevState) → is_told x ≡ true → Row x Minor.SurpriseRemoval false SurpriseRemoved × (x ≢ NoStack)
+pub told_or : (x : DevState) → is_told x ≡ true → Row x Minor.SurpriseRemoval false SurpriseRemoved × (x ≢ NoStack)
 told_or NoStack h = absurd (cc)
 told_or NotStarted h = absurd (cc)
 told_or Started h = (surprise, λ e. cc)
@@ -75,7 +75,7 @@ rest_last k (j ∷ []) h = tt
 rest_last k (j ∷ i ∷ ks) h = h.1
 
 -- where the target stands first, nothing stands behind it
-last_alone : (k : ℕ) (todo : List ℕ) → HeadIs k todo → IsLast k todo → rest todo ≡ []
+pub last_alone : (k : ℕ) (todo : List ℕ) → HeadIs k todo → IsLast k todo → rest todo ≡ []
 last_alone k [] h l = absurd h
 last_alone k (j ∷ []) h l = refl
 last_alone k (j ∷ i ∷ ks) h l = absurd (l.0 h)

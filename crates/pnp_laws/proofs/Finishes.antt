@@ -1,0 +1,218 @@
+-- Devices are finished in leaving order: nothing hangs on the one that is next but what is done.
+use Rattle.std.proofs.Common.{ℕ, zero, suc, ◌+◌, ◌<◌, ◌≤◌, ◌≡◌, ◌≢◌, ◌==◌, ◌⊎◌, inl, inr, Bool, true, false, not, ◌&&◌, ◌||◌, cond, List, [], ◌∷◌, length, Option, Some, None, refl, sym, ap, ◌∙◌, subst, arith}
+use Rattle.std.specs.List.{list_any}
+use Rattle.std.proofs.lemmas.Bool.{cases_eq}
+use Rattle.std.proofs.lemmas.Bool.Decides.{nat_tests}
+use Rattle.pnp_model.specs.Keyed.{those}
+use Rattle.pnp_model.specs.Tests.{has}
+use Rattle.pnp_model.specs.Records.{Node, Core}
+use Rattle.pnp_model.specs.Cores.{node_at, strip, drop_node}
+use Rattle.pnp_model.specs.Frames.{rest}
+use Rattle.pnp_model.specs.Trees.{hangs_on, set_of, dependents, direct, leaving_in, leaving}
+use Rattle.pnp_labels.specs.declared.states.DevState.TheVariants.{NoStack}
+use Rattle.pnp_laws.specs.Kept.{Ascending, Within, HasStackOf}
+use Rattle.pnp_laws.proofs.Lookups.{own_serial, none_below, Ascending-changed, Ascending-without, left_from}
+use Rattle.pnp_laws.proofs.Lists.{HeadIs, head_has, rest_has, those_found}
+use Rattle.pnp_laws.proofs.Closures.{Closed, OfNodes, is_in, closed_keeps, closed_within, hangs_some, hangs_more, those_serial}
+use Rattle.pnp_laws.proofs.Orders.{Ranked, dependents_rank, order_has, order_all}
+use Rattle.pnp_laws.proofs.Ranks.{NoNewEdge, edges_stripped, edges_left}
+use Rattle.pnp_laws.proofs.Due.{Sorted, set_closed, order_sorted, dependents_less}
+use Rattle.pnp_laws.proofs.Standing.{Tree, Finishes}
+use Rattle.pnp_laws.proofs.TreeChanges.{SameTree, edges_same}
+use Rattle.pnp_laws.proofs.TreeMoves.{Childless, was_stripped}
+use Rattle.pnp_laws.proofs.SoundStarts.{child_hangs}
+
+-- The begin -------------------------------------------------------------------------------------
+
+count_none : (lo k : ℕ) (nodes : List Node) → k < lo → Ascending lo nodes → length (those (is_in (k ∷ [])) nodes) ≡ 0
+count_none lo k [] l g = refl
+count_none lo k (n ∷ ns) l g =
+    let more = count_none (suc n.serial) k ns (omega arith) g.1 in
+    let low = g.0 in
+    let out : is_in (k ∷ []) n ≡ false = grind (arith, nat_tests) in
+    ap (λ (b : Bool). length (cond b (n ∷ those (is_in (k ∷ [])) ns) (those (is_in (k ∷ [])) ns))) out ∙ more
+
+count_one : (lo k : ℕ) (nodes : List Node) (m : Node) → Ascending lo nodes → node_at k nodes ≡ Some m → length (those (is_in (k ∷ [])) nodes) ≡ 1
+count_one lo k [] m g at = absurd (cc)
+count_one lo k (n ∷ ns) m g at =
+    elim (cases_eq n.serial k) [
+      | inl e ↦
+          let none = count_none (suc n.serial) k ns (omega arith) g.1 in
+          let here : is_in (k ∷ []) n ≡ true = grind (arith, nat_tests) in
+          ap (λ (b : Bool). length (cond b (n ∷ those (is_in (k ∷ [])) ns) (those (is_in (k ∷ [])) ns))) here ∙ ap suc none
+      | inr d ↦
+          let more = count_one (suc n.serial) k ns m g.1 (grind (arith, nat_tests)) in
+          let out : is_in (k ∷ []) n ≡ false = grind (arith, nat_tests) in
+          ap (λ (b : Bool). length (cond b (n ∷ those (is_in (k ∷ [])) ns) (those (is_in (k ∷ [])) ns))) out ∙ more
+    ]
+
+pub set_is_closed : (c : Core) (k : ℕ) (m : Node) → Ascending 0 c.nodes → node_at k c.nodes ≡ Some m → Closed c (set_of c k)
+set_is_closed c k m g at = set_closed c k (sym (count_one 0 k c.nodes m g at)) g
+
+pub leaving_all : (rank : ℕ → ℕ) (c : Core) (k j : ℕ) → Ascending 0 c.nodes → Ranked rank c → has (set_of c k) j ≡ true → has (leaving c k) j ≡ true
+leaving_all rank c k j g ranked h = order_all rank (length (set_of c k)) c (set_of c k) j g ranked (omega arith) h
+
+pub leaving_has : (rank : ℕ → ℕ) (c : Core) (k j : ℕ) → Ascending 0 c.nodes → Ranked rank c → has (leaving c k) j ≡ true → has (set_of c k) j ≡ true
+leaving_has rank c k j g ranked h = order_has rank (length (set_of c k)) c (set_of c k) j g ranked (omega arith) h
+
+leaving_closed : (rank : ℕ → ℕ) (c : Core) (k : ℕ) (m : Node) → Ascending 0 c.nodes → Ranked rank c → node_at k c.nodes ≡ Some m → Closed c (leaving c k)
+leaving_closed rank c k m g ranked at j n there h =
+    let some = hangs_some c (leaving c k) n h in
+    leaving_all rank c k j g ranked (set_is_closed c k m g at j n there (hangs_more c some.0 (set_of c k) n (leaving_has rank c k some.0 g ranked some.1) some.2))
+
+-- what hangs on the set is in the set, so all is still to do
+pub finishes_whole : (c : Core) (set : List ℕ) → Closed c set → Sorted c set → Finishes c set set
+finishes_whole c set closed sorted =
+    record {
+      closed = closed;
+      bare = λ k n at a b. absurd (cc);
+      below = λ j m at up h. closed j m at (hangs_more c m.parent set m h (child_hangs c m.parent j m at up refl));
+      sorted = sorted;
+    }
+
+pub finishes_begun : (next : ℕ) (c : Core) (k : ℕ) (m : Node) → Ascending 0 c.nodes → Tree next c → node_at k c.nodes ≡ Some m → Finishes c (leaving c k) (leaving c k)
+finishes_begun next c k m g tree at =
+    finishes_whole c (leaving c k) (leaving_closed tree.rank c k m g tree.ranked at) (order_sorted tree.rank (length (set_of c k)) c (set_of c k) g tree.ranked (omega arith))
+
+-- Edges go away ------------------------------------------------------------------------------------
+
+pub record Fades (c d : Core) : Type 0 where
+  pub before : Ascending 0 c.nodes
+  pub after : Ascending 0 d.nodes
+  pub less : NoNewEdge c d
+
+pub fades_same : (c d : Core) → Ascending 0 c.nodes → Ascending 0 d.nodes → SameTree c d → Fades c d
+fades_same c d a b same = record { before = a; after = b; less = edges_same c d same }
+
+pub fades_strip : (j : ℕ) (c : Core) → Ascending 0 c.nodes → Fades c (strip j c)
+fades_strip j c a = record { before = a; after = Ascending-changed 0 j _ c.nodes (λ x. refl) a; less = edges_stripped j c }
+
+pub fades_left : (j : ℕ) (c : Core) → Ascending 0 c.nodes → Fades c (drop_node j c)
+fades_left j c a = record { before = a; after = Ascending-without 0 j c.nodes a; less = edges_left j c a }
+
+pub closed_less : (c d : Core) (set : List ℕ) → Fades c d → Closed c set → Closed d set
+closed_less c d set fades closed j m at h =
+    let some = hangs_some d set m h in
+    let old = fades.less some.0 j m at some.2 in
+    closed j old.0 old.1 (hangs_more c some.0 set old.0 some.1 old.2)
+
+pub sorted_less : (c d : Core) (todo : List ℕ) → Fades c d → Sorted c todo → Sorted d todo
+sorted_less c d [] fades h = tt
+sorted_less c d (k ∷ ks) fades h =
+    ((λ j in_rest dep. h.0 j in_rest (dependents_less c d k fades.before fades.after fades.less j dep)), sorted_less c d ks fades h.1)
+
+-- all of the set is still to do
+pub finishes_all : (c d : Core) (set : List ℕ) → Fades c d → Finishes c set set → Finishes d set set
+finishes_all c d set fades h = finishes_whole d set (closed_less c d set fades h.closed) (sorted_less c d set fades h.sorted)
+
+-- the same nodes, with the same states
+pub finishes_still : (c d : Core) (set todo : List ℕ) → Fades c d → d.nodes ≡ c.nodes → Finishes c set todo → Finishes d set todo
+finishes_still c d set todo fades e h =
+    record {
+      closed = closed_less c d set fades h.closed;
+      bare = λ k n at. h.bare k n (subst (λ (x : List Node). node_at k x ≡ Some n) e at);
+      below = λ j m at. h.below j m (subst (λ (x : List Node). node_at j x ≡ Some m) e at);
+      sorted = sorted_less c d todo fades h.sorted;
+    }
+
+-- the head loses its drivers
+pub finishes_strip : (c : Core) (set todo : List ℕ) (j : ℕ) → Ascending 0 c.nodes → has todo j ≡ true → Finishes c set todo → Finishes (strip j c) set todo
+finishes_strip c set todo j order here h =
+    let fades = fades_strip j c order in
+    record {
+      closed = closed_less c (strip j c) set fades h.closed;
+      bare = λ k n at a b.
+          let was = was_stripped j k c n at in
+          let other : j ≢ k = λ e. let z = subst (λ (i : ℕ). has todo i ≡ true) e here in cc in
+          subst (λ (x : Node). x.state ≡ NoStack) (sym (was.other other)) (h.bare k was.node was.at a b);
+      below = λ i m at up a.
+          let was = was_stripped j i c m at in
+          h.below i was.node was.at up (subst (λ (p : ℕ). has set p ≡ true) was.parent a);
+      sorted = sorted_less c (strip j c) todo fades h.sorted;
+    }
+
+sorted_rest : (c : Core) (todo : List ℕ) → Sorted c todo → Sorted c (rest todo)
+sorted_rest c [] h = tt
+sorted_rest c (k ∷ ks) h = h.1
+
+not_rest : (todo : List ℕ) (j k : ℕ) → HeadIs j todo → j ≢ k → has (rest todo) k ≡ false → has todo k ≡ false
+not_rest todo j k head d h = sym (rest_has j k todo head d) ∙ h
+
+-- the head is done, and stays
+pub finishes_stays : (c d : Core) (set todo : List ℕ) (j : ℕ) (node : Node) → Fades c d → HeadIs j todo → node_at j c.nodes ≡ Some node → has set node.parent ≡ false →
+    ((k : ℕ) (m : Node) → node_at k d.nodes ≡ Some m → (n : Node) × (node_at k c.nodes ≡ Some n) × (m.parent ≡ n.parent) × (m.state ≡ n.state)) → node.state ≡ NoStack →
+    Finishes c set todo → Finishes d set (rest todo)
+finishes_stays c d set todo j node fades head at over from bare h =
+    record {
+      closed = closed_less c d set fades h.closed;
+      bare = λ k n there a b.
+          let was = from k n there in
+          elim (cases_eq j k) [
+            | inl e ↦
+                let at_k = subst (λ (i : ℕ). node_at i c.nodes ≡ Some node) e at in
+                let one : node ≡ was.0 = let q = was.1 in cc in
+                was.3 ∙ ap (λ (x : Node). x.state) (sym one) ∙ bare
+            | inr q ↦ was.3 ∙ h.bare k was.0 was.1 a (not_rest todo j k head q b)
+          ];
+      below = λ i m there up a.
+          let was = from i m there in
+          let a2 = subst (λ (p : ℕ). has set p ≡ true) was.2 a in
+          elim (cases_eq j i) [
+            | inl e ↦
+                let at_i = subst (λ (x : ℕ). node_at x c.nodes ≡ Some node) e at in
+                let one : node ≡ was.0 = let q = was.1 in cc in
+                absurd (let a3 = subst (λ (x : Node). has set x.parent ≡ true) (sym one) a2 in cc)
+            | inr q ↦ rest_has j i todo head q ∙ h.below i was.0 was.1 up a2
+          ];
+      sorted = sorted_less c d (rest todo) fades (sorted_rest c todo h.sorted);
+    }
+
+-- the head is done, and left
+pub finishes_left : (c : Core) (set todo : List ℕ) (j : ℕ) → Ascending 0 c.nodes → HeadIs j todo → Finishes c set todo → Finishes (drop_node j c) set (rest todo)
+finishes_left c set todo j order head h =
+    let fades = fades_left j c order in
+    record {
+      closed = closed_less c (drop_node j c) set fades h.closed;
+      bare = λ k n there a b. let from = left_from j k c.nodes n order there in h.bare k n from.1 a (not_rest todo j k head from.0 b);
+      below = λ i m there up a. let from = left_from j i c.nodes m order there in rest_has j i todo head from.0 ∙ h.below i m from.1 up a;
+      sorted = sorted_less c (drop_node j c) (rest todo) fades (sorted_rest c todo h.sorted);
+    }
+
+-- What hangs on the head ---------------------------------------------------------------------------
+
+sorted_head : (c : Core) (todo : List ℕ) (j : ℕ) → HeadIs j todo → Sorted c todo → (i : ℕ) → has (rest todo) i ≡ true → has (dependents c j) i ≡ true → ⊥
+sorted_head c [] j head h i a b = absurd head
+sorted_head c (k ∷ ks) j head h i a b = h.0 i a (subst (λ (x : ℕ). has (dependents c x) i ≡ true) (sym head) b)
+
+-- the dependents of the head are not among what is to do
+pub dependents_done : (next : ℕ) (c : Core) (set todo : List ℕ) (j : ℕ) → Ascending 0 c.nodes → Tree next c → HeadIs j todo → Finishes c set todo → (i : ℕ) → has (dependents c j) i ≡ true → has todo i ≡ true → ⊥
+dependents_done next c set todo j order tree head h i dep in_todo =
+    elim (cases_eq j i) [
+      | inl e ↦ (let low = dependents_rank tree.rank c j order tree.ranked i dep in let same = ap tree.rank e in absurd (omega arith))
+      | inr d ↦ sorted_head c todo j head h.sorted i (rest_has j i todo head d ∙ in_todo) dep
+    ]
+
+-- they are in the set
+pub dependents_in : (c : Core) (set : List ℕ) (j : ℕ) → Ascending 0 c.nodes → Closed c set → has set j ≡ true → (i : ℕ) → has (dependents c j) i ≡ true → has set i ≡ true
+dependents_in c set j order closed own i dep =
+    closed_within c (direct c j) set order closed
+    (λ k h. let f = those_found 0 (hangs_on c (j ∷ [])) c.nodes k order h in closed k f.0 f.1 (hangs_more c j set f.0 own f.2))
+    i dep
+
+-- so they have no drivers
+pub dependents_bare : (next : ℕ) (c : Core) (set todo : List ℕ) (j : ℕ) → Ascending 0 c.nodes → Tree next c → HeadIs j todo → has set j ≡ true → Finishes c set todo → (i : ℕ) (m : Node) → has (dependents c j) i ≡ true → node_at i c.nodes ≡ Some m → m.state ≡ NoStack
+dependents_bare next c set todo j order tree head own h i m dep at =
+    h.bare i m at (dependents_in c set j order h.closed own i dep) (none (has todo i) refl)
+  where
+    none : (b : Bool) → has todo i ≡ b → has todo i ≡ false
+    none true e = absurd (dependents_done next c set todo j order tree head h i dep e)
+    none false e = e
+
+child_dependent : (c : Core) (k j : ℕ) (m : Node) → Ascending 0 c.nodes → node_at j c.nodes ≡ Some m → hangs_on c (k ∷ []) m ≡ true → has (dependents c k) j ≡ true
+child_dependent c k j m g at h = closed_keeps c (direct c k) j m g at (those_serial 0 (hangs_on c (k ∷ [])) c.nodes j m g at h)
+
+-- and the head has no children
+pub head_childless : (next : ℕ) (c : Core) (set todo : List ℕ) (j : ℕ) → Ascending 0 c.nodes → Tree next c → HeadIs j todo → has set j ≡ true → Finishes c set todo → Childless j c.nodes
+head_childless next c set todo j order tree head own h i m at up e =
+    dependents_done next c set todo j order tree head h i (child_dependent c j i m order at (child_hangs c j i m at up e))
+    (h.below i m at up (subst (λ (p : ℕ). has set p ≡ true) (sym e) own))

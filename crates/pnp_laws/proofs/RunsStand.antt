@@ -1,0 +1,117 @@
+-- In every run the tree stands, each operation begins well, and each step follows the diagram.
+use Rattle.std.proofs.Common.{ℕ, ◌<◌, ◌≡◌, ◌≢◌, inl, inr, Bool, true, false, List, [], ◌∷◌, Option, Some, None, refl, sym, ap, ◌∙◌, subst, arith}
+use Rattle.std.proofs.lemmas.Bool.Decides.{nat_tests}
+use Rattle.pnp_model.specs.Tests.{has}
+use Rattle.pnp_model.specs.Records.{Node, Core, Driver, State, Step, Settings}
+use Rattle.pnp_model.specs.Cores.{node_at}
+use Rattle.pnp_model.specs.Trees.{hangs_on}
+use Rattle.pnp_model.specs.Diagram.{Walked}
+use Rattle.pnp_model.specs.Events.{happens}
+use Rattle.pnp_model.specs.Laws.{Reaches, DependentsFirst, DiagramLaw, DependentsLaw}
+use Rattle.pnp_model.specs.Runs.{Entry, Goes, Run, printed, opening, root_node}
+use Rattle.pnp_model.specs.Runs.Entry.{Happens, Did}
+use Rattle.pnp_labels.specs.declared.event.Event.{Event}
+use Rattle.pnp_labels.specs.declared.label.Label.{Label}
+use Rattle.pnp_labels.specs.declared.states.DevState.TheVariants.{NoStack, Started, Stopped}
+use Rattle.pnp_laws.specs.Kept.{IsGood, is_idle}
+use Rattle.pnp_laws.specs.RunsWell.{MayBegin, RunWell}
+use Rattle.pnp_laws.proofs.Runs.{lawful_goes, opening_is_good, root_is}
+use Rattle.pnp_laws.proofs.Ranks.{or_cases}
+use Rattle.pnp_laws.proofs.TreeMoves.{edge_cases}
+use Rattle.pnp_laws.proofs.Standing.{Tree, Stands, Sound}
+use Rattle.pnp_laws.proofs.Sounds.{IsPlain, walked_plain, first_stays}
+use Rattle.pnp_laws.proofs.EventsPlain.{plain_happens}
+use Rattle.pnp_laws.proofs.SoundMachine.{sound_step, stands_happens, begins_well}
+
+-- what each state of a run keeps
+pub record Kept (s : State) : Type 0 where
+  pub good : IsGood s
+  pub stands : Stands s
+
+pub may_begin : (s : State) → Kept s → MayBegin s
+may_begin s kept none = begins_well s none kept.good kept.stands
+
+-- a state of a run goes on to such a state
+pub kept_goes : (settings : Settings) (old : State) (entry : Entry) (new : State) → Kept old → Goes settings old entry new → Kept new
+kept_goes settings old (Happens event label) new kept goes =
+    record {
+      good = (lawful_goes settings old (Happens event label) new (may_begin old kept) kept.good goes).good;
+      stands = subst (λ (t : Step). Stands t.state) goes.1 (stands_happens old event kept.good kept.stands);
+    }
+kept_goes settings old (Did label) new kept goes =
+    record {
+      good = (lawful_goes settings old (Did label) new (may_begin old kept) kept.good goes).good;
+      stands = (sound_step settings old (record { label = label; state = new }) kept.good kept.stands goes).stands;
+    }
+
+pub kept_run : (settings : Settings) (old : State) (entries : List Entry) (new : State) → Run settings old entries new → Kept old → Kept new
+kept_run settings old [] new run kept = subst (λ (s : State). Kept s) (sym run) kept
+kept_run settings old (entry ∷ rest) new (mid, goes, run) kept = kept_run settings mid rest new run (kept_goes settings old entry mid kept goes)
+
+pub run_well : (settings : Settings) (old : State) (entries : List Entry) (new : State) → Run settings old entries new → Kept old → RunWell settings old entries new
+run_well settings old [] new run kept = run
+run_well settings old (entry ∷ rest) new (mid, goes, run) kept = (may_begin old kept, (mid, goes, run_well settings mid rest new run (kept_goes settings old entry mid kept goes)))
+
+-- The opening state ---------------------------------------------------------------------------------
+
+-- in the opening state nothing hangs on anything
+no_edge : (rack : List Driver) (k j : ℕ) (m : Node) → node_at j (root_node ∷ []) ≡ Some m → hangs_on (opening rack).core (k ∷ []) m ≡ true → ⊥
+no_edge rack k j m at h =
+    let is = (root_is j m at).0 in
+    elim (edge_cases (opening rack).core k m h) [
+      | inl (e, up) ↦ up (ap (λ (x : Node). x.serial) (sym is))
+      | inr q ↦ cc
+    ]
+
+opening_stands : (rack : List Driver) → Stands (opening rack)
+opening_stands rack =
+    record {
+      tree = record {
+        rooted = λ j m at up. absurd (up (root_is j m at).1);
+        root = λ m at. ap (λ (x : Node). x.parent) (sym (root_is 0 m at).0);
+        related = tt;
+        rank = λ k. 0;
+        ranked = λ k j m at h. absurd (no_edge rack k j m at h);
+        free = λ k m at h. no_edge rack k 0 m at h;
+        idle = λ k n at idle j m there h. no_edge rack k j m there h;
+        paths = λ j k n m at there e. (root_is j n at).1 ∙ sym (root_is k m there).1;
+      };
+      up = tt;
+      stage = tt;
+      due = λ k n at e. absurd (let s = ap (λ (x : Node). x.state) (root_is k n at).0 in cc);
+    }
+
+opening_kept : (rack : List Driver) → Kept (opening rack)
+opening_kept rack = record { good = opening_is_good rack; stands = opening_stands rack }
+
+pub reaches_kept : (settings : Settings) (rack : List Driver) (entries : List Entry) (s : State) → Reaches settings rack entries s → Kept s
+reaches_kept settings rack entries s run = kept_run settings (opening rack) entries s run (opening_kept rack)
+
+pub reaches_well : (settings : Settings) (rack : List Driver) (entries : List Entry) (s : State) → Reaches settings rack entries s → RunWell settings (opening rack) entries s
+reaches_well settings rack entries s run = run_well settings (opening rack) entries s run (opening_kept rack)
+
+-- The laws ------------------------------------------------------------------------------------------
+
+-- an event changes no node, and prints no state
+event_plain : (settings : Settings) (old : State) (event : Event) (label : Label) (new : State) → Goes settings old (Happens event label) new → IsPlain label × (new.core.nodes ≡ old.core.nodes)
+event_plain settings old event label new goes =
+    let plain = plain_happens old event in
+    (subst (λ (t : Step). IsPlain t.label) goes.1 plain.plain, subst (λ (t : Step). t.state.core.nodes ≡ old.core.nodes) goes.1 plain.nodes)
+
+walked_goes : (settings : Settings) (old : State) (entry : Entry) (new : State) → Kept old → Goes settings old entry new → Walked (printed entry) old.core.nodes new.core.nodes
+walked_goes settings old (Happens event label) new kept goes = walked_plain label old.core.nodes new.core.nodes (event_plain settings old event label new goes).0
+walked_goes settings old (Did label) new kept goes = (sound_step settings old (record { label = label; state = new }) kept.good kept.stands goes).walked
+
+first_goes : (settings : Settings) (old : State) (entry : Entry) (new : State) → Kept old → Goes settings old entry new → DependentsFirst (printed entry) old.core new.core
+first_goes settings old (Happens event label) new kept goes =
+    let plain = event_plain settings old event label new goes in
+    first_stays label old.core new.core plain.0 (λ k n at gone. absurd (let gone2 = subst (λ (x : List Node). node_at k x ≡ None) plain.1 gone in cc))
+first_goes settings old (Did label) new kept goes = (sound_step settings old (record { label = label; state = new }) kept.good kept.stands goes).first
+
+pub every_run_follows : DiagramLaw
+every_run_follows settings rack entries old entry new run goes =
+    let kept = reaches_kept settings rack entries old run in
+    ((lawful_goes settings old entry new (may_begin old kept) kept.good goes).diagram, walked_goes settings old entry new kept goes)
+
+pub dependents_go_first : DependentsLaw
+dependents_go_first settings rack entries old entry new run goes = first_goes settings old entry new (reaches_kept settings rack entries old run) goes

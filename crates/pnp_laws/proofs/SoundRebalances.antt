@@ -1,0 +1,282 @@
+-- Each step of a rebalance keeps the tree and what is due.
+use Rattle.std.proofs.Common.{ℕ, ◌≡◌, ◌≢◌, ◌⊎◌, inl, inr, Bool, true, false, cond, List, [], ◌∷◌, map, length, Option, Some, None, refl, sym, ap, ◌∙◌, subst, arith, reverse}
+use Rattle.std.specs.Option.{option_map}
+use Rattle.std.proofs.lemmas.Bool.{cases_eq}
+use Rattle.std.proofs.lemmas.Bool.Decides.{nat_tests}
+use Rattle.resource_reqs.specs.Spelling.Answer.{assignment, no_fit, spent}
+use Rattle.pnp_model.specs.Keyed.{changed_first, those}
+use Rattle.pnp_model.specs.Tests.{has}
+use Rattle.pnp_model.specs.Records.{Node, Core, Task, State, Operation, Rebalance, RebalanceStage, Walk, Found, Duty, doing_map}
+use Rattle.pnp_model.specs.Records.RebalanceStage.{Asking, TakingBack, Searching, Cancelling, Stuck, Stopping, Committing, Restarting, Failed, Ending}
+use Rattle.pnp_model.specs.Cores.{is_node, node_at, with_state, with_problem}
+use Rattle.pnp_model.specs.Walks.{is_bad}
+use Rattle.pnp_model.specs.Trees.{stands_up}
+use Rattle.pnp_model.specs.Frames.{first_node, rest}
+use Rattle.pnp_model.specs.Rebalances.{ask_on, cancel_on, stop_on, startable, restart_from, restart_on, is_not_above, end_ask, ask_step, take_back, searched, cancel_step, trouble_of, stuck, stop_step, committed, movers, plan_of, commit_step, end_restart, restart_step, failed, over, moved_on, rebalance_step}
+use Rattle.pnp_model.specs.Machine.{rebalance_lifted}
+use Rattle.pnp_model.specs.Diagram.{Row}
+use Rattle.pnp_model.specs.Diagram.Row.{query_stop, query_stop_bad, cancel_stop_refused, cancel_stop, stop, restart, restart_bad}
+use Rattle.pnp_labels.specs.declared.states.DevState.{DevState}
+use Rattle.pnp_labels.specs.declared.words.Minor.{Minor}
+use Rattle.pnp_labels.specs.declared.states.Problem.{Problem}
+use Rattle.pnp_labels.specs.declared.label.OpKind.{OpKind}
+use Rattle.pnp_labels.specs.declared.label.Label.{Label}
+use Rattle.pnp_labels.specs.declared.states.DevState.TheVariants.{NoStack, NotStarted, Started, StopPending, Stopped, RemovePending, SurpriseRemoved}
+use Rattle.pnp_laws.specs.Kept.{Good, Each, Within, RebalanceKeeps, Waits, stopped_state, is_calm, is_idle}
+use Rattle.pnp_laws.specs.Due.{leads, is_due}
+use Rattle.pnp_laws.proofs.Lookups.{some_same, own_serial, found_self, node_from, map_from}
+use Rattle.pnp_laws.proofs.Lists.{HeadIs, head_found, head_has, rest_has}
+use Rattle.pnp_laws.proofs.OpSteps.{has-reverse, stopped_calm, is_Stopped}
+use Rattle.pnp_laws.proofs.RebalanceSteps.{head_started, head_pending, head_stopping, head_stopped, rootless_head}
+use Rattle.pnp_laws.proofs.Aboves.{due_more}
+use Rattle.pnp_laws.proofs.Standing.{TasksUp, DueBut, waiting, rebalance_waiting, StageKept, OrderKept, Stands, Sound, Rising, Ordered}
+use Rattle.pnp_laws.proofs.TreeChanges.{Alike, SameTree, same_changed, same_mapped, nodes_same, tree_same, above_same}
+use Rattle.pnp_laws.proofs.Sounds.{IsPlain, LeadsMore, leads_same, leads_first, due_still, due_same, due_changed, sound_same, sound_walk}
+use Rattle.pnp_laws.proofs.SoundStarts.{SoundNext}
+use Rattle.pnp_laws.proofs.SoundOps.{Work, same_state, op_walk, op_still, problem_alike}
+use Rattle.pnp_laws.proofs.Restarts.{ordered_agreed, ordered_fewer, rising_weaker, rising_rest, rising_startable, due_restart}
+
+-- What comes next, by what is still to do ----------------------------------------------------------
+
+pub order_ask_on : (r : Rebalance) (ks : List ℕ) (c : Core) → Ordered ks r.agreed → StageKept (Some (Operation.Rebalancing (ask_on r ks))) c
+order_ask_on r [] c g = rising_weaker 0 g.0 r.agreed (omega arith) g.2
+order_ask_on r (k ∷ ks) c g = g
+
+pub waits_ask_on : (r : Rebalance) (ks : List ℕ) → waiting (Some (Operation.Rebalancing (ask_on r ks))) ≡ []
+waits_ask_on r [] = refl
+waits_ask_on r (k ∷ ks) = refl
+
+order_cancel_on : (r : Rebalance) (ks : List ℕ) (c : Core) → StageKept (Some (Operation.Rebalancing (cancel_on r ks))) c
+order_cancel_on r [] c = tt
+order_cancel_on r (k ∷ ks) c = tt
+
+waits_cancel_on : (r : Rebalance) (ks : List ℕ) → waiting (Some (Operation.Rebalancing (cancel_on r ks))) ≡ []
+waits_cancel_on r [] = refl
+waits_cancel_on r (k ∷ ks) = refl
+
+order_stop_on : (r : Rebalance) (ks : List ℕ) (c : Core) → Rising 0 r.agreed → StageKept (Some (Operation.Rebalancing (stop_on r ks))) c
+order_stop_on r [] c g = g
+order_stop_on r (k ∷ ks) c g = g
+
+waits_stop_on : (r : Rebalance) (ks : List ℕ) → waiting (Some (Operation.Rebalancing (stop_on r ks))) ≡ r.agreed
+waits_stop_on r [] = refl
+waits_stop_on r (k ∷ ks) = refl
+
+order_restart_from : (r : Rebalance) (ks : List ℕ) (c : Core) → Rising 0 ks → StageKept (Some (Operation.Rebalancing (restart_from r ks))) c
+order_restart_from r [] c g = tt
+order_restart_from r (k ∷ ks) c g = g
+
+waits_restart_from : (r : Rebalance) (ks : List ℕ) → waiting (Some (Operation.Rebalancing (restart_from r ks))) ≡ ks
+waits_restart_from r [] = refl
+waits_restart_from r (k ∷ ks) = refl
+
+due_wider : (rest next : List ℕ) (tasks : List Task) (nodes : List Node) → ((k : ℕ) → has rest k ≡ true → has next k ≡ true) → DueBut rest tasks nodes → DueBut next tasks nodes
+due_wider rest next tasks nodes wider due = due_still rest next tasks tasks nodes nodes refl (leads_same tasks) wider due
+
+-- Asking -------------------------------------------------------------------------------------------
+
+started_is : (x : DevState) → x ≡ Started → (x ≢ NoStack) × (x ≢ Stopped)
+started_is x e = (λ q. cc, λ q. cc)
+
+sound_end_ask : (s : State) (r : Rebalance) (node : Node) (w : Walk) (bad : Bool) → RebalanceKeeps r (Asking w) s.core.nodes → OrderKept r (Asking w) → Work s node r.todo → DueBut [] s.tasks s.core.nodes → Stands s → Sound s (rebalance_lifted s (end_ask s.core r node bad))
+sound_end_ask s r node w false keeps order work due h =
+    let state = head_started r.todo r.agreed node.serial node.state (head_has node.serial r.todo work.head) (keeps.each node.serial node work.at) in
+    op_walk s _ node r.todo [] Minor.QueryStop false Started StopPending work state refl refl refl refl (λ q. absurd (cc)) (λ q. cc) (λ q. cc) query_stop
+    (λ same. order_ask_on (record r { agreed = node.serial ∷ r.agreed }) (rest r.todo) s.core (ordered_agreed node.serial r.todo r.agreed work.head order)) (waits_ask_on (record r { agreed = node.serial ∷ r.agreed }) (rest r.todo)) due h
+sound_end_ask s r node w true keeps order work due h =
+    let state = head_started r.todo r.agreed node.serial node.state (head_has node.serial r.todo work.head) (keeps.each node.serial node work.at) in
+    op_walk s _ node r.todo [] Minor.QueryStop true Started node.state work state refl refl refl refl (λ q. ap is_idle (sym state) ∙ q) (started_is node.state state).0 (started_is node.state state).1 (subst (λ (x : DevState). Row Started Minor.QueryStop true x) (sym state) query_stop_bad)
+    (λ same. order) refl due h
+
+sound_ask : (s : State) (r : Rebalance) (node : Node) (w : Walk) (ends : Bool) → RebalanceKeeps r (Asking w) s.core.nodes → OrderKept r (Asking w) → Work s node r.todo → DueBut [] s.tasks s.core.nodes → Stands s → Sound s (rebalance_lifted s (ask_step s.core r node w ends))
+sound_ask s r node w true keeps order work due h = sound_end_ask s r node w (is_bad w) keeps order work due h
+sound_ask s r node w false keeps order work due h = op_still s _ _ [] tt refl refl refl refl (λ same. order) refl due h
+
+sound_take_back : (s : State) (r : Rebalance) (node : Node) (w : Walk) (ends : Bool) → RebalanceKeeps r (TakingBack w) s.core.nodes → OrderKept r (TakingBack w) → Work s node r.todo → DueBut [] s.tasks s.core.nodes → Stands s → Sound s (rebalance_lifted s (take_back s.core r node w ends))
+sound_take_back s r node w true keeps order work due h =
+    let state = head_started r.todo r.agreed node.serial node.state (head_has node.serial r.todo work.head) (keeps.each node.serial node work.at) in
+    let more = those (is_not_above s.core.nodes node.serial) (rest r.todo) in
+    op_walk s _ node r.todo [] Minor.CancelStop false Started Started work state refl refl refl refl (λ q. absurd (cc)) (λ q. cc) (λ q. cc) cancel_stop_refused
+    (λ same. order_ask_on r more s.core (ordered_fewer (is_not_above s.core.nodes node.serial) node.serial r.todo r.agreed work.head order)) (waits_ask_on r more) due h
+sound_take_back s r node w false keeps order work due h = op_still s _ _ [] tt refl refl refl refl (λ same. order) refl due h
+
+nothing_has : (agreed : List ℕ) (k : ℕ) → has [] k ≡ true → has agreed k ≡ true
+nothing_has agreed k h = absurd (cc)
+
+sound_searched : (s : State) (r : Rebalance) (found : Found) → OrderKept r Searching → DueBut [] s.tasks s.core.nodes → Stands s → Sound s (rebalance_lifted s (searched s.core r found))
+sound_searched s r (assignment plan) order due h =
+    op_still s _ _ r.agreed tt refl refl refl refl (λ same. order_stop_on (record r { found = assignment plan }) (reverse r.agreed) s.core order) (waits_stop_on (record r { found = assignment plan }) (reverse r.agreed))
+    (due_wider [] r.agreed s.tasks s.core.nodes (nothing_has r.agreed) due) h
+sound_searched s r no_fit order due h = op_still s _ _ [] tt refl refl refl refl (λ same. order_cancel_on (record r { found = no_fit }) r.agreed s.core) (waits_cancel_on (record r { found = no_fit }) r.agreed) due h
+sound_searched s r spent order due h = op_still s _ _ [] tt refl refl refl refl (λ same. order_cancel_on (record r { found = spent }) r.agreed s.core) (waits_cancel_on (record r { found = spent }) r.agreed) due h
+
+-- Nothing fits ---------------------------------------------------------------------------------------
+
+sound_cancel : (s : State) (r : Rebalance) (node : Node) (w : Walk) (ends : Bool) → RebalanceKeeps r (Cancelling w) s.core.nodes → Work s node r.todo → DueBut [] s.tasks s.core.nodes → Stands s → Sound s (rebalance_lifted s (cancel_step s.core r node w ends))
+sound_cancel s r node w true keeps work due h =
+    let state = head_pending r.todo node.serial node.state (head_has node.serial r.todo work.head) (keeps.each node.serial node work.at) in
+    op_walk s _ node r.todo [] Minor.CancelStop false StopPending Started work state refl refl refl refl (λ q. absurd (cc)) (λ q. cc) (λ q. cc) cancel_stop (λ same. order_cancel_on r (rest r.todo) s.core) (waits_cancel_on r (rest r.todo)) due h
+sound_cancel s r node w false keeps work due h = op_still s _ _ [] tt refl refl refl refl (λ same. tt) refl due h
+
+sound_stuck : (s : State) (r : Rebalance) → RebalanceKeeps r Stuck s.core.nodes → DueBut [] s.tasks s.core.nodes → Stands s → Sound s (rebalance_lifted s (stuck s.core r))
+sound_stuck s r keeps due h =
+    let node = keeps.waits.0 in
+    let at = keeps.waits.1 in
+    let f = with_problem (Some (trouble_of r.found)) in
+    let t = (rebalance_lifted s (stuck s.core r)).state in
+    let same = same_changed s.core t.core r.target f node refl refl (λ x. refl) at (problem_alike node (Some (trouble_of r.found))) in
+    sound_same s t (Label.Trouble r.path (trouble_of r.found)) tt same refl h.up tt
+    (due_changed [] [] s.tasks s.tasks s.core.nodes t.core.nodes r.target f node refl (λ x. refl) at (nodes_same s.core t.core same) (leads_same s.tasks) (λ q. inl q) (λ k q. inl q) due) h
+
+-- It fits --------------------------------------------------------------------------------------------
+
+sound_stop : (s : State) (r : Rebalance) (node : Node) (w : Walk) (ends : Bool) → RebalanceKeeps r (Stopping w) s.core.nodes → OrderKept r (Stopping w) → Work s node r.todo → DueBut r.agreed s.tasks s.core.nodes → Stands s → Sound s (rebalance_lifted s (stop_step s.core r node w ends))
+sound_stop s r node w true keeps order work due h =
+    let here = head_has node.serial r.todo work.head in
+    let state = head_stopping r.todo r.agreed node.serial node.state here (keeps.each node.serial node work.at) in
+    let t = (rebalance_lifted s (stop_step s.core r node w true)).state in
+    let same = same_state s t node r.todo Stopped work refl refl (λ q. absurd (cc)) in
+    sound_walk s t node Minor.Stop false Stopped refl same refl work.at (λ q. cc) (subst (λ (x : DevState). Row x Minor.Stop false Stopped) (sym state) stop) h.up (order_stop_on r (rest r.todo) t.core order)
+    (subst (λ (ks : List ℕ). DueBut ks s.tasks t.core.nodes) (sym (waits_stop_on r (rest r.todo)))
+    (due_changed r.agreed r.agreed s.tasks s.tasks s.core.nodes t.core.nodes node.serial (with_state Stopped) node refl (λ x. refl) work.at (nodes_same s.core t.core same) (leads_same s.tasks)
+    (λ q. inr (keeps.asks node.serial here)) (λ k q. inl q) due)) h
+sound_stop s r node w false keeps order work due h = op_still s _ _ r.agreed tt refl refl refl refl (λ same. order) refl due h
+
+-- all are calm while those that were stopped are started again
+all_calm : (todo : List ℕ) (nodes : List Node) → Each (stopped_state todo) nodes → Each (λ k x. is_calm x) nodes
+all_calm todo nodes each k n at = by_test (has todo k) refl
+  where
+    by_test : (b : Bool) → has todo k ≡ b → is_calm n.state ≡ true
+    by_test true e = stopped_calm n.state (let here = each k n at in grind (arith))
+    by_test false e = let here = each k n at in grind (arith)
+
+not_root : (s : State) (next : ℕ) (p : Option Operation) → Good next s.core.nodes [] p → (k : ℕ) (n : Node) → node_at k s.core.nodes ≡ Some n → n.state ≡ Stopped → k ≢ 0
+not_root s next p good k n at e = λ z. let root = (good.stacks k n at).root z in cc
+
+commits_alike : (serials : List ℕ) (r : Rebalance) (n : Node) → Alike n (committed serials (plan_of r.found) n)
+commits_alike serials r n = record { serial = refl; parent = refl; path = refl; idle = λ h. h }
+
+sound_commit : (s : State) (r : Rebalance) → RebalanceKeeps r Committing s.core.nodes → OrderKept r Committing → DueBut r.agreed s.tasks s.core.nodes → Good s.next_serial s.core.nodes [] (Some (Operation.Rebalancing r)) → Stands s → Sound s (rebalance_lifted s (commit_step s.core r))
+sound_commit s r keeps order due good h =
+    let f = committed (movers r) (plan_of r.found) in
+    let t = (rebalance_lifted s (commit_step s.core r)).state in
+    let same = same_mapped s.core t.core f refl refl (commits_alike (movers r) r) in
+    let ks = startable s.core.nodes r.agreed in
+    let now = due_restart s.tasks s.core 0 r.agreed h.tree.root h.tree.rooted h.tree.idle (all_calm r.agreed s.core.nodes keeps.each) (not_root s s.next_serial _ good) order due in
+    sound_same s t (Label.Commit (length (movers r))) tt same refl h.up (order_restart_from r ks t.core (rising_startable 0 s.core.nodes r.agreed order))
+    (subst (λ (x : List ℕ). DueBut x s.tasks t.core.nodes) (sym (waits_restart_from r ks))
+    (due_same ks ks s.tasks s.tasks s.core.nodes t.core.nodes (nodes_same s.core t.core same) (leads_same s.tasks)
+    (λ k n m was there stopped.
+    let old = map_from k f s.core.nodes m (λ x. refl) there in
+    let one : old.0 ≡ n = some_same (node_at k s.core.nodes) old.0 n old.1 was in
+    inl (ap (λ (x : Node). x.state) (sym one) ∙ sym (ap (λ (x : Node). x.state) old.2) ∙ stopped))
+    (λ k m there stopped q. inr q) now)) h
+
+-- the states of others as the head is started again
+rest_calm : (todo : List ℕ) (nodes : List Node) → Each (stopped_state todo) nodes → (j : ℕ) (f : Node → Node) (node : Node) → ((x : Node) → (f x).serial ≡ x.serial) → node_at j nodes ≡ Some node → is_calm (f node).state ≡ true → Each (λ k x. is_calm x) (changed_first (is_node j) f nodes)
+rest_calm todo nodes each j f node keeps at calm k m there =
+    elim (node_from j k f nodes m keeps there) [
+      | inl (e, (y, q, r)) ↦
+          let at_k = subst (λ (i : ℕ). node_at i nodes ≡ Some node) e at in
+          let one : node ≡ y = some_same (node_at k nodes) node y at_k q in
+          subst (λ (x : Node). is_calm x.state ≡ true) (sym r) (subst (λ (x : Node). is_calm (f x).state ≡ true) one calm)
+      | inr (d, q) ↦ all_calm todo nodes each k m q
+    ]
+
+sound_end_restart : (s : State) (r : Rebalance) (node : Node) (w : Walk) (bad : Bool) → RebalanceKeeps r (Restarting w) s.core.nodes → OrderKept r (Restarting w) → Work s node r.todo → DueBut r.todo s.tasks s.core.nodes → Good s.next_serial s.core.nodes [] (Some (Operation.Rebalancing r)) → Stands s →
+    Sound s (rebalance_lifted s (end_restart s.core r node bad))
+sound_end_restart s r node w true keeps order work due good h =
+    let here = head_has node.serial r.todo work.head in
+    let state = head_stopped r.todo node.serial node.state here (keeps.each node.serial node work.at) in
+    let t = (rebalance_lifted s (end_restart s.core r node true)).state in
+    let same = same_state s t node r.todo node.state work refl refl (λ q. q) in
+    sound_walk s t node Minor.Start true node.state refl same refl work.at (λ q. let z = state in cc) (subst (λ (x : DevState). Row x Minor.Start true x) (sym state) restart_bad) h.up order
+    (due_changed r.todo r.todo s.tasks s.tasks s.core.nodes t.core.nodes node.serial (with_state node.state) node refl (λ x. refl) work.at (nodes_same s.core t.core same) (leads_same s.tasks) (λ q. inl q) (λ k q. inl q) due) h
+sound_end_restart s r node w false keeps order work due good h =
+    let here = head_has node.serial r.todo work.head in
+    let state = head_stopped r.todo node.serial node.state here (keeps.each node.serial node work.at) in
+    let t = (rebalance_lifted s (end_restart s.core r node false)).state in
+    let same = same_state s t node r.todo Started work refl refl (λ q. absurd (cc)) in
+    let tree = tree_same s.next_serial s.core t.core same h.tree in
+    let ks = rest r.todo in
+    let left : DueBut ks s.tasks t.core.nodes =
+    due_changed r.todo ks s.tasks s.tasks s.core.nodes t.core.nodes node.serial (with_state Started) node refl (λ x. refl) work.at (nodes_same s.core t.core same) (leads_same s.tasks) (λ q. absurd (cc))
+    (λ k q. elim (cases_eq node.serial k) [ inl e ↦ inr (e, λ z. absurd (cc)) | inr d ↦ inl (rest_has node.serial k r.todo work.head d ∙ q) ]) due in
+    let up : (k : ℕ) (n : Node) → node_at k t.core.nodes ≡ Some n → n.state ≡ Stopped → k ≢ 0 =
+    λ k n at e. elim (node_from node.serial k (with_state Started) s.core.nodes n (λ x. refl) at) [
+      | inl (q, (y, z, u)) ↦ absurd (let v = ap (λ (x : Node). x.state) u in cc)
+      | inr (d, q) ↦ not_root s s.next_serial _ good k n q e
+    ] in
+    let now = due_restart s.tasks t.core 0 ks tree.root tree.rooted tree.idle (rest_calm r.todo s.core.nodes keeps.each node.serial (with_state Started) node (λ x. refl) work.at refl) up (rising_rest 0 r.todo order) left in
+    sound_walk s t node Minor.Start false Started refl same refl work.at (λ q. cc) (subst (λ (x : DevState). Row x Minor.Start false Started) (sym state) restart) h.up
+    (order_restart_from r (startable t.core.nodes ks) t.core (rising_startable 0 t.core.nodes ks (rising_rest 0 r.todo order)))
+    (subst (λ (x : List ℕ). DueBut x s.tasks t.core.nodes) (sym (waits_restart_from r (startable t.core.nodes ks))) now) h
+
+sound_restart : (s : State) (r : Rebalance) (node : Node) (w : Walk) (ends : Bool) → RebalanceKeeps r (Restarting w) s.core.nodes → OrderKept r (Restarting w) → Work s node r.todo → DueBut r.todo s.tasks s.core.nodes → Good s.next_serial s.core.nodes [] (Some (Operation.Rebalancing r)) → Stands s →
+    Sound s (rebalance_lifted s (restart_step s.core r node w ends))
+sound_restart s r node w true keeps order work due good h = sound_end_restart s r node w (is_bad w) keeps order work due good h
+sound_restart s r node w false keeps order work due good h = op_still s _ _ r.todo tt refl refl refl refl (λ same. order) refl due h
+
+first_leads : (k : ℕ) (tasks : List Task) → has (leads (record { kind = Duty.Begins OpKind.Surprise; serial = k } ∷ tasks)) k ≡ true
+first_leads k tasks = grind (arith, nat_tests)
+
+-- a device with a leading task is due
+own_due : (tasks : List Task) (nodes : List Node) (k : ℕ) → has (leads tasks) k ≡ true → is_due tasks nodes k ≡ true
+own_due tasks nodes k h = grind (arith, nat_tests)
+
+sound_failed : (s : State) (r : Rebalance) (node : Node) → RebalanceKeeps r Failed s.core.nodes → OrderKept r Failed → Work s node r.todo → DueBut r.todo s.tasks s.core.nodes → Good s.next_serial s.core.nodes [] (Some (Operation.Rebalancing r)) → Stands s → Sound s (rebalance_lifted s (failed s.core r node))
+sound_failed s r node keeps order work due good h =
+    let t = (rebalance_lifted s (failed s.core r node)).state in
+    let f = with_problem (Some Problem.FailedStart) in
+    let same = same_changed s.core t.core node.serial f node refl refl (λ x. refl) work.at (problem_alike node (Some Problem.FailedStart)) in
+    let ks = rest r.todo in
+    let more : LeadsMore s.tasks t.tasks = leads_first s.tasks (record { kind = Duty.Begins OpKind.Surprise; serial = node.serial }) refl in
+    let left : DueBut ks t.tasks s.core.nodes =
+    λ k n at stopped.
+    elim (due k n at stopped) [
+      | inl q ↦ inl (due_more s.tasks t.tasks s.core.nodes s.core.nodes k more refl q)
+      | inr q ↦ elim (cases_eq node.serial k) [
+        | inl e ↦ inl (own_due t.tasks s.core.nodes k (subst (λ (i : ℕ). has (leads t.tasks) i ≡ true) e (first_leads node.serial s.tasks)))
+        | inr d ↦ inr (rest_has node.serial k r.todo work.head d ∙ q)
+      ]
+    ] in
+    let now = due_restart t.tasks s.core 0 ks h.tree.root h.tree.rooted h.tree.idle (all_calm r.todo s.core.nodes keeps.each) (not_root s s.next_serial _ good) (rising_rest 0 r.todo order) left in
+    let todo = startable s.core.nodes ks in
+    sound_same s t (Label.Trouble node.path Problem.FailedStart) tt same refl (work.up, h.up) (order_restart_from r todo t.core (rising_startable 0 s.core.nodes ks (rising_rest 0 r.todo order)))
+    (subst (λ (x : List ℕ). DueBut x t.tasks t.core.nodes) (sym (waits_restart_from r todo))
+    (due_changed todo todo t.tasks t.tasks s.core.nodes t.core.nodes node.serial f node refl (λ x. refl) work.at (nodes_same s.core t.core same) (leads_same t.tasks) (λ q. inl q) (λ k q. inl q) now)) h
+
+-- The end ----------------------------------------------------------------------------------------------
+
+sound_moved : (s : State) (r : Rebalance) (up : Bool) (label : Label) → IsPlain label → DueBut [] s.tasks s.core.nodes → Stands s → Sound s (rebalance_lifted s (record { label = label; core = s.core; frame = r; beside = moved_on up }))
+sound_moved s r true label plain due h = op_still s _ label [] plain refl refl refl refl (λ same. tt) refl due h
+sound_moved s r false label plain due h = op_still s _ label [] plain refl refl refl refl (λ same. tt) refl due h
+
+sound_over : (s : State) (r : Rebalance) (found : Found) (label : Label) → IsPlain label → DueBut [] s.tasks s.core.nodes → Stands s → Sound s (rebalance_lifted s (record { label = label; core = s.core; frame = r; beside = over s.core r found }))
+sound_over s r (assignment plan) label plain due h = sound_moved s r (stands_up s.core.nodes r.target) label plain due h
+sound_over s r no_fit label plain due h = op_still s _ label [] plain refl refl refl refl (λ same. tt) refl due h
+sound_over s r spent label plain due h = op_still s _ label [] plain refl refl refl refl (λ same. tt) refl due h
+
+work_on : (s : State) (node : Node) (r : Rebalance) (stage : RebalanceStage) (next : ℕ) (p : Option Operation) → first_node s.core.nodes r.todo ≡ Some node → RebalanceKeeps r stage s.core.nodes → Good next s.core.nodes [] p → Work s node r.todo
+work_on s node r stage next p first keeps good =
+    let h = head_found s.core.nodes r.todo node first in
+    record { head = h.0; at = h.1; up = rootless_head node.serial r.todo h.0 keeps.rootless; order = good.serials; stacks = good.stacks }
+
+pub sound_rebalance : (s : State) (r : Rebalance) (stage : RebalanceStage) (o : Option Node) → first_node s.core.nodes r.todo ≡ o → RebalanceKeeps r stage s.core.nodes → OrderKept r stage → DueBut (rebalance_waiting r stage) s.tasks s.core.nodes →
+    Good s.next_serial s.core.nodes [] (Some (Operation.Rebalancing r)) → Stands s → SoundNext s (option_map (doing_map (rebalance_lifted s)) (rebalance_step s.core r stage o))
+sound_rebalance s r Searching o first keeps order due good h = λ found. sound_searched s r found order due h
+sound_rebalance s r Stuck o first keeps order due good h = sound_stuck s r keeps due h
+sound_rebalance s r Committing o first keeps order due good h = sound_commit s r keeps order due good h
+sound_rebalance s r Ending o first keeps order due good h = sound_over s r r.found _ tt due h
+sound_rebalance s r (Asking w) (Some node) first keeps order due good h = sound_ask s r node w _ keeps order (work_on s node r (Asking w) s.next_serial _ first keeps good) due h
+sound_rebalance s r (TakingBack w) (Some node) first keeps order due good h = sound_take_back s r node w _ keeps order (work_on s node r (TakingBack w) s.next_serial _ first keeps good) due h
+sound_rebalance s r (Cancelling w) (Some node) first keeps order due good h = sound_cancel s r node w _ keeps (work_on s node r (Cancelling w) s.next_serial _ first keeps good) due h
+sound_rebalance s r (Stopping w) (Some node) first keeps order due good h = sound_stop s r node w _ keeps order (work_on s node r (Stopping w) s.next_serial _ first keeps good) due h
+sound_rebalance s r (Restarting w) (Some node) first keeps order due good h = sound_restart s r node w _ keeps order (work_on s node r (Restarting w) s.next_serial _ first keeps good) due good h
+sound_rebalance s r Failed (Some node) first keeps order due good h = sound_failed s r node keeps order (work_on s node r Failed s.next_serial _ first keeps good) due good h
+sound_rebalance s r (Asking w) None first keeps order due good h = tt
+sound_rebalance s r (TakingBack w) None first keeps order due good h = tt
+sound_rebalance s r (Cancelling w) None first keeps order due good h = tt
+sound_rebalance s r (Stopping w) None first keeps order due good h = tt
+sound_rebalance s r (Restarting w) None first keeps order due good h = tt
+sound_rebalance s r Failed None first keeps order due good h = tt

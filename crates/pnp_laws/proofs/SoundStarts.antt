@@ -1,0 +1,149 @@
+-- Each step of an activity keeps the tree and what is due, and dependents go first.
+use Rattle.std.proofs.Common.{ℕ, ◌≡◌, ◌≢◌, ◌==◌, ◌⊎◌, inl, inr, Bool, true, false, not, ◌&&◌, List, [], ◌∷◌, ◌++◌, Option, Some, None, refl, sym, ap, ◌∙◌, subst, arith}
+use Rattle.std.specs.List.{list_any}
+use Rattle.std.proofs.lemmas.Bool.Decides.{nat_tests}
+use Rattle.resource_reqs.specs.Spelling.Answer.{assignment, no_fit, spent}
+use Rattle.pnp_model.specs.Keyed.{changed_first}
+use Rattle.pnp_model.specs.Tests.{has}
+use Rattle.pnp_model.specs.Records.{Node, Core, Phase, State, Step, Found, Walk, Operation, Doing, Duty, doing_map}
+use Rattle.pnp_model.specs.Records.Doing.{Does, Searches}
+use Rattle.pnp_model.specs.Records.Phase.{Adding, Searching, Starting, Removing, Due}
+use Rattle.pnp_model.specs.Cores.{is_node, node_at, with_state, with_problem, with_stack, with_holds, stacked, strip}
+use Rattle.pnp_model.specs.Trees.{dependents, direct, hangs_on}
+use Rattle.pnp_model.specs.Walks.{is_bad}
+use Rattle.pnp_model.specs.Starts.{searched, own_part, add_driver, end_start, start_on, remove_on, undo, act}
+use Rattle.pnp_model.specs.Machine.{start_lifted}
+use Rattle.pnp_model.specs.Diagram.{Row}
+use Rattle.pnp_model.specs.Diagram.Row.{start, start_bad, remove}
+use Rattle.pnp_labels.specs.declared.states.DevState.{DevState}
+use Rattle.pnp_labels.specs.declared.words.Minor.{Minor}
+use Rattle.pnp_labels.specs.declared.words.Answer.{Answer}
+use Rattle.pnp_labels.specs.declared.label.Label.{Label}
+use Rattle.pnp_labels.specs.declared.label.OpKind.{OpKind}
+use Rattle.pnp_labels.specs.declared.states.Problem.{Problem}
+use Rattle.pnp_labels.specs.declared.states.DevState.TheVariants.{NoStack, NotStarted, Started, StopPending, Stopped, RemovePending, SurpriseRemoved}
+use Rattle.pnp_labels.specs.declared.words.Answer.TheVariants.{Ok, Fail, Pend}
+use Rattle.pnp_laws.specs.Kept.{Ascending, Good, Fits, is_idle}
+use Rattle.pnp_laws.proofs.Lists.{those_found}
+use Rattle.pnp_laws.proofs.Lookups.{own_serial}
+use Rattle.pnp_laws.proofs.StartSteps.{stacked_idle}
+use Rattle.pnp_laws.proofs.Closures.{closed_within, hangs_some, those_serial, closed_keeps}
+use Rattle.pnp_laws.proofs.Ranks.{or_left}
+use Rattle.pnp_laws.proofs.Standing.{Tree, TasksUp, DueBut, waiting, StageKept, Stands, Sound}
+use Rattle.pnp_laws.proofs.TreeChanges.{Alike, SameTree, same_still, same_changed, nodes_same}
+use Rattle.pnp_laws.proofs.TreeMoves.{Childless}
+use Rattle.pnp_laws.proofs.Sounds.{IsPlain, LeadsMore, leads_same, leads_pushed, up_append, due_still, due_changed, due_stripped, sound_still, sound_same, sound_walk, sound_strip}
+
+-- no operation runs
+
+pub stage_none : (o : Option Operation) (c : Core) → o ≡ None → StageKept o c
+stage_none o c e = subst (λ (x : Option Operation). StageKept x c) (sym e) tt
+
+pub calm_due : (o p : Option Operation) → o ≡ None → p ≡ None → (k : ℕ) → has (waiting o) k ≡ true → has (waiting p) k ≡ true
+calm_due o p e f k h = absurd (let g = subst (λ (x : Option Operation). has (waiting x) k ≡ true) e h in cc)
+
+-- no node changes
+pub calm_still : (s t : State) (label : Label) → IsPlain label → t.core.nodes ≡ s.core.nodes → t.core.relations ≡ s.core.relations → t.next_serial ≡ s.next_serial → t.operation ≡ None → s.operation ≡ None → TasksUp t.tasks → LeadsMore s.tasks t.tasks →
+    Stands s → Sound s (record { label = label; state = t })
+calm_still s t label plain a b next now none up leads stands =
+    sound_still s t label plain a b next up (stage_none t.operation t.core now)
+    (due_still (waiting s.operation) (waiting t.operation) s.tasks t.tasks s.core.nodes t.core.nodes a leads (calm_due s.operation t.operation none now) stands.due) stands
+
+-- one node changes, and does not become Stopped
+pub calm_changed : (s t : State) (label : Label) (f : Node → Node) (node : Node) → IsPlain label → t.core.nodes ≡ changed_first (is_node node.serial) f s.core.nodes → t.core.relations ≡ s.core.relations → t.next_serial ≡ s.next_serial → t.operation ≡ None → s.operation ≡ None →
+    ((x : Node) → (f x).serial ≡ x.serial) → node_at node.serial s.core.nodes ≡ Some node → Alike node (f node) → ((f node).state ≡ Stopped → node.state ≡ Stopped) → TasksUp t.tasks → LeadsMore s.tasks t.tasks →
+    Stands s → Sound s (record { label = label; state = t })
+calm_changed s t label f node plain a b next now none keeps at alike state up leads stands =
+    let same = same_changed s.core t.core node.serial f node a b keeps at alike in
+    sound_same s t label plain same next up (stage_none t.operation t.core now)
+    (due_changed (waiting s.operation) (waiting t.operation) s.tasks t.tasks s.core.nodes t.core.nodes node.serial f node a keeps at (nodes_same s.core t.core same) leads (λ e. inl (state e))
+    (λ k h. inl (calm_due s.operation t.operation none now k h)) stands.due) stands
+
+-- a walk ended, and the device keeps its drivers
+calm_walk : (s t : State) (node : Node) (minor : Minor) (bad : Bool) (y : DevState) → t.core.nodes ≡ changed_first (is_node node.serial) (with_state y) s.core.nodes → t.core.relations ≡ s.core.relations → t.next_serial ≡ s.next_serial → t.operation ≡ None → s.operation ≡ None →
+    node_at node.serial s.core.nodes ≡ Some node → (is_idle y ≡ true → is_idle node.state ≡ true) → (y ≡ Stopped → ⊥) → y ≢ NoStack → Row node.state minor bad y → TasksUp t.tasks → LeadsMore s.tasks t.tasks →
+    Stands s → Sound s (record { label = Label.State node.path y; state = t })
+calm_walk s t node minor bad y a b next now none at idle stopped full row up leads stands =
+    let same = same_changed s.core t.core node.serial (with_state y) node a b (λ x. refl) at (record { serial = refl; parent = refl; path = refl; idle = idle }) in
+    sound_walk s t node minor bad y a same next at full row up (stage_none t.operation t.core now)
+    (due_changed (waiting s.operation) (waiting t.operation) s.tasks t.tasks s.core.nodes t.core.nodes node.serial (with_state y) node a (λ x. refl) at (nodes_same s.core t.core same) leads (λ e. absurd (stopped e))
+    (λ k h. inl (calm_due s.operation t.operation none now k h)) stands.due) stands
+
+-- a device on which nothing hangs
+
+pub child_hangs : (c : Core) (k j : ℕ) (m : Node) → node_at j c.nodes ≡ Some m → j ≢ 0 → m.parent ≡ k → hangs_on c (k ∷ []) m ≡ true
+child_hangs c k j m at up e =
+    let own = own_serial j m c.nodes at in
+    or_left (has (k ∷ []) m.parent && not (m.serial == 0)) (list_any (λ r. r.member == m.serial && has (k ∷ []) r.owner) c.relations) (grind (arith, nat_tests))
+
+pub no_dependents : (c : Core) (k : ℕ) → Ascending 0 c.nodes → ((j : ℕ) (m : Node) → node_at j c.nodes ≡ Some m → hangs_on c (k ∷ []) m ≡ true → ⊥) → (j : ℕ) → has (dependents c k) j ≡ true → ⊥
+no_dependents c k order none j h =
+    let all : has [] j ≡ true =
+    closed_within c (direct c k) [] order
+    (λ i m at g. absurd (let some = hangs_some c [] m g in let no = some.1 in cc))
+    (λ i g. absurd (let f = those_found 0 (hangs_on c (k ∷ [])) c.nodes i order g in none i f.0 f.1 f.2))
+    j h in
+    cc
+
+-- The cases ------------------------------------------------------------------------------------
+
+pub plain_alike : (f : Node → Node) (node : Node) → (f node).serial ≡ node.serial → (f node).parent ≡ node.parent → (f node).path ≡ node.path → (f node).state ≡ node.state → Alike node (f node)
+plain_alike f node a b c d = record { serial = a; parent = b; path = c; idle = λ h. ap is_idle (sym d) ∙ h }
+
+sound_add : (s : State) (c : Core) (node : Node) (d : ℕ) (ds : List ℕ) (answer : Answer) → c.nodes ≡ s.core.nodes → c.relations ≡ s.core.relations → s.operation ≡ None → node_at node.serial s.core.nodes ≡ Some node → is_idle node.state ≡ true → Stands s →
+    Sound s (start_lifted s node.serial (add_driver c node d ds answer))
+sound_add s c node d ds Ok same rel none at idle h =
+    let f = with_stack (node.stack ++ d ∷ []) (stacked node.state) in
+    calm_changed s _ _ f node tt (ap (λ (ns : List Node). changed_first (is_node node.serial) f ns) same) rel refl none none (λ x. refl) at (record { serial = refl; parent = refl; path = refl; idle = λ q. idle }) (λ e. absurd (let q = stacked_idle node.state idle in cc)) h.up (leads_same s.tasks) h
+sound_add s c node d ds Fail same rel none at idle h = calm_still s _ _ tt same rel refl none none h.up (leads_same s.tasks) h
+sound_add s c node d ds Pend same rel none at idle h = calm_still s _ _ tt same rel refl none none h.up (leads_same s.tasks) h
+
+sound_searched : (s : State) (node : Node) (found : Found) → s.operation ≡ None → node_at node.serial s.core.nodes ≡ Some node → node.serial ≢ 0 → Stands s → Sound s (start_lifted s node.serial (searched s.core node found))
+sound_searched s node (assignment plan) none at up h =
+    calm_changed s _ (Label.Assign node.path (own_part plan)) (with_holds (own_part plan)) node tt refl refl refl none none (λ x. refl) at (plain_alike (with_holds (own_part plan)) node refl refl refl refl) (λ e. e) h.up (leads_same s.tasks) h
+sound_searched s node no_fit none at up h = calm_still s _ _ tt refl refl refl none none (up_append s.tasks (record { kind = Duty.Begins OpKind.Rebalance; serial = node.serial }) up h.up) (leads_pushed s.tasks _) h
+sound_searched s node spent none at up h = calm_still s _ _ tt refl refl refl none none h.up (leads_same s.tasks) h
+
+sound_end_start : (s : State) (node : Node) (bad : Bool) → s.operation ≡ None → node_at node.serial s.core.nodes ≡ Some node → node.state ≡ NotStarted → Stands s → Sound s (start_lifted s node.serial (end_start s.core node bad))
+sound_end_start s node true none at e h =
+    calm_walk s _ node Minor.Start true node.state refl refl refl none none at (λ q. q) (λ q. cc) (λ q. cc) (subst (λ (x : DevState). Row x Minor.Start true x) (sym e) start_bad) h.up (leads_same s.tasks) h
+sound_end_start s node false none at e h =
+    calm_walk s _ node Minor.Start false Started refl refl refl none none at (λ q. absurd (cc)) (λ q. cc) (λ q. cc) (subst (λ (x : DevState). Row x Minor.Start false Started) (sym e) start)
+    (up_append s.tasks (record { kind = Duty.Listing; serial = node.serial }) tt h.up) (leads_pushed s.tasks _) h
+
+sound_start_on : (s : State) (node : Node) (w : Walk) (ends : Bool) → s.operation ≡ None → node_at node.serial s.core.nodes ≡ Some node → node.state ≡ NotStarted → Stands s → Sound s (start_lifted s node.serial (start_on s.core node w ends))
+sound_start_on s node w true none at e h = sound_end_start s node (is_bad w) none at e h
+sound_start_on s node w false none at e h = calm_still s _ _ tt refl refl refl none none h.up (leads_same s.tasks) h
+
+sound_remove_on : (s : State) (node : Node) (w : Walk) (ends : Bool) → s.operation ≡ None → node_at node.serial s.core.nodes ≡ Some node → node.state ≡ NotStarted → Ascending 0 s.core.nodes → Stands s → Sound s (start_lifted s node.serial (remove_on s.core node w ends))
+sound_remove_on s node w true none at e order h =
+    let t = (start_lifted s node.serial (remove_on s.core node w true)).state in
+    let free : (j : ℕ) (m : Node) → node_at j s.core.nodes ≡ Some m → hangs_on s.core (node.serial ∷ []) m ≡ true → ⊥ = h.tree.idle node.serial node at (ap is_idle e) in
+    sound_strip s t node refl refl at (subst (λ (x : DevState). Row x Minor.Remove false NoStack) (sym e) remove)
+    (λ i m there d p. free i m there (child_hangs s.core node.serial i m there d p))
+    (λ j m dep there. absurd (no_dependents s.core node.serial order free j dep))
+    h.up (stage_none s.operation t.core none)
+    (due_stripped (waiting s.operation) s.tasks s.tasks s.core t.core node.serial node refl at (leads_same s.tasks) h.due) h
+sound_remove_on s node w false none at e order h = calm_still s _ _ tt refl refl refl none none h.up (leads_same s.tasks) h
+
+sound_undo : (s : State) (node : Node) (problem : Problem) (stack : List ℕ) → s.operation ≡ None → node_at node.serial s.core.nodes ≡ Some node → Stands s →
+    Sound s (start_lifted s node.serial (undo (record s.core { nodes = changed_first (is_node node.serial) (with_problem (Some problem)) s.core.nodes }) node problem stack))
+sound_undo s node problem [] none at h = calm_changed s _ _ (with_problem (Some problem)) node tt refl refl refl none none (λ x. refl) at (plain_alike (with_problem (Some problem)) node refl refl refl refl) (λ e. e) h.up (leads_same s.tasks) h
+sound_undo s node problem (d ∷ ds) none at h = calm_changed s _ _ (with_problem (Some problem)) node tt refl refl refl none none (λ x. refl) at (plain_alike (with_problem (Some problem)) node refl refl refl refl) (λ e. e) h.up (leads_same s.tasks) h
+
+-- whatever a search answers
+abbrev pub SoundDoing : State → Doing Step → Type 0
+SoundDoing s (Does step) = Sound s step
+SoundDoing s (Searches problem by_answer) = (found : Found) → Sound s (by_answer found)
+
+abbrev pub SoundNext : State → Option (Doing Step) → Type 0
+SoundNext s None = Unit {0}
+SoundNext s (Some doing) = SoundDoing s doing
+
+pub sound_act : (s : State) (node : Node) (phase : Phase) → s.operation ≡ None → node_at node.serial s.core.nodes ≡ Some node → node.serial ≢ 0 → Fits phase node.state → Ascending 0 s.core.nodes → Stands s → SoundDoing s (doing_map (start_lifted s node.serial) (act s.core node phase))
+sound_act s node (Adding []) none at up fit order h = λ found. sound_searched s node found none at up h
+sound_act s node (Adding (d ∷ ds)) none at up fit order h = sound_add s _ node d ds _ refl refl none at fit h
+sound_act s node Searching none at up fit order h = λ found. sound_searched s node found none at up h
+sound_act s node (Starting w) none at up fit order h = sound_start_on s node w _ none at fit h
+sound_act s node (Removing w) none at up fit order h = sound_remove_on s node w _ none at fit order h
+sound_act s node (Due problem) none at up fit order h = sound_undo s node problem node.stack none at h

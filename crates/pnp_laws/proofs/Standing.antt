@@ -1,0 +1,133 @@
+-- What each state of a run keeps of the tree, the relations and the tasks.
+use Rattle.std.proofs.Common.{ℕ, suc, ◌<◌, ◌≤◌, ◌≡◌, ◌≢◌, ◌⊎◌, true, false, List, [], ◌∷◌, Option, Some, None}
+use Rattle.pnp_model.specs.Tests.{has}
+use Rattle.pnp_model.specs.Records.{Node, Core, Task, State, Step, Duty, Operation, Rebalance, RebalanceStage, Removal, RemovalStage, Surprise, SurpriseStage}
+use Rattle.pnp_model.specs.Cores.{node_at}
+use Rattle.pnp_model.specs.Trees.{hangs_on}
+use Rattle.pnp_model.specs.Diagram.{Walked}
+use Rattle.pnp_model.specs.Laws.{DependentsFirst}
+use Rattle.pnp_labels.specs.declared.states.DevState.TheVariants.{NoStack, Stopped}
+use Rattle.pnp_laws.specs.Kept.{is_idle}
+use Rattle.pnp_laws.specs.Due.{is_due}
+use Rattle.pnp_laws.proofs.Closures.{Closed}
+use Rattle.pnp_laws.proofs.Orders.{Ranked, RootFree}
+use Rattle.pnp_laws.proofs.Ranks.{Rooted, RelationsBelow}
+use Rattle.pnp_laws.proofs.Due.{RootIsOwn, Sorted}
+
+-- nothing hangs on a device that was never up
+abbrev pub IdleFree : Core → Type 0
+IdleFree c =
+    (k : ℕ) (n : Node) → node_at k c.nodes ≡ Some n → is_idle n.state ≡ true → (j : ℕ) (m : Node) → node_at j c.nodes ≡ Some m → hangs_on c (k ∷ []) m ≡ true → ⊥
+
+-- a path names one node
+abbrev pub PathsApart : List Node → Type 0
+PathsApart nodes = (j k : ℕ) (n m : Node) → node_at j nodes ≡ Some n → node_at k nodes ≡ Some m → n.path ≡ m.path → j ≡ k
+
+pub record Tree (next : ℕ) (c : Core) : Type 0 where
+  pub rooted : Rooted c
+  pub root : RootIsOwn c.nodes
+  pub related : RelationsBelow next c.relations
+  pub rank : ℕ → ℕ
+  pub ranked : Ranked rank c
+  pub free : RootFree c
+  pub idle : IdleFree c
+  pub paths : PathsApart c.nodes
+
+-- no operation is to begin for the root
+abbrev pub DutyUp : Duty → ℕ → Type 0
+DutyUp Duty.Listing k = Unit {0}
+DutyUp Duty.Starting k = Unit {0}
+DutyUp (Duty.Begins kind) k = k ≢ 0
+
+abbrev pub TasksUp : List Task → Type 0
+TasksUp [] = Unit {0}
+TasksUp (task ∷ tasks) = DutyUp task.kind task.serial × TasksUp tasks
+
+-- each Stopped device is due, or is one of these, which the operation still finishes
+abbrev pub DueBut : List ℕ → List Task → List Node → Type 0
+DueBut rest tasks nodes =
+    (k : ℕ) (n : Node) → node_at k nodes ≡ Some n → n.state ≡ Stopped → (is_due tasks nodes k ≡ true) ⊎ (has rest k ≡ true)
+
+abbrev pub rebalance_waiting : Rebalance → RebalanceStage → List ℕ
+rebalance_waiting r (RebalanceStage.Asking w) = []
+rebalance_waiting r (RebalanceStage.TakingBack w) = []
+rebalance_waiting r RebalanceStage.Searching = []
+rebalance_waiting r (RebalanceStage.Cancelling w) = []
+rebalance_waiting r RebalanceStage.Stuck = []
+rebalance_waiting r (RebalanceStage.Stopping w) = r.agreed
+rebalance_waiting r RebalanceStage.Committing = r.agreed
+rebalance_waiting r (RebalanceStage.Restarting w) = r.todo
+rebalance_waiting r RebalanceStage.Failed = r.todo
+rebalance_waiting r RebalanceStage.Ending = []
+
+abbrev pub waiting : Option Operation → List ℕ
+waiting None = []
+waiting (Some (Operation.Rebalancing r)) = rebalance_waiting r r.stage
+waiting (Some (Operation.Removing o)) = []
+waiting (Some (Operation.Surprising o)) = o.set
+
+-- serials that rise, from lo on
+abbrev pub Rising : ℕ → List ℕ → Type 0
+Rising lo [] = Unit {0}
+Rising lo (k ∷ ks) = (lo ≤ k) × Rising (suc k) ks
+
+-- serials that fall, below hi
+abbrev pub Falling : ℕ → List ℕ → Type 0
+Falling hi [] = Unit {0}
+Falling hi (k ∷ ks) = (k < hi) × Falling k ks
+
+-- those still to ask fall, and are below those that agreed, which rise
+abbrev pub Ordered : List ℕ → List ℕ → Type 0
+Ordered todo agreed = (hi : ℕ) × Falling hi todo × Rising hi agreed
+
+abbrev pub OrderKept : Rebalance → RebalanceStage → Type 0
+OrderKept r (RebalanceStage.Asking w) = Ordered r.todo r.agreed
+OrderKept r (RebalanceStage.TakingBack w) = Ordered r.todo r.agreed
+OrderKept r RebalanceStage.Searching = Rising 0 r.agreed
+OrderKept r (RebalanceStage.Cancelling w) = Unit {0}
+OrderKept r RebalanceStage.Stuck = Unit {0}
+OrderKept r (RebalanceStage.Stopping w) = Rising 0 r.agreed
+OrderKept r RebalanceStage.Committing = Rising 0 r.agreed
+OrderKept r (RebalanceStage.Restarting w) = Rising 0 r.todo
+OrderKept r RebalanceStage.Failed = Rising 0 r.todo
+OrderKept r RebalanceStage.Ending = Unit {0}
+
+-- devices are finished one after another: of the set, those that are done have no drivers, what has its parent
+-- in the set is still to do, and nobody stands before what depends on it
+pub record Finishes (c : Core) (set todo : List ℕ) : Type 0 where
+  pub closed : Closed c set
+  pub bare : (k : ℕ) (n : Node) → node_at k c.nodes ≡ Some n → has set k ≡ true → has todo k ≡ false → n.state ≡ NoStack
+  pub below : (j : ℕ) (m : Node) → node_at j c.nodes ≡ Some m → j ≢ 0 → has set m.parent ≡ true → has todo j ≡ true
+  pub sorted : Sorted c todo
+
+abbrev pub RemovalOrder : Core → Removal → RemovalStage → Type 0
+RemovalOrder c o (RemovalStage.Asking w) = Finishes c o.set o.set
+RemovalOrder c o (RemovalStage.TakingBack w) = Unit {0}
+RemovalOrder c o (RemovalStage.Cancelling w) = Unit {0}
+RemovalOrder c o (RemovalStage.Removing w) = Finishes c o.set o.todo
+RemovalOrder c o RemovalStage.Settling = Finishes c o.set o.todo
+RemovalOrder c o RemovalStage.Ending = Unit {0}
+
+abbrev pub SurpriseOrder : Core → Surprise → SurpriseStage → Type 0
+SurpriseOrder c o (SurpriseStage.Telling w) = Finishes c o.set o.set
+SurpriseOrder c o (SurpriseStage.Removing w) = Finishes c o.set o.todo
+SurpriseOrder c o SurpriseStage.Settling = Finishes c o.set o.todo
+SurpriseOrder c o SurpriseStage.Ending = Finishes c o.set []
+
+abbrev pub StageKept : Option Operation → Core → Type 0
+StageKept None c = Unit {0}
+StageKept (Some (Operation.Rebalancing r)) c = OrderKept r r.stage
+StageKept (Some (Operation.Removing o)) c = RemovalOrder c o o.stage
+StageKept (Some (Operation.Surprising o)) c = SurpriseOrder c o o.stage
+
+pub record Stands (s : State) : Type 0 where
+  pub tree : Tree s.next_serial s.core
+  pub up : TasksUp s.tasks
+  pub stage : StageKept s.operation s.core
+  pub due : DueBut (waiting s.operation) s.tasks s.core.nodes
+
+-- a step keeps all this, its walk is a row of the diagram, and dependents go first
+pub record Sound (s : State) (step : Step) : Type 0 where
+  pub stands : Stands step.state
+  pub walked : Walked step.label s.core.nodes step.state.core.nodes
+  pub first : DependentsFirst step.label s.core step.state.core
