@@ -10,8 +10,7 @@ use Rattle.pnp_model.specs.Tests.{has}
 use Rattle.pnp_model.specs.Trees.{above}
 use Rattle.pnp_model.specs.Rebalances.{is_asked, is_not_above}
 use Rattle.pnp_laws.specs.Kept.{Ascending}
-use Rattle.pnp_laws.specs.Holdings.{Placed}
-use Rattle.pnp_laws.specs.Rebalanced.{IsAskedAt, Falling, Rising, StaysOut, Asks}
+use Rattle.pnp_laws.specs.Rebalanced.{Placed, IsAskedAt, Falling, Rising, StaysOut, Asks}
 use Rattle.pnp_laws.proofs.Closures.{those_serial}
 use Rattle.pnp_laws.proofs.Lists.{has-append, those_has, those_not, those_keeps, those_found}
 use Rattle.pnp_laws.proofs.OpSteps.{has-reverse}

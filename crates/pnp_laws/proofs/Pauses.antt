@@ -15,12 +15,11 @@ use Rattle.pnp_model.specs.Laws.{NothingFits}
 use Rattle.pnp_labels.specs.declared.states.DevState.{DevState}
 use Rattle.pnp_labels.specs.declared.states.DevState.TheVariants.{Started, StopPending}
 use Rattle.pnp_laws.specs.Vetoes.{turned}
-use Rattle.pnp_laws.specs.Rebalanced.{paused, Paused}
-use Rattle.pnp_laws.specs.Holdings.{Placed}
+use Rattle.pnp_laws.specs.Rebalanced.{Placed, paused, Paused}
 use Rattle.pnp_laws.proofs.Lookups.{node_changed_same, node_changed_other}
 use Rattle.pnp_laws.proofs.Vetoes.{turned_same, turned_twice}
 use Rattle.pnp_laws.proofs.SharingSteps.{beside_changed}
-use Rattle.pnp_laws.proofs.WholeSteps.{plain_state}
+use Rattle.pnp_laws.proofs.WholeSteps.{keeps_state}
 use Rattle.pnp_laws.proofs.WholeOperations.{all_reqs_changed}
 
 -- one more agrees
@@ -111,7 +110,7 @@ fixed_paused movers (k ∷ ks) nodes = beside_changed k (with_state StopPending)
 
 reqs_paused : (movers ks : List ℕ) (nodes : List Node) → map (λ k. reqs_of (node_at k (paused ks nodes))) movers ≡ map (λ k. reqs_of (node_at k nodes)) movers
 reqs_paused movers [] nodes = refl
-reqs_paused movers (k ∷ ks) nodes = all_reqs_changed k (with_state StopPending) (paused ks nodes) movers (plain_state StopPending) ∙ reqs_paused movers ks nodes
+reqs_paused movers (k ∷ ks) nodes = all_reqs_changed k (with_state StopPending) (paused ks nodes) movers (keeps_state StopPending) ∙ reqs_paused movers ks nodes
 
 -- where nothing fits now, nothing did before
 pub hopeless_before : (before now : Core) (ks movers : List ℕ) → Paused before now ks → NothingFits now movers → NothingFits before movers

@@ -1,10 +1,13 @@
 -- What each step keeps holds of each state of each run.
-use Rattle.std.proofs.Common.{List, [], ◌∷◌, ◌++◌, refl, sym, subst}
+use Rattle.std.proofs.Common.{ℕ, ◌≡◌, inl, inr, List, [], ◌∷◌, ◌++◌, Some, refl, sym, subst, arith}
+use Rattle.std.proofs.lemmas.Bool.{cases_eq}
+use Rattle.pnp_model.specs.Cores.{node_at}
 use Rattle.pnp_model.specs.Records.{Driver, State, Settings}
 use Rattle.pnp_model.specs.Runs.{Entry, Goes, Run, opening}
-use Rattle.pnp_laws.specs.Reached.{IsReached, EachBeginsWell}
+use Rattle.pnp_laws.specs.Reached.{IsReached}
+use Rattle.pnp_laws.specs.Rebalanced.{Placed}
 use Rattle.pnp_laws.specs.Kept.{IsGood}
-use Rattle.pnp_laws.proofs.Runs.{lawful_goes, opening_is_good}
+use Rattle.pnp_laws.proofs.RunsStand.{reaches_kept}
 
 -- one run after another
 pub run_on : (settings : Settings) (a b c : State) (xs ys : List Entry) → Run settings a xs b → Run settings b ys c → Run settings a (xs ++ ys) c
@@ -28,8 +31,18 @@ pub kept : (P : State → Type 0) (settings : Settings) (rack : List Driver) →
 kept P settings rack step begin s (entries, run) = kept_along P settings rack step (opening rack) entries s ([], refl) begin run
 
 -- each reached state is good
-pub reached_is_good : EachBeginsWell → (settings : Settings) (rack : List Driver) (s : State) → IsReached settings rack s → IsGood s
-reached_is_good begins settings rack s reached =
-    kept (λ (x : State). IsGood x) settings rack
-    (λ old entry new before good goes. (lawful_goes settings old entry new (begins settings rack old entry new before goes) good goes).good)
-    (opening_is_good rack) s reached
+pub reached_is_good : (settings : Settings) (rack : List Driver) (s : State) → IsReached settings rack s → IsGood s
+reached_is_good settings rack s (entries, run) = (reaches_kept settings rack entries s run).good
+
+-- and in it each device is at its place
+pub reached_is_placed : (settings : Settings) (rack : List Driver) (s : State) → IsReached settings rack s → Placed s.core.nodes
+reached_is_placed settings rack s (entries, run) =
+    let tree = (reaches_kept settings rack entries s run).stands.tree in
+    record {
+      paths = tree.paths;
+      parents =
+          λ k n at. elim (cases_eq k 0) [
+            | inl e ↦ let own = tree.root n (subst (λ (i : ℕ). node_at i s.core.nodes ≡ Some n) e at) in omega arith
+            | inr up ↦ let low = (tree.rooted k n at up).0 in omega arith
+          ];
+    }

@@ -22,8 +22,8 @@ use Rattle.pnp_labels.specs.declared.words.Answer.TheVariants.{Ok, Fail, Pend}
 use Rattle.pnp_labels.specs.declared.label.Label.{Label}
 use Rattle.pnp_labels.specs.declared.states.DevState.TheVariants.{Started}
 use Rattle.pnp_laws.specs.Kept.{RebalanceKeeps, asking_state}
-use Rattle.pnp_laws.specs.Holdings.{Placed, has_plan}
-use Rattle.pnp_laws.specs.Rebalanced.{Paused, Undone, Asks, EndsBad, IsHopeless, AskedSince, Refusing}
+use Rattle.pnp_laws.specs.Holdings.{has_plan}
+use Rattle.pnp_laws.specs.Rebalanced.{Placed, Paused, Undone, Asks, EndsBad, IsHopeless, AskedSince, Refusing}
 use Rattle.pnp_laws.proofs.Lists.{HeadIs, head_found, head_has}
 use Rattle.pnp_laws.proofs.OpSteps.{is_Started}
 use Rattle.pnp_laws.proofs.Pauses.{paused_agreed, paused_same, paused_back, paused_still, above_paused, hopeless_before}

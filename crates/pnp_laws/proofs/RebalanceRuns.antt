@@ -17,9 +17,8 @@ use Rattle.pnp_model.specs.Laws.{IsWithin, AllWithin, Refuses, RefusedSince}
 use Rattle.pnp_labels.specs.declared.label.Label.{Label}
 use Rattle.pnp_labels.specs.declared.label.OpKind.{OpKind}
 use Rattle.pnp_laws.specs.Kept.{Ascending, IsGood, OperationFits}
-use Rattle.pnp_laws.specs.Reached.{IsReached, EachBeginsWell}
-use Rattle.pnp_laws.specs.Holdings.{Placed}
-use Rattle.pnp_laws.specs.Rebalanced.{Undone, EndsBad, AskedSince, Refusing, Underway}
+use Rattle.pnp_laws.specs.Reached.{IsReached}
+use Rattle.pnp_laws.specs.Rebalanced.{Placed, Undone, EndsBad, AskedSince, Refusing, Underway}
 use Rattle.pnp_laws.proofs.Reached.{reached_on, reached_is_good}
 use Rattle.pnp_laws.proofs.EventChanges.{Outside, Answered, happens_outside}
 use Rattle.pnp_laws.proofs.Pauses.{paused_still}
@@ -244,14 +243,14 @@ refused_later : (settings : Settings) (s mid t : State) (entry : Entry) (rest : 
 refused_later settings s mid t entry rest k goes (x, (xs, ys, e, run, more), h) =
     (x, (entry ∷ xs, ys, ap (λ (l : List Entry). entry ∷ l) e, (mid, goes, run), more), h)
 
-pub lasts : EachBeginsWell → (settings : Settings) (rack : List Driver) (path : List ℕ) (before : Core) → Placed before.nodes →
+pub lasts : (settings : Settings) (rack : List Driver) (path : List ℕ) (before : Core) → Placed before.nodes →
     (s : State) (entries : List Entry) (t : State) → IsReached settings rack s → (u : Underway path before s) → AllWithin entries → Run settings s entries t → Lasts settings path before s u.frame entries t
-lasts begins settings rack path before placed s [] t reached u within run =
+lasts settings rack path before placed s [] t reached u within run =
     let here : Lasts settings path before s u.frame [] s = record { under = u; told = λ k h. inl h; keeps = λ k h. h; tells = λ k h. inl h } in
     subst (λ (x : State). Lasts settings path before s u.frame [] x) (sym run) here
-lasts begins settings rack path before placed s (entry ∷ rest) t reached u within (mid, goes, run) =
-    let next = follows path before settings s entry mid u placed (reached_is_good begins settings rack s reached) within.0 goes in
-    let more = lasts begins settings rack path before placed mid rest t (reached_on settings rack s entry mid reached goes) next.under within.1 run in
+lasts settings rack path before placed s (entry ∷ rest) t reached u within (mid, goes, run) =
+    let next = follows path before settings s entry mid u placed (reached_is_good settings rack s reached) within.0 goes in
+    let more = lasts settings rack path before placed mid rest t (reached_on settings rack s entry mid reached goes) next.under within.1 run in
     record {
       under = more.under;
       told =

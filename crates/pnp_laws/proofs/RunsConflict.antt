@@ -17,13 +17,12 @@ use Rattle.pnp_labels.specs.Texts.{Text}
 use Rattle.pnp_labels.specs.declared.states.Problem.{Problem}
 use Rattle.pnp_labels.specs.declared.states.DevState.TheVariants.{Started}
 use Rattle.pnp_labels.specs.declared.label.Label.{Label}
-use Rattle.pnp_laws.specs.Reached.{IsReached, EachBeginsWell}
-use Rattle.pnp_laws.specs.Holdings.{Placed, has_plan}
-use Rattle.pnp_laws.specs.Rebalanced.{Undone, AskedSince, Asks, IsAskedAt, Underway}
+use Rattle.pnp_laws.specs.Reached.{IsReached}
+use Rattle.pnp_laws.specs.Holdings.{has_plan}
+use Rattle.pnp_laws.specs.Rebalanced.{Placed, Undone, AskedSince, Asks, IsAskedAt, Underway}
 use Rattle.pnp_laws.proofs.Lookups.{own_serial}
 use Rattle.pnp_laws.proofs.OpSteps.{is_Started}
-use Rattle.pnp_laws.proofs.Reached.{reached_is_good}
-use Rattle.pnp_laws.proofs.RunsWhole.{reached_is_settled}
+use Rattle.pnp_laws.proofs.Reached.{reached_is_good, reached_is_placed}
 use Rattle.pnp_laws.proofs.RebalanceMoves.{NoConflict}
 use Rattle.pnp_laws.proofs.RebalanceRuns.{Stepped, IsOver, rebalance_stepped, lasts}
 use Rattle.pnp_laws.proofs.RunsFutile.{Since, since_begin, reached_after}
@@ -131,13 +130,13 @@ nothing_fits_still c d ms a b none fits =
     none (subst (λ (x : List Res). Fits x (map (λ k. reqs_of (node_at k c.nodes)) ms)) fixed (subst (λ (x : List Reqs). Fits (fixed_beside d ms) x) reqs fits))
 
 -- whoever refused since the begin is told at the end
-refusers_told : EachBeginsWell → (settings : Settings) (rack : List Driver) (path : Text) (before begun : State) (entries : List Entry) (last : State) → Placed before.core.nodes → Since settings rack path before begun entries last → AllWithin entries →
+refusers_told : (settings : Settings) (rack : List Driver) (path : Text) (before begun : State) (entries : List Entry) (last : State) → Placed before.core.nodes → Since settings rack path before begun entries last → AllWithin entries →
     (u : Underway path before.core last) → u.frame.stage ≡ Stuck → (k : ℕ) → RefusedSince settings begun entries last k → has u.frame.refused k ≡ true
-refusers_told begins settings rack path before begun entries last placed since within u stage k (s, (xs, ys, e, run, more), refuses) =
+refusers_told settings rack path before begun entries last placed since within u stage k (s, (xs, ys, e, run, more), refuses) =
     let split = within_split xs ys (subst (λ (l : List Entry). AllWithin l) e within) in
-    let there = lasts begins settings rack path before.core placed begun xs s since.reached since.first split.0 run in
+    let there = lasts settings rack path before.core placed begun xs s since.reached since.first split.0 run in
     let at_s = reached_after settings rack begun xs s since.reached run in
-    let on = lasts begins settings rack path before.core placed s ys last at_s there.under split.1 more in
+    let on = lasts settings rack path before.core placed s ys last at_s there.under split.1 more in
     let same : on.under.frame ≡ u.frame = (let a = on.under.runs in let b = u.runs in cc) in
     elim (on.tells k refuses) [
       | inl now ↦ absurd (asks_now now)
@@ -150,12 +149,13 @@ refusers_told begins settings rack path before begun entries last placed since w
         let asks : u.frame.stage ≡ Asking w = subst (λ (x : Rebalance). x.stage ≡ Asking w) same asking in
         cc
 
-pub conflict_law : EachBeginsWell → ConflictLaw
-conflict_law begins settings rack earlier entries before begun last after begin_path path reaches goes run within ends k n at named ms free =
+-- problem 12 comes only where no assignment exists for the device and all that can move
+pub conflicts_are_real : ConflictLaw
+conflicts_are_real settings rack earlier entries before begun last after begin_path path reaches goes run within ends k n at named ms free =
     let at_before : IsReached settings rack before = (earlier, reaches) in
-    let placed = (reached_is_settled begins settings rack before at_before).placed in
-    let since = since_begin begins settings rack earlier entries before begun last begin_path reaches goes run within in
-    let good = reached_is_good begins settings rack last (reached_after settings rack begun entries last since.reached run) in
+    let placed = reached_is_placed settings rack before at_before in
+    let since = since_begin settings rack earlier entries before begun last begin_path reaches goes run within in
+    let good = reached_is_good settings rack last (reached_after settings rack begun entries last since.reached run) in
     let u = since.lasts.under in
     let r = u.frame in
     let is_stuck = stuck_step path begin_path before.core settings last after u (rebalance_stepped begin_path before.core settings last (record { label = Label.Trouble path Problem.NormalConflict; state = after }) u placed good ends) in
@@ -169,7 +169,7 @@ conflict_law begins settings rack earlier entries before begun last after begin_
       reserved = undone.0.reserved;
       asks = asked.0;
       told = λ j h. elim (since.lasts.told j h) [ inl e ↦ absurd (let none = since.fresh in let h2 = subst (λ (x : List ℕ). has x j ≡ true) none e in cc) | inr e ↦ e ];
-      tells = refusers_told begins settings rack begin_path before begun entries last placed since within u is_stuck.stage;
+      tells = refusers_told settings rack begin_path before begun entries last placed since within u is_stuck.stage;
     } in
     let same_movers : ms ≡ r.agreed =
     same_ascent ms r.agreed (rising_from_increasing ms free.ascending) stuck.asks.rising

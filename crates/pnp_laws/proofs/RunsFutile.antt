@@ -10,11 +10,10 @@ use Rattle.pnp_labels.specs.Texts.{Text}
 use Rattle.pnp_labels.specs.declared.label.Label.{Label}
 use Rattle.pnp_labels.specs.declared.label.OpKind.{OpKind}
 use Rattle.pnp_labels.specs.declared.label.OpEnd.{OpEnd}
-use Rattle.pnp_laws.specs.Reached.{IsReached, EachBeginsWell}
+use Rattle.pnp_laws.specs.Reached.{IsReached}
 use Rattle.pnp_laws.specs.Holdings.{has_plan}
 use Rattle.pnp_laws.specs.Rebalanced.{Undone, Underway}
-use Rattle.pnp_laws.proofs.Reached.{reached_on, reached_is_good}
-use Rattle.pnp_laws.proofs.RunsWhole.{reached_is_settled}
+use Rattle.pnp_laws.proofs.Reached.{reached_on, reached_is_good, reached_is_placed}
 use Rattle.pnp_laws.proofs.Begins.{begins_right}
 use Rattle.pnp_laws.proofs.RebalanceRuns.{IsOver, rebalance_stepped, after_core, Lasts, lasts, underway_begun}
 
@@ -25,20 +24,20 @@ pub record Since (settings : Settings) (rack : List Driver) (path : Text) (befor
   pub reached : IsReached settings rack begun
   pub lasts : Lasts settings path before.core begun first.frame entries last
 
-pub since_begin : EachBeginsWell → (settings : Settings) (rack : List Driver) (earlier entries : List Entry) (before begun last : State) (path : Text) →
+pub since_begin : (settings : Settings) (rack : List Driver) (earlier entries : List Entry) (before begun last : State) (path : Text) →
     Reaches settings rack earlier before → Goes settings before (Did (Label.Begin OpKind.Rebalance path)) begun → Run settings begun entries last → AllWithin entries →
     Since settings rack path before begun entries last
-since_begin begins settings rack earlier entries before begun last path reaches goes run within =
+since_begin settings rack earlier entries before begun last path reaches goes run within =
     let at_before : IsReached settings rack before = (earlier, reaches) in
-    let good = reached_is_good begins settings rack before at_before in
-    let placed = (reached_is_settled begins settings rack before at_before).placed in
+    let good = reached_is_good settings rack before at_before in
+    let placed = reached_is_placed settings rack before at_before in
     let at_begun = reached_on settings rack before (Did (Label.Begin OpKind.Rebalance path)) begun at_before goes in
     let first = underway_begun path before begun (begins_right settings before begun OpKind.Rebalance path goes) good.serials in
     record {
       first = first.0;
       fresh = first.1;
       reached = at_begun;
-      lasts = lasts begins settings rack path before.core placed begun entries last at_begun first.0 within run;
+      lasts = lasts settings rack path before.core placed begun entries last at_begun first.0 within run;
     }
 
 -- its end ----------------------------------------------------------------------------------
@@ -47,12 +46,12 @@ pub reached_after : (settings : Settings) (rack : List Driver) (a : State) (entr
 reached_after settings rack a [] b reached run = subst (λ (x : State). IsReached settings rack x) (sym run) reached
 reached_after settings rack a (entry ∷ rest) b reached (mid, goes, run) = reached_after settings rack mid rest b (reached_on settings rack a entry mid reached goes) run
 
-end_is_over : EachBeginsWell → (settings : Settings) (rack : List Driver) (path : Text) (before begun : State) (entries : List Entry) (last after : State) (kind : OpKind) (end_path : Text) (result : OpEnd) →
+end_is_over : (settings : Settings) (rack : List Driver) (path : Text) (before begun : State) (entries : List Entry) (last after : State) (kind : OpKind) (end_path : Text) (result : OpEnd) →
     IsReached settings rack before → Since settings rack path before begun entries last → Run settings begun entries last → (u : Underway path before.core last) → Goes settings last (Did (Label.End kind end_path result)) after →
     IsOver last u.frame (record { label = Label.End kind end_path result; state = after })
-end_is_over begins settings rack path before begun entries last after kind end_path result at_before since run u goes =
-    let placed = (reached_is_settled begins settings rack before at_before).placed in
-    let good = reached_is_good begins settings rack last (reached_after settings rack begun entries last since.reached run) in
+end_is_over settings rack path before begun entries last after kind end_path result at_before since run u goes =
+    let placed = reached_is_placed settings rack before at_before in
+    let good = reached_is_good settings rack last (reached_after settings rack begun entries last since.reached run) in
     elim (rebalance_stepped path before.core settings last (record { label = Label.End kind end_path result; state = after }) u placed good goes) [
       | inl h ↦ absurd (subst (λ (x : Step). IsWithin x.label) (sym h.is) h.moves.within)
       | inr over ↦ over
@@ -69,13 +68,13 @@ no_veto (assignment plan) refuser e = cc
 no_veto no_fit refuser e = cc
 no_veto spent refuser e = cc
 
-pub never_vetoed : EachBeginsWell → (settings : Settings) (rack : List Driver) (earlier entries : List Entry) (before begun last after : State) (kind : OpKind) (path end_path refuser : Text) →
+pub never_vetoed : (settings : Settings) (rack : List Driver) (earlier entries : List Entry) (before begun last after : State) (kind : OpKind) (path end_path refuser : Text) →
     Reaches settings rack earlier before → Goes settings before (Did (Label.Begin OpKind.Rebalance path)) begun → Run settings begun entries last → AllWithin entries →
     Goes settings last (Did (Label.End kind end_path (OpEnd.Veto refuser))) after → ⊥
-never_vetoed begins settings rack earlier entries before begun last after kind path end_path refuser reaches goes run within ends =
-    let since = since_begin begins settings rack earlier entries before begun last path reaches goes run within in
+never_vetoed settings rack earlier entries before begun last after kind path end_path refuser reaches goes run within ends =
+    let since = since_begin settings rack earlier entries before begun last path reaches goes run within in
     let u = since.lasts.under in
-    let is_over = end_is_over begins settings rack path before begun entries last after kind end_path (OpEnd.Veto refuser) (earlier, reaches) since run u ends in
+    let is_over = end_is_over settings rack path before begun entries last after kind end_path (OpEnd.Veto refuser) (earlier, reaches) since run u ends in
     no_veto u.frame.found refuser (end_found last u.frame kind end_path (OpEnd.Veto refuser) after is_over)
 
 found_nothing : (found : Found) → ((OpEnd.NoFit ≡ end_of found) ⊎ (OpEnd.Spent ≡ end_of found)) → has_plan found ≡ false
@@ -103,13 +102,14 @@ restored path before last after u label h none =
           }
     ]
 
-pub futile_law : EachBeginsWell → FutileLaw
-futile_law begins settings rack earlier entries before begun last after path end_path reaches goes run within ends =
-    let since = since_begin begins settings rack earlier entries before begun last path reaches goes run within in
+-- a rebalance that found nothing restores everything but the problem of its device
+pub futile_restores : FutileLaw
+futile_restores settings rack earlier entries before begun last after path end_path reaches goes run within ends =
+    let since = since_begin settings rack earlier entries before begun last path reaches goes run within in
     let u = since.lasts.under in
     let by_result : (result : OpEnd) → ((OpEnd.NoFit ≡ result) ⊎ (OpEnd.Spent ≡ result)) → Goes settings last (Did (Label.End OpKind.Rebalance end_path result)) after → RestoresBut path before.core after.core =
     λ result which end.
-    let is_over = end_is_over begins settings rack path before begun entries last after OpKind.Rebalance end_path result (earlier, reaches) since run u end in
+    let is_over = end_is_over settings rack path before begun entries last after OpKind.Rebalance end_path result (earlier, reaches) since run u end in
     let found = end_found last u.frame OpKind.Rebalance end_path result after is_over in
     let nothing = found_nothing u.frame.found (subst (λ (x : OpEnd). (OpEnd.NoFit ≡ x) ⊎ (OpEnd.Spent ≡ x)) found which) in
     restored path before.core last after u (Label.End OpKind.Rebalance end_path result) is_over nothing in

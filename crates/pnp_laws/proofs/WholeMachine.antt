@@ -1,5 +1,5 @@
 -- Each step of the machine and each event keep that devices hold whole alternatives.
-use Rattle.std.proofs.Common.{ℕ, ◌≡◌, inl, inr, Bool, true, false, not, ◌&&◌, ◌==◌, List, [], ◌∷◌, ◌++◌, Option, Some, None, refl, sym, ◌∙◌, subst, arith, reverse}
+use Rattle.std.proofs.Common.{ℕ, ◌≡◌, inl, inr, Bool, true, false, List, [], ◌∷◌, ◌++◌, Option, Some, None, refl, sym, ◌∙◌, subst, arith, reverse}
 use Rattle.std.specs.List.{find, slice_get}
 use Rattle.resource_reqs.specs.Spelling.Answer.{no_fit}
 use Rattle.pnp_model.specs.Keyed.{changed_first, those}
@@ -14,7 +14,7 @@ use Rattle.pnp_model.specs.Removals.{begun_removal}
 use Rattle.pnp_model.specs.Surprises.{begun_surprise}
 use Rattle.pnp_model.specs.Starts.{adding}
 use Rattle.pnp_model.specs.States.{activity_at, entered, drop_task}
-use Rattle.pnp_model.specs.Tasks.{joins, has_born, has_path, joining, join_step, gone_child, gone_or_listed, join_or_on, list_up, list_step, begin_trouble, numbered, install, install_named, install_few, install_service, install_best, start_enabled, start_idle, start_bare, start_step, begin, rebalance_idle, rebalance_task, disable_task, begin_step}
+use Rattle.pnp_model.specs.Tasks.{joining, join_step, gone_child, gone_or_listed, join_or_on, list_up, list_step, begin_trouble, numbered, install, install_named, install_few, install_service, install_best, start_enabled, start_idle, start_bare, start_step, begin, rebalance_idle, rebalance_task, disable_task, begin_step}
 use Rattle.pnp_labels.specs.Texts.{Text}
 use Rattle.pnp_labels.specs.declared.states.DevState.{DevState}
 use Rattle.pnp_labels.specs.declared.states.Problem.{Problem}
@@ -26,7 +26,7 @@ use Rattle.pnp_laws.specs.Kept.{Good, IsGood, Fits, OperationFits}
 use Rattle.pnp_laws.specs.Holdings.{Turn, is_starting, StartsWhole, StageWhole, OperationWhole, IsWhole, Turned}
 use Rattle.pnp_laws.proofs.Lookups.{found_self, ready_found, joined_from, entered_same}
 use Rattle.pnp_laws.proofs.EventChanges.{Answered, happens_outside}
-use Rattle.pnp_laws.proofs.WholeSteps.{held, troubled_well, plain_problem, changed_starts, entered_others, turned_by, TurnedNext, whole_act}
+use Rattle.pnp_laws.proofs.WholeSteps.{held, troubled_well, keeps_problem, changed_starts, entered_others, turned_by, TurnedNext, whole_act}
 use Rattle.pnp_laws.proofs.WholeOperations.{whole_ask_on, whole_rebalance}
 use Rattle.pnp_laws.proofs.WholeRemovals.{whole_removal, whole_surprise}
 use Rattle.pnp_model.specs.Machine as ma
@@ -53,32 +53,6 @@ whole_gone : (s : State) (node : Node) (o : Option Node) → AtRest s → Turned
 whole_gone s node None w = still s _ w refl refl refl
 whole_gone s node (Some child) w = still s _ w refl refl refl
 
-both : (a b : Bool) → (a && b) ≡ true → (a ≡ true) × (b ≡ true)
-both true true h = (refl, refl)
-both true false h = absurd (cc)
-both false b h = absurd (cc)
-
-not_true : (b : Bool) → not b ≡ true → b ≡ false
-not_true true h = cc
-not_true false h = refl
-
--- a device that joins has a path that no node has
-joins_fresh : (born : ℕ) (nodes : List Node) (d : Device) → joins born nodes d ≡ true → has_path d.path nodes ≡ false
-joins_fresh born nodes d h =
-    let two = both (d.parent == born && not (has_born d.born nodes)) (not (has_path d.path nodes)) h in
-    not_true (has_path d.path nodes) two.1
-
-found_passes : (test : Device → Bool) (world : List Device) (d : Device) → find test world ≡ Some d → test d ≡ true
-found_passes test [] d h = absurd (cc)
-found_passes test (x ∷ xs) d h =
-    let more = found_passes test xs d in
-    let by_test : (b : Bool) → test x ≡ b → find test (x ∷ xs) ≡ Some d → test d ≡ true =
-    λ b. elim b as (λ b. test x ≡ b → find test (x ∷ xs) ≡ Some d → test d ≡ true) [
-      | true ↦ λ e g. let same : x ≡ d = grind (arith) in subst (λ (z : Device). test z ≡ true) same e
-      | false ↦ λ e g. more (grind (arith))
-    ] in
-    by_test (test x) refl h
-
 -- no activity waits for a device that has not joined yet
 joined_starts : (s : State) (new : Node) → new.serial ≡ s.next_serial → AtRest s → StartsWhole s.activities (s.core.nodes ++ new ∷ [])
 joined_starts s new e w k a at st m g =
@@ -87,29 +61,26 @@ joined_starts s new e w k a at st m g =
       | inr (q, r, u) ↦ absurd (let phase = w.good.phases k a at in let below = w.good.below k phase.0 phase.1 in let same : k ≡ s.next_serial = sym u ∙ e in omega arith)
     ]
 
-whole_join : (s : State) (node : Node) (o : Option Device) → joining node.born s.core.nodes s.world ≡ o → node_at node.serial s.core.nodes ≡ Some node → AtRest s → Turned s (join_or_on s node o).state
-whole_join s node None e at w = whole_gone s node (gone_child s node.serial) w
-whole_join s node (Some d) e at w =
+whole_join : (s : State) (node : Node) (o : Option Device) → AtRest s → Turned s (join_or_on s node o).state
+whole_join s node None w = whole_gone s node (gone_child s node.serial) w
+whole_join s node (Some d) w =
     let new = new_node s.next_serial node.serial d in
-    let below = w.good.below node.serial node at in
-    let fresh = joins_fresh node.born s.core.nodes d (found_passes (joins node.born s.core.nodes) s.world d e) in
     let t = (join_step s node d).state in
     turned_by s t (s.core.nodes ++ new ∷ []) s.activities refl refl (idle_stage t w.none)
-    (Turn.joined new refl (record { up = λ h. absurd (cc); bare = λ h. refl }) (omega arith) fresh)
-    (joined_starts s new refl w)
+    (Turn.joined new refl (record { up = λ h. absurd (cc); bare = λ h. refl })) (joined_starts s new refl w)
 
-whole_list_up : (s : State) (node : Node) (x : DevState) → node_at node.serial s.core.nodes ≡ Some node → AtRest s → Turned s (list_up s node x).state
-whole_list_up s node Started at w = whole_join s node (joining node.born s.core.nodes s.world) refl at w
-whole_list_up s node NoStack at w = whole_drop s w
-whole_list_up s node NotStarted at w = whole_drop s w
-whole_list_up s node StopPending at w = whole_drop s w
-whole_list_up s node Stopped at w = whole_drop s w
-whole_list_up s node RemovePending at w = whole_drop s w
-whole_list_up s node SurpriseRemoved at w = whole_drop s w
+whole_list_up : (s : State) (node : Node) (x : DevState) → AtRest s → Turned s (list_up s node x).state
+whole_list_up s node Started w = whole_join s node (joining node.born s.core.nodes s.world) w
+whole_list_up s node NoStack w = whole_drop s w
+whole_list_up s node NotStarted w = whole_drop s w
+whole_list_up s node StopPending w = whole_drop s w
+whole_list_up s node Stopped w = whole_drop s w
+whole_list_up s node RemovePending w = whole_drop s w
+whole_list_up s node SurpriseRemoved w = whole_drop s w
 
-whole_list : (s : State) (k : ℕ) (o : Option Node) → node_at k s.core.nodes ≡ o → AtRest s → Turned s (list_step s k o).state
-whole_list s k None e w = whole_drop s w
-whole_list s k (Some node) e w = whole_list_up s node node.state (found_self k s.core.nodes node e) w
+whole_list : (s : State) (k : ℕ) (o : Option Node) → AtRest s → Turned s (list_step s k o).state
+whole_list s k None w = whole_drop s w
+whole_list s k (Some node) w = whole_list_up s node node.state w
 
 -- a problem is set, and activities stay
 whole_trouble : (s : State) (node : Node) (problem : Problem) → node_at node.serial s.core.nodes ≡ Some node → AtRest s → Turned s (begin_trouble s node problem).state
@@ -117,8 +88,8 @@ whole_trouble s node problem at w =
     let f = with_problem (Some problem) in
     let t = (begin_trouble s node problem).state in
     turned_by s t (changed_first (is_node node.serial) f s.core.nodes) s.activities refl refl (idle_stage t w.none)
-    (Turn.changed node.serial f node refl at (plain_problem (Some problem)) (troubled_well node (Some problem) (held s node.serial node at w.old)))
-    (changed_starts node.serial f node s.core.nodes s.activities s.activities (plain_problem (Some problem)) at (λ k a d g. g) (λ a g st. w.old.starts node.serial a g st node at) w.old.starts)
+    (Turn.changed node.serial f node refl at (keeps_problem (Some problem)) (troubled_well node (Some problem) (held s node.serial node at w.old)))
+    (changed_starts node.serial f node s.core.nodes s.activities s.activities (keeps_problem (Some problem)) at (λ k a d g. g) (λ a g st. w.old.starts node.serial a g st node at) w.old.starts)
 
 adding_quiet : (ds : List ℕ) → is_starting (adding ds) ≡ false
 adding_quiet [] = refl
@@ -131,8 +102,8 @@ whole_install s node rank driver drivers at free w =
     let t = (install s node rank driver drivers).state in
     let new : Activity = record { serial = node.serial; phase = adding drivers } in
     turned_by s t (changed_first (is_node node.serial) f s.core.nodes) (entered new s.activities) refl refl (idle_stage t w.none)
-    (Turn.changed node.serial f node refl at (plain_problem None) (troubled_well node None (held s node.serial node at w.old)))
-    (changed_starts node.serial f node s.core.nodes s.activities (entered new s.activities) (plain_problem None) at (entered_others new s.activities)
+    (Turn.changed node.serial f node refl at (keeps_problem None) (troubled_well node None (held s node.serial node at w.old)))
+    (changed_starts node.serial f node s.core.nodes s.activities (entered new s.activities) (keeps_problem None) at (entered_others new s.activities)
     (λ a g st. absurd (
     let own = entered_same new s.activities free in
     let same : new ≡ a = cc in
@@ -213,7 +184,7 @@ whole_alone budget s kind k [] w = whole_begin_step s kind k (node_at k s.core.n
 whole_alone budget s kind k (a ∷ acts) w = tt
 
 whole_task_of : (budget : ℕ) (settings : Settings) (s : State) (kind : Duty) (k : ℕ) → AtRest s → TurnedNext budget s (ma.task_of settings s kind k)
-whole_task_of budget settings s Duty.Listing k w = whole_list s k (node_at k s.core.nodes) refl w
+whole_task_of budget settings s Duty.Listing k w = whole_list s k (node_at k s.core.nodes) w
 whole_task_of budget settings s Duty.Starting k w = whole_start settings s k (node_at k s.core.nodes) refl w
 whole_task_of budget settings s (Duty.Begins kind) k w = whole_alone budget s kind k s.activities w
 

@@ -26,11 +26,11 @@ use Rattle.pnp_labels.specs.declared.label.OpKind.{OpKind}
 use Rattle.pnp_labels.specs.declared.label.Label.{Label}
 use Rattle.pnp_labels.specs.declared.states.DevState.TheVariants.{NoStack, NotStarted, Started, StopPending, Stopped}
 use Rattle.pnp_laws.specs.Kept.{RebalanceKeeps, asking_state, pending_state, stopping_state, stopped_state}
-use Rattle.pnp_laws.specs.Holdings.{Plain, HeldWell, Turn, is_starting, has_plan, WholeAt, PartsFit, StageWhole, OperationWhole, IsWhole, Turned}
+use Rattle.pnp_laws.specs.Holdings.{KeepsReqs, HeldWell, Turn, is_starting, has_plan, WholeAt, PartsFit, StageWhole, OperationWhole, IsWhole, Turned}
 use Rattle.pnp_laws.proofs.Lookups.{node_changed_same, node_changed_other, own_serial, node_from, map_from, some_same}
 use Rattle.pnp_laws.proofs.Lists.{head_found, head_has}
 use Rattle.pnp_laws.proofs.OpSteps.{is_Started, is_StopPending, is_Stopped}
-use Rattle.pnp_laws.proofs.WholeSteps.{held, moved_well, troubled_well, plain_state, plain_problem, none_starts, same_starts, entered_others, turned_by, TurnedNext}
+use Rattle.pnp_laws.proofs.WholeSteps.{held, moved_well, troubled_well, keeps_state, keeps_problem, none_starts, same_starts, entered_others, turned_by, TurnedNext}
 use Rattle.pnp_model.specs.Rebalances as re
 
 -- By kinds of step ---------------------------------------------------------------------------
@@ -91,30 +91,30 @@ reqs_map : (f : Node → Node) (o : Option Node) → ((n : Node) → (f n).reqs 
 reqs_map f None keeps = refl
 reqs_map f (Some n) keeps = keeps n
 
-pub reqs_changed : (j k : ℕ) (f : Node → Node) (nodes : List Node) → Plain f → re.reqs_of (node_at k (changed_first (is_node j) f nodes)) ≡ re.reqs_of (node_at k nodes)
-reqs_changed j k f nodes plain =
+pub reqs_changed : (j k : ℕ) (f : Node → Node) (nodes : List Node) → KeepsReqs f → re.reqs_of (node_at k (changed_first (is_node j) f nodes)) ≡ re.reqs_of (node_at k nodes)
+reqs_changed j k f nodes keeps =
     elim (cases_eq j k) [
       | inl e ↦
           subst (λ (i : ℕ). re.reqs_of (node_at k (changed_first (is_node i) f nodes)) ≡ re.reqs_of (node_at k nodes)) (sym e)
-          (ap re.reqs_of (node_changed_same k f nodes plain.serial) ∙ reqs_map f (node_at k nodes) plain.reqs)
-      | inr d ↦ ap re.reqs_of (node_changed_other j k f nodes plain.serial d)
+          (ap re.reqs_of (node_changed_same k f nodes keeps.serial) ∙ reqs_map f (node_at k nodes) keeps.reqs)
+      | inr d ↦ ap re.reqs_of (node_changed_other j k f nodes keeps.serial d)
     ]
 
-pub all_reqs_changed : (j : ℕ) (f : Node → Node) (nodes : List Node) (ks : List ℕ) → Plain f →
+pub all_reqs_changed : (j : ℕ) (f : Node → Node) (nodes : List Node) (ks : List ℕ) → KeepsReqs f →
     map (λ k. re.reqs_of (node_at k (changed_first (is_node j) f nodes))) ks ≡ map (λ k. re.reqs_of (node_at k nodes)) ks
-all_reqs_changed j f nodes [] plain = refl
-all_reqs_changed j f nodes (k ∷ ks) plain =
-    ap (λ (x : Reqs). x ∷ map (λ i. re.reqs_of (node_at i (changed_first (is_node j) f nodes))) ks) (reqs_changed j k f nodes plain)
-    ∙ ap (λ (xs : List Reqs). re.reqs_of (node_at k nodes) ∷ xs) (all_reqs_changed j f nodes ks plain)
+all_reqs_changed j f nodes [] keeps = refl
+all_reqs_changed j f nodes (k ∷ ks) keeps =
+    ap (λ (x : Reqs). x ∷ map (λ i. re.reqs_of (node_at i (changed_first (is_node j) f nodes))) ks) (reqs_changed j k f nodes keeps)
+    ∙ ap (λ (xs : List Reqs). re.reqs_of (node_at k nodes) ∷ xs) (all_reqs_changed j f nodes ks keeps)
 
-parts_changed : (r : Rebalance) (j : ℕ) (f : Node → Node) (nodes : List Node) → Plain f → PartsFit r nodes → PartsFit r (changed_first (is_node j) f nodes)
-parts_changed r j f nodes plain h = subst (λ (xs : List Reqs). AllZip Whole xs (re.plan_of r.found)) (sym (all_reqs_changed j f nodes (re.movers r) plain)) h
+parts_changed : (r : Rebalance) (j : ℕ) (f : Node → Node) (nodes : List Node) → KeepsReqs f → PartsFit r nodes → PartsFit r (changed_first (is_node j) f nodes)
+parts_changed r j f nodes keeps h = subst (λ (xs : List Reqs). AllZip Whole xs (re.plan_of r.found)) (sym (all_reqs_changed j f nodes (re.movers r) keeps)) h
 
-whole_at_changed : (k j : ℕ) (f : Node → Node) (nodes : List Node) → Plain f → ((n : Node) → (f n).holds ≡ n.holds) → WholeAt k nodes → WholeAt k (changed_first (is_node j) f nodes)
-whole_at_changed k j f nodes plain holds h m g =
-    elim (node_from j k f nodes m plain.serial g) [
+whole_at_changed : (k j : ℕ) (f : Node → Node) (nodes : List Node) → KeepsReqs f → ((n : Node) → (f n).holds ≡ n.holds) → WholeAt k nodes → WholeAt k (changed_first (is_node j) f nodes)
+whole_at_changed k j f nodes keeps holds h m g =
+    elim (node_from j k f nodes m keeps.serial g) [
       | inl (e, (y, q, r)) ↦
-          subst (λ (x : List Res). Whole m.reqs x) (sym (ap (λ (z : Node). z.holds) r ∙ holds y)) (subst (λ (x : Reqs). Whole x y.holds) (sym (ap (λ (z : Node). z.reqs) r ∙ plain.reqs y)) (h y q))
+          subst (λ (x : List Res). Whole m.reqs x) (sym (ap (λ (z : Node). z.holds) r ∙ holds y)) (subst (λ (x : Reqs). Whole x y.holds) (sym (ap (λ (z : Node). z.reqs) r ∙ keeps.reqs y)) (h y q))
       | inr (d, q) ↦ h m q
     ]
 
@@ -139,8 +139,8 @@ part_other k [] plan held h = refl
 part_other k (j ∷ js) [] held h = refl
 part_other k (j ∷ js) (holds ∷ plan) held h = grind (arith, nat_tests, part_other k js plan held)
 
-plain_committed : (serials : List ℕ) (plan : List (List Res)) → Plain (re.committed serials plan)
-plain_committed serials plan = record { serial = λ n. refl; parent = λ n. refl; path = λ n. refl; reqs = λ n. refl }
+keeps_committed : (serials : List ℕ) (plan : List (List Res)) → KeepsReqs (re.committed serials plan)
+keeps_committed serials plan = record { serial = λ n. refl; reqs = λ n. refl }
 
 -- the part of a mover that is there
 mover_whole : (r : Rebalance) (nodes : List Node) (k : ℕ) (n : Node) → PartsFit r nodes → node_at k nodes ≡ Some n → has (re.movers r) k ≡ true → Whole n.reqs (re.committed (re.movers r) (re.plan_of r.found) n).holds
@@ -199,7 +199,7 @@ record AtWork (s : State) (node : Node) : Type 0 where
 walked : (s t : State) (node : Node) (y : DevState) (o : Operation) → AtWork s node → t.core.nodes ≡ changed_first (is_node node.serial) (with_state y) s.core.nodes → t.activities ≡ s.activities → t.operation ≡ Some o → y ≢ NoStack →
     OperationWhole (Some o) t.core.nodes → Turned s t
 walked s t node y o w a b c d stage =
-    turned_op s t o w.alone b c stage (Turn.changed node.serial (with_state y) node a w.at (plain_state y) (moved_well node y w.up d (held s node.serial node w.at w.old)))
+    turned_op s t o w.alone b c stage (Turn.changed node.serial (with_state y) node a w.at (keeps_state y) (moved_well node y w.up d (held s node.serial node w.at w.old)))
 
 bad_stays : (node : Node) → is_up_to_now node.state ≡ true → node.state ≢ NoStack
 bad_stays node up e = let z = ap is_up_to_now e in cc
@@ -232,26 +232,26 @@ whole_stuck : (s : State) (r : Rebalance) → s.activities ≡ [] → RebalanceK
 whole_stuck s r alone keeps h old =
     let problem = Some (re.trouble_of r.found) in
     turned_op s _ _ alone refl refl (λ e. absurd (cc))
-    (Turn.changed r.target (with_problem problem) keeps.waits.0 refl keeps.waits.1 (plain_problem problem) (troubled_well keeps.waits.0 problem (held s r.target keeps.waits.0 keeps.waits.1 old)))
+    (Turn.changed r.target (with_problem problem) keeps.waits.0 refl keeps.waits.1 (keeps_problem problem) (troubled_well keeps.waits.0 problem (held s r.target keeps.waits.0 keeps.waits.1 old)))
 
 whole_stop : (s : State) (r : Rebalance) (node : Node) (walk : Walk) (ends : Bool) → PartsFit r s.core.nodes → AtWork s node → Turned s (rebalance_lifted s (re.stop_step s.core r node walk ends)).state
 whole_stop s r node walk true parts w =
     walked s _ node Stopped _ w refl refl refl (λ e. cc)
-    (whole_stop_on r (rest r.todo) _ (parts_changed r node.serial (with_state Stopped) s.core.nodes (plain_state Stopped) parts))
+    (whole_stop_on r (rest r.todo) _ (parts_changed r node.serial (with_state Stopped) s.core.nodes (keeps_state Stopped) parts))
 whole_stop s r node walk false parts w = turned_op s _ _ w.alone refl refl parts (Turn.same refl)
 
 whole_commit : (s : State) (r : Rebalance) → s.activities ≡ [] → RebalanceKeeps r Committing s.core.nodes → PartsFit r s.core.nodes → IsWhole s → Turned s (rebalance_lifted s (re.commit_step s.core r)).state
 whole_commit s r alone keeps parts old =
     turned_op s _ _ alone refl refl (whole_restart_on s.core.nodes r r.agreed _ (target_whole r s.core.nodes parts))
-    (Turn.mapped (re.committed (re.movers r) (re.plan_of r.found)) refl (plain_committed (re.movers r) (re.plan_of r.found))
+    (Turn.mapped (re.committed (re.movers r) (re.plan_of r.found)) refl (keeps_committed (re.movers r) (re.plan_of r.found))
     (λ k n at. committed_well r s.core.nodes k n keeps parts at (held s k n at old)))
 
 whole_end_restart : (s : State) (r : Rebalance) (node : Node) (bad : Bool) → WholeAt r.target s.core.nodes → AtWork s node → Turned s (rebalance_lifted s (re.end_restart s.core r node bad)).state
 whole_end_restart s r node true h w =
-    walked s _ node node.state _ w refl refl refl (bad_stays node w.up) (whole_at_changed r.target node.serial (with_state node.state) s.core.nodes (plain_state node.state) (λ n. refl) h)
+    walked s _ node node.state _ w refl refl refl (bad_stays node w.up) (whole_at_changed r.target node.serial (with_state node.state) s.core.nodes (keeps_state node.state) (λ n. refl) h)
 whole_end_restart s r node false h w =
     walked s _ node Started _ w refl refl refl (λ e. cc)
-    (whole_restart_on (ended s.core node Minor.Start false).nodes r (rest r.todo) _ (whole_at_changed r.target node.serial (with_state Started) s.core.nodes (plain_state Started) (λ n. refl) h))
+    (whole_restart_on (ended s.core node Minor.Start false).nodes r (rest r.todo) _ (whole_at_changed r.target node.serial (with_state Started) s.core.nodes (keeps_state Started) (λ n. refl) h))
 
 whole_restart : (s : State) (r : Rebalance) (node : Node) (walk : Walk) (ends : Bool) → WholeAt r.target s.core.nodes → AtWork s node → Turned s (rebalance_lifted s (re.restart_step s.core r node walk ends)).state
 whole_restart s r node walk true h w = whole_end_restart s r node (is_bad walk) h w
@@ -261,8 +261,8 @@ whole_failed : (s : State) (r : Rebalance) (node : Node) → WholeAt r.target s.
 whole_failed s r node h w =
     let problem = Some Problem.FailedStart in
     turned_op s _ _ w.alone refl refl
-    (whole_restart_on s.core.nodes r (rest r.todo) _ (whole_at_changed r.target node.serial (with_problem problem) s.core.nodes (plain_problem problem) (λ n. refl) h))
-    (Turn.changed node.serial (with_problem problem) node refl w.at (plain_problem problem) (troubled_well node problem (held s node.serial node w.at w.old)))
+    (whole_restart_on s.core.nodes r (rest r.todo) _ (whole_at_changed r.target node.serial (with_problem problem) s.core.nodes (keeps_problem problem) (λ n. refl) h))
+    (Turn.changed node.serial (with_problem problem) node refl w.at (keeps_problem problem) (troubled_well node problem (held s node.serial node w.at w.old)))
 
 whole_moved : (s : State) (r : Rebalance) (up : Bool) (label : Label) → s.activities ≡ [] → WholeAt r.target s.core.nodes → Turned s (rebalance_lifted s (record { label = label; core = s.core; frame = r; beside = re.moved_on up })).state
 whole_moved s r true label alone h = turned_start s _ r.target alone refl refl refl h

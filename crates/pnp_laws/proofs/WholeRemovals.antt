@@ -17,13 +17,13 @@ use Rattle.pnp_labels.specs.declared.states.Problem.{Problem}
 use Rattle.pnp_labels.specs.declared.label.Label.{Label}
 use Rattle.pnp_labels.specs.declared.states.DevState.TheVariants.{NoStack, Started, RemovePending, SurpriseRemoved}
 use Rattle.pnp_laws.specs.Kept.{Ascending, RemovalKeeps, restoring_state}
-use Rattle.pnp_laws.specs.Holdings.{HeldWell, Plain, Turn, OperationWhole, IsWhole, Turned}
+use Rattle.pnp_laws.specs.Holdings.{HeldWell, KeepsReqs, Turn, OperationWhole, IsWhole, Turned}
 use Rattle.pnp_laws.proofs.Lists.{head_found, head_has}
 use Rattle.pnp_laws.proofs.Finishing.{relist_only}
 use Rattle.pnp_laws.proofs.SharingRemovals.{relist_core}
 use Rattle.pnp_laws.proofs.OpSteps.{is_RemovePending}
 use Rattle.pnp_laws.proofs.RemovalSteps.{head_querying, head_refusing}
-use Rattle.pnp_laws.proofs.WholeSteps.{held, moved_well, down_well, troubled_well, bare_well, plain_state, plain_problem, plain_bare, TurnedNext}
+use Rattle.pnp_laws.proofs.WholeSteps.{held, moved_well, down_well, troubled_well, bare_well, keeps_state, keeps_problem, keeps_bare, TurnedNext}
 use Rattle.pnp_laws.proofs.WholeOperations.{turned_op, turned_close}
 use Rattle.pnp_model.specs.Removals as rm
 use Rattle.pnp_model.specs.Surprises as su
@@ -46,20 +46,20 @@ still : (s t : State) (o : Operation) → AsksNothing o → s.activities ≡ [] 
 still s t o asks alone a b c = turned_op s t o alone a b (asks t.core.nodes) (Turn.same c)
 
 changed : (s t : State) (node : Node) (o : Operation) (f : Node → Node) → AsksNothing o → AtWork s node → t.core.nodes ≡ changed_first (is_node node.serial) f s.core.nodes → t.activities ≡ s.activities → t.operation ≡ Some o →
-    Plain f → HeldWell (f node) → Turned s t
-changed s t node o f asks w a b c plain well = turned_op s t o w.alone b c (asks t.core.nodes) (Turn.changed node.serial f node a w.at plain well)
+    KeepsReqs f → HeldWell (f node) → Turned s t
+changed s t node o f asks w a b c keeps well = turned_op s t o w.alone b c (asks t.core.nodes) (Turn.changed node.serial f node a w.at keeps well)
 
 -- a device that is up is asked or told something
 moved : (s t : State) (node : Node) (o : Operation) (y : DevState) → AsksNothing o → AtWork s node → t.core.nodes ≡ changed_first (is_node node.serial) (with_state y) s.core.nodes → t.activities ≡ s.activities → t.operation ≡ Some o →
     is_up_to_now node.state ≡ true → y ≢ NoStack → Turned s t
-moved s t node o y asks w a b c up d = changed s t node o (with_state y) asks w a b c (plain_state y) (moved_well node y up d (held s node.serial node w.at w.old))
+moved s t node o y asks w a b c up d = changed s t node o (with_state y) asks w a b c (keeps_state y) (moved_well node y up d (held s node.serial node w.at w.old))
 
 troubled : (s t : State) (node : Node) (o : Operation) (problem : Problem) → AsksNothing o → AtWork s node → t.core.nodes ≡ changed_first (is_node node.serial) (with_problem (Some problem)) s.core.nodes → t.activities ≡ s.activities → t.operation ≡ Some o → Turned s t
 troubled s t node o problem asks w a b c =
-    changed s t node o (with_problem (Some problem)) asks w a b c (plain_problem (Some problem)) (troubled_well node (Some problem) (held s node.serial node w.at w.old))
+    changed s t node o (with_problem (Some problem)) asks w a b c (keeps_problem (Some problem)) (troubled_well node (Some problem) (held s node.serial node w.at w.old))
 
 stripped : (s t : State) (node : Node) (o : Operation) → AsksNothing o → AtWork s node → t.core.nodes ≡ changed_first (is_node node.serial) bare s.core.nodes → t.activities ≡ s.activities → t.operation ≡ Some o → Turned s t
-stripped s t node o asks w a b c = changed s t node o bare asks w a b c plain_bare (bare_well node)
+stripped s t node o asks w a b c = changed s t node o bare asks w a b c keeps_bare (bare_well node)
 
 leaving : (s t u : State) (node : Node) (o : Operation) (path : List ℕ) (born : ℕ) → t ≡ relist path born u → AsksNothing o → AtWork s node → u.core.nodes ≡ without_first (is_node node.serial) s.core.nodes → u.activities ≡ s.activities → u.operation ≡ Some o → Turned s t
 leaving s t u node o path born e asks w a b c =
@@ -142,7 +142,7 @@ whole_removal budget s o Settling None first alone keeps order old = tt
 -- Surprise -----------------------------------------------------------------------------------
 
 whole_tell : (s : State) (o : Surprise) (node : Node) (walk : Walk) (ends : Bool) → AtWork s node → Turned s (surprise_lifted s (su.tell_step s.core o node walk ends)).state
-whole_tell s o node walk true w = changed s _ node _ (with_state SurpriseRemoved) (λ x. tt) w refl refl refl (plain_state SurpriseRemoved) (down_well node SurpriseRemoved refl (λ e. cc))
+whole_tell s o node walk true w = changed s _ node _ (with_state SurpriseRemoved) (λ x. tt) w refl refl refl (keeps_state SurpriseRemoved) (down_well node SurpriseRemoved refl (λ e. cc))
 whole_tell s o node walk false w = still s _ _ (λ x. tt) w.alone refl refl refl
 
 whole_stripped : (s : State) (o : Surprise) (node : Node) (walk : Walk) (ends : Bool) → AtWork s node → Turned s (surprise_lifted s (su.remove_step s.core o node walk ends)).state

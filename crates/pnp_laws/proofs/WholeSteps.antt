@@ -24,7 +24,7 @@ use Rattle.pnp_labels.specs.declared.states.Problem.{Problem}
 use Rattle.pnp_labels.specs.declared.states.DevState.TheVariants.{NoStack, NotStarted, Started, StopPending, Stopped, RemovePending, SurpriseRemoved}
 use Rattle.pnp_labels.specs.declared.words.Answer.TheVariants.{Ok, Fail, Pend}
 use Rattle.pnp_laws.specs.Kept.{InOrder, Fits, is_idle}
-use Rattle.pnp_laws.specs.Holdings.{Plain, HeldWell, Turn, is_starting, WholeAt, StartsWhole, OperationWhole, IsWhole, Turned}
+use Rattle.pnp_laws.specs.Holdings.{KeepsReqs, HeldWell, Turn, is_starting, WholeAt, StartsWhole, OperationWhole, IsWhole, Turned}
 use Rattle.pnp_laws.proofs.Lookups.{node_from, some_same, phase_from, phase_set_other, ended_same, ended_other, entered_other}
 
 -- What a device holds ------------------------------------------------------------------
@@ -50,14 +50,14 @@ troubled_well n problem well = record { up = well.up; bare = well.bare }
 pub bare_well : (n : Node) → HeldWell (bare n)
 bare_well n = record { up = λ h. absurd (cc); bare = λ h. refl }
 
-pub plain_state : (y : DevState) → Plain (with_state y)
-plain_state y = record { serial = λ n. refl; parent = λ n. refl; path = λ n. refl; reqs = λ n. refl }
+pub keeps_state : (y : DevState) → KeepsReqs (with_state y)
+keeps_state y = record { serial = λ n. refl; reqs = λ n. refl }
 
-pub plain_problem : (problem : Option Problem) → Plain (with_problem problem)
-plain_problem problem = record { serial = λ n. refl; parent = λ n. refl; path = λ n. refl; reqs = λ n. refl }
+pub keeps_problem : (problem : Option Problem) → KeepsReqs (with_problem problem)
+keeps_problem problem = record { serial = λ n. refl; reqs = λ n. refl }
 
-pub plain_bare : Plain bare
-plain_bare = record { serial = λ n. refl; parent = λ n. refl; path = λ n. refl; reqs = λ n. refl }
+pub keeps_bare : KeepsReqs bare
+keeps_bare = record { serial = λ n. refl; reqs = λ n. refl }
 
 -- Devices whose START is under way ---------------------------------------------------------
 
@@ -68,11 +68,11 @@ none_starts activities nodes e k a at = let none = subst (λ (x : List Activity)
 abbrev pub OthersStay : ℕ → List Activity → List Activity → Type 0
 OthersStay j old new = (k : ℕ) (a : Activity) → j ≢ k → activity_at k new ≡ Some a → activity_at k old ≡ Some a
 
-pub changed_starts : (j : ℕ) (f : Node → Node) (node : Node) (nodes : List Node) (acts new : List Activity) → Plain f → node_at j nodes ≡ Some node → OthersStay j acts new →
+pub changed_starts : (j : ℕ) (f : Node → Node) (node : Node) (nodes : List Node) (acts new : List Activity) → KeepsReqs f → node_at j nodes ≡ Some node → OthersStay j acts new →
     ((a : Activity) → activity_at j new ≡ Some a → is_starting a.phase ≡ true → Whole (f node).reqs (f node).holds) →
     StartsWhole acts nodes → StartsWhole new (changed_first (is_node j) f nodes)
-changed_starts j f node nodes acts new plain at others own old k a there st m g =
-    elim (node_from j k f nodes m plain.serial g) [
+changed_starts j f node nodes acts new keeps at others own old k a there st m g =
+    elim (node_from j k f nodes m keeps.serial g) [
       | inl (e, (y, q, r)) ↦
           let at_k = subst (λ (i : ℕ). node_at i nodes ≡ Some node) e at in
           let same : y ≡ node = some_same (node_at k nodes) y node q at_k in
@@ -123,13 +123,13 @@ entered_others new acts k a d g = sym (entered_other new k acts d) ∙ g
 
 -- the device of the activity is changed, and it goes on
 turned_go : (s t : State) (f : Node → Node) (node : Node) (phase : Phase) → t.core.nodes ≡ changed_first (is_node node.serial) f s.core.nodes →
-    t.activities ≡ changed_first (is_activity node.serial) (with_phase phase) s.activities → t.operation ≡ None → node_at node.serial s.core.nodes ≡ Some node → Plain f → HeldWell (f node) →
+    t.activities ≡ changed_first (is_activity node.serial) (with_phase phase) s.activities → t.operation ≡ None → node_at node.serial s.core.nodes ≡ Some node → KeepsReqs f → HeldWell (f node) →
     (is_starting phase ≡ true → Whole (f node).reqs (f node).holds) → IsWhole s → Turned s t
-turned_go s t f node phase a b c at plain well own h =
+turned_go s t f node phase a b c at keeps well own h =
     let j = node.serial in
     let acts = changed_first (is_activity j) (with_phase phase) s.activities in
-    turned_by s t (changed_first (is_node j) f s.core.nodes) acts a b (idle_stage t c) (Turn.changed j f node refl at plain well)
-    (changed_starts j f node s.core.nodes s.activities acts plain at (set_others j phase s.activities) (λ x g st. own (set_own j phase s.activities x g st)) h.starts)
+    turned_by s t (changed_first (is_node j) f s.core.nodes) acts a b (idle_stage t c) (Turn.changed j f node refl at keeps well)
+    (changed_starts j f node s.core.nodes s.activities acts keeps at (set_others j phase s.activities) (λ x g st. own (set_own j phase s.activities x g st)) h.starts)
 
 -- no device is changed, and the activity goes on
 turned_phase : (s t : State) (node : Node) (phase : Phase) → t.core.nodes ≡ s.core.nodes → t.activities ≡ changed_first (is_activity node.serial) (with_phase phase) s.activities → t.operation ≡ None →
@@ -142,12 +142,12 @@ turned_phase s t node phase a b c own h =
 
 -- the device of the activity is changed, and it ends
 turned_end : (s t : State) (f : Node → Node) (node : Node) → t.core.nodes ≡ changed_first (is_node node.serial) f s.core.nodes → t.activities ≡ without_first (is_activity node.serial) s.activities →
-    t.operation ≡ None → node_at node.serial s.core.nodes ≡ Some node → Plain f → HeldWell (f node) → InOrder 0 s.activities → IsWhole s → Turned s t
-turned_end s t f node a b c at plain well order h =
+    t.operation ≡ None → node_at node.serial s.core.nodes ≡ Some node → KeepsReqs f → HeldWell (f node) → InOrder 0 s.activities → IsWhole s → Turned s t
+turned_end s t f node a b c at keeps well order h =
     let j = node.serial in
     let acts = without_first (is_activity j) s.activities in
-    turned_by s t (changed_first (is_node j) f s.core.nodes) acts a b (idle_stage t c) (Turn.changed j f node refl at plain well)
-    (changed_starts j f node s.core.nodes s.activities acts plain at (ended_others j s.activities) (λ x g st. absurd (ended_own j s.activities x order g)) h.starts)
+    turned_by s t (changed_first (is_node j) f s.core.nodes) acts a b (idle_stage t c) (Turn.changed j f node refl at keeps well)
+    (changed_starts j f node s.core.nodes s.activities acts keeps at (ended_others j s.activities) (λ x g st. absurd (ended_own j s.activities x order g)) h.starts)
 
 -- no device is changed, and the activity ends
 turned_stop : (s t : State) (node : Node) → t.core.nodes ≡ s.core.nodes → t.activities ≡ without_first (is_activity node.serial) s.activities → t.operation ≡ None → InOrder 0 s.activities → IsWhole s → Turned s t
@@ -185,7 +185,7 @@ whole_add : (s : State) (c : Core) (node : Node) (d : ℕ) (ds more : List ℕ) 
 whole_add s c node d ds more Ok e w =
     let f = with_stack (node.stack ++ d ∷ []) (stacked node.state) in
     turned_go s _ f node (adding ds) (ap (λ (x : List Node). changed_first (is_node node.serial) f x) e) refl w.none w.at
-    (record { serial = λ n. refl; parent = λ n. refl; path = λ n. refl; reqs = λ n. refl })
+    (record { serial = λ n. refl; reqs = λ n. refl })
     (waiting_well (f node) (stacked_waits node.state w.fits)) (λ st. absurd (let q = adding_quiet ds in cc)) w.old
 whole_add s c node d ds more Fail e w = turned_phase s _ node (Due Problem.FailedAdd) e refl w.none (λ st. absurd (cc)) w.old
 whole_add s c node d ds more Pend e w = turned_phase s _ node (Due Problem.FailedAdd) e refl w.none (λ st. absurd (cc)) w.old
@@ -198,16 +198,16 @@ whole_searched : (s : State) (node : Node) (phase : Phase) (budget : ℕ) (found
     Turned s (start_lifted s node.serial (searched s.core node found)).state
 whole_searched s node phase budget (assignment plan) e answer w =
     let is = plan_is (fixed_beside s.core (node.serial ∷ [])) (node.reqs ∷ []) budget plan answer in
-    turned_go s _ (with_holds (own_part plan)) node (Starting (walk_of Minor.Start)) refl refl w.none w.at (record { serial = λ n. refl; parent = λ n. refl; path = λ n. refl; reqs = λ n. refl })
+    turned_go s _ (with_holds (own_part plan)) node (Starting (walk_of Minor.Start)) refl refl w.none w.at (record { serial = λ n. refl; reqs = λ n. refl })
     (waiting_well (with_holds (own_part plan) node) e) (λ st. own_whole node.reqs plan is.whole) w.old
 whole_searched s node phase budget no_fit e answer w = turned_stop s _ node refl refl w.none w.order w.old
 whole_searched s node phase budget spent e answer w = turned_phase s _ node (Due Problem.Budget) refl refl w.none (λ st. absurd (cc)) w.old
 
 whole_end_start : (s : State) (node : Node) (walk : Walk) (bad : Bool) → AtStart s node (Starting walk) → Turned s (start_lifted s node.serial (end_start s.core node bad)).state
 whole_end_start s node walk true w =
-    turned_go s _ (with_state node.state) node (Due Problem.FailedStart) refl refl w.none w.at (plain_state node.state) (held s node.serial node w.at w.old) (λ st. absurd (cc)) w.old
+    turned_go s _ (with_state node.state) node (Due Problem.FailedStart) refl refl w.none w.at (keeps_state node.state) (held s node.serial node w.at w.old) (λ st. absurd (cc)) w.old
 whole_end_start s node walk false w =
-    turned_end s _ (with_state Started) node refl refl w.none w.at (plain_state Started) (record { up = λ h. w.whole refl; bare = λ h. absurd (cc) }) w.order w.old
+    turned_end s _ (with_state Started) node refl refl w.none w.at (keeps_state Started) (record { up = λ h. w.whole refl; bare = λ h. absurd (cc) }) w.order w.old
 
 -- the device of this serial is the node
 own_at : (s : State) (node : Node) → node_at node.serial s.core.nodes ≡ Some node → Whole node.reqs node.holds → WholeAt node.serial s.core.nodes
@@ -218,15 +218,15 @@ whole_start_on s node walk true w = whole_end_start s node walk (is_bad walk) w
 whole_start_on s node walk false w = turned_phase s _ node (Starting _) refl refl w.none (λ st. own_at s node w.at (w.whole refl)) w.old
 
 whole_remove_on : (s : State) (node : Node) (walk : Walk) (ends : Bool) → AtStart s node (Removing walk) → Turned s (start_lifted s node.serial (remove_on s.core node walk ends)).state
-whole_remove_on s node walk true w = turned_end s _ bare node refl refl w.none w.at plain_bare (bare_well node) w.order w.old
+whole_remove_on s node walk true w = turned_end s _ bare node refl refl w.none w.at keeps_bare (bare_well node) w.order w.old
 whole_remove_on s node walk false w = turned_phase s _ node (Removing _) refl refl w.none (λ st. absurd (cc)) w.old
 
 whole_undo : (s : State) (c : Core) (node : Node) (problem : Problem) (stack : List ℕ) → c.nodes ≡ changed_first (is_node node.serial) (with_problem (Some problem)) s.core.nodes → AtStart s node (Due problem) →
     Turned s (start_lifted s node.serial (undo c node problem stack)).state
 whole_undo s c node problem [] e w =
-    turned_end s _ (with_problem (Some problem)) node e refl w.none w.at (plain_problem (Some problem)) (troubled_well node (Some problem) (held s node.serial node w.at w.old)) w.order w.old
+    turned_end s _ (with_problem (Some problem)) node e refl w.none w.at (keeps_problem (Some problem)) (troubled_well node (Some problem) (held s node.serial node w.at w.old)) w.order w.old
 whole_undo s c node problem (d ∷ ds) e w =
-    turned_go s _ (with_problem (Some problem)) node (Removing (walk_of Minor.Remove)) e refl w.none w.at (plain_problem (Some problem)) (troubled_well node (Some problem) (held s node.serial node w.at w.old))
+    turned_go s _ (with_problem (Some problem)) node (Removing (walk_of Minor.Remove)) e refl w.none w.at (keeps_problem (Some problem)) (troubled_well node (Some problem) (held s node.serial node w.at w.old))
     (λ st. absurd (cc)) w.old
 
 -- by the answer that a search has

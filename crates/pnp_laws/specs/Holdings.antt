@@ -1,12 +1,11 @@
 -- How a step changes the nodes, and what is kept of what devices hold.
-use Rattle.std.specs.Prelude.{ℕ, ◌≡◌, ◌≤◌, ◌-◌, Bool, true, false, List, [], ◌∷◌, ◌++◌, Option, Some, None, map}
+use Rattle.std.specs.Prelude.{ℕ, ◌≡◌, Bool, true, false, List, [], ◌∷◌, ◌++◌, Option, Some, None, map}
 use Rattle.std.specs.List.{AllZip}
 use Rattle.resource_reqs.specs.Resources.{Whole}
 use Rattle.resource_reqs.specs.Spelling.Answer.{assignment, no_fit, spent}
 use Rattle.pnp_model.specs.Keyed.{changed_first, without_first}
 use Rattle.pnp_model.specs.Cores.{node_at, is_node}
 use Rattle.pnp_model.specs.States.{activity_at}
-use Rattle.pnp_model.specs.Tasks.{has_path}
 use Rattle.pnp_model.specs.Rebalances.{movers, plan_of, reqs_of}
 use Rattle.pnp_model.specs.Records.{Node, Activity, Phase, State, Operation, Rebalance, RebalanceStage, Found}
 use Rattle.pnp_model.specs.Records.Phase.{Starting}
@@ -16,11 +15,9 @@ use Rattle.pnp_laws.specs.Kept.{Ascending}
 
 -- How nodes change -----------------------------------------------------------------
 
--- what no step changes of a node
-pub record Plain (f : Node → Node) : Type 0 where
+-- a change of a node that keeps its serial and its requirements
+pub record KeepsReqs (f : Node → Node) : Type 0 where
   pub serial : (n : Node) → (f n).serial ≡ n.serial
-  pub parent : (n : Node) → (f n).parent ≡ n.parent
-  pub path : (n : Node) → (f n).path ≡ n.path
   pub reqs : (n : Node) → (f n).reqs ≡ n.reqs
 
 -- what a device holds fits its state
@@ -31,9 +28,9 @@ pub record HeldWell (n : Node) : Type 0 where
 -- a step changes no node, or one, or all at once; or a node joins, or one leaves
 pub data Turn (old new : List Node) : Type 0 where
   same : new ≡ old → Turn old new
-  changed : (j : ℕ) (f : Node → Node) (n : Node) → new ≡ changed_first (is_node j) f old → node_at j old ≡ Some n → Plain f → HeldWell (f n) → Turn old new
-  mapped : (f : Node → Node) → new ≡ map f old → Plain f → ((k : ℕ) (n : Node) → node_at k old ≡ Some n → HeldWell (f n)) → Turn old new
-  joined : (n : Node) → new ≡ old ++ n ∷ [] → HeldWell n → n.parent ≤ n.serial - 1 → has_path n.path old ≡ false → Turn old new
+  changed : (j : ℕ) (f : Node → Node) (n : Node) → new ≡ changed_first (is_node j) f old → node_at j old ≡ Some n → KeepsReqs f → HeldWell (f n) → Turn old new
+  mapped : (f : Node → Node) → new ≡ map f old → KeepsReqs f → ((k : ℕ) (n : Node) → node_at k old ≡ Some n → HeldWell (f n)) → Turn old new
+  joined : (n : Node) → new ≡ old ++ n ∷ [] → HeldWell n → Turn old new
   left : (j : ℕ) → new ≡ without_first (is_node j) old → Ascending 0 old → Turn old new
 
 -- What is kept ---------------------------------------------------------------------
@@ -85,8 +82,3 @@ pub record Turned (s t : State) : Type 0 where
   pub turn : Turn s.core.nodes t.core.nodes
   pub starts : StartsWhole t.activities t.core.nodes
   pub stage : OperationWhole t.operation t.core.nodes
-
--- no two devices have one path, and a parent has a lower serial
-pub record Placed (nodes : List Node) : Type 0 where
-  pub paths : (j k : ℕ) (n m : Node) → node_at j nodes ≡ Some n → node_at k nodes ≡ Some m → n.path ≡ m.path → j ≡ k
-  pub parents : (k : ℕ) (n : Node) → node_at k nodes ≡ Some n → n.parent ≤ k - 1

@@ -1,5 +1,5 @@
 -- What a rebalance keeps since its begin: what it restores where it finds nothing, and who was asked.
-use Rattle.std.specs.Prelude.{ℕ, ◌≡◌, ◌<◌, ◌⊎◌, true, false, List, [], ◌∷◌, Some}
+use Rattle.std.specs.Prelude.{ℕ, ◌≡◌, ◌<◌, ◌⊎◌, true, false, List, [], ◌∷◌, Some, ◌≤◌, ◌-◌}
 use Rattle.resource_reqs.specs.Spelling.Answer.{no_fit}
 use Rattle.pnp_model.specs.Keyed.{changed_first}
 use Rattle.pnp_model.specs.Tests.{has}
@@ -51,6 +51,13 @@ Undone before now r Committing = has_plan r.found ≡ true
 Undone before now r (Restarting w) = has_plan r.found ≡ true
 Undone before now r Failed = has_plan r.found ≡ true
 Undone before now r Ending = (has_plan r.found ≡ true) ⊎ Troubled before now r
+
+-- Where devices stand -----------------------------------------------------------
+
+-- no two devices have one path, and a parent has a lower serial
+pub record Placed (nodes : List Node) : Type 0 where
+  pub paths : (j k : ℕ) (n m : Node) → node_at j nodes ≡ Some n → node_at k nodes ≡ Some m → n.path ≡ m.path → j ≡ k
+  pub parents : (k : ℕ) (n : Node) → node_at k nodes ≡ Some n → n.parent ≤ k - 1
 
 -- Who was asked --------------------------------------------------------------------
 

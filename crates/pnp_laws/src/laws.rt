@@ -1,6 +1,6 @@
 //! What holds of every run of the device machine, for every rack of drivers and whatever happens.
 
-ghost use Rattle.pnp_model.specs.Laws.{DiagramLaw, SharingLaw, DependentsLaw};
+ghost use Rattle.pnp_model.specs.Laws.{DiagramLaw, SharingLaw, WholeLaw, FutileLaw, DependentsLaw, ConflictLaw};
 
 /// In each state of each run no two resources among all holdings and the reserved ranges clash: two clash where
 /// they are of one kind and have a number in common, unless both are shared.
@@ -21,4 +21,24 @@ pub fn follows_diagram()
 #[tactic(auto, using(crate::proofs::RunsStand::dependents_go_first))]
 pub fn dependents_first()
     ensures { DependentsLaw }
+{}
+
+/// In each state of each run a device that is up, or would be but for an operation that asked it to stop or to go,
+/// holds one whole alternative of its requirements, place by place; and a device without drivers holds nothing.
+#[tactic(auto, using(crate::proofs::RunsWhole::all_hold_whole))]
+pub fn all_hold_whole()
+    ensures { WholeLaw }
+{}
+
+/// Where a rebalance ends because nothing fitted or the budget was spent, all nodes with all their fields, the relations
+/// and the reserved ranges are as before its begin, but for the problem of the device that it was for.
+pub fn futile_restores()
+    ensures { FutileLaw }
+{}
+
+/// Where problem 12 is printed in a rebalance, no assignment exists for its device together with all Started devices
+/// that can move, beside what all others hold and what is reserved. The root cannot move, nor can a device that
+/// refused to be stopped since the begin, nor one that stands above such a device.
+pub fn conflicts_are_real()
+    ensures { ConflictLaw }
 {}
