@@ -40,6 +40,7 @@ pub mod Vetoes
 pub mod VetoSteps
 pub mod RunsVeto
 pub mod Reached
+pub mod Dues
 pub mod EventChanges
 pub mod Turns
 pub mod WholeSteps
@@ -50,7 +51,10 @@ pub mod RunsWhole
 pub mod Pauses
 pub mod Askings
 pub mod RebalanceMoves
-pub mod Begins
+pub mod Courses
+pub mod OperationCourses
+pub mod BeginSteps
+pub mod RunsBegun
 pub mod RebalanceRuns
 pub mod Ascents
 pub mod RunsFutile

@@ -93,15 +93,15 @@ pub same_ask_on : (r f : Rebalance) (ks : List ℕ) → SameFrame r f → SameFr
 same_ask_on r f [] h = record { device = record { target = h.device.target; path = h.device.path }; refused = h.refused }
 same_ask_on r f (k ∷ ks) h = record { device = record { target = h.device.target; path = h.device.path }; refused = h.refused }
 
-same_cancel_on : (r f : Rebalance) (ks : List ℕ) → SameFrame r f → SameFrame r (re.cancel_on f ks)
+pub same_cancel_on : (r f : Rebalance) (ks : List ℕ) → SameFrame r f → SameFrame r (re.cancel_on f ks)
 same_cancel_on r f [] h = record { device = record { target = h.device.target; path = h.device.path }; refused = h.refused }
 same_cancel_on r f (k ∷ ks) h = record { device = record { target = h.device.target; path = h.device.path }; refused = h.refused }
 
-same_stop_on : (r f : Rebalance) (ks : List ℕ) → SameFrame r f → SameFrame r (re.stop_on f ks)
+pub same_stop_on : (r f : Rebalance) (ks : List ℕ) → SameFrame r f → SameFrame r (re.stop_on f ks)
 same_stop_on r f [] h = record { device = record { target = h.device.target; path = h.device.path }; refused = h.refused }
 same_stop_on r f (k ∷ ks) h = record { device = record { target = h.device.target; path = h.device.path }; refused = h.refused }
 
-same_restart : (r : Rebalance) (ks : List ℕ) → SameFrame r (re.restart_from r ks)
+pub same_restart : (r : Rebalance) (ks : List ℕ) → SameFrame r (re.restart_from r ks)
 same_restart r [] = record { device = record { target = refl; path = refl }; refused = refl }
 same_restart r (k ∷ ks) = record { device = record { target = refl; path = refl }; refused = refl }
 

@@ -23,7 +23,7 @@ use Rattle.pnp_laws.proofs.Reached.{reached_on, reached_is_good}
 use Rattle.pnp_laws.proofs.EventChanges.{Outside, Answered, happens_outside}
 use Rattle.pnp_laws.proofs.Pauses.{paused_still}
 use Rattle.pnp_laws.proofs.Askings.{asks_begun}
-use Rattle.pnp_laws.proofs.Begins.{Begun}
+use Rattle.pnp_laws.proofs.BeginSteps.{Begun}
 use Rattle.pnp_laws.proofs.RebalanceMoves.{GoesOn, MovesOn, OnNext, SameFrame, same_ask_on, own_frame, undone_ask_on, asked_ask_on, rebalance_moves}
 use Rattle.pnp_model.specs.Machine as ma
 use Rattle.pnp_model.specs.Events as ev
@@ -183,19 +183,19 @@ not_quiet settings s r k runs ends (w, node, stage, first, own, bad) quiet =
 asking_ends : (before : Core) (r : Rebalance) (stage : RebalanceStage) (w : Walk) → stage ≡ Asking w → AskedSince before r stage → EndsBad w
 asking_ends before r stage w e h = (subst (λ (x : RebalanceStage). AskedSince before r x) e h).1
 
-same_core : (s t : State) (r : Rebalance) (before : Core) → s.operation ≡ Some (Operation.Rebalancing r) → Outside s t → Undone before s.core r r.stage → Undone before t.core r r.stage
-same_core s t r before runs out h = undone_still before s.core t.core r r.stage out.nodes (out.relations (Operation.Rebalancing r) runs) (out.reserved (Operation.Rebalancing r) runs) h
+same_core : (s t : State) (label : Label) (r : Rebalance) (before : Core) → s.operation ≡ Some (Operation.Rebalancing r) → Outside s (record { label = label; state = t }) → Undone before s.core r r.stage → Undone before t.core r r.stage
+same_core s t label r before runs out h = undone_still before s.core t.core r r.stage out.nodes (out.relations (Operation.Rebalancing r) runs) (out.reserved (Operation.Rebalancing r) runs) h
 
-follows_answer : (path : List ℕ) (before : Core) (settings : Settings) (s t : State) (u : Underway path before s) → ma.next settings s ≡ None → Outside s t → Answered s.operation t.operation → Follows path before s u.frame t
-follows_answer path before settings s t u quiet out (inl e) =
+follows_answer : (path : List ℕ) (before : Core) (settings : Settings) (s t : State) (label : Label) (u : Underway path before s) → ma.next settings s ≡ None → Outside s (record { label = label; state = t }) → Answered s.operation t.operation → Follows path before s u.frame t
+follows_answer path before settings s t label u quiet out (inl e) =
     let r = u.frame in
     record {
-      under = record { frame = r; runs = e ∙ u.runs; named = u.named; target = u.target; undone = same_core s t r before u.runs out u.undone; asked = u.asked };
+      under = record { frame = r; runs = e ∙ u.runs; named = u.named; target = u.target; undone = same_core s t label r before u.runs out u.undone; asked = u.asked };
       told = λ k h. inl h;
       keeps = λ k h. h;
       tells = λ k h. absurd (not_quiet settings s r k u.runs (λ w z. asking_ends before r r.stage w z u.asked) (refusing s r k u.runs h) quiet);
     }
-follows_answer path before settings s t u quiet out (inr (ok, o, e, q)) =
+follows_answer path before settings s t label u quiet out (inr (ok, o, e, q)) =
     let r = u.frame in
     let runs = u.runs in
     let same : o ≡ Operation.Rebalancing r = cc in
@@ -205,7 +205,7 @@ follows_answer path before settings s t u quiet out (inr (ok, o, e, q)) =
         runs = q ∙ ap (λ (x : Operation). Some (ev.completed (ev.answer_of ok) x)) same;
         named = u.named;
         target = u.target;
-        undone = answered_undone before t.core ok r r.stage (same_core s t r before u.runs out u.undone);
+        undone = answered_undone before t.core ok r r.stage (same_core s t label r before u.runs out u.undone);
         asked = answered_asked before ok r r.stage u.asked;
       };
       told = λ k h. inl h;
@@ -220,9 +220,8 @@ not_over s r label t within over = subst (λ (x : Step). IsWithin x.label) over.
 
 follows : (path : List ℕ) (before : Core) (settings : Settings) (s : State) (entry : Entry) (t : State) (u : Underway path before s) → Placed before.nodes → IsGood s → IsWithin (printed entry) → Goes settings s entry t → Follows path before s u.frame t
 follows path before settings s (Happens event label) t u placed good within goes =
-    let state : t ≡ (ev.happens s event).state = ap (λ (x : Step). x.state) (sym goes.1) in
-    let out = subst (λ (x : State). Outside s x) (sym state) (happens_outside s event) in
-    follows_answer path before settings s t u goes.0 out out.operation
+    let out = subst (λ (x : Step). Outside s x) goes.1 (happens_outside s event) in
+    follows_answer path before settings s t label u goes.0 out out.operation
 follows path before settings s (Did label) t u placed good within goes =
     elim (rebalance_stepped path before settings s (record { label = label; state = t }) u placed good goes) [
       | inl h ↦ follows_step path before s label t u h

@@ -14,7 +14,7 @@ use Rattle.pnp_laws.specs.Reached.{IsReached}
 use Rattle.pnp_laws.specs.Holdings.{has_plan}
 use Rattle.pnp_laws.specs.Rebalanced.{Undone, Underway}
 use Rattle.pnp_laws.proofs.Reached.{reached_on, reached_is_good, reached_is_placed}
-use Rattle.pnp_laws.proofs.Begins.{begins_right}
+use Rattle.pnp_laws.proofs.BeginSteps.{begins_right, reached_dues}
 use Rattle.pnp_laws.proofs.RebalanceRuns.{IsOver, rebalance_stepped, after_core, Lasts, lasts, underway_begun}
 
 -- from the begin of a rebalance up to a state that is reached within it
@@ -32,7 +32,7 @@ since_begin settings rack earlier entries before begun last path reaches goes ru
     let good = reached_is_good settings rack before at_before in
     let placed = reached_is_placed settings rack before at_before in
     let at_begun = reached_on settings rack before (Did (Label.Begin OpKind.Rebalance path)) begun at_before goes in
-    let first = underway_begun path before begun (begins_right settings before begun OpKind.Rebalance path goes) good.serials in
+    let first = underway_begun path before begun (begins_right settings before begun OpKind.Rebalance path (reached_dues settings rack before at_before) goes) good.serials in
     record {
       first = first.0;
       fresh = first.1;

@@ -6,3 +6,4 @@ pub mod Due
 pub mod Reached
 pub mod Holdings
 pub mod Rebalanced
+pub mod Begun

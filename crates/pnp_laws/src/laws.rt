@@ -1,5 +1,6 @@
 //! What holds of every run of the device machine, for every rack of drivers and whatever happens.
 
+ghost use Rattle.pnp_laws.specs.Begun.{BegunLaw};
 ghost use Rattle.pnp_model.specs.Laws.{DiagramLaw, SharingLaw, WholeLaw, FutileLaw, DependentsLaw, ConflictLaw};
 
 /// In each state of each run no two resources among all holdings and the reserved ranges clash: two clash where
@@ -41,4 +42,12 @@ pub fn futile_restores()
 /// refused to be stopped since the begin, nor one that stands above such a device.
 pub fn conflicts_are_real()
     ensures { ConflictLaw }
+{}
+
+/// Where an operation ends, one of its kind began for its device and none has ended since; and where problem 12 is
+/// printed, a rebalance began for that device and none has ended since. So what is said of an end and of problem 12
+/// since the begin is said of each of them.
+#[tactic(auto, using(crate::proofs::RunsBegun::operations_begin))]
+pub fn operations_begin()
+    ensures { BegunLaw }
 {}

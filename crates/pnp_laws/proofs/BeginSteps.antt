@@ -1,0 +1,46 @@
+-- Where a step prints the begin of an operation, that operation began.
+use Rattle.std.proofs.Common.{◌≡◌, inl, inr, List, Option, Some, None, refl, sym, ap, subst}
+use Rattle.pnp_model.specs.Records.{Node, Driver, State, Step, Settings}
+use Rattle.pnp_model.specs.Cores.{node_at}
+use Rattle.pnp_model.specs.Machine.{Steps}
+use Rattle.pnp_model.specs.Tasks.{begin}
+use Rattle.pnp_model.specs.Runs.{Entry, Goes, printed}
+use Rattle.pnp_model.specs.Runs.Entry.{Happens, Did}
+use Rattle.pnp_labels.specs.Texts.{Text}
+use Rattle.pnp_labels.specs.declared.label.Label.{Label}
+use Rattle.pnp_labels.specs.declared.label.OpKind.{OpKind}
+use Rattle.pnp_laws.specs.Reached.{IsReached}
+use Rattle.pnp_laws.specs.Begun.{IsBeside, DuesFine}
+use Rattle.pnp_laws.proofs.Reached.{kept}
+use Rattle.pnp_laws.proofs.Courses.{begun, Way, Course}
+use Rattle.pnp_laws.proofs.OperationCourses.{course_step, course_happens}
+
+pub course_goes : (settings : Settings) (old : State) (entry : Entry) (new : State) → DuesFine old.activities → Goes settings old entry new → Course old (record { label = printed entry; state = new })
+course_goes settings old (Happens event label) new dues goes = subst (λ (x : Step). Course old x) goes.1 (course_happens old event)
+course_goes settings old (Did label) new dues goes = course_step settings old (record { label = label; state = new }) dues goes
+
+-- in no reached state an activity owes problem 12
+pub reached_dues : (settings : Settings) (rack : List Driver) (s : State) → IsReached settings rack s → DuesFine s.activities
+reached_dues settings rack s reached =
+    kept (λ (x : State). DuesFine x.activities) settings rack (λ old entry new before dues goes. (course_goes settings old entry new dues goes).dues dues) tt s reached
+
+pub record Begun (s : State) (kind : OpKind) (path : Text) (t : State) : Type 0 where
+  pub node : Node
+  pub at : node_at node.serial s.core.nodes ≡ Some node
+  pub named : node.path ≡ path
+  pub idle : s.operation ≡ None
+  pub is : t ≡ (begin s kind node (begun s.core kind node)).state
+
+begun_way : (s t : State) (kind : OpKind) (path : Text) → Way s (record { label = Label.Begin kind path; state = t }) → Begun s kind path t
+begun_way s t kind path (Way.idles none after beside) = absurd beside
+begun_way s t kind path (Way.begins own node none at is) =
+    let label : Label.Begin kind path ≡ Label.Begin own node.path = ap (λ (x : Step). x.label) is in
+    let kinds : own ≡ kind = cc in
+    let state : t ≡ (begin s own node (begun s.core own node)).state = ap (λ (x : Step). x.state) is in
+    record { node = node; at = at; named = cc; idle = none; is = subst (λ (x : OpKind). t ≡ (begin s x node (begun s.core x node)).state) kinds state }
+begun_way s t kind path (Way.goes o p runs after work (inl beside)) = absurd beside
+begun_way s t kind path (Way.goes o p runs after work (inr (kinds, label))) = absurd (cc)
+begun_way s t kind path (Way.ends o result runs after label) = absurd (cc)
+
+pub begins_right : (settings : Settings) (s t : State) (kind : OpKind) (path : Text) → DuesFine s.activities → Steps settings s (Label.Begin kind path) t → Begun s kind path t
+begins_right settings s t kind path dues h = begun_way s t kind path (course_step settings s (record { label = Label.Begin kind path; state = t }) dues h).way

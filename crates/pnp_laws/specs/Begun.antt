@@ -1,0 +1,71 @@
+-- Operations begin before they end: where an end or problem 12 is printed, its operation began and has not ended since.
+use Rattle.std.specs.Prelude.{◌≡◌, List, [], ◌∷◌, ◌++◌}
+use Rattle.pnp_model.specs.Records.{Driver, State, Settings, Activity, Phase, Operation}
+use Rattle.pnp_model.specs.Records.Phase.{Due}
+use Rattle.pnp_model.specs.Runs.{Entry, Goes, Run, printed}
+use Rattle.pnp_model.specs.Runs.Entry.{Did}
+use Rattle.pnp_model.specs.Laws.{Reaches, AllWithin}
+use Rattle.pnp_labels.specs.Texts.{Text}
+use Rattle.pnp_labels.specs.declared.states.Problem.{Problem}
+use Rattle.pnp_labels.specs.declared.label.Label.{Label}
+use Rattle.pnp_labels.specs.declared.label.OpKind.{OpKind}
+
+-- in the run of these entries, which leads to s, an operation of the kind began for the device of the path, and none has ended since
+pub record HasBegun (settings : Settings) (rack : List Driver) (entries : List Entry) (s : State) (kind : OpKind) (path : Text) : Type 0 where
+  pub earlier : List Entry
+  pub later : List Entry
+  pub before : State
+  pub begun : State
+  pub all : entries ≡ earlier ++ Did (Label.Begin kind path) ∷ later
+  pub reaches : Reaches settings rack earlier before
+  pub begins : Goes settings before (Did (Label.Begin kind path)) begun
+  pub run : Run settings begun later s
+  pub within : AllWithin later
+
+-- what has to have begun where this is printed
+abbrev pub Belongs : Settings → List Driver → List Entry → State → Label → Type 0
+Belongs settings rack entries s (Label.End kind path result) = HasBegun settings rack entries s kind path
+Belongs settings rack entries s (Label.Trouble path Problem.NormalConflict) = HasBegun settings rack entries s OpKind.Rebalance path
+Belongs settings rack entries s _ = Unit {0}
+
+abbrev pub BegunLaw : Type 0
+BegunLaw =
+    (settings : Settings) (rack : List Driver) (entries : List Entry) (s : State) (entry : Entry) (t : State)
+    → Reaches settings rack entries s → Goes settings s entry t → Belongs settings rack entries s (printed entry)
+
+-- What is kept for it ----------------------------------------------------------------
+
+abbrev pub kind_of : Operation → OpKind
+kind_of (Operation.Rebalancing r) = OpKind.Rebalance
+kind_of (Operation.Removing o) = o.kind
+kind_of (Operation.Surprising o) = OpKind.Surprise
+
+abbrev pub path_of : Operation → Text
+path_of (Operation.Rebalancing r) = r.path
+path_of (Operation.Removing o) = o.path
+path_of (Operation.Surprising o) = o.path
+
+pub record SameWork (o p : Operation) : Type 0 where
+  pub kind : kind_of p ≡ kind_of o
+  pub path : path_of p ≡ path_of o
+
+-- it is not problem 12
+abbrev pub NotTwelve : Problem → Type 0
+NotTwelve Problem.NormalConflict = ⊥
+NotTwelve _ = Unit {0}
+
+-- no begin, no end and no problem 12
+abbrev pub IsBeside : Label → Type 0
+IsBeside (Label.Begin kind path) = ⊥
+IsBeside (Label.End kind path result) = ⊥
+IsBeside (Label.Trouble path problem) = NotTwelve problem
+IsBeside _ = Unit {0}
+
+abbrev pub DueFine : Phase → Type 0
+DueFine (Due problem) = NotTwelve problem
+DueFine _ = Unit {0}
+
+-- no activity owes problem 12
+abbrev pub DuesFine : List Activity → Type 0
+DuesFine [] = Unit {0}
+DuesFine (a ∷ activities) = DueFine a.phase × DuesFine activities
