@@ -29,13 +29,14 @@ pub mod TaskSteps
 pub mod EventSteps
 pub mod MachineSteps
 pub mod Runs
-pub mod EventsPlain
-pub mod RunsStand
 pub mod Sharing
 pub mod SharingSteps
 pub mod SharingRemovals
 pub mod SharingMachine
 pub mod RunsShare
+pub mod EventsPlain
 pub mod Vetoes
 pub mod VetoSteps
 pub mod RunsVeto
+pub mod NoVetoes
+pub mod RunsStand
