@@ -1,13 +1,12 @@
 -- No step of an operation prints a begin, and a rebalance or a surprise ends without a veto.
-use Rattle.std.proofs.Common.{ℕ, ◌≡◌, ◌⊎◌, inl, inr, Bool, true, false, List, [], ◌∷◌, Option, Some, None, refl, sym, ap, ◌∙◌, subst}
+use Rattle.std.proofs.Common.{ℕ, ◌≡◌, Bool, true, false, List, Option, Some, None, refl, sym, subst}
 use Rattle.std.specs.Option.{option_map}
 use Rattle.resource_reqs.specs.Spelling.Answer.{assignment, no_fit, spent}
-use Rattle.pnp_model.specs.Tests.{has, is_eject}
+use Rattle.pnp_model.specs.Tests.{is_eject}
 use Rattle.pnp_model.specs.Records.{Node, Core, State, Step, Settings, Operation, Rebalance, RebalanceStage, Removal, RemovalStage, Surprise, SurpriseStage, Walk, Found, Doing, doing_map}
 use Rattle.pnp_model.specs.Records.Doing.{Does, Searches}
 use Rattle.pnp_model.specs.Walks.{is_bad}
 use Rattle.pnp_model.specs.Frames.{first_node}
-use Rattle.pnp_model.specs.Trees.{stands_up}
 use Rattle.pnp_model.specs.States.{set_operation, with_core}
 use Rattle.pnp_model.specs.Laws.{IsWithin}
 use Rattle.pnp_labels.specs.declared.label.Label.{Label}

@@ -1,25 +1,20 @@
 -- In every run the tree stands, each operation begins well, and each step follows the diagram.
-use Rattle.std.proofs.Common.{ℕ, ◌<◌, ◌≡◌, ◌≢◌, inl, inr, Bool, true, false, List, [], ◌∷◌, Option, Some, None, refl, sym, ap, ◌∙◌, subst, arith}
-use Rattle.std.proofs.lemmas.Bool.Decides.{nat_tests}
-use Rattle.pnp_model.specs.Tests.{has}
-use Rattle.pnp_model.specs.Records.{Node, Core, Driver, State, Step, Settings}
+use Rattle.std.proofs.Common.{ℕ, ◌≡◌, inl, inr, Bool, true, false, List, [], ◌∷◌, Some, None, refl, sym, ap, ◌∙◌, subst}
+use Rattle.pnp_model.specs.Records.{Node, Driver, State, Step, Settings}
 use Rattle.pnp_model.specs.Cores.{node_at}
 use Rattle.pnp_model.specs.Trees.{hangs_on}
 use Rattle.pnp_model.specs.Diagram.{Walked}
-use Rattle.pnp_model.specs.Events.{happens}
 use Rattle.pnp_model.specs.Laws.{Reaches, IsWithin, AllWithin, DependentsFirst, Restores, DiagramLaw, DependentsLaw, VetoLaw}
 use Rattle.pnp_model.specs.Runs.{Entry, Goes, Run, printed, opening, root_node}
 use Rattle.pnp_model.specs.Runs.Entry.{Happens, Did}
 use Rattle.pnp_labels.specs.declared.event.Event.{Event}
 use Rattle.pnp_labels.specs.declared.label.Label.{Label}
 use Rattle.pnp_labels.specs.declared.label.OpEnd.{OpEnd}
-use Rattle.pnp_labels.specs.declared.states.DevState.TheVariants.{NoStack, Started, Stopped}
 use Rattle.pnp_laws.specs.Kept.{IsGood, removes}
 use Rattle.pnp_laws.specs.RunsWell.{MayBegin, RunWell}
 use Rattle.pnp_laws.proofs.Runs.{lawful_goes, opening_is_good, root_is}
-use Rattle.pnp_laws.proofs.Ranks.{or_cases}
 use Rattle.pnp_laws.proofs.TreeMoves.{edge_cases}
-use Rattle.pnp_laws.proofs.Standing.{Tree, Stands, Sound}
+use Rattle.pnp_laws.proofs.Standing.{Stands}
 use Rattle.pnp_laws.proofs.Sounds.{IsPlain, walked_plain, first_stays}
 use Rattle.pnp_laws.proofs.EventsPlain.{Unvetoed, plain_happens}
 use Rattle.pnp_laws.proofs.RunsVeto.{right_next, veto_law}

@@ -1,15 +1,15 @@
 -- Each step and each event of the machine keeps the tree and what is due.
-use Rattle.std.proofs.Common.{ℕ, suc, ◌≡◌, ◌≢◌, ◌==◌, ◌⊎◌, inl, inr, Bool, true, false, not, ◌&&◌, cond, List, [], ◌∷◌, ◌++◌, Option, Some, None, refl, sym, ap, ◌∙◌, subst, arith}
-use Rattle.std.specs.List.{find, slice_get, list_any}
+use Rattle.std.proofs.Common.{ℕ, suc, ◌≡◌, ◌≢◌, ◌==◌, inl, inr, Bool, true, false, ◌&&◌, cond, List, [], ◌∷◌, ◌++◌, Option, Some, None, refl, sym, ap, subst, arith}
+use Rattle.std.specs.List.{find, slice_get}
 use Rattle.std.proofs.lemmas.Bool.Decides.{nat_tests}
 use Rattle.device_ids.specs.Folding.{same}
-use Rattle.resource_reqs.specs.Resources.{Res, Reqs, clashes}
+use Rattle.resource_reqs.specs.Resources.{Res, Reqs}
 use Rattle.pnp_model.specs.Tests.{has, is_started}
 use Rattle.pnp_model.specs.Records.{Node, Core, Device, Driver, Relation, Activity, Task, State, Step, Settings, Operation, Rebalance, RebalanceStage, Removal, RemovalStage, Surprise, SurpriseStage, Doing, Duty}
 use Rattle.pnp_model.specs.Records.Doing.{Does, Searches}
 use Rattle.pnp_model.specs.Cores.{node_at}
 use Rattle.pnp_model.specs.Books.{is_named, is_unnamed}
-use Rattle.pnp_model.specs.Frames.{first_node, held_by}
+use Rattle.pnp_model.specs.Frames.{first_node}
 use Rattle.pnp_model.specs.Trees.{dependents}
 use Rattle.pnp_model.specs.States.{activity_at, list_node, node_born, node_of, device_of, plug, unplug, enable_path}
 use Rattle.pnp_labels.specs.Texts.{Text}
@@ -19,11 +19,8 @@ use Rattle.pnp_labels.specs.declared.event.Rule.{Rule}
 use Rattle.pnp_labels.specs.declared.words.DriverKind.{DriverKind}
 use Rattle.pnp_labels.specs.declared.words.RelKind.{RelKind}
 use Rattle.pnp_labels.specs.declared.event.Event.{Event}
-use Rattle.pnp_labels.specs.declared.label.Label.{Label}
 use Rattle.pnp_labels.specs.declared.label.OpKind.{OpKind}
-use Rattle.pnp_labels.specs.declared.states.DevState.{DevState}
-use Rattle.pnp_labels.specs.declared.states.DevState.TheVariants.{Started}
-use Rattle.pnp_laws.specs.Kept.{Ascending, Good, IsGood, BeginsWell, OperationFits, Fits, is_idle, removes, OrderFits, is_stopped}
+use Rattle.pnp_laws.specs.Kept.{Ascending, Good, IsGood, BeginsWell, Fits, is_idle}
 use Rattle.pnp_laws.specs.Due.{AllDue}
 use Rattle.pnp_laws.proofs.Lookups.{own_serial, found_self, ready_found, some_same}
 use Rattle.pnp_laws.proofs.OpSteps.{is_Started}
@@ -31,13 +28,13 @@ use Rattle.pnp_laws.proofs.Orders.{leaving_fits}
 use Rattle.pnp_laws.proofs.Ranks.{and_both}
 use Rattle.pnp_laws.proofs.Closures.{head_at, tail_at}
 use Rattle.pnp_laws.proofs.Due.{settled_from_due}
-use Rattle.pnp_laws.proofs.Standing.{Tree, TasksUp, DueBut, waiting, rebalance_waiting, StageKept, OrderKept, RemovalOrder, SurpriseOrder, Stands, Sound, Finishes}
-use Rattle.pnp_laws.proofs.TreeChanges.{SameTree, same_still, tree_same}
+use Rattle.pnp_laws.proofs.Standing.{Tree, DueBut, waiting, rebalance_waiting, StageKept, OrderKept, RemovalOrder, SurpriseOrder, Stands, Sound, Finishes}
+use Rattle.pnp_laws.proofs.TreeChanges.{same_still, tree_same}
 use Rattle.pnp_laws.proofs.TreeMoves.{tree_related}
-use Rattle.pnp_laws.proofs.Sounds.{LeadsMore, leads_same, leads_pushed, up_append, up_first, due_still, walked_plain, first_stays, IsPlain}
-use Rattle.pnp_laws.proofs.Finishes.{Fades, fades_same, finishes_still}
-use Rattle.pnp_laws.proofs.SoundOps.{MoreTasks, more_same, more_pushed, more_listed}
-use Rattle.pnp_laws.proofs.SoundStarts.{SoundDoing, SoundNext, sound_act, stage_none}
+use Rattle.pnp_laws.proofs.Sounds.{leads_pushed, up_append, up_first, due_still}
+use Rattle.pnp_laws.proofs.Finishes.{fades_same, finishes_still}
+use Rattle.pnp_laws.proofs.SoundOps.{MoreTasks, more_same, more_pushed}
+use Rattle.pnp_laws.proofs.SoundStarts.{SoundNext, sound_act, stage_none}
 use Rattle.pnp_laws.proofs.SoundRebalances.{sound_rebalance}
 use Rattle.pnp_laws.proofs.SoundRemovals.{sound_removal, sound_surprise}
 use Rattle.pnp_laws.proofs.SoundTasks.{sound_list, sound_start, sound_begin_step}

@@ -1,5 +1,5 @@
 -- Each step of a rebalance keeps the tree and what is due.
-use Rattle.std.proofs.Common.{ℕ, ◌≡◌, ◌≢◌, ◌⊎◌, inl, inr, Bool, true, false, cond, List, [], ◌∷◌, map, length, Option, Some, None, refl, sym, ap, ◌∙◌, subst, arith, reverse}
+use Rattle.std.proofs.Common.{ℕ, ◌≡◌, ◌≢◌, inl, inr, Bool, true, false, List, [], ◌∷◌, length, Option, Some, None, refl, sym, ap, ◌∙◌, subst, arith, reverse}
 use Rattle.std.specs.Option.{option_map}
 use Rattle.std.proofs.lemmas.Bool.{cases_eq}
 use Rattle.std.proofs.lemmas.Bool.Decides.{nat_tests}
@@ -12,7 +12,7 @@ use Rattle.pnp_model.specs.Cores.{is_node, node_at, with_state, with_problem}
 use Rattle.pnp_model.specs.Walks.{is_bad}
 use Rattle.pnp_model.specs.Trees.{stands_up}
 use Rattle.pnp_model.specs.Frames.{first_node, rest}
-use Rattle.pnp_model.specs.Rebalances.{ask_on, cancel_on, stop_on, startable, restart_from, restart_on, is_not_above, end_ask, ask_step, take_back, searched, cancel_step, trouble_of, stuck, stop_step, committed, movers, plan_of, commit_step, end_restart, restart_step, failed, over, moved_on, rebalance_step}
+use Rattle.pnp_model.specs.Rebalances.{ask_on, cancel_on, stop_on, startable, restart_from, is_not_above, end_ask, ask_step, take_back, searched, cancel_step, trouble_of, stuck, stop_step, committed, movers, plan_of, commit_step, end_restart, restart_step, failed, over, moved_on, rebalance_step}
 use Rattle.pnp_model.specs.Machine.{rebalance_lifted}
 use Rattle.pnp_model.specs.Diagram.{Row}
 use Rattle.pnp_model.specs.Diagram.Row.{query_stop, query_stop_bad, cancel_stop_refused, cancel_stop, stop, restart, restart_bad}
@@ -21,16 +21,16 @@ use Rattle.pnp_labels.specs.declared.words.Minor.{Minor}
 use Rattle.pnp_labels.specs.declared.states.Problem.{Problem}
 use Rattle.pnp_labels.specs.declared.label.OpKind.{OpKind}
 use Rattle.pnp_labels.specs.declared.label.Label.{Label}
-use Rattle.pnp_labels.specs.declared.states.DevState.TheVariants.{NoStack, NotStarted, Started, StopPending, Stopped, RemovePending, SurpriseRemoved}
-use Rattle.pnp_laws.specs.Kept.{Good, Each, Within, RebalanceKeeps, Waits, stopped_state, is_calm, is_idle}
+use Rattle.pnp_labels.specs.declared.states.DevState.TheVariants.{NoStack, Started, StopPending, Stopped}
+use Rattle.pnp_laws.specs.Kept.{Good, Each, RebalanceKeeps, stopped_state, is_calm, is_idle}
 use Rattle.pnp_laws.specs.Due.{leads, is_due}
-use Rattle.pnp_laws.proofs.Lookups.{some_same, own_serial, found_self, node_from, map_from}
-use Rattle.pnp_laws.proofs.Lists.{HeadIs, head_found, head_has, rest_has}
-use Rattle.pnp_laws.proofs.OpSteps.{has-reverse, stopped_calm, is_Stopped}
+use Rattle.pnp_laws.proofs.Lookups.{some_same, node_from, map_from}
+use Rattle.pnp_laws.proofs.Lists.{head_found, head_has, rest_has}
+use Rattle.pnp_laws.proofs.OpSteps.{stopped_calm}
 use Rattle.pnp_laws.proofs.RebalanceSteps.{head_started, head_pending, head_stopping, head_stopped, rootless_head}
 use Rattle.pnp_laws.proofs.Aboves.{due_more}
-use Rattle.pnp_laws.proofs.Standing.{TasksUp, DueBut, waiting, rebalance_waiting, StageKept, OrderKept, Stands, Sound, Rising, Ordered}
-use Rattle.pnp_laws.proofs.TreeChanges.{Alike, SameTree, same_changed, same_mapped, nodes_same, tree_same, above_same}
+use Rattle.pnp_laws.proofs.Standing.{DueBut, waiting, rebalance_waiting, StageKept, OrderKept, Stands, Sound, Rising, Ordered}
+use Rattle.pnp_laws.proofs.TreeChanges.{Alike, same_changed, same_mapped, nodes_same, tree_same}
 use Rattle.pnp_laws.proofs.Sounds.{IsPlain, LeadsMore, leads_same, leads_first, due_still, due_same, due_changed, sound_same, sound_walk}
 use Rattle.pnp_laws.proofs.SoundStarts.{SoundNext}
 use Rattle.pnp_laws.proofs.SoundOps.{Work, same_state, op_walk, op_still, problem_alike}

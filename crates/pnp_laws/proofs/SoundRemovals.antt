@@ -1,9 +1,9 @@
 -- Each step of a removal or a surprise keeps the tree and what is due, and dependents go first.
-use Rattle.std.proofs.Common.{ℕ, ◌≡◌, ◌≢◌, ◌==◌, ◌⊎◌, inl, inr, Bool, true, false, List, [], ◌∷◌, Option, Some, None, refl, sym, ap, ◌∙◌, subst, arith}
+use Rattle.std.proofs.Common.{ℕ, ◌≡◌, ◌≢◌, ◌==◌, inl, inr, Bool, true, false, List, [], ◌∷◌, Option, Some, None, refl, sym, ap, ◌∙◌, subst, arith}
 use Rattle.std.specs.Option.{option_map}
 use Rattle.std.proofs.lemmas.Bool.{cases_eq}
 use Rattle.std.proofs.lemmas.Bool.Decides.{nat_tests}
-use Rattle.pnp_model.specs.Tests.{has, is_eject, is_told}
+use Rattle.pnp_model.specs.Tests.{has, is_eject}
 use Rattle.pnp_model.specs.Records.{Node, Core, State, Operation, Removal, RemovalStage, Surprise, SurpriseStage, Walk}
 use Rattle.pnp_model.specs.Records.Doing.{Does}
 use Rattle.pnp_model.specs.Cores.{is_node, node_at, drop_node, with_state, with_problem, stack_of}
@@ -19,17 +19,16 @@ use Rattle.pnp_labels.specs.declared.states.DevState.{DevState}
 use Rattle.pnp_labels.specs.declared.words.Minor.{Minor}
 use Rattle.pnp_labels.specs.declared.states.Problem.{Problem}
 use Rattle.pnp_labels.specs.declared.label.Label.{Label}
-use Rattle.pnp_labels.specs.declared.states.DevState.TheVariants.{NoStack, NotStarted, Started, StopPending, Stopped, RemovePending, SurpriseRemoved}
-use Rattle.pnp_laws.specs.Kept.{Ascending, Good, RemovalKeeps, SurpriseKeeps, Within, is_idle, is_removable}
+use Rattle.pnp_labels.specs.declared.states.DevState.TheVariants.{NoStack, Started, Stopped, RemovePending, SurpriseRemoved}
+use Rattle.pnp_laws.specs.Kept.{Good, RemovalKeeps, SurpriseKeeps, is_idle}
 use Rattle.pnp_laws.proofs.Lookups.{Ascending-changed}
-use Rattle.pnp_laws.proofs.Lists.{HeadIs, head_found, head_has, rest_has, rest_within}
+use Rattle.pnp_laws.proofs.Lists.{HeadIs, head_found, head_has, rest_has}
 use Rattle.pnp_laws.proofs.Finishing.{head_stripped, head_bare, strips, relist_only}
 use Rattle.pnp_laws.proofs.RemovalSteps.{head_querying, head_refusing, head_restoring, not_root}
 use Rattle.pnp_laws.proofs.SurpriseSteps.{head_told, told_or, last_alone}
 use Rattle.pnp_laws.proofs.SharingRemovals.{relist_core}
 use Rattle.pnp_laws.proofs.Standing.{DueBut, waiting, StageKept, RemovalOrder, SurpriseOrder, Stands, Sound, Finishes}
-use Rattle.pnp_laws.proofs.TreeChanges.{SameTree}
-use Rattle.pnp_laws.proofs.Finishes.{Fades, fades_same, finishes_all, finishes_still, finishes_strip, finishes_stays, finishes_left}
+use Rattle.pnp_laws.proofs.Finishes.{fades_same, finishes_all, finishes_still, finishes_strip, finishes_stays, finishes_left}
 use Rattle.pnp_laws.proofs.SoundOps.{Work, op_walk, op_still, op_strip, op_trouble, op_left, was_troubled, now_ascending, MoreTasks, more_relist}
 use Rattle.pnp_laws.proofs.SoundStarts.{SoundNext}
 use Rattle.pnp_laws.proofs.Sounds.{IsPlain}
