@@ -14,6 +14,7 @@ pub mod Sounds
 pub mod SoundStarts
 pub mod Finishes
 pub mod SoundOps
+pub mod Theres
 pub mod SoundRemovals
 pub mod Restarts
 pub mod SoundRebalances

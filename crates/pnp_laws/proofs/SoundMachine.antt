@@ -28,7 +28,7 @@ use Rattle.pnp_laws.proofs.Orders.{leaving_fits}
 use Rattle.pnp_laws.proofs.Ranks.{and_both}
 use Rattle.pnp_laws.proofs.Closures.{head_at, tail_at}
 use Rattle.pnp_laws.proofs.Due.{settled_from_due}
-use Rattle.pnp_laws.proofs.Standing.{Tree, DueBut, waiting, rebalance_waiting, StageKept, OrderKept, RemovalOrder, SurpriseOrder, Stands, Sound, Finishes}
+use Rattle.pnp_laws.proofs.Standing.{Tree, DueBut, waiting, rebalance_waiting, StageKept, OrderKept, RemovalOrder, SurpriseOrder, Stands, Sound, Finishes, RebalanceThere, RemovalThere, SurpriseThere}
 use Rattle.pnp_laws.proofs.TreeChanges.{same_still, tree_same}
 use Rattle.pnp_laws.proofs.TreeMoves.{tree_related}
 use Rattle.pnp_laws.proofs.Sounds.{leads_pushed, up_append, up_first, due_still}
@@ -114,8 +114,8 @@ begins_well s none good h =
 -- the operation's facts are of nodes and relations alone
 stage_same : (o : Option Operation) (c d : Core) → Ascending 0 c.nodes → d.nodes ≡ c.nodes → d.relations ≡ c.relations → StageKept o c → StageKept o d
 stage_same None c d order a b h = tt
-stage_same (Some (Operation.Rebalancing r)) c d order a b h = h
-stage_same (Some (Operation.Removing o)) c d order a b h = by_stage o.stage h
+stage_same (Some (Operation.Rebalancing r)) c d order a b h = (h.0, subst (λ (x : List Node). RebalanceThere r r.stage x) (sym a) h.1)
+stage_same (Some (Operation.Removing o)) c d order a b h = (by_stage o.stage h.0, subst (λ (x : List Node). RemovalThere o o.stage x) (sym a) h.1)
   where
     moved : (todo : List ℕ) → Finishes c o.set todo → Finishes d o.set todo
     moved todo f = finishes_still c d o.set todo (fades_same c d order (subst (λ (x : List Node). Ascending 0 x) (sym a) order) (same_still c d a b)) a f
@@ -127,7 +127,7 @@ stage_same (Some (Operation.Removing o)) c d order a b h = by_stage o.stage h
     by_stage (RemovalStage.Removing w) h = moved o.todo h
     by_stage RemovalStage.Settling h = moved o.todo h
     by_stage RemovalStage.Ending h = tt
-stage_same (Some (Operation.Surprising o)) c d order a b h = by_stage o.stage h
+stage_same (Some (Operation.Surprising o)) c d order a b h = (by_stage o.stage h.0, subst (λ (x : List Node). SurpriseThere o o.stage x) (sym a) h.1)
   where
     moved : (todo : List ℕ) → Finishes c o.set todo → Finishes d o.set todo
     moved todo f = finishes_still c d o.set todo (fades_same c d order (subst (λ (x : List Node). Ascending 0 x) (sym a) order) (same_still c d a b)) a f
@@ -294,17 +294,18 @@ reserves s res None order h = reserves_free s res _ order h
 
 -- complete
 
-completed_rebalance : (answer : Answer) (r : Rebalance) (stage : RebalanceStage) → OrderKept r stage → OrderKept (record r { stage = ev.completed_rebalance answer stage }) (ev.completed_rebalance answer stage)
-completed_rebalance answer r (RebalanceStage.Asking w) h = h
-completed_rebalance answer r (RebalanceStage.TakingBack w) h = h
-completed_rebalance answer r RebalanceStage.Searching h = h
-completed_rebalance answer r (RebalanceStage.Cancelling w) h = h
-completed_rebalance answer r RebalanceStage.Stuck h = h
-completed_rebalance answer r (RebalanceStage.Stopping w) h = h
-completed_rebalance answer r RebalanceStage.Committing h = h
-completed_rebalance answer r (RebalanceStage.Restarting w) h = h
-completed_rebalance answer r RebalanceStage.Failed h = h
-completed_rebalance answer r RebalanceStage.Ending h = h
+completed_rebalance : (answer : Answer) (nodes : List Node) (r : Rebalance) (stage : RebalanceStage) → OrderKept r stage × RebalanceThere r stage nodes →
+    OrderKept (record r { stage = ev.completed_rebalance answer stage }) (ev.completed_rebalance answer stage) × RebalanceThere (record r { stage = ev.completed_rebalance answer stage }) (ev.completed_rebalance answer stage) nodes
+completed_rebalance answer nodes r (RebalanceStage.Asking w) h = h
+completed_rebalance answer nodes r (RebalanceStage.TakingBack w) h = h
+completed_rebalance answer nodes r RebalanceStage.Searching h = h
+completed_rebalance answer nodes r (RebalanceStage.Cancelling w) h = h
+completed_rebalance answer nodes r RebalanceStage.Stuck h = h
+completed_rebalance answer nodes r (RebalanceStage.Stopping w) h = h
+completed_rebalance answer nodes r RebalanceStage.Committing h = h
+completed_rebalance answer nodes r (RebalanceStage.Restarting w) h = h
+completed_rebalance answer nodes r RebalanceStage.Failed h = h
+completed_rebalance answer nodes r RebalanceStage.Ending h = h
 
 completed_waits : (answer : Answer) (r : Rebalance) (stage : RebalanceStage) → rebalance_waiting (record r { stage = ev.completed_rebalance answer stage }) (ev.completed_rebalance answer stage) ≡ rebalance_waiting r stage
 completed_waits answer r (RebalanceStage.Asking w) = refl
@@ -318,7 +319,8 @@ completed_waits answer r (RebalanceStage.Restarting w) = refl
 completed_waits answer r RebalanceStage.Failed = refl
 completed_waits answer r RebalanceStage.Ending = refl
 
-completed_removal : (answer : Answer) (c : Core) (o : Removal) (stage : RemovalStage) → RemovalOrder c o stage → RemovalOrder c (record o { stage = ev.completed_removal answer stage }) (ev.completed_removal answer stage)
+completed_removal : (answer : Answer) (c : Core) (o : Removal) (stage : RemovalStage) → RemovalOrder c o stage × RemovalThere o stage c.nodes →
+    RemovalOrder c (record o { stage = ev.completed_removal answer stage }) (ev.completed_removal answer stage) × RemovalThere (record o { stage = ev.completed_removal answer stage }) (ev.completed_removal answer stage) c.nodes
 completed_removal answer c o (RemovalStage.Asking w) h = h
 completed_removal answer c o (RemovalStage.TakingBack w) h = h
 completed_removal answer c o (RemovalStage.Cancelling w) h = h
@@ -326,14 +328,15 @@ completed_removal answer c o (RemovalStage.Removing w) h = h
 completed_removal answer c o RemovalStage.Settling h = h
 completed_removal answer c o RemovalStage.Ending h = h
 
-completed_surprise : (answer : Answer) (c : Core) (o : Surprise) (stage : SurpriseStage) → SurpriseOrder c o stage → SurpriseOrder c (record o { stage = ev.completed_surprise answer stage }) (ev.completed_surprise answer stage)
+completed_surprise : (answer : Answer) (c : Core) (o : Surprise) (stage : SurpriseStage) → SurpriseOrder c o stage × SurpriseThere o stage c.nodes →
+    SurpriseOrder c (record o { stage = ev.completed_surprise answer stage }) (ev.completed_surprise answer stage) × SurpriseThere (record o { stage = ev.completed_surprise answer stage }) (ev.completed_surprise answer stage) c.nodes
 completed_surprise answer c o (SurpriseStage.Telling w) h = h
 completed_surprise answer c o (SurpriseStage.Removing w) h = h
 completed_surprise answer c o SurpriseStage.Settling h = h
 completed_surprise answer c o SurpriseStage.Ending h = h
 
 completed_stage : (answer : Answer) (o : Operation) (c : Core) → StageKept (Some o) c → StageKept (Some (ev.completed answer o)) c
-completed_stage answer (Operation.Rebalancing r) c h = completed_rebalance answer r r.stage h
+completed_stage answer (Operation.Rebalancing r) c h = completed_rebalance answer c.nodes r r.stage h
 completed_stage answer (Operation.Removing o) c h = completed_removal answer c o o.stage h
 completed_stage answer (Operation.Surprising o) c h = completed_surprise answer c o o.stage h
 

@@ -29,6 +29,7 @@ use Rattle.pnp_laws.proofs.Standing.{Tree, DueBut, waiting, StageKept, Stands, S
 use Rattle.pnp_laws.proofs.TreeMoves.{tree_joined, above_joined}
 use Rattle.pnp_laws.proofs.Sounds.{IsPlain, LeadsMore, leads_none, leads_pushed, up_append, up_drop, due_still, sound_still, first_stays}
 use Rattle.pnp_laws.proofs.SoundStarts.{stage_none, calm_still, calm_changed, plain_alike}
+use Rattle.pnp_laws.proofs.Theres.{none_there, those_there, reverse_there, leaving_there}
 use Rattle.pnp_laws.proofs.Finishes.{set_is_closed, leaving_all, finishes_begun}
 use Rattle.pnp_laws.proofs.Restarts.{ordered_begun}
 use Rattle.pnp_model.specs.Rebalances as re
@@ -247,7 +248,9 @@ sound_rebalance_idle s node k None first none good h =
     let r : Rebalance = record { target = node.serial; path = node.path; todo = []; agreed = []; refused = []; found = no_fit; stage = RebalanceStage.Searching } in
     let ks = reverse (serials_of (those re.is_asked s.core.nodes)) in
     sound_begin s OpKind.Rebalance node _ _ first refl none
-    (sre.order_ask_on r ks s.core (ordered_begun s.next_serial re.is_asked s.core.nodes good.serials (λ i q. let f = those_found 0 re.is_asked s.core.nodes i good.serials q in good.below i f.0 f.1)))
+    (sre.order_ask_on r ks s.core.nodes (ordered_begun s.next_serial re.is_asked s.core.nodes good.serials (λ i q. let f = those_found 0 re.is_asked s.core.nodes i good.serials q in good.below i f.0 f.1))
+    (reverse_there (serials_of (those re.is_asked s.core.nodes)) s.core.nodes (λ i q. let f = those_found 0 re.is_asked s.core.nodes i good.serials q in (f.0, f.1)))
+    (none_there s.core.nodes))
     (sre.waits_ask_on r ks) h
 
 sound_rebalance_task : (s : State) (node : Node) (k : ℕ) (x : DevState) → slice_get s.tasks 0 ≡ Some (record { kind = Duty.Begins OpKind.Rebalance; serial = k }) → s.operation ≡ None → Good s.next_serial s.core.nodes s.activities None → Stands s → Sound s (rebalance_task s node x)
@@ -265,7 +268,9 @@ sound_removal s kind node task first surprise at none good h =
     let set = leaving s.core node.serial in
     let o : Removal = record { kind = kind; target = node.serial; path = node.path; set = set; ejecting = rm.ejecting s.core set; todo = []; agreed = []; refuser = None; stage = RemovalStage.Ending } in
     sound_begin s kind node _ task first surprise none
-    (srm.order_ask_on s.core.nodes o (those (λ k. is_up (node_at k s.core.nodes)) set) s.core (finishes_begun s.next_serial s.core node.serial node good.serials h.tree at)) refl h
+    (srm.order_ask_on s.core.nodes o (those (λ k. is_up (node_at k s.core.nodes)) set) s.core (finishes_begun s.next_serial s.core node.serial node good.serials h.tree at)
+    (those_there (λ k. is_up (node_at k s.core.nodes)) set s.core.nodes (leaving_there s.next_serial s.core node.serial node good.serials h.tree at))
+    (leaving_there s.next_serial s.core node.serial node good.serials h.tree at)) refl h
 
 sound_disable : (s : State) (node : Node) (k : ℕ) (b : Bool) → slice_get s.tasks 0 ≡ Some (record { kind = Duty.Begins OpKind.Disable; serial = k }) → node_at node.serial s.core.nodes ≡ Some node → s.operation ≡ None → Good s.next_serial s.core.nodes s.activities None → Stands s → Sound s (disable_task s node b)
 sound_disable s node k true first at none good h = sound_drop s _ _ tt first refl none h
@@ -290,7 +295,9 @@ sound_surprise s node k first at none good h =
     let o : Surprise = record { target = node.serial; path = node.path; set = set; todo = []; stage = SurpriseStage.Ending } in
     let told = those (λ k. su.is_told_node (node_at k s.core.nodes)) set in
     sound_still s _ (Label.Begin OpKind.Surprise node.path) tt refl refl refl (up_drop s.tasks h.up)
-    (srm.order_tell_on s.core.nodes o told s.core (finishes_begun s.next_serial s.core node.serial node good.serials h.tree (found_self k s.core.nodes node at)))
+    (srm.order_tell_on s.core.nodes o told s.core (finishes_begun s.next_serial s.core node.serial node good.serials h.tree (found_self k s.core.nodes node at))
+    (those_there (λ k. su.is_told_node (node_at k s.core.nodes)) set s.core.nodes (leaving_there s.next_serial s.core node.serial node good.serials h.tree (found_self k s.core.nodes node at)))
+    (leaving_there s.next_serial s.core node.serial node good.serials h.tree (found_self k s.core.nodes node at)))
     (subst (λ (ks : List ℕ). DueBut ks (drop 1 s.tasks) s.core.nodes) (sym (srm.waits_tell_on s.core.nodes o told))
     (due_dropped s.tasks k set s.core.nodes first
     (λ i n there stopped below. subst (λ (x : ℕ). has (leaving s.core x) i ≡ true) (sym own) (below_it s k node at good h i n there stopped below)) (calm_none s none h))) h
