@@ -1,6 +1,5 @@
 -- Devices are finished in leaving order: nothing hangs on the one that is next but what is done.
-use Rattle.std.proofs.Common.{ℕ, zero, suc, ◌+◌, ◌<◌, ◌≤◌, ◌≡◌, ◌≢◌, ◌==◌, ◌⊎◌, inl, inr, Bool, true, false, not, ◌&&◌, ◌||◌, cond, List, [], ◌∷◌, length, Option, Some, None, refl, sym, ap, ◌∙◌, subst, arith}
-use Rattle.std.specs.List.{list_any}
+use Rattle.std.proofs.Common.{ℕ, suc, ◌<◌, ◌≡◌, ◌≢◌, inl, inr, Bool, true, false, cond, List, [], ◌∷◌, length, Some, refl, sym, ap, ◌∙◌, subst, arith}
 use Rattle.std.proofs.lemmas.Bool.{cases_eq}
 use Rattle.std.proofs.lemmas.Bool.Decides.{nat_tests}
 use Rattle.pnp_model.specs.Keyed.{those}
@@ -8,12 +7,12 @@ use Rattle.pnp_model.specs.Tests.{has}
 use Rattle.pnp_model.specs.Records.{Node, Core}
 use Rattle.pnp_model.specs.Cores.{node_at, strip, drop_node}
 use Rattle.pnp_model.specs.Frames.{rest}
-use Rattle.pnp_model.specs.Trees.{hangs_on, set_of, dependents, direct, leaving_in, leaving}
+use Rattle.pnp_model.specs.Trees.{hangs_on, set_of, dependents, direct, leaving}
 use Rattle.pnp_labels.specs.declared.states.DevState.TheVariants.{NoStack}
-use Rattle.pnp_laws.specs.Kept.{Ascending, Within, HasStackOf}
-use Rattle.pnp_laws.proofs.Lookups.{own_serial, none_below, Ascending-changed, Ascending-without, left_from}
-use Rattle.pnp_laws.proofs.Lists.{HeadIs, head_has, rest_has, those_found}
-use Rattle.pnp_laws.proofs.Closures.{Closed, OfNodes, is_in, closed_keeps, closed_within, hangs_some, hangs_more, those_serial}
+use Rattle.pnp_laws.specs.Kept.{Ascending}
+use Rattle.pnp_laws.proofs.Lookups.{Ascending-changed, Ascending-without, left_from}
+use Rattle.pnp_laws.proofs.Lists.{HeadIs, rest_has, those_found}
+use Rattle.pnp_laws.proofs.Closures.{Closed, is_in, closed_keeps, closed_within, hangs_some, hangs_more, those_serial}
 use Rattle.pnp_laws.proofs.Orders.{Ranked, dependents_rank, order_has, order_all}
 use Rattle.pnp_laws.proofs.Ranks.{NoNewEdge, edges_stripped, edges_left}
 use Rattle.pnp_laws.proofs.Due.{Sorted, set_closed, order_sorted, dependents_less}

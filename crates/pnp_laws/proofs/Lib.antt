@@ -14,6 +14,7 @@ pub mod Sounds
 pub mod SoundStarts
 pub mod Finishes
 pub mod SoundOps
+pub mod Theres
 pub mod SoundRemovals
 pub mod Restarts
 pub mod SoundRebalances
@@ -29,16 +30,17 @@ pub mod TaskSteps
 pub mod EventSteps
 pub mod MachineSteps
 pub mod Runs
-pub mod EventsPlain
-pub mod RunsStand
 pub mod Sharing
 pub mod SharingSteps
 pub mod SharingRemovals
 pub mod SharingMachine
 pub mod RunsShare
+pub mod EventsPlain
 pub mod Vetoes
 pub mod VetoSteps
 pub mod RunsVeto
+pub mod NoVetoes
+pub mod RunsStand
 pub mod Reached
 pub mod Dues
 pub mod EventChanges

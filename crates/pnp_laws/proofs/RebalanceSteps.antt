@@ -53,7 +53,7 @@ fits_restart_from r [] nodes a b c d each waits = record { todo = tt; agreed = b
 fits_restart_from r (k ∷ ks) nodes a b c d each waits = record { todo = a; agreed = b; rootless = c; no_root = d; asks = tt; each = each; waits = waits }
 
 -- those that can be restarted are among these
-startable_has : (nodes : List Node) (ks : List ℕ) (k : ℕ) → has ks k ≡ false → has (startable nodes ks) k ≡ false
+pub startable_has : (nodes : List Node) (ks : List ℕ) (k : ℕ) → has ks k ≡ false → has (startable nodes ks) k ≡ false
 startable_has nodes [] k h = refl
 startable_has nodes (j ∷ js) k h = grind (arith, nat_tests, startable_has nodes js k)
 

@@ -1,7 +1,6 @@
 -- The order in which a rebalance asks and restarts, and that who is not restarted is due.
-use Rattle.std.proofs.Common.{ℕ, suc, ◌<◌, ◌≤◌, ◌≡◌, ◌≢◌, ◌⊎◌, inl, inr, Bool, true, false, not, cond, List, [], ◌∷◌, ◌++◌, Option, Some, None, refl, sym, ap, ◌∙◌, subst, arith, reverse}
+use Rattle.std.proofs.Common.{ℕ, suc, ◌<◌, ◌≤◌, ◌≡◌, ◌≢◌, inl, inr, Bool, true, false, cond, List, [], ◌∷◌, ◌++◌, Some, refl, sym, ap, ◌∙◌, subst, arith, reverse}
 use Rattle.std.specs.List.{list_all}
-use Rattle.std.proofs.lemmas.Bool.{cases_eq}
 use Rattle.std.proofs.lemmas.Bool.Decides.{nat_tests}
 use Rattle.std.proofs.lemmas.List.{reverse-append}
 use Rattle.pnp_model.specs.Keyed.{those}
@@ -13,8 +12,7 @@ use Rattle.pnp_model.specs.Frames.{rest}
 use Rattle.pnp_model.specs.Rebalances.{startable}
 use Rattle.pnp_labels.specs.declared.states.DevState.{DevState}
 use Rattle.pnp_labels.specs.declared.states.DevState.TheVariants.{NoStack, NotStarted, Started, StopPending, Stopped, RemovePending, SurpriseRemoved}
-use Rattle.pnp_laws.specs.Kept.{Ascending, Each, AllBelow, is_calm, is_idle}
-use Rattle.pnp_laws.specs.Due.{is_due}
+use Rattle.pnp_laws.specs.Kept.{Ascending, Each, is_calm, is_idle}
 use Rattle.pnp_laws.proofs.Lists.{HeadIs}
 use Rattle.pnp_laws.proofs.OpSteps.{has-reverse}
 use Rattle.pnp_laws.proofs.Ranks.{Rooted}
@@ -147,21 +145,21 @@ due_restart tasks c lo (k ∷ ks) root rooted idle calm up order due =
     λ b. elim b as (λ b. stands_up c.nodes k ≡ b → DueBut (cond b (k ∷ ks) (startable c.nodes ks)) tasks c.nodes) [
       | true ↦ λ e. due
       | false ↦ λ e. due_restart tasks c (suc k) ks root rooted idle calm up order.1
-        (λ i m at stopped.
-        elim (due i m at stopped) [
-          | inl h ↦ inl h
-          | inr h ↦ elim (has_cases k i ks h) [
-            | inr q ↦ inr q
-            | inl same ↦
-                let e_i = subst (λ (x : ℕ). stands_up c.nodes x ≡ false) same e in
-                let d = up i m at stopped in
-                let over = over_stopped c i m root rooted idle calm at d e_i in
-                let low = over.3 in
-                elim (due over.0 over.1 over.4 over.5) [
-                  | inl h2 ↦ inl (due_below tasks c i over.0 m root rooted at d over.2 h2)
-                  | inr h2 ↦ absurd (let l = rising_over k (k ∷ ks) over.0 ((omega arith), order.1) h2 in omega arith)
-                ]
-          ]
-        ])
+          (λ i m at stopped.
+          elim (due i m at stopped) [
+            | inl h ↦ inl h
+            | inr h ↦ elim (has_cases k i ks h) [
+              | inr q ↦ inr q
+              | inl same ↦
+                  let e_i = subst (λ (x : ℕ). stands_up c.nodes x ≡ false) same e in
+                  let d = up i m at stopped in
+                  let over = over_stopped c i m root rooted idle calm at d e_i in
+                  let low = over.3 in
+                  elim (due over.0 over.1 over.4 over.5) [
+                    | inl h2 ↦ inl (due_below tasks c i over.0 m root rooted at d over.2 h2)
+                    | inr h2 ↦ absurd (let l = rising_over k (k ∷ ks) over.0 ((omega arith), order.1) h2 in omega arith)
+                  ]
+            ]
+          ])
     ] in
     by_test (stands_up c.nodes k) refl

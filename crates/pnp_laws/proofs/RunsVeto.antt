@@ -29,6 +29,7 @@ use Rattle.pnp_labels.specs.declared.words.Answer.{Answer}
 use Rattle.pnp_labels.specs.declared.words.Answer.TheVariants.{Ok, Fail, Pend}
 use Rattle.pnp_labels.specs.declared.states.DevState.TheVariants.{NoStack, NotStarted, Started, StopPending, Stopped, RemovePending, SurpriseRemoved}
 use Rattle.pnp_laws.proofs.Runs.{lawful_goes, run_is_good, opening_is_good}
+use Rattle.pnp_laws.proofs.EventsPlain.{IsUnvetoed, Unvetoed}
 use Rattle.pnp_laws.proofs.Vetoes.{since_begun, veto_restores}
 use Rattle.pnp_laws.proofs.VetoSteps.{VetoSince, Closed, veto_step, veto_happens}
 use Rattle.pnp_model.specs.Machine as ma
@@ -79,17 +80,19 @@ pub record Begun (s : State) (kind : OpKind) (t : State) : Type 0 where
   pub node : Node
   pub is : t ≡ (begin s kind node (Operation.Removing (begun_removal s.core kind node))).state
 
--- where a step prints the begin of a removal, one began
+-- where a step prints the begin of a removal, one began; where it prints another begin, an operation began that no driver can veto
 pub record BeginsRight (s : State) (step : Step) : Type 0 where
   pub right : (kind : OpKind) (path : Text) → step.label ≡ Label.Begin kind path → removes kind ≡ true → Begun s kind step.state
+  pub other : (kind : OpKind) (path : Text) → step.label ≡ Label.Begin kind path → removes kind ≡ false → Unvetoed step.state
 
 -- another label
-abbrev IsNoBegin : Label → Type 0
+abbrev pub IsNoBegin : Label → Type 0
 IsNoBegin (Label.Begin op path) = ⊥
 IsNoBegin _ = Unit {0}
 
 another : (s t : State) (label : Label) → IsNoBegin label → BeginsRight s (record { label = label; state = t })
-another s t label no_begin = record { right = λ kind path e r. absurd (subst (λ (x : Label). IsNoBegin x) e no_begin) }
+another s t label no_begin =
+    record { right = λ kind path e r. absurd (subst (λ (x : Label). IsNoBegin x) e no_begin); other = λ kind path e r. absurd (subst (λ (x : Label). IsNoBegin x) e no_begin) }
 
 abbrev RightDoing : State → Doing Step → Type 0
 RightDoing s (Does step) = BeginsRight s step
@@ -197,17 +200,23 @@ right_start settings s k None = another s _ _ tt
 right_start settings s k (Some node) = right_bare settings s node node.state
 
 -- a begin of the other two kinds
-other_kind : (s : State) (own : OpKind) (node : Node) (o : Operation) → removes own ≡ false → BeginsRight s (begin s own node o)
-other_kind s own node o f =
-    record { right = λ kind path e r. absurd (let same : own ≡ kind = cc in let g = subst (λ (x : OpKind). removes x ≡ false) same f in cc) }
+other_kind : (s : State) (own : OpKind) (node : Node) (o : Operation) → removes own ≡ false → IsUnvetoed o → BeginsRight s (begin s own node o)
+other_kind s own node o f u =
+    record {
+      right = λ kind path e r. absurd (let same : own ≡ kind = cc in let g = subst (λ (x : OpKind). removes x ≡ false) same f in cc);
+      other = λ kind path e r. (o, refl, u);
+    }
 
-right_begun : (s : State) (own : OpKind) (node : Node) → BeginsRight s (begin s own node (Operation.Removing (begun_removal s.core own node)))
-right_begun s own node =
-    record { right = λ kind path e r. let same : own ≡ kind = cc in record { node = node; is = ap (λ (x : OpKind). (begin s x node (Operation.Removing (begun_removal s.core x node))).state) same } }
+right_begun : (s : State) (own : OpKind) (node : Node) → removes own ≡ true → BeginsRight s (begin s own node (Operation.Removing (begun_removal s.core own node)))
+right_begun s own node f =
+    record {
+      right = λ kind path e r. let same : own ≡ kind = cc in record { node = node; is = ap (λ (x : OpKind). (begin s x node (Operation.Removing (begun_removal s.core x node))).state) same };
+      other = λ kind path e r. absurd (let same : own ≡ kind = cc in let g = subst (λ (x : OpKind). removes x ≡ true) same f in cc);
+    }
 
 right_rebalance_idle : (s : State) (node : Node) (o : Option Activity) → BeginsRight s (rebalance_idle s node o)
 right_rebalance_idle s node (Some a) = another s _ _ tt
-right_rebalance_idle s node None = other_kind s OpKind.Rebalance node _ refl
+right_rebalance_idle s node None = other_kind s OpKind.Rebalance node _ refl tt
 
 right_rebalance : (s : State) (node : Node) (x : DevState) → BeginsRight s (rebalance_task s node x)
 right_rebalance s node NotStarted = right_rebalance_idle s node (activity_at node.serial s.activities)
@@ -220,14 +229,14 @@ right_rebalance s node SurpriseRemoved = another s _ _ tt
 
 right_disable : (s : State) (node : Node) (b : Bool) → BeginsRight s (disable_task s node b)
 right_disable s node true = another s _ _ tt
-right_disable s node false = right_begun s OpKind.Disable node
+right_disable s node false = right_begun s OpKind.Disable node refl
 
 right_begin_step : (s : State) (kind : OpKind) (k : ℕ) (o : Option Node) → BeginsRight s (begin_step s kind k o)
 right_begin_step s kind k None = another s _ _ tt
 right_begin_step s OpKind.Rebalance k (Some node) = right_rebalance s node node.state
 right_begin_step s OpKind.Disable k (Some node) = right_disable s node _
-right_begin_step s OpKind.Eject k (Some node) = right_begun s OpKind.Eject node
-right_begin_step s OpKind.Surprise k (Some node) = other_kind s OpKind.Surprise node _ refl
+right_begin_step s OpKind.Eject k (Some node) = right_begun s OpKind.Eject node refl
+right_begin_step s OpKind.Surprise k (Some node) = other_kind s OpKind.Surprise node _ refl tt
 
 right_alone : (s : State) (kind : OpKind) (k : ℕ) (acts : List Activity) → RightNext s (ma.begin_alone s kind k acts)
 right_alone s kind k [] = right_begin_step s kind k (node_at k s.core.nodes)
@@ -255,7 +264,7 @@ right_doing settings s None step l h = absurd h
 right_doing settings s (Some (Does one)) step l h = subst (λ (x : Step). BeginsRight s x) (sym h) l
 right_doing settings s (Some (Searches problem by_answer)) step l h = subst (λ (x : Step). BeginsRight s x) (sym h.2) (l h.0)
 
-right_next : (settings : Settings) (s : State) (step : Step) → s.operation ≡ None → ma.IsStep settings (ma.next settings s) step → BeginsRight s step
+pub right_next : (settings : Settings) (s : State) (step : Step) → s.operation ≡ None → ma.IsStep settings (ma.next settings s) step → BeginsRight s step
 right_next settings s step none is =
     right_doing settings s (ma.idle_next settings s (find ma.is_ready s.activities)) step (right_idle_next settings s (find ma.is_ready s.activities))
     (subst (λ (x : Option Operation). ma.IsStep settings (ma.next_of settings s x) step) none is)

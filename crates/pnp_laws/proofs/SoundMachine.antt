@@ -1,15 +1,15 @@
 -- Each step and each event of the machine keeps the tree and what is due.
-use Rattle.std.proofs.Common.{ℕ, suc, ◌≡◌, ◌≢◌, ◌==◌, ◌⊎◌, inl, inr, Bool, true, false, not, ◌&&◌, cond, List, [], ◌∷◌, ◌++◌, Option, Some, None, refl, sym, ap, ◌∙◌, subst, arith}
-use Rattle.std.specs.List.{find, slice_get, list_any}
+use Rattle.std.proofs.Common.{ℕ, suc, ◌≡◌, ◌≢◌, ◌==◌, inl, inr, Bool, true, false, ◌&&◌, cond, List, [], ◌∷◌, ◌++◌, Option, Some, None, refl, sym, ap, subst, arith}
+use Rattle.std.specs.List.{find, slice_get}
 use Rattle.std.proofs.lemmas.Bool.Decides.{nat_tests}
 use Rattle.device_ids.specs.Folding.{same}
-use Rattle.resource_reqs.specs.Resources.{Res, Reqs, clashes}
+use Rattle.resource_reqs.specs.Resources.{Res, Reqs}
 use Rattle.pnp_model.specs.Tests.{has, is_started}
 use Rattle.pnp_model.specs.Records.{Node, Core, Device, Driver, Relation, Activity, Task, State, Step, Settings, Operation, Rebalance, RebalanceStage, Removal, RemovalStage, Surprise, SurpriseStage, Doing, Duty}
 use Rattle.pnp_model.specs.Records.Doing.{Does, Searches}
 use Rattle.pnp_model.specs.Cores.{node_at}
 use Rattle.pnp_model.specs.Books.{is_named, is_unnamed}
-use Rattle.pnp_model.specs.Frames.{first_node, held_by}
+use Rattle.pnp_model.specs.Frames.{first_node}
 use Rattle.pnp_model.specs.Trees.{dependents}
 use Rattle.pnp_model.specs.States.{activity_at, list_node, node_born, node_of, device_of, plug, unplug, enable_path}
 use Rattle.pnp_labels.specs.Texts.{Text}
@@ -19,11 +19,8 @@ use Rattle.pnp_labels.specs.declared.event.Rule.{Rule}
 use Rattle.pnp_labels.specs.declared.words.DriverKind.{DriverKind}
 use Rattle.pnp_labels.specs.declared.words.RelKind.{RelKind}
 use Rattle.pnp_labels.specs.declared.event.Event.{Event}
-use Rattle.pnp_labels.specs.declared.label.Label.{Label}
 use Rattle.pnp_labels.specs.declared.label.OpKind.{OpKind}
-use Rattle.pnp_labels.specs.declared.states.DevState.{DevState}
-use Rattle.pnp_labels.specs.declared.states.DevState.TheVariants.{Started}
-use Rattle.pnp_laws.specs.Kept.{Ascending, Good, IsGood, BeginsWell, OperationFits, Fits, is_idle, removes, OrderFits, is_stopped}
+use Rattle.pnp_laws.specs.Kept.{Ascending, Good, IsGood, BeginsWell, Fits, is_idle}
 use Rattle.pnp_laws.specs.Due.{AllDue}
 use Rattle.pnp_laws.proofs.Lookups.{own_serial, found_self, ready_found, some_same}
 use Rattle.pnp_laws.proofs.OpSteps.{is_Started}
@@ -31,13 +28,13 @@ use Rattle.pnp_laws.proofs.Orders.{leaving_fits}
 use Rattle.pnp_laws.proofs.Ranks.{and_both}
 use Rattle.pnp_laws.proofs.Closures.{head_at, tail_at}
 use Rattle.pnp_laws.proofs.Due.{settled_from_due}
-use Rattle.pnp_laws.proofs.Standing.{Tree, TasksUp, DueBut, waiting, rebalance_waiting, StageKept, OrderKept, RemovalOrder, SurpriseOrder, Stands, Sound, Finishes}
-use Rattle.pnp_laws.proofs.TreeChanges.{SameTree, same_still, tree_same}
+use Rattle.pnp_laws.proofs.Standing.{Tree, DueBut, waiting, rebalance_waiting, StageKept, OrderKept, RemovalOrder, SurpriseOrder, Stands, Sound, Finishes, RebalanceThere, RemovalThere, SurpriseThere}
+use Rattle.pnp_laws.proofs.TreeChanges.{same_still, tree_same}
 use Rattle.pnp_laws.proofs.TreeMoves.{tree_related}
-use Rattle.pnp_laws.proofs.Sounds.{LeadsMore, leads_same, leads_pushed, up_append, up_first, due_still, walked_plain, first_stays, IsPlain}
-use Rattle.pnp_laws.proofs.Finishes.{Fades, fades_same, finishes_still}
-use Rattle.pnp_laws.proofs.SoundOps.{MoreTasks, more_same, more_pushed, more_listed}
-use Rattle.pnp_laws.proofs.SoundStarts.{SoundDoing, SoundNext, sound_act, stage_none}
+use Rattle.pnp_laws.proofs.Sounds.{leads_pushed, up_append, up_first, due_still}
+use Rattle.pnp_laws.proofs.Finishes.{fades_same, finishes_still}
+use Rattle.pnp_laws.proofs.SoundOps.{MoreTasks, more_same, more_pushed}
+use Rattle.pnp_laws.proofs.SoundStarts.{SoundNext, sound_act, stage_none}
 use Rattle.pnp_laws.proofs.SoundRebalances.{sound_rebalance}
 use Rattle.pnp_laws.proofs.SoundRemovals.{sound_removal, sound_surprise}
 use Rattle.pnp_laws.proofs.SoundTasks.{sound_list, sound_start, sound_begin_step}
@@ -117,8 +114,8 @@ begins_well s none good h =
 -- the operation's facts are of nodes and relations alone
 stage_same : (o : Option Operation) (c d : Core) → Ascending 0 c.nodes → d.nodes ≡ c.nodes → d.relations ≡ c.relations → StageKept o c → StageKept o d
 stage_same None c d order a b h = tt
-stage_same (Some (Operation.Rebalancing r)) c d order a b h = h
-stage_same (Some (Operation.Removing o)) c d order a b h = by_stage o.stage h
+stage_same (Some (Operation.Rebalancing r)) c d order a b h = (h.0, subst (λ (x : List Node). RebalanceThere r r.stage x) (sym a) h.1)
+stage_same (Some (Operation.Removing o)) c d order a b h = (by_stage o.stage h.0, subst (λ (x : List Node). RemovalThere o o.stage x) (sym a) h.1)
   where
     moved : (todo : List ℕ) → Finishes c o.set todo → Finishes d o.set todo
     moved todo f = finishes_still c d o.set todo (fades_same c d order (subst (λ (x : List Node). Ascending 0 x) (sym a) order) (same_still c d a b)) a f
@@ -130,7 +127,7 @@ stage_same (Some (Operation.Removing o)) c d order a b h = by_stage o.stage h
     by_stage (RemovalStage.Removing w) h = moved o.todo h
     by_stage RemovalStage.Settling h = moved o.todo h
     by_stage RemovalStage.Ending h = tt
-stage_same (Some (Operation.Surprising o)) c d order a b h = by_stage o.stage h
+stage_same (Some (Operation.Surprising o)) c d order a b h = (by_stage o.stage h.0, subst (λ (x : List Node). SurpriseThere o o.stage x) (sym a) h.1)
   where
     moved : (todo : List ℕ) → Finishes c o.set todo → Finishes d o.set todo
     moved todo f = finishes_still c d o.set todo (fades_same c d order (subst (λ (x : List Node). Ascending 0 x) (sym a) order) (same_still c d a b)) a f
@@ -297,17 +294,18 @@ reserves s res None order h = reserves_free s res _ order h
 
 -- complete
 
-completed_rebalance : (answer : Answer) (r : Rebalance) (stage : RebalanceStage) → OrderKept r stage → OrderKept (record r { stage = ev.completed_rebalance answer stage }) (ev.completed_rebalance answer stage)
-completed_rebalance answer r (RebalanceStage.Asking w) h = h
-completed_rebalance answer r (RebalanceStage.TakingBack w) h = h
-completed_rebalance answer r RebalanceStage.Searching h = h
-completed_rebalance answer r (RebalanceStage.Cancelling w) h = h
-completed_rebalance answer r RebalanceStage.Stuck h = h
-completed_rebalance answer r (RebalanceStage.Stopping w) h = h
-completed_rebalance answer r RebalanceStage.Committing h = h
-completed_rebalance answer r (RebalanceStage.Restarting w) h = h
-completed_rebalance answer r RebalanceStage.Failed h = h
-completed_rebalance answer r RebalanceStage.Ending h = h
+completed_rebalance : (answer : Answer) (nodes : List Node) (r : Rebalance) (stage : RebalanceStage) → OrderKept r stage × RebalanceThere r stage nodes →
+    OrderKept (record r { stage = ev.completed_rebalance answer stage }) (ev.completed_rebalance answer stage) × RebalanceThere (record r { stage = ev.completed_rebalance answer stage }) (ev.completed_rebalance answer stage) nodes
+completed_rebalance answer nodes r (RebalanceStage.Asking w) h = h
+completed_rebalance answer nodes r (RebalanceStage.TakingBack w) h = h
+completed_rebalance answer nodes r RebalanceStage.Searching h = h
+completed_rebalance answer nodes r (RebalanceStage.Cancelling w) h = h
+completed_rebalance answer nodes r RebalanceStage.Stuck h = h
+completed_rebalance answer nodes r (RebalanceStage.Stopping w) h = h
+completed_rebalance answer nodes r RebalanceStage.Committing h = h
+completed_rebalance answer nodes r (RebalanceStage.Restarting w) h = h
+completed_rebalance answer nodes r RebalanceStage.Failed h = h
+completed_rebalance answer nodes r RebalanceStage.Ending h = h
 
 completed_waits : (answer : Answer) (r : Rebalance) (stage : RebalanceStage) → rebalance_waiting (record r { stage = ev.completed_rebalance answer stage }) (ev.completed_rebalance answer stage) ≡ rebalance_waiting r stage
 completed_waits answer r (RebalanceStage.Asking w) = refl
@@ -321,7 +319,8 @@ completed_waits answer r (RebalanceStage.Restarting w) = refl
 completed_waits answer r RebalanceStage.Failed = refl
 completed_waits answer r RebalanceStage.Ending = refl
 
-completed_removal : (answer : Answer) (c : Core) (o : Removal) (stage : RemovalStage) → RemovalOrder c o stage → RemovalOrder c (record o { stage = ev.completed_removal answer stage }) (ev.completed_removal answer stage)
+completed_removal : (answer : Answer) (c : Core) (o : Removal) (stage : RemovalStage) → RemovalOrder c o stage × RemovalThere o stage c.nodes →
+    RemovalOrder c (record o { stage = ev.completed_removal answer stage }) (ev.completed_removal answer stage) × RemovalThere (record o { stage = ev.completed_removal answer stage }) (ev.completed_removal answer stage) c.nodes
 completed_removal answer c o (RemovalStage.Asking w) h = h
 completed_removal answer c o (RemovalStage.TakingBack w) h = h
 completed_removal answer c o (RemovalStage.Cancelling w) h = h
@@ -329,14 +328,15 @@ completed_removal answer c o (RemovalStage.Removing w) h = h
 completed_removal answer c o RemovalStage.Settling h = h
 completed_removal answer c o RemovalStage.Ending h = h
 
-completed_surprise : (answer : Answer) (c : Core) (o : Surprise) (stage : SurpriseStage) → SurpriseOrder c o stage → SurpriseOrder c (record o { stage = ev.completed_surprise answer stage }) (ev.completed_surprise answer stage)
+completed_surprise : (answer : Answer) (c : Core) (o : Surprise) (stage : SurpriseStage) → SurpriseOrder c o stage × SurpriseThere o stage c.nodes →
+    SurpriseOrder c (record o { stage = ev.completed_surprise answer stage }) (ev.completed_surprise answer stage) × SurpriseThere (record o { stage = ev.completed_surprise answer stage }) (ev.completed_surprise answer stage) c.nodes
 completed_surprise answer c o (SurpriseStage.Telling w) h = h
 completed_surprise answer c o (SurpriseStage.Removing w) h = h
 completed_surprise answer c o SurpriseStage.Settling h = h
 completed_surprise answer c o SurpriseStage.Ending h = h
 
 completed_stage : (answer : Answer) (o : Operation) (c : Core) → StageKept (Some o) c → StageKept (Some (ev.completed answer o)) c
-completed_stage answer (Operation.Rebalancing r) c h = completed_rebalance answer r r.stage h
+completed_stage answer (Operation.Rebalancing r) c h = completed_rebalance answer c.nodes r r.stage h
 completed_stage answer (Operation.Removing o) c h = completed_removal answer c o o.stage h
 completed_stage answer (Operation.Surprising o) c h = completed_surprise answer c o o.stage h
 

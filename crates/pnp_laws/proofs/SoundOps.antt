@@ -1,12 +1,10 @@
 -- What the steps of all operations share: a walk that ended, an ask, a device that stays or leaves.
-use Rattle.std.proofs.Common.{ℕ, ◌≡◌, ◌≢◌, ◌==◌, ◌⊎◌, inl, inr, Bool, true, false, List, [], ◌∷◌, ◌++◌, Option, Some, None, refl, sym, ap, ◌∙◌, subst, arith}
-use Rattle.std.proofs.lemmas.Bool.Decides.{nat_tests}
+use Rattle.std.proofs.Common.{ℕ, ◌≡◌, ◌≢◌, ◌==◌, ◌⊎◌, inl, inr, Bool, true, false, List, [], ◌∷◌, ◌++◌, Option, Some, None, refl, sym, ap, ◌∙◌, subst}
 use Rattle.pnp_model.specs.Keyed.{changed_first}
 use Rattle.pnp_model.specs.Tests.{has}
-use Rattle.pnp_model.specs.Records.{Node, Core, Task, Device, State, Step, Operation, Duty}
+use Rattle.pnp_model.specs.Records.{Node, Core, Task, Device, State, Duty}
 use Rattle.pnp_model.specs.Cores.{is_node, node_at, with_state, with_problem, strip, drop_node}
 use Rattle.pnp_model.specs.States.{relist, relist_device, relist_other, list_node, device_of, node_born}
-use Rattle.pnp_model.specs.Trees.{dependents}
 use Rattle.pnp_model.specs.Diagram.{Row}
 use Rattle.pnp_labels.specs.Texts.{Text}
 use Rattle.pnp_labels.specs.declared.states.DevState.{DevState}
@@ -14,11 +12,10 @@ use Rattle.pnp_labels.specs.declared.words.Minor.{Minor}
 use Rattle.pnp_labels.specs.declared.states.Problem.{Problem}
 use Rattle.pnp_labels.specs.declared.label.Label.{Label}
 use Rattle.pnp_labels.specs.declared.states.DevState.TheVariants.{NoStack, Stopped}
-use Rattle.pnp_laws.specs.Kept.{Ascending, HasStackOf, is_idle}
-use Rattle.pnp_laws.proofs.Lookups.{some_same, node_from, Ascending-changed}
+use Rattle.pnp_laws.specs.Kept.{Ascending, is_idle}
+use Rattle.pnp_laws.proofs.Lookups.{node_from, Ascending-changed}
 use Rattle.pnp_laws.proofs.Lists.{HeadIs, head_has}
 use Rattle.pnp_laws.proofs.Finishing.{StacksFit}
-use Rattle.pnp_laws.proofs.SharingRemovals.{relist_core}
 use Rattle.pnp_laws.proofs.Standing.{TasksUp, DutyUp, DueBut, waiting, StageKept, Stands, Sound, Finishes}
 use Rattle.pnp_laws.proofs.TreeChanges.{Alike, SameTree, same_still, same_changed, nodes_same}
 use Rattle.pnp_laws.proofs.TreeMoves.{was_stripped}

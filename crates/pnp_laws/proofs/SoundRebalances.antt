@@ -1,5 +1,5 @@
 -- Each step of a rebalance keeps the tree and what is due.
-use Rattle.std.proofs.Common.{ℕ, ◌≡◌, ◌≢◌, ◌⊎◌, inl, inr, Bool, true, false, cond, List, [], ◌∷◌, map, length, Option, Some, None, refl, sym, ap, ◌∙◌, subst, arith, reverse}
+use Rattle.std.proofs.Common.{ℕ, ◌≡◌, ◌≢◌, inl, inr, Bool, true, false, List, [], ◌∷◌, length, Option, Some, None, refl, sym, ap, ◌∙◌, subst, arith, reverse}
 use Rattle.std.specs.Option.{option_map}
 use Rattle.std.proofs.lemmas.Bool.{cases_eq}
 use Rattle.std.proofs.lemmas.Bool.Decides.{nat_tests}
@@ -12,7 +12,7 @@ use Rattle.pnp_model.specs.Cores.{is_node, node_at, with_state, with_problem}
 use Rattle.pnp_model.specs.Walks.{is_bad}
 use Rattle.pnp_model.specs.Trees.{stands_up}
 use Rattle.pnp_model.specs.Frames.{first_node, rest}
-use Rattle.pnp_model.specs.Rebalances.{ask_on, cancel_on, stop_on, startable, restart_from, restart_on, is_not_above, end_ask, ask_step, take_back, searched, cancel_step, trouble_of, stuck, stop_step, committed, movers, plan_of, commit_step, end_restart, restart_step, failed, over, moved_on, rebalance_step}
+use Rattle.pnp_model.specs.Rebalances.{ask_on, cancel_on, stop_on, startable, restart_from, is_not_above, end_ask, ask_step, take_back, searched, cancel_step, trouble_of, stuck, stop_step, committed, movers, plan_of, commit_step, end_restart, restart_step, failed, over, moved_on, rebalance_step}
 use Rattle.pnp_model.specs.Machine.{rebalance_lifted}
 use Rattle.pnp_model.specs.Diagram.{Row}
 use Rattle.pnp_model.specs.Diagram.Row.{query_stop, query_stop_bad, cancel_stop_refused, cancel_stop, stop, restart, restart_bad}
@@ -21,16 +21,17 @@ use Rattle.pnp_labels.specs.declared.words.Minor.{Minor}
 use Rattle.pnp_labels.specs.declared.states.Problem.{Problem}
 use Rattle.pnp_labels.specs.declared.label.OpKind.{OpKind}
 use Rattle.pnp_labels.specs.declared.label.Label.{Label}
-use Rattle.pnp_labels.specs.declared.states.DevState.TheVariants.{NoStack, NotStarted, Started, StopPending, Stopped, RemovePending, SurpriseRemoved}
-use Rattle.pnp_laws.specs.Kept.{Good, Each, Within, RebalanceKeeps, Waits, stopped_state, is_calm, is_idle}
+use Rattle.pnp_labels.specs.declared.states.DevState.TheVariants.{NoStack, Started, StopPending, Stopped}
+use Rattle.pnp_laws.specs.Kept.{Good, Each, RebalanceKeeps, stopped_state, is_calm, is_idle}
 use Rattle.pnp_laws.specs.Due.{leads, is_due}
-use Rattle.pnp_laws.proofs.Lookups.{some_same, own_serial, found_self, node_from, map_from}
-use Rattle.pnp_laws.proofs.Lists.{HeadIs, head_found, head_has, rest_has}
-use Rattle.pnp_laws.proofs.OpSteps.{has-reverse, stopped_calm, is_Stopped}
+use Rattle.pnp_laws.proofs.Lookups.{node_changed_same, some_same, node_from, map_from}
+use Rattle.pnp_laws.proofs.Lists.{head_found, head_has, rest_has}
+use Rattle.pnp_laws.proofs.OpSteps.{stopped_calm}
 use Rattle.pnp_laws.proofs.RebalanceSteps.{head_started, head_pending, head_stopping, head_stopped, rootless_head}
 use Rattle.pnp_laws.proofs.Aboves.{due_more}
-use Rattle.pnp_laws.proofs.Standing.{TasksUp, DueBut, waiting, rebalance_waiting, StageKept, OrderKept, Stands, Sound, Rising, Ordered}
-use Rattle.pnp_laws.proofs.TreeChanges.{Alike, SameTree, same_changed, same_mapped, nodes_same, tree_same, above_same}
+use Rattle.pnp_laws.proofs.Standing.{DueBut, waiting, rebalance_waiting, StageKept, OrderKept, Stands, Sound, Rising, Ordered, RebalanceThere, AllThere, Goes}
+use Rattle.pnp_laws.proofs.Theres.{goes_on, rest_there, those_there, reverse_there, startable_there, more_there, same_there, same_goes}
+use Rattle.pnp_laws.proofs.TreeChanges.{Alike, same_changed, same_mapped, nodes_same, tree_same}
 use Rattle.pnp_laws.proofs.Sounds.{IsPlain, LeadsMore, leads_same, leads_first, due_still, due_same, due_changed, sound_same, sound_walk}
 use Rattle.pnp_laws.proofs.SoundStarts.{SoundNext}
 use Rattle.pnp_laws.proofs.SoundOps.{Work, same_state, op_walk, op_still, problem_alike}
@@ -38,33 +39,36 @@ use Rattle.pnp_laws.proofs.Restarts.{ordered_agreed, ordered_fewer, rising_weake
 
 -- What comes next, by what is still to do ----------------------------------------------------------
 
-pub order_ask_on : (r : Rebalance) (ks : List ℕ) (c : Core) → Ordered ks r.agreed → StageKept (Some (Operation.Rebalancing (ask_on r ks))) c
-order_ask_on r [] c g = rising_weaker 0 g.0 r.agreed (omega arith) g.2
-order_ask_on r (k ∷ ks) c g = g
+abbrev pub RebalanceKept : Rebalance → List Node → Type 0
+RebalanceKept r nodes = OrderKept r r.stage × RebalanceThere r r.stage nodes
+
+pub order_ask_on : (r : Rebalance) (ks : List ℕ) (nodes : List Node) → Ordered ks r.agreed → AllThere ks nodes → AllThere r.agreed nodes → RebalanceKept (ask_on r ks) nodes
+order_ask_on r [] nodes g there all = (rising_weaker 0 g.0 r.agreed (omega arith) g.2, all)
+order_ask_on r (k ∷ ks) nodes g there all = (g, (goes_on k ks nodes there, all))
 
 pub waits_ask_on : (r : Rebalance) (ks : List ℕ) → waiting (Some (Operation.Rebalancing (ask_on r ks))) ≡ []
 waits_ask_on r [] = refl
 waits_ask_on r (k ∷ ks) = refl
 
-order_cancel_on : (r : Rebalance) (ks : List ℕ) (c : Core) → StageKept (Some (Operation.Rebalancing (cancel_on r ks))) c
-order_cancel_on r [] c = tt
-order_cancel_on r (k ∷ ks) c = tt
+order_cancel_on : (r : Rebalance) (ks : List ℕ) (nodes : List Node) → AllThere ks nodes → RebalanceKept (cancel_on r ks) nodes
+order_cancel_on r [] nodes there = (tt, tt)
+order_cancel_on r (k ∷ ks) nodes there = (tt, goes_on k ks nodes there)
 
 waits_cancel_on : (r : Rebalance) (ks : List ℕ) → waiting (Some (Operation.Rebalancing (cancel_on r ks))) ≡ []
 waits_cancel_on r [] = refl
 waits_cancel_on r (k ∷ ks) = refl
 
-order_stop_on : (r : Rebalance) (ks : List ℕ) (c : Core) → Rising 0 r.agreed → StageKept (Some (Operation.Rebalancing (stop_on r ks))) c
-order_stop_on r [] c g = g
-order_stop_on r (k ∷ ks) c g = g
+order_stop_on : (r : Rebalance) (ks : List ℕ) (nodes : List Node) → Rising 0 r.agreed → AllThere ks nodes → AllThere r.agreed nodes → RebalanceKept (stop_on r ks) nodes
+order_stop_on r [] nodes g there all = (g, all)
+order_stop_on r (k ∷ ks) nodes g there all = (g, (goes_on k ks nodes there, all))
 
 waits_stop_on : (r : Rebalance) (ks : List ℕ) → waiting (Some (Operation.Rebalancing (stop_on r ks))) ≡ r.agreed
 waits_stop_on r [] = refl
 waits_stop_on r (k ∷ ks) = refl
 
-order_restart_from : (r : Rebalance) (ks : List ℕ) (c : Core) → Rising 0 ks → StageKept (Some (Operation.Rebalancing (restart_from r ks))) c
-order_restart_from r [] c g = tt
-order_restart_from r (k ∷ ks) c g = g
+order_restart_from : (r : Rebalance) (ks : List ℕ) (nodes : List Node) → Rising 0 ks → AllThere ks nodes → RebalanceKept (restart_from r ks) nodes
+order_restart_from r [] nodes g there = (tt, tt)
+order_restart_from r (k ∷ ks) nodes g there = (g, goes_on k ks nodes there)
 
 waits_restart_from : (r : Rebalance) (ks : List ℕ) → waiting (Some (Operation.Rebalancing (restart_from r ks))) ≡ ks
 waits_restart_from r [] = refl
@@ -73,50 +77,57 @@ waits_restart_from r (k ∷ ks) = refl
 due_wider : (rest next : List ℕ) (tasks : List Task) (nodes : List Node) → ((k : ℕ) → has rest k ≡ true → has next k ≡ true) → DueBut rest tasks nodes → DueBut next tasks nodes
 due_wider rest next tasks nodes wider due = due_still rest next tasks tasks nodes nodes refl (leads_same tasks) wider due
 
+now_at : (j : ℕ) (f : Node → Node) (node : Node) (nodes : List Node) → ((x : Node) → (f x).serial ≡ x.serial) → node_at j nodes ≡ Some node → node_at j (changed_first (is_node j) f nodes) ≡ Some (f node)
+now_at j f node nodes keeps at = node_changed_same j f nodes keeps ∙ ap (option_map f) at
+
 -- Asking -------------------------------------------------------------------------------------------
 
 started_is : (x : DevState) → x ≡ Started → (x ≢ NoStack) × (x ≢ Stopped)
 started_is x e = (λ q. cc, λ q. cc)
 
-sound_end_ask : (s : State) (r : Rebalance) (node : Node) (w : Walk) (bad : Bool) → RebalanceKeeps r (Asking w) s.core.nodes → OrderKept r (Asking w) → Work s node r.todo → DueBut [] s.tasks s.core.nodes → Stands s → Sound s (rebalance_lifted s (end_ask s.core r node bad))
+sound_end_ask : (s : State) (r : Rebalance) (node : Node) (w : Walk) (bad : Bool) → RebalanceKeeps r (Asking w) s.core.nodes → OrderKept r (Asking w) × RebalanceThere r (Asking w) s.core.nodes → Work s node r.todo → DueBut [] s.tasks s.core.nodes → Stands s → Sound s (rebalance_lifted s (end_ask s.core r node bad))
 sound_end_ask s r node w false keeps order work due h =
     let state = head_started r.todo r.agreed node.serial node.state (head_has node.serial r.todo work.head) (keeps.each node.serial node work.at) in
     op_walk s _ node r.todo [] Minor.QueryStop false Started StopPending work state refl refl refl refl (λ q. absurd (cc)) (λ q. cc) (λ q. cc) query_stop
-    (λ same. order_ask_on (record r { agreed = node.serial ∷ r.agreed }) (rest r.todo) s.core (ordered_agreed node.serial r.todo r.agreed work.head order)) (waits_ask_on (record r { agreed = node.serial ∷ r.agreed }) (rest r.todo)) due h
+    (λ same. order_ask_on (record r { agreed = node.serial ∷ r.agreed }) (rest r.todo) _ (ordered_agreed node.serial r.todo r.agreed work.head order.0)
+    (same_there (rest r.todo) s.core _ same (rest_there r.todo s.core.nodes order.1.0.there))
+    (more_there node.serial r.agreed (with_state StopPending node) _ (now_at node.serial (with_state StopPending) node s.core.nodes (λ x. refl) work.at) (same_there r.agreed s.core _ same order.1.1))) (waits_ask_on (record r { agreed = node.serial ∷ r.agreed }) (rest r.todo)) due h
 sound_end_ask s r node w true keeps order work due h =
     let state = head_started r.todo r.agreed node.serial node.state (head_has node.serial r.todo work.head) (keeps.each node.serial node work.at) in
     op_walk s _ node r.todo [] Minor.QueryStop true Started node.state work state refl refl refl refl (λ q. ap is_idle (sym state) ∙ q) (started_is node.state state).0 (started_is node.state state).1 (subst (λ (x : DevState). Row Started Minor.QueryStop true x) (sym state) query_stop_bad)
-    (λ same. order) refl due h
+    (λ same. (order.0, (same_goes r.todo s.core _ same order.1.0, same_there r.agreed s.core _ same order.1.1))) refl due h
 
-sound_ask : (s : State) (r : Rebalance) (node : Node) (w : Walk) (ends : Bool) → RebalanceKeeps r (Asking w) s.core.nodes → OrderKept r (Asking w) → Work s node r.todo → DueBut [] s.tasks s.core.nodes → Stands s → Sound s (rebalance_lifted s (ask_step s.core r node w ends))
+sound_ask : (s : State) (r : Rebalance) (node : Node) (w : Walk) (ends : Bool) → RebalanceKeeps r (Asking w) s.core.nodes → OrderKept r (Asking w) × RebalanceThere r (Asking w) s.core.nodes → Work s node r.todo → DueBut [] s.tasks s.core.nodes → Stands s → Sound s (rebalance_lifted s (ask_step s.core r node w ends))
 sound_ask s r node w true keeps order work due h = sound_end_ask s r node w (is_bad w) keeps order work due h
 sound_ask s r node w false keeps order work due h = op_still s _ _ [] tt refl refl refl refl (λ same. order) refl due h
 
-sound_take_back : (s : State) (r : Rebalance) (node : Node) (w : Walk) (ends : Bool) → RebalanceKeeps r (TakingBack w) s.core.nodes → OrderKept r (TakingBack w) → Work s node r.todo → DueBut [] s.tasks s.core.nodes → Stands s → Sound s (rebalance_lifted s (take_back s.core r node w ends))
+sound_take_back : (s : State) (r : Rebalance) (node : Node) (w : Walk) (ends : Bool) → RebalanceKeeps r (TakingBack w) s.core.nodes → OrderKept r (TakingBack w) × RebalanceThere r (TakingBack w) s.core.nodes → Work s node r.todo → DueBut [] s.tasks s.core.nodes → Stands s → Sound s (rebalance_lifted s (take_back s.core r node w ends))
 sound_take_back s r node w true keeps order work due h =
     let state = head_started r.todo r.agreed node.serial node.state (head_has node.serial r.todo work.head) (keeps.each node.serial node work.at) in
     let more = those (is_not_above s.core.nodes node.serial) (rest r.todo) in
     op_walk s _ node r.todo [] Minor.CancelStop false Started Started work state refl refl refl refl (λ q. absurd (cc)) (λ q. cc) (λ q. cc) cancel_stop_refused
-    (λ same. order_ask_on r more s.core (ordered_fewer (is_not_above s.core.nodes node.serial) node.serial r.todo r.agreed work.head order)) (waits_ask_on r more) due h
+    (λ same. order_ask_on r more _ (ordered_fewer (is_not_above s.core.nodes node.serial) node.serial r.todo r.agreed work.head order.0)
+    (same_there more s.core _ same (those_there (is_not_above s.core.nodes node.serial) (rest r.todo) s.core.nodes (rest_there r.todo s.core.nodes order.1.0.there)))
+    (same_there r.agreed s.core _ same order.1.1)) (waits_ask_on r more) due h
 sound_take_back s r node w false keeps order work due h = op_still s _ _ [] tt refl refl refl refl (λ same. order) refl due h
 
 nothing_has : (agreed : List ℕ) (k : ℕ) → has [] k ≡ true → has agreed k ≡ true
 nothing_has agreed k h = absurd (cc)
 
-sound_searched : (s : State) (r : Rebalance) (found : Found) → OrderKept r Searching → DueBut [] s.tasks s.core.nodes → Stands s → Sound s (rebalance_lifted s (searched s.core r found))
+sound_searched : (s : State) (r : Rebalance) (found : Found) → OrderKept r Searching × RebalanceThere r Searching s.core.nodes → DueBut [] s.tasks s.core.nodes → Stands s → Sound s (rebalance_lifted s (searched s.core r found))
 sound_searched s r (assignment plan) order due h =
-    op_still s _ _ r.agreed tt refl refl refl refl (λ same. order_stop_on (record r { found = assignment plan }) (reverse r.agreed) s.core order) (waits_stop_on (record r { found = assignment plan }) (reverse r.agreed))
+    op_still s _ _ r.agreed tt refl refl refl refl (λ same. order_stop_on (record r { found = assignment plan }) (reverse r.agreed) _ order.0 (reverse_there r.agreed s.core.nodes order.1) order.1) (waits_stop_on (record r { found = assignment plan }) (reverse r.agreed))
     (due_wider [] r.agreed s.tasks s.core.nodes (nothing_has r.agreed) due) h
-sound_searched s r no_fit order due h = op_still s _ _ [] tt refl refl refl refl (λ same. order_cancel_on (record r { found = no_fit }) r.agreed s.core) (waits_cancel_on (record r { found = no_fit }) r.agreed) due h
-sound_searched s r spent order due h = op_still s _ _ [] tt refl refl refl refl (λ same. order_cancel_on (record r { found = spent }) r.agreed s.core) (waits_cancel_on (record r { found = spent }) r.agreed) due h
+sound_searched s r no_fit order due h = op_still s _ _ [] tt refl refl refl refl (λ same. order_cancel_on (record r { found = no_fit }) r.agreed _ order.1) (waits_cancel_on (record r { found = no_fit }) r.agreed) due h
+sound_searched s r spent order due h = op_still s _ _ [] tt refl refl refl refl (λ same. order_cancel_on (record r { found = spent }) r.agreed _ order.1) (waits_cancel_on (record r { found = spent }) r.agreed) due h
 
 -- Nothing fits ---------------------------------------------------------------------------------------
 
-sound_cancel : (s : State) (r : Rebalance) (node : Node) (w : Walk) (ends : Bool) → RebalanceKeeps r (Cancelling w) s.core.nodes → Work s node r.todo → DueBut [] s.tasks s.core.nodes → Stands s → Sound s (rebalance_lifted s (cancel_step s.core r node w ends))
-sound_cancel s r node w true keeps work due h =
+sound_cancel : (s : State) (r : Rebalance) (node : Node) (w : Walk) (ends : Bool) → RebalanceKeeps r (Cancelling w) s.core.nodes → Goes r.todo s.core.nodes → Work s node r.todo → DueBut [] s.tasks s.core.nodes → Stands s → Sound s (rebalance_lifted s (cancel_step s.core r node w ends))
+sound_cancel s r node w true keeps there work due h =
     let state = head_pending r.todo node.serial node.state (head_has node.serial r.todo work.head) (keeps.each node.serial node work.at) in
-    op_walk s _ node r.todo [] Minor.CancelStop false StopPending Started work state refl refl refl refl (λ q. absurd (cc)) (λ q. cc) (λ q. cc) cancel_stop (λ same. order_cancel_on r (rest r.todo) s.core) (waits_cancel_on r (rest r.todo)) due h
-sound_cancel s r node w false keeps work due h = op_still s _ _ [] tt refl refl refl refl (λ same. tt) refl due h
+    op_walk s _ node r.todo [] Minor.CancelStop false StopPending Started work state refl refl refl refl (λ q. absurd (cc)) (λ q. cc) (λ q. cc) cancel_stop (λ same. order_cancel_on r (rest r.todo) _ (same_there (rest r.todo) s.core _ same (rest_there r.todo s.core.nodes there.there))) (waits_cancel_on r (rest r.todo)) due h
+sound_cancel s r node w false keeps there work due h = op_still s _ _ [] tt refl refl refl refl (λ same. (tt, there)) refl due h
 
 sound_stuck : (s : State) (r : Rebalance) → RebalanceKeeps r Stuck s.core.nodes → DueBut [] s.tasks s.core.nodes → Stands s → Sound s (rebalance_lifted s (stuck s.core r))
 sound_stuck s r keeps due h =
@@ -125,18 +136,18 @@ sound_stuck s r keeps due h =
     let f = with_problem (Some (trouble_of r.found)) in
     let t = (rebalance_lifted s (stuck s.core r)).state in
     let same = same_changed s.core t.core r.target f node refl refl (λ x. refl) at (problem_alike node (Some (trouble_of r.found))) in
-    sound_same s t (Label.Trouble r.path (trouble_of r.found)) tt same refl h.up tt
+    sound_same s t (Label.Trouble r.path (trouble_of r.found)) tt same refl h.up (tt, tt)
     (due_changed [] [] s.tasks s.tasks s.core.nodes t.core.nodes r.target f node refl (λ x. refl) at (nodes_same s.core t.core same) (leads_same s.tasks) (λ q. inl q) (λ k q. inl q) due) h
 
 -- It fits --------------------------------------------------------------------------------------------
 
-sound_stop : (s : State) (r : Rebalance) (node : Node) (w : Walk) (ends : Bool) → RebalanceKeeps r (Stopping w) s.core.nodes → OrderKept r (Stopping w) → Work s node r.todo → DueBut r.agreed s.tasks s.core.nodes → Stands s → Sound s (rebalance_lifted s (stop_step s.core r node w ends))
+sound_stop : (s : State) (r : Rebalance) (node : Node) (w : Walk) (ends : Bool) → RebalanceKeeps r (Stopping w) s.core.nodes → OrderKept r (Stopping w) × RebalanceThere r (Stopping w) s.core.nodes → Work s node r.todo → DueBut r.agreed s.tasks s.core.nodes → Stands s → Sound s (rebalance_lifted s (stop_step s.core r node w ends))
 sound_stop s r node w true keeps order work due h =
     let here = head_has node.serial r.todo work.head in
     let state = head_stopping r.todo r.agreed node.serial node.state here (keeps.each node.serial node work.at) in
     let t = (rebalance_lifted s (stop_step s.core r node w true)).state in
     let same = same_state s t node r.todo Stopped work refl refl (λ q. absurd (cc)) in
-    sound_walk s t node Minor.Stop false Stopped refl same refl work.at (λ q. cc) (subst (λ (x : DevState). Row x Minor.Stop false Stopped) (sym state) stop) h.up (order_stop_on r (rest r.todo) t.core order)
+    sound_walk s t node Minor.Stop false Stopped refl same refl work.at (λ q. cc) (subst (λ (x : DevState). Row x Minor.Stop false Stopped) (sym state) stop) h.up (order_stop_on r (rest r.todo) t.core.nodes order.0 (same_there (rest r.todo) s.core t.core same (rest_there r.todo s.core.nodes order.1.0.there)) (same_there r.agreed s.core t.core same order.1.1))
     (subst (λ (ks : List ℕ). DueBut ks s.tasks t.core.nodes) (sym (waits_stop_on r (rest r.todo)))
     (due_changed r.agreed r.agreed s.tasks s.tasks s.core.nodes t.core.nodes node.serial (with_state Stopped) node refl (λ x. refl) work.at (nodes_same s.core t.core same) (leads_same s.tasks)
     (λ q. inr (keeps.asks node.serial here)) (λ k q. inl q) due)) h
@@ -156,14 +167,14 @@ not_root s next p good k n at e = λ z. let root = (good.stacks k n at).root z i
 commits_alike : (serials : List ℕ) (r : Rebalance) (n : Node) → Alike n (committed serials (plan_of r.found) n)
 commits_alike serials r n = record { serial = refl; parent = refl; path = refl; idle = λ h. h }
 
-sound_commit : (s : State) (r : Rebalance) → RebalanceKeeps r Committing s.core.nodes → OrderKept r Committing → DueBut r.agreed s.tasks s.core.nodes → Good s.next_serial s.core.nodes [] (Some (Operation.Rebalancing r)) → Stands s → Sound s (rebalance_lifted s (commit_step s.core r))
+sound_commit : (s : State) (r : Rebalance) → RebalanceKeeps r Committing s.core.nodes → OrderKept r Committing × RebalanceThere r Committing s.core.nodes → DueBut r.agreed s.tasks s.core.nodes → Good s.next_serial s.core.nodes [] (Some (Operation.Rebalancing r)) → Stands s → Sound s (rebalance_lifted s (commit_step s.core r))
 sound_commit s r keeps order due good h =
     let f = committed (movers r) (plan_of r.found) in
     let t = (rebalance_lifted s (commit_step s.core r)).state in
     let same = same_mapped s.core t.core f refl refl (commits_alike (movers r) r) in
     let ks = startable s.core.nodes r.agreed in
-    let now = due_restart s.tasks s.core 0 r.agreed h.tree.root h.tree.rooted h.tree.idle (all_calm r.agreed s.core.nodes keeps.each) (not_root s s.next_serial _ good) order due in
-    sound_same s t (Label.Commit (length (movers r))) tt same refl h.up (order_restart_from r ks t.core (rising_startable 0 s.core.nodes r.agreed order))
+    let now = due_restart s.tasks s.core 0 r.agreed h.tree.root h.tree.rooted h.tree.idle (all_calm r.agreed s.core.nodes keeps.each) (not_root s s.next_serial _ good) order.0 due in
+    sound_same s t (Label.Commit (length (movers r))) tt same refl h.up (order_restart_from r ks t.core.nodes (rising_startable 0 s.core.nodes r.agreed order.0) (same_there ks s.core t.core same (startable_there s.core.nodes r.agreed s.core.nodes order.1)))
     (subst (λ (x : List ℕ). DueBut x s.tasks t.core.nodes) (sym (waits_restart_from r ks))
     (due_same ks ks s.tasks s.tasks s.core.nodes t.core.nodes (nodes_same s.core t.core same) (leads_same s.tasks)
     (λ k n m was there stopped.
@@ -183,14 +194,14 @@ rest_calm todo nodes each j f node keeps at calm k m there =
       | inr (d, q) ↦ all_calm todo nodes each k m q
     ]
 
-sound_end_restart : (s : State) (r : Rebalance) (node : Node) (w : Walk) (bad : Bool) → RebalanceKeeps r (Restarting w) s.core.nodes → OrderKept r (Restarting w) → Work s node r.todo → DueBut r.todo s.tasks s.core.nodes → Good s.next_serial s.core.nodes [] (Some (Operation.Rebalancing r)) → Stands s →
+sound_end_restart : (s : State) (r : Rebalance) (node : Node) (w : Walk) (bad : Bool) → RebalanceKeeps r (Restarting w) s.core.nodes → OrderKept r (Restarting w) × RebalanceThere r (Restarting w) s.core.nodes → Work s node r.todo → DueBut r.todo s.tasks s.core.nodes → Good s.next_serial s.core.nodes [] (Some (Operation.Rebalancing r)) → Stands s →
     Sound s (rebalance_lifted s (end_restart s.core r node bad))
 sound_end_restart s r node w true keeps order work due good h =
     let here = head_has node.serial r.todo work.head in
     let state = head_stopped r.todo node.serial node.state here (keeps.each node.serial node work.at) in
     let t = (rebalance_lifted s (end_restart s.core r node true)).state in
     let same = same_state s t node r.todo node.state work refl refl (λ q. q) in
-    sound_walk s t node Minor.Start true node.state refl same refl work.at (λ q. let z = state in cc) (subst (λ (x : DevState). Row x Minor.Start true x) (sym state) restart_bad) h.up order
+    sound_walk s t node Minor.Start true node.state refl same refl work.at (λ q. let z = state in cc) (subst (λ (x : DevState). Row x Minor.Start true x) (sym state) restart_bad) h.up (order.0, same_goes r.todo s.core t.core same order.1)
     (due_changed r.todo r.todo s.tasks s.tasks s.core.nodes t.core.nodes node.serial (with_state node.state) node refl (λ x. refl) work.at (nodes_same s.core t.core same) (leads_same s.tasks) (λ q. inl q) (λ k q. inl q) due) h
 sound_end_restart s r node w false keeps order work due good h =
     let here = head_has node.serial r.todo work.head in
@@ -207,12 +218,12 @@ sound_end_restart s r node w false keeps order work due good h =
       | inl (q, (y, z, u)) ↦ absurd (let v = ap (λ (x : Node). x.state) u in cc)
       | inr (d, q) ↦ not_root s s.next_serial _ good k n q e
     ] in
-    let now = due_restart s.tasks t.core 0 ks tree.root tree.rooted tree.idle (rest_calm r.todo s.core.nodes keeps.each node.serial (with_state Started) node (λ x. refl) work.at refl) up (rising_rest 0 r.todo order) left in
+    let now = due_restart s.tasks t.core 0 ks tree.root tree.rooted tree.idle (rest_calm r.todo s.core.nodes keeps.each node.serial (with_state Started) node (λ x. refl) work.at refl) up (rising_rest 0 r.todo order.0) left in
     sound_walk s t node Minor.Start false Started refl same refl work.at (λ q. cc) (subst (λ (x : DevState). Row x Minor.Start false Started) (sym state) restart) h.up
-    (order_restart_from r (startable t.core.nodes ks) t.core (rising_startable 0 t.core.nodes ks (rising_rest 0 r.todo order)))
+    (order_restart_from r (startable t.core.nodes ks) t.core.nodes (rising_startable 0 t.core.nodes ks (rising_rest 0 r.todo order.0)) (startable_there t.core.nodes ks t.core.nodes (same_there ks s.core t.core same (rest_there r.todo s.core.nodes order.1.there))))
     (subst (λ (x : List ℕ). DueBut x s.tasks t.core.nodes) (sym (waits_restart_from r (startable t.core.nodes ks))) now) h
 
-sound_restart : (s : State) (r : Rebalance) (node : Node) (w : Walk) (ends : Bool) → RebalanceKeeps r (Restarting w) s.core.nodes → OrderKept r (Restarting w) → Work s node r.todo → DueBut r.todo s.tasks s.core.nodes → Good s.next_serial s.core.nodes [] (Some (Operation.Rebalancing r)) → Stands s →
+sound_restart : (s : State) (r : Rebalance) (node : Node) (w : Walk) (ends : Bool) → RebalanceKeeps r (Restarting w) s.core.nodes → OrderKept r (Restarting w) × RebalanceThere r (Restarting w) s.core.nodes → Work s node r.todo → DueBut r.todo s.tasks s.core.nodes → Good s.next_serial s.core.nodes [] (Some (Operation.Rebalancing r)) → Stands s →
     Sound s (rebalance_lifted s (restart_step s.core r node w ends))
 sound_restart s r node w true keeps order work due good h = sound_end_restart s r node w (is_bad w) keeps order work due good h
 sound_restart s r node w false keeps order work due good h = op_still s _ _ r.todo tt refl refl refl refl (λ same. order) refl due h
@@ -224,7 +235,7 @@ first_leads k tasks = grind (arith, nat_tests)
 own_due : (tasks : List Task) (nodes : List Node) (k : ℕ) → has (leads tasks) k ≡ true → is_due tasks nodes k ≡ true
 own_due tasks nodes k h = grind (arith, nat_tests)
 
-sound_failed : (s : State) (r : Rebalance) (node : Node) → RebalanceKeeps r Failed s.core.nodes → OrderKept r Failed → Work s node r.todo → DueBut r.todo s.tasks s.core.nodes → Good s.next_serial s.core.nodes [] (Some (Operation.Rebalancing r)) → Stands s → Sound s (rebalance_lifted s (failed s.core r node))
+sound_failed : (s : State) (r : Rebalance) (node : Node) → RebalanceKeeps r Failed s.core.nodes → OrderKept r Failed × RebalanceThere r Failed s.core.nodes → Work s node r.todo → DueBut r.todo s.tasks s.core.nodes → Good s.next_serial s.core.nodes [] (Some (Operation.Rebalancing r)) → Stands s → Sound s (rebalance_lifted s (failed s.core r node))
 sound_failed s r node keeps order work due good h =
     let t = (rebalance_lifted s (failed s.core r node)).state in
     let f = with_problem (Some Problem.FailedStart) in
@@ -240,9 +251,9 @@ sound_failed s r node keeps order work due good h =
         | inr d ↦ inr (rest_has node.serial k r.todo work.head d ∙ q)
       ]
     ] in
-    let now = due_restart t.tasks s.core 0 ks h.tree.root h.tree.rooted h.tree.idle (all_calm r.todo s.core.nodes keeps.each) (not_root s s.next_serial _ good) (rising_rest 0 r.todo order) left in
+    let now = due_restart t.tasks s.core 0 ks h.tree.root h.tree.rooted h.tree.idle (all_calm r.todo s.core.nodes keeps.each) (not_root s s.next_serial _ good) (rising_rest 0 r.todo order.0) left in
     let todo = startable s.core.nodes ks in
-    sound_same s t (Label.Trouble node.path Problem.FailedStart) tt same refl (work.up, h.up) (order_restart_from r todo t.core (rising_startable 0 s.core.nodes ks (rising_rest 0 r.todo order)))
+    sound_same s t (Label.Trouble node.path Problem.FailedStart) tt same refl (work.up, h.up) (order_restart_from r todo t.core.nodes (rising_startable 0 s.core.nodes ks (rising_rest 0 r.todo order.0)) (same_there todo s.core t.core same (startable_there s.core.nodes ks s.core.nodes (rest_there r.todo s.core.nodes order.1.there))))
     (subst (λ (x : List ℕ). DueBut x t.tasks t.core.nodes) (sym (waits_restart_from r todo))
     (due_changed todo todo t.tasks t.tasks s.core.nodes t.core.nodes node.serial f node refl (λ x. refl) work.at (nodes_same s.core t.core same) (leads_same t.tasks) (λ q. inl q) (λ k q. inl q) now)) h
 
@@ -262,7 +273,7 @@ work_on s node r stage next p first keeps good =
     let h = head_found s.core.nodes r.todo node first in
     record { head = h.0; at = h.1; up = rootless_head node.serial r.todo h.0 keeps.rootless; order = good.serials; stacks = good.stacks }
 
-pub sound_rebalance : (s : State) (r : Rebalance) (stage : RebalanceStage) (o : Option Node) → first_node s.core.nodes r.todo ≡ o → RebalanceKeeps r stage s.core.nodes → OrderKept r stage → DueBut (rebalance_waiting r stage) s.tasks s.core.nodes →
+pub sound_rebalance : (s : State) (r : Rebalance) (stage : RebalanceStage) (o : Option Node) → first_node s.core.nodes r.todo ≡ o → RebalanceKeeps r stage s.core.nodes → OrderKept r stage × RebalanceThere r stage s.core.nodes → DueBut (rebalance_waiting r stage) s.tasks s.core.nodes →
     Good s.next_serial s.core.nodes [] (Some (Operation.Rebalancing r)) → Stands s → SoundNext s (option_map (doing_map (rebalance_lifted s)) (rebalance_step s.core r stage o))
 sound_rebalance s r Searching o first keeps order due good h = λ found. sound_searched s r found order due h
 sound_rebalance s r Stuck o first keeps order due good h = sound_stuck s r keeps due h
@@ -270,7 +281,7 @@ sound_rebalance s r Committing o first keeps order due good h = sound_commit s r
 sound_rebalance s r Ending o first keeps order due good h = sound_over s r r.found _ tt due h
 sound_rebalance s r (Asking w) (Some node) first keeps order due good h = sound_ask s r node w _ keeps order (work_on s node r (Asking w) s.next_serial _ first keeps good) due h
 sound_rebalance s r (TakingBack w) (Some node) first keeps order due good h = sound_take_back s r node w _ keeps order (work_on s node r (TakingBack w) s.next_serial _ first keeps good) due h
-sound_rebalance s r (Cancelling w) (Some node) first keeps order due good h = sound_cancel s r node w _ keeps (work_on s node r (Cancelling w) s.next_serial _ first keeps good) due h
+sound_rebalance s r (Cancelling w) (Some node) first keeps order due good h = sound_cancel s r node w _ keeps order.1 (work_on s node r (Cancelling w) s.next_serial _ first keeps good) due h
 sound_rebalance s r (Stopping w) (Some node) first keeps order due good h = sound_stop s r node w _ keeps order (work_on s node r (Stopping w) s.next_serial _ first keeps good) due h
 sound_rebalance s r (Restarting w) (Some node) first keeps order due good h = sound_restart s r node w _ keeps order (work_on s node r (Restarting w) s.next_serial _ first keeps good) due good h
 sound_rebalance s r Failed (Some node) first keeps order due good h = sound_failed s r node keeps order (work_on s node r Failed s.next_serial _ first keeps good) due good h

@@ -1,5 +1,5 @@
 -- Each step of an activity keeps the tree and what is due, and dependents go first.
-use Rattle.std.proofs.Common.{ℕ, ◌≡◌, ◌≢◌, ◌==◌, ◌⊎◌, inl, inr, Bool, true, false, not, ◌&&◌, List, [], ◌∷◌, ◌++◌, Option, Some, None, refl, sym, ap, ◌∙◌, subst, arith}
+use Rattle.std.proofs.Common.{ℕ, ◌≡◌, ◌≢◌, ◌==◌, inl, Bool, true, false, not, ◌&&◌, List, [], ◌∷◌, ◌++◌, Option, Some, None, refl, sym, ap, ◌∙◌, subst, arith}
 use Rattle.std.specs.List.{list_any}
 use Rattle.std.proofs.lemmas.Bool.Decides.{nat_tests}
 use Rattle.resource_reqs.specs.Spelling.Answer.{assignment, no_fit, spent}
@@ -8,7 +8,7 @@ use Rattle.pnp_model.specs.Tests.{has}
 use Rattle.pnp_model.specs.Records.{Node, Core, Phase, State, Step, Found, Walk, Operation, Doing, Duty, doing_map}
 use Rattle.pnp_model.specs.Records.Doing.{Does, Searches}
 use Rattle.pnp_model.specs.Records.Phase.{Adding, Searching, Starting, Removing, Due}
-use Rattle.pnp_model.specs.Cores.{is_node, node_at, with_state, with_problem, with_stack, with_holds, stacked, strip}
+use Rattle.pnp_model.specs.Cores.{is_node, node_at, with_state, with_problem, with_stack, with_holds, stacked}
 use Rattle.pnp_model.specs.Trees.{dependents, direct, hangs_on}
 use Rattle.pnp_model.specs.Walks.{is_bad}
 use Rattle.pnp_model.specs.Starts.{searched, own_part, add_driver, end_start, start_on, remove_on, undo, act}
@@ -21,17 +21,16 @@ use Rattle.pnp_labels.specs.declared.words.Answer.{Answer}
 use Rattle.pnp_labels.specs.declared.label.Label.{Label}
 use Rattle.pnp_labels.specs.declared.label.OpKind.{OpKind}
 use Rattle.pnp_labels.specs.declared.states.Problem.{Problem}
-use Rattle.pnp_labels.specs.declared.states.DevState.TheVariants.{NoStack, NotStarted, Started, StopPending, Stopped, RemovePending, SurpriseRemoved}
+use Rattle.pnp_labels.specs.declared.states.DevState.TheVariants.{NoStack, NotStarted, Started, Stopped}
 use Rattle.pnp_labels.specs.declared.words.Answer.TheVariants.{Ok, Fail, Pend}
-use Rattle.pnp_laws.specs.Kept.{Ascending, Good, Fits, is_idle}
+use Rattle.pnp_laws.specs.Kept.{Ascending, Fits, is_idle}
 use Rattle.pnp_laws.proofs.Lists.{those_found}
 use Rattle.pnp_laws.proofs.Lookups.{own_serial}
 use Rattle.pnp_laws.proofs.StartSteps.{stacked_idle}
-use Rattle.pnp_laws.proofs.Closures.{closed_within, hangs_some, those_serial, closed_keeps}
+use Rattle.pnp_laws.proofs.Closures.{closed_within, hangs_some}
 use Rattle.pnp_laws.proofs.Ranks.{or_left}
-use Rattle.pnp_laws.proofs.Standing.{Tree, TasksUp, DueBut, waiting, StageKept, Stands, Sound}
-use Rattle.pnp_laws.proofs.TreeChanges.{Alike, SameTree, same_still, same_changed, nodes_same}
-use Rattle.pnp_laws.proofs.TreeMoves.{Childless}
+use Rattle.pnp_laws.proofs.Standing.{TasksUp, waiting, StageKept, Stands, Sound}
+use Rattle.pnp_laws.proofs.TreeChanges.{Alike, same_changed, nodes_same}
 use Rattle.pnp_laws.proofs.Sounds.{IsPlain, LeadsMore, leads_same, leads_pushed, up_append, due_still, due_changed, due_stripped, sound_still, sound_same, sound_walk, sound_strip}
 
 -- no operation runs

@@ -1,34 +1,35 @@
 -- Each task keeps the tree and what is due; where an operation begins, what it needs of the tree is there.
-use Rattle.std.proofs.Common.{ℕ, drop, ◌+◌, ◌<◌, ◌≡◌, ◌≢◌, ◌==◌, ◌⊎◌, inl, inr, Bool, true, false, not, ◌&&◌, cond, List, [], ◌∷◌, ◌++◌, Option, Some, None, refl, sym, ap, ◌∙◌, subst, arith, reverse}
+use Rattle.std.proofs.Common.{ℕ, drop, ◌≡◌, ◌≢◌, ◌==◌, inl, inr, Bool, true, false, not, ◌&&◌, cond, List, [], ◌∷◌, Option, Some, None, refl, sym, ap, ◌∙◌, subst, arith, reverse}
 use Rattle.std.specs.List.{find, slice_get}
 use Rattle.std.proofs.lemmas.Bool.Decides.{nat_tests}
-use Rattle.pnp_model.specs.Keyed.{changed_first, those}
+use Rattle.pnp_model.specs.Keyed.{those}
 use Rattle.pnp_model.specs.Tests.{has, has_same, is_surprise_task}
-use Rattle.pnp_model.specs.Records.{Node, Core, Device, Task, Activity, State, Step, Settings, Choice, Operation, Duty, Rebalance, RebalanceStage, Removal, RemovalStage, Surprise, SurpriseStage}
-use Rattle.pnp_model.specs.Cores.{is_node, node_at, with_problem, new_node, add_node, serials_of}
+use Rattle.pnp_model.specs.Records.{Node, Core, Device, Task, Activity, State, Settings, Choice, Operation, Duty, Rebalance, RebalanceStage, Removal, RemovalStage, Surprise, SurpriseStage}
+use Rattle.pnp_model.specs.Cores.{node_at, with_problem, new_node, add_node, serials_of}
 use Rattle.pnp_model.specs.Books.{driver_named}
 use Rattle.pnp_model.specs.States.{drop_task, activity_at}
 use Rattle.pnp_model.specs.Trees.{above, is_child, leaving, is_up, set_of}
-use Rattle.pnp_model.specs.Tasks.{skip, has_born, has_path, joins, joining, is_gone, gone_child, join_step, gone_or_listed, join_or_on, list_up, list_step, begin_trouble, install, numbered, install_named, install_few, install_service, install_best, start_enabled, start_idle, start_bare, start_step, begin, rebalance_idle, rebalance_task, disable_task, begin_step}
+use Rattle.pnp_model.specs.Tasks.{has_born, has_path, joins, joining, is_gone, gone_child, join_step, gone_or_listed, join_or_on, list_up, list_step, begin_trouble, numbered, install_named, install_few, install_service, install_best, start_enabled, start_idle, start_bare, start_step, begin, rebalance_idle, rebalance_task, disable_task, begin_step}
 use Rattle.pnp_labels.specs.declared.states.DevState.{DevState}
 use Rattle.pnp_labels.specs.declared.states.Problem.{Problem}
 use Rattle.pnp_labels.specs.declared.label.OpKind.{OpKind}
 use Rattle.pnp_labels.specs.declared.label.Label.{Label}
 use Rattle.pnp_labels.specs.declared.states.DevState.TheVariants.{NoStack, NotStarted, Started, StopPending, Stopped, RemovePending, SurpriseRemoved}
 use Rattle.resource_reqs.specs.Spelling.Answer.{no_fit}
-use Rattle.pnp_laws.specs.Kept.{Ascending, Good, AllBelow, is_idle}
-use Rattle.pnp_laws.specs.Due.{leads, is_due}
-use Rattle.pnp_laws.proofs.Lookups.{own_serial, some_same, found_self, joined_from, joined_keeps}
+use Rattle.pnp_laws.specs.Kept.{Good, is_idle}
+use Rattle.pnp_laws.specs.Due.{leads}
+use Rattle.pnp_laws.proofs.Lookups.{own_serial, found_self, joined_from, joined_keeps}
 use Rattle.pnp_laws.proofs.Lists.{those_found}
 use Rattle.pnp_laws.proofs.Closures.{closed_keeps}
 use Rattle.pnp_laws.proofs.Orders.{any_some}
 use Rattle.pnp_laws.proofs.Ranks.{and_both}
-use Rattle.pnp_laws.proofs.Due.{RootIsOwn, below_in_set}
+use Rattle.pnp_laws.proofs.Due.{below_in_set}
 use Rattle.pnp_laws.proofs.Aboves.{is_above_in, has_cases, any_from, due_more}
-use Rattle.pnp_laws.proofs.Standing.{Tree, TasksUp, DutyUp, DueBut, waiting, StageKept, Stands, Sound}
+use Rattle.pnp_laws.proofs.Standing.{Tree, DueBut, waiting, StageKept, Stands, Sound}
 use Rattle.pnp_laws.proofs.TreeMoves.{tree_joined, above_joined}
-use Rattle.pnp_laws.proofs.Sounds.{IsPlain, LeadsMore, leads_same, leads_none, leads_pushed, up_append, up_drop, up_first, due_still, sound_still, walked_plain, first_stays}
-use Rattle.pnp_laws.proofs.SoundStarts.{SoundNext, stage_none, calm_still, calm_changed, plain_alike}
+use Rattle.pnp_laws.proofs.Sounds.{IsPlain, LeadsMore, leads_none, leads_pushed, up_append, up_drop, due_still, sound_still, first_stays}
+use Rattle.pnp_laws.proofs.SoundStarts.{stage_none, calm_still, calm_changed, plain_alike}
+use Rattle.pnp_laws.proofs.Theres.{none_there, those_there, reverse_there, leaving_there}
 use Rattle.pnp_laws.proofs.Finishes.{set_is_closed, leaving_all, finishes_begun}
 use Rattle.pnp_laws.proofs.Restarts.{ordered_begun}
 use Rattle.pnp_model.specs.Rebalances as re
@@ -62,10 +63,10 @@ find_among p q (y ∷ ys) x h =
     let by_test : (b : Bool) → q y ≡ b → find p (cond b (y ∷ those q ys) (those q ys)) ≡ Some x → q x ≡ true =
     λ b. elim b as (λ b. q y ≡ b → find p (cond b (y ∷ those q ys) (those q ys)) ≡ Some x → q x ≡ true) [
       | true ↦ λ e. (let two : (b : Bool) → cond b (Some y) (find p (those q ys)) ≡ Some x → q x ≡ true =
-        λ b. elim b as (λ b. cond b (Some y) (find p (those q ys)) ≡ Some x → q x ≡ true) [
-          | true ↦ λ g. let same : y ≡ x = cc in subst (λ z. q z ≡ true) same e
-          | false ↦ λ g. more g
-        ] in two (p y))
+          λ b. elim b as (λ b. cond b (Some y) (find p (those q ys)) ≡ Some x → q x ≡ true) [
+            | true ↦ λ g. let same : y ≡ x = cc in subst (λ z. q z ≡ true) same e
+            | false ↦ λ g. more g
+          ] in two (p y))
       | false ↦ λ e. more
     ] in
     by_test (q y) refl h
@@ -247,7 +248,9 @@ sound_rebalance_idle s node k None first none good h =
     let r : Rebalance = record { target = node.serial; path = node.path; todo = []; agreed = []; refused = []; found = no_fit; stage = RebalanceStage.Searching } in
     let ks = reverse (serials_of (those re.is_asked s.core.nodes)) in
     sound_begin s OpKind.Rebalance node _ _ first refl none
-    (sre.order_ask_on r ks s.core (ordered_begun s.next_serial re.is_asked s.core.nodes good.serials (λ i q. let f = those_found 0 re.is_asked s.core.nodes i good.serials q in good.below i f.0 f.1)))
+    (sre.order_ask_on r ks s.core.nodes (ordered_begun s.next_serial re.is_asked s.core.nodes good.serials (λ i q. let f = those_found 0 re.is_asked s.core.nodes i good.serials q in good.below i f.0 f.1))
+    (reverse_there (serials_of (those re.is_asked s.core.nodes)) s.core.nodes (λ i q. let f = those_found 0 re.is_asked s.core.nodes i good.serials q in (f.0, f.1)))
+    (none_there s.core.nodes))
     (sre.waits_ask_on r ks) h
 
 sound_rebalance_task : (s : State) (node : Node) (k : ℕ) (x : DevState) → slice_get s.tasks 0 ≡ Some (record { kind = Duty.Begins OpKind.Rebalance; serial = k }) → s.operation ≡ None → Good s.next_serial s.core.nodes s.activities None → Stands s → Sound s (rebalance_task s node x)
@@ -265,7 +268,9 @@ sound_removal s kind node task first surprise at none good h =
     let set = leaving s.core node.serial in
     let o : Removal = record { kind = kind; target = node.serial; path = node.path; set = set; ejecting = rm.ejecting s.core set; todo = []; agreed = []; refuser = None; stage = RemovalStage.Ending } in
     sound_begin s kind node _ task first surprise none
-    (srm.order_ask_on s.core.nodes o (those (λ k. is_up (node_at k s.core.nodes)) set) s.core (finishes_begun s.next_serial s.core node.serial node good.serials h.tree at)) refl h
+    (srm.order_ask_on s.core.nodes o (those (λ k. is_up (node_at k s.core.nodes)) set) s.core (finishes_begun s.next_serial s.core node.serial node good.serials h.tree at)
+    (those_there (λ k. is_up (node_at k s.core.nodes)) set s.core.nodes (leaving_there s.next_serial s.core node.serial node good.serials h.tree at))
+    (leaving_there s.next_serial s.core node.serial node good.serials h.tree at)) refl h
 
 sound_disable : (s : State) (node : Node) (k : ℕ) (b : Bool) → slice_get s.tasks 0 ≡ Some (record { kind = Duty.Begins OpKind.Disable; serial = k }) → node_at node.serial s.core.nodes ≡ Some node → s.operation ≡ None → Good s.next_serial s.core.nodes s.activities None → Stands s → Sound s (disable_task s node b)
 sound_disable s node k true first at none good h = sound_drop s _ _ tt first refl none h
@@ -290,7 +295,9 @@ sound_surprise s node k first at none good h =
     let o : Surprise = record { target = node.serial; path = node.path; set = set; todo = []; stage = SurpriseStage.Ending } in
     let told = those (λ k. su.is_told_node (node_at k s.core.nodes)) set in
     sound_still s _ (Label.Begin OpKind.Surprise node.path) tt refl refl refl (up_drop s.tasks h.up)
-    (srm.order_tell_on s.core.nodes o told s.core (finishes_begun s.next_serial s.core node.serial node good.serials h.tree (found_self k s.core.nodes node at)))
+    (srm.order_tell_on s.core.nodes o told s.core (finishes_begun s.next_serial s.core node.serial node good.serials h.tree (found_self k s.core.nodes node at))
+    (those_there (λ k. su.is_told_node (node_at k s.core.nodes)) set s.core.nodes (leaving_there s.next_serial s.core node.serial node good.serials h.tree (found_self k s.core.nodes node at)))
+    (leaving_there s.next_serial s.core node.serial node good.serials h.tree (found_self k s.core.nodes node at)))
     (subst (λ (ks : List ℕ). DueBut ks (drop 1 s.tasks) s.core.nodes) (sym (srm.waits_tell_on s.core.nodes o told))
     (due_dropped s.tasks k set s.core.nodes first
     (λ i n there stopped below. subst (λ (x : ℕ). has (leaving s.core x) i ≡ true) (sym own) (below_it s k node at good h i n there stopped below)) (calm_none s none h))) h

@@ -1,12 +1,11 @@
 -- A step is sound: by what it changes.
-use Rattle.std.proofs.Common.{ℕ, suc, drop, ◌<◌, ◌≡◌, ◌≢◌, ◌==◌, ◌⊎◌, inl, inr, Bool, true, false, not, ◌&&◌, cond, List, [], ◌∷◌, ◌++◌, Option, Some, None, refl, sym, ap, ◌∙◌, subst, arith}
+use Rattle.std.proofs.Common.{ℕ, suc, drop, ◌≡◌, ◌≢◌, ◌==◌, ◌⊎◌, inl, inr, Bool, true, false, not, cond, List, [], ◌∷◌, ◌++◌, Some, None, refl, sym, ap, ◌∙◌, subst, arith}
 use Rattle.std.specs.List.{slice_get}
 use Rattle.std.specs.Option.{option_map}
-use Rattle.std.proofs.lemmas.Bool.{cases_eq}
 use Rattle.std.proofs.lemmas.Bool.Decides.{nat_tests}
-use Rattle.pnp_model.specs.Keyed.{changed_first, without_first, those}
+use Rattle.pnp_model.specs.Keyed.{changed_first}
 use Rattle.pnp_model.specs.Tests.{has, is_surprise_task}
-use Rattle.pnp_model.specs.Records.{Node, Core, Task, State, Step, Duty, Operation}
+use Rattle.pnp_model.specs.Records.{Node, Core, Task, State}
 use Rattle.pnp_model.specs.Cores.{is_node, node_at, with_state, strip, bare, drop_node}
 use Rattle.pnp_model.specs.Trees.{children, is_child, above, dependents}
 use Rattle.pnp_model.specs.Diagram.{Walked, Row}
@@ -16,13 +15,13 @@ use Rattle.pnp_labels.specs.declared.states.DevState.{DevState}
 use Rattle.pnp_labels.specs.declared.words.Minor.{Minor}
 use Rattle.pnp_labels.specs.declared.label.Label.{Label}
 use Rattle.pnp_labels.specs.declared.states.DevState.TheVariants.{NoStack, Stopped}
-use Rattle.pnp_laws.specs.Kept.{Ascending, is_idle}
+use Rattle.pnp_laws.specs.Kept.{Ascending}
 use Rattle.pnp_laws.specs.Due.{leads, is_due}
-use Rattle.pnp_laws.proofs.Lookups.{own_serial, some_same, node_from, node_missing, node_changed_same, left_missing, left_from}
+use Rattle.pnp_laws.proofs.Lookups.{some_same, node_from, node_changed_same, left_missing, left_from}
 use Rattle.pnp_laws.proofs.Due.{leads_append, none_leads, RootIsOwn}
-use Rattle.pnp_laws.proofs.Aboves.{due_more, has_cases}
+use Rattle.pnp_laws.proofs.Aboves.{due_more}
 use Rattle.pnp_laws.proofs.Standing.{Tree, TasksUp, DutyUp, DueBut, waiting, StageKept, Stands, Sound}
-use Rattle.pnp_laws.proofs.TreeChanges.{Alike, SameTree, SameNodes, same_still, same_changed, tree_same, nodes_same, above_same}
+use Rattle.pnp_laws.proofs.TreeChanges.{SameTree, SameNodes, same_still, tree_same, above_same}
 use Rattle.pnp_laws.proofs.TreeMoves.{Childless, was_stripped, now_stripped, tree_stripped, tree_left, above_left}
 use Rattle.pnp_laws.proofs.Closures.{tail_at}
 use Rattle.pnp_laws.proofs.Ranks.{and_both}

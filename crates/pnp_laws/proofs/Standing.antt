@@ -114,11 +114,46 @@ SurpriseOrder c o (SurpriseStage.Removing w) = Finishes c o.set o.todo
 SurpriseOrder c o SurpriseStage.Settling = Finishes c o.set o.todo
 SurpriseOrder c o SurpriseStage.Ending = Finishes c o.set []
 
+-- each of these is there
+abbrev pub AllThere : List ℕ → List Node → Type 0
+AllThere ks nodes = (k : ℕ) → has ks k ≡ true → (n : Node) × (node_at k nodes ≡ Some n)
+
+-- the device that is next is there, and so are those that follow
+pub record Goes (todo : List ℕ) (nodes : List Node) : Type 0 where
+  pub some : todo ≢ []
+  pub there : AllThere todo nodes
+
+abbrev pub RebalanceThere : Rebalance → RebalanceStage → List Node → Type 0
+RebalanceThere r (RebalanceStage.Asking w) nodes = Goes r.todo nodes × AllThere r.agreed nodes
+RebalanceThere r (RebalanceStage.TakingBack w) nodes = Goes r.todo nodes × AllThere r.agreed nodes
+RebalanceThere r RebalanceStage.Searching nodes = AllThere r.agreed nodes
+RebalanceThere r (RebalanceStage.Cancelling w) nodes = Goes r.todo nodes
+RebalanceThere r RebalanceStage.Stuck nodes = Unit {0}
+RebalanceThere r (RebalanceStage.Stopping w) nodes = Goes r.todo nodes × AllThere r.agreed nodes
+RebalanceThere r RebalanceStage.Committing nodes = AllThere r.agreed nodes
+RebalanceThere r (RebalanceStage.Restarting w) nodes = Goes r.todo nodes
+RebalanceThere r RebalanceStage.Failed nodes = Goes r.todo nodes
+RebalanceThere r RebalanceStage.Ending nodes = Unit {0}
+
+abbrev pub RemovalThere : Removal → RemovalStage → List Node → Type 0
+RemovalThere o (RemovalStage.Asking w) nodes = Goes o.todo nodes × AllThere o.set nodes
+RemovalThere o (RemovalStage.TakingBack w) nodes = Goes o.todo nodes × AllThere o.set nodes
+RemovalThere o (RemovalStage.Cancelling w) nodes = Goes o.todo nodes
+RemovalThere o (RemovalStage.Removing w) nodes = Goes o.todo nodes
+RemovalThere o RemovalStage.Settling nodes = Goes o.todo nodes
+RemovalThere o RemovalStage.Ending nodes = Unit {0}
+
+abbrev pub SurpriseThere : Surprise → SurpriseStage → List Node → Type 0
+SurpriseThere o (SurpriseStage.Telling w) nodes = Goes o.todo nodes × AllThere o.set nodes
+SurpriseThere o (SurpriseStage.Removing w) nodes = Goes o.todo nodes
+SurpriseThere o SurpriseStage.Settling nodes = Goes o.todo nodes
+SurpriseThere o SurpriseStage.Ending nodes = Unit {0}
+
 abbrev pub StageKept : Option Operation → Core → Type 0
 StageKept None c = Unit {0}
-StageKept (Some (Operation.Rebalancing r)) c = OrderKept r r.stage
-StageKept (Some (Operation.Removing o)) c = RemovalOrder c o o.stage
-StageKept (Some (Operation.Surprising o)) c = SurpriseOrder c o o.stage
+StageKept (Some (Operation.Rebalancing r)) c = OrderKept r r.stage × RebalanceThere r r.stage c.nodes
+StageKept (Some (Operation.Removing o)) c = RemovalOrder c o o.stage × RemovalThere o o.stage c.nodes
+StageKept (Some (Operation.Surprising o)) c = SurpriseOrder c o o.stage × SurpriseThere o o.stage c.nodes
 
 pub record Stands (s : State) : Type 0 where
   pub tree : Tree s.next_serial s.core

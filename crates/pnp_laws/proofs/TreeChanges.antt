@@ -1,23 +1,17 @@
 -- What the changes of nodes and relations keep of the tree.
-use Rattle.std.proofs.Common.{ℕ, ◌+◌, ◌<◌, ◌≤◌, ◌≡◌, ◌≢◌, ◌==◌, ◌⊎◌, inl, inr, Bool, true, false, not, ◌&&◌, ◌||◌, cond, List, [], ◌∷◌, ◌++◌, map, zero, suc, Option, Some, None, refl, sym, ap, ◌∙◌, subst, arith}
+use Rattle.std.proofs.Common.{ℕ, ◌<◌, ◌≡◌, ◌==◌, inl, inr, true, not, ◌&&◌, ◌||◌, List, [], ◌∷◌, map, zero, suc, Option, Some, None, refl, sym, ap, ◌∙◌, subst}
 use Rattle.std.specs.List.{list_any}
 use Rattle.std.specs.Option.{option_map}
 use Rattle.std.proofs.lemmas.Bool.{cases_eq}
-use Rattle.std.proofs.lemmas.Bool.Decides.{nat_tests}
-use Rattle.pnp_model.specs.Keyed.{changed_first, without_first, those}
+use Rattle.pnp_model.specs.Keyed.{changed_first}
 use Rattle.pnp_model.specs.Tests.{has}
 use Rattle.pnp_model.specs.Records.{Node, Core, Relation}
-use Rattle.pnp_model.specs.Cores.{is_node, node_at, add_node, drop_node, strip, bare, forget, is_apart_from}
-use Rattle.pnp_model.specs.Trees.{hangs_on, above, above_in, dependents}
-use Rattle.pnp_model.specs.Events.{add_relation}
-use Rattle.pnp_labels.specs.declared.states.DevState.TheVariants.{NoStack}
-use Rattle.pnp_laws.specs.Kept.{Ascending, is_idle}
-use Rattle.pnp_laws.proofs.Lookups.{own_serial, some_same, node_from, node_changed_same, node_changed_other, joined_from, joined_keeps, left_from, left_other, map_from, node_at-map}
-use Rattle.pnp_laws.proofs.Closures.{hangs_some, hangs_more, Closed}
-use Rattle.pnp_laws.proofs.Orders.{Ranked, RootFree}
-use Rattle.pnp_laws.proofs.Ranks.{NoNewEdge, Ranked_less, RootFree_less, Rooted, RelationsBelow, edges_left, edges_stripped, raised, Ranked_joined, lifted, Ranked_related, member_not_root, same_edge, or_cases, or_left, and_both, one_has, related_below, new_edge}
-use Rattle.pnp_laws.proofs.Due.{RootIsOwn}
-use Rattle.pnp_laws.proofs.Standing.{IdleFree, PathsApart, Tree}
+use Rattle.pnp_model.specs.Cores.{is_node, node_at}
+use Rattle.pnp_model.specs.Trees.{hangs_on, above, above_in}
+use Rattle.pnp_laws.specs.Kept.{is_idle}
+use Rattle.pnp_laws.proofs.Lookups.{some_same, node_from, node_changed_same, node_changed_other, map_from, node_at-map}
+use Rattle.pnp_laws.proofs.Ranks.{NoNewEdge, Ranked_less, RootFree_less, RelationsBelow, same_edge}
+use Rattle.pnp_laws.proofs.Standing.{Tree}
 
 -- Nodes change, but neither parents nor paths, and nobody becomes idle -------------------------
 
@@ -60,8 +54,7 @@ same_changed c d j f node a b keeps at alike =
             | inl e ↦
                 let at_k = subst (λ (i : ℕ). node_at i c.nodes ≡ Some node) e at in
                 let same : node ≡ n = some_same (node_at k c.nodes) node n at_k h in
-                let there : node_at j (changed_first (is_node j) f c.nodes) ≡ Some (f node) = node_changed_same j f c.nodes keeps ∙ ap (option_map f) at in
-                (
+                let there : node_at j (changed_first (is_node j) f c.nodes) ≡ Some (f node) = node_changed_same j f c.nodes keeps ∙ ap (option_map f) at in (
                   f node,
                   subst (λ (x : List Node). node_at k x ≡ Some (f node)) (sym a) (subst (λ (i : ℕ). node_at i (changed_first (is_node j) f c.nodes) ≡ Some (f node)) e there),
                   subst (λ (z : Node). Alike z (f node)) same alike,

@@ -1,5 +1,5 @@
 -- What is kept of the tree where a device loses its drivers, joins or leaves, and where two are related.
-use Rattle.std.proofs.Common.{ℕ, zero, suc, ◌+◌, ◌<◌, ◌≤◌, ◌≡◌, ◌≢◌, ◌==◌, ◌⊎◌, inl, inr, Bool, true, false, not, ◌&&◌, ◌||◌, cond, List, [], ◌∷◌, ◌++◌, Option, Some, None, refl, sym, ap, ◌∙◌, subst, arith}
+use Rattle.std.proofs.Common.{ℕ, zero, suc, ◌+◌, ◌<◌, ◌≡◌, ◌≢◌, ◌==◌, ◌⊎◌, inl, inr, Bool, true, false, not, ◌&&◌, cond, List, [], ◌∷◌, ◌++◌, Option, Some, None, refl, sym, ap, ◌∙◌, subst, arith}
 use Rattle.std.specs.List.{list_any}
 use Rattle.std.specs.Option.{option_map}
 use Rattle.std.proofs.lemmas.Bool.{cases_eq}
@@ -10,16 +10,14 @@ use Rattle.pnp_model.specs.Keyed.{changed_first, without_first, those}
 use Rattle.pnp_model.specs.Tests.{has}
 use Rattle.pnp_model.specs.Records.{Node, Core, Relation}
 use Rattle.pnp_model.specs.Cores.{is_node, node_at, add_node, drop_node, strip, bare, forget, is_apart_from}
-use Rattle.pnp_model.specs.Trees.{hangs_on, above, above_in, dependents}
+use Rattle.pnp_model.specs.Trees.{hangs_on, above_in, dependents}
 use Rattle.pnp_model.specs.Events.{add_relation}
 use Rattle.pnp_model.specs.Tasks.{has_path}
-use Rattle.pnp_labels.specs.declared.states.DevState.TheVariants.{NoStack}
 use Rattle.pnp_laws.specs.Kept.{Ascending, is_idle, AllBelow}
 use Rattle.pnp_laws.proofs.Lookups.{own_serial, some_same, node_from, node_changed_same, node_changed_other, joined_from, joined_keeps, left_from, left_other}
-use Rattle.pnp_laws.proofs.Orders.{Ranked, RootFree}
-use Rattle.pnp_laws.proofs.Ranks.{NoNewEdge, Ranked_less, RootFree_less, Rooted, RelationsBelow, edges_left, edges_stripped, edge_below, raised, Ranked_joined, lifted, Ranked_related, member_not_root, or_cases, or_left, and_both, one_has, related_below, new_edge}
-use Rattle.pnp_laws.proofs.Due.{RootIsOwn, above_zero}
-use Rattle.pnp_laws.proofs.Standing.{IdleFree, PathsApart, Tree}
+use Rattle.pnp_laws.proofs.Ranks.{Ranked_less, RootFree_less, Rooted, RelationsBelow, edges_left, edges_stripped, edge_below, raised, Ranked_joined, lifted, Ranked_related, member_not_root, or_cases, and_both, one_has, related_below, new_edge}
+use Rattle.pnp_laws.proofs.Due.{RootIsOwn}
+use Rattle.pnp_laws.proofs.Standing.{Tree}
 
 -- no device has j as its parent
 abbrev pub Childless : ℕ → List Node → Type 0
@@ -196,8 +194,7 @@ tree_joined next c new p begun below e over up fresh tree =
           elim (joined_from j c.nodes new m at) [
             | inl q ↦ let parent = tree.rooted j m q d in (parent.0, (parent.1.0, joined_keeps m.parent c.nodes new parent.1.0 parent.1.1))
             | inr (q, r, u) ↦
-                let par : m.parent ≡ new.parent = ap (λ (z : Node). z.parent) r in
-                (
+                let par : m.parent ≡ new.parent = ap (λ (z : Node). z.parent) r in (
                   (let s : j ≡ next = sym u ∙ e in omega arith),
                   (p, subst (λ (i : ℕ). node_at i (c.nodes ++ new ∷ []) ≡ Some p) (sym par) (joined_keeps new.parent c.nodes new p over)),
                 )

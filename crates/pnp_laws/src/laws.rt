@@ -1,7 +1,7 @@
 //! What holds of every run of the device machine, for every rack of drivers and whatever happens.
 
 ghost use Rattle.pnp_laws.specs.Begun.{BegunLaw};
-ghost use Rattle.pnp_model.specs.Laws.{DiagramLaw, SharingLaw, WholeLaw, FutileLaw, DependentsLaw, ConflictLaw};
+ghost use Rattle.pnp_model.specs.Laws.{DiagramLaw, SharingLaw, WholeLaw, VetoLaw, FutileLaw, DependentsLaw, ConflictLaw};
 
 /// In each state of each run no two resources among all holdings and the reserved ranges clash: two clash where
 /// they are of one kind and have a number in common, unless both are shared.
@@ -22,6 +22,13 @@ pub fn follows_diagram()
 #[tactic(auto, using(crate::proofs::RunsStand::dependents_go_first))]
 pub fn dependents_first()
     ensures { DependentsLaw }
+{}
+
+/// Where an operation that began ends with a veto, all nodes with all their fields, the relations and the reserved
+/// ranges are as they were before it began, whatever happened in between.
+#[tactic(auto, using(crate::proofs::RunsStand::a_veto_restores))]
+pub fn veto_restores()
+    ensures { VetoLaw }
 {}
 
 /// In each state of each run a device that is up, or would be but for an operation that asked it to stop or to go,
