@@ -1,5 +1,5 @@
 -- Where a step prints the begin of an operation, that operation began.
-use Rattle.std.proofs.Common.{◌≡◌, inl, inr, List, Option, Some, None, refl, sym, ap, subst}
+use Rattle.std.proofs.Common.{◌≡◌, inl, inr, List, Some, None, ap, subst}
 use Rattle.pnp_model.specs.Records.{Node, Driver, State, Step, Settings}
 use Rattle.pnp_model.specs.Cores.{node_at}
 use Rattle.pnp_model.specs.Machine.{Steps}
@@ -10,7 +10,7 @@ use Rattle.pnp_labels.specs.Texts.{Text}
 use Rattle.pnp_labels.specs.declared.label.Label.{Label}
 use Rattle.pnp_labels.specs.declared.label.OpKind.{OpKind}
 use Rattle.pnp_laws.specs.Reached.{IsReached}
-use Rattle.pnp_laws.specs.Begun.{IsBeside, DuesFine}
+use Rattle.pnp_laws.specs.Begun.{DuesFine}
 use Rattle.pnp_laws.proofs.Reached.{kept}
 use Rattle.pnp_laws.proofs.Courses.{begun, Way, Course}
 use Rattle.pnp_laws.proofs.OperationCourses.{course_step, course_happens}

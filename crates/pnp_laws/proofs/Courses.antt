@@ -1,6 +1,5 @@
 -- What a step does to the operation and prints of it, beside operations: a task, or the start of a device.
-use Rattle.std.proofs.Common.{ℕ, ◌≡◌, ◌⊎◌, inl, inr, Bool, true, false, List, [], ◌∷◌, Option, Some, None, refl, sym, ap, ◌∙◌, subst}
-use Rattle.std.specs.Option.{option_map}
+use Rattle.std.proofs.Common.{ℕ, ◌≡◌, ◌⊎◌, Bool, true, false, List, [], ◌∷◌, Option, Some, None, refl, ◌∙◌}
 use Rattle.resource_reqs.specs.Spelling.Answer.{assignment, no_fit, spent}
 use Rattle.pnp_model.specs.Keyed.{changed_first, without_first}
 use Rattle.pnp_model.specs.Records.{Node, Core, Device, Activity, Phase, State, Step, Settings, Choice, Operation, Walk, Doing, Found, doing_map}
@@ -10,7 +9,7 @@ use Rattle.pnp_model.specs.Cores.{node_at}
 use Rattle.pnp_model.specs.Tests.{has_same}
 use Rattle.pnp_model.specs.Books.{driver_named}
 use Rattle.pnp_model.specs.Walks.{is_bad, walk_of}
-use Rattle.pnp_model.specs.States.{is_activity, activity_at, with_phase, entered}
+use Rattle.pnp_model.specs.States.{is_activity, activity_at, with_phase}
 use Rattle.pnp_model.specs.Starts.{adding, add_driver, searched, end_start, start_on, remove_on, undo, act}
 use Rattle.pnp_model.specs.Tasks.{joining, gone_child, gone_or_listed, join_or_on, list_up, list_step, begin_trouble, numbered, install, install_named, install_few, install_service, install_best, start_enabled, start_idle, start_bare, start_step, begin, rebalance_idle, rebalance_task, disable_task, begin_step}
 use Rattle.pnp_model.specs.Machine.{start_lifted}

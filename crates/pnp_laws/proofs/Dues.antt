@@ -2,7 +2,7 @@
 use Rattle.std.proofs.Common.{ℕ, ◌≡◌, Bool, true, false, cond, List, [], ◌∷◌, Some, refl, sym, subst, arith}
 use Rattle.std.specs.List.{find}
 use Rattle.pnp_model.specs.Keyed.{changed_first, without_first}
-use Rattle.pnp_model.specs.Records.{Activity, Phase, State}
+use Rattle.pnp_model.specs.Records.{Activity, Phase}
 use Rattle.pnp_model.specs.States.{is_activity, is_above, with_phase, entered}
 use Rattle.pnp_laws.specs.Begun.{DueFine, DuesFine}
 

@@ -7,7 +7,7 @@ use Rattle.pnp_model.specs.Keyed.{those}
 use Rattle.pnp_model.specs.Records.{Node, Core, Activity, Phase, Task, State, Step, Settings, Operation, Rebalance, RebalanceStage, Removal, RemovalStage, Surprise, SurpriseStage, Walk, Doing, Found, doing_map, Duty}
 use Rattle.pnp_model.specs.Records.Doing.{Does, Searches}
 use Rattle.pnp_model.specs.Cores.{node_at, serials_of, stack_of}
-use Rattle.pnp_model.specs.Tests.{has, is_eject}
+use Rattle.pnp_model.specs.Tests.{is_eject}
 use Rattle.pnp_model.specs.Trees.{stands_up, is_up, leaving}
 use Rattle.pnp_model.specs.Walks.{is_bad, walk_of}
 use Rattle.pnp_model.specs.Frames.{first_node, rest, ended}
@@ -19,12 +19,12 @@ use Rattle.pnp_labels.specs.declared.label.Label.{Label}
 use Rattle.pnp_labels.specs.declared.label.OpKind.{OpKind}
 use Rattle.pnp_labels.specs.declared.label.OpEnd.{OpEnd}
 use Rattle.pnp_labels.specs.declared.event.Event.{Event}
-use Rattle.pnp_laws.specs.Begun.{kind_of, path_of, SameWork, NotTwelve, IsBeside, DueFine, DuesFine}
+use Rattle.pnp_laws.specs.Begun.{kind_of, path_of, SameWork, IsBeside, DueFine, DuesFine}
 use Rattle.pnp_laws.proofs.Finishing.{relist_only}
 use Rattle.pnp_laws.proofs.Dues.{dues_entered, dues_as, dues_found}
-use Rattle.pnp_laws.proofs.EventChanges.{Outside, Answered, happens_outside}
+use Rattle.pnp_laws.proofs.EventChanges.{Answered, happens_outside}
 use Rattle.pnp_laws.proofs.RebalanceMoves.{same_ask_on, same_cancel_on, same_stop_on, same_restart, own_frame, SameFrame}
-use Rattle.pnp_laws.proofs.Courses.{begun, Way, Course, CourseDoing, CourseNext, course_act, course_list, course_start, course_begin_step}
+use Rattle.pnp_laws.proofs.Courses.{begun, Way, Course, CourseNext, course_act, course_list, course_start, course_begin_step}
 use Rattle.pnp_model.specs.Machine as ma
 use Rattle.pnp_model.specs.Events as ev
 use Rattle.pnp_model.specs.Rebalances as re

@@ -1,8 +1,6 @@
 -- In each run an operation that ends, or prints problem 12, began before and has not ended since.
-use Rattle.std.proofs.Common.{◌≡◌, ◌⊎◌, inl, inr, List, [], ◌∷◌, ◌++◌, Option, Some, None, refl, sym, ap, ◌∙◌, subst, append_assoc, append-nil}
-use Rattle.pnp_model.specs.Records.{Node, Core, Driver, State, Step, Settings, Operation, Removal}
-use Rattle.pnp_model.specs.Tasks.{begin}
-use Rattle.pnp_model.specs.Keyed.{those}
+use Rattle.std.proofs.Common.{◌≡◌, inl, inr, List, [], ◌∷◌, ◌++◌, Some, refl, sym, ap, ◌∙◌, subst, append_assoc, append-nil}
+use Rattle.pnp_model.specs.Records.{Driver, State, Step, Settings, Operation}
 use Rattle.pnp_model.specs.Runs.{Entry, Goes, Run, printed, opening}
 use Rattle.pnp_model.specs.Runs.Entry.{Happens, Did}
 use Rattle.pnp_model.specs.Laws.{Reaches, IsWithin, AllWithin}
@@ -10,8 +8,7 @@ use Rattle.pnp_labels.specs.Texts.{Text}
 use Rattle.pnp_labels.specs.declared.states.Problem.{Problem}
 use Rattle.pnp_labels.specs.declared.label.Label.{Label}
 use Rattle.pnp_labels.specs.declared.label.OpKind.{OpKind}
-use Rattle.pnp_labels.specs.declared.label.OpEnd.{OpEnd}
-use Rattle.pnp_laws.specs.Begun.{HasBegun, Belongs, BegunLaw, kind_of, path_of, SameWork, NotTwelve, IsBeside, DuesFine}
+use Rattle.pnp_laws.specs.Begun.{HasBegun, Belongs, BegunLaw, kind_of, path_of, SameWork, NotTwelve, IsBeside}
 use Rattle.pnp_laws.proofs.Reached.{run_on}
 use Rattle.pnp_laws.proofs.Courses.{begun, Way}
 use Rattle.pnp_laws.proofs.EventChanges.{happens_outside}
