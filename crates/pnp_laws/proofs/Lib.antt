@@ -1,3 +1,4 @@
+pub mod Decides
 pub mod Lookups
 pub mod Lists
 pub mod Diagrams
