@@ -1,4 +1,5 @@
 pub mod Decides
+pub mod AnswerThere
 pub mod Lookups
 pub mod Lists
 pub mod Diagrams
