@@ -43,3 +43,4 @@ pub mod VetoSteps
 pub mod RunsVeto
 pub mod NoVetoes
 pub mod RunsStand
+pub mod RunsStep

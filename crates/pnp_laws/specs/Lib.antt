@@ -3,3 +3,4 @@ pub mod Plans
 pub mod RunsWell
 pub mod Vetoes
 pub mod Due
+pub mod Quiet
