@@ -1,3 +1,5 @@
+pub mod Decides
+pub mod AnswerThere
 pub mod Lookups
 pub mod Lists
 pub mod Diagrams
@@ -61,3 +63,4 @@ pub mod RebalanceRuns
 pub mod Ascents
 pub mod RunsFutile
 pub mod RunsConflict
+pub mod RunsStep

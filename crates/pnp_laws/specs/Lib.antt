@@ -7,3 +7,4 @@ pub mod Reached
 pub mod Holdings
 pub mod Rebalanced
 pub mod Begun
+pub mod Quiet

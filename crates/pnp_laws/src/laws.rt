@@ -1,6 +1,7 @@
 //! What holds of every run of the device machine, for every rack of drivers and whatever happens.
 
 ghost use Rattle.pnp_laws.specs.Begun.{BegunLaw};
+ghost use Rattle.pnp_laws.specs.Quiet.{QuietLaw, StepLaw};
 ghost use Rattle.pnp_model.specs.Laws.{DiagramLaw, SharingLaw, WholeLaw, VetoLaw, FutileLaw, DependentsLaw, ConflictLaw};
 
 /// In each state of each run no two resources among all holdings and the reserved ranges clash: two clash where
@@ -12,7 +13,6 @@ pub fn nothing_clashes()
 
 /// In each step of each run a device changes its state by a row of the state diagram, and devices join and leave
 /// without drivers; where a state is printed, the device of that path came to it by a row, also where its state stayed.
-#[tactic(auto, using(crate::proofs::RunsStand::every_run_follows))]
 pub fn follows_diagram()
     ensures { DiagramLaw }
 {}
@@ -29,6 +29,18 @@ pub fn dependents_first()
 #[tactic(auto, using(crate::proofs::RunsStand::a_veto_restores))]
 pub fn veto_restores()
     ensures { VetoLaw }
+{}
+
+/// A state of a run has no next step exactly where it rests: the operation that runs waits for an answer; or none
+/// runs, each activity waits for one, and no task is left but one that must wait for the activities.
+pub fn quiet_where_it_rests()
+    ensures { QuietLaw }
+{}
+
+/// From a state of a run that does not rest exactly one step follows: one label and one new state. So whatever is
+/// searched has an answer, and only one.
+pub fn exactly_one_step()
+    ensures { StepLaw }
 {}
 
 /// In each state of each run a device that is up, or would be but for an operation that asked it to stop or to go,
