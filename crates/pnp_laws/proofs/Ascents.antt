@@ -1,5 +1,5 @@
 -- Ascending lists of serials: two with the same members are the same.
-use Rattle.std.proofs.Common.{ℕ, suc, ◌+◌, ◌<◌, ◌≤◌, ◌≡◌, inl, inr, true, List, [], ◌∷◌, refl, sym, ap, ◌∙◌, subst, arith}
+use Rattle.std.proofs.Common.{ℕ, zero, suc, ◌+◌, ◌<◌, ◌≤◌, ◌≡◌, inl, inr, true, List, [], ◌∷◌, refl, sym, ap, ◌∙◌, subst, arith}
 use Rattle.std.specs.Prelude.{Contains, slice_index}
 use Rattle.std.specs.List.Sorted.{IsStrictlyIncreasing}
 use Rattle.std.proofs.lemmas.List.Elements.{Contains-append_right}
@@ -42,6 +42,15 @@ rising_from_increasing (x ∷ y ∷ ys) h =
       ]),
       more,
     )
+
+pub increasing_from_rising : (xs : List ℕ) → Rising xs → IsStrictlyIncreasing xs
+increasing_from_rising [] h k within = absurd (omega arith)
+increasing_from_rising (x ∷ []) h k within = absurd (omega arith)
+increasing_from_rising (x ∷ y ∷ ys) h zero within = h.0 y (cons_here y ys)
+increasing_from_rising (x ∷ y ∷ ys) h (suc k) within =
+    let next : suc k + 1 ≡ suc (k + 1) = omega arith in
+    let step : slice_index (y ∷ ys) k < slice_index (y ∷ ys) (k + 1) = increasing_from_rising (y ∷ ys) h.1 k (omega arith) in
+    subst (λ (i : ℕ). slice_index (x ∷ y ∷ ys) (suc k) < slice_index (x ∷ y ∷ ys) i) (sym next) step
 
 -- the same members, and so the same list
 

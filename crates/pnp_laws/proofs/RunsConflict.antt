@@ -11,13 +11,14 @@ use Rattle.pnp_model.specs.Tests.{has, is_started}
 use Rattle.pnp_model.specs.Trees.{above}
 use Rattle.pnp_model.specs.Frames.{held_by, is_beside, fixed_beside}
 use Rattle.pnp_model.specs.Rebalances.{is_asked, reqs_of, trouble_of, movers}
-use Rattle.pnp_model.specs.Runs.{Entry}
-use Rattle.pnp_model.specs.Laws.{AllWithin, Refuses, RefusedSince, StaysSince, AreFree, NothingFits, ConflictLaw}
+use Rattle.pnp_model.specs.Runs.{Entry, Goes, Run, printed}
+use Rattle.pnp_model.specs.Runs.Entry.{Happens, Did}
+use Rattle.pnp_model.specs.Laws.{Reaches, AllWithin, Refuses, RefusedSince, StaysSince, AreFree, NothingFits, ConflictLaw}
 use Rattle.pnp_labels.specs.Texts.{Text}
 use Rattle.pnp_labels.specs.declared.states.Problem.{Problem}
 use Rattle.pnp_labels.specs.declared.states.DevState.TheVariants.{Started}
 use Rattle.pnp_labels.specs.declared.label.Label.{Label}
-use Rattle.pnp_laws.specs.Reached.{IsReached}
+use Rattle.pnp_labels.specs.declared.label.OpKind.{OpKind}
 use Rattle.pnp_laws.specs.Holdings.{has_plan}
 use Rattle.pnp_laws.specs.Rebalanced.{Placed, Undone, AskedSince, Asks, IsAskedAt, Underway}
 use Rattle.pnp_laws.proofs.Lookups.{own_serial}
@@ -25,8 +26,11 @@ use Rattle.pnp_laws.proofs.OpSteps.{is_Started}
 use Rattle.pnp_laws.proofs.Reached.{reached_is_good, reached_is_placed}
 use Rattle.pnp_laws.proofs.RebalanceMoves.{NoConflict}
 use Rattle.pnp_laws.proofs.RebalanceRuns.{Stepped, IsOver, rebalance_stepped, lasts}
+use Rattle.pnp_laws.specs.Begun.{HasBegun, Belongs, IsBeside, EachConflictLaw}
+use Rattle.pnp_laws.proofs.EventChanges.{happens_outside}
+use Rattle.pnp_laws.proofs.RunsBegun.{operations_begin}
 use Rattle.pnp_laws.proofs.RunsFutile.{Since, since_begin, reached_after}
-use Rattle.pnp_laws.proofs.Ascents.{has_from_contains, contains_from_has, rising_from_increasing, same_ascent}
+use Rattle.pnp_laws.proofs.Ascents.{has_from_contains, contains_from_has, rising_from_increasing, increasing_from_rising, same_ascent}
 
 -- The step that prints problem 12 -----------------------------------------------------------
 
@@ -86,11 +90,15 @@ record AtStuck (settings : Settings) (rack : List Driver) (path : Text) (before 
   told : (k : ℕ) → has u.frame.refused k ≡ true → RefusedSince settings begun entries last k
   tells : (k : ℕ) → RefusedSince settings begun entries last k → has u.frame.refused k ≡ true
 
--- a device that can move is one that agreed
-free_agreed : (settings : Settings) (rack : List Driver) (path : Text) (before begun : State) (entries : List Entry) (last : State) (u : Underway path before.core last) (ms : List ℕ) → AtStuck settings rack path before begun entries last u →
-    AreFree settings begun entries last ms → (k : ℕ) → has ms k ≡ true → has u.frame.agreed k ≡ true
-free_agreed settings rack path before begun entries last u ms stuck free k h =
-    let is = (free.each k).0 (contains_from_has ms k h) in
+-- a device that can move: Started, not the root, and not staying
+abbrev CanMove : Settings → State → List Entry → State → ℕ → Type 0
+CanMove settings begun entries last k =
+    (k ≢ 0) × ((n : Node) × (node_at k last.core.nodes ≡ Some n) × (n.state ≡ Started)) × (StaysSince settings begun entries last k → ⊥)
+
+-- it is one that agreed
+free_agreed : (settings : Settings) (rack : List Driver) (path : Text) (before begun : State) (entries : List Entry) (last : State) (u : Underway path before.core last) → AtStuck settings rack path before begun entries last u →
+    (k : ℕ) → CanMove settings begun entries last k → has u.frame.agreed k ≡ true
+free_agreed settings rack path before begun entries last u stuck k is =
     let node = is.1.0 in
     let at : node_at k before.core.nodes ≡ Some node = subst (λ (x : List Node). node_at k x ≡ Some node) stuck.nodes is.1.1 in
     let own = own_serial k node before.core.nodes at in
@@ -103,10 +111,10 @@ free_agreed settings rack path before begun entries last u ms stuck free k h =
           absurd (is.2 (inr (j, stuck.told j e, subst (λ (x : List Node). has (above x j) k ≡ true) (sym stuck.nodes) up)))
     ]
 
--- a device that agreed can move
-agreed_free : (settings : Settings) (rack : List Driver) (path : Text) (before begun : State) (entries : List Entry) (last : State) (u : Underway path before.core last) (ms : List ℕ) → AtStuck settings rack path before begun entries last u →
-    AreFree settings begun entries last ms → (k : ℕ) → has u.frame.agreed k ≡ true → has ms k ≡ true
-agreed_free settings rack path before begun entries last u ms stuck free k h =
+-- and a device that agreed can move
+agreed_free : (settings : Settings) (rack : List Driver) (path : Text) (before begun : State) (entries : List Entry) (last : State) (u : Underway path before.core last) → AtStuck settings rack path before begun entries last u →
+    (k : ℕ) → has u.frame.agreed k ≡ true → CanMove settings begun entries last k
+agreed_free settings rack path before begun entries last u stuck k h =
     let asked = stuck.asks.agrees k h in
     let node = asked.0 in
     let parts = asked_parts node asked.2 in
@@ -116,8 +124,27 @@ agreed_free settings rack path before begun entries last u ms stuck free k h =
       | inl since ↦ not_both u.frame.agreed k h (stuck.asks.refuses k (stuck.tells k since)).1
       | inr (j, since, up) ↦ not_both u.frame.agreed k h (stuck.asks.above j k (stuck.tells j since) (subst (λ (x : List Node). has (above x j) k ≡ true) stuck.nodes up)).1
     ] in
-    has_from_contains ms k
-    ((free.each k).1 ((λ z. parts.1 (own ∙ z)), (node, subst (λ (x : List Node). node_at k x ≡ Some node) (sym stuck.nodes) asked.1, parts.0), stays))
+    ((λ z. parts.1 (own ∙ z)), (node, subst (λ (x : List Node). node_at k x ≡ Some node) (sym stuck.nodes) asked.1, parts.0), stays)
+
+-- so those that agreed are those that can move, and no others are
+agreed_are_free : (settings : Settings) (rack : List Driver) (path : Text) (before begun : State) (entries : List Entry) (last : State) (u : Underway path before.core last) → AtStuck settings rack path before begun entries last u →
+    AreFree settings begun entries last u.frame.agreed
+agreed_are_free settings rack path before begun entries last u stuck =
+    record {
+      ascending = increasing_from_rising u.frame.agreed stuck.asks.rising;
+      each =
+          λ k. (
+            (λ c. agreed_free settings rack path before begun entries last u stuck k (has_from_contains u.frame.agreed k c)),
+            (λ is. contains_from_has u.frame.agreed k (free_agreed settings rack path before begun entries last u stuck k is)),
+          );
+    }
+
+free_are_agreed : (settings : Settings) (rack : List Driver) (path : Text) (before begun : State) (entries : List Entry) (last : State) (u : Underway path before.core last) (ms : List ℕ) → AtStuck settings rack path before begun entries last u →
+    AreFree settings begun entries last ms → ms ≡ u.frame.agreed
+free_are_agreed settings rack path before begun entries last u ms stuck free =
+    same_ascent ms u.frame.agreed (rising_from_increasing ms free.ascending) stuck.asks.rising
+    (λ k h. free_agreed settings rack path before begun entries last u stuck k ((free.each k).0 (contains_from_has ms k h)))
+    (λ k h. has_from_contains ms k ((free.each k).1 (agreed_free settings rack path before begun entries last u stuck k h)))
 
 -- The law ---------------------------------------------------------------------------------------
 
@@ -149,11 +176,18 @@ refusers_told settings rack path before begun entries last placed since within u
         let asks : u.frame.stage ≡ Asking w = subst (λ (x : Rebalance). x.stage ≡ Asking w) same asking in
         cc
 
--- problem 12 comes only where no assignment exists for the device and all that can move
-pub conflicts_are_real : ConflictLaw
-conflicts_are_real settings rack earlier entries before begun last after begin_path path reaches goes run within ends k n at named ms free =
-    let at_before : IsReached settings rack before = (earlier, reaches) in
-    let placed = reached_is_placed settings rack before at_before in
+-- a state in which a rebalance prints problem 12
+record AtConflict (settings : Settings) (rack : List Driver) (begin_path path : Text) (before begun : State) (entries : List Entry) (last : State) : Type 0 where
+  under : Underway begin_path before.core last
+  stuck : AtStuck settings rack begin_path before begun entries last under
+  device : path ≡ begin_path
+  none : NothingFits last.core (movers under.frame)
+
+at_conflict : (settings : Settings) (rack : List Driver) (earlier entries : List Entry) (before begun last after : State) (begin_path path : Text) →
+    Reaches settings rack earlier before → Goes settings before (Did (Label.Begin OpKind.Rebalance begin_path)) begun → Run settings begun entries last → AllWithin entries →
+    Goes settings last (Did (Label.Trouble path Problem.NormalConflict)) after → AtConflict settings rack begin_path path before begun entries last
+at_conflict settings rack earlier entries before begun last after begin_path path reaches goes run within ends =
+    let placed = reached_is_placed settings rack before (earlier, reaches) in
     let since = since_begin settings rack earlier entries before begun last begin_path reaches goes run within in
     let good = reached_is_good settings rack last (reached_after settings rack begun entries last since.reached run) in
     let u = since.lasts.under in
@@ -162,19 +196,53 @@ conflicts_are_real settings rack earlier entries before begun last after begin_p
     let undone : Undone before.core last.core r Stuck = subst (λ (x : RebalanceStage). Undone before.core last.core r x) is_stuck.stage u.undone in
     let asked : AskedSince before.core r Stuck = subst (λ (x : RebalanceStage). AskedSince before.core r x) is_stuck.stage u.asked in
     let found = no_fit_found r.found undone.1 is_stuck.trouble in
-    let stuck : AtStuck settings rack begin_path before begun entries last u =
     record {
-      stage = is_stuck.stage;
-      nodes = undone.0.nodes;
-      reserved = undone.0.reserved;
-      asks = asked.0;
-      told = λ j h. elim (since.lasts.told j h) [ inl e ↦ absurd (let none = since.fresh in let h2 = subst (λ (x : List ℕ). has x j ≡ true) none e in cc) | inr e ↦ e ];
-      tells = refusers_told settings rack begin_path before begun entries last placed since within u is_stuck.stage;
-    } in
-    let same_movers : ms ≡ r.agreed =
-    same_ascent ms r.agreed (rising_from_increasing ms free.ascending) stuck.asks.rising
-    (free_agreed settings rack begin_path before begun entries last u ms stuck free) (agreed_free settings rack begin_path before begun entries last u ms stuck free) in
-    let was : node_at k before.core.nodes ≡ Some n = subst (λ (x : List Node). node_at k x ≡ Some n) stuck.nodes at in
-    let device : k ≡ r.target = placed.paths k r.target n u.target.0 was u.target.1 (named ∙ is_stuck.device ∙ u.named ∙ sym u.target.2) in
-    let none : NothingFits last.core (movers r) = nothing_fits_still before.core last.core (movers r) undone.0.nodes undone.0.reserved (asked.1 found) in
-    subst (λ (i : ℕ). NothingFits last.core (i ∷ ms)) (sym device) (subst (λ (l : List ℕ). NothingFits last.core (r.target ∷ l)) (sym same_movers) none)
+      under = u;
+      stuck = record {
+        stage = is_stuck.stage;
+        nodes = undone.0.nodes;
+        reserved = undone.0.reserved;
+        asks = asked.0;
+        told = λ j h. elim (since.lasts.told j h) [ inl e ↦ absurd (let none = since.fresh in let h2 = subst (λ (x : List ℕ). has x j ≡ true) none e in cc) | inr e ↦ e ];
+        tells = refusers_told settings rack begin_path before begun entries last placed since within u is_stuck.stage;
+      };
+      device = is_stuck.device ∙ u.named;
+      none = nothing_fits_still before.core last.core (movers r) undone.0.nodes undone.0.reserved (asked.1 found);
+    }
+
+-- problem 12 comes only where no assignment exists for the device and all that can move
+pub conflicts_are_real : ConflictLaw
+conflicts_are_real settings rack earlier entries before begun last after begin_path path reaches goes run within ends k n at named ms free =
+    let placed = reached_is_placed settings rack before (earlier, reaches) in
+    let c = at_conflict settings rack earlier entries before begun last after begin_path path reaches goes run within ends in
+    let u = c.under in
+    let r = u.frame in
+    let same_movers = free_are_agreed settings rack begin_path before begun entries last u ms c.stuck free in
+    let was : node_at k before.core.nodes ≡ Some n = subst (λ (x : List Node). node_at k x ≡ Some n) c.stuck.nodes at in
+    let device : k ≡ r.target = placed.paths k r.target n u.target.0 was u.target.1 (named ∙ c.device ∙ sym u.target.2) in
+    subst (λ (i : ℕ). NothingFits last.core (i ∷ ms)) (sym device) (subst (λ (l : List ℕ). NothingFits last.core (r.target ∷ l)) (sym same_movers) c.none)
+
+-- Each problem 12 -------------------------------------------------------------------------------
+
+-- only a step prints it
+conflict_did : (settings : Settings) (s : State) (entry : Entry) (t : State) (path : Text) → Goes settings s entry t → printed entry ≡ Label.Trouble path Problem.NormalConflict → Goes settings s (Did (Label.Trouble path Problem.NormalConflict)) t
+conflict_did settings s (Happens event label) t path goes e =
+    let beside = subst (λ (x : Step). IsBeside x.label) goes.1 (happens_outside s event).beside in
+    absurd (subst (λ (x : Label). IsBeside x) e beside)
+conflict_did settings s (Did label) t path goes e = subst (λ (x : Label). Goes settings s (Did x) t) e goes
+
+pub each_conflict_is_real : EachConflictLaw
+each_conflict_is_real settings rack entries s entry t path reaches goes e =
+    let began : HasBegun settings rack entries s OpKind.Rebalance path = subst (λ (x : Label). Belongs settings rack entries s x) e (operations_begin settings rack entries s entry t reaches goes) in
+    let c = at_conflict settings rack began.earlier began.later began.before began.begun s t path path began.reaches began.begins began.run began.within (conflict_did settings s entry t path goes e) in
+    let u = c.under in
+    record {
+      began = began;
+      movers = u.frame.agreed;
+      free = agreed_are_free settings rack path began.before began.begun began.later s u c.stuck;
+      device = u.frame.target;
+      node = u.target.0;
+      there = subst (λ (x : List Node). node_at u.frame.target x ≡ Some u.target.0) (sym c.stuck.nodes) u.target.1;
+      named = u.target.2;
+      none = c.none;
+    }

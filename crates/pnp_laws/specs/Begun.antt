@@ -1,10 +1,11 @@
 -- Operations begin before they end: where an end or problem 12 is printed, its operation began and has not ended since.
-use Rattle.std.specs.Prelude.{◌≡◌, List, [], ◌∷◌, ◌++◌}
-use Rattle.pnp_model.specs.Records.{Driver, State, Settings, Activity, Phase, Operation}
+use Rattle.std.specs.Prelude.{ℕ, ◌≡◌, List, [], ◌∷◌, ◌++◌, Some}
+use Rattle.pnp_model.specs.Cores.{node_at}
+use Rattle.pnp_model.specs.Records.{Driver, Node, State, Settings, Activity, Phase, Operation}
 use Rattle.pnp_model.specs.Records.Phase.{Due}
 use Rattle.pnp_model.specs.Runs.{Entry, Goes, Run, printed}
 use Rattle.pnp_model.specs.Runs.Entry.{Did}
-use Rattle.pnp_model.specs.Laws.{Reaches, AllWithin}
+use Rattle.pnp_model.specs.Laws.{Reaches, AllWithin, AreFree, NothingFits}
 use Rattle.pnp_labels.specs.Texts.{Text}
 use Rattle.pnp_labels.specs.declared.states.Problem.{Problem}
 use Rattle.pnp_labels.specs.declared.label.Label.{Label}
@@ -32,6 +33,24 @@ abbrev pub BegunLaw : Type 0
 BegunLaw =
     (settings : Settings) (rack : List Driver) (entries : List Entry) (s : State) (entry : Entry) (t : State)
     → Reaches settings rack entries s → Goes settings s entry t → Belongs settings rack entries s (printed entry)
+
+-- what stands behind problem 12 of a device: the rebalance that began for it, the devices that can move, in order of serial, and that nothing fits
+pub record Conflicts (settings : Settings) (rack : List Driver) (entries : List Entry) (s : State) (path : Text) : Type 0 where
+  pub began : HasBegun settings rack entries s OpKind.Rebalance path
+  pub movers : List ℕ
+  pub free : AreFree settings began.begun began.later s movers
+  pub device : ℕ
+  pub node : Node
+  pub there : node_at device s.core.nodes ≡ Some node
+  pub named : node.path ≡ path
+  pub none : NothingFits s.core (device ∷ movers)
+
+-- each problem 12 that is printed is real
+abbrev pub EachConflictLaw : Type 0
+EachConflictLaw =
+    (settings : Settings) (rack : List Driver) (entries : List Entry) (s : State) (entry : Entry) (t : State) (path : Text)
+    → Reaches settings rack entries s → Goes settings s entry t → printed entry ≡ Label.Trouble path Problem.NormalConflict
+    → Conflicts settings rack entries s path
 
 -- What is kept for it ----------------------------------------------------------------
 

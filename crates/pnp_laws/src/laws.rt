@@ -1,6 +1,6 @@
 //! What holds of every run of the device machine, for every rack of drivers and whatever happens.
 
-ghost use Rattle.pnp_laws.specs.Begun.{BegunLaw};
+ghost use Rattle.pnp_laws.specs.Begun.{BegunLaw, EachConflictLaw};
 ghost use Rattle.pnp_laws.specs.Quiet.{QuietLaw, StepLaw};
 ghost use Rattle.pnp_model.specs.Laws.{DiagramLaw, SharingLaw, WholeLaw, VetoLaw, FutileLaw, DependentsLaw, ConflictLaw};
 
@@ -69,4 +69,10 @@ pub fn conflicts_are_real()
 #[tactic(auto, using(crate::proofs::RunsBegun::operations_begin))]
 pub fn operations_begin()
     ensures { BegunLaw }
+{}
+
+/// Each problem 12 that is printed is real: a rebalance began for the device and has not ended since, there are devices
+/// that can move, in order of serial, and no assignment exists for the device and all of them.
+pub fn each_conflict_is_real()
+    ensures { EachConflictLaw }
 {}
