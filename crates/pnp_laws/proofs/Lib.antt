@@ -64,3 +64,4 @@ pub mod Ascents
 pub mod RunsFutile
 pub mod RunsConflict
 pub mod RunsStep
+pub mod RunsEnds

@@ -27,7 +27,7 @@ use Rattle.pnp_laws.proofs.Reached.{reached_is_good, reached_is_placed}
 use Rattle.pnp_laws.proofs.RebalanceMoves.{NoConflict}
 use Rattle.pnp_laws.proofs.RebalanceRuns.{Stepped, IsOver, rebalance_stepped, lasts}
 use Rattle.pnp_laws.specs.Begun.{HasBegun, Belongs, IsBeside, EachConflictLaw}
-use Rattle.pnp_laws.proofs.EventChanges.{happens_outside}
+use Rattle.pnp_laws.proofs.BeginSteps.{step_did}
 use Rattle.pnp_laws.proofs.RunsBegun.{operations_begin}
 use Rattle.pnp_laws.proofs.RunsFutile.{Since, since_begin, reached_after}
 use Rattle.pnp_laws.proofs.Ascents.{has_from_contains, contains_from_has, rising_from_increasing, increasing_from_rising, same_ascent}
@@ -224,17 +224,10 @@ conflicts_are_real settings rack earlier entries before begun last after begin_p
 
 -- Each problem 12 -------------------------------------------------------------------------------
 
--- only a step prints it
-conflict_did : (settings : Settings) (s : State) (entry : Entry) (t : State) (path : Text) → Goes settings s entry t → printed entry ≡ Label.Trouble path Problem.NormalConflict → Goes settings s (Did (Label.Trouble path Problem.NormalConflict)) t
-conflict_did settings s (Happens event label) t path goes e =
-    let beside = subst (λ (x : Step). IsBeside x.label) goes.1 (happens_outside s event).beside in
-    absurd (subst (λ (x : Label). IsBeside x) e beside)
-conflict_did settings s (Did label) t path goes e = subst (λ (x : Label). Goes settings s (Did x) t) e goes
-
 pub each_conflict_is_real : EachConflictLaw
 each_conflict_is_real settings rack entries s entry t path reaches goes e =
     let began : HasBegun settings rack entries s OpKind.Rebalance path = subst (λ (x : Label). Belongs settings rack entries s x) e (operations_begin settings rack entries s entry t reaches goes) in
-    let c = at_conflict settings rack began.earlier began.later began.before began.begun s t path path began.reaches began.begins began.run began.within (conflict_did settings s entry t path goes e) in
+    let c = at_conflict settings rack began.earlier began.later began.before began.begun s t path path began.reaches began.begins began.run began.within (subst (λ (x : Label). Goes settings s (Did x) t) e (step_did settings s entry t goes (λ beside. subst (λ (x : Label). IsBeside x) e beside))) in
     let u = c.under in
     record {
       began = began;

@@ -5,11 +5,12 @@ use Rattle.pnp_model.specs.Records.{Driver, Node, State, Settings, Activity, Pha
 use Rattle.pnp_model.specs.Records.Phase.{Due}
 use Rattle.pnp_model.specs.Runs.{Entry, Goes, Run, printed}
 use Rattle.pnp_model.specs.Runs.Entry.{Did}
-use Rattle.pnp_model.specs.Laws.{Reaches, AllWithin, AreFree, NothingFits}
+use Rattle.pnp_model.specs.Laws.{Reaches, AllWithin, AreFree, NothingFits, Restores, RestoresBut}
 use Rattle.pnp_labels.specs.Texts.{Text}
 use Rattle.pnp_labels.specs.declared.states.Problem.{Problem}
 use Rattle.pnp_labels.specs.declared.label.Label.{Label}
 use Rattle.pnp_labels.specs.declared.label.OpKind.{OpKind}
+use Rattle.pnp_labels.specs.declared.label.OpEnd.{OpEnd}
 
 -- in the run of these entries, which leads to s, an operation of the kind began for the device of the path, and none has ended since
 pub record HasBegun (settings : Settings) (rack : List Driver) (entries : List Entry) (s : State) (kind : OpKind) (path : Text) : Type 0 where
@@ -51,6 +52,19 @@ EachConflictLaw =
     (settings : Settings) (rack : List Driver) (entries : List Entry) (s : State) (entry : Entry) (t : State) (path : Text)
     → Reaches settings rack entries s → Goes settings s entry t → printed entry ≡ Label.Trouble path Problem.NormalConflict
     → Conflicts settings rack entries s path
+
+-- what an end restores: a veto all that was before the begin, a rebalance that found nothing all but the problem of its device
+abbrev pub Restoring : Settings → List Driver → List Entry → State → State → Label → Type 0
+Restoring settings rack entries s t (Label.End kind path (OpEnd.Veto refuser)) = (b : HasBegun settings rack entries s kind path) × Restores b.before.core t.core
+Restoring settings rack entries s t (Label.End OpKind.Rebalance path OpEnd.NoFit) = (b : HasBegun settings rack entries s OpKind.Rebalance path) × RestoresBut path b.before.core t.core
+Restoring settings rack entries s t (Label.End OpKind.Rebalance path OpEnd.Spent) = (b : HasBegun settings rack entries s OpKind.Rebalance path) × RestoresBut path b.before.core t.core
+Restoring settings rack entries s t _ = Unit {0}
+
+-- each such end that is printed restores
+abbrev pub EachEndLaw : Type 0
+EachEndLaw =
+    (settings : Settings) (rack : List Driver) (entries : List Entry) (s : State) (entry : Entry) (t : State)
+    → Reaches settings rack entries s → Goes settings s entry t → Restoring settings rack entries s t (printed entry)
 
 -- What is kept for it ----------------------------------------------------------------
 

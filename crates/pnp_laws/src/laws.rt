@@ -1,6 +1,6 @@
 //! What holds of every run of the device machine, for every rack of drivers and whatever happens.
 
-ghost use Rattle.pnp_laws.specs.Begun.{BegunLaw, EachConflictLaw};
+ghost use Rattle.pnp_laws.specs.Begun.{BegunLaw, EachConflictLaw, EachEndLaw};
 ghost use Rattle.pnp_laws.specs.Quiet.{QuietLaw, StepLaw};
 ghost use Rattle.pnp_model.specs.Laws.{DiagramLaw, SharingLaw, WholeLaw, VetoLaw, FutileLaw, DependentsLaw, ConflictLaw};
 
@@ -75,4 +75,10 @@ pub fn operations_begin()
 /// that can move, in order of serial, and no assignment exists for the device and all of them.
 pub fn each_conflict_is_real()
     ensures { EachConflictLaw }
+{}
+
+/// Each end with a veto restores all that was before the operation began, which did begin; and each end of a rebalance
+/// with `nofit` or `spent` all but the problem of its device.
+pub fn each_end_restores()
+    ensures { EachEndLaw }
 {}
