@@ -44,3 +44,4 @@ pub mod RunsVeto
 pub mod NoVetoes
 pub mod RunsStand
 pub mod RunsStep
+pub mod Measures
