@@ -45,3 +45,4 @@ pub mod NoVetoes
 pub mod RunsStand
 pub mod RunsStep
 pub mod Measures
+pub mod MeasureOps

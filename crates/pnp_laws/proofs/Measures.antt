@@ -177,13 +177,16 @@ answers_of nodes activities (Some o) = answers (operation_walk o) (length (stack
 
 -- One is lower -----------------------------------------------------------------------------------------
 
-abbrev pub Falls : State → State → Type 0
-Falls s t =
+abbrev pub IsLower : State → State → Type 0
+IsLower s t =
     (8 * coarse t + rank_of t.operation < 8 * coarse s + rank_of s.operation)
     ⊎ ((8 * coarse t + rank_of t.operation ≤ 8 * coarse s + rank_of s.operation)
     × ((left_of t.operation < left_of s.operation)
     ⊎ ((left_of t.operation ≤ left_of s.operation)
     × (answers_of t.core.nodes t.activities t.operation < answers_of s.core.nodes s.activities s.operation))))
+
+pub record Falls (s t : State) : Type 0 where
+  pub lower : IsLower s t
 
 rank_small : (o : Option Operation) → rank_of o ≤ 7
 rank_small None = omega arith
@@ -219,7 +222,7 @@ rank_small (Some (Operation.Surprising o)) = by_stage o.stage
 
 -- less is to begin
 pub falls_coarse : (s t : State) → coarse t < coarse s → Falls s t
-falls_coarse s t h = inl (eight (coarse t) (coarse s) (rank_of t.operation) (rank_of s.operation) h (rank_small t.operation))
+falls_coarse s t h = record { lower = inl (eight (coarse t) (coarse s) (rank_of t.operation) (rank_of s.operation) h (rank_small t.operation)) }
   where
     eight : (x y a b : ℕ) → x < y → a ≤ 7 → 8 * x + a < 8 * y + b
     eight x y a b h l = omega arith
