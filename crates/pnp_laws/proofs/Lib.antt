@@ -65,3 +65,5 @@ pub mod RunsFutile
 pub mod RunsConflict
 pub mod RunsStep
 pub mod RunsEnds
+pub mod Measures
+pub mod MeasureOps
