@@ -1,4 +1,4 @@
-use Rattle.std.proofs.Common.{◌≡◌, ◌+◌, drop, ap, sym, ◌∙◌, arith, option_map}
+use Rattle.std.proofs.Common.{◌+◌, drop, ap, sym, ◌∙◌, arith, option_map}
 use Rattle.driver_rank.specs.Candidates.{match_of}
 use Rattle.driver_rank.specs.Lookups.{base_found}
 use Rattle.driver_rank.specs.Passes.{best_from}

@@ -1,4 +1,4 @@
-use Rattle.std.proofs.Common.{◌≡◌, ◌∙◌, ap, None, true, false}
+use Rattle.std.proofs.Common.{◌∙◌, ap, None, true, false}
 use Rattle.std.specs.Map.{lookup}
 use Rattle.std.specs.Str.{bytes_eq}
 use Rattle.driver_rank.specs.Best.{given_from}
