@@ -194,7 +194,10 @@ impl Tree {
     pub fn find_born(&self, born: u64) -> Option<u64>
         ensures { result ≡ option_map (λ n. n.serial) (node_born born self.now.nodes) }
     {
-        Some(first_born(&self.entries, born)?.serial())
+        match first_born(&self.entries, born) {
+            Some(entry) => Some(entry.serial()),
+            None => None,
+        }
     }
 
     /// How many nodes there are, the root among them.
