@@ -9,5 +9,4 @@ pub mod Turning
 pub mod Fronts
 pub mod Refusals
 pub mod WordRows
-pub mod Rises
 pub mod InfSteps
