@@ -1,6 +1,7 @@
 //! INFs in UTF-8, Latin-1 and UTF-16, and lines at their longest.
 use crate::inf_told::{MODELS, gives, joined, model_bytes, told, wide, wide_models};
 use std::alloc::{AllocError, Global};
+use std::process::Abort;
 use std::test::Fail;
 
 /// UTF-8, and what is none and so is Latin-1.
@@ -65,14 +66,23 @@ fn often(alloc: Global, piece: &[u8], count: u32) -> Result<Vec<u8>, AllocError>
     Ok(all)
 }
 
-/// Lines at their longest: what is before a piece, the piece, how often it stands there, and what is behind; and
-/// the refusal, if it is one.
+/// What these give, one behind the other, under `[M]`, begins so.
+fn begins(rt: &impl Abort, alloc: Global, texts: [&[u8]; 3], want: &str) -> Result<(), Fail> {
+    let [front, middle, end] = texts;
+    let inf = joined(alloc, &[MODELS.as_bytes(), front, middle, end])?;
+    let told = told(alloc, &inf)?;
+    assert!(rt; told.starts_with(want.as_bytes()), "{told:?}");
+    Ok(())
+}
+
+/// Lines at their longest: what is before a piece, the piece, how often it stands there, and what is behind; and how
+/// the text of what they give begins.
 const LONG: [(&[u8], &[u8], u32, &[u8], &str); 8] = [
-    (b"x=I,", b"\xE9", 2046, b"\n", ""),
+    (b"x=I,", b"\xE9", 2046, b"\n", "0 0\n"),
     (b"x=I,", b"\xE9", 2047, b"\n", "refused 3 6\n"),
-    (b"x=I,", b"\xE2\x82\xAC", 1364, b"\n", ""),
+    (b"x=I,", b"\xE2\x82\xAC", 1364, b"\n", "0 0\n"),
     (b"x=I,", b"\xE2\x82\xAC", 1365, b"\n", "refused 3 6\n"),
-    (b"", b" ", 4096, b"", ""),
+    (b"", b" ", 4096, b"", "0 0\n"),
     (b"", b" ", 4097, b"", "refused 3 6\n"),
     (b";", b"B", 4096, b"\n", "refused 3 6\n"),
     (b"x=I,A\\\n", b"B", 4097, b"\n", "refused 3 7\n"),
@@ -90,16 +100,9 @@ fn sixteen_bits(rt: HostRuntime) -> Result<(), Fail> {
 
 #[test]
 fn long_lines(rt: HostRuntime) -> Result<(), Fail> {
-    let alloc = rt.alloc();
-    for (front, piece, count, end, refusal) in LONG {
-        let middle = often(alloc, piece, count)?;
-        let inf = joined(alloc, &[MODELS.as_bytes(), front, &middle, end])?;
-        let told = told(alloc, &inf)?;
-        if refusal.is_empty() {
-            assert!(rt; told.starts_with(b"0 0\n"), "{told:?}");
-        } else {
-            assert!(rt; told.as_slice() == refusal.as_bytes(), "{told:?}");
-        }
+    for (front, piece, count, end, want) in LONG {
+        let middle = often(rt.alloc(), piece, count)?;
+        begins(&rt, rt.alloc(), [front, &middle, end], want)?;
     }
     Ok(())
 }
