@@ -7,3 +7,6 @@ pub mod Texts
 pub mod Answering
 pub mod Turning
 pub mod Fronts
+pub mod Refusals
+pub mod WordRows
+pub mod InfSteps

@@ -1,3 +1,5 @@
+pub mod Words
+pub mod Infs
 pub mod Outputs
 pub mod RootBuses
 pub mod Turns

@@ -1,68 +1,96 @@
 -- What a run writes and answers, by the words and by the contents of the files as they are told.
-use Rattle.std.specs.Prelude.{◌≡◌, ◌⊎◌, ◌<◌, ◌≤◌, ℕ, Bool, true, false, ◌==◌, List, [], ◌∷◌, Option, Some, None, IfSome, length, if◌then◌else◌}
+use Rattle.std.specs.Prelude.{◌≡◌, ◌⊎◌, ℕ, Bool, true, false, nat_le, List, [], ◌∷◌, ◌++◌, Option, Some, None, IfSome, Result, Ok, Err, length, if◌then◌else◌}
 use Rattle.pnp_io.specs.Outside.{Appends, AppendsFront}
 use Rattle.pnp_labels.specs.Texts.{Text}
+use Rattle.pnp_model.specs.Records as machines
 use Rattle.pnp_model.specs.Records.{Driver}
 use Rattle.pnp_model.specs.Runs.{opening}
 use Rattle.script_reader.specs.Script.{Trace, trace}
+use Rattle.inf_reader.specs.declared.parts.Inf.{Inf}
 use Rattle.pnp_cli.specs.Outputs.{Prints, has_bad}
 use Rattle.pnp_cli.specs.RootBuses.{no_infs, built}
+use Rattle.pnp_cli.specs.Infs.{limit, infs_in, refusal_line}
+use Rattle.pnp_cli.specs.declared.infs.InfsError.{InfsError}
+use Rattle.pnp_cli.specs.declared.infs.InfsError.TheVariants as faults
+use Rattle.pnp_cli.specs.declared.parts.Settings.{Settings}
 use Rattle.pnp_cli.specs.declared.status.Status.{Status}
-use Rattle.pnp_cli.specs.declared.status.Status.TheVariants.{Done, BadScript, TooLarge, WantOfMemory}
+use Rattle.pnp_cli.specs.declared.status.Status.TheVariants as Status
 
--- the most bytes that a file may have
-abbrev pub limit : ℕ
-limit = 16777216
+-- the files that are read: the INFs in order, and then the script
+abbrev pub named : Settings → List Text
+named s = s.infs ++ s.script ∷ []
 
--- the text begins with a dash
-abbrev pub is_option : Text → Bool
-is_option [] = false
-is_option (b ∷ bs) = b == 45
-
--- the script that the words name, or none where they are refused
-abbrev pub settings : List Text → Option Text
-settings (program ∷ name ∷ []) = if is_option name then None else Some name
-settings _ = None
+-- what the machine is told of INFs and of the budget: until the parts that choose drivers and search are built, nothing
+abbrev pub machine : List Inf → ℕ → machines.Settings
+machine infs budget = no_infs
 
 -- what the bytes of a script give
 abbrev pub events_of : List ℕ → Trace
 events_of script = built (trace true 0 script)
 
--- the output for the bytes of a script and the drivers of a rack
-abbrev pub IsOutput : List Driver → List ℕ → Text → Type 0
-IsOutput rack script text = Prints no_infs (opening rack) (events_of script) text
+-- what is written for a script: nothing, where it is not there
+abbrev pub IsScriptOutput : machines.Settings → List Driver → Option (List ℕ) → Text → Type 0
+IsScriptOutput told_machine rack None text = text ≡ []
+IsScriptOutput told_machine rack (Some script) text = Prints told_machine (opening rack) (events_of script) text
 
--- the file is there, it has a bad line or none, and the whole output was written
-abbrev pub Wrote : Option (List ℕ → Option (List ℕ)) → List Driver → Text → Bool → Option Text → Option Text → Type 0
-Wrote contents rack name bad old new =
-    IfSome contents (λ told. (script : List ℕ) × (text : Text) × (told name ≡ Some script) × (has_bad (events_of script) ≡ bad)
-    × IsOutput rack script text × Appends old new text)
+-- the same, by what the INFs come to: the line of the first one that is refused; nothing, where one is not there or too large
+abbrev pub IsOutputBy : List Driver → ℕ → Result (List Inf) InfsError → Option (List ℕ) → Text → Type 0
+IsOutputBy rack budget (Ok infs) script text = IsScriptOutput (machine infs budget) rack script text
+IsOutputBy rack budget (Err (faults.Refused number error)) script text = text ≡ refusal_line number error
+IsOutputBy rack budget (Err error) script text = text ≡ []
 
--- a front of the output was written; nothing, where the file is not there
-abbrev pub FrontOf : List Driver → Option (List ℕ) → Option Text → Option Text → Type 0
-FrontOf rack None old new = new ≡ old
-FrontOf rack (Some script) old new = (text : Text) → IsOutput rack script text → AppendsFront old new text
+-- the output for settings, by the contents of the files and the kinds and books of a rack
+abbrev pub IsOutput : List Driver → (Text → Option (List ℕ)) → Settings → Text → Type 0
+IsOutput rack told s text = IsOutputBy rack s.budget (infs_in told s.infs) (told s.script) text
 
-abbrev pub WroteFront : Option (List ℕ → Option (List ℕ)) → List Driver → Text → Option Text → Option Text → Type 0
-WroteFront contents rack name old new = IfSome contents (λ told. FrontOf rack (told name) old new)
-
--- the answer where no fault came, for a script with a bad line or without
+-- the answer for a script with a bad line or without
 abbrev pub answer_of : Bool → Status
-answer_of true = BadScript
-answer_of false = Done
+answer_of true = Status.BadScript
+answer_of false = Status.Done
 
--- Where the file is there, with at most so many bytes, and no count rose, the answer is by the script's lines alone, or want
--- of memory.
-abbrev pub IsAnswered : Option (List ℕ → Option (List ℕ)) → Text → Type 0 → Type 0 → Status → Type 0
-IsAnswered contents name read_rose write_rose status =
-    IfSome contents (λ told. (script : List ℕ) → told name ≡ Some script → length script ≤ limit
-    → (read_rose → ⊥) → (write_rose → ⊥) → (status ≡ answer_of (has_bad (events_of script))) ⊎ (status ≡ WantOfMemory))
+-- the answer for a script, or none where it is not there
+abbrev pub script_status : Option (List ℕ) → Option Status
+script_status None = None
+script_status (Some script) = Some (if nat_le (length script) limit then answer_of (has_bad (events_of script)) else Status.TooLarge)
 
--- where the file is there, with more bytes, and its count did not rise, the answer is TooLarge or want of memory
-abbrev pub IsTooLarge : Option (List ℕ → Option (List ℕ)) → Text → Type 0 → Status → Type 0
-IsTooLarge contents name read_rose status =
-    IfSome contents (λ told. (script : List ℕ) → told name ≡ Some script → limit < length script
-    → (read_rose → ⊥) → (status ≡ TooLarge) ⊎ (status ≡ WantOfMemory))
+-- the same, by what the INFs come to; an INF that is not there gives none
+abbrev pub status_by : Result (List Inf) InfsError → Option (List ℕ) → Option Status
+status_by (Ok infs) script = script_status script
+status_by (Err (faults.Refused number error)) script = Some Status.BadInf
+status_by (Err faults.TooLarge) script = Some Status.TooLarge
+status_by (Err error) script = None
+
+-- the answer for settings that the contents of the files decide
+abbrev pub status_of : (Text → Option (List ℕ)) → Settings → Option Status
+status_of told s = status_by (infs_in told s.infs) (told s.script)
+
+-- answers that come only where the contents decide them
+abbrev pub is_decided : Status → Bool
+is_decided Status.Done = true
+is_decided Status.BadScript = true
+is_decided Status.BadInf = true
+is_decided Status.TooLarge = true
+is_decided _ = false
+
+-- answers after which the whole output was written
+abbrev pub is_whole : Status → Bool
+is_whole Status.Done = true
+is_whole Status.BadScript = true
+is_whole Status.BadInf = true
+is_whole _ = false
+
+-- some text of which this holds was written whole
+abbrev pub Wrote : (Text → Type 0) → Option Text → Option Text → Type 0
+Wrote output old new = (text : Text) × output text × Appends old new text
+
+-- of each text of which this holds a front was written
+abbrev pub WroteFront : (Text → Type 0) → Option Text → Option Text → Type 0
+WroteFront output old new = (text : Text) → output text → AppendsFront old new text
+
+-- where no count rose, the answer is the one that is decided, if one is, or want of memory
+abbrev pub Answers : Option Status → Type 0 → Type 0 → Status → Type 0
+Answers decided read_rose write_rose status =
+    IfSome decided (λ answer. (read_rose → ⊥) → (write_rose → ⊥) → (status ≡ answer) ⊎ (status ≡ Status.WantOfMemory))
 
 -- files and a sink are as before
 pub record Untouched {F K : Type 0} (contents : F → Option (List ℕ → Option (List ℕ))) (read_faults : F → List ℕ → ℕ) (taken : K → Option (List ℕ)) (write_faults : K → ℕ)

@@ -1,14 +1,22 @@
-//! The program as a library: the words of the command line, the script, and what is written.
+//! The program as a library: the words of the command line, the INFs and the script that they name, and what is
+//! written.
 #![tactic(auto)]
 
 mod bus;
 mod ending;
+mod infs;
 mod lines;
 mod output;
+mod parts;
 mod program;
 mod status;
 #[cfg(test)]
 mod tests;
+#[cfg(test)]
+mod word_tests;
+mod words;
 
+pub use parts::{Settings, WordsError};
 pub use program::run;
 pub use status::Status;
+pub use words::settings;

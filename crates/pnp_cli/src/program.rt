@@ -1,31 +1,21 @@
-ghost use Rattle.std.specs.Prelude.{◌≡◌, ◌↔◌, ◌<◌, ◌≤◌, ◌^◌, ℕ, List, None, IfSome, IfOk, OnOk, IsErrOf, map, length, true, false, string_bytes, option_map};
-ghost use Rattle.pnp_io.specs.Outside.{Rose, HoldsMore, Appends, AppendsFront};
-ghost use Rattle.pnp_cli.specs.Runs.{settings, Wrote, WroteFront, IsAnswered, IsTooLarge, Untouched, IsOutput, events_of, limit};
+ghost use Rattle.std.specs.Prelude.{◌≡◌, ◌⊎◌, ◌<◌, ◌≤◌, ◌^◌, ℕ, List, [], ◌∷◌, Some, None, Ok, IfSome, IfOk, OnOk, IsErrOf, map, length, true, string_bytes};
+ghost use Rattle.pnp_io.specs.Outside.{Rose, Appends, AppendsFront};
+ghost use Rattle.pnp_cli.specs.Words.{settings_of};
+ghost use Rattle.pnp_cli.specs.Infs.{infs_in, refusal_line, SomeRose};
+ghost use Rattle.pnp_cli.specs.RootBuses.{no_infs};
+ghost use Rattle.pnp_cli.specs.Runs.{named, IsScriptOutput, IsOutput, IsOutputBy, script_status, status_of, status_by, is_decided, is_whole, Wrote, WroteFront, Answers, Untouched, events_of};
 ghost use Rattle.pnp_cli.specs.Outputs.{has_bad};
 ghost use Rattle.driver_rack.specs.Rows.{unnamed};
 
+use crate::infs::{InfsError, LIMIT, read_infs, refusal_line};
 use crate::output::output;
+use crate::parts::{Settings, WordsError};
 use crate::status::Status;
+use crate::words::settings;
 use driver_rack::{Driver, Drivers, Rack};
+use inf_reader::InfError;
 use pnp_io::{Failed, Files, ReadError, Sink, read_all, write_all};
 use std::alloc::{AllocError, Global};
-
-/// The most bytes that a file may have: this project's own.
-const LIMIT: u64 = 16_777_216;
-
-/// The script that the words name: the second of two words, if it does not begin with a dash.
-fn script_named<'a>(words: &'a [String]) -> Option<&'a str>
-    ensures { option_map (λ name. name.now) result ≡ settings (map (λ word. string_bytes word) words.now) }
-{
-    if words.len() != 2 {
-        return None;
-    }
-    let name = words[1].as_str();
-    if name.as_bytes().first() == Some(&b'-') {
-        return None;
-    }
-    Some(name)
-}
 
 /// Why an output was not written whole.
 #[derive(Clone, Copy, Debug, PartialEq, Eq)]
@@ -64,15 +54,26 @@ fn write_output<R: Drivers, K: Sink>(
     sink: &mut K,
 ) -> Result<bool, WriteError>
     requires { length script.now < 2 ^ 63 }
-    ensures took { OnOk result ((text : List ℕ) × IsOutput (R.rows rack) script.now text × Appends (K.taken sink.old) (K.taken sink.new) text) }
+    ensures took { OnOk result ((text : List ℕ) × IsScriptOutput no_infs (R.rows rack) (Some script.now) text × Appends (K.taken sink.old) (K.taken sink.new) text) }
     ensures bad { IfOk result (λ bad. bad ≡ has_bad (events_of script.now)) }
-    ensures front { (text : List ℕ) → IsOutput (R.rows rack) script.now text → AppendsFront (K.taken sink.old) (K.taken sink.new) text }
+    ensures front { (text : List ℕ) → IsScriptOutput no_infs (R.rows rack) (Some script.now) text → AppendsFront (K.taken sink.old) (K.taken sink.new) text }
     ensures failed { IsErrOf result WriteError.WriteFault → Rose (K.faults sink.old) (K.faults sink.new) }
     ensures counts { K.faults sink.old ≤ K.faults sink.new }
 {
     let whole = output(alloc, rack, script)?;
     write_all(sink, &whole.text)?;
     Ok(whole.has_bad)
+}
+
+/// Writes the line of a refused INF.
+fn tell_refusal<K: Sink>(alloc: Global, number: u64, error: InfError, sink: &mut K) -> Result<(), WriteError>
+    ensures took { OnOk result (Appends (K.taken sink.old) (K.taken sink.new) (refusal_line number error)) }
+    ensures front { AppendsFront (K.taken sink.old) (K.taken sink.new) (refusal_line number error) }
+    ensures failed { IsErrOf result WriteError.WriteFault → Rose (K.faults sink.old) (K.faults sink.new) }
+{
+    let line = refusal_line(alloc, number, error)?;
+    write_all(sink, &line)?;
+    Ok(())
 }
 
 /// Runs the script of a name.
@@ -84,15 +85,12 @@ fn run_script<R: Drivers, F: Files, K: Sink>(
     sink: &mut K,
 ) -> Status
     ensures words { result ≡ Status.BadWords → ⊥ }
-    ensures infs { result ≡ Status.BadInf → ⊥ }
-    ensures done { result ≡ Status.Done → Wrote (F.contents files.old) (R.rows rack) name.now false (K.taken sink.old) (K.taken sink.new) }
-    ensures bad_script { result ≡ Status.BadScript → Wrote (F.contents files.old) (R.rows rack) name.now true (K.taken sink.old) (K.taken sink.new) }
-    ensures too_large { result ≡ Status.TooLarge → HoldsMore (F.contents files.old) name.now limit }
+    ensures decided { is_decided result ≡ true → IfSome (F.contents files.old) (λ told. script_status (told name.now) ≡ Some result) }
+    ensures whole { is_whole result ≡ true → IfSome (F.contents files.old) (λ told. Wrote (IsScriptOutput no_infs (R.rows rack) (told name.now)) (K.taken sink.old) (K.taken sink.new)) }
+    ensures front { IfSome (F.contents files.old) (λ told. WroteFront (IsScriptOutput no_infs (R.rows rack) (told name.now)) (K.taken sink.old) (K.taken sink.new)) }
     ensures read_fault { result ≡ Status.ReadFault → Rose (F.faults files.old name.now) (F.faults files.new name.now) }
     ensures write_fault { result ≡ Status.WriteFault → Rose (K.faults sink.old) (K.faults sink.new) }
-    ensures front { WroteFront (F.contents files.old) (R.rows rack) name.now (K.taken sink.old) (K.taken sink.new) }
-    ensures answered { IsAnswered (F.contents files.old) name.now (Rose (F.faults files.old name.now) (F.faults files.new name.now)) (Rose (K.faults sink.old) (K.faults sink.new)) result }
-    ensures over { IsTooLarge (F.contents files.old) name.now (Rose (F.faults files.old name.now) (F.faults files.new name.now)) result }
+    ensures answered { IfSome (F.contents files.old) (λ told. Answers (script_status (told name.now)) (Rose (F.faults files.old name.now) (F.faults files.new name.now)) (Rose (K.faults sink.old) (K.faults sink.new)) result) }
 {
     match read_all(alloc, files, name, LIMIT) {
         Ok(script) => match write_output(alloc, rack, &script, sink) {
@@ -107,6 +105,45 @@ fn run_script<R: Drivers, F: Files, K: Sink>(
     }
 }
 
+/// Answers for a refused INF, whose line is written.
+fn answer_refusal<K: Sink>(alloc: Global, number: u64, error: InfError, sink: &mut K) -> Status
+    ensures only { (result ≡ Status.BadInf) ⊎ ((result ≡ Status.WriteFault) ⊎ (result ≡ Status.WantOfMemory)) }
+    ensures took { result ≡ Status.BadInf → Appends (K.taken sink.old) (K.taken sink.new) (refusal_line number error) }
+    ensures front { AppendsFront (K.taken sink.old) (K.taken sink.new) (refusal_line number error) }
+    ensures write_fault { result ≡ Status.WriteFault → Rose (K.faults sink.old) (K.faults sink.new) }
+{
+    match tell_refusal(alloc, number, error, sink) {
+        Ok(()) => Status::BadInf,
+        Err(WriteError::WriteFault) => Status::WriteFault,
+        Err(WriteError::WantOfMemory) => Status::WantOfMemory,
+    }
+}
+
+/// Reads and checks the INFs of the settings, and then runs the script.
+fn run_settings<R: Drivers, F: Files, K: Sink>(
+    alloc: Global,
+    settings: &Settings,
+    rack: R,
+    files: &mut F,
+    sink: &mut K,
+) -> Status
+    ensures words { result ≡ Status.BadWords → ⊥ }
+    ensures decided { is_decided result ≡ true → IfSome (F.contents files.old) (λ told. status_of told settings.now ≡ Some result) }
+    ensures whole { is_whole result ≡ true → IfSome (F.contents files.old) (λ told. Wrote (IsOutput (R.rows rack) told settings.now) (K.taken sink.old) (K.taken sink.new)) }
+    ensures front { IfSome (F.contents files.old) (λ told. WroteFront (IsOutput (R.rows rack) told settings.now) (K.taken sink.old) (K.taken sink.new)) }
+    ensures read_fault { result ≡ Status.ReadFault → SomeRose (F.faults files.old) (F.faults files.new) (named settings.now) }
+    ensures write_fault { result ≡ Status.WriteFault → Rose (K.faults sink.old) (K.faults sink.new) }
+    ensures answered { IfSome (F.contents files.old) (λ told. Answers (status_of told settings.now) (SomeRose (F.faults files.old) (F.faults files.new) (named settings.now)) (Rose (K.faults sink.old) (K.faults sink.new)) result) }
+{
+    match read_infs(alloc, files, &settings.infs) {
+        Ok(_) => run_script(alloc, settings.script.bytes(), rack, files, sink),
+        Err(InfsError::Refused(number, error)) => answer_refusal(alloc, number, error, sink),
+        Err(InfsError::TooLarge) => Status::TooLarge,
+        Err(InfsError::ReadFault) => Status::ReadFault,
+        Err(InfsError::WantOfMemory) => Status::WantOfMemory,
+    }
+}
+
 /// The same as `run`, over drivers of one type.
 fn run_over<D: Driver, F: Files, K: Sink>(
     alloc: Global,
@@ -116,31 +153,32 @@ fn run_over<D: Driver, F: Files, K: Sink>(
     sink: &mut K,
 ) -> Status
     requires { length drivers.items < 2 ^ 32 }
-    ensures bad_words { result ≡ Status.BadWords ↔ (settings (map (λ word. string_bytes word) words.now) ≡ None) }
-    ensures refused { settings (map (λ word. string_bytes word) words.now) ≡ None → Untouched F.contents F.faults K.taken K.faults files.old files.new sink.old sink.new }
-    ensures infs { result ≡ Status.BadInf → ⊥ }
-    ensures done { result ≡ Status.Done → IfSome (settings (map (λ word. string_bytes word) words.now)) (λ name. Wrote (F.contents files.old) (map (λ d. unnamed (D.kind_of d) (D.book d)) drivers.items) name false (K.taken sink.old) (K.taken sink.new)) }
-    ensures bad_script { result ≡ Status.BadScript → IfSome (settings (map (λ word. string_bytes word) words.now)) (λ name. Wrote (F.contents files.old) (map (λ d. unnamed (D.kind_of d) (D.book d)) drivers.items) name true (K.taken sink.old) (K.taken sink.new)) }
-    ensures too_large { result ≡ Status.TooLarge → IfSome (settings (map (λ word. string_bytes word) words.now)) (λ name. HoldsMore (F.contents files.old) name limit) }
-    ensures read_fault { result ≡ Status.ReadFault → IfSome (settings (map (λ word. string_bytes word) words.now)) (λ name. Rose (F.faults files.old name) (F.faults files.new name)) }
+    ensures bad_words { result ≡ Status.BadWords → settings_of (map (λ word. string_bytes word) words.now) ≡ None }
+    ensures refused { settings_of (map (λ word. string_bytes word) words.now) ≡ None → (result ≡ Status.BadWords) ⊎ (result ≡ Status.WantOfMemory) }
+    ensures untouched { settings_of (map (λ word. string_bytes word) words.now) ≡ None → Untouched F.contents F.faults K.taken K.faults files.old files.new sink.old sink.new }
+    ensures decided { is_decided result ≡ true → IfSome (settings_of (map (λ word. string_bytes word) words.now)) (λ s. IfSome (F.contents files.old) (λ told. status_of told s ≡ Some result)) }
+    ensures whole { is_whole result ≡ true → IfSome (settings_of (map (λ word. string_bytes word) words.now)) (λ s. IfSome (F.contents files.old) (λ told. Wrote (IsOutput (map (λ d. unnamed (D.kind_of d) (D.book d)) drivers.items) told s) (K.taken sink.old) (K.taken sink.new))) }
+    ensures front { IfSome (settings_of (map (λ word. string_bytes word) words.now)) (λ s. IfSome (F.contents files.old) (λ told. WroteFront (IsOutput (map (λ d. unnamed (D.kind_of d) (D.book d)) drivers.items) told s) (K.taken sink.old) (K.taken sink.new))) }
+    ensures read_fault { result ≡ Status.ReadFault → IfSome (settings_of (map (λ word. string_bytes word) words.now)) (λ s. SomeRose (F.faults files.old) (F.faults files.new) (named s)) }
     ensures write_fault { result ≡ Status.WriteFault → Rose (K.faults sink.old) (K.faults sink.new) }
-    ensures front { IfSome (settings (map (λ word. string_bytes word) words.now)) (λ name. WroteFront (F.contents files.old) (map (λ d. unnamed (D.kind_of d) (D.book d)) drivers.items) name (K.taken sink.old) (K.taken sink.new)) }
-    ensures answered { IfSome (settings (map (λ word. string_bytes word) words.now)) (λ name. IsAnswered (F.contents files.old) name (Rose (F.faults files.old name) (F.faults files.new name)) (Rose (K.faults sink.old) (K.faults sink.new)) result) }
-    ensures over { IfSome (settings (map (λ word. string_bytes word) words.now)) (λ name. IsTooLarge (F.contents files.old) name (Rose (F.faults files.old name) (F.faults files.new name)) result) }
+    ensures answered { IfSome (settings_of (map (λ word. string_bytes word) words.now)) (λ s. IfSome (F.contents files.old) (λ told. Answers (status_of told s) (SomeRose (F.faults files.old) (F.faults files.new) (named s)) (Rose (K.faults sink.old) (K.faults sink.new)) result)) }
 {
-    match script_named(words) {
-        None => Status::BadWords,
-        Some(name) => match Rack::make(alloc, drivers) {
-            Ok(rack) => run_script(alloc, name.as_bytes(), rack, files, sink),
+    match settings(alloc, words) {
+        Err(WordsError::BadWords) => Status::BadWords,
+        Err(WordsError::WantOfMemory) => Status::WantOfMemory,
+        Ok(settings) => match Rack::make(alloc, drivers) {
+            Ok(rack) => run_settings(alloc, &settings, rack, files, sink),
             Err(_) => Status::WantOfMemory,
         },
     }
 }
 
-/// Runs the script that the words name, over the drivers of a rack, and writes its output and nothing else.
-/// The condition is that the rack has fewer than 2^32 drivers. Each status comes as its clauses say; after a
-/// fault, and after want of memory, what was written is a front of the output. Cost: near linear in the
-/// script's bytes and in what is written. This project's own.
+/// Reads the words, then each INF that they name, which is checked before the next one is read, and then the
+/// script, runs it over the drivers of a rack, and writes its output and nothing else; where an INF is refused,
+/// its number, error and line are the output. The condition is that the rack has fewer than 2^32 drivers. Each
+/// status comes as its clauses say; after a fault, and after want of memory, what was written is a front of the
+/// output. Until the parts that choose drivers and search for resources are built, what the INFs say and the
+/// budget are not used. Cost: near linear in the bytes read and written. This project's own.
 pub fn run<F: Files, K: Sink>(
     alloc: Global,
     words: &[String],
@@ -149,17 +187,15 @@ pub fn run<F: Files, K: Sink>(
     sink: &mut K,
 ) -> Status
     requires { length rack.items < 2 ^ 32 }
-    ensures bad_words { result ≡ Status.BadWords ↔ (settings (map (λ word. string_bytes word) words.now) ≡ None) }
-    ensures refused { settings (map (λ word. string_bytes word) words.now) ≡ None → Untouched F.contents F.faults K.taken K.faults files.old files.new sink.old sink.new }
-    ensures infs { result ≡ Status.BadInf → ⊥ }
-    ensures done { result ≡ Status.Done → IfSome (settings (map (λ word. string_bytes word) words.now)) (λ name. Wrote (F.contents files.old) (map (λ b. unnamed (kind_of b) (book b)) rack.items) name false (K.taken sink.old) (K.taken sink.new)) }
-    ensures bad_script { result ≡ Status.BadScript → IfSome (settings (map (λ word. string_bytes word) words.now)) (λ name. Wrote (F.contents files.old) (map (λ b. unnamed (kind_of b) (book b)) rack.items) name true (K.taken sink.old) (K.taken sink.new)) }
-    ensures too_large { result ≡ Status.TooLarge → IfSome (settings (map (λ word. string_bytes word) words.now)) (λ name. HoldsMore (F.contents files.old) name limit) }
-    ensures read_fault { result ≡ Status.ReadFault → IfSome (settings (map (λ word. string_bytes word) words.now)) (λ name. Rose (F.faults files.old name) (F.faults files.new name)) }
+    ensures bad_words { result ≡ Status.BadWords → settings_of (map (λ word. string_bytes word) words.now) ≡ None }
+    ensures refused { settings_of (map (λ word. string_bytes word) words.now) ≡ None → (result ≡ Status.BadWords) ⊎ (result ≡ Status.WantOfMemory) }
+    ensures untouched { settings_of (map (λ word. string_bytes word) words.now) ≡ None → Untouched F.contents F.faults K.taken K.faults files.old files.new sink.old sink.new }
+    ensures decided { is_decided result ≡ true → IfSome (settings_of (map (λ word. string_bytes word) words.now)) (λ s. IfSome (F.contents files.old) (λ told. status_of told s ≡ Some result)) }
+    ensures whole { is_whole result ≡ true → IfSome (settings_of (map (λ word. string_bytes word) words.now)) (λ s. IfSome (F.contents files.old) (λ told. Wrote (IsOutput (map (λ b. unnamed (kind_of b) (book b)) rack.items) told s) (K.taken sink.old) (K.taken sink.new))) }
+    ensures front { IfSome (settings_of (map (λ word. string_bytes word) words.now)) (λ s. IfSome (F.contents files.old) (λ told. WroteFront (IsOutput (map (λ b. unnamed (kind_of b) (book b)) rack.items) told s) (K.taken sink.old) (K.taken sink.new))) }
+    ensures read_fault { result ≡ Status.ReadFault → IfSome (settings_of (map (λ word. string_bytes word) words.now)) (λ s. SomeRose (F.faults files.old) (F.faults files.new) (named s)) }
     ensures write_fault { result ≡ Status.WriteFault → Rose (K.faults sink.old) (K.faults sink.new) }
-    ensures front { IfSome (settings (map (λ word. string_bytes word) words.now)) (λ name. WroteFront (F.contents files.old) (map (λ b. unnamed (kind_of b) (book b)) rack.items) name (K.taken sink.old) (K.taken sink.new)) }
-    ensures answered { IfSome (settings (map (λ word. string_bytes word) words.now)) (λ name. IsAnswered (F.contents files.old) name (Rose (F.faults files.old name) (F.faults files.new name)) (Rose (K.faults sink.old) (K.faults sink.new)) result) }
-    ensures over { IfSome (settings (map (λ word. string_bytes word) words.now)) (λ name. IsTooLarge (F.contents files.old) name (Rose (F.faults files.old name) (F.faults files.new name)) result) }
+    ensures answered { IfSome (settings_of (map (λ word. string_bytes word) words.now)) (λ s. IfSome (F.contents files.old) (λ told. Answers (status_of told s) (SomeRose (F.faults files.old) (F.faults files.new) (named s)) (Rose (K.faults sink.old) (K.faults sink.new)) result)) }
 {
     run_over(alloc, words, rack, files, sink)
 }

@@ -1,3 +1,4 @@
+use crate::word_tests::words_of;
 use crate::{Status, run};
 use driver_rack::{Driver, Scripted, Steady, Stubborn};
 use pnp_io::{MemFiles, MemSink};
@@ -7,10 +8,7 @@ use std::test::Fail;
 
 /// The words `pnpmgr s`.
 fn words(alloc: Global) -> Result<Vec<String>, Fail> {
-    let mut words = Vec::new(alloc);
-    words.push(String::from_str(alloc, "pnpmgr")?)?;
-    words.push(String::from_str(alloc, "s")?)?;
-    Ok(words)
+    words_of(alloc, &["pnpmgr", "s"])
 }
 
 /// Runs a script over a rack, and compares the status and what was written.

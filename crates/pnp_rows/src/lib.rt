@@ -2,4 +2,16 @@
 #![tactic(auto)]
 
 #[cfg(test)]
+mod inf_encodings;
+#[cfg(test)]
+mod inf_lines;
+#[cfg(test)]
+mod inf_models;
+#[cfg(test)]
+mod inf_told;
+#[cfg(test)]
+mod inf_vendors;
+#[cfg(test)]
+mod inf_versions;
+#[cfg(test)]
 mod script_lines;

@@ -1,0 +1,10 @@
+use Rattle.std.proofs.Common.{map, string_bytes}
+use Rattle.driver_rack.specs.Rows.{unnamed}
+use Rattle.pnp_cli.specs.Words.{settings_of}
+use Rattle.pnp_cli.proofs.Fronts.{none_of_output}
+use Rattle.pnp_cli.proofs.program.run_over.Goals as goal
+
+pub returns-clause-front : goal.returns-clause-front
+returns-clause-front g c =
+    none_of_output (settings_of (map (λ word. string_bytes word) c.args.words.now)) (g.F.Files.contents c.args.files.now)
+    (map (λ d. unnamed (g.D.Driver.kind_of d) (g.D.Driver.book d)) c.args.drivers.items) (g.K.Sink.taken c.args.sink.now)

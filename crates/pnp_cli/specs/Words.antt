@@ -1,0 +1,73 @@
+-- The command of the program, which words it takes, and what they say.
+use Rattle.std.specs.Prelude.{ℕ, ◌+◌, ◌*◌, ◌-◌, ◌&&◌, nat_le, length, if◌then◌else◌, Bool, true, false, List, [], ◌∷◌, Option, Some, None, codes, unwrap_or}
+use Rattle.clap.specs.Walk.{Row, Rule, Text, first_of, all_of}
+use Rattle.clap.specs.Simple.{App, matches_of, new_app, new_rule, on_top, with_rule}
+use Rattle.clap.specs.Faults.{fault_of}
+use Rattle.clap.specs.Kinds.{Kinds}
+use Rattle.clap.specs.declared.builder.action.ArgAction.TheVariants.{Append}
+use Rattle.pnp_cli.specs.declared.parts.Settings.{Settings}
+
+abbrev pub budget_rule : Rule
+budget_rule = record (new_rule (codes "budget")) { long = Some (codes "budget") }
+
+abbrev pub script_rule : Rule
+script_rule = new_rule (codes "script")
+
+abbrev pub inf_rule : Rule
+inf_rule = record (new_rule (codes "inf")) { action = Some Append }
+
+-- a command without a flag for help
+abbrev pub bare : App
+bare = on_top (λ s. record s { disable_help_flag = true }) (new_app (codes "pnpmgr"))
+
+-- one option with a value, one word for the script, and then any number of words for INFs
+abbrev pub pnpmgr : App
+pnpmgr = with_rule (with_rule (with_rule bare budget_rule) script_rule) inf_rule
+
+abbrev pub has_none : Kinds → Bool
+has_none [] = true
+has_none (k ∷ ks) = false
+
+-- the command refuses the words for no cause
+abbrev pub is_accepted : List Text → Bool
+is_accepted words = has_none (fault_of pnpmgr words)
+
+abbrev pub is_digit : ℕ → Bool
+is_digit b = nat_le 48 b && nat_le b 57
+
+abbrev pub digits_from : ℕ → List ℕ → Option ℕ
+digits_from n [] = Some n
+digits_from n (b ∷ bs) = if is_digit b then digits_from (n * 10 + (b - 48)) bs else None
+
+-- a number is one to seven decimal digits
+abbrev pub number_of : Text → Option ℕ
+number_of text = if nat_le 1 (length text) && nat_le (length text) 7 then digits_from 0 text else None
+
+-- a budget is a number from 1 to 1,000,000
+abbrev pub within : Option ℕ → Option ℕ
+within None = None
+within (Some n) = if nat_le 1 n && nat_le n 1000000 then Some n else None
+
+-- without the option it is 20,000
+abbrev pub budget_of : Option Text → Option ℕ
+budget_of None = Some 20000
+budget_of (Some text) = within (number_of text)
+
+abbrev pub infs_of : List Row → List Text
+infs_of rows = unwrap_or (all_of (codes "inf") rows) []
+
+-- a script and a good budget are given
+abbrev pub given : Option Text → List Text → Option ℕ → Option Settings
+given (Some script) infs (Some budget) = Some (record { script = script; infs = infs; budget = budget })
+given _ infs _ = None
+
+-- what was found gives settings where it has a script, a good budget and at most 64 INFs
+abbrev pub parts_of : List Row → Option Settings
+parts_of rows = if nat_le (length (infs_of rows)) 64
+    then given (first_of (codes "script") rows) (infs_of rows) (budget_of (first_of (codes "budget") rows))
+    else None
+
+-- The settings that the words of a command line give, or none where they are refused; the first word is the program's name.
+abbrev pub settings_of : List Text → Option Settings
+settings_of [] = None
+settings_of (program ∷ words) = if is_accepted (program ∷ words) then parts_of (matches_of pnpmgr (program ∷ words)) else None

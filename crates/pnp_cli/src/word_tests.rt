@@ -1,0 +1,252 @@
+//! The words of the command line, and the INFs that they name.
+use crate::{Settings, Status, WordsError, run, settings};
+use pnp_io::{MemFiles, MemSink};
+use std::alloc::{AllocError, Global};
+use std::process::Abort;
+use std::test::Fail;
+
+/// Words of their own.
+pub fn words_of(alloc: Global, texts: &[&str]) -> Result<Vec<String>, Fail> {
+    let mut words = Vec::new(alloc);
+    for text in texts {
+        words.push(String::from_str(alloc, text)?)?;
+    }
+    Ok(words)
+}
+
+/// What the words say: the script, the INFs and the budget.
+fn said(alloc: Global, settings: &Settings) -> Result<Vec<u8>, AllocError> {
+    let mut said = Vec::from_slice(alloc, settings.script.bytes())?;
+    for at in 0..settings.infs.len() {
+        said.push(b' ')?;
+        said.extend_from_slice(settings.infs.get(at).bytes())?;
+    }
+    let budget = format!(in alloc; " {}", settings.budget)?;
+    said.extend_from_slice(budget.as_bytes())?;
+    Ok(said)
+}
+
+const GOOD: [(&[&str], &[u8]); 9] = [
+    (&["pnpmgr", "s"], b"s 20000"),
+    (&["-", "s"], b"s 20000"),
+    (&["pnpmgr", "s", "i", "j"], b"s i j 20000"),
+    (&["pnpmgr", "--budget", "7", "s", "i"], b"s i 7"),
+    (&["pnpmgr", "s", "--budget=1000000", "i"], b"s i 1000000"),
+    (&["pnpmgr", "s", "i", "--budget", "0000001"], b"s i 1"),
+    (&["pnpmgr", "--", "--budget", "-x"], b"--budget -x 20000"),
+    (&["pnpmgr", "s", "--", "--gen"], b"s --gen 20000"),
+    (&["pnpmgr", "-"], b"- 20000"),
+];
+
+#[test]
+fn good_words(rt: HostRuntime) -> Result<(), Fail> {
+    let alloc = rt.alloc();
+    for (texts, want) in GOOD {
+        let words = words_of(alloc, texts)?;
+        match settings(alloc, &words) {
+            Ok(settings) => {
+                let said = said(alloc, &settings)?;
+                assert!(rt; said.as_slice() == want, "{texts:?} {said:?}");
+            }
+            Err(error) => panic!(rt; "{texts:?} {error:?}"),
+        }
+    }
+    Ok(())
+}
+
+const BAD: [&[&str]; 19] = [
+    &[],
+    &["pnpmgr"],
+    &["pnpmgr", "--budget", "0", "s"],
+    &["pnpmgr", "--budget", "x", "s"],
+    &["pnpmgr", "--gen", "3", "s"],
+    &["pnpmgr", "--budget", "1000001", "s"],
+    &["pnpmgr", "--budget", "00000001", "s"],
+    &["pnpmgr", "--budget", "0x10", "s"],
+    &["pnpmgr", "--budget", "+1", "s"],
+    &["pnpmgr", "--budget", "-1", "s"],
+    &["pnpmgr", "--budget=-1", "s"],
+    &["pnpmgr", "--budget=", "s"],
+    &["pnpmgr", "s", "--budget"],
+    &["pnpmgr", "--budget", "1", "--budget", "1", "s"],
+    &["pnpmgr", "--budget", "7"],
+    &["pnpmgr", "--help"],
+    &["pnpmgr", "-h", "s"],
+    &["pnpmgr", "--version"],
+    &["pnpmgr", "s", "-i"],
+];
+
+#[test]
+fn bad_words(rt: HostRuntime) -> Result<(), Fail> {
+    let alloc = rt.alloc();
+    for texts in BAD {
+        let words = words_of(alloc, texts)?;
+        match settings(alloc, &words) {
+            Ok(_) => panic!(rt; "{texts:?} was taken"),
+            Err(error) => assert_eq!(rt; error, WordsError::BadWords),
+        }
+        let mut files = MemFiles::new(alloc);
+        let mut sink = MemSink::new(alloc, 64)?;
+        let status = run(alloc, &words, Vec::new(alloc), &mut files, &mut sink);
+        assert_eq!(rt; status, Status::BadWords);
+        assert_eq!(rt; sink.taken().len(), 0);
+    }
+    Ok(())
+}
+
+#[test]
+fn at_most_64_infs(rt: HostRuntime) -> Result<(), Fail> {
+    let alloc = rt.alloc();
+    let mut words = words_of(alloc, &["pnpmgr", "s"])?;
+    for _ in 0..64 {
+        words.push(String::from_str(alloc, "i")?)?;
+    }
+    match settings(alloc, &words) {
+        Ok(settings) => assert_eq!(rt; settings.infs.len(), 64),
+        Err(error) => panic!(rt; "{error:?}"),
+    }
+    words.push(String::from_str(alloc, "i")?)?;
+    assert_eq!(rt; settings(alloc, &words).err(), Some(WordsError::BadWords));
+    Ok(())
+}
+
+const GOOD_INF: &[u8] = b"[Version]\nSignature=$Chicago$\n";
+
+/// Files of these names, with their bytes.
+fn files_of(alloc: Global, named: &[(&str, &[u8])]) -> Result<MemFiles, Fail> {
+    let mut files = MemFiles::new(alloc);
+    for (name, bytes) in named {
+        files.add(name.as_bytes(), bytes)?;
+    }
+    Ok(files)
+}
+
+/// Runs the script `s` with the INFs `1` to `3`, and compares the status and what was written.
+fn answers(
+    rt: &impl Abort,
+    alloc: Global,
+    files: &mut MemFiles,
+    status: Status,
+    text: &str,
+) -> Result<(), Fail> {
+    let words = words_of(alloc, &["pnpmgr", "s", "1", "2", "3"])?;
+    let mut sink = MemSink::new(alloc, 4096)?;
+    let answer = run(alloc, &words, Vec::new(alloc), files, &mut sink);
+    assert_eq!(rt; answer, status);
+    assert!(rt; sink.taken() == text.as_bytes(), "{:?}", sink.taken());
+    Ok(())
+}
+
+const REFUSED: [(&[(&str, &[u8])], &str); 8] = [
+    (&[("1", b"")], "inf 1 error 1 line 0\n"),
+    (&[("1", b"[Version")], "inf 1 error 2 line 1\n"),
+    (
+        &[("1", GOOD_INF), ("2", b"[Version]\nDriverVer=x\n")],
+        "inf 2 error 4 line 2\n",
+    ),
+    (
+        &[
+            ("1", GOOD_INF),
+            ("2", GOOD_INF),
+            ("3", b"[Z]\n\nFeatureScore=x\n"),
+        ],
+        "inf 3 error 5 line 3\n",
+    ),
+    (
+        &[("s", b"plag"), ("1", b"\n[Z"), ("2", b"[Z"), ("3", b"[Z")],
+        "inf 1 error 2 line 2\n",
+    ),
+    (&[("1", b""), ("3", GOOD_INF)], "inf 1 error 1 line 0\n"),
+    (&[("1", GOOD_INF), ("2", b"x"), ("s", b"")], "inf 2 error 1 line 0\n"),
+    (
+        &[("1", b"[Version]\nSignature=$Windows 95$\n"), ("2", b"")],
+        "inf 1 error 1 line 0\n",
+    ),
+];
+
+#[test]
+fn refused_infs(rt: HostRuntime) -> Result<(), Fail> {
+    let alloc = rt.alloc();
+    for (named, text) in REFUSED {
+        let mut files = files_of(alloc, named)?;
+        answers(&rt, alloc, &mut files, Status::BadInf, text)?;
+    }
+    Ok(())
+}
+
+/// Files in which one is not there: the earliest one that is not taken decides.
+const MISSING: [&[(&str, &[u8])]; 5] = [
+    &[],
+    &[("s", b""), ("2", b""), ("3", b"")],
+    &[("s", b""), ("1", GOOD_INF), ("3", b"")],
+    &[("s", b""), ("1", GOOD_INF), ("2", GOOD_INF)],
+    &[("1", GOOD_INF), ("2", GOOD_INF), ("3", GOOD_INF)],
+];
+
+#[test]
+fn missing_files(rt: HostRuntime) -> Result<(), Fail> {
+    let alloc = rt.alloc();
+    for named in MISSING {
+        let mut files = files_of(alloc, named)?;
+        answers(&rt, alloc, &mut files, Status::ReadFault, "")?;
+    }
+    Ok(())
+}
+
+const ALL_THERE: [(&str, &[u8]); 4] = [
+    ("s", b"plag"),
+    ("1", GOOD_INF),
+    ("2", GOOD_INF),
+    ("3", GOOD_INF),
+];
+
+#[test]
+fn taken_infs(rt: HostRuntime) -> Result<(), Fail> {
+    let alloc = rt.alloc();
+    let mut files = files_of(alloc, &ALL_THERE)?;
+    let text = "script error line 1\ntree\n0 HTREE\\ROOT\\0 Started\nmap\noutstanding\n";
+    answers(&rt, alloc, &mut files, Status::BadScript, text)?;
+    files.add(b"s", b"")?;
+    let text = "tree\n0 HTREE\\ROOT\\0 Started\nmap\noutstanding\n";
+    answers(&rt, alloc, &mut files, Status::Done, text)
+}
+
+/// Each file takes two reads; whichever fails, nothing is written.
+#[test]
+fn each_read_fails(rt: HostRuntime) -> Result<(), Fail> {
+    let alloc = rt.alloc();
+    for call in 1..9 {
+        let mut files = files_of(alloc, &ALL_THERE)?;
+        files.fail_at(call)?;
+        answers(&rt, alloc, &mut files, Status::ReadFault, "")?;
+    }
+    Ok(())
+}
+
+/// An INF of 16,777,217 bytes, and then such a script.
+#[test]
+fn large_files(rt: HostRuntime) -> Result<(), Fail> {
+    let alloc = rt.alloc();
+    let bytes = vec![in alloc; b';'; 16_777_217]?;
+    let mut files = files_of(alloc, &ALL_THERE)?;
+    files.add(b"2", &bytes)?;
+    answers(&rt, alloc, &mut files, Status::TooLarge, "")?;
+    files.add(b"2", GOOD_INF)?;
+    files.add(b"s", &bytes)?;
+    answers(&rt, alloc, &mut files, Status::TooLarge, "")?;
+    files.add(b"1", b"")?;
+    let text = "inf 1 error 1 line 0\n";
+    answers(&rt, alloc, &mut files, Status::BadInf, text)
+}
+
+#[test]
+fn a_refusal_that_is_not_written(rt: HostRuntime) -> Result<(), Fail> {
+    let alloc = rt.alloc();
+    let words = words_of(alloc, &["pnpmgr", "s", "1"])?;
+    let mut files = files_of(alloc, &[("1", b"")])?;
+    let mut sink = MemSink::new(alloc, 9)?;
+    let answer = run(alloc, &words, Vec::new(alloc), &mut files, &mut sink);
+    assert_eq!(rt; answer, Status::WriteFault);
+    assert_eq!(rt; sink.taken(), b"inf 1 err".as_slice());
+    Ok(())
+}

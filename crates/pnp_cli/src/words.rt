@@ -1,0 +1,169 @@
+//! The words of the command line, read by one simple command.
+ghost use Rattle.std.specs.Prelude.{◌≡◌, ◌≤◌, ◌<◌, Some, None, IfOk, IsErrOf, map, option_map, string_bytes, true, false, length};
+ghost use Rattle.clap.specs.Simple.{app_of, matches_of};
+ghost use Rattle.clap.specs.Walk.{rows_of, first_of, all_of};
+ghost use Rattle.clap.specs.Matches.{found_of};
+ghost use Rattle.pnp_cli.specs.Words.{pnpmgr, is_accepted, number_of, within, budget_of, parts_of, infs_of, settings_of};
+ghost use Rattle.pnp_cli.specs.declared.parts.WordsError.TheVariants.{BadWords};
+
+use crate::parts::{Settings, WordsError};
+use clap::error::ErrorKind;
+use clap::{Arg, ArgAction, ArgMatches, Command};
+use device_ids::{Text, TextList, WantOfMemory};
+use std::alloc::Global;
+
+/// The most INFs that the words may name: this project's own.
+const MOST_INFS: usize = 64;
+
+/// The budget where none is given: this project's own.
+const BUDGET: u64 = 20_000;
+
+/// The command: `pnpmgr [--budget N] SCRIPT [INF ...]`.
+fn command<'a>(alloc: Global) -> Result<Command<'a>, WantOfMemory>
+    ensures { IfOk result (λ c. app_of c ≡ pnpmgr) }
+{
+    let budget = Arg::new(alloc, "budget").long("budget");
+    let script = Arg::new(alloc, "script");
+    let inf = Arg::new(alloc, "inf").action(ArgAction::Append);
+    let plain = Command::new(alloc, "pnpmgr").disable_help_flag(true);
+    let with_budget = plain.arg(budget)?;
+    let with_script = with_budget.arg(script)?;
+    with_script.arg(inf)
+}
+
+/// What the command finds in the words.
+fn matches<'a>(alloc: Global, words: &'a [String]) -> Result<ArgMatches<'a>, WordsError>
+    ensures ok { IfOk result (λ m. (is_accepted (map (λ word. string_bytes word) words.now) ≡ true) × (rows_of (found_of m) ≡ matches_of pnpmgr (map (λ word. string_bytes word) words.now))) }
+    ensures bad { IsErrOf result BadWords → is_accepted (map (λ word. string_bytes word) words.now) ≡ false }
+{
+    let command = command(alloc)?;
+    match command.try_get_matches_from(words) {
+        Ok(matches) => Ok(matches),
+        Err(error) => match error.kind() {
+            ErrorKind::OutOfMemory => Err(WordsError::WantOfMemory),
+            _ => Err(WordsError::BadWords),
+        },
+    }
+}
+
+/// The number that a text of one to seven decimal digits writes.
+fn number(text: &str) -> Option<u64>
+    ensures { result ≡ number_of text.now }
+{
+    let bytes = text.as_bytes();
+    if bytes.is_empty() || bytes.len() > 7 {
+        return None;
+    }
+    let mut n = 0u64;
+    for b in bytes {
+        if !(48 <= *b && *b <= 57) {
+            return None;
+        }
+        n = n * 10 + (*b - 48) as u64;
+    }
+    Some(n)
+}
+
+/// A number, if it is a budget.
+fn within(number: Option<u64>) -> Option<u64>
+    ensures { result ≡ within number }
+{
+    match number {
+        None => None,
+        Some(n) => {
+            if 1 <= n && n <= 1_000_000 {
+                Some(n)
+            } else {
+                None
+            }
+        }
+    }
+}
+
+/// The budget of the option's value.
+fn budget_of(text: Option<&str>) -> Option<u64>
+    ensures { result ≡ budget_of (option_map (λ t. t.now) text.entry) }
+{
+    match text {
+        None => Some(BUDGET),
+        Some(text) => within(number(text)),
+    }
+}
+
+/// The first text that was found for an argument.
+fn text_found<'a>(found: &ArgMatches<'a>, id: &str) -> Option<&'a str>
+    ensures { option_map (λ t. t.now) result ≡ first_of id.now (rows_of (found_of found.now)) }
+{
+    found.get_str(id)
+}
+
+/// All texts that were found for an argument.
+fn texts_found<'b, 'a>(found: &'b ArgMatches<'a>, id: &str) -> Option<&'b [&'a str]>
+    ensures { option_map (λ all. map (λ t. t.now) all.now) result ≡ all_of id.now (rows_of (found_of found.now)) }
+{
+    found.get_strs(id)
+}
+
+/// A list of texts, copied.
+fn copied(alloc: Global, texts: &[&str]) -> Result<TextList, WantOfMemory>
+    ensures { IfOk result (λ all. all ≡ map (λ t. t.now) texts.now) }
+{
+    let mut all = TextList::new(alloc);
+    for text in texts {
+        all.push(Text::make(alloc, text.as_bytes())?)?;
+    }
+    Ok(all)
+}
+
+/// The INFs that were found, where they are at most 64.
+fn infs_found(alloc: Global, found: &ArgMatches) -> Result<TextList, WordsError>
+    ensures ok { IfOk result (λ all. (all ≡ infs_of (rows_of (found_of found.now))) × (length (infs_of (rows_of (found_of found.now))) ≤ 64)) }
+    ensures bad { IsErrOf result BadWords → 64 < length (infs_of (rows_of (found_of found.now))) }
+{
+    match texts_found(found, "inf") {
+        None => Ok(TextList::new(alloc)),
+        Some(texts) => {
+            if texts.len() > MOST_INFS {
+                return Err(WordsError::BadWords);
+            }
+            let infs = copied(alloc, texts)?;
+            Ok(infs)
+        }
+    }
+}
+
+/// The settings by what was found.
+fn settings_from(alloc: Global, found: &ArgMatches) -> Result<Settings, WordsError>
+    ensures ok { IfOk result (λ s. parts_of (rows_of (found_of found.now)) ≡ Some s) }
+    ensures bad { IsErrOf result BadWords → parts_of (rows_of (found_of found.now)) ≡ None }
+{
+    let infs = infs_found(alloc, found)?;
+    let Some(budget) = budget_of(text_found(found, "budget")) else {
+        return Err(WordsError::BadWords);
+    };
+    let Some(script) = text_found(found, "script") else {
+        return Err(WordsError::BadWords);
+    };
+    let script = Text::make(alloc, script.as_bytes())?;
+    Ok(Settings {
+        script,
+        infs,
+        budget,
+    })
+}
+
+/// The settings that the words give: the program's name, which is not looked at, and then
+/// `[--budget N] SCRIPT [INF ...]`, as one simple command. `BadWords` comes only where the command refuses the
+/// words, no script is named, the budget is no number of one to seven decimal digits or outside 1 to
+/// 1,000,000, or more than 64 INFs are named; and there nothing but `WantOfMemory` may come in its place. Cost:
+/// the words' bytes. This project's own.
+pub fn settings(alloc: Global, words: &[String]) -> Result<Settings, WordsError>
+    ensures ok { IfOk result (λ s. settings_of (map (λ word. string_bytes word) words.now) ≡ Some s) }
+    ensures bad { IsErrOf result BadWords → settings_of (map (λ word. string_bytes word) words.now) ≡ None }
+{
+    if words.is_empty() {
+        return Err(WordsError::BadWords);
+    }
+    let found = matches(alloc, words)?;
+    settings_from(alloc, &found)
+}
