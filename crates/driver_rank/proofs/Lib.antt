@@ -1,0 +1,6 @@
+pub mod Firsts
+pub mod Orders
+pub mod Steps
+pub mod Keys
+pub mod Totals
+pub mod Winners
