@@ -27,12 +27,9 @@ AskedOf w path rack driver label w' rack' =
     (label ≡ Label.Asked w.minor path (name_of rack driver) (shown_of w.minor (rack_reply (Irp w.minor) path rack driver)))
     × (w' ≡ after w (rack_reply (Irp w.minor) path rack driver)) × (rack' ≡ rack_after (Irp w.minor) path rack driver)
 
--- by whether the request has ended
-abbrev pub PassesBy : Bool → Walk → List ℕ → Text → List Driver → Passed → Walk → List Driver → Type 0
-PassesBy true w stack path rack (Ended refused) w' rack' = (refused ≡ is_bad w) × (w' ≡ w) × (rack' ≡ rack)
-PassesBy false w stack path rack (Asked label) w' rack' = AskedOf w path rack (front w stack) label w' rack'
-PassesBy true w stack path rack (Asked label) w' rack' = ⊥
-PassesBy false w stack path rack (Ended refused) w' rack' = ⊥
-
+-- it has ended, or the next driver was asked
 abbrev pub Passes : Walk → List ℕ → Text → List Driver → Passed → Walk → List Driver → Type 0
-Passes w stack path rack passed w' rack' = PassesBy (has_ended w (length stack)) w stack path rack passed w' rack'
+Passes w stack path rack (Ended refused) w' rack' =
+    (has_ended w (length stack) ≡ true) × (refused ≡ is_bad w) × (w' ≡ w) × (rack' ≡ rack)
+Passes w stack path rack (Asked label) w' rack' =
+    (has_ended w (length stack) ≡ false) × AskedOf w path rack (front w stack) label w' rack'

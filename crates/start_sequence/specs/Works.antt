@@ -1,5 +1,5 @@
 -- What a start is in the words of the machine.
-use Rattle.std.specs.Prelude.{◌≡◌, Bool, true, false, Option, Some, None, Ok, Err, Result}
+use Rattle.std.specs.Prelude.{◌≡◌, Bool, true, false, List, [], ◌∷◌, Option, Some, None, Ok, Err, Result}
 use Rattle.pnp_labels.specs.declared.words.Minor.{Minor}
 use Rattle.pnp_model.specs.Records as Records
 use Rattle.pnp_model.specs.Records.{Activity, Walk}
@@ -9,6 +9,10 @@ use Rattle.pnp_model.specs.Walks.{after}
 use Rattle.device_stack.specs.declared.walk.NoSuchRequest.{NoSuchRequest}
 use Rattle.start_sequence.specs.declared.work.Phase.{Phase}
 use Rattle.start_sequence.specs.declared.work.Phase.TheVariants.{Adding, Searching, Starting, Removing, Due}
+
+abbrev pub is_empty : {A : Type 0} → List A → Bool
+is_empty [] = true
+is_empty (x ∷ xs) = false
 
 abbrev pub phase_of : Phase → Records.Phase
 phase_of (Adding drivers) = Records.Phase.Adding drivers

@@ -1,9 +1,9 @@
-ghost use Rattle.std.specs.Prelude.{◌≡◌, ℕ, ◌+◌, IfOk, OnErr, IsSome, length};
+ghost use Rattle.std.specs.Prelude.{◌≡◌, ◌≤◌, ℕ, IfOk, OnErr, IsSome, length};
 ghost use Rattle.pnp_model.specs.Cores.{node_at};
-ghost use Rattle.pnp_model.specs.Records.{State, Relation};
-ghost use Rattle.pnp_model.specs.Tasks.{start_enabled};
-ghost use Rattle.resource_reqs.specs.Resources.{Res};
-ghost use Rattle.start_sequence.specs.Begins.{settings_of, step_of, numbers_of, AppendedBy, ChosenBy, BegunFor};
+ghost use Rattle.pnp_model.specs.Records.{State};
+ghost use Rattle.pnp_model.specs.Tasks.{start_enabled, numbered};
+ghost use Rattle.devnode_tree.specs.Identities.{identities};
+ghost use Rattle.start_sequence.specs.Begins.{settings_of, step_of, AppendedBy, ChosenBy, HasFewIds, BegunFor};
 ghost use Rattle.start_sequence.specs.Works.{phase_of};
 ghost use Rattle.pnp_model.specs.Starts.{adding};
 
@@ -40,7 +40,7 @@ fn append_numbers<R: Drivers>(
     rack: &R,
     names: &TextList,
 ) -> Result<bool, WantOfMemory>
-    ensures { IfOk result (λ all. AppendedBy (numbers_of (R.rows rack.now) names.now) all drivers.old.items drivers.new.items) }
+    ensures { IfOk result (λ all. AppendedBy (numbered (R.rows rack.now) names.now) all drivers.old.items drivers.new.items) }
 {
     for at in 0..names.len() {
         let Some(driver) = rack.find(names.get(at)) else {
@@ -93,7 +93,9 @@ fn choose<R: Drivers>(
     node: &Node,
     disabled: bool,
 ) -> Result<Chosen, WantOfMemory>
-    requires { length infs.now ≤ 64 }
+    requires few { length infs.now ≤ 64 }
+    requires hw { length node.now.hw ≤ 64 }
+    requires compat { length node.now.compat ≤ 64 }
     ensures { IfOk result (λ chosen. (budget : ℕ) (s : State) → s.core.rack ≡ R.rows rack.now → start_enabled (settings_of infs.now budget) s node.now disabled ≡ step_of s node.now chosen) }
 {
     if disabled {
@@ -117,8 +119,10 @@ fn phase_before(drivers: Pending) -> Phase
 
 impl StartWork {
     /// The drivers for a device are chosen: it gets its problem, or its problem is cleared and its start stands
-    /// before the first driver. The line that is printed is told. Condition: the device is there. After want of
+    /// before the first driver. The line that is printed is told. Conditions: the device is there, with at most 64
+    /// hardware IDs and 64 compatible ones, and there are at most 64 INFs. After want of
     /// memory the tree is as before. Cost: that of the best choice.
+    #[tactic(auto, using(devnode_tree::proofs::Identities::problem_keeps))]
     pub fn begin<R: Drivers>(
         alloc: Global,
         tree: &mut Tree,
@@ -128,9 +132,11 @@ impl StartWork {
         disabled: bool,
     ) -> Result<(Label, Option<StartWork>), WantOfMemory>
         requires there { IsSome (node_at serial tree.old.nodes) }
+        requires ids { HasFewIds (node_at serial tree.old.nodes) }
         requires few { length infs.now ≤ 64 }
         ensures begun { IfOk result (λ r. (budget : ℕ) (s : State) → s.core.rack ≡ R.rows rack.now → s.core.nodes ≡ tree.old.nodes → BegunFor (settings_of infs.now budget) s (node_at serial tree.old.nodes) disabled r.0 r.1 tree.new.nodes) }
         ensures next { tree.new.next ≡ tree.old.next }
+        ensures keeps { identities tree.new.nodes ≡ identities tree.old.nodes }
         ensures tree { OnErr result (tree.new ≡ tree.old) }
     {
         let Some(node) = tree.node(serial) else {

@@ -1,13 +1,12 @@
-ghost use Rattle.std.specs.Prelude.{◌≡◌, [], ◌++◌, ◌∷◌, Some, IfOk, OnErr, IsSome, false, slice_get};
-ghost use Rattle.pnp_model.specs.Cores.{node_at, stacked, set_problem, set_holds, forget};
+ghost use Rattle.std.specs.Prelude.{◌≡◌, List, [], ◌++◌, ◌∷◌, IfOk, OnErr, IsSome, false};
+ghost use Rattle.pnp_model.specs.Cores.{node_at, stacked, forget};
 ghost use Rattle.pnp_model.specs.Machine.{phase_walk, is_waiting};
 ghost use Rattle.pnp_model.specs.Records.{Relation};
 ghost use Rattle.resource_reqs.specs.Resources.{Res};
-ghost use Rattle.start_sequence.specs.Works.{phase_of};
+ghost use Rattle.devnode_tree.specs.Identities.{identities};
 ghost use Rattle.start_sequence.specs.Steps.{core_of, Acts, phase_added, NeedsNothing};
 ghost use Rattle.start_sequence.specs.Parts.{AddedFor, StartsFor, RemovesFor, TroubledFor, AssignedFor};
 
-use crate::pending::Pending;
 use crate::work::{Phase, StartWork};
 use device_ids::{Text, WantOfMemory};
 use device_stack::{Passed, Walk, ask_driver, driver_name, state_after};
@@ -54,6 +53,7 @@ fn stacked(state: DevState) -> DevState
 }
 
 /// The stack with one driver more on top. Cost: its height, which is at most 16.
+#[tactic(auto, using(std::proofs::lemmas::List::take_all))]
 fn taller(alloc: Global, stack: &Stack, driver: u32) -> Result<Stack, WantOfMemory>
     ensures { IfOk result (λ new. new ≡ stack.now ++ driver ∷ []) }
 {
@@ -66,6 +66,7 @@ fn taller(alloc: Global, stack: &Stack, driver: u32) -> Result<Stack, WantOfMemo
 }
 
 /// A driver is asked to add the device; with Ok it stands on top of the stack.
+#[tactic(auto, using(devnode_tree::proofs::Identities::stack_keeps))]
 fn add<R: Drivers>(
     alloc: Global,
     serial: u64,
@@ -76,6 +77,7 @@ fn add<R: Drivers>(
     requires { IsSome (node_at serial tree.old.nodes) }
     ensures added { IfOk result (λ r. AddedFor (node_at serial tree.old.nodes) driver tree.old.nodes (R.rows rack.old) r.0 r.1 tree.new.nodes (R.rows rack.new)) }
     ensures next { tree.new.next ≡ tree.old.next }
+    ensures keeps { identities tree.new.nodes ≡ identities tree.old.nodes }
     ensures tree { OnErr result (tree.new ≡ tree.old) }
     ensures rack { OnErr result (R.rows rack.new ≡ R.rows rack.old) }
 {
@@ -104,10 +106,12 @@ fn add<R: Drivers>(
 }
 
 /// The device that needs nothing gets nothing.
+#[tactic(auto, using(devnode_tree::proofs::Identities::holds_keep))]
 fn assign(alloc: Global, serial: u64, tree: &mut Tree) -> Result<Label, WantOfMemory>
     requires { IsSome (node_at serial tree.old.nodes) }
     ensures assigned { IfOk result (λ label. AssignedFor (node_at serial tree.old.nodes) tree.old.nodes label tree.new.nodes) }
     ensures next { tree.new.next ≡ tree.old.next }
+    ensures keeps { identities tree.new.nodes ≡ identities tree.old.nodes }
     ensures tree { OnErr result (tree.new ≡ tree.old) }
 {
     let Some(node) = tree.node(serial) else {
@@ -123,6 +127,7 @@ fn assign(alloc: Global, serial: u64, tree: &mut Tree) -> Result<Label, WantOfMe
 }
 
 /// The next step of the request that starts the device.
+#[tactic(auto, using(devnode_tree::proofs::Identities::state_keeps))]
 fn start<R: Drivers>(
     alloc: Global,
     serial: u64,
@@ -132,9 +137,9 @@ fn start<R: Drivers>(
 ) -> Result<Started, WantOfMemory>
     requires there { IsSome (node_at serial tree.old.nodes) }
     requires goes { walk.old.walk.waits ≡ false }
-    requires start { walk.old.walk.minor ≡ Minor.Start }
     ensures started { IfOk result (λ went. (relations : List Relation) (reserved : List Res) → StartsFor (node_at serial tree.old.nodes) (core_of tree.old.nodes (R.rows rack.old) relations reserved) walk.old.walk went (core_of tree.new.nodes (R.rows rack.new) relations reserved) walk.new.walk) }
     ensures next { tree.new.next ≡ tree.old.next }
+    ensures keeps { identities tree.new.nodes ≡ identities tree.old.nodes }
     ensures walk { OnErr result (walk.new ≡ walk.old) }
     ensures tree { OnErr result (tree.new ≡ tree.old) }
     ensures rack { OnErr result (R.rows rack.new ≡ R.rows rack.old) }
@@ -162,6 +167,7 @@ fn start<R: Drivers>(
 
 /// The next step of the request that removes the device's drivers; with its end the device has no drivers and holds
 /// nothing.
+#[tactic(auto, using(devnode_tree::proofs::Identities::bare_keeps))]
 fn remove<R: Drivers>(
     alloc: Global,
     serial: u64,
@@ -173,6 +179,7 @@ fn remove<R: Drivers>(
     requires goes { walk.old.walk.waits ≡ false }
     ensures removed { IfOk result (λ went. (relations : List Relation) (reserved : List Res) → forget serial relations ≡ relations → RemovesFor (node_at serial tree.old.nodes) (core_of tree.old.nodes (R.rows rack.old) relations reserved) walk.old.walk went (core_of tree.new.nodes (R.rows rack.new) relations reserved) walk.new.walk) }
     ensures next { tree.new.next ≡ tree.old.next }
+    ensures keeps { identities tree.new.nodes ≡ identities tree.old.nodes }
     ensures walk { OnErr result (walk.new ≡ walk.old) }
     ensures tree { OnErr result (tree.new ≡ tree.old) }
     ensures rack { OnErr result (R.rows rack.new ≡ R.rows rack.old) }
@@ -192,6 +199,7 @@ fn remove<R: Drivers>(
 }
 
 /// The device gets a problem; whether it has drivers is told.
+#[tactic(auto, using(devnode_tree::proofs::Identities::problem_keeps))]
 fn trouble(
     alloc: Global,
     serial: u64,
@@ -201,6 +209,7 @@ fn trouble(
     requires { IsSome (node_at serial tree.old.nodes) }
     ensures troubled { IfOk result (λ r. TroubledFor (node_at serial tree.old.nodes) problem tree.old.nodes r.0 r.1 tree.new.nodes) }
     ensures next { tree.new.next ≡ tree.old.next }
+    ensures keeps { identities tree.new.nodes ≡ identities tree.old.nodes }
     ensures tree { OnErr result (tree.new ≡ tree.old) }
 {
     let Some(node) = tree.node(serial) else {
@@ -246,6 +255,7 @@ impl StartWork {
         ensures acts { IfOk result (λ step. Acts self.old.serial tree.old.nodes (R.rows rack.old) self.old.phase step tree.new.nodes (R.rows rack.new) self.new.phase) }
         ensures serial { self.new.serial ≡ self.old.serial }
         ensures next { tree.new.next ≡ tree.old.next }
+        ensures keeps { identities tree.new.nodes ≡ identities tree.old.nodes }
         ensures start { OnErr result (self.new ≡ self.old) }
         ensures tree { OnErr result (tree.new ≡ tree.old) }
         ensures rack { OnErr result (R.rows rack.new ≡ R.rows rack.old) }

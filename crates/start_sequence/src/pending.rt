@@ -1,4 +1,5 @@
-ghost use Rattle.std.specs.Prelude.{◌≡◌, ◌∷◌, [], Some, None, drop, slice_get, option_copied, is_empty};
+ghost use Rattle.std.specs.Prelude.{◌≡◌, drop, slice_get};
+ghost use Rattle.start_sequence.specs.Works.{is_empty};
 
 use std::collections::VecDeque;
 use std::marker::Model;

@@ -1,7 +1,7 @@
-ghost use Rattle.std.specs.Prelude.{◌≡◌, IfOk, OnErr, OnOk};
+ghost use Rattle.std.specs.Prelude.{◌≡◌};
 ghost use Rattle.pnp_model.specs.Walks.{walk_of};
-ghost use Rattle.pnp_model.specs.Records.{Activity};
-ghost use Rattle.pnp_model.specs.Records.Phase as Phase;
+ghost use Rattle.pnp_model.specs.Records.Phase.{Starting, Removing};
+ghost use Rattle.pnp_labels.specs.declared.words.Minor.TheVariants.{Start, Remove};
 ghost use Rattle.start_sequence.specs.Works.{minor_if, minor_that_waits, CompletedWalk, CompletedWork};
 
 use crate::pending::Pending;
@@ -62,7 +62,7 @@ fn complete_walk(walk: &mut Walk, ok: bool) -> Result<(), NoSuchRequest>
 impl StartWork {
     /// A start that stands before the request that starts the device.
     pub fn resume(serial: u64) -> StartWork
-        ensures { result ≡ record { serial = serial; phase = Phase.Starting (walk_of Minor.Start) } }
+        ensures { result ≡ record { serial = serial; phase = Starting (walk_of Start) } }
     {
         let phase = Phase::Starting(Walk::begin(Minor::Start));
         StartWork { serial, phase }
@@ -70,7 +70,7 @@ impl StartWork {
 
     /// A start that stands before the request that removes the device's drivers.
     pub fn undo(serial: u64) -> StartWork
-        ensures { result ≡ record { serial = serial; phase = Phase.Removing (walk_of Minor.Remove) } }
+        ensures { result ≡ record { serial = serial; phase = Removing (walk_of Remove) } }
     {
         let phase = Phase::Removing(Walk::begin(Minor::Remove));
         StartWork { serial, phase }
@@ -95,11 +95,13 @@ impl StartWork {
 
     /// The driver at which the request waits completes it: Ok, or Fail. `NoSuchRequest` exactly where none waits;
     /// then nothing changes. It takes no memory.
+    #[tactic(auto, using(crate::proofs::Completing::completed_start, crate::proofs::Completing::completed_remove))]
     pub fn complete(&mut self, ok: bool) -> Result<(), NoSuchRequest>
         ensures { CompletedWork result self.old ok self.new }
     {
         match &mut self.phase {
-            Phase::Starting(walk) | Phase::Removing(walk) => complete_walk(walk, ok),
+            Phase::Starting(walk) => complete_walk(walk, ok),
+            Phase::Removing(walk) => complete_walk(walk, ok),
             _ => Err(NoSuchRequest),
         }
     }
