@@ -1,19 +1,19 @@
 -- What is found at a place.
-use Rattle.std.proofs.Common.{◌≡◌, ℕ, ◌<◌, false, List, [], ◌∷◌, length, get_or, map, position, Option, Some, None, refl, sym, ap, ◌∙◌, arith, option_map, IsTrue, IsSome, is_some}
-use Rattle.std.specs.List.{list_any, AllByRecursion}
+use Rattle.std.proofs.Common.{◌≡◌, ℕ, ◌<◌, ◌==◌, false, List, [], ◌∷◌, length, get_or, map, position, Option, Some, None, refl, sym, ap, ◌∙◌, arith, option_map, IsTrue, IsSome, is_some}
+use Rattle.std.specs.List.{list_any, find, AllByRecursion}
 use Rattle.std.proofs.lemmas.Bool.Decides.{nat_tests}
 use Rattle.std.proofs.lemmas.Cmp.{nat_list_eq_equiv}
 use Rattle.std.proofs.lemmas.List.{get_or-map, length-map}
 use Rattle.std.proofs.lemmas.List.Quantifiers.{position-Some}
 use Rattle.pnp_model.specs.Cores.{is_node, node_at, serials_of}
 use Rattle.pnp_model.specs.Records.{Node}
-use Rattle.pnp_model.specs.States.{node_of}
+use Rattle.pnp_model.specs.States.{node_of, node_born}
 use Rattle.pnp_model.specs.Tasks.{has_path}
 use Rattle.pnp_model.specs.Tests.{has}
 use Rattle.std.specs.Str.{bytes_eq}
 use Rattle.device_ids.specs.Folding.{folded, same}
 use Rattle.pnp_model.proofs.Keyed.{find_from_position, find_from_none}
-use Rattle.devnode_tree.specs.Entries.{Entry, nodes_of, has_serial, child_serials, IsKept}
+use Rattle.devnode_tree.specs.Entries.{Entry, nodes_of, has_serial, has_born, child_serials, IsKept}
 use Rattle.devnode_tree.specs.Trees.{HasParent}
 use Rattle.devnode_tree.proofs.KeyedMaps.{find-map, position-map, list_any-map}
 
@@ -70,6 +70,18 @@ no_children k serials h (n ∷ nodes) all = grind (arith, nat_tests, no_children
 -- no node has the serial, so none is its child
 pub children_missing : (k : ℕ) (nodes : List Node) → AllByRecursion (HasParent (serials_of nodes)) nodes → node_at k nodes ≡ None → child_serials nodes k ≡ []
 children_missing k nodes all h = no_children k (serials_of nodes) (has_none k nodes h) nodes all
+
+twice : {X Y Z : Type 0} (g : Y → Z) (f : X → Y) (o : Option X) → option_map g (option_map f o) ≡ option_map (λ x. g (f x)) o
+twice g f None = refl
+twice g f (Some x) = refl
+
+-- the first node with a birth number stands in the first entry with it
+pub born_is : (es seen : List Entry) → seen ≡ es → (born : ℕ) (o : Option Entry) → o ≡ find (has_born born) seen
+    → option_map (λ (e : Entry). e.node.serial) o ≡ option_map (λ (n : Node). n.serial) (node_born born (nodes_of es))
+born_is es seen is born o at =
+    ap (option_map (λ (e : Entry). e.node.serial)) (at ∙ ap (find (has_born born)) is)
+    ∙ (sym (twice (λ (n : Node). n.serial) (λ (e : Entry). e.node) (find (has_born born) es))
+    ∙ ap (option_map (λ (n : Node). n.serial)) (sym (find-map (λ (n : Node). n.born == born) (λ (e : Entry). e.node) es)))
 
 -- Paths --------------------------------------------------------------------------
 

@@ -21,6 +21,9 @@ tree_of entries next = record { nodes = nodes_of entries; next = next }
 abbrev pub has_serial : ℕ → Entry → Bool
 has_serial k e = is_node k e.node
 
+abbrev pub has_born : ℕ → Entry → Bool
+has_born born e = e.node.born == born
+
 abbrev pub changed_node : (Node → Node) → Entry → Entry
 changed_node f e = record e { node = f e.node }
 

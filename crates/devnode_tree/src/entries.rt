@@ -1,10 +1,10 @@
-ghost use Rattle.std.specs.Prelude.{◌≡◌, ◌++◌, [], ◌∷◌, false, OnOk, OnErr, map, position};
-ghost use Rattle.std.specs.List.{list_any, All};
+ghost use Rattle.std.specs.Prelude.{◌≡◌, ◌++◌, [], ◌∷◌, false, OnOk, OnErr, map, option_map, position};
+ghost use Rattle.std.specs.List.{list_any, find, All};
 ghost use Rattle.std.specs.Str.{bytes_eq};
 ghost use Rattle.device_ids.specs.Folding.{folded};
 ghost use Rattle.pnp_model.specs.Cores.{serials_of};
 ghost use Rattle.pnp_model.specs.Keyed.{changed_first};
-ghost use Rattle.devnode_tree.specs.Entries.{nodes_of, has_serial, with_child, without_child, lone};
+ghost use Rattle.devnode_tree.specs.Entries.{nodes_of, has_serial, has_born, with_child, without_child, lone};
 ghost use Rattle.devnode_tree.specs.Trees.{Ascends};
 
 use crate::entry::Entry;
@@ -20,6 +20,13 @@ pub(crate) fn place_of(entries: &[Entry], serial: u64) -> Option<usize>
     entries
         .binary_search_by_key(&serial, |entry| entry.node.serial)
         .ok()
+}
+
+/// The first node with a birth number.
+pub(crate) fn first_born(entries: &[Entry], born: u64) -> Option<&Entry>
+    ensures { option_map (λ e. e.now) result ≡ find (has_born born) entries.now }
+{
+    entries.iter().find(|entry| entry.node.born == born)
 }
 
 /// Notes a child beside its parent.

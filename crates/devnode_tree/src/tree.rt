@@ -1,13 +1,13 @@
 ghost use Rattle.std.specs.Prelude.{◌≡◌, ◌<◌, ◌^◌, ◌↔◌, [], ◌∷◌, None, IfOk, OnErr, IsErrOf, IsSome, IsTrue, length, option_map, option_copied, slice_get, unwrap_or};
 ghost use Rattle.pnp_model.specs.Cores.{node_at, with_state, with_problem, with_holds, with_drivers, with_stack, bare, fresh_node};
-ghost use Rattle.pnp_model.specs.States.{node_of};
+ghost use Rattle.pnp_model.specs.States.{node_of, node_born};
 ghost use Rattle.pnp_model.specs.Tasks.{has_path};
 ghost use Rattle.pnp_model.specs.Trees.{children};
 ghost use Rattle.pnp_model.specs.Runs.{root_node};
 ghost use Rattle.devnode_tree.specs.Entries.{child_serials};
 ghost use Rattle.devnode_tree.specs.Trees.{changed, with_node, without_node, CanLeave, IsTree};
 
-use crate::entries::{add, forget_child, place_of};
+use crate::entries::{add, first_born, forget_child, place_of};
 use crate::entry::Entry;
 use crate::error::JoinError;
 use crate::node::{Node, fresh, root};
@@ -213,16 +213,28 @@ impl Tree {
         self.children(serial).get(at as usize).copied()
     }
 
-    /// How many nodes there are.
-    pub(crate) fn len(&self) -> usize
+    /// The serial of the first node with a birth number, and none exactly where no node has it. It takes no memory.
+    /// Cost: the number of nodes.
+    pub fn find_born(&self, born: u64) -> Option<u64>
+        ensures { result ≡ option_map (λ n. n.serial) (node_born born self.now.nodes) }
+    {
+        match first_born(&self.entries, born) {
+            Some(entry) => Some(entry.serial()),
+            None => None,
+        }
+    }
+
+    /// How many nodes there are, the root among them.
+    pub fn len(&self) -> usize
         ensures len { result ≡ length self.now.nodes }
         ensures tree { IsTree self.now }
     {
         self.entries.len()
     }
 
-    /// The serials of the children of a node in order, and none of them where no node has the serial.
-    pub(crate) fn children(&self, serial: u64) -> &[u64]
+    /// The serials of the children of a node in order, and none of them where no node has the serial. Cost: the
+    /// logarithm of the number of nodes.
+    pub fn children(&self, serial: u64) -> &[u64]
         ensures { result.now ≡ child_serials self.now.nodes serial }
     {
         match place_of(&self.entries, serial) {

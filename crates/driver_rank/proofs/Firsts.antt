@@ -1,5 +1,5 @@
 -- The first of a list in a weak order.
-use Rattle.std.proofs.Common.{◌≡◌, Bool, true, false, cond, List, [], ◌∷◌, ◌++◌, map, arith, ap, sym, refl, ◌∙◌, Option, Some, None, option_map, append_assoc}
+use Rattle.std.proofs.Common.{◌≡◌, Bool, true, false, cond, List, [], ◌∷◌, ◌++◌, map, ap, sym, refl, ◌∙◌, Option, Some, None, option_map}
 use Rattle.driver_rank.specs.First.{first_of, least_of}
 
 -- an order in which what is not before, is after or equal

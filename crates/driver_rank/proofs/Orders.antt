@@ -1,5 +1,5 @@
 -- Better is a weak order, and so is less.
-use Rattle.std.proofs.Common.{◌≡◌, ℕ, Bool, true, false, arith, refl, ◌∙◌}
+use Rattle.std.proofs.Common.{◌≡◌, ℕ, Bool, true, false, arith, ◌∙◌}
 use Rattle.std.specs.Bool.{nat_lt}
 use Rattle.std.proofs.lemmas.Bool.Decides.{nat_tests}
 use Rattle.driver_rank.specs.Best.{Match, match_at, by, is_better}

@@ -1,5 +1,5 @@
 -- One more place of a list that is gone through.
-use Rattle.std.proofs.Common.{◌≡◌, ℕ, Bool, ◌+◌, ◌-◌, ◌<◌, ◌≤◌, List, [], ◌∷◌, ◌++◌, take, drop, get_or, length, min, arith, add-one, suc, ap, sym, refl, subst, ◌∙◌, Option, Some, None, option_map, cond}
+use Rattle.std.proofs.Common.{◌≡◌, ℕ, Bool, ◌+◌, ◌<◌, ◌≤◌, List, [], ◌∷◌, ◌++◌, take, drop, get_or, length, min, arith, add-one, suc, ap, sym, refl, ◌∙◌, Option, Some, None, option_map, cond}
 use Rattle.std.specs.Bool.{nat_lt}
 use Rattle.std.specs.Str.{bytes_eq}
 use Rattle.std.proofs.Math.Seq.{drop-cons}
@@ -10,7 +10,7 @@ use Rattle.device_ids.specs.Folding.{folded}
 use Rattle.driver_rank.specs.Best.{Given, Match, match_at, is_better, given_from}
 use Rattle.driver_rank.specs.First.{first_of}
 use Rattle.driver_rank.specs.Lookups.{id_rank, base_with, base_at}
-use Rattle.driver_rank.specs.Passes.{ranks_from, best_from, best_of_infs, line_rank}
+use Rattle.driver_rank.specs.Passes.{ranks_from, best_from, line_rank}
 use Rattle.driver_rank.proofs.Firsts.{first_of-None}
 
 pub drop_item : {X : Type 0} (xs : List X) (at : ℕ) (x : X) → at < length xs → ((d : X) → get_or xs at d ≡ x) → drop at xs ≡ x ∷ drop (at + 1) xs

@@ -1,5 +1,5 @@
 -- The pass over the models lines meets the first of all matches.
-use Rattle.std.proofs.Common.{◌≡◌, ℕ, ◌+◌, ◌*◌, ◌<◌, ◌≤◌, ◌==◌, Bool, true, false, cond, List, [], ◌∷◌, ◌++◌, map, take, length, arith, ap, sym, subst, refl, ◌∙◌, Option, Some, None, option_map}
+use Rattle.std.proofs.Common.{◌≡◌, ℕ, ◌+◌, ◌*◌, ◌≤◌, ◌==◌, Bool, true, false, cond, List, [], ◌∷◌, ◌++◌, map, take, length, arith, ap, sym, subst, refl, ◌∙◌, Option, Some, None, option_map}
 use Rattle.std.specs.Bool.{nat_lt, ⊤}
 use Rattle.std.specs.List.{filter, find, flat_map, enumerate_from}
 use Rattle.std.specs.Str.{bytes_eq}
@@ -7,9 +7,9 @@ use Rattle.std.proofs.lemmas.Bool.Decides.{nat_tests}
 use Rattle.inf_reader.specs.declared.parts.Inf.{Inf}
 use Rattle.inf_reader.specs.declared.parts.ModelLine.{ModelLine}
 use Rattle.device_ids.specs.Folding.{folded}
-use Rattle.driver_rank.specs.Best.{Given, Match, given_from, given_of, agrees, match_type, rank_of, ranks_at, ranks_of, match_at, line_matches, inf_matches, matches, is_better}
+use Rattle.driver_rank.specs.Best.{Given, Match, given_from, given_of, agrees, rank_of, ranks_at, ranks_of, match_at, line_matches, inf_matches, matches, is_better}
 use Rattle.driver_rank.specs.First.{first_of, least_of}
-use Rattle.driver_rank.specs.Lookups.{base_at, base_with, base_of, rank_from_base, id_rank}
+use Rattle.driver_rank.specs.Lookups.{base_at, base_of, rank_from_base, id_rank}
 use Rattle.driver_rank.specs.Passes.{ranks_from, line_rank, best_from, best_of_infs}
 use Rattle.driver_rank.proofs.Firsts.{first_more, first_of-None, least_of-map}
 use Rattle.driver_rank.proofs.Orders.{less_order, better_order, better_rank}

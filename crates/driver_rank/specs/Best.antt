@@ -1,7 +1,7 @@
 -- The best driver of a device: the first of all matches between its IDs and those of models lines. The match types and
 -- their order are the driver kit's ("How Windows Ranks Drivers"); the number, and what decides between equal numbers, are
 -- this project's own.
-use Rattle.std.specs.Prelude.{ℕ, ◌+◌, ◌*◌, ◌^◌, ◌==◌, Bool, true, false, nat_lt, List, [], ◌∷◌, ◌++◌, map, take, Option, if◌then◌else◌}
+use Rattle.std.specs.Prelude.{ℕ, ◌+◌, ◌*◌, ◌==◌, Bool, true, false, nat_lt, List, [], ◌∷◌, ◌++◌, map, take, Option, if◌then◌else◌}
 use Rattle.std.specs.Option.{option_map}
 use Rattle.std.specs.List.{filter, flat_map, enumerate_from}
 use Rattle.device_ids.specs.Folding.{same}

@@ -37,10 +37,7 @@ fn copied(alloc: Global, from: &TextList) -> Result<TextList, WantOfMemory>
 }
 
 /// A service copied, if there is one.
-fn copied_service(
-    alloc: Global,
-    from: &Option<Text>,
-) -> Result<Option<Text>, WantOfMemory>
+fn copied_service(alloc: Global, from: &Option<Text>) -> Result<Option<Text>, WantOfMemory>
     ensures { IfOk result (λ service. service ≡ from.now) }
 {
     match from {

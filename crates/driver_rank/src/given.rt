@@ -17,11 +17,7 @@ pub struct GivenIds {
 
 impl GivenIds {
     /// The identifiers of a device. Cost: the bytes of all.
-    pub fn new(
-        alloc: Global,
-        hw: &IdList,
-        compat: &IdList,
-    ) -> Result<GivenIds, WantOfMemory>
+    pub fn new(alloc: Global, hw: &IdList, compat: &IdList) -> Result<GivenIds, WantOfMemory>
         requires hw { length hw.now ≤ 64 }
         requires compat { length compat.now ≤ 64 }
         ensures { IfOk result (λ ids. (q : List ℕ) → base_found ids q ≡ base_of (given_of hw.now compat.now) q) }
@@ -35,12 +31,7 @@ impl GivenIds {
     }
 
     /// Puts identifiers before those that are there: the first one of a text is found.
-    fn put(
-        &mut self,
-        alloc: Global,
-        ids: &IdList,
-        compatible: bool,
-    ) -> Result<(), WantOfMemory>
+    fn put(&mut self, alloc: Global, ids: &IdList, compatible: bool) -> Result<(), WantOfMemory>
         requires { length ids.now ≤ 64 }
         ensures { OnOk result ((q : List ℕ) → base_found self.new q ≡ base_with (base_found self.old) (given_from compatible 0 ids.now) q) }
     {

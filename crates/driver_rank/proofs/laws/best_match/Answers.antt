@@ -1,6 +1,6 @@
 use Rattle.std.proofs.Common.{◌≡◌, List, refl, option_map, Some, None, Option, false}
 use Rattle.std.specs.List.{Contains}
-use Rattle.driver_rank.specs.Best.{Match, best, given_of, matches, choice_of, is_better}
+use Rattle.driver_rank.specs.Best.{Match, given_of, matches, choice_of, is_better}
 use Rattle.driver_rank.specs.First.{least_of}
 use Rattle.driver_rank.specs.declared.choice.Choice.{Choice}
 use Rattle.driver_rank.proofs.Orders.{better_order, better_self}

@@ -1,5 +1,5 @@
-use Rattle.std.proofs.Common.{◌≡◌, ℕ, List, refl, ap, sym, ◌∙◌, option_map, Some, None, Option}
-use Rattle.driver_rank.specs.Best.{Match, best, given_of, matches, choice_of, is_better}
+use Rattle.std.proofs.Common.{refl, ap, sym, ◌∙◌, option_map, Some}
+use Rattle.driver_rank.specs.Best.{given_of, matches, choice_of, is_better}
 use Rattle.driver_rank.specs.First.{least_of}
 use Rattle.driver_rank.specs.Candidates.{match_of}
 use Rattle.driver_rank.specs.Lookups.{base_found}

@@ -1,4 +1,4 @@
-use Rattle.std.proofs.Common.{◌≡◌, ◌+◌, ◌<◌, length, take, drop, ap, ◌∙◌, arith, nat_lt}
+use Rattle.std.proofs.Common.{◌+◌, take, drop, ap, ◌∙◌, arith, nat_lt}
 use Rattle.driver_rank.specs.First.{first_of}
 use Rattle.driver_rank.specs.Lookups.{base_found, id_rank}
 use Rattle.driver_rank.specs.Passes.{ranks_from}

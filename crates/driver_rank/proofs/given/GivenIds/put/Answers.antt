@@ -1,4 +1,4 @@
-use Rattle.std.proofs.Common.{◌≡◌, ℕ, ◌+◌, ◌-◌, ◌<◌, List, length, ◌∙◌, ap, arith, cond, Some}
+use Rattle.std.proofs.Common.{◌-◌, ◌∙◌, ap, arith, cond, Some}
 use Rattle.std.specs.Str.{bytes_eq}
 use Rattle.device_ids.specs.Folding.{folded}
 use Rattle.driver_rank.specs.Lookups.{base_found}
