@@ -1,8 +1,10 @@
-ghost use Rattle.std.specs.Prelude.{◌≡◌};
-ghost use Rattle.pnp_model.specs.Books.{rack_reply, rack_after};
+ghost use Rattle.std.specs.Prelude.{◌≡◌, IfOk, option_map};
+ghost use Rattle.pnp_model.specs.Books.{name_of, rack_reply, rack_after};
 
+use device_ids::{Text, WantOfMemory};
 use driver_rack::Drivers;
 use pnp_labels::{Answer, Ask};
+use std::alloc::Global;
 
 /// Asks the driver of a number, through its box; only its book changes, by `rack_after`. A number that names no
 /// driver of the rack answers Ok, and nothing changes. It takes no memory. Cost: the rules of the driver's book.
@@ -14,5 +16,15 @@ pub fn ask_driver<R: Drivers>(rack: &mut R, driver: u32, ask: &Ask) -> Answer
         rack.ask(driver, ask)
     } else {
         Answer::Ok
+    }
+}
+
+/// The name of a driver, as it was given; empty where the number names no driver with a name. Cost: the length.
+pub fn driver_name<R: Drivers>(alloc: Global, rack: &R, driver: u32) -> Result<Text, WantOfMemory>
+    ensures { IfOk result (λ name. name ≡ name_of (R.rows rack.now) driver) }
+{
+    match rack.name_of(driver) {
+        Some(name) => name.copy(alloc),
+        None => Text::make(alloc, b""),
     }
 }

@@ -7,5 +7,6 @@ mod rules;
 mod tests;
 mod walk;
 
-pub use ask::ask_driver;
-pub use walk::{NoSuchRequest, Waiting, Walk, WalkStep};
+pub use ask::{ask_driver, driver_name};
+pub use rules::{shown_of, state_after};
+pub use walk::{NoSuchRequest, Passed, Waiting, Walk, WalkStep};

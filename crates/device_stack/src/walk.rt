@@ -1,12 +1,14 @@
-ghost use Rattle.std.specs.Prelude.{◌≡◌, ◌<◌, length};
+ghost use Rattle.std.specs.Prelude.{◌≡◌, ◌<◌, length, false, IfOk, OnErr};
 ghost use Rattle.pnp_model.specs.Walks.{walk_of, is_bad, has_ended, after};
 ghost use Rattle.device_stack.specs.Steps.{went, waits_at, Completed};
+ghost use Rattle.device_stack.specs.Passing.{driver_next, Passes};
 
-use crate::ask::ask_driver;
-use crate::rules::{answer_of, may_fail, place_of, verdict};
-use device_ids::InstancePath;
+use crate::ask::{ask_driver, driver_name};
+use crate::rules::{answer_of, may_fail, place_of, shown_of, verdict};
+use device_ids::{InstancePath, Text, WantOfMemory};
 use driver_rack::Drivers;
-use pnp_labels::{Answer, Ask, AskWhat, Minor, Stack, Verdict};
+use pnp_labels::{Answer, Ask, AskWhat, Label, Minor, Stack, Verdict};
+use std::alloc::Global;
 use std::marker::Model;
 
 /// A request that waits at a driver of a device: the device's serial, the request, and the driver's place in the
@@ -34,6 +36,15 @@ pub enum WalkStep {
     Waits { pos: u64 },
     /// The request has ended.
     Ended(Verdict),
+}
+
+/// What a step of a request came to, as the trace shows it. This project's own.
+#[derive(Debug, Drop)]
+pub enum Passed {
+    /// A driver was asked; the line tells what it answered.
+    Asked(Label),
+    /// The request has ended, and whether a driver refused it.
+    Ended { refused: bool },
 }
 
 /// One request on its way through a device's stack of drivers, in the direction of its minor code. A request
@@ -118,6 +129,18 @@ impl Walk {
         }
     }
 
+    /// The driver that is asked next, or that owes the answer where it waits; none exactly where the request has
+    /// ended.
+    pub fn driver_next(&self, stack: &Stack) -> Option<u32>
+        ensures { result ≡ driver_next self.now.walk stack.now }
+    {
+        if self.has_ended(stack.len()) {
+            return None;
+        }
+        let pos = place_of(self.minor, stack.len(), self.asked);
+        Some(*stack.get(pos))
+    }
+
     /// One step: where it waits, nothing changes, and the place is told; else where it has ended, nothing changes,
     /// and the verdict is told; else the next driver of the stack is asked for the device of the path, once and
     /// through its box, and its answer is taken. A number of the stack that names no driver answers Ok. It takes
@@ -138,6 +161,42 @@ impl Walk {
         let answer = ask_driver(rack, *stack.get(pos), &Ask { what, path });
         self.take(pos, answer);
         WalkStep::Asked { pos, answer }
+    }
+
+    /// One step of a request that does not wait, with the line that it prints: where it has ended, nothing
+    /// changes; else the next driver is asked as by `next`. After want of memory nothing has changed, and no driver
+    /// was asked. Cost: the rules of one book, and the lengths of the path and of the driver's name.
+    pub fn pass<R: Drivers>(
+        &mut self,
+        alloc: Global,
+        stack: &Stack,
+        path: &InstancePath,
+        rack: &mut R,
+    ) -> Result<Passed, WantOfMemory>
+        requires { self.old.walk.waits ≡ false }
+        ensures passed { IfOk result (λ passed. Passes self.old.walk stack.now path.now (R.rows rack.old) passed self.new.walk (R.rows rack.new)) }
+        ensures walk { OnErr result (self.new ≡ self.old) }
+        ensures rack { OnErr result (R.rows rack.new ≡ R.rows rack.old) }
+    {
+        if self.has_ended(stack.len()) {
+            return Ok(Passed::Ended {
+                refused: self.is_bad(),
+            });
+        }
+        let minor = self.minor;
+        let pos = place_of(minor, stack.len(), self.asked);
+        let driver = *stack.get(pos);
+        let name = driver_name(alloc, rack, driver)?;
+        let text = Text::make(alloc, path.bytes())?;
+        let what = AskWhat::Irp(minor);
+        let answer = ask_driver(rack, driver, &Ask { what, path });
+        self.take(pos, answer);
+        Ok(Passed::Asked(Label::Asked {
+            minor,
+            path: text,
+            driver: name,
+            shown: shown_of(minor, answer),
+        }))
     }
 
     /// Takes the completion that the driver at a place owes: Ok, or Fail. `NoSuchRequest` exactly where the

@@ -2,7 +2,7 @@
 use Rattle.std.proofs.Common.{ℕ, List, Option, refl}
 use Rattle.pnp_labels.specs.declared.states.DevState.{DevState}
 use Rattle.pnp_labels.specs.declared.states.Problem.{Problem}
-use Rattle.pnp_model.specs.Cores.{with_state, with_problem, with_holds, with_drivers}
+use Rattle.pnp_model.specs.Cores.{with_state, with_problem, with_holds, with_drivers, with_stack, bare}
 use Rattle.resource_reqs.specs.Resources.{Res}
 use Rattle.devnode_tree.proofs.Changes.{KeepsLinks}
 
@@ -17,3 +17,9 @@ keeps_holds holds = record { serial = λ n. refl; parent = λ n. refl; path = λ
 
 pub keeps_drivers : (stack : List ℕ) → KeepsLinks (with_drivers stack)
 keeps_drivers stack = record { serial = λ n. refl; parent = λ n. refl; path = λ n. refl }
+
+pub keeps_stack : (stack : List ℕ) (state : DevState) → KeepsLinks (with_stack stack state)
+keeps_stack stack state = record { serial = λ n. refl; parent = λ n. refl; path = λ n. refl }
+
+pub keeps_bare : KeepsLinks bare
+keeps_bare = record { serial = λ n. refl; parent = λ n. refl; path = λ n. refl }

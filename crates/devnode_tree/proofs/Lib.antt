@@ -8,3 +8,4 @@ pub mod Faults
 pub mod Leaves
 pub mod Printing
 pub mod Facts
+pub mod Identities

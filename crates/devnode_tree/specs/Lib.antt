@@ -1,3 +1,4 @@
 pub mod Entries
 pub mod Trees
 pub mod Rows
+pub mod Identities

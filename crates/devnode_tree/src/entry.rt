@@ -1,5 +1,5 @@
 ghost use Rattle.std.specs.Prelude.{◌≡◌, ◌++◌, [], ◌∷◌, OnOk, OnErr};
-ghost use Rattle.pnp_model.specs.Cores.{with_state, with_problem, with_holds, with_drivers};
+ghost use Rattle.pnp_model.specs.Cores.{with_state, with_problem, with_holds, with_drivers, with_stack, bare};
 ghost use Rattle.devnode_tree.specs.Entries.{with_child, without_child, changed_node};
 ghost use Rattle.devnode_tree.specs.Trees.{Ascends};
 
@@ -7,6 +7,7 @@ use crate::node::Node;
 use device_ids::WantOfMemory;
 use pnp_labels::{DevState, Problem, Stack};
 use resource_reqs::ResList;
+use std::alloc::Global;
 use std::marker::Model;
 use std::mem;
 
@@ -83,5 +84,22 @@ impl Entry {
         ensures old { result ≡ self.old.node.stack }
     {
         mem::replace(&mut self.node.stack, stack)
+    }
+
+    pub(crate) fn set_stack(&mut self, stack: Stack, state: DevState)
+        ensures { self.new ≡ changed_node (with_stack stack state) self.old }
+    {
+        self.node.stack = stack;
+        self.node.state = state;
+    }
+
+    /// Gives back the holdings that were there.
+    pub(crate) fn strip(&mut self, alloc: Global) -> ResList
+        ensures new { self.new ≡ changed_node bare self.old }
+        ensures old { result ≡ self.old.node.holds }
+    {
+        self.node.state = DevState::NoStack;
+        self.node.stack = Stack::new(alloc);
+        mem::replace(&mut self.node.holds, ResList::new(alloc))
     }
 }

@@ -1,5 +1,5 @@
 ghost use Rattle.std.specs.Prelude.{◌≡◌, ◌<◌, ◌^◌, ◌↔◌, [], ◌∷◌, None, IfOk, OnErr, IsErrOf, IsSome, IsTrue, length, option_map, option_copied, slice_get, unwrap_or};
-ghost use Rattle.pnp_model.specs.Cores.{node_at, with_state, with_problem, with_holds, with_drivers, fresh_node};
+ghost use Rattle.pnp_model.specs.Cores.{node_at, with_state, with_problem, with_holds, with_drivers, with_stack, bare, fresh_node};
 ghost use Rattle.pnp_model.specs.States.{node_of, node_born};
 ghost use Rattle.pnp_model.specs.Tasks.{has_path};
 ghost use Rattle.pnp_model.specs.Trees.{children};
@@ -159,6 +159,30 @@ impl Tree {
         match place_of(&self.entries, serial) {
             Some(place) => self.entries[place].swap_stack(stack),
             None => stack,
+        }
+    }
+
+    /// A node gets these drivers and this state at once, and all else stays; nothing changes where no node has the
+    /// serial. It takes no memory. Cost: the logarithm of the number of nodes.
+    pub fn set_stack(&mut self, serial: u64, stack: Stack, state: DevState)
+        ensures { self.new ≡ changed serial (with_stack stack state) self.old }
+    {
+        if let Some(place) = place_of(&self.entries, serial) {
+            self.entries[place].set_stack(stack, state);
+        }
+    }
+
+    /// A node loses its drivers and its holdings, which are given back, and is `NoStack`; all else stays, its
+    /// problem too. Where no node has the serial, nothing changes and nothing is given back. It takes no memory.
+    /// Cost: the logarithm of the number of nodes.
+    pub fn strip(&mut self, serial: u64) -> ResList
+        ensures set { self.new ≡ changed serial bare self.old }
+        ensures old { result ≡ unwrap_or (option_map (λ n. n.holds) (node_at serial self.old.nodes)) [] }
+    {
+        let alloc = *self.entries.allocator();
+        match place_of(&self.entries, serial) {
+            Some(place) => self.entries[place].strip(alloc),
+            None => ResList::new(alloc),
         }
     }
 

@@ -1,0 +1,35 @@
+-- One step of a request that does not wait, with the line that it prints.
+use Rattle.std.specs.Prelude.{◌≡◌, ℕ, Bool, true, false, List, Option, Some, None, length, slice_index}
+use Rattle.pnp_labels.specs.Texts.{Text}
+use Rattle.pnp_labels.specs.declared.label.Label.{Label}
+use Rattle.pnp_labels.specs.declared.words.AskWhat.TheVariants.{Irp}
+use Rattle.pnp_model.specs.Records.{Driver, Walk}
+use Rattle.pnp_model.specs.Books.{name_of, rack_reply, rack_after}
+use Rattle.pnp_model.specs.Walks.{place_of, is_bad, has_ended, after, shown_of}
+use Rattle.device_stack.specs.declared.walk.Passed.{Passed}
+use Rattle.device_stack.specs.declared.walk.Passed.TheVariants.{Asked, Ended}
+
+-- the driver that is asked next
+abbrev pub front : Walk → List ℕ → ℕ
+front w stack = slice_index stack (place_of w.minor (length stack) w.asked)
+
+-- none where it has ended
+abbrev pub front_unless : Bool → Walk → List ℕ → Option ℕ
+front_unless true w stack = None
+front_unless false w stack = Some (front w stack)
+
+abbrev pub driver_next : Walk → List ℕ → Option ℕ
+driver_next w stack = front_unless (has_ended w (length stack)) w stack
+
+-- the driver of this number was asked: its line, and what walk and rack are then
+abbrev pub AskedOf : Walk → Text → List Driver → ℕ → Label → Walk → List Driver → Type 0
+AskedOf w path rack driver label w' rack' =
+    (label ≡ Label.Asked w.minor path (name_of rack driver) (shown_of w.minor (rack_reply (Irp w.minor) path rack driver)))
+    × (w' ≡ after w (rack_reply (Irp w.minor) path rack driver)) × (rack' ≡ rack_after (Irp w.minor) path rack driver)
+
+-- it has ended, or the next driver was asked
+abbrev pub Passes : Walk → List ℕ → Text → List Driver → Passed → Walk → List Driver → Type 0
+Passes w stack path rack (Ended refused) w' rack' =
+    (has_ended w (length stack) ≡ true) × (refused ≡ is_bad w) × (w' ≡ w) × (rack' ≡ rack)
+Passes w stack path rack (Asked label) w' rack' =
+    (has_ended w (length stack) ≡ false) × AskedOf w path rack (front w stack) label w' rack'

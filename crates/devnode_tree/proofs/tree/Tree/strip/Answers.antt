@@ -1,0 +1,28 @@
+use Rattle.std.proofs.Common.{◌∙◌, ap, sym, option_map, []}
+use Rattle.std.specs.Option.{unwrap_or}
+use Rattle.pnp_model.specs.Cores.{bare}
+use Rattle.pnp_model.specs.Records.{Node}
+use Rattle.devnode_tree.proofs.Changes.{kept_set, seen_set, unchanged}
+use Rattle.devnode_tree.proofs.Keeping.{keeps_bare}
+use Rattle.devnode_tree.proofs.Lookups.{node_found, node_missing}
+use Rattle.devnode_tree.proofs.tree.Tree.strip.Goals as goal
+
+pub invariant_of-self : goal.invariant_of-self
+invariant_of-self c = kept_set bare keeps_bare c.self.inside.entries.items c.deref.result.now c.deref.ensures.value c.self.inside.next c.args.serial c.in-Some.place c.in-Some.ensures c.index_mut.result.now c.strip.new.self c.index_mut.ensures.value c.strip.ensures.new _ c.self.invariant
+
+pub returns-in-Some-clause-set : goal.returns-in-Some-clause-set
+returns-in-Some-clause-set c = rw (← c.self.view_is) (seen_set bare keeps_bare c.self.inside.entries.items c.deref.result.now c.deref.ensures.value c.self.inside.next c.args.serial c.in-Some.place c.in-Some.ensures c.index_mut.result.now c.strip.new.self c.index_mut.ensures.value c.strip.ensures.new)
+
+pub returns-in-Some-clause-old : goal.returns-in-Some-clause-old
+returns-in-Some-clause-old c =
+    rw (← c.self.view_is)
+    (c.strip.ensures.old
+    ∙ sym (ap (λ o. unwrap_or (option_map (λ (n : Node). n.holds) o) []) (node_found c.self.inside.entries.items c.deref.result.now c.deref.ensures.value c.args.serial c.in-Some.place c.in-Some.ensures c.index_mut.result.now c.index_mut.ensures.value)))
+
+pub returns-in-None-clause-set : goal.returns-in-None-clause-set
+returns-in-None-clause-set c = rw (← c.self.view_is) (unchanged bare c.self.inside.entries.items c.deref.result.now c.deref.ensures.value c.self.inside.next c.args.serial c.in-None.ensures)
+
+pub returns-in-None-clause-old : goal.returns-in-None-clause-old
+returns-in-None-clause-old c =
+    rw (← c.self.view_is)
+    (c.new.ensures ∙ sym (ap (λ o. unwrap_or (option_map (λ (n : Node). n.holds) o) []) (node_missing c.self.inside.entries.items c.deref.result.now c.deref.ensures.value c.args.serial c.in-None.ensures)))

@@ -1,0 +1,4 @@
+pub mod Works
+pub mod Steps
+pub mod Parts
+pub mod Begins

@@ -1,0 +1,165 @@
+ghost use Rattle.std.specs.Prelude.{◌≡◌, ◌≤◌, ℕ, IfOk, OnErr, IsSome, length};
+ghost use Rattle.pnp_model.specs.Cores.{node_at};
+ghost use Rattle.pnp_model.specs.Records.{State};
+ghost use Rattle.pnp_model.specs.Tasks.{start_enabled, numbered};
+ghost use Rattle.devnode_tree.specs.Identities.{identities};
+ghost use Rattle.start_sequence.specs.Begins.{settings_of, step_of, AppendedBy, ChosenBy, HasFewIds, BegunFor};
+ghost use Rattle.start_sequence.specs.Works.{phase_of};
+ghost use Rattle.pnp_model.specs.Starts.{adding};
+
+use crate::pending::Pending;
+use crate::work::{Phase, StartWork};
+use device_ids::{Text, TextList, WantOfMemory};
+use device_stack::driver_name;
+use devnode_tree::{Node, Tree};
+use driver_rack::Drivers;
+use driver_rank::{Choice, best};
+use inf_reader::Inf;
+use pnp_labels::{Label, Problem};
+use std::alloc::Global;
+use std::collections::VecDeque;
+
+/// The most drivers of a device: this project's own.
+const MOST_DRIVERS: u64 = 16;
+
+/// What the choice of drivers for a device came to.
+pub(crate) enum Chosen {
+    /// It gets this problem.
+    Trouble(Problem),
+    /// These drivers, from the bottom, are to add it.
+    Drivers {
+        rank: u32,
+        driver: u32,
+        drivers: Pending,
+    },
+}
+
+/// Appends the numbers of the drivers of these names; false exactly where one has no namesake in the rack.
+fn append_numbers<R: Drivers>(
+    drivers: &mut VecDeque<u32>,
+    rack: &R,
+    names: &TextList,
+) -> Result<bool, WantOfMemory>
+    ensures { IfOk result (λ all. AppendedBy (numbered (R.rows rack.now) names.now) all drivers.old.items drivers.new.items) }
+{
+    for at in 0..names.len() {
+        let Some(driver) = rack.find(names.get(at)) else {
+            return Ok(false);
+        };
+        drivers.push_back(driver)?;
+    }
+    Ok(true)
+}
+
+/// The drivers of a choice by their numbers, with the function driver between the filters; or the problem where the
+/// choice names no service, too many drivers, or one that is not in the rack.
+fn numbered<R: Drivers>(
+    alloc: Global,
+    rack: &R,
+    choice: &Choice,
+) -> Result<Chosen, WantOfMemory>
+    ensures { IfOk result (λ chosen. ChosenBy (R.rows rack.now) choice.now chosen) }
+{
+    let Some(service) = &choice.service else {
+        return Ok(Chosen::Trouble(Problem::FailedInstall));
+    };
+    if choice.lower.len() + 1 + choice.upper.len() > MOST_DRIVERS {
+        return Ok(Chosen::Trouble(Problem::FailedInstall));
+    }
+    let mut drivers = VecDeque::new(alloc);
+    if !append_numbers(&mut drivers, rack, &choice.lower)? {
+        return Ok(Chosen::Trouble(Problem::LoadFailed));
+    }
+    let Some(driver) = rack.find(service) else {
+        return Ok(Chosen::Trouble(Problem::LoadFailed));
+    };
+    drivers.push_back(driver)?;
+    if !append_numbers(&mut drivers, rack, &choice.upper)? {
+        return Ok(Chosen::Trouble(Problem::LoadFailed));
+    }
+    Ok(Chosen::Drivers {
+        rank: choice.rank,
+        driver,
+        drivers: Pending::of(drivers),
+    })
+}
+
+/// The drivers for a device, by the best choice of the INFs; or its problem where its path is disabled, or where
+/// none can be chosen.
+fn choose<R: Drivers>(
+    alloc: Global,
+    rack: &R,
+    infs: &[Inf],
+    node: &Node,
+    disabled: bool,
+) -> Result<Chosen, WantOfMemory>
+    requires few { length infs.now ≤ 64 }
+    requires hw { length node.now.hw ≤ 64 }
+    requires compat { length node.now.compat ≤ 64 }
+    ensures { IfOk result (λ chosen. (budget : ℕ) (s : State) → s.core.rack ≡ R.rows rack.now → start_enabled (settings_of infs.now budget) s node.now disabled ≡ step_of s node.now chosen) }
+{
+    if disabled {
+        return Ok(Chosen::Trouble(Problem::Disabled));
+    }
+    match best(alloc, infs, &node.hw, &node.compat)? {
+        None => Ok(Chosen::Trouble(Problem::FailedInstall)),
+        Some(choice) => numbered(alloc, rack, &choice),
+    }
+}
+
+/// Where a start stands before these drivers.
+fn phase_before(drivers: Pending) -> Phase
+    ensures { phase_of result ≡ adding drivers }
+{
+    match drivers.first() {
+        Some(_) => Phase::Adding(drivers),
+        None => Phase::Searching,
+    }
+}
+
+impl StartWork {
+    /// The drivers for a device are chosen: it gets its problem, or its problem is cleared and its start stands
+    /// before the first driver. The line that is printed is told. Conditions: the device is there, with at most 64
+    /// hardware IDs and 64 compatible ones, and there are at most 64 INFs. After want of
+    /// memory the tree is as before. Cost: that of the best choice.
+    #[tactic(auto, using(devnode_tree::proofs::Identities::problem_keeps))]
+    pub fn begin<R: Drivers>(
+        alloc: Global,
+        tree: &mut Tree,
+        rack: &R,
+        infs: &[Inf],
+        serial: u64,
+        disabled: bool,
+    ) -> Result<(Label, Option<StartWork>), WantOfMemory>
+        requires there { IsSome (node_at serial tree.old.nodes) }
+        requires ids { HasFewIds (node_at serial tree.old.nodes) }
+        requires few { length infs.now ≤ 64 }
+        ensures begun { IfOk result (λ r. (budget : ℕ) (s : State) → s.core.rack ≡ R.rows rack.now → s.core.nodes ≡ tree.old.nodes → BegunFor (settings_of infs.now budget) s (node_at serial tree.old.nodes) disabled r.0 r.1 tree.new.nodes) }
+        ensures next { tree.new.next ≡ tree.old.next }
+        ensures keeps { identities tree.new.nodes ≡ identities tree.old.nodes }
+        ensures tree { OnErr result (tree.new ≡ tree.old) }
+    {
+        let Some(node) = tree.node(serial) else {
+            unreachable!()
+        };
+        let serial = node.serial;
+        let path = Text::make(alloc, node.path.bytes())?;
+        match choose(alloc, rack, infs, node, disabled)? {
+            Chosen::Trouble(problem) => {
+                tree.set_problem(serial, Some(problem));
+                Ok((Label::Trouble { path, problem }, None))
+            }
+            Chosen::Drivers {
+                rank,
+                driver,
+                drivers,
+            } => {
+                let driver = driver_name(alloc, rack, driver)?;
+                tree.set_problem(serial, None);
+                let phase = phase_before(drivers);
+                let label = Label::Install { path, rank, driver };
+                Ok((label, Some(StartWork { serial, phase })))
+            }
+        }
+    }
+}

@@ -1,0 +1,301 @@
+ghost use Rattle.std.specs.Prelude.{◌≡◌, List, [], ◌++◌, ◌∷◌, IfOk, OnErr, IsSome, false};
+ghost use Rattle.pnp_model.specs.Cores.{node_at, stacked, forget};
+ghost use Rattle.pnp_model.specs.Machine.{phase_walk, is_waiting};
+ghost use Rattle.pnp_model.specs.Records.{Relation};
+ghost use Rattle.resource_reqs.specs.Resources.{Res};
+ghost use Rattle.devnode_tree.specs.Identities.{identities};
+ghost use Rattle.start_sequence.specs.Steps.{core_of, Acts, phase_added, NeedsNothing};
+ghost use Rattle.start_sequence.specs.Parts.{AddedFor, StartsFor, RemovesFor, TroubledFor, AssignedFor};
+
+use crate::work::{Phase, StartWork};
+use device_ids::{Text, WantOfMemory};
+use device_stack::{Passed, Walk, ask_driver, driver_name, state_after};
+use devnode_tree::Tree;
+use driver_rack::Drivers;
+use pnp_labels::{Answer, Ask, AskWhat, DevState, Label, Minor, Problem, Stack};
+use resource_reqs::ResList;
+use std::alloc::Global;
+
+/// A step of the start of a device, with what the machine has to do beside it. This project's own.
+#[derive(Debug, Drop)]
+pub enum StartStep {
+    /// Nothing: the start goes on.
+    Did(Label),
+    /// The device is started and the start is over: its children are to be listed.
+    Up(Label),
+    /// The start is over.
+    Over(Label),
+}
+
+/// A step of the request that starts the device.
+#[derive(Debug, Drop)]
+pub(crate) enum Started {
+    On(Label),
+    Refused(Label),
+    Up(Label),
+}
+
+/// A step of the request that removes its drivers.
+#[derive(Debug, Drop)]
+pub(crate) enum Removed {
+    On(Label),
+    Over(Label),
+}
+
+/// The state of a device when a driver was added on top.
+fn stacked(state: DevState) -> DevState
+    ensures { result ≡ stacked state }
+{
+    match state {
+        DevState::NoStack => DevState::NotStarted,
+        _ => state,
+    }
+}
+
+/// The stack with one driver more on top. Cost: its height, which is at most 16.
+#[tactic(auto, using(std::proofs::lemmas::List::take_all))]
+fn taller(alloc: Global, stack: &Stack, driver: u32) -> Result<Stack, WantOfMemory>
+    ensures { IfOk result (λ new. new ≡ stack.now ++ driver ∷ []) }
+{
+    let mut new = Stack::new(alloc);
+    for at in 0..stack.len() {
+        new.push(*stack.get(at))?;
+    }
+    new.push(driver)?;
+    Ok(new)
+}
+
+/// A driver is asked to add the device; with Ok it stands on top of the stack.
+#[tactic(auto, using(devnode_tree::proofs::Identities::stack_keeps))]
+fn add<R: Drivers>(
+    alloc: Global,
+    serial: u64,
+    driver: u32,
+    tree: &mut Tree,
+    rack: &mut R,
+) -> Result<(Label, bool), WantOfMemory>
+    requires { IsSome (node_at serial tree.old.nodes) }
+    ensures added { IfOk result (λ r. AddedFor (node_at serial tree.old.nodes) driver tree.old.nodes (R.rows rack.old) r.0 r.1 tree.new.nodes (R.rows rack.new)) }
+    ensures next { tree.new.next ≡ tree.old.next }
+    ensures keeps { identities tree.new.nodes ≡ identities tree.old.nodes }
+    ensures tree { OnErr result (tree.new ≡ tree.old) }
+    ensures rack { OnErr result (R.rows rack.new ≡ R.rows rack.old) }
+{
+    let Some(node) = tree.node(serial) else {
+        unreachable!()
+    };
+    let serial = node.serial;
+    let state = stacked(node.state);
+    let name = driver_name(alloc, rack, driver)?;
+    let text = Text::make(alloc, node.path.bytes())?;
+    let stack = taller(alloc, &node.stack, driver)?;
+    let ask = Ask {
+        what: AskWhat::Add,
+        path: &node.path,
+    };
+    let ok = matches!(ask_driver(rack, driver, &ask), Answer::Ok);
+    if ok {
+        tree.set_stack(serial, stack, state);
+    }
+    let label = Label::Add {
+        path: text,
+        driver: name,
+        ok,
+    };
+    Ok((label, ok))
+}
+
+/// The device that needs nothing gets nothing.
+#[tactic(auto, using(devnode_tree::proofs::Identities::holds_keep))]
+fn assign(alloc: Global, serial: u64, tree: &mut Tree) -> Result<Label, WantOfMemory>
+    requires { IsSome (node_at serial tree.old.nodes) }
+    ensures assigned { IfOk result (λ label. AssignedFor (node_at serial tree.old.nodes) tree.old.nodes label tree.new.nodes) }
+    ensures next { tree.new.next ≡ tree.old.next }
+    ensures keeps { identities tree.new.nodes ≡ identities tree.old.nodes }
+    ensures tree { OnErr result (tree.new ≡ tree.old) }
+{
+    let Some(node) = tree.node(serial) else {
+        unreachable!()
+    };
+    let serial = node.serial;
+    let path = Text::make(alloc, node.path.bytes())?;
+    let _ = tree.swap_holds(serial, ResList::new(alloc));
+    Ok(Label::Assign {
+        path,
+        held: ResList::new(alloc),
+    })
+}
+
+/// The next step of the request that starts the device.
+#[tactic(auto, using(devnode_tree::proofs::Identities::state_keeps))]
+fn start<R: Drivers>(
+    alloc: Global,
+    serial: u64,
+    walk: &mut Walk,
+    tree: &mut Tree,
+    rack: &mut R,
+) -> Result<Started, WantOfMemory>
+    requires there { IsSome (node_at serial tree.old.nodes) }
+    requires goes { walk.old.walk.waits ≡ false }
+    ensures started { IfOk result (λ went. (relations : List Relation) (reserved : List Res) → StartsFor (node_at serial tree.old.nodes) (core_of tree.old.nodes (R.rows rack.old) relations reserved) walk.old.walk went (core_of tree.new.nodes (R.rows rack.new) relations reserved) walk.new.walk) }
+    ensures next { tree.new.next ≡ tree.old.next }
+    ensures keeps { identities tree.new.nodes ≡ identities tree.old.nodes }
+    ensures walk { OnErr result (walk.new ≡ walk.old) }
+    ensures tree { OnErr result (tree.new ≡ tree.old) }
+    ensures rack { OnErr result (R.rows rack.new ≡ R.rows rack.old) }
+{
+    let Some(node) = tree.node(serial) else {
+        unreachable!()
+    };
+    let serial = node.serial;
+    let old = node.state;
+    let path = Text::make(alloc, node.path.bytes())?;
+    match walk.pass(alloc, &node.stack, &node.path, rack)? {
+        Passed::Asked(label) => Ok(Started::On(label)),
+        Passed::Ended { refused } => {
+            let state = state_after(Minor::Start, refused, old);
+            tree.set_state(serial, state);
+            let label = Label::State { path, state };
+            if refused {
+                Ok(Started::Refused(label))
+            } else {
+                Ok(Started::Up(label))
+            }
+        }
+    }
+}
+
+/// The next step of the request that removes the device's drivers; with its end the device has no drivers and holds
+/// nothing.
+#[tactic(auto, using(devnode_tree::proofs::Identities::bare_keeps))]
+fn remove<R: Drivers>(
+    alloc: Global,
+    serial: u64,
+    walk: &mut Walk,
+    tree: &mut Tree,
+    rack: &mut R,
+) -> Result<Removed, WantOfMemory>
+    requires there { IsSome (node_at serial tree.old.nodes) }
+    requires goes { walk.old.walk.waits ≡ false }
+    ensures removed { IfOk result (λ went. (relations : List Relation) (reserved : List Res) → forget serial relations ≡ relations → RemovesFor (node_at serial tree.old.nodes) (core_of tree.old.nodes (R.rows rack.old) relations reserved) walk.old.walk went (core_of tree.new.nodes (R.rows rack.new) relations reserved) walk.new.walk) }
+    ensures next { tree.new.next ≡ tree.old.next }
+    ensures keeps { identities tree.new.nodes ≡ identities tree.old.nodes }
+    ensures walk { OnErr result (walk.new ≡ walk.old) }
+    ensures tree { OnErr result (tree.new ≡ tree.old) }
+    ensures rack { OnErr result (R.rows rack.new ≡ R.rows rack.old) }
+{
+    let Some(node) = tree.node(serial) else {
+        unreachable!()
+    };
+    let path = Text::make(alloc, node.path.bytes())?;
+    match walk.pass(alloc, &node.stack, &node.path, rack)? {
+        Passed::Asked(label) => Ok(Removed::On(label)),
+        Passed::Ended { refused: _ } => {
+            let _ = tree.strip(serial);
+            let state = DevState::NoStack;
+            Ok(Removed::Over(Label::State { path, state }))
+        }
+    }
+}
+
+/// The device gets a problem; whether it has drivers is told.
+#[tactic(auto, using(devnode_tree::proofs::Identities::problem_keeps))]
+fn trouble(
+    alloc: Global,
+    serial: u64,
+    problem: Problem,
+    tree: &mut Tree,
+) -> Result<(Label, bool), WantOfMemory>
+    requires { IsSome (node_at serial tree.old.nodes) }
+    ensures troubled { IfOk result (λ r. TroubledFor (node_at serial tree.old.nodes) problem tree.old.nodes r.0 r.1 tree.new.nodes) }
+    ensures next { tree.new.next ≡ tree.old.next }
+    ensures keeps { identities tree.new.nodes ≡ identities tree.old.nodes }
+    ensures tree { OnErr result (tree.new ≡ tree.old) }
+{
+    let Some(node) = tree.node(serial) else {
+        unreachable!()
+    };
+    let serial = node.serial;
+    let has_drivers = node.stack.len() > 0;
+    let path = Text::make(alloc, node.path.bytes())?;
+    tree.set_problem(serial, Some(problem));
+    Ok((Label::Trouble { path, problem }, has_drivers))
+}
+
+impl StartWork {
+    /// Notes whether the driver that was asked added the device.
+    fn note_added(&mut self, ok: bool)
+        ensures { self.new ≡ record self.old { phase = phase_added self.old.phase ok } }
+    {
+        if !ok {
+            self.phase = Phase::Due(Problem::FailedAdd);
+            return;
+        }
+        if let Phase::Adding(pending) = &mut self.phase {
+            if pending.drop_first() {
+                self.phase = Phase::Searching;
+            }
+        }
+    }
+
+    /// The next step of a start that does not wait: a driver is asked, or a request or a part of the start ends. The
+    /// step tells the line that is printed and what the machine has to do; after `Up` and `Over` the start is over.
+    /// Conditions: the device is there, it needs no resources, and it has no relations. After want of memory start,
+    /// tree and rack are as before, and no driver was asked. Cost: the rules of one book, and the logarithm of the
+    /// number of nodes.
+    pub fn next<R: Drivers>(
+        &mut self,
+        alloc: Global,
+        tree: &mut Tree,
+        rack: &mut R,
+    ) -> Result<StartStep, WantOfMemory>
+        requires there { IsSome (node_at self.old.serial tree.old.nodes) }
+        requires needs { NeedsNothing (node_at self.old.serial tree.old.nodes) }
+        requires goes { is_waiting (phase_walk self.old.phase) ≡ false }
+        ensures acts { IfOk result (λ step. Acts self.old.serial tree.old.nodes (R.rows rack.old) self.old.phase step tree.new.nodes (R.rows rack.new) self.new.phase) }
+        ensures serial { self.new.serial ≡ self.old.serial }
+        ensures next { tree.new.next ≡ tree.old.next }
+        ensures keeps { identities tree.new.nodes ≡ identities tree.old.nodes }
+        ensures start { OnErr result (self.new ≡ self.old) }
+        ensures tree { OnErr result (tree.new ≡ tree.old) }
+        ensures rack { OnErr result (R.rows rack.new ≡ R.rows rack.old) }
+    {
+        let serial = self.serial;
+        let first = match &self.phase {
+            Phase::Adding(pending) => pending.first(),
+            _ => None,
+        };
+        if let Some(driver) = first {
+            let (label, ok) = add(alloc, serial, driver, tree, rack)?;
+            self.note_added(ok);
+            return Ok(StartStep::Did(label));
+        }
+        match &mut self.phase {
+            Phase::Adding(_) | Phase::Searching => {
+                let label = assign(alloc, serial, tree)?;
+                self.phase = Phase::Starting(Walk::begin(Minor::Start));
+                Ok(StartStep::Did(label))
+            }
+            Phase::Starting(walk) => match start(alloc, serial, walk, tree, rack)? {
+                Started::On(label) => Ok(StartStep::Did(label)),
+                Started::Up(label) => Ok(StartStep::Up(label)),
+                Started::Refused(label) => {
+                    self.phase = Phase::Due(Problem::FailedStart);
+                    Ok(StartStep::Did(label))
+                }
+            },
+            Phase::Removing(walk) => match remove(alloc, serial, walk, tree, rack)? {
+                Removed::On(label) => Ok(StartStep::Did(label)),
+                Removed::Over(label) => Ok(StartStep::Over(label)),
+            },
+            Phase::Due(problem) => {
+                let (label, has_drivers) = trouble(alloc, serial, *problem, tree)?;
+                if !has_drivers {
+                    return Ok(StartStep::Over(label));
+                }
+                self.phase = Phase::Removing(Walk::begin(Minor::Remove));
+                Ok(StartStep::Did(label))
+            }
+        }
+    }
+}

@@ -1,0 +1,108 @@
+ghost use Rattle.std.specs.Prelude.{◌≡◌};
+ghost use Rattle.pnp_model.specs.Walks.{walk_of};
+ghost use Rattle.pnp_model.specs.Records.Phase.{Starting, Removing};
+ghost use Rattle.pnp_labels.specs.declared.words.Minor.TheVariants.{Start, Remove};
+ghost use Rattle.start_sequence.specs.Works.{minor_if, minor_that_waits, CompletedWalk, CompletedWork};
+
+use crate::pending::Pending;
+use device_stack::{NoSuchRequest, Walk};
+use pnp_labels::{Minor, Problem};
+use std::marker::Model;
+
+/// Where the start of a device stands: this project's own.
+#[derive(Debug, Drop)]
+pub(crate) enum Phase {
+    /// These drivers are still to be asked to add it.
+    Adding(Pending),
+    /// Resources are to be found for it.
+    Searching,
+    /// It is being started.
+    Starting(Walk),
+    /// Its drivers are being removed.
+    Removing(Walk),
+    /// It is to get this problem.
+    Due(Problem),
+}
+
+/// The start of one device, from the choice of its drivers to the end of the request that starts it, or to the end
+/// of the request that removes them (Oney, on AddDevice and IRP_MN_START_DEVICE; that each step is one of the
+/// machine's is this project's own). A contract sees the device's serial and where the start stands.
+#[derive(Debug, Drop)]
+pub struct StartWork {
+    pub(crate) serial: u64,
+    pub(crate) phase: Phase,
+}
+
+impl Model for StartWork {
+    ghost use Rattle.pnp_model.specs.Records.{Activity};
+    ghost use Rattle.start_sequence.specs.Works.{phase_of};
+
+    ghost Value = { Activity };
+
+    ghost view = { λ w. record { serial = w.serial; phase = phase_of w.phase } };
+}
+
+/// The request of a walk that waits.
+fn waiting_minor(walk: &Walk) -> Option<Minor>
+    ensures { result ≡ minor_if walk.now.walk walk.now.walk.waits }
+{
+    walk.waits().map(|_| walk.minor())
+}
+
+/// Completes a walk where it waits.
+fn complete_walk(walk: &mut Walk, ok: bool) -> Result<(), NoSuchRequest>
+    ensures { CompletedWalk result walk.old.walk ok walk.new.walk }
+{
+    match walk.waits() {
+        Some(pos) => walk.complete(pos, ok),
+        None => Err(NoSuchRequest),
+    }
+}
+
+impl StartWork {
+    /// A start that stands before the request that starts the device.
+    pub fn resume(serial: u64) -> StartWork
+        ensures { result ≡ record { serial = serial; phase = Starting (walk_of Start) } }
+    {
+        let phase = Phase::Starting(Walk::begin(Minor::Start));
+        StartWork { serial, phase }
+    }
+
+    /// A start that stands before the request that removes the device's drivers.
+    pub fn undo(serial: u64) -> StartWork
+        ensures { result ≡ record { serial = serial; phase = Removing (walk_of Remove) } }
+    {
+        let phase = Phase::Removing(Walk::begin(Minor::Remove));
+        StartWork { serial, phase }
+    }
+
+    /// The device.
+    pub fn serial(&self) -> u64
+        ensures { result ≡ self.now.serial }
+    {
+        self.serial
+    }
+
+    /// The request that waits for a driver; none exactly where none waits.
+    pub fn waits(&self) -> Option<Minor>
+        ensures { result ≡ minor_that_waits self.now.phase }
+    {
+        match &self.phase {
+            Phase::Starting(walk) | Phase::Removing(walk) => waiting_minor(walk),
+            _ => None,
+        }
+    }
+
+    /// The driver at which the request waits completes it: Ok, or Fail. `NoSuchRequest` exactly where none waits;
+    /// then nothing changes. It takes no memory.
+    #[tactic(auto, using(crate::proofs::Completing::completed_start, crate::proofs::Completing::completed_remove))]
+    pub fn complete(&mut self, ok: bool) -> Result<(), NoSuchRequest>
+        ensures { CompletedWork result self.old ok self.new }
+    {
+        match &mut self.phase {
+            Phase::Starting(walk) => complete_walk(walk, ok),
+            Phase::Removing(walk) => complete_walk(walk, ok),
+            _ => Err(NoSuchRequest),
+        }
+    }
+}
