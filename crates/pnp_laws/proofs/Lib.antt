@@ -46,3 +46,4 @@ pub mod RunsStand
 pub mod RunsStep
 pub mod Measures
 pub mod MeasureOps
+pub mod MeasureRemovals
