@@ -47,3 +47,4 @@ pub mod RunsStep
 pub mod Measures
 pub mod MeasureOps
 pub mod MeasureRemovals
+pub mod MeasureSurprises

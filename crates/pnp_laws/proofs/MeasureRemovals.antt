@@ -34,14 +34,14 @@ use Rattle.pnp_model.specs.Surprises as su
 -- A device leaves --------------------------------------------------------------------------------------
 
 -- at most a listing was added
-abbrev Listed : List Task → List Task → Type 0
+abbrev pub Listed : List Task → List Task → Type 0
 Listed tasks more = (more ≡ tasks) ⊎ ((k : ℕ) × (more ≡ tasks ++ record { kind = Duty.Listing; serial = k } ∷ []))
 
 listed_node : (o : Option Node) (s : State) → Listed s.tasks (list_node o s).tasks
 listed_node None s = inl refl
 listed_node (Some n) s = inr (n.serial, refl)
 
-listed_again : (path : Text) (born : ℕ) (s : State) → Listed s.tasks (relist path born s).tasks
+pub listed_again : (path : Text) (born : ℕ) (s : State) → Listed s.tasks (relist path born s).tasks
 listed_again path born s = by_device (device_of path s.world)
   where
     by_other : (d : Device) (b : Bool) → Listed s.tasks (relist_other d b s).tasks
@@ -52,7 +52,7 @@ listed_again path born s = by_device (device_of path s.world)
     by_device None = inl refl
     by_device (Some d) = by_other d (d.born == born)
 
-same_world : (path : Text) (born : ℕ) (s : State) → (relist path born s).world ≡ s.world
+pub same_world : (path : Text) (born : ℕ) (s : State) → (relist path born s).world ≡ s.world
 same_world path born s = by_device (device_of path s.world)
   where
     by_node : (o : Option Node) → (list_node o s).world ≡ s.world
@@ -119,7 +119,7 @@ sum_less : (n m : ℕ) (acts : List Activity) → n ≤ m → sum (λ a. phase_c
 sum_less n m [] l = omega arith
 sum_less n m (a ∷ acts) l = let here = phase_less n m a.phase l in let more = sum_less n m acts l in omega arith
 
-open_listed : (tasks more : List Task) (o p : Option Operation) (k : ℕ) → Listed tasks more → is_target p k ≡ is_target o k → is_open more p k ≡ true → is_open tasks o k ≡ true
+pub open_listed : (tasks more : List Task) (o p : Option Operation) (k : ℕ) → Listed tasks more → is_target p k ≡ is_target o k → is_open more p k ≡ true → is_open tasks o k ≡ true
 open_listed tasks more o p k (inl e) target h =
     ap (λ (b : Bool). not (list_any (is_surprise_of k) tasks) && not b) (sym target) ∙ (ap (λ (ts : List Task). not (list_any (is_surprise_of k) ts) && not (is_target p k)) (sym e) ∙ h)
 open_listed tasks more o p k (inr (j, e)) target h =
@@ -138,7 +138,7 @@ listed_cost n born tasks more (inr (k, e)) =
     omega arith
 
 -- a device left, and its parent may be listed again
-coarse_left : (s t : State) (j : ℕ) (node : Node) → Ascending 0 s.core.nodes → node_at j s.core.nodes ≡ Some node → t.core.nodes ≡ without_first (is_node j) s.core.nodes → ((o : Option Node) → is_born t.world o ≡ true → is_born s.world o ≡ true) → Listed s.tasks t.tasks → t.activities ≡ s.activities →
+pub coarse_left : (s t : State) (j : ℕ) (node : Node) → Ascending 0 s.core.nodes → node_at j s.core.nodes ≡ Some node → t.core.nodes ≡ without_first (is_node j) s.core.nodes → ((o : Option Node) → is_born t.world o ≡ true → is_born s.world o ≡ true) → Listed s.tasks t.tasks → t.activities ≡ s.activities →
     ((k : ℕ) → is_target t.operation k ≡ is_target s.operation k) → operation_cost (born_in s) t.operation ≤ operation_cost (born_in s) s.operation → coarse t < coarse s
 coarse_left s t j node order at nodes world tasks acts target cost =
     let n = length_left j s.core.nodes node at in
@@ -205,11 +205,11 @@ rm_ask s t o wrap node w answer walk in_it now nodes world tasks acts rank left 
     ∙ ap (λ (x : List Node). answers (Some v) (length (stack_of (first_node x o.todo)))) nodes ∙ ap (λ (m : ℕ). answers (Some v) m) n in
     omega arith)
 
-record Front (s : State) (todo : List ℕ) (node : Node) : Type 0 where
-  head : HeadIs node.serial todo
-  first : first_node s.core.nodes todo ≡ Some node
-  at : node_at node.serial s.core.nodes ≡ Some node
-  order : Ascending 0 s.core.nodes
+pub record Front (s : State) (todo : List ℕ) (node : Node) : Type 0 where
+  pub head : HeadIs node.serial todo
+  pub first : first_node s.core.nodes todo ≡ Some node
+  pub at : node_at node.serial s.core.nodes ≡ Some node
+  pub order : Ascending 0 s.core.nodes
 
 -- what comes next
 record RmMost (o : Removal) (a b : ℕ) : Type 0 where
@@ -318,7 +318,7 @@ falls_close s t o in_it none nodes world tasks acts =
     let d = ap (λ (xs : List Activity). sum (λ a. phase_cost (length (serials_of s.core.nodes)) a.phase) xs) acts in
     omega arith))
 
-in_front : (s : State) (todo : List ℕ) (node : Node) → Ascending 0 s.core.nodes → first_node s.core.nodes todo ≡ Some node → Front s todo node
+pub in_front : (s : State) (todo : List ℕ) (node : Node) → Ascending 0 s.core.nodes → first_node s.core.nodes todo ≡ Some node → Front s todo node
 in_front s todo node order first = let h = head_found s.core.nodes todo node first in record { head = h.0; first = first; at = h.1; order = order }
 
 pub lowers_removal : (s : State) (o : Removal) (stage : RemovalStage) (n : Option Node) → first_node s.core.nodes o.todo ≡ n → s.operation ≡ Some (Operation.Removing o) → o.stage ≡ stage → is_waiting (removal_walk stage) ≡ false → Ascending 0 s.core.nodes → LowersNext s (option_map (λ m. Does (removal_lifted s m)) (rm.removal_step s.core o stage n))
