@@ -48,3 +48,4 @@ pub mod Measures
 pub mod MeasureOps
 pub mod MeasureRemovals
 pub mod MeasureSurprises
+pub mod MeasureTasks

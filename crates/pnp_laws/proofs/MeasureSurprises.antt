@@ -121,7 +121,7 @@ falls_leaves s o node in_it front =
 
 -- The end ----------------------------------------------------------------------------------------------
 
-count_none : (test was : ℕ → Bool) (j : ℕ) (nodes : List Node) → ((k : ℕ) → test k ≡ true → (was k ≡ true) ⊎ (k ≡ j)) → node_at j nodes ≡ None → count test (serials_of nodes) ≤ count was (serials_of nodes)
+pub count_none : (test was : ℕ → Bool) (j : ℕ) (nodes : List Node) → ((k : ℕ) → test k ≡ true → (was k ≡ true) ⊎ (k ≡ j)) → node_at j nodes ≡ None → count test (serials_of nodes) ≤ count was (serials_of nodes)
 count_none test was j [] h gone = omega arith
 count_none test was j (n ∷ ns) h gone =
     let other : n.serial ≢ j = λ e. absurd (let here : node_at j (n ∷ ns) ≡ Some n = grind (arith, nat_tests) in cc) in

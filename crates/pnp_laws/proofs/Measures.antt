@@ -407,3 +407,20 @@ coarse_by s t same world opens less =
     ap (λ (m : ℕ). sum (λ a. phase_cost m a.phase) t.activities) n in
     let d = operation_less (born_in t) (born_in s) t.operation born in
     omega arith
+
+-- the same, where they cost no more
+pub coarse_most : (s t : State) → SameBirths s.core.nodes t.core.nodes → t.world ≡ s.world → ((k : ℕ) → is_open t.tasks t.operation k ≡ true → is_open s.tasks s.operation k ≡ true) →
+    tasks_cost (length (serials_of s.core.nodes)) (born_in s) t.tasks + (sum (λ a. phase_cost (length (serials_of s.core.nodes)) a.phase) t.activities + operation_cost (born_in s) t.operation)
+    ≤ tasks_cost (length (serials_of s.core.nodes)) (born_in s) s.tasks + (sum (λ a. phase_cost (length (serials_of s.core.nodes)) a.phase) s.activities + operation_cost (born_in s) s.operation) →
+    coarse t ≤ coarse s
+coarse_most s t same world opens less =
+    let n : length (serials_of t.core.nodes) ≡ length (serials_of s.core.nodes) = ap (λ (ks : List ℕ). length ks) same.serials in
+    let born : (k : ℕ) → born_in t k ≡ true → born_in s k ≡ true = λ k h. sym (ap (λ (w : List Device). is_born w (node_at k t.core.nodes)) world ∙ same.births s.world k) ∙ h in
+    let a : count (is_open t.tasks t.operation) (serials_of t.core.nodes) ≤ count (is_open s.tasks s.operation) (serials_of s.core.nodes) =
+    subst (λ (ks : List ℕ). count (is_open t.tasks t.operation) ks ≤ count (is_open s.tasks s.operation) (serials_of s.core.nodes)) (sym same.serials)
+    (count_less (is_open t.tasks t.operation) (is_open s.tasks s.operation) (serials_of s.core.nodes) opens) in
+    let b = tasks_less (length (serials_of t.core.nodes)) (length (serials_of s.core.nodes)) (born_in t) (born_in s) t.tasks (omega arith) born in
+    let c : sum (λ a. phase_cost (length (serials_of t.core.nodes)) a.phase) t.activities ≡ sum (λ a. phase_cost (length (serials_of s.core.nodes)) a.phase) t.activities =
+    ap (λ (m : ℕ). sum (λ a. phase_cost m a.phase) t.activities) n in
+    let d = operation_less (born_in t) (born_in s) t.operation born in
+    omega arith

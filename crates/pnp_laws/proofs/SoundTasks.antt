@@ -45,7 +45,7 @@ sound_drop s label task plain first kind none h =
 
 -- Listing ----------------------------------------------------------------------------------------
 
-find_passes : {A : Type 0} (p : A → Bool) (xs : List A) (x : A) → find p xs ≡ Some x → p x ≡ true
+pub find_passes : {A : Type 0} (p : A → Bool) (xs : List A) (x : A) → find p xs ≡ Some x → p x ≡ true
 find_passes p [] x h = absurd (cc)
 find_passes p (y ∷ ys) x h =
     let more = find_passes p ys x in
@@ -56,7 +56,7 @@ find_passes p (y ∷ ys) x h =
     ] in
     by_test (p y) refl h
 
-find_among : {A : Type 0} (p q : A → Bool) (xs : List A) (x : A) → find p (those q xs) ≡ Some x → q x ≡ true
+pub find_among : {A : Type 0} (p q : A → Bool) (xs : List A) (x : A) → find p (those q xs) ≡ Some x → q x ≡ true
 find_among p q [] x h = absurd (cc)
 find_among p q (y ∷ ys) x h =
     let more = find_among p q ys x in
