@@ -49,3 +49,5 @@ pub mod MeasureOps
 pub mod MeasureRemovals
 pub mod MeasureSurprises
 pub mod MeasureTasks
+pub mod MeasureBegins
+pub mod RunsEnd

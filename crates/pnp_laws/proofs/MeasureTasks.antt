@@ -41,16 +41,16 @@ use Rattle.pnp_model.specs.Surprises as su
 
 -- What may be found gone ---------------------------------------------------------------------------------
 
-open_same : (tasks more : List Task) (o p : Option Operation) (k : ℕ) → more ≡ tasks → is_target p k ≡ is_target o k → is_open more p k ≡ true → is_open tasks o k ≡ true
+pub open_same : (tasks more : List Task) (o p : Option Operation) (k : ℕ) → more ≡ tasks → is_target p k ≡ is_target o k → is_open more p k ≡ true → is_open tasks o k ≡ true
 open_same tasks more o p k e target h =
     ap (λ (b : Bool). not (list_any (is_surprise_of k) tasks) && not b) (sym target) ∙ (ap (λ (ts : List Task). not (list_any (is_surprise_of k) ts) && not (is_target p k)) (sym e) ∙ h)
 
-fewer_open : (a b c : Bool) → (b ≡ true → a ≡ true) → (not a && not c) ≡ true → (not b && not c) ≡ true
+pub fewer_open : (a b c : Bool) → (b ≡ true → a ≡ true) → (not a && not c) ≡ true → (not b && not c) ≡ true
 fewer_open true b c f h = absurd (cc)
 fewer_open false true c f h = absurd (let z = f refl in cc)
 fewer_open false false c f h = h
 
-any_pushed : (k : ℕ) (tasks : List Task) (task : Task) → list_any (is_surprise_of k) tasks ≡ true → list_any (is_surprise_of k) (tasks ++ task ∷ []) ≡ true
+pub any_pushed : (k : ℕ) (tasks : List Task) (task : Task) → list_any (is_surprise_of k) tasks ≡ true → list_any (is_surprise_of k) (tasks ++ task ∷ []) ≡ true
 any_pushed k [] task h = absurd (cc)
 any_pushed k (t ∷ tasks) task h = by_test (is_surprise_of k t) (any_pushed k tasks task) h
   where
@@ -58,18 +58,18 @@ any_pushed k (t ∷ tasks) task h = by_test (is_surprise_of k t) (any_pushed k t
     by_test true more g = refl
     by_test false more g = more g
 
-open_pushed : (tasks : List Task) (task : Task) (o : Option Operation) (k : ℕ) → is_open (tasks ++ task ∷ []) o k ≡ true → is_open tasks o k ≡ true
+pub open_pushed : (tasks : List Task) (task : Task) (o : Option Operation) (k : ℕ) → is_open (tasks ++ task ∷ []) o k ≡ true → is_open tasks o k ≡ true
 open_pushed tasks task o k h = fewer_open (list_any (is_surprise_of k) (tasks ++ task ∷ [])) (list_any (is_surprise_of k) tasks) (is_target o k) (any_pushed k tasks task) h
 
 -- the first task, which is no surprise, is dropped
-open_dropped : (tasks : List Task) (task : Task) (o p : Option Operation) (k : ℕ) → slice_get tasks 0 ≡ Some task → is_surprise_task task.kind ≡ false → is_target p k ≡ is_target o k → is_open (drop 1 tasks) p k ≡ true → is_open tasks o k ≡ true
+pub open_dropped : (tasks : List Task) (task : Task) (o p : Option Operation) (k : ℕ) → slice_get tasks 0 ≡ Some task → is_surprise_task task.kind ≡ false → is_target p k ≡ is_target o k → is_open (drop 1 tasks) p k ≡ true → is_open tasks o k ≡ true
 open_dropped [] task o p k first kind target h = absurd (cc)
 open_dropped (t ∷ tasks) task o p k first kind target h =
     let same : t ≡ task = cc in
     let none : is_surprise_of k t ≡ false = ap (λ (x : Task). is_surprise_of k x) same ∙ ap (λ (b : Bool). b && (task.serial == k)) kind in
     ap (λ (b : Bool). not (b || list_any (is_surprise_of k) tasks) && not (is_target o k)) none ∙ (ap (λ (b : Bool). not (list_any (is_surprise_of k) tasks) && not b) (sym target) ∙ h)
 
-dropped_cost : (n : ℕ) (born : ℕ → Bool) (tasks : List Task) (task : Task) → slice_get tasks 0 ≡ Some task → tasks_cost n born (drop 1 tasks) + duty_cost n (born task.serial) task.kind ≡ tasks_cost n born tasks
+pub dropped_cost : (n : ℕ) (born : ℕ → Bool) (tasks : List Task) (task : Task) → slice_get tasks 0 ≡ Some task → tasks_cost n born (drop 1 tasks) + duty_cost n (born task.serial) task.kind ≡ tasks_cost n born tasks
 dropped_cost n born [] task first = absurd (cc)
 dropped_cost n born (t ∷ tasks) task first = let same : t ≡ task = cc in let e = ap (λ (x : Task). duty_cost n (born x.serial) x.kind) same in omega arith
 
@@ -83,10 +83,10 @@ pub record Active (s : State) (node : Node) (phase : Phase) : Type 0 where
   pub is : activity.phase ≡ phase
   pub at : node_at node.serial s.core.nodes ≡ Some node
 
-no_cost : (born : ℕ → Bool) (o : Option Operation) → o ≡ None → operation_cost born o ≡ 0
+pub no_cost : (born : ℕ → Bool) (o : Option Operation) → o ≡ None → operation_cost born o ≡ 0
 no_cost born o e = ap (operation_cost born) e
 
-same_none : (o p : Option Operation) (k : ℕ) → o ≡ None → p ≡ None → is_target p k ≡ is_target o k
+pub same_none : (o p : Option Operation) (k : ℕ) → o ≡ None → p ≡ None → is_target p k ≡ is_target o k
 same_none o p k e f = ap (λ (x : Option Operation). is_target x k) f ∙ sym (ap (λ (x : Option Operation). is_target x k) e)
 
 -- the activity goes on in a phase that costs less
@@ -156,7 +156,7 @@ goes_asked s t node wrap w answer walk cost active nodes world tasks none acts w
     ap (λ (o : Option Operation). answers_of t.core.nodes t.activities o) none ∙ ap (λ (x : List Node). sum (activity_answers x) t.activities) nodes ∙ ap (λ (xs : List Activity). sum (activity_answers s.core.nodes) xs) acts in
     falls_answers s t most (omega arith) (omega arith) (omega arith)
 
-adding_cost : (n : ℕ) (ds : List ℕ) → phase_cost n (adding ds) ≤ 7 * n + 9 + length ds
+pub adding_cost : (n : ℕ) (ds : List ℕ) → phase_cost n (adding ds) ≤ 7 * n + 9 + length ds
 adding_cost n [] = omega arith
 adding_cost n (d ∷ ds) = omega arith
 
