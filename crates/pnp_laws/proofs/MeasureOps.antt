@@ -24,7 +24,7 @@ use Rattle.pnp_labels.specs.declared.label.OpKind.{OpKind}
 use Rattle.pnp_labels.specs.declared.states.DevState.TheVariants.{Started, StopPending, Stopped}
 use Rattle.pnp_labels.specs.declared.states.Problem.{Problem}
 use Rattle.pnp_laws.proofs.Lists.{HeadIs, head_found}
-use Rattle.pnp_laws.proofs.Measures.{Falls, falls_coarse, coarse, coarse_on, count, count_less, tasks_less, tasks_cost, tasks_pushed, duty_cost, sum, phase_cost, is_open, is_target, born_in, operation_cost, rebalance_cost, rank_of, rebalance_rank, left_of, rebalance_left, answers, answers_of, SameBirths, births_same, births_changed, births_mapped}
+use Rattle.pnp_laws.proofs.Measures.{Falls, falls_coarse, coarse, coarse_on, count, count_less, tasks_less, tasks_cost, tasks_pushed, duty_cost, sum, phase_cost, is_open, is_target, born_in, operation_cost, rebalance_cost, rank_of, rebalance_rank, left_of, rebalance_left, answers, answers_of, SameBirths, births_same, births_changed, births_mapped, coarse_by, sum_entered}
 use Rattle.pnp_model.specs.Rebalances as re
 
 -- By the first number that is lower ---------------------------------------------------------------------
@@ -262,3 +262,97 @@ falls_end_restart s r node w false in_it front =
 falls_restart : (s : State) (r : Rebalance) (node : Node) (w : Walk) (b : Bool) → has_ended w (length node.stack) ≡ b → w.waits ≡ false → InRebalance s r (RebalanceStage.Restarting w) → Front s r node → Falls s (rebalance_lifted s (re.restart_step s.core r node w b)).state
 falls_restart s r node w true e waits in_it front = falls_end_restart s r node w (is_bad w) in_it front
 falls_restart s r node w false e waits in_it front = re_ask s _ r RebalanceStage.Restarting node w _ (λ v. refl) in_it refl refl refl refl refl (λ v. refl) (λ v. refl) (λ v. refl) front.first waits e
+
+begin_most : (n : ℕ) (b : Bool) → duty_cost n b (Duty.Begins OpKind.Surprise) ≤ 6
+begin_most n true = omega arith
+begin_most n false = omega arith
+
+-- more tasks leave no more to be found gone
+open_first : (task : Task) (tasks : List Task) (o p : Option Operation) (k : ℕ) → is_target p k ≡ is_target o k → is_open (task ∷ tasks) p k ≡ true → is_open tasks o k ≡ true
+open_first task tasks o p k target h = grind (arith, nat_tests)
+
+falls_failed : (s : State) (r : Rebalance) (node : Node) → InRebalance s r RebalanceStage.Failed → Front s r node → Falls s (rebalance_lifted s (re.failed s.core r node)).state
+falls_failed s r node in_it front =
+    let t = (rebalance_lifted s (re.failed s.core r node)).state in
+    let task : Task = record { kind = Duty.Begins OpKind.Surprise; serial = node.serial } in
+    let ks = re.startable s.core.nodes (rest r.todo) in
+    let most = restart_most r ks in
+    let a = most.cost in
+    let l = rest_shorter node.serial r.todo front.head in
+    let m = startable_shorter s.core.nodes (rest r.todo) in
+    let b = begin_most (length (serials_of s.core.nodes)) (born_in s node.serial) in
+    let c = cost_in s r RebalanceStage.Failed in_it (born_in s) in
+    falls_coarse s t (coarse_by s t (births_changed node.serial _ s.core.nodes _ refl (λ x. refl) (λ x. refl)) refl
+    (λ k h. open_first task s.tasks s.operation t.operation k (sym (no_target s r RebalanceStage.Failed in_it k)) h) (omega arith))
+
+-- The end of a rebalance
+
+ends_with : (s t : State) (r : Rebalance) (phase : Phase) → InRebalance s r RebalanceStage.Ending → t.core.nodes ≡ s.core.nodes → t.world ≡ s.world → t.tasks ≡ s.tasks → t.operation ≡ None → sum (λ a. phase_cost (length (serials_of s.core.nodes)) a.phase) t.activities < sum (λ a. phase_cost (length (serials_of s.core.nodes)) a.phase) s.activities + 6 → Falls s t
+ends_with s t r phase in_it nodes world tasks none acts =
+    falls_coarse s t (coarse_by s t (births_same s.core.nodes t.core.nodes nodes) world
+    (λ k h. ap (λ (b : Bool). not (list_any (is_surprise_of k) s.tasks) && not b) (no_target s r RebalanceStage.Ending in_it k ∙ sym (ap (λ (o : Option Operation). is_target o k) none))
+    ∙ (ap (λ (ts : List Task). not (list_any (is_surprise_of k) ts) && not (is_target t.operation k)) (sym tasks) ∙ h))
+    (let a = ap (tasks_cost (length (serials_of s.core.nodes)) (born_in s)) tasks in
+    let b = ap (operation_cost (born_in s)) none in
+    let c = cost_in s r RebalanceStage.Ending in_it (born_in s) in
+    omega arith))
+
+falls_moved : (s : State) (r : Rebalance) (up : Bool) (label : Label) → InRebalance s r RebalanceStage.Ending → Falls s (rebalance_lifted s (record { label = label; core = s.core; frame = r; beside = re.moved_on up })).state
+falls_moved s r true label in_it =
+    let a : Activity = record { serial = r.target; phase = Phase.Starting (walk_of Minor.Start) } in
+    let e = sum_entered (λ x. phase_cost (length (serials_of s.core.nodes)) x.phase) a s.activities in
+    ends_with s _ r (Phase.Starting (walk_of Minor.Start)) in_it refl refl refl refl (omega arith)
+falls_moved s r false label in_it = ends_with s _ r Phase.Searching in_it refl refl refl refl (omega arith)
+
+falls_over : (s : State) (r : Rebalance) (found : Found) (label : Label) → InRebalance s r RebalanceStage.Ending → Falls s (rebalance_lifted s (record { label = label; core = s.core; frame = r; beside = re.over s.core r found })).state
+falls_over s r (assignment plan) label in_it = falls_moved s r (stands_up s.core.nodes r.target) label in_it
+falls_over s r no_fit label in_it =
+    let a : Activity = record { serial = r.target; phase = Phase.Removing (walk_of Minor.Remove) } in
+    let e = sum_entered (λ x. phase_cost (length (serials_of s.core.nodes)) x.phase) a s.activities in
+    ends_with s _ r (Phase.Removing (walk_of Minor.Remove)) in_it refl refl refl refl (omega arith)
+falls_over s r spent label in_it =
+    let a : Activity = record { serial = r.target; phase = Phase.Removing (walk_of Minor.Remove) } in
+    let e = sum_entered (λ x. phase_cost (length (serials_of s.core.nodes)) x.phase) a s.activities in
+    ends_with s _ r (Phase.Removing (walk_of Minor.Remove)) in_it refl refl refl refl (omega arith)
+
+-- All steps of a rebalance ---------------------------------------------------------------------------------
+
+-- no device joins
+abbrev pub IsNoJoin : Label → Type 0
+IsNoJoin (Label.Join k path) = ⊥
+IsNoJoin _ = Unit {0}
+
+pub record Lowers (s : State) (step : Step) : Type 0 where
+  pub lowers : IsNoJoin step.label → Falls s step.state
+
+pub lower_so : (s : State) (step : Step) → Falls s step.state → Lowers s step
+lower_so s step h = record { lowers = λ n. h }
+
+abbrev pub LowersDoing : State → Doing Step → Type 0
+LowersDoing s (Does step) = Lowers s step
+LowersDoing s (Searches problem by_answer) = (found : Found) → Lowers s (by_answer found)
+
+abbrev pub LowersNext : State → Option (Doing Step) → Type 0
+LowersNext s None = Unit {0}
+LowersNext s (Some doing) = LowersDoing s doing
+
+in_front : (s : State) (r : Rebalance) (node : Node) → first_node s.core.nodes r.todo ≡ Some node → Front s r node
+in_front s r node first = record { head = (head_found s.core.nodes r.todo node first).0; first = first }
+
+pub lowers_rebalance : (s : State) (r : Rebalance) (stage : RebalanceStage) (o : Option Node) → first_node s.core.nodes r.todo ≡ o → InRebalance s r stage → is_waiting (rebalance_walk stage) ≡ false → LowersNext s (option_map (doing_map (rebalance_lifted s)) (re.rebalance_step s.core r stage o))
+lowers_rebalance s r RebalanceStage.Searching o first in_it waits = λ found. lower_so s _ (falls_searched s r found in_it)
+lowers_rebalance s r RebalanceStage.Stuck o first in_it waits = lower_so s _ (falls_stuck s r in_it)
+lowers_rebalance s r RebalanceStage.Committing o first in_it waits = lower_so s _ (falls_commit s r in_it)
+lowers_rebalance s r RebalanceStage.Ending o first in_it waits = lower_so s _ (falls_over s r r.found (Label.End OpKind.Rebalance r.path (re.end_of r.found)) in_it)
+lowers_rebalance s r (RebalanceStage.Asking w) (Some node) first in_it waits = lower_so s _ (falls_ask s r node w _ refl waits in_it (in_front s r node first))
+lowers_rebalance s r (RebalanceStage.TakingBack w) (Some node) first in_it waits = lower_so s _ (falls_take_back s r node w _ refl waits in_it (in_front s r node first))
+lowers_rebalance s r (RebalanceStage.Cancelling w) (Some node) first in_it waits = lower_so s _ (falls_cancel s r node w _ refl waits in_it (in_front s r node first))
+lowers_rebalance s r (RebalanceStage.Stopping w) (Some node) first in_it waits = lower_so s _ (falls_stop s r node w _ refl waits in_it (in_front s r node first))
+lowers_rebalance s r (RebalanceStage.Restarting w) (Some node) first in_it waits = lower_so s _ (falls_restart s r node w _ refl waits in_it (in_front s r node first))
+lowers_rebalance s r RebalanceStage.Failed (Some node) first in_it waits = lower_so s _ (falls_failed s r node in_it (in_front s r node first))
+lowers_rebalance s r (RebalanceStage.Asking w) None first in_it waits = tt
+lowers_rebalance s r (RebalanceStage.TakingBack w) None first in_it waits = tt
+lowers_rebalance s r (RebalanceStage.Cancelling w) None first in_it waits = tt
+lowers_rebalance s r (RebalanceStage.Stopping w) None first in_it waits = tt
+lowers_rebalance s r (RebalanceStage.Restarting w) None first in_it waits = tt
+lowers_rebalance s r RebalanceStage.Failed None first in_it waits = tt

@@ -17,7 +17,7 @@ use Rattle.pnp_laws.proofs.Lookups.{node_changed_same, node_changed_other, node_
 
 -- What is still to begin ----------------------------------------------------------------------------
 
-pub count : (ℕ → Bool) → List ℕ → ℕ
+abbrev pub count : (ℕ → Bool) → List ℕ → ℕ
 count test [] = 0
 count test (k ∷ ks) = cond (test k) 1 0 + count test ks
 
@@ -299,7 +299,7 @@ tasks_less n m born was (t ∷ tasks) l h =
     let here = duty_less n m (born t.serial) (was t.serial) t.kind l (h t.serial) in
     omega arith
 
-phase_less : (n m : ℕ) (phase : Phase) → n ≤ m → phase_cost n phase ≤ phase_cost m phase
+pub phase_less : (n m : ℕ) (phase : Phase) → n ≤ m → phase_cost n phase ≤ phase_cost m phase
 phase_less n m (Phase.Adding drivers) l = omega arith
 phase_less n m Phase.Searching l = omega arith
 phase_less n m (Phase.Starting w) l = omega arith
@@ -309,7 +309,6 @@ phase_less n m (Phase.Removing w) l = omega arith
 -- Counts -----------------------------------------------------------------------------------------------------
 
 pub count_less : (test was : ℕ → Bool) (ks : List ℕ) → ((k : ℕ) → test k ≡ true → was k ≡ true) → count test ks ≤ count was ks
-unfolding count
 count_less test was [] h = omega arith
 count_less test was (k ∷ ks) h = by_test (test k) (was k) (h k) (count_less test was ks h)
   where
@@ -363,7 +362,7 @@ births_mapped f old new is keeps born =
 
 -- What is to begin is no more ----------------------------------------------------------------------------------
 
-operation_less : (born was : ℕ → Bool) (o : Option Operation) → ((k : ℕ) → born k ≡ true → was k ≡ true) → operation_cost born o ≤ operation_cost was o
+pub operation_less : (born was : ℕ → Bool) (o : Option Operation) → ((k : ℕ) → born k ≡ true → was k ≡ true) → operation_cost born o ≤ operation_cost was o
 operation_less born was None h = omega arith
 operation_less born was (Some (Operation.Rebalancing r)) h = omega arith
 operation_less born was (Some (Operation.Removing o)) h = omega arith
@@ -389,5 +388,39 @@ coarse_on s t same world tasks acts target cost =
     subst (λ (ts : List Task). tasks_cost (length (serials_of t.core.nodes)) (born_in t) ts ≤ tasks_cost (length (serials_of s.core.nodes)) (born_in s) s.tasks) (sym tasks) b0 in
     let c : sum (λ a. phase_cost (length (serials_of t.core.nodes)) a.phase) t.activities ≡ sum (λ a. phase_cost (length (serials_of s.core.nodes)) a.phase) s.activities =
     ap (λ (m : ℕ). sum (λ a. phase_cost m a.phase) t.activities) n ∙ ap (λ (xs : List Activity). sum (λ a. phase_cost (length (serials_of s.core.nodes)) a.phase) xs) acts in
+    let d = operation_less (born_in t) (born_in s) t.operation born in
+    omega arith
+
+-- births stay, nobody more can be found gone, and tasks, activities and operation together cost less
+pub coarse_by : (s t : State) → SameBirths s.core.nodes t.core.nodes → t.world ≡ s.world → ((k : ℕ) → is_open t.tasks t.operation k ≡ true → is_open s.tasks s.operation k ≡ true) →
+    tasks_cost (length (serials_of s.core.nodes)) (born_in s) t.tasks + (sum (λ a. phase_cost (length (serials_of s.core.nodes)) a.phase) t.activities + operation_cost (born_in s) t.operation)
+    < tasks_cost (length (serials_of s.core.nodes)) (born_in s) s.tasks + (sum (λ a. phase_cost (length (serials_of s.core.nodes)) a.phase) s.activities + operation_cost (born_in s) s.operation) →
+    coarse t < coarse s
+coarse_by s t same world opens less =
+    let n : length (serials_of t.core.nodes) ≡ length (serials_of s.core.nodes) = ap (λ (ks : List ℕ). length ks) same.serials in
+    let born : (k : ℕ) → born_in t k ≡ true → born_in s k ≡ true = λ k h. sym (ap (λ (w : List Device). is_born w (node_at k t.core.nodes)) world ∙ same.births s.world k) ∙ h in
+    let a : count (is_open t.tasks t.operation) (serials_of t.core.nodes) ≤ count (is_open s.tasks s.operation) (serials_of s.core.nodes) =
+    subst (λ (ks : List ℕ). count (is_open t.tasks t.operation) ks ≤ count (is_open s.tasks s.operation) (serials_of s.core.nodes)) (sym same.serials)
+    (count_less (is_open t.tasks t.operation) (is_open s.tasks s.operation) (serials_of s.core.nodes) opens) in
+    let b = tasks_less (length (serials_of t.core.nodes)) (length (serials_of s.core.nodes)) (born_in t) (born_in s) t.tasks (omega arith) born in
+    let c : sum (λ a. phase_cost (length (serials_of t.core.nodes)) a.phase) t.activities ≡ sum (λ a. phase_cost (length (serials_of s.core.nodes)) a.phase) t.activities =
+    ap (λ (m : ℕ). sum (λ a. phase_cost m a.phase) t.activities) n in
+    let d = operation_less (born_in t) (born_in s) t.operation born in
+    omega arith
+
+-- the same, where they cost no more
+pub coarse_most : (s t : State) → SameBirths s.core.nodes t.core.nodes → t.world ≡ s.world → ((k : ℕ) → is_open t.tasks t.operation k ≡ true → is_open s.tasks s.operation k ≡ true) →
+    tasks_cost (length (serials_of s.core.nodes)) (born_in s) t.tasks + (sum (λ a. phase_cost (length (serials_of s.core.nodes)) a.phase) t.activities + operation_cost (born_in s) t.operation)
+    ≤ tasks_cost (length (serials_of s.core.nodes)) (born_in s) s.tasks + (sum (λ a. phase_cost (length (serials_of s.core.nodes)) a.phase) s.activities + operation_cost (born_in s) s.operation) →
+    coarse t ≤ coarse s
+coarse_most s t same world opens less =
+    let n : length (serials_of t.core.nodes) ≡ length (serials_of s.core.nodes) = ap (λ (ks : List ℕ). length ks) same.serials in
+    let born : (k : ℕ) → born_in t k ≡ true → born_in s k ≡ true = λ k h. sym (ap (λ (w : List Device). is_born w (node_at k t.core.nodes)) world ∙ same.births s.world k) ∙ h in
+    let a : count (is_open t.tasks t.operation) (serials_of t.core.nodes) ≤ count (is_open s.tasks s.operation) (serials_of s.core.nodes) =
+    subst (λ (ks : List ℕ). count (is_open t.tasks t.operation) ks ≤ count (is_open s.tasks s.operation) (serials_of s.core.nodes)) (sym same.serials)
+    (count_less (is_open t.tasks t.operation) (is_open s.tasks s.operation) (serials_of s.core.nodes) opens) in
+    let b = tasks_less (length (serials_of t.core.nodes)) (length (serials_of s.core.nodes)) (born_in t) (born_in s) t.tasks (omega arith) born in
+    let c : sum (λ a. phase_cost (length (serials_of t.core.nodes)) a.phase) t.activities ≡ sum (λ a. phase_cost (length (serials_of s.core.nodes)) a.phase) t.activities =
+    ap (λ (m : ℕ). sum (λ a. phase_cost m a.phase) t.activities) n in
     let d = operation_less (born_in t) (born_in s) t.operation born in
     omega arith

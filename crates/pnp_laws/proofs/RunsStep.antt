@@ -58,8 +58,8 @@ removal_goes s o RemovalStage.Settling there = let n = first_there o.todo s.core
 surprise_goes : (s : State) (o : Surprise) (in_world : Bool) (stage : SurpriseStage) → SurpriseThere o stage s.core.nodes → IsSome (su.surprise_step s.core o in_world stage (first_node s.core.nodes o.todo))
 surprise_goes s o in_world SurpriseStage.Ending there = (_, refl)
 surprise_goes s o in_world (SurpriseStage.Telling w) there = let n = first_there o.todo s.core.nodes there.0 in (_, ap (su.surprise_step s.core o in_world (SurpriseStage.Telling w)) n.1)
-surprise_goes s o in_world (SurpriseStage.Removing w) there = let n = first_there o.todo s.core.nodes there in (_, ap (su.surprise_step s.core o in_world (SurpriseStage.Removing w)) n.1)
-surprise_goes s o in_world SurpriseStage.Settling there = let n = first_there o.todo s.core.nodes there in (_, ap (su.surprise_step s.core o in_world SurpriseStage.Settling) n.1)
+surprise_goes s o in_world (SurpriseStage.Removing w) there = let n = first_there o.todo s.core.nodes there.0 in (_, ap (su.surprise_step s.core o in_world (SurpriseStage.Removing w)) n.1)
+surprise_goes s o in_world SurpriseStage.Settling there = let n = first_there o.todo s.core.nodes there.0 in (_, ap (su.surprise_step s.core o in_world SurpriseStage.Settling) n.1)
 
 operation_goes : (s : State) (o : Operation) → StageKept (Some o) s.core → IsSome (ma.operation_next s o false)
 operation_goes s (Operation.Rebalancing r) stage = mapped (doing_map (ma.rebalance_lifted s)) (re.rebalanced s.core r) (rebalance_goes s r r.stage stage.1)
