@@ -11,8 +11,8 @@ use Rattle.pnp_model.specs.Tests.{has, is_started}
 use Rattle.pnp_model.specs.Trees.{above}
 use Rattle.pnp_model.specs.Frames.{held_by, is_beside, fixed_beside}
 use Rattle.pnp_model.specs.Rebalances.{is_asked, reqs_of, trouble_of, movers}
-use Rattle.pnp_model.specs.Runs.{Entry, Goes, Run, printed}
-use Rattle.pnp_model.specs.Runs.Entry.{Happens, Did}
+use Rattle.pnp_model.specs.Runs.{Entry, Goes, Run}
+use Rattle.pnp_model.specs.Runs.Entry.{Did}
 use Rattle.pnp_model.specs.Laws.{Reaches, AllWithin, Refuses, RefusedSince, StaysSince, AreFree, NothingFits, ConflictLaw}
 use Rattle.pnp_labels.specs.Texts.{Text}
 use Rattle.pnp_labels.specs.declared.states.Problem.{Problem}

@@ -1,5 +1,5 @@
 -- In each run each veto restores, and each rebalance that found nothing.
-use Rattle.std.proofs.Common.{◌≡◌, inl, inr, List, refl, sym, subst}
+use Rattle.std.proofs.Common.{◌≡◌, inl, inr, List, refl, subst}
 use Rattle.pnp_model.specs.Records.{Driver, State, Settings}
 use Rattle.pnp_model.specs.Runs.{Entry, Goes, printed}
 use Rattle.pnp_model.specs.Runs.Entry.{Did}

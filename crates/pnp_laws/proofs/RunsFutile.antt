@@ -57,25 +57,11 @@ end_is_over settings rack path before begun entries last after kind end_path res
       | inr over ↦ over
     ]
 
--- a rebalance ends with what it found, and never with a veto
+-- a rebalance ends with what it found
 end_found : (s : State) (r : Rebalance) (kind : OpKind) (path : Text) (result : OpEnd) (t : State) → IsOver s r (record { label = Label.End kind path result; state = t }) → result ≡ end_of r.found
 end_found s r kind path result t h =
     let label : Label.End kind path result ≡ Label.End OpKind.Rebalance r.path (end_of r.found) = ap (λ (x : Step). x.label) h.is in
     cc
-
-no_veto : (found : Found) (refuser : Text) → OpEnd.Veto refuser ≡ end_of found → ⊥
-no_veto (assignment plan) refuser e = cc
-no_veto no_fit refuser e = cc
-no_veto spent refuser e = cc
-
-pub never_vetoed : (settings : Settings) (rack : List Driver) (earlier entries : List Entry) (before begun last after : State) (kind : OpKind) (path end_path refuser : Text) →
-    Reaches settings rack earlier before → Goes settings before (Did (Label.Begin OpKind.Rebalance path)) begun → Run settings begun entries last → AllWithin entries →
-    Goes settings last (Did (Label.End kind end_path (OpEnd.Veto refuser))) after → ⊥
-never_vetoed settings rack earlier entries before begun last after kind path end_path refuser reaches goes run within ends =
-    let since = since_begin settings rack earlier entries before begun last path reaches goes run within in
-    let u = since.lasts.under in
-    let is_over = end_is_over settings rack path before begun entries last after kind end_path (OpEnd.Veto refuser) (earlier, reaches) since run u ends in
-    no_veto u.frame.found refuser (end_found last u.frame kind end_path (OpEnd.Veto refuser) after is_over)
 
 found_nothing : (found : Found) → ((OpEnd.NoFit ≡ end_of found) ⊎ (OpEnd.Spent ≡ end_of found)) → has_plan found ≡ false
 found_nothing (assignment plan) (inl e) = absurd (cc)
