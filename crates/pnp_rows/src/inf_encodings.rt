@@ -1,7 +1,6 @@
 //! INFs in UTF-8, Latin-1 and UTF-16, and lines at their longest.
 use crate::inf_told::{MODELS, gives, joined, model_bytes, told, wide, wide_models};
 use std::alloc::{AllocError, Global};
-use std::process::Abort;
 use std::test::Fail;
 
 /// UTF-8, and what is none and so is Latin-1.
@@ -66,13 +65,18 @@ fn often(alloc: Global, piece: &[u8], count: u32) -> Result<Vec<u8>, AllocError>
     Ok(all)
 }
 
-/// What these give, one behind the other, under `[M]`, begins so.
-fn begins(rt: &impl Abort, alloc: Global, texts: [&[u8]; 3], want: &str) -> Result<(), Fail> {
-    let [front, middle, end] = texts;
-    let inf = joined(alloc, &[MODELS.as_bytes(), front, middle, end])?;
-    let told = told(alloc, &inf)?;
-    assert!(rt; told.starts_with(want.as_bytes()), "{told:?}");
-    Ok(())
+/// Under `[M]`, a front, a piece so often, and an end.
+fn long(
+    alloc: Global,
+    front: &[u8],
+    piece: &[u8],
+    count: u32,
+    end: &[u8],
+) -> Result<Vec<u8>, AllocError> {
+    let mut inf = joined(alloc, &[MODELS.as_bytes(), front])?;
+    inf.extend_from_slice(&often(alloc, piece, count)?)?;
+    inf.extend_from_slice(end)?;
+    Ok(inf)
 }
 
 /// Lines at their longest: what is before a piece, the piece, how often it stands there, and what is behind; and how
@@ -101,8 +105,9 @@ fn sixteen_bits(rt: HostRuntime) -> Result<(), Fail> {
 #[test]
 fn long_lines(rt: HostRuntime) -> Result<(), Fail> {
     for (front, piece, count, end, want) in LONG {
-        let middle = often(rt.alloc(), piece, count)?;
-        begins(&rt, rt.alloc(), [front, &middle, end], want)?;
+        let inf = long(rt.alloc(), front, piece, count, end)?;
+        let told = told(rt.alloc(), &inf)?;
+        assert!(rt; told.starts_with(want.as_bytes()), "{told:?}");
     }
     Ok(())
 }
