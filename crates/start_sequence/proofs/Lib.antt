@@ -1,3 +1,5 @@
 pub mod Numbers
 pub mod Completing
 pub mod Nothing
+pub mod Acting
+pub mod Choosing

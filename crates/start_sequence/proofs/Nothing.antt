@@ -21,10 +21,10 @@ module _ (fixed : List Res) where
   nothing_is_assigned budget =
       ([], record {
         least = record {
-          complete = (root ([] ∷ []), (refl, record { clean = tt; no_group = refl; no_list = (refl, tt) }));
+          complete = (root ([] ∷ []), refl, record { clean = tt; no_group = refl; no_list = (refl, tt) });
           least = λ b complete. first_of_all b;
         };
         count = 0;
-        counted = ([], (record { ascending = tt; each = tt; every = λ q h. nothing_tried q h.0 h.1 }, refl));
+        counted = ([], record { ascending = tt; each = tt; every = λ q h. nothing_tried q h.0 h.1 }, refl);
         within = omega arith;
       }, (refl, refl))

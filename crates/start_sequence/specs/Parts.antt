@@ -48,7 +48,8 @@ Removes m (removes.Over label) core w = (m.beside ≡ StartBeside.Over) × (labe
 
 abbrev pub RemovesFor : Option Node → Core → Walk → Removed → Core → Walk → Type 0
 RemovesFor None c w went c' w' = ⊥
-RemovesFor (Some node) c w went c' w' = Removes (remove_on c node w (has_ended w (length node.stack))) went c' w'
+RemovesFor (Some node) c w went c' w' =
+    forget node.serial c.relations ≡ c.relations → Removes (remove_on c node w (has_ended w (length node.stack))) went c' w'
 
 -- the device got nothing
 abbrev pub AssignedFor : Option Node → List Node → Label → List Node → Type 0

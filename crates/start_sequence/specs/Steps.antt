@@ -34,14 +34,15 @@ Done (Does m) step core phase = Moved m step core phase
 Done (Searches problem by_answer) step core phase =
     (found : Found) × ((budget : ℕ) → IsAnswer problem.fixed problem.movers budget found) × Moved (by_answer found) step core phase
 
+-- of a device that has no relations
 abbrev pub DoneFor : Option Node → Core → Phase → StartStep → Core → Phase → Type 0
 DoneFor None c phase step c' phase' = ⊥
-DoneFor (Some node) c phase step c' phase' = Done (act c node phase) step c' phase'
+DoneFor (Some node) c phase step c' phase' = forget node.serial c.relations ≡ c.relations → Done (act c node phase) step c' phase'
 
--- the step of the start of device k; whatever is reserved and related stays, where the device has no relations
+-- the step of the start of device k; whatever is related and reserved stays
 abbrev pub Acts : ℕ → List Node → List Driver → Phase → StartStep → List Node → List Driver → Phase → Type 0
 Acts k nodes rack phase step nodes' rack' phase' =
-    (relations : List Relation) (reserved : List Res) → forget k relations ≡ relations
+    (relations : List Relation) (reserved : List Res)
     → DoneFor (node_at k nodes) (core_of nodes rack relations reserved) phase step (core_of nodes' rack' relations reserved) phase'
 
 -- the phase after a driver was asked to add the device

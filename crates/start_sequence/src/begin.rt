@@ -1,4 +1,4 @@
-ghost use Rattle.std.specs.Prelude.{◌≡◌, ◌≤◌, ℕ, IfOk, OnErr, IsSome, length};
+ghost use Rattle.std.specs.Prelude.{◌≡◌, ◌≤◌, ◌+◌, ℕ, nat_le, IfOk, OnErr, IsSome, length};
 ghost use Rattle.pnp_model.specs.Cores.{node_at};
 ghost use Rattle.pnp_model.specs.Records.{State};
 ghost use Rattle.pnp_model.specs.Tasks.{start_enabled, numbered};
@@ -51,8 +51,16 @@ fn append_numbers<R: Drivers>(
     Ok(true)
 }
 
+/// Whether so many filters and the function driver are not too many drivers.
+fn are_few(lower: u64, upper: u64) -> bool
+    ensures { result ≡ nat_le (lower + 1 + upper) 16 }
+{
+    lower < MOST_DRIVERS && upper < MOST_DRIVERS - lower
+}
+
 /// The drivers of a choice by their numbers, with the function driver between the filters; or the problem where the
 /// choice names no service, too many drivers, or one that is not in the rack.
+#[tactic(auto, using(crate::proofs::Choosing::chosen_whole))]
 fn numbered<R: Drivers>(
     alloc: Global,
     rack: &R,
@@ -63,7 +71,7 @@ fn numbered<R: Drivers>(
     let Some(service) = &choice.service else {
         return Ok(Chosen::Trouble(Problem::FailedInstall));
     };
-    if choice.lower.len() + 1 + choice.upper.len() > MOST_DRIVERS {
+    if !are_few(choice.lower.len(), choice.upper.len()) {
         return Ok(Chosen::Trouble(Problem::FailedInstall));
     }
     let mut drivers = VecDeque::new(alloc);

@@ -4,6 +4,8 @@
 mod begin;
 mod next;
 mod pending;
+#[cfg(test)]
+mod tests;
 mod work;
 
 pub use next::StartStep;

@@ -1,5 +1,5 @@
 ghost use Rattle.std.specs.Prelude.{◌≡◌, List, [], ◌++◌, ◌∷◌, IfOk, OnErr, IsSome, false};
-ghost use Rattle.pnp_model.specs.Cores.{node_at, stacked, forget};
+ghost use Rattle.pnp_model.specs.Cores.{node_at, stacked};
 ghost use Rattle.pnp_model.specs.Machine.{phase_walk, is_waiting};
 ghost use Rattle.pnp_model.specs.Records.{Relation};
 ghost use Rattle.resource_reqs.specs.Resources.{Res};
@@ -167,7 +167,7 @@ fn start<R: Drivers>(
 
 /// The next step of the request that removes the device's drivers; with its end the device has no drivers and holds
 /// nothing.
-#[tactic(auto, using(devnode_tree::proofs::Identities::bare_keeps))]
+#[tactic(auto, using(devnode_tree::proofs::Identities::bare_keeps, crate::proofs::Acting::stripped))]
 fn remove<R: Drivers>(
     alloc: Global,
     serial: u64,
@@ -177,7 +177,7 @@ fn remove<R: Drivers>(
 ) -> Result<Removed, WantOfMemory>
     requires there { IsSome (node_at serial tree.old.nodes) }
     requires goes { walk.old.walk.waits ≡ false }
-    ensures removed { IfOk result (λ went. (relations : List Relation) (reserved : List Res) → forget serial relations ≡ relations → RemovesFor (node_at serial tree.old.nodes) (core_of tree.old.nodes (R.rows rack.old) relations reserved) walk.old.walk went (core_of tree.new.nodes (R.rows rack.new) relations reserved) walk.new.walk) }
+    ensures removed { IfOk result (λ went. (relations : List Relation) (reserved : List Res) → RemovesFor (node_at serial tree.old.nodes) (core_of tree.old.nodes (R.rows rack.old) relations reserved) walk.old.walk went (core_of tree.new.nodes (R.rows rack.new) relations reserved) walk.new.walk) }
     ensures next { tree.new.next ≡ tree.old.next }
     ensures keeps { identities tree.new.nodes ≡ identities tree.old.nodes }
     ensures walk { OnErr result (walk.new ≡ walk.old) }
@@ -187,6 +187,7 @@ fn remove<R: Drivers>(
     let Some(node) = tree.node(serial) else {
         unreachable!()
     };
+    let serial = node.serial;
     let path = Text::make(alloc, node.path.bytes())?;
     match walk.pass(alloc, &node.stack, &node.path, rack)? {
         Passed::Asked(label) => Ok(Removed::On(label)),
@@ -243,6 +244,7 @@ impl StartWork {
     /// Conditions: the device is there, it needs no resources, and it has no relations. After want of memory start,
     /// tree and rack are as before, and no driver was asked. Cost: the rules of one book, and the logarithm of the
     /// number of nodes.
+    #[tactic(auto, using(crate::proofs::Acting::added, crate::proofs::Acting::start_goes, crate::proofs::Acting::start_refused, crate::proofs::Acting::start_ends, crate::proofs::Acting::remove_goes, crate::proofs::Acting::remove_ends, crate::proofs::Acting::assigned, crate::proofs::Acting::assigned_at_once, crate::proofs::Acting::troubled, crate::proofs::Acting::dropped))]
     pub fn next<R: Drivers>(
         &mut self,
         alloc: Global,
