@@ -46,8 +46,8 @@ module _ (contents : Option (Text → Option (List ℕ))) (names : List Text) (a
       → IfSome o (λ told. infs_in told names ≡ ahead more (infs_from (at + 1 + 1) told (drop (at + 1) names)))) [
         | None ↦ λ f g. tt
         | Some told ↦ λ f g.
-        f ∙ infs_more told names at name read inf h item g
-        ∙ ap (λ x. ahead x (infs_from (at + 1 + 1) told (drop (at + 1) names))) (sym is)
+            f ∙ infs_more told names at name read inf h item g
+            ∙ ap (λ x. ahead x (infs_from (at + 1 + 1) told (drop (at + 1) names))) (sym is)
       ] far given
 
   pub told_stop : (error : InfsError)
@@ -59,12 +59,12 @@ module _ (contents : Option (Text → Option (List ℕ))) (names : List Text) (a
       → IfSome o (λ told. GivesAll (Err error) (infs_in told names))) [
         | None ↦ λ f g. tt
         | Some told ↦ λ f g.
-        elim error as (λ e. Gives (Err e) (inf_in (at + 1) (told name)) → GivesAll (Err e) (infs_in told names)) [
-          | ReadFault ↦ λ x. tt
-          | WantOfMemory ↦ λ x. tt
-          | TooLarge ↦ λ x. f ∙ infs_stop told names at name read TooLarge h item x
-          | Refused number why ↦ λ x. f ∙ infs_stop told names at name read (Refused number why) h item x
-        ] g
+            elim error as (λ e. Gives (Err e) (inf_in (at + 1) (told name)) → GivesAll (Err e) (infs_in told names)) [
+              | ReadFault ↦ λ x. tt
+              | WantOfMemory ↦ λ x. tt
+              | TooLarge ↦ λ x. f ∙ infs_stop told names at name read TooLarge h item x
+              | Refused number why ↦ λ x. f ∙ infs_stop told names at name read (Refused number why) h item x
+            ] g
       ] far given
 
 -- what a `?` returns for it

@@ -140,11 +140,7 @@ fn error_at(error: InfError) -> u64
 }
 
 /// The line that tells of a refused INF: its number, counted from 1, the error's number and its line.
-pub fn refusal_line(
-    alloc: Global,
-    number: u64,
-    error: InfError,
-) -> Result<Vec<u8>, WantOfMemory>
+pub fn refusal_line(alloc: Global, number: u64, error: InfError) -> Result<Vec<u8>, WantOfMemory>
     ensures { IfOk result (λ line. line.items ≡ refusal_line number error) }
 {
     let mut line = Vec::from_slice(alloc, b"inf ")?;

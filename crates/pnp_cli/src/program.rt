@@ -66,7 +66,12 @@ fn write_output<R: Drivers, K: Sink>(
 }
 
 /// Writes the line of a refused INF.
-fn tell_refusal<K: Sink>(alloc: Global, number: u64, error: InfError, sink: &mut K) -> Result<(), WriteError>
+fn tell_refusal<K: Sink>(
+    alloc: Global,
+    number: u64,
+    error: InfError,
+    sink: &mut K,
+) -> Result<(), WriteError>
     ensures took { OnOk result (Appends (K.taken sink.old) (K.taken sink.new) (refusal_line number error)) }
     ensures front { AppendsFront (K.taken sink.old) (K.taken sink.new) (refusal_line number error) }
     ensures failed { IsErrOf result WriteError.WriteFault → Rose (K.faults sink.old) (K.faults sink.new) }

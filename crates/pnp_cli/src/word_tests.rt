@@ -157,7 +157,10 @@ const REFUSED: [(&[(&str, &[u8])], &str); 8] = [
         "inf 1 error 2 line 2\n",
     ),
     (&[("1", b""), ("3", GOOD_INF)], "inf 1 error 1 line 0\n"),
-    (&[("1", GOOD_INF), ("2", b"x"), ("s", b"")], "inf 2 error 1 line 0\n"),
+    (
+        &[("1", GOOD_INF), ("2", b"x"), ("s", b"")],
+        "inf 2 error 1 line 0\n",
+    ),
     (
         &[("1", b"[Version]\nSignature=$Windows 95$\n"), ("2", b"")],
         "inf 1 error 1 line 0\n",

@@ -17,7 +17,7 @@ use Rattle.pnp_model.specs.Keyed.{changed_first}
 use Rattle.pnp_model.specs.Frames.{core_after}
 use Rattle.pnp_model.specs.Starts.{add_driver, act, undo}
 use Rattle.pnp_model.specs.Walks.{walk_of}
-use Rattle.start_sequence.specs.Steps.{core_of, Moved, Done, DoneFor, phase_added, is_ok, NeedsNothing}
+use Rattle.start_sequence.specs.Steps.{core_of, Moved, Done, DoneFor, first_pending, phase_added, is_ok, NeedsNothing}
 use Rattle.start_sequence.specs.Parts.{nodes_added, AddedFor, Starts, StartsFor, Removes, RemovesFor, AssignedFor, TroubledFor, is_full}
 use Rattle.start_sequence.specs.declared.next.StartStep.TheVariants as steps
 use Rattle.start_sequence.specs.declared.next.Started.TheVariants as starts
@@ -63,12 +63,16 @@ module _ (nodes : List Node) (rack : List Driver) (relations : List Relation) (r
       let same : e ≡ d = grind arith in
       rw same (added_by d ds (rack_reply AskWhat.Add node.path rack d))
 
-pub added : (o : Option Node) (nodes nodes' : List Node) (rack rack' : List Driver) (relations : List Relation) (reserved : List Res) (drivers : List ℕ) (d : ℕ) (label : Label) (ok : Bool)
-    → slice_get drivers 0 ≡ Some d → AddedFor o d nodes rack label ok nodes' rack'
-    → DoneFor o (core_of nodes rack relations reserved) (Adding drivers) (steps.Did label) (core_of nodes' rack' relations reserved) (phase_added (Adding drivers) ok)
-added None nodes nodes' rack rack' relations reserved drivers d label ok at h = h
-added (Some node) nodes nodes' rack rack' relations reserved drivers d label ok at h =
+pub added : (o : Option Node) (nodes nodes' : List Node) (rack rack' : List Driver) (relations : List Relation) (reserved : List Res) (phase : Phase) (d : ℕ) (label : Label) (ok : Bool)
+    → first_pending phase ≡ Some d → AddedFor o d nodes rack label ok nodes' rack'
+    → DoneFor o (core_of nodes rack relations reserved) phase (steps.Did label) (core_of nodes' rack' relations reserved) (phase_added phase ok)
+added None nodes nodes' rack rack' relations reserved phase d label ok at h = h
+added (Some node) nodes nodes' rack rack' relations reserved (Adding drivers) d label ok at h =
     λ none. rw (h.1, h.2, h.3, h.0) (added_first nodes rack relations reserved node drivers d at)
+added (Some node) nodes nodes' rack rack' relations reserved Searching d label ok at h = absurd (cc)
+added (Some node) nodes nodes' rack rack' relations reserved (Starting w) d label ok at h = absurd (cc)
+added (Some node) nodes nodes' rack rack' relations reserved (Removing w) d label ok at h = absurd (cc)
+added (Some node) nodes nodes' rack rack' relations reserved (Due problem) d label ok at h = absurd (cc)
 
 module _ (o : Option Node) (c c' : Core) (w w' : Walk) (label : Label) where
   pub start_goes : StartsFor o c w (starts.On label) c' w' → DoneFor o c (Starting w) (steps.Did label) c' (Starting w')
@@ -85,10 +89,10 @@ module _ (o : Option Node) (c c' : Core) (w w' : Walk) (label : Label) where
       by_node None h = h
       by_node (Some node) h = λ none. (h.0, h.1, h.2, sym h.3)
 
-  pub start_ends : (phase : Phase) → StartsFor o c w (starts.Up label) c' w' → DoneFor o c (Starting w) (steps.Up label) c' phase
-  start_ends phase = by_node o
+  pub start_ends : StartsFor o c w (starts.Up label) c' w' → DoneFor o c (Starting w) (steps.Up label) c' (Starting w')
+  start_ends = by_node o
     where
-      by_node : (o : Option Node) → StartsFor o c w (starts.Up label) c' w' → DoneFor o c (Starting w) (steps.Up label) c' phase
+      by_node : (o : Option Node) → StartsFor o c w (starts.Up label) c' w' → DoneFor o c (Starting w) (steps.Up label) c' (Starting w')
       by_node None h = h
       by_node (Some node) h = λ none. h
 
@@ -99,10 +103,10 @@ module _ (o : Option Node) (c c' : Core) (w w' : Walk) (label : Label) where
       by_node None h = h
       by_node (Some node) h = λ none. let g = h none in (g.0, g.1, g.2, sym g.3)
 
-  pub remove_ends : (phase : Phase) → RemovesFor o c w (removes.Over label) c' w' → DoneFor o c (Removing w) (steps.Over label) c' phase
-  remove_ends phase = by_node o
+  pub remove_ends : RemovesFor o c w (removes.Over label) c' w' → DoneFor o c (Removing w) (steps.Over label) c' (Removing w')
+  remove_ends = by_node o
     where
-      by_node : (o : Option Node) → RemovesFor o c w (removes.Over label) c' w' → DoneFor o c (Removing w) (steps.Over label) c' phase
+      by_node : (o : Option Node) → RemovesFor o c w (removes.Over label) c' w' → DoneFor o c (Removing w) (steps.Over label) c' (Removing w')
       by_node None h = h
       by_node (Some node) h = h
 

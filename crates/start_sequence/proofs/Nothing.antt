@@ -18,13 +18,16 @@ module _ (fixed : List Res) where
   nothing_tried (c ∷ q) t (inr same) = absurd (cc)
 
   pub nothing_is_assigned : (budget : ℕ) → IsAnswer fixed ([] ∷ []) budget (assignment ([] ∷ []))
-  nothing_is_assigned budget =
-      ([], record {
-        least = record {
-          complete = (root ([] ∷ []), refl, record { clean = tt; no_group = refl; no_list = (refl, tt) });
-          least = λ b complete. first_of_all b;
-        };
-        count = 0;
-        counted = ([], record { ascending = tt; each = tt; every = λ q h. nothing_tried q h.0 h.1 }, refl);
-        within = omega arith;
-      }, (refl, refl))
+  nothing_is_assigned budget = (
+    [],
+    record {
+      least = record {
+        complete = (root ([] ∷ []), refl, record { clean = tt; no_group = refl; no_list = (refl, tt) });
+        least = λ b complete. first_of_all b;
+      };
+      count = 0;
+      counted = ([], record { ascending = tt; each = tt; every = λ q h. nothing_tried q h.0 h.1 }, refl);
+      within = omega arith;
+    },
+    (refl, refl),
+  )

@@ -1,5 +1,5 @@
 -- One step of a start, as the machine has it.
-use Rattle.std.specs.Prelude.{◌≡◌, ℕ, Bool, true, false, List, [], ◌∷◌, Option, Some, None, drop, length}
+use Rattle.std.specs.Prelude.{◌≡◌, ℕ, Bool, true, false, List, [], ◌∷◌, Option, Some, None, drop, slice_get}
 use Rattle.resource_reqs.specs.Resources.{Res}
 use Rattle.resource_reqs.specs.Spelling.{IsAnswer}
 use Rattle.pnp_labels.specs.declared.label.Label.{Label}
@@ -44,6 +44,11 @@ abbrev pub Acts : ℕ → List Node → List Driver → Phase → StartStep → 
 Acts k nodes rack phase step nodes' rack' phase' =
     (relations : List Relation) (reserved : List Res)
     → DoneFor (node_at k nodes) (core_of nodes rack relations reserved) phase step (core_of nodes' rack' relations reserved) phase'
+
+-- the driver that is to be asked next to add the device
+abbrev pub first_pending : Phase → Option ℕ
+first_pending (Adding drivers) = slice_get drivers 0
+first_pending phase = None
 
 -- the phase after a driver was asked to add the device
 abbrev pub phase_added : Phase → Bool → Phase

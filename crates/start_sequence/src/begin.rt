@@ -61,11 +61,7 @@ fn are_few(lower: u64, upper: u64) -> bool
 /// The drivers of a choice by their numbers, with the function driver between the filters; or the problem where the
 /// choice names no service, too many drivers, or one that is not in the rack.
 #[tactic(auto, using(crate::proofs::Choosing::chosen_whole))]
-fn numbered<R: Drivers>(
-    alloc: Global,
-    rack: &R,
-    choice: &Choice,
-) -> Result<Chosen, WantOfMemory>
+fn numbered<R: Drivers>(alloc: Global, rack: &R, choice: &Choice) -> Result<Chosen, WantOfMemory>
     ensures { IfOk result (λ chosen. ChosenBy (R.rows rack.now) choice.now chosen) }
 {
     let Some(service) = &choice.service else {

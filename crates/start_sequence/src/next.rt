@@ -4,7 +4,7 @@ ghost use Rattle.pnp_model.specs.Machine.{phase_walk, is_waiting};
 ghost use Rattle.pnp_model.specs.Records.{Relation};
 ghost use Rattle.resource_reqs.specs.Resources.{Res};
 ghost use Rattle.devnode_tree.specs.Identities.{identities};
-ghost use Rattle.start_sequence.specs.Steps.{core_of, Acts, phase_added, NeedsNothing};
+ghost use Rattle.start_sequence.specs.Steps.{core_of, Acts, first_pending, phase_added, NeedsNothing};
 ghost use Rattle.start_sequence.specs.Parts.{AddedFor, StartsFor, RemovesFor, TroubledFor, AssignedFor};
 
 use crate::work::{Phase, StartWork};
@@ -224,6 +224,16 @@ fn trouble(
 }
 
 impl StartWork {
+    /// The driver that is to be asked next to add the device.
+    fn first_pending(&self) -> Option<u32>
+        ensures { result ≡ first_pending self.now.phase }
+    {
+        match &self.phase {
+            Phase::Adding(pending) => pending.first(),
+            _ => None,
+        }
+    }
+
     /// Notes whether the driver that was asked added the device.
     fn note_added(&mut self, ok: bool)
         ensures { self.new ≡ record self.old { phase = phase_added self.old.phase ok } }
@@ -263,11 +273,7 @@ impl StartWork {
         ensures rack { OnErr result (R.rows rack.new ≡ R.rows rack.old) }
     {
         let serial = self.serial;
-        let first = match &self.phase {
-            Phase::Adding(pending) => pending.first(),
-            _ => None,
-        };
-        if let Some(driver) = first {
+        if let Some(driver) = self.first_pending() {
             let (label, ok) = add(alloc, serial, driver, tree, rack)?;
             self.note_added(ok);
             return Ok(StartStep::Did(label));
@@ -286,10 +292,13 @@ impl StartWork {
                     Ok(StartStep::Did(label))
                 }
             },
-            Phase::Removing(walk) => match remove(alloc, serial, walk, tree, rack)? {
-                Removed::On(label) => Ok(StartStep::Did(label)),
-                Removed::Over(label) => Ok(StartStep::Over(label)),
-            },
+            Phase::Removing(walk) => {
+                let label = match remove(alloc, serial, walk, tree, rack)? {
+                    Removed::On(label) => label,
+                    Removed::Over(label) => return Ok(StartStep::Over(label)),
+                };
+                Ok(StartStep::Did(label))
+            }
             Phase::Due(problem) => {
                 let (label, has_drivers) = trouble(alloc, serial, *problem, tree)?;
                 if !has_drivers {

@@ -55,9 +55,7 @@ fn begin<R: Drivers>(
         return Ok(None);
     }
     let infs = [inf];
-    Ok(Some(StartWork::begin(
-        alloc, tree, rack, &infs, 1, disabled,
-    )?))
+    Ok(Some(StartWork::begin(alloc, tree, rack, &infs, 1, disabled)?))
 }
 
 /// The next step, where the start does not wait and its device is there and needs nothing.
@@ -112,8 +110,14 @@ fn a_device_starts(rt: HostRuntime) -> Result<(), Fail> {
     assert!(rt; matches!(label, Label::Install { .. }));
     let mut work = work.expect(&rt, "its start begins");
     assert_eq!(rt; work.serial(), 1);
-    assert_eq!(rt; steps_to_up(alloc, &mut work, &mut tree, &mut rack)?, Some(4));
-    assert_eq!(rt; tree.node(1).map(|node| node.state), Some(DevState::Started));
+    assert_eq!(rt;
+        steps_to_up(alloc, &mut work, &mut tree, &mut rack)?,
+        Some(4)
+    );
+    assert_eq!(rt;
+        tree.node(1).map(|node| node.state),
+        Some(DevState::Started)
+    );
     Ok(())
 }
 
