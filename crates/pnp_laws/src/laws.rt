@@ -26,7 +26,7 @@ pub fn dependents_first()
 
 /// Where an operation that began ends with a veto, all nodes with all their fields, the relations and the reserved
 /// ranges are as they were before it began, whatever happened in between.
-#[tactic(auto, using(crate::proofs::RunsStand::a_veto_restores))]
+#[tactic(auto, using(crate::proofs::RunsVeto::a_veto_restores))]
 pub fn veto_restores()
     ensures { VetoLaw }
 {}
