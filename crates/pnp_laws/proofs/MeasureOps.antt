@@ -23,6 +23,7 @@ use Rattle.pnp_labels.specs.declared.label.Label.{Label}
 use Rattle.pnp_labels.specs.declared.label.OpKind.{OpKind}
 use Rattle.pnp_labels.specs.declared.states.DevState.TheVariants.{Started, StopPending, Stopped}
 use Rattle.pnp_labels.specs.declared.states.Problem.{Problem}
+use Rattle.pnp_laws.specs.Ends.{IsNoJoin}
 use Rattle.pnp_laws.proofs.Lists.{HeadIs, head_found}
 use Rattle.pnp_laws.proofs.Measures.{Falls, falls_coarse, coarse, coarse_on, count, count_less, tasks_less, tasks_cost, tasks_pushed, duty_cost, sum, phase_cost, is_open, is_target, born_in, operation_cost, rebalance_cost, rank_of, rebalance_rank, left_of, rebalance_left, answers, answers_of, SameBirths, births_same, births_changed, births_mapped, coarse_by, sum_entered}
 use Rattle.pnp_model.specs.Rebalances as re
@@ -316,11 +317,6 @@ falls_over s r spent label in_it =
     ends_with s _ r (Phase.Removing (walk_of Minor.Remove)) in_it refl refl refl refl (omega arith)
 
 -- All steps of a rebalance ---------------------------------------------------------------------------------
-
--- no device joins
-abbrev pub IsNoJoin : Label → Type 0
-IsNoJoin (Label.Join k path) = ⊥
-IsNoJoin _ = Unit {0}
 
 pub record Lowers (s : State) (step : Step) : Type 0 where
   pub lowers : IsNoJoin step.label → Falls s step.state

@@ -33,7 +33,7 @@ use Rattle.pnp_laws.proofs.Lookups.{own_serial, own_activity, found_self}
 use Rattle.pnp_laws.proofs.Ranks.{and_both}
 use Rattle.pnp_laws.proofs.SoundTasks.{find_among, find_passes}
 use Rattle.pnp_laws.proofs.Measures.{Falls, falls_coarse, coarse, coarse_by, coarse_most, count, count_less, tasks_less, tasks_cost, tasks_pushed, duty_cost, sum, sum_changed, sum_without, sum_entered, phase_cost, is_open, is_target, born_in, operation_cost, rebalance_cost, rank_of, left_of, answers, answers_of, activity_answers, stack_at, SameBirths, births_same, births_changed}
-use Rattle.pnp_laws.proofs.MeasureOps.{falls_answers, asked_less, those_shorter, AtMost, ask_most, IsNoJoin, Lowers, lower_so, LowersDoing}
+use Rattle.pnp_laws.proofs.MeasureOps.{falls_answers, asked_less, those_shorter, AtMost, ask_most, Lowers, lower_so, LowersDoing}
 use Rattle.pnp_laws.proofs.MeasureSurprises.{count_none}
 use Rattle.pnp_model.specs.Rebalances as re
 use Rattle.pnp_model.specs.Removals as rm

@@ -4,3 +4,4 @@ pub mod RunsWell
 pub mod Vetoes
 pub mod Due
 pub mod Quiet
+pub mod Ends
