@@ -1,9 +1,9 @@
 -- Every search has an answer: its spellings are finitely many, and each test on them can be told.
-use Rattle.std.proofs.Common.{ℕ, zero, suc, ◌<◌, ◌≤◌, ◌≡◌, ◌⊎◌, inl, inr, List, [], ◌∷◌, ◌++◌, length, Contains, Option, Some, None, option_and_then, refl, sym, ap, ◌∙◌, subst, arith, append_assoc}
+use Rattle.std.proofs.Common.{ℕ, zero, suc, ◌<◌, ◌≤◌, ◌≡◌, ◌⊎◌, inl, inr, List, [], ◌∷◌, ◌++◌, length, Contains, Option, Some, option_and_then, refl, sym, ap, ◌∙◌, subst, arith, append_assoc}
 use native.Mathlib.Decide.{dec_le}
 use Rattle.std.specs.List.{AllByRecursion}
 use Rattle.resource_reqs.specs.Resources.{Res, Reqs}
-use Rattle.resource_reqs.specs.Spelling.{Coord, Less, Before, AtOrBefore, Point, next, after, root, CleanPlaces, LiveAt, CompleteAt, Clean, Live, Complete, Tried, Ascending, Lists, Numbers, TriedUpTo, IsLeast, IsFound, Spells, IsPlan, IsNoFit, Answer, assignment, no_fit, spent, IsAnswer}
+use Rattle.resource_reqs.specs.Spelling.{Coord, Less, Before, AtOrBefore, Point, next, after, root, CleanPlaces, LiveAt, CompleteAt, Clean, Live, Complete, Tried, Ascending, Lists, Numbers, TriedUpTo, Answer, assignment, no_fit, spent, IsAnswer}
 use Rattle.resource_reqs.proofs.Order.{less_total, before_irrefl, before_trans, before_front, before_more}
 use Rattle.resource_reqs.proofs.Points.{after-append, and_then_some, after_parts, live_complete, live_prefix, clean_prefix, all_weaker}
 use Rattle.resource_reqs.proofs.Counts.{contains_cons, contains_nil, all_at, numbers_le}
@@ -92,29 +92,35 @@ module _ (fixed : List Res) (movers : List Reqs) where
   first_by : (p : List Coord) (c : Coord) (cs : List Coord) → AllByRecursion (Less c) cs → First (p ++ c ∷ []) → FirstBy p cs → FirstBy p (c ∷ cs)
   first_by p c cs up (inl (a, f)) more =
       let own = rest_of p c a f.from in
-      inl (a, record {
-        complete = f.complete;
-        coord = c;
-        rest = own.0;
-        inside = here c cs;
-        is = own.1;
-        least = λ b d r whole inside e. elim (contains_cons c cs d inside) [
-          | inl q ↦ f.least b whole (from_of p c b r (e ∙ ap (λ (x : Coord). p ++ x ∷ r) q))
-          | inr q ↦ inl (subst (λ (x : List Coord). Before x b) (sym own.1) (subst (λ (x : List Coord). Before (p ++ c ∷ own.0) x) (sym e) (before_front p (c ∷ own.0) (d ∷ r) (inl (all_at (Less c) cs d up q)))))
-        ];
-      })
+      inl (
+        a,
+        record {
+          complete = f.complete;
+          coord = c;
+          rest = own.0;
+          inside = here c cs;
+          is = own.1;
+          least = λ b d r whole inside e. elim (contains_cons c cs d inside) [
+            | inl q ↦ f.least b whole (from_of p c b r (e ∙ ap (λ (x : Coord). p ++ x ∷ r) q))
+            | inr q ↦ inl (subst (λ (x : List Coord). Before x b) (sym own.1) (subst (λ (x : List Coord). Before (p ++ c ∷ own.0) x) (sym e) (before_front p (c ∷ own.0) (d ∷ r) (inl (all_at (Less c) cs d up q)))))
+          ];
+        },
+      )
   first_by p c cs up (inr none) (inl (a, f)) =
-      inl (a, record {
-        complete = f.complete;
-        coord = f.coord;
-        rest = f.rest;
-        inside = later c cs f.coord f.inside;
-        is = f.is;
-        least = λ b d r whole inside e. elim (contains_cons c cs d inside) [
-          | inl q ↦ absurd (none b whole (from_of p c b r (e ∙ ap (λ (x : Coord). p ++ x ∷ r) q)))
-          | inr q ↦ f.least b d r whole q e
-        ];
-      })
+      inl (
+        a,
+        record {
+          complete = f.complete;
+          coord = f.coord;
+          rest = f.rest;
+          inside = later c cs f.coord f.inside;
+          is = f.is;
+          least = λ b d r whole inside e. elim (contains_cons c cs d inside) [
+            | inl q ↦ absurd (none b whole (from_of p c b r (e ∙ ap (λ (x : Coord). p ++ x ∷ r) q)))
+            | inr q ↦ f.least b d r whole q e
+          ];
+        },
+      )
   first_by p c cs up (inr none) (inr never) =
       inr (λ b d r whole inside e. elim (contains_cons c cs d inside) [
         | inl q ↦ none b whole (from_of p c b r (e ∙ ap (λ (x : Coord). p ++ x ∷ r) q))
@@ -127,20 +133,26 @@ module _ (fixed : List Res) (movers : List Reqs) where
 
   first_at : (p : List Coord) (at : Point) → after p (root movers) ≡ Some at → (cs : List Coord) → Extensions fixed movers p cs → Dec (CompleteAt fixed at) → FirstBy p cs → First p
   first_at p at leads cs made (yes whole) by =
-      inl (p, record {
-        complete = (at, leads, whole);
-        from = inl refl;
-        least = λ b w from. elim from [ inl e ↦ inr (sym e) | inr (c, r, is) ↦ inl (subst (λ (x : List Coord). Before p x) (sym is) (before_more p c r)) ];
-      })
+      inl (
+        p,
+        record {
+          complete = (at, leads, whole);
+          from = inl refl;
+          least = λ b w from. elim from [ inl e ↦ inr (sym e) | inr (c, r, is) ↦ inl (subst (λ (x : List Coord). Before p x) (sym is) (before_more p c r)) ];
+        },
+      )
   first_at p at leads cs made (no part) (inl (a, f)) =
-      inl (a, record {
-        complete = f.complete;
-        from = inr (f.coord, f.rest, f.is);
-        least = λ b w from. elim from [
-          | inl e ↦ absurd (not_here b e w)
-          | inr (c, r, is) ↦ f.least b c r w (made.every c (goes b c r w is)) is
-        ];
-      })
+      inl (
+        a,
+        record {
+          complete = f.complete;
+          from = inr (f.coord, f.rest, f.is);
+          least = λ b w from. elim from [
+            | inl e ↦ absurd (not_here b e w)
+            | inr (c, r, is) ↦ f.least b c r w (made.every c (goes b c r w is)) is
+          ];
+        },
+      )
     where
       not_here : (b : List Coord) → b ≡ p → Complete fixed movers b → ⊥
       not_here b e (to, goes, whole) =
@@ -279,16 +291,15 @@ module _ (fixed : List Res) (movers : List Reqs) where
       begun q tried = by_front q tried.0 tried.1 tried.2
 
   counted : (a : List Coord) (ps : List (List Coord)) → Lists (Tried fixed movers) ps → TriedUpTo fixed movers a (length (chosen a ps))
-  counted a ps lists =
-      (
-        chosen a ps,
-        record {
-          ascending = chosen_ascending a ps lists.ascending;
-          each = chosen_each (Tried fixed movers) a ps lists.each;
-          every = λ q h. chosen_every a ps q (lists.every q h.0) h.1;
-        },
-        refl,
-      )
+  counted a ps lists = (
+    chosen a ps,
+    record {
+      ascending = chosen_ascending a ps lists.ascending;
+      each = chosen_each (Tried fixed movers) a ps lists.each;
+      every = λ q h. chosen_every a ps q (lists.every q h.0) h.1;
+    },
+    refl,
+  )
 
   same_least : (a b : List Coord) → AtOrBefore a b → AtOrBefore b a → a ≡ b
   same_least a b (inr e) h = e
@@ -304,31 +315,32 @@ module _ (fixed : List Res) (movers : List Reqs) where
 
   found_answer : (budget : ℕ) (a : List Coord) (ps : List (List Coord)) → IsFirst [] a → Lists (Tried fixed movers) ps → Dec (length (chosen a ps) ≤ budget) → (found : Answer) × IsAnswer fixed movers budget found
   found_answer budget a ps first lists (yes within) =
-      let plan = plan_of fixed movers a first.complete in
-      (
+      let plan = plan_of fixed movers a first.complete in (
         assignment plan.0,
         (a, record { least = record { complete = first.complete; least = λ b whole. first.least b whole (from_root b) }; count = length (chosen a ps); counted = counted a ps lists; within = within }, plan.1),
       )
-  found_answer budget a ps first lists (no over) =
-      (
-        spent,
-        ((λ plan h.
+  found_answer budget a ps first lists (no over) = (
+    spent,
+    (
+      (λ plan h.
           let is = h.1 in
           let same = same_least a h.0 (first.least h.0 is.least.complete (from_root h.0)) (is.least.least a first.complete) in
           let own = subst (λ (x : List Coord). TriedUpTo fixed movers x is.count) (sym same) is.counted in
           let few = same_count (λ q. Tried fixed movers q × AtOrBefore q a) (length (chosen a ps)) is.count (counted a ps lists) own in
           over (let w = is.within in omega arith)),
-        (λ h. h.0 a first.complete)),
-      )
+      (λ h. h.0 a first.complete),
+    ),
+  )
 
   none_answer : (budget : ℕ) (ps : List (List Coord)) → ((b : List Coord) → Complete fixed movers b → From [] b → ⊥) → Lists (Tried fixed movers) ps → Dec (length ps ≤ budget) → (found : Answer) × IsAnswer fixed movers budget found
   none_answer budget ps none lists (yes within) = (no_fit, ((λ a whole. none a whole (from_root a)), (length ps, (ps, lists, refl), within)))
-  none_answer budget ps none lists (no over) =
-      (
-        spent,
-        ((λ plan h. none h.0 h.1.least.complete (from_root h.0)),
-        (λ h. let few = same_count (Tried fixed movers) (length ps) h.1.0 (ps, lists, refl) h.1.1 in over (let w = h.1.2 in omega arith))),
-      )
+  none_answer budget ps none lists (no over) = (
+    spent,
+    (
+      (λ plan h. none h.0 h.1.least.complete (from_root h.0)),
+      (λ h. let few = same_count (Tried fixed movers) (length ps) h.1.0 (ps, lists, refl) h.1.1 in over (let w = h.1.2 in omega arith)),
+    ),
+  )
 
   by_first : (budget : ℕ) (ps : List (List Coord)) → Lists (Tried fixed movers) ps → First [] → (found : Answer) × IsAnswer fixed movers budget found
   by_first budget ps lists (inl (a, first)) = found_answer budget a ps first lists (dec_le (length (chosen a ps)) budget)

@@ -1,5 +1,5 @@
 -- Whether a place of a search is open can be told, and so which coordinates go on from a prefix.
-use Rattle.std.proofs.Common.{ℕ, zero, suc, ◌+◌, ◌-◌, ◌%◌, ◌<◌, ◌≤◌, ◌≡◌, ◌⊎◌, inl, inr, Bool, true, false, IsTrue, List, [], ◌∷◌, ◌++◌, map, length, slice_get, Contains, Option, Some, None, refl, sym, ap, ◌∙◌, subst, arith}
+use Rattle.std.proofs.Common.{ℕ, zero, suc, ◌+◌, ◌%◌, ◌<◌, ◌≤◌, ◌≡◌, ◌⊎◌, inl, inr, Bool, true, false, IsTrue, List, [], ◌∷◌, ◌++◌, map, length, slice_get, Contains, Option, Some, None, refl, sym, ap, subst, arith}
 use native.Mathlib.Decide.{dec_le, dec_lt, ℕ_discrete}
 use Rattle.std.specs.List.{All, AllByRecursion}
 use Rattle.std.proofs.lemmas.List.Elements.{All-nil, All-cons, All-head, All-tail, Contains-append_left, Contains-append_right}
@@ -9,8 +9,8 @@ use Rattle.resource_reqs.specs.declared.kind.Kind.TheVariants.{Port, Irq, Mem, D
 use Rattle.resource_reqs.specs.Resources.{Res, Want, Group, AltList, Reqs, ShareNumber, Clash, May, Free, res_at}
 use Rattle.resource_reqs.specs.Spelling.{Coord, alt, place, Less, Place, res_of, Point, choose, next_in, next, CleanPlaces, HasPlace, HasList, LiveAt, CompleteAt}
 use Rattle.resource_reqs.proofs.Ends.{share_from_ends, ends_from_share}
-use Rattle.resource_reqs.proofs.Points.{contains_read, Step, listing, placing, step_of}
-use Rattle.resource_reqs.proofs.Counts.{contains_cons, contains_nil, all_at}
+use Rattle.resource_reqs.proofs.Points.{Step, listing, placing, step_of}
+use Rattle.resource_reqs.proofs.Counts.{contains_cons, contains_nil}
 use Rattle.resource_reqs.proofs.Fitting.{listed_read}
 use Rattle.resource_reqs.proofs.Law.{Rising}
 

@@ -1,14 +1,13 @@
 -- Each step of a run but a join lowers the numbers, so between two joins there are finitely many steps.
-use Rattle.std.proofs.Common.{ℕ, zero, suc, ◌+◌, ◌*◌, ◌<◌, ◌≤◌, ◌≡◌, ◌≢◌, ◌⊎◌, inl, inr, Bool, true, false, not, List, [], ◌∷◌, length, Option, Some, None, refl, sym, ap, ◌∙◌, subst, arith}
+use Rattle.std.proofs.Common.{ℕ, zero, suc, ◌+◌, ◌*◌, ◌<◌, ◌≤◌, ◌≡◌, ◌⊎◌, inl, inr, Bool, true, false, not, List, [], ◌∷◌, length, Option, Some, None, refl, sym, subst, arith}
 use Rattle.std.specs.List.{find, slice_get}
 use native.Mathlib.Decide.{dec_lt}
-use Rattle.pnp_model.specs.Records.{Node, Driver, Activity, Task, State, Step, Settings, Operation, RebalanceStage, RemovalStage, SurpriseStage, Doing, Duty}
+use Rattle.pnp_model.specs.Records.{Node, Activity, Task, State, Step, Settings, Operation, Doing, Duty}
 use Rattle.pnp_model.specs.Records.Doing.{Does, Searches}
 use Rattle.pnp_model.specs.Cores.{node_at}
 use Rattle.pnp_model.specs.Frames.{first_node}
 use Rattle.pnp_model.specs.States.{activity_at}
-use Rattle.pnp_model.specs.Laws.{Reaches}
-use Rattle.pnp_model.specs.Runs.{Entry, Goes, Run}
+use Rattle.pnp_model.specs.Runs.{Entry, Run}
 use Rattle.pnp_model.specs.Runs.Entry.{Happens, Did}
 use Rattle.pnp_labels.specs.declared.label.Label.{Label}
 use Rattle.pnp_labels.specs.declared.label.OpKind.{OpKind}
@@ -16,7 +15,7 @@ use Rattle.pnp_laws.specs.Quiet.{OneStep, RestsWith}
 use Rattle.pnp_laws.proofs.Lookups.{own_serial, found_self, ready_found}
 use Rattle.pnp_laws.proofs.SoundTasks.{find_passes}
 use Rattle.pnp_laws.proofs.Standing.{StageKept}
-use Rattle.pnp_laws.proofs.Measures.{Falls, coarse, rank_of, left_of, answers_of}
+use Rattle.pnp_laws.proofs.Measures.{coarse, rank_of, left_of, answers_of}
 use Rattle.pnp_laws.specs.Ends.{IsNoJoin, AllSteps, EndsLaw}
 use Rattle.pnp_laws.proofs.RunsStep.{rests_or, nothing_next, doing_one}
 use Rattle.pnp_model.proofs.Determined.{one_state}

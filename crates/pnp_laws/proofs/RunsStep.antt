@@ -1,19 +1,16 @@
 -- A state of a run rests, or has exactly one next step.
-use Rattle.std.proofs.Common.{ℕ, ◌≡◌, ◌≢◌, ◌⊎◌, ◌↔◌, inl, inr, Bool, true, false, List, [], ◌∷◌, Option, Some, None, refl, sym, ap, ◌∙◌, subst, arith}
+use Rattle.std.proofs.Common.{ℕ, ◌≡◌, ◌≢◌, ◌⊎◌, inl, inr, Bool, true, false, List, [], ◌∷◌, Option, Some, None, refl, sym, ap, ◌∙◌, subst, arith}
 use Rattle.std.specs.List.{find, slice_get}
 use Rattle.std.proofs.lemmas.Bool.Decides.{nat_tests}
 use Rattle.std.specs.Option.{option_map}
-use Rattle.pnp_model.specs.Tests.{has}
-use Rattle.pnp_model.specs.Records.{Node, Driver, Activity, Task, State, Step, Settings, Operation, Rebalance, RebalanceStage, Removal, RemovalStage, Surprise, SurpriseStage, Doing, Duty, doing_map}
+use Rattle.pnp_model.specs.Records.{Node, Activity, Task, State, Step, Settings, Operation, Rebalance, RebalanceStage, Removal, RemovalStage, Surprise, SurpriseStage, Doing, Duty, doing_map}
 use Rattle.pnp_model.specs.Records.Doing.{Does, Searches}
 use Rattle.pnp_model.specs.Cores.{node_at}
 use Rattle.pnp_model.specs.Frames.{first_node}
-use Rattle.pnp_model.specs.Laws.{Reaches}
-use Rattle.pnp_model.specs.Runs.{Entry}
 use Rattle.pnp_model.proofs.Determined.{one_label, one_state}
 use Rattle.pnp_labels.specs.declared.label.Label.{Label}
 use Rattle.pnp_labels.specs.declared.label.OpKind.{OpKind}
-use Rattle.pnp_laws.specs.Quiet.{Delays, NoTask, RestsWith, Rests, QuietLaw, OneStep, StepLaw}
+use Rattle.pnp_laws.specs.Quiet.{Delays, NoTask, RestsWith, QuietLaw, OneStep, StepLaw}
 use Rattle.pnp_laws.proofs.Lookups.{ready_found}
 use Rattle.pnp_laws.proofs.AnswerThere.{answer_some}
 use Rattle.pnp_laws.proofs.Standing.{Goes, StageKept, RebalanceThere, RemovalThere, SurpriseThere}

@@ -6,7 +6,7 @@ use Rattle.std.proofs.lemmas.Bool.Decides.{nat_tests}
 use Rattle.resource_reqs.specs.Spelling.Answer.{assignment, no_fit, spent}
 use Rattle.pnp_model.specs.Keyed.{changed_first, those}
 use Rattle.pnp_model.specs.Tests.{has}
-use Rattle.pnp_model.specs.Records.{Node, Core, Task, State, Operation, Rebalance, RebalanceStage, Walk, Found, Duty, doing_map}
+use Rattle.pnp_model.specs.Records.{Node, Task, State, Operation, Rebalance, RebalanceStage, Walk, Found, Duty, doing_map}
 use Rattle.pnp_model.specs.Records.RebalanceStage.{Asking, TakingBack, Searching, Cancelling, Stuck, Stopping, Committing, Restarting, Failed, Ending}
 use Rattle.pnp_model.specs.Cores.{is_node, node_at, with_state, with_problem}
 use Rattle.pnp_model.specs.Walks.{is_bad}
@@ -29,7 +29,7 @@ use Rattle.pnp_laws.proofs.Lists.{head_found, head_has, rest_has}
 use Rattle.pnp_laws.proofs.OpSteps.{stopped_calm}
 use Rattle.pnp_laws.proofs.RebalanceSteps.{head_started, head_pending, head_stopping, head_stopped, rootless_head}
 use Rattle.pnp_laws.proofs.Aboves.{due_more}
-use Rattle.pnp_laws.proofs.Standing.{DueBut, waiting, rebalance_waiting, StageKept, OrderKept, Stands, Sound, Rising, Ordered, RebalanceThere, AllThere, Goes}
+use Rattle.pnp_laws.proofs.Standing.{DueBut, waiting, rebalance_waiting, OrderKept, Stands, Sound, Rising, Ordered, RebalanceThere, AllThere, Goes}
 use Rattle.pnp_laws.proofs.Theres.{goes_on, rest_there, those_there, reverse_there, startable_there, more_there, same_there, same_goes}
 use Rattle.pnp_laws.proofs.TreeChanges.{Alike, same_changed, same_mapped, nodes_same, tree_same}
 use Rattle.pnp_laws.proofs.Sounds.{IsPlain, LeadsMore, leads_same, leads_first, due_still, due_same, due_changed, sound_same, sound_walk}

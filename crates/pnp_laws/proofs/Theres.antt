@@ -1,5 +1,5 @@
 -- The devices that an operation has still to do are there.
-use Rattle.std.proofs.Common.{ℕ, ◌≡◌, ◌≢◌, Bool, true, false, List, [], ◌∷◌, Some, refl, sym, ap, ◌∙◌, length, subst, arith, reverse}
+use Rattle.std.proofs.Common.{ℕ, ◌≡◌, ◌≢◌, Bool, true, false, List, [], ◌∷◌, Some, refl, sym, ◌∙◌, length, subst, arith, reverse}
 use Rattle.std.proofs.lemmas.Bool.Decides.{nat_tests}
 use Rattle.pnp_model.specs.Keyed.{without_first, those}
 use Rattle.pnp_model.specs.Tests.{has}
