@@ -64,3 +64,10 @@ pub mod RunsFutile
 pub mod RunsConflict
 pub mod RunsStep
 pub mod RunsEnds
+pub mod Measures
+pub mod MeasureOps
+pub mod MeasureRemovals
+pub mod MeasureSurprises
+pub mod MeasureTasks
+pub mod MeasureBegins
+pub mod RunsEnd

@@ -7,7 +7,7 @@ use Rattle.pnp_model.specs.Tests.{has, is_eject}
 use Rattle.pnp_model.specs.Records.{Node, Core, State, Operation, Removal, RemovalStage, Surprise, SurpriseStage, Walk}
 use Rattle.pnp_model.specs.Records.Doing.{Does}
 use Rattle.pnp_model.specs.Cores.{is_node, node_at, drop_node, with_state, with_problem, stack_of}
-use Rattle.pnp_model.specs.Keyed.{changed_first}
+use Rattle.pnp_model.specs.Keyed.{changed_first, without_first}
 use Rattle.pnp_model.specs.Walks.{is_bad}
 use Rattle.pnp_model.specs.Frames.{first_node, rest}
 use Rattle.pnp_model.specs.States.{relist, unplug, set_operation, with_core}
@@ -21,13 +21,13 @@ use Rattle.pnp_labels.specs.declared.states.Problem.{Problem}
 use Rattle.pnp_labels.specs.declared.label.Label.{Label}
 use Rattle.pnp_labels.specs.declared.states.DevState.TheVariants.{NoStack, Started, Stopped, RemovePending, SurpriseRemoved}
 use Rattle.pnp_laws.specs.Kept.{Good, RemovalKeeps, SurpriseKeeps, is_idle}
-use Rattle.pnp_laws.proofs.Lookups.{Ascending-changed}
+use Rattle.pnp_laws.proofs.Lookups.{Ascending-changed, left_same}
 use Rattle.pnp_laws.proofs.Lists.{HeadIs, head_found, head_has, rest_has}
 use Rattle.pnp_laws.proofs.Finishing.{head_stripped, head_bare, strips, relist_only}
 use Rattle.pnp_laws.proofs.RemovalSteps.{head_querying, head_refusing, head_restoring, not_root}
 use Rattle.pnp_laws.proofs.SurpriseSteps.{head_told, told_or, last_alone}
 use Rattle.pnp_laws.proofs.SharingRemovals.{relist_core}
-use Rattle.pnp_laws.proofs.Standing.{DueBut, waiting, StageKept, RemovalOrder, RemovalThere, SurpriseOrder, SurpriseThere, Stands, Sound, Finishes, AllThere}
+use Rattle.pnp_laws.proofs.Standing.{DueBut, waiting, StageKept, RemovalOrder, RemovalThere, SurpriseOrder, SurpriseThere, Stands, Sound, Finishes, AllThere, TargetLeft}
 use Rattle.pnp_laws.proofs.Theres.{goes_on, fewer_there, rest_there, same_there, same_goes, strip_goes, left_there}
 use Rattle.pnp_laws.proofs.Finishes.{fades_same, finishes_all, finishes_still, finishes_strip, finishes_stays, finishes_left}
 use Rattle.pnp_laws.proofs.SoundOps.{Work, op_walk, op_still, op_strip, op_trouble, op_left, was_troubled, now_ascending, MoreTasks, more_relist}
@@ -165,17 +165,22 @@ sound_removal s o RemovalStage.Settling None first keeps order due good h = tt
 
 -- Surprise ----------------------------------------------------------------------------------------
 
-pub order_su_finish_on : (nodes : List Node) (o : Surprise) (ks : List ℕ) (c : Core) → Finishes c o.set ks → AllThere ks c.nodes → StageKept (Some (Operation.Surprising (su.finish_on nodes o ks))) c
-order_su_finish_on nodes o [] c h there = (h, tt)
-order_su_finish_on nodes o (k ∷ ks) c h there = by_stack (stack_of (node_at k nodes))
+-- the target is still to do
+target_left : (k : ℕ) (ks : List ℕ) (nodes : List Node) → has ks k ≡ true → TargetLeft k ks nodes
+target_left k [] nodes h = absurd (cc)
+target_left k (j ∷ js) nodes h = h
+
+pub order_su_finish_on : (nodes : List Node) (o : Surprise) (ks : List ℕ) (c : Core) → Finishes c o.set ks → AllThere ks c.nodes → TargetLeft o.target ks c.nodes → StageKept (Some (Operation.Surprising (su.finish_on nodes o ks))) c
+order_su_finish_on nodes o [] c h there target = (h, target)
+order_su_finish_on nodes o (k ∷ ks) c h there target = by_stack (stack_of (node_at k nodes))
   where
     by_stack : (stack : List ℕ) → StageKept (Some (Operation.Surprising (su.finish_with o (k ∷ ks) stack))) c
-    by_stack [] = (h, goes_on k ks c.nodes there)
-    by_stack (d ∷ ds) = (h, goes_on k ks c.nodes there)
+    by_stack [] = (h, (goes_on k ks c.nodes there, target))
+    by_stack (d ∷ ds) = (h, (goes_on k ks c.nodes there, target))
 
-pub order_tell_on : (nodes : List Node) (o : Surprise) (ks : List ℕ) (c : Core) → Finishes c o.set o.set → AllThere ks c.nodes → AllThere o.set c.nodes → StageKept (Some (Operation.Surprising (su.tell_on nodes o ks))) c
-order_tell_on nodes o [] c h there all = order_su_finish_on nodes o o.set c h all
-order_tell_on nodes o (k ∷ ks) c h there all = (h, (goes_on k ks c.nodes there, all))
+pub order_tell_on : (nodes : List Node) (o : Surprise) (ks : List ℕ) (c : Core) → Finishes c o.set o.set → AllThere ks c.nodes → AllThere o.set c.nodes → has o.set o.target ≡ true → StageKept (Some (Operation.Surprising (su.tell_on nodes o ks))) c
+order_tell_on nodes o [] c h there all target = order_su_finish_on nodes o o.set c h all (target_left o.target o.set c.nodes target)
+order_tell_on nodes o (k ∷ ks) c h there all target = (h, (goes_on k ks c.nodes there, all, target))
 
 waits_finish_on : (nodes : List Node) (o : Surprise) (ks : List ℕ) → waiting (Some (Operation.Surprising (su.finish_on nodes o ks))) ≡ o.set
 waits_finish_on nodes o [] = refl
@@ -195,7 +200,7 @@ sound_tell s o node w true keeps order work due h =
     let told = told_or node.state (head_told o.todo o.set node.serial node.state here (keeps.each node.serial node work.at)) in
     op_walk s _ node o.todo o.set Minor.SurpriseRemoval false node.state SurpriseRemoved work refl refl refl refl refl (λ q. absurd (cc)) (λ q. cc) (λ q. cc) told.0
     (λ same. order_tell_on s.core.nodes o (rest o.todo) _ (finishes_all s.core _ o.set (fades_same s.core _ work.order (Ascending-changed 0 node.serial (with_state SurpriseRemoved) s.core.nodes (λ x. refl) work.order) same) order.0)
-    (same_there (rest o.todo) s.core _ same (rest_there o.todo s.core.nodes order.1.0.there)) (same_there o.set s.core _ same order.1.1))
+    (same_there (rest o.todo) s.core _ same (rest_there o.todo s.core.nodes order.1.0.there)) (same_there o.set s.core _ same order.1.1) order.1.2)
     (waits_tell_on s.core.nodes o (rest o.todo)) due h
 sound_tell s o node w false keeps order work due h =
     op_still s _ _ o.set tt refl refl refl refl (λ same. (finishes_all s.core _ o.set (fades_same s.core _ work.order work.order same) order.0, order.1)) refl due h
@@ -204,9 +209,20 @@ sound_su_remove : (s : State) (o : Surprise) (node : Node) (w : Walk) (ends : Bo
 sound_su_remove s o node w true keeps order work due h =
     let here = head_has node.serial o.todo work.head in
     op_strip s _ node o.todo o.set o.set work (keeps.inside node.serial here) order.0 refl refl refl (strips node.state (head_stripped o.todo node.serial node.state work.head (keeps.each node.serial node work.at)))
-    (finishes_strip s.core o.set o.todo node.serial work.order here order.0, strip_goes o.todo node.serial s.core order.1) refl due h
+    (finishes_strip s.core o.set o.todo node.serial work.order here order.0, (strip_goes o.todo node.serial s.core order.1.0, order.1.1)) refl due h
 sound_su_remove s o node w false keeps order work due h =
     op_still s _ _ o.set tt refl refl refl refl (λ same. (finishes_still s.core _ o.set o.todo (fades_same s.core _ work.order work.order same) refl order.0, order.1)) refl due h
+
+-- where the head left, it was the target, and the last one, or the target is still to do
+target_after : (s : State) (o : Surprise) (node : Node) → SurpriseKeeps o SurpriseStage.Settling s.core.nodes → has o.todo o.target ≡ true → Work s node o.todo → TargetLeft o.target (rest o.todo) (drop_node node.serial s.core).nodes
+target_after s o node keeps target work =
+    elim (cases_eq node.serial o.target) [
+      | inl e ↦
+          let over = last_alone o.target o.todo (subst (λ (i : ℕ). HeadIs i o.todo) e work.head) keeps.ends in
+          let gone = subst (λ (i : ℕ). node_at i (without_first (is_node node.serial) s.core.nodes) ≡ None) e (left_same 0 node.serial s.core.nodes work.order) in
+          subst (λ (ks : List ℕ). TargetLeft o.target ks (without_first (is_node node.serial) s.core.nodes)) (sym over) gone
+      | inr d ↦ target_left o.target (rest o.todo) (without_first (is_node node.serial) s.core.nodes) (rest_has node.serial o.target o.todo work.head d ∙ target)
+    ]
 
 sound_su_leaves : (s : State) (o : Surprise) (node : Node) → SurpriseKeeps o SurpriseStage.Settling s.core.nodes → SurpriseOrder s.core o SurpriseStage.Settling × SurpriseThere o SurpriseStage.Settling s.core.nodes → Work s node o.todo → DueBut o.set s.tasks s.core.nodes → Stands s → Sound s (surprise_lifted s (su.leaves s.core o node))
 sound_su_leaves s o node keeps order work due h =
@@ -218,7 +234,8 @@ sound_su_leaves s o node keeps order work due h =
     (subst (λ (x : Option Operation). StageKept x (relist node.path node.born u).core) (sym only.operation)
     (order_su_finish_on s.core.nodes o (rest o.todo) (relist node.path node.born u).core
     (subst (λ (c : Core). Finishes c o.set (rest o.todo)) (sym is) (finishes_left s.core o.set o.todo node.serial work.order work.head order.0))
-    (subst (λ (c : Core). AllThere (rest o.todo) c.nodes) (sym is) (left_there o.todo node.serial s.core.nodes work.head keeps.todo order.1.there))))
+    (subst (λ (c : Core). AllThere (rest o.todo) c.nodes) (sym is) (left_there o.todo node.serial s.core.nodes work.head keeps.todo order.1.0.there))
+    (subst (λ (c : Core). TargetLeft o.target (rest o.todo) c.nodes) (sym is) (target_after s o node keeps order.1.1 work))))
     (ap waiting only.operation ∙ waits_finish_on s.core.nodes o (rest o.todo)) due h
 
 -- where the set is finished, none of it is Stopped
@@ -237,20 +254,20 @@ sound_su_target s o node true e keeps order work due h =
     ]) due) h
 sound_su_target s o node false e keeps order work due h = sound_su_leaves s o node keeps order work due h
 
-sound_su_other : (s : State) (o : Surprise) (node : Node) (b : Bool) → has o.set node.parent ≡ b → SurpriseKeeps o SurpriseStage.Settling s.core.nodes → SurpriseOrder s.core o SurpriseStage.Settling × SurpriseThere o SurpriseStage.Settling s.core.nodes → Work s node o.todo → DueBut o.set s.tasks s.core.nodes → Stands s → Sound s (surprise_lifted s (su.settle_other s.core o node b))
-sound_su_other s o node true over keeps order work due h = sound_su_leaves s o node keeps order work due h
-sound_su_other s o node false over keeps order work due h =
+sound_su_other : (s : State) (o : Surprise) (node : Node) (b : Bool) → has o.set node.parent ≡ b → node.serial ≢ o.target → SurpriseKeeps o SurpriseStage.Settling s.core.nodes → SurpriseOrder s.core o SurpriseStage.Settling × SurpriseThere o SurpriseStage.Settling s.core.nodes → Work s node o.todo → DueBut o.set s.tasks s.core.nodes → Stands s → Sound s (surprise_lifted s (su.settle_other s.core o node b))
+sound_su_other s o node true over other keeps order work due h = sound_su_leaves s o node keeps order work due h
+sound_su_other s o node false over other keeps order work due h =
     let state = head_bare o.todo node.serial node.state work.head (keeps.each node.serial node work.at) in
     op_trouble s _ node o.todo o.set (Label.Trouble node.path Problem.Held) (Some Problem.Held) work tt refl refl refl refl
     (λ same. order_su_finish_on s.core.nodes o (rest o.todo) _
     (finishes_stays s.core _ o.set o.todo node.serial node (fades_same s.core _ work.order (Ascending-changed 0 node.serial (with_problem (Some Problem.Held)) s.core.nodes (λ x. refl) work.order) same) work.head work.at over
     (was_troubled node.serial (Some Problem.Held) s.core.nodes _ refl) state order.0)
-    (same_there (rest o.todo) s.core _ same (rest_there o.todo s.core.nodes order.1.there)))
+    (same_there (rest o.todo) s.core _ same (rest_there o.todo s.core.nodes order.1.0.there)) (target_left o.target (rest o.todo) _ (rest_has node.serial o.target o.todo work.head other ∙ order.1.1)))
     (waits_finish_on s.core.nodes o (rest o.todo)) due h
 
 sound_su_settle : (s : State) (o : Surprise) (node : Node) (in_world b : Bool) → (node.serial == o.target) ≡ b → SurpriseKeeps o SurpriseStage.Settling s.core.nodes → SurpriseOrder s.core o SurpriseStage.Settling × SurpriseThere o SurpriseStage.Settling s.core.nodes → Work s node o.todo → DueBut o.set s.tasks s.core.nodes → Stands s → Sound s (surprise_lifted s (su.settle s.core o node in_world b))
 sound_su_settle s o node in_world true e keeps order work due h = sound_su_target s o node in_world (grind (arith, nat_tests)) keeps order work due h
-sound_su_settle s o node in_world false e keeps order work due h = sound_su_other s o node _ refl keeps order work due h
+sound_su_settle s o node in_world false e keeps order work due h = sound_su_other s o node _ refl (grind (arith, nat_tests)) keeps order work due h
 
 pub sound_surprise : (s : State) (o : Surprise) (in_world : Bool) (stage : SurpriseStage) (n : Option Node) → first_node s.core.nodes o.todo ≡ n → SurpriseKeeps o stage s.core.nodes → SurpriseOrder s.core o stage × SurpriseThere o stage s.core.nodes → DueBut o.set s.tasks s.core.nodes → Good s.next_serial s.core.nodes [] (Some (Operation.Surprising o)) → Stands s →
     SoundNext s (option_map (λ m. Does (surprise_lifted s m)) (su.surprise_step s.core o in_world stage n))

@@ -45,7 +45,7 @@ sound_drop s label task plain first kind none h =
 
 -- Listing ----------------------------------------------------------------------------------------
 
-find_passes : {A : Type 0} (p : A → Bool) (xs : List A) (x : A) → find p xs ≡ Some x → p x ≡ true
+pub find_passes : {A : Type 0} (p : A → Bool) (xs : List A) (x : A) → find p xs ≡ Some x → p x ≡ true
 find_passes p [] x h = absurd (cc)
 find_passes p (y ∷ ys) x h =
     let more = find_passes p ys x in
@@ -56,7 +56,7 @@ find_passes p (y ∷ ys) x h =
     ] in
     by_test (p y) refl h
 
-find_among : {A : Type 0} (p q : A → Bool) (xs : List A) (x : A) → find p (those q xs) ≡ Some x → q x ≡ true
+pub find_among : {A : Type 0} (p q : A → Bool) (xs : List A) (x : A) → find p (those q xs) ≡ Some x → q x ≡ true
 find_among p q [] x h = absurd (cc)
 find_among p q (y ∷ ys) x h =
     let more = find_among p q ys x in
@@ -297,7 +297,8 @@ sound_surprise s node k first at none good h =
     sound_still s _ (Label.Begin OpKind.Surprise node.path) tt refl refl refl (up_drop s.tasks h.up)
     (srm.order_tell_on s.core.nodes o told s.core (finishes_begun s.next_serial s.core node.serial node good.serials h.tree (found_self k s.core.nodes node at))
     (those_there (λ k. su.is_told_node (node_at k s.core.nodes)) set s.core.nodes (leaving_there s.next_serial s.core node.serial node good.serials h.tree (found_self k s.core.nodes node at)))
-    (leaving_there s.next_serial s.core node.serial node good.serials h.tree (found_self k s.core.nodes node at)))
+    (leaving_there s.next_serial s.core node.serial node good.serials h.tree (found_self k s.core.nodes node at))
+    (leaving_all h.tree.rank s.core node.serial node.serial good.serials h.tree.ranked (closed_keeps s.core (node.serial ∷ []) node.serial node good.serials (found_self k s.core.nodes node at) (grind (arith, nat_tests)))))
     (subst (λ (ks : List ℕ). DueBut ks (drop 1 s.tasks) s.core.nodes) (sym (srm.waits_tell_on s.core.nodes o told))
     (due_dropped s.tasks k set s.core.nodes first
     (λ i n there stopped below. subst (λ (x : ℕ). has (leaving s.core x) i ≡ true) (sym own) (below_it s k node at good h i n there stopped below)) (calm_none s none h))) h

@@ -143,11 +143,16 @@ RemovalThere o (RemovalStage.Removing w) nodes = Goes o.todo nodes
 RemovalThere o RemovalStage.Settling nodes = Goes o.todo nodes
 RemovalThere o RemovalStage.Ending nodes = Unit {0}
 
+-- the target is still to do, or has left
+abbrev pub TargetLeft : ℕ → List ℕ → List Node → Type 0
+TargetLeft k [] nodes = node_at k nodes ≡ None
+TargetLeft k (j ∷ js) nodes = has (j ∷ js) k ≡ true
+
 abbrev pub SurpriseThere : Surprise → SurpriseStage → List Node → Type 0
-SurpriseThere o (SurpriseStage.Telling w) nodes = Goes o.todo nodes × AllThere o.set nodes
-SurpriseThere o (SurpriseStage.Removing w) nodes = Goes o.todo nodes
-SurpriseThere o SurpriseStage.Settling nodes = Goes o.todo nodes
-SurpriseThere o SurpriseStage.Ending nodes = Unit {0}
+SurpriseThere o (SurpriseStage.Telling w) nodes = Goes o.todo nodes × AllThere o.set nodes × (has o.set o.target ≡ true)
+SurpriseThere o (SurpriseStage.Removing w) nodes = Goes o.todo nodes × (has o.todo o.target ≡ true)
+SurpriseThere o SurpriseStage.Settling nodes = Goes o.todo nodes × (has o.todo o.target ≡ true)
+SurpriseThere o SurpriseStage.Ending nodes = node_at o.target nodes ≡ None
 
 abbrev pub StageKept : Option Operation → Core → Type 0
 StageKept None c = Unit {0}
