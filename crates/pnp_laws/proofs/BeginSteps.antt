@@ -10,9 +10,9 @@ use Rattle.pnp_labels.specs.Texts.{Text}
 use Rattle.pnp_labels.specs.declared.label.Label.{Label}
 use Rattle.pnp_labels.specs.declared.label.OpKind.{OpKind}
 use Rattle.pnp_laws.specs.Reached.{IsReached}
-use Rattle.pnp_laws.specs.Begun.{IsBeside, DuesFine}
-use Rattle.pnp_laws.proofs.Reached.{kept}
-use Rattle.pnp_laws.proofs.EventChanges.{happens_outside}
+use Rattle.pnp_laws.specs.Begun.{IsBeside, IsWord, DuesFine}
+use Rattle.pnp_laws.proofs.Reaching.{kept}
+use Rattle.pnp_laws.proofs.EventChanges.{beside_word, happens_outside}
 use Rattle.pnp_laws.proofs.Courses.{begun, Way, Course}
 use Rattle.pnp_laws.proofs.OperationCourses.{course_step, course_happens}
 
@@ -41,12 +41,12 @@ begun_way s t kind path (Way.begins own node none at is) =
     record { node = node; at = at; named = cc; idle = none; is = subst (λ (x : OpKind). t ≡ (begin s x node (begun s.core x node)).state) kinds state }
 begun_way s t kind path (Way.goes o p runs after work (inl beside)) = absurd beside
 begun_way s t kind path (Way.goes o p runs after work (inr (kinds, label))) = absurd (cc)
-begun_way s t kind path (Way.ends o result runs after label) = absurd (cc)
+begun_way s t kind path (Way.ends o result runs after label by) = absurd (cc)
 
 pub begins_right : (settings : Settings) (s t : State) (kind : OpKind) (path : Text) → DuesFine s.activities → Steps settings s (Label.Begin kind path) t → Begun s kind path t
 begins_right settings s t kind path dues h = begun_way s t kind path (course_step settings s (record { label = Label.Begin kind path; state = t }) dues h).way
 
 -- what is no word of an event was printed by a step
 pub step_did : (settings : Settings) (s : State) (entry : Entry) (t : State) → Goes settings s entry t → (IsBeside (printed entry) → ⊥) → Goes settings s (Did (printed entry)) t
-step_did settings s (Happens event label) t goes other = absurd (other (subst (λ (x : Step). IsBeside x.label) goes.1 (happens_outside s event).beside))
+step_did settings s (Happens event label) t goes other = absurd (other (beside_word label (subst (λ (x : Step). IsWord x.label) goes.1 (happens_outside s event).word)))
 step_did settings s (Did label) t goes other = goes

@@ -26,7 +26,7 @@ use Rattle.pnp_labels.specs.declared.label.OpEnd.{OpEnd}
 use Rattle.pnp_labels.specs.declared.words.Answer.{Answer}
 use Rattle.pnp_labels.specs.declared.words.Answer.TheVariants.{Ok, Fail, Pend}
 use Rattle.pnp_labels.specs.declared.states.DevState.TheVariants.{NoStack, NotStarted, Started, StopPending, Stopped, RemovePending, SurpriseRemoved}
-use Rattle.pnp_laws.specs.Begun.{kind_of, path_of, SameWork, NotTwelve, IsBeside, DueFine, DuesFine}
+use Rattle.pnp_laws.specs.Begun.{kind_of, path_of, is_removal, EndsBy, SameWork, NotTwelve, IsBeside, DueFine, DuesFine}
 use Rattle.pnp_laws.proofs.Lookups.{found_self}
 use Rattle.pnp_laws.proofs.Dues.{dues_without, dues_changed, dues_entered, dues_as}
 
@@ -43,7 +43,7 @@ pub data Way (s : State) (step : Step) : Type 0 where
   begins : (kind : OpKind) (node : Node) → s.operation ≡ None → node_at node.serial s.core.nodes ≡ Some node → step ≡ begin s kind node (begun s.core kind node) → Way s step
   goes : (o p : Operation) → s.operation ≡ Some o → step.state.operation ≡ Some p → SameWork o p →
       IsBeside step.label ⊎ ((kind_of o ≡ OpKind.Rebalance) × (step.label ≡ Label.Trouble (path_of o) Problem.NormalConflict)) → Way s step
-  ends : (o : Operation) (result : OpEnd) → s.operation ≡ Some o → step.state.operation ≡ None → step.label ≡ Label.End (kind_of o) (path_of o) result → Way s step
+  ends : (o : Operation) (result : OpEnd) → s.operation ≡ Some o → step.state.operation ≡ None → step.label ≡ Label.End (kind_of o) (path_of o) result → EndsBy (is_removal o) result → Way s step
 
 pub record Course (s : State) (step : Step) : Type 0 where
   pub way : Way s step

@@ -15,20 +15,26 @@ use Rattle.pnp_labels.specs.declared.event.Rule.{Rule}
 use Rattle.pnp_labels.specs.declared.words.DriverKind.{DriverKind}
 use Rattle.pnp_labels.specs.declared.words.RelKind.{RelKind}
 use Rattle.pnp_labels.specs.declared.event.Event.{Event}
+use Rattle.pnp_labels.specs.declared.label.Label.{Label}
 use Rattle.pnp_labels.specs.declared.label.EventWord.{EventWord}
 use Rattle.pnp_labels.specs.declared.label.Reason.{Reason}
 use Rattle.pnp_laws.specs.Holdings.{is_starting}
-use Rattle.pnp_laws.specs.Begun.{IsBeside, DueFine, DuesFine}
+use Rattle.pnp_laws.specs.Begun.{IsWord, IsBeside, DueFine, DuesFine}
 use Rattle.pnp_laws.proofs.Dues.{dues_as, dues_changed, dues_found}
 use Rattle.pnp_laws.proofs.Lookups.{phase_from}
 use Rattle.pnp_model.specs.Events as ev
+
+pub beside_word : (label : Label) → IsWord label → IsBeside label
+beside_word (Label.Did word what) h = tt
+beside_word (Label.Refused word reason) h = tt
+beside_word _ h = absurd h
 
 -- the operation is as it was, but for the answer that its walk got
 abbrev pub Answered : Option Operation → Option Operation → Type 0
 Answered old new = (new ≡ old) ⊎ ((ok : Bool) × (o : Operation) × (old ≡ Some o) × (new ≡ Some (ev.completed (ev.answer_of ok) o)))
 
 pub record Outside (s : State) (step : Step) : Type 0 where
-  pub beside : IsBeside step.label
+  pub word : IsWord step.label
   pub dues : DuesFine s.activities → DuesFine step.state.activities
   pub nodes : step.state.core.nodes ≡ s.core.nodes
   pub relations : (o : Operation) → s.operation ≡ Some o → step.state.core.relations ≡ s.core.relations
@@ -39,10 +45,10 @@ pub record Outside (s : State) (step : Step) : Type 0 where
 same_activities : (s t : State) → t.activities ≡ s.activities → (k : ℕ) (a : Activity) → activity_at k t.activities ≡ Some a → (b : Activity) × (activity_at k s.activities ≡ Some b) × (is_starting a.phase ≡ is_starting b.phase)
 same_activities s t e k a at = (a, subst (λ (x : List Activity). activity_at k x ≡ Some a) e at, refl)
 
-by_parts : (s : State) (step : Step) → IsBeside step.label → step.state.core.nodes ≡ s.core.nodes → step.state.core.relations ≡ s.core.relations → step.state.core.reserved ≡ s.core.reserved → step.state.activities ≡ s.activities → step.state.operation ≡ s.operation → Outside s step
-by_parts s step beside a b c d e =
+by_parts : (s : State) (step : Step) → IsWord step.label → step.state.core.nodes ≡ s.core.nodes → step.state.core.relations ≡ s.core.relations → step.state.core.reserved ≡ s.core.reserved → step.state.activities ≡ s.activities → step.state.operation ≡ s.operation → Outside s step
+by_parts s step word a b c d e =
     record {
-      beside = beside;
+      word = word;
       dues = dues_as s.activities step.state.activities d;
       nodes = a;
       relations = λ o h. b;
@@ -59,10 +65,10 @@ listed s u word what None a d e = by_parts s _ tt (ap (λ (c : Core). c.nodes) a
 listed s u word what (Some n) a d e = by_parts s _ tt (ap (λ (c : Core). c.nodes) a) (ap (λ (c : Core). c.relations) a) (ap (λ (c : Core). c.reserved) a) d e
 
 -- where no operation runs, relations and ranges may be new
-free : (s : State) (step : Step) → IsBeside step.label → s.operation ≡ None → step.state.core.nodes ≡ s.core.nodes → step.state.activities ≡ s.activities → step.state.operation ≡ s.operation → Outside s step
-free s step beside none a d e =
+free : (s : State) (step : Step) → IsWord step.label → s.operation ≡ None → step.state.core.nodes ≡ s.core.nodes → step.state.activities ≡ s.activities → step.state.operation ≡ s.operation → Outside s step
+free s step word none a d e =
     record {
-      beside = beside;
+      word = word;
       dues = dues_as s.activities step.state.activities d;
       nodes = a;
       relations = λ o h. absurd (cc);
@@ -203,7 +209,7 @@ complete_activity : (s : State) (node : Node) (minor : Minor) (ok : Bool) (a : A
 complete_activity s node minor ok a false at = nothing s _ _
 complete_activity s node minor ok a true at =
     let phase = ev.completed_phase (ev.answer_of ok) a.phase in
-    record { beside = tt; dues = λ h. dues_changed node.serial phase s.activities (answered_fine (ev.answer_of ok) a.phase (dues_found (is_activity node.serial) s.activities a at h)) h; nodes = refl; relations = λ o h. refl; reserved = λ o h. refl; activities = answered_activities (ev.answer_of ok) node.serial a s.activities at; operation = inl refl }
+    record { word = tt; dues = λ h. dues_changed node.serial phase s.activities (answered_fine (ev.answer_of ok) a.phase (dues_found (is_activity node.serial) s.activities a at h)) h; nodes = refl; relations = λ o h. refl; reserved = λ o h. refl; activities = answered_activities (ev.answer_of ok) node.serial a s.activities at; operation = inl refl }
 
 complete_active : (s : State) (node : Node) (minor : Minor) (ok : Bool) (o : Option Activity) → activity_at node.serial s.activities ≡ o → Outside s (ev.complete_active s node minor ok o)
 complete_active s node minor ok None e = nothing s _ _
@@ -211,7 +217,7 @@ complete_active s node minor ok (Some a) e = complete_activity s node minor ok a
 
 complete_operation : (s : State) (node : Node) (minor : Minor) (ok : Bool) (o : Operation) (b : Bool) → s.operation ≡ Some o → Outside s (ev.complete_operation s node minor ok o b)
 complete_operation s node minor ok o true e =
-    record { beside = tt; dues = λ h. h; nodes = refl; relations = λ p h. refl; reserved = λ p h. refl; activities = λ k a at. (a, at, refl); operation = inr (ok, o, e, refl) }
+    record { word = tt; dues = λ h. h; nodes = refl; relations = λ p h. refl; reserved = λ p h. refl; activities = λ k a at. (a, at, refl); operation = inr (ok, o, e, refl) }
 complete_operation s node minor ok o false e = complete_active s node minor ok (activity_at node.serial s.activities) refl
 
 complete_node : (s : State) (node : Node) (minor : Minor) (ok : Bool) (o : Option Operation) → s.operation ≡ o → Outside s (ev.complete_node s node minor ok o)

@@ -37,12 +37,11 @@ pub mod SharingSteps
 pub mod SharingRemovals
 pub mod SharingMachine
 pub mod RunsShare
-pub mod EventsPlain
 pub mod Vetoes
 pub mod VetoSteps
 pub mod RunsVeto
-pub mod NoVetoes
 pub mod RunsStand
+pub mod Reaching
 pub mod Reached
 pub mod Dues
 pub mod EventChanges

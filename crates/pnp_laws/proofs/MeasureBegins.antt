@@ -1,46 +1,37 @@
 -- Each task but a join lowers what is still to begin, to do, or to answer.
-use Rattle.std.proofs.Common.{ℕ, suc, drop, ◌+◌, ◌*◌, ◌<◌, ◌≤◌, ◌≡◌, ◌≢◌, ◌==◌, ◌⊎◌, inl, inr, Bool, true, false, not, ◌&&◌, ◌||◌, cond, List, [], ◌∷◌, ◌++◌, map, length, Option, Some, None, refl, sym, ap, ◌∙◌, subst, arith, reverse, nat_le, length-append}
+use Rattle.std.proofs.Common.{ℕ, suc, drop, ◌+◌, ◌<◌, ◌≤◌, ◌≡◌, ◌==◌, ◌⊎◌, inl, inr, Bool, true, false, not, ◌&&◌, ◌||◌, cond, List, [], ◌∷◌, ◌++◌, length, Option, Some, None, refl, sym, ap, ◌∙◌, subst, arith, reverse, nat_le, length-append}
 use Rattle.std.specs.List.{list_any, find, slice_get}
-use Rattle.std.specs.Option.{option_map}
 use Rattle.std.proofs.lemmas.Bool.{cases_eq}
 use Rattle.std.proofs.lemmas.Bool.Decides.{nat_tests}
-use Rattle.std.proofs.lemmas.List.{length-reverse, length-map}
-use Rattle.resource_reqs.specs.Spelling.Answer.{assignment, no_fit, spent}
-use Rattle.pnp_model.specs.Keyed.{changed_first, without_first, those}
+use Rattle.std.proofs.lemmas.List.{length-reverse}
+use Rattle.resource_reqs.specs.Spelling.Answer.{no_fit}
+use Rattle.pnp_model.specs.Keyed.{those}
 use Rattle.pnp_model.specs.Tests.{has, has_same, is_surprise_task}
-use Rattle.pnp_model.specs.Records.{Node, Core, Device, Driver, Task, Activity, Phase, Walk, State, Step, Settings, Choice, Found, Operation, Rebalance, RebalanceStage, Removal, RemovalStage, Surprise, SurpriseStage, Doing, Duty, doing_map}
-use Rattle.pnp_model.specs.Records.Doing.{Does, Searches}
-use Rattle.pnp_model.specs.Records.Phase.{Adding, Searching, Starting, Removing, Due}
-use Rattle.pnp_model.specs.Cores.{is_node, node_at, with_state, with_problem, with_stack, with_holds, stacked, serials_of, stack_of}
+use Rattle.pnp_model.specs.Records.{Node, Device, Driver, Task, Activity, State, Settings, Choice, Operation, Rebalance, RebalanceStage, Surprise, SurpriseStage, Duty}
+use Rattle.pnp_model.specs.Cores.{node_at, with_problem, serials_of, stack_of}
 use Rattle.pnp_model.specs.Books.{driver_named}
-use Rattle.pnp_model.specs.Walks.{after, is_bad, has_ended, walk_of}
-use Rattle.pnp_model.specs.Trees.{children, is_child, leaving, is_up}
-use Rattle.pnp_model.specs.States.{drop_task, activity_at, is_activity, with_phase, entered, is_in_world}
-use Rattle.pnp_model.specs.Starts.{adding, add_driver, searched, own_part, end_start, start_on, remove_on, undo, act}
+use Rattle.pnp_model.specs.Trees.{children, is_child, leaving}
+use Rattle.pnp_model.specs.States.{drop_task, activity_at, is_in_world}
+use Rattle.pnp_model.specs.Starts.{adding}
 use Rattle.pnp_model.specs.Tasks.{is_surprise_of, is_gone, joining, gone_child, gone_or_listed, join_or_on, list_up, list_step, begin_trouble, install, numbered, numbered_more, install_named, install_few, install_service, install_best, start_enabled, start_idle, start_bare, start_step, begin, rebalance_idle, rebalance_task, disable_task, begin_step}
-use Rattle.pnp_model.specs.Machine.{start_lifted, phase_walk, is_waiting, is_born}
+use Rattle.pnp_model.specs.Machine.{is_born}
 use Rattle.pnp_labels.specs.Texts.{Text}
 use Rattle.pnp_labels.specs.declared.states.DevState.{DevState}
-use Rattle.pnp_labels.specs.declared.words.Answer.{Answer}
-use Rattle.pnp_labels.specs.declared.words.Minor.{Minor}
-use Rattle.pnp_labels.specs.declared.words.Answer.TheVariants.{Ok, Fail, Pend}
 use Rattle.pnp_labels.specs.declared.states.DevState.TheVariants.{NoStack, NotStarted, Started, StopPending, Stopped, RemovePending, SurpriseRemoved}
 use Rattle.pnp_labels.specs.declared.label.Label.{Label}
 use Rattle.pnp_labels.specs.declared.label.OpKind.{OpKind}
 use Rattle.pnp_labels.specs.declared.states.Problem.{Problem}
 use Rattle.pnp_laws.specs.Kept.{Ascending}
-use Rattle.pnp_laws.proofs.Lookups.{own_serial, own_activity, found_self}
+use Rattle.pnp_laws.proofs.Lookups.{own_serial}
 use Rattle.pnp_laws.proofs.Ranks.{and_both}
 use Rattle.pnp_laws.proofs.Closures.{head_at, tail_at}
-use Rattle.pnp_laws.proofs.SoundTasks.{find_among, find_passes}
-use Rattle.pnp_laws.proofs.Measures.{Falls, falls_coarse, coarse, coarse_by, coarse_most, count, count_less, tasks_less, tasks_cost, tasks_pushed, duty_cost, sum, sum_changed, sum_without, sum_entered, phase_cost, is_open, is_target, born_in, operation_cost, rebalance_cost, rank_of, left_of, answers, answers_of, activity_answers, stack_at, SameBirths, births_same, births_changed}
-use Rattle.pnp_laws.proofs.MeasureOps.{falls_answers, asked_less, those_shorter, AtMost, ask_most, IsNoJoin, Lowers, lower_so, LowersDoing}
+use Rattle.pnp_laws.proofs.SoundTasks.{find_passes}
+use Rattle.pnp_laws.proofs.Measures.{Falls, falls_coarse, coarse_by, count, count_less, tasks_cost, tasks_pushed, duty_cost, sum, sum_entered, phase_cost, is_open, is_target, born_in, operation_cost, SameBirths, births_same, births_changed}
+use Rattle.pnp_laws.proofs.MeasureOps.{those_shorter, ask_most, Lowers, lower_so}
 use Rattle.pnp_laws.proofs.MeasureSurprises.{count_none}
-use Rattle.pnp_laws.proofs.MeasureTasks.{open_same, open_dropped, dropped_cost, open_pushed, no_cost, same_none, adding_cost, fewer_open, any_pushed}
+use Rattle.pnp_laws.proofs.MeasureTasks.{open_dropped, dropped_cost, open_pushed, no_cost, adding_cost}
 use Rattle.pnp_model.specs.Rebalances as re
-use Rattle.pnp_model.specs.Removals as rm
 use Rattle.pnp_model.specs.Surprises as su
-
 
 -- the first task is dropped, and what follows it costs less
 task_falls : (s t : State) (task : Task) → slice_get s.tasks 0 ≡ Some task → SameBirths s.core.nodes t.core.nodes → t.world ≡ s.world → t.tasks ≡ drop 1 s.tasks → ((k : ℕ) → is_open t.tasks t.operation k ≡ true → is_open s.tasks s.operation k ≡ true) →
@@ -151,10 +142,10 @@ find_member p q lo (x ∷ xs) n order h =
     let by_test : (b : Bool) → find p (cond b (x ∷ those q xs) (those q xs)) ≡ Some n → node_at n.serial (x ∷ xs) ≡ Some n =
     λ b. elim b as (λ b. find p (cond b (x ∷ those q xs) (those q xs)) ≡ Some n → node_at n.serial (x ∷ xs) ≡ Some n) [
       | true ↦ (let two : (c : Bool) → cond c (Some x) (find p (those q xs)) ≡ Some n → node_at n.serial (x ∷ xs) ≡ Some n =
-        λ c. elim c as (λ c. cond c (Some x) (find p (those q xs)) ≡ Some n → node_at n.serial (x ∷ xs) ≡ Some n) [
-          | true ↦ λ g. let same : x ≡ n = cc in subst (λ (z : Node). node_at z.serial (x ∷ xs) ≡ Some z) same (head_at x xs)
-          | false ↦ λ g. tail_at lo x xs n.serial n order (more g)
-        ] in two (p x))
+          λ c. elim c as (λ c. cond c (Some x) (find p (those q xs)) ≡ Some n → node_at n.serial (x ∷ xs) ≡ Some n) [
+            | true ↦ λ g. let same : x ≡ n = cc in subst (λ (z : Node). node_at z.serial (x ∷ xs) ≡ Some z) same (head_at x xs)
+            | false ↦ λ g. tail_at lo x xs n.serial n order (more g)
+          ] in two (p x))
       | false ↦ λ g. tail_at lo x xs n.serial n order (more g)
     ] in
     by_test (q x) h
@@ -341,9 +332,9 @@ lowers_none s label k gone first =
         elim (cases_eq k i) [
           | inl e ↦ inr (sym e)
           | inr d ↦ inl (let same : t ≡ record { kind = Duty.Begins OpKind.Surprise; serial = k } = cc in
-            let out : (k == i) ≡ false = grind (arith, nat_tests) in
-            let own : is_surprise_of i t ≡ false = ap (λ (x : Task). is_surprise_of i x) same ∙ out in
-            ap (λ (b : Bool). not (b || list_any (is_surprise_of i) tasks) && not (is_target s.operation i)) own ∙ h)
+              let out : (k == i) ≡ false = grind (arith, nat_tests) in
+              let own : is_surprise_of i t ≡ false = ap (λ (x : Task). is_surprise_of i x) same ∙ out in
+              ap (λ (b : Bool). not (b || list_any (is_surprise_of i) tasks) && not (is_target s.operation i)) own ∙ h)
         ]
 
 pub lowers_begin_step : (s : State) (kind : OpKind) (k : ℕ) (o : Option Node) → node_at k s.core.nodes ≡ o → First s (Duty.Begins kind) k → s.operation ≡ None → Lowers s (begin_step s kind k o)

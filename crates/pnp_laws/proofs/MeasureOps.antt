@@ -1,30 +1,26 @@
 -- Each step of an operation lowers what is still to begin, to do, or to answer.
-use Rattle.std.proofs.Common.{ℕ, suc, ◌+◌, ◌-◌, ◌*◌, ◌<◌, ◌≤◌, ◌≡◌, ◌≢◌, ◌==◌, ◌⊎◌, inl, inr, Bool, true, false, not, ◌&&◌, ◌||◌, cond, List, [], ◌∷◌, ◌++◌, map, length, Option, Some, None, refl, sym, ap, ◌∙◌, subst, arith, reverse, nat_le}
+use Rattle.std.proofs.Common.{ℕ, suc, ◌+◌, ◌-◌, ◌*◌, ◌<◌, ◌≤◌, ◌≡◌, inl, inr, Bool, true, false, not, ◌&&◌, ◌||◌, cond, List, [], ◌∷◌, length, Option, Some, None, refl, sym, ap, ◌∙◌, arith, reverse, nat_le}
 use Rattle.std.specs.List.{list_any}
 use Rattle.std.specs.Option.{option_map}
-use Rattle.std.proofs.lemmas.Bool.{cases_eq}
 use Rattle.std.proofs.lemmas.Bool.Decides.{nat_tests}
-use Rattle.std.proofs.lemmas.List.{length-reverse}
 use Rattle.resource_reqs.specs.Spelling.Answer.{assignment, no_fit, spent}
-use Rattle.pnp_model.specs.Keyed.{changed_first, without_first, those}
-use Rattle.pnp_model.specs.Tests.{has}
-use Rattle.pnp_model.specs.Records.{Node, Core, Device, Task, Activity, Phase, Walk, State, Step, Found, Operation, Rebalance, RebalanceStage, Removal, RemovalStage, Surprise, SurpriseStage, Doing, Duty, doing_map}
+use Rattle.pnp_model.specs.Keyed.{those}
+use Rattle.pnp_model.specs.Records.{Node, Task, Activity, Phase, Walk, State, Step, Found, Operation, Rebalance, RebalanceStage, Doing, Duty, doing_map}
 use Rattle.pnp_model.specs.Records.Doing.{Does, Searches}
-use Rattle.pnp_model.specs.Cores.{is_node, node_at, with_state, with_problem, serials_of, stack_of}
+use Rattle.pnp_model.specs.Cores.{serials_of, stack_of}
 use Rattle.pnp_model.specs.Walks.{after, is_bad, has_ended, walk_of}
 use Rattle.pnp_model.specs.Trees.{stands_up}
 use Rattle.pnp_model.specs.Frames.{first_node, rest}
 use Rattle.pnp_model.specs.Tasks.{is_surprise_of}
-use Rattle.pnp_model.specs.Machine.{rebalance_lifted, rebalance_walk, is_waiting, is_born}
+use Rattle.pnp_model.specs.Machine.{rebalance_lifted, rebalance_walk, is_waiting}
 use Rattle.pnp_labels.specs.declared.words.Minor.{Minor}
 use Rattle.pnp_labels.specs.declared.words.Answer.{Answer}
 use Rattle.pnp_labels.specs.declared.words.Answer.TheVariants.{Ok, Fail, Pend}
 use Rattle.pnp_labels.specs.declared.label.Label.{Label}
 use Rattle.pnp_labels.specs.declared.label.OpKind.{OpKind}
-use Rattle.pnp_labels.specs.declared.states.DevState.TheVariants.{Started, StopPending, Stopped}
-use Rattle.pnp_labels.specs.declared.states.Problem.{Problem}
+use Rattle.pnp_laws.specs.Ends.{IsNoJoin}
 use Rattle.pnp_laws.proofs.Lists.{HeadIs, head_found}
-use Rattle.pnp_laws.proofs.Measures.{Falls, falls_coarse, coarse, coarse_on, count, count_less, tasks_less, tasks_cost, tasks_pushed, duty_cost, sum, phase_cost, is_open, is_target, born_in, operation_cost, rebalance_cost, rank_of, rebalance_rank, left_of, rebalance_left, answers, answers_of, SameBirths, births_same, births_changed, births_mapped, coarse_by, sum_entered}
+use Rattle.pnp_laws.proofs.Measures.{Falls, falls_coarse, coarse, coarse_on, tasks_cost, duty_cost, sum, phase_cost, is_open, is_target, born_in, operation_cost, rebalance_cost, rank_of, rebalance_rank, left_of, rebalance_left, answers, answers_of, SameBirths, births_same, births_changed, births_mapped, coarse_by, sum_entered}
 use Rattle.pnp_model.specs.Rebalances as re
 
 -- By the first number that is lower ---------------------------------------------------------------------
@@ -316,11 +312,6 @@ falls_over s r spent label in_it =
     ends_with s _ r (Phase.Removing (walk_of Minor.Remove)) in_it refl refl refl refl (omega arith)
 
 -- All steps of a rebalance ---------------------------------------------------------------------------------
-
--- no device joins
-abbrev pub IsNoJoin : Label → Type 0
-IsNoJoin (Label.Join k path) = ⊥
-IsNoJoin _ = Unit {0}
 
 pub record Lowers (s : State) (step : Step) : Type 0 where
   pub lowers : IsNoJoin step.label → Falls s step.state

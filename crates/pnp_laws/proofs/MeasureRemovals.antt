@@ -1,12 +1,12 @@
 -- Each step of a removal or a surprise lowers what is still to begin, to do, or to answer.
-use Rattle.std.proofs.Common.{ℕ, suc, ◌+◌, ◌*◌, ◌<◌, ◌≤◌, ◌≡◌, ◌≢◌, ◌==◌, ◌⊎◌, inl, inr, Bool, true, false, not, ◌&&◌, ◌||◌, cond, List, [], ◌∷◌, ◌++◌, length, Option, Some, None, refl, sym, ap, ◌∙◌, subst, arith}
+use Rattle.std.proofs.Common.{ℕ, suc, ◌+◌, ◌*◌, ◌<◌, ◌≤◌, ◌≡◌, ◌==◌, ◌⊎◌, inl, inr, Bool, true, false, not, ◌&&◌, ◌||◌, cond, List, [], ◌∷◌, ◌++◌, length, Option, Some, None, refl, sym, ap, ◌∙◌, arith}
 use Rattle.std.specs.List.{list_any}
 use Rattle.std.specs.Option.{option_map}
 use Rattle.std.proofs.lemmas.Bool.{cases_eq}
 use Rattle.std.proofs.lemmas.Bool.Decides.{nat_tests}
-use Rattle.pnp_model.specs.Keyed.{changed_first, without_first}
+use Rattle.pnp_model.specs.Keyed.{without_first}
 use Rattle.pnp_model.specs.Tests.{has, is_eject}
-use Rattle.pnp_model.specs.Records.{Node, Core, Device, Task, Activity, Walk, State, Operation, Removal, RemovalStage, Surprise, SurpriseStage, Duty}
+use Rattle.pnp_model.specs.Records.{Node, Device, Task, Activity, Walk, State, Operation, Removal, RemovalStage, Duty}
 use Rattle.pnp_model.specs.Records.Doing.{Does}
 use Rattle.pnp_model.specs.Cores.{is_node, node_at, serials_of, stack_of}
 use Rattle.pnp_model.specs.Walks.{after, is_bad, has_ended, walk_of}
@@ -14,22 +14,19 @@ use Rattle.pnp_model.specs.Frames.{first_node, rest}
 use Rattle.pnp_model.specs.States.{relist, relist_device, relist_other, list_node, device_of, node_born, unplug, without_those, is_in_world, set_operation, with_core}
 use Rattle.pnp_model.specs.Tasks.{is_surprise_of}
 use Rattle.pnp_model.specs.Removals.{RemoveBeside}
-use Rattle.pnp_model.specs.Machine.{removal_lifted, surprise_lifted, removal_walk, surprise_walk, is_waiting, is_born}
+use Rattle.pnp_model.specs.Machine.{removal_lifted, removal_walk, is_waiting, is_born}
 use Rattle.pnp_labels.specs.Texts.{Text}
 use Rattle.pnp_labels.specs.declared.words.Minor.{Minor}
 use Rattle.pnp_labels.specs.declared.words.Answer.{Answer}
 use Rattle.pnp_labels.specs.declared.label.Label.{Label}
 use Rattle.pnp_labels.specs.declared.states.Problem.{Problem}
 use Rattle.pnp_laws.specs.Kept.{Ascending}
-use Rattle.pnp_laws.proofs.Lookups.{left_from, none_below}
+use Rattle.pnp_laws.proofs.Lookups.{left_from}
 use Rattle.pnp_laws.proofs.Lists.{HeadIs, head_found}
 use Rattle.pnp_laws.proofs.Finishing.{relist_only}
-use Rattle.pnp_laws.proofs.SharingRemovals.{relist_core}
-use Rattle.pnp_laws.proofs.Standing.{SurpriseThere}
-use Rattle.pnp_laws.proofs.Measures.{Falls, falls_coarse, coarse, coarse_on, coarse_by, count, count_less, tasks_less, tasks_cost, tasks_pushed, sum, phase_cost, phase_less, is_open, is_target, born_in, operation_cost, operation_less, rank_of, removal_rank, surprise_rank, left_of, removal_left, surprise_left, answers, answers_of, SameBirths, births_same, births_changed}
+use Rattle.pnp_laws.proofs.Measures.{Falls, falls_coarse, coarse, coarse_on, coarse_by, count, count_less, tasks_less, tasks_cost, tasks_pushed, sum, phase_cost, phase_less, is_open, is_target, born_in, operation_cost, operation_less, rank_of, removal_rank, left_of, removal_left, answers, answers_of, SameBirths, births_same, births_changed}
 use Rattle.pnp_laws.proofs.MeasureOps.{falls_rank, falls_left, falls_answers, asked_less, rest_shorter, LowersNext, lower_so}
 use Rattle.pnp_model.specs.Removals as rm
-use Rattle.pnp_model.specs.Surprises as su
 
 -- A device leaves --------------------------------------------------------------------------------------
 

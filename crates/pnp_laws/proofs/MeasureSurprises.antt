@@ -17,7 +17,7 @@ use Rattle.pnp_laws.specs.Kept.{Ascending}
 use Rattle.pnp_laws.proofs.Lookups.{none_below}
 use Rattle.pnp_laws.proofs.Finishing.{relist_only}
 use Rattle.pnp_laws.proofs.Standing.{SurpriseThere}
-use Rattle.pnp_laws.proofs.Measures.{Falls, falls_coarse, coarse, coarse_on, count, count_less, tasks_less, tasks_cost, sum, phase_cost, is_open, is_target, born_in, operation_cost, rank_of, surprise_rank, left_of, surprise_left, answers, answers_of, SameBirths, births_same, births_changed}
+use Rattle.pnp_laws.proofs.Measures.{Falls, falls_coarse, coarse, coarse_on, count, tasks_less, tasks_cost, sum, phase_cost, is_open, is_target, born_in, operation_cost, rank_of, surprise_rank, left_of, surprise_left, answers, answers_of, SameBirths, births_same, births_changed}
 use Rattle.pnp_laws.proofs.MeasureOps.{falls_rank, falls_left, falls_answers, asked_less, rest_shorter, LowersNext, lower_so}
 use Rattle.pnp_laws.proofs.MeasureRemovals.{Front, in_front, coarse_left, listed_again, same_world}
 use Rattle.pnp_model.specs.Surprises as su
@@ -163,8 +163,8 @@ open_target s t o runs none tasks k h =
     elim (cases_eq o.target k) [
       | inl e ↦ inr (sym e)
       | inr d ↦ inl (let out : (o.target == k) ≡ false = grind (arith, nat_tests) in
-        let target : is_target t.operation k ≡ is_target s.operation k = ap (λ (x : Option Operation). is_target x k) none ∙ (sym out ∙ sym (ap (λ (x : Option Operation). is_target x k) runs)) in
-        ap (λ (b : Bool). not (list_any (is_surprise_of k) s.tasks) && not b) (sym target) ∙ (ap (λ (ts : List Task). not (list_any (is_surprise_of k) ts) && not (is_target t.operation k)) (sym tasks) ∙ h))
+          let target : is_target t.operation k ≡ is_target s.operation k = ap (λ (x : Option Operation). is_target x k) none ∙ (sym out ∙ sym (ap (λ (x : Option Operation). is_target x k) runs)) in
+          ap (λ (b : Bool). not (list_any (is_surprise_of k) s.tasks) && not b) (sym target) ∙ (ap (λ (ts : List Task). not (list_any (is_surprise_of k) ts) && not (is_target t.operation k)) (sym tasks) ∙ h))
     ]
 
 -- the target is in the world, or has left

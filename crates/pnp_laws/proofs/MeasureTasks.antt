@@ -1,43 +1,25 @@
 -- Each step of an activity, and each task but a join, lowers what is still to begin, to do, or to answer.
-use Rattle.std.proofs.Common.{ℕ, suc, drop, ◌+◌, ◌*◌, ◌<◌, ◌≤◌, ◌≡◌, ◌≢◌, ◌==◌, ◌⊎◌, inl, inr, Bool, true, false, not, ◌&&◌, ◌||◌, cond, List, [], ◌∷◌, ◌++◌, map, length, Option, Some, None, refl, sym, ap, ◌∙◌, subst, arith, reverse, nat_le, length-append}
-use Rattle.std.specs.List.{list_any, find, slice_get}
-use Rattle.std.specs.Option.{option_map}
-use Rattle.std.proofs.lemmas.Bool.{cases_eq}
-use Rattle.std.proofs.lemmas.Bool.Decides.{nat_tests}
-use Rattle.std.proofs.lemmas.List.{length-reverse, length-map}
+use Rattle.std.proofs.Common.{ℕ, drop, ◌+◌, ◌*◌, ◌<◌, ◌≤◌, ◌≡◌, ◌==◌, Bool, true, false, not, ◌&&◌, ◌||◌, List, [], ◌∷◌, ◌++◌, length, Option, Some, None, refl, sym, ap, ◌∙◌, arith}
+use Rattle.std.specs.List.{list_any, slice_get}
 use Rattle.resource_reqs.specs.Spelling.Answer.{assignment, no_fit, spent}
-use Rattle.pnp_model.specs.Keyed.{changed_first, without_first, those}
-use Rattle.pnp_model.specs.Tests.{has, has_same, is_surprise_task}
-use Rattle.pnp_model.specs.Records.{Node, Core, Device, Driver, Task, Activity, Phase, Walk, State, Step, Settings, Choice, Found, Operation, Rebalance, RebalanceStage, Removal, RemovalStage, Surprise, SurpriseStage, Doing, Duty, doing_map}
-use Rattle.pnp_model.specs.Records.Doing.{Does, Searches}
+use Rattle.pnp_model.specs.Keyed.{changed_first, without_first}
+use Rattle.pnp_model.specs.Tests.{is_surprise_task}
+use Rattle.pnp_model.specs.Records.{Node, Core, Task, Activity, Phase, Walk, State, Found, Operation, Duty, doing_map}
 use Rattle.pnp_model.specs.Records.Phase.{Adding, Searching, Starting, Removing, Due}
-use Rattle.pnp_model.specs.Cores.{is_node, node_at, with_state, with_problem, with_stack, with_holds, stacked, serials_of, stack_of}
-use Rattle.pnp_model.specs.Books.{driver_named}
+use Rattle.pnp_model.specs.Cores.{is_node, node_at, with_problem, with_stack, with_holds, stacked, serials_of, stack_of}
 use Rattle.pnp_model.specs.Walks.{after, is_bad, has_ended, walk_of}
-use Rattle.pnp_model.specs.Trees.{children, is_child, leaving, is_up}
-use Rattle.pnp_model.specs.States.{drop_task, activity_at, is_activity, with_phase, entered, is_in_world}
+use Rattle.pnp_model.specs.States.{activity_at, is_activity, with_phase}
 use Rattle.pnp_model.specs.Starts.{adding, add_driver, searched, own_part, end_start, start_on, remove_on, undo, act}
-use Rattle.pnp_model.specs.Tasks.{is_surprise_of, is_gone, joining, gone_child, gone_or_listed, join_or_on, list_up, list_step, begin_trouble, install, numbered, numbered_more, install_named, install_few, install_service, install_best, start_enabled, start_idle, start_bare, start_step, begin, rebalance_idle, rebalance_task, disable_task, begin_step}
-use Rattle.pnp_model.specs.Machine.{start_lifted, phase_walk, is_waiting, is_born}
-use Rattle.pnp_labels.specs.Texts.{Text}
-use Rattle.pnp_labels.specs.declared.states.DevState.{DevState}
+use Rattle.pnp_model.specs.Tasks.{is_surprise_of}
+use Rattle.pnp_model.specs.Machine.{start_lifted, phase_walk, is_waiting}
 use Rattle.pnp_labels.specs.declared.words.Answer.{Answer}
 use Rattle.pnp_labels.specs.declared.words.Minor.{Minor}
 use Rattle.pnp_labels.specs.declared.words.Answer.TheVariants.{Ok, Fail, Pend}
-use Rattle.pnp_labels.specs.declared.states.DevState.TheVariants.{NoStack, NotStarted, Started, StopPending, Stopped, RemovePending, SurpriseRemoved}
-use Rattle.pnp_labels.specs.declared.label.Label.{Label}
 use Rattle.pnp_labels.specs.declared.label.OpKind.{OpKind}
 use Rattle.pnp_labels.specs.declared.states.Problem.{Problem}
-use Rattle.pnp_laws.specs.Kept.{Ascending}
-use Rattle.pnp_laws.proofs.Lookups.{own_serial, own_activity, found_self}
-use Rattle.pnp_laws.proofs.Ranks.{and_both}
-use Rattle.pnp_laws.proofs.SoundTasks.{find_among, find_passes}
-use Rattle.pnp_laws.proofs.Measures.{Falls, falls_coarse, coarse, coarse_by, coarse_most, count, count_less, tasks_less, tasks_cost, tasks_pushed, duty_cost, sum, sum_changed, sum_without, sum_entered, phase_cost, is_open, is_target, born_in, operation_cost, rebalance_cost, rank_of, left_of, answers, answers_of, activity_answers, stack_at, SameBirths, births_same, births_changed}
-use Rattle.pnp_laws.proofs.MeasureOps.{falls_answers, asked_less, those_shorter, AtMost, ask_most, IsNoJoin, Lowers, lower_so, LowersDoing}
-use Rattle.pnp_laws.proofs.MeasureSurprises.{count_none}
-use Rattle.pnp_model.specs.Rebalances as re
-use Rattle.pnp_model.specs.Removals as rm
-use Rattle.pnp_model.specs.Surprises as su
+use Rattle.pnp_laws.proofs.Lookups.{own_activity}
+use Rattle.pnp_laws.proofs.Measures.{Falls, falls_coarse, coarse_by, coarse_most, tasks_cost, tasks_pushed, duty_cost, sum, sum_changed, sum_without, phase_cost, is_open, is_target, born_in, operation_cost, rank_of, left_of, answers, answers_of, activity_answers, stack_at, SameBirths, births_same, births_changed}
+use Rattle.pnp_laws.proofs.MeasureOps.{falls_answers, asked_less, lower_so, LowersDoing}
 
 -- What may be found gone ---------------------------------------------------------------------------------
 

@@ -19,7 +19,8 @@ use Rattle.pnp_labels.specs.declared.label.OpKind.{OpKind}
 use Rattle.pnp_laws.specs.Kept.{Ascending, IsGood, OperationFits}
 use Rattle.pnp_laws.specs.Reached.{IsReached}
 use Rattle.pnp_laws.specs.Rebalanced.{Placed, Undone, EndsBad, AskedSince, Refusing, Underway}
-use Rattle.pnp_laws.proofs.Reached.{reached_on, reached_is_good}
+use Rattle.pnp_laws.proofs.Reaching.{reached_on}
+use Rattle.pnp_laws.proofs.Reached.{reached_is_good}
 use Rattle.pnp_laws.proofs.EventChanges.{Outside, Answered, happens_outside}
 use Rattle.pnp_laws.proofs.Pauses.{paused_still}
 use Rattle.pnp_laws.proofs.Askings.{asks_begun}

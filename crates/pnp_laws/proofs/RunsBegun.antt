@@ -8,10 +8,10 @@ use Rattle.pnp_labels.specs.Texts.{Text}
 use Rattle.pnp_labels.specs.declared.states.Problem.{Problem}
 use Rattle.pnp_labels.specs.declared.label.Label.{Label}
 use Rattle.pnp_labels.specs.declared.label.OpKind.{OpKind}
-use Rattle.pnp_laws.specs.Begun.{HasBegun, Belongs, BegunLaw, kind_of, path_of, SameWork, NotTwelve, IsBeside}
-use Rattle.pnp_laws.proofs.Reached.{run_on}
+use Rattle.pnp_laws.specs.Begun.{IsWord, HasBegun, Belongs, BegunLaw, kind_of, path_of, SameWork, NotTwelve, IsBeside}
+use Rattle.pnp_laws.proofs.Reaching.{run_on}
 use Rattle.pnp_laws.proofs.Courses.{begun, Way}
-use Rattle.pnp_laws.proofs.EventChanges.{happens_outside}
+use Rattle.pnp_laws.proofs.EventChanges.{beside_word, happens_outside}
 use Rattle.pnp_laws.proofs.OperationCourses.{begun_work}
 use Rattle.pnp_laws.proofs.BeginSteps.{course_goes, reached_dues}
 
@@ -74,7 +74,7 @@ begun_now settings rack entries s entry t kind path e reaches goes =
 -- only a step prints a begin
 begin_did : (settings : Settings) (s : State) (entry : Entry) (t : State) (kind : OpKind) (path : Text) → Goes settings s entry t → printed entry ≡ Label.Begin kind path → entry ≡ Did (Label.Begin kind path)
 begin_did settings s (Happens event label) t kind path goes e =
-    let beside = subst (λ (x : Step). IsBeside x.label) goes.1 (happens_outside s event).beside in
+    let beside = beside_word label (subst (λ (x : Step). IsWord x.label) goes.1 (happens_outside s event).word) in
     absurd (subst (λ (x : Label). IsBeside x) e beside)
 begin_did settings s (Did label) t kind path goes e = ap (λ (x : Label). Did x) e
 
@@ -104,7 +104,7 @@ goes_on settings rack entries s entry t reaches goes (Way.goes p q runs after wo
     work_on settings rack entries s entry t p q o runs after now work (beside_within (printed entry) beside) goes h
 goes_on settings rack entries s entry t reaches goes (Way.goes p q runs after work (inr (kinds, label))) h o now =
     work_on settings rack entries s entry t p q o runs after now work (subst (λ (x : Label). IsWithin x) (sym label) tt) goes h
-goes_on settings rack entries s entry t reaches goes (Way.ends p result runs after label) h o now = absurd (cc)
+goes_on settings rack entries s entry t reaches goes (Way.ends p result runs after label by) h o now = absurd (cc)
 
 -- A run -----------------------------------------------------------------------------------------
 
@@ -129,7 +129,7 @@ belongs_way settings rack entries s label t (Way.begins kind node none at is) h 
 belongs_way settings rack entries s label t (Way.goes o p runs after work (inl beside)) h = beside_belongs settings rack entries s label beside
 belongs_way settings rack entries s label t (Way.goes o p runs after work (inr (kinds, is))) h =
     subst (λ (x : Label). Belongs settings rack entries s x) (sym is) (subst (λ (x : OpKind). HasBegun settings rack entries s x (path_of o)) kinds (h o runs))
-belongs_way settings rack entries s label t (Way.ends o result runs after is) h = subst (λ (x : Label). Belongs settings rack entries s x) (sym is) (h o runs)
+belongs_way settings rack entries s label t (Way.ends o result runs after is by) h = subst (λ (x : Label). Belongs settings rack entries s x) (sym is) (h o runs)
 
 -- where an operation ends or prints problem 12, it began before and has not ended since
 pub operations_begin : BegunLaw

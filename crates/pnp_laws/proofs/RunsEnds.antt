@@ -12,7 +12,7 @@ use Rattle.pnp_laws.specs.Begun.{HasBegun, Belongs, Restoring, IsBeside, EachEnd
 use Rattle.pnp_laws.proofs.BeginSteps.{step_did}
 use Rattle.pnp_laws.proofs.RunsBegun.{operations_begin}
 use Rattle.pnp_laws.proofs.RunsFutile.{futile_restores}
-use Rattle.pnp_laws.proofs.RunsStand.{a_veto_restores}
+use Rattle.pnp_laws.proofs.RunsVeto.{a_veto_restores}
 
 -- the operation that ends here, and the step that ends it
 record Ends (settings : Settings) (rack : List Driver) (entries : List Entry) (s t : State) (kind : OpKind) (path : Text) (result : OpEnd) : Type 0 where

@@ -13,7 +13,8 @@ use Rattle.pnp_labels.specs.declared.label.OpEnd.{OpEnd}
 use Rattle.pnp_laws.specs.Reached.{IsReached}
 use Rattle.pnp_laws.specs.Holdings.{has_plan}
 use Rattle.pnp_laws.specs.Rebalanced.{Undone, Underway}
-use Rattle.pnp_laws.proofs.Reached.{reached_on, reached_is_good, reached_is_placed}
+use Rattle.pnp_laws.proofs.Reaching.{reached_on}
+use Rattle.pnp_laws.proofs.Reached.{reached_is_good, reached_is_placed}
 use Rattle.pnp_laws.proofs.BeginSteps.{begins_right, reached_dues}
 use Rattle.pnp_laws.proofs.RebalanceRuns.{IsOver, rebalance_stepped, after_core, Lasts, lasts, underway_begun}
 

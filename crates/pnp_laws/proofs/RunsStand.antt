@@ -1,24 +1,22 @@
 -- In every run the tree stands, each operation begins well, and each step follows the diagram.
-use Rattle.std.proofs.Common.{ℕ, ◌≡◌, inl, inr, Bool, true, false, List, [], ◌∷◌, Some, None, refl, sym, ap, ◌∙◌, subst}
+use Rattle.std.proofs.Common.{ℕ, ◌≡◌, inl, inr, true, List, [], ◌∷◌, Some, None, sym, ap, ◌∙◌, subst}
 use Rattle.pnp_model.specs.Records.{Node, Driver, State, Step, Settings}
 use Rattle.pnp_model.specs.Cores.{node_at}
 use Rattle.pnp_model.specs.Trees.{hangs_on}
 use Rattle.pnp_model.specs.Diagram.{Walked}
-use Rattle.pnp_model.specs.Laws.{Reaches, IsWithin, AllWithin, DependentsFirst, Restores, DiagramLaw, DependentsLaw, VetoLaw}
+use Rattle.pnp_model.specs.Laws.{Reaches, DependentsFirst, DiagramLaw, DependentsLaw}
 use Rattle.pnp_model.specs.Runs.{Entry, Goes, Run, printed, opening, root_node}
 use Rattle.pnp_model.specs.Runs.Entry.{Happens, Did}
 use Rattle.pnp_labels.specs.declared.event.Event.{Event}
 use Rattle.pnp_labels.specs.declared.label.Label.{Label}
-use Rattle.pnp_labels.specs.declared.label.OpEnd.{OpEnd}
-use Rattle.pnp_laws.specs.Kept.{IsGood, removes}
+use Rattle.pnp_laws.specs.Kept.{IsGood}
 use Rattle.pnp_laws.specs.RunsWell.{MayBegin, RunWell}
 use Rattle.pnp_laws.proofs.Runs.{lawful_goes, opening_is_good, root_is}
 use Rattle.pnp_laws.proofs.TreeMoves.{edge_cases}
 use Rattle.pnp_laws.proofs.Standing.{Stands}
 use Rattle.pnp_laws.proofs.Sounds.{IsPlain, walked_plain, first_stays}
-use Rattle.pnp_laws.proofs.EventsPlain.{Unvetoed, plain_happens}
-use Rattle.pnp_laws.proofs.RunsVeto.{right_next, veto_law}
-use Rattle.pnp_laws.proofs.NoVetoes.{none_ran, holds_step}
+use Rattle.pnp_laws.specs.Begun.{IsWord}
+use Rattle.pnp_laws.proofs.EventChanges.{Outside, happens_outside}
 use Rattle.pnp_laws.proofs.SoundMachine.{sound_step, stands_happens, begins_well}
 
 -- what each state of a run keeps
@@ -91,10 +89,15 @@ reaches_well settings rack entries s run = run_well settings (opening rack) entr
 -- The laws ------------------------------------------------------------------------------------------
 
 -- an event changes no node, and prints no state
+plain_word : (label : Label) → IsWord label → IsPlain label
+plain_word (Label.Did word what) h = tt
+plain_word (Label.Refused word reason) h = tt
+plain_word _ h = absurd h
+
 event_plain : (settings : Settings) (old : State) (event : Event) (label : Label) (new : State) → Goes settings old (Happens event label) new → IsPlain label × (new.core.nodes ≡ old.core.nodes)
 event_plain settings old event label new goes =
-    let plain = plain_happens old event in
-    (subst (λ (t : Step). IsPlain t.label) goes.1 plain.plain, subst (λ (t : Step). t.state.core.nodes ≡ old.core.nodes) goes.1 plain.nodes)
+    let out = subst (λ (t : Step). Outside old t) goes.1 (happens_outside old event) in
+    (plain_word label out.word, out.nodes)
 
 walked_goes : (settings : Settings) (old : State) (entry : Entry) (new : State) → Kept old → Goes settings old entry new → Walked (printed entry) old.core.nodes new.core.nodes
 walked_goes settings old (Happens event label) new kept goes = walked_plain label old.core.nodes new.core.nodes (event_plain settings old event label new goes).0
@@ -113,30 +116,3 @@ every_run_follows settings rack entries old entry new run goes =
 
 pub dependents_go_first : DependentsLaw
 dependents_go_first settings rack entries old entry new run goes = first_goes settings old entry new (reaches_kept settings rack entries old run) goes
-
--- Vetoes --------------------------------------------------------------------------------------------
-
--- an operation that no driver can veto goes on until it ends
-unvetoed_goes : (settings : Settings) (old : State) (entry : Entry) (new : State) → IsWithin (printed entry) → Goes settings old entry new → Unvetoed old → Unvetoed new
-unvetoed_goes settings old (Happens event label) new within goes runs = subst (λ (t : Step). Unvetoed t.state) goes.1 ((plain_happens old event).unvetoed runs)
-unvetoed_goes settings old (Did label) new within goes runs = (holds_step settings old (record { label = label; state = new }) runs goes).within within
-
-unvetoed_run : (settings : Settings) (old : State) (entries : List Entry) (new : State) → AllWithin entries → Run settings old entries new → Unvetoed old → Unvetoed new
-unvetoed_run settings old [] new within run runs = subst (λ (s : State). Unvetoed s) (sym run) runs
-unvetoed_run settings old (entry ∷ rest) new within (mid, goes, run) runs = unvetoed_run settings mid rest new within.1 run (unvetoed_goes settings old entry mid within.0 goes runs)
-
-pub a_veto_restores : VetoLaw
-a_veto_restores settings rack earlier entries before begun last after kind end_kind path end_path refuser reaches begins run within ends =
-    let kept = reaches_kept settings rack earlier before reaches in
-    let none = none_ran settings before (record { label = Label.Begin kind path; state = begun }) kind path begins refl in
-    let now = kept_goes settings before (Did (Label.Begin kind path)) begun kept begins in
-    by_kind (may_begin before kept) kept.good none (run_well settings begun entries last run now) (removes kind) refl
-  where
-    by_kind : MayBegin before → IsGood before → before.operation ≡ None → RunWell settings begun entries last → (b : Bool) → removes kind ≡ b → Restores before.core after.core
-    by_kind may good none well true e =
-        let same = veto_law settings before begun last after entries kind end_kind path end_path refuser good may none e begins well within ends in
-        record { nodes = same.0; relations = same.1; reserved = same.2 }
-    by_kind may good none well false e =
-        let first = (right_next settings before (record { label = Label.Begin kind path; state = begun }) none begins).other kind path refl e in
-        let runs = unvetoed_run settings begun entries last within run first in
-        absurd ((holds_step settings last (record { label = Label.End end_kind end_path (OpEnd.Veto refuser); state = after }) runs ends).veto)

@@ -100,7 +100,7 @@ idle_or settings s None e kept =
       | inr h ↦ inr (subst (λ (o : Option Activity). IsSome (ma.idle_next settings s o)) (sym e) h)
     ]
 
-rests_or : (settings : Settings) (s : State) (o : Option Operation) → s.operation ≡ o → Kept s → Either settings s o
+pub rests_or : (settings : Settings) (s : State) (o : Option Operation) → s.operation ≡ o → Kept s → Either settings s o
 rests_or settings s (Some o) e kept = operation_or settings s o (ma.is_waiting (ma.operation_walk o)) refl (subst (λ (x : Option Operation). StageKept x s.core) e kept.stands.stage)
 rests_or settings s None e kept = idle_or settings s (find ma.is_ready s.activities) refl kept
 
@@ -119,7 +119,7 @@ no_task : (settings : Settings) (s : State) (o : Option Task) → NoTask o s.act
 no_task settings s None h = refl
 no_task settings s (Some task) h = no_duty settings s task.kind task.serial h
 
-nothing_next : (settings : Settings) (s : State) (o : Option Operation) → RestsWith s o → ma.next_of settings s o ≡ None
+pub nothing_next : (settings : Settings) (s : State) (o : Option Operation) → RestsWith s o → ma.next_of settings s o ≡ None
 nothing_next settings s (Some o) h = ap (ma.operation_next s o) h
 nothing_next settings s None h = ap (ma.idle_next settings s) h.0 ∙ no_task settings s (slice_get s.tasks 0) h.1
 
@@ -132,11 +132,11 @@ quiet_where_it_rests settings rack entries s run = (
   λ rests. nothing_next settings s s.operation rests,
 )
 
-one_of : (settings : Settings) (s : State) (label : Label) (next : State) → ma.Steps settings s label next → OneStep settings s
+pub one_of : (settings : Settings) (s : State) (label : Label) (next : State) → ma.Steps settings s label next → OneStep settings s
 one_of settings s label next steps =
     record { label = label; next = next; steps = steps; only = λ other state h. (one_label settings s other label state next h steps, one_state settings s other label state next h steps) }
 
-doing_one : (settings : Settings) (s : State) (doing : Doing Step) → ma.next settings s ≡ Some doing → OneStep settings s
+pub doing_one : (settings : Settings) (s : State) (doing : Doing Step) → ma.next settings s ≡ Some doing → OneStep settings s
 doing_one settings s (Does step) e = one_of settings s step.label step.state (subst (λ (o : Option (Doing Step)). ma.IsStep settings o step) (sym e) refl)
 doing_one settings s (Searches problem by_answer) e =
     let found = answer_some problem.fixed problem.movers settings.budget in

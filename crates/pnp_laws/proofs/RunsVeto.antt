@@ -1,38 +1,29 @@
 -- A veto restores, in each run.
-use Rattle.std.proofs.Common.{ℕ, ◌≡◌, inl, inr, Bool, true, false, List, [], ◌∷◌, Option, Some, None, refl, sym, ap, ◌∙◌, subst}
-use Rattle.std.specs.List.{find, slice_get}
-use Rattle.pnp_model.specs.Records.{Node, Core, Device, Driver, Activity, Phase, Task, State, Step, Settings, Choice, Operation, Doing, Found, Walk, doing_map, Duty}
-use Rattle.pnp_model.specs.Records.Doing.{Does, Searches}
-use Rattle.pnp_model.specs.Records.Phase.{Adding, Searching, Starting, Removing, Due}
-use Rattle.resource_reqs.specs.Spelling.Answer.{assignment, no_fit, spent}
-use Rattle.pnp_model.specs.Cores.{node_at}
-use Rattle.pnp_model.specs.Tests.{has_same}
-use Rattle.pnp_model.specs.Books.{driver_named}
+use Rattle.std.proofs.Common.{ℕ, ◌≡◌, inl, inr, Bool, false, List, [], ◌∷◌, Option, Some, None, refl, sym, ap, ◌∙◌, subst}
+use Rattle.pnp_model.specs.Records.{Node, Core, Driver, State, Step, Settings, Operation}
 use Rattle.pnp_model.specs.Trees.{leaving}
-use Rattle.pnp_model.specs.Walks.{is_bad}
-use Rattle.pnp_model.specs.States.{activity_at}
-use Rattle.pnp_model.specs.Starts.{add_driver, searched, end_start, start_on, remove_on, undo, act}
+use Rattle.pnp_model.specs.Rebalances.{begun_rebalance}
 use Rattle.pnp_model.specs.Removals.{begun_removal, end_of}
-use Rattle.pnp_model.specs.Tasks.{skip, joining, gone_child, gone_or_listed, join_or_on, list_up, list_step, numbered, install_named, install_few, install_service, install_best, start_enabled, start_idle, start_bare, start_step, begin, rebalance_idle, rebalance_task, disable_task, begin_step}
-use Rattle.pnp_laws.specs.Kept.{IsGood, removes}
-use Rattle.pnp_model.specs.Runs.{Entry, Goes, printed, opening}
-use Rattle.pnp_laws.specs.RunsWell.{MayBegin, RunWell}
-use Rattle.pnp_model.specs.Laws.{IsWithin, AllWithin}
+use Rattle.pnp_model.specs.Surprises.{begun_surprise}
+use Rattle.pnp_model.specs.Tasks.{begin}
+use Rattle.pnp_model.specs.Runs.{Entry, Goes, Run, printed}
 use Rattle.pnp_model.specs.Runs.Entry.{Happens, Did}
+use Rattle.pnp_model.specs.Laws.{IsWithin, AllWithin, Restores, VetoLaw}
 use Rattle.pnp_labels.specs.Texts.{Text}
-use Rattle.pnp_labels.specs.declared.states.DevState.{DevState}
 use Rattle.pnp_labels.specs.declared.label.Label.{Label}
 use Rattle.pnp_labels.specs.declared.label.OpKind.{OpKind}
 use Rattle.pnp_labels.specs.declared.label.OpEnd.{OpEnd}
-use Rattle.pnp_labels.specs.declared.states.Problem.{Problem}
-use Rattle.pnp_labels.specs.declared.words.Answer.{Answer}
-use Rattle.pnp_labels.specs.declared.words.Answer.TheVariants.{Ok, Fail, Pend}
-use Rattle.pnp_labels.specs.declared.states.DevState.TheVariants.{NoStack, NotStarted, Started, StopPending, Stopped, RemovePending, SurpriseRemoved}
-use Rattle.pnp_laws.proofs.Runs.{lawful_goes, run_is_good, opening_is_good}
-use Rattle.pnp_laws.proofs.EventsPlain.{IsUnvetoed, Unvetoed}
+use Rattle.pnp_laws.specs.Kept.{IsGood}
+use Rattle.pnp_laws.specs.Begun.{is_removal, NoVeto, EndsBy}
+use Rattle.pnp_laws.specs.Reached.{IsReached}
+use Rattle.pnp_laws.specs.RunsWell.{RunWell}
+use Rattle.pnp_laws.proofs.Runs.{lawful_goes}
+use Rattle.pnp_laws.proofs.RunsStand.{Kept, kept_goes, run_well, reaches_kept}
+use Rattle.pnp_laws.proofs.Reaching.{reached_on}
+use Rattle.pnp_laws.proofs.Courses.{Way}
+use Rattle.pnp_laws.proofs.BeginSteps.{Begun, begins_right, reached_dues, course_goes}
 use Rattle.pnp_laws.proofs.Vetoes.{since_begun, veto_restores}
 use Rattle.pnp_laws.proofs.VetoSteps.{VetoSince, Closed, veto_step, veto_happens}
-use Rattle.pnp_model.specs.Machine as ma
 
 -- within the operation
 
@@ -73,219 +64,84 @@ veto_end before settings s t kind path q good h g =
           (ap (λ (c : Core). c.nodes) core ∙ same.0, ap (λ (c : Core). c.relations) core ∙ same.1, ap (λ (c : Core). c.reserved) core ∙ same.2)
     ]
 
--- the begin: no other step prints it --------------------------------------------------------
+-- an operation that no driver can veto goes on until it ends -----------------------------
 
--- a removal began in this step
-pub record Begun (s : State) (kind : OpKind) (t : State) : Type 0 where
-  pub node : Node
-  pub is : t ≡ (begin s kind node (Operation.Removing (begun_removal s.core kind node))).state
+-- an operation runs that is no removal
+record Unvetoed (s : State) : Type 0 where
+  op : Operation
+  runs : s.operation ≡ Some op
+  sort : is_removal op ≡ false
 
--- where a step prints the begin of a removal, one began; where it prints another begin, an operation began that no driver can veto
-pub record BeginsRight (s : State) (step : Step) : Type 0 where
-  pub right : (kind : OpKind) (path : Text) → step.label ≡ Label.Begin kind path → removes kind ≡ true → Begun s kind step.state
-  pub other : (kind : OpKind) (path : Text) → step.label ≡ Label.Begin kind path → removes kind ≡ false → Unvetoed step.state
+unvetoed_way : (s t : State) (label : Label) → Way s (record { label = label; state = t }) → IsWithin label → Unvetoed s → Unvetoed t
+unvetoed_way s t label (Way.idles none after beside) w h = let runs = h.runs in absurd (cc)
+unvetoed_way s t label (Way.begins kind node none at is) w h = let runs = h.runs in absurd (cc)
+unvetoed_way s t label (Way.goes o p runs after work prints) w h =
+    let own = h.runs in
+    let same : h.op ≡ o = cc in
+    record { op = p; runs = after; sort = work.sort ∙ ap is_removal (sym same) ∙ h.sort }
+unvetoed_way s t label (Way.ends o result runs after is by) w h = absurd (subst (λ (x : Label). IsWithin x) is w)
 
--- another label
-abbrev pub IsNoBegin : Label → Type 0
-IsNoBegin (Label.Begin op path) = ⊥
-IsNoBegin _ = Unit {0}
+unvetoed_run : (settings : Settings) (rack : List Driver) (s : State) (entries : List Entry) (t : State) → IsReached settings rack s → AllWithin entries → Run settings s entries t → Unvetoed s → Unvetoed t × IsReached settings rack t
+unvetoed_run settings rack s [] t reached w run h = (subst (λ (x : State). Unvetoed x) (sym run) h, subst (λ (x : State). IsReached settings rack x) (sym run) reached)
+unvetoed_run settings rack s (entry ∷ rest) t reached w (mid, goes, run) h =
+    let way = (course_goes settings s entry mid (reached_dues settings rack s reached) goes).way in
+    unvetoed_run settings rack mid rest t (reached_on settings rack s entry mid reached goes) w.1 run (unvetoed_way s mid (printed entry) way w.0 h)
 
-another : (s t : State) (label : Label) → IsNoBegin label → BeginsRight s (record { label = label; state = t })
-another s t label no_begin =
-    record { right = λ kind path e r. absurd (subst (λ (x : Label). IsNoBegin x) e no_begin); other = λ kind path e r. absurd (subst (λ (x : Label). IsNoBegin x) e no_begin) }
-
-abbrev RightDoing : State → Doing Step → Type 0
-RightDoing s (Does step) = BeginsRight s step
-RightDoing s (Searches problem by_answer) = (found : Found) → BeginsRight s (by_answer found)
-
-abbrev RightNext : State → Option (Doing Step) → Type 0
-RightNext s None = Unit {0}
-RightNext s (Some doing) = RightDoing s doing
-
-right_add : (s : State) (c : Core) (node : Node) (d : ℕ) (ds : List ℕ) (answer : Answer) → BeginsRight s (ma.start_lifted s node.serial (add_driver c node d ds answer))
-right_add s c node d ds Ok = another s _ _ tt
-right_add s c node d ds Fail = another s _ _ tt
-right_add s c node d ds Pend = another s _ _ tt
-
-right_searched : (s : State) (node : Node) (found : Found) → BeginsRight s (ma.start_lifted s node.serial (searched s.core node found))
-right_searched s node (assignment plan) = another s _ _ tt
-right_searched s node no_fit = another s _ _ tt
-right_searched s node spent = another s _ _ tt
-
-right_end_start : (s : State) (node : Node) (bad : Bool) → BeginsRight s (ma.start_lifted s node.serial (end_start s.core node bad))
-right_end_start s node true = another s _ _ tt
-right_end_start s node false = another s _ _ tt
-
-right_start_on : (s : State) (node : Node) (w : Walk) (ends : Bool) → BeginsRight s (ma.start_lifted s node.serial (start_on s.core node w ends))
-right_start_on s node w true = right_end_start s node (is_bad w)
-right_start_on s node w false = another s _ _ tt
-
-right_remove_on : (s : State) (node : Node) (w : Walk) (ends : Bool) → BeginsRight s (ma.start_lifted s node.serial (remove_on s.core node w ends))
-right_remove_on s node w true = another s _ _ tt
-right_remove_on s node w false = another s _ _ tt
-
-right_undo : (s : State) (c : Core) (node : Node) (problem : Problem) (stack : List ℕ) → BeginsRight s (ma.start_lifted s node.serial (undo c node problem stack))
-right_undo s c node problem [] = another s _ _ tt
-right_undo s c node problem (d ∷ ds) = another s _ _ tt
-
-right_act : (s : State) (node : Node) (phase : Phase) → RightDoing s (doing_map (ma.start_lifted s node.serial) (act s.core node phase))
-right_act s node (Adding []) = λ found. right_searched s node found
-right_act s node (Adding (d ∷ ds)) = right_add s _ node d ds _
-right_act s node Searching = λ found. right_searched s node found
-right_act s node (Starting w) = right_start_on s node w _
-right_act s node (Removing w) = right_remove_on s node w _
-right_act s node (Due problem) = right_undo s _ node problem node.stack
-
-right_skip : (s : State) (kind : Duty) (k : ℕ) → BeginsRight s (skip kind k s)
-right_skip s kind k = another s _ _ tt
-
-right_gone : (s : State) (node : Node) (o : Option Node) → BeginsRight s (gone_or_listed s node o)
-right_gone s node None = another s _ _ tt
-right_gone s node (Some child) = another s _ _ tt
-
-right_join : (s : State) (node : Node) (o : Option Device) → BeginsRight s (join_or_on s node o)
-right_join s node None = right_gone s node (gone_child s node.serial)
-right_join s node (Some d) = another s _ _ tt
-
-right_list_up : (s : State) (node : Node) (x : DevState) → BeginsRight s (list_up s node x)
-right_list_up s node Started = right_join s node (joining node.born s.core.nodes s.world)
-right_list_up s node NoStack = another s _ _ tt
-right_list_up s node NotStarted = another s _ _ tt
-right_list_up s node StopPending = another s _ _ tt
-right_list_up s node Stopped = another s _ _ tt
-right_list_up s node RemovePending = another s _ _ tt
-right_list_up s node SurpriseRemoved = another s _ _ tt
-
-right_list : (s : State) (k : ℕ) (o : Option Node) → BeginsRight s (list_step s k o)
-right_list s k None = another s _ _ tt
-right_list s k (Some node) = right_list_up s node node.state
-
-right_named : (s : State) (node : Node) (rank : ℕ) (lower : Option (List ℕ)) (driver : Option ℕ) (upper : Option (List ℕ)) → BeginsRight s (install_named s node rank lower driver upper)
-right_named s node rank (Some lower) (Some driver) (Some upper) = another s _ _ tt
-right_named s node rank (Some lower) (Some driver) None = another s _ _ tt
-right_named s node rank (Some lower) None upper = another s _ _ tt
-right_named s node rank None driver upper = another s _ _ tt
-
-right_few : (s : State) (node : Node) (choice : Choice) (service : Text) (few : Bool) → BeginsRight s (install_few s node choice service few)
-right_few s node choice service true = right_named s node choice.rank (numbered s.core.rack choice.lower) (driver_named service s.core.rack) (numbered s.core.rack choice.upper)
-right_few s node choice service false = another s _ _ tt
-
-right_service : (s : State) (node : Node) (choice : Choice) (o : Option Text) → BeginsRight s (install_service s node choice o)
-right_service s node choice None = another s _ _ tt
-right_service s node choice (Some service) = right_few s node choice service _
-
-right_best : (s : State) (node : Node) (o : Option Choice) → BeginsRight s (install_best s node o)
-right_best s node None = another s _ _ tt
-right_best s node (Some choice) = right_service s node choice choice.service
-
-right_enabled : (settings : Settings) (s : State) (node : Node) (b : Bool) → BeginsRight s (start_enabled settings s node b)
-right_enabled settings s node true = another s _ _ tt
-right_enabled settings s node false = right_best s node (settings.best node.hw node.compat)
-
-right_idle : (settings : Settings) (s : State) (node : Node) (o : Option Activity) → BeginsRight s (start_idle settings s node o)
-right_idle settings s node (Some a) = another s _ _ tt
-right_idle settings s node None = right_enabled settings s node (has_same node.path s.disabled)
-
-right_bare : (settings : Settings) (s : State) (node : Node) (x : DevState) → BeginsRight s (start_bare settings s node x)
-right_bare settings s node NoStack = right_idle settings s node (activity_at node.serial s.activities)
-right_bare settings s node NotStarted = another s _ _ tt
-right_bare settings s node Started = another s _ _ tt
-right_bare settings s node StopPending = another s _ _ tt
-right_bare settings s node Stopped = another s _ _ tt
-right_bare settings s node RemovePending = another s _ _ tt
-right_bare settings s node SurpriseRemoved = another s _ _ tt
-
-right_start : (settings : Settings) (s : State) (k : ℕ) (o : Option Node) → BeginsRight s (start_step settings s k o)
-right_start settings s k None = another s _ _ tt
-right_start settings s k (Some node) = right_bare settings s node node.state
-
--- a begin of the other two kinds
-other_kind : (s : State) (own : OpKind) (node : Node) (o : Operation) → removes own ≡ false → IsUnvetoed o → BeginsRight s (begin s own node o)
-other_kind s own node o f u =
-    record {
-      right = λ kind path e r. absurd (let same : own ≡ kind = cc in let g = subst (λ (x : OpKind). removes x ≡ false) same f in cc);
-      other = λ kind path e r. (o, refl, u);
-    }
-
-right_begun : (s : State) (own : OpKind) (node : Node) → removes own ≡ true → BeginsRight s (begin s own node (Operation.Removing (begun_removal s.core own node)))
-right_begun s own node f =
-    record {
-      right = λ kind path e r. let same : own ≡ kind = cc in record { node = node; is = ap (λ (x : OpKind). (begin s x node (Operation.Removing (begun_removal s.core x node))).state) same };
-      other = λ kind path e r. absurd (let same : own ≡ kind = cc in let g = subst (λ (x : OpKind). removes x ≡ true) same f in cc);
-    }
-
-right_rebalance_idle : (s : State) (node : Node) (o : Option Activity) → BeginsRight s (rebalance_idle s node o)
-right_rebalance_idle s node (Some a) = another s _ _ tt
-right_rebalance_idle s node None = other_kind s OpKind.Rebalance node _ refl tt
-
-right_rebalance : (s : State) (node : Node) (x : DevState) → BeginsRight s (rebalance_task s node x)
-right_rebalance s node NotStarted = right_rebalance_idle s node (activity_at node.serial s.activities)
-right_rebalance s node NoStack = another s _ _ tt
-right_rebalance s node Started = another s _ _ tt
-right_rebalance s node StopPending = another s _ _ tt
-right_rebalance s node Stopped = another s _ _ tt
-right_rebalance s node RemovePending = another s _ _ tt
-right_rebalance s node SurpriseRemoved = another s _ _ tt
-
-right_disable : (s : State) (node : Node) (b : Bool) → BeginsRight s (disable_task s node b)
-right_disable s node true = another s _ _ tt
-right_disable s node false = right_begun s OpKind.Disable node refl
-
-right_begin_step : (s : State) (kind : OpKind) (k : ℕ) (o : Option Node) → BeginsRight s (begin_step s kind k o)
-right_begin_step s kind k None = another s _ _ tt
-right_begin_step s OpKind.Rebalance k (Some node) = right_rebalance s node node.state
-right_begin_step s OpKind.Disable k (Some node) = right_disable s node _
-right_begin_step s OpKind.Eject k (Some node) = right_begun s OpKind.Eject node refl
-right_begin_step s OpKind.Surprise k (Some node) = other_kind s OpKind.Surprise node _ refl tt
-
-right_alone : (s : State) (kind : OpKind) (k : ℕ) (acts : List Activity) → RightNext s (ma.begin_alone s kind k acts)
-right_alone s kind k [] = right_begin_step s kind k (node_at k s.core.nodes)
-right_alone s kind k (a ∷ acts) = tt
-
-right_task_of : (settings : Settings) (s : State) (kind : Duty) (k : ℕ) → RightNext s (ma.task_of settings s kind k)
-right_task_of settings s Duty.Listing k = right_list s k (node_at k s.core.nodes)
-right_task_of settings s Duty.Starting k = right_start settings s k (node_at k s.core.nodes)
-right_task_of settings s (Duty.Begins kind) k = right_alone s kind k s.activities
-
-right_task : (settings : Settings) (s : State) (o : Option Task) → RightNext s (ma.task_next settings s o)
-right_task settings s None = tt
-right_task settings s (Some task) = right_task_of settings s task.kind task.serial
-
-right_activity : (s : State) (a : Activity) (o : Option Node) → RightNext s (ma.activity_next s a o)
-right_activity s a None = tt
-right_activity s a (Some node) = right_act s node a.phase
-
-right_idle_next : (settings : Settings) (s : State) (o : Option Activity) → RightNext s (ma.idle_next settings s o)
-right_idle_next settings s (Some a) = right_activity s a (node_at a.serial s.core.nodes)
-right_idle_next settings s None = right_task settings s (slice_get s.tasks 0)
-
-right_doing : (settings : Settings) (s : State) (o : Option (Doing Step)) (step : Step) → RightNext s o → ma.IsStep settings o step → BeginsRight s step
-right_doing settings s None step l h = absurd h
-right_doing settings s (Some (Does one)) step l h = subst (λ (x : Step). BeginsRight s x) (sym h) l
-right_doing settings s (Some (Searches problem by_answer)) step l h = subst (λ (x : Step). BeginsRight s x) (sym h.2) (l h.0)
-
-pub right_next : (settings : Settings) (s : State) (step : Step) → s.operation ≡ None → ma.IsStep settings (ma.next settings s) step → BeginsRight s step
-right_next settings s step none is =
-    right_doing settings s (ma.idle_next settings s (find ma.is_ready s.activities)) step (right_idle_next settings s (find ma.is_ready s.activities))
-    (subst (λ (x : Option Operation). ma.IsStep settings (ma.next_of settings s x) step) none is)
+no_veto : (s t : State) (kind : OpKind) (path q : Text) → Way s (record { label = Label.End kind path (OpEnd.Veto q); state = t }) → Unvetoed s → ⊥
+no_veto s t kind path q (Way.idles none after beside) h = beside
+no_veto s t kind path q (Way.begins own node none at is) h = let label = ap (λ (x : Step). x.label) is in absurd (cc)
+no_veto s t kind path q (Way.goes o p runs after work (inl beside)) h = beside
+no_veto s t kind path q (Way.goes o p runs after work (inr (kinds, label))) h = absurd (cc)
+no_veto s t kind path q (Way.ends o result runs after label by) h =
+    let own = h.runs in
+    let same : h.op ≡ o = cc in
+    let sort : is_removal o ≡ false = ap is_removal (sym same) ∙ h.sort in
+    let veto : result ≡ OpEnd.Veto q = cc in
+    subst (λ (x : OpEnd). NoVeto x) veto (subst (λ (b : Bool). EndsBy b result) sort by)
 
 -- The law -------------------------------------------------------------------------------------
 
-pub veto_law : (settings : Settings) (s0 s1 s2 s3 : State) (mid : List Entry) (kind end_kind : OpKind) (path end_path q : Text) → IsGood s0 → MayBegin s0 → s0.operation ≡ None →
-    removes kind ≡ true → Goes settings s0 (Did (Label.Begin kind path)) s1 → RunWell settings s1 mid s2 → AllWithin mid → Goes settings s2 (Did (Label.End end_kind end_path (OpEnd.Veto q))) s3 →
-    (s3.core.nodes ≡ s0.core.nodes) × (s3.core.relations ≡ s0.core.relations) × (s3.core.reserved ≡ s0.core.reserved)
-veto_law settings s0 s1 s2 s3 mid kind end_kind path end_path q good begins none r g0 run w g3 =
-    let good1 = (lawful_goes settings s0 (Did (Label.Begin kind path)) s1 begins good g0).good in
-    let begun = (right_next settings s0 (record { label = Label.Begin kind path; state = s1 }) none g0).right kind path refl r in
-    let o = begun_removal s0.core kind begun.node in
-    let first : VetoSince s0.core (begin s0 kind begun.node (Operation.Removing o)).state =
-    record { op = o; runs = refl; since = since_begun s0.core kind begun.node (leaving s0.core begun.node.serial) } in
-    let since1 = subst (λ (x : State). VetoSince s0.core x) (sym begun.is) first in
-    let two = veto_run s0.core settings s1 mid s2 w good1 run since1 in
-    veto_end s0.core settings s2 s3 end_kind end_path q two.1 two.0 g3
+-- a removal that began keeps what it is to restore, and another operation is never vetoed
+veto_since : (before : Core) (settings : Settings) (begun last after : State) (entries : List Entry) (end_kind : OpKind) (end_path q : Text) → VetoSince before begun → Kept begun →
+    Run settings begun entries last → AllWithin entries → Goes settings last (Did (Label.End end_kind end_path (OpEnd.Veto q))) after → Restores before after.core
+veto_since before settings begun last after entries end_kind end_path q since kept run within ends =
+    let two = veto_run before settings begun entries last within kept.good (run_well settings begun entries last run kept) since in
+    let same = veto_end before settings last after end_kind end_path q two.1 two.0 ends in
+    record { nodes = same.0; relations = same.1; reserved = same.2 }
 
-pub run_veto : (settings : Settings) (rack : List Driver) (pre mid : List Entry) (s0 s1 s2 s3 : State) (kind end_kind : OpKind) (path end_path q : Text) → RunWell settings (opening rack) pre s0 → MayBegin s0 → s0.operation ≡ None →
-    removes kind ≡ true → Goes settings s0 (Did (Label.Begin kind path)) s1 → RunWell settings s1 mid s2 → AllWithin mid → Goes settings s2 (Did (Label.End end_kind end_path (OpEnd.Veto q))) s3 →
-    (s3.core.nodes ≡ s0.core.nodes) × (s3.core.relations ≡ s0.core.relations) × (s3.core.reserved ≡ s0.core.reserved)
-run_veto settings rack pre mid s0 s1 s2 s3 kind end_kind path end_path q first begins none r g0 run w g3 =
-    veto_law settings s0 s1 s2 s3 mid kind end_kind path end_path q (run_is_good settings (opening rack) pre s0 first (opening_is_good rack)) begins none r g0 run w g3
+unvetoed : (settings : Settings) (rack : List Driver) (begun last after : State) (entries : List Entry) (end_kind : OpKind) (end_path q : Text) → IsReached settings rack begun → Unvetoed begun → Run settings begun entries last → AllWithin entries →
+    Goes settings last (Did (Label.End end_kind end_path (OpEnd.Veto q))) after → ⊥
+unvetoed settings rack begun last after entries end_kind end_path q reached h run within ends =
+    let there = unvetoed_run settings rack begun entries last reached within run h in
+    no_veto last after end_kind end_path q (course_goes settings last (Did (Label.End end_kind end_path (OpEnd.Veto q))) after (reached_dues settings rack last there.1) ends).way there.0
+
+-- a removal of the kind began
+removal_since : (s : State) (kind : OpKind) (node : Node) (t : State) → t ≡ (begin s kind node (Operation.Removing (begun_removal s.core kind node))).state → VetoSince s.core t
+removal_since s kind node t is =
+    let o = begun_removal s.core kind node in
+    let first : VetoSince s.core (begin s kind node (Operation.Removing o)).state =
+    record { op = o; runs = refl; since = since_begun s.core kind node (leaving s.core node.serial) } in
+    subst (λ (x : State). VetoSince s.core x) (sym is) first
+
+other_runs : (s : State) (kind : OpKind) (node : Node) (t : State) (o : Operation) → is_removal o ≡ false → t ≡ (begin s kind node o).state → Unvetoed t
+other_runs s kind node t o sort is = record { op = o; runs = ap (λ (x : State). x.operation) is; sort = sort }
+
+by_begin : (settings : Settings) (rack : List Driver) (before begun last after : State) (entries : List Entry) (kind end_kind : OpKind) (path end_path q : Text) → Begun before kind path begun → IsReached settings rack begun → Kept begun →
+    Run settings begun entries last → AllWithin entries → Goes settings last (Did (Label.End end_kind end_path (OpEnd.Veto q))) after → Restores before.core after.core
+by_begin settings rack before begun last after entries OpKind.Disable end_kind path end_path q b reached kept run within ends =
+    veto_since before.core settings begun last after entries end_kind end_path q (removal_since before OpKind.Disable b.node begun b.is) kept run within ends
+by_begin settings rack before begun last after entries OpKind.Eject end_kind path end_path q b reached kept run within ends =
+    veto_since before.core settings begun last after entries end_kind end_path q (removal_since before OpKind.Eject b.node begun b.is) kept run within ends
+by_begin settings rack before begun last after entries OpKind.Rebalance end_kind path end_path q b reached kept run within ends =
+    absurd (unvetoed settings rack begun last after entries end_kind end_path q reached (other_runs before OpKind.Rebalance b.node begun (Operation.Rebalancing (begun_rebalance before.core b.node)) refl b.is) run within ends)
+by_begin settings rack before begun last after entries OpKind.Surprise end_kind path end_path q b reached kept run within ends =
+    absurd (unvetoed settings rack begun last after entries end_kind end_path q reached (other_runs before OpKind.Surprise b.node begun (Operation.Surprising (begun_surprise before.core b.node)) refl b.is) run within ends)
+
+pub a_veto_restores : VetoLaw
+a_veto_restores settings rack earlier entries before begun last after kind end_kind path end_path refuser reaches goes run within ends =
+    let at_before : IsReached settings rack before = (earlier, reaches) in
+    let kept = reaches_kept settings rack earlier before reaches in
+    by_begin settings rack before begun last after entries kind end_kind path end_path refuser
+    (begins_right settings before begun kind path (reached_dues settings rack before at_before) goes)
+    (reached_on settings rack before (Did (Label.Begin kind path)) begun at_before goes)
+    (kept_goes settings before (Did (Label.Begin kind path)) begun kept goes) run within ends

@@ -9,7 +9,8 @@ use Rattle.pnp_laws.specs.Kept.{IsGood}
 use Rattle.pnp_laws.specs.Reached.{IsReached}
 use Rattle.pnp_laws.specs.Holdings.{IsWhole, Turned}
 use Rattle.pnp_laws.proofs.Runs.{root_is}
-use Rattle.pnp_laws.proofs.Reached.{kept, reached_is_good}
+use Rattle.pnp_laws.proofs.Reaching.{kept}
+use Rattle.pnp_laws.proofs.Reached.{reached_is_good}
 use Rattle.pnp_laws.proofs.Turns.{holds_turn}
 use Rattle.pnp_laws.proofs.WholeMachine.{turned_step, turned_happens}
 

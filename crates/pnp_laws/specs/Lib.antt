@@ -8,3 +8,4 @@ pub mod Holdings
 pub mod Rebalanced
 pub mod Begun
 pub mod Quiet
+pub mod Ends

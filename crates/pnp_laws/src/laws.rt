@@ -1,6 +1,7 @@
 //! What holds of every run of the device machine, for every rack of drivers and whatever happens.
 
 ghost use Rattle.pnp_laws.specs.Begun.{BegunLaw, EachConflictLaw, EachEndLaw};
+ghost use Rattle.pnp_laws.specs.Ends.{EndsLaw};
 ghost use Rattle.pnp_laws.specs.Quiet.{QuietLaw, StepLaw};
 ghost use Rattle.pnp_model.specs.Laws.{DiagramLaw, SharingLaw, WholeLaw, VetoLaw, FutileLaw, DependentsLaw, ConflictLaw};
 
@@ -26,7 +27,7 @@ pub fn dependents_first()
 
 /// Where an operation that began ends with a veto, all nodes with all their fields, the relations and the reserved
 /// ranges are as they were before it began, whatever happened in between.
-#[tactic(auto, using(crate::proofs::RunsStand::a_veto_restores))]
+#[tactic(auto, using(crate::proofs::RunsVeto::a_veto_restores))]
 pub fn veto_restores()
     ensures { VetoLaw }
 {}
@@ -41,6 +42,12 @@ pub fn quiet_where_it_rests()
 /// searched has an answer, and only one.
 pub fn exactly_one_step()
     ensures { StepLaw }
+{}
+
+/// From each state of a run there is a bound on how many steps can follow one another before something happens or a
+/// device joins.
+pub fn ends_but_for_joins()
+    ensures { EndsLaw }
 {}
 
 /// In each state of each run a device that is up, or would be but for an operation that asked it to stop or to go,

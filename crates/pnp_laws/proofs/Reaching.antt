@@ -1,0 +1,26 @@
+-- What each step keeps holds of each state of each run.
+use Rattle.std.proofs.Common.{List, [], ◌∷◌, ◌++◌, refl, sym, subst}
+use Rattle.pnp_model.specs.Records.{Driver, State, Settings}
+use Rattle.pnp_model.specs.Runs.{Entry, Goes, Run, opening}
+use Rattle.pnp_laws.specs.Reached.{IsReached}
+
+-- one run after another
+pub run_on : (settings : Settings) (a b c : State) (xs ys : List Entry) → Run settings a xs b → Run settings b ys c → Run settings a (xs ++ ys) c
+run_on settings a b c [] ys h g = subst (λ (x : State). Run settings x ys c) h g
+run_on settings a b c (x ∷ xs) ys (mid, goes, run) g = (mid, goes, run_on settings mid b c xs ys run g)
+
+pub reached_on : (settings : Settings) (rack : List Driver) (old : State) (entry : Entry) (new : State) → IsReached settings rack old → Goes settings old entry new → IsReached settings rack new
+reached_on settings rack old entry new (entries, run) goes = (entries ++ entry ∷ [], run_on settings (opening rack) old new entries (entry ∷ []) run (new, goes, refl))
+
+-- what each step from a reached state keeps is kept along a run
+pub kept_along : (P : State → Type 0) (settings : Settings) (rack : List Driver) →
+    ((old : State) (entry : Entry) (new : State) → IsReached settings rack old → P old → Goes settings old entry new → P new) →
+    (old : State) (entries : List Entry) (new : State) → IsReached settings rack old → P old → Run settings old entries new → P new
+kept_along P settings rack step old [] new reached h run = subst (λ (x : State). P x) (sym run) h
+kept_along P settings rack step old (entry ∷ rest) new reached h (mid, goes, run) =
+    kept_along P settings rack step mid rest new (reached_on settings rack old entry mid reached goes) (step old entry mid reached h goes) run
+
+pub kept : (P : State → Type 0) (settings : Settings) (rack : List Driver) →
+    ((old : State) (entry : Entry) (new : State) → IsReached settings rack old → P old → Goes settings old entry new → P new) →
+    P (opening rack) → (s : State) → IsReached settings rack s → P s
+kept P settings rack step begin s (entries, run) = kept_along P settings rack step (opening rack) entries s ([], refl) begin run
