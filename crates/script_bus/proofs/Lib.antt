@@ -1,0 +1,4 @@
+pub mod Places
+pub mod Unplugs
+pub mod Changes
+pub mod Leaving
