@@ -2,3 +2,5 @@ pub mod Places
 pub mod Unplugs
 pub mod Changes
 pub mod Leaving
+pub mod Found
+pub mod Listing

@@ -22,7 +22,7 @@ final gone (d ∷ ds) = cond (has gone d.born || has gone d.parent) (final (d.bo
 abbrev pub Rules : ℕ → List ℕ → Device → Type 0
 Rules born gone d = has gone d.born ≡ (has (born ∷ []) d.born || has gone d.parent)
 
-apart_from : (y low : ℕ) (ds : List Device) → y < low → Ascends low (births_of ds) → AllByRecursion (λ d. d.born ≢ y) ds
+pub apart_from : (y low : ℕ) (ds : List Device) → y < low → Ascends low (births_of ds) → AllByRecursion (λ d. d.born ≢ y) ds
 apart_from y low [] l h = tt
 apart_from y low (d ∷ ds) l h = ((λ e. let a = h.0 in absurd (omega arith)), apart_from y (d.born + 1) ds (let a = h.0 in omega arith) h.1)
 

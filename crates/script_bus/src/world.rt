@@ -205,12 +205,14 @@ impl World {
     /// The birth number of a device's parent, and none exactly where no device has the birth number, and at the root.
     /// Cost: the logarithm of the number of devices.
     pub fn parent_of(&self, born: u64) -> Option<u64>
-        ensures { result ≡ parent_in self.now.devices born }
+        ensures parent { result ≡ parent_in self.now.devices born }
+        ensures world { IsWorld self.now }
     {
+        let place = self.places.node(born);
         if born == 0 {
             return None;
         }
-        match self.places.node(born) {
+        match place {
             Some(node) => Some(node.parent),
             None => None,
         }

@@ -45,7 +45,7 @@ loop-self-preserved c =
     let h = c.has-in-loop-self.ensures.world in
     let there = c.last_below-leaf.ensures.there in
     let bare = c.last_below-leaf.ensures.leaf in
-    let next = c.unwrap_or-at.ensures ∙ ap (λ o. unwrap_or o born) c.parent_of.ensures in
+    let next = c.unwrap_or-at.ensures ∙ ap (λ o. unwrap_or o born) c.parent_of.ensures.parent in
     rw c.take_leaf.ensures
     (record {
       outcome = outcome_kept w0 w born leaf h0 h c.requires inv.rules there bare goes inv.outcome;
