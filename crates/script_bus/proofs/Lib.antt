@@ -3,4 +3,4 @@ pub mod Unplugs
 pub mod Changes
 pub mod Leaving
 pub mod Found
-pub mod Listing
+pub mod Joining

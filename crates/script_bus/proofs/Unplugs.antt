@@ -36,7 +36,7 @@ final_keeps y (d ∷ ds) gone all =
     differs : d.born ≢ y → (d.born == y) ≡ false
     differs other = grind (arith, nat_tests)
 
-all_weaker : {X : Type 0} (P Q : X → Type 0) → ((x : X) → P x → Q x) → (xs : List X) → AllByRecursion P xs → AllByRecursion Q xs
+pub all_weaker : {X : Type 0} (P Q : X → Type 0) → ((x : X) → P x → Q x) → (xs : List X) → AllByRecursion P xs → AllByRecursion Q xs
 all_weaker P Q e [] h = tt
 all_weaker P Q e (x ∷ xs) h = (e x h.0, all_weaker P Q e xs h.1)
 
@@ -57,7 +57,7 @@ rules_head gone d false true p q t = by_bool (d.born == d.parent)
     by_bool false = refl
 rules_head gone d false false p q t = absurd (cc)
 
-same_self : (k : ℕ) → (k == k) ≡ true
+pub same_self : (k : ℕ) → (k == k) ≡ true
 same_self k = grind (arith, nat_tests)
 
 or_false_left : (a b : Bool) → (a || b) ≡ false → a ≡ false
@@ -123,7 +123,7 @@ pub goes_itself : (born : ℕ) (ds : List Device) → has (final (born ∷ []) d
 goes_itself born ds = stays_gone born ds (born ∷ []) (ap (λ b. b || false) (same_self born))
 
 -- the root stays
-root_rule : (births : List ℕ) (d : Device) → HasParent births d → d.born ≡ 0 → d.parent ≡ 0
+pub root_rule : (births : List ℕ) (d : Device) → HasParent births d → d.born ≡ 0 → d.parent ≡ 0
 root_rule births d (inl root) e = root.1
 root_rule births d (inr low) e = let l = low.0 in absurd (omega arith)
 

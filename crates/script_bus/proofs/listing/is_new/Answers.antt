@@ -1,7 +1,7 @@
 use Rattle.std.proofs.Common.{◌∙◌, sym}
 use Rattle.pnp_model.specs.Tasks.{has_born, has_path}
-use Rattle.script_bus.proofs.Listing.{path_known, born_known, known_by_path, known_by_born}
-use Rattle.script_bus.proofs.difference.is_new.Goals as goal
+use Rattle.script_bus.proofs.Joining.{path_known, born_known, known_by_path, known_by_born}
+use Rattle.script_bus.proofs.listing.is_new.Goals as goal
 
 pub returns-then-is_some : goal.returns-then-is_some
 returns-then-is_some c =
