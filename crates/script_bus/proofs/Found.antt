@@ -32,9 +32,9 @@ found_again p low (e ∷ ds) asc d =
     by_bool (λ b. cond b (Some e) (find p ds) ≡ Some d → device_born d.born (e ∷ ds) ≡ Some d) (p e)
     (λ t at. let same : e ≡ d = cc in let born = ap (λ (x : Device). x.born) same in let test : (e.born == d.born) ≡ true = grind (arith, nat_tests) in ap (λ b. cond b (Some e) (device_born d.born ds)) test ∙ at)
     (λ t at.
-      let other : d.born ≢ e.born = all_found (λ (x : Device). x.born ≢ e.born) p ds (apart_from e.born (e.born + 1) ds (omega arith) asc.1) d at in
-      let test : (e.born == d.born) ≡ false = differs d other in
-      ap (λ b. cond b (Some e) (device_born d.born ds)) test ∙ found_again p (e.born + 1) ds asc.1 d at)
+    let other : d.born ≢ e.born = all_found (λ (x : Device). x.born ≢ e.born) p ds (apart_from e.born (e.born + 1) ds (omega arith) asc.1) d at in
+    let test : (e.born == d.born) ≡ false = differs d other in
+    ap (λ b. cond b (Some e) (device_born d.born ds)) test ∙ found_again p (e.born + 1) ds asc.1 d at)
   where
     differs : (d : Device) → d.born ≢ e.born → (e.born == d.born) ≡ false
     differs d other = grind (arith, nat_tests)

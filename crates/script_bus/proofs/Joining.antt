@@ -82,9 +82,10 @@ module _ {X : Type 0} (p q r : X → Bool) where
 -- each device is found by its birth number, and each node by its serial
 own_device : (low : ℕ) (ds : List Device) → Ascends low (births_of ds) → AllByRecursion (λ d. device_born d.born ds ≡ Some d) ds
 own_device low [] asc = tt
-own_device low (d ∷ ds) asc =
-    (ap (λ b. cond b (Some d) (device_born d.born ds)) (same_self d.born)
-    , all_both (λ e. e.born ≢ d.born) (λ e. device_born e.born ds ≡ Some e) _ (λ e apart own. ap (λ b. cond b (Some d) (device_born e.born ds)) (differs e apart) ∙ own) ds (apart_from d.born (d.born + 1) ds (omega arith) asc.1) (own_device (d.born + 1) ds asc.1))
+own_device low (d ∷ ds) asc = (
+  ap (λ b. cond b (Some d) (device_born d.born ds)) (same_self d.born),
+  all_both (λ e. e.born ≢ d.born) (λ e. device_born e.born ds ≡ Some e) _ (λ e apart own. ap (λ b. cond b (Some d) (device_born e.born ds)) (differs e apart) ∙ own) ds (apart_from d.born (d.born + 1) ds (omega arith) asc.1) (own_device (d.born + 1) ds asc.1),
+)
   where
     differs : (e : Device) → e.born ≢ d.born → (d.born == e.born) ≡ false
     differs e apart = grind (arith, nat_tests)
@@ -95,9 +96,10 @@ apart_nodes y low (n ∷ ns) l h = ((λ e. let a = h.0 in absurd (omega arith)),
 
 own_node : (low : ℕ) (ns : List Node) → Ascends low (serials_of ns) → AllByRecursion (λ n. node_at n.serial ns ≡ Some n) ns
 own_node low [] asc = tt
-own_node low (n ∷ ns) asc =
-    (ap (λ b. cond b (Some n) (node_at n.serial ns)) (same_self n.serial)
-    , all_both (λ m. m.serial ≢ n.serial) (λ m. node_at m.serial ns ≡ Some m) _ (λ m apart own. ap (λ b. cond b (Some n) (node_at m.serial ns)) (differs m apart) ∙ own) ns (apart_nodes n.serial (n.serial + 1) ns (omega arith) asc.1) (own_node (n.serial + 1) ns asc.1))
+own_node low (n ∷ ns) asc = (
+  ap (λ b. cond b (Some n) (node_at n.serial ns)) (same_self n.serial),
+  all_both (λ m. m.serial ≢ n.serial) (λ m. node_at m.serial ns ≡ Some m) _ (λ m apart own. ap (λ b. cond b (Some n) (node_at m.serial ns)) (differs m apart) ∙ own) ns (apart_nodes n.serial (n.serial + 1) ns (omega arith) asc.1) (own_node (n.serial + 1) ns asc.1),
+)
   where
     differs : (m : Node) → m.serial ≢ n.serial → (n.serial == m.serial) ≡ false
     differs m apart = grind (arith, nat_tests)
@@ -143,10 +145,10 @@ module _ (w : World) (t : Tree) (born : ℕ) (h : IsWorld w) (there : IsTrue (ha
     pub first_by_birth : option_map (λ (d : Device). d.born) (find (λ d. nat_le from d.born && joins born t.nodes d) w.devices) ≡ find (λ k. nat_le from k && is_new_born w t k) (child_births w.devices born)
     first_by_birth =
         ap (option_map (λ (d : Device). d.born))
-          (find_two (λ d. nat_le from d.born && joins born t.nodes d) (λ d. nat_le from d.born && new d) (is_child born) w.devices
-            (all_weaker (λ d. joins born t.nodes d ≡ (is_child born d && new d)) _ (λ d e. ap (λ b. nat_le from d.born && b) e ∙ swapped (nat_le from d.born) (is_child born d) (new d)) w.devices joins_are))
+        (find_two (λ d. nat_le from d.born && joins born t.nodes d) (λ d. nat_le from d.born && new d) (is_child born) w.devices
+        (all_weaker (λ d. joins born t.nodes d ≡ (is_child born d && new d)) _ (λ d e. ap (λ b. nat_le from d.born && b) e ∙ swapped (nat_le from d.born) (is_child born d) (new d)) w.devices joins_are))
         ∙ find-keys (λ (d : Device). d.born) (λ d. nat_le from d.born && new d) (λ k. nat_le from k && is_new_born w t k) (those (is_child born) w.devices)
-          (all_those _ (is_child born) w.devices (all_weaker (λ d. is_new_born w t d.born ≡ new d) _ (λ d e. ap (λ b. nat_le from d.born && b) e) w.devices new_is))
+        (all_those _ (is_child born) w.devices (all_weaker (λ d. is_new_born w t d.born ≡ new d) _ (λ d e. ap (λ b. nat_le from d.born && b) e) w.devices new_is))
 
 -- Those that are gone ------------------------------------------------------------
 

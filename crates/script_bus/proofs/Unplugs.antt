@@ -74,19 +74,21 @@ rules_from [] gone low asc below = tt
 rules_from (d ∷ ds) gone low asc below =
     by_cond (λ l. (has l d.born ≡ (has gone d.born || has l d.parent)) × AllByRecursion (λ e. has l e.born ≡ (has gone e.born || has l e.parent)) ds)
     (has gone d.born || has gone d.parent) (final (d.born ∷ gone) ds) (final gone ds)
-    (λ t.
-      (final_keeps d.born ds (d.born ∷ gone) later
-        ∙ (ap (λ b. b || has gone d.born) (same_self d.born)
-        ∙ (rules_head gone d (has gone d.born) (has gone d.parent) refl refl t
-        ∙ ap (λ b. has gone d.born || b) (sym (final_keeps d.parent ds (d.born ∷ gone) parents))))
-      , all_both (λ e. has (final (d.born ∷ gone) ds) e.born ≡ (has (d.born ∷ gone) e.born || has (final (d.born ∷ gone) ds) e.parent)) (λ e. e.born ≢ d.born) _
-        (λ e rule other. rule ∙ ap (λ b. (b || has gone e.born) || has (final (d.born ∷ gone) ds) e.parent) (differs e other)) ds
-        (rules_from ds (d.born ∷ gone) (d.born + 1) asc.1 below.1) later))
-    (λ t.
-      (final_keeps d.born ds gone later
-        ∙ (or_false_left (has gone d.born) (has gone d.parent) t
-        ∙ ap₂ ◌||◌ (sym (or_false_left (has gone d.born) (has gone d.parent) t)) (sym (final_keeps d.parent ds gone parents ∙ or_false_right (has gone d.born) (has gone d.parent) t)))
-      , rules_from ds gone (d.born + 1) asc.1 below.1))
+    (λ t. (
+      final_keeps d.born ds (d.born ∷ gone) later
+          ∙ (ap (λ b. b || has gone d.born) (same_self d.born)
+          ∙ (rules_head gone d (has gone d.born) (has gone d.parent) refl refl t
+          ∙ ap (λ b. has gone d.born || b) (sym (final_keeps d.parent ds (d.born ∷ gone) parents)))),
+      all_both (λ e. has (final (d.born ∷ gone) ds) e.born ≡ (has (d.born ∷ gone) e.born || has (final (d.born ∷ gone) ds) e.parent)) (λ e. e.born ≢ d.born) _
+          (λ e rule other. rule ∙ ap (λ b. (b || has gone e.born) || has (final (d.born ∷ gone) ds) e.parent) (differs e other)) ds
+          (rules_from ds (d.born ∷ gone) (d.born + 1) asc.1 below.1) later,
+    ))
+    (λ t. (
+      final_keeps d.born ds gone later
+          ∙ (or_false_left (has gone d.born) (has gone d.parent) t
+          ∙ ap₂ ◌||◌ (sym (or_false_left (has gone d.born) (has gone d.parent) t)) (sym (final_keeps d.parent ds gone parents ∙ or_false_right (has gone d.born) (has gone d.parent) t))),
+      rules_from ds gone (d.born + 1) asc.1 below.1,
+    ))
   where
     later : AllByRecursion (λ e. e.born ≢ d.born) ds
     later = apart_from d.born (d.born + 1) ds (omega arith) asc.1
@@ -174,7 +176,7 @@ without_agree x [] g1 g2 all agree = refl
 without_agree x (d ∷ ds) g1 g2 all agree =
     let test : (has g1 d.born || has g1 d.parent) ≡ (has g2 d.born || has g2 d.parent) = ap₂ ◌||◌ (agree d.born all.0.0) (agree d.parent all.0.1) in
     ap₂ (λ b (l : List Device × List Device). cond b l.0 l.1) test
-      (λ i. (without_agree x ds (d.born ∷ g1) (d.born ∷ g2) all.1 (agree_more x d.born g1 g2 agree) i, ap (λ l. d ∷ l) (without_agree x ds g1 g2 all.1 agree) i))
+    (λ i. (without_agree x ds (d.born ∷ g1) (d.born ∷ g2) all.1 (agree_more x d.born g1 g2 agree) i, ap (λ l. d ∷ l) (without_agree x ds g1 g2 all.1 agree) i))
 
 head_is_none : (b : Bool) (d : Device) (rest : List Device) → births_of (cond b (d ∷ rest) rest) ≡ [] → b ≡ false
 head_is_none true d rest e = absurd (cc)
@@ -194,9 +196,10 @@ no_child x d above none same =
 avoids : (x low : ℕ) (ds : List Device) → x < low → Ascends low (births_of ds) → child_births ds x ≡ [] → AllByRecursion (Avoids x) ds
 avoids x low [] l asc none = tt
 avoids x low (d ∷ ds) l asc none =
-    let low_is = asc.0 in
-    (((λ e. absurd (omega arith)), no_child x d (omega arith) (head_is_none (is_child x d) d (those (is_child x) ds) none))
-      , avoids x (d.born + 1) ds (omega arith) asc.1 (rest_has_none (is_child x d) d (those (is_child x) ds) none))
+    let low_is = asc.0 in (
+      ((λ e. absurd (omega arith)), no_child x d (omega arith) (head_is_none (is_child x d) d (those (is_child x) ds) none)),
+      avoids x (d.born + 1) ds (omega arith) asc.1 (rest_has_none (is_child x d) d (those (is_child x) ds) none),
+    )
 
 born_differs : (x y : ℕ) (d : Device) → (d.born == x) ≡ true → y ≢ x → (d.born == y) ≡ false
 born_differs x y d same differs = grind (arith, nat_tests)
@@ -211,12 +214,12 @@ leaf_first x [] gone low asc leaf out = refl
 leaf_first x (d ∷ ds) gone low asc leaf out =
     by_bool (λ c. (d.born == x) ≡ c → is_in_world (without_those gone (d ∷ ds)) x ≡ false → without_those gone (cond c ds (d ∷ without_first (λ d. d.born == x) ds)) ≡ without_those gone (d ∷ ds)) (d.born == x)
     (λ t same. by_bool (λ b. is_in_world (cond b (without_those (d.born ∷ gone) ds) (d ∷ without_those gone ds)) x ≡ false → without_those gone ds ≡ cond b (without_those (d.born ∷ gone) ds) (d ∷ without_those gone ds)) (has gone d.born || has gone d.parent)
-      (λ r out. without_agree x ds gone (d.born ∷ gone) (avoids x (d.born + 1) ds (born_same x d same) asc.1 rest) (λ y differs. sym (ap (λ b. b || has gone y) (born_differs x y d same differs))))
-      (λ r out. let in_front : is_in_world (d ∷ without_those gone ds) x ≡ true = ap (λ b. b || is_in_world (without_those gone ds) x) same in absurd (cc)))
+    (λ r out. without_agree x ds gone (d.born ∷ gone) (avoids x (d.born + 1) ds (born_same x d same) asc.1 rest) (λ y differs. sym (ap (λ b. b || has gone y) (born_differs x y d same differs))))
+    (λ r out. let in_front : is_in_world (d ∷ without_those gone ds) x ≡ true = ap (λ b. b || is_in_world (without_those gone ds) x) same in absurd (cc)))
     (λ t same. by_bool (λ b. is_in_world (cond b (without_those (d.born ∷ gone) ds) (d ∷ without_those gone ds)) x ≡ false
-        → cond b (without_those (d.born ∷ gone) (without_first (λ d. d.born == x) ds)) (d ∷ without_those gone (without_first (λ d. d.born == x) ds)) ≡ cond b (without_those (d.born ∷ gone) ds) (d ∷ without_those gone ds)) (has gone d.born || has gone d.parent)
-      (λ r out. leaf_first x ds (d.born ∷ gone) (d.born + 1) asc.1 rest out)
-      (λ r out. ap (λ l. d ∷ l) (leaf_first x ds gone (d.born + 1) asc.1 rest (or_false_right (d.born == x) (is_in_world (without_those gone ds) x) out))))
+    → cond b (without_those (d.born ∷ gone) (without_first (λ d. d.born == x) ds)) (d ∷ without_those gone (without_first (λ d. d.born == x) ds)) ≡ cond b (without_those (d.born ∷ gone) ds) (d ∷ without_those gone ds)) (has gone d.born || has gone d.parent)
+    (λ r out. leaf_first x ds (d.born ∷ gone) (d.born + 1) asc.1 rest out)
+    (λ r out. ap (λ l. d ∷ l) (leaf_first x ds gone (d.born + 1) asc.1 rest (or_false_right (d.born == x) (is_in_world (without_those gone ds) x) out))))
     refl out
   where
     rest : child_births ds x ≡ []
@@ -245,7 +248,7 @@ stays born births d other absent apart (inr low) =
     let one : (born == d.born) ≡ false = grind (arith, nat_tests) in
     let there : has births d.parent ≡ true = low.1 in
     let two : (born == d.parent) ≡ false = by_bool (λ b. (born == d.parent) ≡ b → (born == d.parent) ≡ false) (born == d.parent)
-      (λ t e. let same : born ≡ d.parent = grind (arith, nat_tests) in let twice = ap (has births) same in absurd (cc)) (λ t e. e) refl in
+    (λ t e. let same : born ≡ d.parent = grind (arith, nat_tests) in let twice = ap (has births) same in absurd (cc)) (λ t e. e) refl in
     ap₂ (λ x y. (x || false) || (y || false)) one two
 
 -- a device that is not there takes nobody with it
@@ -260,10 +263,10 @@ down_from born gone [] rules parent child goes = λ among. absurd (let e : false
 down_from born gone (d ∷ ds) rules parent child goes =
     by_bool (λ b. is_child parent d ≡ b → has (births_of (cond b (d ∷ those (is_child parent) ds) (those (is_child parent) ds))) child ≡ true → has gone child ≡ true) (is_child parent d)
     (λ t is among. by_bool (λ c. (d.born == child) ≡ c → (c || has (child_births ds parent) child) ≡ true → has gone child ≡ true) (d.born == child)
-      (λ u same more. let one : d.born ≡ child = grind (arith, nat_tests) in
-        let over : d.parent ≡ parent = child_parent d is in
-        ap (has gone) (sym one) ∙ (rules.0 ∙ (ap (λ b. has (born ∷ []) d.born || b) (ap (has gone) over ∙ goes) ∙ or_true (has (born ∷ []) d.born))))
-      (λ u same more. down_from born gone ds rules.1 parent child goes more) refl among)
+    (λ u same more. let one : d.born ≡ child = grind (arith, nat_tests) in
+    let over : d.parent ≡ parent = child_parent d is in
+    ap (has gone) (sym one) ∙ (rules.0 ∙ (ap (λ b. has (born ∷ []) d.born || b) (ap (has gone) over ∙ goes) ∙ or_true (has (born ∷ []) d.born))))
+    (λ u same more. down_from born gone ds rules.1 parent child goes more) refl among)
     (λ t is among. down_from born gone ds rules.1 parent child goes among)
     refl
   where
@@ -283,9 +286,9 @@ up_from born gone [] rules leaf d at goes other = absurd (cc)
 up_from born gone (e ∷ ds) rules leaf d at goes other =
     by_bool (λ b. (e.born == leaf) ≡ b → cond b (Some e) (device_born leaf ds) ≡ Some d → has gone d.parent ≡ true) (e.born == leaf)
     (λ t same at. let is : e ≡ d = cc in
-      let one : e.born ≡ leaf = grind (arith, nat_tests) in
-      let apart : (born == e.born) ≡ false = grind (arith, nat_tests) in
-      ap (λ (x : Device). has gone x.parent) (sym is) ∙ (sym (rules.0 ∙ ap (λ b. (b || false) || has gone e.parent) apart) ∙ (ap (has gone) one ∙ goes)))
+    let one : e.born ≡ leaf = grind (arith, nat_tests) in
+    let apart : (born == e.born) ≡ false = grind (arith, nat_tests) in
+    ap (λ (x : Device). has gone x.parent) (sym is) ∙ (sym (rules.0 ∙ ap (λ b. (b || false) || has gone e.parent) apart) ∙ (ap (has gone) one ∙ goes)))
     (λ t same at. up_from born gone ds rules.1 leaf d at goes other)
     refl at
 
@@ -319,12 +322,12 @@ child_later births next [] parents below at child = λ among. absurd (let e : fa
 child_later births next (d ∷ ds) parents below at child =
     by_bool (λ b. is_child at d ≡ b → has (births_of (cond b (d ∷ those (is_child at) ds) (those (is_child at) ds))) child ≡ true → IsLater (d ∷ ds) next at child) (is_child at d)
     (λ t is among. by_bool (λ c. (d.born == child) ≡ c → (c || has (child_births ds at) child) ≡ true → IsLater (d ∷ ds) next at child) (d.born == child)
-      (λ u same more.
-        let one : d.born ≡ child = grind (arith, nat_tests) in
-        let up = child_above births at d parents.0 is in
-        let low = below.0 in
-        record { later = omega arith; below = omega arith; there = ap (λ b. b || is_in_world ds child) same })
-      (λ u same more. over (child_later births next ds parents.1 below.1 at child more)) refl among)
+    (λ u same more.
+    let one : d.born ≡ child = grind (arith, nat_tests) in
+    let up = child_above births at d parents.0 is in
+    let low = below.0 in
+    record { later = omega arith; below = omega arith; there = ap (λ b. b || is_in_world ds child) same })
+    (λ u same more. over (child_later births next ds parents.1 below.1 at child more)) refl among)
     (λ t is among. over (child_later births next ds parents.1 below.1 at child among))
     refl
   where

@@ -1,4 +1,4 @@
-ghost use Rattle.std.specs.Prelude.{◌≡◌, ◌≢◌, ◌<◌, ◌≤◌, ◌^◌, ◌↔◌, [], ◌∷◌, None, IfOk, IfSome, OnOk, OnErr, IsErrOf, IsSome, IsTrue, Bool, true, ℕ, length, option_map, option_copied};
+ghost use Rattle.std.specs.Prelude.{◌≡◌, ◌≢◌, ◌+◌, ◌<◌, ◌≤◌, ◌^◌, ◌↔◌, [], ◌∷◌, None, IfOk, IfSome, OnOk, OnErr, IsErrOf, IsSome, IsTrue, Bool, true, ℕ, length, option_map, option_copied};
 ghost use Rattle.pnp_model.specs.Runs.{root_device};
 ghost use Rattle.pnp_model.specs.States.{device_born, device_of, is_in_world};
 ghost use Rattle.script_bus.specs.Worlds.{with_device, without_device, plugged, part_of, parent_in, child_births, IsWorld, PassesDown, without_leaf};
@@ -72,6 +72,7 @@ impl World {
         requires room { self.old.next < 2 ^ 63 }
         ensures born { IfOk result (λ born. born ≡ self.old.next) }
         ensures plugged { IfSome (device_of parent.now self.old.devices) (λ over. OnOk result (self.new ≡ plugged over.born path hw compat reqs self.old)) }
+        ensures next { OnOk result (self.new.next ≡ self.old.next + 1) }
         ensures no_parent { IsErrOf result PlugError.NoParent ↔ (device_of parent.now self.old.devices ≡ None) }
         ensures same_id { IsErrOf result PlugError.SameId ↔ (IsSome (device_of parent.now self.old.devices) × IsSome (device_of path self.old.devices)) }
         ensures full { IsErrOf result PlugError.WorldFull ↔ (IsSome (device_of parent.now self.old.devices) × (device_of path self.old.devices ≡ None) × (4096 < length self.old.devices)) }

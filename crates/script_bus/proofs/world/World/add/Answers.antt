@@ -15,7 +15,7 @@ invariant_of-self-in-Ok c =
     let n = fresh_node c.in-Ok.born c.args.parent 0 c.in_ok-path.path c.new-ids.result c.new-compat.result c.new-reqs.result in
     rw c.in-Ok.ensures.joined
     (kept_joined c.self.inside.parts c.insert.new.self c.in-Ok.born (Some c.args.device) change c.self.inside.places c.self.invariant n c.args.device c.in-Ok.ensures.serial refl (sym c.in_ok-path.ensures) refl
-      (subst IsTree c.in-Ok.ensures.joined c.in-Ok.ensures.tree) refl)
+    (subst IsTree c.in-Ok.ensures.joined c.in-Ok.ensures.tree) refl)
 
 pub invariant_of-self-in-Err-join : goal.invariant_of-self-in-Err-join
 invariant_of-self-in-Err-join c = rw c.in-Err.ensures.err (kept_same c.self.inside.parts c.reserve.new.self c.self.inside.places c.in_ok-reserve.ensures.entries.2 c.self.invariant)

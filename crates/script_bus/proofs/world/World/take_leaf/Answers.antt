@@ -16,7 +16,7 @@ invariant_of-self c =
     let leaf = subst (λ (w : World). child_births w.devices c.args.born ≡ []) (sym c.self.view_is) c.requires.leaf in
     rw c.leave.ensures
     (kept_left c.self.inside.parts c.remove.new.self c.args.born None c.remove.ensures.updates.0 c.self.inside.places c.self.invariant c.requires.no_root
-      (no_children c.self.inside.parts c.self.inside.places c.self.invariant c.args.born c.requires.no_root leaf))
+    (no_children c.self.inside.parts c.self.inside.places c.self.invariant c.args.born c.requires.no_root leaf))
 
 pub returns : goal.returns
 returns c =
