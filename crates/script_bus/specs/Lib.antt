@@ -1,0 +1,3 @@
+pub mod Worlds
+pub mod Differences
+pub mod Kept
