@@ -44,6 +44,7 @@ pub mod RunsVeto
 pub mod NoVetoes
 pub mod RunsStand
 pub mod RunsStep
+pub mod Joins
 pub mod Measures
 pub mod MeasureOps
 pub mod MeasureRemovals
