@@ -45,6 +45,7 @@ pub mod NoVetoes
 pub mod RunsStand
 pub mod RunsStep
 pub mod Joins
+pub mod JoinSteps
 pub mod Measures
 pub mod MeasureOps
 pub mod MeasureRemovals
