@@ -112,7 +112,7 @@ not_from_bare _ _ _ _ Row.remove_pending e = cc
 not_from_bare _ _ _ _ Row.surprise e = cc
 not_from_bare _ _ _ _ Row.remove_surprised e = cc
 
-bare_stays : (label : Label) → IsNoAdd label → (a b : DevState) → Change label a b → a ≡ NoStack → b ≡ NoStack
+pub bare_stays : (label : Label) → IsNoAdd label → (a b : DevState) → Change label a b → a ≡ NoStack → b ≡ NoStack
 bare_stays (Label.State p x) h a b (inl e) g = e ∙ g
 bare_stays (Label.State p x) h a b (inr (e, row)) g = absurd (not_from_bare row.0 row.1 a b row.2 g)
 bare_stays (Label.Add p d true) h a b c g = absurd h
@@ -217,7 +217,7 @@ live_back s t label no_add diagram closes active k n m was at live =
     by_bare old true e (inl h) = absurd (let now = bare_stays label no_add n.state m.state (diagram.stays k n m was at) (bare_is n.state e) in let g = ap is_bare now in cc)
     by_bare old true e (inr h) = inr (ap (λ (i : ℕ). some_there (activity_at i s.activities)) old ∙ h)
 
-pub flows_on : (s : State) (step : Step) → IsNoAdd step.label → Sub step.state.world s.world → Cheaper s.tasks step.state.tasks → Closes s step.state → (Knows s step → Active s step.state) →
+pub flows_on : (s : State) (step : Step) → IsNoAdd step.label → Sub step.state.world s.world → Cheaper s.tasks step.state.tasks → (Knows s step → Closes s step.state) → (Knows s step → Active s step.state) →
     (Knows s step → (k : ℕ) (n : Node) → node_at k s.core.nodes ≡ Some n → node_at k step.state.core.nodes ≡ None → Gone s step.state n) → FlowsStep s step
 flows_on s step no_add world tasks closes active gone knows no_join =
     record {
@@ -226,12 +226,12 @@ flows_on s step no_add world tasks closes active gone knows no_join =
       start = None;
       started = λ n e. absurd (cc);
       tasks = λ cost. let h = tasks cost in omega arith;
-      live = λ k n m was at live. inl (live_back s step.state step.label no_add knows.diagram closes (active knows) k n m was at live);
+      live = λ k n m was at live. inl (live_back s step.state step.label no_add knows.diagram (closes knows) (active knows) k n m was at live);
       gone = gone knows;
     }
 
 -- nobody leaves
-pub flows_still : (s : State) (step : Step) → IsStill step.label → Sub step.state.world s.world → Cheaper s.tasks step.state.tasks → Closes s step.state → (Knows s step → Active s step.state) → FlowsStep s step
+pub flows_still : (s : State) (step : Step) → IsStill step.label → Sub step.state.world s.world → Cheaper s.tasks step.state.tasks → (Knows s step → Closes s step.state) → (Knows s step → Active s step.state) → FlowsStep s step
 flows_still s step still world tasks closes active =
     flows_on s step (no_add_of step.label still) world tasks closes active
     (λ knows k n at gone. absurd (knows.sound.stays (no_leave_of step.label still) k n at gone))
@@ -285,10 +285,10 @@ closes_open s t free k m at h = inl (free k)
 -- Activities that go on -----------------------------------------------------------------------------------
 
 moved_with : (s : State) (k : ℕ) (m : StartMove) (beside : StartBeside) → InOrder 0 s.activities → IsStill m.label → FlowsStep s (record { label = m.label; state = after_start k m.frame beside (with_core m.core s) })
-moved_with s k m StartBeside.On order still = flows_still s _ still (sub_same s.world) (cheaper_same s.tasks) (closes_same s (after_start k m.frame StartBeside.On (with_core m.core s)) refl) (λ knows i n at h. inl (active_changed k i m.frame s.activities h))
-moved_with s k m StartBeside.Needs order still = flows_still s _ still (sub_same s.world) (cheaper_pushed s.tasks _ (λ cost. refl)) (closes_same s (after_start k m.frame StartBeside.Needs (with_core m.core s)) refl) (λ knows i n at h. inl (active_ended k i s.activities order h))
-moved_with s k m StartBeside.Up order still = flows_still s _ still (sub_same s.world) (cheaper_pushed s.tasks _ (λ cost. refl)) (closes_same s (after_start k m.frame StartBeside.Up (with_core m.core s)) refl) (λ knows i n at h. inl (active_ended k i s.activities order h))
-moved_with s k m StartBeside.Over order still = flows_still s _ still (sub_same s.world) (cheaper_same s.tasks) (closes_same s (after_start k m.frame StartBeside.Over (with_core m.core s)) refl) (λ knows i n at h. inl (active_ended k i s.activities order h))
+moved_with s k m StartBeside.On order still = flows_still s _ still (sub_same s.world) (cheaper_same s.tasks) (λ knows. closes_same s (after_start k m.frame StartBeside.On (with_core m.core s)) refl) (λ knows i n at h. inl (active_changed k i m.frame s.activities h))
+moved_with s k m StartBeside.Needs order still = flows_still s _ still (sub_same s.world) (cheaper_pushed s.tasks _ (λ cost. refl)) (λ knows. closes_same s (after_start k m.frame StartBeside.Needs (with_core m.core s)) refl) (λ knows i n at h. inl (active_ended k i s.activities order h))
+moved_with s k m StartBeside.Up order still = flows_still s _ still (sub_same s.world) (cheaper_pushed s.tasks _ (λ cost. refl)) (λ knows. closes_same s (after_start k m.frame StartBeside.Up (with_core m.core s)) refl) (λ knows i n at h. inl (active_ended k i s.activities order h))
+moved_with s k m StartBeside.Over order still = flows_still s _ still (sub_same s.world) (cheaper_same s.tasks) (λ knows. closes_same s (after_start k m.frame StartBeside.Over (with_core m.core s)) refl) (λ knows i n at h. inl (active_ended k i s.activities order h))
 
 moved : (s : State) (k : ℕ) (m : StartMove) → InOrder 0 s.activities → IsStill m.label → FlowsStep s (start_lifted s k m)
 moved s k m order still = moved_with s k m m.beside order still
@@ -383,11 +383,11 @@ active_begun s t phase k fits empty is good i m at h =
     ]
 
 re_moved_with : (s : State) (m : RebalanceMove) (beside : RebalanceBeside) → ((k : ℕ) → closed s.operation k ≡ false) → s.activities ≡ [] → IsStill m.label → FlowsStep s (record { label = m.label; state = after_rebalance m.frame beside (with_core m.core s) })
-re_moved_with s m RebalanceBeside.On free empty still = flows_still s _ still (sub_same s.world) (cheaper_same s.tasks) (closes_open s (after_rebalance m.frame RebalanceBeside.On (with_core m.core s)) free) (λ knows. active_same s (after_rebalance m.frame RebalanceBeside.On (with_core m.core s)) refl)
-re_moved_with s m (RebalanceBeside.FailedRestart k) free empty still = flows_still s _ still (sub_same s.world) (λ cost. omega arith) (closes_open s (after_rebalance m.frame (RebalanceBeside.FailedRestart k) (with_core m.core s)) free) (λ knows. active_same s (after_rebalance m.frame (RebalanceBeside.FailedRestart k) (with_core m.core s)) refl)
-re_moved_with s m RebalanceBeside.OverStart free empty still = flows_still s _ still (sub_same s.world) (cheaper_same s.tasks) (closes_open s (after_rebalance m.frame RebalanceBeside.OverStart (with_core m.core s)) free) (λ knows. active_begun s (after_rebalance m.frame RebalanceBeside.OverStart (with_core m.core s)) (Starting (walk_of Minor.Start)) m.frame.target (λ x h. h) empty refl knows.good)
-re_moved_with s m RebalanceBeside.OverUndo free empty still = flows_still s _ still (sub_same s.world) (cheaper_same s.tasks) (closes_open s (after_rebalance m.frame RebalanceBeside.OverUndo (with_core m.core s)) free) (λ knows. active_begun s (after_rebalance m.frame RebalanceBeside.OverUndo (with_core m.core s)) (Removing (walk_of Minor.Remove)) m.frame.target (λ x h. h) empty refl knows.good)
-re_moved_with s m RebalanceBeside.OverDropped free empty still = flows_still s _ still (sub_same s.world) (cheaper_same s.tasks) (closes_open s (after_rebalance m.frame RebalanceBeside.OverDropped (with_core m.core s)) free) (λ knows. active_same s (after_rebalance m.frame RebalanceBeside.OverDropped (with_core m.core s)) refl)
+re_moved_with s m RebalanceBeside.On free empty still = flows_still s _ still (sub_same s.world) (cheaper_same s.tasks) (λ knows. closes_open s (after_rebalance m.frame RebalanceBeside.On (with_core m.core s)) free) (λ knows. active_same s (after_rebalance m.frame RebalanceBeside.On (with_core m.core s)) refl)
+re_moved_with s m (RebalanceBeside.FailedRestart k) free empty still = flows_still s _ still (sub_same s.world) (λ cost. omega arith) (λ knows. closes_open s (after_rebalance m.frame (RebalanceBeside.FailedRestart k) (with_core m.core s)) free) (λ knows. active_same s (after_rebalance m.frame (RebalanceBeside.FailedRestart k) (with_core m.core s)) refl)
+re_moved_with s m RebalanceBeside.OverStart free empty still = flows_still s _ still (sub_same s.world) (cheaper_same s.tasks) (λ knows. closes_open s (after_rebalance m.frame RebalanceBeside.OverStart (with_core m.core s)) free) (λ knows. active_begun s (after_rebalance m.frame RebalanceBeside.OverStart (with_core m.core s)) (Starting (walk_of Minor.Start)) m.frame.target (λ x h. h) empty refl knows.good)
+re_moved_with s m RebalanceBeside.OverUndo free empty still = flows_still s _ still (sub_same s.world) (cheaper_same s.tasks) (λ knows. closes_open s (after_rebalance m.frame RebalanceBeside.OverUndo (with_core m.core s)) free) (λ knows. active_begun s (after_rebalance m.frame RebalanceBeside.OverUndo (with_core m.core s)) (Removing (walk_of Minor.Remove)) m.frame.target (λ x h. h) empty refl knows.good)
+re_moved_with s m RebalanceBeside.OverDropped free empty still = flows_still s _ still (sub_same s.world) (cheaper_same s.tasks) (λ knows. closes_open s (after_rebalance m.frame RebalanceBeside.OverDropped (with_core m.core s)) free) (λ knows. active_same s (after_rebalance m.frame RebalanceBeside.OverDropped (with_core m.core s)) refl)
 
 -- a rebalance runs
 pub record InRebalance (s : State) : Type 0 where

@@ -46,6 +46,7 @@ pub mod RunsStand
 pub mod RunsStep
 pub mod Joins
 pub mod JoinSteps
+pub mod JoinRemovals
 pub mod Measures
 pub mod MeasureOps
 pub mod MeasureRemovals

@@ -182,7 +182,7 @@ pub order_tell_on : (nodes : List Node) (o : Surprise) (ks : List ℕ) (c : Core
 order_tell_on nodes o [] c h there all target = order_su_finish_on nodes o o.set c h all (target_left o.target o.set c.nodes target)
 order_tell_on nodes o (k ∷ ks) c h there all target = (h, (goes_on k ks c.nodes there, all, target))
 
-waits_finish_on : (nodes : List Node) (o : Surprise) (ks : List ℕ) → waiting (Some (Operation.Surprising (su.finish_on nodes o ks))) ≡ o.set
+pub waits_finish_on : (nodes : List Node) (o : Surprise) (ks : List ℕ) → waiting (Some (Operation.Surprising (su.finish_on nodes o ks))) ≡ o.set
 waits_finish_on nodes o [] = refl
 waits_finish_on nodes o (k ∷ ks) = by_stack (stack_of (node_at k nodes))
   where
