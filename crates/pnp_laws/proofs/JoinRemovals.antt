@@ -27,8 +27,8 @@ use Rattle.pnp_laws.proofs.Finishing.{relist_only, head_bare}
 use Rattle.pnp_laws.proofs.SurpriseSteps.{last_alone}
 use Rattle.pnp_laws.proofs.Standing.{Finishes, RemovalOrder, SurpriseOrder}
 use Rattle.pnp_laws.proofs.SoundRemovals.{waits_finish_on, waits_tell_on}
-use Rattle.pnp_laws.proofs.MeasureRemovals.{Listed, listed_again, same_world}
-use Rattle.pnp_laws.proofs.Joins.{starts, closed, removal_closed, is_bare, some_there, is_live, In, Sub, sub_same, sub_is, sub_in, sub_without, Gone, Flows}
+use Rattle.pnp_laws.proofs.MeasureRemovals.{Listed, listed_again, same_world, same_births}
+use Rattle.pnp_laws.proofs.Joins.{starts, closed, removal_closed, is_bare, some_there, is_live, In, Counts, Sub, sub_same, sub_is, sub_in, sub_without, Gone, Flows}
 use Rattle.pnp_laws.proofs.JoinSteps.{IsNoAdd, IsStill, Knows, FlowsStep, FlowsNext, Closes, Active, Cheaper, cheaper_same, cheaper_pushed, active_same, closes_open, bare_stays, flows_on, flows_still}
 use Rattle.pnp_model.specs.Removals as rm
 use Rattle.pnp_model.specs.Surprises as su
@@ -63,21 +63,21 @@ IsStay RemoveBeside.Over = Unit {0}
 
 op_moved : (s : State) (label : Label) (c : Core) (op : Operation) (beside : RemoveBeside) → IsStay beside → IsStill label →
     (Knows s (record { label = label; state = after_remove op beside (with_core c s) }) → Closes s (after_remove op beside (with_core c s))) → FlowsStep s (record { label = label; state = after_remove op beside (with_core c s) })
-op_moved s label c op RemoveBeside.On stay still closes = flows_still s _ still (sub_same s.world) (cheaper_same s.tasks) closes (λ knows. active_same s (after_remove op RemoveBeside.On (with_core c s)) refl)
+op_moved s label c op RemoveBeside.On stay still closes = flows_still s _ still (refl, refl) (sub_same s.world) (cheaper_same s.tasks) closes (λ knows. active_same s (after_remove op RemoveBeside.On (with_core c s)) refl)
 op_moved s label c op (RemoveBeside.Left path born) stay still closes = absurd stay
-op_moved s label c op (RemoveBeside.Disabled path) stay still closes = flows_still s _ still (sub_same s.world) (cheaper_same s.tasks) closes (λ knows. active_same s (after_remove op (RemoveBeside.Disabled path) (with_core c s)) refl)
+op_moved s label c op (RemoveBeside.Disabled path) stay still closes = flows_still s _ still (refl, refl) (sub_same s.world) (cheaper_same s.tasks) closes (λ knows. active_same s (after_remove op (RemoveBeside.Disabled path) (with_core c s)) refl)
 op_moved s label c op (RemoveBeside.Ejected path born) stay still closes = absurd stay
-op_moved s label c op RemoveBeside.Over stay still closes = flows_still s _ still (sub_same s.world) (cheaper_same s.tasks) closes (λ knows. active_same s (after_remove op RemoveBeside.Over (with_core c s)) refl)
+op_moved s label c op RemoveBeside.Over stay still closes = flows_still s _ still (refl, refl) (sub_same s.world) (cheaper_same s.tasks) closes (λ knows. active_same s (after_remove op RemoveBeside.Over (with_core c s)) refl)
 
 cheaper_listed : (tasks more : List Task) → Listed tasks more → Cheaper tasks more
 cheaper_listed tasks more (inl e) cost = subst (λ (ts : List Task). starts cost ts ≤ starts cost tasks) (sym e) (omega arith)
 cheaper_listed tasks more (inr (k, e)) cost = subst (λ (ts : List Task). starts cost ts ≤ starts cost tasks) (sym e) (cheaper_pushed tasks (record { kind = Duty.Listing; serial = k }) (λ cost. refl) cost)
 
 -- a device leaves
-op_left : (s t : State) (label : Label) (node : Node) → IsNoAdd label → node_at node.serial s.core.nodes ≡ Some node → t.core.nodes ≡ without_first (is_node node.serial) s.core.nodes → Sub t.world s.world → Cheaper s.tasks t.tasks → t.activities ≡ s.activities →
+op_left : (s t : State) (label : Label) (node : Node) → IsNoAdd label → node_at node.serial s.core.nodes ≡ Some node → t.core.nodes ≡ without_first (is_node node.serial) s.core.nodes → Counts s t → Sub t.world s.world → Cheaper s.tasks t.tasks → t.activities ≡ s.activities →
     (Knows s (record { label = label; state = t }) → Closes s t) → (Knows s (record { label = label; state = t }) → Gone s t node) → FlowsStep s (record { label = label; state = t })
-op_left s t label node no_add at nodes world tasks acts closes gone =
-    flows_on s (record { label = label; state = t }) no_add world tasks closes (λ knows. active_same s t acts)
+op_left s t label node no_add at nodes counts world tasks acts closes gone =
+    flows_on s (record { label = label; state = t }) no_add counts world tasks closes (λ knows. active_same s t acts)
     (λ knows k n was none.
     let is : node.serial ≡ k = left_missing node.serial k s.core.nodes n was (subst (λ (x : List Node). node_at k x ≡ None) nodes none) in
     let same : node ≡ n = some_same (node_at k s.core.nodes) node n (subst (λ (i : ℕ). node_at i s.core.nodes ≡ Some node) is at) was in
@@ -174,7 +174,7 @@ flows_target s o node true h =
     let t = relist node.path node.born u in
     let only = relist_only node.path node.born u in
     let world : t.world ≡ without_those (node.born ∷ []) s.world = same_world node.path node.born u in
-    op_left s t (Label.Ejected node.path) node tt h.at only.nodes
+    op_left s t (Label.Ejected node.path) node tt h.at only.nodes (only.serial, same_births node.path node.born u)
     (subst (λ (w : List Device). Sub w s.world) (sym world) (sub_without (node.born ∷ []) s.world)) (cheaper_listed s.tasks t.tasks (listed_again node.path node.born u)) only.activities
     (λ knows. settled_closes s t o node (Label.Ejected node.path) h (record { op = only.operation; acts = only.activities }) tt tt knows)
     (λ knows. inl (λ d there. unplugged (node.born ∷ []) node.born s.world (grind (arith, nat_tests)) d (subst (λ (w : List Device). In d w) world there)))
@@ -193,7 +193,7 @@ flows_settle s o node true inside h =
     let u = set_operation (Some (Operation.Removing m.frame)) (with_core m.core s) in
     let t = relist node.path node.born u in
     let only = relist_only node.path node.born u in
-    op_left s t (Label.Leave node.path) node tt h.at only.nodes
+    op_left s t (Label.Leave node.path) node tt h.at only.nodes (only.serial, same_births node.path node.born u)
     (sub_is t.world s.world (same_world node.path node.born u)) (cheaper_listed s.tasks t.tasks (listed_again node.path node.born u)) only.activities
     (λ knows. settled_closes s t o node (Label.Leave node.path) h (record { op = only.operation; acts = only.activities }) tt tt knows)
     (λ knows. inr (λ m at. settled_dead s t o node (Label.Leave node.path) h (record { op = only.operation; acts = only.activities }) tt tt knows node.parent m inside at))
@@ -284,7 +284,7 @@ flows_su_leaves s o node h at why =
     let world : t.world ≡ s.world = same_world node.path node.born u in
     let set : m.frame.set ≡ o.set = waits_finish_on s.core.nodes o (rest o.todo) in
     let shut : (k : ℕ) → closed t.operation k ≡ has o.set k = λ k. ap (λ (x : Option Operation). closed x k) only.operation ∙ ap (λ (ks : List ℕ). has ks k) set in
-    op_left s t (Label.Leave node.path) node tt at only.nodes (sub_is t.world s.world world) (cheaper_listed s.tasks t.tasks (listed_again node.path node.born u)) only.activities
+    op_left s t (Label.Leave node.path) node tt at only.nodes (only.serial, same_births node.path node.born u) (sub_is t.world s.world world) (cheaper_listed s.tasks t.tasks (listed_again node.path node.born u)) only.activities
     (λ knows k n at_k free. inl (su_closed s o h k ∙ sym (shut k) ∙ free))
     (λ knows. elim why [
       | inl inside ↦ inr (λ p at_p. dead_closed t p (ap (closed t.operation) (own_serial node.parent p t.core.nodes at_p) ∙ shut node.parent ∙ inside))

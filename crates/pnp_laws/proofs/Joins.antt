@@ -132,7 +132,7 @@ joinable_sub lives there _ _ (keep d xs ys sub) = by_test (lives d.parent && not
 joinable_sub lives there _ _ (skip d xs ys sub) = let h = joinable_sub lives there xs ys sub in omega arith
 
 -- what joins below those that are to start
-abbrev starting : (ℕ → Bool) → List Device → ℕ
+abbrev pub starting : (ℕ → Bool) → List Device → ℕ
 starting start [] = 0
 starting start (d ∷ ds) = cond (start d.parent) (1 + below d.born ds) 0 + starting start ds
 
@@ -140,7 +140,7 @@ starting_is : (b : ℕ) (ds : List Device) → starting (λ p. p == b) ds ≡ be
 starting_is b [] = refl
 starting_is b (d ∷ ds) = ap (λ (n : ℕ). cond (d.parent == b) (1 + below d.born ds) 0 + n) (starting_is b ds)
 
-starting_none : (ds : List Device) → starting (λ p. false) ds ≡ 0
+pub starting_none : (ds : List Device) → starting (λ p. false) ds ≡ 0
 starting_none [] = refl
 starting_none (d ∷ ds) = let h = starting_none ds in omega arith
 
@@ -214,7 +214,12 @@ start_of cost (Some n) = cost n.serial
 abbrev pub Gone : State → State → Node → Type 0
 Gone s t n = ((d : Device) → In d t.world → d.born ≢ n.born) ⊎ ((m : Node) → node_at n.parent t.core.nodes ≡ Some m → is_live t m ≡ false)
 
+-- no serial and no birth number is used up
+abbrev pub Counts : State → State → Type 0
+Counts s t = (t.next_serial ≡ s.next_serial) × (t.next_born ≡ s.next_born)
+
 pub record Flows (s t : State) : Type 0 where
+  pub counts : Counts s t
   pub world : Sub t.world s.world
   pub from : FromThose s.core.nodes t.core.nodes
   pub start : Option Node

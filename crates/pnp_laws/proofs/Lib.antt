@@ -47,6 +47,7 @@ pub mod RunsStep
 pub mod Joins
 pub mod JoinSteps
 pub mod JoinRemovals
+pub mod JoinTasks
 pub mod Measures
 pub mod MeasureOps
 pub mod MeasureRemovals
