@@ -14,7 +14,7 @@ use Rattle.pnp_model.specs.Diagram.{Change, FollowsDiagram, Row}
 use Rattle.pnp_model.specs.States.{is_activity, activity_at, with_phase, entered, with_core}
 use Rattle.pnp_model.specs.Starts.{StartBeside, StartMove, add_driver, searched, end_start, start_on, remove_on, undo, act, adding}
 use Rattle.pnp_model.specs.Walks.{is_bad, has_ended, walk_of}
-use Rattle.pnp_model.specs.Trees.{stands_up}
+use Rattle.pnp_model.specs.Tasks.{joins, join_step}
 use Rattle.pnp_model.specs.Rebalances.{RebalanceBeside, RebalanceMove}
 use Rattle.pnp_model.specs.Machine.{start_lifted, after_start, rebalance_lifted, after_rebalance}
 use Rattle.pnp_labels.specs.declared.states.DevState.{DevState}
@@ -30,19 +30,21 @@ use Rattle.pnp_laws.specs.Kept.{IsGood, Fits, InOrder}
 use Rattle.pnp_laws.proofs.Lookups.{some_same, own_serial, node_from, entered_same, entered_other, phase_from, ended_same, ended_other}
 use Rattle.pnp_laws.proofs.Ranks.{and_both}
 use Rattle.pnp_laws.proofs.Standing.{Sound, IsNoLeave}
-use Rattle.pnp_laws.proofs.Joins.{starts, start_cost, closed, is_bare, some_there, is_live, Sub, sub_same, Gone, Flows, Counts}
+use Rattle.pnp_laws.proofs.Joins.{starts, start_cost, closed, is_bare, some_there, is_live, In, Sub, sub_same, Gone, Flows, Counts}
 use Rattle.pnp_model.specs.Rebalances as re
 
 -- Labels ----------------------------------------------------------------------------------------------
 
--- no driver is added
+-- no driver is added, and no device joins
 abbrev pub IsNoAdd : Label → Type 0
 IsNoAdd (Label.Add path driver true) = ⊥
+IsNoAdd (Label.Join k path) = ⊥
 IsNoAdd _ = Unit {0}
 
--- no driver is added, and no device leaves
+-- no driver is added, and no device joins or leaves
 abbrev pub IsStill : Label → Type 0
 IsStill (Label.Add path driver true) = ⊥
+IsStill (Label.Join k path) = ⊥
 IsStill (Label.Leave path) = ⊥
 IsStill (Label.Ejected path) = ⊥
 IsStill _ = Unit {0}
@@ -54,7 +56,7 @@ no_add_of (Label.Add p d false) h = tt
 no_add_of (Label.Did w x) h = tt
 no_add_of (Label.Refused w r) h = tt
 no_add_of (Label.Skip t k) h = tt
-no_add_of (Label.Join k p) h = tt
+no_add_of (Label.Join k p) h = h
 no_add_of (Label.Gone p) h = tt
 no_add_of (Label.Listed p) h = tt
 no_add_of (Label.Install p r d) h = tt
@@ -92,6 +94,28 @@ no_leave_of (Label.Leave p) h = h
 no_leave_of (Label.Ejected p) h = h
 no_leave_of (Label.End o p r) h = tt
 
+no_join_of : (label : Label) → IsNoAdd label → IsNoJoin label
+no_join_of (Label.State p x) h = tt
+no_join_of (Label.Add p d x) h = tt
+no_join_of (Label.Did w x) h = tt
+no_join_of (Label.Refused w r) h = tt
+no_join_of (Label.Skip t k) h = tt
+no_join_of (Label.Join k p) h = h
+no_join_of (Label.Gone p) h = tt
+no_join_of (Label.Listed p) h = tt
+no_join_of (Label.Install p r d) h = tt
+no_join_of (Label.Trouble p q) h = tt
+no_join_of (Label.Assign p x) h = tt
+no_join_of (Label.Fits p) h = tt
+no_join_of (Label.NoFit p) h = tt
+no_join_of (Label.Spent p) h = tt
+no_join_of (Label.Asked m p d x) h = tt
+no_join_of (Label.Begin o p) h = tt
+no_join_of (Label.Commit n) h = tt
+no_join_of (Label.Leave p) h = tt
+no_join_of (Label.Ejected p) h = tt
+no_join_of (Label.End o p r) h = tt
+
 not_from_bare : (minor : Minor) (bad : Bool) (a b : DevState) → Row a minor bad b → a ≡ NoStack → ⊥
 not_from_bare _ _ _ _ Row.start e = cc
 not_from_bare _ _ _ _ Row.start_bad e = cc
@@ -120,7 +144,7 @@ bare_stays (Label.Add p d false) h a b c g = c ∙ g
 bare_stays (Label.Did w x) h a b c g = c ∙ g
 bare_stays (Label.Refused w r) h a b c g = c ∙ g
 bare_stays (Label.Skip t k) h a b c g = c ∙ g
-bare_stays (Label.Join k p) h a b c g = c ∙ g
+bare_stays (Label.Join k p) h a b c g = absurd h
 bare_stays (Label.Gone p) h a b c g = c ∙ g
 bare_stays (Label.Listed p) h a b c g = c ∙ g
 bare_stays (Label.Install p r d) h a b c g = c ∙ g
@@ -173,8 +197,19 @@ pub record Knows (s : State) (step : Step) : Type 0 where
   pub diagram : FollowsDiagram step.label s.core.nodes step.state.core.nodes
   pub good : IsGood step.state
 
+-- a child of the device joins
+pub record Joined (s : State) (step : Step) : Type 0 where
+  pub node : Node
+  pub device : Device
+  pub is : step ≡ join_step s node device
+  pub join : joins node.born s.core.nodes device ≡ true
+  pub there : In device s.world
+  pub at : node_at node.serial s.core.nodes ≡ Some node
+  pub up : node.state ≡ Started
+  pub none : s.operation ≡ None
+
 abbrev pub FlowsStep : State → Step → Type 0
-FlowsStep s step = Knows s step → IsNoJoin step.label → Flows s step.state
+FlowsStep s step = Knows s step → Flows s step.state ⊎ Joined s step
 
 abbrev pub FlowsDoing : State → Doing Step → Type 0
 FlowsDoing s (Does step) = FlowsStep s step
@@ -219,17 +254,17 @@ live_back s t label no_add diagram closes k n m active was at live =
 
 pub flows_on : (s : State) (step : Step) → IsNoAdd step.label → Counts s step.state → Sub step.state.world s.world → Cheaper s.tasks step.state.tasks → (Knows s step → Closes s step.state) → (Knows s step → Active s step.state) →
     (Knows s step → (k : ℕ) (n : Node) → node_at k s.core.nodes ≡ Some n → node_at k step.state.core.nodes ≡ None → Gone s step.state n) → FlowsStep s step
-flows_on s step no_add counts world tasks closes active gone knows no_join =
-    record {
+flows_on s step no_add counts world tasks closes active gone knows =
+    inl (record {
       counts = counts;
       world = world;
-      from = knows.sound.births no_join;
+      from = knows.sound.births (no_join_of step.label no_add);
       start = None;
       started = λ n e. absurd (cc);
       tasks = λ cost. let h = tasks cost in omega arith;
       live = λ k n m was at live. inl (live_back s step.state step.label no_add knows.diagram (closes knows) k n m (active knows k m at) was at live);
       gone = gone knows;
-    }
+    })
 
 -- nobody leaves
 pub flows_still : (s : State) (step : Step) → IsStill step.label → Counts s step.state → Sub step.state.world s.world → Cheaper s.tasks step.state.tasks → (Knows s step → Closes s step.state) → (Knows s step → Active s step.state) → FlowsStep s step
@@ -296,19 +331,19 @@ moved s k m order still = moved_with s k m m.beside order still
 
 -- a driver was added: the device has an activity
 flows_added : (s : State) (c : Core) (node : Node) (d : ℕ) (ds : List ℕ) → c.nodes ≡ s.core.nodes → s.operation ≡ None → some_there (activity_at node.serial s.activities) ≡ true → FlowsStep s (start_lifted s node.serial (add_driver c node d ds Ok))
-flows_added s c node d ds same none there knows no_join =
+flows_added s c node d ds same none there knows =
     let step = start_lifted s node.serial (add_driver c node d ds Ok) in
     let t = step.state in
-    record {
+    inl (record {
       counts = (refl, refl);
       world = sub_same s.world;
-      from = knows.sound.births no_join;
+      from = knows.sound.births tt;
       start = None;
       started = λ n e. absurd (cc);
       tasks = λ cost. omega arith;
       live = λ k n m was at live. inl (by_live k n m was at (live_from t m live).1);
       gone = λ k n at gone. absurd (knows.sound.stays tt k n at gone);
-    }
+    })
   where
     t_nodes : List Node
     t_nodes = changed_first (is_node node.serial) (with_stack (node.stack ++ d ∷ []) (stacked node.state)) c.nodes

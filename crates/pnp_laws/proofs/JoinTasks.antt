@@ -1,6 +1,6 @@
 -- A task but a join lets no more devices join.
-use Rattle.std.proofs.Common.{ℕ, suc, drop, ◌+◌, ◌<◌, ◌≤◌, ◌≡◌, ◌≢◌, ◌==◌, ◌⊎◌, inl, inr, Bool, true, false, not, List, [], ◌∷◌, ◌++◌, length, nat_le, Option, Some, None, refl, sym, ap, ◌∙◌, subst, arith}
-use Rattle.std.specs.List.{slice_get}
+use Rattle.std.proofs.Common.{ℕ, suc, drop, ◌+◌, ◌<◌, ◌≤◌, ◌≡◌, ◌≢◌, ◌==◌, ◌⊎◌, inl, inr, Bool, true, false, not, cond, List, [], ◌∷◌, ◌++◌, length, nat_le, Option, Some, None, refl, sym, ap, ◌∙◌, subst, arith}
+use Rattle.std.specs.List.{find, slice_get}
 use Rattle.std.proofs.lemmas.Bool.{cases_eq}
 use Rattle.std.proofs.lemmas.Bool.Decides.{nat_tests}
 use Rattle.pnp_model.specs.Tests.{has_same}
@@ -9,15 +9,15 @@ use Rattle.pnp_model.specs.Cores.{node_at}
 use Rattle.pnp_model.specs.Books.{driver_named}
 use Rattle.pnp_model.specs.States.{drop_task, activity_at, entered, set_operation}
 use Rattle.pnp_model.specs.Starts.{adding}
-use Rattle.pnp_model.specs.Tasks.{joining, gone_child, gone_or_listed, join_or_on, list_up, list_step, begin_trouble, install, numbered, install_named, install_few, install_service, install_best, start_enabled, start_idle, start_bare, start_step, begin, rebalance_idle, rebalance_task, disable_task, begin_step}
+use Rattle.pnp_model.specs.Tasks.{joins, joining, gone_child, gone_or_listed, join_or_on, list_up, list_step, begin_trouble, install, numbered, install_named, install_few, install_service, install_best, start_enabled, start_idle, start_bare, start_step, begin, rebalance_idle, rebalance_task, disable_task, begin_step}
 use Rattle.pnp_labels.specs.Texts.{Text}
 use Rattle.pnp_labels.specs.declared.states.DevState.{DevState}
 use Rattle.pnp_labels.specs.declared.states.DevState.TheVariants.{NoStack, NotStarted, Started, StopPending, Stopped, RemovePending, SurpriseRemoved}
 use Rattle.pnp_labels.specs.declared.states.Problem.{Problem}
 use Rattle.pnp_labels.specs.declared.label.Label.{Label}
 use Rattle.pnp_labels.specs.declared.label.OpKind.{OpKind}
-use Rattle.pnp_laws.proofs.Lookups.{some_same, own_serial, entered_other}
-use Rattle.pnp_laws.proofs.Joins.{starts, start_cost, start_of, closed, is_bare, some_there, is_live, sub_same}
+use Rattle.pnp_laws.proofs.Lookups.{some_same, own_serial, found_self, entered_other}
+use Rattle.pnp_laws.proofs.Joins.{starts, start_cost, start_of, closed, is_bare, some_there, is_live, In, sub_same}
 use Rattle.pnp_laws.proofs.JoinSteps.{IsStill, Knows, FlowsStep, FlowsNext, cheaper_pushed, cheaper_dropped, active_same, closes_same, closes_open, live_back, flows_still}
 use Rattle.pnp_model.specs.Rebalances as re
 use Rattle.pnp_model.specs.Removals as rm
@@ -34,22 +34,30 @@ flows_gone s node (Some child) =
     let t = (gone_or_listed s node (Some child)).state in
     flows_still s _ tt (refl, refl) (sub_same s.world) (cheaper_pushed s.tasks (record { kind = Duty.Begins OpKind.Surprise; serial = child.serial }) (λ cost. refl)) (λ knows. closes_same s t refl) (λ knows. active_same s t refl)
 
-flows_join_or_on : (s : State) (node : Node) (o : Option Device) → FlowsStep s (join_or_on s node o)
-flows_join_or_on s node None = flows_gone s node (gone_child s node.serial)
-flows_join_or_on s node (Some d) = λ knows no_join. absurd no_join
+in_find : (p : Device → Bool) (ds : List Device) (d : Device) → find p ds ≡ Some d → (p d ≡ true) × In d ds
+in_find p [] d h = absurd (cc)
+in_find p (x ∷ xs) d h = by_test (p x) refl h (λ g. in_find p xs d g)
+  where
+    by_test : (b : Bool) → p x ≡ b → cond b (Some x) (find p xs) ≡ Some d → (find p xs ≡ Some d → (p d ≡ true) × In d xs) → (p d ≡ true) × In d (x ∷ xs)
+    by_test true e g more = let same : x ≡ d = cc in (subst (λ (z : Device). p z ≡ true) same e, inl same)
+    by_test false e g more = let m = more g in (m.0, inr m.1)
 
-flows_list_up : (s : State) (node : Node) (x : DevState) → FlowsStep s (list_up s node x)
-flows_list_up s node NoStack = flows_drop s _ tt
-flows_list_up s node NotStarted = flows_drop s _ tt
-flows_list_up s node Started = flows_join_or_on s node (joining node.born s.core.nodes s.world)
-flows_list_up s node StopPending = flows_drop s _ tt
-flows_list_up s node Stopped = flows_drop s _ tt
-flows_list_up s node RemovePending = flows_drop s _ tt
-flows_list_up s node SurpriseRemoved = flows_drop s _ tt
+flows_join_or_on : (s : State) (node : Node) (o : Option Device) → joining node.born s.core.nodes s.world ≡ o → node_at node.serial s.core.nodes ≡ Some node → node.state ≡ Started → s.operation ≡ None → FlowsStep s (join_or_on s node o)
+flows_join_or_on s node None e at up none = flows_gone s node (gone_child s node.serial)
+flows_join_or_on s node (Some d) e at up none = λ knows. let i = in_find (joins node.born s.core.nodes) s.world d e in inr (record { node = node; device = d; is = refl; join = i.0; there = i.1; at = at; up = up; none = none })
 
-pub flows_list : (s : State) (k : ℕ) (o : Option Node) → FlowsStep s (list_step s k o)
-flows_list s k None = flows_drop s _ tt
-flows_list s k (Some node) = flows_list_up s node node.state
+flows_list_up : (s : State) (node : Node) (x : DevState) → node.state ≡ x → node_at node.serial s.core.nodes ≡ Some node → s.operation ≡ None → FlowsStep s (list_up s node x)
+flows_list_up s node NoStack e at none = flows_drop s _ tt
+flows_list_up s node NotStarted e at none = flows_drop s _ tt
+flows_list_up s node Started e at none = flows_join_or_on s node (joining node.born s.core.nodes s.world) refl at e none
+flows_list_up s node StopPending e at none = flows_drop s _ tt
+flows_list_up s node Stopped e at none = flows_drop s _ tt
+flows_list_up s node RemovePending e at none = flows_drop s _ tt
+flows_list_up s node SurpriseRemoved e at none = flows_drop s _ tt
+
+pub flows_list : (s : State) (k : ℕ) (o : Option Node) → node_at k s.core.nodes ≡ o → s.operation ≡ None → FlowsStep s (list_step s k o)
+flows_list s k None e none = flows_drop s _ tt
+flows_list s k (Some node) e none = flows_list_up s node node.state refl (found_self k s.core.nodes node e) none
 
 -- Starting -----------------------------------------------------------------------------------------------
 
@@ -70,13 +78,13 @@ starts_first cost (t ∷ tasks) task first = let same : t ≡ task = cc in let e
 
 -- the start is used up: all below the device can join
 flows_install : (s : State) (node : Node) (rank driver : ℕ) (drivers : List ℕ) → Ready s node → FlowsStep s (install s node rank driver drivers)
-flows_install s node rank driver drivers ready knows no_join =
+flows_install s node rank driver drivers ready knows =
     let step = install s node rank driver drivers in
     let t = step.state in
-    record {
+    inl (record {
       counts = (refl, refl);
       world = sub_same s.world;
-      from = knows.sound.births no_join;
+      from = knows.sound.births tt;
       start = Some node;
       started = λ n e. let same : node ≡ n = cc in subst (λ (x : Node). node_at x.serial s.core.nodes ≡ Some x) same ready.at;
       tasks = λ cost. let e = starts_first cost s.tasks (record { kind = Duty.Starting; serial = node.serial }) ready.first in omega arith;
@@ -87,7 +95,7 @@ flows_install s node rank driver drivers ready knows no_join =
               (λ h. inl (ap some_there (sym (entered_other (record { serial = node.serial; phase = adding drivers }) k s.activities d)) ∙ h)) was at live)
           ];
       gone = λ k n at gone. absurd (knows.sound.stays tt k n at gone);
-    }
+    })
 
 flows_named : (s : State) (node : Node) (rank : ℕ) (lower : Option (List ℕ)) (driver : Option ℕ) (upper : Option (List ℕ)) → Ready s node → FlowsStep s (install_named s node rank lower driver upper)
 flows_named s node rank (Some lower) (Some driver) (Some upper) ready = flows_install s node rank driver _ ready

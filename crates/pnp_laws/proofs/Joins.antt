@@ -1,5 +1,5 @@
 -- How many devices can still join, and that a step but a join makes these no more.
-use Rattle.std.proofs.Common.{ℕ, suc, drop, ◌+◌, ◌<◌, ◌≤◌, ◌≡◌, ◌≢◌, ◌==◌, ◌⊎◌, inl, inr, Bool, true, false, not, ◌&&◌, ◌||◌, cond, List, [], ◌∷◌, ◌++◌, Option, Some, None, refl, sym, ap, ◌∙◌, subst, arith}
+use Rattle.std.proofs.Common.{ℕ, suc, drop, ◌+◌, ◌<◌, ◌≤◌, ◌≡◌, ◌≢◌, ◌==◌, ◌⊎◌, inl, inr, Bool, true, false, not, ◌&&◌, ◌||◌, cond, List, [], ◌∷◌, ◌++◌, Option, Some, None, refl, sym, ap, ◌∙◌, subst, arith, nat_lt}
 use Rattle.std.specs.List.{list_any, slice_get}
 use Rattle.std.proofs.lemmas.Bool.{cases_eq}
 use Rattle.std.proofs.lemmas.Bool.Decides.{nat_tests}
@@ -34,6 +34,10 @@ start_cost cost (Duty.Begins kind) k = 0
 abbrev pub starts : (ℕ → ℕ) → List Task → ℕ
 starts cost [] = 0
 starts cost (task ∷ tasks) = start_cost cost task.kind task.serial + starts cost tasks
+
+-- such a serial is not given yet
+abbrev pub unborn : ℕ → ℕ → ℕ
+unborn next k = cond (nat_lt k next) 0 1
 
 abbrev pub below_node : List Device → Option Node → ℕ
 below_node world None = 0
@@ -203,6 +207,7 @@ pub record Born (s : State) : Type 0 where
   pub fresh : (d : Device) → In d s.world → d.born < s.next_born
   pub apart : (j k : ℕ) (n m : Node) → node_at j s.core.nodes ≡ Some n → node_at k s.core.nodes ≡ Some m → n.born ≡ m.born → j ≡ k
   pub known : (k : ℕ) (n : Node) → node_at k s.core.nodes ≡ Some n → n.born < s.next_born
+  pub soon : starts (unborn s.next_serial) s.tasks ≡ 0
   pub links : (k : ℕ) (n p : Node) (d : Device) → node_at k s.core.nodes ≡ Some n → node_at n.parent s.core.nodes ≡ Some p → In d s.world → d.born ≡ n.born → p.born ≡ d.parent
 
 -- What a step but a join does ----------------------------------------------------------------------------
