@@ -48,6 +48,7 @@ pub mod Joins
 pub mod JoinSteps
 pub mod JoinRemovals
 pub mod JoinTasks
+pub mod JoinBirths
 pub mod Measures
 pub mod MeasureOps
 pub mod MeasureRemovals
