@@ -21,7 +21,7 @@ grows_weaker : (lo hi : ℕ) (ds : List Device) → lo ≤ hi → Grows hi ds �
 grows_weaker lo hi [] l h = tt
 grows_weaker lo hi (d ∷ ds) l h = let a = h.0 in (omega arith, h.1, h.2)
 
-grows_sub : (lo : ℕ) (xs ys : List Device) → Sub xs ys → Grows lo ys → Grows lo xs
+pub grows_sub : (lo : ℕ) (xs ys : List Device) → Sub xs ys → Grows lo ys → Grows lo xs
 grows_sub lo _ _ Sub.none h = tt
 grows_sub lo _ _ (Sub.keep d xs ys sub) h = (h.0, h.1, grows_sub (suc d.born) xs ys sub h.2)
 grows_sub lo _ _ (Sub.skip d xs ys sub) h = let a = h.0 in grows_weaker lo (suc d.born) xs (omega arith) (grows_sub (suc d.born) xs ys sub h.2)
@@ -103,7 +103,7 @@ unborn_less n k = by_test (nat_lt k n) (nat_lt k (n + 1)) (λ h. grind (arith, n
     by_test false true h = omega arith
     by_test false false h = omega arith
 
-pushed : (cost : ℕ → ℕ) (tasks : List Task) (task : Task) → starts cost (tasks ++ task ∷ []) ≡ starts cost tasks + start_cost cost task.kind task.serial
+pub pushed : (cost : ℕ → ℕ) (tasks : List Task) (task : Task) → starts cost (tasks ++ task ∷ []) ≡ starts cost tasks + start_cost cost task.kind task.serial
 pushed cost [] task = omega arith
 pushed cost (t ∷ tasks) task = let more = pushed cost tasks task in omega arith
 

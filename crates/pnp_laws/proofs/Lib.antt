@@ -49,6 +49,7 @@ pub mod JoinSteps
 pub mod JoinRemovals
 pub mod JoinTasks
 pub mod JoinBirths
+pub mod JoinEvents
 pub mod Measures
 pub mod MeasureOps
 pub mod MeasureRemovals
