@@ -209,7 +209,7 @@ pub record Joined (s : State) (step : Step) : Type 0 where
   pub none : s.operation ≡ None
 
 abbrev pub FlowsStep : State → Step → Type 0
-FlowsStep s step = Knows s step → Flows s step.state ⊎ Joined s step
+FlowsStep s step = Knows s step → (IsNoJoin step.label × Flows s step.state) ⊎ Joined s step
 
 abbrev pub FlowsDoing : State → Doing Step → Type 0
 FlowsDoing s (Does step) = FlowsStep s step
@@ -255,7 +255,7 @@ live_back s t label no_add diagram closes k n m active was at live =
 pub flows_on : (s : State) (step : Step) → IsNoAdd step.label → Counts s step.state → Sub step.state.world s.world → Cheaper s.tasks step.state.tasks → (Knows s step → Closes s step.state) → (Knows s step → Active s step.state) →
     (Knows s step → (k : ℕ) (n : Node) → node_at k s.core.nodes ≡ Some n → node_at k step.state.core.nodes ≡ None → Gone s step.state n) → FlowsStep s step
 flows_on s step no_add counts world tasks closes active gone knows =
-    inl (record {
+    inl (no_join_of step.label no_add, record {
       counts = counts;
       world = world;
       from = knows.sound.births (no_join_of step.label no_add);
@@ -334,7 +334,7 @@ flows_added : (s : State) (c : Core) (node : Node) (d : ℕ) (ds : List ℕ) →
 flows_added s c node d ds same none there knows =
     let step = start_lifted s node.serial (add_driver c node d ds Ok) in
     let t = step.state in
-    inl (record {
+    inl (tt, record {
       counts = (refl, refl);
       world = sub_same s.world;
       from = knows.sound.births tt;

@@ -81,7 +81,7 @@ flows_install : (s : State) (node : Node) (rank driver : â„•) (drivers : List â„
 flows_install s node rank driver drivers ready knows =
     let step = install s node rank driver drivers in
     let t = step.state in
-    inl (record {
+    inl (tt, record {
       counts = (refl, refl);
       world = sub_same s.world;
       from = knows.sound.births tt;

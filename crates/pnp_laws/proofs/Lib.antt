@@ -50,6 +50,7 @@ pub mod JoinRemovals
 pub mod JoinTasks
 pub mod JoinBirths
 pub mod JoinEvents
+pub mod JoinMachine
 pub mod Measures
 pub mod MeasureOps
 pub mod MeasureRemovals
