@@ -255,16 +255,19 @@ live_back s t label no_add diagram closes k n m active was at live =
 pub flows_on : (s : State) (step : Step) → IsNoAdd step.label → Counts s step.state → Sub step.state.world s.world → Cheaper s.tasks step.state.tasks → (Knows s step → Closes s step.state) → (Knows s step → Active s step.state) →
     (Knows s step → (k : ℕ) (n : Node) → node_at k s.core.nodes ≡ Some n → node_at k step.state.core.nodes ≡ None → Gone s step.state n) → FlowsStep s step
 flows_on s step no_add counts world tasks closes active gone knows =
-    inl (no_join_of step.label no_add, record {
-      counts = counts;
-      world = world;
-      from = knows.sound.births (no_join_of step.label no_add);
-      start = None;
-      started = λ n e. absurd (cc);
-      tasks = λ cost. let h = tasks cost in omega arith;
-      live = λ k n m was at live. inl (live_back s step.state step.label no_add knows.diagram (closes knows) k n m (active knows k m at) was at live);
-      gone = gone knows;
-    })
+    inl (
+      no_join_of step.label no_add,
+      record {
+        counts = counts;
+        world = world;
+        from = knows.sound.births (no_join_of step.label no_add);
+        start = None;
+        started = λ n e. absurd (cc);
+        tasks = λ cost. let h = tasks cost in omega arith;
+        live = λ k n m was at live. inl (live_back s step.state step.label no_add knows.diagram (closes knows) k n m (active knows k m at) was at live);
+        gone = gone knows;
+      },
+    )
 
 -- nobody leaves
 pub flows_still : (s : State) (step : Step) → IsStill step.label → Counts s step.state → Sub step.state.world s.world → Cheaper s.tasks step.state.tasks → (Knows s step → Closes s step.state) → (Knows s step → Active s step.state) → FlowsStep s step
@@ -334,16 +337,19 @@ flows_added : (s : State) (c : Core) (node : Node) (d : ℕ) (ds : List ℕ) →
 flows_added s c node d ds same none there knows =
     let step = start_lifted s node.serial (add_driver c node d ds Ok) in
     let t = step.state in
-    inl (tt, record {
-      counts = (refl, refl);
-      world = sub_same s.world;
-      from = knows.sound.births tt;
-      start = None;
-      started = λ n e. absurd (cc);
-      tasks = λ cost. omega arith;
-      live = λ k n m was at live. inl (by_live k n m was at (live_from t m live).1);
-      gone = λ k n at gone. absurd (knows.sound.stays tt k n at gone);
-    })
+    inl (
+      tt,
+      record {
+        counts = (refl, refl);
+        world = sub_same s.world;
+        from = knows.sound.births tt;
+        start = None;
+        started = λ n e. absurd (cc);
+        tasks = λ cost. omega arith;
+        live = λ k n m was at live. inl (by_live k n m was at (live_from t m live).1);
+        gone = λ k n at gone. absurd (knows.sound.stays tt k n at gone);
+      },
+    )
   where
     t_nodes : List Node
     t_nodes = changed_first (is_node node.serial) (with_stack (node.stack ++ d ∷ []) (stacked node.state)) c.nodes

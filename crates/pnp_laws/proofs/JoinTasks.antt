@@ -81,21 +81,24 @@ flows_install : (s : State) (node : Node) (rank driver : ℕ) (drivers : List �
 flows_install s node rank driver drivers ready knows =
     let step = install s node rank driver drivers in
     let t = step.state in
-    inl (tt, record {
-      counts = (refl, refl);
-      world = sub_same s.world;
-      from = knows.sound.births tt;
-      start = Some node;
-      started = λ n e. let same : node ≡ n = cc in subst (λ (x : Node). node_at x.serial s.core.nodes ≡ Some x) same ready.at;
-      tasks = λ cost. let e = starts_first cost s.tasks (record { kind = Duty.Starting; serial = node.serial }) ready.first in omega arith;
-      live = λ k n m was at live.
-          elim (cases_eq node.serial k) [
-            | inl e ↦ inr (ap Some (some_same (node_at k s.core.nodes) node n (subst (λ (i : ℕ). node_at i s.core.nodes ≡ Some node) e ready.at) was))
-            | inr d ↦ inl (live_back s t step.label tt knows.diagram (closes_same s t refl) k n m
-              (λ h. inl (ap some_there (sym (entered_other (record { serial = node.serial; phase = adding drivers }) k s.activities d)) ∙ h)) was at live)
-          ];
-      gone = λ k n at gone. absurd (knows.sound.stays tt k n at gone);
-    })
+    inl (
+      tt,
+      record {
+        counts = (refl, refl);
+        world = sub_same s.world;
+        from = knows.sound.births tt;
+        start = Some node;
+        started = λ n e. let same : node ≡ n = cc in subst (λ (x : Node). node_at x.serial s.core.nodes ≡ Some x) same ready.at;
+        tasks = λ cost. let e = starts_first cost s.tasks (record { kind = Duty.Starting; serial = node.serial }) ready.first in omega arith;
+        live = λ k n m was at live.
+            elim (cases_eq node.serial k) [
+              | inl e ↦ inr (ap Some (some_same (node_at k s.core.nodes) node n (subst (λ (i : ℕ). node_at i s.core.nodes ≡ Some node) e ready.at) was))
+              | inr d ↦ inl (live_back s t step.label tt knows.diagram (closes_same s t refl) k n m
+                  (λ h. inl (ap some_there (sym (entered_other (record { serial = node.serial; phase = adding drivers }) k s.activities d)) ∙ h)) was at live)
+            ];
+        gone = λ k n at gone. absurd (knows.sound.stays tt k n at gone);
+      },
+    )
 
 flows_named : (s : State) (node : Node) (rank : ℕ) (lower : Option (List ℕ)) (driver : Option ℕ) (upper : Option (List ℕ)) → Ready s node → FlowsStep s (install_named s node rank lower driver upper)
 flows_named s node rank (Some lower) (Some driver) (Some upper) ready = flows_install s node rank driver _ ready

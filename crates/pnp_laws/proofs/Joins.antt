@@ -277,8 +277,8 @@ one_born s t next order order_t tree born f d there both =
     let born_is : was.0.born ≡ d.parent = let e = own.0 in let g = was.2 in grind (arith, nat_tests) in
     elim (f.live m.serial was.0 m was.1 at.1 own.1) [
       | inl live ↦ inl (by_there m was.0 at.1 was.1 own.1 born_is two.1
-        (any_from (λ n. n.born == d.parent && is_live s n) s.core.nodes m.serial was.0 was.1 (pair (was.0.born == d.parent) (is_live s was.0) (grind (arith, nat_tests)) live))
-        (has_born d.born s.core.nodes) refl)
+          (any_from (λ n. n.born == d.parent && is_live s n) s.core.nodes m.serial was.0 was.1 (pair (was.0.born == d.parent) (is_live s was.0) (grind (arith, nat_tests)) live))
+          (has_born d.born s.core.nodes) refl)
       | inr e ↦ inr (ap (λ (o : Option Node). starts_with o d.parent) e ∙ (let q = born_is in grind (arith, nat_tests)))
     ]
   where
