@@ -1,12 +1,11 @@
 -- What a device that comes or goes changes.
-use Rattle.std.proofs.Common.{◌≡◌, ◌≢◌, ℕ, ◌+◌, ◌<◌, ◌==◌, Bool, true, false, cond, List, [], ◌∷◌, ◌++◌, map, Option, Some, None, nat_eq, refl, sym, ap, ap₂, subst, ◌∙◌, arith, option_map, IsTrue, is_some, inl, inr}
-use Rattle.std.specs.List.{find, AllByRecursion}
+use Rattle.std.proofs.Common.{◌≡◌, ◌≢◌, ℕ, ◌+◌, ◌<◌, ◌==◌, true, false, cond, List, [], ◌∷◌, ◌++◌, map, Option, Some, None, nat_eq, refl, sym, ap, ap₂, ◌∙◌, arith, option_map, IsTrue, is_some, inl, inr}
+use Rattle.std.specs.List.{AllByRecursion}
 use Rattle.std.specs.HashMap.{HashMap, get}
 use Rattle.std.proofs.lemmas.Bool.Decides.{nat_tests}
 use Rattle.std.proofs.lemmas.List.{map-append}
 use Rattle.resource_reqs.proofs.Counts.{all_push}
 use Rattle.pnp_labels.specs.declared.states.DevState.TheVariants.{NoStack}
-use Rattle.pnp_labels.specs.Texts.{Text}
 use Rattle.pnp_model.specs.Cores.{is_node, node_at, serials_of, path_of}
 use Rattle.pnp_model.specs.Keyed.{without_first}
 use Rattle.pnp_model.specs.Runs.{root_node, root_path}
@@ -18,7 +17,7 @@ use Rattle.devnode_tree.proofs.KeyedMaps.{map-without_first}
 use Rattle.devnode_tree.proofs.Leaves.{tree_left}
 use Rattle.script_bus.specs.declared.device.Device as shown
 use Rattle.script_bus.specs.Kept.{device_with, device_at, world_of, HasPart, IsBare, IsKept}
-use Rattle.script_bus.specs.Worlds.{World, child_births, plugged, without_leaf}
+use Rattle.script_bus.specs.Worlds.{child_births, without_leaf}
 use Rattle.script_bus.proofs.Places.{born_is, children_are, in_world_is, no_map, all_found, found_passes}
 use Rattle.script_bus.proofs.Unplugs.{by_cond, all_both, all_without}
 

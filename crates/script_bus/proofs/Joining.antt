@@ -1,13 +1,13 @@
 -- Who joins and who is gone.
-use Rattle.std.proofs.Common.{◌≡◌, ◌≢◌, ℕ, ◌+◌, ◌<◌, ◌≤◌, ◌==◌, Bool, true, false, not, ◌&&◌, ◌||◌, cond, List, [], ◌∷◌, ◌++◌, map, drop, length, get_or, append_assoc, IsTrue, Option, Some, None, IsSome, is_some, nat_le, refl, sym, ap, ap₂, ◌∙◌, arith, option_map}
-use Rattle.std.specs.List.{find, list_any, AllByRecursion}
+use Rattle.std.proofs.Common.{◌≡◌, ◌≢◌, ℕ, ◌+◌, ◌<◌, ◌≤◌, ◌==◌, Bool, true, false, not, ◌&&◌, ◌||◌, cond, List, [], ◌∷◌, ◌++◌, map, drop, length, get_or, append_assoc, IsTrue, Option, Some, None, is_some, nat_le, refl, sym, ap, ap₂, ◌∙◌, arith, option_map}
+use Rattle.std.specs.List.{find, AllByRecursion}
 use Rattle.std.proofs.lemmas.Bool.Decides.{nat_tests}
 use Rattle.pnp_labels.specs.Texts.{Text}
 use Rattle.device_ids.specs.Folding.{same}
 use Rattle.pnp_model.specs.Cores.{node_at, is_node, serials_of}
 use Rattle.pnp_model.specs.Keyed.{those}
 use Rattle.pnp_model.specs.Records.{Device, Node}
-use Rattle.pnp_model.specs.States.{device_born, device_of, is_in_world, node_of, node_born}
+use Rattle.pnp_model.specs.States.{device_born, node_of, node_born}
 use Rattle.pnp_model.specs.Tasks.{has_born, has_path, joins}
 use Rattle.pnp_model.specs.Trees.{children}
 use Rattle.pnp_model.specs.Trees as trees

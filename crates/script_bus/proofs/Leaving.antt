@@ -1,15 +1,15 @@
 -- One turn of taking a device and all below it out: a device without children goes.
-use Rattle.std.proofs.Common.{◌≡◌, ◌≢◌, ℕ, ◌+◌, ◌<◌, ◌==◌, Bool, true, false, ◌||◌, cond, List, [], ◌∷◌, length, Option, Some, None, unwrap_or, refl, sym, ap, subst, ◌∙◌, arith, option_map, inl, inr}
-use Rattle.std.specs.List.{find, list_any, AllByRecursion}
+use Rattle.std.proofs.Common.{◌≡◌, ◌≢◌, ℕ, ◌+◌, ◌<◌, ◌==◌, Bool, true, false, ◌||◌, cond, List, [], ◌∷◌, length, Some, None, unwrap_or, refl, sym, ap, ◌∙◌, arith, option_map, inl, inr}
+use Rattle.std.specs.List.{list_any, AllByRecursion}
 use Rattle.std.proofs.lemmas.Bool.Decides.{nat_tests}
 use Rattle.pnp_model.specs.Keyed.{without_first}
 use Rattle.pnp_model.specs.Records.{Device}
 use Rattle.pnp_model.specs.States.{device_born, is_in_world, without_those}
 use Rattle.pnp_model.specs.Tests.{has}
 use Rattle.devnode_tree.specs.Trees.{Ascends}
-use Rattle.script_bus.specs.Worlds.{World, IsWorld, births_of, child_births, parent_in, HasParent, without_leaf, without_device}
+use Rattle.script_bus.specs.Worlds.{World, IsWorld, births_of, child_births, parent_in, HasParent, without_device}
 use Rattle.script_bus.proofs.Places.{all_found, found_passes}
-use Rattle.script_bus.proofs.Unplugs.{by_bool, by_cond, final, Rules, gone_out, leaf_first, no_root_goes, goes_up, in_births}
+use Rattle.script_bus.proofs.Unplugs.{by_bool, final, Rules, gone_out, leaf_first, no_root_goes, goes_up, in_births}
 
 pub shorter : (test : Device → Bool) (ds : List Device) → list_any test ds ≡ true → length (without_first test ds) < length ds
 shorter test [] = λ e. absurd (cc)

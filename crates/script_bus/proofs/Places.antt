@@ -1,15 +1,14 @@
 -- What the tree of places says of the devices.
-use Rattle.std.proofs.Common.{◌≡◌, ◌≢◌, ℕ, ◌+◌, ◌<◌, ◌==◌, Bool, true, false, not, ◌&&◌, ◌||◌, cond, List, [], ◌∷◌, ◌++◌, map, length, Option, Some, None, nat_eq, refl, sym, ap, ap₂, subst, ◌∙◌, arith, option_map, IsTrue, IsSome, is_some, inl, inr, ⊎_elim}
+use Rattle.std.proofs.Common.{◌≡◌, ℕ, ◌+◌, ◌<◌, ◌==◌, Bool, true, false, not, ◌&&◌, ◌||◌, cond, List, [], ◌∷◌, map, Option, Some, None, nat_eq, refl, sym, ap, ap₂, subst, ◌∙◌, arith, option_map, IsSome, is_some, inl, inr}
 use Rattle.std.specs.List.{find, list_any, AllByRecursion}
 use Rattle.std.specs.HashMap.{HashMap, get}
 use Rattle.std.specs.Option.{option_copied}
 use denote.Ref.{Bor}
 use Rattle.std.proofs.lemmas.Bool.Decides.{nat_tests}
-use Rattle.std.proofs.lemmas.List.{map-append}
 use Rattle.device_ids.specs.Folding.{same}
 use Rattle.pnp_labels.specs.Texts.{Text}
 use Rattle.pnp_model.specs.Cores.{is_node, node_at, serials_of}
-use Rattle.pnp_model.specs.Keyed.{those, without_first}
+use Rattle.pnp_model.specs.Keyed.{those}
 use Rattle.pnp_model.specs.Records.{Device, Node}
 use Rattle.pnp_model.specs.States.{device_born, device_of, is_in_world, node_of}
 use Rattle.pnp_model.specs.Tests.{has}
@@ -17,10 +16,10 @@ use Rattle.pnp_model.specs.Trees as trees
 use Rattle.devnode_tree.specs.Trees.{Tree, IsTree, Ascends}
 use Rattle.devnode_tree.specs.Trees as tree_specs
 use Rattle.devnode_tree.specs.Entries.{child_serials}
-use Rattle.devnode_tree.proofs.KeyedMaps.{find-map, map-without_first, map-twice, list_any-map}
+use Rattle.devnode_tree.proofs.KeyedMaps.{find-map, map-twice, list_any-map}
 use Rattle.script_bus.specs.declared.device.Device as shown
-use Rattle.script_bus.specs.Kept.{device_with, device_at, world_of, HasPart, IsBare, IsKept}
-use Rattle.script_bus.specs.Worlds.{World, IsWorld, births_of, is_child, child_births, parent_in, part_of, HasParent}
+use Rattle.script_bus.specs.Kept.{device_with, device_at, world_of, HasPart}
+use Rattle.script_bus.specs.Worlds.{IsWorld, births_of, is_child, child_births, parent_in, part_of, HasParent}
 
 -- a place and its device have one number, one parent and one path
 pub born_is : (n : Node) (o : Option shown.Device) → (device_with n o).born ≡ n.serial

@@ -1,13 +1,13 @@
 -- A device and all below it are taken out, a device without children at a time.
-use Rattle.std.proofs.Common.{◌≡◌, ◌≢◌, ℕ, ◌+◌, ◌<◌, ◌≤◌, ◌==◌, Bool, true, false, not, ◌&&◌, ◌||◌, cond, List, [], ◌∷◌, ◌++◌, map, length, slice_get, zero, suc, Option, Some, None, refl, sym, ap, ap₂, subst, ◌∙◌, arith, option_map, IsTrue, inl, inr}
-use Rattle.std.specs.List.{find, list_any, AllByRecursion}
+use Rattle.std.proofs.Common.{◌≡◌, ◌≢◌, ℕ, ◌+◌, ◌<◌, ◌≤◌, ◌==◌, Bool, true, false, not, ◌&&◌, ◌||◌, cond, List, [], ◌∷◌, slice_get, zero, suc, Some, refl, sym, ap, ap₂, ◌∙◌, arith, inl, inr}
+use Rattle.std.specs.List.{AllByRecursion}
 use Rattle.std.proofs.lemmas.Bool.Decides.{nat_tests}
 use Rattle.pnp_model.specs.Keyed.{those, without_first}
 use Rattle.pnp_model.specs.Records.{Device}
 use Rattle.pnp_model.specs.States.{device_born, is_in_world, without_those}
 use Rattle.pnp_model.specs.Tests.{has}
 use Rattle.devnode_tree.specs.Trees.{Ascends}
-use Rattle.script_bus.specs.Worlds.{World, IsWorld, births_of, is_child, child_births, parent_in, HasParent, PassesDown}
+use Rattle.script_bus.specs.Worlds.{World, IsWorld, births_of, is_child, child_births, HasParent, PassesDown}
 
 pub by_cond : {X : Type 0} (P : X → Type 0) (b : Bool) (x y : X) → (b ≡ true → P x) → (b ≡ false → P y) → P (cond b x y)
 by_cond P true x y f g = f refl

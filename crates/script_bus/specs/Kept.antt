@@ -1,5 +1,5 @@
 -- How the world is kept: a tree of places and the devices that stand there.
-use Rattle.std.specs.Prelude.{◌≡◌, ℕ, ◌⊎◌, List, [], map, Option, Some, None, option_map, nat_eq}
+use Rattle.std.specs.Prelude.{◌≡◌, ℕ, ◌⊎◌, [], map, Option, Some, None, option_map, nat_eq}
 use Rattle.std.specs.List.{AllByRecursion}
 use Rattle.std.specs.HashMap.{HashMap, get}
 use Rattle.pnp_model.specs.Records.{Device, Node}

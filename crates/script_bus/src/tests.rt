@@ -1,5 +1,5 @@
 //! Worlds and what listings find, worked out by hand.
-ghost use Rattle.std.specs.Prelude.{◌≡◌, ◌+◌, ◌<◌, ◌≤◌, ◌^◌, IfOk, OnOk, IsOk};
+ghost use Rattle.std.specs.Prelude.{◌≡◌, ◌+◌, ◌<◌, ◌^◌, IfOk, OnOk, OnErr};
 
 use crate::{Difference, PlugError, PullError, World, difference, next_join};
 use device_ids::{IdList, InstancePath};
@@ -18,7 +18,8 @@ fn try_plug(
     device: &[u8],
 ) -> Result<Result<u64, PlugError>, Fail>
     requires { world.old.next < 2 ^ 63 }
-    ensures { IfOk result (λ born. OnOk born (world.new.next ≡ world.old.next + 1)) }
+    ensures plugged { IfOk result (λ born. OnOk born (world.new.next ≡ world.old.next + 1)) }
+    ensures refused { IfOk result (λ born. OnErr born (world.new.next ≡ world.old.next)) }
 {
     let parent = InstancePath::read(alloc, parent)?;
     let device = InstancePath::read(alloc, device)?;

@@ -1,4 +1,4 @@
-use Rattle.std.proofs.Common.{◌≡◌, ◌∙◌, ap, sym, arith}
+use Rattle.std.proofs.Common.{◌∙◌, ap, sym, arith}
 use Rattle.pnp_model.specs.Keyed.{those}
 use Rattle.script_bus.specs.Differences.{is_lost_serial}
 use Rattle.script_bus.proofs.Joining.{gone_by_serial, all_gone_through}

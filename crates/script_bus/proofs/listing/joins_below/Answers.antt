@@ -1,4 +1,4 @@
-use Rattle.std.proofs.Common.{◌≡◌, ◌∙◌, ap, sym, arith}
+use Rattle.std.proofs.Common.{◌∙◌, ap, sym, arith}
 use Rattle.pnp_model.specs.Keyed.{those}
 use Rattle.script_bus.specs.Differences.{is_new_born}
 use Rattle.script_bus.proofs.Joining.{joins_by_birth, all_gone_through}

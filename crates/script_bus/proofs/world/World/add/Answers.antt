@@ -1,4 +1,4 @@
-use Rattle.std.proofs.Common.{◌≡◌, ℕ, List, [], ◌∷◌, ◌++◌, ◌+◌, map, ◌∙◌, sym, ap, ap₂, cond, nat_eq, Some, refl, arith, subst}
+use Rattle.std.proofs.Common.{ℕ, [], ◌∷◌, ◌++◌, ◌+◌, map, ◌∙◌, sym, ap, ap₂, cond, nat_eq, Some, refl, arith, subst}
 use Rattle.pnp_labels.specs.Texts.{Text}
 use Rattle.pnp_model.specs.Cores.{fresh_node}
 use Rattle.devnode_tree.specs.Trees.{IsTree}

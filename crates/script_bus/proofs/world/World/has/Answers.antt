@@ -1,6 +1,5 @@
 use Rattle.std.proofs.Common.{◌∙◌, ap, is_some}
 use Rattle.script_bus.proofs.Places.{in_world_is, is_world, some_copied}
-use Rattle.script_bus.proofs.Unplugs.{by_bool}
 use Rattle.script_bus.proofs.world.World.has.Goals as goal
 
 pub returns-clause-has : goal.returns-clause-has

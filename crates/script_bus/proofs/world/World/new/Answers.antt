@@ -1,4 +1,4 @@
-use Rattle.std.proofs.Common.{◌≡◌, ◌∙◌, ap}
+use Rattle.std.proofs.Common.{◌∙◌, ap}
 use Rattle.pnp_model.specs.Records.{Node}
 use Rattle.script_bus.specs.declared.device.Device.{Device}
 use Rattle.script_bus.proofs.Changes.{root_path_is, kept_new}

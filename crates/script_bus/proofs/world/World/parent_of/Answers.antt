@@ -1,4 +1,4 @@
-use Rattle.std.proofs.Common.{◌≡◌, ℕ, Some, ◌∙◌, ap, sym, option_map, arith}
+use Rattle.std.proofs.Common.{◌≡◌, Some, ◌∙◌, ap, sym, option_map, arith}
 use Rattle.std.specs.Option.{option_copied}
 use Rattle.pnp_model.specs.Records.{Node}
 use Rattle.std.proofs.lemmas.Bool.Decides.{nat_tests}

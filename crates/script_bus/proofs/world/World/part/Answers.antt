@@ -1,4 +1,4 @@
-use Rattle.std.proofs.Common.{◌≡◌, ◌∙◌, ap, sym, is_some, option_map}
+use Rattle.std.proofs.Common.{◌∙◌, ap, sym, is_some, option_map}
 use Rattle.script_bus.specs.Worlds.{part_of}
 use Rattle.script_bus.specs.Kept.{device_at}
 use Rattle.script_bus.proofs.Places.{part_is, device_born_is}

@@ -1,7 +1,6 @@
-use Rattle.std.proofs.Common.{◌≡◌, [], IsTrue, map, None, ◌∙◌, sym, ap, subst}
+use Rattle.std.proofs.Common.{◌≡◌, [], IsTrue, None, sym, subst}
 use Rattle.pnp_model.specs.States.{is_in_world}
-use Rattle.script_bus.specs.Kept.{device_at, IsKept}
-use Rattle.script_bus.specs.Worlds.{World, child_births, without_leaf}
+use Rattle.script_bus.specs.Worlds.{World, child_births}
 use Rattle.script_bus.proofs.Changes.{can_leave, no_children, kept_left, world_left}
 use Rattle.script_bus.proofs.world.World.take_leaf.Goals as goal
 

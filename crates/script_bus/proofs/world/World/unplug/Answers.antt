@@ -1,8 +1,6 @@
-use Rattle.std.proofs.Common.{◌≡◌, ℕ, ◌<◌, ◌==◌, [], ◌∷◌, length, unwrap_or, true, false, ◌∙◌, ap, sym, subst, arith, refl}
-use Rattle.std.specs.List.{AllByRecursion}
+use Rattle.std.proofs.Common.{◌<◌, ◌==◌, [], ◌∷◌, length, unwrap_or, ◌∙◌, ap, sym, subst, refl}
 use Rattle.pnp_model.specs.Tests.{has}
-use Rattle.pnp_model.specs.States.{is_in_world, without_those}
-use Rattle.script_bus.specs.Worlds.{World, without_leaf}
+use Rattle.script_bus.specs.Worlds.{World}
 use Rattle.script_bus.proofs.Unplugs.{final, Rules, rules_of, goes_itself, passes_down, none_goes, all_without}
 use Rattle.script_bus.proofs.Leaving.{not_root, outcome_kept, at_there, at_goes, shorter, nobody, all_out}
 use Rattle.script_bus.proofs.world.World.unplug.Goals as goal

@@ -1,4 +1,4 @@
-use Rattle.std.proofs.Common.{◌≡◌, ℕ, List, [], ◌∷◌, length, true}
+use Rattle.std.proofs.Common.{◌≡◌, [], ◌∷◌, length, true}
 use Rattle.std.specs.List.{AllByRecursion}
 use Rattle.pnp_model.specs.States.{is_in_world, without_those}
 use Rattle.pnp_model.specs.Tests.{has}
