@@ -1,19 +1,17 @@
 -- A step of an activity or of a rebalance lets no more devices join.
-use Rattle.std.proofs.Common.{ℕ, suc, drop, ◌+◌, ◌<◌, ◌≤◌, ◌≡◌, ◌≢◌, ◌==◌, ◌⊎◌, inl, inr, Bool, true, false, not, ◌&&◌, ◌||◌, cond, List, [], ◌∷◌, ◌++◌, Option, Some, None, refl, sym, ap, ◌∙◌, subst, arith}
-use Rattle.std.specs.List.{list_any, slice_get}
+use Rattle.std.proofs.Common.{ℕ, drop, ◌+◌, ◌≤◌, ◌≡◌, ◌⊎◌, inl, inr, Bool, true, false, not, ◌&&◌, ◌||◌, List, [], ◌∷◌, ◌++◌, Option, Some, None, refl, sym, ap, ◌∙◌, subst, arith}
 use Rattle.std.specs.Option.{option_map}
 use Rattle.std.proofs.lemmas.Bool.{cases_eq}
-use Rattle.std.proofs.lemmas.Bool.Decides.{nat_tests}
 use Rattle.resource_reqs.specs.Spelling.Answer.{assignment, no_fit, spent}
 use Rattle.pnp_model.specs.Keyed.{changed_first, without_first}
-use Rattle.pnp_model.specs.Records.{Node, Core, Device, Task, Activity, Phase, Walk, State, Step, Found, Operation, Rebalance, RebalanceStage, Doing, Duty, doing_map}
+use Rattle.pnp_model.specs.Records.{Node, Core, Device, Task, Activity, Phase, Walk, State, Step, Found, Operation, Rebalance, RebalanceStage, Doing, doing_map}
 use Rattle.pnp_model.specs.Records.Doing.{Does, Searches}
 use Rattle.pnp_model.specs.Records.Phase.{Adding, Searching, Starting, Removing, Due}
 use Rattle.pnp_model.specs.Cores.{node_at, is_node, with_stack, stacked}
 use Rattle.pnp_model.specs.Diagram.{Change, FollowsDiagram, Row}
 use Rattle.pnp_model.specs.States.{is_activity, activity_at, with_phase, entered, with_core}
 use Rattle.pnp_model.specs.Starts.{StartBeside, StartMove, add_driver, searched, end_start, start_on, remove_on, undo, act, adding}
-use Rattle.pnp_model.specs.Walks.{is_bad, has_ended, walk_of}
+use Rattle.pnp_model.specs.Walks.{is_bad, walk_of}
 use Rattle.pnp_model.specs.Tasks.{joins, join_step}
 use Rattle.pnp_model.specs.Rebalances.{RebalanceBeside, RebalanceMove}
 use Rattle.pnp_model.specs.Machine.{start_lifted, after_start, rebalance_lifted, after_rebalance}
@@ -24,11 +22,9 @@ use Rattle.pnp_labels.specs.declared.words.Minor.{Minor}
 use Rattle.pnp_labels.specs.declared.words.Answer.{Answer}
 use Rattle.pnp_labels.specs.declared.words.Answer.TheVariants.{Ok, Fail, Pend}
 use Rattle.pnp_labels.specs.declared.label.Label.{Label}
-use Rattle.pnp_labels.specs.declared.label.OpKind.{OpKind}
 use Rattle.pnp_laws.specs.Ends.{IsNoJoin}
 use Rattle.pnp_laws.specs.Kept.{IsGood, Fits, InOrder}
 use Rattle.pnp_laws.proofs.Lookups.{some_same, own_serial, node_from, entered_same, entered_other, phase_from, ended_same, ended_other}
-use Rattle.pnp_laws.proofs.Ranks.{and_both}
 use Rattle.pnp_laws.proofs.Standing.{Sound, IsNoLeave}
 use Rattle.pnp_laws.proofs.Joins.{starts, start_cost, closed, is_bare, some_there, is_live, In, Sub, sub_same, Gone, Flows, Counts}
 use Rattle.pnp_model.specs.Rebalances as re
@@ -255,16 +251,19 @@ live_back s t label no_add diagram closes k n m active was at live =
 pub flows_on : (s : State) (step : Step) → IsNoAdd step.label → Counts s step.state → Sub step.state.world s.world → Cheaper s.tasks step.state.tasks → (Knows s step → Closes s step.state) → (Knows s step → Active s step.state) →
     (Knows s step → (k : ℕ) (n : Node) → node_at k s.core.nodes ≡ Some n → node_at k step.state.core.nodes ≡ None → Gone s step.state n) → FlowsStep s step
 flows_on s step no_add counts world tasks closes active gone knows =
-    inl (no_join_of step.label no_add, record {
-      counts = counts;
-      world = world;
-      from = knows.sound.births (no_join_of step.label no_add);
-      start = None;
-      started = λ n e. absurd (cc);
-      tasks = λ cost. let h = tasks cost in omega arith;
-      live = λ k n m was at live. inl (live_back s step.state step.label no_add knows.diagram (closes knows) k n m (active knows k m at) was at live);
-      gone = gone knows;
-    })
+    inl (
+      no_join_of step.label no_add,
+      record {
+        counts = counts;
+        world = world;
+        from = knows.sound.births (no_join_of step.label no_add);
+        start = None;
+        started = λ n e. absurd (cc);
+        tasks = λ cost. let h = tasks cost in omega arith;
+        live = λ k n m was at live. inl (live_back s step.state step.label no_add knows.diagram (closes knows) k n m (active knows k m at) was at live);
+        gone = gone knows;
+      },
+    )
 
 -- nobody leaves
 pub flows_still : (s : State) (step : Step) → IsStill step.label → Counts s step.state → Sub step.state.world s.world → Cheaper s.tasks step.state.tasks → (Knows s step → Closes s step.state) → (Knows s step → Active s step.state) → FlowsStep s step
@@ -334,16 +333,19 @@ flows_added : (s : State) (c : Core) (node : Node) (d : ℕ) (ds : List ℕ) →
 flows_added s c node d ds same none there knows =
     let step = start_lifted s node.serial (add_driver c node d ds Ok) in
     let t = step.state in
-    inl (tt, record {
-      counts = (refl, refl);
-      world = sub_same s.world;
-      from = knows.sound.births tt;
-      start = None;
-      started = λ n e. absurd (cc);
-      tasks = λ cost. omega arith;
-      live = λ k n m was at live. inl (by_live k n m was at (live_from t m live).1);
-      gone = λ k n at gone. absurd (knows.sound.stays tt k n at gone);
-    })
+    inl (
+      tt,
+      record {
+        counts = (refl, refl);
+        world = sub_same s.world;
+        from = knows.sound.births tt;
+        start = None;
+        started = λ n e. absurd (cc);
+        tasks = λ cost. omega arith;
+        live = λ k n m was at live. inl (by_live k n m was at (live_from t m live).1);
+        gone = λ k n at gone. absurd (knows.sound.stays tt k n at gone);
+      },
+    )
   where
     t_nodes : List Node
     t_nodes = changed_first (is_node node.serial) (with_stack (node.stack ++ d ∷ []) (stacked node.state)) c.nodes

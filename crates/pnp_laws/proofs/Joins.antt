@@ -1,6 +1,6 @@
 -- How many devices can still join, and that a step but a join makes these no more.
-use Rattle.std.proofs.Common.{ℕ, suc, drop, ◌+◌, ◌<◌, ◌≤◌, ◌≡◌, ◌≢◌, ◌==◌, ◌⊎◌, inl, inr, Bool, true, false, not, ◌&&◌, ◌||◌, cond, List, [], ◌∷◌, ◌++◌, Option, Some, None, refl, sym, ap, ◌∙◌, subst, arith, nat_lt}
-use Rattle.std.specs.List.{list_any, slice_get}
+use Rattle.std.proofs.Common.{ℕ, suc, ◌+◌, ◌<◌, ◌≤◌, ◌≡◌, ◌≢◌, ◌==◌, ◌⊎◌, inl, inr, Bool, true, false, not, ◌&&◌, ◌||◌, cond, List, [], ◌∷◌, Option, Some, None, refl, sym, ap, ◌∙◌, subst, arith, nat_lt}
+use Rattle.std.specs.List.{list_any}
 use Rattle.std.proofs.lemmas.Bool.{cases_eq}
 use Rattle.std.proofs.lemmas.Bool.Decides.{nat_tests}
 use Rattle.pnp_model.specs.Tests.{has}
@@ -11,7 +11,7 @@ use Rattle.pnp_model.specs.Tasks.{has_born}
 use Rattle.pnp_labels.specs.declared.states.DevState.{DevState}
 use Rattle.pnp_labels.specs.declared.states.DevState.TheVariants.{NoStack, NotStarted, Started, StopPending, Stopped, RemovePending, SurpriseRemoved}
 use Rattle.pnp_laws.specs.Kept.{Ascending}
-use Rattle.pnp_laws.proofs.Lookups.{some_same, own_serial}
+use Rattle.pnp_laws.proofs.Lookups.{some_same}
 use Rattle.pnp_laws.proofs.Closures.{tail_at}
 use Rattle.pnp_laws.proofs.Ranks.{and_both}
 use Rattle.pnp_laws.proofs.Standing.{Tree, FromThose}
@@ -277,8 +277,8 @@ one_born s t next order order_t tree born f d there both =
     let born_is : was.0.born ≡ d.parent = let e = own.0 in let g = was.2 in grind (arith, nat_tests) in
     elim (f.live m.serial was.0 m was.1 at.1 own.1) [
       | inl live ↦ inl (by_there m was.0 at.1 was.1 own.1 born_is two.1
-        (any_from (λ n. n.born == d.parent && is_live s n) s.core.nodes m.serial was.0 was.1 (pair (was.0.born == d.parent) (is_live s was.0) (grind (arith, nat_tests)) live))
-        (has_born d.born s.core.nodes) refl)
+          (any_from (λ n. n.born == d.parent && is_live s n) s.core.nodes m.serial was.0 was.1 (pair (was.0.born == d.parent) (is_live s was.0) (grind (arith, nat_tests)) live))
+          (has_born d.born s.core.nodes) refl)
       | inr e ↦ inr (ap (λ (o : Option Node). starts_with o d.parent) e ∙ (let q = born_is in grind (arith, nat_tests)))
     ]
   where
