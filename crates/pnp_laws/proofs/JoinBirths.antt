@@ -1,17 +1,15 @@
 -- What is kept of births: by a step, by a join, and by an event.
-use Rattle.std.proofs.Common.{ℕ, suc, drop, ◌+◌, ◌<◌, ◌≤◌, ◌≡◌, ◌≢◌, ◌==◌, ◌⊎◌, inl, inr, Bool, true, false, not, ◌&&◌, ◌||◌, cond, List, [], ◌∷◌, ◌++◌, Option, Some, None, refl, sym, ap, ◌∙◌, subst, arith, nat_lt}
-use Rattle.std.specs.List.{list_any, find}
-use Rattle.std.proofs.lemmas.Bool.{cases_eq}
+use Rattle.std.proofs.Common.{ℕ, suc, ◌+◌, ◌<◌, ◌≤◌, ◌≡◌, ◌≢◌, ◌==◌, inl, inr, Bool, true, false, not, ◌&&◌, ◌||◌, cond, List, [], ◌∷◌, ◌++◌, Option, Some, None, refl, sym, ap, ◌∙◌, subst, arith, nat_lt}
 use Rattle.std.proofs.lemmas.Bool.Decides.{nat_tests}
 use Rattle.pnp_model.specs.Records.{Node, Device, Task, Activity, State, Step, Operation, Duty}
 use Rattle.pnp_model.specs.Cores.{node_at, new_node}
 use Rattle.pnp_model.specs.States.{activity_at}
 use Rattle.pnp_model.specs.Tasks.{joins, join_step, has_born, has_path}
-use Rattle.pnp_labels.specs.declared.states.DevState.TheVariants.{NoStack, Started}
-use Rattle.pnp_laws.specs.Kept.{IsGood, Good, Ascending, AllBelow}
-use Rattle.pnp_laws.proofs.Lookups.{some_same, own_serial, joined_from, joined_keeps}
+use Rattle.pnp_labels.specs.declared.states.DevState.TheVariants.{Started}
+use Rattle.pnp_laws.specs.Kept.{IsGood}
+use Rattle.pnp_laws.proofs.Lookups.{some_same, joined_from, joined_keeps}
 use Rattle.pnp_laws.proofs.Ranks.{and_both}
-use Rattle.pnp_laws.proofs.Standing.{Tree, FromThose}
+use Rattle.pnp_laws.proofs.Standing.{Tree}
 use Rattle.pnp_laws.proofs.Joins.{below, joinable, joinable_less, starting_none, starts, start_cost, starts_less, unborn, below_node, start_costs, can_join, closed, is_bare, some_there, is_live, lives, In, Sub, sub_in, Grows, Born, Flows, any_from, any_at, parent_there}
 use Rattle.pnp_laws.proofs.JoinSteps.{Joined, live_is}
 

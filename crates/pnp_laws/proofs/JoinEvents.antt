@@ -1,16 +1,15 @@
 -- What is kept of births, by an event.
-use Rattle.std.proofs.Common.{ℕ, suc, ◌+◌, ◌<◌, ◌≤◌, ◌≡◌, ◌==◌, ◌⊎◌, inl, inr, ◌∙◌, Bool, true, false, cond, List, [], ◌∷◌, ◌++◌, Option, Some, None, refl, sym, ap, subst, arith, nat_lt}
+use Rattle.std.proofs.Common.{ℕ, suc, ◌<◌, ◌≤◌, ◌≡◌, ◌⊎◌, inl, inr, Bool, true, false, cond, List, [], ◌∷◌, ◌++◌, Option, Some, None, refl, sym, ap, subst, arith, nat_lt}
 use Rattle.std.proofs.lemmas.Bool.Decides.{nat_tests}
 use Rattle.std.specs.List.{find}
 use Rattle.device_ids.specs.Folding.{same}
 use Rattle.resource_reqs.specs.Resources.{Res, Reqs}
-use Rattle.pnp_model.specs.Records.{Node, Device, Driver, Activity, Task, State, Step, Operation, Duty}
+use Rattle.pnp_model.specs.Records.{Node, Device, Driver, Activity, Task, State, Operation, Duty}
 use Rattle.pnp_model.specs.Cores.{node_at}
 use Rattle.pnp_model.specs.Books.{is_named, is_unnamed}
 use Rattle.pnp_model.specs.States.{activity_at, list_node, node_born, node_of, device_of, plug, unplug, enable_path}
 use Rattle.pnp_labels.specs.Texts.{Text}
 use Rattle.pnp_labels.specs.declared.words.Minor.{Minor}
-use Rattle.pnp_labels.specs.declared.words.Answer.{Answer}
 use Rattle.pnp_labels.specs.declared.event.Rule.{Rule}
 use Rattle.pnp_labels.specs.declared.words.DriverKind.{DriverKind}
 use Rattle.pnp_labels.specs.declared.words.RelKind.{RelKind}

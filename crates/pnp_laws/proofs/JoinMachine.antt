@@ -7,9 +7,8 @@ use Rattle.pnp_model.specs.Cores.{node_at}
 use Rattle.pnp_model.specs.Frames.{first_node}
 use Rattle.pnp_model.specs.States.{activity_at}
 use Rattle.pnp_model.specs.Laws.{Reaches}
-use Rattle.pnp_model.specs.Runs.{Entry, Goes, Run, opening, root_node, root_device}
+use Rattle.pnp_model.specs.Runs.{Entry, Goes, Run, opening}
 use Rattle.pnp_model.specs.Runs.Entry.{Happens, Did}
-use Rattle.pnp_labels.specs.declared.label.Label.{Label}
 use Rattle.pnp_labels.specs.declared.label.OpKind.{OpKind}
 use Rattle.pnp_laws.specs.Ends.{IsNoJoin}
 use Rattle.pnp_laws.specs.Kept.{OperationFits, Alone}
@@ -17,15 +16,14 @@ use Rattle.pnp_laws.proofs.Lookups.{own_serial, ready_found}
 use Rattle.pnp_laws.proofs.Standing.{StageKept}
 use Rattle.pnp_laws.proofs.Runs.{lawful_goes, root_is}
 use Rattle.pnp_laws.proofs.SoundMachine.{sound_step}
-use Rattle.pnp_laws.proofs.RunsStand.{Kept, may_begin, kept_goes, reaches_kept, opening_kept}
-use Rattle.pnp_laws.proofs.Joins.{closed, some_there, can_join, In, Born, flows_less}
-use Rattle.pnp_laws.proofs.JoinSteps.{Knows, FlowsStep, FlowsDoing, FlowsNext, InRebalance, flows_act, flows_rebalance}
+use Rattle.pnp_laws.proofs.RunsStand.{Kept, may_begin, kept_goes, opening_kept}
+use Rattle.pnp_laws.proofs.Joins.{closed, some_there, can_join, Born, flows_less}
+use Rattle.pnp_laws.proofs.JoinSteps.{Knows, FlowsStep, FlowsNext, flows_act, flows_rebalance}
 use Rattle.pnp_laws.proofs.JoinRemovals.{flows_removal, flows_surprise}
 use Rattle.pnp_laws.proofs.JoinTasks.{flows_list, flows_start, flows_begin_step}
 use Rattle.pnp_laws.proofs.JoinBirths.{born_flows, join_goes}
 use Rattle.pnp_laws.proofs.JoinEvents.{born_happens}
 use Rattle.pnp_model.specs.Machine as ma
-use Rattle.pnp_model.specs.Events as ev
 
 flows_alone : (s : State) (kind : OpKind) (k : ℕ) (acts : List Activity) → s.operation ≡ None → FlowsNext s (ma.begin_alone s kind k acts)
 flows_alone s kind k [] none = flows_begin_step s kind k (node_at k s.core.nodes) none

@@ -1,21 +1,18 @@
 -- A step of a removal or a surprise lets no more devices join.
-use Rattle.std.proofs.Common.{ℕ, suc, drop, ◌+◌, ◌<◌, ◌≤◌, ◌≡◌, ◌≢◌, ◌==◌, ◌⊎◌, inl, inr, Bool, true, false, not, ◌&&◌, ◌||◌, cond, List, [], ◌∷◌, ◌++◌, Option, Some, None, refl, sym, ap, ◌∙◌, subst, arith}
-use Rattle.std.specs.List.{list_any}
+use Rattle.std.proofs.Common.{ℕ, ◌≤◌, ◌≡◌, ◌≢◌, ◌==◌, ◌⊎◌, inl, inr, Bool, true, false, not, ◌&&◌, ◌||◌, cond, List, [], ◌∷◌, Option, Some, None, refl, sym, ap, ◌∙◌, subst, arith}
 use Rattle.std.specs.Option.{option_map}
 use Rattle.std.proofs.lemmas.Bool.{cases_eq}
 use Rattle.std.proofs.lemmas.Bool.Decides.{nat_tests}
 use Rattle.pnp_model.specs.Keyed.{without_first}
 use Rattle.pnp_model.specs.Tests.{has, is_eject}
-use Rattle.pnp_model.specs.Records.{Node, Core, Device, Task, Activity, Walk, State, Step, Operation, Removal, RemovalStage, Surprise, SurpriseStage, Doing, Duty}
+use Rattle.pnp_model.specs.Records.{Node, Core, Device, Task, Activity, Walk, State, Operation, Removal, RemovalStage, Surprise, SurpriseStage, Duty}
 use Rattle.pnp_model.specs.Records.Doing.{Does}
-use Rattle.pnp_model.specs.Cores.{node_at, is_node, stack_of, drop_node}
+use Rattle.pnp_model.specs.Cores.{node_at, is_node, stack_of}
 use Rattle.pnp_model.specs.Frames.{first_node, rest}
 use Rattle.pnp_model.specs.States.{activity_at, with_core, set_operation, relist, unplug, without_those, is_in_world}
-use Rattle.pnp_model.specs.Walks.{is_bad, has_ended}
+use Rattle.pnp_model.specs.Walks.{is_bad}
 use Rattle.pnp_model.specs.Removals.{RemoveBeside}
 use Rattle.pnp_model.specs.Machine.{after_remove, removal_lifted, surprise_lifted, is_target_in_world, is_born}
-use Rattle.pnp_labels.specs.Texts.{Text}
-use Rattle.pnp_labels.specs.declared.states.DevState.{DevState}
 use Rattle.pnp_labels.specs.declared.states.DevState.TheVariants.{NoStack}
 use Rattle.pnp_labels.specs.declared.label.Label.{Label}
 use Rattle.pnp_labels.specs.declared.states.Problem.{Problem}
@@ -28,8 +25,8 @@ use Rattle.pnp_laws.proofs.SurpriseSteps.{last_alone}
 use Rattle.pnp_laws.proofs.Standing.{Finishes, RemovalOrder, SurpriseOrder}
 use Rattle.pnp_laws.proofs.SoundRemovals.{waits_finish_on, waits_tell_on}
 use Rattle.pnp_laws.proofs.MeasureRemovals.{Listed, listed_again, same_world, same_births}
-use Rattle.pnp_laws.proofs.Joins.{starts, closed, removal_closed, is_bare, some_there, is_live, In, Counts, Sub, sub_same, sub_is, sub_in, sub_without, Gone, Flows}
-use Rattle.pnp_laws.proofs.JoinSteps.{IsNoAdd, IsStill, Knows, FlowsStep, FlowsNext, Closes, Active, Cheaper, cheaper_same, cheaper_pushed, active_same, closes_open, bare_stays, flows_on, flows_still}
+use Rattle.pnp_laws.proofs.Joins.{starts, closed, removal_closed, is_bare, some_there, is_live, In, Counts, Sub, sub_same, sub_is, sub_without, Gone}
+use Rattle.pnp_laws.proofs.JoinSteps.{IsNoAdd, IsStill, Knows, FlowsStep, FlowsNext, Closes, Cheaper, cheaper_same, cheaper_pushed, active_same, closes_open, bare_stays, flows_on, flows_still}
 use Rattle.pnp_model.specs.Removals as rm
 use Rattle.pnp_model.specs.Surprises as su
 

@@ -1,19 +1,17 @@
 -- A step of an activity or of a rebalance lets no more devices join.
-use Rattle.std.proofs.Common.{ℕ, suc, drop, ◌+◌, ◌<◌, ◌≤◌, ◌≡◌, ◌≢◌, ◌==◌, ◌⊎◌, inl, inr, Bool, true, false, not, ◌&&◌, ◌||◌, cond, List, [], ◌∷◌, ◌++◌, Option, Some, None, refl, sym, ap, ◌∙◌, subst, arith}
-use Rattle.std.specs.List.{list_any, slice_get}
+use Rattle.std.proofs.Common.{ℕ, drop, ◌+◌, ◌≤◌, ◌≡◌, ◌⊎◌, inl, inr, Bool, true, false, not, ◌&&◌, ◌||◌, List, [], ◌∷◌, ◌++◌, Option, Some, None, refl, sym, ap, ◌∙◌, subst, arith}
 use Rattle.std.specs.Option.{option_map}
 use Rattle.std.proofs.lemmas.Bool.{cases_eq}
-use Rattle.std.proofs.lemmas.Bool.Decides.{nat_tests}
 use Rattle.resource_reqs.specs.Spelling.Answer.{assignment, no_fit, spent}
 use Rattle.pnp_model.specs.Keyed.{changed_first, without_first}
-use Rattle.pnp_model.specs.Records.{Node, Core, Device, Task, Activity, Phase, Walk, State, Step, Found, Operation, Rebalance, RebalanceStage, Doing, Duty, doing_map}
+use Rattle.pnp_model.specs.Records.{Node, Core, Device, Task, Activity, Phase, Walk, State, Step, Found, Operation, Rebalance, RebalanceStage, Doing, doing_map}
 use Rattle.pnp_model.specs.Records.Doing.{Does, Searches}
 use Rattle.pnp_model.specs.Records.Phase.{Adding, Searching, Starting, Removing, Due}
 use Rattle.pnp_model.specs.Cores.{node_at, is_node, with_stack, stacked}
 use Rattle.pnp_model.specs.Diagram.{Change, FollowsDiagram, Row}
 use Rattle.pnp_model.specs.States.{is_activity, activity_at, with_phase, entered, with_core}
 use Rattle.pnp_model.specs.Starts.{StartBeside, StartMove, add_driver, searched, end_start, start_on, remove_on, undo, act, adding}
-use Rattle.pnp_model.specs.Walks.{is_bad, has_ended, walk_of}
+use Rattle.pnp_model.specs.Walks.{is_bad, walk_of}
 use Rattle.pnp_model.specs.Tasks.{joins, join_step}
 use Rattle.pnp_model.specs.Rebalances.{RebalanceBeside, RebalanceMove}
 use Rattle.pnp_model.specs.Machine.{start_lifted, after_start, rebalance_lifted, after_rebalance}
@@ -24,11 +22,9 @@ use Rattle.pnp_labels.specs.declared.words.Minor.{Minor}
 use Rattle.pnp_labels.specs.declared.words.Answer.{Answer}
 use Rattle.pnp_labels.specs.declared.words.Answer.TheVariants.{Ok, Fail, Pend}
 use Rattle.pnp_labels.specs.declared.label.Label.{Label}
-use Rattle.pnp_labels.specs.declared.label.OpKind.{OpKind}
 use Rattle.pnp_laws.specs.Ends.{IsNoJoin}
 use Rattle.pnp_laws.specs.Kept.{IsGood, Fits, InOrder}
 use Rattle.pnp_laws.proofs.Lookups.{some_same, own_serial, node_from, entered_same, entered_other, phase_from, ended_same, ended_other}
-use Rattle.pnp_laws.proofs.Ranks.{and_both}
 use Rattle.pnp_laws.proofs.Standing.{Sound, IsNoLeave}
 use Rattle.pnp_laws.proofs.Joins.{starts, start_cost, closed, is_bare, some_there, is_live, In, Sub, sub_same, Gone, Flows, Counts}
 use Rattle.pnp_model.specs.Rebalances as re

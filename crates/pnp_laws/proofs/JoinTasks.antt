@@ -1,13 +1,12 @@
 -- A task but a join lets no more devices join.
-use Rattle.std.proofs.Common.{ℕ, suc, drop, ◌+◌, ◌<◌, ◌≤◌, ◌≡◌, ◌≢◌, ◌==◌, ◌⊎◌, inl, inr, Bool, true, false, not, cond, List, [], ◌∷◌, ◌++◌, length, nat_le, Option, Some, None, refl, sym, ap, ◌∙◌, subst, arith}
+use Rattle.std.proofs.Common.{ℕ, drop, ◌+◌, ◌≡◌, inl, inr, Bool, true, false, cond, List, [], ◌∷◌, Option, Some, None, refl, sym, ap, ◌∙◌, subst, arith}
 use Rattle.std.specs.List.{find, slice_get}
 use Rattle.std.proofs.lemmas.Bool.{cases_eq}
-use Rattle.std.proofs.lemmas.Bool.Decides.{nat_tests}
 use Rattle.pnp_model.specs.Tests.{has_same}
-use Rattle.pnp_model.specs.Records.{Node, Device, Driver, Task, Activity, State, Step, Settings, Choice, Operation, Duty}
+use Rattle.pnp_model.specs.Records.{Node, Device, Task, Activity, State, Settings, Choice, Operation, Duty}
 use Rattle.pnp_model.specs.Cores.{node_at}
 use Rattle.pnp_model.specs.Books.{driver_named}
-use Rattle.pnp_model.specs.States.{drop_task, activity_at, entered, set_operation}
+use Rattle.pnp_model.specs.States.{drop_task, activity_at}
 use Rattle.pnp_model.specs.Starts.{adding}
 use Rattle.pnp_model.specs.Tasks.{joins, joining, gone_child, gone_or_listed, join_or_on, list_up, list_step, begin_trouble, install, numbered, install_named, install_few, install_service, install_best, start_enabled, start_idle, start_bare, start_step, begin, rebalance_idle, rebalance_task, disable_task, begin_step}
 use Rattle.pnp_labels.specs.Texts.{Text}
@@ -17,11 +16,8 @@ use Rattle.pnp_labels.specs.declared.states.Problem.{Problem}
 use Rattle.pnp_labels.specs.declared.label.Label.{Label}
 use Rattle.pnp_labels.specs.declared.label.OpKind.{OpKind}
 use Rattle.pnp_laws.proofs.Lookups.{some_same, own_serial, found_self, entered_other}
-use Rattle.pnp_laws.proofs.Joins.{starts, start_cost, start_of, closed, is_bare, some_there, is_live, In, sub_same}
-use Rattle.pnp_laws.proofs.JoinSteps.{IsStill, Knows, FlowsStep, FlowsNext, cheaper_pushed, cheaper_dropped, active_same, closes_same, closes_open, live_back, flows_still}
-use Rattle.pnp_model.specs.Rebalances as re
-use Rattle.pnp_model.specs.Removals as rm
-use Rattle.pnp_model.specs.Surprises as su
+use Rattle.pnp_laws.proofs.Joins.{starts, start_cost, closed, some_there, In, sub_same}
+use Rattle.pnp_laws.proofs.JoinSteps.{IsStill, FlowsStep, cheaper_pushed, cheaper_dropped, active_same, closes_same, closes_open, live_back, flows_still}
 
 flows_drop : (s : State) (label : Label) → IsStill label → FlowsStep s (record { label = label; state = drop_task s })
 flows_drop s label still = flows_still s _ still (refl, refl) (sub_same s.world) (cheaper_dropped s.tasks) (λ knows. closes_same s (drop_task s) refl) (λ knows. active_same s (drop_task s) refl)

@@ -1,6 +1,6 @@
 -- How many devices can still join, and that a step but a join makes these no more.
-use Rattle.std.proofs.Common.{ℕ, suc, drop, ◌+◌, ◌<◌, ◌≤◌, ◌≡◌, ◌≢◌, ◌==◌, ◌⊎◌, inl, inr, Bool, true, false, not, ◌&&◌, ◌||◌, cond, List, [], ◌∷◌, ◌++◌, Option, Some, None, refl, sym, ap, ◌∙◌, subst, arith, nat_lt}
-use Rattle.std.specs.List.{list_any, slice_get}
+use Rattle.std.proofs.Common.{ℕ, suc, ◌+◌, ◌<◌, ◌≤◌, ◌≡◌, ◌≢◌, ◌==◌, ◌⊎◌, inl, inr, Bool, true, false, not, ◌&&◌, ◌||◌, cond, List, [], ◌∷◌, Option, Some, None, refl, sym, ap, ◌∙◌, subst, arith, nat_lt}
+use Rattle.std.specs.List.{list_any}
 use Rattle.std.proofs.lemmas.Bool.{cases_eq}
 use Rattle.std.proofs.lemmas.Bool.Decides.{nat_tests}
 use Rattle.pnp_model.specs.Tests.{has}
@@ -11,7 +11,7 @@ use Rattle.pnp_model.specs.Tasks.{has_born}
 use Rattle.pnp_labels.specs.declared.states.DevState.{DevState}
 use Rattle.pnp_labels.specs.declared.states.DevState.TheVariants.{NoStack, NotStarted, Started, StopPending, Stopped, RemovePending, SurpriseRemoved}
 use Rattle.pnp_laws.specs.Kept.{Ascending}
-use Rattle.pnp_laws.proofs.Lookups.{some_same, own_serial}
+use Rattle.pnp_laws.proofs.Lookups.{some_same}
 use Rattle.pnp_laws.proofs.Closures.{tail_at}
 use Rattle.pnp_laws.proofs.Ranks.{and_both}
 use Rattle.pnp_laws.proofs.Standing.{Tree, FromThose}

@@ -11,7 +11,7 @@ use Rattle.pnp_model.specs.Runs.{Entry, Run}
 use Rattle.pnp_model.specs.Runs.Entry.{Happens, Did}
 use Rattle.pnp_labels.specs.declared.label.Label.{Label}
 use Rattle.pnp_labels.specs.declared.label.OpKind.{OpKind}
-use Rattle.pnp_laws.specs.Quiet.{OneStep, Rests, RestsWith}
+use Rattle.pnp_laws.specs.Quiet.{Rests, RestsWith}
 use Rattle.pnp_laws.proofs.Lookups.{own_serial, found_self, ready_found}
 use Rattle.pnp_laws.proofs.SoundTasks.{find_passes}
 use Rattle.pnp_laws.proofs.Standing.{StageKept}
