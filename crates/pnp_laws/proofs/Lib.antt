@@ -64,6 +64,13 @@ pub mod RunsFutile
 pub mod RunsConflict
 pub mod RunsStep
 pub mod RunsEnds
+pub mod Joins
+pub mod JoinSteps
+pub mod JoinRemovals
+pub mod JoinTasks
+pub mod JoinBirths
+pub mod JoinEvents
+pub mod JoinMachine
 pub mod Measures
 pub mod MeasureOps
 pub mod MeasureRemovals

@@ -64,6 +64,21 @@ same_world path born s = by_device (device_of path s.world)
     by_device None = refl
     by_device (Some d) = by_other d (d.born == born)
 
+pub same_births : (path : Text) (born : ℕ) (s : State) → (relist path born s).next_born ≡ s.next_born
+same_births path born s = by_device (device_of path s.world)
+  where
+    by_node : (o : Option Node) → (list_node o s).next_born ≡ s.next_born
+    by_node None = refl
+    by_node (Some n) = refl
+
+    by_other : (d : Device) (b : Bool) → (relist_other d b s).next_born ≡ s.next_born
+    by_other d true = refl
+    by_other d false = by_node (node_born d.parent s.core.nodes)
+
+    by_device : (o : Option Device) → (relist_device born o s).next_born ≡ s.next_born
+    by_device None = refl
+    by_device (Some d) = by_other d (d.born == born)
+
 -- the world only loses devices
 fewer_born : (gone : List ℕ) (world : List Device) (born : ℕ) → is_in_world (without_those gone world) born ≡ true → is_in_world world born ≡ true
 fewer_born gone [] born h = h

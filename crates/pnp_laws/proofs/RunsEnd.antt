@@ -1,4 +1,4 @@
--- Each step of a run but a join lowers the numbers, so between two joins there are finitely many steps.
+-- Each step of a run lowers the numbers, so a machine that is left alone comes to rest.
 use Rattle.std.proofs.Common.{ℕ, zero, suc, ◌+◌, ◌*◌, ◌<◌, ◌≤◌, ◌≡◌, ◌⊎◌, inl, inr, Bool, true, false, not, List, [], ◌∷◌, length, Option, Some, None, refl, sym, subst, arith}
 use Rattle.std.specs.List.{find, slice_get}
 use native.Mathlib.Decide.{dec_lt}
@@ -11,12 +11,12 @@ use Rattle.pnp_model.specs.Runs.{Entry, Run}
 use Rattle.pnp_model.specs.Runs.Entry.{Happens, Did}
 use Rattle.pnp_labels.specs.declared.label.Label.{Label}
 use Rattle.pnp_labels.specs.declared.label.OpKind.{OpKind}
-use Rattle.pnp_laws.specs.Quiet.{OneStep, RestsWith}
+use Rattle.pnp_laws.specs.Quiet.{Rests, RestsWith}
 use Rattle.pnp_laws.proofs.Lookups.{own_serial, found_self, ready_found}
 use Rattle.pnp_laws.proofs.SoundTasks.{find_passes}
 use Rattle.pnp_laws.proofs.Standing.{StageKept}
 use Rattle.pnp_laws.proofs.Measures.{coarse, rank_of, left_of, answers_of}
-use Rattle.pnp_laws.specs.Ends.{IsNoJoin, AllSteps, EndsLaw}
+use Rattle.pnp_laws.specs.Ends.{AllSteps, Settles, SettlesLaw}
 use Rattle.pnp_laws.proofs.RunsStep.{rests_or, nothing_next, doing_one}
 use Rattle.pnp_model.proofs.Determined.{one_state}
 use Rattle.pnp_laws.proofs.MeasureOps.{Lowers, LowersNext, lowers_rebalance}
@@ -25,6 +25,8 @@ use Rattle.pnp_laws.proofs.MeasureSurprises.{lowers_surprise}
 use Rattle.pnp_laws.proofs.MeasureTasks.{lowers_act}
 use Rattle.pnp_laws.proofs.MeasureBegins.{lowers_list, lowers_start, lowers_begin_step}
 use Rattle.pnp_laws.proofs.RunsStand.{Kept, kept_goes, reaches_kept}
+use Rattle.pnp_laws.proofs.Joins.{Born, can_join}
+use Rattle.pnp_laws.proofs.JoinMachine.{step_goes, reaches_born}
 use Rattle.pnp_model.specs.Machine as ma
 
 -- Each step but a join ---------------------------------------------------------------------------------
@@ -117,10 +119,6 @@ by_three P step =
       ]
     ]))))
 
--- from such a state there is a bound
-abbrev Bounded : Settings → State → Type 0
-Bounded settings s = (bound : ℕ) × ((more : List Entry) (last : State) → AllSteps more → Run settings s more last → length more ≤ bound)
-
 abbrev first_of : State → ℕ
 first_of s = 8 * coarse s + rank_of s.operation
 
@@ -128,83 +126,81 @@ abbrev last_of : State → ℕ
 last_of s = answers_of s.core.nodes s.activities s.operation
 
 -- of the states with these numbers
-abbrev AllBounded : Settings → ℕ → ℕ → ℕ → Type 0
-AllBounded settings x y z = (s : State) → Kept s → first_of s ≡ x → left_of s.operation ≡ y → last_of s ≡ z → Bounded settings s
+abbrev AllSettle : Settings → ℕ → ℕ → ℕ → ℕ → Type 0
+AllSettle settings w x y z = (s : State) → Kept s → Born s → can_join s ≡ w → first_of s ≡ x → left_of s.operation ≡ y → last_of s ≡ z → Settles settings s
 
--- whether a label is that of a join
-dec_join : (label : Label) → Dec (IsNoJoin label)
-dec_join (Label.Join k p) = no (λ h. h)
-dec_join (Label.State p x) = yes tt
-dec_join (Label.Add p d x) = yes tt
-dec_join (Label.Did w x) = yes tt
-dec_join (Label.Refused w r) = yes tt
-dec_join (Label.Skip t k) = yes tt
-dec_join (Label.Gone p) = yes tt
-dec_join (Label.Listed p) = yes tt
-dec_join (Label.Install p r d) = yes tt
-dec_join (Label.Trouble p q) = yes tt
-dec_join (Label.Assign p x) = yes tt
-dec_join (Label.Fits p) = yes tt
-dec_join (Label.NoFit p) = yes tt
-dec_join (Label.Spent p) = yes tt
-dec_join (Label.Asked m p d x) = yes tt
-dec_join (Label.Begin o p) = yes tt
-dec_join (Label.Commit n) = yes tt
-dec_join (Label.Leave p) = yes tt
-dec_join (Label.Ejected p) = yes tt
-dec_join (Label.End o p r) = yes tt
+-- four numbers, compared from the first on: those that can join, and the three
+abbrev Lowest : State → State → Type 0
+Lowest t s = (can_join t < can_join s) ⊎ ((can_join t ≤ can_join s) × Lower (first_of t) (left_of t.operation) (last_of t) (first_of s) (left_of s.operation) (last_of s))
 
--- where nothing is next, no step follows
-none_follows : (settings : Settings) (s : State) → ((label : Label) (t : State) → ma.Steps settings s label t → IsNoJoin label → ⊥) → Bounded settings s
-none_follows settings s none = (0, by_run)
+by_four : (P : ℕ → ℕ → ℕ → ℕ → Type 0) → ((w x y z : ℕ) → ((v a b c : ℕ) → (v < w) ⊎ ((v ≤ w) × Lower a b c x y z) → P v a b c) → P w x y z) → (w x y z : ℕ) → P w x y z
+by_four P step =
+    by_number (λ w. (x y z : ℕ) → P w x y z)
+    (λ w first. by_three (P w)
+    (λ x y z rest. step w x y z
+    (λ v a b c lower. elim lower [
+      | inl l ↦ first v l a b c
+      | inr (l, more) ↦ elim (less_or_same v w l) [
+        | inl g ↦ first v g a b c
+        | inr e ↦ subst (λ (i : ℕ). P i a b c) (sym e) (rest a b c more)
+      ]
+    ])))
+
+-- where it rests, no step follows
+settles_here : (settings : Settings) (s : State) → Rests s → ((label : Label) (t : State) → ma.Steps settings s label t → ⊥) → Settles settings s
+settles_here settings s rests none = record { bound = 0; within = by_run; steps = []; last = s; alone = tt; run = refl; rests = rests }
   where
     by_run : (more : List Entry) (last : State) → AllSteps more → Run settings s more last → length more ≤ 0
     by_run [] last all run = omega arith
     by_run (Happens event label ∷ rest) last all run = absurd all
-    by_run (Did label ∷ rest) last all (mid, goes, run) = absurd (none label mid goes all.0)
+    by_run (Did label ∷ rest) last all (mid, goes, run) = absurd (none label mid goes)
 
-one_follows : (settings : Settings) (s t : State) (label : Label) → ma.Steps settings s label t → Bounded settings t → Bounded settings s
-one_follows settings s t label step bounded = (suc bounded.0, by_run)
+one_follows : (settings : Settings) (s t : State) (label : Label) → ma.Steps settings s label t → Settles settings t → Settles settings s
+one_follows settings s t label step h = record { bound = suc h.bound; within = by_run; steps = Did label ∷ h.steps; last = h.last; alone = h.alone; run = (t, step, h.run); rests = h.rests }
   where
-    by_run : (more : List Entry) (last : State) → AllSteps more → Run settings s more last → length more ≤ suc bounded.0
+    by_run : (more : List Entry) (last : State) → AllSteps more → Run settings s more last → length more ≤ suc h.bound
     by_run [] last all run = omega arith
     by_run (Happens event other ∷ rest) last all run = absurd all
     by_run (Did other ∷ rest) last all (mid, goes, run) =
         let same : mid ≡ t = one_state settings s other label mid t goes step in
-        let l = bounded.1 rest last all.1 (subst (λ (x : State). Run settings x rest last) same run) in
+        let l = h.within rest last all (subst (λ (x : State). Run settings x rest last) same run) in
         omega arith
 
 nothing_follows : (settings : Settings) (s : State) → RestsWith s s.operation → (label : Label) (t : State) → ma.Steps settings s label t → ⊥
 nothing_follows settings s rests label t steps = subst (λ (o : Option (Doing Step)). ma.IsStep settings o (record { label = label; state = t })) (nothing_next settings s s.operation rests) steps
 
--- the next step lowers the numbers, unless a device joins
-by_one : (settings : Settings) (s : State) → Kept s → ((t : State) → Kept t → Lower (first_of t) (left_of t.operation) (last_of t) (first_of s) (left_of s.operation) (last_of s) → Bounded settings t)
-    → (o : OneStep settings s) → Dec (IsNoJoin o.label) → Bounded settings s
-by_one settings s kept below_s o (no h) = none_follows settings s (λ label t steps no_join. h (subst IsNoJoin (o.only label t steps).0 no_join))
-by_one settings s kept below_s o (yes h) =
-    one_follows settings s o.next o.label o.steps
-    (below_s o.next (kept_goes settings s (Did o.label) o.next kept o.steps) ((lowers_step settings s (record { label = o.label; state = o.next }) kept o.steps).lowers h).lower)
-
-bounded_by : (settings : Settings) (s : State) → Kept s → ((t : State) → Kept t → Lower (first_of t) (left_of t.operation) (last_of t) (first_of s) (left_of s.operation) (last_of s) → Bounded settings t) → Bounded settings s
-bounded_by settings s kept below_s =
-    elim (rests_or settings s s.operation refl kept) [
-      | inl rests ↦ none_follows settings s (λ label t steps no_join. nothing_follows settings s rests label t steps)
-      | inr next ↦ let o = doing_one settings s next.0 next.1 in by_one settings s kept below_s o (dec_join o.label)
+-- the next step lowers the numbers
+lowest_step : (settings : Settings) (s t : State) (label : Label) → Kept s → Born s → ma.Steps settings s label t → Lowest t s
+lowest_step settings s t label kept born steps =
+    elim (step_goes settings s (record { label = label; state = t }) kept born steps).1 [
+      | inl l ↦ inl l
+      | inr (l, no_join) ↦ inr (l, ((lowers_step settings s (record { label = label; state = t }) kept steps).lowers no_join).lower)
     ]
 
-all_bounded : (settings : Settings) (x y z : ℕ) → AllBounded settings x y z
-all_bounded settings =
-    by_three (AllBounded settings)
-    (λ x y z lower s kept a b c. bounded_by settings s kept
-    (λ t kept_t l. lower (first_of t) (left_of t.operation) (last_of t) (at_numbers t s x y z a b c l) t kept_t refl refl refl))
-  where
-    at_numbers : (t s : State) (x y z : ℕ) → first_of s ≡ x → left_of s.operation ≡ y → last_of s ≡ z
-        → Lower (first_of t) (left_of t.operation) (last_of t) (first_of s) (left_of s.operation) (last_of s)
-        → Lower (first_of t) (left_of t.operation) (last_of t) x y z
-    at_numbers t s x y z a b c l =
-        subst (λ (i : ℕ). Lower (first_of t) (left_of t.operation) (last_of t) i y z) a
-        (subst (λ (i : ℕ). Lower (first_of t) (left_of t.operation) (last_of t) (first_of s) i z) b
-        (subst (λ (i : ℕ). Lower (first_of t) (left_of t.operation) (last_of t) (first_of s) (left_of s.operation) i) c l))
+settled_by : (settings : Settings) (s : State) → Kept s → Born s → ((t : State) → Kept t → Born t → Lowest t s → Settles settings t) → Settles settings s
+settled_by settings s kept born below_s =
+    elim (rests_or settings s s.operation refl kept) [
+      | inl rests ↦ settles_here settings s rests (nothing_follows settings s rests)
+      | inr next ↦
+          let o = doing_one settings s next.0 next.1 in
+          one_follows settings s o.next o.label o.steps
+          (below_s o.next (kept_goes settings s (Did o.label) o.next kept o.steps) (step_goes settings s (record { label = o.label; state = o.next }) kept born o.steps).0 (lowest_step settings s o.next o.label kept born o.steps))
+    ]
 
-pub every_stretch_ends : EndsLaw
-every_stretch_ends settings rack entries s run = all_bounded settings (first_of s) (left_of s.operation) (last_of s) s (reaches_kept settings rack entries s run) refl refl refl
+all_settle : (settings : Settings) (w x y z : ℕ) → AllSettle settings w x y z
+all_settle settings =
+    by_four (AllSettle settings)
+    (λ w x y z lower s kept born e a b c. settled_by settings s kept born
+    (λ t kept_t born_t l. lower (can_join t) (first_of t) (left_of t.operation) (last_of t) (at_numbers t s w x y z e a b c l) t kept_t born_t refl refl refl refl))
+  where
+    at_numbers : (t s : State) (w x y z : ℕ) → can_join s ≡ w → first_of s ≡ x → left_of s.operation ≡ y → last_of s ≡ z → Lowest t s
+        → (can_join t < w) ⊎ ((can_join t ≤ w) × Lower (first_of t) (left_of t.operation) (last_of t) x y z)
+    at_numbers t s w x y z e a b c l =
+        subst (λ (i : ℕ). (can_join t < i) ⊎ ((can_join t ≤ i) × Lower (first_of t) (left_of t.operation) (last_of t) x y z)) e
+        (subst (λ (i : ℕ). (can_join t < can_join s) ⊎ ((can_join t ≤ can_join s) × Lower (first_of t) (left_of t.operation) (last_of t) i y z)) a
+        (subst (λ (i : ℕ). (can_join t < can_join s) ⊎ ((can_join t ≤ can_join s) × Lower (first_of t) (left_of t.operation) (last_of t) (first_of s) i z)) b
+        (subst (λ (i : ℕ). (can_join t < can_join s) ⊎ ((can_join t ≤ can_join s) × Lower (first_of t) (left_of t.operation) (last_of t) (first_of s) (left_of s.operation) i)) c l)))
+
+pub every_run_settles : SettlesLaw
+every_run_settles settings rack entries s run =
+    all_settle settings (can_join s) (first_of s) (left_of s.operation) (last_of s) s (reaches_kept settings rack entries s run) (reaches_born settings rack entries s run) refl refl refl refl

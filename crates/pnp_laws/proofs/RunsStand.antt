@@ -77,7 +77,7 @@ opening_stands rack =
       due = λ k n at e. absurd (let s = ap (λ (x : Node). x.state) (root_is k n at).0 in cc);
     }
 
-opening_kept : (rack : List Driver) → Kept (opening rack)
+pub opening_kept : (rack : List Driver) → Kept (opening rack)
 opening_kept rack = record { good = opening_is_good rack; stands = opening_stands rack }
 
 pub reaches_kept : (settings : Settings) (rack : List Driver) (entries : List Entry) (s : State) → Reaches settings rack entries s → Kept s

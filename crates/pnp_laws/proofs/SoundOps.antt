@@ -16,7 +16,7 @@ use Rattle.pnp_laws.specs.Kept.{Ascending, is_idle}
 use Rattle.pnp_laws.proofs.Lookups.{node_from, Ascending-changed}
 use Rattle.pnp_laws.proofs.Lists.{HeadIs, head_has}
 use Rattle.pnp_laws.proofs.Finishing.{StacksFit}
-use Rattle.pnp_laws.proofs.Standing.{TasksUp, DutyUp, DueBut, waiting, StageKept, Stands, Sound, Finishes}
+use Rattle.pnp_laws.proofs.Standing.{IsNoLeave, TasksUp, DutyUp, DueBut, waiting, StageKept, Stands, Sound, Finishes}
 use Rattle.pnp_laws.proofs.TreeChanges.{Alike, SameTree, same_still, same_changed, nodes_same}
 use Rattle.pnp_laws.proofs.TreeMoves.{was_stripped}
 use Rattle.pnp_laws.proofs.Sounds.{IsPlain, LeadsMore, leads_same, leads_pushed, up_append, due_still, due_changed, due_stripped, due_left, sound_same, sound_still, sound_walk, sound_strip, sound_left}
@@ -31,7 +31,7 @@ pub record Work (s : State) (node : Node) (todo : List ℕ) : Type 0 where
   pub stacks : StacksFit s.core.nodes
 
 state_alike : (node : Node) (y : DevState) → (is_idle y ≡ true → is_idle node.state ≡ true) → Alike node (with_state y node)
-state_alike node y idle = record { serial = refl; parent = refl; path = refl; idle = idle }
+state_alike node y idle = record { serial = refl; parent = refl; path = refl; born = refl; idle = idle }
 
 pub same_state : (s t : State) (node : Node) (todo : List ℕ) (y : DevState) → Work s node todo → t.core.nodes ≡ changed_first (is_node node.serial) (with_state y) s.core.nodes → t.core.relations ≡ s.core.relations →
     (is_idle y ≡ true → is_idle node.state ≡ true) → SameTree s.core t.core
@@ -77,7 +77,7 @@ op_strip s t node todo set rest w own order is next tasks row stage waits due h 
 -- the head stays, with a problem
 
 pub problem_alike : (node : Node) (problem : Option Problem) → Alike node (with_problem problem node)
-problem_alike node problem = record { serial = refl; parent = refl; path = refl; idle = λ h. h }
+problem_alike node problem = record { serial = refl; parent = refl; path = refl; born = refl; idle = λ h. h }
 
 pub op_trouble : (s t : State) (node : Node) (todo rest : List ℕ) (label : Label) (problem : Option Problem) → Work s node todo → IsPlain label → t.core.nodes ≡ changed_first (is_node node.serial) (with_problem problem) s.core.nodes → t.core.relations ≡ s.core.relations → t.next_serial ≡ s.next_serial → t.tasks ≡ s.tasks →
     (SameTree s.core t.core → StageKept t.operation t.core) → waiting t.operation ≡ rest → DueBut rest s.tasks s.core.nodes → Stands s → Sound s (record { label = label; state = t })
@@ -131,10 +131,10 @@ more_relist path born s = by_device (device_of path s.world)
     by_device (Some d) = by_other d (d.born == born)
 
 -- the head left
-pub op_left : (s t : State) (node : Node) (todo set rest : List ℕ) (label : Label) → Work s node todo → IsPlain label → has set node.serial ≡ true → Finishes s.core set todo → t.core ≡ drop_node node.serial s.core → t.next_serial ≡ s.next_serial → MoreTasks s.tasks t.tasks →
+pub op_left : (s t : State) (node : Node) (todo set rest : List ℕ) (label : Label) → Work s node todo → IsPlain label → (IsNoLeave label → ⊥) → has set node.serial ≡ true → Finishes s.core set todo → t.core ≡ drop_node node.serial s.core → t.next_serial ≡ s.next_serial → MoreTasks s.tasks t.tasks →
     StageKept t.operation t.core → waiting t.operation ≡ rest → DueBut rest s.tasks s.core.nodes → Stands s → Sound s (record { label = label; state = t })
-op_left s t node todo set rest label w plain own order is next tasks stage waits due h =
+op_left s t node todo set rest label w plain leaves own order is next tasks stage waits due h =
     let alone = head_childless s.next_serial s.core set todo node.serial w.order h.tree w.head own order in
-    sound_left s t label node plain is next w.order alone (tasks.up h.up) stage
+    sound_left s t label node plain leaves is next w.order alone (tasks.up h.up) stage
     (subst (λ (ks : List ℕ). DueBut ks t.tasks t.core.nodes) (sym waits)
     (due_left rest s.tasks t.tasks s.core t.core node.serial is w.order alone h.tree.root w.up tasks.leads due)) h

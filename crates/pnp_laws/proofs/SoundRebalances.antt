@@ -165,7 +165,7 @@ not_root : (s : State) (next : ℕ) (p : Option Operation) → Good next s.core.
 not_root s next p good k n at e = λ z. let root = (good.stacks k n at).root z in cc
 
 commits_alike : (serials : List ℕ) (r : Rebalance) (n : Node) → Alike n (committed serials (plan_of r.found) n)
-commits_alike serials r n = record { serial = refl; parent = refl; path = refl; idle = λ h. h }
+commits_alike serials r n = record { serial = refl; parent = refl; path = refl; born = refl; idle = λ h. h }
 
 sound_commit : (s : State) (r : Rebalance) → RebalanceKeeps r Committing s.core.nodes → OrderKept r Committing × RebalanceThere r Committing s.core.nodes → DueBut r.agreed s.tasks s.core.nodes → Good s.next_serial s.core.nodes [] (Some (Operation.Rebalancing r)) → Stands s → Sound s (rebalance_lifted s (commit_step s.core r))
 sound_commit s r keeps order due good h =

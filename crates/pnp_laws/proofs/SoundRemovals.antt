@@ -27,7 +27,7 @@ use Rattle.pnp_laws.proofs.Finishing.{head_stripped, head_bare, strips, relist_o
 use Rattle.pnp_laws.proofs.RemovalSteps.{head_querying, head_refusing, head_restoring, not_root}
 use Rattle.pnp_laws.proofs.SurpriseSteps.{head_told, told_or, last_alone}
 use Rattle.pnp_laws.proofs.SharingRemovals.{relist_core}
-use Rattle.pnp_laws.proofs.Standing.{DueBut, waiting, StageKept, RemovalOrder, RemovalThere, SurpriseOrder, SurpriseThere, Stands, Sound, Finishes, AllThere, TargetLeft}
+use Rattle.pnp_laws.proofs.Standing.{IsNoLeave, DueBut, waiting, StageKept, RemovalOrder, RemovalThere, SurpriseOrder, SurpriseThere, Stands, Sound, Finishes, AllThere, TargetLeft}
 use Rattle.pnp_laws.proofs.Theres.{goes_on, fewer_there, rest_there, same_there, same_goes, strip_goes, left_there}
 use Rattle.pnp_laws.proofs.Finishes.{fades_same, finishes_all, finishes_still, finishes_strip, finishes_stays, finishes_left}
 use Rattle.pnp_laws.proofs.SoundOps.{Work, op_walk, op_still, op_strip, op_trouble, op_left, was_troubled, now_ascending, MoreTasks, more_relist}
@@ -110,10 +110,10 @@ sound_remains s t o node problem a b next tasks now over keeps order work due h 
     (ap waiting now) due h
 
 -- the device leaves
-sound_leaves : (s t : State) (o : Removal) (node : Node) (label : Label) → IsPlain label → t.core ≡ drop_node node.serial s.core → t.next_serial ≡ s.next_serial → MoreTasks s.tasks t.tasks → t.operation ≡ Some (Operation.Removing (rm.finish_on s.core.nodes o (rest o.todo))) →
+sound_leaves : (s t : State) (o : Removal) (node : Node) (label : Label) → IsPlain label → (IsNoLeave label → ⊥) → t.core ≡ drop_node node.serial s.core → t.next_serial ≡ s.next_serial → MoreTasks s.tasks t.tasks → t.operation ≡ Some (Operation.Removing (rm.finish_on s.core.nodes o (rest o.todo))) →
     RemovalKeeps o RemovalStage.Settling s.core.nodes → RemovalOrder s.core o RemovalStage.Settling × RemovalThere o RemovalStage.Settling s.core.nodes → Work s node o.todo → DueBut [] s.tasks s.core.nodes → Stands s → Sound s (record { label = label; state = t })
-sound_leaves s t o node label plain is next tasks now keeps order work due h =
-    op_left s t node o.todo o.set [] label work plain (keeps.asks node.serial (head_has node.serial o.todo work.head)) order.0 is next tasks
+sound_leaves s t o node label plain leaves is next tasks now keeps order work due h =
+    op_left s t node o.todo o.set [] label work plain leaves (keeps.asks node.serial (head_has node.serial o.todo work.head)) order.0 is next tasks
     (subst (λ (x : Option Operation). StageKept x t.core) (sym now)
     (order_finish_on s.core.nodes o (rest o.todo) t.core
     (subst (λ (c : Core). Finishes c o.set (rest o.todo)) (sym is) (finishes_left s.core o.set o.todo node.serial work.order work.head order.0))
@@ -129,7 +129,7 @@ sound_target s o node true over keeps order work due h =
     let m = rm.leaves s.core o node (Label.Ejected node.path) (RemoveBeside.Ejected node.path node.born) in
     let u = unplug node.born (set_operation (Some (Operation.Removing m.frame)) (with_core m.core s)) in
     let only = relist_only node.path node.born u in
-    sound_leaves s _ o node (Label.Ejected node.path) tt (relist_core node.path node.born u) only.serial (more_relist node.path node.born u) only.operation keeps order work due h
+    sound_leaves s _ o node (Label.Ejected node.path) tt (λ h. h) (relist_core node.path node.born u) only.serial (more_relist node.path node.born u) only.operation keeps order work due h
 sound_target s o node false over keeps order work due h = sound_remains s _ o node Problem.Disabled refl refl refl refl refl over keeps order work due h
 
 sound_outer : (s : State) (o : Removal) (node : Node) (b : Bool) → has o.set node.parent ≡ false → RemovalKeeps o RemovalStage.Settling s.core.nodes → RemovalOrder s.core o RemovalStage.Settling × RemovalThere o RemovalStage.Settling s.core.nodes → Work s node o.todo → DueBut [] s.tasks s.core.nodes → Stands s → Sound s (removal_lifted s (rm.settle_outer s.core o node b))
@@ -141,7 +141,7 @@ sound_settle s o node true over keeps order work due h =
     let m = rm.leaves s.core o node (Label.Leave node.path) (RemoveBeside.Left node.path node.born) in
     let u = set_operation (Some (Operation.Removing m.frame)) (with_core m.core s) in
     let only = relist_only node.path node.born u in
-    sound_leaves s _ o node (Label.Leave node.path) tt (relist_core node.path node.born u) only.serial (more_relist node.path node.born u) only.operation keeps order work due h
+    sound_leaves s _ o node (Label.Leave node.path) tt (λ h. h) (relist_core node.path node.born u) only.serial (more_relist node.path node.born u) only.operation keeps order work due h
 sound_settle s o node false over keeps order work due h = sound_outer s o node _ over keeps order work due h
 
 work_on : (s : State) (node : Node) (todo : List ℕ) (next : ℕ) (p : Option Operation) → first_node s.core.nodes todo ≡ Some node → (has todo node.serial ≡ true → node.serial ≢ 0) → Good next s.core.nodes [] p → Work s node todo
@@ -182,7 +182,7 @@ pub order_tell_on : (nodes : List Node) (o : Surprise) (ks : List ℕ) (c : Core
 order_tell_on nodes o [] c h there all target = order_su_finish_on nodes o o.set c h all (target_left o.target o.set c.nodes target)
 order_tell_on nodes o (k ∷ ks) c h there all target = (h, (goes_on k ks c.nodes there, all, target))
 
-waits_finish_on : (nodes : List Node) (o : Surprise) (ks : List ℕ) → waiting (Some (Operation.Surprising (su.finish_on nodes o ks))) ≡ o.set
+pub waits_finish_on : (nodes : List Node) (o : Surprise) (ks : List ℕ) → waiting (Some (Operation.Surprising (su.finish_on nodes o ks))) ≡ o.set
 waits_finish_on nodes o [] = refl
 waits_finish_on nodes o (k ∷ ks) = by_stack (stack_of (node_at k nodes))
   where
@@ -230,7 +230,7 @@ sound_su_leaves s o node keeps order work due h =
     let u = set_operation (Some (Operation.Surprising m.frame)) (with_core m.core s) in
     let only = relist_only node.path node.born u in
     let is = relist_core node.path node.born u in
-    op_left s (relist node.path node.born u) node o.todo o.set o.set (Label.Leave node.path) work tt (keeps.inside node.serial (head_has node.serial o.todo work.head)) order.0 is only.serial (more_relist node.path node.born u)
+    op_left s (relist node.path node.born u) node o.todo o.set o.set (Label.Leave node.path) work tt (λ h. h) (keeps.inside node.serial (head_has node.serial o.todo work.head)) order.0 is only.serial (more_relist node.path node.born u)
     (subst (λ (x : Option Operation). StageKept x (relist node.path node.born u).core) (sym only.operation)
     (order_su_finish_on s.core.nodes o (rest o.todo) (relist node.path node.born u).core
     (subst (λ (c : Core). Finishes c o.set (rest o.todo)) (sym is) (finishes_left s.core o.set o.todo node.serial work.order work.head order.0))

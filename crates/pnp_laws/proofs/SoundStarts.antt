@@ -63,7 +63,7 @@ calm_walk : (s t : State) (node : Node) (minor : Minor) (bad : Bool) (y : DevSta
     node_at node.serial s.core.nodes ≡ Some node → (is_idle y ≡ true → is_idle node.state ≡ true) → (y ≡ Stopped → ⊥) → y ≢ NoStack → Row node.state minor bad y → TasksUp t.tasks → LeadsMore s.tasks t.tasks →
     Stands s → Sound s (record { label = Label.State node.path y; state = t })
 calm_walk s t node minor bad y a b next now none at idle stopped full row up leads stands =
-    let same = same_changed s.core t.core node.serial (with_state y) node a b (λ x. refl) at (record { serial = refl; parent = refl; path = refl; idle = idle }) in
+    let same = same_changed s.core t.core node.serial (with_state y) node a b (λ x. refl) at (record { serial = refl; parent = refl; path = refl; born = refl; idle = idle }) in
     sound_walk s t node minor bad y a same next at full row up (stage_none t.operation t.core now)
     (due_changed (waiting s.operation) (waiting t.operation) s.tasks t.tasks s.core.nodes t.core.nodes node.serial (with_state y) node a (λ x. refl) at (nodes_same s.core t.core same) leads (λ e. absurd (stopped e))
     (λ k h. inl (calm_due s.operation t.operation none now k h)) stands.due) stands
@@ -86,20 +86,20 @@ no_dependents c k order none j h =
 
 -- The cases ------------------------------------------------------------------------------------
 
-pub plain_alike : (f : Node → Node) (node : Node) → (f node).serial ≡ node.serial → (f node).parent ≡ node.parent → (f node).path ≡ node.path → (f node).state ≡ node.state → Alike node (f node)
-plain_alike f node a b c d = record { serial = a; parent = b; path = c; idle = λ h. ap is_idle (sym d) ∙ h }
+pub plain_alike : (f : Node → Node) (node : Node) → (f node).serial ≡ node.serial → (f node).parent ≡ node.parent → (f node).path ≡ node.path → (f node).state ≡ node.state → (f node).born ≡ node.born → Alike node (f node)
+plain_alike f node a b c d e = record { serial = a; parent = b; path = c; born = e; idle = λ h. ap is_idle (sym d) ∙ h }
 
 sound_add : (s : State) (c : Core) (node : Node) (d : ℕ) (ds : List ℕ) (answer : Answer) → c.nodes ≡ s.core.nodes → c.relations ≡ s.core.relations → s.operation ≡ None → node_at node.serial s.core.nodes ≡ Some node → is_idle node.state ≡ true → Stands s →
     Sound s (start_lifted s node.serial (add_driver c node d ds answer))
 sound_add s c node d ds Ok same rel none at idle h =
     let f = with_stack (node.stack ++ d ∷ []) (stacked node.state) in
-    calm_changed s _ _ f node tt (ap (λ (ns : List Node). changed_first (is_node node.serial) f ns) same) rel refl none none (λ x. refl) at (record { serial = refl; parent = refl; path = refl; idle = λ q. idle }) (λ e. absurd (let q = stacked_idle node.state idle in cc)) h.up (leads_same s.tasks) h
+    calm_changed s _ _ f node tt (ap (λ (ns : List Node). changed_first (is_node node.serial) f ns) same) rel refl none none (λ x. refl) at (record { serial = refl; parent = refl; path = refl; born = refl; idle = λ q. idle }) (λ e. absurd (let q = stacked_idle node.state idle in cc)) h.up (leads_same s.tasks) h
 sound_add s c node d ds Fail same rel none at idle h = calm_still s _ _ tt same rel refl none none h.up (leads_same s.tasks) h
 sound_add s c node d ds Pend same rel none at idle h = calm_still s _ _ tt same rel refl none none h.up (leads_same s.tasks) h
 
 sound_searched : (s : State) (node : Node) (found : Found) → s.operation ≡ None → node_at node.serial s.core.nodes ≡ Some node → node.serial ≢ 0 → Stands s → Sound s (start_lifted s node.serial (searched s.core node found))
 sound_searched s node (assignment plan) none at up h =
-    calm_changed s _ (Label.Assign node.path (own_part plan)) (with_holds (own_part plan)) node tt refl refl refl none none (λ x. refl) at (plain_alike (with_holds (own_part plan)) node refl refl refl refl) (λ e. e) h.up (leads_same s.tasks) h
+    calm_changed s _ (Label.Assign node.path (own_part plan)) (with_holds (own_part plan)) node tt refl refl refl none none (λ x. refl) at (plain_alike (with_holds (own_part plan)) node refl refl refl refl refl) (λ e. e) h.up (leads_same s.tasks) h
 sound_searched s node no_fit none at up h = calm_still s _ _ tt refl refl refl none none (up_append s.tasks (record { kind = Duty.Begins OpKind.Rebalance; serial = node.serial }) up h.up) (leads_pushed s.tasks _) h
 sound_searched s node spent none at up h = calm_still s _ _ tt refl refl refl none none h.up (leads_same s.tasks) h
 
@@ -127,8 +127,8 @@ sound_remove_on s node w false none at e order h = calm_still s _ _ tt refl refl
 
 sound_undo : (s : State) (node : Node) (problem : Problem) (stack : List ℕ) → s.operation ≡ None → node_at node.serial s.core.nodes ≡ Some node → Stands s →
     Sound s (start_lifted s node.serial (undo (record s.core { nodes = changed_first (is_node node.serial) (with_problem (Some problem)) s.core.nodes }) node problem stack))
-sound_undo s node problem [] none at h = calm_changed s _ _ (with_problem (Some problem)) node tt refl refl refl none none (λ x. refl) at (plain_alike (with_problem (Some problem)) node refl refl refl refl) (λ e. e) h.up (leads_same s.tasks) h
-sound_undo s node problem (d ∷ ds) none at h = calm_changed s _ _ (with_problem (Some problem)) node tt refl refl refl none none (λ x. refl) at (plain_alike (with_problem (Some problem)) node refl refl refl refl) (λ e. e) h.up (leads_same s.tasks) h
+sound_undo s node problem [] none at h = calm_changed s _ _ (with_problem (Some problem)) node tt refl refl refl none none (λ x. refl) at (plain_alike (with_problem (Some problem)) node refl refl refl refl refl) (λ e. e) h.up (leads_same s.tasks) h
+sound_undo s node problem (d ∷ ds) none at h = calm_changed s _ _ (with_problem (Some problem)) node tt refl refl refl none none (λ x. refl) at (plain_alike (with_problem (Some problem)) node refl refl refl refl refl) (λ e. e) h.up (leads_same s.tasks) h
 
 -- whatever a search answers
 abbrev pub SoundDoing : State → Doing Step → Type 0

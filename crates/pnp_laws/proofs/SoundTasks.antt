@@ -111,6 +111,8 @@ sound_join s node d join at up none good h =
       };
       walked = tt;
       first = first_stays (Label.Join s.next_serial d.path) s.core t.core tt (λ k n there gone. let stays = joined_keeps k s.core.nodes new n there in cc);
+      births = λ no_join. absurd no_join;
+      stays = λ no_leave k n there gone. let stays = joined_keeps k s.core.nodes new n there in cc;
     }
 
 -- the first task is to list
@@ -155,12 +157,12 @@ sound_skip_start s node label plain b h = sound_drop s label (record { kind = Du
 
 sound_trouble : (s : State) (node : Node) (problem : Problem) → Begins s node → Stands s → Sound s (begin_trouble s node problem)
 sound_trouble s node problem b h =
-    calm_changed s _ (Label.Trouble node.path problem) (with_problem (Some problem)) node tt refl refl refl b.none b.none (λ x. refl) b.at (plain_alike (with_problem (Some problem)) node refl refl refl refl) (λ e. e)
+    calm_changed s _ (Label.Trouble node.path problem) (with_problem (Some problem)) node tt refl refl refl b.none b.none (λ x. refl) b.at (plain_alike (with_problem (Some problem)) node refl refl refl refl refl) (λ e. e)
     (up_drop s.tasks h.up) (leads_none s.tasks (drop 1 s.tasks) (record { kind = Duty.Starting; serial = b.serial }) b.first refl) h
 
 sound_named : (s : State) (node : Node) (rank : ℕ) (lower : Option (List ℕ)) (driver : Option ℕ) (upper : Option (List ℕ)) → Begins s node → Stands s → Sound s (install_named s node rank lower driver upper)
 sound_named s node rank (Some lower) (Some driver) (Some upper) b h =
-    calm_changed s _ _ (with_problem None) node tt refl refl refl b.none b.none (λ x. refl) b.at (plain_alike (with_problem None) node refl refl refl refl) (λ e. e)
+    calm_changed s _ _ (with_problem None) node tt refl refl refl b.none b.none (λ x. refl) b.at (plain_alike (with_problem None) node refl refl refl refl refl) (λ e. e)
     (up_drop s.tasks h.up) (leads_none s.tasks (drop 1 s.tasks) (record { kind = Duty.Starting; serial = b.serial }) b.first refl) h
 sound_named s node rank (Some lower) (Some driver) None b h = sound_trouble s node _ b h
 sound_named s node rank (Some lower) None upper b h = sound_trouble s node _ b h

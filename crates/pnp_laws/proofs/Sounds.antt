@@ -20,7 +20,7 @@ use Rattle.pnp_laws.specs.Due.{leads, is_due}
 use Rattle.pnp_laws.proofs.Lookups.{some_same, node_from, node_changed_same, left_missing, left_from}
 use Rattle.pnp_laws.proofs.Due.{leads_append, none_leads, RootIsOwn}
 use Rattle.pnp_laws.proofs.Aboves.{due_more}
-use Rattle.pnp_laws.proofs.Standing.{Tree, TasksUp, DutyUp, DueBut, waiting, StageKept, Stands, Sound}
+use Rattle.pnp_laws.proofs.Standing.{Tree, TasksUp, DutyUp, DueBut, waiting, StageKept, Stands, Sound, IsNoLeave, FromThose}
 use Rattle.pnp_laws.proofs.TreeChanges.{SameTree, SameNodes, same_still, tree_same, above_same}
 use Rattle.pnp_laws.proofs.TreeMoves.{Childless, was_stripped, now_stripped, tree_stripped, tree_left, above_left}
 use Rattle.pnp_laws.proofs.Closures.{tail_at}
@@ -154,6 +154,9 @@ pub first_stays : (label : Label) (c d : Core) → IsPlain label → AllStay c.n
 first_stays label c d plain stay =
     record { bare = λ path e. absurd (not_state label path NoStack plain e); childless = λ k n at gone. absurd (stay k n at gone) }
 
+from_same : (c d : Core) → SameTree c d → FromThose c.nodes d.nodes
+from_same c d same k m at = let was = same.from k m at in (was.0, was.1, was.2.born, was.2.parent)
+
 -- where no node is a child, there are no children
 pub no_children : (lo : ℕ) (j : ℕ) (nodes : List Node) → Ascending lo nodes → Childless j nodes → children j nodes ≡ []
 no_children lo j [] order alone = refl
@@ -177,6 +180,8 @@ sound_same s t label plain same next up stage due stands =
       stands = record { tree = subst (λ (i : ℕ). Tree i t.core) (sym next) (tree_same s.next_serial s.core t.core same stands.tree); up = up; stage = stage; due = due };
       walked = walked_plain label s.core.nodes t.core.nodes plain;
       first = first_stays label s.core t.core plain (stay_same s.core t.core same);
+      births = λ no_join. from_same s.core t.core same;
+      stays = λ no_leave. stay_same s.core t.core same;
     }
 
 -- no node changes
@@ -198,6 +203,8 @@ sound_walk s t node minor bad y is same next at up row tasks stage due stands =
         bare = λ path e. absurd (up (let f : y ≡ NoStack = cc in f));
         childless = λ k n there gone. absurd (stay_same s.core t.core same k n there gone);
       };
+      births = λ no_join. from_same s.core t.core same;
+      stays = λ no_leave. stay_same s.core t.core same;
     }
 
 -- a device lost its drivers
@@ -218,6 +225,10 @@ sound_strip s t node is next at row alone bare_first tasks stage due stands =
         childless = λ k n there gone.
             absurd (let kept = now_stripped node.serial k s.core n there in let kept2 = subst (λ (c : Core). node_at k c.nodes ≡ Some kept.0) (sym is) kept.1 in cc);
       };
+      births = λ no_join k m there.
+          let was = was_stripped node.serial k s.core m (subst (λ (c : Core). node_at k c.nodes ≡ Some m) is there) in
+          (was.node, was.at, was.born, was.parent);
+      stays = λ no_leave k n there gone. let kept = now_stripped node.serial k s.core n there in let kept2 = subst (λ (c : Core). node_at k c.nodes ≡ Some kept.0) (sym is) kept.1 in cc;
     }
 
 pub nodes_stripped : (j : ℕ) (c : Core) → SameNodes c.nodes (strip j c).nodes
@@ -234,9 +245,9 @@ due_stripped rest tasks more c d j node is at leads due =
     (subst (λ (x : Core). SameNodes c.nodes x.nodes) (sym is) (nodes_stripped j c)) leads (λ e. absurd (cc)) (λ k h. inl h) due
 
 -- a device left
-pub sound_left : (s t : State) (label : Label) (node : Node) → IsPlain label → t.core ≡ drop_node node.serial s.core → t.next_serial ≡ s.next_serial → Ascending 0 s.core.nodes → Childless node.serial s.core.nodes →
+pub sound_left : (s t : State) (label : Label) (node : Node) → IsPlain label → (IsNoLeave label → ⊥) → t.core ≡ drop_node node.serial s.core → t.next_serial ≡ s.next_serial → Ascending 0 s.core.nodes → Childless node.serial s.core.nodes →
     TasksUp t.tasks → StageKept t.operation t.core → DueBut (waiting t.operation) t.tasks t.core.nodes → Stands s → Sound s (record { label = label; state = t })
-sound_left s t label node plain is next order alone tasks stage due stands =
+sound_left s t label node plain leaves is next order alone tasks stage due stands =
     record {
       stands = record { tree = subst (λ (i : ℕ). Tree i t.core) (sym next) (subst (λ (c : Core). Tree s.next_serial c) (sym is) (tree_left s.next_serial node.serial s.core order alone stands.tree)); up = tasks; stage = stage; due = due };
       walked = walked_plain label s.core.nodes t.core.nodes plain;
@@ -247,6 +258,10 @@ sound_left s t label node plain is next order alone tasks stage due stands =
             let k_is : node.serial ≡ k = left_missing node.serial k s.core.nodes n there gone2 in
             subst (λ (i : ℕ). children i s.core.nodes ≡ []) k_is (no_children 0 node.serial s.core.nodes order alone);
       };
+      births = λ no_join k m there.
+          let from = left_from node.serial k s.core.nodes m order (subst (λ (c : Core). node_at k c.nodes ≡ Some m) is there) in
+          (m, from.1, refl, refl);
+      stays = λ no_leave. absurd (leaves no_leave);
     }
 
 pub due_left : (rest : List ℕ) (tasks more : List Task) (c d : Core) (j : ℕ) → d ≡ drop_node j c → Ascending 0 c.nodes → Childless j c.nodes → RootIsOwn c.nodes → j ≢ 0 → LeadsMore tasks more → DueBut rest tasks c.nodes → DueBut rest more d.nodes

@@ -6,6 +6,8 @@ use Rattle.pnp_model.specs.Cores.{node_at}
 use Rattle.pnp_model.specs.Trees.{hangs_on}
 use Rattle.pnp_model.specs.Diagram.{Walked}
 use Rattle.pnp_model.specs.Laws.{DependentsFirst}
+use Rattle.pnp_labels.specs.declared.label.Label.{Label}
+use Rattle.pnp_laws.specs.Ends.{IsNoJoin}
 use Rattle.pnp_labels.specs.declared.states.DevState.TheVariants.{NoStack, Stopped}
 use Rattle.pnp_laws.specs.Kept.{is_idle}
 use Rattle.pnp_laws.specs.Due.{is_due}
@@ -166,8 +168,20 @@ pub record Stands (s : State) : Type 0 where
   pub stage : StageKept s.operation s.core
   pub due : DueBut (waiting s.operation) s.tasks s.core.nodes
 
+-- no device leaves
+abbrev pub IsNoLeave : Label → Type 0
+IsNoLeave (Label.Leave path) = ⊥
+IsNoLeave (Label.Ejected path) = ⊥
+IsNoLeave _ = Unit {0}
+
+-- each node was there before, born as now and below the same
+abbrev pub FromThose : List Node → List Node → Type 0
+FromThose old new = (k : ℕ) (m : Node) → node_at k new ≡ Some m → (n : Node) × (node_at k old ≡ Some n) × (m.born ≡ n.born) × (m.parent ≡ n.parent)
+
 -- a step keeps all this, its walk is a row of the diagram, and dependents go first
 pub record Sound (s : State) (step : Step) : Type 0 where
   pub stands : Stands step.state
   pub walked : Walked step.label s.core.nodes step.state.core.nodes
   pub first : DependentsFirst step.label s.core step.state.core
+  pub births : IsNoJoin step.label → FromThose s.core.nodes step.state.core.nodes
+  pub stays : IsNoLeave step.label → (k : ℕ) (n : Node) → node_at k s.core.nodes ≡ Some n → node_at k step.state.core.nodes ≡ None → ⊥

@@ -19,10 +19,11 @@ pub record Alike (n m : Node) : Type 0 where
   pub serial : m.serial ≡ n.serial
   pub parent : m.parent ≡ n.parent
   pub path : m.path ≡ n.path
+  pub born : m.born ≡ n.born
   pub idle : is_idle m.state ≡ true → is_idle n.state ≡ true
 
 pub alike_self : (n : Node) → Alike n n
-alike_self n = record { serial = refl; parent = refl; path = refl; idle = λ h. h }
+alike_self n = record { serial = refl; parent = refl; path = refl; born = refl; idle = λ h. h }
 
 pub record SameTree (c d : Core) : Type 0 where
   pub from : (k : ℕ) (m : Node) → node_at k d.nodes ≡ Some m → (n : Node) × (node_at k c.nodes ≡ Some n) × Alike n m

@@ -67,13 +67,14 @@ pub record WasNode (c : Core) (j k : ℕ) (m : Node) : Type 0 where
   pub at : node_at k c.nodes ≡ Some node
   pub parent : m.parent ≡ node.parent
   pub path : m.path ≡ node.path
+  pub born : m.born ≡ node.born
   pub other : j ≢ k → m ≡ node
 
 pub was_stripped : (j k : ℕ) (c : Core) (m : Node) → node_at k (strip j c).nodes ≡ Some m → WasNode c j k m
 was_stripped j k c m h =
     elim (node_from j k bare c.nodes m (λ x. refl) h) [
-      | inl (e, (y, q, r)) ↦ record { node = y; at = q; parent = ap (λ (z : Node). z.parent) r; path = ap (λ (z : Node). z.path) r; other = λ d. absurd (d e) }
-      | inr (d, q) ↦ record { node = m; at = q; parent = refl; path = refl; other = λ d. refl }
+      | inl (e, (y, q, r)) ↦ record { node = y; at = q; parent = ap (λ (z : Node). z.parent) r; path = ap (λ (z : Node). z.path) r; born = ap (λ (z : Node). z.born) r; other = λ d. absurd (d e) }
+      | inr (d, q) ↦ record { node = m; at = q; parent = refl; path = refl; born = refl; other = λ d. refl }
     ]
 
 pub now_stripped : (j k : ℕ) (c : Core) (n : Node) → node_at k c.nodes ≡ Some n → (m : Node) × (node_at k (strip j c).nodes ≡ Some m)

@@ -1,7 +1,7 @@
 //! What holds of every run of the device machine, for every rack of drivers and whatever happens.
 
 ghost use Rattle.pnp_laws.specs.Begun.{BegunLaw, EachConflictLaw, EachEndLaw};
-ghost use Rattle.pnp_laws.specs.Ends.{EndsLaw};
+ghost use Rattle.pnp_laws.specs.Ends.{SettlesLaw};
 ghost use Rattle.pnp_laws.specs.Quiet.{QuietLaw, StepLaw};
 ghost use Rattle.pnp_model.specs.Laws.{DiagramLaw, SharingLaw, WholeLaw, VetoLaw, FutileLaw, DependentsLaw, ConflictLaw};
 
@@ -44,10 +44,10 @@ pub fn exactly_one_step()
     ensures { StepLaw }
 {}
 
-/// From each state of a run there is a bound on how many steps can follow one another before something happens or a
-/// device joins.
-pub fn ends_but_for_joins()
-    ensures { EndsLaw }
+/// From each state of a run steps alone lead to a state that rests, and there is a bound on how many steps can follow
+/// one another before something happens. So after each event the machine comes to rest.
+pub fn comes_to_rest()
+    ensures { SettlesLaw }
 {}
 
 /// In each state of each run a device that is up, or would be but for an operation that asked it to stop or to go,
