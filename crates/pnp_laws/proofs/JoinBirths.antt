@@ -24,7 +24,7 @@ grows_sub lo _ _ Sub.none h = tt
 grows_sub lo _ _ (Sub.keep d xs ys sub) h = (h.0, h.1, grows_sub (suc d.born) xs ys sub h.2)
 grows_sub lo _ _ (Sub.skip d xs ys sub) h = let a = h.0 in grows_weaker lo (suc d.born) xs (omega arith) (grows_sub (suc d.born) xs ys sub h.2)
 
-grows_in : (lo : ℕ) (ds : List Device) (d : Device) → Grows lo ds → In d ds → lo ≤ d.born
+pub grows_in : (lo : ℕ) (ds : List Device) (d : Device) → Grows lo ds → In d ds → lo ≤ d.born
 grows_in lo [] d h there = absurd there
 grows_in lo (x ∷ xs) d h (inl e) = let f = ap (λ (z : Device). z.born) e in let a = h.0 in omega arith
 grows_in lo (x ∷ xs) d h (inr there) = let a = h.0 in let more = grows_in (suc x.born) xs d h.2 there in omega arith
@@ -37,6 +37,11 @@ one_device lo (x ∷ xs) d e h (inl a) (inr b) same = absurd (let f = ap (λ (z 
 one_device lo (x ∷ xs) d e h (inr a) (inl b) same = absurd (let f = ap (λ (z : Device). z.born) b in let g = grows_in (suc x.born) xs d h.2 a in let q : suc x.born ≤ x.born = omega arith in omega arith)
 one_device lo (x ∷ xs) d e h (inr a) (inr b) same = one_device (suc x.born) xs d e h.2 a b same
 
+pub under : (lo : ℕ) (ds : List Device) (d : Device) → Grows lo ds → In d ds → d.parent ≤ d.born
+under lo [] d h there = absurd there
+under lo (x ∷ xs) d h (inl e) = subst (λ (z : Device). z.parent ≤ z.born) e h.1
+under lo (x ∷ xs) d h (inr there) = under (suc x.born) xs d h.2 there
+
 -- A step -----------------------------------------------------------------------------------------------------
 
 pub born_flows : (s t : State) → Born s → Flows s t → Born t
@@ -48,6 +53,7 @@ born_flows s t b f =
           let x = f.from j n at in
           let y = f.from k m there in
           b.apart j k x.0 y.0 x.1 y.1 (sym x.2 ∙ e ∙ y.2);
+      first = λ k n at e. let x = f.from k n at in b.first k x.0 x.1 (sym x.2 ∙ e);
       known = λ k n at.
           let x = f.from k n at in
           let l = b.known k x.0 x.1 in
@@ -68,17 +74,17 @@ born_flows s t b f =
 -- A join -----------------------------------------------------------------------------------------------------
 
 -- what is known where a device joins
-record Joining (s : State) (node : Node) (d : Device) : Type 0 where
-  join : joins node.born s.core.nodes d ≡ true
-  there : In d s.world
-  at : node_at node.serial s.core.nodes ≡ Some node
-  up : node.state ≡ Started
-  none : s.operation ≡ None
-  good : IsGood s
-  tree : Tree s.next_serial s.core
-  born : Born s
+pub record Joining (s : State) (node : Node) (d : Device) : Type 0 where
+  pub join : joins node.born s.core.nodes d ≡ true
+  pub there : In d s.world
+  pub at : node_at node.serial s.core.nodes ≡ Some node
+  pub up : node.state ≡ Started
+  pub none : s.operation ≡ None
+  pub good : IsGood s
+  pub tree : Tree s.next_serial s.core
+  pub born : Born s
 
-unknown : (s : State) (node : Node) (d : Device) → joins node.born s.core.nodes d ≡ true → (d.parent ≡ node.born) × (has_born d.born s.core.nodes ≡ false)
+pub unknown : (s : State) (node : Node) (d : Device) → joins node.born s.core.nodes d ≡ true → (d.parent ≡ node.born) × (has_born d.born s.core.nodes ≡ false)
 unknown s node d h =
     let two = and_both (d.parent == node.born && not (has_born d.born s.core.nodes)) (not (has_path d.path s.core.nodes)) h in
     let first = and_both (d.parent == node.born) (not (has_born d.born s.core.nodes)) two.0 in
@@ -90,7 +96,7 @@ unknown s node d h =
     by_test false g = refl
 
 -- no node has the birth number
-no_node : (s : State) (b k : ℕ) (n : Node) → has_born b s.core.nodes ≡ false → node_at k s.core.nodes ≡ Some n → n.born ≡ b → ⊥
+pub no_node : (s : State) (b k : ℕ) (n : Node) → has_born b s.core.nodes ≡ false → node_at k s.core.nodes ≡ Some n → n.born ≡ b → ⊥
 no_node s b k n none at e = let h = any_from (λ n. n.born == b) s.core.nodes k n at (grind (arith, nat_tests)) in cc
 
 unborn_less : (n k : ℕ) → unborn (n + 1) k ≤ unborn n k
@@ -105,7 +111,7 @@ pub pushed : (cost : ℕ → ℕ) (tasks : List Task) (task : Task) → starts c
 pushed cost [] task = omega arith
 pushed cost (t ∷ tasks) task = let more = pushed cost tasks task in omega arith
 
-born_joins : (s : State) (node : Node) (d : Device) → Joining s node d → Born (join_step s node d).state
+pub born_joins : (s : State) (node : Node) (d : Device) → Joining s node d → Born (join_step s node d).state
 born_joins s node d h =
     let b = h.born in
     let u = unknown s node d h.join in
@@ -123,6 +129,13 @@ born_joins s node d h =
               | inl y ↦ absurd (no_node s d.born k m u.1 y (sym e ∙ ap (λ (z : Node). z.born) x.1))
               | inr y ↦ sym x.2 ∙ y.2
             ]
+          ];
+      first = λ k n at e.
+          elim (joined_from k s.core.nodes new n at) [
+            | inl x ↦ b.first k n x e
+            | inr x ↦
+                let zero : d.born ≡ 0 = sym (ap (λ (z : Node). z.born) x.1) ∙ e in
+                absurd (no_node s d.born node.serial node u.1 h.at (let low = under 0 s.world d b.grows h.there in let p = u.0 in omega arith))
           ];
       known = λ k n at.
           elim (joined_from k s.core.nodes new n at) [
@@ -215,79 +228,92 @@ starts_below next cost was (t ∷ ts) z h =
     by_kind Duty.Starting k z = h k (given k z)
     by_kind (Duty.Begins kind) k z = omega arith
 
--- fewer can join
-less_joins : (s : State) (node : Node) (d : Device) → IsGood (join_step s node d).state → Joining s node d → can_join (join_step s node d).state < can_join s
-less_joins s node d good_t h =
-    let t = (join_step s node d).state in
-    let new = new_node s.next_serial node.serial d in
-    let u = unknown s node d h.join in
-    let fresh : node_at s.next_serial s.core.nodes ≡ None = not_given (node_at s.next_serial s.core.nodes) refl in
-    let quiet : activity_at s.next_serial s.activities ≡ None = no_activity fresh (activity_at s.next_serial s.activities) refl in
-    let new_at : node_at s.next_serial t.core.nodes ≡ Some new = added s.core.nodes fresh in
-    let dead : is_live t new ≡ false = dies (ap some_there quiet) in
-    let live_node : is_live s node ≡ true = live_is s node (ap (λ (o : Option Operation). closed o node.serial) h.none) (inl (ap is_bare h.up)) in
-    let could : (lives s d.parent && not (has_born d.born s.core.nodes)) ≡ true =
-    pair (lives s d.parent) (has_born d.born s.core.nodes)
-    (any_from (λ n. n.born == d.parent && is_live s n) s.core.nodes node.serial node h.at (both (node.born == d.parent) (is_live s node) (let e = u.0 in grind (arith, nat_tests)) live_node)) u.1 in
-    let now : has_born d.born t.core.nodes ≡ true = any_from (λ n. n.born == d.born) t.core.nodes s.next_serial new new_at (grind (arith, nat_tests)) in
-    let apart : d.parent ≢ d.born = λ e. no_node s d.born node.serial node u.1 h.at (sym u.0 ∙ e) in
-    let a = join_less (lives t) (λ b. has_born b t.core.nodes) (lives s) (λ b. has_born b s.core.nodes) 0 s.world d h.born.grows h.there (λ x i g. were x dead g) could now apart in
-    let p = pushed (start_costs t) s.tasks (record { kind = Duty.Starting; serial = s.next_serial }) in
-    let own : start_costs t s.next_serial ≡ below d.born s.world = ap (below_node s.world) new_at in
-    let c = starts_below s.next_serial (start_costs t) (start_costs s) s.tasks h.born.soon (λ k l. cost_less k l) in
-    omega arith
+-- the new node --------------------------------------------------------------------------------------------
+
+not_given : (s : State) (node : Node) (d : Device) → Joining s node d → node_at s.next_serial s.core.nodes ≡ None
+not_given s node d h = by_node (node_at s.next_serial s.core.nodes) refl
   where
-    not_given : (o : Option Node) → node_at s.next_serial s.core.nodes ≡ o → node_at s.next_serial s.core.nodes ≡ None
-    not_given None e = e
-    not_given (Some n) e = absurd (let l = h.good.below s.next_serial n e in omega arith)
+    by_node : (o : Option Node) → node_at s.next_serial s.core.nodes ≡ o → node_at s.next_serial s.core.nodes ≡ None
+    by_node None e = e
+    by_node (Some n) e = absurd (let l = h.good.below s.next_serial n e in omega arith)
 
-    no_activity : node_at s.next_serial s.core.nodes ≡ None → (o : Option Activity) → activity_at s.next_serial s.activities ≡ o → activity_at s.next_serial s.activities ≡ None
-    no_activity fresh None e = e
-    no_activity fresh (Some a) e = absurd (let there = h.good.phases s.next_serial a e in let q = there.1 in cc)
+no_activity : (s : State) (node : Node) (d : Device) → Joining s node d → activity_at s.next_serial s.activities ≡ None
+no_activity s node d h = by_activity (activity_at s.next_serial s.activities) refl
+  where
+    by_activity : (o : Option Activity) → activity_at s.next_serial s.activities ≡ o → activity_at s.next_serial s.activities ≡ None
+    by_activity None e = e
+    by_activity (Some a) e = absurd (let there = h.good.phases s.next_serial a e in let q = there.1 in let fresh = not_given s node d h in cc)
 
+pub new_there : (s : State) (node : Node) (d : Device) → Joining s node d → node_at s.next_serial (s.core.nodes ++ new_node s.next_serial node.serial d ∷ []) ≡ Some (new_node s.next_serial node.serial d)
+new_there s node d h = added s.core.nodes (not_given s node d h)
+  where
     added : (nodes : List Node) → node_at s.next_serial nodes ≡ None → node_at s.next_serial (nodes ++ new_node s.next_serial node.serial d ∷ []) ≡ Some (new_node s.next_serial node.serial d)
     added [] e = grind (arith, nat_tests)
     added (x ∷ xs) e = let more = added xs in grind (arith, nat_tests)
 
-    dies : some_there (activity_at s.next_serial s.activities) ≡ false → is_live (join_step s node d).state (new_node s.next_serial node.serial d) ≡ false
-    dies e = by_tests (closed s.operation s.next_serial) (some_there (activity_at s.next_serial s.activities)) e
-      where
-        by_tests : (a c : Bool) → c ≡ false → (not a && (not true || c)) ≡ false
-        by_tests true c e = refl
-        by_tests false true e = absurd (cc)
-        by_tests false false e = refl
+pub new_dead : (s : State) (node : Node) (d : Device) → Joining s node d → is_live (join_step s node d).state (new_node s.next_serial node.serial d) ≡ false
+new_dead s node d h = by_tests (closed s.operation s.next_serial) (some_there (activity_at s.next_serial s.activities)) (ap some_there (no_activity s node d h))
+  where
+    by_tests : (a c : Bool) → c ≡ false → (not a && (not true || c)) ≡ false
+    by_tests true c e = refl
+    by_tests false true e = absurd (cc)
+    by_tests false false e = refl
 
-    pair : (a b : Bool) → a ≡ true → b ≡ false → (a && not b) ≡ true
-    pair true true e f = absurd (cc)
-    pair true false e f = refl
-    pair false b e f = absurd (cc)
+pair : (a b : Bool) → a ≡ true → b ≡ false → (a && not b) ≡ true
+pair true true e f = absurd (cc)
+pair true false e f = refl
+pair false b e f = absurd (cc)
 
-    both : (a b : Bool) → a ≡ true → b ≡ true → (a && b) ≡ true
-    both true b e f = f
-    both false b e f = absurd (cc)
+both : (a b : Bool) → a ≡ true → b ≡ true → (a && b) ≡ true
+both true b e f = f
+both false b e f = absurd (cc)
 
-    were : (x : Device) → is_live (join_step s node d).state (new_node s.next_serial node.serial d) ≡ false → (lives (join_step s node d).state x.parent && not (has_born x.born (join_step s node d).state.core.nodes)) ≡ true → (lives s x.parent && not (has_born x.born s.core.nodes)) ≡ true
-    were x dead g =
-        let t = (join_step s node d).state in
-        let new = new_node s.next_serial node.serial d in
-        let two = and_both (lives t x.parent) (not (has_born x.born t.core.nodes)) g in
-        let at = any_at (λ n. n.born == x.parent && is_live t n) 0 t.core.nodes good_t.serials two.0 in
-        let own = and_both (at.0.born == x.parent) (is_live t at.0) at.2 in
-        pair (lives s x.parent) (has_born x.born s.core.nodes)
-        (elim (joined_from at.0.serial s.core.nodes new at.0 at.1) [
-          | inl old ↦ any_from (λ n. n.born == x.parent && is_live s n) s.core.nodes at.0.serial at.0 old at.2
-          | inr (q, r, z) ↦ absurd (let e = ap (λ (z : Node). is_live t z) r in let f = own.1 in cc)
-        ])
-        (by_known (has_born x.born s.core.nodes) refl two.1)
-      where
-        by_known : (b : Bool) → has_born x.born s.core.nodes ≡ b → not (has_born x.born (join_step s node d).state.core.nodes) ≡ true → has_born x.born s.core.nodes ≡ false
-        by_known false e out = e
-        by_known true e out =
-            let n = any_at (λ n. n.born == x.born) 0 s.core.nodes h.good.serials e in
-            let kept = joined_keeps n.0.serial s.core.nodes (new_node s.next_serial node.serial d) n.0 n.1 in
-            let still = any_from (λ n. n.born == x.born) (join_step s node d).state.core.nodes n.0.serial n.0 kept n.2 in
-            absurd (cc)
+pub could_join : (s : State) (node : Node) (d : Device) → Joining s node d → (lives s d.parent && not (has_born d.born s.core.nodes)) ≡ true
+could_join s node d h =
+    let u = unknown s node d h.join in
+    let live_node : is_live s node ≡ true = live_is s node (ap (λ (o : Option Operation). closed o node.serial) h.none) (inl (ap is_bare h.up)) in
+    pair (lives s d.parent) (has_born d.born s.core.nodes)
+    (any_from (λ n. n.born == d.parent && is_live s n) s.core.nodes node.serial node h.at (both (node.born == d.parent) (is_live s node) (let e = u.0 in grind (arith, nat_tests)) live_node)) u.1
 
+pub is_born_now : (s : State) (node : Node) (d : Device) → Joining s node d → has_born d.born (join_step s node d).state.core.nodes ≡ true
+is_born_now s node d h = any_from (λ n. n.born == d.born) (join_step s node d).state.core.nodes s.next_serial (new_node s.next_serial node.serial d) (new_there s node d h) (grind (arith, nat_tests))
+
+-- whoever can join after it could before
+pub could_before : (s : State) (node : Node) (d x : Device) → IsGood (join_step s node d).state → Joining s node d → (lives (join_step s node d).state x.parent && not (has_born x.born (join_step s node d).state.core.nodes)) ≡ true → (lives s x.parent && not (has_born x.born s.core.nodes)) ≡ true
+could_before s node d x good_t h g =
+    let t = (join_step s node d).state in
+    let new = new_node s.next_serial node.serial d in
+    let dead = new_dead s node d h in
+    let two = and_both (lives t x.parent) (not (has_born x.born t.core.nodes)) g in
+    let at = any_at (λ n. n.born == x.parent && is_live t n) 0 t.core.nodes good_t.serials two.0 in
+    let own = and_both (at.0.born == x.parent) (is_live t at.0) at.2 in
+    pair (lives s x.parent) (has_born x.born s.core.nodes)
+    (elim (joined_from at.0.serial s.core.nodes new at.0 at.1) [
+      | inl old ↦ any_from (λ n. n.born == x.parent && is_live s n) s.core.nodes at.0.serial at.0 old at.2
+      | inr (q, r, z) ↦ absurd (let e = ap (λ (z : Node). is_live t z) r in let f = own.1 in cc)
+    ])
+    (by_known (has_born x.born s.core.nodes) refl two.1)
+  where
+    by_known : (b : Bool) → has_born x.born s.core.nodes ≡ b → not (has_born x.born (join_step s node d).state.core.nodes) ≡ true → has_born x.born s.core.nodes ≡ false
+    by_known false e out = e
+    by_known true e out =
+        let n = any_at (λ n. n.born == x.born) 0 s.core.nodes h.good.serials e in
+        let kept = joined_keeps n.0.serial s.core.nodes (new_node s.next_serial node.serial d) n.0 n.1 in
+        let still = any_from (λ n. n.born == x.born) (join_step s node d).state.core.nodes n.0.serial n.0 kept n.2 in
+        absurd (cc)
+
+-- fewer can join
+less_joins : (s : State) (node : Node) (d : Device) → IsGood (join_step s node d).state → Joining s node d → can_join (join_step s node d).state < can_join s
+less_joins s node d good_t h =
+    let t = (join_step s node d).state in
+    let u = unknown s node d h.join in
+    let apart : d.parent ≢ d.born = λ e. no_node s d.born node.serial node u.1 h.at (sym u.0 ∙ e) in
+    let a = join_less (lives t) (λ b. has_born b t.core.nodes) (lives s) (λ b. has_born b s.core.nodes) 0 s.world d h.born.grows h.there (λ x i g. could_before s node d x good_t h g) (could_join s node d h) (is_born_now s node d h) apart in
+    let p = pushed (start_costs t) s.tasks (record { kind = Duty.Starting; serial = s.next_serial }) in
+    let own : start_costs t s.next_serial ≡ below d.born s.world = ap (below_node s.world) (new_there s node d h) in
+    let c = starts_below s.next_serial (start_costs t) (start_costs s) s.tasks h.born.soon (λ k l. cost_less k l) in
+    omega arith
+  where
     cost_less : (k : ℕ) → k < s.next_serial → start_costs (join_step s node d).state k ≤ start_costs s k
     cost_less k l = by_node (node_at k (join_step s node d).state.core.nodes) refl
       where

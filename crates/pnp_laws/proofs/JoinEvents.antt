@@ -30,6 +30,7 @@ born_calm s t world next nodes serial soon b =
       grows = grows_sub 0 t.world s.world world b.grows;
       fresh = λ d there. subst (λ (i : ℕ). d.born < i) (sym next) (b.fresh d (sub_in t.world s.world world d there));
       apart = λ j k n m at there e. b.apart j k n m (was j n at) (was k m there) e;
+      first = λ k n at e. b.first k n (was k n at) e;
       known = λ k n at. subst (λ (i : ℕ). n.born < i) (sym next) (b.known k n (was k n at));
       soon = subst (λ (i : ℕ). starts (unborn i) t.tasks ≡ 0) (sym serial) soon;
       links = λ k n p d at there in_world e. b.links k n p d (was k n at) (was n.parent p there) (sub_in t.world s.world world d in_world) e;
@@ -88,6 +89,7 @@ born_plug s d own under b =
         | inr e ↦ let f = ap (λ (z : Device). z.born) e in omega arith
       ];
       apart = b.apart;
+      first = b.first;
       known = λ k n at. let l = b.known k n at in omega arith;
       soon = b.soon;
       links = λ k n p x at there i e. elim (in_more s.world d x i) [

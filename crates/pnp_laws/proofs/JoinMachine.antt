@@ -11,14 +11,14 @@ use Rattle.pnp_model.specs.Runs.{Entry, Goes, Run, opening}
 use Rattle.pnp_model.specs.Runs.Entry.{Happens, Did}
 use Rattle.pnp_labels.specs.declared.label.OpKind.{OpKind}
 use Rattle.pnp_laws.specs.Ends.{IsNoJoin}
-use Rattle.pnp_laws.specs.Kept.{OperationFits, Alone}
+use Rattle.pnp_laws.specs.Kept.{IsGood, OperationFits, Alone}
 use Rattle.pnp_laws.proofs.Lookups.{own_serial, ready_found}
 use Rattle.pnp_laws.proofs.Standing.{StageKept}
 use Rattle.pnp_laws.proofs.Runs.{lawful_goes, root_is}
 use Rattle.pnp_laws.proofs.SoundMachine.{sound_step}
 use Rattle.pnp_laws.proofs.RunsStand.{Kept, may_begin, kept_goes, opening_kept}
-use Rattle.pnp_laws.proofs.Joins.{closed, some_there, can_join, Born, flows_less}
-use Rattle.pnp_laws.proofs.JoinSteps.{Knows, FlowsStep, FlowsNext, flows_act, flows_rebalance}
+use Rattle.pnp_laws.proofs.Joins.{closed, some_there, can_join, Born, Flows, flows_less}
+use Rattle.pnp_laws.proofs.JoinSteps.{Knows, Joined, FlowsStep, FlowsNext, flows_act, flows_rebalance}
 use Rattle.pnp_laws.proofs.JoinRemovals.{flows_removal, flows_surprise}
 use Rattle.pnp_laws.proofs.JoinTasks.{flows_list, flows_start, flows_begin_step}
 use Rattle.pnp_laws.proofs.JoinBirths.{born_flows, join_goes}
@@ -72,17 +72,23 @@ flows_doing settings s None step l is = absurd is
 flows_doing settings s (Some (Does one)) step l is = subst (λ (x : Step). FlowsStep s x) (sym is) l
 flows_doing settings s (Some (Searches problem by_answer)) step l is = subst (λ (x : Step). FlowsStep s x) (sym is.2) (l is.0)
 
+-- a step is a join, or lets no more devices join
+pub step_flows : (settings : Settings) (s : State) (step : Step) → Kept s → ma.IsStep settings (ma.next settings s) step → IsGood step.state × ((IsNoJoin step.label × Flows s step.state) ⊎ Joined s step)
+step_flows settings s step kept is =
+    let lawful = lawful_goes settings s (Did step.label) step.state (may_begin s kept) kept.good is in
+    let knows : Knows s step = record { sound = sound_step settings s step kept.good kept.stands is; diagram = lawful.diagram; good = lawful.good } in
+    (lawful.good, flows_doing settings s (ma.next settings s) step (flows_next_of settings s s.operation refl kept) is knows)
+
 -- births stay in order, and fewer can join, or no more, and no device joined
 pub step_goes : (settings : Settings) (s : State) (step : Step) → Kept s → Born s → ma.IsStep settings (ma.next settings s) step → Born step.state × ((can_join step.state < can_join s) ⊎ ((can_join step.state ≤ can_join s) × IsNoJoin step.label))
 step_goes settings s step kept born is =
-    let lawful = lawful_goes settings s (Did step.label) step.state (may_begin s kept) kept.good is in
-    let knows : Knows s step = record { sound = sound_step settings s step kept.good kept.stands is; diagram = lawful.diagram; good = lawful.good } in
-    elim (flows_doing settings s (ma.next settings s) step (flows_next_of settings s s.operation refl kept) is knows) [
-      | inl (no_join, f) ↦ (born_flows s step.state born f, inr (flows_less s step.state s.next_serial kept.good.serials lawful.good.serials kept.stands.tree born f, no_join))
-      | inr joined ↦ let g = join_goes s step kept.good lawful.good kept.stands.tree born joined in (g.0, inl g.1)
+    let flows = step_flows settings s step kept is in
+    elim flows.1 [
+      | inl (no_join, f) ↦ (born_flows s step.state born f, inr (flows_less s step.state s.next_serial kept.good.serials flows.0.serials kept.stands.tree born f, no_join))
+      | inr joined ↦ let g = join_goes s step kept.good flows.0 kept.stands.tree born joined in (g.0, inl g.1)
     ]
 
-born_goes : (settings : Settings) (old : State) (entry : Entry) (new : State) → Kept old → Born old → Goes settings old entry new → Born new
+pub born_goes : (settings : Settings) (old : State) (entry : Entry) (new : State) → Kept old → Born old → Goes settings old entry new → Born new
 born_goes settings old (Happens event label) new kept born goes = subst (λ (t : Step). Born t.state) goes.1 (born_happens old event kept.good born)
 born_goes settings old (Did label) new kept born goes = (step_goes settings old (record { label = label; state = new }) kept born goes).0
 
@@ -90,12 +96,13 @@ born_run : (settings : Settings) (old : State) (entries : List Entry) (new : Sta
 born_run settings old [] new run kept born = subst (λ (s : State). Born s) (sym run) born
 born_run settings old (entry ∷ rest) new (mid, goes, run) kept born = born_run settings mid rest new run (kept_goes settings old entry mid kept goes) (born_goes settings old entry mid kept born goes)
 
-opening_born : (rack : List Driver) → Born (opening rack)
+pub opening_born : (rack : List Driver) → Born (opening rack)
 opening_born rack =
     record {
       grows = (omega arith, omega arith, tt);
       fresh = λ d there. elim there [ inl e ↦ let f = ap (λ (z : Device). z.born) e in omega arith | inr h ↦ absurd h ];
       apart = λ j k n m at there e. (root_is j n at).1 ∙ sym (root_is k m there).1;
+      first = λ k n at e. (root_is k n at).1;
       known = λ k n at. let e = ap (λ (z : Node). z.born) (root_is k n at).0 in omega arith;
       soon = refl;
       links = λ k n p d at there in_world e.

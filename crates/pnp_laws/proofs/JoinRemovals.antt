@@ -17,15 +17,15 @@ use Rattle.pnp_labels.specs.declared.states.DevState.TheVariants.{NoStack}
 use Rattle.pnp_labels.specs.declared.label.Label.{Label}
 use Rattle.pnp_labels.specs.declared.states.Problem.{Problem}
 use Rattle.pnp_laws.specs.Ends.{IsNoJoin}
-use Rattle.pnp_laws.specs.Kept.{RemovalKeeps, SurpriseKeeps, settling_state, Each}
+use Rattle.pnp_laws.specs.Kept.{RemovalKeeps, SurpriseKeeps, settling_state, Each, Within}
 use Rattle.pnp_laws.proofs.Lookups.{some_same, own_serial, left_missing}
-use Rattle.pnp_laws.proofs.Lists.{HeadIs, head_found, rest_has}
+use Rattle.pnp_laws.proofs.Lists.{HeadIs, head_found, head_has, rest_has}
 use Rattle.pnp_laws.proofs.Finishing.{relist_only, head_bare}
 use Rattle.pnp_laws.proofs.SurpriseSteps.{last_alone}
 use Rattle.pnp_laws.proofs.Standing.{Finishes, RemovalOrder, SurpriseOrder}
 use Rattle.pnp_laws.proofs.SoundRemovals.{waits_finish_on, waits_tell_on}
 use Rattle.pnp_laws.proofs.MeasureRemovals.{Listed, listed_again, same_world, same_births}
-use Rattle.pnp_laws.proofs.Joins.{starts, closed, removal_closed, is_bare, some_there, is_live, In, Counts, Sub, sub_same, sub_is, sub_without, Gone}
+use Rattle.pnp_laws.proofs.Joins.{starts, closed, removal_closed, is_bare, some_there, is_live, In, Counts, Stays, Gone}
 use Rattle.pnp_laws.proofs.JoinSteps.{IsNoAdd, IsStill, Knows, FlowsStep, FlowsNext, Closes, Cheaper, cheaper_same, cheaper_pushed, active_same, closes_open, bare_stays, flows_on, flows_still}
 use Rattle.pnp_model.specs.Removals as rm
 use Rattle.pnp_model.specs.Surprises as su
@@ -60,18 +60,18 @@ IsStay RemoveBeside.Over = Unit {0}
 
 op_moved : (s : State) (label : Label) (c : Core) (op : Operation) (beside : RemoveBeside) → IsStay beside → IsStill label →
     (Knows s (record { label = label; state = after_remove op beside (with_core c s) }) → Closes s (after_remove op beside (with_core c s))) → FlowsStep s (record { label = label; state = after_remove op beside (with_core c s) })
-op_moved s label c op RemoveBeside.On stay still closes = flows_still s _ still (refl, refl) (sub_same s.world) (cheaper_same s.tasks) closes (λ knows. active_same s (after_remove op RemoveBeside.On (with_core c s)) refl)
+op_moved s label c op RemoveBeside.On stay still closes = flows_still s _ still (refl, refl) (inl refl) (cheaper_same s.tasks) closes (λ knows. active_same s (after_remove op RemoveBeside.On (with_core c s)) refl)
 op_moved s label c op (RemoveBeside.Left path born) stay still closes = absurd stay
-op_moved s label c op (RemoveBeside.Disabled path) stay still closes = flows_still s _ still (refl, refl) (sub_same s.world) (cheaper_same s.tasks) closes (λ knows. active_same s (after_remove op (RemoveBeside.Disabled path) (with_core c s)) refl)
+op_moved s label c op (RemoveBeside.Disabled path) stay still closes = flows_still s _ still (refl, refl) (inl refl) (cheaper_same s.tasks) closes (λ knows. active_same s (after_remove op (RemoveBeside.Disabled path) (with_core c s)) refl)
 op_moved s label c op (RemoveBeside.Ejected path born) stay still closes = absurd stay
-op_moved s label c op RemoveBeside.Over stay still closes = flows_still s _ still (refl, refl) (sub_same s.world) (cheaper_same s.tasks) closes (λ knows. active_same s (after_remove op RemoveBeside.Over (with_core c s)) refl)
+op_moved s label c op RemoveBeside.Over stay still closes = flows_still s _ still (refl, refl) (inl refl) (cheaper_same s.tasks) closes (λ knows. active_same s (after_remove op RemoveBeside.Over (with_core c s)) refl)
 
 cheaper_listed : (tasks more : List Task) → Listed tasks more → Cheaper tasks more
 cheaper_listed tasks more (inl e) cost = subst (λ (ts : List Task). starts cost ts ≤ starts cost tasks) (sym e) (omega arith)
 cheaper_listed tasks more (inr (k, e)) cost = subst (λ (ts : List Task). starts cost ts ≤ starts cost tasks) (sym e) (cheaper_pushed tasks (record { kind = Duty.Listing; serial = k }) (λ cost. refl) cost)
 
 -- a device leaves
-op_left : (s t : State) (label : Label) (node : Node) → IsNoAdd label → node_at node.serial s.core.nodes ≡ Some node → t.core.nodes ≡ without_first (is_node node.serial) s.core.nodes → Counts s t → Sub t.world s.world → Cheaper s.tasks t.tasks → t.activities ≡ s.activities →
+op_left : (s t : State) (label : Label) (node : Node) → IsNoAdd label → node_at node.serial s.core.nodes ≡ Some node → t.core.nodes ≡ without_first (is_node node.serial) s.core.nodes → Counts s t → Stays s t → Cheaper s.tasks t.tasks → t.activities ≡ s.activities →
     (Knows s (record { label = label; state = t }) → Closes s t) → (Knows s (record { label = label; state = t }) → Gone s t node) → FlowsStep s (record { label = label; state = t })
 op_left s t label node no_add at nodes counts world tasks acts closes gone =
     flows_on s (record { label = label; state = t }) no_add counts world tasks closes (λ knows. active_same s t acts)
@@ -104,6 +104,7 @@ record Settles (s : State) (o : Removal) (node : Node) : Type 0 where
   in_it : InRemoval s o RemovalStage.Settling
   head : HeadIs node.serial o.todo
   at : node_at node.serial s.core.nodes ≡ Some node
+  up : node.serial ≢ 0
   each : Each (λ k x. settling_state o.todo k x) s.core.nodes
   order : Finishes s.core o.set o.todo
 
@@ -172,7 +173,7 @@ flows_target s o node true h =
     let only = relist_only node.path node.born u in
     let world : t.world ≡ without_those (node.born ∷ []) s.world = same_world node.path node.born u in
     op_left s t (Label.Ejected node.path) node tt h.at only.nodes (only.serial, same_births node.path node.born u)
-    (subst (λ (w : List Device). Sub w s.world) (sym world) (sub_without (node.born ∷ []) s.world)) (cheaper_listed s.tasks t.tasks (listed_again node.path node.born u)) only.activities
+    (inr (node, h.at, h.up, world)) (cheaper_listed s.tasks t.tasks (listed_again node.path node.born u)) only.activities
     (λ knows. settled_closes s t o node (Label.Ejected node.path) h (record { op = only.operation; acts = only.activities }) tt tt knows)
     (λ knows. inl (λ d there. unplugged (node.born ∷ []) node.born s.world (grind (arith, nat_tests)) d (subst (λ (w : List Device). In d w) world there)))
 flows_target s o node false h =
@@ -191,7 +192,7 @@ flows_settle s o node true inside h =
     let t = relist node.path node.born u in
     let only = relist_only node.path node.born u in
     op_left s t (Label.Leave node.path) node tt h.at only.nodes (only.serial, same_births node.path node.born u)
-    (sub_is t.world s.world (same_world node.path node.born u)) (cheaper_listed s.tasks t.tasks (listed_again node.path node.born u)) only.activities
+    (inl (same_world node.path node.born u)) (cheaper_listed s.tasks t.tasks (listed_again node.path node.born u)) only.activities
     (λ knows. settled_closes s t o node (Label.Leave node.path) h (record { op = only.operation; acts = only.activities }) tt tt knows)
     (λ knows. inr (λ m at. settled_dead s t o node (Label.Leave node.path) h (record { op = only.operation; acts = only.activities }) tt tt knows node.parent m inside at))
 flows_settle s o node false inside h = flows_outer s o node _ h
@@ -233,7 +234,10 @@ flows_removal s o (RemovalStage.Cancelling w) (Some node) first runs is empty ke
 flows_removal s o (RemovalStage.Removing w) (Some node) first runs is empty keeps order = flows_remove s o node w _ (record { runs = runs; is = is; empty = empty })
 flows_removal s o RemovalStage.Settling (Some node) first runs is empty keeps order =
     let h = head_found s.core.nodes o.todo node first in
-    flows_settle s o node _ refl (record { in_it = record { runs = runs; is = is; empty = empty }; head = h.0; at = h.1; each = keeps.each; order = order })
+    flows_settle s o node _ refl (record { in_it = record { runs = runs; is = is; empty = empty }; head = h.0; at = h.1; up = no_root node h.0 (keeps.asks); each = keeps.each; order = order })
+  where
+    no_root : (node : Node) → HeadIs node.serial o.todo → Within o.todo o.set → node.serial ≢ 0
+    no_root node head inside e = absurd (let there = subst (λ (i : ℕ). has o.todo i ≡ true) e (head_has node.serial o.todo head) in let g = inside 0 there in let h = keeps.rootless in cc)
 flows_removal s o (RemovalStage.Asking w) None first runs is empty keeps order = tt
 flows_removal s o (RemovalStage.TakingBack w) None first runs is empty keeps order = tt
 flows_removal s o (RemovalStage.Cancelling w) None first runs is empty keeps order = tt
@@ -281,7 +285,7 @@ flows_su_leaves s o node h at why =
     let world : t.world ≡ s.world = same_world node.path node.born u in
     let set : m.frame.set ≡ o.set = waits_finish_on s.core.nodes o (rest o.todo) in
     let shut : (k : ℕ) → closed t.operation k ≡ has o.set k = λ k. ap (λ (x : Option Operation). closed x k) only.operation ∙ ap (λ (ks : List ℕ). has ks k) set in
-    op_left s t (Label.Leave node.path) node tt at only.nodes (only.serial, same_births node.path node.born u) (sub_is t.world s.world world) (cheaper_listed s.tasks t.tasks (listed_again node.path node.born u)) only.activities
+    op_left s t (Label.Leave node.path) node tt at only.nodes (only.serial, same_births node.path node.born u) (inl world) (cheaper_listed s.tasks t.tasks (listed_again node.path node.born u)) only.activities
     (λ knows k n at_k free. inl (su_closed s o h k ∙ sym (shut k) ∙ free))
     (λ knows. elim why [
       | inl inside ↦ inr (λ p at_p. dead_closed t p (ap (closed t.operation) (own_serial node.parent p t.core.nodes at_p) ∙ shut node.parent ∙ inside))

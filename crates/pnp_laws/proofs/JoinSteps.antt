@@ -26,7 +26,7 @@ use Rattle.pnp_laws.specs.Ends.{IsNoJoin}
 use Rattle.pnp_laws.specs.Kept.{IsGood, Fits, InOrder}
 use Rattle.pnp_laws.proofs.Lookups.{some_same, own_serial, node_from, entered_same, entered_other, phase_from, ended_same, ended_other}
 use Rattle.pnp_laws.proofs.Standing.{Sound, IsNoLeave}
-use Rattle.pnp_laws.proofs.Joins.{starts, start_cost, closed, is_bare, some_there, is_live, In, Sub, sub_same, Gone, Flows, Counts}
+use Rattle.pnp_laws.proofs.Joins.{starts, start_cost, closed, is_bare, some_there, is_live, In, sub_same, Gone, Stays, sub_stays, Flows, Counts}
 use Rattle.pnp_model.specs.Rebalances as re
 
 -- Labels ----------------------------------------------------------------------------------------------
@@ -248,14 +248,15 @@ live_back s t label no_add diagram closes k n m active was at live =
     by_bare old true e (inl h) = absurd (let now = bare_stays label no_add n.state m.state (diagram.stays k n m was at) (bare_is n.state e) in let g = ap is_bare now in cc)
     by_bare old true e (inr h) = inr (ap (λ (i : ℕ). some_there (activity_at i s.activities)) old ∙ h)
 
-pub flows_on : (s : State) (step : Step) → IsNoAdd step.label → Counts s step.state → Sub step.state.world s.world → Cheaper s.tasks step.state.tasks → (Knows s step → Closes s step.state) → (Knows s step → Active s step.state) →
+pub flows_on : (s : State) (step : Step) → IsNoAdd step.label → Counts s step.state → Stays s step.state → Cheaper s.tasks step.state.tasks → (Knows s step → Closes s step.state) → (Knows s step → Active s step.state) →
     (Knows s step → (k : ℕ) (n : Node) → node_at k s.core.nodes ≡ Some n → node_at k step.state.core.nodes ≡ None → Gone s step.state n) → FlowsStep s step
 flows_on s step no_add counts world tasks closes active gone knows =
     inl (
       no_join_of step.label no_add,
       record {
         counts = counts;
-        world = world;
+        world = sub_stays s step.state world;
+        stays = world;
         from = knows.sound.births (no_join_of step.label no_add);
         start = None;
         started = λ n e. absurd (cc);
@@ -266,7 +267,7 @@ flows_on s step no_add counts world tasks closes active gone knows =
     )
 
 -- nobody leaves
-pub flows_still : (s : State) (step : Step) → IsStill step.label → Counts s step.state → Sub step.state.world s.world → Cheaper s.tasks step.state.tasks → (Knows s step → Closes s step.state) → (Knows s step → Active s step.state) → FlowsStep s step
+pub flows_still : (s : State) (step : Step) → IsStill step.label → Counts s step.state → Stays s step.state → Cheaper s.tasks step.state.tasks → (Knows s step → Closes s step.state) → (Knows s step → Active s step.state) → FlowsStep s step
 flows_still s step still counts world tasks closes active =
     flows_on s step (no_add_of step.label still) counts world tasks closes active
     (λ knows k n at gone. absurd (knows.sound.stays (no_leave_of step.label still) k n at gone))
@@ -320,10 +321,10 @@ closes_open s t free k m at h = inl (free k)
 -- Activities that go on -----------------------------------------------------------------------------------
 
 moved_with : (s : State) (k : ℕ) (m : StartMove) (beside : StartBeside) → InOrder 0 s.activities → IsStill m.label → FlowsStep s (record { label = m.label; state = after_start k m.frame beside (with_core m.core s) })
-moved_with s k m StartBeside.On order still = flows_still s _ still (refl, refl) (sub_same s.world) (cheaper_same s.tasks) (λ knows. closes_same s (after_start k m.frame StartBeside.On (with_core m.core s)) refl) (λ knows i n at h. inl (active_changed k i m.frame s.activities h))
-moved_with s k m StartBeside.Needs order still = flows_still s _ still (refl, refl) (sub_same s.world) (cheaper_pushed s.tasks _ (λ cost. refl)) (λ knows. closes_same s (after_start k m.frame StartBeside.Needs (with_core m.core s)) refl) (λ knows i n at h. inl (active_ended k i s.activities order h))
-moved_with s k m StartBeside.Up order still = flows_still s _ still (refl, refl) (sub_same s.world) (cheaper_pushed s.tasks _ (λ cost. refl)) (λ knows. closes_same s (after_start k m.frame StartBeside.Up (with_core m.core s)) refl) (λ knows i n at h. inl (active_ended k i s.activities order h))
-moved_with s k m StartBeside.Over order still = flows_still s _ still (refl, refl) (sub_same s.world) (cheaper_same s.tasks) (λ knows. closes_same s (after_start k m.frame StartBeside.Over (with_core m.core s)) refl) (λ knows i n at h. inl (active_ended k i s.activities order h))
+moved_with s k m StartBeside.On order still = flows_still s _ still (refl, refl) (inl refl) (cheaper_same s.tasks) (λ knows. closes_same s (after_start k m.frame StartBeside.On (with_core m.core s)) refl) (λ knows i n at h. inl (active_changed k i m.frame s.activities h))
+moved_with s k m StartBeside.Needs order still = flows_still s _ still (refl, refl) (inl refl) (cheaper_pushed s.tasks _ (λ cost. refl)) (λ knows. closes_same s (after_start k m.frame StartBeside.Needs (with_core m.core s)) refl) (λ knows i n at h. inl (active_ended k i s.activities order h))
+moved_with s k m StartBeside.Up order still = flows_still s _ still (refl, refl) (inl refl) (cheaper_pushed s.tasks _ (λ cost. refl)) (λ knows. closes_same s (after_start k m.frame StartBeside.Up (with_core m.core s)) refl) (λ knows i n at h. inl (active_ended k i s.activities order h))
+moved_with s k m StartBeside.Over order still = flows_still s _ still (refl, refl) (inl refl) (cheaper_same s.tasks) (λ knows. closes_same s (after_start k m.frame StartBeside.Over (with_core m.core s)) refl) (λ knows i n at h. inl (active_ended k i s.activities order h))
 
 moved : (s : State) (k : ℕ) (m : StartMove) → InOrder 0 s.activities → IsStill m.label → FlowsStep s (start_lifted s k m)
 moved s k m order still = moved_with s k m m.beside order still
@@ -338,6 +339,7 @@ flows_added s c node d ds same none there knows =
       record {
         counts = (refl, refl);
         world = sub_same s.world;
+        stays = inl refl;
         from = knows.sound.births tt;
         start = None;
         started = λ n e. absurd (cc);
@@ -422,11 +424,11 @@ active_begun s t phase k fits empty is good i m at h =
     ]
 
 re_moved_with : (s : State) (m : RebalanceMove) (beside : RebalanceBeside) → ((k : ℕ) → closed s.operation k ≡ false) → s.activities ≡ [] → IsStill m.label → FlowsStep s (record { label = m.label; state = after_rebalance m.frame beside (with_core m.core s) })
-re_moved_with s m RebalanceBeside.On free empty still = flows_still s _ still (refl, refl) (sub_same s.world) (cheaper_same s.tasks) (λ knows. closes_open s (after_rebalance m.frame RebalanceBeside.On (with_core m.core s)) free) (λ knows. active_same s (after_rebalance m.frame RebalanceBeside.On (with_core m.core s)) refl)
-re_moved_with s m (RebalanceBeside.FailedRestart k) free empty still = flows_still s _ still (refl, refl) (sub_same s.world) (λ cost. omega arith) (λ knows. closes_open s (after_rebalance m.frame (RebalanceBeside.FailedRestart k) (with_core m.core s)) free) (λ knows. active_same s (after_rebalance m.frame (RebalanceBeside.FailedRestart k) (with_core m.core s)) refl)
-re_moved_with s m RebalanceBeside.OverStart free empty still = flows_still s _ still (refl, refl) (sub_same s.world) (cheaper_same s.tasks) (λ knows. closes_open s (after_rebalance m.frame RebalanceBeside.OverStart (with_core m.core s)) free) (λ knows. active_begun s (after_rebalance m.frame RebalanceBeside.OverStart (with_core m.core s)) (Starting (walk_of Minor.Start)) m.frame.target (λ x h. h) empty refl knows.good)
-re_moved_with s m RebalanceBeside.OverUndo free empty still = flows_still s _ still (refl, refl) (sub_same s.world) (cheaper_same s.tasks) (λ knows. closes_open s (after_rebalance m.frame RebalanceBeside.OverUndo (with_core m.core s)) free) (λ knows. active_begun s (after_rebalance m.frame RebalanceBeside.OverUndo (with_core m.core s)) (Removing (walk_of Minor.Remove)) m.frame.target (λ x h. h) empty refl knows.good)
-re_moved_with s m RebalanceBeside.OverDropped free empty still = flows_still s _ still (refl, refl) (sub_same s.world) (cheaper_same s.tasks) (λ knows. closes_open s (after_rebalance m.frame RebalanceBeside.OverDropped (with_core m.core s)) free) (λ knows. active_same s (after_rebalance m.frame RebalanceBeside.OverDropped (with_core m.core s)) refl)
+re_moved_with s m RebalanceBeside.On free empty still = flows_still s _ still (refl, refl) (inl refl) (cheaper_same s.tasks) (λ knows. closes_open s (after_rebalance m.frame RebalanceBeside.On (with_core m.core s)) free) (λ knows. active_same s (after_rebalance m.frame RebalanceBeside.On (with_core m.core s)) refl)
+re_moved_with s m (RebalanceBeside.FailedRestart k) free empty still = flows_still s _ still (refl, refl) (inl refl) (λ cost. omega arith) (λ knows. closes_open s (after_rebalance m.frame (RebalanceBeside.FailedRestart k) (with_core m.core s)) free) (λ knows. active_same s (after_rebalance m.frame (RebalanceBeside.FailedRestart k) (with_core m.core s)) refl)
+re_moved_with s m RebalanceBeside.OverStart free empty still = flows_still s _ still (refl, refl) (inl refl) (cheaper_same s.tasks) (λ knows. closes_open s (after_rebalance m.frame RebalanceBeside.OverStart (with_core m.core s)) free) (λ knows. active_begun s (after_rebalance m.frame RebalanceBeside.OverStart (with_core m.core s)) (Starting (walk_of Minor.Start)) m.frame.target (λ x h. h) empty refl knows.good)
+re_moved_with s m RebalanceBeside.OverUndo free empty still = flows_still s _ still (refl, refl) (inl refl) (cheaper_same s.tasks) (λ knows. closes_open s (after_rebalance m.frame RebalanceBeside.OverUndo (with_core m.core s)) free) (λ knows. active_begun s (after_rebalance m.frame RebalanceBeside.OverUndo (with_core m.core s)) (Removing (walk_of Minor.Remove)) m.frame.target (λ x h. h) empty refl knows.good)
+re_moved_with s m RebalanceBeside.OverDropped free empty still = flows_still s _ still (refl, refl) (inl refl) (cheaper_same s.tasks) (λ knows. closes_open s (after_rebalance m.frame RebalanceBeside.OverDropped (with_core m.core s)) free) (λ knows. active_same s (after_rebalance m.frame RebalanceBeside.OverDropped (with_core m.core s)) refl)
 
 -- a rebalance runs
 pub record InRebalance (s : State) : Type 0 where

@@ -20,7 +20,7 @@ use Rattle.pnp_laws.proofs.Joins.{starts, start_cost, closed, some_there, In, su
 use Rattle.pnp_laws.proofs.JoinSteps.{IsStill, FlowsStep, cheaper_pushed, cheaper_dropped, active_same, closes_same, closes_open, live_back, flows_still}
 
 flows_drop : (s : State) (label : Label) → IsStill label → FlowsStep s (record { label = label; state = drop_task s })
-flows_drop s label still = flows_still s _ still (refl, refl) (sub_same s.world) (cheaper_dropped s.tasks) (λ knows. closes_same s (drop_task s) refl) (λ knows. active_same s (drop_task s) refl)
+flows_drop s label still = flows_still s _ still (refl, refl) (inl refl) (cheaper_dropped s.tasks) (λ knows. closes_same s (drop_task s) refl) (λ knows. active_same s (drop_task s) refl)
 
 -- Listing ------------------------------------------------------------------------------------------------
 
@@ -28,7 +28,7 @@ flows_gone : (s : State) (node : Node) (o : Option Node) → FlowsStep s (gone_o
 flows_gone s node None = flows_drop s (Label.Listed node.path) tt
 flows_gone s node (Some child) =
     let t = (gone_or_listed s node (Some child)).state in
-    flows_still s _ tt (refl, refl) (sub_same s.world) (cheaper_pushed s.tasks (record { kind = Duty.Begins OpKind.Surprise; serial = child.serial }) (λ cost. refl)) (λ knows. closes_same s t refl) (λ knows. active_same s t refl)
+    flows_still s _ tt (refl, refl) (inl refl) (cheaper_pushed s.tasks (record { kind = Duty.Begins OpKind.Surprise; serial = child.serial }) (λ cost. refl)) (λ knows. closes_same s t refl) (λ knows. active_same s t refl)
 
 in_find : (p : Device → Bool) (ds : List Device) (d : Device) → find p ds ≡ Some d → (p d ≡ true) × In d ds
 in_find p [] d h = absurd (cc)
@@ -66,7 +66,7 @@ record Ready (s : State) (node : Node) : Type 0 where
 flows_trouble : (s : State) (node : Node) (problem : Problem) → FlowsStep s (begin_trouble s node problem)
 flows_trouble s node problem =
     let t = (begin_trouble s node problem).state in
-    flows_still s _ tt (refl, refl) (sub_same s.world) (cheaper_dropped s.tasks) (λ knows. closes_same s t refl) (λ knows. active_same s t refl)
+    flows_still s _ tt (refl, refl) (inl refl) (cheaper_dropped s.tasks) (λ knows. closes_same s t refl) (λ knows. active_same s t refl)
 
 starts_first : (cost : ℕ → ℕ) (tasks : List Task) (task : Task) → slice_get tasks 0 ≡ Some task → starts cost (drop 1 tasks) + start_cost cost task.kind task.serial ≡ starts cost tasks
 starts_first cost [] task first = absurd (cc)
@@ -82,6 +82,7 @@ flows_install s node rank driver drivers ready knows =
       record {
         counts = (refl, refl);
         world = sub_same s.world;
+        stays = inl refl;
         from = knows.sound.births tt;
         start = Some node;
         started = λ n e. let same : node ≡ n = cc in subst (λ (x : Node). node_at x.serial s.core.nodes ≡ Some x) same ready.at;
@@ -147,7 +148,7 @@ flows_start settings s k (Some node) e none first =
 flows_begin : (s : State) (kind : OpKind) (node : Node) (o : Operation) → s.operation ≡ None → FlowsStep s (begin s kind node o)
 flows_begin s kind node o none =
     let t = (begin s kind node o).state in
-    flows_still s _ tt (refl, refl) (sub_same s.world) (cheaper_dropped s.tasks) (λ knows. closes_open s t (λ k. ap (λ (x : Option Operation). closed x k) none)) (λ knows. active_same s t refl)
+    flows_still s _ tt (refl, refl) (inl refl) (cheaper_dropped s.tasks) (λ knows. closes_open s t (λ k. ap (λ (x : Option Operation). closed x k) none)) (λ knows. active_same s t refl)
 
 flows_rebalance_idle : (s : State) (node : Node) (o : Option Activity) → s.operation ≡ None → FlowsStep s (rebalance_idle s node o)
 flows_rebalance_idle s node (Some a) none = flows_drop s _ tt

@@ -206,6 +206,7 @@ pub record Born (s : State) : Type 0 where
   pub grows : Grows 0 s.world
   pub fresh : (d : Device) → In d s.world → d.born < s.next_born
   pub apart : (j k : ℕ) (n m : Node) → node_at j s.core.nodes ≡ Some n → node_at k s.core.nodes ≡ Some m → n.born ≡ m.born → j ≡ k
+  pub first : (k : ℕ) (n : Node) → node_at k s.core.nodes ≡ Some n → n.born ≡ 0 → k ≡ 0
   pub known : (k : ℕ) (n : Node) → node_at k s.core.nodes ≡ Some n → n.born < s.next_born
   pub soon : starts (unborn s.next_serial) s.tasks ≡ 0
   pub links : (k : ℕ) (n p : Node) (d : Device) → node_at k s.core.nodes ≡ Some n → node_at n.parent s.core.nodes ≡ Some p → In d s.world → d.born ≡ n.born → p.born ≡ d.parent
@@ -219,6 +220,15 @@ start_of cost (Some n) = cost n.serial
 abbrev pub Gone : State → State → Node → Type 0
 Gone s t n = ((d : Device) → In d t.world → d.born ≢ n.born) ⊎ ((m : Node) → node_at n.parent t.core.nodes ≡ Some m → is_live t m ≡ false)
 
+-- the world stays, but for a device whose node has left, with all below it; never the root
+abbrev pub Stays : State → State → Type 0
+Stays s t =
+    (t.world ≡ s.world) ⊎ ((n : Node) × (node_at n.serial s.core.nodes ≡ Some n) × (n.serial ≢ 0) × (t.world ≡ without_those (n.born ∷ []) s.world))
+
+pub sub_stays : (s t : State) → Stays s t → Sub t.world s.world
+sub_stays s t (inl e) = sub_is t.world s.world e
+sub_stays s t (inr (n, at, up, e)) = subst (λ (w : List Device). Sub w s.world) (sym e) (sub_without (n.born ∷ []) s.world)
+
 -- no serial and no birth number is used up
 abbrev pub Counts : State → State → Type 0
 Counts s t = (t.next_serial ≡ s.next_serial) × (t.next_born ≡ s.next_born)
@@ -226,6 +236,7 @@ Counts s t = (t.next_serial ≡ s.next_serial) × (t.next_born ≡ s.next_born)
 pub record Flows (s t : State) : Type 0 where
   pub counts : Counts s t
   pub world : Sub t.world s.world
+  pub stays : Stays s t
   pub from : FromThose s.core.nodes t.core.nodes
   pub start : Option Node
   pub started : (n : Node) → start ≡ Some n → node_at n.serial s.core.nodes ≡ Some n
@@ -242,7 +253,7 @@ parent_there next k s n tree at =
       | inr up ↦ (tree.rooted k n at up).1
     ]
 
-abbrev starts_with : Option Node → ℕ → Bool
+abbrev pub starts_with : Option Node → ℕ → Bool
 starts_with None p = false
 starts_with (Some n) p = p == n.born
 
@@ -266,7 +277,7 @@ start_paid s t (Some n) sub started =
     let c : start_costs s n.serial ≡ below n.born s.world = ap (below_node s.world) (started n refl) in
     omega arith
 
-one_born : (s t : State) (next : ℕ) → Ascending 0 s.core.nodes → Ascending 0 t.core.nodes → Tree next s.core → Born s → (f : Flows s t) → (d : Device) → In d t.world → (lives t d.parent && not (has_born d.born t.core.nodes)) ≡ true →
+pub one_born : (s t : State) (next : ℕ) → Ascending 0 s.core.nodes → Ascending 0 t.core.nodes → Tree next s.core → Born s → (f : Flows s t) → (d : Device) → In d t.world → (lives t d.parent && not (has_born d.born t.core.nodes)) ≡ true →
     ((lives s d.parent && not (has_born d.born s.core.nodes)) ≡ true) ⊎ (starts_with f.start d.parent ≡ true)
 one_born s t next order order_t tree born f d there both =
     let two = and_both (lives t d.parent) (not (has_born d.born t.core.nodes)) both in

@@ -71,6 +71,10 @@ pub mod JoinTasks
 pub mod JoinBirths
 pub mod JoinEvents
 pub mod JoinMachine
+pub mod JoinCounts
+pub mod JoinFalls
+pub mod JoinRooms
+pub mod JoinLimits
 pub mod Measures
 pub mod MeasureOps
 pub mod MeasureRemovals

@@ -1,8 +1,8 @@
--- That a machine which is left alone comes to rest.
-use Rattle.std.specs.Prelude.{ℕ, ◌≤◌, List, [], ◌∷◌, length}
-use Rattle.pnp_model.specs.Records.{Driver, State, Settings}
+-- That a machine which is left alone comes to rest, and how many nodes join.
+use Rattle.std.specs.Prelude.{ℕ, ◌+◌, ◌*◌, ◌≤◌, List, [], ◌∷◌, length}
+use Rattle.pnp_model.specs.Records.{Driver, Task, State, Settings, Duty}
 use Rattle.pnp_model.specs.Laws.{Reaches}
-use Rattle.pnp_model.specs.Runs.{Entry, Run}
+use Rattle.pnp_model.specs.Runs.{Entry, Run, printed}
 use Rattle.pnp_model.specs.Runs.Entry.{Happens, Did}
 use Rattle.pnp_labels.specs.declared.label.Label.{Label}
 use Rattle.pnp_laws.specs.Quiet.{Rests}
@@ -32,3 +32,38 @@ pub record Settles (settings : Settings) (s : State) : Type 0 where
 abbrev pub SettlesLaw : Type 0
 SettlesLaw =
     (settings : Settings) (rack : List Driver) (entries : List Entry) (s : State) → Reaches settings rack entries s → Settles settings s
+
+-- how often something happened
+abbrev pub events : List Entry → ℕ
+events [] = 0
+events (Happens event label ∷ rest) = 1 + events rest
+events (Did label ∷ rest) = events rest
+
+abbrev pub joined : Label → ℕ
+joined (Label.Join k path) = 1
+joined _ = 0
+
+-- how many nodes joined
+abbrev pub joins : List Entry → ℕ
+joins [] = 0
+joins (entry ∷ rest) = joined (printed entry) + joins rest
+
+abbrev pub starts_one : Duty → ℕ
+starts_one Duty.Starting = 1
+starts_one _ = 0
+
+-- how many `start` tasks wait
+abbrev pub waiting_starts : List Task → ℕ
+waiting_starts [] = 0
+waiting_starts (task ∷ tasks) = starts_one task.kind + waiting_starts tasks
+
+-- in a run at most 4,096 nodes join for each event
+abbrev pub JoinsLaw : Type 0
+JoinsLaw =
+    (settings : Settings) (rack : List Driver) (entries : List Entry) (s : State) → Reaches settings rack entries s → joins entries ≤ 4096 * events entries
+
+-- from each state of a run on, until something happens, at most 4,096 nodes join, and 4,096 more for each `start` task that waits there
+abbrev pub FewJoinLaw : Type 0
+FewJoinLaw =
+    (settings : Settings) (rack : List Driver) (entries : List Entry) (s : State) → Reaches settings rack entries s →
+    (more : List Entry) (last : State) → AllSteps more → Run settings s more last → joins more ≤ 4096 * (1 + waiting_starts s.tasks)

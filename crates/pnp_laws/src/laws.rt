@@ -1,7 +1,7 @@
 //! What holds of every run of the device machine, for every rack of drivers and whatever happens.
 
 ghost use Rattle.pnp_laws.specs.Begun.{BegunLaw, EachConflictLaw, EachEndLaw};
-ghost use Rattle.pnp_laws.specs.Ends.{SettlesLaw};
+ghost use Rattle.pnp_laws.specs.Ends.{SettlesLaw, JoinsLaw, FewJoinLaw};
 ghost use Rattle.pnp_laws.specs.Quiet.{QuietLaw, StepLaw};
 ghost use Rattle.pnp_model.specs.Laws.{DiagramLaw, SharingLaw, WholeLaw, VetoLaw, FutileLaw, DependentsLaw, ConflictLaw};
 
@@ -48,6 +48,19 @@ pub fn exactly_one_step()
 /// one another before something happens. So after each event the machine comes to rest.
 pub fn comes_to_rest()
     ensures { SettlesLaw }
+{}
+
+/// In a run at most 4,096 nodes join for each event, whether the event was accepted or refused.
+#[tactic(auto, using(crate::proofs::JoinLimits::joins_are_limited))]
+pub fn joins_are_limited()
+    ensures { JoinsLaw }
+{}
+
+/// From each state of a run on, until something happens, at most 4,096 nodes join, and 4,096 more for each `start` task
+/// that waits in that state: a device that starts anew lists its children anew.
+#[tactic(auto, using(crate::proofs::JoinLimits::few_join))]
+pub fn few_join()
+    ensures { FewJoinLaw }
 {}
 
 /// In each state of each run a device that is up, or would be but for an operation that asked it to stop or to go,
