@@ -75,6 +75,7 @@ pub mod JoinCounts
 pub mod JoinFalls
 pub mod JoinRooms
 pub mod JoinLimits
+mod JoinTwice
 pub mod Measures
 pub mod MeasureOps
 pub mod MeasureRemovals
