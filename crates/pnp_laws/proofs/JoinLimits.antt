@@ -198,12 +198,12 @@ event_price s event good born room =
 
 -- Runs ---------------------------------------------------------------------------------------------------------------
 
-word_no_join : (label : Label) → IsWord label → joined label ≡ 0
+pub word_no_join : (label : Label) → IsWord label → joined label ≡ 0
 word_no_join (Label.Did word what) h = refl
 word_no_join (Label.Refused word reason) h = refl
 word_no_join _ h = absurd h
 
-joined_none : (label : Label) → IsNoJoin label → joined label ≡ 0
+pub joined_none : (label : Label) → IsNoJoin label → joined label ≡ 0
 joined_none (Label.Join k path) h = absurd h
 joined_none _ h = refl
 

@@ -83,3 +83,7 @@ pub mod MeasureSurprises
 pub mod MeasureTasks
 pub mod MeasureBegins
 pub mod RunsEnd
+pub mod Falling
+pub mod StepsLeft
+pub mod EventBirths
+pub mod RunsSerials

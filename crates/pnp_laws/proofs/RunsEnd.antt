@@ -96,7 +96,7 @@ less_or_same : (m n : ℕ) → m ≤ n → (m < n) ⊎ (m ≡ n)
 less_or_same m n l = elim (dec_lt m n) [ yes h ↦ inl h | no h ↦ inr (omega arith) ]
 
 -- three numbers, compared from the first on
-abbrev Lower : ℕ → ℕ → ℕ → ℕ → ℕ → ℕ → Type 0
+abbrev pub Lower : ℕ → ℕ → ℕ → ℕ → ℕ → ℕ → Type 0
 Lower a b c x y z = (a < x) ⊎ ((a ≤ x) × ((b < y) ⊎ ((b ≤ y) × (c < z))))
 
 by_three : (P : ℕ → ℕ → ℕ → Type 0) → ((x y z : ℕ) → ((a b c : ℕ) → Lower a b c x y z → P a b c) → P x y z) → (x y z : ℕ) → P x y z
@@ -119,10 +119,10 @@ by_three P step =
       ]
     ]))))
 
-abbrev first_of : State → ℕ
+abbrev pub first_of : State → ℕ
 first_of s = 8 * coarse s + rank_of s.operation
 
-abbrev last_of : State → ℕ
+abbrev pub last_of : State → ℕ
 last_of s = answers_of s.core.nodes s.activities s.operation
 
 -- of the states with these numbers
@@ -130,10 +130,10 @@ abbrev AllSettle : Settings → ℕ → ℕ → ℕ → ℕ → Type 0
 AllSettle settings w x y z = (s : State) → Kept s → Born s → can_join s ≡ w → first_of s ≡ x → left_of s.operation ≡ y → last_of s ≡ z → Settles settings s
 
 -- four numbers, compared from the first on: those that can join, and the three
-abbrev Lowest : State → State → Type 0
+abbrev pub Lowest : State → State → Type 0
 Lowest t s = (can_join t < can_join s) ⊎ ((can_join t ≤ can_join s) × Lower (first_of t) (left_of t.operation) (last_of t) (first_of s) (left_of s.operation) (last_of s))
 
-by_four : (P : ℕ → ℕ → ℕ → ℕ → Type 0) → ((w x y z : ℕ) → ((v a b c : ℕ) → (v < w) ⊎ ((v ≤ w) × Lower a b c x y z) → P v a b c) → P w x y z) → (w x y z : ℕ) → P w x y z
+pub by_four : (P : ℕ → ℕ → ℕ → ℕ → Type 0) → ((w x y z : ℕ) → ((v a b c : ℕ) → (v < w) ⊎ ((v ≤ w) × Lower a b c x y z) → P v a b c) → P w x y z) → (w x y z : ℕ) → P w x y z
 by_four P step =
     by_number (λ w. (x y z : ℕ) → P w x y z)
     (λ w first. by_three (P w)
@@ -170,7 +170,7 @@ nothing_follows : (settings : Settings) (s : State) → RestsWith s s.operation 
 nothing_follows settings s rests label t steps = subst (λ (o : Option (Doing Step)). ma.IsStep settings o (record { label = label; state = t })) (nothing_next settings s s.operation rests) steps
 
 -- the next step lowers the numbers
-lowest_step : (settings : Settings) (s t : State) (label : Label) → Kept s → Born s → ma.Steps settings s label t → Lowest t s
+pub lowest_step : (settings : Settings) (s t : State) (label : Label) → Kept s → Born s → ma.Steps settings s label t → Lowest t s
 lowest_step settings s t label kept born steps =
     elim (step_goes settings s (record { label = label; state = t }) kept born steps).1 [
       | inl l ↦ inl l

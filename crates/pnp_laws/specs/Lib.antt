@@ -9,3 +9,5 @@ pub mod Rebalanced
 pub mod Begun
 pub mod Quiet
 pub mod Ends
+pub mod StepsLeft
+pub mod Serials

@@ -3,6 +3,8 @@
 ghost use Rattle.pnp_laws.specs.Begun.{BegunLaw, EachConflictLaw, EachEndLaw};
 ghost use Rattle.pnp_laws.specs.Ends.{SettlesLaw, JoinsLaw, FewJoinLaw};
 ghost use Rattle.pnp_laws.specs.Quiet.{QuietLaw, StepLaw};
+ghost use Rattle.pnp_laws.specs.Serials.{SerialsLaw, FewSerialsLaw, FewBirthsLaw};
+ghost use Rattle.pnp_laws.specs.StepsLeft.{StepsLeftLaw};
 ghost use Rattle.pnp_model.specs.Laws.{DiagramLaw, SharingLaw, WholeLaw, VetoLaw, FutileLaw, DependentsLaw, ConflictLaw};
 
 /// In each state of each run no two resources among all holdings and the reserved ranges clash: two clash where
@@ -48,6 +50,13 @@ pub fn exactly_one_step()
 /// one another before something happens. So after each event the machine comes to rest.
 pub fn comes_to_rest()
     ensures { SettlesLaw }
+{}
+
+/// Each state of a run has a number of steps that are left: none where nothing is next, and each step leaves one less.
+/// So one number bounds a loop that does steps until none is next.
+#[tactic(auto, using(crate::proofs::StepsLeft::steps_are_counted))]
+pub fn steps_are_counted()
+    ensures { StepsLeftLaw }
 {}
 
 /// In a run at most 4,096 nodes join for each event, whether the event was accepted or refused.
@@ -101,4 +110,22 @@ pub fn each_conflict_is_real()
 /// with `nofit` or `spent` all but the problem of its device.
 pub fn each_end_restores()
     ensures { EachEndLaw }
+{}
+
+/// In each state of each run the next serial is one more than the number of nodes that joined.
+#[tactic(auto, using(crate::proofs::RunsSerials::serials_are_joins))]
+pub fn serials_are_joins()
+    ensures { SerialsLaw }
+{}
+
+/// So at most 4,096 serials are given for each event.
+#[tactic(auto, using(crate::proofs::RunsSerials::few_serials))]
+pub fn few_serials()
+    ensures { FewSerialsLaw }
+{}
+
+/// At most one birth number is given for each event.
+#[tactic(auto, using(crate::proofs::RunsSerials::few_births))]
+pub fn few_births()
+    ensures { FewBirthsLaw }
 {}
