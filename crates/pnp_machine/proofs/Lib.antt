@@ -1,1 +1,12 @@
 pub mod Texts
+pub mod Inserts
+pub mod Ready
+pub mod Arrivals
+pub mod Joins
+pub mod ActSteps
+pub mod ListSteps
+pub mod StartSteps
+pub mod EventSteps
+pub mod Quiets
+pub mod RunLaws
+pub mod EndLines

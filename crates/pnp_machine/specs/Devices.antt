@@ -47,7 +47,7 @@ pub record IsKept (world : World) (tree : Tree) (over from : ℕ) : Type 0 where
   pub plugged : AllByRecursion (IsPlugged world.devices) (identities tree.nodes)
   pub bare : AllByRecursion HoldsNothing tree.nodes
   pub listed : AllByRecursion (NotJoining over from tree.nodes) world.devices
-  pub from : from ≤ world.next
+  pub within : from ≤ world.next
 
 -- the birth number of the first device that is to join below a node
 abbrev pub joins_next : Option Node → Devices → Option ℕ
@@ -77,3 +77,7 @@ Arrives w parent path hw compat reqs (Err WorldFull) w' =
     (over : Device) × (device_of parent w.devices ≡ Some over) × (device_of path w.devices ≡ None) × (nat_le (length w.devices) 4096 ≡ false)
     × (w' ≡ w)
 Arrives w parent path hw compat reqs (Err WantOfMemory) w' = w' ≡ w
+
+-- each node's device is in the world
+abbrev pub AllStay : Devices → Type 0
+AllStay ds = AllByRecursion (λ n. is_in_world ds.world.devices n.born ≡ true) ds.tree.nodes

@@ -36,6 +36,12 @@ pub record IsIndexed (works : Vec Activity Global) (ready : Vec ℕ Global) (roo
   pub works_room : vec_len works + room ≤ vec_capacity works
   pub ready_room : vec_len works + room ≤ vec_capacity ready
 
+-- whether a start is over with a step
+abbrev pub is_over : StartStep → Bool
+is_over (Did label) = false
+is_over (Up label) = true
+is_over (Over label) = true
+
 -- the starts after a step of one: it goes on in a phase, or is over
 abbrev pub works_after : StartStep → ℕ → Phase → List Activity → List Activity
 works_after (Did label) k phase works = changed_first (is_activity k) (with_phase phase) works

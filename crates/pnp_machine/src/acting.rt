@@ -24,7 +24,8 @@ impl<R: Drivers> Machine<R> {
         self.tasks.reserve(1)?;
         let devices = &mut self.devices;
         match self.starts.act(self.alloc, serial, devices, &mut self.rack)? {
-            StartStep::Did(label) | StartStep::Over(label) => Ok(label),
+            StartStep::Did(label) => Ok(label),
+            StartStep::Over(label) => Ok(label),
             StartStep::Up(label) => {
                 self.tasks.push_back_reserved(Task::list(serial));
                 Ok(label)

@@ -1,5 +1,6 @@
-ghost use Rattle.std.specs.Prelude.{◌≡◌, ◌<◌, ◌≤◌, ◌^◌, ℕ, [], IfOk, IfSome, OnErr, IsSome, length, option_map};
+ghost use Rattle.std.specs.Prelude.{◌≡◌, ◌==◌, if◌then◌else◌, ◌<◌, ◌≤◌, ◌^◌, ℕ, [], IfOk, IfSome, OnErr, IsSome, false, length, option_map};
 ghost use Rattle.pnp_labels.specs.Texts.{Text as Letters};
+ghost use Rattle.devnode_tree.specs.declared.error.JoinError.TheVariants as JoinError;
 ghost use Rattle.pnp_model.specs.Cores.{node_at};
 ghost use Rattle.pnp_model.specs.Records.{State};
 ghost use Rattle.pnp_model.specs.States.{device_born, device_of, node_born};
@@ -9,7 +10,7 @@ ghost use Rattle.start_sequence.specs.Begins.{settings_of, BegunFor};
 ghost use Rattle.std.specs.List.{AllByRecursion};
 ghost use Rattle.start_sequence.specs.Steps.{Acts, HoldsNothing};
 ghost use Rattle.pnp_model.specs.Machine.{phase_walk, is_waiting};
-ghost use Rattle.pnp_machine.specs.Devices.{opening_devices, Arrives, JoinedFor, joins_next};
+ghost use Rattle.pnp_machine.specs.Devices.{opening_devices, AllStay, Arrives, JoinedFor, joins_next};
 
 use device_ids::{IdList, InstancePath, Text, WantOfMemory};
 use devnode_tree::{JoinError, Tree};
@@ -56,6 +57,24 @@ fn copied(alloc: Global, device: &Device) -> Result<Device, WantOfMemory>
     })
 }
 
+/// A join that can be refused for want of memory alone.
+fn only_memory(error: JoinError) -> WantOfMemory
+    requires { error ≡ JoinError.WantOfMemory }
+{
+    match error {
+        JoinError::WantOfMemory => AllocError,
+        JoinError::NoParent | JoinError::SamePath => unreachable!(),
+    }
+}
+
+/// From which birth number on the children of a device are looked at, where those of another were looked at last from
+/// some number on.
+fn from_at(over: u64, last: u64, from: u64) -> u64
+    ensures { result ≡ (if over == last then from else 0) }
+{
+    if over == last { from } else { 0 }
+}
+
 impl Devices {
     /// The root alone.
     pub(crate) fn new(alloc: Global) -> Result<Devices, WantOfMemory>
@@ -73,6 +92,7 @@ impl Devices {
     pub(crate) fn tree(&self) -> &Tree
         ensures tree { result.now ≡ self.now.tree }
         ensures bare { AllByRecursion HoldsNothing self.now.tree.nodes }
+        ensures stay { AllStay self.now }
     {
         &self.tree
     }
@@ -113,10 +133,9 @@ impl Devices {
         let Some(node) = self.tree.node(serial) else {
             unreachable!()
         };
-        if node.born != self.over {
-            self.over = node.born;
-            self.from = 0;
-        }
+        let over = node.born;
+        self.from = from_at(over, self.over, self.from);
+        self.over = over;
         next_join(&self.world, &self.tree, serial, self.from)
     }
 
@@ -136,6 +155,10 @@ impl Devices {
         let Some(born) = self.next_to_join(serial) else {
             return Ok(None);
         };
+        let Some(node) = self.tree.node(serial) else {
+            unreachable!()
+        };
+        let over = node.born;
         let Some(part) = self.world.part(born) else {
             unreachable!()
         };
@@ -151,11 +174,11 @@ impl Devices {
         );
         match joined {
             Ok(joined) => {
+                self.over = over;
                 self.from = born + 1;
                 Ok(Some((joined, path)))
             }
-            Err(JoinError::WantOfMemory) => Err(AllocError),
-            Err(JoinError::NoParent) | Err(JoinError::SamePath) => unreachable!(),
+            Err(error) => Err(only_memory(error)),
         }
     }
 

@@ -2,20 +2,28 @@ ghost use Rattle.std.specs.Prelude.{◌≡◌, ◌<◌, ◌^◌, IfOk, OnErr, So
 ghost use Rattle.pnp_model.specs.Cores.{node_at};
 ghost use Rattle.pnp_model.specs.Records.Duty.{Listing};
 ghost use Rattle.pnp_model.specs.Tasks.{list_step, skip};
+ghost use Rattle.pnp_model.specs.Tests.{is_started};
 ghost use Rattle.pnp_machine.specs.Machines.{IsDone};
 
 use crate::machine::Machine;
-use crate::task::Task;
+use crate::task::{Task, drop_first};
 use device_ids::{Text, WantOfMemory};
 use driver_rack::Drivers;
 use pnp_labels::{DevState, Label, TaskKind};
+
+/// Whether a device is up.
+fn is_started(state: DevState) -> bool
+    ensures { result ≡ is_started state }
+{
+    matches!(state, DevState::Started)
+}
 
 impl<R: Drivers> Machine<R> {
     /// The first task has nothing to list, and is dropped.
     fn skip_list(&mut self, serial: u64) -> Label
         ensures { IsDone (skip Listing serial self.old) result self.new }
     {
-        self.drop_task();
+        drop_first(&mut self.tasks);
         let task = TaskKind::List;
         Label::Skip { task, serial }
     }
@@ -30,7 +38,7 @@ impl<R: Drivers> Machine<R> {
         let Some(node) = self.devices.tree().node(serial) else {
             return Ok(self.skip_list(serial));
         };
-        if node.state != DevState::Started {
+        if !is_started(node.state) {
             return Ok(self.skip_list(serial));
         }
         let path = Text::make(self.alloc, node.path.bytes())?;
@@ -41,7 +49,7 @@ impl<R: Drivers> Machine<R> {
                 Ok(Label::Join { serial, path })
             }
             None => {
-                self.drop_task();
+                drop_first(&mut self.tasks);
                 Ok(Label::Listed { path })
             }
         }

@@ -1,7 +1,6 @@
 ghost use Rattle.std.specs.Prelude.{◌≡◌, ◌<◌, ◌≤◌, ◌^◌, ℕ, [], ◌∷◌, IfOk, OnErr, List, length};
 ghost use Rattle.pnp_model.specs.Records.{Driver};
 ghost use Rattle.pnp_model.specs.Runs.{opening};
-ghost use Rattle.pnp_model.specs.States.{drop_task};
 ghost use Rattle.pnp_laws.specs.Kept.{IsGood};
 ghost use Rattle.start_sequence.specs.Begins.{settings_of};
 ghost use Rattle.pnp_machine.specs.Machines.{Moves};
@@ -51,13 +50,6 @@ impl<R: Drivers> Machine<R> {
             starts: Starts::new(alloc),
             tasks: VecDeque::new(alloc),
         })
-    }
-
-    /// The first task is dropped.
-    pub(crate) fn drop_task(&mut self)
-        ensures { self.new ≡ drop_task self.old }
-    {
-        let _ = self.tasks.pop_front();
     }
 
     /// What the first task is for, and for which device; none exactly where there is none.

@@ -6,6 +6,7 @@ ghost use Rattle.start_sequence.specs.Begins.{settings_of};
 ghost use Rattle.pnp_machine.specs.Machines.{IsDone, can_start};
 
 use crate::machine::Machine;
+use crate::task::drop_first;
 use device_ids::WantOfMemory;
 use driver_rack::Drivers;
 use inf_reader::Inf;
@@ -16,7 +17,7 @@ impl<R: Drivers> Machine<R> {
     fn skip_start(&mut self, serial: u64) -> Label
         ensures { IsDone (skip Starting serial self.old) result self.new }
     {
-        self.drop_task();
+        drop_first(&mut self.tasks);
         let task = TaskKind::Start;
         Label::Skip { task, serial }
     }
@@ -45,10 +46,13 @@ impl<R: Drivers> Machine<R> {
         let (label, work) = self
             .devices
             .begin(self.alloc, &self.rack, infs, serial, false)?;
-        self.drop_task();
-        if let Some(work) = work {
-            self.starts.put(work);
+        drop_first(&mut self.tasks);
+        match work {
+            Some(work) => {
+                self.starts.put(work);
+                Ok(label)
+            }
+            None => Ok(label),
         }
-        Ok(label)
     }
 }

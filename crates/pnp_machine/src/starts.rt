@@ -1,4 +1,4 @@
-ghost use Rattle.std.specs.Prelude.{◌≡◌, ◌<◌, ◌≤◌, ◌+◌, ℕ, [], IfOk, OnOk, OnErr, IsSome, Some, None, insert, length, option_copied, position, slice_get, nat_lt};
+ghost use Rattle.std.specs.Prelude.{◌≡◌, if◌then◌else◌, remove, vec_len, vec_capacity, ◌<◌, ◌≤◌, ◌+◌, ℕ, [], IfOk, OnOk, OnErr, IsSome, Some, None, insert, length, option_copied, position, slice_get, nat_lt};
 ghost use Rattle.pnp_model.specs.Cores.{node_at};
 ghost use Rattle.pnp_model.specs.Keyed.{put_before};
 ghost use Rattle.pnp_model.specs.Records.{Activity};
@@ -6,7 +6,7 @@ ghost use Rattle.pnp_model.specs.States.{activity_at, is_activity, is_above, ent
 ghost use Rattle.pnp_model.specs.Machine.{is_ready};
 ghost use Rattle.pnp_laws.specs.Kept.{InOrder};
 ghost use Rattle.devnode_tree.specs.Trees.{Ascends};
-ghost use Rattle.pnp_machine.specs.Starts.{first_ready, ActsFor, CompletesFor};
+ghost use Rattle.pnp_machine.specs.Starts.{first_ready, is_over, ActsFor, CompletesFor};
 
 use crate::devices::Devices;
 use device_ids::WantOfMemory;
@@ -46,30 +46,82 @@ fn place_of(works: &[StartWork], serial: u64) -> Option<usize>
         .ok()
 }
 
-/// The place at which a start of a new serial stands in order.
+/// The place at which a start of a serial stands in order.
 fn place_for(works: &[StartWork], serial: u64) -> usize
-    requires order { InOrder 0 works.now }
-    requires new { activity_at serial works.now ≡ None }
+    requires { InOrder 0 works.now }
     ensures within { result ≤ length works.now }
     ensures place { (a : Activity) → insert works.now result a ≡ put_before (is_above serial) a works.now }
 {
-    match works.binary_search_by_key(&serial, |work| work.serial()) {
-        Ok(place) => place,
-        Err(place) => place,
-    }
+    works.partition_point(|work| work.serial() <= serial)
 }
 
-/// The place at which a new number stands in order.
+/// The place at which a number stands in order.
 fn place_in(numbers: &[u64], number: u64) -> usize
-    requires order { Ascends 0 numbers.now }
-    requires new { position (λ n. n == number) numbers.now ≡ None }
+    requires { Ascends 0 numbers.now }
     ensures within { result ≤ length numbers.now }
     ensures place { insert numbers.now result number ≡ put_before (λ n. nat_lt number n) number numbers.now }
 {
-    match numbers.binary_search(&number) {
-        Ok(place) => place,
-        Err(place) => place,
+    numbers.partition_point(|other| *other <= number)
+}
+
+/// The first number.
+fn first_of(numbers: &[u64]) -> Option<u64>
+    ensures { result ≡ slice_get numbers.now 0 }
+{
+    numbers.first().copied()
+}
+
+/// Notes a number in order, if it is to be noted. Condition: there is room.
+fn note(numbers: &mut Vec<u64>, number: u64, noted: bool)
+    requires order { Ascends 0 numbers.old.items }
+    requires room { vec_len numbers.old < vec_capacity numbers.old }
+    ensures items { numbers.new.items ≡ (if noted then put_before (λ n. nat_lt number n) number numbers.old.items else numbers.old.items) }
+    ensures capacity { vec_capacity numbers.old ≤ vec_capacity numbers.new }
+{
+    if noted {
+        let place = place_in(numbers, number);
+        let _ = numbers.insert(place, number);
     }
+}
+
+/// Drops the first number, if it is to be dropped. Condition: there is one.
+fn drop_first(numbers: &mut Vec<u64>, dropped: bool)
+    requires { 0 < vec_len numbers.old }
+    ensures items { numbers.new.items ≡ (if dropped then remove numbers.old.items 0 else numbers.old.items) }
+    ensures capacity { vec_capacity numbers.new ≡ vec_capacity numbers.old }
+{
+    if dropped {
+        numbers.remove(0);
+    }
+}
+
+/// Drops the start at a place, if it is over. Condition: there is one.
+fn drop_over(works: &mut Vec<StartWork>, place: usize, over: bool)
+    requires { place < vec_len works.old }
+    ensures items { works.new.items ≡ (if over then remove works.old.items place else works.old.items) }
+    ensures len { vec_len works.new ≤ vec_len works.old }
+    ensures capacity { vec_capacity works.new ≡ vec_capacity works.old }
+{
+    if over {
+        works.remove(place);
+    }
+}
+
+/// Whether a start is over with a step.
+fn is_over(step: &StartStep) -> bool
+    ensures { result ≡ is_over step.now }
+{
+    match step {
+        StartStep::Did(_) => false,
+        StartStep::Up(_) | StartStep::Over(_) => true,
+    }
+}
+
+/// Whether a start does not wait.
+fn goes(work: &StartWork) -> bool
+    ensures { result ≡ is_ready work.now }
+{
+    work.waits().is_none()
 }
 
 impl Starts {
@@ -89,7 +141,7 @@ impl Starts {
         ensures first { result ≡ first_ready self.now.works }
         ensures order { InOrder 0 self.now.works }
     {
-        self.ready.first().copied()
+        first_of(&self.ready)
     }
 
     /// The start of a device; none exactly where it has none. Cost: the logarithm of the number of starts.
@@ -130,10 +182,7 @@ impl Starts {
         ensures { self.new.works ≡ entered work self.old.works }
     {
         let serial = work.serial();
-        if work.waits().is_none() {
-            let place = place_in(&self.ready, serial);
-            let _ = self.ready.insert(place, serial);
-        }
+        note(&mut self.ready, serial, goes(&work));
         let place = place_for(&self.works, serial);
         let _ = self.works.insert(place, work);
         self.room -= 1;
@@ -162,13 +211,10 @@ impl Starts {
         };
         let work = &mut self.works[place];
         let step = devices.act(alloc, work, rack)?;
-        let stays = matches!(step, StartStep::Did(_));
-        if !stays || work.waits().is_some() {
-            self.ready.remove(0);
-        }
-        if !stays {
-            self.works.remove(place);
-        }
+        let over = is_over(&step);
+        let goes_on = goes(work) && !over;
+        drop_first(&mut self.ready, !goes_on);
+        drop_over(&mut self.works, place, over);
         Ok(step)
     }
 
@@ -184,8 +230,7 @@ impl Starts {
             return false;
         }
         let _ = self.works[place].complete(ok);
-        let place = place_in(&self.ready, serial);
-        let _ = self.ready.insert(place, serial);
+        note(&mut self.ready, serial, true);
         true
     }
 }

@@ -1,6 +1,7 @@
-ghost use Rattle.std.specs.Prelude.{◌≡◌};
+ghost use Rattle.std.specs.Prelude.{◌≡◌, drop};
 ghost use Rattle.pnp_model.specs.Records.Duty.{Listing, Starting};
 
+use std::collections::VecDeque;
 use std::marker::Model;
 
 /// What waits to be done for a device. This project's own.
@@ -42,4 +43,11 @@ impl Task {
         let duty = Duty::Start;
         Task { duty, serial }
     }
+}
+
+/// The first task is dropped, if there is one. It takes no memory.
+pub(crate) fn drop_first(tasks: &mut VecDeque<Task>)
+    ensures { tasks.new.items ≡ drop 1 tasks.old.items }
+{
+    let _ = tasks.pop_front();
 }

@@ -1,9 +1,10 @@
--- The changes of a node after which it holds nothing, where it held nothing before.
-use Rattle.std.proofs.Common.{◌≡◌, ℕ, Bool, true, false, List, [], ◌∷◌, Option, refl, cond}
+-- The number of what is found by its number, and the changes of a node after which it holds nothing, where it held nothing before.
+use Rattle.std.proofs.Common.{◌≡◌, ℕ, Bool, true, false, List, [], ◌∷◌, Option, Some, refl, cond, arith}
+use Rattle.std.proofs.lemmas.Bool.Decides.{nat_tests}
 use Rattle.std.specs.List.{AllByRecursion}
 use Rattle.pnp_labels.specs.declared.states.DevState.{DevState}
 use Rattle.pnp_labels.specs.declared.states.Problem.{Problem}
-use Rattle.pnp_model.specs.Cores.{is_node, with_state, with_problem, with_holds, with_stack, bare}
+use Rattle.pnp_model.specs.Cores.{is_node, node_at, with_state, with_problem, with_holds, with_stack, bare}
 use Rattle.pnp_model.specs.Keyed.{changed_first}
 use Rattle.pnp_model.specs.Records.{Node}
 use Rattle.start_sequence.specs.Steps.{HoldsNothing}
@@ -30,3 +31,7 @@ stack_bare k stack state nodes all = all_changed HoldsNothing (is_node k) (with_
 
 pub strip_bare : (k : ℕ) (nodes : List Node) → AllByRecursion HoldsNothing nodes → AllByRecursion HoldsNothing (changed_first (is_node k) bare nodes)
 strip_bare k nodes all = all_changed HoldsNothing (is_node k) bare (λ n h. refl) nodes all
+
+pub own_serial : (k : ℕ) (n : Node) (nodes : List Node) → node_at k nodes ≡ Some n → n.serial ≡ k
+own_serial k n [] h = cc
+own_serial k n (x ∷ xs) h = grind (arith, nat_tests, own_serial k n xs)
