@@ -1,6 +1,7 @@
 pub mod Texts
 pub mod Inserts
 pub mod Ready
+pub mod Indexes
 pub mod Arrivals
 pub mod Joins
 pub mod ActSteps

@@ -1,5 +1,5 @@
 -- The starts of devices in order of serial, and the index of those that can go on.
-use Rattle.std.specs.Prelude.{◌≡◌, ℕ, ◌+◌, ◌≤◌, Bool, true, false, List, Option, Some, None, map, option_map, find, Vec, vec_len, vec_capacity}
+use Rattle.std.specs.Prelude.{◌≡◌, ℕ, ◌+◌, ◌≤◌, Bool, true, false, not, List, Option, Some, None, map, option_map, find, Vec, vec_len, vec_capacity}
 use Rattle.std.specs.declared.alloc.Global.{Global}
 use Rattle.pnp_labels.specs.declared.words.Minor.{Minor}
 use Rattle.pnp_model.specs.Cores.{node_at}
@@ -41,6 +41,11 @@ abbrev pub is_over : StartStep → Bool
 is_over (Did label) = false
 is_over (Up label) = true
 is_over (Over label) = true
+
+-- whether a start is no longer among those that do not wait
+abbrev pub leaves : Bool → Activity → Bool
+leaves true a = true
+leaves false a = not (is_ready a)
 
 -- the starts after a step of one: it goes on in a phase, or is over
 abbrev pub works_after : StartStep → ℕ → Phase → List Activity → List Activity

@@ -3,10 +3,11 @@ ghost use Rattle.pnp_model.specs.Cores.{node_at};
 ghost use Rattle.pnp_model.specs.Keyed.{put_before};
 ghost use Rattle.pnp_model.specs.Records.{Activity};
 ghost use Rattle.pnp_model.specs.States.{activity_at, is_activity, is_above, entered};
-ghost use Rattle.pnp_model.specs.Machine.{is_ready};
+ghost use Rattle.pnp_model.specs.Machine.{is_ready, phase_walk};
+ghost use Rattle.pnp_model.specs.Events.{waits_for};
 ghost use Rattle.pnp_laws.specs.Kept.{InOrder};
 ghost use Rattle.devnode_tree.specs.Trees.{Ascends};
-ghost use Rattle.pnp_machine.specs.Starts.{first_ready, is_over, ActsFor, CompletesFor};
+ghost use Rattle.pnp_machine.specs.Starts.{first_ready, is_over, leaves, ActsFor, CompletesFor};
 
 use crate::devices::Devices;
 use device_ids::WantOfMemory;
@@ -124,6 +125,20 @@ fn goes(work: &StartWork) -> bool
     work.waits().is_none()
 }
 
+/// Whether a start leaves those that do not wait with a step: it is over, or waits.
+fn leaves(work: &StartWork, step: &StartStep) -> bool
+    ensures { result ≡ leaves (is_over step.now) work.now }
+{
+    is_over(step) || !goes(work)
+}
+
+/// Whether a request of the minor waits in a start.
+fn waits_for(work: &StartWork, minor: Minor) -> bool
+    ensures { result ≡ waits_for minor (phase_walk work.now.phase) }
+{
+    work.waits() == Some(minor)
+}
+
 impl Starts {
     /// None.
     pub(crate) fn new(alloc: Global) -> Starts
@@ -211,10 +226,8 @@ impl Starts {
         };
         let work = &mut self.works[place];
         let step = devices.act(alloc, work, rack)?;
-        let over = is_over(&step);
-        let goes_on = goes(work) && !over;
-        drop_first(&mut self.ready, !goes_on);
-        drop_over(&mut self.works, place, over);
+        drop_first(&mut self.ready, leaves(work, &step));
+        drop_over(&mut self.works, place, is_over(&step));
         Ok(step)
     }
 
@@ -226,7 +239,7 @@ impl Starts {
         let Some(place) = place_of(&self.works, serial) else {
             return false;
         };
-        if self.works[place].waits() != Some(minor) {
+        if !waits_for(&self.works[place], minor) {
             return false;
         }
         let _ = self.works[place].complete(ok);
