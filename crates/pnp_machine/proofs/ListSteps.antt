@@ -40,6 +40,15 @@ list_down s k n label t at down h =
     by_state RemovePending e = skipped
     by_state SurpriseRemoved e = skipped
 
+pub started_is : (state : DevState) → is_started state ≡ true → state ≡ Started
+started_is NoStack up = absurd (cc)
+started_is NotStarted up = absurd (cc)
+started_is Started up = refl
+started_is StopPending up = absurd (cc)
+started_is Stopped up = absurd (cc)
+started_is RemovePending up = absurd (cc)
+started_is SurpriseRemoved up = absurd (cc)
+
 -- no child is gone
 none_gone : (s : State) (nodes : List Node) → AllByRecursion (λ n. is_in_world s.world n.born ≡ true) nodes → (k : ℕ) → find (is_gone s) (children k nodes) ≡ None
 none_gone s [] all k = refl
