@@ -23,7 +23,6 @@ use Rattle.pnp_cli.specs.Infs.{infs_in}
 use Rattle.pnp_cli.specs.Runs.{IsOutput, IsOutputBy, IsScriptOutput, machine, events_of}
 use Rattle.pnp_cli.specs.Lawful.{LawfulState, LawfulStep, LawfulFrom, happened, events_in, bad_text, TellsRun, TellsScript, TellsBy, Tells}
 use Rattle.pnp_cli.specs.declared.infs.InfsError.{InfsError}
-use Rattle.pnp_cli.specs.declared.infs.InfsError.TheVariants as faults
 use Rattle.pnp_cli.specs.declared.parts.Settings.{Settings}
 use Rattle.pnp_cli.proofs.Texts.{text_append}
 

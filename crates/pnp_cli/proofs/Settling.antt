@@ -3,16 +3,13 @@ use Rattle.std.proofs.Common.{◌≡◌, ℕ, ◌+◌, ◌<◌, List, [], ◌∷
 use Rattle.pnp_labels.specs.Texts.{Text}
 use Rattle.pnp_labels.specs.declared.event.Event.{Event}
 use Rattle.pnp_labels.specs.declared.label.Label.{Label}
-use Rattle.pnp_model.specs.Records.{State, Step, Settings, Driver}
+use Rattle.pnp_model.specs.Records.{State, Settings}
 use Rattle.pnp_model.specs.Machine.{Steps, IsQuiet}
 use Rattle.pnp_model.specs.Events.{happens}
-use Rattle.pnp_laws.specs.Reached.{IsReached}
-use Rattle.pnp_laws.proofs.Reaching.{reached_on}
 use Rattle.pnp_laws.proofs.StepsLeft.{steps_left, left_falls}
 use Rattle.pnp_machine.specs.Machines.{IsDone, Moves}
 use Rattle.pnp_machine.specs.Managers.{Manager, settings, IsRunOf}
 use Rattle.pnp_machine.specs.declared.manager.Moved.{Moved}
-use Rattle.pnp_machine.specs.declared.manager.Moved.TheVariants as Moved
 use Rattle.pnp_cli.specs.Outputs.{Settles, text_of}
 use Rattle.pnp_cli.specs.Turns.{Settled, Answered, Awaits}
 use Rattle.pnp_cli.proofs.Texts.{text_append}

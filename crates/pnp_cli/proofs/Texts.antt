@@ -1,8 +1,7 @@
 -- The lines of labels, one after another.
-use Rattle.std.proofs.Common.{◌≡◌, List, [], ◌∷◌, ◌++◌, map, refl, sym, ◌∙◌, ap, append_assoc}
-use Rattle.pnp_labels.specs.Texts.{Text, label_line}
+use Rattle.std.proofs.Common.{◌≡◌, List, [], ◌∷◌, ◌++◌, refl, sym, ◌∙◌, ap, append_assoc}
+use Rattle.pnp_labels.specs.Texts.{label_line}
 use Rattle.pnp_labels.specs.declared.label.Label.{Label}
-use Rattle.pnp_model.specs.Endings.{joined}
 use Rattle.pnp_cli.specs.Outputs.{text_of}
 
 pub text_append : (xs ys : List Label) → text_of (xs ++ ys) ≡ text_of xs ++ text_of ys

@@ -1,18 +1,17 @@
 -- A turn of reading and running, and turns one after another.
-use Rattle.std.proofs.Common.{◌≡◌, ℕ, ◌+◌, ◌<◌, Bool, true, false, List, [], ◌∷◌, ◌++◌, Option, Some, None, refl, sym, ◌∙◌, ap, subst, append_assoc}
+use Rattle.std.proofs.Common.{◌≡◌, ℕ, ◌+◌, true, false, List, [], ◌∷◌, ◌++◌, Option, Some, None, refl, sym, ◌∙◌, ap, subst, append_assoc}
 use Rattle.inf_reader.specs.declared.parts.Inf.{Inf}
 use Rattle.pnp_labels.specs.Texts.{Text}
 use Rattle.pnp_labels.specs.declared.event.Event.{Event}
-use Rattle.pnp_labels.specs.declared.label.Label.{Label}
-use Rattle.pnp_model.specs.Records.{State, Settings, Driver}
+use Rattle.pnp_model.specs.Records.{Settings, Driver}
 use Rattle.pnp_model.specs.Runs.{opening}
 use Rattle.script_reader.specs.Reading.{Reading, Moves}
 use Rattle.script_reader.specs.Script.{Trace, gives, ends, stops, trace, IsStuck, Ends}
 use Rattle.std.specs.Prelude.{codes, is_some}
 use Rattle.std.specs.Fmt.{decimal}
-use Rattle.pnp_cli.specs.Outputs.{Prints, Follows, text_of, has_bad, error_line, end_text}
+use Rattle.pnp_cli.specs.Outputs.{Prints, text_of, has_bad, error_line, end_text}
 use Rattle.pnp_machine.specs.Machines.{is_built}
-use Rattle.pnp_machine.specs.Managers.{Manager, settings, IsRunOf}
+use Rattle.pnp_machine.specs.Managers.{Manager, settings}
 use Rattle.pnp_cli.specs.Built.{built, built_on}
 use Rattle.pnp_cli.specs.Turns.{Awaits, Answered, left, Leads, Goes, Printed, end_of}
 use Rattle.pnp_cli.proofs.Printing.{prints_more}

@@ -15,7 +15,6 @@ use Rattle.pnp_cli.specs.declared.infs.InfsError.{InfsError}
 use Rattle.pnp_cli.specs.declared.infs.InfsError.TheVariants as faults
 use Rattle.pnp_cli.specs.declared.parts.Settings.{Settings}
 use Rattle.pnp_cli.specs.declared.status.Status.{Status}
-use Rattle.pnp_cli.specs.declared.status.Status.TheVariants as Status
 
 -- the files that are read: the INFs in order, and then the script
 abbrev pub named : Settings → List Text

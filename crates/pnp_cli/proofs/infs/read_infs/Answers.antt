@@ -1,4 +1,4 @@
-use Rattle.std.proofs.Common.{◌≡◌, ◌∙◌, ◌+◌, ◌<◌, ◌≤◌, ℕ, List, Option, Ok, Err, IfSome, length, slice_index_or, arith, sym, subst, ap, length-append, [], ◌∷◌}
+use Rattle.std.proofs.Common.{◌≡◌, ◌∙◌, ◌+◌, ◌<◌, ℕ, List, Option, Ok, Err, IfSome, length, slice_index_or, arith, sym, subst, ap, length-append, [], ◌∷◌}
 use Rattle.pnp_cli.specs.Infs.{inf_in, Gives}
 use Rattle.pnp_cli.proofs.InfSteps.{told_more, told_stop, passed_on}
 use Rattle.pnp_cli.proofs.infs.read_infs.Goals as goal

@@ -1,8 +1,7 @@
-use Rattle.std.proofs.Common.{◌≡◌, ◌∙◌, sym, true, false, subst}
+use Rattle.std.proofs.Common.{◌∙◌, sym, true, subst}
 use Rattle.script_reader.specs.Script.{trace}
 use Rattle.script_reader.specs.Answers.{Answers}
 use Rattle.script_reader.specs.declared.next.Next.{Next}
-use Rattle.script_reader.specs.declared.next.Next.TheVariants as Next
 use Rattle.pnp_cli.proofs.Turning.{goes_on, goes_unbuilt, goes_bad, left_event}
 use Rattle.pnp_cli.proofs.FewIds.{few_ids}
 use Rattle.pnp_cli.proofs.output.take_turn.Goals as goal

@@ -1,4 +1,4 @@
-use Rattle.std.proofs.Common.{◌≡◌, List, ℕ, sym, subst, ◌∙◌}
+use Rattle.std.proofs.Common.{◌≡◌, subst, ◌∙◌}
 use Rattle.pnp_io.specs.Outside.{AppendsFront}
 use Rattle.pnp_model.specs.Runs.{opening}
 use Rattle.pnp_cli.specs.Runs.{machine, events_of}
