@@ -1,5 +1,5 @@
 -- All of a text is a front of it.
-use Rattle.std.proofs.Common.{◌≡◌, ℕ, ◌≤◌, List, [], ◌++◌, Option, Some, None, IfSome, length, arith, refl, ap, sym, append-nil}
+use Rattle.std.proofs.Common.{ℕ, List, Option, Some, None, IfSome, length, arith, refl, ap, sym, append-nil}
 use Rattle.std.proofs.lemmas.List.{take_all}
 use Rattle.pnp_io.specs.Outside.{Appends, AppendsFront}
 use Rattle.pnp_labels.specs.Texts.{Text}

@@ -1,12 +1,11 @@
-pub mod Buses
-pub mod Printing
-pub mod Plugs
-pub mod Names
-pub mod Trees
 pub mod Texts
-pub mod Answering
+pub mod FewIds
+pub mod Settling
+pub mod Printing
+pub mod Lawfulness
 pub mod Turning
 pub mod Fronts
 pub mod Refusals
 pub mod WordRows
 pub mod InfSteps
+pub mod Limited

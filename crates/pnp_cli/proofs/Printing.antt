@@ -1,11 +1,10 @@
 -- What is printed for a trace: one text at most, and step by step.
-use Rattle.std.proofs.Common.{◌≡◌, ℕ, List, [], ◌∷◌, ◌++◌, Option, Some, None, refl, sym, ◌∙◌, ap, ap₂, subst, append_assoc}
+use Rattle.std.proofs.Common.{◌≡◌, ℕ, List, [], ◌∷◌, ◌++◌, refl, sym, ◌∙◌, ap, ap₂, subst}
 use Rattle.pnp_labels.specs.Texts.{Text}
 use Rattle.pnp_labels.specs.declared.event.Event.{Event}
 use Rattle.pnp_labels.specs.declared.label.Label.{Label}
 use Rattle.pnp_model.specs.Records.{State, Step, Settings}
-use Rattle.pnp_model.specs.Machine.{Steps, IsStep, IsQuiet, next}
-use Rattle.pnp_model.specs.Events.{happens}
+use Rattle.pnp_model.specs.Machine.{Steps, IsStep, IsQuiet}
 use Rattle.pnp_model.proofs.Determined.{one_label, one_state}
 use Rattle.script_reader.specs.Script.{Trace, gives, waits, ends, stops}
 use Rattle.pnp_cli.specs.Outputs.{Settles, Follows, Prints, text_of}

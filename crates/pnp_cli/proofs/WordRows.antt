@@ -1,7 +1,7 @@
 -- The settings of some words that are written out.
-use Rattle.std.proofs.Common.{◌≡◌, refl, codes, List, [], ◌∷◌, Option, Some, None, true, false}
+use Rattle.std.proofs.Common.{◌≡◌, refl, codes, [], ◌∷◌, Some, None, false}
 use Rattle.clap.proofs.OnLiterals.{clap_on_literals}
-use Rattle.pnp_cli.specs.Words.{settings_of, is_accepted, pnpmgr}
+use Rattle.pnp_cli.specs.Words.{settings_of, is_accepted}
 
 pub all_given : settings_of (codes "p" ∷ codes "--budget" ∷ codes "7" ∷ codes "s" ∷ codes "i" ∷ codes "j" ∷ []) ≡ Some (record { script = codes "s"; infs = codes "i" ∷ codes "j" ∷ []; budget = 7 })
 unfolding clap_on_literals

@@ -1,5 +1,5 @@
 -- What the INFs that the words name come to, read and checked one after another; and the line that tells a refused one.
-use Rattle.std.specs.Prelude.{◌≡◌, ℕ, ◌+◌, nat_le, length, if◌then◌else◌, List, [], ◌∷◌, ◌++◌, Option, Some, None, IfSome, Result, Ok, Err, codes, Contains, Vec}
+use Rattle.std.specs.Prelude.{◌≡◌, ℕ, ◌+◌, nat_le, length, if◌then◌else◌, List, [], ◌∷◌, ◌++◌, Option, Some, None, Result, Ok, Err, codes, Contains, Vec}
 use Rattle.std.specs.Global.{Global}
 use Rattle.std.specs.Fmt.{decimal}
 use Rattle.pnp_labels.specs.Texts.{Text}

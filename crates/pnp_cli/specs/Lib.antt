@@ -1,7 +1,8 @@
 pub mod Words
 pub mod Infs
 pub mod Outputs
-pub mod RootBuses
+pub mod Built
 pub mod Turns
 pub mod Runs
-pub mod Rows
+pub mod Lawful
+pub mod Limits

@@ -4,12 +4,11 @@ use Rattle.std.specs.Fmt.{decimal}
 use Rattle.pnp_labels.specs.Texts.{Text, label_line}
 use Rattle.pnp_labels.specs.declared.event.Event.{Event}
 use Rattle.pnp_labels.specs.declared.label.Label.{Label}
-use Rattle.pnp_model.specs.Records.{Driver, State, Step, Settings}
+use Rattle.pnp_model.specs.Records.{State, Settings}
 use Rattle.pnp_model.specs.Machine.{Steps, IsQuiet}
 use Rattle.pnp_model.specs.Events.{happens}
-use Rattle.pnp_model.specs.Runs.{opening}
 use Rattle.pnp_model.specs.Endings.{ending, joined}
-use Rattle.script_reader.specs.Script.{Trace, gives, waits, ends, stops, trace}
+use Rattle.script_reader.specs.Script.{Trace, gives, waits, ends, stops}
 
 -- the machine steps until it is quiet, and prints these labels
 abbrev pub Settles : Settings → State → List Label → State → Type 0

@@ -8,21 +8,21 @@ use Rattle.pnp_model.specs.Runs.{opening}
 use Rattle.script_reader.specs.Script.{Trace, trace}
 use Rattle.inf_reader.specs.declared.parts.Inf.{Inf}
 use Rattle.pnp_cli.specs.Outputs.{Prints, has_bad}
-use Rattle.pnp_cli.specs.RootBuses.{no_infs, built}
+use Rattle.start_sequence.specs.Begins as begins
+use Rattle.pnp_cli.specs.Built.{built}
 use Rattle.pnp_cli.specs.Infs.{limit, infs_in, refusal_line}
 use Rattle.pnp_cli.specs.declared.infs.InfsError.{InfsError}
 use Rattle.pnp_cli.specs.declared.infs.InfsError.TheVariants as faults
 use Rattle.pnp_cli.specs.declared.parts.Settings.{Settings}
 use Rattle.pnp_cli.specs.declared.status.Status.{Status}
-use Rattle.pnp_cli.specs.declared.status.Status.TheVariants as Status
 
 -- the files that are read: the INFs in order, and then the script
 abbrev pub named : Settings → List Text
 named s = s.infs ++ s.script ∷ []
 
--- what the machine is told of INFs and of the budget: until the parts that choose drivers and search are built, nothing
+-- what the machine is told of INFs and of the budget
 abbrev pub machine : List Inf → ℕ → machines.Settings
-machine infs budget = no_infs
+machine infs budget = begins.settings_of infs budget
 
 -- what the bytes of a script give
 abbrev pub events_of : List ℕ → Trace

@@ -100,6 +100,7 @@ pub fn read_infs<F: Files>(
     names: &TextList,
 ) -> Result<Vec<Inf>, InfsError>
     ensures gives { IfSome (F.contents files.old) (λ told. GivesAll result (infs_in told names.now)) }
+    ensures each { IfOk result (λ infs. length infs.items ≡ length names.now) }
     ensures failed { IsErrOf result ReadFault → SomeRose (F.faults files.old) (F.faults files.new) names.now }
     ensures counts { (other : List ℕ) → F.faults files.old other ≤ F.faults files.new other }
     ensures same { F.contents files.new ≡ F.contents files.old }

@@ -2,13 +2,13 @@
 //! written.
 #![tactic(auto)]
 
-mod bus;
-mod ending;
 mod infs;
-mod lines;
 mod output;
 mod parts;
 mod program;
+#[cfg(test)]
+mod row_tests;
+mod settle;
 mod status;
 #[cfg(test)]
 mod tests;

@@ -1,14 +1,17 @@
-ghost use Rattle.std.specs.Prelude.{◌≡◌, ◌++◌, ◌<◌, ◌^◌, IfOk, OnOk, true, length};
+ghost use Rattle.std.specs.Prelude.{◌≡◌, ◌+◌, ◌++◌, ◌≤◌, ◌^◌, IfOk, OnOk, true, length};
 ghost use Rattle.pnp_model.specs.Runs.{opening};
 ghost use Rattle.script_reader.specs.Script.{trace};
-ghost use Rattle.pnp_cli.specs.Outputs.{Prints, has_bad, error_line};
-ghost use Rattle.pnp_cli.specs.RootBuses.{no_infs, built};
-ghost use Rattle.pnp_cli.specs.Turns.{Turned, Printed, end_of, Ended};
+ghost use Rattle.pnp_cli.specs.Built.{built};
+ghost use Rattle.pnp_cli.specs.Outputs.{Prints, has_bad};
+ghost use Rattle.pnp_cli.specs.Runs.{machine};
+ghost use Rattle.pnp_cli.specs.Turns.{Awaits, Turned, Printed, end_of, Ended};
 
-use crate::bus::{RootBus, is_built};
+use crate::settle::answer_event;
 use device_ids::WantOfMemory;
 use driver_rack::Drivers;
+use inf_reader::Inf;
 use pnp_labels::decimal;
+use pnp_machine::{Manager, is_built};
 use script_reader::{Next, Reader};
 use std::alloc::Global;
 
@@ -25,19 +28,21 @@ enum Turn {
 /// Reads on to the next event, and the machine does all that follows from it.
 fn take_turn<R: Drivers>(
     alloc: Global,
-    bus: &mut RootBus<R>,
+    manager: &mut Manager<R>,
     reader: &mut Reader,
     out: &mut Vec<u8>,
 ) -> Result<Turn, WantOfMemory>
-    requires { reader.old.finished ≡ true }
-    ensures { IfOk result (λ t. Turned t bus.old reader.old out.old.items bus.new reader.new out.new.items) }
+    requires finished { reader.old.finished ≡ true }
+    requires awaits { Awaits manager.old }
+    requires room { manager.old.events + length reader.old.rest ≤ 2 ^ 24 }
+    ensures { IfOk result (λ t. Turned t manager.old reader.old out.old.items manager.new reader.new out.new.items) }
 {
     match reader.next_event()? {
         Next::Event(event) => {
             if !is_built(&event) {
                 return Ok(Turn::Bad(reader.line()));
             }
-            bus.apply(alloc, event, out)?;
+            answer_event(alloc, manager, event, out)?;
             Ok(Turn::On)
         }
         Next::Bad { line } => Ok(Turn::Bad(line)),
@@ -48,15 +53,17 @@ fn take_turn<R: Drivers>(
 /// Runs all events of a script, up to its end or to its first bad line, whose number is answered.
 fn run_events<R: Drivers>(
     alloc: Global,
-    bus: &mut RootBus<R>,
+    manager: &mut Manager<R>,
     reader: &mut Reader,
     out: &mut Vec<u8>,
 ) -> Result<Option<u64>, WantOfMemory>
-    requires { reader.old.finished ≡ true }
-    ensures { IfOk result (λ end_. Ended end_ bus.old reader.old out.old.items bus.new out.new.items) }
+    requires finished { reader.old.finished ≡ true }
+    requires awaits { Awaits manager.old }
+    requires room { manager.old.events + length reader.old.rest ≤ 2 ^ 24 }
+    ensures { IfOk result (λ end_. Ended end_ manager.old reader.old out.old.items manager.new out.new.items) }
 {
     loop {
-        match take_turn(alloc, bus, reader, out)? {
+        match take_turn(alloc, manager, reader, out)? {
             Turn::On => {}
             Turn::End => return Ok(None),
             Turn::Bad(line) => return Ok(Some(line)),
@@ -67,21 +74,22 @@ fn run_events<R: Drivers>(
 /// Appends the line of a bad line, if there is one, and the end of the output.
 fn add_end<R: Drivers>(
     alloc: Global,
-    bus: &RootBus<R>,
+    manager: &Manager<R>,
     bad: Option<u64>,
     out: &mut Vec<u8>,
 ) -> Result<(), WantOfMemory>
-    ensures { OnOk result (Printed bus.now (end_of bad) out.old.items out.new.items) }
+    ensures { OnOk result (Printed manager.now (end_of bad) out.old.items out.new.items) }
 {
+    let ending = manager.ending(alloc)?;
     let Some(line) = bad else {
-        bus.add_ending(alloc, out)?;
+        out.extend_from_slice(&ending)?;
         return Ok(());
     };
     let number = decimal(alloc, line)?;
     out.extend_from_slice(b"script error line ")?;
     out.extend_from_slice(number.as_bytes())?;
     out.push(b'\n')?;
-    bus.add_ending(alloc, out)?;
+    out.extend_from_slice(&ending)?;
     Ok(())
 }
 
@@ -92,19 +100,26 @@ pub struct Written {
     pub has_bad: bool,
 }
 
-/// The output for the bytes of a script and the drivers of a rack.
-pub fn output<R: Drivers>(alloc: Global, rack: R, script: &[u8]) -> Result<Written, WantOfMemory>
-    requires { length script.now < 2 ^ 63 }
-    ensures text { IfOk result (λ o. Prints no_infs (opening (R.rows rack)) (built (trace true 0 script.now)) o.text.items) }
+/// The output for the bytes of a script, by INFs, a budget and the drivers of a rack.
+pub fn output<R: Drivers>(
+    alloc: Global,
+    infs: Vec<Inf>,
+    budget: u64,
+    rack: R,
+    script: &[u8],
+) -> Result<Written, WantOfMemory>
+    requires infs { length infs.items ≤ 64 }
+    requires script { length script.now ≤ 2 ^ 24 }
+    ensures text { IfOk result (λ o. Prints (machine infs.items budget) (opening (R.rows rack)) (built (trace true 0 script.now)) o.text.items) }
     ensures bad { IfOk result (λ o. o.has_bad ≡ has_bad (built (trace true 0 script.now))) }
 {
-    let mut bus = RootBus::new(alloc, rack)?;
+    let mut manager = Manager::new(alloc, infs, rack, budget)?;
     let mut reader = Reader::new(alloc);
     reader.feed(script)?;
     reader.finish();
     let mut text = Vec::new(alloc);
-    let bad = run_events(alloc, &mut bus, &mut reader, &mut text)?;
-    add_end(alloc, &bus, bad, &mut text)?;
+    let bad = run_events(alloc, &mut manager, &mut reader, &mut text)?;
+    add_end(alloc, &manager, bad, &mut text)?;
     Ok(Written {
         text,
         has_bad: bad.is_some(),

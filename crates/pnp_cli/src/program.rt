@@ -2,8 +2,9 @@ ghost use Rattle.std.specs.Prelude.{◌≡◌, ◌⊎◌, ◌<◌, ◌≤◌, �
 ghost use Rattle.pnp_io.specs.Outside.{Rose, Appends, AppendsFront};
 ghost use Rattle.pnp_cli.specs.Words.{settings_of};
 ghost use Rattle.pnp_cli.specs.Infs.{infs_in, refusal_line, SomeRose};
-ghost use Rattle.pnp_cli.specs.RootBuses.{no_infs};
-ghost use Rattle.pnp_cli.specs.Runs.{named, IsScriptOutput, IsOutput, IsOutputBy, script_status, status_of, status_by, is_decided, is_whole, Wrote, WroteFront, Answers, Untouched, events_of};
+ghost use Rattle.pnp_cli.specs.Runs.{named, IsScriptOutput, IsOutput, IsOutputBy, machine, script_status, status_of, status_by, is_decided, is_whole, Wrote, WroteFront, Answers, Untouched, events_of};
+ghost use Rattle.pnp_cli.specs.Lawful.{Tells};
+ghost use Rattle.pnp_cli.specs.Limits.{IsWithin};
 ghost use Rattle.pnp_cli.specs.Outputs.{has_bad};
 ghost use Rattle.driver_rack.specs.Rows.{unnamed};
 
@@ -13,7 +14,7 @@ use crate::parts::{Settings, WordsError};
 use crate::status::Status;
 use crate::words::settings;
 use driver_rack::{Driver, Drivers, Rack};
-use inf_reader::InfError;
+use inf_reader::{Inf, InfError};
 use pnp_io::{Failed, Files, ReadError, Sink, read_all, write_all};
 use std::alloc::{AllocError, Global};
 
@@ -49,18 +50,21 @@ impl From<Failed> for WriteError {
 /// Writes the output for the bytes of a script, and answers whether a line of it is bad.
 fn write_output<R: Drivers, K: Sink>(
     alloc: Global,
+    infs: Vec<Inf>,
+    budget: u64,
     rack: R,
     script: &[u8],
     sink: &mut K,
 ) -> Result<bool, WriteError>
-    requires { length script.now < 2 ^ 63 }
-    ensures took { OnOk result ((text : List ℕ) × IsScriptOutput no_infs (R.rows rack) (Some script.now) text × Appends (K.taken sink.old) (K.taken sink.new) text) }
+    requires infs { length infs.items ≤ 64 }
+    requires script { length script.now ≤ 2 ^ 24 }
+    ensures took { OnOk result ((text : List ℕ) × IsScriptOutput (machine infs.items budget) (R.rows rack) (Some script.now) text × Appends (K.taken sink.old) (K.taken sink.new) text) }
     ensures bad { IfOk result (λ bad. bad ≡ has_bad (events_of script.now)) }
-    ensures front { (text : List ℕ) → IsScriptOutput no_infs (R.rows rack) (Some script.now) text → AppendsFront (K.taken sink.old) (K.taken sink.new) text }
+    ensures front { (text : List ℕ) → IsScriptOutput (machine infs.items budget) (R.rows rack) (Some script.now) text → AppendsFront (K.taken sink.old) (K.taken sink.new) text }
     ensures failed { IsErrOf result WriteError.WriteFault → Rose (K.faults sink.old) (K.faults sink.new) }
     ensures counts { K.faults sink.old ≤ K.faults sink.new }
 {
-    let whole = output(alloc, rack, script)?;
+    let whole = output(alloc, infs, budget, rack, script)?;
     write_all(sink, &whole.text)?;
     Ok(whole.has_bad)
 }
@@ -85,20 +89,23 @@ fn tell_refusal<K: Sink>(
 fn run_script<R: Drivers, F: Files, K: Sink>(
     alloc: Global,
     name: &[u8],
+    infs: Vec<Inf>,
+    budget: u64,
     rack: R,
     files: &mut F,
     sink: &mut K,
 ) -> Status
+    requires { length infs.items ≤ 64 }
     ensures words { result ≡ Status.BadWords → ⊥ }
     ensures decided { is_decided result ≡ true → IfSome (F.contents files.old) (λ told. script_status (told name.now) ≡ Some result) }
-    ensures whole { is_whole result ≡ true → IfSome (F.contents files.old) (λ told. Wrote (IsScriptOutput no_infs (R.rows rack) (told name.now)) (K.taken sink.old) (K.taken sink.new)) }
-    ensures front { IfSome (F.contents files.old) (λ told. WroteFront (IsScriptOutput no_infs (R.rows rack) (told name.now)) (K.taken sink.old) (K.taken sink.new)) }
+    ensures whole { is_whole result ≡ true → IfSome (F.contents files.old) (λ told. Wrote (IsScriptOutput (machine infs.items budget) (R.rows rack) (told name.now)) (K.taken sink.old) (K.taken sink.new)) }
+    ensures front { IfSome (F.contents files.old) (λ told. WroteFront (IsScriptOutput (machine infs.items budget) (R.rows rack) (told name.now)) (K.taken sink.old) (K.taken sink.new)) }
     ensures read_fault { result ≡ Status.ReadFault → Rose (F.faults files.old name.now) (F.faults files.new name.now) }
     ensures write_fault { result ≡ Status.WriteFault → Rose (K.faults sink.old) (K.faults sink.new) }
     ensures answered { IfSome (F.contents files.old) (λ told. Answers (script_status (told name.now)) (Rose (F.faults files.old name.now) (F.faults files.new name.now)) (Rose (K.faults sink.old) (K.faults sink.new)) result) }
 {
     match read_all(alloc, files, name, LIMIT) {
-        Ok(script) => match write_output(alloc, rack, &script, sink) {
+        Ok(script) => match write_output(alloc, infs, budget, rack, &script, sink) {
             Ok(false) => Status::Done,
             Ok(true) => Status::BadScript,
             Err(WriteError::WriteFault) => Status::WriteFault,
@@ -132,6 +139,7 @@ fn run_settings<R: Drivers, F: Files, K: Sink>(
     files: &mut F,
     sink: &mut K,
 ) -> Status
+    requires { IsWithin settings.now }
     ensures words { result ≡ Status.BadWords → ⊥ }
     ensures decided { is_decided result ≡ true → IfSome (F.contents files.old) (λ told. status_of told settings.now ≡ Some result) }
     ensures whole { is_whole result ≡ true → IfSome (F.contents files.old) (λ told. Wrote (IsOutput (R.rows rack) told settings.now) (K.taken sink.old) (K.taken sink.new)) }
@@ -141,7 +149,18 @@ fn run_settings<R: Drivers, F: Files, K: Sink>(
     ensures answered { IfSome (F.contents files.old) (λ told. Answers (status_of told settings.now) (SomeRose (F.faults files.old) (F.faults files.new) (named settings.now)) (Rose (K.faults sink.old) (K.faults sink.new)) result) }
 {
     match read_infs(alloc, files, &settings.infs) {
-        Ok(_) => run_script(alloc, settings.script.bytes(), rack, files, sink),
+        Ok(infs) => {
+            let budget = settings.budget;
+            run_script(
+                alloc,
+                settings.script.bytes(),
+                infs,
+                budget,
+                rack,
+                files,
+                sink,
+            )
+        }
         Err(InfsError::Refused(number, error)) => answer_refusal(alloc, number, error, sink),
         Err(InfsError::TooLarge) => Status::TooLarge,
         Err(InfsError::ReadFault) => Status::ReadFault,
@@ -163,6 +182,7 @@ fn run_over<D: Driver, F: Files, K: Sink>(
     ensures untouched { settings_of (map (λ word. string_bytes word) words.now) ≡ None → Untouched F.contents F.faults K.taken K.faults files.old files.new sink.old sink.new }
     ensures decided { is_decided result ≡ true → IfSome (settings_of (map (λ word. string_bytes word) words.now)) (λ s. IfSome (F.contents files.old) (λ told. status_of told s ≡ Some result)) }
     ensures whole { is_whole result ≡ true → IfSome (settings_of (map (λ word. string_bytes word) words.now)) (λ s. IfSome (F.contents files.old) (λ told. Wrote (IsOutput (map (λ d. unnamed (D.kind_of d) (D.book d)) drivers.items) told s) (K.taken sink.old) (K.taken sink.new))) }
+    ensures lawful { IfSome (settings_of (map (λ word. string_bytes word) words.now)) (λ s. IfSome (F.contents files.old) (λ told. (text : List ℕ) → IsOutput (map (λ d. unnamed (D.kind_of d) (D.book d)) drivers.items) told s text → Tells (map (λ d. unnamed (D.kind_of d) (D.book d)) drivers.items) told s text)) }
     ensures front { IfSome (settings_of (map (λ word. string_bytes word) words.now)) (λ s. IfSome (F.contents files.old) (λ told. WroteFront (IsOutput (map (λ d. unnamed (D.kind_of d) (D.book d)) drivers.items) told s) (K.taken sink.old) (K.taken sink.new))) }
     ensures read_fault { result ≡ Status.ReadFault → IfSome (settings_of (map (λ word. string_bytes word) words.now)) (λ s. SomeRose (F.faults files.old) (F.faults files.new) (named s)) }
     ensures write_fault { result ≡ Status.WriteFault → Rose (K.faults sink.old) (K.faults sink.new) }
@@ -182,8 +202,7 @@ fn run_over<D: Driver, F: Files, K: Sink>(
 /// script, runs it over the drivers of a rack, and writes its output and nothing else; where an INF is refused,
 /// its number, error and line are the output. The condition is that the rack has fewer than 2^32 drivers. Each
 /// status comes as its clauses say; after a fault, and after want of memory, what was written is a front of the
-/// output. Until the parts that choose drivers and search for resources are built, what the INFs say and the
-/// budget are not used. Cost: near linear in the bytes read and written. This project's own.
+/// output. It always returns. Cost: near linear in the bytes read, and that of the machine's steps. This project's own.
 pub fn run<F: Files, K: Sink>(
     alloc: Global,
     words: &[String],
@@ -197,6 +216,7 @@ pub fn run<F: Files, K: Sink>(
     ensures untouched { settings_of (map (λ word. string_bytes word) words.now) ≡ None → Untouched F.contents F.faults K.taken K.faults files.old files.new sink.old sink.new }
     ensures decided { is_decided result ≡ true → IfSome (settings_of (map (λ word. string_bytes word) words.now)) (λ s. IfSome (F.contents files.old) (λ told. status_of told s ≡ Some result)) }
     ensures whole { is_whole result ≡ true → IfSome (settings_of (map (λ word. string_bytes word) words.now)) (λ s. IfSome (F.contents files.old) (λ told. Wrote (IsOutput (map (λ b. unnamed (kind_of b) (book b)) rack.items) told s) (K.taken sink.old) (K.taken sink.new))) }
+    ensures lawful { IfSome (settings_of (map (λ word. string_bytes word) words.now)) (λ s. IfSome (F.contents files.old) (λ told. (text : List ℕ) → IsOutput (map (λ b. unnamed (kind_of b) (book b)) rack.items) told s text → Tells (map (λ b. unnamed (kind_of b) (book b)) rack.items) told s text)) }
     ensures front { IfSome (settings_of (map (λ word. string_bytes word) words.now)) (λ s. IfSome (F.contents files.old) (λ told. WroteFront (IsOutput (map (λ b. unnamed (kind_of b) (book b)) rack.items) told s) (K.taken sink.old) (K.taken sink.new))) }
     ensures read_fault { result ≡ Status.ReadFault → IfSome (settings_of (map (λ word. string_bytes word) words.now)) (λ s. SomeRose (F.faults files.old) (F.faults files.new) (named s)) }
     ensures write_fault { result ≡ Status.WriteFault → Rose (K.faults sink.old) (K.faults sink.new) }

@@ -1,4 +1,4 @@
-use Rattle.std.proofs.Common.{◌≡◌, ◌∙◌, ◌+◌, ◌<◌, ◌≤◌, ℕ, List, Option, Ok, Err, IfSome, length, slice_index_or, arith, sym, subst}
+use Rattle.std.proofs.Common.{◌≡◌, ◌∙◌, ◌+◌, ◌<◌, ℕ, List, Option, Ok, Err, IfSome, length, slice_index_or, arith, sym, subst, ap, length-append, [], ◌∷◌}
 use Rattle.pnp_cli.specs.Infs.{inf_in, Gives}
 use Rattle.pnp_cli.proofs.InfSteps.{told_more, told_stop, passed_on}
 use Rattle.pnp_cli.proofs.infs.read_infs.Goals as goal
@@ -21,6 +21,7 @@ loop-at-preserved g c =
       far =
           told_more (g.F.Files.contents c.args.files.now) c.args.names.now c.loop-at.at c.bytes.result.now c.loop-at.infs.items within item c.loop-at.invariant.far
           c.in_ok-inf.inf c.keep.new.infs.items c.in_ok-keep.ensures (subst P c.loop-at.invariant.same c.in_ok-inf.ensures.gives);
+      each = omega (arith, c.loop-at.invariant.each, ap length c.in_ok-keep.ensures, length-append c.loop-at.infs.items (c.in_ok-inf.inf ∷ []));
       counts = λ other. omega (arith, c.loop-at.invariant.counts other, c.in_ok-inf.ensures.counts other);
       same = c.in_ok-inf.ensures.same ∙ c.loop-at.invariant.same;
     }

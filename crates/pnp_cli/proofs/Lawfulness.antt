@@ -1,0 +1,143 @@
+-- What is printed for a script tells a lawful run.
+use Rattle.std.proofs.Common.{◌≡◌, ℕ, List, [], ◌∷◌, ◌++◌, Option, Some, None, IfSome, Result, Ok, Err, map, refl, sym, ◌∙◌, ap, subst, append_assoc}
+use Rattle.pnp_labels.specs.Texts.{Text}
+use Rattle.pnp_labels.specs.declared.event.Event.{Event}
+use Rattle.pnp_labels.specs.declared.label.Label.{Label}
+use Rattle.pnp_model.specs.Records as machines
+use Rattle.pnp_model.specs.Records.{Driver, State}
+use Rattle.pnp_model.specs.Machine.{IsQuiet}
+use Rattle.pnp_model.specs.Laws.{Reaches}
+use Rattle.pnp_model.specs.Runs.{Entry, Goes, Run, printed, opening}
+use Rattle.pnp_model.specs.Runs.Entry.{Happens, Did}
+use Rattle.pnp_laws.proofs.Reaching.{run_on}
+use Rattle.pnp_laws.proofs.RunsShare.{nothing_clashes}
+use Rattle.pnp_laws.proofs.RunsWhole.{all_hold_whole}
+use Rattle.pnp_laws.proofs.RunsStand.{every_run_follows, dependents_go_first}
+use Rattle.pnp_laws.proofs.RunsBegun.{operations_begin}
+use Rattle.pnp_laws.proofs.RunsEnds.{each_end_restores}
+use Rattle.pnp_laws.proofs.RunsConflict.{each_conflict_is_real}
+use Rattle.script_reader.specs.Script.{Trace, gives, waits, ends, stops}
+use Rattle.inf_reader.specs.declared.parts.Inf.{Inf}
+use Rattle.pnp_cli.specs.Outputs.{Settles, Follows, Prints, text_of, end_text}
+use Rattle.pnp_cli.specs.Infs.{infs_in}
+use Rattle.pnp_cli.specs.Runs.{IsOutput, IsOutputBy, IsScriptOutput, machine, events_of}
+use Rattle.pnp_cli.specs.Lawful.{LawfulState, LawfulStep, LawfulFrom, happened, events_in, bad_text, TellsRun, TellsScript, TellsBy, Tells}
+use Rattle.pnp_cli.specs.declared.infs.InfsError.{InfsError}
+use Rattle.pnp_cli.specs.declared.parts.Settings.{Settings}
+use Rattle.pnp_cli.proofs.Texts.{text_append}
+
+-- Each run is lawful -----------------------------------------------------------------
+
+lawful_state : (settings : machines.Settings) (rack : List Driver) (earlier : List Entry) (s : State) → Reaches settings rack earlier s → LawfulState s
+lawful_state settings rack earlier s reaches =
+    record { sharing = nothing_clashes settings rack earlier s reaches; whole = all_hold_whole settings rack earlier s reaches }
+
+lawful_step : (settings : machines.Settings) (rack : List Driver) (earlier : List Entry) (old : State) (entry : Entry) (new : State) → Reaches settings rack earlier old → Goes settings old entry new
+    → LawfulStep settings rack earlier old entry new
+lawful_step settings rack earlier old entry new reaches goes =
+    let follows = every_run_follows settings rack earlier old entry new reaches goes in
+    record {
+      diagram = follows.0;
+      walked = follows.1;
+      dependents = dependents_go_first settings rack earlier old entry new reaches goes;
+      begun = operations_begin settings rack earlier old entry new reaches goes;
+      restores = each_end_restores settings rack earlier old entry new reaches goes;
+      conflicts = λ path is. each_conflict_is_real settings rack earlier old entry new path reaches goes is;
+    }
+
+lawful_from : (settings : machines.Settings) (rack : List Driver) (earlier : List Entry) (s : State) (entries : List Entry) (last : State) → Reaches settings rack earlier s → Run settings s entries last
+    → LawfulFrom settings rack earlier s entries last
+lawful_from settings rack earlier s [] last reaches run = (lawful_state settings rack earlier s reaches, run)
+lawful_from settings rack earlier s (entry ∷ rest) last reaches (mid, goes, run) = (
+  mid,
+  lawful_state settings rack earlier s reaches,
+  goes,
+  lawful_step settings rack earlier s entry mid reaches goes,
+  lawful_from settings rack (earlier ++ entry ∷ []) mid rest last (run_on settings (opening rack) s mid earlier (entry ∷ []) reaches (mid, goes, refl)) run,
+)
+
+-- What is printed is told by a run ---------------------------------------------------
+
+done : List Label → List Entry
+done [] = []
+done (label ∷ labels) = Did label ∷ done labels
+
+done_run : (settings : machines.Settings) (s new : State) (labels : List Label) → Settles settings s labels new → Run settings s (done labels) new
+unfolding done
+done_run settings s new [] h = h.0
+done_run settings s new (label ∷ labels) (mid, steps, more) = (mid, steps, done_run settings mid new labels more)
+
+done_quiet : (settings : machines.Settings) (s new : State) (labels : List Label) → Settles settings s labels new → IsQuiet settings new
+done_quiet settings s new [] h = subst (λ (x : State). IsQuiet settings x) (sym h.0) h.1
+done_quiet settings s new (label ∷ labels) (mid, steps, more) = done_quiet settings mid new labels more
+
+done_printed : (labels : List Label) → map printed (done labels) ≡ labels
+unfolding done
+done_printed [] = refl
+done_printed (label ∷ labels) = ap (λ (ls : List Label). label ∷ ls) (done_printed labels)
+
+done_happened : (labels : List Label) (more : List Entry) → happened (done labels ++ more) ≡ happened more
+unfolding done
+done_happened [] more = refl
+done_happened (label ∷ labels) more = done_happened labels more
+
+map_printed : (xs ys : List Entry) → map printed (xs ++ ys) ≡ map printed xs ++ map printed ys
+map_printed [] ys = refl
+map_printed (x ∷ xs) ys = ap (λ (ls : List Label). printed x ∷ ls) (map_printed xs ys)
+
+-- the same from any state on
+record Told (settings : machines.Settings) (s : State) (t : Trace) (text : Text) : Type 0 where
+  entries : List Entry
+  last : State
+  run : Run settings s entries last
+  rests : IsQuiet settings last
+  events : happened entries ≡ events_in t
+  is : text ≡ text_of (map printed entries) ++ (bad_text t ++ end_text last)
+
+told_event : (settings : machines.Settings) (s new : State) (number : ℕ) (event : Event) (rest : Trace) (labels : List Label) (more : Text) → IsQuiet settings s → Follows settings s event labels new → Told settings new rest more
+    → Told settings s (gives number event rest) (text_of labels ++ more)
+told_event settings s new number event rest labels more quiet h told =
+    let first : List Entry = Happens event h.first ∷ done h.more in
+    let own : map printed first ≡ labels = ap (λ (ls : List Label). h.first ∷ ls) (done_printed h.more) ∙ sym h.printed in
+    record {
+      entries = first ++ told.entries;
+      last = told.last;
+      run = run_on settings s new told.last first told.entries (h.begun, (quiet, h.happened), done_run settings h.begun new h.more h.settled) told.run;
+      rests = told.rests;
+      events = ap (λ (es : List Event). event ∷ es) (done_happened h.more told.entries ∙ told.events);
+      is =
+          ap (λ (x : Text). text_of labels ++ x) told.is
+          ∙ sym (append_assoc (text_of labels) (text_of (map printed told.entries)) (bad_text rest ++ end_text told.last))
+          ∙ ap (λ (x : Text). x ++ (bad_text rest ++ end_text told.last))
+          (sym (text_append labels (map printed told.entries)) ∙ ap (λ (ls : List Label). text_of (ls ++ map printed told.entries)) (sym own) ∙ ap text_of (sym (map_printed first told.entries)));
+    }
+
+told_prints : (settings : machines.Settings) (s : State) (t : Trace) (text : Text) → IsQuiet settings s → Prints settings s t text → Told settings s t text
+told_prints settings s (gives number event rest) text quiet (labels, new, more, follows, prints, is) =
+    let now_quiet = done_quiet settings follows.begun new follows.more follows.settled in
+    subst (λ (x : Text). Told settings s (gives number event rest) x) (sym is) (told_event settings s new number event rest labels more quiet follows (told_prints settings new rest more now_quiet prints))
+told_prints settings s ends text quiet is = record { entries = []; last = s; run = refl; rests = quiet; events = refl; is = is }
+told_prints settings s (stops number) text quiet is = record { entries = []; last = s; run = refl; rests = quiet; events = refl; is = is }
+told_prints settings s waits text quiet is = absurd is
+
+tells_run : (settings : machines.Settings) (rack : List Driver) (t : Trace) (text : Text) → Prints settings (opening rack) t text → TellsRun settings rack t text
+tells_run settings rack t text prints =
+    let told = told_prints settings (opening rack) t text refl prints in
+    record { entries = told.entries; last = told.last; run = lawful_from settings rack [] (opening rack) told.entries told.last refl told.run; rests = told.rests; events = told.events; is = told.is }
+
+tells_script : (settings : machines.Settings) (rack : List Driver) (script : Option (List ℕ)) (text : Text) → IsScriptOutput settings rack script text → TellsScript settings rack script text
+tells_script settings rack None text is = tt
+tells_script settings rack (Some script) text is = tells_run settings rack (events_of script) text is
+
+tells_by : (rack : List Driver) (budget : ℕ) (infs : Result (List Inf) InfsError) (script : Option (List ℕ)) (text : Text) → IsOutputBy rack budget infs script text → TellsBy rack budget infs script text
+tells_by rack budget (Ok infs) script text is = tells_script (machine infs budget) rack script text is
+tells_by rack budget (Err error) script text is = tt
+
+pub output_tells : (rack : List Driver) (told : Text → Option (List ℕ)) (s : Settings) (text : Text) → IsOutput rack told s text → Tells rack told s text
+output_tells rack told s text is = tells_by rack s.budget (infs_in told s.infs) (told s.script) text is
+
+-- whatever the words and the files say
+pub all_outputs_tell : (s : Option Settings) (contents : Option (Text → Option (List ℕ))) (rack : List Driver) → IfSome s (λ s. IfSome contents (λ told. (text : Text) → IsOutput rack told s text → Tells rack told s text))
+all_outputs_tell None contents rack = tt
+all_outputs_tell (Some s) None rack = tt
+all_outputs_tell (Some s) (Some told) rack = λ text is. output_tells rack told s text is
