@@ -61,9 +61,10 @@ module _ (ds ds' : Devices) (rack : List Driver) (works : List Activity) (tasks 
   plug_done born over (d, at, free, room, is) over_is tasks_is =
       let device = new_device s d.born path hw compat reqs in
       let step : plugs ≡ plug_room s device true =
-      ap (plug_below s path hw compat reqs) at ∙ ap (plug_fresh s device) free ∙ ap (plug_room s device) room in
-      (ap (λ (x : Step). x.label) (sym step),
-      rw (tasks_is, over_is d at, is, tree) refl ∙ sym (listed_is _ (node_born d.born ds.tree.nodes)) ∙ ap (λ (x : Step). x.state) (sym step))
+      ap (plug_below s path hw compat reqs) at ∙ ap (plug_fresh s device) free ∙ ap (plug_room s device) room in (
+        ap (λ (x : Step). x.label) (sym step),
+        rw (tasks_is, over_is d at, is, tree) refl ∙ sym (listed_is _ (node_born d.born ds.tree.nodes)) ∙ ap (λ (x : Step). x.state) (sym step),
+      )
 
   pub plug_no_parent : Arrives ds.world parent path hw compat reqs (Err PlugError.NoParent) ds'.world → tasks' ≡ tasks
       → IsDone plugs (Label.Refused EventWord.Plug Reason.NoParent) s'
@@ -151,9 +152,10 @@ module _ (ds : Devices) (old new : List Driver) (works : List Activity) (tasks :
           let step : teaches ≡ teach_room before d name rule true =
           ap (teach_at before name rule) found ∙ ap (teach_kind before d name rule) (scripted d.kind kind)
           ∙ ap (teach_room before d name rule) (few (length d.book) room) in
-          let changed = changed_first_at (is_named name) (with_rule rule) old k (with_rule rule d) some_driver place (ap (with_rule rule) (sym here)) in
-          (ap (Label.Did EventWord.Teach) label_is ∙ ap (λ (x : Step). x.label) (sym step),
-          ap (λ rows. state_of ds rows works tasks) (is ∙ changed) ∙ ap (λ (x : Step). x.state) (sym step))
+          let changed = changed_first_at (is_named name) (with_rule rule) old k (with_rule rule d) some_driver place (ap (with_rule rule) (sym here)) in (
+            ap (Label.Did EventWord.Teach) label_is ∙ ap (λ (x : Step). x.label) (sym step),
+            ap (λ rows. state_of ds rows works tasks) (is ∙ changed) ∙ ap (λ (x : Step). x.state) (sym step),
+          )
         where
           few : (n : ℕ) → n < 64 → nat_lt n 64 ≡ true
           few n h = grind (arith, nat_tests)
@@ -241,10 +243,11 @@ module _ (ds : Devices) (rack : List Driver) (works works' : List Activity) (tas
             by_wait : (b : Bool) → waits_for minor (phase_walk a.phase) ≡ b → CompletesIf b a ok true works works' → IsDone completes (Label.Did EventWord.Complete (complete_what n minor ok)) now
             by_wait false w (d, is) = absurd (cc)
             by_wait true w (d, is) =
-                let step = complete_by (Some a) e ∙ ap (complete_activity then n minor ok a) w in
-                (ap (λ (x : Step). x.label) (sym step),
-                ap (λ v. state_of ds rack v tasks) (is ∙ ap (λ k. changed_first (is_activity k) (with_phase (completed_phase (answer_of ok) a.phase)) works) own)
-                ∙ ap (λ (x : Step). x.state) (sym step))
+                let step = complete_by (Some a) e ∙ ap (complete_activity then n minor ok a) w in (
+                  ap (λ (x : Step). x.label) (sym step),
+                  ap (λ v. state_of ds rack v tasks) (is ∙ ap (λ k. changed_first (is_activity k) (with_phase (completed_phase (answer_of ok) a.phase)) works) own)
+                      ∙ ap (λ (x : Step). x.state) (sym step),
+                )
 
     pub complete_not : CompletesFor (activity_at n.serial works) minor ok false works works' → IsDone completes (Label.Refused EventWord.Complete Reason.NoSuchRequest) now
     complete_not h = by_work (activity_at n.serial works) refl h

@@ -73,8 +73,7 @@ module _ (ds ds' : Devices) (rack : List Driver) (works : List Activity) (tasks 
       → IsDone (list_step s k (node_at k ds.tree.nodes)) (Label.Join joined.0 joined.1) (state_of ds' rack works tasks')
   list_joined joined h tasks_is =
       let by = subst (λ o. JoinedFor o (Some joined) ds ds') at h in
-      on_started (join_step s n by.0) (Label.Join joined.0 joined.1) (state_of ds' rack works tasks') (ap (join_or_on s n) by.1)
-      (
+      on_started (join_step s n by.0) (Label.Join joined.0 joined.1) (state_of ds' rack works tasks') (ap (join_or_on s n) by.1) (
         ap (λ i. Label.Join i joined.1) by.2 ∙ ap (λ path. Label.Join ds.tree.next path) by.3,
         ap (λ (x : Devices). state_of x rack works tasks') by.4
             ∙ ap (state_of (record ds { tree = with_node (new_node ds.tree.next n.serial by.0) ds.tree }) rack works)

@@ -23,7 +23,10 @@ impl<R: Drivers> Machine<R> {
     {
         self.tasks.reserve(1)?;
         let devices = &mut self.devices;
-        match self.starts.act(self.alloc, serial, devices, &mut self.rack)? {
+        match self
+            .starts
+            .act(self.alloc, serial, devices, &mut self.rack)?
+        {
             StartStep::Did(label) => Ok(label),
             StartStep::Over(label) => Ok(label),
             StartStep::Up(label) => {

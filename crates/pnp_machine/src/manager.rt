@@ -7,6 +7,7 @@ ghost use Rattle.devnode_tree.specs.Trees.{Tree};
 ghost use Rattle.pnp_machine.specs.Machines.{IsDone, Moves, is_built, HasFewIds};
 ghost use Rattle.pnp_machine.specs.Managers.{settings, IsRunOf, KeepsLaws, LawsOf, IfQuiet};
 
+pub use crate::events::is_built;
 use crate::machine::Machine;
 use device_ids::WantOfMemory;
 use devnode_tree::Tree;
@@ -15,8 +16,6 @@ use inf_reader::Inf;
 use pnp_labels::{Event, Label};
 use std::alloc::Global;
 use std::marker::Model;
-
-pub use crate::events::is_built;
 
 /// What a step of the machine came to. This project's own.
 #[derive(Debug, Drop)]

@@ -62,7 +62,7 @@ invariant_of-self-2 g c =
       order = subst (InOrder 0) (sym items) (order_acted step k b.phase xs c.self.invariant.order);
       index = index_acted step k b.phase xs a b c.leaves.result c.drop_first.new.numbers.items c.self.invariant.order found own changed over kept ∙ ap ready_serials (sym items);
       works_room = omega (arith, c.drop_over.ensures.len, c.drop_over.ensures.capacity, c.self.invariant.works_room);
-      ready_room = omega (arith, c.drop_over.ensures.len, c.drop_first.ensures.capacity, c.self.invariant.ready_room)
+      ready_room = omega (arith, c.drop_over.ensures.len, c.drop_first.ensures.capacity, c.self.invariant.ready_room);
     }
 
 pub returns-clause-acts : goal.returns-clause-acts

@@ -56,7 +56,7 @@ invariant_of-self c =
       order = subst (InOrder 0) (sym items) (InOrder-set_phase 0 c.args.serial phase xs c.self.invariant.order);
       index = index_goes c.args.serial c.args.ok xs _ a c.note.new.numbers.items c.self.invariant.order held waits items noted;
       works_room = c.self.invariant.works_room;
-      ready_room = omega (arith, c.note.ensures.capacity, c.self.invariant.ready_room)
+      ready_room = omega (arith, c.note.ensures.capacity, c.self.invariant.ready_room);
     }
 
 pub returns : goal.returns

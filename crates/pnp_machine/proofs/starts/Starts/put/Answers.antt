@@ -32,5 +32,5 @@ invariant_of-self c =
       order = subst (InOrder 0) (sym items) (InOrder-entered 0 c.args.work xs (omega arith) c.self.invariant.order new);
       index = index_put c.args.work xs c.goes.result c.note.new.numbers.items c.self.invariant.order new c.goes.ensures noted ∙ ap ready_serials (sym items);
       works_room = omega (arith, len, c.insert.ensures.capacity, c.self.invariant.works_room);
-      ready_room = omega (arith, len, c.note.ensures.capacity, c.self.invariant.ready_room)
+      ready_room = omega (arith, len, c.note.ensures.capacity, c.self.invariant.ready_room);
     }
