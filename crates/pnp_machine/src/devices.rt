@@ -29,7 +29,7 @@ use std::marker::Model;
 pub(crate) struct Devices {
     world: World,
     tree: Tree,
-    /// The device whose children were listed last, by its birth number.
+    /// The device below which one joined last, by its birth number.
     over: u64,
     /// Of its children none that was born before this one is to join.
     from: u64,
@@ -67,8 +67,8 @@ fn only_memory(error: JoinError) -> WantOfMemory
     }
 }
 
-/// From which birth number on the children of a device are looked at, where those of another were looked at last from
-/// some number on.
+/// From which birth number on the children of a device are looked at, where of those of the last one they are looked at
+/// from some number on.
 fn from_at(over: u64, last: u64, from: u64) -> u64
     ensures { result ≡ (if over == last then from else 0) }
 {
@@ -124,19 +124,16 @@ impl Devices {
         self.world.plug(parent, path, hw, compat, reqs)
     }
 
-    /// The first device that is to join below a node. It looks on from where it was before.
-    fn next_to_join(&mut self, serial: u64) -> Option<u64>
-        requires { IsSome (node_at serial self.old.tree.nodes) }
-        ensures next { result ≡ joins_next (node_at serial self.old.tree.nodes) self.old }
-        ensures same { self.new ≡ self.old }
+    /// The first device that is to join below a node. Below the node where one joined last it looks on from that one.
+    fn next_to_join(&self, serial: u64) -> Option<u64>
+        requires { IsSome (node_at serial self.now.tree.nodes) }
+        ensures { result ≡ joins_next (node_at serial self.now.tree.nodes) self.now }
     {
         let Some(node) = self.tree.node(serial) else {
             unreachable!()
         };
-        let over = node.born;
-        self.from = from_at(over, self.over, self.from);
-        self.over = over;
-        next_join(&self.world, &self.tree, serial, self.from)
+        let from = from_at(node.born, self.over, self.from);
+        next_join(&self.world, &self.tree, serial, from)
     }
 
     /// The first device that is to join below a node joins, and its serial and path are told; none where none is to.
