@@ -1,13 +1,12 @@
 -- A step of a start, as the machine's step.
-use Rattle.std.proofs.Common.{◌≡◌, ℕ, true, false, List, [], ◌∷◌, ◌++◌, find, Option, Some, None, refl, sym, ◌∙◌, ap, subst, option_map, IsSome, is_some}
+use Rattle.std.proofs.Common.{◌≡◌, ℕ, List, [], ◌∷◌, ◌++◌, find, Option, Some, None, refl, sym, ◌∙◌, ap, subst, option_map, IsSome, is_some}
 use Rattle.pnp_labels.specs.declared.label.Label.{Label}
 use Rattle.pnp_model.specs.Cores.{node_at}
-use Rattle.pnp_model.specs.Keyed.{changed_first, without_first}
 use Rattle.pnp_model.specs.Machine.{IsStep, idle_next, activity_next, start_lifted, is_ready}
-use Rattle.pnp_model.specs.Records.{Node, Core, Driver, Activity, Phase, State, Step, Settings, Task, Doing, doing_map, Duty, Found}
+use Rattle.pnp_model.specs.Records.{Node, Core, Driver, Activity, Phase, State, Settings, Task, Doing, doing_map, Duty}
 use Rattle.pnp_model.specs.Records.Doing.{Does, Searches}
 use Rattle.pnp_model.specs.Starts.{StartMove, StartBeside, act}
-use Rattle.pnp_model.specs.States.{activity_at, is_activity, with_phase}
+use Rattle.pnp_model.specs.States.{activity_at}
 use Rattle.pnp_laws.specs.Kept.{IsGood}
 use Rattle.pnp_laws.proofs.Lookups.{own_serial, ready_found}
 use Rattle.start_sequence.specs.Steps.{core_of, Moved, Done, DoneFor}

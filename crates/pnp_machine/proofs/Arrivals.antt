@@ -1,13 +1,12 @@
 -- What an arrival does to the world, and what is kept of devices and nodes.
-use Rattle.std.proofs.Common.{◌≡◌, ℕ, ◌+◌, ◌<◌, ◌≤◌, ◌==◌, ◌↔◌, Bool, true, false, not, ◌&&◌, ◌||◌, cond, List, [], ◌∷◌, ◌++◌, length, map, Option, Some, None, Result, Ok, Err, IfOk, IfSome, OnOk, OnErr, IsErrOf, IsSome, nat_le, refl, sym, ◌∙◌, ap, subst, arith, option_map}
-use Rattle.std.specs.List.{AllByRecursion, list_any}
+use Rattle.std.proofs.Common.{◌≡◌, ℕ, ◌+◌, ◌<◌, ◌≤◌, ◌↔◌, true, List, [], ◌∷◌, ◌++◌, length, Option, Some, None, Result, Ok, Err, IfSome, OnOk, OnErr, IsErrOf, IsSome, nat_le, refl, sym, ap, subst, arith}
+use Rattle.std.specs.List.{AllByRecursion}
 use Rattle.std.proofs.lemmas.Bool.Decides.{nat_tests}
 use Rattle.resource_reqs.specs.Resources.{Reqs}
 use Rattle.pnp_labels.specs.Texts.{Text}
 use Rattle.pnp_model.specs.Records.{Device, Node}
 use Rattle.pnp_model.specs.States.{device_of, is_in_world}
-use Rattle.pnp_model.specs.Tasks.{joins, has_born, has_path}
-use Rattle.devnode_tree.specs.Identities.{Identity, identity, identities}
+use Rattle.devnode_tree.specs.Identities.{Identity, identities}
 use Rattle.devnode_tree.specs.Trees.{Tree}
 use Rattle.script_bus.specs.Worlds.{World, plugged}
 use Rattle.script_bus.specs.declared.error.PlugError.{PlugError}

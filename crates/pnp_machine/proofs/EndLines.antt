@@ -1,5 +1,5 @@
 -- The lines of the end of the output: the tree, what is held, and what is outstanding.
-use Rattle.std.proofs.Common.{◌≡◌, ◌≢◌, ℕ, zero, suc, ◌+◌, ◌<◌, ◌≤◌, ◌==◌, Bool, true, false, cond, List, [], ◌∷◌, ◌++◌, Option, Some, None, find, map, length, refl, sym, ◌∙◌, ap, subst, arith, append_assoc, append-nil, get_or, add-one, nat_lt}
+use Rattle.std.proofs.Common.{◌≡◌, ℕ, zero, suc, ◌+◌, ◌<◌, ◌≤◌, ◌==◌, Bool, true, false, cond, List, [], ◌∷◌, ◌++◌, Option, Some, None, map, length, refl, sym, ◌∙◌, ap, subst, arith, append_assoc, nat_lt}
 use Rattle.std.specs.List.{AllByRecursion}
 use Rattle.std.specs.Prelude.{codes, slice_get, drop}
 use Rattle.std.proofs.lemmas.Bool.Decides.{nat_tests}
@@ -11,9 +11,8 @@ use Rattle.pnp_model.specs.Machine.{phase_walk}
 use Rattle.pnp_model.specs.Records.{Node, Driver, Activity, State, Task, Walk}
 use Rattle.pnp_model.specs.Trees.{children, is_child}
 use Rattle.pnp_laws.specs.Kept.{InOrder}
-use Rattle.pnp_laws.proofs.Lookups.{InOrder-weaker}
 use Rattle.devnode_tree.specs.Rows.{row_of}
-use Rattle.devnode_tree.specs.Trees.{Ascends, Tree, IsTree}
+use Rattle.devnode_tree.specs.Trees.{Ascends, Tree}
 use Rattle.devnode_tree.specs.declared.print.PrintRow.{PrintRow}
 use Rattle.start_sequence.specs.Steps.{core_of, HoldsNothing}
 use Rattle.pnp_machine.specs.Devices.{Devices}

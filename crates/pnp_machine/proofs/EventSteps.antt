@@ -1,5 +1,5 @@
 -- What the parts of the machine do at an event, as what happens by its definition.
-use Rattle.std.proofs.Common.{◌≡◌, ◌≢◌, ℕ, ◌+◌, ◌<◌, ◌≤◌, ◌==◌, Bool, true, false, ◌&&◌, cond, List, [], ◌∷◌, ◌++◌, find, length, position, Option, Some, None, Result, Ok, Err, get_or, nat_lt, nat_le, refl, sym, ◌∙◌, ap, subst, arith, option_map, slice_get, slice_set}
+use Rattle.std.proofs.Common.{◌≡◌, ◌≢◌, ℕ, ◌+◌, ◌<◌, ◌≤◌, ◌==◌, Bool, true, false, cond, List, [], ◌∷◌, ◌++◌, find, length, Option, Some, None, Ok, Err, get_or, nat_lt, refl, sym, ◌∙◌, ap, subst, arith, option_map, slice_get}
 use Rattle.std.proofs.lemmas.Bool.Decides.{nat_tests}
 use Rattle.std.proofs.lemmas.Option.{get_or_from_slice_get}
 use Rattle.device_ids.specs.Folding.{same}
@@ -12,7 +12,7 @@ use Rattle.pnp_labels.specs.declared.label.Label.{Label}
 use Rattle.pnp_labels.specs.declared.label.Reason.{Reason}
 use Rattle.pnp_labels.specs.declared.words.DriverKind.{DriverKind}
 use Rattle.pnp_labels.specs.declared.words.Minor.{Minor}
-use Rattle.pnp_model.specs.Books.{is_named, is_unnamed, with_name, name_or_none, printed_name, driver_named, name_of}
+use Rattle.pnp_model.specs.Books.{is_named, is_unnamed, name_or_none, printed_name, driver_named, name_of}
 use Rattle.pnp_model.specs.Cores.{node_at, serials_of}
 use Rattle.pnp_model.specs.Keyed.{changed_first}
 use Rattle.pnp_model.specs.Events.{happens, plug_below, plug_fresh, plug_room, new_device, name_at, name_free, teach_at, teach_kind, teach_room, with_rule, complete_at, complete_active, complete_activity, complete_what, waits_for, completed_phase, answer_of}
@@ -21,10 +21,9 @@ use Rattle.pnp_model.specs.Records.{Device, Node, Driver, Activity, State, Step,
 use Rattle.pnp_model.specs.States.{device_of, node_born, node_of, activity_at, is_activity, with_phase, list_node}
 use Rattle.pnp_model.specs.Tests.{is_scripted}
 use Rattle.pnp_model.proofs.Keyed.{find_from_position, find_from_none, changed_first_at}
-use Rattle.driver_rack.specs.Rows.{Named, Taught, TaughtOne}
+use Rattle.driver_rack.specs.Rows.{Named, TaughtOne}
 use Rattle.driver_rack.specs.declared.errors.NameError.TheVariants as NameError
 use Rattle.driver_rack.specs.declared.errors.TeachError.{TeachError}
-use Rattle.driver_rack.specs.declared.errors.TeachError.TheVariants as TeachError
 use Rattle.script_bus.specs.declared.error.PlugError.TheVariants as PlugError
 use Rattle.devnode_tree.specs.Trees.{Ascends}
 use Rattle.script_bus.proofs.Unplugs.{by_bool}

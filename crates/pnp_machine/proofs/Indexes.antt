@@ -1,9 +1,7 @@
 -- The index of the starts, from the lists that a call leaves.
-use Rattle.std.proofs.Common.{◌≡◌, ℕ, zero, suc, ◌+◌, ◌<◌, ◌≤◌, ◌==◌, Bool, true, false, not, ◌&&◌, cond, List, [], ◌∷◌, length, remove, set, get_or, position, find, Option, Some, None, Result, Ok, Err, refl, sym, ◌∙◌, ap, subst, arith, nat_lt, option_map, slice_get, if◌then◌else◌}
-use Rattle.std.proofs.lemmas.Bool.Decides.{nat_tests}
+use Rattle.std.proofs.Common.{◌≡◌, ℕ, zero, suc, ◌<◌, ◌==◌, Bool, true, false, not, ◌&&◌, cond, List, [], ◌∷◌, length, remove, set, get_or, position, find, Option, Some, None, Result, Ok, Err, refl, sym, ◌∙◌, ap, subst, arith, nat_lt, option_map, slice_get, if◌then◌else◌}
 use Rattle.device_stack.specs.declared.walk.NoSuchRequest.{NoSuchRequest}
 use Rattle.pnp_labels.specs.declared.words.Minor.{Minor}
-use Rattle.pnp_model.specs.Cores.{node_at}
 use Rattle.pnp_model.specs.Keyed.{changed_first, without_first, put_before}
 use Rattle.pnp_model.specs.Records.{Node, Activity, Driver, Phase, Walk}
 use Rattle.pnp_model.specs.Records.Phase.{Adding, Searching, Starting, Removing, Due}
@@ -19,7 +17,7 @@ use Rattle.start_sequence.specs.Steps.{Acts}
 use Rattle.start_sequence.specs.Works.{CompletedWork, CompletesWork}
 use Rattle.start_sequence.specs.declared.next.StartStep.{StartStep}
 use Rattle.start_sequence.specs.declared.next.StartStep.TheVariants.{Did, Up, Over}
-use Rattle.pnp_machine.specs.Starts.{serials_of, ready_serials, first_ready, is_over, leaves, works_after, ActsFor, ActsBy, CompletesFor, CompletesIf}
+use Rattle.pnp_machine.specs.Starts.{ready_serials, first_ready, is_over, leaves, works_after, ActsFor, CompletesFor, CompletesIf}
 use Rattle.pnp_machine.proofs.Ready.{first_of, ready_short, ready_stays, ready_waits, ready_ends, ready_enters, ready_same, ready_goes}
 
 -- The first -------------------------------------------------------------------------

@@ -1,5 +1,5 @@
 -- Where a member stands in a list whose keys ascend.
-use Rattle.std.proofs.Common.{◌≡◌, ℕ, zero, suc, ◌+◌, ◌<◌, ◌≤◌, Bool, true, false, List, [], ◌∷◌, length, get_or, map, insert, refl, sym, ap, subst, arith, nat_le, nat_lt}
+use Rattle.std.proofs.Common.{◌≡◌, ℕ, zero, suc, ◌+◌, ◌<◌, ◌≤◌, true, false, List, [], ◌∷◌, length, get_or, map, insert, refl, sym, ap, subst, arith, nat_le, nat_lt}
 use Rattle.std.specs.List.Sorted.{IsPartitionedBy, IsNonDecreasingBy}
 use Rattle.std.proofs.lemmas.Bool.Decides.{nat_tests}
 use Rattle.std.proofs.lemmas.List.Sorted.{IsPartitionedBy-leb}

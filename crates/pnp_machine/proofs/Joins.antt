@@ -1,14 +1,14 @@
 -- Which device joins next, and what is kept when it does.
-use Rattle.std.proofs.Common.{◌≡◌, ℕ, ◌+◌, ◌<◌, ◌≤◌, ◌==◌, Bool, true, false, not, ◌&&◌, ◌||◌, cond, List, [], ◌∷◌, ◌++◌, length, map, find, Option, Some, None, IsSome, IfSome, IsTrue, nat_le, refl, sym, ◌∙◌, ap, ap₂, subst, arith, option_map}
+use Rattle.std.proofs.Common.{◌≡◌, ℕ, ◌+◌, ◌<◌, ◌≤◌, ◌==◌, Bool, true, false, not, ◌&&◌, ◌||◌, cond, List, [], ◌∷◌, ◌++◌, find, Option, Some, None, IfSome, IsTrue, nat_le, refl, sym, ◌∙◌, ap, ap₂, subst, arith, option_map}
 use Rattle.std.specs.List.{AllByRecursion, list_any}
 use Rattle.std.proofs.lemmas.Bool.Decides.{nat_tests}
 use Rattle.device_ids.specs.Folding.{same}
 use Rattle.pnp_labels.specs.Texts.{Text}
-use Rattle.pnp_model.specs.Cores.{node_at, new_node, fresh_node, is_node}
+use Rattle.pnp_model.specs.Cores.{node_at, new_node, fresh_node}
 use Rattle.pnp_model.specs.Records.{Device, Node}
 use Rattle.pnp_model.specs.States.{device_born, is_in_world}
 use Rattle.pnp_model.specs.Tasks.{joins, joining, has_born, has_path}
-use Rattle.devnode_tree.specs.Identities.{Identity, identity, identities}
+use Rattle.devnode_tree.specs.Identities.{identity, identities}
 use Rattle.devnode_tree.specs.Trees.{Tree, with_node, Ascends}
 use Rattle.devnode_tree.specs.declared.error.JoinError.{JoinError}
 use Rattle.devnode_tree.specs.declared.error.JoinError.TheVariants as errors

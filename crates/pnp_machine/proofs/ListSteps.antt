@@ -1,21 +1,21 @@
 -- A step of the task that lists a device's children, as the machine's step.
-use Rattle.std.proofs.Common.{◌≡◌, ◌≢◌, ℕ, ◌==◌, Bool, true, false, not, ◌&&◌, cond, List, [], ◌∷◌, ◌++◌, find, drop, Option, Some, None, refl, sym, ◌∙◌, ap, subst}
-use Rattle.std.specs.List.{AllByRecursion, list_any}
+use Rattle.std.proofs.Common.{◌≡◌, ℕ, true, false, cond, List, [], ◌∷◌, ◌++◌, find, drop, Some, None, refl, sym, ◌∙◌, ap, subst}
+use Rattle.std.specs.List.{AllByRecursion}
 use Rattle.pnp_labels.specs.Texts.{Text}
 use Rattle.pnp_labels.specs.declared.label.Label.{Label}
 use Rattle.pnp_labels.specs.declared.states.DevState.{DevState}
 use Rattle.pnp_labels.specs.declared.states.DevState.TheVariants.{NoStack, NotStarted, Started, StopPending, Stopped, RemovePending, SurpriseRemoved}
 use Rattle.pnp_model.specs.Cores.{node_at, new_node}
 use Rattle.pnp_model.specs.Keyed.{those}
-use Rattle.pnp_model.specs.Records.{Device, Node, Driver, Activity, State, Step, Task, Duty}
+use Rattle.pnp_model.specs.Records.{Node, Driver, Activity, State, Step, Task}
 use Rattle.pnp_model.specs.Records.Duty.{Listing, Starting}
 use Rattle.pnp_model.specs.States.{is_in_world}
-use Rattle.pnp_model.specs.Tasks.{skip, list_step, list_up, join_or_on, join_step, gone_or_listed, gone_child, is_gone, joining}
+use Rattle.pnp_model.specs.Tasks.{skip, list_step, list_up, join_or_on, join_step, gone_or_listed, is_gone, joining}
 use Rattle.pnp_model.specs.Tests.{is_started}
 use Rattle.pnp_model.specs.Trees.{children, is_child}
 use Rattle.pnp_laws.proofs.Lookups.{own_serial}
 use Rattle.devnode_tree.specs.Trees.{with_node}
-use Rattle.pnp_machine.specs.Devices.{Devices, AllStay, JoinedFor, JoinedBy}
+use Rattle.pnp_machine.specs.Devices.{Devices, AllStay, JoinedFor}
 use Rattle.pnp_machine.specs.Machines.{state_of, IsDone}
 
 pub list_none : (s : State) (k : ℕ) (label : Label) (t : State) → node_at k s.core.nodes ≡ None → IsDone (skip Listing k s) label t

@@ -1,21 +1,19 @@
 -- Which step is next, and when none is.
-use Rattle.std.proofs.Common.{◌≡◌, ℕ, Bool, true, false, List, [], ◌∷◌, find, Option, Some, None, refl, sym, ◌∙◌, ap, subst, option_map, slice_get, is_some}
+use Rattle.std.proofs.Common.{◌≡◌, ℕ, true, List, find, Option, Some, None, refl, sym, ◌∙◌, ap, subst, option_map, slice_get, is_some}
 use Rattle.pnp_labels.specs.declared.label.Label.{Label}
-use Rattle.inf_reader.specs.declared.parts.Inf.{Inf}
 use Rattle.pnp_model.specs.Cores.{node_at}
 use Rattle.pnp_model.specs.Machine.{Steps, IsStep, IsQuiet, idle_next, task_next, activity_next, next, is_ready}
-use Rattle.pnp_model.specs.Records.{Node, Driver, Activity, State, Step, Settings, Task, Doing}
-use Rattle.pnp_model.specs.Records.Doing.{Does, Searches}
+use Rattle.pnp_model.specs.Records.{Driver, Activity, State, Step, Settings, Task, Doing}
+use Rattle.pnp_model.specs.Records.Doing.{Does}
 use Rattle.pnp_model.specs.Tasks.{list_step, start_step}
 use Rattle.pnp_laws.specs.Kept.{IsGood}
 use Rattle.pnp_laws.proofs.Lookups.{ready_found}
 use Rattle.pnp_machine.specs.Devices.{Devices}
-use Rattle.pnp_machine.specs.Machines.{state_of, IsDone, IsDoing, Moves}
+use Rattle.pnp_machine.specs.Machines.{state_of, IsDone, IsDoing}
 use Rattle.pnp_machine.specs.Starts.{first_ready}
-use Rattle.pnp_machine.specs.Tasks.{duty_of, task_of, IsFirst}
+use Rattle.pnp_machine.specs.Tasks.{IsFirst}
 use Rattle.pnp_machine.specs.declared.task.Duty.{Duty}
 use Rattle.pnp_machine.specs.declared.task.Duty.TheVariants.{List as Lists, Start}
-use Rattle.pnp_machine.specs.declared.manager.Moved.TheVariants.{Label as Printed, Quiet}
 
 none_mapped : (o : Option Activity) → option_map (λ (a : Activity). a.serial) o ≡ None → o ≡ None
 none_mapped None h = refl

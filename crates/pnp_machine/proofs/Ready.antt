@@ -1,12 +1,12 @@
 -- The index of the starts that do not wait, after each change.
-use Rattle.std.proofs.Common.{◌≡◌, ◌≢◌, ℕ, zero, suc, ◌+◌, ◌<◌, ◌≤◌, ◌==◌, Bool, true, false, cond, List, [], ◌∷◌, length, map, remove, find, Option, Some, None, refl, sym, ◌∙◌, ap, subst, arith, nat_lt, option_map, slice_get}
+use Rattle.std.proofs.Common.{◌≡◌, ℕ, suc, ◌+◌, ◌<◌, ◌≤◌, ◌==◌, Bool, true, false, cond, List, [], ◌∷◌, length, remove, find, Option, Some, None, refl, sym, ◌∙◌, ap, subst, arith, nat_lt, option_map, slice_get}
 use Rattle.std.proofs.lemmas.Bool.Decides.{nat_tests}
 use Rattle.pnp_model.specs.Keyed.{changed_first, without_first, put_before, those}
 use Rattle.pnp_model.specs.Records.{Activity, Phase}
-use Rattle.pnp_model.specs.States.{is_activity, activity_at, with_phase, entered, is_above}
+use Rattle.pnp_model.specs.States.{is_activity, activity_at, with_phase, entered}
 use Rattle.pnp_model.specs.Machine.{is_ready}
 use Rattle.pnp_laws.specs.Kept.{InOrder}
-use Rattle.pnp_laws.proofs.Lookups.{own_activity, no_activity_below, ready_found}
+use Rattle.pnp_laws.proofs.Lookups.{ready_found}
 use Rattle.devnode_tree.specs.Trees.{Ascends}
 use Rattle.devnode_tree.proofs.Ascending.{ascends_lower}
 use Rattle.script_bus.proofs.Unplugs.{by_bool}

@@ -1,11 +1,11 @@
 -- What a manager keeps, and what holds of each of its steps and events: the laws of runs.
-use Rattle.std.proofs.Common.{◌≡◌, Result, Ok, Err, IfOk, OnErr, ℕ, zero, suc, ◌+◌, ◌*◌, ◌<◌, ◌≤◌, ◌^◌, List, [], ◌∷◌, ◌++◌, length, refl, sym, ◌∙◌, ap, subst, arith}
+use Rattle.std.proofs.Common.{◌≡◌, Result, Ok, Err, IfOk, OnErr, ℕ, ◌+◌, ◌<◌, ◌≤◌, ◌^◌, List, [], ◌∷◌, ◌++◌, refl, sym, ◌∙◌, ap, subst, arith}
 use Rattle.std.specs.declared.alloc.AllocError.{AllocError}
 use Rattle.inf_reader.specs.declared.parts.Inf.{Inf}
 use Rattle.pnp_labels.specs.declared.event.Event.{Event}
 use Rattle.pnp_labels.specs.declared.label.Label.{Label}
 use Rattle.pnp_model.specs.Events.{happens}
-use Rattle.pnp_model.specs.Machine.{IsQuiet, Steps}
+use Rattle.pnp_model.specs.Machine.{IsQuiet}
 use Rattle.pnp_model.specs.Records.{Driver, Settings, State, Step}
 use Rattle.pnp_model.specs.Runs.{Entry, Goes, opening, printed}
 use Rattle.pnp_model.specs.Laws.{Reaches}
@@ -20,7 +20,7 @@ use Rattle.pnp_laws.proofs.RunsStand.{dependents_go_first, every_run_follows}
 use Rattle.pnp_laws.proofs.RunsWhole.{all_hold_whole}
 use Rattle.start_sequence.specs.Begins.{settings_of}
 use Rattle.pnp_machine.specs.Machines.{IsDone, Moves}
-use Rattle.pnp_machine.specs.Managers.{IsRunOf, IsManager, KeepsLaws, LawsOf}
+use Rattle.pnp_machine.specs.Managers.{IsRunOf, KeepsLaws, LawsOf}
 use Rattle.pnp_machine.specs.declared.manager.Moved.{Moved}
 use Rattle.pnp_machine.specs.declared.manager.Moved.TheVariants.{Label as Printed, Quiet}
 

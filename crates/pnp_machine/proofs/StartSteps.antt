@@ -1,5 +1,5 @@
 -- The task that starts a device, as the machine's step.
-use Rattle.std.proofs.Common.{◌≡◌, ◌≢◌, ℕ, Bool, true, false, ◌&&◌, List, [], ◌∷◌, drop, Option, Some, None, is_none, refl, sym, ◌∙◌, ap, subst}
+use Rattle.std.proofs.Common.{◌≡◌, ℕ, Bool, true, false, ◌&&◌, List, drop, Option, Some, None, is_none, refl, sym, ◌∙◌, ap, subst}
 use Rattle.pnp_labels.specs.declared.label.Label.{Label}
 use Rattle.pnp_labels.specs.declared.states.DevState.{DevState}
 use Rattle.pnp_labels.specs.declared.states.DevState.TheVariants.{NoStack, NotStarted, Started, StopPending, Stopped, RemovePending, SurpriseRemoved}
@@ -7,7 +7,7 @@ use Rattle.inf_reader.specs.declared.parts.Inf.{Inf}
 use Rattle.pnp_model.specs.Cores.{node_at}
 use Rattle.pnp_model.specs.Records.{Node, Driver, Activity, Settings, State, Step, Task}
 use Rattle.pnp_model.specs.Records.Duty.{Starting}
-use Rattle.pnp_model.specs.States.{activity_at, entered, drop_task}
+use Rattle.pnp_model.specs.States.{activity_at, entered}
 use Rattle.pnp_model.specs.Tasks.{skip, start_step, start_bare, start_idle, start_enabled}
 use Rattle.pnp_model.specs.Tests.{is_no_stack}
 use Rattle.pnp_laws.proofs.Lookups.{own_serial}

@@ -10,7 +10,6 @@ use Rattle.pnp_model.specs.Records.{Node, Driver, Activity, Doing, Settings, Sta
 use Rattle.pnp_machine.specs.Devices.{Devices}
 use Rattle.pnp_machine.specs.declared.manager.Moved.{Moved}
 use Rattle.pnp_machine.specs.declared.manager.Moved.TheVariants.{Label as Printed, Quiet}
-use Rattle.pnp_labels.specs.declared.event.Event.TheVariants as Event
 
 -- until the operations are built none runs, and nothing is related, reserved or disabled
 abbrev pub state_of : Devices → List Driver → List Activity → List Task → State

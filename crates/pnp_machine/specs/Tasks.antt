@@ -1,5 +1,5 @@
 -- What a task is for, in the words of the machine.
-use Rattle.std.specs.Prelude.{◌≡◌, ℕ, List as Listed, Option, Some, None, slice_get, option_map}
+use Rattle.std.specs.Prelude.{◌≡◌, ℕ, List as Listed, Option, slice_get, option_map}
 use Rattle.pnp_model.specs.Records as machines
 use Rattle.pnp_machine.specs.declared.task.Duty.{Duty}
 use Rattle.pnp_machine.specs.declared.task.Duty.TheVariants.{List, Start}

@@ -1,4 +1,4 @@
-use Rattle.std.proofs.Common.{◌≡◌, ◌∙◌, ◌<◌}
+use Rattle.std.proofs.Common.{◌∙◌}
 use Rattle.std.proofs.lemmas.Option.{slice_get-get_or}
 use Rattle.pnp_machine.proofs.EndLines.{tree_next}
 use Rattle.pnp_machine.proofs.ending.add_tree.Goals as goal

@@ -1,4 +1,4 @@
-use Rattle.std.proofs.Common.{◌≡◌, ◌∙◌, ap, sym, Some, None, Err, arith, refl}
+use Rattle.std.proofs.Common.{◌∙◌, ap, sym, Err, arith, refl}
 use Rattle.std.specs.Option.{option_copied}
 use Rattle.pnp_model.specs.Records.{Node}
 use Rattle.script_bus.specs.declared.device.Device as shown

@@ -1,7 +1,5 @@
 use Rattle.std.proofs.Common.{ap, sym}
-use Rattle.std.specs.List.{AllByRecursion}
 use Rattle.pnp_model.specs.Records.{Node}
-use Rattle.pnp_machine.specs.Devices.{NotJoining}
 use Rattle.pnp_machine.proofs.Joins.{kept_at, next_of}
 use Rattle.pnp_machine.proofs.devices.Devices.next_to_join.Goals as goal
 

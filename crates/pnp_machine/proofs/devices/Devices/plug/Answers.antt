@@ -1,4 +1,3 @@
-use Rattle.std.proofs.Common.{refl}
 use Rattle.pnp_machine.proofs.Arrivals.{arrives, kept_arrival}
 use Rattle.pnp_machine.proofs.devices.Devices.plug.Goals as goal
 

@@ -1,6 +1,5 @@
-use Rattle.std.proofs.Common.{◌≡◌, ◌∙◌, sym, ap, subst, Some, Bool, true, false, [], ◌∷◌}
+use Rattle.std.proofs.Common.{◌≡◌, ◌∙◌, sym, ap, subst, Bool, true, false}
 use Rattle.std.specs.Option.{option_copied}
-use Rattle.pnp_labels.specs.Texts.{spaced}
 use Rattle.pnp_model.specs.Events.{complete_what}
 use Rattle.pnp_model.specs.Records.{Node}
 use Rattle.pnp_model.specs.States.{node_of, activity_at}

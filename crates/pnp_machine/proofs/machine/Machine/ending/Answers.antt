@@ -1,4 +1,3 @@
-use Rattle.std.proofs.Common.{◌∙◌, ap, sym}
 use Rattle.pnp_machine.proofs.EndLines.{ending_is}
 use Rattle.pnp_machine.proofs.machine.Machine.ending.Goals as goal
 

@@ -1,4 +1,4 @@
-use Rattle.std.proofs.Common.{◌≡◌, ◌∙◌, sym, ap, subst, drop, Some, None, Option}
+use Rattle.std.proofs.Common.{◌≡◌, ◌∙◌, sym, ap, subst, drop, Some}
 use Rattle.pnp_model.specs.Cores.{node_at}
 use Rattle.pnp_model.specs.Records.{Node, State}
 use Rattle.pnp_model.specs.Tests.{is_started}

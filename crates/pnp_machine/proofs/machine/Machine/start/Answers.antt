@@ -1,8 +1,6 @@
-use Rattle.std.proofs.Common.{◌≡◌, ◌∙◌, sym, ap, subst, Some, None}
-use Rattle.pnp_model.specs.Cores.{node_at}
-use Rattle.pnp_model.specs.Records.{State}
+use Rattle.std.proofs.Common.{◌∙◌, sym, ap, Some, None}
 use Rattle.pnp_model.specs.States.{entered}
-use Rattle.start_sequence.specs.Begins.{settings_of, BegunFor}
+use Rattle.start_sequence.specs.Begins.{settings_of}
 use Rattle.pnp_machine.proofs.StartSteps.{start_skipped, started}
 use Rattle.pnp_machine.proofs.machine.Machine.start.Goals as goal
 

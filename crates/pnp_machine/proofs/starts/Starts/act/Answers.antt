@@ -1,13 +1,12 @@
 use Rattle.std.proofs.Common.{◌≡◌, ◌∙◌, sym, ap, subst, arith, length, position, Some}
 use Rattle.std.specs.Option.{IsSome}
 use Rattle.pnp_model.specs.Cores.{node_at}
-use Rattle.pnp_model.specs.Records.{Activity}
 use Rattle.pnp_model.specs.States.{is_activity, with_phase}
 use Rattle.pnp_model.specs.Machine.{phase_walk, is_waiting, is_ready}
 use Rattle.pnp_model.proofs.Keyed.{find_from_position, find_from_none}
 use Rattle.pnp_laws.specs.Kept.{InOrder}
 use Rattle.pnp_laws.proofs.Lookups.{own_activity}
-use Rattle.pnp_machine.specs.Starts.{ready_serials, works_after}
+use Rattle.pnp_machine.specs.Starts.{ready_serials}
 use Rattle.pnp_machine.proofs.Indexes.{first_there, ready_at, find_passes, goes_not_waits, some_ready, works_acted, index_acted, order_acted, acts_for}
 use Rattle.pnp_machine.proofs.starts.Starts.act.Goals as goal
 

@@ -1,14 +1,12 @@
-use Rattle.std.proofs.Common.{◌≡◌, ◌∙◌, sym, ap, subst, arith, length, position, Some, true, false, not}
+use Rattle.std.proofs.Common.{◌≡◌, ◌∙◌, sym, ap, subst, arith, length, position, Some, not}
 use Rattle.devnode_tree.specs.Trees.{Ascends}
-use Rattle.pnp_model.specs.Keyed.{changed_first}
-use Rattle.pnp_model.specs.Records.{Activity}
-use Rattle.pnp_model.specs.States.{is_activity, activity_at, with_phase}
-use Rattle.pnp_model.specs.Machine.{phase_walk, is_waiting}
-use Rattle.pnp_model.specs.Events.{waits_for, completed_phase, answer_of}
+use Rattle.pnp_model.specs.States.{is_activity, with_phase}
+use Rattle.pnp_model.specs.Machine.{phase_walk}
+use Rattle.pnp_model.specs.Events.{completed_phase, answer_of}
 use Rattle.pnp_model.proofs.Keyed.{find_from_position, find_from_none, changed_first_at}
 use Rattle.pnp_laws.specs.Kept.{InOrder}
 use Rattle.pnp_laws.proofs.Lookups.{InOrder-set_phase}
-use Rattle.pnp_machine.proofs.Ready.{ready_short, ready_ascends}
+use Rattle.pnp_machine.proofs.Ready.{ready_ascends}
 use Rattle.pnp_machine.proofs.Indexes.{waits_then, ready_fewer, completed_work, index_goes, completes, completes_not, completes_none}
 use Rattle.pnp_machine.proofs.starts.Starts.complete.Goals as goal
 
