@@ -25,14 +25,13 @@ fn is_from_bottom(minor: Minor) -> bool
 
 /// The place in the stack of the driver that is asked after so many.
 pub(crate) fn place_of(minor: Minor, drivers: u64, asked: u64) -> u64
-    requires { asked < drivers }
     ensures place { result ≡ place_of minor drivers asked }
-    ensures within { result < drivers }
+    ensures within { asked < drivers → result < drivers }
 {
     if is_from_bottom(minor) {
         asked
     } else {
-        drivers - 1 - asked
+        drivers.saturating_sub(1).saturating_sub(asked)
     }
 }
 

@@ -1,7 +1,7 @@
 ghost use Rattle.std.specs.Prelude.{◌≡◌, ◌<◌, length, false, IfOk, OnErr};
 ghost use Rattle.pnp_model.specs.Walks.{walk_of, is_bad, has_ended, after};
 ghost use Rattle.device_stack.specs.Steps.{went, waits_at, Completed};
-ghost use Rattle.device_stack.specs.Passing.{driver_next, Passes};
+ghost use Rattle.device_stack.specs.Passing.{front, driver_next, Passes};
 
 use crate::ask::{ask_driver, driver_name};
 use crate::rules::{answer_of, may_fail, place_of, shown_of, verdict};
@@ -139,6 +139,19 @@ impl Walk {
         }
         let pos = place_of(self.minor, stack.len(), self.asked);
         Some(*stack.get(pos))
+    }
+
+    /// The driver that owes the answer where the request waits, by its number in the rack; 0 where the stack has no
+    /// driver at its place.
+    pub fn driver_in_turn(&self, stack: &Stack) -> u32
+        ensures { result ≡ front self.now.walk stack.now }
+    {
+        let pos = place_of(self.minor, stack.len(), self.asked);
+        if pos < stack.len() {
+            *stack.get(pos)
+        } else {
+            0
+        }
     }
 
     /// One step: where it waits, nothing changes, and the place is told; else where it has ended, nothing changes,

@@ -26,7 +26,7 @@ pub born_there : (path : Text) (ds : List Device) (born : ℕ) → Some born ≡
 born_there path ds born e = found_any (λ d. d.born == born) ds ∙ found_in _ ds born (sym e)
 
 -- birth numbers differ, so a device is found again by its own
-found_again : (p : Device → Bool) (low : ℕ) (ds : List Device) → Ascends low (births_of ds) → (d : Device) → find p ds ≡ Some d → device_born d.born ds ≡ Some d
+pub found_again : (p : Device → Bool) (low : ℕ) (ds : List Device) → Ascends low (births_of ds) → (d : Device) → find p ds ≡ Some d → device_born d.born ds ≡ Some d
 found_again p low [] asc d = λ e. absurd (cc)
 found_again p low (e ∷ ds) asc d =
     by_bool (λ b. cond b (Some e) (find p ds) ≡ Some d → device_born d.born (e ∷ ds) ≡ Some d) (p e)

@@ -222,7 +222,8 @@ impl World {
     /// What the device with a birth number shows, and none exactly where no device has it. Cost: the logarithm of the
     /// number of devices.
     pub fn part(&self, born: u64) -> Option<&Device>
-        ensures { option_copied result ≡ option_map part_of (device_born born self.now.devices) }
+        ensures part { option_copied result ≡ option_map part_of (device_born born self.now.devices) }
+        ensures world { IsWorld self.now }
     {
         match self.places.node(born) {
             Some(_) => self.parts.get(&born),

@@ -3,3 +3,4 @@ pub mod Completing
 pub mod Nothing
 pub mod Acting
 pub mod Choosing
+pub mod Bare

@@ -64,3 +64,6 @@ is_ok _ = false
 abbrev pub NeedsNothing : Option Node → Type 0
 NeedsNothing None = Unit {0}
 NeedsNothing (Some node) = node.reqs ≡ []
+
+abbrev pub HoldsNothing : Node → Type 0
+HoldsNothing node = node.holds ≡ []

@@ -1,10 +1,12 @@
-ghost use Rattle.std.specs.Prelude.{◌≡◌, ◌≤◌, ◌+◌, ℕ, nat_le, IfOk, OnErr, IsSome, length};
+ghost use Rattle.std.specs.Prelude.{◌≡◌, ◌≤◌, ◌+◌, ℕ, nat_le, IfOk, IfSome, OnErr, IsSome, length};
+ghost use Rattle.std.specs.List.{AllByRecursion};
 ghost use Rattle.pnp_model.specs.Cores.{node_at};
 ghost use Rattle.pnp_model.specs.Records.{State};
 ghost use Rattle.pnp_model.specs.Tasks.{start_enabled, numbered};
 ghost use Rattle.devnode_tree.specs.Identities.{identities};
 ghost use Rattle.start_sequence.specs.Begins.{settings_of, step_of, AppendedBy, ChosenBy, HasFewIds, BegunFor};
 ghost use Rattle.start_sequence.specs.Works.{phase_of};
+ghost use Rattle.start_sequence.specs.Steps.{HoldsNothing};
 ghost use Rattle.pnp_model.specs.Starts.{adding};
 
 use crate::pending::Pending;
@@ -126,7 +128,7 @@ impl StartWork {
     /// before the first driver. The line that is printed is told. Conditions: the device is there, with at most 64
     /// hardware IDs and 64 compatible ones, and there are at most 64 INFs. After want of
     /// memory the tree is as before. Cost: that of the best choice.
-    #[tactic(auto, using(devnode_tree::proofs::Identities::problem_keeps))]
+    #[tactic(auto, using(devnode_tree::proofs::Identities::problem_keeps, crate::proofs::Bare::problem_bare))]
     pub fn begin<R: Drivers>(
         alloc: Global,
         tree: &mut Tree,
@@ -139,8 +141,10 @@ impl StartWork {
         requires ids { HasFewIds (node_at serial tree.old.nodes) }
         requires few { length infs.now ≤ 64 }
         ensures begun { IfOk result (λ r. (budget : ℕ) (s : State) → s.core.rack ≡ R.rows rack.now → s.core.nodes ≡ tree.old.nodes → BegunFor (settings_of infs.now budget) s (node_at serial tree.old.nodes) disabled r.0 r.1 tree.new.nodes) }
+        ensures device { IfOk result (λ r. IfSome r.1 (λ work. work.serial ≡ serial)) }
         ensures next { tree.new.next ≡ tree.old.next }
         ensures keeps { identities tree.new.nodes ≡ identities tree.old.nodes }
+        ensures bare { AllByRecursion HoldsNothing tree.old.nodes → AllByRecursion HoldsNothing tree.new.nodes }
         ensures tree { OnErr result (tree.new ≡ tree.old) }
     {
         let Some(node) = tree.node(serial) else {

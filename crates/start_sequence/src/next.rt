@@ -1,10 +1,11 @@
 ghost use Rattle.std.specs.Prelude.{◌≡◌, List, [], ◌++◌, ◌∷◌, IfOk, OnErr, IsSome, false};
+ghost use Rattle.std.specs.List.{AllByRecursion};
 ghost use Rattle.pnp_model.specs.Cores.{node_at, stacked};
 ghost use Rattle.pnp_model.specs.Machine.{phase_walk, is_waiting};
 ghost use Rattle.pnp_model.specs.Records.{Relation};
 ghost use Rattle.resource_reqs.specs.Resources.{Res};
 ghost use Rattle.devnode_tree.specs.Identities.{identities};
-ghost use Rattle.start_sequence.specs.Steps.{core_of, Acts, first_pending, phase_added, NeedsNothing};
+ghost use Rattle.start_sequence.specs.Steps.{core_of, Acts, first_pending, phase_added, NeedsNothing, HoldsNothing};
 ghost use Rattle.start_sequence.specs.Parts.{AddedFor, StartsFor, RemovesFor, TroubledFor, AssignedFor};
 
 use crate::work::{Phase, StartWork};
@@ -66,7 +67,7 @@ fn taller(alloc: Global, stack: &Stack, driver: u32) -> Result<Stack, WantOfMemo
 }
 
 /// A driver is asked to add the device; with Ok it stands on top of the stack.
-#[tactic(auto, using(devnode_tree::proofs::Identities::stack_keeps))]
+#[tactic(auto, using(devnode_tree::proofs::Identities::stack_keeps, crate::proofs::Bare::stack_bare))]
 fn add<R: Drivers>(
     alloc: Global,
     serial: u64,
@@ -78,6 +79,7 @@ fn add<R: Drivers>(
     ensures added { IfOk result (λ r. AddedFor (node_at serial tree.old.nodes) driver tree.old.nodes (R.rows rack.old) r.0 r.1 tree.new.nodes (R.rows rack.new)) }
     ensures next { tree.new.next ≡ tree.old.next }
     ensures keeps { identities tree.new.nodes ≡ identities tree.old.nodes }
+    ensures bare { AllByRecursion HoldsNothing tree.old.nodes → AllByRecursion HoldsNothing tree.new.nodes }
     ensures tree { OnErr result (tree.new ≡ tree.old) }
     ensures rack { OnErr result (R.rows rack.new ≡ R.rows rack.old) }
 {
@@ -106,12 +108,13 @@ fn add<R: Drivers>(
 }
 
 /// The device that needs nothing gets nothing.
-#[tactic(auto, using(devnode_tree::proofs::Identities::holds_keep))]
+#[tactic(auto, using(devnode_tree::proofs::Identities::holds_keep, crate::proofs::Bare::holds_bare))]
 fn assign(alloc: Global, serial: u64, tree: &mut Tree) -> Result<Label, WantOfMemory>
     requires { IsSome (node_at serial tree.old.nodes) }
     ensures assigned { IfOk result (λ label. AssignedFor (node_at serial tree.old.nodes) tree.old.nodes label tree.new.nodes) }
     ensures next { tree.new.next ≡ tree.old.next }
     ensures keeps { identities tree.new.nodes ≡ identities tree.old.nodes }
+    ensures bare { AllByRecursion HoldsNothing tree.old.nodes → AllByRecursion HoldsNothing tree.new.nodes }
     ensures tree { OnErr result (tree.new ≡ tree.old) }
 {
     let Some(node) = tree.node(serial) else {
@@ -127,7 +130,7 @@ fn assign(alloc: Global, serial: u64, tree: &mut Tree) -> Result<Label, WantOfMe
 }
 
 /// The next step of the request that starts the device.
-#[tactic(auto, using(devnode_tree::proofs::Identities::state_keeps))]
+#[tactic(auto, using(devnode_tree::proofs::Identities::state_keeps, crate::proofs::Bare::state_bare))]
 fn start<R: Drivers>(
     alloc: Global,
     serial: u64,
@@ -140,6 +143,7 @@ fn start<R: Drivers>(
     ensures started { IfOk result (λ went. (relations : List Relation) (reserved : List Res) → StartsFor (node_at serial tree.old.nodes) (core_of tree.old.nodes (R.rows rack.old) relations reserved) walk.old.walk went (core_of tree.new.nodes (R.rows rack.new) relations reserved) walk.new.walk) }
     ensures next { tree.new.next ≡ tree.old.next }
     ensures keeps { identities tree.new.nodes ≡ identities tree.old.nodes }
+    ensures bare { AllByRecursion HoldsNothing tree.old.nodes → AllByRecursion HoldsNothing tree.new.nodes }
     ensures walk { OnErr result (walk.new ≡ walk.old) }
     ensures tree { OnErr result (tree.new ≡ tree.old) }
     ensures rack { OnErr result (R.rows rack.new ≡ R.rows rack.old) }
@@ -167,7 +171,7 @@ fn start<R: Drivers>(
 
 /// The next step of the request that removes the device's drivers; with its end the device has no drivers and holds
 /// nothing.
-#[tactic(auto, using(devnode_tree::proofs::Identities::bare_keeps, crate::proofs::Acting::stripped))]
+#[tactic(auto, using(devnode_tree::proofs::Identities::bare_keeps, crate::proofs::Bare::strip_bare, crate::proofs::Acting::stripped))]
 fn remove<R: Drivers>(
     alloc: Global,
     serial: u64,
@@ -180,6 +184,7 @@ fn remove<R: Drivers>(
     ensures removed { IfOk result (λ went. (relations : List Relation) (reserved : List Res) → RemovesFor (node_at serial tree.old.nodes) (core_of tree.old.nodes (R.rows rack.old) relations reserved) walk.old.walk went (core_of tree.new.nodes (R.rows rack.new) relations reserved) walk.new.walk) }
     ensures next { tree.new.next ≡ tree.old.next }
     ensures keeps { identities tree.new.nodes ≡ identities tree.old.nodes }
+    ensures bare { AllByRecursion HoldsNothing tree.old.nodes → AllByRecursion HoldsNothing tree.new.nodes }
     ensures walk { OnErr result (walk.new ≡ walk.old) }
     ensures tree { OnErr result (tree.new ≡ tree.old) }
     ensures rack { OnErr result (R.rows rack.new ≡ R.rows rack.old) }
@@ -200,7 +205,7 @@ fn remove<R: Drivers>(
 }
 
 /// The device gets a problem; whether it has drivers is told.
-#[tactic(auto, using(devnode_tree::proofs::Identities::problem_keeps))]
+#[tactic(auto, using(devnode_tree::proofs::Identities::problem_keeps, crate::proofs::Bare::problem_bare))]
 fn trouble(
     alloc: Global,
     serial: u64,
@@ -211,6 +216,7 @@ fn trouble(
     ensures troubled { IfOk result (λ r. TroubledFor (node_at serial tree.old.nodes) problem tree.old.nodes r.0 r.1 tree.new.nodes) }
     ensures next { tree.new.next ≡ tree.old.next }
     ensures keeps { identities tree.new.nodes ≡ identities tree.old.nodes }
+    ensures bare { AllByRecursion HoldsNothing tree.old.nodes → AllByRecursion HoldsNothing tree.new.nodes }
     ensures tree { OnErr result (tree.new ≡ tree.old) }
 {
     let Some(node) = tree.node(serial) else {
@@ -268,6 +274,7 @@ impl StartWork {
         ensures serial { self.new.serial ≡ self.old.serial }
         ensures next { tree.new.next ≡ tree.old.next }
         ensures keeps { identities tree.new.nodes ≡ identities tree.old.nodes }
+        ensures bare { AllByRecursion HoldsNothing tree.old.nodes → AllByRecursion HoldsNothing tree.new.nodes }
         ensures start { OnErr result (self.new ≡ self.old) }
         ensures tree { OnErr result (tree.new ≡ tree.old) }
         ensures rack { OnErr result (R.rows rack.new ≡ R.rows rack.old) }

@@ -1,4 +1,5 @@
-ghost use Rattle.std.specs.Prelude.{◌≡◌};
+ghost use Rattle.std.specs.Prelude.{◌≡◌, option_map};
+ghost use Rattle.pnp_model.specs.Machine.{phase_walk};
 ghost use Rattle.pnp_model.specs.Walks.{walk_of};
 ghost use Rattle.pnp_model.specs.Records.Phase.{Starting, Removing};
 ghost use Rattle.pnp_labels.specs.declared.words.Minor.TheVariants.{Start, Remove};
@@ -81,6 +82,16 @@ impl StartWork {
         ensures { result ≡ self.now.serial }
     {
         self.serial
+    }
+
+    /// The request that is on its way through the device's drivers; none exactly where none is.
+    pub fn walk(&self) -> Option<&Walk>
+        ensures { option_map (λ w. w.now.walk) result ≡ phase_walk self.now.phase }
+    {
+        match &self.phase {
+            Phase::Starting(walk) | Phase::Removing(walk) => Some(walk),
+            _ => None,
+        }
     }
 
     /// The request that waits for a driver; none exactly where none waits.

@@ -1,0 +1,114 @@
+-- What an arrival does to the world, and what is kept of devices and nodes.
+use Rattle.std.proofs.Common.{◌≡◌, ℕ, ◌+◌, ◌<◌, ◌≤◌, ◌==◌, ◌↔◌, Bool, true, false, not, ◌&&◌, ◌||◌, cond, List, [], ◌∷◌, ◌++◌, length, map, Option, Some, None, Result, Ok, Err, IfOk, IfSome, OnOk, OnErr, IsErrOf, IsSome, nat_le, refl, sym, ◌∙◌, ap, subst, arith, option_map}
+use Rattle.std.specs.List.{AllByRecursion, list_any}
+use Rattle.std.proofs.lemmas.Bool.Decides.{nat_tests}
+use Rattle.resource_reqs.specs.Resources.{Reqs}
+use Rattle.pnp_labels.specs.Texts.{Text}
+use Rattle.pnp_model.specs.Records.{Device, Node}
+use Rattle.pnp_model.specs.States.{device_of, is_in_world}
+use Rattle.pnp_model.specs.Tasks.{joins, has_born, has_path}
+use Rattle.devnode_tree.specs.Identities.{Identity, identity, identities}
+use Rattle.devnode_tree.specs.Trees.{Tree}
+use Rattle.script_bus.specs.Worlds.{World, plugged}
+use Rattle.script_bus.specs.declared.error.PlugError.{PlugError}
+use Rattle.script_bus.specs.declared.error.PlugError.TheVariants.{NoParent, SameId, WorldFull, WantOfMemory}
+use Rattle.pnp_machine.specs.Devices.{Arrives, IsPlain, IsPlugged, NotJoining, IsKept}
+
+none_or_some : {A : Type 0} (o : Option A) → (o ≡ None → ⊥) → (x : A) × (o ≡ Some x)
+none_or_some None never = absurd (never refl)
+none_or_some (Some x) never = (x, refl)
+
+module _ (w w' : World) (parent path : Text) (hw compat : List Text) (reqs : Reqs) where
+  pub arrives : (r : Result ℕ PlugError)
+      → IfSome (device_of parent w.devices) (λ over. OnOk r (w' ≡ plugged over.born path hw compat reqs w))
+      → (IsErrOf r NoParent ↔ (device_of parent w.devices ≡ None))
+      → (IsErrOf r SameId ↔ (IsSome (device_of parent w.devices) × IsSome (device_of path w.devices)))
+      → (IsErrOf r WorldFull ↔ (IsSome (device_of parent w.devices) × (device_of path w.devices ≡ None) × (4096 < length w.devices)))
+      → OnErr r (w' ≡ w) → Arrives w parent path hw compat reqs r w'
+  arrives r took no_parent same full err = by_result r took no_parent same full err
+    where
+      some_is : {A : Type 0} (o : Option A) → IsSome o → (x : A) × (o ≡ Some x)
+      some_is None h = absurd (cc)
+      some_is (Some x) h = (x, refl)
+
+      is_some_of : {A : Type 0} (o : Option A) (x : A) → o ≡ Some x → IsSome o
+      is_some_of None x e = absurd (cc)
+      is_some_of (Some y) x e = refl
+
+      by_result : (r : Result ℕ PlugError)
+          → IfSome (device_of parent w.devices) (λ over. OnOk r (w' ≡ plugged over.born path hw compat reqs w))
+          → (IsErrOf r NoParent ↔ (device_of parent w.devices ≡ None))
+          → (IsErrOf r SameId ↔ (IsSome (device_of parent w.devices) × IsSome (device_of path w.devices)))
+          → (IsErrOf r WorldFull ↔ (IsSome (device_of parent w.devices) × (device_of path w.devices ≡ None) × (4096 < length w.devices)))
+          → OnErr r (w' ≡ w) → Arrives w parent path hw compat reqs r w'
+      by_result (Ok born) took no_parent same full err =
+          let over = none_or_some (device_of parent w.devices) (λ none. let e = no_parent.1 none in cc) in
+          let here = is_some_of (device_of parent w.devices) over.0 over.1 in
+          let free : device_of path w.devices ≡ None = none_of (device_of path w.devices) (λ there. let e = same.1 (here, there) in cc) in
+          let room : nat_le (length w.devices) 4096 ≡ true =
+          le_or (length w.devices) (λ more. let e = full.1 (here, free, more) in cc) in
+          (over.0, over.1, free, room, subst (λ o. IfSome o (λ d. w' ≡ plugged d.born path hw compat reqs w)) over.1 took)
+        where
+          none_of : {A : Type 0} (o : Option A) → (IsSome o → ⊥) → o ≡ None
+          none_of None never = refl
+          none_of (Some x) never = absurd (never refl)
+
+          le_or : (n : ℕ) → (4096 < n → ⊥) → nat_le n 4096 ≡ true
+          le_or n never = grind (arith, nat_tests, never)
+      by_result (Err NoParent) took no_parent same full err = (no_parent.0 refl, err)
+      by_result (Err SameId) took no_parent same full err =
+          let both = same.0 refl in
+          let over = some_is (device_of parent w.devices) both.0 in
+          (over.0, over.1, some_is (device_of path w.devices) both.1, err)
+      by_result (Err WorldFull) took no_parent same full err =
+          let all = full.0 refl in
+          let over = some_is (device_of parent w.devices) all.0 in
+          let more : 4096 < length w.devices = all.2 in
+          (over.0, over.1, all.1, grind (arith, nat_tests), err)
+      by_result (Err WantOfMemory) took no_parent same full err = err
+
+-- What is kept ---------------------------------------------------------------------
+
+pub all_appended : {A : Type 0} (P : A → Type 0) (xs : List A) (y : A) → AllByRecursion P xs → P y → AllByRecursion P (xs ++ y ∷ [])
+all_appended P [] y all here = (here, tt)
+all_appended P (x ∷ xs) y all here = (all.0, all_appended P xs y all.1 here)
+
+pub all_of : {A : Type 0} (P Q : A → Type 0) → ((x : A) → P x → Q x) → (xs : List A) → AllByRecursion P xs → AllByRecursion Q xs
+all_of P Q f [] all = tt
+all_of P Q f (x ∷ xs) all = (f x all.0, all_of P Q f xs all.1)
+
+in_more : (world : List Device) (d : Device) (born : ℕ) → is_in_world world born ≡ true → is_in_world (world ++ d ∷ []) born ≡ true
+in_more [] d born h = absurd (cc)
+in_more (x ∷ world) d born h = grind (arith, nat_tests, in_more world d born)
+
+pub plugged_more : (world : List Device) (d : Device) (i : Identity) → IsPlugged world i → IsPlugged (world ++ d ∷ []) i
+plugged_more world d i h = record { hw = h.hw; compat = h.compat; needs = h.needs; there = in_more world d i.born h.there }
+
+module _ (w : World) (t : Tree) (over from : ℕ) (kept : IsKept w t over from) where
+  pub kept_arrived : (d : Device) → IsPlain d → d.born ≡ w.next → (w' : World) → w'.devices ≡ w.devices ++ d ∷ [] → w'.next ≡ w.next + 1 → IsKept w' t over from
+  kept_arrived d plain born w' devices next =
+      record {
+        devices = subst (AllByRecursion IsPlain) (sym devices) (all_appended IsPlain w.devices d kept.devices plain);
+        plugged =
+            subst (λ ds. AllByRecursion (IsPlugged ds) (identities t.nodes)) (sym devices)
+            (all_of (IsPlugged w.devices) (IsPlugged (w.devices ++ d ∷ [])) (plugged_more w.devices d) (identities t.nodes) kept.plugged);
+        bare = kept.bare;
+        listed =
+            subst (AllByRecursion (NotJoining over from t.nodes)) (sym devices)
+            (all_appended (NotJoining over from t.nodes) w.devices d kept.listed (λ less. absurd (let le = kept.within in omega arith)));
+        within = let le = kept.within in omega arith;
+      }
+
+pub all_stay : (world : List Device) (nodes : List Node) → AllByRecursion (IsPlugged world) (identities nodes) → AllByRecursion (λ n. is_in_world world n.born ≡ true) nodes
+all_stay world [] all = tt
+all_stay world (n ∷ nodes) all = (all.0.there, all_stay world nodes all.1)
+
+pub kept_arrival : (w w' : World) (t : Tree) (over from : ℕ) → IsKept w t over from → (parent path : Text) (hw compat : List Text) (reqs : Reqs)
+    → length hw ≤ 64 → length compat ≤ 64 → reqs ≡ [] → (r : Result ℕ PlugError) → Arrives w parent path hw compat reqs r w' → IsKept w' t over from
+kept_arrival w w' t over from kept parent path hw compat reqs few few' none (Ok born) (d, at, free, room, is) =
+    kept_arrived w t over from kept (record { born = w.next; parent = d.born; path = path; hw = hw; compat = compat; reqs = reqs })
+    (record { hw = few; compat = few'; needs = none }) refl w' (ap (λ (x : World). x.devices) is) (ap (λ (x : World). x.next) is)
+kept_arrival w w' t over from kept parent path hw compat reqs few few' none (Err NoParent) (at, is) = subst (λ (x : World). IsKept x t over from) (sym is) kept
+kept_arrival w w' t over from kept parent path hw compat reqs few few' none (Err SameId) (d, at, there, is) = subst (λ (x : World). IsKept x t over from) (sym is) kept
+kept_arrival w w' t over from kept parent path hw compat reqs few few' none (Err WorldFull) (d, at, free, full, is) = subst (λ (x : World). IsKept x t over from) (sym is) kept
+kept_arrival w w' t over from kept parent path hw compat reqs few few' none (Err WantOfMemory) is = subst (λ (x : World). IsKept x t over from) (sym is) kept

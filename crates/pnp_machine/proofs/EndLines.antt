@@ -1,0 +1,193 @@
+-- The lines of the end of the output: the tree, what is held, and what is outstanding.
+use Rattle.std.proofs.Common.{◌≡◌, ◌≢◌, ℕ, zero, suc, ◌+◌, ◌<◌, ◌≤◌, ◌==◌, Bool, true, false, cond, List, [], ◌∷◌, ◌++◌, Option, Some, None, find, map, length, refl, sym, ◌∙◌, ap, subst, arith, append_assoc, append-nil, get_or, add-one, nat_lt}
+use Rattle.std.specs.List.{AllByRecursion}
+use Rattle.std.specs.Prelude.{codes, slice_get, drop}
+use Rattle.std.proofs.lemmas.Bool.Decides.{nat_tests}
+use Rattle.pnp_labels.specs.Texts.{Text}
+use Rattle.pnp_model.specs.Cores.{node_at, serials_of}
+use Rattle.pnp_model.specs.Endings.{Placed, placed, print_order, root_of, node_rows, joined, tree_line, map_line, row_before, ending, outstanding_line, outstanding, activity_rows, walk_row, waiting_row, serial_before, Outstanding}
+use Rattle.pnp_model.specs.Keyed.{in_order, put_before, those}
+use Rattle.pnp_model.specs.Machine.{phase_walk}
+use Rattle.pnp_model.specs.Records.{Node, Driver, Activity, State, Task, Walk}
+use Rattle.pnp_model.specs.Trees.{children, is_child}
+use Rattle.pnp_laws.specs.Kept.{InOrder}
+use Rattle.pnp_laws.proofs.Lookups.{InOrder-weaker}
+use Rattle.devnode_tree.specs.Rows.{row_of}
+use Rattle.devnode_tree.specs.Trees.{Ascends, Tree, IsTree}
+use Rattle.devnode_tree.specs.declared.print.PrintRow.{PrintRow}
+use Rattle.start_sequence.specs.Steps.{core_of, HoldsNothing}
+use Rattle.pnp_machine.specs.Devices.{Devices}
+use Rattle.pnp_machine.specs.Endings.{RowAdded, work_lines, works_lines}
+use Rattle.pnp_machine.specs.Machines.{state_of}
+use Rattle.pnp_machine.proofs.Texts.{joined_append}
+
+all_those : {A : Type 0} (P : A → Type 0) (test : A → Bool) (xs : List A) → AllByRecursion P xs → AllByRecursion P (those test xs)
+all_those P test [] all = tt
+all_those P test (x ∷ xs) all =
+    elim (test x) as (λ b. AllByRecursion P (cond b (x ∷ those test xs) (those test xs))) [
+      | true ↦ (all.0, all_those P test xs all.1)
+      | false ↦ all_those P test xs all.1
+    ]
+
+-- each node is found by its serial
+FoundIn : List Node → List Node → Type 0
+FoundIn nodes xs = AllByRecursion (λ x. node_at x.serial nodes ≡ Some x) xs
+
+found_later : (n : Node) (nodes xs : List Node) (low : ℕ) → n.serial < low → Ascends low (serials_of xs)
+    → AllByRecursion (λ x. node_at x.serial nodes ≡ Some x) xs → AllByRecursion (λ x. node_at x.serial (n ∷ nodes) ≡ Some x) xs
+found_later n nodes [] low less ascends all = tt
+found_later n nodes (x ∷ xs) low less ascends all =
+    let least : low ≤ x.serial = ascends.0 in
+    let apart : (n.serial == x.serial) ≡ false = grind (arith, nat_tests) in
+    (rw apart all.0, found_later n nodes xs (x.serial + 1) (omega arith) ascends.1 all.1)
+
+found_all : (nodes : List Node) (low : ℕ) → Ascends low (serials_of nodes) → AllByRecursion (λ x. node_at x.serial nodes ≡ Some x) nodes
+found_all [] low ascends = tt
+found_all (n ∷ nodes) low ascends =
+    let here : (n.serial == n.serial) ≡ true = grind (arith, nat_tests) in
+    (rw here refl, found_later n nodes nodes (n.serial + 1) (omega arith) ascends.1 (found_all nodes (n.serial + 1) ascends.1))
+
+-- what is found at a number has that number
+found_number : (k : ℕ) (nodes : List Node) (n : Node) → node_at k nodes ≡ Some n → n.serial ≡ k
+found_number k [] n h = cc
+found_number k (x ∷ xs) n h = grind (arith, nat_tests, found_number k xs n)
+
+found_by : (k : ℕ) (nodes : List Node) (n : Node) → node_at k nodes ≡ Some n → node_at n.serial nodes ≡ Some n
+found_by k nodes n h = let P : ℕ → Type 0 = λ j. node_at j nodes ≡ Some n in subst P (sym (found_number k nodes n h)) h
+
+all_appended : {A : Type 0} (P : A → Type 0) (xs ys : List A) → AllByRecursion P xs → AllByRecursion P ys → AllByRecursion P (xs ++ ys)
+all_appended P [] ys h g = g
+all_appended P (x ∷ xs) ys h g = (h.0, all_appended P xs ys h.1 g)
+
+found_placed : (nodes : List Node) → AllByRecursion (λ x. node_at x.serial nodes ≡ Some x) nodes → (n depth : ℕ) (here : List Node)
+    → AllByRecursion (λ x. node_at x.serial nodes ≡ Some x) here → AllByRecursion (λ p. node_at p.node.serial nodes ≡ Some p.node) (placed n depth nodes here)
+found_placed nodes all zero depth here h = tt
+found_placed nodes all (suc n) depth [] h = tt
+found_placed nodes all (suc n) depth (x ∷ xs) h = (
+  h.0,
+  all_appended (λ p. node_at p.node.serial nodes ≡ Some p.node) (placed n (depth + 1) nodes (children x.serial nodes)) (placed (suc n) depth nodes xs)
+      (found_placed nodes all n (depth + 1) (children x.serial nodes) (all_those (λ y. node_at y.serial nodes ≡ Some y) (is_child x.serial) nodes all))
+      (found_placed nodes all (suc n) depth xs h.1),
+)
+
+-- each row of the tree is a node that is found by its serial
+pub rows_found : (nodes : List Node) → Ascends 0 (serials_of nodes) → AllByRecursion (λ p. node_at p.node.serial nodes ≡ Some p.node) (print_order nodes)
+rows_found nodes ascends = found_placed nodes (found_all nodes 0 ascends) (length nodes) 0 (root_of (node_at 0 nodes)) root
+  where
+    root_found : (o : Option Node) → node_at 0 nodes ≡ o → AllByRecursion (λ x. node_at x.serial nodes ≡ Some x) (root_of o)
+    root_found None is = tt
+    root_found (Some r) is = (found_by 0 nodes r is, tt)
+
+    root : AllByRecursion (λ x. node_at x.serial nodes ≡ Some x) (root_of (node_at 0 nodes))
+    root = root_found (node_at 0 nodes) refl
+
+-- a row, and the rows from it on
+pub record IsRow (nodes : List Node) (order : List Placed) (i : ℕ) (row : PrintRow) : Type 0 where
+  pub placed_at : Placed
+  pub is : row ≡ row_of placed_at
+  pub rest : drop i order ≡ placed_at ∷ drop (i + 1) order
+  pub found : node_at placed_at.node.serial nodes ≡ Some placed_at.node
+
+one_more : (i : ℕ) → suc (i + 1) ≡ suc i + 1
+one_more i = omega arith
+
+row_later : (nodes : List Node) (p : Placed) (order : List Placed) (i : ℕ) (row : PrintRow) → IsRow nodes order i row → IsRow nodes (p ∷ order) (suc i) row
+row_later nodes p order i row h =
+    record {
+      placed_at = h.placed_at;
+      is = h.is;
+      rest = h.rest ∙ ap (λ n. h.placed_at ∷ drop n (p ∷ order)) (one_more i);
+      found = h.found;
+    }
+
+row_there : (nodes : List Node) (order : List Placed) (i : ℕ) (row : PrintRow) → AllByRecursion (λ p. node_at p.node.serial nodes ≡ Some p.node) order
+    → slice_get (map row_of order) i ≡ Some row → IsRow nodes order i row
+row_there nodes [] i row all h = cc
+row_there nodes (p ∷ order) zero row all h = record { placed_at = p; is = cc; rest = refl; found = all.0 }
+row_there nodes (p ∷ order) (suc i) row all h = row_later nodes p order i row (row_there nodes order i row all.1 h)
+
+-- one row more
+pub tree_next : (t : Tree) (rows : List PrintRow) (i : ℕ) (row : PrintRow) (out out' whole : Text) → rows ≡ map row_of (print_order t.nodes)
+    → slice_get rows i ≡ Some row → RowAdded t row out out'
+    → out ++ joined (map tree_line (drop i (print_order t.nodes))) ≡ whole → out' ++ joined (map tree_line (drop (i + 1) (print_order t.nodes))) ≡ whole
+tree_next t rows i row out out' whole are read added so_far =
+    let order : List Placed = print_order t.nodes in
+    let P : List PrintRow → Type 0 = λ rs. slice_get rs i ≡ Some row in
+    let here : IsRow t.nodes order i row = row_there t.nodes order i row (rows_found t.nodes added.tree.ascends) (subst P are read) in
+    let p : Placed = here.placed_at in
+    let Q : PrintRow → Type 0 = λ r. RowAdded t r out out' in
+    let line : RowAdded t (row_of p) out out' = subst Q here.is added in
+    ap (λ x. x ++ joined (map tree_line (drop (i + 1) order))) (line.line p.node here.found)
+    ∙ append_assoc out (joined (tree_line p ∷ [])) (joined (map tree_line (drop (i + 1) order)))
+    ∙ ap (λ x. out ++ x) (sym (joined_append (tree_line p ∷ []) (map tree_line (drop (i + 1) order))))
+    ∙ ap (λ ps. out ++ joined (map tree_line ps)) (sym here.rest)
+    ∙ so_far
+
+-- nothing is held
+no_rows : (xs : List Node) → AllByRecursion HoldsNothing xs → node_rows xs ≡ []
+no_rows [] all = refl
+no_rows (x ∷ xs) all = rw all.0 (no_rows xs all.1)
+
+-- The requests that wait, in order of serial ----------------------------------------------------
+
+map_append : {A B : Type 0} (f : A → B) (xs ys : List A) → map f (xs ++ ys) ≡ map f xs ++ map f ys
+map_append f [] ys = refl
+map_append f (x ∷ xs) ys = ap (λ l. f x ∷ l) (map_append f xs ys)
+
+pub works_next : (nodes : List Node) (rack : List Driver) (a : Activity) (more : List Activity) → works_lines nodes rack (a ∷ more) ≡ work_lines nodes rack a ++ works_lines nodes rack more
+works_next nodes rack a more =
+    let line = outstanding_line (core_of nodes rack [] []) in
+    ap joined (map_append line (walk_row a.serial (phase_walk a.phase)) (activity_rows more)) ∙ joined_append (map line (walk_row a.serial (phase_walk a.phase))) (map line (activity_rows more))
+
+-- the rows stand in order from lo on
+abbrev RowsFrom : ℕ → List Outstanding → Type 0
+RowsFrom lo [] = Unit {0}
+RowsFrom lo (r ∷ rows) = (lo ≤ r.serial) × RowsFrom (suc r.serial) rows
+
+rows_weaker : (lo hi : ℕ) (rows : List Outstanding) → lo ≤ hi → RowsFrom hi rows → RowsFrom lo rows
+rows_weaker lo hi [] le h = tt
+rows_weaker lo hi (r ∷ rows) le h = let up : hi ≤ r.serial = h.0 in (omega arith, h.1)
+
+rows_in : (lo : ℕ) (works : List Activity) → InOrder lo works → RowsFrom lo (activity_rows works)
+rows_in lo [] h = tt
+rows_in lo (a ∷ works) h = by_walk (phase_walk a.phase) (rows_in (suc a.serial) works h.1)
+  where
+    by_walk : (w : Option Walk) → RowsFrom (suc a.serial) (activity_rows works) → RowsFrom lo (walk_row a.serial w ++ activity_rows works)
+    by_walk None more = let up : lo ≤ a.serial = h.0 in rows_weaker lo (suc a.serial) (activity_rows works) (omega arith) more
+    by_walk (Some w) more =
+        let up : lo ≤ a.serial = h.0 in
+        elim w.waits as (λ b. RowsFrom lo (waiting_row a.serial w b ++ activity_rows works)) [
+          | true ↦ (up, more)
+          | false ↦ rows_weaker lo (suc a.serial) (activity_rows works) (omega arith) more
+        ]
+
+in_order_same : (lo : ℕ) (rows : List Outstanding) → RowsFrom lo rows → in_order serial_before rows ≡ rows
+in_order_same lo [] h = refl
+in_order_same lo (r ∷ rows) h = ap (put_before (serial_before r) r) (in_order_same (suc r.serial) rows h.1) ∙ first rows h.1
+  where
+    first : (rows : List Outstanding) → RowsFrom (suc r.serial) rows → put_before (serial_before r) r rows ≡ r ∷ rows
+    first [] h = refl
+    first (q ∷ rows) h =
+        let up : suc r.serial ≤ q.serial = h.0 in
+        let less : nat_lt r.serial q.serial ≡ true = grind (arith, nat_tests) in
+        ap (λ b. cond b (r ∷ q ∷ rows) (q ∷ put_before (serial_before r) r rows)) less
+
+-- The whole ---------------------------------------------------------------------------------------
+
+pub ending_is : (ds : Devices) (rack : List Driver) (works : List Activity) (tasks : List Task) (s : State) (o0 o1 o2 o3 : Text) → AllByRecursion HoldsNothing ds.tree.nodes
+    → InOrder 0 works → state_of ds rack works tasks ≡ s → o0 ≡ codes "tree\n" → o1 ≡ o0 ++ joined (map tree_line (print_order ds.tree.nodes))
+    → o2 ≡ o1 ++ codes "map\noutstanding\n" → o3 ≡ o2 ++ works_lines ds.tree.nodes rack works → o3 ≡ joined (ending s)
+ending_is ds rack works tasks s o0 o1 o2 o3 bare order view zero_is one two three =
+    let trees : List Text = map tree_line (print_order ds.tree.nodes) in
+    let lines : Text = works_lines ds.tree.nodes rack works in
+    let waits : List Text = map (outstanding_line (core_of ds.tree.nodes rack [] [])) (activity_rows works) in
+    let none : node_rows ds.tree.nodes ≡ [] = no_rows ds.tree.nodes bare in
+    let rows : outstanding (state_of ds rack works tasks) ≡ activity_rows works = in_order_same 0 (activity_rows works) (rows_in 0 works order) in
+    let whole : joined (ending (state_of ds rack works tasks)) ≡ codes "tree\n" ++ (joined trees ++ (codes "map\noutstanding\n" ++ lines)) =
+    ap (λ rs. joined (codes "tree" ∷ (trees ++ (codes "map" ∷ (map map_line (in_order row_before rs) ++ (codes "outstanding" ∷ map (outstanding_line (core_of ds.tree.nodes rack [] [])) (outstanding (state_of ds rack works tasks)))))))) none
+    ∙ ap (λ rs. joined (codes "tree" ∷ (trees ++ (codes "map" ∷ codes "outstanding" ∷ map (outstanding_line (core_of ds.tree.nodes rack [] [])) rs)))) rows
+    ∙ ap (λ x. codes "tree\n" ++ x) (joined_append trees (codes "map" ∷ codes "outstanding" ∷ waits)) in
+    three ∙ ap (λ x. x ++ lines) (two ∙ ap (λ x. x ++ codes "map\noutstanding\n") (one ∙ ap (λ x. x ++ joined trees) zero_is))
+    ∙ append_assoc (codes "tree\n" ++ joined trees) (codes "map\noutstanding\n") lines
+    ∙ append_assoc (codes "tree\n") (joined trees) (codes "map\noutstanding\n" ++ lines)
+    ∙ sym whole ∙ ap (λ x. joined (ending x)) view

@@ -1,0 +1,13 @@
+pub mod Texts
+pub mod Inserts
+pub mod Ready
+pub mod Indexes
+pub mod Arrivals
+pub mod Joins
+pub mod ActSteps
+pub mod ListSteps
+pub mod StartSteps
+pub mod EventSteps
+pub mod Quiets
+pub mod RunLaws
+pub mod EndLines

@@ -1,0 +1,117 @@
+-- What a manager keeps, and what holds of each of its steps and events: the laws of runs.
+use Rattle.std.proofs.Common.{◌≡◌, Result, Ok, Err, IfOk, OnErr, ℕ, zero, suc, ◌+◌, ◌*◌, ◌<◌, ◌≤◌, ◌^◌, List, [], ◌∷◌, ◌++◌, length, refl, sym, ◌∙◌, ap, subst, arith}
+use Rattle.std.specs.declared.alloc.AllocError.{AllocError}
+use Rattle.inf_reader.specs.declared.parts.Inf.{Inf}
+use Rattle.pnp_labels.specs.declared.event.Event.{Event}
+use Rattle.pnp_labels.specs.declared.label.Label.{Label}
+use Rattle.pnp_model.specs.Events.{happens}
+use Rattle.pnp_model.specs.Machine.{IsQuiet, Steps}
+use Rattle.pnp_model.specs.Records.{Driver, Settings, State, Step}
+use Rattle.pnp_model.specs.Runs.{Entry, Goes, opening, printed}
+use Rattle.pnp_model.specs.Laws.{Reaches}
+use Rattle.pnp_model.specs.Runs.Entry.{Happens, Did}
+use Rattle.pnp_laws.specs.Ends.{events}
+use Rattle.pnp_laws.specs.Kept.{IsGood}
+use Rattle.pnp_laws.proofs.Reached.{reached_is_good}
+use Rattle.pnp_laws.proofs.Reaching.{run_on}
+use Rattle.pnp_laws.proofs.RunsSerials.{few_serials, few_births}
+use Rattle.pnp_laws.proofs.RunsShare.{nothing_clashes}
+use Rattle.pnp_laws.proofs.RunsStand.{dependents_go_first, every_run_follows}
+use Rattle.pnp_laws.proofs.RunsWhole.{all_hold_whole}
+use Rattle.start_sequence.specs.Begins.{settings_of}
+use Rattle.pnp_machine.specs.Machines.{IsDone, Moves}
+use Rattle.pnp_machine.specs.Managers.{IsRunOf, IsManager, KeepsLaws, LawsOf}
+use Rattle.pnp_machine.specs.declared.manager.Moved.{Moved}
+use Rattle.pnp_machine.specs.declared.manager.Moved.TheVariants.{Label as Printed, Quiet}
+
+events_more : (xs : List Entry) (event : Event) (label : Label) → events (xs ++ Happens event label ∷ []) ≡ events xs + 1
+events_more [] event label = refl
+events_more (Happens e l ∷ xs) event label = let more = events_more xs event label in omega arith
+events_more (Did l ∷ xs) event label = events_more xs event label
+
+events_same : (xs : List Entry) (label : Label) → events (xs ++ Did label ∷ []) ≡ events xs
+events_same [] label = refl
+events_same (Happens e l ∷ xs) label = ap (λ n. 1 + n) (events_same xs label)
+events_same (Did l ∷ xs) label = events_same xs label
+
+module _ (told : Settings) (s t : State) where
+  more_entries : (rack : List Driver) (xs : List Entry) (entry : Entry) → Reaches told rack xs s → Goes told s entry t → Reaches told rack (xs ++ entry ∷ []) t
+  more_entries rack xs entry run goes = run_on told (opening rack) s t xs (entry ∷ []) run (t, goes, refl)
+
+  laws_of : (n : ℕ) → IsRunOf told n s → (entry : Entry) → Goes told s entry t → KeepsLaws (printed entry) s t
+  laws_of n h entry goes =
+      let follows = every_run_follows told h.rack h.entries s entry t h.reaches goes in
+      let more = more_entries h.rack h.entries entry h.reaches goes in
+      record {
+        diagram = follows.0;
+        walked = follows.1;
+        clear = nothing_clashes told h.rack (h.entries ++ entry ∷ []) t more;
+        whole = all_hold_whole told h.rack (h.entries ++ entry ∷ []) t more;
+        first = dependents_go_first told h.rack h.entries s entry t h.reaches goes;
+      }
+
+  event_goes : (event : Event) (label : Label) → IsQuiet told s → IsDone (happens s event) label t → Goes told s (Happens event label) t
+  event_goes event label quiet (l, e) = (quiet, same)
+    where
+      same : happens s event ≡ record { label = label; state = t }
+      same = ap (λ x. step x (happens s event).state) (sym l) ∙ ap (step label) (sym e)
+        where
+          step : Label → State → Step
+          step x y = record { label = x; state = y }
+
+  pub run_applied : (n : ℕ) (event : Event) (label : Label) → IsRunOf told n s → IsQuiet told s → IsDone (happens s event) label t → IsRunOf told (n + 1) t
+  run_applied n event label h quiet is =
+      record {
+        rack = h.rack;
+        entries = h.entries ++ Happens event label ∷ [];
+        reaches = more_entries h.rack h.entries (Happens event label) h.reaches (event_goes event label quiet is);
+        count = events_more h.entries event label ∙ ap (λ k. k + 1) h.count;
+      }
+
+  pub laws_applied : (n : ℕ) (event : Event) (label : Label) → IsRunOf told n s → IsQuiet told s → IsDone (happens s event) label t → KeepsLaws label s t
+  laws_applied n event label h quiet is = laws_of n h (Happens event label) (event_goes event label quiet is)
+
+  pub run_stepped : (n : ℕ) (moved : Moved) → IsRunOf told n s → Moves told s moved t → IsRunOf told n t
+  run_stepped n (Printed label) h steps =
+      record {
+        rack = h.rack;
+        entries = h.entries ++ Did label ∷ [];
+        reaches = more_entries h.rack h.entries (Did label) h.reaches steps;
+        count = events_same h.entries label ∙ h.count;
+      }
+  run_stepped n Quiet h (quiet, same) = subst (IsRunOf told n) (sym same) h
+
+  pub laws_stepped : (n : ℕ) (moved : Moved) → IsRunOf told n s → Moves told s moved t → LawsOf moved s t
+  laws_stepped n (Printed label) h steps = laws_of n h (Did label) steps
+  laws_stepped n Quiet h steps = tt
+
+pub run_good : (told : Settings) (n : ℕ) (s : State) → IsRunOf told n s → IsGood s
+run_good told n s h = reached_is_good told h.rack s (h.entries, h.reaches)
+
+pub run_serials : (told : Settings) (n : ℕ) (s : State) → IsRunOf told n s → n ≤ 2 ^ 24 → s.next_serial < 2 ^ 63
+run_serials told n s h few =
+    let most = few_serials told h.rack h.entries s h.reaches in
+    let count : events h.entries ≡ n = h.count in
+    omega arith
+
+pub run_births : (told : Settings) (n : ℕ) (s : State) → IsRunOf told n s → n ≤ 2 ^ 24 → s.next_born < 2 ^ 63
+run_births told n s h few =
+    let most = few_births told h.rack h.entries s h.reaches in
+    let count : events h.entries ≡ n = h.count in
+    omega arith
+
+-- the same of a step that may be refused for want of memory
+module _ (told : Settings) (n : ℕ) (s t : State) (h : IsRunOf told n s) where
+  pub run_after : (r : Result Moved AllocError) → IfOk r (λ moved. Moves told s moved t) → OnErr r (t ≡ s) → IsRunOf told n t
+  run_after (Ok moved) moves same = run_stepped told s t n moved h moves
+  run_after (Err refused) moves same = subst (IsRunOf told n) (sym same) h
+
+  pub laws_after : (r : Result Moved AllocError) → IfOk r (λ moved. Moves told s moved t) → IfOk r (λ moved. LawsOf moved s t)
+  laws_after (Ok moved) moves = laws_stepped told s t n moved h moves
+  laws_after (Err refused) moves = tt
+
+-- the budget of the run is one of all budgets
+pub moves_at : (infs : List Inf) (budget : ℕ) (s t : State) (r : Result Moved AllocError) → IfOk r (λ moved. (any : ℕ) → Moves (settings_of infs any) s moved t)
+    → IfOk r (λ moved. Moves (settings_of infs budget) s moved t)
+moves_at infs budget s t (Ok moved) moves = moves budget
+moves_at infs budget s t (Err refused) moves = tt

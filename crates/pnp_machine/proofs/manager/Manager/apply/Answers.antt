@@ -1,0 +1,29 @@
+use Rattle.std.proofs.Common.{sym, ap, subst, arith}
+use Rattle.pnp_model.specs.Machine.{IsQuiet}
+use Rattle.pnp_machine.specs.Managers.{Manager, settings}
+use Rattle.pnp_machine.proofs.RunLaws.{run_births, run_applied, laws_applied}
+use Rattle.pnp_machine.proofs.manager.Manager.apply.Goals as goal
+
+pub apply-requires-clause-room : goal.apply-requires-clause-room
+apply-requires-clause-room g c =
+    let e = ap (λ (m : Manager). m.events) c.self.view_is in
+    let few = c.requires.events in
+    run_births _ _ _ c.self.invariant.run (omega arith)
+
+pub invariant_of-self-2 : goal.invariant_of-self-2
+invariant_of-self-2 g c =
+    let quiet = subst (λ (m : Manager). IsQuiet (settings m) m.state) (sym c.self.view_is) c.requires.quiet in
+    record {
+      few = c.self.invariant.few;
+      run = run_applied _ _ _ _ c.args.event c.in_ok-label.label c.self.invariant.run quiet c.in_ok-label.ensures.done;
+    }
+
+pub returns-clause-laws : goal.returns-clause-laws
+returns-clause-laws g c =
+    let quiet = subst (λ (m : Manager). IsQuiet (settings m) m.state) (sym c.self.view_is) c.requires.quiet in
+    rw (← c.self.view_is) (laws_applied _ _ _ _ c.args.event c.in_ok-label.label c.self.invariant.run quiet c.in_ok-label.ensures.done)
+
+pub returns-clause-run : goal.returns-clause-run
+returns-clause-run g c =
+    let quiet = subst (λ (m : Manager). IsQuiet (settings m) m.state) (sym c.self.view_is) c.requires.quiet in
+    run_applied _ _ _ _ c.args.event c.in_ok-label.label c.self.invariant.run quiet c.in_ok-label.ensures.done

@@ -1,0 +1,30 @@
+-- The lines of the end of the output.
+use Rattle.std.specs.Prelude.{ℕ, ◌≡◌, Bool, true, false, List, [], ◌∷◌, ◌++◌, Option, Some, None, map, length, slice_index}
+use Rattle.pnp_labels.specs.Texts.{Text}
+use Rattle.pnp_model.specs.Cores.{node_at}
+use Rattle.pnp_model.specs.Records.{Node, Driver, Walk, Activity}
+use Rattle.pnp_model.specs.Endings.{joined, tree_line, outstanding_line, activity_rows, walk_row}
+use Rattle.pnp_model.specs.Books.{name_of}
+use Rattle.pnp_model.specs.Machine.{phase_walk}
+use Rattle.pnp_model.specs.Walks.{place_of}
+use Rattle.pnp_labels.specs.Texts.{spaced, minor_text}
+use Rattle.start_sequence.specs.Steps.{core_of}
+use Rattle.devnode_tree.specs.Trees.{Tree, IsTree}
+use Rattle.devnode_tree.specs.declared.print.PrintRow.{PrintRow}
+
+-- the line of the row's node was appended
+pub record RowAdded (t : Tree) (row : PrintRow) (old new : Text) : Type 0 where
+  pub tree : IsTree t
+  pub line : (n : Node) → node_at row.serial t.nodes ≡ Some n → new ≡ old ++ joined (tree_line (record { depth = row.depth; node = n }) ∷ [])
+
+-- the line of a request that waits at a device
+abbrev pub waiting_line : Node → List Driver → Walk → Text
+waiting_line node rack w =
+    spaced (node.path ∷ minor_text w.minor ∷ name_of rack (slice_index node.stack (place_of w.minor (length node.stack) w.asked)) ∷ [])
+
+-- the line of the request of a start, where it waits
+abbrev pub work_lines : List Node → List Driver → Activity → Text
+work_lines nodes rack a = joined (map (outstanding_line (core_of nodes rack [] [])) (walk_row a.serial (phase_walk a.phase)))
+
+abbrev pub works_lines : List Node → List Driver → List Activity → Text
+works_lines nodes rack works = joined (map (outstanding_line (core_of nodes rack [] [])) (activity_rows works))

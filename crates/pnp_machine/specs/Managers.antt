@@ -1,0 +1,55 @@
+-- The manager as contracts see it, and what holds of its state and of each of its steps.
+use Rattle.std.specs.Prelude.{◌≡◌, ℕ, ◌≤◌, Bool, true, false, List, length}
+use Rattle.inf_reader.specs.declared.parts.Inf.{Inf}
+use Rattle.pnp_labels.specs.declared.label.Label.{Label}
+use Rattle.pnp_model.specs.Diagram.{FollowsDiagram, Walked}
+use Rattle.pnp_model.specs.Laws.{Reaches, HoldsWhole, DependentsFirst}
+use Rattle.pnp_model.specs.Records.{Driver, Settings, State}
+use Rattle.pnp_model.specs.Runs.{Entry}
+use Rattle.pnp_model.specs.Sharing.{Clear}
+use Rattle.pnp_laws.specs.Ends as ends
+use Rattle.start_sequence.specs.Begins.{settings_of}
+use Rattle.pnp_model.specs.Machine.{IsQuiet}
+use Rattle.pnp_machine.specs.declared.manager.Moved.{Moved}
+use Rattle.pnp_machine.specs.declared.manager.Moved.TheVariants.{Label as Printed, Quiet}
+
+-- the INFs and the budget of the run, how many events happened, and the machine's state
+pub record Manager : Type 0 where
+  pub infs : List Inf
+  pub budget : ℕ
+  pub events : ℕ
+  pub state : State
+
+-- what stays the same in a run
+abbrev pub settings : Manager → Settings
+settings m = settings_of m.infs m.budget
+
+-- a run of so many events leads to this state
+pub record IsRunOf (told : Settings) (events : ℕ) (s : State) : Type 0 where
+  pub rack : List Driver
+  pub entries : List Entry
+  pub reaches : Reaches told rack entries s
+  pub count : ends.events entries ≡ events
+
+-- what a manager keeps
+pub record IsManager (infs : List Inf) (budget events : ℕ) (s : State) : Type 0 where
+  pub few : length infs ≤ 64
+  pub run : IsRunOf (settings_of infs budget) events s
+
+-- what holds of each step and each event: states change by rows of the diagram, nothing clashes, devices that are up hold
+-- one whole alternative, and dependents go first
+pub record KeepsLaws (label : Label) (old new : State) : Type 0 where
+  pub diagram : FollowsDiagram label old.core.nodes new.core.nodes
+  pub walked : Walked label old.core.nodes new.core.nodes
+  pub clear : Clear new.core.reserved new.core.nodes
+  pub whole : HoldsWhole new.core.nodes
+  pub first : DependentsFirst label old.core new.core
+
+abbrev pub LawsOf : Moved → State → State → Type 0
+LawsOf (Printed label) old new = KeepsLaws label old new
+LawsOf Quiet old new = Unit {0}
+
+-- a test tells whether a state is quiet
+abbrev pub IfQuiet : Bool → Settings → State → Type 0
+IfQuiet true told s = IsQuiet told s
+IfQuiet false told s = IsQuiet told s → ⊥

@@ -1,0 +1,125 @@
+ghost use Rattle.std.specs.Prelude.{◌≡◌, ◌<◌, ◌≤◌, ◌+◌, ◌^◌, ℕ, [], true, IfOk, OnOk, OnErr, length};
+ghost use Rattle.pnp_model.specs.Endings.{ending, joined};
+ghost use Rattle.pnp_model.specs.Events.{happens};
+ghost use Rattle.pnp_model.specs.Machine.{IsQuiet};
+ghost use Rattle.pnp_model.specs.Runs.{opening};
+ghost use Rattle.devnode_tree.specs.Trees.{Tree};
+ghost use Rattle.pnp_machine.specs.Machines.{IsDone, Moves, is_built, HasFewIds};
+ghost use Rattle.pnp_machine.specs.Managers.{settings, IsRunOf, KeepsLaws, LawsOf, IfQuiet};
+
+pub use crate::events::is_built;
+use crate::machine::Machine;
+use device_ids::WantOfMemory;
+use devnode_tree::Tree;
+use driver_rack::Drivers;
+use inf_reader::Inf;
+use pnp_labels::{Event, Label};
+use std::alloc::Global;
+use std::marker::Model;
+
+/// What a step of the machine came to. This project's own.
+#[derive(Debug, Drop)]
+pub enum Moved {
+    /// A step was made; this is printed.
+    Label(Label),
+    /// No step is next.
+    Quiet,
+}
+
+/// The Plug and Play manager over a rack of drivers: devices arrive and depart, drivers are chosen by INFs and asked, one
+/// step at a time, in the order of the machine's definition, whose steps are this project's own. A contract sees the INFs,
+/// the budget, how many events happened, and the machine's whole state, which is always one of a run.
+#[derive(Drop)]
+pub struct Manager<R: Drivers> {
+    infs: Vec<Inf>,
+    budget: u64,
+    events: u64,
+    machine: Machine<R>,
+}
+
+impl<R: Drivers> Model for Manager<R> {
+    ghost use Rattle.pnp_machine.specs.Managers.{Manager, IsManager};
+
+    ghost Value = { Manager };
+
+    ghost view = { λ m. record { infs = m.infs.items; budget = m.budget; events = m.events; state = m.machine } };
+
+    ghost invariant = { λ m. IsManager m.infs.items m.budget m.events m.machine };
+}
+
+impl<R: Drivers> Manager<R> {
+    /// The root alone, with the drivers of a rack. Condition: there are at most 64 INFs.
+    pub fn new(
+        alloc: Global,
+        infs: Vec<Inf>,
+        rack: R,
+        budget: u64,
+    ) -> Result<Manager<R>, WantOfMemory>
+        requires { length infs.items ≤ 64 }
+        ensures { IfOk result (λ m. m ≡ record { infs = infs.items; budget = budget; events = 0; state = opening (R.rows rack) }) }
+    {
+        let machine = Machine::new(alloc, rack)?;
+        Ok(Manager {
+            infs,
+            budget,
+            events: 0,
+            machine,
+        })
+    }
+
+    /// An event happens, at a quiet state: exactly what the machine's definition says, which for a refusal is a label with
+    /// the reason and no change. Conditions: the state is quiet, the event's parts of the machine are built, it has at most
+    /// 64 IDs of each sort, and fewer than 2^24 events happened before. After want of memory the manager is as before.
+    /// Cost: near that of the look-ups by path and name.
+    pub fn apply(&mut self, event: Event) -> Result<Label, WantOfMemory>
+        requires quiet { IsQuiet (settings self.old) self.old.state }
+        requires built { is_built event ≡ true }
+        requires ids { HasFewIds event }
+        requires events { self.old.events < 2 ^ 24 }
+        ensures done { IfOk result (λ label. IsDone (happens self.old.state event) label self.new.state) }
+        ensures count { OnOk result (self.new ≡ record self.old { events = self.old.events + 1; state = self.new.state }) }
+        ensures laws { IfOk result (λ label. KeepsLaws label self.old.state self.new.state) }
+        ensures run { OnOk result (IsRunOf (settings self.new) self.new.events self.new.state) }
+        ensures err { OnErr result (self.new ≡ self.old) }
+    {
+        let label = self.machine.apply(event)?;
+        self.events += 1;
+        Ok(label)
+    }
+
+    /// The next step of the machine, exactly as its definition says. Quiet comes exactly where no step is next, and then
+    /// nothing changes. Condition: at most 2^24 events happened. After want of memory the manager and every book are as
+    /// before, no driver was asked, and the same step can be tried again. Cost: that of what the step does.
+    pub fn step(&mut self) -> Result<Moved, WantOfMemory>
+        requires events { self.old.events ≤ 2 ^ 24 }
+        ensures moves { IfOk result (λ moved. Moves (settings self.old) self.old.state moved self.new.state) }
+        ensures same { self.new ≡ record self.old { state = self.new.state } }
+        ensures laws { IfOk result (λ moved. LawsOf moved self.old.state self.new.state) }
+        ensures run { IsRunOf (settings self.new) self.new.events self.new.state }
+        ensures err { OnErr result (self.new ≡ self.old) }
+    {
+        self.machine.step(&self.infs)
+    }
+
+    /// Whether no step is next.
+    pub fn is_quiet(&self) -> bool
+        ensures { IfQuiet result (settings self.now) self.now.state }
+    {
+        self.machine.is_quiet()
+    }
+
+    /// The device nodes.
+    pub fn tree(&self) -> &Tree
+        ensures { result.now.nodes ≡ self.now.state.core.nodes }
+    {
+        self.machine.devices.tree()
+    }
+
+    /// The end of the output: the tree, what is held, and the requests that are outstanding. Cost: the number of nodes
+    /// times its logarithm.
+    pub fn ending(&self, alloc: Global) -> Result<Vec<u8>, WantOfMemory>
+        ensures { IfOk result (λ text. text.items ≡ joined (ending self.now.state)) }
+    {
+        self.machine.ending(alloc)
+    }
+}
