@@ -28,8 +28,20 @@ AddReg=R
 HKR,,"LowerFilters",0x00010000,"low"
 "#;
 
-/// Two Scripted drivers, four Steady ones and a Stubborn one.
-fn own_rack(alloc: Global) -> Result<Vec<Box<dyn Driver>>, Fail> {
+/// The names of at most two INFs.
+const NAMES: [&str; 2] = ["1", "2"];
+
+/// Runs a script with these INFs over two Scripted drivers, four Steady ones and a Stubborn one, and compares the status
+/// and what the sink took.
+fn writes(
+    rt: &impl Abort,
+    alloc: Global,
+    infs: &[&[u8]],
+    script: &str,
+    mut sink: MemSink,
+    status: Status,
+    text: &[u8],
+) -> Result<(), Fail> {
     let mut rack: Vec<Box<dyn Driver>> = Vec::new(alloc);
     for _ in 0..2 {
         rack.push(Box::new(alloc, Scripted::make(alloc)?)?)?;
@@ -38,22 +50,6 @@ fn own_rack(alloc: Global) -> Result<Vec<Box<dyn Driver>>, Fail> {
         rack.push(Box::new(alloc, Steady::make())?)?;
     }
     rack.push(Box::new(alloc, Stubborn::make())?)?;
-    Ok(rack)
-}
-
-/// The names of at most two INFs.
-const NAMES: [&str; 2] = ["1", "2"];
-
-/// Runs a script with these INFs, and compares the status and what was written.
-fn runs(
-    rt: &impl Abort,
-    alloc: Global,
-    infs: &[&[u8]],
-    script: &str,
-    status: Status,
-    text: &str,
-) -> Result<(), Fail> {
-    let rack = own_rack(alloc)?;
     assert!(rt; rack.len() < 8);
     let mut words = words_of(alloc, &["pnpmgr", "s"])?;
     let mut files = MemFiles::new(alloc);
@@ -62,11 +58,23 @@ fn runs(
         words.push(String::from_str(alloc, name)?)?;
         files.add(name.as_bytes(), inf)?;
     }
-    let mut sink = MemSink::new(alloc, 4096)?;
     let answer = run(alloc, &words, rack, &mut files, &mut sink);
     assert_eq!(rt; answer, status);
-    assert!(rt; sink.taken() == text.as_bytes(), "{:?}", sink.taken());
+    assert!(rt; sink.taken() == text, "{:?}", sink.taken());
     Ok(())
+}
+
+/// The same with room for all that is written.
+fn runs(
+    rt: &impl Abort,
+    alloc: Global,
+    infs: &[&[u8]],
+    script: &str,
+    status: Status,
+    text: &str,
+) -> Result<(), Fail> {
+    let sink = MemSink::new(alloc, 4096)?;
+    writes(rt, alloc, infs, script, sink, status, text.as_bytes())
 }
 
 const ONE_DEVICE_SCRIPT: &str = r"driver dev steady
@@ -546,7 +554,7 @@ fn an_inf_in_utf16(rt: HostRuntime) -> Result<(), Fail> {
     Ok(())
 }
 
-/// The device of one row, where the sink takes so many bytes and a write fails.
+/// The script of one device, where the sink takes so many bytes and a write fails.
 fn fails_to_write(
     rt: &impl Abort,
     alloc: Global,
@@ -554,20 +562,18 @@ fn fails_to_write(
     call: u64,
     taken: &[u8],
 ) -> Result<(), Fail> {
-    let rack = own_rack(alloc)?;
-    assert!(rt; rack.len() < 8);
-    let mut files = MemFiles::new(alloc);
-    files.add(b"s", ONE_DEVICE_SCRIPT.as_bytes())?;
-    files.add(b"1", OWN_INF.as_bytes())?;
     let mut sink = MemSink::new(alloc, room)?;
     sink.fail_at(call)?;
-    let words = words_of(alloc, &["pnpmgr", "s", "1"])?;
-    assert_eq!(rt;
-        run(alloc, &words, rack, &mut files, &mut sink),
-        Status::WriteFault
-    );
-    assert_eq!(rt; sink.taken(), taken);
-    Ok(())
+    let infs = [OWN_INF.as_bytes()];
+    writes(
+        rt,
+        alloc,
+        &infs,
+        ONE_DEVICE_SCRIPT,
+        sink,
+        Status::WriteFault,
+        taken,
+    )
 }
 
 #[test]
