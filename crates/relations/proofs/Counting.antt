@@ -1,18 +1,15 @@
 -- How often serials stand in lists.
-use Rattle.std.proofs.Common.{◌≡◌, ◌≢◌, ℕ, zero, suc, ◌+◌, ◌<◌, ◌≤◌, ◌==◌, ◌⊎◌, inl, inr, Bool, true, false, not, ◌&&◌, cond, nat_lt, List, [], ◌∷◌, ◌++◌, length, map, is_some, Option, Some, None, refl, sym, ap, ◌∙◌, subst, arith}
-use Rattle.std.specs.List.{sum_by, count_by, list_any}
-use Rattle.std.specs.List.Sorted.{IsPermutation}
+use Rattle.std.proofs.Common.{◌≡◌, ℕ, suc, ◌+◌, ◌<◌, ◌==◌, inl, inr, Bool, true, false, not, ◌&&◌, cond, nat_lt, List, [], ◌∷◌, ◌++◌, length, map, is_some, Option, Some, refl, sym, ap, ◌∙◌, subst, arith}
+use Rattle.std.specs.List.{count_by}
 use Rattle.std.proofs.lemmas.Bool.{cases_eq}
 use Rattle.std.proofs.lemmas.Bool.Decides.{nat_tests}
 use Rattle.std.proofs.lemmas.List.Sums.{sum_by-cons, sum_by-append}
-use Rattle.std.proofs.lemmas.List.Sorted.{sum_by_pushed, sum_by_popped}
 use Rattle.pnp_model.specs.Keyed.{without_first, those}
 use Rattle.pnp_model.specs.Tests.{has}
 use Rattle.pnp_model.specs.Cores.{node_at, serials_of}
 use Rattle.pnp_model.specs.Records.{Node, Relation}
 use Rattle.pnp_model.specs.Trees.{is_child}
 use Rattle.pnp_laws.specs.Kept.{Ascending, Distinct}
-use Rattle.pnp_laws.proofs.Lookups.{own_serial, none_below}
 use Rattle.devnode_tree.specs.Entries.{child_serials}
 use Rattle.relations.specs.Leaving.{members_of, owners_of, is_there, parents_of, below, over}
 use Rattle.relations.specs.Queues.{number}

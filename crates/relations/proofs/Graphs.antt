@@ -1,14 +1,12 @@
 -- Who depends directly on whom, by the lists that the code goes through.
-use Rattle.std.proofs.Common.{◌≡◌, ℕ, zero, suc, ◌+◌, ◌<◌, ◌≤◌, ◌==◌, Bool, true, false, ◌&&◌, cond, List, [], ◌∷◌, ◌++◌, length, map, take, drop, slice_get, get_or, Option, Some, None, is_some, refl, sym, ap, ◌∙◌, subst, arith, append_assoc, append-nil, drop-cons, add-one}
+use Rattle.std.proofs.Common.{◌≡◌, ℕ, zero, suc, ◌+◌, ◌≤◌, ◌==◌, Bool, List, [], ◌∷◌, ◌++◌, length, map, take, drop, slice_get, Some, refl, sym, ap, ◌∙◌, arith, append-nil, add-one}
 use Rattle.std.specs.List.{filter, sum_by}
-use Rattle.std.proofs.lemmas.Bool.Decides.{nat_tests}
 use Rattle.std.proofs.Math.ListN.{drop_of_length-le}
 use Rattle.pnp_model.specs.Keyed.{those}
-use Rattle.pnp_model.specs.Cores.{node_at}
 use Rattle.pnp_model.specs.Records.{Node, Relation}
 use Rattle.relations.specs.declared.edges.Edge.{Edge}
 use Rattle.relations.specs.Edges.{SameSums, to_member, to_owner}
-use Rattle.relations.specs.Leaving.{is_there, members_of, owners_of, below, over}
+use Rattle.relations.specs.Leaving.{is_there, members_of, owners_of}
 use Rattle.relations.proofs.Sums.{those_filter, filter_map, same_map, same_filter, same_append}
 
 abbrev pub ends : List Edge → List ℕ

@@ -1,10 +1,7 @@
 -- The edges of relations, by owner and by member.
-use Rattle.std.proofs.Common.{◌≡◌, ℕ, ◌==◌, Bool, true, false, not, ◌&&◌, ◌||◌, cond, List, [], ◌∷◌, ◌++◌, map, refl, sym, ap, ◌∙◌, arith}
+use Rattle.std.proofs.Common.{◌≡◌, ℕ, ◌==◌, Bool, ◌&&◌, ◌||◌, List, [], ◌∷◌, map, refl, sym, ap, ◌∙◌, arith}
 use Rattle.std.specs.List.{filter, list_any, sum_by}
-use Rattle.std.specs.List.Sorted.{IsNonDecreasingBy}
 use Rattle.std.proofs.lemmas.List.Kept.{IsNonDecreasingBy-filter}
-use Rattle.std.proofs.lemmas.Bool.Decides.{nat_tests}
-use Rattle.pnp_model.specs.Keyed.{those}
 use Rattle.pnp_model.specs.Records.{Relation}
 use Rattle.pnp_model.specs.Tests.{same_rel}
 use Rattle.pnp_model.specs.Cores.{forget, is_apart_from}
@@ -12,7 +9,7 @@ use Rattle.pnp_model.specs.Events.{is_relation}
 use Rattle.pnp_labels.specs.declared.words.RelKind.{RelKind}
 use Rattle.relations.specs.declared.edges.Edge.{Edge}
 use Rattle.relations.specs.Edges.{SameSums, is_apart, is_edge, to_member, to_owner, IsIndexed}
-use Rattle.relations.proofs.Sums.{those_filter, any_same, any_filter, any_agree, filter_agree, same_filter, same_cons, push_front, filter_map}
+use Rattle.relations.proofs.Sums.{those_filter, any_same, any_filter, any_agree, filter_agree, same_filter, filter_map}
 
 pub forget_is : (k : ℕ) (rs : List Relation) → filter (is_apart_from k) rs ≡ forget k rs
 forget_is k rs = sym (those_filter (is_apart_from k) rs)

@@ -1,5 +1,5 @@
 -- Again and again the greatest device on which nothing depends that is left.
-use Rattle.std.proofs.Common.{◌≡◌, ◌≢◌, ℕ, zero, suc, ◌+◌, ◌-◌, ◌*◌, ◌<◌, ◌≤◌, ◌==◌, ◌⊎◌, inl, inr, Bool, true, false, not, ◌&&◌, cond, nat_lt, nat_eq, List, [], ◌∷◌, ◌++◌, length, length-append, take, get_or, Option, Some, None, is_some, option_map, IfSome, refl, sym, ap, ◌∙◌, subst, arith, append_assoc, append-nil}
+use Rattle.std.proofs.Common.{◌≡◌, ◌≢◌, ℕ, zero, suc, ◌+◌, ◌-◌, ◌*◌, ◌<◌, ◌≤◌, ◌==◌, ◌⊎◌, inl, inr, Bool, true, false, not, ◌&&◌, cond, nat_eq, List, [], ◌∷◌, ◌++◌, length, length-append, take, get_or, Option, Some, None, is_some, option_map, IfSome, refl, sym, ap, ◌∙◌, subst, arith, append_assoc, append-nil}
 use Rattle.std.specs.List.{count_by, list_any}
 use Rattle.std.specs.List.Sorted.{IsPermutation}
 use Rattle.std.specs.HashMap.{HashMap, get}
@@ -25,7 +25,7 @@ use Rattle.relations.specs.Searches.{IsSet}
 use Rattle.relations.specs.Queues.{number, freed, is_zero, IsLowered, Joins, HasFree}
 use Rattle.relations.proofs.Directs.{hangs_listed, listed_hangs}
 use Rattle.relations.proofs.Searching.{below_inside, inside_there}
-use Rattle.relations.proofs.Counting.{one_if, count-cons, number_none, number_some, has_some, number_one, count_all, count_none, none_counted, has_without, distinct_without, count_without, number_edges}
+use Rattle.relations.proofs.Counting.{one_if, count-cons, number_none, has_some, number_one, count_all, count_none, none_counted, has_without, distinct_without, count_without, number_edges}
 
 -- Small steps of the queue ---------------------------------------------------------------
 

@@ -1,18 +1,18 @@
 -- One search from a device finds all that depends on it.
-use Rattle.std.proofs.Common.{◌≡◌, ◌≢◌, ℕ, zero, suc, ◌+◌, ◌-◌, ◌<◌, ◌≤◌, ◌==◌, ◌⊎◌, inl, inr, Bool, true, false, cond, List, [], ◌∷◌, ◌++◌, length, take, get_or, Option, Some, None, is_some, nat_eq, refl, sym, ap, ◌∙◌, subst, arith, take_all}
-use Rattle.std.specs.List.{sum_by, list_any}
+use Rattle.std.proofs.Common.{◌≡◌, ◌≢◌, ℕ, zero, suc, ◌+◌, ◌-◌, ◌<◌, ◌≤◌, ◌==◌, inl, inr, Bool, true, false, cond, List, [], ◌∷◌, ◌++◌, length, take, get_or, Some, None, is_some, nat_eq, refl, sym, ap, ◌∙◌, subst, arith, take_all}
+use Rattle.std.specs.List.{sum_by}
 use Rattle.std.specs.HashMap.{HashMap, get}
 use Rattle.std.proofs.lemmas.Bool.{cases_eq}
 use Rattle.std.proofs.lemmas.Bool.Decides.{nat_tests}
 use Rattle.std.proofs.lemmas.List.{take_more, take-append-le}
 use Rattle.std.proofs.lemmas.List.Sums.{sum_by-cons}
-use Rattle.pnp_model.specs.Keyed.{without_first, those}
+use Rattle.pnp_model.specs.Keyed.{without_first}
 use Rattle.pnp_model.specs.Tests.{has}
 use Rattle.pnp_model.specs.Cores.{node_at}
 use Rattle.pnp_model.specs.Records.{Node, Relation}
 use Rattle.pnp_model.specs.Trees.{hangs_on, set_of, direct, dependents}
 use Rattle.pnp_laws.specs.Kept.{Ascending, Distinct, Within}
-use Rattle.pnp_laws.proofs.Lists.{has-append, those_found}
+use Rattle.pnp_laws.proofs.Lists.{those_found}
 use Rattle.pnp_laws.proofs.Closures.{Closed, closed_in_all, grown_from, closed_keeps, closed_within, hangs_some, hangs_more, set_within}
 use Rattle.pnp_laws.proofs.Orders.{without_length}
 use Rattle.pnp_laws.proofs.Finishes.{set_is_closed}

@@ -1,4 +1,4 @@
-use Rattle.std.proofs.Common.{◌∙◌, ◌++◌, ap, arith}
+use Rattle.std.proofs.Common.{◌∙◌, ◌++◌, ap}
 use Rattle.std.specs.List.{sum_by}
 use Rattle.pnp_model.specs.Keyed.{those}
 use Rattle.devnode_tree.specs.Entries.{child_serials}

@@ -1,4 +1,4 @@
-use Rattle.std.proofs.Common.{◌≡◌, ◌<◌, ◌∙◌, length, get_or, ap, sym, subst, arith}
+use Rattle.std.proofs.Common.{◌≡◌, ◌<◌, ◌∙◌, length, get_or, ap, sym}
 use Rattle.std.specs.BinaryHeap.{heap_items}
 use Rattle.relations.proofs.Queueing.{free_more}
 use Rattle.relations.proofs.queue.free_of.Goals as goal

@@ -1,7 +1,5 @@
-use Rattle.std.proofs.Common.{◌≡◌, ℕ, ◌<◌, ◌+◌, ◌-◌, ◌∙◌, ◌++◌, [], ◌∷◌, List, ap, sym, subst, length, arith, length-append}
+use Rattle.std.proofs.Common.{◌≡◌, ℕ, ◌+◌, ◌∙◌, [], ◌∷◌, List, ap, sym, subst, length, arith, length-append}
 use Rattle.std.specs.BinaryHeap.{heap_items}
-use Rattle.pnp_model.specs.Trees.{leaving}
-use Rattle.relations.specs.Leaving.{base}
 use Rattle.relations.proofs.Bases.{leaving_same}
 use Rattle.relations.proofs.Directs.{ascending, there_found}
 use Rattle.relations.proofs.Queueing.{running_none, running_next, running_end, enough, shorter, empty_of, Running}

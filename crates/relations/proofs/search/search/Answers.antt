@@ -1,4 +1,4 @@
-use Rattle.std.proofs.Common.{◌≡◌, ◌<◌, ◌≤◌, ◌-◌, ◌∙◌, ap, sym, subst, length, refl, arith}
+use Rattle.std.proofs.Common.{◌≡◌, ◌<◌, ◌≤◌, length, arith}
 use Rattle.relations.proofs.Directs.{ascending, there_found}
 use Rattle.relations.proofs.Notings.{kept_counted, empty_none}
 use Rattle.relations.proofs.Searching.{at_has, searched_none, searched_next, searched_most, searched_all}
