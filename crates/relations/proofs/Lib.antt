@@ -1,0 +1,11 @@
+pub mod Cutting
+pub mod Sums
+pub mod Indexes
+pub mod Graphs
+pub mod Bases
+pub mod Directs
+pub mod Notings
+pub mod Searching
+pub mod Counting
+pub mod Queueing
+pub mod Relating

@@ -1,0 +1,115 @@
+-- Two devices are related, by what was found.
+use Rattle.std.proofs.Common.{◌≡◌, ◌≢◌, ℕ, ◌==◌, Bool, true, false, ◌&&◌, List, [], ◌∷◌, ◌++◌, Option, Some, None, is_some, Result, Ok, Err, refl, sym, ap, ◌∙◌, subst, arith}
+use Rattle.std.specs.List.{list_any}
+use Rattle.std.proofs.lemmas.Bool.Decides.{nat_tests}
+use Rattle.resource_reqs.specs.Resources.{Res}
+use Rattle.pnp_model.specs.Tests.{has, is_started}
+use Rattle.pnp_model.specs.Cores.{node_at}
+use Rattle.pnp_model.specs.Records.{Node, Core, Driver, Relation, State}
+use Rattle.pnp_model.specs.Trees.{dependents, is_up}
+use Rattle.pnp_model.specs.States.{with_core}
+use Rattle.pnp_labels.specs.Texts.{spaced}
+use Rattle.pnp_labels.specs.declared.label.EventWord.{EventWord}
+use Rattle.pnp_model.specs.Events.{did, is_relation, relate_two, relate_new, relate_free, relate_up}
+use Rattle.pnp_labels.specs.declared.words.RelKind.{RelKind}
+use Rattle.pnp_laws.proofs.Lookups.{own_serial}
+use Rattle.relations.specs.Leaving.{core_of, base}
+use Rattle.relations.specs.Relating.{Relates, RelatesFor, RelatesFree, are_up}
+use Rattle.relations.specs.declared.error.RelateError.{RelateError}
+use Rattle.relations.specs.declared.error.RelateError.TheVariants.{SelfRelation, SameRelation, RelationCycle, NotStarted, WantOfMemory}
+use Rattle.relations.proofs.Bases.{dependents_same}
+
+-- what holds of the two nodes holds of the devices
+pub for_nodes : (nodes : List Node) (owner member : ℕ) (kind : RelKind) (old new : List Relation) (result : Result (Unit {0}) RelateError)
+    → is_some (node_at owner nodes) ≡ true → is_some (node_at member nodes) ≡ true
+    → ((o m : Node) → node_at owner nodes ≡ Some o → node_at member nodes ≡ Some m → o.serial ≡ owner → m.serial ≡ member →
+    (s : State) (rack : List Driver) (reserved : List Res) → s.core ≡ core_of nodes old rack reserved → Relates s kind o m old result new)
+    → RelatesFor (node_at owner nodes) (node_at member nodes) nodes kind old result new
+for_nodes nodes owner member kind old new result there_o there_m h = by (node_at owner nodes) (node_at member nodes) refl refl there_o there_m
+  where
+    by : (o m : Option Node) → node_at owner nodes ≡ o → node_at member nodes ≡ m → is_some o ≡ true → is_some m ≡ true → RelatesFor o m nodes kind old result new
+    by None m e f a b = absurd (cc)
+    by (Some o) None e f a b = absurd (cc)
+    by (Some o) (Some m) e f a b = h o m e f (own_serial owner o nodes e) (own_serial member m nodes f)
+
+module _ (nodes : List Node) (owner member : ℕ) (kind : RelKind) (old : List Relation) (there_o : is_some (node_at owner nodes) ≡ true) (there_m : is_some (node_at member nodes) ≡ true) where
+  self_related : owner ≡ member → RelatesFor (node_at owner nodes) (node_at member nodes) nodes kind old (Err SelfRelation) old
+  self_related e =
+      for_nodes nodes owner member kind old old (Err SelfRelation) there_o there_m
+      (λ o m a b p q s rack reserved c.
+      let one : (o.serial == m.serial) ≡ true = grind (arith, nat_tests) in
+      (refl, ap (λ x. relate_two s kind o m x) one))
+
+  module _ (apart : owner ≢ member) where
+    not_one : (o m : Node) → o.serial ≡ owner → m.serial ≡ member → (o.serial == m.serial) ≡ false
+    not_one o m p q = grind (arith, nat_tests)
+
+    same_at : (o m : Node) (s : State) (rack : List Driver) (reserved : List Res) → o.serial ≡ owner → m.serial ≡ member → s.core ≡ core_of nodes old rack reserved
+        → list_any (is_relation kind o.serial m.serial) s.core.relations ≡ list_any (is_relation kind owner member) old
+    same_at o m s rack reserved p q c =
+        ap (λ (x : Core). list_any (is_relation kind o.serial m.serial) x.relations) c
+        ∙ (ap (λ i. list_any (is_relation kind i m.serial) old) p ∙ ap (λ i. list_any (is_relation kind owner i) old) q)
+
+    pub same_related : list_any (is_relation kind owner member) old ≡ true → RelatesFor (node_at owner nodes) (node_at member nodes) nodes kind old (Err SameRelation) old
+    same_related same =
+        for_nodes nodes owner member kind old old (Err SameRelation) there_o there_m
+        (λ o m a b p q s rack reserved c.
+        (refl, ap (λ x. relate_two s kind o m x) (not_one o m p q) ∙ ap (λ x. relate_new s kind o m x) (same_at o m s rack reserved p q c ∙ same)))
+
+    module _ (fresh : list_any (is_relation kind owner member) old ≡ false) where
+      depends_at : (o m : Node) (s : State) (rack : List Driver) (reserved : List Res) → o.serial ≡ owner → m.serial ≡ member → s.core ≡ core_of nodes old rack reserved
+          → has (dependents s.core m.serial) o.serial ≡ has (dependents (base nodes old) member) owner
+      depends_at o m s rack reserved p q c =
+          ap (λ (x : Core). has (dependents x m.serial) o.serial) c
+          ∙ (ap (λ i. has (dependents (core_of nodes old rack reserved) i) o.serial) q
+          ∙ (ap (λ i. has (dependents (core_of nodes old rack reserved) member) i) p ∙ ap (λ l. has l owner) (dependents_same nodes old rack reserved member)))
+
+      to_free : (o m : Node) (s : State) (rack : List Driver) (reserved : List Res) → o.serial ≡ owner → m.serial ≡ member → s.core ≡ core_of nodes old rack reserved
+          → (b : Bool) → has (dependents (base nodes old) member) owner ≡ b → relate_two s kind o m (o.serial == m.serial) ≡ relate_free s kind o m b
+      to_free o m s rack reserved p q c b e =
+          ap (λ x. relate_two s kind o m x) (not_one o m p q)
+          ∙ (ap (λ x. relate_new s kind o m x) (same_at o m s rack reserved p q c ∙ fresh)
+          ∙ ap (λ x. relate_free s kind o m x) (depends_at o m s rack reserved p q c ∙ e))
+
+      pub cycle_related : has (dependents (base nodes old) member) owner ≡ true → RelatesFor (node_at owner nodes) (node_at member nodes) nodes kind old (Err RelationCycle) old
+      cycle_related h =
+          for_nodes nodes owner member kind old old (Err RelationCycle) there_o there_m
+          (λ o m a b p q s rack reserved c. (refl, to_free o m s rack reserved p q c true h))
+
+      pub free_related : has (dependents (base nodes old) member) owner ≡ false → (result : Result (Unit {0}) RelateError) (new : List Relation)
+          → RelatesFree (are_up (node_at owner nodes) (node_at member nodes)) (record { kind = kind; owner = owner; member = member }) old result new
+          → RelatesFor (node_at owner nodes) (node_at member nodes) nodes kind old result new
+      free_related h result new free =
+          for_nodes nodes owner member kind old new result there_o there_m
+          (λ o m a b p q s rack reserved c.
+          let ups : are_up (node_at owner nodes) (node_at member nodes) ≡ (is_started o.state && is_started m.state) = ap (λ (x : Option Node). is_up x && is_up (node_at member nodes)) a ∙ ap (λ (x : Option Node). is_started o.state && is_up x) b in
+          let step = to_free o m s rack reserved p q c false h in
+          by_up o m s rack reserved p q c step (is_started o.state && is_started m.state) refl result (subst (λ x. RelatesFree x (record { kind = kind; owner = owner; member = member }) old result new) ups free))
+        where
+          by_up : (o m : Node) (s : State) (rack : List Driver) (reserved : List Res) → o.serial ≡ owner → m.serial ≡ member → s.core ≡ core_of nodes old rack reserved
+              → relate_two s kind o m (o.serial == m.serial) ≡ relate_free s kind o m false
+              → (up : Bool) → (is_started o.state && is_started m.state) ≡ up → (result : Result (Unit {0}) RelateError)
+              → RelatesFree (is_started o.state && is_started m.state) (record { kind = kind; owner = owner; member = member }) old result new → Relates s kind o m old result new
+          by_up o m s rack reserved p q c step up e result free = by up result (subst (λ x. RelatesFree x (record { kind = kind; owner = owner; member = member }) old result new) e free) (step ∙ ap (λ x. relate_up s kind o m x) e)
+            where
+              pushed : List Relation
+              pushed = old ++ record { kind = kind; owner = owner; member = member } ∷ []
+
+              by : (up : Bool) (result : Result (Unit {0}) RelateError) → RelatesFree up (record { kind = kind; owner = owner; member = member }) old result new
+                  → relate_two s kind o m (o.serial == m.serial) ≡ relate_up s kind o m up → Relates s kind o m old result new
+              by true (Ok done) f g =
+                  let is : s.core.relations ++ record { kind = kind; owner = o.serial; member = m.serial } ∷ [] ≡ new =
+                  ap (λ (x : Core). x.relations ++ record { kind = kind; owner = o.serial; member = m.serial } ∷ []) c
+                  ∙ (ap (λ i. old ++ record { kind = kind; owner = i; member = m.serial } ∷ []) p ∙ (ap (λ i. old ++ record { kind = kind; owner = owner; member = i } ∷ []) q ∙ sym f)) in
+                  g ∙ ap (λ rs. did EventWord.Relate (spaced (o.path ∷ m.path ∷ [])) (with_core (record s.core { relations = rs }) s)) is
+              by false (Ok done) f g = absurd f
+              by true (Err NotStarted) f g = absurd f
+              by false (Err NotStarted) f g = (f, g)
+              by true (Err WantOfMemory) f g = f
+              by false (Err WantOfMemory) f g = f
+              by true (Err SelfRelation) f g = absurd f
+              by true (Err SameRelation) f g = absurd f
+              by true (Err RelationCycle) f g = absurd f
+              by false (Err SelfRelation) f g = absurd f
+              by false (Err SameRelation) f g = absurd f
+              by false (Err RelationCycle) f g = absurd f

@@ -1,0 +1,17 @@
+//! Which devices lose their drivers with which others, and in which order devices leave.
+#![tactic(auto)]
+
+mod edges;
+mod error;
+mod graph;
+mod queue;
+mod relation;
+mod relations;
+mod search;
+mod serial_set;
+#[cfg(test)]
+mod tests;
+
+pub use error::RelateError;
+pub use relations::Relations;
+pub use serial_set::SerialSet;
