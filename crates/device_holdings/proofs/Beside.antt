@@ -1,5 +1,5 @@
 -- The fixed pairs of a search are those of what is reserved and of what all others hold.
-use Rattle.std.proofs.Common.{◌≡◌, ℕ, ◌≤◌, Bool, true, false, not, cond, List, [], ◌∷◌, ◌++◌, map, filter, length, Contains, Result, Ok, Err, IfOk, refl, sym, ap, ◌∙◌, subst, arith, ◌⊎◌, inl, inr}
+use Rattle.std.proofs.Common.{◌≡◌, ℕ, Bool, true, false, not, cond, List, [], ◌∷◌, ◌++◌, Contains, Result, Ok, Err, IfOk, refl, sym, ap, ◌∙◌, subst, arith, inl, inr}
 use Rattle.std.specs.Prelude.{IsPermutation}
 use Rattle.std.proofs.lemmas.Bool.{cases_Bool}
 use Rattle.std.proofs.lemmas.List.Elements.{filter-append}
@@ -20,7 +20,7 @@ use Rattle.pnp_model.specs.Tests.{has}
 use Rattle.pnp_model.specs.Frames.{held_by, is_beside}
 use Rattle.pnp_model.specs.Records.{Node}
 use Rattle.device_holdings.specs.Mirrors.{pairs_of, node_pairs, held_pairs, lists_with, Mirrors}
-use Rattle.device_holdings.specs.Answers.{held_beside, needs_of}
+use Rattle.device_holdings.specs.Answers.{held_beside}
 use Rattle.device_holdings.proofs.Putting.{permuted}
 use Rattle.device_holdings.proofs.Clashing.{res_own}
 

@@ -1,5 +1,5 @@
 -- Pairs that are put into the four lists: in any order they give the same lists.
-use Rattle.std.proofs.Common.{◌≡◌, ℕ, zero, suc, ◌≤◌, ◌+◌, List, [], ◌∷◌, ◌++◌, map, take, drop, length, slice_get, Some, None, Contains, refl, sym, ap, ◌∙◌, subst, arith}
+use Rattle.std.proofs.Common.{◌≡◌, ℕ, zero, suc, ◌≤◌, ◌+◌, List, [], ◌∷◌, ◌++◌, take, drop, length, slice_get, Some, None, Contains, refl, sym, ap, ◌∙◌, subst, arith}
 use Rattle.std.specs.Prelude.{IsPermutation}
 use Rattle.std.proofs.lemmas.List.{append_assoc}
 use Rattle.std.proofs.lemmas.List.Sorted.{IsPermutation-refl, IsPermutation-cons, IsPermutation-trans}
@@ -7,7 +7,7 @@ use Rattle.resource_reqs.specs.declared.kind.Kind.{Kind}
 use Rattle.resource_reqs.specs.declared.kind.Kind.TheVariants.{Port, Irq, Mem, Dma}
 use Rattle.resource_reqs.specs.declared.owner.Owner.{Owner}
 use Rattle.resource_reqs.specs.Resources.{Res}
-use Rattle.range_arbiter.specs.Pairs.{Pair, Arbiter, pairs_with}
+use Rattle.range_arbiter.specs.Pairs.{Pair}
 use Rattle.range_arbiter.proofs.PairLists.{with_swapped, length-pairs_with}
 use Rattle.trial_journal.specs.Four.{Arbiters, Lists, lists_of, of_kind, with_kind, arbiter_with, arbiters_with}
 use Rattle.assign_search.specs.Walking.{list_at, put_in}

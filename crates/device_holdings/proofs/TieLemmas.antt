@@ -1,16 +1,15 @@
 -- Of resources that do not clash no two tie, but for a shared one that is held twice by one device.
-use Rattle.std.proofs.Common.{◌≡◌, ◌≢◌, ℕ, suc, ◌+◌, ◌<◌, ◌≤◌, ◌==◌, ◌⊎◌, inl, inr, Bool, true, false, List, [], ◌∷◌, ◌++◌, map, length, Option, Some, None, Contains, IsTrue, refl, sym, ap, ◌∙◌, subst, arith, codes}
+use Rattle.std.proofs.Common.{◌≡◌, ◌≢◌, ℕ, ◌+◌, ◌<◌, ◌≤◌, ◌⊎◌, inl, inr, true, false, List, [], ◌∷◌, ◌++◌, map, Some, IsTrue, refl, sym, ap, ◌∙◌, subst, arith}
 use Rattle.std.specs.List.{AllByRecursion}
 use Rattle.std.proofs.lemmas.Bool.{cases_Bool, cases_eq}
 use Rattle.std.proofs.lemmas.Bool.Decides.{nat_tests}
-use Rattle.std.proofs.lemmas.List.{append_assoc}
 use Rattle.std.proofs.lemmas.List.Elements.{recursion_from_All}
 use Rattle.resource_reqs.specs.declared.owner.Owner.{Owner}
 use Rattle.resource_reqs.specs.declared.owner.Owner.TheVariants.{Reserved, Device}
-use Rattle.resource_reqs.specs.Resources.{Res, Clash, Free, NoClash}
+use Rattle.resource_reqs.specs.Resources.{Res, Clash, NoClash}
 use Rattle.range_arbiter.specs.Pairs.{Pair}
-use Rattle.pnp_model.specs.Cores.{is_node, node_at, serials_of, path_of}
-use Rattle.pnp_model.specs.Endings.{Held, reserved_rows, node_rows}
+use Rattle.pnp_model.specs.Cores.{node_at, serials_of, path_of}
+use Rattle.pnp_model.specs.Endings.{reserved_rows, node_rows}
 use Rattle.pnp_model.specs.Records.{Node}
 use Rattle.devnode_tree.specs.Trees.{Ascends}
 use Rattle.device_holdings.specs.Mirrors.{pairs_of, node_pairs, held_pairs}

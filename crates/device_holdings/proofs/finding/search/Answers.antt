@@ -1,4 +1,4 @@
-use Rattle.std.proofs.Common.{◌≡◌, ◌≤◌, ◌^◌, length, map, sym, ap, ◌∙◌, subst}
+use Rattle.std.proofs.Common.{◌≡◌, ◌≤◌, ◌^◌, length, map, ap, ◌∙◌, subst}
 use Rattle.trial_journal.specs.Four.{all_pairs}
 use Rattle.resource_reqs.specs.Spelling.{IsAnswer}
 use Rattle.assign_search.specs.Fixed as Fixed

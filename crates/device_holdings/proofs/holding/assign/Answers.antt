@@ -1,12 +1,11 @@
-use Rattle.std.proofs.Common.{◌≡◌, ◌+◌, ◌≤◌, ◌^◌, ◌++◌, List, length, sym, ap, subst, ◌∙◌}
+use Rattle.std.proofs.Common.{◌≡◌, ◌+◌, ◌≤◌, ◌^◌, ◌++◌, List, length, sym, subst, ◌∙◌}
 use Rattle.resource_reqs.specs.Resources.{Res}
 use Rattle.resource_reqs.specs.declared.owner.Owner.TheVariants.{Device}
-use Rattle.range_arbiter.specs.Pairs.{Pair}
 use Rattle.trial_journal.specs.Four.{Lists, lists_of}
 use Rattle.pnp_model.specs.Cores.{node_at}
 use Rattle.assign_search.specs.Walking.{list_at}
 use Rattle.devnode_tree.specs.Trees.{Tree}
-use Rattle.device_holdings.specs.Mirrors.{pairs_of, lists_with, Mirrors}
+use Rattle.device_holdings.specs.Mirrors.{pairs_of, Mirrors}
 use Rattle.device_holdings.proofs.Apart.{holds_of, pairs_beside, mirrors_same, swapped_out, old_first, assigned}
 use Rattle.device_holdings.proofs.holding.assign.Goals as goal
 use Rattle.device_holdings.proofs.holding.assign.Goals.{After-swap_holds-old}
@@ -22,9 +21,10 @@ with_room c reserved m = mirrors_same reserved c.args.tree.now.nodes c.args.arbi
 pub take_all-requires : goal.take_all-requires
 take_all-requires c =
     let at = (goal.at.take_all-requires c).After-swap_holds-old in
-    let k = c.args.serial in let nodes = c.args.tree.now.nodes in let reserved = c.requires.mirrored.0 in
-    (pairs_of (Device k) c.args.holds ++ pairs_beside reserved k nodes,
-    old_first reserved k nodes c.swap_holds-old.result (was_held at) c.make_room.new.arbiters (with_room at reserved c.requires.mirrored.1) c.args.holds c.put_all.new.arbiters c.put_all.ensures.put)
+    let k = c.args.serial in let nodes = c.args.tree.now.nodes in let reserved = c.requires.mirrored.0 in (
+      pairs_of (Device k) c.args.holds ++ pairs_beside reserved k nodes,
+      old_first reserved k nodes c.swap_holds-old.result (was_held at) c.make_room.new.arbiters (with_room at reserved c.requires.mirrored.1) c.args.holds c.put_all.new.arbiters c.put_all.ensures.put,
+    )
 
 pub returns-clause-mirrors : goal.returns-clause-mirrors
 returns-clause-mirrors c = λ reserved m.

@@ -1,4 +1,4 @@
-use Rattle.std.proofs.Common.{◌∙◌, subst, sym, ap}
+use Rattle.std.proofs.Common.{◌∙◌, subst, sym}
 use Rattle.pnp_model.specs.Cores.{node_at}
 use Rattle.devnode_tree.specs.Trees.{Tree}
 use Rattle.device_holdings.specs.Mirrors.{Mirrors}

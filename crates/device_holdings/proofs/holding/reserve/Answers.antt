@@ -1,6 +1,5 @@
-use Rattle.std.proofs.Common.{◌≡◌, ◌+◌, ◌≤◌, ◌^◌, ◌++◌, [], ◌∷◌, List, length, sym, ap, subst}
+use Rattle.std.proofs.Common.{◌+◌, ◌≤◌, ◌^◌, List, length, sym, subst}
 use Rattle.resource_reqs.specs.Resources.{Res}
-use Rattle.trial_journal.specs.Four.{lists_of}
 use Rattle.assign_search.specs.Walking.{list_at}
 use Rattle.trial_journal.specs.Four.{Lists}
 use Rattle.device_holdings.specs.Mirrors.{Mirrors}

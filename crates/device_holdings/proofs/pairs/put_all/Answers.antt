@@ -1,4 +1,4 @@
-use Rattle.std.proofs.Common.{◌+◌, arith}
+use Rattle.std.proofs.Common.{arith}
 use Rattle.device_holdings.proofs.Putting.{put_more, spare_put}
 use Rattle.device_holdings.proofs.pairs.put_all.Goals as goal
 
