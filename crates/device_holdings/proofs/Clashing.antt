@@ -1,0 +1,122 @@
+-- What clashes with a range: among the pairs of its kind, and among all.
+use Rattle.std.proofs.Common.{◌≡◌, ℕ, zero, suc, ◌+◌, Bool, true, false, cond, ◌||◌, List, [], ◌∷◌, ◌++◌, take, slice_get, Some, None, refl, sym, ap, ◌∙◌, arith}
+use Rattle.std.specs.List.{list_any}
+use Rattle.std.proofs.lemmas.Bool.Decides.{nat_tests}
+use Rattle.resource_reqs.specs.declared.kind.Kind.{Kind}
+use Rattle.resource_reqs.specs.declared.kind.Kind.TheVariants.{Port, Irq, Mem, Dma}
+use Rattle.resource_reqs.specs.declared.owner.Owner.{Owner}
+use Rattle.resource_reqs.specs.declared.owner.Owner.TheVariants.{Reserved, Device}
+use Rattle.resource_reqs.specs.Resources.{Res, clashes, same_kind}
+use Rattle.range_arbiter.specs.Pairs.{Pair, is_before, pairs_with, res_list}
+use Rattle.trial_journal.specs.Four.{Arbiters, Lists, lists_of}
+use Rattle.assign_search.specs.Walking.{list_at, put_in}
+use Rattle.pnp_model.specs.Frames.{held_by}
+use Rattle.pnp_model.specs.Records.{Node}
+use Rattle.device_holdings.specs.Mirrors.{pairs_of, node_pairs, held_pairs, lists_with, Mirrors}
+
+swapped_or : (a b c : Bool) → (a || (b || c)) ≡ (b || (a || c))
+swapped_or true true c = refl
+swapped_or true false c = refl
+swapped_or false true c = refl
+swapped_or false false c = refl
+
+any_put : (t : Res → Bool) (qs : List Pair) (p : Pair) → list_any t (res_list (pairs_with qs p)) ≡ (t p.1 || list_any t (res_list qs))
+any_put t [] p = refl
+any_put t (q ∷ qs) p = by_test (is_before q p) (any_put t qs p)
+  where
+    by_test : (b : Bool) → list_any t (res_list (pairs_with qs p)) ≡ (t p.1 || list_any t (res_list qs))
+        → list_any t (res_list (cond b (q ∷ pairs_with qs p) (p ∷ q ∷ qs))) ≡ (t p.1 || (t q.1 || list_any t (res_list qs)))
+    by_test true e = ap (λ b. t q.1 || b) e ∙ swapped_or (t q.1) (t p.1) (list_any t (res_list qs))
+    by_test false e = refl
+
+-- of another kind nothing clashes
+other_kind : (r : Res) (p : Pair) (k j : Kind) → r.kind ≡ k → p.1.kind ≡ j → (b : Bool) → same_kind k j ≡ false → (clashes r p.1 || b) ≡ b
+other_kind r p k j e f b apart = rw (e, f, apart) refl
+
+any_in : (r : Res) (l : Lists) (p : Pair) (k j : Kind) → r.kind ≡ k → p.1.kind ≡ j
+    → list_any (clashes r) (res_list (list_at (put_in l j p) k)) ≡ (clashes r p.1 || list_any (clashes r) (res_list (list_at l k)))
+any_in r l p Port Port e f = any_put (clashes r) l.port p
+any_in r l p Irq Irq e f = any_put (clashes r) l.irq p
+any_in r l p Mem Mem e f = any_put (clashes r) l.mem p
+any_in r l p Dma Dma e f = any_put (clashes r) l.dma p
+any_in r l p Port Irq e f = sym (other_kind r p Port Irq e f (list_any (clashes r) (res_list l.port)) refl)
+any_in r l p Port Mem e f = sym (other_kind r p Port Mem e f (list_any (clashes r) (res_list l.port)) refl)
+any_in r l p Port Dma e f = sym (other_kind r p Port Dma e f (list_any (clashes r) (res_list l.port)) refl)
+any_in r l p Irq Port e f = sym (other_kind r p Irq Port e f (list_any (clashes r) (res_list l.irq)) refl)
+any_in r l p Irq Mem e f = sym (other_kind r p Irq Mem e f (list_any (clashes r) (res_list l.irq)) refl)
+any_in r l p Irq Dma e f = sym (other_kind r p Irq Dma e f (list_any (clashes r) (res_list l.irq)) refl)
+any_in r l p Mem Port e f = sym (other_kind r p Mem Port e f (list_any (clashes r) (res_list l.mem)) refl)
+any_in r l p Mem Irq e f = sym (other_kind r p Mem Irq e f (list_any (clashes r) (res_list l.mem)) refl)
+any_in r l p Mem Dma e f = sym (other_kind r p Mem Dma e f (list_any (clashes r) (res_list l.mem)) refl)
+any_in r l p Dma Port e f = sym (other_kind r p Dma Port e f (list_any (clashes r) (res_list l.dma)) refl)
+any_in r l p Dma Irq e f = sym (other_kind r p Dma Irq e f (list_any (clashes r) (res_list l.dma)) refl)
+any_in r l p Dma Mem e f = sym (other_kind r p Dma Mem e f (list_any (clashes r) (res_list l.dma)) refl)
+
+none_empty : (r : Res) (k : Kind) → list_any (clashes r) (res_list (list_at (lists_with []) k)) ≡ false
+none_empty r Port = refl
+none_empty r Irq = refl
+none_empty r Mem = refl
+none_empty r Dma = refl
+
+-- what clashes among all clashes among those of its kind
+any_with : (r : Res) (ps : List Pair) → list_any (clashes r) (res_list (list_at (lists_with ps) r.kind)) ≡ list_any (clashes r) (res_list ps)
+any_with r [] = none_empty r r.kind
+any_with r (p ∷ ps) = any_in r (lists_with ps) p r.kind p.1.kind refl refl ∙ ap (λ b. clashes r p.1 || b) (any_with r ps)
+
+-- The resources of pairs ---------------------------------------------------------------
+
+res_append : (xs ys : List Pair) → res_list (xs ++ ys) ≡ res_list xs ++ res_list ys
+res_append [] ys = refl
+res_append (x ∷ xs) ys = ap (λ l. x.1 ∷ l) (res_append xs ys)
+
+pub res_own : (o : Owner) (held : List Res) → res_list (pairs_of o held) ≡ held
+res_own o [] = refl
+res_own o (r ∷ held) = ap (λ l. r ∷ l) (res_own o held)
+
+pub res_nodes : (nodes : List Node) → res_list (node_pairs nodes) ≡ held_by nodes
+res_nodes [] = refl
+res_nodes (n ∷ ns) = res_append (pairs_of (Device n.serial) n.holds) (node_pairs ns) ∙ (λ t. res_own (Device n.serial) n.holds t ++ res_nodes ns t)
+
+res_held : (reserved : List Res) (nodes : List Node) → res_list (held_pairs reserved nodes) ≡ reserved ++ held_by nodes
+res_held reserved nodes = res_append (pairs_of Reserved reserved) (node_pairs nodes) ∙ (λ t. res_own Reserved reserved t ++ res_nodes nodes t)
+
+pub in_use : (r : Res) (reserved : List Res) (nodes : List Node) (a : Arbiters) → Mirrors reserved nodes a
+    → list_any (clashes r) (res_list (list_at (lists_of a) r.kind)) ≡ list_any (clashes r) (reserved ++ held_by nodes)
+in_use r reserved nodes a m =
+    ap (λ l. list_any (clashes r) (res_list (list_at l r.kind))) m.lists ∙ any_with r (held_pairs reserved nodes) ∙ ap (list_any (clashes r)) (res_held reserved nodes)
+
+-- Pair by pair --------------------------------------------------------------------------
+
+module _ (t : Res → Bool) where
+  pub any_here : (xs : List Pair) (i : ℕ) (p : Pair) → slice_get xs i ≡ Some p → t p.1 ≡ true → list_any t (res_list xs) ≡ true
+  any_here [] i p at h = absurd (cc)
+  any_here (x ∷ xs) zero p at h = let same : x ≡ p = cc in rw (ap (λ (q : Pair). t q.1) same ∙ h) refl
+  any_here (x ∷ xs) (suc i) p at h = or_true (t x.1) (any_here xs i p at h)
+    where
+      or_true : (b : Bool) {d : Bool} → d ≡ true → (b || d) ≡ true
+      or_true true e = refl
+      or_true false e = e
+
+  cut_more : (x : Pair) (xs : List Pair) (i : ℕ) → take (suc i + 1) (x ∷ xs) ≡ x ∷ take (i + 1) xs
+  cut_more x xs i = grind arith
+
+  pub none_more : (xs : List Pair) (i : ℕ) (p : Pair) → slice_get xs i ≡ Some p → t p.1 ≡ false → list_any t (res_list (take i xs)) ≡ false → list_any t (res_list (take (i + 1) xs)) ≡ false
+  none_more [] i p at h none = absurd (cc)
+  none_more (x ∷ xs) zero p at h none = let same : x ≡ p = cc in let here = ap (λ (q : Pair). t q.1) same ∙ h in grind (arith, nat_tests)
+  none_more (x ∷ xs) (suc i) p at h none =
+      rw (cut_more x xs i) (both (t x.1) none (none_more xs i p at h))
+    where
+      both : (b : Bool) → (b || list_any t (res_list (take i xs))) ≡ false → (list_any t (res_list (take i xs)) ≡ false → list_any t (res_list (take (i + 1) xs)) ≡ false)
+          → (b || list_any t (res_list (take (i + 1) xs))) ≡ false
+      both true none more = absurd (cc)
+      both false none more = more none
+
+  pub none_all : (xs : List Pair) (i : ℕ) → slice_get xs i ≡ None → list_any t (res_list (take i xs)) ≡ false → list_any t (res_list xs) ≡ false
+  none_all [] i at none = refl
+  none_all (x ∷ xs) zero at none = absurd (cc)
+  none_all (x ∷ xs) (suc i) at none = both (t x.1) none (none_all xs i at)
+    where
+      both : (b : Bool) → (b || list_any t (res_list (take i xs))) ≡ false → (list_any t (res_list (take i xs)) ≡ false → list_any t (res_list xs) ≡ false)
+          → (b || list_any t (res_list xs)) ≡ false
+      both true none more = absurd (cc)
+      both false none more = more none

@@ -1,0 +1,204 @@
+-- Pairs that are put into the four lists: in any order they give the same lists.
+use Rattle.std.proofs.Common.{◌≡◌, ℕ, zero, suc, ◌≤◌, ◌+◌, List, [], ◌∷◌, ◌++◌, take, drop, length, slice_get, Some, None, Contains, refl, sym, ap, ◌∙◌, subst, arith}
+use Rattle.std.specs.Prelude.{IsPermutation}
+use Rattle.std.proofs.lemmas.List.{append_assoc}
+use Rattle.std.proofs.lemmas.List.Sorted.{IsPermutation-refl, IsPermutation-cons, IsPermutation-trans}
+use Rattle.resource_reqs.specs.declared.kind.Kind.{Kind}
+use Rattle.resource_reqs.specs.declared.kind.Kind.TheVariants.{Port, Irq, Mem, Dma}
+use Rattle.resource_reqs.specs.declared.owner.Owner.{Owner}
+use Rattle.resource_reqs.specs.Resources.{Res}
+use Rattle.range_arbiter.specs.Pairs.{Pair}
+use Rattle.range_arbiter.proofs.PairLists.{with_swapped, length-pairs_with}
+use Rattle.trial_journal.specs.Four.{Arbiters, Lists, lists_of, of_kind, with_kind, arbiter_with, arbiters_with}
+use Rattle.assign_search.specs.Walking.{list_at, put_in}
+use Rattle.assign_search.proofs.SameHeld.{lists_pairs, put_permutation, put_once, put_there, at_kind}
+use Rattle.device_holdings.specs.Mirrors.{pairs_of, lists_with}
+
+-- the order of two puts makes no difference
+swapped : (l : Lists) (p q : Pair) (j k : Kind) → p.1.kind ≡ j → q.1.kind ≡ k → put_in (put_in l j p) k q ≡ put_in (put_in l k q) j p
+swapped l p q Port Port e f = ap (λ ps. record l { port = ps }) (with_swapped l.port p q (e ∙ sym f))
+swapped l p q Irq Irq e f = ap (λ ps. record l { irq = ps }) (with_swapped l.irq p q (e ∙ sym f))
+swapped l p q Mem Mem e f = ap (λ ps. record l { mem = ps }) (with_swapped l.mem p q (e ∙ sym f))
+swapped l p q Dma Dma e f = ap (λ ps. record l { dma = ps }) (with_swapped l.dma p q (e ∙ sym f))
+swapped l p q Port Irq e f = refl
+swapped l p q Port Mem e f = refl
+swapped l p q Port Dma e f = refl
+swapped l p q Irq Port e f = refl
+swapped l p q Irq Mem e f = refl
+swapped l p q Irq Dma e f = refl
+swapped l p q Mem Port e f = refl
+swapped l p q Mem Irq e f = refl
+swapped l p q Mem Dma e f = refl
+swapped l p q Dma Port e f = refl
+swapped l p q Dma Irq e f = refl
+swapped l p q Dma Mem e f = refl
+
+-- a pair from the middle, and a block of pairs, at the front
+pub from_middle : (xs : List Pair) (p : Pair) (ys : List Pair) → lists_with (xs ++ p ∷ ys) ≡ lists_with (p ∷ (xs ++ ys))
+from_middle [] p ys = refl
+from_middle (x ∷ xs) p ys =
+    ap (λ l. put_in l x.1.kind x) (from_middle xs p ys) ∙ swapped (lists_with (xs ++ ys)) p x p.1.kind x.1.kind refl refl
+
+pub blocks_swapped : (xs ys zs : List Pair) → lists_with (xs ++ (ys ++ zs)) ≡ lists_with (ys ++ (xs ++ zs))
+blocks_swapped xs [] zs = refl
+blocks_swapped xs (y ∷ ys) zs = from_middle xs y (ys ++ zs) ∙ ap (λ l. put_in l y.1.kind y) (blocks_swapped xs ys zs)
+
+-- the same pairs before the same lists
+pub same_before : (xs ys zs : List Pair) → lists_with ys ≡ lists_with zs → lists_with (xs ++ ys) ≡ lists_with (xs ++ zs)
+same_before [] ys zs e = e
+same_before (x ∷ xs) ys zs e = ap (λ l. put_in l x.1.kind x) (same_before xs ys zs e)
+
+-- The arbiters ---------------------------------------------------------------------
+
+pub lists_put : (a : Arbiters) (p : Pair) → lists_of (arbiters_with a p) ≡ put_in (lists_of a) p.1.kind p
+lists_put a p = by_kind p.1.kind
+  where
+    by_kind : (k : Kind) → lists_of (with_kind a k (arbiter_with (of_kind a k) p)) ≡ put_in (lists_of a) k p
+    by_kind Port = refl
+    by_kind Irq = refl
+    by_kind Mem = refl
+    by_kind Dma = refl
+
+-- How long the lists are -----------------------------------------------------------
+
+longer_put : (l : Lists) (p : Pair) (j k : Kind) → (length (list_at l k) ≤ length (list_at (put_in l j p) k)) × (length (list_at (put_in l j p) k) ≤ length (list_at l k) + 1)
+longer_put l p Port Port = let n = length-pairs_with l.port p in (omega arith, omega arith)
+longer_put l p Irq Irq = let n = length-pairs_with l.irq p in (omega arith, omega arith)
+longer_put l p Mem Mem = let n = length-pairs_with l.mem p in (omega arith, omega arith)
+longer_put l p Dma Dma = let n = length-pairs_with l.dma p in (omega arith, omega arith)
+longer_put l p Port Irq = (omega arith, omega arith)
+longer_put l p Port Mem = (omega arith, omega arith)
+longer_put l p Port Dma = (omega arith, omega arith)
+longer_put l p Irq Port = (omega arith, omega arith)
+longer_put l p Irq Mem = (omega arith, omega arith)
+longer_put l p Irq Dma = (omega arith, omega arith)
+longer_put l p Mem Port = (omega arith, omega arith)
+longer_put l p Mem Irq = (omega arith, omega arith)
+longer_put l p Mem Dma = (omega arith, omega arith)
+longer_put l p Dma Port = (omega arith, omega arith)
+longer_put l p Dma Irq = (omega arith, omega arith)
+longer_put l p Dma Mem = (omega arith, omega arith)
+
+-- with more pairs the lists are no shorter, and longer by no more than these
+pub longer_with : (xs ys : List Pair) (k : Kind)
+    → (length (list_at (lists_with ys) k) ≤ length (list_at (lists_with (xs ++ ys)) k)) × (length (list_at (lists_with (xs ++ ys)) k) ≤ length xs + length (list_at (lists_with ys) k))
+longer_with [] ys k = (omega arith, omega arith)
+longer_with (x ∷ xs) ys k =
+    let more = longer_with xs ys k in let here = longer_put (lists_with (xs ++ ys)) x x.1.kind k in (omega arith, omega arith)
+
+-- the same pairs, in another order
+pub permuted : (ps : List Pair) → IsPermutation ps (lists_pairs (lists_with ps))
+permuted [] = IsPermutation-refl []
+permuted (p ∷ ps) =
+    IsPermutation-trans (p ∷ ps) (p ∷ lists_pairs (lists_with ps)) (lists_pairs (lists_with (p ∷ ps)))
+    (IsPermutation-cons p ps (lists_pairs (lists_with ps)) (permuted ps)) (put_permutation (lists_with ps) p.1.kind p)
+
+-- One pair more, one pair less ------------------------------------------------------
+
+split_at : {X : Type 0} (xs : List X) (i : ℕ) (x : X) → slice_get xs i ≡ Some x → drop i xs ≡ x ∷ drop (i + 1) xs
+split_at [] i x h = absurd (cc)
+split_at (y ∷ xs) zero x h = grind arith
+split_at (y ∷ xs) (suc i) x h = grind (arith, split_at xs i x)
+
+pub front_at : {X : Type 0} (xs : List X) (i : ℕ) (x : X) → slice_get xs i ≡ Some x → take (i + 1) xs ≡ take i xs ++ x ∷ []
+front_at [] i x h = absurd (cc)
+front_at (y ∷ xs) zero x h = grind arith
+front_at (y ∷ xs) (suc i) x h = grind (arith, front_at xs i x)
+
+pub pairs_append : (owner : Owner) (xs ys : List Res) → pairs_of owner (xs ++ ys) ≡ pairs_of owner xs ++ pairs_of owner ys
+pairs_append owner [] ys = refl
+pairs_append owner (x ∷ xs) ys = ap (λ ps. (owner, x) ∷ ps) (pairs_append owner xs ys)
+
+module _ (a b : Arbiters) (owner : Owner) (held : List Res) (i : ℕ) (res : Res) (read : slice_get held i ≡ Some res) (rest : List Pair) where
+  pub put_more : b ≡ arbiters_with a (owner, res) → lists_of a ≡ lists_with (pairs_of owner (take i held) ++ rest)
+      → lists_of b ≡ lists_with (pairs_of owner (take (i + 1) held) ++ rest)
+  put_more put so_far =
+      ap lists_of put ∙ lists_put a (owner, res) ∙ ap (λ l. put_in l res.kind (owner, res)) so_far
+      ∙ sym (from_middle (pairs_of owner (take i held)) (owner, res) rest)
+      ∙ ap lists_with (sym (ap (λ ps. ps ++ rest) (ap (pairs_of owner) (front_at held i res read) ∙ pairs_append owner (take i held) (res ∷ []))
+      ∙ append_assoc (pairs_of owner (take i held)) ((owner, res) ∷ []) rest))
+
+  first_left : lists_of a ≡ lists_with (pairs_of owner (drop i held) ++ rest) → lists_of a ≡ put_in (lists_with (pairs_of owner (drop (i + 1) held) ++ rest)) res.kind (owner, res)
+  first_left so_far = so_far ∙ ap (λ xs. lists_with (pairs_of owner xs ++ rest)) (split_at held i res read)
+
+  pub take_more : a ≡ arbiters_with b (owner, res) → lists_of a ≡ lists_with (pairs_of owner (drop i held) ++ rest)
+      → lists_of b ≡ lists_with (pairs_of owner (drop (i + 1) held) ++ rest)
+  take_more taken so_far =
+      put_once (lists_of b) (lists_with (pairs_of owner (drop (i + 1) held) ++ rest)) res.kind (owner, res)
+      (sym (ap lists_of taken ∙ lists_put b (owner, res)) ∙ first_left so_far)
+
+  pub is_held : lists_of a ≡ lists_with (pairs_of owner (drop i held) ++ rest) → Contains (of_kind a res.kind).pairs (owner, res)
+  is_held so_far =
+      subst (λ l. Contains l (owner, res)) (at_kind a res.kind)
+      (subst (λ l. Contains (list_at l res.kind) (owner, res)) (sym (first_left so_far))
+      (put_there (lists_with (pairs_of owner (drop (i + 1) held) ++ rest)) res.kind (owner, res)))
+
+-- a put takes one place of what is spare
+pub spare_put : (a b : Arbiters) (p : Pair) (k : Kind) → b ≡ arbiters_with a p → (of_kind a k).spare ≤ (of_kind b k).spare + 1
+spare_put a b p k put = subst (λ x. (of_kind a k).spare ≤ (of_kind x k).spare + 1) (sym put) (by_kinds p.1.kind k)
+  where
+    by_kinds : (j k : Kind) → (of_kind a k).spare ≤ (of_kind (with_kind a j (arbiter_with (of_kind a j) p)) k).spare + 1
+    by_kinds Port Port = omega arith
+    by_kinds Irq Irq = omega arith
+    by_kinds Mem Mem = omega arith
+    by_kinds Dma Dma = omega arith
+    by_kinds Port Irq = omega arith
+    by_kinds Port Mem = omega arith
+    by_kinds Port Dma = omega arith
+    by_kinds Irq Port = omega arith
+    by_kinds Irq Mem = omega arith
+    by_kinds Irq Dma = omega arith
+    by_kinds Mem Port = omega arith
+    by_kinds Mem Irq = omega arith
+    by_kinds Mem Dma = omega arith
+    by_kinds Dma Port = omega arith
+    by_kinds Dma Irq = omega arith
+    by_kinds Dma Mem = omega arith
+
+-- Room -------------------------------------------------------------------------------
+
+abbrev pub with_spare : Arbiters → Kind → ℕ → Arbiters
+with_spare a j s = with_kind a j (record (of_kind a j) { spare = s })
+
+-- room for a kind leaves the lists, and what is spare of the others
+pub room_same : (a b : Arbiters) (j : Kind) (s : ℕ) → b ≡ with_spare a j s → lists_of b ≡ lists_of a
+room_same a b j s is = ap lists_of is ∙ by_kind j
+  where
+    by_kind : (j : Kind) → lists_of (with_spare a j s) ≡ lists_of a
+    by_kind Port = refl
+    by_kind Irq = refl
+    by_kind Mem = refl
+    by_kind Dma = refl
+
+pub room_grows : (a b : Arbiters) (j k : Kind) (s : ℕ) → b ≡ with_spare a j s → (of_kind a j).spare ≤ s → (of_kind a k).spare ≤ (of_kind b k).spare
+room_grows a b j k s is more = subst (λ x. (of_kind a k).spare ≤ (of_kind x k).spare) (sym is) (by_kinds j k more)
+  where
+    by_kinds : (j k : Kind) → (of_kind a j).spare ≤ s → (of_kind a k).spare ≤ (of_kind (with_spare a j s) k).spare
+    by_kinds Port Port more = more
+    by_kinds Irq Irq more = more
+    by_kinds Mem Mem more = more
+    by_kinds Dma Dma more = more
+    by_kinds Port Irq more = omega arith
+    by_kinds Port Mem more = omega arith
+    by_kinds Port Dma more = omega arith
+    by_kinds Irq Port more = omega arith
+    by_kinds Irq Mem more = omega arith
+    by_kinds Irq Dma more = omega arith
+    by_kinds Mem Port more = omega arith
+    by_kinds Mem Irq more = omega arith
+    by_kinds Mem Dma more = omega arith
+    by_kinds Dma Port more = omega arith
+    by_kinds Dma Irq more = omega arith
+    by_kinds Dma Mem more = omega arith
+
+-- nothing stands at a place past the end
+pub none_past : {X : Type 0} (xs : List X) (i : ℕ) → slice_get xs i ≡ None → length xs ≤ i
+none_past [] i h = omega arith
+none_past (x ∷ xs) zero h = absurd (cc)
+none_past (x ∷ xs) (suc i) h = let rest = none_past xs i (grind arith) in omega arith
+
+pub each_kind : (P : Kind → Type 0) → P Port → P Irq → P Mem → P Dma → (k : Kind) → P k
+each_kind P p i m d Port = p
+each_kind P p i m d Irq = i
+each_kind P p i m d Mem = m
+each_kind P p i m d Dma = d

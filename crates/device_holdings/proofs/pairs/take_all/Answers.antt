@@ -1,0 +1,10 @@
+use Rattle.device_holdings.proofs.Putting.{take_more, is_held}
+use Rattle.device_holdings.proofs.pairs.take_all.Goals as goal
+
+pub take-requires : goal.take-requires
+take-requires c =
+    is_held c.held.arbiters c.held.arbiters c.args.owner c.args.held.now c.held.at c.get.result.now c.get.ensures c.requires.0 (c.held.invariant c.requires.0 c.requires.1)
+
+pub held-preserved : goal.held-preserved
+held-preserved c = λ rest before.
+    take_more c.held.arbiters c.take.new.self c.args.owner c.args.held.now c.held.at c.get.result.now c.get.ensures rest c.take.ensures.pairs (c.held.invariant rest before)

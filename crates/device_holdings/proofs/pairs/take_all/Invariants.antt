@@ -1,0 +1,9 @@
+use Rattle.std.proofs.Common.{◌≡◌, List, ◌++◌, drop}
+use Rattle.range_arbiter.specs.Pairs.{Pair}
+use Rattle.trial_journal.specs.Four.{lists_of}
+use Rattle.device_holdings.specs.Mirrors.{pairs_of, lists_with}
+use Rattle.device_holdings.proofs.pairs.take_all.Given as goal
+
+abbrev pub invariant-held : goal.invariant-held
+invariant-held l =
+    (rest : List Pair) → lists_of l.initial.arbiters ≡ lists_with (pairs_of l.owner l.held ++ rest) → lists_of l.arbiters ≡ lists_with (pairs_of l.owner (drop l.at l.held) ++ rest)

@@ -1,0 +1,88 @@
+ghost use Rattle.std.specs.Prelude.{◌≡◌, ◌≤◌, ◌++◌, List, map, IfOk};
+ghost use Rattle.std.specs.List.{list_any};
+ghost use Rattle.resource_reqs.specs.Resources.{Res, clashes};
+ghost use Rattle.pnp_model.specs.Cores.{node_at};
+ghost use Rattle.pnp_model.specs.Records.{Node};
+ghost use Rattle.pnp_model.specs.Frames.{held_by};
+ghost use Rattle.pnp_model.specs.Rebalances.{reqs_of};
+ghost use Rattle.range_arbiter.specs.Pairs.{res_list};
+ghost use Rattle.trial_journal.specs.Four.{of_kind, lists_of};
+ghost use Rattle.assign_search.specs.Fixed as Fixed;
+ghost use Rattle.device_holdings.specs.Mirrors.{AreFew, Mirrors, IsMirrored};
+ghost use Rattle.device_holdings.specs.Answers.{needs_of, Answers};
+
+use assign_search::{Found, Mover, answer};
+use devnode_tree::Tree;
+use resource_reqs::{Kind, Reqs, Res, WantOfMemory, clash};
+use std::alloc::Global;
+use trial_journal::Arbiters;
+
+/// What a device needs, nothing where no node has the serial.
+fn needs_at(alloc: Global, tree: &Tree, serial: u64) -> Result<Reqs, WantOfMemory>
+    ensures { IfOk result (λ reqs. reqs ≡ reqs_of (node_at serial tree.now.nodes)) }
+{
+    match tree.node(serial) {
+        Some(node) => node.reqs.copy(alloc),
+        None => Ok(Reqs::new(alloc)),
+    }
+}
+
+/// The devices of these serials as movers.
+fn movers_of(alloc: Global, tree: &Tree, serials: &[u64]) -> Result<Vec<Mover>, WantOfMemory>
+    ensures serials { IfOk result (λ movers. map Fixed.serial_of movers.items ≡ serials.now) }
+    ensures needs { IfOk result (λ movers. map Fixed.reqs_of movers.items ≡ needs_of tree.now.nodes serials.now) }
+{
+    let mut movers = Vec::new(alloc);
+    'serials: for serial in serials {
+        movers.push(Mover {
+            serial: *serial,
+            reqs: needs_at(alloc, tree, *serial)?,
+        })?;
+    }
+    Ok(movers)
+}
+
+/// The search for the devices of these serials, beside all that others hold and what is reserved: each mover asks
+/// for one whole list of what its device needs, and the budget is the most prefixes that may be tried (this
+/// project's own; the kernel's arbiters search likewise, the driver kit, "Arbiter Interface"). Conditions: the
+/// arbiters hold just what is reserved and what devices hold, and the budget is at most 1,000,000. The arbiters hold
+/// the same whatever is answered. Cost: the pairs held, and that of `assign_search::answer`.
+pub fn search(
+    alloc: Global,
+    tree: &Tree,
+    arbiters: &mut Arbiters,
+    serials: &[u64],
+    budget: u64,
+) -> Result<Found, WantOfMemory>
+    requires mirrored { IsMirrored tree.now.nodes arbiters.old }
+    requires budget { budget ≤ 1000000 }
+    ensures answers { IfOk result (λ found. Answers tree.now.nodes arbiters.old serials.now budget found) }
+    ensures same { lists_of arbiters.new ≡ lists_of arbiters.old }
+{
+    let movers = movers_of(alloc, tree, serials)?;
+    answer(alloc, arbiters, &movers, budget)
+}
+
+/// Whether a range clashes with a pair of a kind.
+fn is_among(arbiters: &Arbiters, kind: Kind, res: &Res) -> bool
+    requires { AreFew (lists_of arbiters.now) }
+    ensures { result ≡ list_any (clashes res.now) (res_list (of_kind arbiters.now kind).pairs) }
+{
+    let mut at = 0;
+    'pairs: while let Some(pair) = arbiters.held(kind, at) {
+        if clash(res, &pair.1) {
+            return true;
+        }
+        at += 1;
+    }
+    false
+}
+
+/// Whether a range clashes with what is reserved or with what a device holds. Condition: few pairs are held. It takes
+/// no memory. Cost: the pairs of its kind.
+pub fn is_in_use(arbiters: &Arbiters, res: &Res) -> bool
+    requires { AreFew (lists_of arbiters.now) }
+    ensures { (reserved : List Res) (nodes : List Node) → Mirrors reserved nodes arbiters.now → result ≡ list_any (clashes res.now) (reserved ++ held_by nodes) }
+{
+    is_among(arbiters, res.kind, res)
+}

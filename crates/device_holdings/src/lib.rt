@@ -1,0 +1,13 @@
+//! What devices hold, in the tree and in the arbiters at once.
+#![tactic(auto)]
+
+mod finding;
+mod holding;
+mod pairs;
+mod rows;
+#[cfg(test)]
+mod tests;
+
+pub use finding::{is_in_use, search};
+pub use holding::{assign, release, reserve};
+pub use rows::map_rows;
