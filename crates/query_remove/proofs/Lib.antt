@@ -1,0 +1,5 @@
+pub mod Mirroring
+pub mod Queues
+pub mod Moving
+pub mod Stepping
+pub mod Beginning

@@ -1,0 +1,99 @@
+-- A step of the request of the device that is next is the step of the machine.
+use Rattle.std.proofs.Common.{◌≡◌, ℕ, Bool, true, false, List, [], ◌∷◌, Option, Some, None, Result, Ok, Err, IfOk, OnErr, length, slice_get, refl, sym, ap, ◌∙◌, subst}
+use Rattle.resource_reqs.specs.Resources.{Res}
+use Rattle.pnp_labels.specs.Texts.{Text}
+use Rattle.pnp_labels.specs.declared.label.Label.{Label}
+use Rattle.pnp_labels.specs.declared.label.RemoveStep.TheVariants as steps
+use Rattle.pnp_model.specs.Walks.{is_bad, has_ended}
+use Rattle.pnp_model.specs.Cores.{node_at}
+use Rattle.pnp_model.specs.Frames.{Ask, asked, first_node}
+use Rattle.pnp_model.specs.Records as Records
+use Rattle.pnp_model.specs.Records.{Node, Core, Driver, Relation, Walk, Removal}
+use Rattle.pnp_model.specs.Removals.{RemovalMove, removal_step, removed, ask_step, take_back, cancel_step, remove_step}
+use Rattle.relations.specs.Leaving.{core_of}
+use Rattle.query_remove.specs.Stages.{stage_of}
+use Rattle.query_remove.specs.Walks.{WalksFor}
+use Rattle.query_remove.specs.Steps.{Moved, MovedBy}
+use Rattle.query_remove.specs.Parts.{MovesFor, PathIs, end_move, is_walking}
+use Rattle.query_remove.specs.declared.walking.Walked.TheVariants.{On, Ended}
+use Rattle.query_remove.specs.declared.frame.Stage.{Stage}
+use Rattle.query_remove.specs.declared.frame.Stage.TheVariants.{Asking, TakingBack, Cancelling, Removing, Settling, Ending}
+use Rattle.query_remove.proofs.Queues.{first_is}
+
+pub on_err : {T E : Type 0} (P : Type 0) (r : Result T E) → P → OnErr r P
+on_err P (Ok x) h = tt
+on_err P (Err e) h = h
+
+-- what stays where a request has ended
+pub ended_path : (x : Option Node) (c c' : Core) (w w' : Walk) (path : Text) (refused : Bool) → WalksFor x c w (Ended path refused) c' w' → PathIs x path
+ended_path None c c' w w' path refused h = h
+ended_path (Some node) c c' w w' path refused h = h.2
+
+pub ended_same : (x : Option Node) (c c' : Core) (w w' : Walk) (path : Text) (refused : Bool) → WalksFor x c w (Ended path refused) c' w' → (c' ≡ c) × (w' ≡ w)
+ended_same None c c' w w' path refused h = absurd h
+ended_same (Some node) c c' w w' path refused h = (h.3, h.4)
+
+moved_as : (m : Option RemovalMove) (l l' : Label) (c c' : Core) (o o' : Removal) → l' ≡ l → c' ≡ c → o' ≡ o → MovedBy m (steps.Did l) c o → MovedBy m (steps.Did l') c' o'
+moved_as m l l' c c' o o' a b e h =
+    subst (λ (x : Label). MovedBy m (steps.Did x) c' o') (sym a) (subst (λ (x : Core). MovedBy m (steps.Did l) x o') (sym b) (subst (λ (x : Removal). MovedBy m (steps.Did l) c x) (sym e) h))
+
+-- a driver is asked, in each stage
+walks : (c : Core) (o : Removal) (node : Node) (w : Walk) (s : Stage) → is_walking (stage_of s w) ≡ true → has_ended w (length node.stack) ≡ false
+    → MovedBy (removal_step c o (stage_of s w) (Some node)) (steps.Did (asked c node w).label) (asked c node w).core (record o { stage = stage_of s (asked c node w).walk })
+walks c o node w Asking h e =
+    subst (λ b. Moved (ask_step c o node w b) (steps.Did (asked c node w).label) (asked c node w).core (record o { stage = stage_of Asking (asked c node w).walk })) (sym e) (refl, refl, refl, refl)
+walks c o node w TakingBack h e =
+    subst (λ b. Moved (take_back c o node w b) (steps.Did (asked c node w).label) (asked c node w).core (record o { stage = stage_of TakingBack (asked c node w).walk })) (sym e) (refl, refl, refl, refl)
+walks c o node w Cancelling h e =
+    subst (λ b. Moved (cancel_step c o node w b) (steps.Did (asked c node w).label) (asked c node w).core (record o { stage = stage_of Cancelling (asked c node w).walk })) (sym e) (refl, refl, refl, refl)
+walks c o node w Removing h e =
+    subst (λ b. Moved (remove_step c o node w b) (steps.Did (asked c node w).label) (asked c node w).core (record o { stage = stage_of Removing (asked c node w).walk })) (sym e) (refl, refl, refl, refl)
+walks c o node w Settling h e = absurd (cc)
+walks c o node w Ending h e = absurd (cc)
+
+-- or the request ends
+ends : (c : Core) (o : Removal) (node : Node) (w : Walk) (s : Stage) (refused : Bool) → is_walking (stage_of s w) ≡ true → has_ended w (length node.stack) ≡ true → refused ≡ is_bad w
+    → removal_step c o (stage_of s w) (Some node) ≡ Some (end_move o (stage_of s w) refused c node)
+ends c o node w Asking refused h e r = ap (λ b. Some (ask_step c o node w b)) e ∙ ap (λ b. Some (end_move o (stage_of Asking w) b c node)) (sym r)
+ends c o node w TakingBack refused h e r = ap (λ b. Some (take_back c o node w b)) e
+ends c o node w Cancelling refused h e r = ap (λ b. Some (cancel_step c o node w b)) e
+ends c o node w Removing refused h e r = ap (λ b. Some (remove_step c o node w b)) e
+ends c o node w Settling refused h e r = absurd (cc)
+ends c o node w Ending refused h e r = absurd (cc)
+
+module _ (nodes : List Node) (rs : List Relation) (rack rack' : List Driver) (o : Removal) (k : ℕ) (s : Stage) (w w' : Walk) (first : slice_get o.todo 0 ≡ Some k) (stage : o.stage ≡ stage_of s w) (walking : is_walking (stage_of s w) ≡ true) where
+  at_first : (reserved : List Res) → removed (core_of nodes rs rack reserved) o ≡ removal_step (core_of nodes rs rack reserved) o (stage_of s w) (node_at k nodes)
+  at_first reserved =
+      ap (λ t. removal_step (core_of nodes rs rack reserved) o t (first_node nodes o.todo)) stage
+      ∙ ap (λ x. removal_step (core_of nodes rs rack reserved) o (stage_of s w) x) (first_is nodes o.todo k first)
+
+  pub goes_on : (label : Label) (o' : Removal) → ((relations : List Relation) (reserved : List Res) → WalksFor (node_at k nodes) (core_of nodes relations rack reserved) w (On label) (core_of nodes relations rack' reserved) w')
+      → o' ≡ record o { stage = stage_of s w' } → (reserved : List Res) → MovedBy (removed (core_of nodes rs rack reserved) o) (steps.Did label) (core_of nodes rs rack' reserved) o'
+  goes_on label o' h f reserved =
+      subst (λ (m : Option RemovalMove). MovedBy m (steps.Did label) (core_of nodes rs rack' reserved) o') (sym (at_first reserved)) (by (node_at k nodes) (h rs reserved))
+    where
+      by : (x : Option Node) → WalksFor x (core_of nodes rs rack reserved) w (On label) (core_of nodes rs rack' reserved) w'
+          → MovedBy (removal_step (core_of nodes rs rack reserved) o (stage_of s w) x) (steps.Did label) (core_of nodes rs rack' reserved) o'
+      by None h = absurd h
+      by (Some node) h =
+          let c = core_of nodes rs rack reserved in
+          moved_as (removal_step c o (stage_of s w) (Some node)) (asked c node w).label label (asked c node w).core (core_of nodes rs rack' reserved) (record o { stage = stage_of s (asked c node w).walk }) o'
+          h.1 h.2 (f ∙ ap (λ v. record o { stage = stage_of s v }) h.3) (walks c o node w s walking h.0)
+
+  pub ends_so : (path : Text) (refused : Bool) (label : Label) (nodes' : List Node) (rs' : List Relation) (mid o' : Removal)
+      → ((relations : List Relation) (reserved : List Res) → WalksFor (node_at k nodes) (core_of nodes relations rack reserved) w (Ended path refused) (core_of nodes relations rack' reserved) w')
+      → mid ≡ o → MovesFor (node_at k nodes) (end_move mid mid.stage refused) nodes rs label nodes' rs' o'
+      → (reserved : List Res) → MovedBy (removed (core_of nodes rs rack reserved) o) (steps.Did label) (core_of nodes' rs' rack' reserved) o'
+  ends_so path refused label nodes' rs' mid o' h same moves reserved =
+      subst (λ (m : Option RemovalMove). MovedBy m (steps.Did label) (core_of nodes' rs' rack' reserved) o') (sym (at_first reserved))
+      (by (node_at k nodes) (h rs reserved)
+      (subst (λ (m : Core → Node → RemovalMove). MovesFor (node_at k nodes) m nodes rs label nodes' rs' o') (ap (λ (r : Removal). end_move r r.stage refused) same ∙ ap (λ t. end_move o t refused) stage) moves))
+    where
+      by : (x : Option Node) → WalksFor x (core_of nodes rs rack reserved) w (Ended path refused) (core_of nodes rs rack' reserved) w'
+          → MovesFor x (end_move o (stage_of s w) refused) nodes rs label nodes' rs' o'
+          → MovedBy (removal_step (core_of nodes rs rack reserved) o (stage_of s w) x) (steps.Did label) (core_of nodes' rs' rack' reserved) o'
+      by None h g = absurd h
+      by (Some node) h g =
+          let rack_is : rack' ≡ rack = ap (λ (c : Core). c.rack) h.3 in
+          subst (λ (m : Option RemovalMove). MovedBy m (steps.Did label) (core_of nodes' rs' rack' reserved) o') (sym (ends (core_of nodes rs rack reserved) o node w s refused walking h.0 h.1))
+          (subst (λ (r : List Driver). Moved (end_move o (stage_of s w) refused (core_of nodes rs rack reserved) node) (steps.Did label) (core_of nodes' rs' r reserved) o') (sym rack_is) (g rack reserved))

@@ -1,0 +1,4 @@
+use Rattle.query_remove.proofs.frame.Removal.next.Goals as goal
+
+pub returns-in-Settling-clause-mirrors : goal.returns-in-Settling-clause-mirrors
+returns-in-Settling-clause-mirrors g c = c.settle.ensures.mirrors c.args.arbiters.now

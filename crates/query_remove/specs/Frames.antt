@@ -1,0 +1,36 @@
+-- A removal in the words of the machine.
+use Rattle.std.specs.Prelude.{◌≡◌, ℕ, Bool, true, false, List, [], ◌∷◌, Option, Some, None, Ok, Err, Result}
+use Rattle.pnp_labels.specs.declared.words.Minor.{Minor}
+use Rattle.pnp_model.specs.Records.{Node, Removal, RemovalStage}
+use Rattle.pnp_model.specs.Cores.{stack_of}
+use Rattle.pnp_model.specs.Removals.{finish_on}
+use Rattle.pnp_model.specs.Machine.{removal_walk, is_waiting}
+use Rattle.pnp_model.specs.Events.{answer_of, completed_removal}
+use Rattle.device_stack.specs.declared.walk.NoSuchRequest.{NoSuchRequest}
+use Rattle.query_remove.specs.Walks.{minor_of}
+
+-- the request that waits in a stage
+abbrev pub minor_that_waits : RemovalStage → Option Minor
+minor_that_waits stage = minor_of (removal_walk stage)
+
+-- a removal that waits goes on with the answer; any other refuses, and stays
+abbrev pub Completes : Bool → Result (Unit {0}) NoSuchRequest → Removal → Bool → Removal → Type 0
+Completes true (Ok done) old ok new = new ≡ record old { stage = completed_removal (answer_of ok) old.stage }
+Completes false (Err refused) old ok new = new ≡ old
+Completes true (Err refused) old ok new = ⊥
+Completes false (Ok done) old ok new = ⊥
+
+abbrev pub Completed : Result (Unit {0}) NoSuchRequest → Removal → Bool → Removal → Type 0
+Completed result old ok new = Completes (is_waiting (removal_walk old.stage)) result old ok new
+
+abbrev pub is_full : {A : Type 0} → List A → Bool
+is_full [] = false
+is_full (x ∷ xs) = true
+
+abbrev pub has_drivers : Option Node → Bool
+has_drivers o = is_full (stack_of o)
+
+-- where there is none to ask, all of the set are finished
+abbrev pub finish_if_none : List Node → Removal → List ℕ → Removal
+finish_if_none nodes o [] = finish_on nodes o o.set
+finish_if_none nodes o (k ∷ ks) = o

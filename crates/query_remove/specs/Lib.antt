@@ -1,0 +1,6 @@
+pub mod Stages
+pub mod Walks
+pub mod Frames
+pub mod Begins
+pub mod Steps
+pub mod Parts

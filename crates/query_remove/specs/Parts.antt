@@ -1,0 +1,65 @@
+-- The parts of a step of a removal.
+use Rattle.std.specs.Prelude.{◌≡◌, ℕ, Bool, true, false, List, [], ◌∷◌, Option, Some, None, is_some}
+use Rattle.resource_reqs.specs.Resources.{Res}
+use Rattle.pnp_labels.specs.declared.label.Label.{Label}
+use Rattle.pnp_labels.specs.Texts.{Text}
+use Rattle.pnp_labels.specs.declared.label.RemoveStep.{RemoveStep}
+use Rattle.pnp_labels.specs.declared.label.OpEnd.{OpEnd}
+use Rattle.pnp_model.specs.Tests.{has}
+use Rattle.pnp_model.specs.Cores.{node_at, path_of}
+use Rattle.pnp_labels.specs.declared.label.RemoveStep.TheVariants as steps
+use Rattle.pnp_labels.specs.declared.states.Problem.{Problem}
+use Rattle.pnp_model.specs.Machine.{removal_walk}
+use Rattle.pnp_model.specs.Records.{Node, Core, Driver, Relation, Walk, Removal, RemovalStage}
+use Rattle.pnp_model.specs.Records.RemovalStage.{Asking, TakingBack, Cancelling, Removing, Settling, Ending}
+use Rattle.pnp_model.specs.Removals.{RemovalMove, end_ask, take_back, cancel_step, remove_step, close, settle}
+use Rattle.relations.specs.Leaving.{core_of}
+use Rattle.query_remove.specs.Steps.{Moved}
+
+-- the move of this node, whatever drivers there are and whatever is reserved
+abbrev pub MovesFor : Option Node → (Core → Node → RemovalMove) → List Node → List Relation → Label → List Node → List Relation → Removal → Type 0
+MovesFor None move nodes relations label nodes' relations' o' = ⊥
+MovesFor (Some node) move nodes relations label nodes' relations' o' =
+    (rack : List Driver) (reserved : List Res) → Moved (move (core_of nodes relations rack reserved) node) (steps.Did label) (core_of nodes' relations' rack reserved) o'
+
+-- the end of the request of a stage
+abbrev pub end_move : Removal → RemovalStage → Bool → Core → Node → RemovalMove
+end_move o (Asking w) refused c node = end_ask c o node refused
+end_move o (TakingBack w) refused c node = take_back c o node w true
+end_move o (Cancelling w) refused c node = cancel_step c o node w true
+end_move o (Removing w) refused c node = remove_step c o node w true
+end_move o Settling refused c node = close c o
+end_move o Ending refused c node = close c o
+
+-- a request is on its way
+abbrev pub is_walking : RemovalStage → Bool
+is_walking stage = is_some (removal_walk stage)
+
+-- the problem of a related device that remains
+abbrev pub problem_if : Bool → Problem
+problem_if true = Problem.HeldForEject
+problem_if false = Problem.Held
+
+abbrev pub PathIs : Option Node → Text → Type 0
+PathIs None path = ⊥
+PathIs (Some node) path = path ≡ node.path
+
+abbrev pub HoldsNothing : Option Node → Type 0
+HoldsNothing None = Unit {0}
+HoldsNothing (Some node) = node.holds ≡ []
+
+-- the set, where no other device is still to do
+abbrev pub all_after : List ℕ → List ℕ → List ℕ
+all_after set [] = set
+all_after set (k ∷ ks) = []
+
+-- a device that is settled leaves or remains
+abbrev pub SettlesFor : Option Node → List Node → Removal → RemoveStep → List Node → Removal → Type 0
+SettlesFor None nodes o step nodes' o' = ⊥
+SettlesFor (Some node) nodes o step nodes' o' =
+    (relations : List Relation) (rack : List Driver) (reserved : List Res)
+    → Moved (settle (core_of nodes relations rack reserved) o node (has o.set node.parent)) step (core_of nodes' relations rack reserved) o'
+
+abbrev pub end_in : List Node → Option ℕ → OpEnd
+end_in nodes None = OpEnd.Done
+end_in nodes (Some q) = OpEnd.Veto (path_of (node_at q nodes))

@@ -1,0 +1,96 @@
+ghost use Rattle.std.specs.Prelude.{◌≡◌, IfOk, OnOk, IsSome};
+ghost use Rattle.pnp_model.specs.Cores.{node_at};
+ghost use Rattle.pnp_model.specs.Keyed.{those};
+ghost use Rattle.pnp_model.specs.Trees.{is_up};
+ghost use Rattle.query_remove.specs.Frames.{finish_if_none};
+ghost use Rattle.query_remove.specs.Begins.{BegunFor};
+
+use crate::frame::{Removal, Stage};
+use crate::queue::SerialQueue;
+use device_ids::{Text, WantOfMemory};
+use device_stack::Walk;
+use devnode_tree::Tree;
+use pnp_labels::{DevState, Label, Minor, OpKind};
+use relations::{Relations, SerialSet};
+use std::alloc::Global;
+
+/// Whether a device is there and Started.
+fn is_up(tree: &Tree, serial: u64) -> bool
+    ensures { result ≡ is_up (node_at serial tree.now.nodes) }
+{
+    match tree.node(serial) {
+        Some(node) => node.state == DevState::Started,
+        None => false,
+    }
+}
+
+/// Those of a set that are Started.
+fn started(alloc: Global, tree: &Tree, set: &SerialSet) -> Result<SerialQueue, WantOfMemory>
+    ensures { IfOk result (λ queue. queue ≡ those (λ k. is_up (node_at k tree.now.nodes)) set.now) }
+{
+    let mut queue = SerialQueue::new(alloc);
+    for at in 0..set.len() {
+        let serial = set.get(at);
+        if is_up(tree, serial) {
+            queue.push_back(serial)?;
+        }
+    }
+    Ok(queue)
+}
+
+impl Removal {
+    /// The removal of a device begins: its dependents and then it itself are to be asked. The line is that of the begin.
+    /// Condition: the device is there. Cost: that of `Relations::leaving`.
+    pub fn begin(
+        alloc: Global,
+        tree: &Tree,
+        relations: &Relations,
+        kind: OpKind,
+        serial: u64,
+    ) -> Result<(Label, Removal), WantOfMemory>
+        requires { IsSome (node_at serial tree.now.nodes) }
+        ensures { IfOk result (λ begun. BegunFor (node_at serial tree.now.nodes) tree.now.nodes relations.now kind begun.0 begun.1) }
+    {
+        let Some(node) = tree.node(serial) else {
+            unreachable!()
+        };
+        let target = node.serial;
+        let line = Text::make(alloc, node.path.bytes())?;
+        let path = Text::make(alloc, node.path.bytes())?;
+        let order = relations.leaving(alloc, tree, target)?;
+        let set = SerialSet::of(alloc, &order)?;
+        let ejecting = relations.ejected(alloc, &set)?;
+        let todo = started(alloc, tree, &set)?;
+        let mut removal = Removal {
+            kind,
+            target,
+            path,
+            set,
+            ejecting,
+            todo,
+            agreed: SerialQueue::new(alloc),
+            refuser: None,
+            stage: Stage::Asking,
+            walk: Walk::begin(Minor::QueryRemove),
+        };
+        removal.finish_where_none_is_up(alloc, tree)?;
+        Ok((
+            Label::Begin {
+                op: kind,
+                path: line,
+            },
+            removal,
+        ))
+    }
+
+    /// Where no device is to be asked, all are finished.
+    fn finish_where_none_is_up(&mut self, alloc: Global, tree: &Tree) -> Result<(), WantOfMemory>
+        ensures { OnOk result (self.new ≡ finish_if_none tree.now.nodes self.old self.old.todo) }
+    {
+        if self.todo.get(0).is_none() {
+            self.todo = SerialQueue::of(alloc, &self.set)?;
+            self.finish_next(tree);
+        }
+        Ok(())
+    }
+}

@@ -1,0 +1,146 @@
+ghost use Rattle.std.specs.Prelude.{◌≡◌, ◌==◌, slice_get};
+ghost use Rattle.pnp_model.specs.Tests.{has, is_eject};
+ghost use Rattle.pnp_model.specs.Cores.{node_at};
+ghost use Rattle.pnp_model.specs.Removals.{finish_on, cancel_on};
+ghost use Rattle.query_remove.specs.Frames.{minor_that_waits, Completed, has_drivers};
+
+use crate::queue::SerialQueue;
+use crate::walking::{complete_walk, waiting_minor};
+use device_ids::Text;
+use device_stack::{NoSuchRequest, Walk};
+use devnode_tree::Tree;
+use pnp_labels::{Minor, OpKind};
+use relations::SerialSet;
+use std::marker::Model;
+
+/// What is done with the device that is next: this project's own.
+#[derive(Clone, Copy, Debug, PartialEq, Eq)]
+pub(crate) enum Stage {
+    /// It is asked whether its drivers may be removed.
+    Asking,
+    /// It refused, and is told that it stays.
+    TakingBack,
+    /// It agreed, and is told that it stays.
+    Cancelling,
+    /// Its drivers are being removed.
+    Removing,
+    /// It has no drivers: it leaves or remains.
+    Settling,
+    /// None is next.
+    Ending,
+}
+
+/// A removal in order, with veto: a device is disabled or ejected (the driver kit, IRP_MN_QUERY_REMOVE_DEVICE and
+/// IRP_MN_REMOVE_DEVICE; that each step is one of the machine's is this project's own). A contract sees the record of
+/// where it stands.
+#[derive(Drop)]
+pub struct Removal {
+    pub(crate) kind: OpKind,
+    pub(crate) target: u64,
+    pub(crate) path: Text,
+    pub(crate) set: SerialSet,
+    pub(crate) ejecting: SerialSet,
+    pub(crate) todo: SerialQueue,
+    pub(crate) agreed: SerialQueue,
+    pub(crate) refuser: Option<u64>,
+    pub(crate) stage: Stage,
+    pub(crate) walk: Walk,
+}
+
+impl Model for Removal {
+    ghost use Rattle.pnp_model.specs.Records.{Removal};
+    ghost use Rattle.query_remove.specs.Stages.{stage_of};
+
+    ghost Value = { Removal };
+
+    ghost view = { λ r. record { kind = r.kind; target = r.target; path = r.path; set = r.set; ejecting = r.ejecting; todo = r.todo; agreed = r.agreed; refuser = r.refuser; stage = stage_of r.stage r.walk.walk } };
+}
+
+impl Removal {
+    /// The request that waits for a driver; none exactly where none waits.
+    pub fn waits(&self) -> Option<Minor>
+        ensures { result ≡ minor_that_waits self.now.stage }
+    {
+        match self.stage {
+            Stage::Settling | Stage::Ending => None,
+            _ => waiting_minor(&self.walk),
+        }
+    }
+
+    /// The driver at which the request waits completes it: Ok, or Fail. `NoSuchRequest` exactly where none waits; then
+    /// nothing changes. It takes no memory.
+    pub fn complete(&mut self, ok: bool) -> Result<(), NoSuchRequest>
+        ensures { Completed result self.old ok self.new }
+    {
+        match self.stage {
+            Stage::Settling | Stage::Ending => Err(NoSuchRequest),
+            _ => complete_walk(&mut self.walk, ok),
+        }
+    }
+
+    /// The device that is next.
+    pub(crate) fn first(&self) -> Option<u64>
+        ensures { result ≡ slice_get self.now.todo 0 }
+    {
+        self.todo.get(0)
+    }
+
+    /// Whether a device is of those that are removed.
+    pub(crate) fn removes(&self, serial: u64) -> bool
+        ensures { result ≡ has self.now.set serial }
+    {
+        self.set.has(serial)
+    }
+
+    /// Whether a device is the one that is disabled or ejected.
+    pub(crate) fn is_target(&self, serial: u64) -> bool
+        ensures { result ≡ (serial == self.now.target) }
+    {
+        serial == self.target
+    }
+
+    /// Whether the device is ejected.
+    pub(crate) fn is_eject(&self) -> bool
+        ensures { result ≡ is_eject self.now.kind }
+    {
+        matches!(self.kind, OpKind::Eject)
+    }
+
+    /// The device that is next is finished: where it has drivers they are removed first, and where none is next the end is.
+    pub(crate) fn finish_next(&mut self, tree: &Tree)
+        ensures { self.new ≡ finish_on tree.now.nodes self.old self.old.todo }
+    {
+        let Some(serial) = self.todo.get(0) else {
+            self.stage = Stage::Ending;
+            return;
+        };
+        if has_drivers(tree, serial) {
+            self.stage = Stage::Removing;
+            self.walk = Walk::begin(Minor::Remove);
+        } else {
+            self.stage = Stage::Settling;
+        }
+    }
+
+    /// The device that is next is told that it stays, and where none is next the end is.
+    pub(crate) fn cancel_next(&mut self)
+        ensures { self.new ≡ cancel_on self.old self.old.todo }
+    {
+        if self.todo.get(0).is_some() {
+            self.stage = Stage::Cancelling;
+            self.walk = Walk::begin(Minor::CancelRemove);
+        } else {
+            self.stage = Stage::Ending;
+        }
+    }
+}
+
+/// Whether a device has drivers.
+fn has_drivers(tree: &Tree, serial: u64) -> bool
+    ensures { result ≡ has_drivers (node_at serial tree.now.nodes) }
+{
+    match tree.node(serial) {
+        Some(node) => node.stack.len() > 0,
+        None => false,
+    }
+}

@@ -1,0 +1,87 @@
+ghost use Rattle.std.specs.Prelude.{◌≡◌, ◌∷◌, ◌++◌, [], IfOk, OnOk, OnErr, drop, slice_get};
+
+use device_ids::WantOfMemory;
+use relations::SerialSet;
+use std::alloc::Global;
+use std::collections::VecDeque;
+use std::marker::Model;
+
+/// The devices of an operation that are still to do, by their serials; the first is the next. A contract sees the list.
+/// This project's own.
+#[derive(Drop)]
+pub struct SerialQueue {
+    serials: VecDeque<u64>,
+}
+
+impl Model for SerialQueue {
+    ghost use Rattle.std.specs.Prelude.{List, ℕ};
+
+    ghost Value = { List ℕ };
+
+    ghost view = { λ q. q.serials.items };
+}
+
+impl SerialQueue {
+    /// No device. It takes no memory.
+    pub fn new(alloc: Global) -> SerialQueue
+        ensures { result ≡ [] }
+    {
+        SerialQueue {
+            serials: VecDeque::new(alloc),
+        }
+    }
+
+    /// The devices of a set, in its order.
+    pub fn of(alloc: Global, set: &SerialSet) -> Result<SerialQueue, WantOfMemory>
+        ensures { IfOk result (λ queue. queue ≡ set.now) }
+    {
+        let mut queue = SerialQueue::new(alloc);
+        for at in 0..set.len() {
+            queue.push_back(set.get(at))?;
+        }
+        Ok(queue)
+    }
+
+    /// The same devices once more.
+    pub fn copy(&self, alloc: Global) -> Result<SerialQueue, WantOfMemory>
+        ensures { IfOk result (λ queue. queue ≡ self.now) }
+    {
+        let mut queue = SerialQueue::new(alloc);
+        for at in 0..self.serials.len() {
+            queue.push_back(self.serials[at])?;
+        }
+        Ok(queue)
+    }
+
+    /// A device is put behind all others.
+    pub fn push_back(&mut self, serial: u64) -> Result<(), WantOfMemory>
+        ensures pushed { OnOk result (self.new ≡ self.old ++ serial ∷ []) }
+        ensures err { OnErr result (self.new ≡ self.old) }
+    {
+        self.serials.push_back(serial)?;
+        Ok(())
+    }
+
+    /// A device is put before all others.
+    pub fn push_front(&mut self, serial: u64) -> Result<(), WantOfMemory>
+        ensures pushed { OnOk result (self.new ≡ serial ∷ self.old) }
+        ensures err { OnErr result (self.new ≡ self.old) }
+    {
+        self.serials.push_front(serial)?;
+        Ok(())
+    }
+
+    /// The device at a place.
+    pub fn get(&self, at: u64) -> Option<u64>
+        ensures { result ≡ slice_get self.now at }
+    {
+        self.serials.get(at as usize).copied()
+    }
+
+    /// The next device is done.
+    pub fn drop_first(&mut self)
+        ensures { self.new ≡ drop 1 self.old }
+    {
+        let _ = self.serials.pop_front();
+    }
+}

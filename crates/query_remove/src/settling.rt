@@ -1,0 +1,137 @@
+ghost use Rattle.std.specs.Prelude.{◌≡◌, ◌&&◌, IfOk, OnErr, IsSome, IfSome};
+ghost use Rattle.pnp_model.specs.Cores.{node_at, with_problem};
+ghost use Rattle.pnp_model.specs.Frames.{first_node, rest};
+ghost use Rattle.pnp_model.specs.Removals.{finish_on};
+ghost use Rattle.pnp_model.specs.Tests.{has, is_eject};
+ghost use Rattle.trial_journal.specs.Four as Four;
+ghost use Rattle.device_holdings.specs.Mirrors.{KeepsMirror};
+ghost use Rattle.devnode_tree.specs.Trees.{CanLeave, changed, without_node};
+ghost use Rattle.query_remove.specs.Parts.{problem_if, HoldsNothing, SettlesFor, end_in};
+ghost use Rattle.query_remove.specs.Steps.{IsStripped};
+
+use crate::frame::Removal;
+use device_ids::{Text, WantOfMemory};
+use devnode_tree::Tree;
+use pnp_labels::{Label, OpEnd, Problem, RemoveStep};
+use std::alloc::Global;
+
+impl Removal {
+    /// The device that is next is done.
+    fn go_on(&mut self, tree: &Tree)
+        ensures { self.new ≡ finish_on tree.now.nodes self.old (rest self.old.todo) }
+    {
+        self.todo.drop_first();
+        self.finish_next(tree);
+    }
+
+    /// The device that is next leaves.
+    fn leave(&mut self, serial: u64, tree: &mut Tree)
+        requires may_leave { CanLeave serial tree.old.nodes }
+        requires bare { HoldsNothing (node_at serial tree.old.nodes) }
+        ensures frame { self.new ≡ finish_on tree.old.nodes self.old (rest self.old.todo) }
+        ensures left { tree.new ≡ without_node serial tree.old }
+        ensures mirrors { (arbiters : Four.Arbiters) → KeepsMirror tree.old.nodes arbiters tree.new.nodes arbiters }
+    {
+        self.go_on(tree);
+        tree.leave(serial);
+    }
+
+    /// The device that is next remains, with a problem.
+    fn remain(&mut self, serial: u64, problem: Problem, tree: &mut Tree)
+        ensures frame { self.new ≡ finish_on tree.old.nodes self.old (rest self.old.todo) }
+        ensures changed { tree.new ≡ changed serial (with_problem (Some problem)) tree.old }
+        ensures mirrors { (arbiters : Four.Arbiters) → KeepsMirror tree.old.nodes arbiters tree.new.nodes arbiters }
+    {
+        self.go_on(tree);
+        tree.set_problem(serial, Some(problem));
+    }
+
+    /// The problem of a related device that remains (that it is told apart after an eject is this project's own).
+    fn problem_of(&self, serial: u64) -> Problem
+        ensures { result ≡ problem_if (is_eject self.now.kind && has self.now.ejecting serial) }
+    {
+        if self.is_eject() && self.ejecting.has(serial) {
+            Problem::HeldForEject
+        } else {
+            Problem::Held
+        }
+    }
+
+    /// The device that is next, which has no drivers, leaves with its parent or by an eject, or remains with a problem.
+    pub(crate) fn settle(
+        &mut self,
+        alloc: Global,
+        tree: &mut Tree,
+    ) -> Result<RemoveStep, WantOfMemory>
+        requires there { IsSome (first_node tree.old.nodes self.old.todo) }
+        requires settles { IfSome (first_node tree.old.nodes self.old.todo) (IsStripped tree.old.nodes) }
+        ensures settles { IfOk result (λ step. SettlesFor (first_node tree.old.nodes self.old.todo) tree.old.nodes self.old step tree.new.nodes self.new) }
+        ensures next { tree.new.next ≡ tree.old.next }
+        ensures mirrors { (arbiters : Four.Arbiters) → KeepsMirror tree.old.nodes arbiters tree.new.nodes arbiters }
+        ensures removal { OnErr result (self.new ≡ self.old) }
+        ensures tree { OnErr result (tree.new ≡ tree.old) }
+    {
+        let Some(serial) = self.first() else {
+            unreachable!()
+        };
+        let Some(node) = tree.node(serial) else {
+            unreachable!()
+        };
+        let serial = node.serial;
+        let born = node.born;
+        let in_set = self.removes(node.parent);
+        let line = Text::make(alloc, node.path.bytes())?;
+        let path = node.path.copy(alloc)?;
+        if in_set {
+            self.leave(serial, tree);
+            let label = Label::Leave { path: line };
+            return Ok(RemoveStep::Left { label, path, born });
+        }
+        if !self.is_target(serial) {
+            let problem = self.problem_of(serial);
+            self.remain(serial, problem, tree);
+            return Ok(RemoveStep::Did(Label::Trouble {
+                path: line,
+                problem,
+            }));
+        }
+        if self.is_eject() {
+            self.leave(serial, tree);
+            let label = Label::Ejected { path: line };
+            return Ok(RemoveStep::Ejected { label, path, born });
+        }
+        let problem = Problem::Disabled;
+        self.remain(serial, problem, tree);
+        Ok(RemoveStep::Disabled(Label::Trouble {
+            path: line,
+            problem,
+        }))
+    }
+
+    /// How the removal ended.
+    fn end(&self, alloc: Global, tree: &Tree) -> Result<OpEnd, WantOfMemory>
+        ensures { IfOk result (λ end. end ≡ end_in tree.now.nodes self.now.refuser) }
+    {
+        let Some(refuser) = self.refuser else {
+            return Ok(OpEnd::Done);
+        };
+        let path = match tree.node(refuser) {
+            Some(node) => Text::make(alloc, node.path.bytes())?,
+            None => Text::make(alloc, b"")?,
+        };
+        Ok(OpEnd::Veto(path))
+    }
+
+    /// The line of the end.
+    pub(crate) fn end_line(&self, alloc: Global, tree: &Tree) -> Result<Label, WantOfMemory>
+        ensures { IfOk result (λ label. label ≡ Label.End self.now.kind self.now.path (end_in tree.now.nodes self.now.refuser)) }
+    {
+        let path = self.path.copy(alloc)?;
+        let result = self.end(alloc, tree)?;
+        Ok(Label::End {
+            op: self.kind,
+            path,
+            result,
+        })
+    }
+}

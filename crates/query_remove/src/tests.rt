@@ -1,0 +1,109 @@
+ghost use Rattle.std.specs.Prelude.{[], IfOk, OnTrue};
+ghost use Rattle.device_holdings.specs.Mirrors.{Mirrors, IsMirrored, KeepsMirror};
+ghost use Rattle.query_remove.specs.Steps.{HasNext, SettlesStripped};
+
+use crate::Removal;
+use crate::frame::Stage;
+use device_ids::{IdList, InstancePath, WantOfMemory};
+use devnode_tree::Tree;
+use driver_rack::{Drivers, Rack, Stubborn};
+use pnp_labels::{DevState, Label, OpEnd, OpKind, RemoveStep, Stack};
+use relations::Relations;
+use resource_reqs::Reqs;
+use std::alloc::Global;
+use std::process::Abort;
+use std::test::Fail;
+use trial_journal::Arbiters;
+
+/// A tree with one device under the root, and nothing held.
+fn one_device(alloc: Global) -> Result<(Tree, Arbiters), Fail>
+    ensures { IfOk result (λ r. Mirrors [] r.0.nodes r.1) }
+{
+    let mut tree = Tree::new(alloc)?;
+    let path = InstancePath::read(alloc, b"OWN\\DEV\\1")?;
+    let hw = IdList::new(alloc);
+    let compat = IdList::new(alloc);
+    let _ = tree.join(0, 1, path, hw, compat, Reqs::new(alloc))?;
+    Ok((tree, Arbiters::new(alloc)?))
+}
+
+/// The device is started, with the first driver of the rack.
+fn start(alloc: Global, tree: &mut Tree) -> Result<(), WantOfMemory>
+    ensures { (a : Arbiters) → KeepsMirror tree.old.nodes a tree.new.nodes a }
+{
+    let mut stack = Stack::new(alloc);
+    stack.push(0)?;
+    tree.set_stack(1, stack, DevState::Started);
+    Ok(())
+}
+
+/// Whether the removal is to end, or its next device is there and not to be settled.
+fn is_ready(removal: &Removal, tree: &Tree) -> bool
+    ensures next { OnTrue result (HasNext tree.now.nodes removal.now removal.now.stage) }
+    ensures settles { OnTrue result (SettlesStripped tree.now.nodes removal.now removal.now.stage) }
+{
+    match removal.stage {
+        Stage::Settling => false,
+        Stage::Ending => true,
+        _ => match removal.first() {
+            Some(serial) => tree.node(serial).is_some(),
+            None => false,
+        },
+    }
+}
+
+/// The next step of a removal that is ready and does not wait.
+fn step<R: Drivers>(
+    rt: &impl Abort,
+    alloc: Global,
+    removal: &mut Removal,
+    tree: &mut Tree,
+    relations: &mut Relations,
+    rack: &mut R,
+    arbiters: &mut Arbiters,
+) -> Result<RemoveStep, WantOfMemory>
+    requires { IsMirrored tree.old.nodes arbiters.old }
+    ensures { KeepsMirror tree.old.nodes arbiters.old tree.new.nodes arbiters.new }
+{
+    assert!(rt; is_ready(removal, tree));
+    assert!(rt; removal.waits().is_none());
+    removal.next(alloc, tree, relations, rack, arbiters)
+}
+
+#[test]
+fn a_driver_refuses(rt: HostRuntime) -> Result<(), Fail> {
+    let alloc = rt.alloc();
+    let (mut tree, mut arbiters) = one_device(alloc)?;
+    start(alloc, &mut tree)?;
+    let mut relations = Relations::new(alloc);
+    let mut drivers = Vec::with_capacity(alloc, 1)?;
+    drivers.push(Stubborn::make())?;
+    let mut rack = Rack::make(alloc, drivers)?;
+    assert!(rt; tree.node(1).is_some());
+    let (label, mut removal) = Removal::begin(alloc, &tree, &relations, OpKind::Disable, 1)?;
+    assert!(rt; matches!(label, Label::Begin { .. }));
+    assert!(rt; removal.complete(true).is_err());
+    let mut last = None;
+    for _ in 0..5 {
+        let done = step(
+            &rt,
+            alloc,
+            &mut removal,
+            &mut tree,
+            &mut relations,
+            &mut rack,
+            &mut arbiters,
+        )?;
+        last = Some(done);
+    }
+    assert!(rt;
+        matches!(
+            last,
+            Some(RemoveStep::Over(Label::End {
+                result: OpEnd::Veto(_),
+                ..
+            }))
+        )
+    );
+    Ok(())
+}

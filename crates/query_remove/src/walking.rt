@@ -1,0 +1,116 @@
+ghost use Rattle.std.specs.Prelude.{◌≡◌, List, IfOk, OnErr, IsSome, false};
+ghost use Rattle.pnp_model.specs.Cores.{node_at, forget, bare};
+ghost use Rattle.pnp_model.specs.Records.{Node, Relation};
+ghost use Rattle.resource_reqs.specs.Resources.{Res};
+ghost use Rattle.pnp_labels.specs.declared.states.DevState.TheVariants.{NoStack};
+ghost use Rattle.devnode_tree.specs.Trees.{changed};
+ghost use Rattle.trial_journal.specs.Four as Four;
+ghost use Rattle.device_holdings.specs.Mirrors.{IsMirrored, KeepsMirror};
+ghost use Rattle.relations.specs.Leaving.{core_of};
+ghost use Rattle.query_remove.specs.Walks.{WalksFor, EndsFor, minor_if, CompletedWalk};
+
+use device_holdings::release;
+use device_ids::{Text, WantOfMemory};
+use device_stack::{NoSuchRequest, Passed, Walk, state_after};
+use devnode_tree::Tree;
+use driver_rack::Drivers;
+use pnp_labels::{DevState, Label, Minor};
+use relations::Relations;
+use std::alloc::Global;
+use trial_journal::Arbiters;
+
+/// A step of a request for a device. This project's own.
+#[derive(Debug, Drop)]
+pub enum Walked {
+    /// A driver was asked; the line tells what it answered.
+    On(Label),
+    /// The request has ended, and whether a driver refused it; the path of the device is for the line that tells its
+    /// state.
+    Ended { path: Text, refused: bool },
+}
+
+/// The next step of a request for a device; its end changes nothing yet. Conditions: the device is there, and the request
+/// does not wait. After want of memory nothing has changed, and no driver was asked. Cost: the rules of one book, and the
+/// logarithm of the number of nodes.
+pub fn pass_on<R: Drivers>(
+    alloc: Global,
+    serial: u64,
+    walk: &mut Walk,
+    tree: &Tree,
+    rack: &mut R,
+) -> Result<Walked, WantOfMemory>
+    requires there { IsSome (node_at serial tree.now.nodes) }
+    requires goes { walk.old.walk.waits ≡ false }
+    ensures passed { IfOk result (λ went. (relations : List Relation) (reserved : List Res) → WalksFor (node_at serial tree.now.nodes) (core_of tree.now.nodes relations (R.rows rack.old) reserved) walk.old.walk went (core_of tree.now.nodes relations (R.rows rack.new) reserved) walk.new.walk) }
+    ensures walk { OnErr result (walk.new ≡ walk.old) }
+    ensures rack { OnErr result (R.rows rack.new ≡ R.rows rack.old) }
+{
+    let Some(node) = tree.node(serial) else {
+        unreachable!()
+    };
+    let path = Text::make(alloc, node.path.bytes())?;
+    match walk.pass(alloc, &node.stack, &node.path, rack)? {
+        Passed::Asked(label) => Ok(Walked::On(label)),
+        Passed::Ended { refused } => Ok(Walked::Ended { path, refused }),
+    }
+}
+
+/// A request that leaves the drivers ends: the device gets the state after it, and the line tells it. Condition: the device
+/// is there. It takes no memory. Cost: the logarithm of the number of nodes.
+pub fn end_walk(minor: Minor, refused: bool, path: Text, serial: u64, tree: &mut Tree) -> Label
+    requires { IsSome (node_at serial tree.old.nodes) }
+    ensures ended { EndsFor (node_at serial tree.old.nodes) minor refused path tree.old.nodes result tree.new.nodes }
+    ensures next { tree.new.next ≡ tree.old.next }
+    ensures mirrors { (arbiters : Four.Arbiters) → KeepsMirror tree.old.nodes arbiters tree.new.nodes arbiters }
+{
+    let Some(node) = tree.node(serial) else {
+        unreachable!()
+    };
+    let serial = node.serial;
+    let old = node.state;
+    let state = state_after(minor, refused, old);
+    tree.set_state(serial, state);
+    Label::State { path, state }
+}
+
+/// The request that removes the drivers ends: the device loses its drivers, its holdings and its relations, and the line
+/// tells its state. Condition: the arbiters hold just what is reserved and what devices hold; this is kept. It takes no
+/// memory. Cost: the logarithm of the number of nodes, the number of relations, and for each resource that it held the
+/// pairs of its kind.
+pub fn strip(
+    path: Text,
+    serial: u64,
+    tree: &mut Tree,
+    relations: &mut Relations,
+    arbiters: &mut Arbiters,
+) -> Label
+    requires { IsMirrored tree.old.nodes arbiters.old }
+    ensures label { result ≡ Label.State path NoStack }
+    ensures bare { tree.new ≡ changed serial bare tree.old }
+    ensures relations { relations.new ≡ forget serial relations.old }
+    ensures mirrors { KeepsMirror tree.old.nodes arbiters.old tree.new.nodes arbiters.new }
+{
+    release(tree, arbiters, serial);
+    relations.forget(serial);
+    Label::State {
+        path,
+        state: DevState::NoStack,
+    }
+}
+
+/// The request of a walk that waits.
+pub fn waiting_minor(walk: &Walk) -> Option<Minor>
+    ensures { result ≡ minor_if walk.now.walk walk.now.walk.waits }
+{
+    walk.waits().map(|_| walk.minor())
+}
+
+/// Completes a walk where it waits.
+pub fn complete_walk(walk: &mut Walk, ok: bool) -> Result<(), NoSuchRequest>
+    ensures { CompletedWalk result walk.old.walk ok walk.new.walk }
+{
+    match walk.waits() {
+        Some(pos) => walk.complete(pos, ok),
+        None => Err(NoSuchRequest),
+    }
+}
