@@ -14,6 +14,9 @@ use Rattle.pnp_laws.specs.Ends.{events}
 use Rattle.pnp_laws.specs.Kept.{IsGood}
 use Rattle.pnp_laws.proofs.Reached.{reached_is_good}
 use Rattle.pnp_laws.proofs.Reaching.{run_on}
+use Rattle.pnp_laws.proofs.RunsBegun.{operations_begin}
+use Rattle.pnp_laws.proofs.RunsConflict.{each_conflict_is_real}
+use Rattle.pnp_laws.proofs.RunsEnds.{each_end_restores}
 use Rattle.pnp_laws.proofs.RunsSerials.{few_serials, few_births}
 use Rattle.pnp_laws.proofs.RunsShare.{nothing_clashes}
 use Rattle.pnp_laws.proofs.RunsStand.{dependents_go_first, every_run_follows}
@@ -38,7 +41,7 @@ module _ (told : Settings) (s t : State) where
   more_entries : (rack : List Driver) (xs : List Entry) (entry : Entry) → Reaches told rack xs s → Goes told s entry t → Reaches told rack (xs ++ entry ∷ []) t
   more_entries rack xs entry run goes = run_on told (opening rack) s t xs (entry ∷ []) run (t, goes, refl)
 
-  laws_of : (n : ℕ) → IsRunOf told n s → (entry : Entry) → Goes told s entry t → KeepsLaws (printed entry) s t
+  laws_of : (n : ℕ) → IsRunOf told n s → (entry : Entry) → Goes told s entry t → KeepsLaws told (printed entry) s t
   laws_of n h entry goes =
       let follows = every_run_follows told h.rack h.entries s entry t h.reaches goes in
       let more = more_entries h.rack h.entries entry h.reaches goes in
@@ -48,6 +51,9 @@ module _ (told : Settings) (s t : State) where
         clear = nothing_clashes told h.rack (h.entries ++ entry ∷ []) t more;
         whole = all_hold_whole told h.rack (h.entries ++ entry ∷ []) t more;
         first = dependents_go_first told h.rack h.entries s entry t h.reaches goes;
+        begun = λ rack entries reaches. operations_begin told rack entries s entry t reaches goes;
+        restores = λ rack entries reaches. each_end_restores told rack entries s entry t reaches goes;
+        conflicts = λ rack entries path reaches is. each_conflict_is_real told rack entries s entry t path reaches goes is;
       }
 
   event_goes : (event : Event) (label : Label) → IsQuiet told s → IsDone (happens s event) label t → Goes told s (Happens event label) t
@@ -68,7 +74,7 @@ module _ (told : Settings) (s t : State) where
         count = events_more h.entries event label ∙ ap (λ k. k + 1) h.count;
       }
 
-  pub laws_applied : (n : ℕ) (event : Event) (label : Label) → IsRunOf told n s → IsQuiet told s → IsDone (happens s event) label t → KeepsLaws label s t
+  pub laws_applied : (n : ℕ) (event : Event) (label : Label) → IsRunOf told n s → IsQuiet told s → IsDone (happens s event) label t → KeepsLaws told label s t
   laws_applied n event label h quiet is = laws_of n h (Happens event label) (event_goes event label quiet is)
 
   pub run_stepped : (n : ℕ) (moved : Moved) → IsRunOf told n s → Moves told s moved t → IsRunOf told n t
@@ -81,7 +87,7 @@ module _ (told : Settings) (s t : State) where
       }
   run_stepped n Quiet h (quiet, same) = subst (IsRunOf told n) (sym same) h
 
-  pub laws_stepped : (n : ℕ) (moved : Moved) → IsRunOf told n s → Moves told s moved t → LawsOf moved s t
+  pub laws_stepped : (n : ℕ) (moved : Moved) → IsRunOf told n s → Moves told s moved t → LawsOf told moved s t
   laws_stepped n (Printed label) h steps = laws_of n h (Did label) steps
   laws_stepped n Quiet h steps = tt
 
@@ -106,7 +112,7 @@ module _ (told : Settings) (n : ℕ) (s t : State) (h : IsRunOf told n s) where
   run_after (Ok moved) moves same = run_stepped told s t n moved h moves
   run_after (Err refused) moves same = subst (IsRunOf told n) (sym same) h
 
-  pub laws_after : (r : Result Moved AllocError) → IfOk r (λ moved. Moves told s moved t) → IfOk r (λ moved. LawsOf moved s t)
+  pub laws_after : (r : Result Moved AllocError) → IfOk r (λ moved. Moves told s moved t) → IfOk r (λ moved. LawsOf told moved s t)
   laws_after (Ok moved) moves = laws_stepped told s t n moved h moves
   laws_after (Err refused) moves = tt
 

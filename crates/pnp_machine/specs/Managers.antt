@@ -1,12 +1,15 @@
 -- The manager as contracts see it, and what holds of its state and of each of its steps.
 use Rattle.std.specs.Prelude.{◌≡◌, ℕ, ◌≤◌, Bool, true, false, List, length}
 use Rattle.inf_reader.specs.declared.parts.Inf.{Inf}
+use Rattle.pnp_labels.specs.Texts.{Text}
 use Rattle.pnp_labels.specs.declared.label.Label.{Label}
+use Rattle.pnp_labels.specs.declared.states.Problem.TheVariants.{NormalConflict}
 use Rattle.pnp_model.specs.Diagram.{FollowsDiagram, Walked}
 use Rattle.pnp_model.specs.Laws.{Reaches, HoldsWhole, DependentsFirst}
 use Rattle.pnp_model.specs.Records.{Driver, Settings, State}
 use Rattle.pnp_model.specs.Runs.{Entry}
 use Rattle.pnp_model.specs.Sharing.{Clear}
+use Rattle.pnp_laws.specs.Begun.{Belongs, Restoring, Conflicts}
 use Rattle.pnp_laws.specs.Ends as ends
 use Rattle.start_sequence.specs.Begins.{settings_of}
 use Rattle.pnp_model.specs.Machine.{IsQuiet}
@@ -37,17 +40,22 @@ pub record IsManager (infs : List Inf) (budget events : ℕ) (s : State) : Type 
   pub run : IsRunOf (settings_of infs budget) events s
 
 -- what holds of each step and each event: states change by rows of the diagram, nothing clashes, devices that are up hold
--- one whole alternative, and dependents go first
-pub record KeepsLaws (label : Label) (old new : State) : Type 0 where
+-- one whole alternative, and dependents go first; and whatever run leads to it, what ends has begun in it, a veto and a
+-- futile rebalance restore, and problem 12 is real
+pub record KeepsLaws (told : Settings) (label : Label) (old new : State) : Type 0 where
   pub diagram : FollowsDiagram label old.core.nodes new.core.nodes
   pub walked : Walked label old.core.nodes new.core.nodes
   pub clear : Clear new.core.reserved new.core.nodes
   pub whole : HoldsWhole new.core.nodes
   pub first : DependentsFirst label old.core new.core
+  pub begun : (rack : List Driver) (entries : List Entry) → Reaches told rack entries old → Belongs told rack entries old label
+  pub restores : (rack : List Driver) (entries : List Entry) → Reaches told rack entries old → Restoring told rack entries old new label
+  pub conflicts : (rack : List Driver) (entries : List Entry) (path : Text) → Reaches told rack entries old → label ≡ Label.Trouble path NormalConflict
+      → Conflicts told rack entries old path
 
-abbrev pub LawsOf : Moved → State → State → Type 0
-LawsOf (Printed label) old new = KeepsLaws label old new
-LawsOf Quiet old new = Unit {0}
+abbrev pub LawsOf : Settings → Moved → State → State → Type 0
+LawsOf told (Printed label) old new = KeepsLaws told label old new
+LawsOf told Quiet old new = Unit {0}
 
 -- a test tells whether a state is quiet
 abbrev pub IfQuiet : Bool → Settings → State → Type 0

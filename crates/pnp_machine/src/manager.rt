@@ -78,7 +78,7 @@ impl<R: Drivers> Manager<R> {
         requires events { self.old.events < 2 ^ 24 }
         ensures done { IfOk result (λ label. IsDone (happens self.old.state event) label self.new.state) }
         ensures count { OnOk result (self.new ≡ record self.old { events = self.old.events + 1; state = self.new.state }) }
-        ensures laws { IfOk result (λ label. KeepsLaws label self.old.state self.new.state) }
+        ensures laws { IfOk result (λ label. KeepsLaws (settings self.old) label self.old.state self.new.state) }
         ensures run { OnOk result (IsRunOf (settings self.new) self.new.events self.new.state) }
         ensures err { OnErr result (self.new ≡ self.old) }
     {
@@ -94,7 +94,7 @@ impl<R: Drivers> Manager<R> {
         requires events { self.old.events ≤ 2 ^ 24 }
         ensures moves { IfOk result (λ moved. Moves (settings self.old) self.old.state moved self.new.state) }
         ensures same { self.new ≡ record self.old { state = self.new.state } }
-        ensures laws { IfOk result (λ moved. LawsOf moved self.old.state self.new.state) }
+        ensures laws { IfOk result (λ moved. LawsOf (settings self.old) moved self.old.state self.new.state) }
         ensures run { IsRunOf (settings self.new) self.new.events self.new.state }
         ensures err { OnErr result (self.new ≡ self.old) }
     {
