@@ -1,6 +1,5 @@
 -- A removal begins as the machine has it.
 use Rattle.std.proofs.Common.{◌≡◌, ℕ, List, [], ◌∷◌, true, Option, Some, None, is_some, refl, sym, ap, ◌∙◌, subst}
-use Rattle.resource_reqs.specs.Resources.{Res}
 use Rattle.pnp_labels.specs.Texts.{Text}
 use Rattle.pnp_labels.specs.declared.label.Label.{Label}
 use Rattle.pnp_labels.specs.declared.label.OpKind.{OpKind}
@@ -11,8 +10,8 @@ use Rattle.pnp_model.specs.Cores.{node_at, stack_of}
 use Rattle.pnp_model.specs.Records as Records
 use Rattle.pnp_model.specs.Records.{Node, Driver, Relation, Walk, Removal}
 use Rattle.pnp_model.specs.Trees.{is_up, leaving}
-use Rattle.pnp_model.specs.Removals.{finish_with, finish_on, ask_on, begun_removal}
-use Rattle.pnp_laws.proofs.Lookups.{own_serial, found_self}
+use Rattle.pnp_model.specs.Removals.{finish_with, finish_on, ask_on}
+use Rattle.pnp_laws.proofs.Lookups.{found_self}
 use Rattle.relations.specs.Leaving.{core_of, IsLeaving}
 use Rattle.relations.specs.Relating.{ejected}
 use Rattle.query_remove.specs.Begins.{BegunFor}

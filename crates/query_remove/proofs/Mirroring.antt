@@ -1,12 +1,11 @@
 -- Arbiters that mirror what devices hold still do where no holdings change.
-use Rattle.std.proofs.Common.{◌≡◌, ℕ, ◌==◌, Bool, true, false, cond, List, [], ◌∷◌, ◌++◌, Option, Some, None, option_map, refl, sym, ap, ◌∙◌, arith}
-use Rattle.std.proofs.lemmas.Bool.{cases_eq}
+use Rattle.std.proofs.Common.{◌≡◌, ℕ, Bool, true, false, cond, List, [], ◌∷◌, ◌++◌, Option, Some, None, option_map, refl, sym, ap, ◌∙◌, arith}
 use Rattle.std.proofs.lemmas.Bool.Decides.{nat_tests}
 use Rattle.resource_reqs.specs.declared.owner.Owner.TheVariants.{Reserved, Device}
 use Rattle.trial_journal.specs.Four.{Arbiters}
 use Rattle.pnp_model.specs.Keyed.{changed_first, without_first}
 use Rattle.pnp_model.specs.Records.{Node}
-use Rattle.pnp_model.specs.Cores.{is_node, node_at, with_state, with_problem}
+use Rattle.pnp_model.specs.Cores.{is_node, node_at, with_state, with_problem, with_stack}
 use Rattle.pnp_labels.specs.declared.states.DevState.{DevState}
 use Rattle.pnp_labels.specs.declared.states.Problem.{Problem}
 use Rattle.pnp_labels.specs.declared.states.DevState.TheVariants.{NoStack}
@@ -34,6 +33,9 @@ mirror_state k nodes a state = mirror_same nodes (changed_first (is_node k) (wit
 
 pub mirror_problem : (k : ℕ) (nodes : List Node) (a : Arbiters) → (problem : Option Problem) → KeepsMirror nodes a (changed_first (is_node k) (with_problem problem) nodes) a
 mirror_problem k nodes a problem = mirror_same nodes (changed_first (is_node k) (with_problem problem) nodes) a (pairs_changed k (with_problem problem) (λ n. refl) (λ n. refl) nodes)
+
+pub mirror_stack : (k : ℕ) (nodes : List Node) (a : Arbiters) → (stack : List ℕ) (state : DevState) → KeepsMirror nodes a (changed_first (is_node k) (with_stack stack state) nodes) a
+mirror_stack k nodes a stack state = mirror_same nodes (changed_first (is_node k) (with_stack stack state) nodes) a (pairs_changed k (with_stack stack state) (λ n. refl) (λ n. refl) nodes)
 
 pairs_left : (k : ℕ) (nodes : List Node) (n : Node) → node_at k nodes ≡ Some n → n.holds ≡ [] → node_pairs (without_first (is_node k) nodes) ≡ node_pairs nodes
 pairs_left k [] n at none = absurd (cc)

@@ -1,13 +1,12 @@
 -- A step of the request of the device that is next is the step of the machine.
-use Rattle.std.proofs.Common.{◌≡◌, ℕ, Bool, true, false, List, [], ◌∷◌, Option, Some, None, Result, Ok, Err, IfOk, OnErr, length, slice_get, refl, sym, ap, ◌∙◌, subst}
+use Rattle.std.proofs.Common.{◌≡◌, ℕ, Bool, true, false, List, Option, Some, None, Result, Ok, Err, OnErr, length, slice_get, refl, sym, ap, ◌∙◌, subst}
 use Rattle.resource_reqs.specs.Resources.{Res}
 use Rattle.pnp_labels.specs.Texts.{Text}
 use Rattle.pnp_labels.specs.declared.label.Label.{Label}
 use Rattle.pnp_labels.specs.declared.label.RemoveStep.TheVariants as steps
 use Rattle.pnp_model.specs.Walks.{is_bad, has_ended}
 use Rattle.pnp_model.specs.Cores.{node_at}
-use Rattle.pnp_model.specs.Frames.{Ask, asked, first_node}
-use Rattle.pnp_model.specs.Records as Records
+use Rattle.pnp_model.specs.Frames.{asked, first_node}
 use Rattle.pnp_model.specs.Records.{Node, Core, Driver, Relation, Walk, Removal}
 use Rattle.pnp_model.specs.Removals.{RemovalMove, removal_step, removed, ask_step, take_back, cancel_step, remove_step}
 use Rattle.relations.specs.Leaving.{core_of}

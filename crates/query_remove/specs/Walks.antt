@@ -1,11 +1,11 @@
 -- One step of a request of an operation, and its end.
-use Rattle.std.specs.Prelude.{◌≡◌, ℕ, Bool, true, false, List, Option, Some, None, Ok, Err, Result, length}
+use Rattle.std.specs.Prelude.{◌≡◌, Bool, true, false, List, Option, Some, None, Ok, Err, Result, length}
 use Rattle.pnp_labels.specs.Texts.{Text}
 use Rattle.pnp_labels.specs.declared.words.Minor.{Minor}
 use Rattle.pnp_labels.specs.declared.label.Label.{Label}
 use Rattle.pnp_model.specs.Keyed.{changed_first}
 use Rattle.pnp_model.specs.Records.{Node, Core, Walk}
-use Rattle.pnp_model.specs.Cores.{is_node, with_state, bare}
+use Rattle.pnp_model.specs.Cores.{is_node, with_state}
 use Rattle.pnp_model.specs.Walks.{is_bad, has_ended, after, state_after}
 use Rattle.pnp_model.specs.Events.{answer_of}
 use Rattle.pnp_model.specs.Frames.{asked}

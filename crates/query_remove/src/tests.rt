@@ -1,4 +1,6 @@
-ghost use Rattle.std.specs.Prelude.{[], IfOk, OnTrue};
+ghost use Rattle.std.specs.Prelude.{[], IfOk};
+ghost use Rattle.std.specs.Bool.{OnTrue};
+ghost use Rattle.trial_journal.specs.Four as Four;
 ghost use Rattle.device_holdings.specs.Mirrors.{Mirrors, IsMirrored, KeepsMirror};
 ghost use Rattle.query_remove.specs.Steps.{HasNext, SettlesStripped};
 
@@ -29,7 +31,7 @@ fn one_device(alloc: Global) -> Result<(Tree, Arbiters), Fail>
 
 /// The device is started, with the first driver of the rack.
 fn start(alloc: Global, tree: &mut Tree) -> Result<(), WantOfMemory>
-    ensures { (a : Arbiters) → KeepsMirror tree.old.nodes a tree.new.nodes a }
+    ensures { (a : Four.Arbiters) → KeepsMirror tree.old.nodes a tree.new.nodes a }
 {
     let mut stack = Stack::new(alloc);
     stack.push(0)?;

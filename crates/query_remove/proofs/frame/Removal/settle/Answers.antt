@@ -1,4 +1,4 @@
-use Rattle.std.proofs.Common.{ℕ, ◌≡◌, ◌∙◌, ◌==◌, ◌&&◌, Some, ap, sym, subst}
+use Rattle.std.proofs.Common.{ℕ, ◌∙◌, ◌==◌, ◌&&◌, Some, ap, sym, subst}
 use Rattle.pnp_model.specs.Cores.{is_node, node_at, with_problem}
 use Rattle.pnp_model.specs.Records.{Node}
 use Rattle.devnode_tree.specs.Trees.{Tree, CanLeave}

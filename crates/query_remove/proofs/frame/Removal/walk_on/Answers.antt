@@ -1,7 +1,6 @@
 use Rattle.std.proofs.Common.{◌∙◌, [], ap, sym}
 use Rattle.pnp_model.specs.Cores.{node_at}
 use Rattle.pnp_model.specs.Records.{Core, Walk, Removal}
-use Rattle.relations.specs.Leaving.{core_of}
 use Rattle.query_remove.specs.Stages.{stage_of}
 use Rattle.query_remove.specs.Parts.{is_walking}
 use Rattle.query_remove.specs.contracts.frame.Removal.{the_view}
