@@ -3,3 +3,4 @@ pub mod Queues
 pub mod Moving
 pub mod Stepping
 pub mod Beginning
+pub mod Given

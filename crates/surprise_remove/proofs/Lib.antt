@@ -1,0 +1,4 @@
+pub mod Beginning
+pub mod Moving
+pub mod Stepping
+pub mod Given

@@ -1,0 +1,10 @@
+use Rattle.std.proofs.Common.{subst, sym, Some}
+use Rattle.devnode_tree.specs.Trees.{Tree}
+use Rattle.device_holdings.specs.Mirrors.{KeepsMirror}
+use Rattle.query_remove.proofs.Mirroring.{mirror_problem}
+use Rattle.surprise_remove.proofs.frame.Surprise.remain.Goals as goal
+
+pub returns-clause-mirrors : goal.returns-clause-mirrors
+returns-clause-mirrors c =
+    λ arbiters. subst (λ (t : Tree). KeepsMirror c.args.tree.now.nodes arbiters t.nodes arbiters) (sym c.set_problem.ensures)
+    (mirror_problem c.args.serial c.args.tree.now.nodes arbiters (Some c.args.problem))

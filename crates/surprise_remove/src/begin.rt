@@ -1,0 +1,90 @@
+ghost use Rattle.std.specs.Prelude.{◌≡◌, IfOk, OnOk, IsSome};
+ghost use Rattle.pnp_model.specs.Cores.{node_at};
+ghost use Rattle.pnp_model.specs.Keyed.{those};
+ghost use Rattle.pnp_model.specs.Surprises.{is_told_node};
+ghost use Rattle.surprise_remove.specs.Frames.{finish_if_none};
+ghost use Rattle.surprise_remove.specs.Begins.{BegunFor};
+
+use crate::frame::{Stage, Surprise};
+use device_ids::{Text, WantOfMemory};
+use device_stack::Walk;
+use devnode_tree::Tree;
+use pnp_labels::{DevState, Label, Minor, OpKind};
+use query_remove::SerialQueue;
+use relations::{Relations, SerialSet};
+use std::alloc::Global;
+
+/// Whether a device is there, and Started or Stopped.
+fn is_told(tree: &Tree, serial: u64) -> bool
+    ensures { result ≡ is_told_node (node_at serial tree.now.nodes) }
+{
+    match tree.node(serial) {
+        Some(node) => matches!(node.state, DevState::Started | DevState::Stopped),
+        None => false,
+    }
+}
+
+/// Those of a set that are told that they are gone.
+fn told(alloc: Global, tree: &Tree, set: &SerialSet) -> Result<SerialQueue, WantOfMemory>
+    ensures { IfOk result (λ queue. queue ≡ those (λ k. is_told_node (node_at k tree.now.nodes)) set.now) }
+{
+    let mut queue = SerialQueue::new(alloc);
+    for at in 0..set.len() {
+        let serial = set.get(at);
+        if is_told(tree, serial) {
+            queue.push_back(serial)?;
+        }
+    }
+    Ok(queue)
+}
+
+impl Surprise {
+    /// The surprise removal of a device begins: its dependents and then it itself are to be told. The line is that of the
+    /// begin. Condition: the device is there. Cost: that of `Relations::leaving`.
+    pub fn begin(
+        alloc: Global,
+        tree: &Tree,
+        relations: &Relations,
+        serial: u64,
+    ) -> Result<(Label, Surprise), WantOfMemory>
+        requires { IsSome (node_at serial tree.now.nodes) }
+        ensures { IfOk result (λ begun. BegunFor (node_at serial tree.now.nodes) tree.now.nodes relations.now begun.0 begun.1) }
+    {
+        let Some(node) = tree.node(serial) else {
+            unreachable!()
+        };
+        let target = node.serial;
+        let line = Text::make(alloc, node.path.bytes())?;
+        let path = Text::make(alloc, node.path.bytes())?;
+        let order = relations.leaving(alloc, tree, target)?;
+        let set = SerialSet::of(alloc, &order)?;
+        let todo = told(alloc, tree, &set)?;
+        let mut surprise = Surprise {
+            target,
+            path,
+            set,
+            todo,
+            stage: Stage::Telling,
+            walk: Walk::begin(Minor::SurpriseRemoval),
+        };
+        surprise.finish_where_none_is_told(alloc, tree)?;
+        Ok((
+            Label::Begin {
+                op: OpKind::Surprise,
+                path: line,
+            },
+            surprise,
+        ))
+    }
+
+    /// Where no device is to be told, all are finished.
+    fn finish_where_none_is_told(&mut self, alloc: Global, tree: &Tree) -> Result<(), WantOfMemory>
+        ensures { OnOk result (self.new ≡ finish_if_none tree.now.nodes self.old self.old.todo) }
+    {
+        if self.todo.get(0).is_none() {
+            self.todo = SerialQueue::of(alloc, &self.set)?;
+            self.finish_next(tree);
+        }
+        Ok(())
+    }
+}

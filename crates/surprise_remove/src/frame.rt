@@ -1,0 +1,118 @@
+ghost use Rattle.std.specs.Prelude.{◌≡◌, ◌==◌, slice_get};
+ghost use Rattle.pnp_model.specs.Tests.{has};
+ghost use Rattle.pnp_model.specs.Surprises.{finish_on};
+ghost use Rattle.pnp_model.specs.Cores.{node_at};
+ghost use Rattle.query_remove.specs.Frames.{has_drivers};
+ghost use Rattle.surprise_remove.specs.Frames.{minor_that_waits, Completed};
+
+use device_ids::Text;
+use device_stack::{NoSuchRequest, Walk};
+use devnode_tree::Tree;
+use pnp_labels::Minor;
+use query_remove::{SerialQueue, complete_walk, waiting_minor};
+use relations::SerialSet;
+use std::marker::Model;
+
+/// What is done with the device that is next: this project's own.
+#[derive(Clone, Copy, Debug, PartialEq, Eq)]
+pub(crate) enum Stage {
+    /// It is told that it is gone.
+    Telling,
+    /// Its drivers are being removed.
+    Removing,
+    /// It has no drivers: it leaves or remains.
+    Settling,
+    /// None is next.
+    Ending,
+}
+
+/// A surprise removal, without veto: a device is gone from its bus (the driver kit, IRP_MN_SURPRISE_REMOVAL; that each step
+/// is one of the machine's is this project's own). A contract sees the record of where it stands.
+#[derive(Drop)]
+pub struct Surprise {
+    pub(crate) target: u64,
+    pub(crate) path: Text,
+    pub(crate) set: SerialSet,
+    pub(crate) todo: SerialQueue,
+    pub(crate) stage: Stage,
+    pub(crate) walk: Walk,
+}
+
+impl Model for Surprise {
+    ghost use Rattle.pnp_model.specs.Records.{Surprise};
+    ghost use Rattle.surprise_remove.specs.Stages.{stage_of};
+
+    ghost Value = { Surprise };
+
+    ghost view = { λ r. record { target = r.target; path = r.path; set = r.set; todo = r.todo; stage = stage_of r.stage r.walk.walk } };
+}
+
+impl Surprise {
+    /// The request that waits for a driver; none exactly where none waits.
+    pub fn waits(&self) -> Option<Minor>
+        ensures { result ≡ minor_that_waits self.now.stage }
+    {
+        match self.stage {
+            Stage::Settling | Stage::Ending => None,
+            _ => waiting_minor(&self.walk),
+        }
+    }
+
+    /// The driver at which the request waits completes it: Ok, or Fail. `NoSuchRequest` exactly where none waits; then
+    /// nothing changes. It takes no memory.
+    pub fn complete(&mut self, ok: bool) -> Result<(), NoSuchRequest>
+        ensures { Completed result self.old ok self.new }
+    {
+        match self.stage {
+            Stage::Settling | Stage::Ending => Err(NoSuchRequest),
+            _ => complete_walk(&mut self.walk, ok),
+        }
+    }
+
+    /// The device that is next.
+    pub(crate) fn first(&self) -> Option<u64>
+        ensures { result ≡ slice_get self.now.todo 0 }
+    {
+        self.todo.get(0)
+    }
+
+    /// Whether a device is of those that are gone.
+    pub(crate) fn removes(&self, serial: u64) -> bool
+        ensures { result ≡ has self.now.set serial }
+    {
+        self.set.has(serial)
+    }
+
+    /// Whether a device is the one that its bus has lost.
+    pub(crate) fn is_target(&self, serial: u64) -> bool
+        ensures { result ≡ (serial == self.now.target) }
+    {
+        serial == self.target
+    }
+
+    /// The device that is next is finished: where it has drivers they are removed first, and where none is next the end is.
+    pub(crate) fn finish_next(&mut self, tree: &Tree)
+        ensures { self.new ≡ finish_on tree.now.nodes self.old self.old.todo }
+    {
+        let Some(serial) = self.todo.get(0) else {
+            self.stage = Stage::Ending;
+            return;
+        };
+        if has_drivers(tree, serial) {
+            self.stage = Stage::Removing;
+            self.walk = Walk::begin(Minor::Remove);
+        } else {
+            self.stage = Stage::Settling;
+        }
+    }
+}
+
+/// Whether a device has drivers.
+fn has_drivers(tree: &Tree, serial: u64) -> bool
+    ensures { result ≡ has_drivers (node_at serial tree.now.nodes) }
+{
+    match tree.node(serial) {
+        Some(node) => node.stack.len() > 0,
+        None => false,
+    }
+}

@@ -1,0 +1,169 @@
+ghost use Rattle.std.specs.Prelude.{◌≡◌, List, IfOk, OnErr, IsSome, true, false};
+ghost use Rattle.pnp_model.specs.Cores.{node_at};
+ghost use Rattle.pnp_model.specs.Machine.{surprise_walk, is_waiting};
+ghost use Rattle.pnp_model.specs.Surprises.{tell_on, tell_step};
+ghost use Rattle.pnp_model.specs.Frames.{first_node, rest};
+ghost use Rattle.pnp_model.specs.Records as Records;
+ghost use Rattle.pnp_model.specs.Records.{Relation};
+ghost use Rattle.trial_journal.specs.Four as Four;
+ghost use Rattle.device_holdings.specs.Mirrors.{IsMirrored, KeepsMirror};
+ghost use Rattle.query_remove.specs.Parts.{PathIs, all_after};
+ghost use Rattle.surprise_remove.specs.Steps.{Surprises, HasNext, SettlesStripped};
+ghost use Rattle.surprise_remove.specs.Parts.{MovesFor, end_move, is_walking};
+
+use crate::frame::{Stage, Surprise};
+use device_ids::{Text, WantOfMemory};
+use device_stack::Walk;
+use devnode_tree::Tree;
+use driver_rack::Drivers;
+use pnp_labels::{Label, Minor, RemoveStep};
+use query_remove::{SerialQueue, Walked, end_walk, pass_on, strip};
+use relations::Relations;
+use std::alloc::Global;
+use trial_journal::Arbiters;
+
+impl Surprise {
+    /// The devices of the set, where no other device is to be told after the next one.
+    fn all_after_last(&self, alloc: Global) -> Result<SerialQueue, WantOfMemory>
+        ensures { IfOk result (λ all. all ≡ all_after self.now.set (rest self.now.todo)) }
+    {
+        match self.todo.get(1) {
+            Some(_) => Ok(SerialQueue::new(alloc)),
+            None => SerialQueue::of(alloc, &self.set),
+        }
+    }
+
+    /// The device that is next is told, and where none is next all are finished.
+    fn tell_next(&mut self, tree: &Tree, all: SerialQueue)
+        requires { all ≡ all_after self.old.set self.old.todo }
+        ensures { self.new ≡ tell_on tree.now.nodes self.old self.old.todo }
+    {
+        if self.todo.get(0).is_some() {
+            self.stage = Stage::Telling;
+            self.walk = Walk::begin(Minor::SurpriseRemoval);
+            return;
+        }
+        self.todo = all;
+        self.finish_next(tree);
+    }
+
+    /// The device that is next was told; after the last one all are finished.
+    fn told(
+        &mut self,
+        alloc: Global,
+        serial: u64,
+        path: Text,
+        tree: &mut Tree,
+    ) -> Result<Label, WantOfMemory>
+        requires path { PathIs (node_at serial tree.old.nodes) path }
+        ensures told { IfOk result (λ label. (relations : List Relation) (w : Records.Walk) → MovesFor (node_at serial tree.old.nodes) (λ c n. tell_step c self.old n w true) tree.old.nodes relations label tree.new.nodes relations self.new) }
+        ensures next { tree.new.next ≡ tree.old.next }
+        ensures mirrors { (arbiters : Four.Arbiters) → KeepsMirror tree.old.nodes arbiters tree.new.nodes arbiters }
+        ensures surprise { OnErr result (self.new ≡ self.old) }
+        ensures tree { OnErr result (tree.new ≡ tree.old) }
+    {
+        let all = self.all_after_last(alloc)?;
+        self.todo.drop_first();
+        self.tell_next(tree, all);
+        Ok(end_walk(Minor::SurpriseRemoval, false, path, serial, tree))
+    }
+
+    /// The request of the device that is next has ended.
+    fn end_request(
+        &mut self,
+        alloc: Global,
+        serial: u64,
+        path: Text,
+        tree: &mut Tree,
+        relations: &mut Relations,
+        arbiters: &mut Arbiters,
+    ) -> Result<Label, WantOfMemory>
+        requires path { PathIs (node_at serial tree.old.nodes) path }
+        requires walking { is_walking self.old.stage ≡ true }
+        requires mirrored { IsMirrored tree.old.nodes arbiters.old }
+        ensures ended { IfOk result (λ label. MovesFor (node_at serial tree.old.nodes) (end_move self.old self.old.stage) tree.old.nodes relations.old label tree.new.nodes relations.new self.new) }
+        ensures next { tree.new.next ≡ tree.old.next }
+        ensures mirrors { KeepsMirror tree.old.nodes arbiters.old tree.new.nodes arbiters.new }
+        ensures surprise { OnErr result (self.new ≡ self.old) }
+        ensures tree { OnErr result (tree.new ≡ tree.old) }
+        ensures relations { OnErr result (relations.new ≡ relations.old) }
+    {
+        match self.stage {
+            Stage::Telling => self.told(alloc, serial, path, tree),
+            _ => {
+                self.stage = Stage::Settling;
+                Ok(strip(path, serial, tree, relations, arbiters))
+            }
+        }
+    }
+
+    /// A step of the request of the device that is next.
+    fn walk_on<R: Drivers>(
+        &mut self,
+        alloc: Global,
+        tree: &mut Tree,
+        relations: &mut Relations,
+        rack: &mut R,
+        arbiters: &mut Arbiters,
+        in_world: bool,
+    ) -> Result<RemoveStep, WantOfMemory>
+        requires there { IsSome (first_node tree.old.nodes self.old.todo) }
+        requires walking { is_walking self.old.stage ≡ true }
+        requires goes { is_waiting (surprise_walk self.old.stage) ≡ false }
+        requires mirrored { IsMirrored tree.old.nodes arbiters.old }
+        ensures surprises { IfOk result (λ step. Surprises tree.old.nodes relations.old (R.rows rack.old) self.old in_world step tree.new.nodes relations.new (R.rows rack.new) self.new) }
+        ensures next { tree.new.next ≡ tree.old.next }
+        ensures mirrors { KeepsMirror tree.old.nodes arbiters.old tree.new.nodes arbiters.new }
+        ensures surprise { OnErr result (self.new ≡ self.old) }
+        ensures tree { OnErr result (tree.new ≡ tree.old) }
+        ensures relations { OnErr result (relations.new ≡ relations.old) }
+        ensures rack { OnErr result (R.rows rack.new ≡ R.rows rack.old) }
+    {
+        let Some(serial) = self.first() else {
+            unreachable!()
+        };
+        match pass_on(alloc, serial, &mut self.walk, tree, rack)? {
+            Walked::On(label) => Ok(RemoveStep::Did(label)),
+            Walked::Ended { path, .. } => {
+                let label = self.end_request(alloc, serial, path, tree, relations, arbiters)?;
+                Ok(RemoveStep::Did(label))
+            }
+        }
+    }
+
+    /// The next step of a surprise removal that does not wait: a driver is told, a request ends, a device leaves or remains,
+    /// or the operation ends. `in_world` says whether the world has the target still or anew, with its birth number. The
+    /// step tells the line that is printed and what the machine has to do; after `Over` the operation is over. Conditions:
+    /// but for the end the device that is next is there; a device that is settled has no drivers, no holdings and no
+    /// children, and is not the root; and the arbiters hold just what is reserved and what devices hold, which is kept.
+    /// After want of memory all is as before, and no driver was told. Cost: the rules of one book, the logarithm of the
+    /// number of nodes, and once the number of devices that are gone; where drivers are gone also the number of relations,
+    /// and where a node leaves the number of nodes.
+    pub fn next<R: Drivers>(
+        &mut self,
+        alloc: Global,
+        tree: &mut Tree,
+        relations: &mut Relations,
+        rack: &mut R,
+        arbiters: &mut Arbiters,
+        in_world: bool,
+    ) -> Result<RemoveStep, WantOfMemory>
+        requires there { HasNext tree.old.nodes self.old self.old.stage }
+        requires settles { SettlesStripped tree.old.nodes self.old self.old.stage }
+        requires goes { is_waiting (surprise_walk self.old.stage) ≡ false }
+        requires mirrored { IsMirrored tree.old.nodes arbiters.old }
+        ensures surprises { IfOk result (λ step. Surprises tree.old.nodes relations.old (R.rows rack.old) self.old in_world step tree.new.nodes relations.new (R.rows rack.new) self.new) }
+        ensures next { tree.new.next ≡ tree.old.next }
+        ensures mirrors { KeepsMirror tree.old.nodes arbiters.old tree.new.nodes arbiters.new }
+        ensures surprise { OnErr result (self.new ≡ self.old) }
+        ensures tree { OnErr result (tree.new ≡ tree.old) }
+        ensures relations { OnErr result (relations.new ≡ relations.old) }
+        ensures rack { OnErr result (R.rows rack.new ≡ R.rows rack.old) }
+    {
+        match self.stage {
+            Stage::Ending => Ok(RemoveStep::Over(self.end_line(alloc)?)),
+            Stage::Settling => self.settle(alloc, tree, in_world),
+            _ => self.walk_on(alloc, tree, relations, rack, arbiters, in_world),
+        }
+    }
+}

@@ -1,0 +1,106 @@
+ghost use Rattle.std.specs.Prelude.{◌≡◌, IfOk, OnErr, IsSome, IfSome};
+ghost use Rattle.pnp_model.specs.Cores.{node_at, with_problem};
+ghost use Rattle.pnp_model.specs.Frames.{first_node, rest};
+ghost use Rattle.pnp_model.specs.Surprises.{finish_on};
+ghost use Rattle.trial_journal.specs.Four as Four;
+ghost use Rattle.device_holdings.specs.Mirrors.{KeepsMirror};
+ghost use Rattle.devnode_tree.specs.Trees.{CanLeave, changed, without_node};
+ghost use Rattle.query_remove.specs.Parts.{HoldsNothing};
+ghost use Rattle.query_remove.specs.Steps.{IsStripped};
+ghost use Rattle.pnp_labels.specs.declared.label.OpEnd.{OpEnd};
+ghost use Rattle.pnp_labels.specs.declared.label.OpKind.{OpKind};
+ghost use Rattle.pnp_labels.specs.declared.label.Label.{Label};
+ghost use Rattle.surprise_remove.specs.Parts.{SettlesFor};
+
+use crate::frame::Surprise;
+use device_ids::{Text, WantOfMemory};
+use devnode_tree::Tree;
+use pnp_labels::{Label, OpEnd, OpKind, Problem, RemoveStep};
+use std::alloc::Global;
+
+impl Surprise {
+    /// The device that is next is done.
+    fn go_on(&mut self, tree: &Tree)
+        ensures { self.new ≡ finish_on tree.now.nodes self.old (rest self.old.todo) }
+    {
+        self.todo.drop_first();
+        self.finish_next(tree);
+    }
+
+    /// The device that is next leaves.
+    fn leave(&mut self, serial: u64, tree: &mut Tree)
+        requires may_leave { CanLeave serial tree.old.nodes }
+        requires bare { HoldsNothing (node_at serial tree.old.nodes) }
+        ensures frame { self.new ≡ finish_on tree.old.nodes self.old (rest self.old.todo) }
+        ensures left { tree.new ≡ without_node serial tree.old }
+        ensures mirrors { (arbiters : Four.Arbiters) → KeepsMirror tree.old.nodes arbiters tree.new.nodes arbiters }
+    {
+        self.go_on(tree);
+        tree.leave(serial);
+    }
+
+    /// The device that is next remains, with a problem.
+    fn remain(&mut self, serial: u64, problem: Problem, tree: &mut Tree)
+        ensures frame { self.new ≡ finish_on tree.old.nodes self.old (rest self.old.todo) }
+        ensures changed { tree.new ≡ changed serial (with_problem (Some problem)) tree.old }
+        ensures mirrors { (arbiters : Four.Arbiters) → KeepsMirror tree.old.nodes arbiters tree.new.nodes arbiters }
+    {
+        self.go_on(tree);
+        tree.set_problem(serial, Some(problem));
+    }
+
+    /// The device that is next, which has no drivers, leaves where it is gone or its parent leaves, and remains with a
+    /// problem where it is another. The target comes last: where the world has it anew the operation ends.
+    pub(crate) fn settle(
+        &mut self,
+        alloc: Global,
+        tree: &mut Tree,
+        in_world: bool,
+    ) -> Result<RemoveStep, WantOfMemory>
+        requires there { IsSome (first_node tree.old.nodes self.old.todo) }
+        requires settles { IfSome (first_node tree.old.nodes self.old.todo) (IsStripped tree.old.nodes) }
+        ensures settles { IfOk result (λ step. SettlesFor (first_node tree.old.nodes self.old.todo) tree.old.nodes self.old in_world step tree.new.nodes self.new) }
+        ensures next { tree.new.next ≡ tree.old.next }
+        ensures mirrors { (arbiters : Four.Arbiters) → KeepsMirror tree.old.nodes arbiters tree.new.nodes arbiters }
+        ensures surprise { OnErr result (self.new ≡ self.old) }
+        ensures tree { OnErr result (tree.new ≡ tree.old) }
+    {
+        let Some(serial) = self.first() else {
+            unreachable!()
+        };
+        let Some(node) = tree.node(serial) else {
+            unreachable!()
+        };
+        let serial = node.serial;
+        let born = node.born;
+        let in_set = self.removes(node.parent);
+        let line = Text::make(alloc, node.path.bytes())?;
+        let path = node.path.copy(alloc)?;
+        if self.is_target(serial) {
+            if in_world {
+                return Ok(RemoveStep::Over(self.end_line(alloc)?));
+            }
+        } else if !in_set {
+            let problem = Problem::Held;
+            self.remain(serial, problem, tree);
+            return Ok(RemoveStep::Did(Label::Trouble {
+                path: line,
+                problem,
+            }));
+        }
+        self.leave(serial, tree);
+        let label = Label::Leave { path: line };
+        Ok(RemoveStep::Left { label, path, born })
+    }
+
+    /// The line of the end.
+    pub(crate) fn end_line(&self, alloc: Global) -> Result<Label, WantOfMemory>
+        ensures { IfOk result (λ label. label ≡ Label.End OpKind.Surprise self.now.path OpEnd.Done) }
+    {
+        Ok(Label::End {
+            op: OpKind::Surprise,
+            path: self.path.copy(alloc)?,
+            result: OpEnd::Done,
+        })
+    }
+}
