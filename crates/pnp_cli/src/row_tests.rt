@@ -14,12 +14,9 @@ DriverVer=01/01/2020,1.0.0.0
 Own=M
 [M]
 Device=I,OWN\DEV
-Hard one=J,OWN\HARD
 Filtered=K,OWN\FIL
 [I.Services]
 AddService=dev,2,S
-[J.Services]
-AddService=hard,2,S
 [K.Services]
 AddService=dev,2,S
 [K.HW]
@@ -31,8 +28,7 @@ HKR,,"LowerFilters",0x00010000,"low"
 /// The names of at most two INFs.
 const NAMES: [&str; 2] = ["1", "2"];
 
-/// Runs a script with these INFs over two Scripted drivers, four Steady ones and a Stubborn one, and compares the status
-/// and what the sink took.
+/// Compares status and output of a script with these INFs over two Scripted drivers, four Steady ones and a Stubborn one.
 fn writes(
     rt: &impl Abort,
     alloc: Global,
