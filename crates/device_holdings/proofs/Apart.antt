@@ -127,18 +127,23 @@ module _ (reserved : List Res) (k : ℕ) (nodes : List Node) (held : List Res) (
         puts (pairs_of (Device k) held ++ pairs_beside reserved k nodes) own_first
         ∙ blocks_swapped (pairs_of (Device k) holds) (pairs_of (Device k) held) (pairs_beside reserved k nodes)
 
+    -- no list is longer then than by these
+    pub longer : (d : Arbiters) → Loses k held b d → (kind : Kind) → length (list_at (lists_of d) kind) ≤ length (list_at (lists_of a) kind) + length holds
+    longer d loses kind =
+        let left : lists_of d ≡ lists_with (pairs_of (Device k) holds ++ pairs_beside reserved k nodes) = loses (pairs_of (Device k) holds ++ pairs_beside reserved k nodes) old_first in
+        let fewer = longer_with (pairs_of (Device k) held) (pairs_beside reserved k nodes) kind in
+        let more = longer_with (pairs_of (Device k) holds) (pairs_beside reserved k nodes) kind in
+        let before : length (list_at (lists_of a) kind) ≡ length (list_at (lists_with (pairs_of (Device k) held ++ pairs_beside reserved k nodes)) kind) = ap (λ l. length (list_at l kind)) own_first in
+        let after : length (list_at (lists_of d) kind) ≡ length (list_at (lists_with (pairs_of (Device k) holds ++ pairs_beside reserved k nodes)) kind) = ap (λ l. length (list_at l kind)) left in
+        let pairs : length (pairs_of (Device k) holds) ≡ length holds = length-map holds (λ res. (Device k, res)) in
+        omega arith
+
     pub assigned : IsSome (node_at k nodes) → ((kind : Kind) → length (list_at (lists_of a) kind) + length holds ≤ 2 ^ 29) → (d : Arbiters) → Loses k held b d
         → Mirrors reserved (changed_first (is_node k) (with_holds holds) nodes) d
     assigned there room d loses =
         let left : lists_of d ≡ lists_with (pairs_of (Device k) holds ++ pairs_beside reserved k nodes) = loses (pairs_of (Device k) holds ++ pairs_beside reserved k nodes) old_first in record {
           lists = left ∙ sym (held_changed (with_holds holds) (λ n. refl) k reserved nodes ∙ ap (λ l. lists_with (pairs_of (Device k) l ++ pairs_beside reserved k nodes)) (got holds (node_at k nodes) there));
-          few = λ kind.
-              let fewer = longer_with (pairs_of (Device k) held) (pairs_beside reserved k nodes) kind in
-              let longer = longer_with (pairs_of (Device k) holds) (pairs_beside reserved k nodes) kind in
-              let before : length (list_at (lists_of a) kind) ≡ length (list_at (lists_with (pairs_of (Device k) held ++ pairs_beside reserved k nodes)) kind) = ap (λ l. length (list_at l kind)) own_first in
-              let after : length (list_at (lists_of d) kind) ≡ length (list_at (lists_with (pairs_of (Device k) holds ++ pairs_beside reserved k nodes)) kind) = ap (λ l. length (list_at l kind)) left in
-              let pairs : length (pairs_of (Device k) holds) ≡ length holds = length-map holds (λ res. (Device k, res)) in
-              let few = room kind in omega arith;
+          few = λ kind. let more = longer d loses kind in let few = room kind in omega arith;
         }
 
 pub reserved_more : (reserved : List Res) (res : Res) (nodes : List Node) (a b : Arbiters) → b ≡ arbiters_with a (Reserved, res)

@@ -5,3 +5,4 @@ pub mod Beside
 pub mod RowOrder
 pub mod TieLemmas
 pub mod RowsAre
+pub mod Committing

@@ -155,6 +155,28 @@ spare_put a b p k put = subst (λ x. (of_kind a k).spare ≤ (of_kind x k).spare
     by_kinds Dma Irq = omega arith
     by_kinds Dma Mem = omega arith
 
+-- what is taken away leaves what is spare
+pub spare_taken : (a b : Arbiters) (p : Pair) (k : Kind) → a ≡ arbiters_with b p → (of_kind a k).spare ≤ (of_kind b k).spare
+spare_taken a b p k is = subst (λ x. (of_kind x k).spare ≤ (of_kind b k).spare) (sym is) (by_kinds p.1.kind k)
+  where
+    by_kinds : (j k : Kind) → (of_kind (with_kind b j (arbiter_with (of_kind b j) p)) k).spare ≤ (of_kind b k).spare
+    by_kinds Port Port = omega arith
+    by_kinds Irq Irq = omega arith
+    by_kinds Mem Mem = omega arith
+    by_kinds Dma Dma = omega arith
+    by_kinds Port Irq = omega arith
+    by_kinds Port Mem = omega arith
+    by_kinds Port Dma = omega arith
+    by_kinds Irq Port = omega arith
+    by_kinds Irq Mem = omega arith
+    by_kinds Irq Dma = omega arith
+    by_kinds Mem Port = omega arith
+    by_kinds Mem Irq = omega arith
+    by_kinds Mem Dma = omega arith
+    by_kinds Dma Port = omega arith
+    by_kinds Dma Irq = omega arith
+    by_kinds Dma Mem = omega arith
+
 -- Room -------------------------------------------------------------------------------
 
 abbrev pub with_spare : Arbiters → Kind → ℕ → Arbiters

@@ -1,11 +1,11 @@
 -- What devices hold and what is reserved, as pairs of an owner and a resource, and the arbiters that hold just these.
-use Rattle.std.specs.Prelude.{◌≡◌, ◌≤◌, ◌^◌, List, [], ◌∷◌, ◌++◌, map, length}
+use Rattle.std.specs.Prelude.{◌≡◌, ℕ, ◌≤◌, ◌+◌, ◌^◌, List, [], ◌∷◌, ◌++◌, map, length}
 use Rattle.resource_reqs.specs.declared.kind.Kind.{Kind}
 use Rattle.resource_reqs.specs.declared.owner.Owner.{Owner}
 use Rattle.resource_reqs.specs.declared.owner.Owner.TheVariants.{Reserved, Device}
 use Rattle.resource_reqs.specs.Resources.{Res}
 use Rattle.range_arbiter.specs.Pairs.{Pair}
-use Rattle.trial_journal.specs.Four.{Arbiters, Lists, lists_of}
+use Rattle.trial_journal.specs.Four.{Arbiters, Lists, of_kind, lists_of}
 use Rattle.assign_search.specs.Walking.{list_at, put_in}
 use Rattle.pnp_model.specs.Records.{Node}
 
@@ -29,6 +29,11 @@ lists_with (p ∷ ps) = put_in (lists_with ps) p.1.kind p
 -- at most 2^29 pairs of each kind
 abbrev pub AreFew : Lists → Type 0
 AreFew lists = (kind : Kind) → length (list_at lists kind) ≤ 2 ^ 29
+
+-- room for so many more pairs of each kind, and few pairs then
+pub record HasRoom (a : Arbiters) (more : ℕ) : Type 0 where
+  pub spare : (kind : Kind) → more ≤ (of_kind a kind).spare
+  pub few : (kind : Kind) → length (list_at (lists_of a) kind) + more ≤ 2 ^ 29
 
 -- the arbiters hold just what is reserved and what devices hold, and few pairs of each kind
 pub record Mirrors (reserved : List Res) (nodes : List Node) (a : Arbiters) : Type 0 where

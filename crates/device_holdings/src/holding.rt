@@ -1,13 +1,16 @@
-ghost use Rattle.std.specs.Prelude.{◌≡◌, ◌++◌, [], ◌∷◌, List, IsSome, OnOk, OnErr};
+ghost use Rattle.std.specs.Prelude.{◌≡◌, ℕ, ◌+◌, ◌++◌, [], ◌∷◌, List, length, map, min, sum_by, IsSome, IfOk, OnOk, OnErr};
 ghost use Rattle.pnp_model.specs.Records.{Node};
 ghost use Rattle.pnp_model.specs.Cores.{node_at, bare, with_holds};
+ghost use Rattle.pnp_model.specs.Rebalances.{committed};
 ghost use Rattle.trial_journal.specs.Four.{lists_of};
 ghost use Rattle.devnode_tree.specs.Trees.{changed};
-ghost use Rattle.device_holdings.specs.Mirrors.{Mirrors, IsMirrored, KeepsMirror};
+ghost use Rattle.device_holdings.specs.Mirrors.{Mirrors, IsMirrored, KeepsMirror, HasRoom};
 
 use crate::pairs::{make_room, put_all, take_all};
+use assign_search::Plan;
 use devnode_tree::Tree;
 use resource_reqs::{Owner, Res, ResList, WantOfMemory};
+use std::alloc::Global;
 use trial_journal::Arbiters;
 
 /// A device loses its drivers and its holdings and is `NoStack`, and the arbiters lose what it held: the end of the
@@ -22,6 +25,21 @@ pub fn release(tree: &mut Tree, arbiters: &mut Arbiters, serial: u64)
 {
     let held = tree.strip(serial);
     take_all(arbiters, Owner::Device(serial), &held);
+}
+
+/// A device gets these holdings in place of its own, in the tree and in the arbiters. Conditions: the device is
+/// there, the arbiters hold just what is reserved and what devices hold, and there is room.
+fn replace(tree: &mut Tree, arbiters: &mut Arbiters, serial: u64, holds: ResList)
+    requires there { IsSome (node_at serial tree.old.nodes) }
+    requires mirrored { IsMirrored tree.old.nodes arbiters.old }
+    requires room { HasRoom arbiters.old (length holds) }
+    ensures replaced { tree.new ≡ changed serial (with_holds holds) tree.old }
+    ensures mirrors { KeepsMirror tree.old.nodes arbiters.old tree.new.nodes arbiters.new }
+    ensures room { (more : ℕ) → HasRoom arbiters.old (length holds + more) → HasRoom arbiters.new more }
+{
+    put_all(arbiters, Owner::Device(serial), &holds);
+    let old = tree.swap_holds(serial, holds);
+    take_all(arbiters, Owner::Device(serial), &old);
 }
 
 /// A device gets these holdings in place of its own, in the tree and in the arbiters. Conditions: the device is
@@ -42,9 +60,60 @@ pub fn assign(
     ensures held { OnErr result (lists_of arbiters.new ≡ lists_of arbiters.old) }
 {
     make_room(arbiters, holds.len())?;
-    put_all(arbiters, Owner::Device(serial), &holds);
-    let old = tree.swap_holds(serial, holds);
-    take_all(arbiters, Owner::Device(serial), &old);
+    replace(tree, arbiters, serial, holds);
+    Ok(())
+}
+
+/// The parts of a plan once more.
+fn parts_of(alloc: Global, plan: &Plan) -> Result<Vec<ResList>, WantOfMemory>
+    ensures { IfOk result (λ parts. parts.items ≡ plan.now) }
+{
+    let mut parts = Vec::new(alloc);
+    'parts: for at in 0..plan.len() {
+        parts.push(plan.get(at).copy(alloc)?)?;
+    }
+    Ok(parts)
+}
+
+/// How many resources there are in all, or the greatest number.
+fn resources_in(parts: &[ResList]) -> u64
+    ensures { result ≡ min (sum_by length parts.now) u64.MAX }
+{
+    let mut all = 0u64;
+    'parts: for part in parts {
+        all = all.saturating_add(part.len());
+    }
+    all
+}
+
+/// Devices get the parts of a plan in place of what they hold, all at once, in the tree and in the arbiters: the
+/// first device gets the first part. A device that is not there, or that has no part, changes nothing, and of a
+/// serial that comes twice the first counts. Condition: the arbiters hold just what is reserved and what devices
+/// hold; this is kept. All memory is taken first: after want of memory tree and arbiters are as before; more than
+/// 2^29 pairs of a kind are want of memory too. Cost: as `release`, for all old and new holdings.
+pub fn assign_all(
+    alloc: Global,
+    tree: &mut Tree,
+    arbiters: &mut Arbiters,
+    serials: &[u64],
+    plan: &Plan,
+) -> Result<(), WantOfMemory>
+    requires { IsMirrored tree.old.nodes arbiters.old }
+    ensures assigned { OnOk result (tree.new ≡ record tree.old { nodes = map (committed serials.now plan.now) tree.old.nodes }) }
+    ensures mirrors { KeepsMirror tree.old.nodes arbiters.old tree.new.nodes arbiters.new }
+    ensures tree { OnErr result (tree.new ≡ tree.old) }
+    ensures held { OnErr result (lists_of arbiters.new ≡ lists_of arbiters.old) }
+{
+    let mut parts = parts_of(alloc, plan)?;
+    make_room(arbiters, resources_in(&parts))?;
+    'parts: while let Some(holds) = parts.pop() {
+        let Some(serial) = serials.get(parts.len()) else {
+            continue;
+        };
+        if tree.node(*serial).is_some() {
+            replace(tree, arbiters, *serial, holds);
+        }
+    }
     Ok(())
 }
 

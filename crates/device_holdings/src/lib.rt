@@ -9,5 +9,5 @@ mod rows;
 mod tests;
 
 pub use finding::{is_in_use, search};
-pub use holding::{assign, release, reserve};
+pub use holding::{assign, assign_all, release, reserve};
 pub use rows::map_rows;

@@ -3,7 +3,7 @@ ghost use Rattle.resource_reqs.specs.declared.kind.Kind.{Kind};
 ghost use Rattle.range_arbiter.specs.Pairs.{Pair};
 ghost use Rattle.trial_journal.specs.Four.{of_kind, lists_of};
 ghost use Rattle.assign_search.specs.Walking.{list_at};
-ghost use Rattle.device_holdings.specs.Mirrors.{pairs_of, lists_with};
+ghost use Rattle.device_holdings.specs.Mirrors.{pairs_of, lists_with, HasRoom};
 
 use resource_reqs::{Kind, Owner, ResList, WantOfMemory};
 use std::alloc::AllocError;
@@ -27,8 +27,7 @@ fn room_of(arbiters: &mut Arbiters, kind: Kind, more: u64) -> Result<(), WantOfM
 
 /// Takes memory for so many more pairs of each kind. Past the most pairs of a kind it is refused as memory is.
 pub fn make_room(arbiters: &mut Arbiters, more: u64) -> Result<(), WantOfMemory>
-    ensures room { OnOk result ((kind : Kind) → more ≤ (of_kind arbiters.new kind).spare) }
-    ensures few { OnOk result ((kind : Kind) → length (list_at (lists_of arbiters.old) kind) + more ≤ 2 ^ 29) }
+    ensures room { OnOk result (HasRoom arbiters.new more) }
     ensures same { lists_of arbiters.new ≡ lists_of arbiters.old }
 {
     room_of(arbiters, Kind::Port, more)?;
@@ -51,7 +50,8 @@ pub fn put_all(arbiters: &mut Arbiters, owner: Owner, held: &ResList)
 /// Takes away what an owner held.
 pub fn take_all(arbiters: &mut Arbiters, owner: Owner, held: &ResList)
     requires { (rest : List Pair) × (lists_of arbiters.old ≡ lists_with (pairs_of owner held.now ++ rest)) }
-    ensures { (rest : List Pair) → lists_of arbiters.old ≡ lists_with (pairs_of owner held.now ++ rest) → lists_of arbiters.new ≡ lists_with rest }
+    ensures taken { (rest : List Pair) → lists_of arbiters.old ≡ lists_with (pairs_of owner held.now ++ rest) → lists_of arbiters.new ≡ lists_with rest }
+    ensures spare { (kind : Kind) → (of_kind arbiters.old kind).spare ≤ (of_kind arbiters.new kind).spare }
 {
     'held: for at in 0..held.len() {
         arbiters.take(owner, *held.get(at));

@@ -60,3 +60,16 @@ fn a_device_gets_and_loses_its_interrupt(rt: HostRuntime) -> Result<(), Fail> {
     assert_eq!(rt; map_rows(alloc, &arbiters)?.len(), 1);
     Ok(())
 }
+
+#[test]
+fn devices_get_their_parts_at_once(rt: HostRuntime) -> Result<(), Fail> {
+    let alloc = rt.alloc();
+    let (mut tree, mut arbiters) = one_device(alloc)?;
+    let found = search(alloc, &tree, &mut arbiters, &[1], 100)?;
+    let Found::Assignment(plan) = found else {
+        return Err(Fail::from("no interrupt was found"));
+    };
+    assign_all(alloc, &mut tree, &mut arbiters, &[1], &plan)?;
+    assert_eq!(rt; map_rows(alloc, &arbiters)?.len(), 1);
+    Ok(())
+}

@@ -10,9 +10,7 @@ use Rattle.script_reader.specs.Script.{Trace, gives, ends, stops, trace, IsStuck
 use Rattle.std.specs.Prelude.{codes, is_some}
 use Rattle.std.specs.Fmt.{decimal}
 use Rattle.pnp_cli.specs.Outputs.{Prints, text_of, has_bad, error_line, end_text}
-use Rattle.pnp_machine.specs.Machines.{is_built}
 use Rattle.pnp_machine.specs.Managers.{Manager, settings}
-use Rattle.pnp_cli.specs.Built.{built, built_on}
 use Rattle.pnp_cli.specs.Turns.{Awaits, Answered, left, Leads, Goes, Printed, end_of}
 use Rattle.pnp_cli.proofs.Printing.{prints_more}
 use Rattle.pnp_cli.proofs.Settling.{awaits_next}
@@ -31,12 +29,11 @@ append_nil : (xs : List ℕ) → xs ++ [] ≡ xs
 append_nil [] = refl
 append_nil (x ∷ xs) = ap (λ rest. x ∷ rest) (append_nil xs)
 
--- an event that is built
+-- an event
 pub goes_on : (m m' : Manager) (old new : Reading) (number : ℕ) (event : Event) (out out' : Text) → Moves old new (record { line = number; event = event } ∷ []) → old.finished ≡ true
-    → is_built event ≡ true → Answered m event out m' out' → Goes m (left old) out m' (left new) out'
-goes_on m m' old new number event out out' moves finished is answered =
-    let whole : left old ≡ gives number event (left new) =
-    ap built (left_event old new number event moves finished) ∙ ap (built_on number event (left new)) is in
+    → Answered m event out m' out' → Goes m (left old) out m' (left new) out'
+goes_on m m' old new number event out out' moves finished answered =
+    let whole : left old ≡ gives number event (left new) = left_event old new number event moves finished in
     record {
       text = text_of answered.labels;
       leads = record {
@@ -63,27 +60,19 @@ stays m t t' out awaits is =
       awaits = awaits;
     }
 
--- an event that is not built
-pub goes_unbuilt : (m : Manager) (old new : Reading) (number : ℕ) (event : Event) (out : Text) → Moves old new (record { line = number; event = event } ∷ []) → old.finished ≡ true
-    → is_built event ≡ false → Awaits m → Goes m (left old) out m (stops number) out
-goes_unbuilt m old new number event out moves finished is awaits =
-    stays m (left old) (stops number) out awaits
-    (ap built (left_event old new number event moves finished) ∙ ap (built_on number event (left new)) is)
-
 -- the end of the script
 pub goes_end : (m : Manager) (old new : Reading) (out : Text) → Moves old new [] → Ends new.finished new.rest → Awaits m → Goes m (left old) out m ends out
 goes_end m old new out moves at_end awaits =
     stays m (left old) ends out awaits
-    (ap built (left_nothing old new moves) ∙ ap (λ rest. built (trace true new.passed rest)) at_end.empty)
+    (left_nothing old new moves ∙ ap (λ rest. trace true new.passed rest) at_end.empty)
 
 -- a bad line
 pub goes_bad : (m : Manager) (old new : Reading) (number : ℕ) (out : Text) → Moves old new [] → number ≡ new.passed + 1 → IsStuck new.finished new.rest → Awaits m
     → Goes m (left old) out m (stops number) out
 goes_bad m old new number out moves is stuck awaits =
     stays m (left old) (stops number) out awaits
-    (ap built
     (left_nothing old new moves ∙ ap (λ rest. trace true new.passed rest) (sym (append_nil new.rest))
-    ∙ stuck.same true [] new.passed (λ shut. (refl, refl)) ∙ ap stops (sym is)))
+    ∙ stuck.same true [] new.passed (λ shut. (refl, refl)) ∙ ap stops (sym is))
 
 -- one after another
 pub goes_both : (m m' m'' : Manager) (t t' t'' : Trace) (out out' out'' : Text) → Goes m t out m' t' out' → Goes m' t' out' m'' t'' out''

@@ -1,7 +1,6 @@
 pub mod Words
 pub mod Infs
 pub mod Outputs
-pub mod Built
 pub mod Turns
 pub mod Runs
 pub mod Lawful

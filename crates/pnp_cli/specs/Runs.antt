@@ -9,7 +9,6 @@ use Rattle.script_reader.specs.Script.{Trace, trace}
 use Rattle.inf_reader.specs.declared.parts.Inf.{Inf}
 use Rattle.pnp_cli.specs.Outputs.{Prints, has_bad}
 use Rattle.start_sequence.specs.Begins as begins
-use Rattle.pnp_cli.specs.Built.{built}
 use Rattle.pnp_cli.specs.Infs.{limit, infs_in, refusal_line}
 use Rattle.pnp_cli.specs.declared.infs.InfsError.{InfsError}
 use Rattle.pnp_cli.specs.declared.infs.InfsError.TheVariants as faults
@@ -26,7 +25,7 @@ machine infs budget = begins.settings_of infs budget
 
 -- what the bytes of a script give
 abbrev pub events_of : List ℕ → Trace
-events_of script = built (trace true 0 script)
+events_of script = trace true 0 script
 
 -- what is written for a script: nothing, where it is not there
 abbrev pub IsScriptOutput : machines.Settings → List Driver → Option (List ℕ) → Text → Type 0

@@ -9,7 +9,6 @@ use Rattle.pnp_machine.specs.Managers.{Manager, settings, IsRunOf}
 use Rattle.script_reader.specs.Reading.{Reading}
 use Rattle.script_reader.specs.Script.{Trace, ends, stops, trace}
 use Rattle.pnp_cli.specs.Outputs.{Settles, Follows, Prints, has_bad, text_of}
-use Rattle.pnp_cli.specs.Built.{built}
 use Rattle.pnp_cli.specs.declared.output.Turn.{Turn}
 use Rattle.pnp_cli.specs.declared.output.Turn.TheVariants.{On, End, Bad}
 
@@ -38,7 +37,7 @@ pub record Answered (old : Manager) (event : Event) (out : Text) (new : Manager)
 
 -- what is left to read
 abbrev pub left : Reading → Trace
-left r = built (trace true r.passed r.rest)
+left r = trace true r.passed r.rest
 
 -- these bytes, and then what is printed for the new state and the rest of the script, are what is printed for the old ones
 pub record Leads (told : Settings) (s : State) (t : Trace) (x : Text) (s' : State) (t' : Trace) : Type 0 where

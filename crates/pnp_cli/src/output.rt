@@ -1,9 +1,9 @@
 ghost use Rattle.std.specs.Prelude.{◌≡◌, ◌+◌, ◌++◌, ◌≤◌, ◌^◌, IfOk, OnOk, true, length};
 ghost use Rattle.pnp_model.specs.Runs.{opening};
 ghost use Rattle.script_reader.specs.Script.{trace};
-ghost use Rattle.pnp_cli.specs.Built.{built};
 ghost use Rattle.pnp_cli.specs.Outputs.{Prints, has_bad};
 ghost use Rattle.pnp_cli.specs.Runs.{machine};
+ghost use Rattle.pnp_machine.specs.Managers.{settings};
 ghost use Rattle.pnp_cli.specs.Turns.{Awaits, Turned, Printed, end_of, Ended};
 
 use crate::settle::answer_event;
@@ -11,7 +11,7 @@ use device_ids::WantOfMemory;
 use driver_rack::Drivers;
 use inf_reader::Inf;
 use pnp_labels::decimal;
-use pnp_machine::{Manager, is_built};
+use pnp_machine::Manager;
 use script_reader::{Next, Reader};
 use std::alloc::Global;
 
@@ -39,9 +39,6 @@ fn take_turn<R: Drivers>(
 {
     match reader.next_event()? {
         Next::Event(event) => {
-            if !is_built(&event) {
-                return Ok(Turn::Bad(reader.line()));
-            }
             answer_event(alloc, manager, event, out)?;
             Ok(Turn::On)
         }
@@ -100,6 +97,30 @@ pub struct Written {
     pub has_bad: bool,
 }
 
+/// The output for the bytes of a script, by a manager to which nothing happened yet.
+fn output_of<R: Drivers>(
+    alloc: Global,
+    manager: &mut Manager<R>,
+    script: &[u8],
+) -> Result<Written, WantOfMemory>
+    requires awaits { Awaits manager.old }
+    requires events { manager.old.events ≡ 0 }
+    requires script { length script.now ≤ 2 ^ 24 }
+    ensures text { IfOk result (λ o. Prints (settings manager.old) manager.old.state (trace true 0 script.now) o.text.items) }
+    ensures bad { IfOk result (λ o. o.has_bad ≡ has_bad (trace true 0 script.now)) }
+{
+    let mut reader = Reader::new(alloc);
+    reader.feed(script)?;
+    reader.finish();
+    let mut text = Vec::new(alloc);
+    let bad = run_events(alloc, manager, &mut reader, &mut text)?;
+    add_end(alloc, manager, bad, &mut text)?;
+    Ok(Written {
+        text,
+        has_bad: bad.is_some(),
+    })
+}
+
 /// The output for the bytes of a script, by INFs, a budget and the drivers of a rack.
 pub fn output<R: Drivers>(
     alloc: Global,
@@ -109,19 +130,13 @@ pub fn output<R: Drivers>(
     script: &[u8],
 ) -> Result<Written, WantOfMemory>
     requires infs { length infs.items ≤ 64 }
+    requires budget { budget ≤ 1000000 }
     requires script { length script.now ≤ 2 ^ 24 }
-    ensures text { IfOk result (λ o. Prints (machine infs.items budget) (opening (R.rows rack)) (built (trace true 0 script.now)) o.text.items) }
-    ensures bad { IfOk result (λ o. o.has_bad ≡ has_bad (built (trace true 0 script.now))) }
+    ensures text { IfOk result (λ o. Prints (machine infs.items budget) (opening (R.rows rack)) (trace true 0 script.now) o.text.items) }
+    ensures bad { IfOk result (λ o. o.has_bad ≡ has_bad (trace true 0 script.now)) }
 {
-    let mut manager = Manager::new(alloc, infs, rack, budget)?;
-    let mut reader = Reader::new(alloc);
-    reader.feed(script)?;
-    reader.finish();
-    let mut text = Vec::new(alloc);
-    let bad = run_events(alloc, &mut manager, &mut reader, &mut text)?;
-    add_end(alloc, &manager, bad, &mut text)?;
-    Ok(Written {
-        text,
-        has_bad: bad.is_some(),
-    })
+    match Manager::new(alloc, infs, rack, budget) {
+        Ok(mut manager) => output_of(alloc, &mut manager, script),
+        Err(refused) => Err(refused),
+    }
 }

@@ -57,6 +57,7 @@ fn write_output<R: Drivers, K: Sink>(
     sink: &mut K,
 ) -> Result<bool, WriteError>
     requires infs { length infs.items ≤ 64 }
+    requires budget { budget ≤ 1000000 }
     requires script { length script.now ≤ 2 ^ 24 }
     ensures took { OnOk result ((text : List ℕ) × IsScriptOutput (machine infs.items budget) (R.rows rack) (Some script.now) text × Appends (K.taken sink.old) (K.taken sink.new) text) }
     ensures bad { IfOk result (λ bad. bad ≡ has_bad (events_of script.now)) }
@@ -95,7 +96,8 @@ fn run_script<R: Drivers, F: Files, K: Sink>(
     files: &mut F,
     sink: &mut K,
 ) -> Status
-    requires { length infs.items ≤ 64 }
+    requires infs { length infs.items ≤ 64 }
+    requires budget { budget ≤ 1000000 }
     ensures words { result ≡ Status.BadWords → ⊥ }
     ensures decided { is_decided result ≡ true → IfSome (F.contents files.old) (λ told. script_status (told name.now) ≡ Some result) }
     ensures whole { is_whole result ≡ true → IfSome (F.contents files.old) (λ told. Wrote (IsScriptOutput (machine infs.items budget) (R.rows rack) (told name.now)) (K.taken sink.old) (K.taken sink.new)) }

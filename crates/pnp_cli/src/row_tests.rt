@@ -577,23 +577,3 @@ fn a_sink_that_fails(rt: HostRuntime) -> Result<(), Fail> {
     fails_to_write(&rt, rt.alloc(), 4096, 1, b"")?;
     fails_to_write(&rt, rt.alloc(), 8, 2, b"event dr")
 }
-
-/// Lines of the parts of the machine that are not built yet.
-const NOT_BUILT: [&str; 7] = [
-    r"plug HTREE\ROOT\0 OWN\DEV 1 need=irq:5",
-    r"reserve irq:5",
-    r"disable OWN\DEV\1",
-    r"enable OWN\DEV\1",
-    r"eject OWN\DEV\1",
-    r"relate removal OWN\DEV\1 OWN\DEV\2",
-    r"pull OWN\DEV\1",
-];
-
-#[test]
-fn lines_that_are_not_built(rt: HostRuntime) -> Result<(), Fail> {
-    let text = "script error line 1\ntree\n0 HTREE\\ROOT\\0 Started\nmap\noutstanding\n";
-    for script in NOT_BUILT {
-        runs(&rt, rt.alloc(), &[], script, Status::BadScript, text)?;
-    }
-    Ok(())
-}

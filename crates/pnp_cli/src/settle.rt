@@ -1,6 +1,6 @@
 //! What follows from an event: the machine steps until it is quiet, and each step has a line.
 ghost use Rattle.std.specs.Prelude.{◌≡◌, ◌<◌, ◌≤◌, ◌^◌, ◌++◌, ◌∷◌, [], OnOk, true};
-ghost use Rattle.pnp_machine.specs.Machines.{is_built, HasFewIds};
+ghost use Rattle.pnp_machine.specs.Machines.{HasFewIds};
 ghost use Rattle.pnp_machine.specs.Managers.{settings, IsRunOf};
 ghost use Rattle.pnp_cli.specs.Outputs.{text_of};
 ghost use Rattle.pnp_cli.specs.Turns.{Settled, Answered, Awaits};
@@ -46,7 +46,6 @@ pub fn answer_event<R: Drivers>(
     out: &mut Vec<u8>,
 ) -> Result<(), WantOfMemory>
     requires awaits { Awaits manager.old }
-    requires built { is_built event ≡ true }
     requires few { HasFewIds event }
     requires events { manager.old.events < 2 ^ 24 }
     ensures { OnOk result (Answered manager.old event out.old.items manager.new out.new.items) }

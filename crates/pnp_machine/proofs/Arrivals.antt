@@ -1,17 +1,18 @@
 -- What an arrival does to the world, and what is kept of devices and nodes.
-use Rattle.std.proofs.Common.{◌≡◌, ℕ, ◌+◌, ◌<◌, ◌≤◌, ◌↔◌, true, List, [], ◌∷◌, ◌++◌, length, Option, Some, None, Result, Ok, Err, IfSome, OnOk, OnErr, IsErrOf, IsSome, nat_le, refl, sym, ap, subst, arith}
+use Rattle.std.proofs.Common.{◌≡◌, ℕ, ◌+◌, ◌<◌, ◌↔◌, true, List, [], ◌∷◌, ◌++◌, length, Option, Some, None, Result, Ok, Err, IfSome, OnOk, OnErr, IsErrOf, IsSome, nat_le, refl, sym, ap, subst, arith}
 use Rattle.std.specs.List.{AllByRecursion}
 use Rattle.std.proofs.lemmas.Bool.Decides.{nat_tests}
-use Rattle.resource_reqs.specs.Resources.{Reqs}
+use Rattle.resource_reqs.specs.Resources.{Res, Reqs}
 use Rattle.pnp_labels.specs.Texts.{Text}
 use Rattle.pnp_model.specs.Records.{Device, Node}
-use Rattle.pnp_model.specs.States.{device_of, is_in_world}
-use Rattle.devnode_tree.specs.Identities.{Identity, identities}
+use Rattle.pnp_model.specs.States.{device_of}
 use Rattle.devnode_tree.specs.Trees.{Tree}
 use Rattle.script_bus.specs.Worlds.{World, plugged}
 use Rattle.script_bus.specs.declared.error.PlugError.{PlugError}
 use Rattle.script_bus.specs.declared.error.PlugError.TheVariants.{NoParent, SameId, WorldFull, WantOfMemory}
-use Rattle.pnp_machine.specs.Devices.{Arrives, IsPlain, IsPlugged, NotJoining, IsKept}
+use Rattle.trial_journal.specs.Four.{Arbiters}
+use Rattle.device_holdings.specs.Mirrors.{Mirrors}
+use Rattle.pnp_machine.specs.Devices.{Arrives, NotJoining, IsKept}
 
 none_or_some : {A : Type 0} (o : Option A) → (o ≡ None → ⊥) → (x : A) × (o ≡ Some x)
 none_or_some None never = absurd (never refl)
@@ -76,38 +77,36 @@ pub all_of : {A : Type 0} (P Q : A → Type 0) → ((x : A) → P x → Q x) →
 all_of P Q f [] all = tt
 all_of P Q f (x ∷ xs) all = (f x all.0, all_of P Q f xs all.1)
 
-in_more : (world : List Device) (d : Device) (born : ℕ) → is_in_world world born ≡ true → is_in_world (world ++ d ∷ []) born ≡ true
-in_more [] d born h = absurd (cc)
-in_more (x ∷ world) d born h = grind (arith, nat_tests, in_more world d born)
+-- below no device one joins that was born before the first
+pub none_before : (over : ℕ) (nodes : List Node) (ds : List Device) → AllByRecursion (NotJoining over 0 nodes) ds
+none_before over nodes [] = tt
+none_before over nodes (d ∷ ds) = (λ less. absurd (omega arith), none_before over nodes ds)
 
-pub plugged_more : (world : List Device) (d : Device) (i : Identity) → IsPlugged world i → IsPlugged (world ++ d ∷ []) i
-plugged_more world d i h = record { hw = h.hw; compat = h.compat; needs = h.needs; there = in_more world d i.born h.there }
+-- all children are looked at anew
+pub kept_anew : (w w' : World) (t t' : Tree) (reserved reserved' : List Res) (arbiters arbiters' : Arbiters) (over from other : ℕ) → IsKept w t reserved arbiters over from
+    → Mirrors reserved' t'.nodes arbiters' → IsKept w' t' reserved' arbiters' other 0
+kept_anew w w' t t' reserved reserved' arbiters arbiters' over from other kept mirrors =
+    record { listed = none_before other t'.nodes w'.devices; within = omega arith; mirrors = mirrors }
 
-module _ (w : World) (t : Tree) (over from : ℕ) (kept : IsKept w t over from) where
-  pub kept_arrived : (d : Device) → IsPlain d → d.born ≡ w.next → (w' : World) → w'.devices ≡ w.devices ++ d ∷ [] → w'.next ≡ w.next + 1 → IsKept w' t over from
-  kept_arrived d plain born w' devices next =
+module _ (w : World) (t : Tree) (reserved : List Res) (arbiters : Arbiters) (over from : ℕ) (kept : IsKept w t reserved arbiters over from) where
+  kept_arrived : (d : Device) → d.born ≡ w.next → (w' : World) → w'.devices ≡ w.devices ++ d ∷ [] → w'.next ≡ w.next + 1 → IsKept w' t reserved arbiters over from
+  kept_arrived d born w' devices next =
       record {
-        devices = subst (AllByRecursion IsPlain) (sym devices) (all_appended IsPlain w.devices d kept.devices plain);
-        plugged =
-            subst (λ ds. AllByRecursion (IsPlugged ds) (identities t.nodes)) (sym devices)
-            (all_of (IsPlugged w.devices) (IsPlugged (w.devices ++ d ∷ [])) (plugged_more w.devices d) (identities t.nodes) kept.plugged);
-        bare = kept.bare;
         listed =
             subst (AllByRecursion (NotJoining over from t.nodes)) (sym devices)
             (all_appended (NotJoining over from t.nodes) w.devices d kept.listed (λ less. absurd (let le = kept.within in omega arith)));
         within = let le = kept.within in omega arith;
+        mirrors = kept.mirrors;
       }
 
-pub all_stay : (world : List Device) (nodes : List Node) → AllByRecursion (IsPlugged world) (identities nodes) → AllByRecursion (λ n. is_in_world world n.born ≡ true) nodes
-all_stay world [] all = tt
-all_stay world (n ∷ nodes) all = (all.0.there, all_stay world nodes all.1)
+  same : (w' : World) → w' ≡ w → IsKept w' t reserved arbiters over from
+  same w' is = subst (λ (x : World). IsKept x t reserved arbiters over from) (sym is) kept
 
-pub kept_arrival : (w w' : World) (t : Tree) (over from : ℕ) → IsKept w t over from → (parent path : Text) (hw compat : List Text) (reqs : Reqs)
-    → length hw ≤ 64 → length compat ≤ 64 → reqs ≡ [] → (r : Result ℕ PlugError) → Arrives w parent path hw compat reqs r w' → IsKept w' t over from
-kept_arrival w w' t over from kept parent path hw compat reqs few few' none (Ok born) (d, at, free, room, is) =
-    kept_arrived w t over from kept (record { born = w.next; parent = d.born; path = path; hw = hw; compat = compat; reqs = reqs })
-    (record { hw = few; compat = few'; needs = none }) refl w' (ap (λ (x : World). x.devices) is) (ap (λ (x : World). x.next) is)
-kept_arrival w w' t over from kept parent path hw compat reqs few few' none (Err NoParent) (at, is) = subst (λ (x : World). IsKept x t over from) (sym is) kept
-kept_arrival w w' t over from kept parent path hw compat reqs few few' none (Err SameId) (d, at, there, is) = subst (λ (x : World). IsKept x t over from) (sym is) kept
-kept_arrival w w' t over from kept parent path hw compat reqs few few' none (Err WorldFull) (d, at, free, full, is) = subst (λ (x : World). IsKept x t over from) (sym is) kept
-kept_arrival w w' t over from kept parent path hw compat reqs few few' none (Err WantOfMemory) is = subst (λ (x : World). IsKept x t over from) (sym is) kept
+  pub kept_arrival : (w' : World) (parent path : Text) (hw compat : List Text) (reqs : Reqs) (r : Result ℕ PlugError) → Arrives w parent path hw compat reqs r w' → IsKept w' t reserved arbiters over from
+  kept_arrival w' parent path hw compat reqs (Ok born) (d, at, free, room, is) =
+      kept_arrived (record { born = w.next; parent = d.born; path = path; hw = hw; compat = compat; reqs = reqs }) refl w'
+      (ap (λ (x : World). x.devices) is) (ap (λ (x : World). x.next) is)
+  kept_arrival w' parent path hw compat reqs (Err NoParent) (at, is) = same w' is
+  kept_arrival w' parent path hw compat reqs (Err SameId) (d, at, there, is) = same w' is
+  kept_arrival w' parent path hw compat reqs (Err WorldFull) (d, at, free, full, is) = same w' is
+  kept_arrival w' parent path hw compat reqs (Err WantOfMemory) is = same w' is

@@ -3,21 +3,22 @@ use Rattle.std.proofs.Common.{◌≡◌, ℕ, zero, suc, ◌+◌, ◌<◌, ◌�
 use Rattle.std.specs.List.{AllByRecursion}
 use Rattle.std.specs.Prelude.{codes, slice_get, drop}
 use Rattle.std.proofs.lemmas.Bool.Decides.{nat_tests}
+use Rattle.range_arbiter.specs.Pairs.{Pair}
+use Rattle.device_holdings.specs.MapRows.{row_of as row_of_pair}
 use Rattle.pnp_labels.specs.Texts.{Text}
 use Rattle.pnp_model.specs.Cores.{node_at, serials_of}
-use Rattle.pnp_model.specs.Endings.{Placed, placed, print_order, root_of, node_rows, joined, tree_line, map_line, row_before, ending, outstanding_line, outstanding, activity_rows, walk_row, waiting_row, serial_before, Outstanding}
+use Rattle.pnp_model.specs.Endings.{Placed, placed, print_order, root_of, map_rows, joined, tree_line, map_line, ending, outstanding_line, outstanding_text, outstanding, operation_rows, at_row, activity_rows, walk_row, waiting_row, serial_before, Outstanding}
+use Rattle.pnp_model.specs.Events.{operation_at}
 use Rattle.pnp_model.specs.Keyed.{in_order, put_before, those}
-use Rattle.pnp_model.specs.Machine.{phase_walk}
-use Rattle.pnp_model.specs.Records.{Node, Driver, Activity, State, Task, Walk}
+use Rattle.pnp_model.specs.Machine.{phase_walk, operation_walk}
+use Rattle.pnp_model.specs.Records.{Node, Core, Driver, Activity, Operation, State, Walk}
 use Rattle.pnp_model.specs.Trees.{children, is_child}
 use Rattle.pnp_laws.specs.Kept.{InOrder}
 use Rattle.devnode_tree.specs.Rows.{row_of}
 use Rattle.devnode_tree.specs.Trees.{Ascends, Tree}
 use Rattle.devnode_tree.specs.declared.print.PrintRow.{PrintRow}
-use Rattle.start_sequence.specs.Steps.{core_of, HoldsNothing}
-use Rattle.pnp_machine.specs.Devices.{Devices}
-use Rattle.pnp_machine.specs.Endings.{RowAdded, work_lines, works_lines}
-use Rattle.pnp_machine.specs.Machines.{state_of}
+use Rattle.start_sequence.specs.Steps.{core_of}
+use Rattle.pnp_machine.specs.Endings.{RowAdded, request_lines, works_lines, operation_lines}
 use Rattle.pnp_machine.proofs.Texts.{joined_append}
 
 all_those : {A : Type 0} (P : A → Type 0) (test : A → Bool) (xs : List A) → AllByRecursion P xs → AllByRecursion P (those test xs)
@@ -122,10 +123,22 @@ tree_next t rows i row out out' whole are read added so_far =
     ∙ ap (λ ps. out ++ joined (map tree_line ps)) (sym here.rest)
     ∙ so_far
 
--- nothing is held
-no_rows : (xs : List Node) → AllByRecursion HoldsNothing xs → node_rows xs ≡ []
-no_rows [] all = refl
-no_rows (x ∷ xs) all = rw all.0 (no_rows xs all.1)
+-- What is held --------------------------------------------------------------------------------
+
+-- one row more
+pub rows_next : (nodes : List Node) (rows : List Pair) (i : ℕ) (row : Pair) (out out' whole : Text) → slice_get rows i ≡ Some row → out' ≡ out ++ joined (map_line (row_of_pair nodes row) ∷ [])
+    → out ++ joined (map map_line (map (row_of_pair nodes) (drop i rows))) ≡ whole → out' ++ joined (map map_line (map (row_of_pair nodes) (drop (i + 1) rows))) ≡ whole
+rows_next nodes rows i row out out' whole read added so_far =
+    ap (λ x. x ++ joined (map map_line (map (row_of_pair nodes) (drop (i + 1) rows)))) added
+    ∙ append_assoc out (joined (map_line (row_of_pair nodes row) ∷ [])) (joined (map map_line (map (row_of_pair nodes) (drop (i + 1) rows))))
+    ∙ ap (λ x. out ++ x) (sym (joined_append (map_line (row_of_pair nodes row) ∷ []) (map map_line (map (row_of_pair nodes) (drop (i + 1) rows)))))
+    ∙ ap (λ ps. out ++ joined (map map_line (map (row_of_pair nodes) ps))) (sym (rest_at rows i row read))
+    ∙ so_far
+  where
+    rest_at : (rows : List Pair) (i : ℕ) (row : Pair) → slice_get rows i ≡ Some row → drop i rows ≡ row ∷ drop (i + 1) rows
+    rest_at [] i row e = absurd (cc)
+    rest_at (x ∷ rows) zero row e = let same : x ≡ row = cc in ap (λ y. y ∷ rows) same
+    rest_at (x ∷ rows) (suc i) row e = rest_at rows i row e ∙ ap (λ n. row ∷ drop n (x ∷ rows)) (one_more i)
 
 -- The requests that wait, in order of serial ----------------------------------------------------
 
@@ -133,10 +146,23 @@ map_append : {A B : Type 0} (f : A → B) (xs ys : List A) → map f (xs ++ ys) 
 map_append f [] ys = refl
 map_append f (x ∷ xs) ys = ap (λ l. f x ∷ l) (map_append f xs ys)
 
-pub works_next : (nodes : List Node) (rack : List Driver) (a : Activity) (more : List Activity) → works_lines nodes rack (a ∷ more) ≡ work_lines nodes rack a ++ works_lines nodes rack more
+pub works_next : (nodes : List Node) (rack : List Driver) (a : Activity) (more : List Activity) → works_lines nodes rack (a ∷ more) ≡ request_lines nodes rack a.serial (phase_walk a.phase) ++ works_lines nodes rack more
 works_next nodes rack a more =
     let line = outstanding_line (core_of nodes rack [] []) in
     ap joined (map_append line (walk_row a.serial (phase_walk a.phase)) (activity_rows more)) ∙ joined_append (map line (walk_row a.serial (phase_walk a.phase))) (map line (activity_rows more))
+
+-- a line says nothing of what is related or reserved
+line_same : (c : Core) (row : Outstanding) → outstanding_line c row ≡ outstanding_line (core_of c.nodes c.rack [] []) row
+line_same c row = by_node (node_at row.serial c.nodes)
+  where
+    by_node : (o : Option Node) → outstanding_text c row o ≡ outstanding_text (core_of c.nodes c.rack [] []) row o
+    by_node None = refl
+    by_node (Some n) = refl
+
+lines_same : (c : Core) (rows : List Outstanding) → map (outstanding_line c) rows ≡ map (outstanding_line (core_of c.nodes c.rack [] [])) rows
+lines_same c [] = refl
+lines_same c (row ∷ rows) =
+    ap (λ l. l ∷ map (outstanding_line c) rows) (line_same c row) ∙ ap (λ rest. outstanding_line (core_of c.nodes c.rack [] []) row ∷ rest) (lines_same c rows)
 
 -- the rows stand in order from lo on
 abbrev RowsFrom : ℕ → List Outstanding → Type 0
@@ -171,22 +197,72 @@ in_order_same lo (r ∷ rows) h = ap (put_before (serial_before r) r) (in_order_
         let less : nat_lt r.serial q.serial ≡ true = grind (arith, nat_tests) in
         ap (λ b. cond b (r ∷ q ∷ rows) (q ∷ put_before (serial_before r) r rows)) less
 
+-- a row of one request stands in order
+one_row : (k : Option ℕ) (w : Option Walk) → in_order serial_before (at_row w k ++ []) ≡ at_row w k
+one_row None w = refl
+one_row (Some k) None = refl
+one_row (Some k) (Some w) = by_wait w.waits
+  where
+    by_wait : (b : Bool) → in_order serial_before (waiting_row k w b ++ []) ≡ waiting_row k w b
+    by_wait true = refl
+    by_wait false = refl
+
+append_nothing : {A : Type 0} (xs : List A) → xs ++ [] ≡ xs
+append_nothing [] = refl
+append_nothing (x ∷ xs) = ap (λ rest. x ∷ rest) (append_nothing xs)
+
+-- while an operation runs no device starts, so the rows stand in order
+rows_are : (operation : Option Operation) (works : List Activity) → InOrder 0 works → ((o : Operation) → operation ≡ Some o → works ≡ [])
+    → in_order serial_before (operation_rows operation ++ activity_rows works) ≡ operation_rows operation ++ activity_rows works
+rows_are None works order alone = in_order_same 0 (activity_rows works) (rows_in 0 works order)
+rows_are (Some o) works order alone =
+    let none : activity_rows works ≡ [] = ap activity_rows (alone o refl) in
+    ap (λ rows. in_order serial_before (at_row (operation_walk o) (operation_at o) ++ rows)) none ∙ one_row (operation_at o) (operation_walk o)
+    ∙ sym (append_nothing (at_row (operation_walk o) (operation_at o))) ∙ ap (λ rows. at_row (operation_walk o) (operation_at o) ++ rows) (sym none)
+
 -- The whole ---------------------------------------------------------------------------------------
 
-pub ending_is : (ds : Devices) (rack : List Driver) (works : List Activity) (tasks : List Task) (s : State) (o0 o1 o2 o3 : Text) → AllByRecursion HoldsNothing ds.tree.nodes
-    → InOrder 0 works → state_of ds rack works tasks ≡ s → o0 ≡ codes "tree\n" → o1 ≡ o0 ++ joined (map tree_line (print_order ds.tree.nodes))
-    → o2 ≡ o1 ++ codes "map\noutstanding\n" → o3 ≡ o2 ++ works_lines ds.tree.nodes rack works → o3 ≡ joined (ending s)
-ending_is ds rack works tasks s o0 o1 o2 o3 bare order view zero_is one two three =
-    let trees : List Text = map tree_line (print_order ds.tree.nodes) in
-    let lines : Text = works_lines ds.tree.nodes rack works in
-    let waits : List Text = map (outstanding_line (core_of ds.tree.nodes rack [] [])) (activity_rows works) in
-    let none : node_rows ds.tree.nodes ≡ [] = no_rows ds.tree.nodes bare in
-    let rows : outstanding (state_of ds rack works tasks) ≡ activity_rows works = in_order_same 0 (activity_rows works) (rows_in 0 works order) in
-    let whole : joined (ending (state_of ds rack works tasks)) ≡ codes "tree\n" ++ (joined trees ++ (codes "map\noutstanding\n" ++ lines)) =
-    ap (λ rs. joined (codes "tree" ∷ (trees ++ (codes "map" ∷ (map map_line (in_order row_before rs) ++ (codes "outstanding" ∷ map (outstanding_line (core_of ds.tree.nodes rack [] [])) (outstanding (state_of ds rack works tasks)))))))) none
-    ∙ ap (λ rs. joined (codes "tree" ∷ (trees ++ (codes "map" ∷ codes "outstanding" ∷ map (outstanding_line (core_of ds.tree.nodes rack [] [])) rs)))) rows
-    ∙ ap (λ x. codes "tree\n" ++ x) (joined_append trees (codes "map" ∷ codes "outstanding" ∷ waits)) in
-    three ∙ ap (λ x. x ++ lines) (two ∙ ap (λ x. x ++ codes "map\noutstanding\n") (one ∙ ap (λ x. x ++ joined trees) zero_is))
-    ∙ append_assoc (codes "tree\n" ++ joined trees) (codes "map\noutstanding\n") lines
-    ∙ append_assoc (codes "tree\n") (joined trees) (codes "map\noutstanding\n" ++ lines)
-    ∙ sym whole ∙ ap (λ x. joined (ending x)) view
+module _ (s : State) (order : InOrder 0 s.activities) (alone : (o : Operation) → s.operation ≡ Some o → s.activities ≡ []) where
+  abbrev nodes : List Node
+  nodes = s.core.nodes
+
+  abbrev rack : List Driver
+  rack = s.core.rack
+
+  abbrev held : Text
+  held = joined (map map_line (map_rows s.core))
+
+  abbrev trees : Text
+  trees = joined (map tree_line (print_order nodes))
+
+  outstanding_is : joined (map (outstanding_line s.core) (outstanding s)) ≡ operation_lines nodes rack s.operation ++ works_lines nodes rack s.activities
+  outstanding_is =
+      let line = outstanding_line (core_of nodes rack [] []) in
+      ap (λ rows. joined (map (outstanding_line s.core) rows)) (rows_are s.operation s.activities order alone)
+      ∙ ap joined (lines_same s.core (operation_rows s.operation ++ activity_rows s.activities))
+      ∙ ap joined (map_append line (operation_rows s.operation) (activity_rows s.activities))
+      ∙ joined_append (map line (operation_rows s.operation)) (map line (activity_rows s.activities))
+
+  whole_is : joined (ending s) ≡ codes "tree\n" ++ (trees ++ (codes "map\n" ++ (held ++ (codes "outstanding\n" ++ (operation_lines nodes rack s.operation ++ works_lines nodes rack s.activities)))))
+  whole_is =
+      let rows : List Text = map (outstanding_line s.core) (outstanding s) in
+      let maps : List Text = map map_line (map_rows s.core) in
+      ap (λ x. codes "tree\n" ++ x) (joined_append (map tree_line (print_order nodes)) (codes "map" ∷ (maps ++ (codes "outstanding" ∷ rows))))
+      ∙ ap (λ x. codes "tree\n" ++ (trees ++ (codes "map\n" ++ x))) (joined_append maps (codes "outstanding" ∷ rows))
+      ∙ ap (λ x. codes "tree\n" ++ (trees ++ (codes "map\n" ++ (held ++ (codes "outstanding\n" ++ x))))) outstanding_is
+
+  pub ending_is : (rows : List Pair) (o0 o1 o2 o3 o4 o5 o6 : Text) → map (row_of_pair nodes) rows ≡ map_rows s.core → o0 ≡ codes "tree\n" → o1 ≡ o0 ++ trees → o2 ≡ o1 ++ codes "map\n"
+      → o3 ≡ o2 ++ joined (map map_line (map (row_of_pair nodes) rows)) → o4 ≡ o3 ++ codes "outstanding\n" → o5 ≡ o4 ++ operation_lines nodes rack s.operation
+      → o6 ≡ o5 ++ works_lines nodes rack s.activities → o6 ≡ joined (ending s)
+  ending_is rows o0 o1 o2 o3 o4 o5 o6 rows_is zero_is one two three four five six =
+      let ops : Text = operation_lines nodes rack s.operation in
+      let works : Text = works_lines nodes rack s.activities in
+      let three_is : o3 ≡ o2 ++ held = three ∙ ap (λ r. o2 ++ joined (map map_line r)) rows_is in
+      six ∙ ap (λ x. x ++ works) five ∙ append_assoc o4 ops works
+      ∙ ap (λ x. x ++ (ops ++ works)) four ∙ append_assoc o3 (codes "outstanding\n") (ops ++ works)
+      ∙ ap (λ x. x ++ (codes "outstanding\n" ++ (ops ++ works))) three_is ∙ append_assoc o2 held (codes "outstanding\n" ++ (ops ++ works))
+      ∙ ap (λ x. x ++ (held ++ (codes "outstanding\n" ++ (ops ++ works)))) two ∙ append_assoc o1 (codes "map\n") (held ++ (codes "outstanding\n" ++ (ops ++ works)))
+      ∙ ap (λ x. x ++ (codes "map\n" ++ (held ++ (codes "outstanding\n" ++ (ops ++ works))))) one
+      ∙ append_assoc o0 trees (codes "map\n" ++ (held ++ (codes "outstanding\n" ++ (ops ++ works))))
+      ∙ ap (λ x. x ++ (trees ++ (codes "map\n" ++ (held ++ (codes "outstanding\n" ++ (ops ++ works)))))) zero_is
+      ∙ sym whole_is

@@ -1,9 +1,8 @@
 -- What the parts of the machine do at an event, as what happens by its definition.
-use Rattle.std.proofs.Common.{◌≡◌, ◌≢◌, ℕ, ◌+◌, ◌<◌, ◌≤◌, ◌==◌, Bool, true, false, cond, List, [], ◌∷◌, ◌++◌, find, length, Option, Some, None, Ok, Err, get_or, nat_lt, refl, sym, ◌∙◌, ap, subst, arith, option_map, slice_get}
+use Rattle.std.proofs.Common.{◌≡◌, ◌≢◌, ℕ, ◌+◌, ◌<◌, ◌≤◌, ◌==◌, Bool, true, false, cond, List, [], ◌∷◌, find, length, Option, Some, None, IsSome, Ok, Err, get_or, nat_lt, refl, sym, ◌∙◌, ap, subst, arith, option_map, slice_get}
 use Rattle.std.proofs.lemmas.Bool.Decides.{nat_tests}
 use Rattle.std.proofs.lemmas.Option.{get_or_from_slice_get}
 use Rattle.device_ids.specs.Folding.{same}
-use Rattle.resource_reqs.specs.Resources.{Reqs}
 use Rattle.pnp_labels.specs.Texts.{Text}
 use Rattle.pnp_labels.specs.declared.event.Event.{Event}
 use Rattle.pnp_labels.specs.declared.event.Rule.{Rule}
@@ -11,111 +10,52 @@ use Rattle.pnp_labels.specs.declared.label.EventWord.{EventWord}
 use Rattle.pnp_labels.specs.declared.label.Label.{Label}
 use Rattle.pnp_labels.specs.declared.label.Reason.{Reason}
 use Rattle.pnp_labels.specs.declared.words.DriverKind.{DriverKind}
-use Rattle.pnp_labels.specs.declared.words.Minor.{Minor}
 use Rattle.pnp_model.specs.Books.{is_named, is_unnamed, name_or_none, printed_name, driver_named, name_of}
 use Rattle.pnp_model.specs.Cores.{node_at, serials_of}
-use Rattle.pnp_model.specs.Keyed.{changed_first}
-use Rattle.pnp_model.specs.Events.{happens, plug_below, plug_fresh, plug_room, new_device, name_at, name_free, teach_at, teach_kind, teach_room, with_rule, complete_at, complete_active, complete_activity, complete_what, waits_for, completed_phase, answer_of}
-use Rattle.pnp_model.specs.Machine.{phase_walk}
-use Rattle.pnp_model.specs.Records.{Device, Node, Driver, Activity, State, Step, Task, Duty}
-use Rattle.pnp_model.specs.States.{device_of, node_born, node_of, activity_at, is_activity, with_phase, list_node}
+use Rattle.pnp_model.specs.Events.{happens, name_at, name_free, teach_at, teach_kind, teach_room, with_rule}
+use Rattle.pnp_model.specs.Records.{Node, Driver, Activity, Operation, State, Step, Task}
+use Rattle.pnp_model.specs.States.{node_of}
 use Rattle.pnp_model.specs.Tests.{is_scripted}
 use Rattle.pnp_model.proofs.Keyed.{find_from_position, find_from_none, changed_first_at}
 use Rattle.driver_rack.specs.Rows.{Named, TaughtOne}
 use Rattle.driver_rack.specs.declared.errors.NameError.TheVariants as NameError
 use Rattle.driver_rack.specs.declared.errors.TeachError.{TeachError}
-use Rattle.script_bus.specs.declared.error.PlugError.TheVariants as PlugError
 use Rattle.devnode_tree.specs.Trees.{Ascends}
 use Rattle.script_bus.proofs.Unplugs.{by_bool}
-use Rattle.pnp_laws.proofs.Lookups.{own_activity}
-use Rattle.pnp_machine.specs.Devices.{Devices, Arrives}
+use Rattle.pnp_machine.specs.Devices.{Devices}
 use Rattle.pnp_machine.specs.Machines.{state_of, IsDone}
-use Rattle.pnp_machine.specs.Starts.{CompletesFor, CompletesIf}
-
--- Arrivals -----------------------------------------------------------------------------
-
--- the tasks after an arrival, by the node that is to be listed
-abbrev pub tasks_over : Option ℕ → List Task → List Task
-tasks_over None tasks = tasks
-tasks_over (Some k) tasks = tasks ++ record { kind = Duty.Listing; serial = k } ∷ []
-
-module _ (ds ds' : Devices) (rack : List Driver) (works : List Activity) (tasks tasks' : List Task) (parent path : Text) (hw compat : List Text) (reqs : Reqs)
-    (tree : ds'.tree ≡ ds.tree) where
-  abbrev s : State
-  s = state_of ds rack works tasks
-
-  abbrev s' : State
-  s' = state_of ds' rack works tasks'
-
-  abbrev plugs : Step
-  plugs = happens s (Event.Plug parent path hw compat reqs)
-
-  listed_is : (t : State) (o : Option Node) → list_node o t ≡ record t { tasks = tasks_over (option_map (λ n. n.serial) o) t.tasks }
-  listed_is t None = refl
-  listed_is t (Some n) = refl
-
-  pub plug_done : (born : ℕ) (over : Option ℕ) → Arrives ds.world parent path hw compat reqs (Ok born) ds'.world
-      → ((d : Device) → device_of parent ds.world.devices ≡ Some d → over ≡ option_map (λ n. n.serial) (node_born d.born ds.tree.nodes))
-      → tasks' ≡ tasks_over over tasks → IsDone plugs (Label.Did EventWord.Plug path) s'
-  plug_done born over (d, at, free, room, is) over_is tasks_is =
-      let device = new_device s d.born path hw compat reqs in
-      let step : plugs ≡ plug_room s device true =
-      ap (plug_below s path hw compat reqs) at ∙ ap (plug_fresh s device) free ∙ ap (plug_room s device) room in (
-        ap (λ (x : Step). x.label) (sym step),
-        rw (tasks_is, over_is d at, is, tree) refl ∙ sym (listed_is _ (node_born d.born ds.tree.nodes)) ∙ ap (λ (x : Step). x.state) (sym step),
-      )
-
-  pub plug_no_parent : Arrives ds.world parent path hw compat reqs (Err PlugError.NoParent) ds'.world → tasks' ≡ tasks
-      → IsDone plugs (Label.Refused EventWord.Plug Reason.NoParent) s'
-  plug_no_parent (none, is) tasks_is =
-      let step = ap (plug_below s path hw compat reqs) none in
-      (ap (λ (x : Step). x.label) (sym step), rw (tasks_is, is, tree) refl ∙ ap (λ (x : Step). x.state) (sym step))
-
-  pub plug_same : Arrives ds.world parent path hw compat reqs (Err PlugError.SameId) ds'.world → tasks' ≡ tasks
-      → IsDone plugs (Label.Refused EventWord.Plug Reason.SameId) s'
-  plug_same (d, at, (other, there), is) tasks_is =
-      let step = ap (plug_below s path hw compat reqs) at ∙ ap (plug_fresh s (new_device s d.born path hw compat reqs)) there in
-      (ap (λ (x : Step). x.label) (sym step), rw (tasks_is, is, tree) refl ∙ ap (λ (x : Step). x.state) (sym step))
-
-  pub plug_full : Arrives ds.world parent path hw compat reqs (Err PlugError.WorldFull) ds'.world → tasks' ≡ tasks
-      → IsDone plugs (Label.Refused EventWord.Plug Reason.WorldFull) s'
-  plug_full (d, at, free, room, is) tasks_is =
-      let device = new_device s d.born path hw compat reqs in
-      let step =
-      ap (plug_below s path hw compat reqs) at ∙ ap (plug_fresh s device) free ∙ ap (plug_room s device) room in
-      (ap (λ (x : Step). x.label) (sym step), rw (tasks_is, is, tree) refl ∙ ap (λ (x : Step). x.state) (sym step))
 
 -- Drivers ------------------------------------------------------------------------------
 
 abbrev some_driver : Driver
 some_driver = record { kind = DriverKind.Steady; name = None; book = [] }
 
-module _ (ds : Devices) (old new : List Driver) (works : List Activity) (tasks : List Task) where
+module _ (ds : Devices) (old new : List Driver) (paths : List Text) (works : List Activity) (operation : Option Operation) (tasks : List Task) where
   abbrev before : State
-  before = state_of ds old works tasks
+  before = state_of ds old paths works operation tasks
 
   abbrev after : State
-  after = state_of ds new works tasks
+  after = state_of ds new paths works operation tasks
 
   pub name_given : (kind : DriverKind) (name : Text) (k : ℕ) → Named (Ok k) kind name old new → IsDone (happens before (Event.Name name kind)) (Label.Did EventWord.Name name) after
   name_given kind name k (free, place, is) =
       let step : happens before (Event.Name name kind) ≡ name_free before name kind (Some (get_or old k some_driver)) =
       ap (name_at before name kind) (find_from_none (is_named name) old free)
       ∙ ap (name_free before name kind) (find_from_position (is_unnamed kind) old k some_driver place) in
-      (ap (λ (x : Step). x.label) (sym step), ap (λ rows. state_of ds rows works tasks) is ∙ ap (λ (x : Step). x.state) (sym step))
+      (ap (λ (x : Step). x.label) (sym step), ap (λ rows. state_of ds rows paths works operation tasks) is ∙ ap (λ (x : Step). x.state) (sym step))
 
   pub name_taken : (kind : DriverKind) (name : Text) → Named (Err NameError.SameName) kind name old new
       → IsDone (happens before (Event.Name name kind)) (Label.Refused EventWord.Name Reason.SameName) after
   name_taken kind name ((k, at), is) =
       let step = ap (name_at before name kind) (find_from_position (is_named name) old k some_driver at) in
-      (ap (λ (x : Step). x.label) (sym step), ap (λ rows. state_of ds rows works tasks) is ∙ ap (λ (x : Step). x.state) (sym step))
+      (ap (λ (x : Step). x.label) (sym step), ap (λ rows. state_of ds rows paths works operation tasks) is ∙ ap (λ (x : Step). x.state) (sym step))
 
   pub name_none : (kind : DriverKind) (name : Text) → Named (Err NameError.RackEmpty) kind name old new
       → IsDone (happens before (Event.Name name kind)) (Label.Refused EventWord.Name Reason.RackEmpty) after
   name_none kind name (free, none, is) =
       let step =
       ap (name_at before name kind) (find_from_none (is_named name) old free) ∙ ap (name_free before name kind) (find_from_none (is_unnamed kind) old none) in
-      (ap (λ (x : Step). x.label) (sym step), ap (λ rows. state_of ds rows works tasks) is ∙ ap (λ (x : Step). x.state) (sym step))
+      (ap (λ (x : Step). x.label) (sym step), ap (λ rows. state_of ds rows paths works operation tasks) is ∙ ap (λ (x : Step). x.state) (sym step))
 
   -- A driver is taught
 
@@ -134,7 +74,7 @@ module _ (ds : Devices) (old new : List Driver) (works : List Activity) (tasks :
     pub teach_none : driver_named name old ≡ None → new ≡ old → IsDone teaches (Label.Refused EventWord.Teach Reason.NoDriver) after
     teach_none none is =
         let step = ap (teach_at before name rule) (find_from_none (is_named name) old none) in
-        (ap (λ (x : Step). x.label) (sym step), ap (λ rows. state_of ds rows works tasks) is ∙ ap (λ (x : Step). x.state) (sym step))
+        (ap (λ (x : Step). x.label) (sym step), ap (λ rows. state_of ds rows paths works operation tasks) is ∙ ap (λ (x : Step). x.state) (sym step))
 
     module _ (k : ℕ) (d : Driver) (place : driver_named name old ≡ Some k) (was : slice_get old k ≡ Some d) where
       here : get_or old k some_driver ≡ d
@@ -153,7 +93,7 @@ module _ (ds : Devices) (old new : List Driver) (works : List Activity) (tasks :
           ∙ ap (teach_room before d name rule) (few (length d.book) room) in
           let changed = changed_first_at (is_named name) (with_rule rule) old k (with_rule rule d) some_driver place (ap (with_rule rule) (sym here)) in (
             ap (Label.Did EventWord.Teach) label_is ∙ ap (λ (x : Step). x.label) (sym step),
-            ap (λ rows. state_of ds rows works tasks) (is ∙ changed) ∙ ap (λ (x : Step). x.state) (sym step),
+            ap (λ rows. state_of ds rows paths works operation tasks) (is ∙ changed) ∙ ap (λ (x : Step). x.state) (sym step),
           )
         where
           few : (n : ℕ) → n < 64 → nat_lt n 64 ≡ true
@@ -162,19 +102,19 @@ module _ (ds : Devices) (old new : List Driver) (works : List Activity) (tasks :
       pub teach_not : TaughtOne d k rule (Err TeachError.NotTeachable) old new → IsDone teaches (Label.Refused EventWord.Teach Reason.NotTeachable) after
       teach_not (kind, is) =
           let step = ap (teach_at before name rule) found ∙ ap (teach_kind before d name rule) (not_scripted d.kind kind) in
-          (ap (λ (x : Step). x.label) (sym step), ap (λ rows. state_of ds rows works tasks) is ∙ ap (λ (x : Step). x.state) (sym step))
+          (ap (λ (x : Step). x.label) (sym step), ap (λ rows. state_of ds rows paths works operation tasks) is ∙ ap (λ (x : Step). x.state) (sym step))
 
       pub teach_full : TaughtOne d k rule (Err TeachError.BookFull) old new → IsDone teaches (Label.Refused EventWord.Teach Reason.BookFull) after
       teach_full (kind, full, is) =
           let step =
           ap (teach_at before name rule) found ∙ ap (teach_kind before d name rule) (scripted d.kind kind)
           ∙ ap (teach_room before d name rule) (many (length d.book) full) in
-          (ap (λ (x : Step). x.label) (sym step), ap (λ rows. state_of ds rows works tasks) is ∙ ap (λ (x : Step). x.state) (sym step))
+          (ap (λ (x : Step). x.label) (sym step), ap (λ rows. state_of ds rows paths works operation tasks) is ∙ ap (λ (x : Step). x.state) (sym step))
         where
           many : (n : ℕ) → 64 ≤ n → nat_lt n 64 ≡ false
           many n h = grind (arith, nat_tests)
 
--- Completions ----------------------------------------------------------------------------
+-- Nodes by their paths ---------------------------------------------------------------------
 
 -- serials ascend, so a node that is found is found again by its serial
 pub found_serial : (p : Node → Bool) (lo : ℕ) (nodes : List Node) (n : Node) → Ascends lo (serials_of nodes) → find p nodes ≡ Some n
@@ -210,55 +150,14 @@ found_at path k nodes asc h = by_found (node_of path nodes) refl h
         let own : n.serial ≡ k = cc in
         record { node = n; found = e; own = own; at = subst (λ i. node_at i nodes ≡ Some n) own (found_serial (λ m. same m.path path) 0 nodes n asc e).1 }
 
-module _ (ds : Devices) (rack : List Driver) (works works' : List Activity) (tasks : List Task) (path : Text) (minor : Minor) (ok : Bool) where
-  abbrev then : State
-  then = state_of ds rack works tasks
-
-  abbrev now : State
-  now = state_of ds rack works' tasks
-
-  abbrev completes : Step
-  completes = happens then (Event.Complete path minor ok)
-
-  pub complete_none : node_of path ds.tree.nodes ≡ None → works' ≡ works → IsDone completes (Label.Refused EventWord.Complete Reason.NoSuchRequest) now
-  complete_none none is =
-      let step = ap (complete_at then minor ok) none in
-      (ap (λ (x : Step). x.label) (sym step), ap (λ w. state_of ds rack w tasks) is ∙ ap (λ (x : Step). x.state) (sym step))
-
-  module _ (n : Node) (at : node_of path ds.tree.nodes ≡ Some n) where
-    complete_by : (o : Option Activity) → activity_at n.serial works ≡ o → completes ≡ complete_active then n minor ok o
-    complete_by o e = ap (complete_at then minor ok) at ∙ ap (complete_active then n minor ok) e
-
-    pub complete_done : CompletesFor (activity_at n.serial works) minor ok true works works' → IsDone completes (Label.Did EventWord.Complete (complete_what n minor ok)) now
-    complete_done h = by_work (activity_at n.serial works) refl h
-      where
-        by_work : (o : Option Activity) → activity_at n.serial works ≡ o → CompletesFor o minor ok true works works' → IsDone completes (Label.Did EventWord.Complete (complete_what n minor ok)) now
-        by_work None e (d, is) = absurd (cc)
-        by_work (Some a) e h = by_wait (waits_for minor (phase_walk a.phase)) refl h
-          where
-            own : a.serial ≡ n.serial
-            own = own_activity n.serial a works e
-
-            by_wait : (b : Bool) → waits_for minor (phase_walk a.phase) ≡ b → CompletesIf b a ok true works works' → IsDone completes (Label.Did EventWord.Complete (complete_what n minor ok)) now
-            by_wait false w (d, is) = absurd (cc)
-            by_wait true w (d, is) =
-                let step = complete_by (Some a) e ∙ ap (complete_activity then n minor ok a) w in (
-                  ap (λ (x : Step). x.label) (sym step),
-                  ap (λ v. state_of ds rack v tasks) (is ∙ ap (λ k. changed_first (is_activity k) (with_phase (completed_phase (answer_of ok) a.phase)) works) own)
-                      ∙ ap (λ (x : Step). x.state) (sym step),
-                )
-
-    pub complete_not : CompletesFor (activity_at n.serial works) minor ok false works works' → IsDone completes (Label.Refused EventWord.Complete Reason.NoSuchRequest) now
-    complete_not h = by_work (activity_at n.serial works) refl h
-      where
-        by_work : (o : Option Activity) → activity_at n.serial works ≡ o → CompletesFor o minor ok false works works' → IsDone completes (Label.Refused EventWord.Complete Reason.NoSuchRequest) now
-        by_work None e (d, is) =
-            let step = complete_by None e in
-            (ap (λ (x : Step). x.label) (sym step), ap (λ v. state_of ds rack v tasks) is ∙ ap (λ (x : Step). x.state) (sym step))
-        by_work (Some a) e h = by_wait (waits_for minor (phase_walk a.phase)) refl h
-          where
-            by_wait : (b : Bool) → waits_for minor (phase_walk a.phase) ≡ b → CompletesIf b a ok false works works' → IsDone completes (Label.Refused EventWord.Complete Reason.NoSuchRequest) now
-            by_wait true w (d, is) = absurd (cc)
-            by_wait false w (d, is) =
-                let step = complete_by (Some a) e ∙ ap (complete_activity then n minor ok a) w in
-                (ap (λ (x : Step). x.label) (sym step), ap (λ v. state_of ds rack v tasks) is ∙ ap (λ (x : Step). x.state) (sym step))
+-- a node of a path is there by its serial
+pub is_there : (p : Node → Bool) (k : ℕ) (nodes : List Node) → Some k ≡ option_map (λ n. n.serial) (find p nodes) → IsSome (node_at k nodes)
+is_there p k [] h = absurd (cc)
+is_there p k (x ∷ nodes) h =
+    by_bool (λ b. IsSome (cond b (Some x) (node_at k nodes))) (x.serial == k)
+    (λ e. refl)
+    (λ e.
+    by_bool (λ b. Some k ≡ option_map (λ n. n.serial) (cond b (Some x) (find p nodes)) → IsSome (node_at k nodes)) (p x)
+    (λ f g. absurd (let own : x.serial ≡ k = cc in let yes : (x.serial == k) ≡ true = grind (arith, nat_tests) in cc))
+    (λ f g. is_there p k nodes g)
+    h)

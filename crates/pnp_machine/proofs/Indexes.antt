@@ -3,7 +3,7 @@ use Rattle.std.proofs.Common.{◌≡◌, ℕ, zero, suc, ◌<◌, ◌==◌, Bool
 use Rattle.device_stack.specs.declared.walk.NoSuchRequest.{NoSuchRequest}
 use Rattle.pnp_labels.specs.declared.words.Minor.{Minor}
 use Rattle.pnp_model.specs.Keyed.{changed_first, without_first, put_before}
-use Rattle.pnp_model.specs.Records.{Node, Activity, Driver, Phase, Walk}
+use Rattle.pnp_model.specs.Records.{Activity, Driver, Phase, Walk}
 use Rattle.pnp_model.specs.Records.Phase.{Adding, Searching, Starting, Removing, Due}
 use Rattle.pnp_model.specs.States.{is_activity, activity_at, with_phase, entered}
 use Rattle.pnp_model.specs.Machine.{is_ready, is_waiting, phase_walk}
@@ -13,10 +13,11 @@ use Rattle.pnp_model.proofs.Keyed.{changed_first_at, without_first_at}
 use Rattle.pnp_laws.specs.Kept.{InOrder}
 use Rattle.pnp_laws.proofs.Lookups.{own_activity, ready_found, InOrder-set_phase, InOrder-ended}
 use Rattle.script_bus.proofs.Unplugs.{by_bool}
-use Rattle.start_sequence.specs.Steps.{Acts}
 use Rattle.start_sequence.specs.Works.{CompletedWork, CompletesWork}
 use Rattle.start_sequence.specs.declared.next.StartStep.{StartStep}
-use Rattle.start_sequence.specs.declared.next.StartStep.TheVariants.{Did, Up, Over}
+use Rattle.start_sequence.specs.declared.next.StartStep.TheVariants.{Did, Needs, Up, Over}
+use Rattle.pnp_machine.specs.Devices.{Devices}
+use Rattle.pnp_machine.specs.Doings.{Acts}
 use Rattle.pnp_machine.specs.Starts.{ready_serials, first_ready, is_over, leaves, works_after, ActsFor, CompletesFor, CompletesIf}
 use Rattle.pnp_machine.proofs.Ready.{first_of, ready_short, ready_stays, ready_waits, ready_ends, ready_enters, ready_same, ready_goes}
 
@@ -161,12 +162,15 @@ remove_set (x ∷ xs) (suc i) y = ap (λ l. x ∷ l) (remove_set xs i y)
 pub works_acted : (step : StartStep) (k : ℕ) (phase : Phase) (xs ys : List Activity) (a b : Activity) (i : ℕ) → position (is_activity k) xs ≡ Some i → a ≡ get_or xs i a → b ≡ with_phase phase a
     → ys ≡ (if is_over step then remove (set xs i b) i else set xs i b) → ys ≡ works_after step k phase xs
 works_acted (Did label) k phase xs ys a b i at own e h = h ∙ changed_first_at (is_activity k) (with_phase phase) xs i b a at (e ∙ ap (with_phase phase) own)
+works_acted (Needs label) k phase xs ys a b i at own e h = h ∙ remove_set xs i b ∙ without_first_at (is_activity k) xs i at
 works_acted (Up label) k phase xs ys a b i at own e h = h ∙ remove_set xs i b ∙ without_first_at (is_activity k) xs i at
 works_acted (Over label) k phase xs ys a b i at own e h = h ∙ remove_set xs i b ∙ without_first_at (is_activity k) xs i at
 
 -- the index after it
 pub index_acted : (step : StartStep) (k : ℕ) (phase : Phase) (xs : List Activity) (a b : Activity) (gone : Bool) (ns : List ℕ) → InOrder 0 xs → find is_ready xs ≡ Some a → a.serial ≡ k
     → b ≡ with_phase phase a → gone ≡ leaves (is_over step) b → ns ≡ (if gone then remove (ready_serials xs) 0 else ready_serials xs) → ns ≡ ready_serials (works_after step k phase xs)
+index_acted (Needs label) k phase xs a b gone ns order found own e g h =
+    rw g at h ∙ sym (ready_ends 0 xs a order found) ∙ ap (λ i. ready_serials (without_first (is_activity i) xs)) own
 index_acted (Up label) k phase xs a b gone ns order found own e g h =
     rw g at h ∙ sym (ready_ends 0 xs a order found) ∙ ap (λ i. ready_serials (without_first (is_activity i) xs)) own
 index_acted (Over label) k phase xs a b gone ns order found own e g h =
@@ -181,11 +185,12 @@ index_acted (Did label) k phase xs a b gone ns order found own e g h =
 
 pub order_acted : (step : StartStep) (k : ℕ) (phase : Phase) (xs : List Activity) → InOrder 0 xs → InOrder 0 (works_after step k phase xs)
 order_acted (Did label) k phase xs order = InOrder-set_phase 0 k phase xs order
+order_acted (Needs label) k phase xs order = InOrder-ended 0 k xs order
 order_acted (Up label) k phase xs order = InOrder-ended 0 k xs order
 order_acted (Over label) k phase xs order = InOrder-ended 0 k xs order
 
-pub acts_for : (step : StartStep) (k : ℕ) (xs ys : List Activity) (a : Activity) (phase : Phase) (nodes nodes' : List Node) (rack rack' : List Driver) → activity_at k xs ≡ Some a
-    → Acts a.serial nodes rack a.phase step nodes' rack' phase → ys ≡ works_after step k phase xs → ActsFor (activity_at k xs) xs nodes rack step ys nodes' rack'
-acts_for step k xs ys a phase nodes nodes' rack rack' at acts same =
-    subst (λ o. ActsFor o xs nodes rack step ys nodes' rack') (sym at)
+pub acts_for : (budget : ℕ) (step : StartStep) (k : ℕ) (xs ys : List Activity) (a : Activity) (phase : Phase) (ds ds' : Devices) (rack rack' : List Driver) → activity_at k xs ≡ Some a
+    → Acts budget ds a.serial rack a.phase step ds' rack' phase → ys ≡ works_after step k phase xs → ActsFor budget (activity_at k xs) xs ds rack step ys ds' rack'
+acts_for budget step k xs ys a phase ds ds' rack rack' at acts same =
+    subst (λ o. ActsFor budget o xs ds rack step ys ds' rack') (sym at)
     (phase, acts, subst (λ i. ys ≡ works_after step i phase xs) (sym (own_activity k a xs at)) same)

@@ -3,25 +3,27 @@ use Rattle.std.proofs.Common.{◌≡◌, ℕ, ◌+◌, ◌<◌, ◌≤◌, ◌==
 use Rattle.std.specs.List.{AllByRecursion, list_any}
 use Rattle.std.proofs.lemmas.Bool.Decides.{nat_tests}
 use Rattle.device_ids.specs.Folding.{same}
+use Rattle.resource_reqs.specs.Resources.{Res}
 use Rattle.pnp_labels.specs.Texts.{Text}
 use Rattle.pnp_model.specs.Cores.{node_at, new_node, fresh_node}
-use Rattle.pnp_model.specs.Records.{Device, Node}
-use Rattle.pnp_model.specs.States.{device_born, is_in_world}
+use Rattle.pnp_model.specs.Records.{Device, Node, Relation}
+use Rattle.pnp_model.specs.States.{device_born}
 use Rattle.pnp_model.specs.Tasks.{joins, joining, has_born, has_path}
-use Rattle.devnode_tree.specs.Identities.{identity, identities}
+use Rattle.devnode_tree.specs.Identities.{identities}
 use Rattle.devnode_tree.specs.Trees.{Tree, with_node, Ascends}
 use Rattle.devnode_tree.specs.declared.error.JoinError.{JoinError}
 use Rattle.devnode_tree.specs.declared.error.JoinError.TheVariants as errors
 use Rattle.script_bus.specs.Differences.{joins_from}
 use Rattle.script_bus.specs.Worlds.{World, IsWorld, births_of, part_of}
 use Rattle.script_bus.specs.declared.device.Device as shown
+use Rattle.trial_journal.specs.Four.{Arbiters}
+use Rattle.device_holdings.specs.Mirrors.{Mirrors}
+use Rattle.device_holdings.proofs.Apart.{mirrors_joined}
 use Rattle.pnp_laws.proofs.Lookups.{own_serial}
-use Rattle.start_sequence.specs.Begins.{HasFewIds}
 use Rattle.script_bus.proofs.Found.{found_again}
 use Rattle.script_bus.proofs.Unplugs.{by_bool}
-use Rattle.start_sequence.specs.Steps.{HoldsNothing, NeedsNothing}
-use Rattle.pnp_machine.specs.Devices.{Devices, IsPlain, IsPlugged, NotJoining, IsKept, JoinedFor, joins_next}
-use Rattle.pnp_machine.proofs.Arrivals.{all_appended, all_of}
+use Rattle.pnp_machine.specs.Devices.{Devices, NotJoining, IsKept, JoinedFor, joins_next}
+use Rattle.pnp_machine.proofs.Arrivals.{all_of, kept_anew}
 
 -- Nodes by their identities -----------------------------------------------------------
 
@@ -39,16 +41,15 @@ joins_same over nodes nodes' d e =
     (born_by d.born nodes' ∙ ap (list_any (λ i. i.born == d.born)) e ∙ sym (born_by d.born nodes))
     (path_by d.path nodes' ∙ ap (list_any (λ i. same i.path d.path)) e ∙ sym (path_by d.path nodes))
 
--- a step of a start leaves who a node is
-pub kept_acted : (w : World) (t t' : Tree) (over from : ℕ) → IsKept w t over from → identities t'.nodes ≡ identities t.nodes → AllByRecursion HoldsNothing t'.nodes → IsKept w t' over from
-kept_acted w t t' over from kept e bare =
+-- a step that leaves who a node is
+pub kept_acted : (w : World) (t t' : Tree) (reserved : List Res) (arbiters arbiters' : Arbiters) (over from : ℕ) → IsKept w t reserved arbiters over from → identities t'.nodes ≡ identities t.nodes
+    → Mirrors reserved t'.nodes arbiters' → IsKept w t' reserved arbiters' over from
+kept_acted w t t' reserved arbiters arbiters' over from kept e mirrors =
     record {
-      devices = kept.devices;
-      plugged = subst (AllByRecursion (IsPlugged w.devices)) (sym e) kept.plugged;
-      bare = bare;
       listed =
           all_of (NotJoining over from t.nodes) (NotJoining over from t'.nodes) (λ d h less. joins_same over t.nodes t'.nodes d e ∙ h less) w.devices kept.listed;
       within = kept.within;
+      mirrors = mirrors;
     }
 
 -- From where it is looked on ------------------------------------------------------------
@@ -66,26 +67,13 @@ pub next_is : (w : World) (t : Tree) (n : Node) (from : ℕ) (o : Option ℕ) �
     → o ≡ option_map (λ d. d.born) (find (joins_from from t n) w.devices) → o ≡ option_map (λ d. d.born) (joining n.born t.nodes w.devices)
 next_is w t n from o all e = e ∙ ap (option_map (λ d. d.born)) (find_on n t from w.devices all)
 
-none_below : (over : ℕ) (nodes : List Node) (ds : List Device) → AllByRecursion (NotJoining over 0 nodes) ds
-none_below over nodes [] = tt
-none_below over nodes (d ∷ ds) = (λ less. absurd (omega arith), none_below over nodes ds)
-
--- another node's children are looked at from the first one on
-pub kept_anew : (w : World) (t : Tree) (over from other : ℕ) → IsKept w t over from → IsKept w t other 0
-kept_anew w t over from other kept =
-    record {
-      devices = kept.devices;
-      plugged = kept.plugged;
-      bare = kept.bare;
-      listed = none_below other t.nodes w.devices;
-      within = omega arith;
-    }
-
-pub kept_at : (w : World) (t : Tree) (last from over : ℕ) → IsKept w t last from → IsKept w t over (cond (over == last) from 0)
-kept_at w t last from over kept =
-    by_bool (λ b. IsKept w t over (cond b from 0)) (over == last)
-    (λ e. let same : last ≡ over = grind (arith, nat_tests) in subst (λ k. IsKept w t k from) same kept)
-    (λ e. kept_anew w t last from over kept)
+module _ (w : World) (t : Tree) (reserved : List Res) (arbiters : Arbiters) where
+  -- another node's children are looked at from the first one on
+  pub kept_at : (last from over : ℕ) → IsKept w t reserved arbiters last from → IsKept w t reserved arbiters over (cond (over == last) from 0)
+  kept_at last from over kept =
+      by_bool (λ b. IsKept w t reserved arbiters over (cond b from 0)) (over == last)
+      (λ e. let same : last ≡ over = grind (arith, nat_tests) in subst (λ k. IsKept w t reserved arbiters k from) same kept)
+      (λ e. kept_anew w w t t reserved reserved arbiters arbiters last from over kept kept.mirrors)
 
 pub next_of : (ds : Devices) (k over from : ℕ) (n : Node) (o : Option ℕ) → node_at k ds.tree.nodes ≡ Some n → n.born ≡ over
     → AllByRecursion (NotJoining over from ds.tree.nodes) ds.world.devices
@@ -206,19 +194,6 @@ first_before p low (x ∷ ds) d asc at =
     (λ h at. (λ less. h, first_before p (x.born + 1) ds d asc.1 at))
     at
 
-device_passes : (P : Device → Type 0) (born : ℕ) (ds : List Device) (d : Device) → AllByRecursion P ds → device_born born ds ≡ Some d → P d
-device_passes P born [] d all at = absurd (cc)
-device_passes P born (x ∷ ds) d all at =
-    by_bool (λ b. cond b (Some x) (device_born born ds) ≡ Some d → P d) (x.born == born)
-    (λ e at. let is : x ≡ d = cc in subst P is all.0)
-    (λ e at. device_passes P born ds d all.1 at)
-    at
-
-born_in : (born : ℕ) (ds : List Device) (d : Device) → device_born born ds ≡ Some d → is_in_world ds born ≡ true
-born_in born [] d at = absurd (cc)
-born_in born (x ∷ ds) d at =
-    by_bool (λ b. cond b (Some x) (device_born born ds) ≡ Some d → (b || is_in_world ds born) ≡ true) (x.born == born) (λ e at. refl) (λ e at. born_in born ds d at) at
-
 born_below : (next born : ℕ) (ds : List Device) (d : Device) → AllByRecursion (λ b. b < next) (births_of ds) → device_born born ds ≡ Some d → d.born < next
 born_below next born [] d all at = absurd (cc)
 born_below next born (x ∷ ds) d all at =
@@ -227,30 +202,20 @@ born_below next born (x ∷ ds) d all at =
     (λ e at. born_below next born ds d all.1 at)
     at
 
-identities_more : (nodes : List Node) (n : Node) → identities (nodes ++ n ∷ []) ≡ identities nodes ++ identity n ∷ []
-identities_more [] n = refl
-identities_more (x ∷ nodes) n = ap (λ rest. identity x ∷ rest) (identities_more nodes n)
-
 -- the first device has joined
-pub kept_joined : (w : World) (t : Tree) (over from serial parent born : ℕ) → IsWorld w → IsKept w t over from → (j : Joining w t over born)
-    → IsKept w (with_node (new_node serial parent j.device) t) over (born + 1)
-kept_joined w t over from serial parent born h kept j =
+pub kept_joined : (w : World) (t : Tree) (reserved : List Res) (arbiters : Arbiters) (over from serial parent born : ℕ) → IsWorld w → IsKept w t reserved arbiters over from → (j : Joining w t over born)
+    → IsKept w (with_node (new_node serial parent j.device) t) reserved arbiters over (born + 1)
+kept_joined w t reserved arbiters over from serial parent born h kept j =
     let d = j.device in
     let n = new_node serial parent d in
-    let plain : IsPlain d = device_passes IsPlain born w.devices d kept.devices j.at in
-    let here : is_in_world w.devices d.born ≡ true = subst (λ k. is_in_world w.devices k ≡ true) (sym j.born_is) (born_in born w.devices d j.at) in
     let below : d.born < w.next = born_below w.next born w.devices d h.below j.at in
     let is : d.born ≡ born = j.born_is in
     record {
-      devices = kept.devices;
-      plugged =
-          subst (AllByRecursion (IsPlugged w.devices)) (sym (identities_more t.nodes n))
-          (all_appended (IsPlugged w.devices) (identities t.nodes) (identity n) kept.plugged (record { hw = plain.hw; compat = plain.compat; needs = plain.needs; there = here }));
-      bare = all_appended HoldsNothing t.nodes n kept.bare refl;
       listed =
           all_of (λ e. e.born < d.born → joins over t.nodes e ≡ false) (NotJoining over (born + 1) (t.nodes ++ n ∷ []))
           (λ e before less. by_test e before less (e.born == d.born) refl) w.devices (first_before (joins over t.nodes) 0 w.devices d h.ascends j.first);
       within = omega arith;
+      mirrors = mirrors_joined reserved t.nodes n arbiters refl kept.mirrors;
     }
   where
     by_test : (e : Device) → (e.born < j.device.born → joins over t.nodes e ≡ false) → e.born < born + 1 → (b : Bool) → (e.born == j.device.born) ≡ b
@@ -269,11 +234,12 @@ pub record JoinsAt (w : World) (t : Tree) (k born : ℕ) : Type 0 where
   pub there : node_at k t.nodes ≡ Some node
   pub joining : Joining w t node.born born
 
-pub joins_at : (w : World) (t : Tree) (ds : Devices) (k born : ℕ) → record { world = w; tree = t } ≡ ds → IsWorld w → Some born ≡ joins_next (node_at k ds.tree.nodes) ds → JoinsAt w t k born
-joins_at w t ds k born e h next =
+pub joins_at : (w : World) (t : Tree) (relations : List Relation) (reserved : List Res) (ds : Devices) (k born : ℕ) → record { world = w; tree = t; relations = relations; reserved = reserved } ≡ ds → IsWorld w
+    → Some born ≡ joins_next (node_at k ds.tree.nodes) ds → JoinsAt w t k born
+joins_at w t relations reserved ds k born e h next =
     by_node (node_at k t.nodes) refl (subst (λ (x : Devices). Some born ≡ joins_next (node_at k x.tree.nodes) x) (sym e) next)
   where
-    by_node : (o : Option Node) → node_at k t.nodes ≡ o → Some born ≡ joins_next o (record { world = w; tree = t }) → JoinsAt w t k born
+    by_node : (o : Option Node) → node_at k t.nodes ≡ o → Some born ≡ joins_next o (record { world = w; tree = t; relations = relations; reserved = reserved }) → JoinsAt w t k born
     by_node None at n = absurd (cc)
     by_node (Some node) at n = record { node = node; there = at; joining = joining_of w t node.born born h n }
 
@@ -282,17 +248,6 @@ joins_below w t over born h j = subst (λ k. k < w.next) j.born_is (born_below w
 
 pub part_there : (w : World) (t : Tree) (over born : ℕ) (o : Option shown.Device) (j : Joining w t over born) → o ≡ option_map part_of (device_born born w.devices) → o ≡ Some (part_of j.device)
 part_there w t over born o j e = e ∙ ap (option_map part_of) j.at
-
--- at most 64 IDs of each sort, and nothing needed
-pub few_at : (world : List Device) (k : ℕ) (nodes : List Node) → AllByRecursion (IsPlugged world) (identities nodes) → HasFewIds (node_at k nodes)
-few_at world k [] all = tt
-few_at world k (n ∷ nodes) all =
-    by_bool (λ b. HasFewIds (cond b (Some n) (node_at k nodes))) (n.serial == k) (λ e. (all.0.hw, all.0.compat)) (λ e. few_at world k nodes all.1)
-
-pub needs_at : (world : List Device) (k : ℕ) (nodes : List Node) → AllByRecursion (IsPlugged world) (identities nodes) → NeedsNothing (node_at k nodes)
-needs_at world k [] all = tt
-needs_at world k (n ∷ nodes) all =
-    by_bool (λ b. NeedsNothing (cond b (Some n) (node_at k nodes))) (n.serial == k) (λ e. all.0.needs) (λ e. needs_at world k nodes all.1)
 
 pub part_is : (w : World) (t : Tree) (over born : ℕ) (part : shown.Device) (j : Joining w t over born) → Some part ≡ option_map part_of (device_born born w.devices) → part ≡ part_of j.device
 part_is w t over born part j h = let e : Some part ≡ Some (part_of j.device) = h ∙ ap (option_map part_of) j.at in cc
@@ -314,24 +269,24 @@ module _ (w : World) (t t' : Tree) (k born serial : ℕ) (j : JoinsAt w t k born
       ∙ ap (λ i. with_node (fresh_node t.next i born device.path device.hw device.compat device.reqs) t) (sym (own_serial k j.node t.nodes j.there))
       ∙ ap (λ i. with_node (fresh_node t.next j.node.serial i device.path device.hw device.compat device.reqs) t) (sym j.joining.born_is)
 
-  pub kept_after : (last from over : ℕ) (n : Node) → IsWorld w → IsKept w t last from → Some n ≡ node_at k t.nodes → over ≡ n.born → IsKept w t' over (born + 1)
-  kept_after last from over n h kept at is_over =
+  pub kept_after : (reserved : List Res) (arbiters : Arbiters) (last from over : ℕ) (n : Node) → IsWorld w → IsKept w t reserved arbiters last from → Some n ≡ node_at k t.nodes → over ≡ n.born
+      → IsKept w t' reserved arbiters over (born + 1)
+  kept_after reserved arbiters last from over n h kept at is_over =
       let same : n ≡ j.node = let e = at ∙ j.there in cc in
       let own : over ≡ j.node.born = is_over ∙ ap (λ (x : Node). x.born) same in
-      subst (λ i. IsKept w t' i (born + 1)) (sym own)
-      (subst (λ (x : Tree). IsKept w x j.node.born (born + 1)) (sym tree_is)
-      (kept_joined w t j.node.born (cond (j.node.born == last) from 0) t.next j.node.serial born h (kept_at w t last from j.node.born kept) j.joining))
+      subst (λ i. IsKept w t' reserved arbiters i (born + 1)) (sym own)
+      (subst (λ (x : Tree). IsKept w x reserved arbiters j.node.born (born + 1)) (sym tree_is)
+      (kept_joined w t reserved arbiters j.node.born (cond (j.node.born == last) from 0) t.next j.node.serial born h (kept_at w t reserved arbiters last from j.node.born kept) j.joining))
 
-  a_devices : Tree → Devices
-  a_devices x = record { world = w; tree = x }
+  module _ (relations : List Relation) (reserved : List Res) where
+    abbrev a_devices : Tree → Devices
+    a_devices x = record { world = w; tree = x; relations = relations; reserved = reserved }
 
-  pub joined_is : (ds ds' : Devices) (path : Text) → record { world = w; tree = t } ≡ ds → ds' ≡ record { world = w; tree = t' } → path ≡ d.path
-      → JoinedFor (node_at k ds.tree.nodes) (Some (serial, path)) ds ds'
-  unfolding a_devices
-  joined_is ds ds' path e e' path_is =
-      subst (λ (x : Devices). JoinedFor (node_at k x.tree.nodes) (Some (serial, path)) x ds') e
-      (subst (λ o. JoinedFor o (Some (serial, path)) (record { world = w; tree = t }) ds') (sym j.there)
-      (device, j.joining.first, next, path_is ∙ ap (λ (x : shown.Device). x.path) part, e' ∙ ap a_devices tree_is))
+    pub joined_is : (ds ds' : Devices) (path : Text) → a_devices t ≡ ds → ds' ≡ a_devices t' → path ≡ d.path → JoinedFor (node_at k ds.tree.nodes) (Some (serial, path)) ds ds'
+    joined_is ds ds' path e e' path_is =
+        subst (λ (x : Devices). JoinedFor (node_at k x.tree.nodes) (Some (serial, path)) x ds') e
+        (subst (λ o. JoinedFor o (Some (serial, path)) (a_devices t) ds') (sym j.there)
+        (device, j.joining.first, next, path_is ∙ ap (λ (x : shown.Device). x.path) part, e' ∙ ap a_devices tree_is))
 
 pub memory_alone : (e : JoinError) → (e ≡ errors.NoParent → ⊥) → (e ≡ errors.SamePath → ⊥) → e ≡ errors.WantOfMemory
 memory_alone errors.NoParent a b = absurd (a refl)

@@ -1,7 +1,6 @@
 -- What a manager keeps, and what holds of each of its steps and events: the laws of runs.
 use Rattle.std.proofs.Common.{◌≡◌, Result, Ok, Err, IfOk, OnErr, ℕ, ◌+◌, ◌<◌, ◌≤◌, ◌^◌, List, [], ◌∷◌, ◌++◌, refl, sym, ◌∙◌, ap, subst, arith}
 use Rattle.std.specs.declared.alloc.AllocError.{AllocError}
-use Rattle.inf_reader.specs.declared.parts.Inf.{Inf}
 use Rattle.pnp_labels.specs.declared.event.Event.{Event}
 use Rattle.pnp_labels.specs.declared.label.Label.{Label}
 use Rattle.pnp_model.specs.Events.{happens}
@@ -21,11 +20,13 @@ use Rattle.pnp_laws.proofs.RunsSerials.{few_serials, few_births}
 use Rattle.pnp_laws.proofs.RunsShare.{nothing_clashes}
 use Rattle.pnp_laws.proofs.RunsStand.{dependents_go_first, every_run_follows}
 use Rattle.pnp_laws.proofs.RunsWhole.{all_hold_whole}
-use Rattle.start_sequence.specs.Begins.{settings_of}
 use Rattle.pnp_machine.specs.Machines.{IsDone, Moves}
-use Rattle.pnp_machine.specs.Managers.{IsRunOf, KeepsLaws, LawsOf}
+use Rattle.pnp_machine.specs.Ids.{AreFewIds}
+use Rattle.pnp_machine.specs.Machines.{HasFewIds}
+use Rattle.pnp_machine.specs.Managers.{IsRunOf, IsOfRun, KeepsLaws, LawsOf}
 use Rattle.pnp_machine.specs.declared.manager.Moved.{Moved}
 use Rattle.pnp_machine.specs.declared.manager.Moved.TheVariants.{Label as Printed, Quiet}
+use Rattle.pnp_machine.proofs.Ids.{few_goes}
 
 events_more : (xs : List Entry) (event : Event) (label : Label) → events (xs ++ Happens event label ∷ []) ≡ events xs + 1
 events_more [] event label = refl
@@ -56,7 +57,7 @@ module _ (told : Settings) (s t : State) where
         conflicts = λ rack entries path reaches is. each_conflict_is_real told rack entries s entry t path reaches goes is;
       }
 
-  event_goes : (event : Event) (label : Label) → IsQuiet told s → IsDone (happens s event) label t → Goes told s (Happens event label) t
+  pub event_goes : (event : Event) (label : Label) → IsQuiet told s → IsDone (happens s event) label t → Goes told s (Happens event label) t
   event_goes event label quiet (l, e) = (quiet, same)
     where
       same : happens s event ≡ record { label = label; state = t }
@@ -91,8 +92,11 @@ module _ (told : Settings) (s t : State) where
   laws_stepped n (Printed label) h steps = laws_of n h (Did label) steps
   laws_stepped n Quiet h steps = tt
 
-pub run_good : (told : Settings) (n : ℕ) (s : State) → IsRunOf told n s → IsGood s
-run_good told n s h = reached_is_good told h.rack s (h.entries, h.reaches)
+pub of_run : (told : Settings) (n : ℕ) (s : State) → IsRunOf told n s → IsOfRun s
+of_run told n s h = record { told = told; rack = h.rack; entries = h.entries; reaches = h.reaches }
+
+pub of_run_good : (s : State) → IsOfRun s → IsGood s
+of_run_good s run = reached_is_good run.told run.rack s (run.entries, run.reaches)
 
 pub run_serials : (told : Settings) (n : ℕ) (s : State) → IsRunOf told n s → n ≤ 2 ^ 24 → s.next_serial < 2 ^ 63
 run_serials told n s h few =
@@ -116,8 +120,15 @@ module _ (told : Settings) (n : ℕ) (s t : State) (h : IsRunOf told n s) where
   laws_after (Ok moved) moves = laws_stepped told s t n moved h moves
   laws_after (Err refused) moves = tt
 
--- the budget of the run is one of all budgets
-pub moves_at : (infs : List Inf) (budget : ℕ) (s t : State) (r : Result Moved AllocError) → IfOk r (λ moved. (any : ℕ) → Moves (settings_of infs any) s moved t)
-    → IfOk r (λ moved. Moves (settings_of infs budget) s moved t)
-moves_at infs budget s t (Ok moved) moves = moves budget
-moves_at infs budget s t (Err refused) moves = tt
+-- IDs stay few
+module _ (told : Settings) (s t : State) (few : AreFewIds s) where
+  pub few_applied : (event : Event) (label : Label) → HasFewIds event → IsQuiet told s → IsDone (happens s event) label t → AreFewIds t
+  few_applied event label own quiet is = few_goes told s (Happens event label) t (event_goes told s t event label quiet is) own few
+
+  few_stepped : (moved : Moved) → Moves told s moved t → AreFewIds t
+  few_stepped (Printed label) steps = few_goes told s (Did label) t steps tt few
+  few_stepped Quiet (quiet, same) = subst (λ (x : State). AreFewIds x) (sym same) few
+
+  pub few_after : (r : Result Moved AllocError) → IfOk r (λ moved. Moves told s moved t) → OnErr r (t ≡ s) → AreFewIds t
+  few_after (Ok moved) moves same = few_stepped moved moves
+  few_after (Err refused) moves same = subst (λ (x : State). AreFewIds x) (sym same) few

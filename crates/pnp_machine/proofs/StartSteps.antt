@@ -5,15 +5,17 @@ use Rattle.pnp_labels.specs.declared.states.DevState.{DevState}
 use Rattle.pnp_labels.specs.declared.states.DevState.TheVariants.{NoStack, NotStarted, Started, StopPending, Stopped, RemovePending, SurpriseRemoved}
 use Rattle.inf_reader.specs.declared.parts.Inf.{Inf}
 use Rattle.pnp_model.specs.Cores.{node_at}
-use Rattle.pnp_model.specs.Records.{Node, Driver, Activity, Settings, State, Step, Task}
+use Rattle.pnp_model.specs.Records.{Node, Driver, Activity, Operation, Settings, State, Step, Task}
 use Rattle.pnp_model.specs.Records.Duty.{Starting}
 use Rattle.pnp_model.specs.States.{activity_at, entered}
 use Rattle.pnp_model.specs.Tasks.{skip, start_step, start_bare, start_idle, start_enabled}
-use Rattle.pnp_model.specs.Tests.{is_no_stack}
+use Rattle.pnp_model.specs.Tests.{is_no_stack, has_same}
+use Rattle.pnp_labels.specs.Texts.{Text}
 use Rattle.pnp_laws.proofs.Lookups.{own_serial}
 use Rattle.start_sequence.specs.Begins.{settings_of, BegunFor, begun}
 use Rattle.pnp_machine.specs.Devices.{Devices}
-use Rattle.pnp_machine.specs.Machines.{state_of, IsDone, is_idle, can_start}
+use Rattle.pnp_machine.specs.Machines.{state_of, IsDone, is_idle, can_start, is_disabled, is_disabled_node}
+use Rattle.pnp_machine.proofs.ActSteps.{with_nodes}
 
 pub start_skipped : (settings : Settings) (s : State) (k : ℕ) (label : Label) (t : State) → can_start k s ≡ false → IsDone (skip Starting k s) label t
     → IsDone (start_step settings s k (node_at k s.core.nodes)) label t
@@ -88,27 +90,32 @@ abbrev pub works_begun : Option Activity → List Activity → List Activity
 works_begun None works = works
 works_begun (Some a) works = entered a works
 
-module _ (ds ds' : Devices) (rack : List Driver) (works works' : List Activity) (tasks tasks' : List Task)
-    (world : ds'.world ≡ ds.world) (next : ds'.tree.next ≡ ds.tree.next) where
+module _ (ds ds' : Devices) (rack : List Driver) (paths : List Text) (works works' : List Activity) (operation : Option Operation) (tasks tasks' : List Task)
+    (stays : ds' ≡ with_nodes ds ds'.tree.nodes) where
   abbrev s : State
-  s = state_of ds rack works tasks
+  s = state_of ds rack paths works operation tasks
 
-  after_is : (work : Option Activity) → works' ≡ works_begun work works → tasks' ≡ drop 1 tasks → state_of ds' rack works' tasks' ≡ begun s work ds'.tree.nodes
-  after_is None works_is tasks_is = rw (world, next, works_is, tasks_is) refl
-  after_is (Some a) works_is tasks_is = rw (world, next, works_is, tasks_is) refl
+  after_is : (work : Option Activity) → works' ≡ works_begun work works → tasks' ≡ drop 1 tasks → state_of ds' rack paths works' operation tasks' ≡ begun s work ds'.tree.nodes
+  after_is None works_is tasks_is =
+      ap (λ d. state_of d rack paths works' operation tasks') stays ∙ ap (λ w. state_of (with_nodes ds ds'.tree.nodes) rack paths w operation tasks') works_is
+      ∙ ap (state_of (with_nodes ds ds'.tree.nodes) rack paths works operation) tasks_is
+  after_is (Some a) works_is tasks_is =
+      ap (λ d. state_of d rack paths works' operation tasks') stays ∙ ap (λ w. state_of (with_nodes ds ds'.tree.nodes) rack paths w operation tasks') works_is
+      ∙ ap (state_of (with_nodes ds ds'.tree.nodes) rack paths (entered a works) operation) tasks_is
 
-  pub started : (infs : List Inf) (k : ℕ) (label : Label) (work : Option Activity) → can_start k s ≡ true
-      → ((budget : ℕ) (t : State) → t.core.rack ≡ rack → t.core.nodes ≡ ds.tree.nodes → BegunFor (settings_of infs budget) t (node_at k ds.tree.nodes) false label work ds'.tree.nodes)
+  pub started : (infs : List Inf) (k : ℕ) (disabled : Bool) (label : Label) (work : Option Activity) → can_start k s ≡ true → disabled ≡ is_disabled k s
+      → ((budget : ℕ) (t : State) → t.core.rack ≡ rack → t.core.nodes ≡ ds.tree.nodes → BegunFor (settings_of infs budget) t (node_at k ds.tree.nodes) disabled label work ds'.tree.nodes)
       → works' ≡ works_begun work works → tasks' ≡ drop 1 tasks
-      → (budget : ℕ) → IsDone (start_step (settings_of infs budget) s k (node_at k ds.tree.nodes)) label (state_of ds' rack works' tasks')
-  started infs k label work idle begins works_is tasks_is budget =
+      → (budget : ℕ) → IsDone (start_step (settings_of infs budget) s k (node_at k ds.tree.nodes)) label (state_of ds' rack paths works' operation tasks')
+  started infs k disabled label work idle disabled_is begins works_is tasks_is budget =
       let c = can s k idle in
       let settings = settings_of infs budget in
       let own : c.node.serial ≡ k = own_serial k c.node ds.tree.nodes c.at in
-      let by = subst (λ o. BegunFor settings s o false label work ds'.tree.nodes) c.at (begins budget s refl refl) in
-      let same : state_of ds' rack works' tasks' ≡ begun s work ds'.tree.nodes = after_is work works_is tasks_is in
+      let by = subst (λ o. BegunFor settings s o disabled label work ds'.tree.nodes) c.at (begins budget s refl refl) in
+      let same : state_of ds' rack paths works' operation tasks' ≡ begun s work ds'.tree.nodes = after_is work works_is tasks_is in
       let alone : activity_at c.node.serial works ≡ None = subst (λ i. activity_at i works ≡ None) (sym own) c.idle in
-      let step : start_step settings s k (node_at k ds.tree.nodes) ≡ start_enabled settings s c.node false =
-      ap (start_step settings s k) c.at ∙ ap (start_bare settings s c.node) c.bare ∙ ap (start_idle settings s c.node) alone in
+      let shut : has_same c.node.path paths ≡ disabled = sym (disabled_is ∙ ap (λ o. is_disabled_node o paths) c.at) in
+      let step : start_step settings s k (node_at k ds.tree.nodes) ≡ start_enabled settings s c.node disabled =
+      ap (start_step settings s k) c.at ∙ ap (start_bare settings s c.node) c.bare ∙ ap (start_idle settings s c.node) alone ∙ ap (start_enabled settings s c.node) shut in
       let is = step ∙ by in
       (sym (ap (λ (x : Step). x.label) is), same ∙ sym (ap (λ (x : Step). x.state) is))

@@ -1,53 +1,49 @@
--- The devices of the world and their nodes in the tree, and what holds of both.
-use Rattle.std.specs.Prelude.{◌≡◌, ℕ, ◌<◌, ◌≤◌, true, false, List, [], ◌∷◌, Option, Some, None, Result, Ok, Err, nat_le, option_map, length}
-use Rattle.std.specs.List.{AllByRecursion}
+-- The devices of the world and their nodes in the tree, with what they hold and how they are related.
+use Rattle.std.specs.Prelude.{◌≡◌, ℕ, ◌<◌, ◌≤◌, ◌==◌, Bool, true, false, not, ◌&&◌, List, [], ◌∷◌, Option, Some, None, Result, Ok, Err, find, nat_le, option_map, length, if◌then◌else◌}
+use Rattle.std.specs.List.{AllByRecursion, list_any}
 use Rattle.pnp_labels.specs.Texts.{Text}
-use Rattle.pnp_model.specs.Cores.{new_node}
-use Rattle.pnp_model.specs.Records.{Device, Node}
+use Rattle.pnp_model.specs.Cores.{new_node, node_at}
+use Rattle.pnp_model.specs.Records.{Device, Node, Relation, Task}
 use Rattle.pnp_model.specs.Runs.{root_device, root_node}
-use Rattle.pnp_model.specs.States.{is_in_world, device_of}
-use Rattle.pnp_model.specs.Tasks.{joins, joining}
-use Rattle.devnode_tree.specs.Identities.{Identity, identities}
+use Rattle.pnp_model.specs.States.{is_in_world, device_of, node_born}
+use Rattle.pnp_model.specs.Tasks.{joins, joining, is_surprise_of}
+use Rattle.pnp_model.specs.Trees.{children}
 use Rattle.devnode_tree.specs.Trees.{Tree, with_node}
-use Rattle.resource_reqs.specs.Resources.{Reqs}
-use Rattle.script_bus.specs.Worlds.{World, plugged}
+use Rattle.resource_reqs.specs.Resources.{Res, Reqs}
+use Rattle.script_bus.specs.Worlds.{World, plugged, without_device}
 use Rattle.script_bus.specs.declared.error.PlugError.{PlugError}
 use Rattle.script_bus.specs.declared.error.PlugError.TheVariants.{NoParent, SameId, WorldFull, WantOfMemory}
-use Rattle.start_sequence.specs.Steps.{HoldsNothing}
+use Rattle.script_bus.specs.declared.error.PullError.{PullError}
+use Rattle.script_bus.specs.declared.error.PullError.TheVariants as pulls
+use Rattle.trial_journal.specs.Four.{Arbiters}
+use Rattle.device_holdings.specs.Mirrors.{Mirrors}
 
 pub record Devices : Type 0 where
   pub world : World
   pub tree : Tree
+  pub relations : List Relation
+  pub reserved : List Res
 
--- the root alone, in both
+-- the root alone, in world and tree
 abbrev pub opening_devices : Devices
 opening_devices =
-    record { world = record { devices = root_device ∷ []; next = 1 }; tree = record { nodes = root_node ∷ []; next = 1 } }
-
--- a device with at most 64 IDs of each sort, that needs nothing
-pub record IsPlain (d : Device) : Type 0 where
-  pub hw : length d.hw ≤ 64
-  pub compat : length d.compat ≤ 64
-  pub needs : d.reqs ≡ []
-
--- the same of a node, whose device is in the world
-pub record IsPlugged (world : List Device) (i : Identity) : Type 0 where
-  pub hw : length i.hw ≤ 64
-  pub compat : length i.compat ≤ 64
-  pub needs : i.reqs ≡ []
-  pub there : is_in_world world i.born ≡ true
+    record {
+      world = record { devices = root_device ∷ []; next = 1 };
+      tree = record { nodes = root_node ∷ []; next = 1 };
+      relations = [];
+      reserved = [];
+    }
 
 -- a device that was born before another is not to join below this one
 abbrev pub NotJoining : ℕ → ℕ → List Node → Device → Type 0
 NotJoining over from nodes d = d.born < from → joins over nodes d ≡ false
 
--- until departures, requirements and searches are built: all devices stay, need nothing and hold nothing
-pub record IsKept (world : World) (tree : Tree) (over from : ℕ) : Type 0 where
-  pub devices : AllByRecursion IsPlain world.devices
-  pub plugged : AllByRecursion (IsPlugged world.devices) (identities tree.nodes)
-  pub bare : AllByRecursion HoldsNothing tree.nodes
+-- below the device where one joined last none joins that was born before the one from which on it is looked, and the
+-- arbiters hold just what is reserved and what devices hold
+pub record IsKept (world : World) (tree : Tree) (reserved : List Res) (arbiters : Arbiters) (over from : ℕ) : Type 0 where
   pub listed : AllByRecursion (NotJoining over from tree.nodes) world.devices
   pub within : from ≤ world.next
+  pub mirrors : Mirrors reserved tree.nodes arbiters
 
 -- the birth number of the first device that is to join below a node
 abbrev pub joins_next : Option Node → Devices → Option ℕ
@@ -78,6 +74,38 @@ Arrives w parent path hw compat reqs (Err WorldFull) w' =
     × (w' ≡ w)
 Arrives w parent path hw compat reqs (Err WantOfMemory) w' = w' ≡ w
 
--- each node's device is in the world
-abbrev pub AllStay : Devices → Type 0
-AllStay ds = AllByRecursion (λ n. is_in_world ds.world.devices n.born ≡ true) ds.tree.nodes
+-- the node of a birth number, by its serial
+abbrev pub serial_born : ℕ → List Node → Option ℕ
+serial_born born nodes = option_map (λ n. n.serial) (node_born born nodes)
+
+-- the device of a path went, with all below it, and its parent's node is told; or why it did not, and nothing changed
+abbrev pub Departs : Devices → Text → Result (Option ℕ) PullError → Devices → Type 0
+Departs ds path (Ok over) ds' =
+    (d : Device) × (device_of path ds.world.devices ≡ Some d) × ((d.born == 0) ≡ false) × (over ≡ serial_born d.parent ds.tree.nodes)
+    × (ds' ≡ record ds { world = without_device d.born ds.world })
+Departs ds path (Err pulls.NoDevice) ds' = (device_of path ds.world.devices ≡ None) × (ds' ≡ ds)
+Departs ds path (Err pulls.RootStays) ds' = (d : Device) × (device_of path ds.world.devices ≡ Some d) × ((d.born == 0) ≡ true) × (ds' ≡ ds)
+
+-- where the world has another device of a path than the one born so, its parent's node
+abbrev pub relisted_device : ℕ → Option Device → List Node → Option ℕ
+relisted_device born None nodes = None
+relisted_device born (Some d) nodes = if d.born == born then None else serial_born d.parent nodes
+
+abbrev pub relisted : Text → ℕ → Devices → Option ℕ
+relisted path born ds = relisted_device born (device_of path ds.world.devices) ds.tree.nodes
+
+-- a child whose birth number is not in the world, without a surprise task
+abbrev pub is_gone_from : List Device → List Task → Node → Bool
+is_gone_from world tasks n = not (is_in_world world n.born) && not (list_any (is_surprise_of n.serial) tasks)
+
+-- the first of them below a node
+abbrev pub gone_below : Devices → List Task → ℕ → Option Node
+gone_below ds tasks k = find (is_gone_from ds.world.devices tasks) (children k ds.tree.nodes)
+
+-- the same of the node of a serial
+abbrev pub is_gone_node : List Device → List Task → Option Node → Bool
+is_gone_node world tasks None = false
+is_gone_node world tasks (Some n) = is_gone_from world tasks n
+
+abbrev pub is_gone_at : Devices → List Task → ℕ → Bool
+is_gone_at ds tasks k = is_gone_node ds.world.devices tasks (node_at k ds.tree.nodes)

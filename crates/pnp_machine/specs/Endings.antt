@@ -1,11 +1,10 @@
 -- The lines of the end of the output.
-use Rattle.std.specs.Prelude.{◌≡◌, List, [], ◌∷◌, ◌++◌, Some, map, length, slice_index}
+use Rattle.std.specs.Prelude.{◌≡◌, ℕ, List, [], ◌∷◌, ◌++◌, Option, Some, map, length, slice_index}
 use Rattle.pnp_labels.specs.Texts.{Text}
 use Rattle.pnp_model.specs.Cores.{node_at}
-use Rattle.pnp_model.specs.Records.{Node, Driver, Walk, Activity}
-use Rattle.pnp_model.specs.Endings.{joined, tree_line, outstanding_line, activity_rows, walk_row}
+use Rattle.pnp_model.specs.Records.{Node, Driver, Walk, Activity, Operation}
+use Rattle.pnp_model.specs.Endings.{joined, tree_line, outstanding_line, activity_rows, operation_rows, walk_row}
 use Rattle.pnp_model.specs.Books.{name_of}
-use Rattle.pnp_model.specs.Machine.{phase_walk}
 use Rattle.pnp_model.specs.Walks.{place_of}
 use Rattle.pnp_labels.specs.Texts.{spaced, minor_text}
 use Rattle.start_sequence.specs.Steps.{core_of}
@@ -22,9 +21,13 @@ abbrev pub waiting_line : Node → List Driver → Walk → Text
 waiting_line node rack w =
     spaced (node.path ∷ minor_text w.minor ∷ name_of rack (slice_index node.stack (place_of w.minor (length node.stack) w.asked)) ∷ [])
 
--- the line of the request of a start, where it waits
-abbrev pub work_lines : List Node → List Driver → Activity → Text
-work_lines nodes rack a = joined (map (outstanding_line (core_of nodes rack [] [])) (walk_row a.serial (phase_walk a.phase)))
+-- the line of a request at a device, where it waits
+abbrev pub request_lines : List Node → List Driver → ℕ → Option Walk → Text
+request_lines nodes rack k walk = joined (map (outstanding_line (core_of nodes rack [] [])) (walk_row k walk))
 
+-- the lines of those of starts, and of the operation that runs
 abbrev pub works_lines : List Node → List Driver → List Activity → Text
 works_lines nodes rack works = joined (map (outstanding_line (core_of nodes rack [] [])) (activity_rows works))
+
+abbrev pub operation_lines : List Node → List Driver → Option Operation → Text
+operation_lines nodes rack operation = joined (map (outstanding_line (core_of nodes rack [] [])) (operation_rows operation))

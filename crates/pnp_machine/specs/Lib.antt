@@ -1,6 +1,10 @@
-pub mod Tasks
+pub mod TaskLists
+pub mod DisabledPaths
 pub mod Devices
+pub mod Doings
+pub mod Operations
 pub mod Starts
 pub mod Machines
 pub mod Endings
+pub mod Ids
 pub mod Managers

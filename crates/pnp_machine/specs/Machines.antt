@@ -1,27 +1,47 @@
 -- The machine's state by its parts, and what a step or an event does to it.
-use Rattle.std.specs.Prelude.{◌≡◌, ℕ, ◌≤◌, Bool, true, false, ◌&&◌, is_none, List, [], Option, Some, None, length}
+use Rattle.std.specs.Prelude.{◌≡◌, ◌≢◌, ℕ, ◌≤◌, Bool, true, false, ◌&&◌, is_none, List, [], ◌∷◌, ◌++◌, Option, Some, None, length, slice_get, option_map}
+use Rattle.pnp_labels.specs.Texts.{Text}
 use Rattle.pnp_labels.specs.declared.event.Event.{Event}
 use Rattle.pnp_labels.specs.declared.label.Label.{Label}
-use Rattle.pnp_model.specs.Machine.{Steps, IsQuiet, IsStep}
+use Rattle.pnp_labels.specs.declared.label.RemoveStep.{RemoveStep}
+use Rattle.pnp_labels.specs.declared.label.RemoveStep.TheVariants as removes
+use Rattle.pnp_model.specs.Machine.{Steps, IsQuiet, IsStep, operation_walk, is_waiting}
 use Rattle.pnp_model.specs.Cores.{node_at}
-use Rattle.pnp_model.specs.States.{activity_at}
-use Rattle.pnp_model.specs.Tests.{is_no_stack}
-use Rattle.pnp_model.specs.Records.{Node, Driver, Activity, Doing, Settings, State, Step, Task}
+use Rattle.pnp_model.specs.Events.{completed, answer_of, complete_node, complete_what}
+use Rattle.pnp_model.specs.Tasks.{gone_child}
+use Rattle.pnp_labels.specs.declared.words.Minor.{Minor}
+use Rattle.pnp_labels.specs.declared.label.EventWord.{EventWord}
+use Rattle.pnp_labels.specs.declared.label.OpKind.{OpKind}
+use Rattle.pnp_labels.specs.declared.label.Reason.{Reason}
+use Rattle.pnp_model.specs.States.{activity_at, append_task, set_operation, drop_task, relist, unplug, disable_path}
+use Rattle.pnp_model.specs.Tests.{is_no_stack, is_not_started, has_same}
+use Rattle.pnp_model.specs.Frames.{first_node}
+use Rattle.pnp_model.specs.Records.{Node, Driver, Activity, Doing, Settings, State, Step, Task, Operation, Removal}
+use Rattle.pnp_model.specs.Records as machines
 use Rattle.pnp_machine.specs.Devices.{Devices}
+use Rattle.pnp_machine.specs.Doings.{core_with}
+use Rattle.pnp_machine.specs.Operations.{operation_of}
+use Rattle.pnp_machine.specs.declared.operation.Operation as declared
+use Rattle.query_remove.specs.Frames.{is_settling}
+use Rattle.pnp_machine.specs.Starts.{first_ready}
+use Rattle.pnp_machine.specs.TaskLists.{duty_of}
 use Rattle.pnp_machine.specs.declared.manager.Moved.{Moved}
 use Rattle.pnp_machine.specs.declared.manager.Moved.TheVariants.{Label as Printed, Quiet}
+use Rattle.pnp_machine.specs.declared.tasks.Duty.{Duty}
+use Rattle.pnp_machine.specs.declared.tasks.Duty.TheVariants as duties
+use Rattle.pnp_machine.specs.declared.turn.Turn.{Turn}
+use Rattle.pnp_machine.specs.declared.turn.Turn.TheVariants as turns
 
--- until the operations are built none runs, and nothing is related, reserved or disabled
-abbrev pub state_of : Devices → List Driver → List Activity → List Task → State
-state_of devices rack works tasks =
+abbrev pub state_of : Devices → List Driver → List Text → List Activity → Option Operation → List Task → State
+state_of devices rack disabled works operation tasks =
     record {
       world = devices.world.devices;
       next_born = devices.world.next;
-      core = record { nodes = devices.tree.nodes; relations = []; rack = rack; reserved = [] };
+      core = core_with devices rack;
       next_serial = devices.tree.next;
-      disabled = [];
+      disabled = disabled;
       activities = works;
-      operation = None;
+      operation = operation;
       tasks = tasks;
     }
 
@@ -38,27 +58,132 @@ abbrev pub Moves : Settings → State → Moved → State → Type 0
 Moves settings old (Printed label) new = Steps settings old label new
 Moves settings old Quiet new = IsQuiet settings old × (new ≡ old)
 
-abbrev pub is_empty : {A : Type 0} → List A → Bool
-is_empty [] = true
-is_empty _ = false
-
--- the events whose parts of the machine are built
-abbrev pub is_built : Event → Bool
-is_built (Event.Plug parent path hw compat reqs) = is_empty reqs
-is_built (Event.Name name kind) = true
-is_built (Event.Teach name rule) = true
-is_built (Event.Complete path minor ok) = true
-is_built _ = false
-
 -- at most 64 IDs of each sort
 abbrev pub HasFewIds : Event → Type 0
 HasFewIds (Event.Plug parent path hw compat reqs) = (length hw ≤ 64) × (length compat ≤ 64)
 HasFewIds _ = Unit {0}
+
+-- Which step is next ------------------------------------------------------------
+
+-- a task that begins an operation waits until no device is being started
+abbrev pub MayDo : Duty → List Activity → Type 0
+MayDo (duties.Begin kind) works = works ≡ []
+MayDo _ works = Unit {0}
+
+abbrev pub IsTurn : Turn → State → Type 0
+IsTurn turns.Quiet s = (settings : Settings) → IsQuiet settings s
+IsTurn turns.Operate s = (o : Operation) × (s.operation ≡ Some o) × (is_waiting (operation_walk o) ≡ false)
+IsTurn (turns.Act k) s = (s.operation ≡ None) × (first_ready s.activities ≡ Some k)
+IsTurn (turns.Do duty k) s =
+    (s.operation ≡ None) × (first_ready s.activities ≡ None) × (slice_get s.tasks 0 ≡ Some (record { kind = duty_of duty; serial = k }))
+    × MayDo duty s.activities
+
+-- Starts ------------------------------------------------------------------------
 
 -- the device is there, without drivers and without a start
 abbrev pub is_idle : Option Node → Option Activity → Bool
 is_idle None work = false
 is_idle (Some node) work = is_no_stack node.state && is_none work
 
+-- the device is there and its path is disabled
+abbrev pub is_disabled_node : Option Node → List Text → Bool
+is_disabled_node None paths = false
+is_disabled_node (Some n) paths = has_same n.path paths
+
+abbrev pub is_disabled : ℕ → State → Bool
+is_disabled k s = is_disabled_node (node_at k s.core.nodes) s.disabled
+
 abbrev pub can_start : ℕ → State → Bool
 can_start k s = is_idle (node_at k s.core.nodes) (activity_at k s.activities)
+
+-- Operations --------------------------------------------------------------------
+
+-- the path of a device that is settled joins the disabled list
+abbrev pub disable_settled : Option Text → State → State
+disable_settled None s = s
+disable_settled (Some path) s = disable_path path s
+
+-- what the machine does beside a step of an operation that removes devices
+abbrev pub beside : RemoveStep → Option Text → State → State
+beside (removes.Did label) settled s = s
+beside (removes.Left label path born) settled s = relist path born s
+beside (removes.Disabled label) settled s = disable_settled settled s
+beside (removes.Ejected label path born) settled s = relist path born (unplug born s)
+beside (removes.Over label) settled s = set_operation None s
+
+abbrev pub label_of : RemoveStep → Label
+label_of (removes.Did label) = label
+label_of (removes.Left label path born) = label
+label_of (removes.Disabled label) = label
+label_of (removes.Ejected label path born) = label
+label_of (removes.Over label) = label
+
+-- who is ejected is not the root of the world
+abbrev pub IsNoRoot : RemoveStep → Type 0
+IsNoRoot (removes.Ejected label path born) = born ≢ 0
+IsNoRoot _ = Unit {0}
+
+-- a path that is disabled was not
+abbrev pub IsNewPath : Option Text → List Text → Type 0
+IsNewPath None paths = Unit {0}
+IsNewPath (Some path) paths = has_same path paths ≡ false
+
+abbrev pub IsNew : RemoveStep → Option Text → List Text → Type 0
+IsNew (removes.Disabled label) settled paths = IsNewPath settled paths
+IsNew _ settled paths = Unit {0}
+
+-- the path of the device that a removal settles next
+abbrev pub path_if : Bool → Option Node → Option Text
+path_if false first = None
+path_if true first = option_map (λ n. n.path) first
+
+abbrev pub settled_path : Removal → List Node → Option Text
+settled_path o nodes = path_if (is_settling o.stage) (first_node nodes o.todo)
+
+-- the same of the operation that runs; none where it is no removal
+abbrev pub settled_in : Option Operation → List Node → Option Text
+settled_in None nodes = None
+settled_in (Some (machines.Operation.Removing o)) nodes = settled_path o nodes
+settled_in (Some _) nodes = None
+
+-- the tasks with one more that lists a node, if there is one
+abbrev pub tasks_over : Option ℕ → List Task → List Task
+tasks_over None tasks = tasks
+tasks_over (Some k) tasks = tasks ++ record { kind = machines.Duty.Listing; serial = k } ∷ []
+
+-- an operation begins in place of the first task
+abbrev pub begun_with : declared.Operation → State → State
+begun_with operation s = set_operation (Some (operation_of operation)) (drop_task s)
+
+abbrev pub can_rebalance : Option Node → Bool
+can_rebalance None = false
+can_rebalance (Some n) = is_not_started n.state
+
+-- what is done is that of the node
+abbrev pub DoneFor : Option Node → (Node → Step) → Label → State → Type 0
+DoneFor None step label new = ⊥
+DoneFor (Some n) step label new = IsDone (step n) label new
+
+-- where its request waited for the answer it got it, else nothing changed
+abbrev pub CompletesOperation : Bool → Operation → Bool → Bool → Operation → Type 0
+CompletesOperation true old ok done new = (done ≡ true) × (new ≡ completed (answer_of ok) old)
+CompletesOperation false old ok done new = (done ≡ false) × (new ≡ old)
+
+-- the line of an answer to a request, and of one that nobody waited for
+abbrev pub answer_label : Node → Minor → Bool → Bool → Label
+answer_label node minor ok true = Label.Did EventWord.Complete (complete_what node minor ok)
+answer_label node minor ok false = Label.Refused EventWord.Complete Reason.NoSuchRequest
+
+-- whether a request of the minor waited at the device is told, and if it did it got its answer
+abbrev pub IsAnswered : State → ℕ → Minor → Bool → Bool → State → Type 0
+IsAnswered old k minor ok done new =
+    (node : Node) → node.serial ≡ k → IsDone (complete_node old node minor ok old.operation) (answer_label node minor ok done) new
+
+-- what a listing does where no device joins
+abbrev pub gone_or_listed_path : State → Text → Option Node → Step
+gone_or_listed_path s path None = record { label = Label.Listed path; state = drop_task s }
+gone_or_listed_path s path (Some child) =
+    record { label = Label.Gone child.path; state = append_task (machines.Duty.Begins OpKind.Surprise) child.serial s }
+
+abbrev pub gone_or_listed_at : State → ℕ → Text → Step
+gone_or_listed_at s k path = gone_or_listed_path s path (gone_child s k)

@@ -13,6 +13,7 @@ use Rattle.pnp_laws.specs.Begun.{Belongs, Restoring, Conflicts}
 use Rattle.pnp_laws.specs.Ends as ends
 use Rattle.start_sequence.specs.Begins.{settings_of}
 use Rattle.pnp_model.specs.Machine.{IsQuiet}
+use Rattle.pnp_machine.specs.Ids.{AreFewIds}
 use Rattle.pnp_machine.specs.declared.manager.Moved.{Moved}
 use Rattle.pnp_machine.specs.declared.manager.Moved.TheVariants.{Label as Printed, Quiet}
 
@@ -34,9 +35,18 @@ pub record IsRunOf (told : Settings) (events : ℕ) (s : State) : Type 0 where
   pub reaches : Reaches told rack entries s
   pub count : ends.events entries ≡ events
 
+-- some run leads to this state
+pub record IsOfRun (s : State) : Type 0 where
+  pub told : Settings
+  pub rack : List Driver
+  pub entries : List Entry
+  pub reaches : Reaches told rack entries s
+
 -- what a manager keeps
 pub record IsManager (infs : List Inf) (budget events : ℕ) (s : State) : Type 0 where
   pub few : length infs ≤ 64
+  pub spends : budget ≤ 1000000
+  pub ids : AreFewIds s
   pub run : IsRunOf (settings_of infs budget) events s
 
 -- what holds of each step and each event: states change by rows of the diagram, nothing clashes, devices that are up hold

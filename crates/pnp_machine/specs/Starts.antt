@@ -3,14 +3,15 @@ use Rattle.std.specs.Prelude.{◌≡◌, ℕ, ◌+◌, ◌≤◌, Bool, true, fa
 use Rattle.std.specs.declared.alloc.Global.{Global}
 use Rattle.pnp_labels.specs.declared.words.Minor.{Minor}
 use Rattle.pnp_model.specs.Keyed.{changed_first, without_first, those}
-use Rattle.pnp_model.specs.Records.{Node, Activity, Driver, Phase}
+use Rattle.pnp_model.specs.Records.{Activity, Driver, Phase}
 use Rattle.pnp_model.specs.States.{is_activity, with_phase}
 use Rattle.pnp_model.specs.Machine.{is_ready, phase_walk}
 use Rattle.pnp_model.specs.Events.{waits_for, completed_phase, answer_of}
 use Rattle.pnp_laws.specs.Kept.{InOrder}
-use Rattle.start_sequence.specs.Steps.{Acts}
+use Rattle.pnp_machine.specs.Devices.{Devices}
+use Rattle.pnp_machine.specs.Doings.{Acts}
 use Rattle.start_sequence.specs.declared.next.StartStep.{StartStep}
-use Rattle.start_sequence.specs.declared.next.StartStep.TheVariants.{Did, Up, Over}
+use Rattle.start_sequence.specs.declared.next.StartStep.TheVariants.{Did, Needs, Up, Over}
 
 -- and for how many more there is room
 pub record Starts : Type 0 where
@@ -38,6 +39,7 @@ pub record IsIndexed (works : Vec Activity Global) (ready : Vec ℕ Global) (roo
 -- whether a start is over with a step
 abbrev pub is_over : StartStep → Bool
 is_over (Did label) = false
+is_over (Needs label) = true
 is_over (Up label) = true
 is_over (Over label) = true
 
@@ -49,17 +51,18 @@ leaves false a = not (is_ready a)
 -- the starts after a step of one: it goes on in a phase, or is over
 abbrev pub works_after : StartStep → ℕ → Phase → List Activity → List Activity
 works_after (Did label) k phase works = changed_first (is_activity k) (with_phase phase) works
+works_after (Needs label) k phase works = without_first (is_activity k) works
 works_after (Up label) k phase works = without_first (is_activity k) works
 works_after (Over label) k phase works = without_first (is_activity k) works
 
--- the next step of a start was done
-abbrev pub ActsBy : Activity → List Activity → List Node → List Driver → StartStep → List Activity → List Node → List Driver → Type 0
-ActsBy a works nodes rack step works' nodes' rack' =
-    (phase : Phase) × Acts a.serial nodes rack a.phase step nodes' rack' phase × (works' ≡ works_after step a.serial phase works)
+-- the next step of a start was done, for this budget
+abbrev pub ActsBy : ℕ → Activity → List Activity → Devices → List Driver → StartStep → List Activity → Devices → List Driver → Type 0
+ActsBy budget a works ds rack step works' ds' rack' =
+    (phase : Phase) × Acts budget ds a.serial rack a.phase step ds' rack' phase × (works' ≡ works_after step a.serial phase works)
 
-abbrev pub ActsFor : Option Activity → List Activity → List Node → List Driver → StartStep → List Activity → List Node → List Driver → Type 0
-ActsFor None works nodes rack step works' nodes' rack' = ⊥
-ActsFor (Some a) works nodes rack step works' nodes' rack' = ActsBy a works nodes rack step works' nodes' rack'
+abbrev pub ActsFor : ℕ → Option Activity → List Activity → Devices → List Driver → StartStep → List Activity → Devices → List Driver → Type 0
+ActsFor budget None works ds rack step works' ds' rack' = ⊥
+ActsFor budget (Some a) works ds rack step works' ds' rack' = ActsBy budget a works ds rack step works' ds' rack'
 
 -- where a request of the minor waits it got its answer, else nothing changed
 abbrev pub CompletesIf : Bool → Activity → Bool → Bool → List Activity → List Activity → Type 0

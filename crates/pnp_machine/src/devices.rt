@@ -1,38 +1,38 @@
-ghost use Rattle.std.specs.Prelude.{◌≡◌, ◌==◌, if◌then◌else◌, ◌<◌, ◌≤◌, ◌^◌, ℕ, [], IfOk, IfSome, OnErr, IsSome, false, length, option_map};
-ghost use Rattle.pnp_labels.specs.Texts.{Text as Letters};
-ghost use Rattle.devnode_tree.specs.declared.error.JoinError.TheVariants as JoinError;
+ghost use Rattle.std.specs.Prelude.{◌≡◌, ◌++◌, [], ◌∷◌, IfOk, OnOk, OnErr, IsSome, map};
+ghost use Rattle.std.specs.List.{list_any};
+ghost use Rattle.resource_reqs.specs.Resources.{clashes};
 ghost use Rattle.pnp_model.specs.Cores.{node_at};
-ghost use Rattle.pnp_model.specs.Records.{State};
-ghost use Rattle.pnp_model.specs.States.{device_born, device_of, node_born};
-ghost use Rattle.pnp_model.specs.Tasks.{joining};
-ghost use Rattle.script_bus.specs.Worlds.{part_of};
-ghost use Rattle.start_sequence.specs.Begins.{settings_of, BegunFor};
-ghost use Rattle.std.specs.List.{AllByRecursion};
-ghost use Rattle.start_sequence.specs.Steps.{Acts, HoldsNothing};
-ghost use Rattle.pnp_model.specs.Machine.{phase_walk, is_waiting};
-ghost use Rattle.pnp_machine.specs.Devices.{opening_devices, AllStay, Arrives, JoinedFor, joins_next};
+ghost use Rattle.pnp_model.specs.Endings as Endings;
+ghost use Rattle.pnp_model.specs.Frames.{held_by};
+ghost use Rattle.pnp_model.specs.Records.{Core};
+ghost use Rattle.relations.specs.Relating.{RelatesFor};
+ghost use Rattle.device_holdings.specs.MapRows.{row_of, IsOrderly};
+ghost use Rattle.pnp_machine.specs.Devices.{opening_devices};
 
-use device_ids::{IdList, InstancePath, Text, WantOfMemory};
-use devnode_tree::{JoinError, Tree};
-use driver_rack::Drivers;
-use inf_reader::Inf;
-use pnp_labels::Label;
-use resource_reqs::Reqs;
-use script_bus::{Device, PlugError, World, next_join};
-use start_sequence::{StartStep, StartWork};
-use std::alloc::{AllocError, Global};
+use device_holdings::{is_in_use, map_rows, reserve};
+use device_ids::WantOfMemory;
+use devnode_tree::Tree;
+use pnp_labels::RelKind;
+use relations::{RelateError, Relations};
+use resource_reqs::{Owner, Res, ResList};
+use script_bus::World;
+use std::alloc::Global;
 use std::marker::Model;
+use trial_journal::Arbiters;
 
-/// The devices of the world and their nodes in the tree. Until departures and requirements are built, each node's device
-/// is in the world, and all need and hold nothing. A contract sees both.
+/// The devices of the world, their nodes in the tree, their relations, what is reserved, and the arbiters that mirror what
+/// is held. A contract sees all but the arbiters.
 #[derive(Drop)]
 pub(crate) struct Devices {
-    world: World,
-    tree: Tree,
+    pub(crate) world: World,
+    pub(crate) tree: Tree,
+    pub(crate) relations: Relations,
+    pub(crate) reserved: ResList,
+    pub(crate) arbiters: Arbiters,
     /// The device below which one joined last, by its birth number.
-    over: u64,
+    pub(crate) over: u64,
     /// Of its children none that was born before this one is to join.
-    from: u64,
+    pub(crate) from: u64,
 }
 
 impl Model for Devices {
@@ -40,39 +40,9 @@ impl Model for Devices {
 
     ghost Value = { Devices };
 
-    ghost view = { λ d. record { world = d.world; tree = d.tree } };
+    ghost view = { λ d. record { world = d.world; tree = d.tree; relations = d.relations; reserved = d.reserved } };
 
-    ghost invariant = { λ d. IsKept d.world d.tree d.over d.from };
-}
-
-/// What a device of the world shows, copied.
-fn copied(alloc: Global, device: &Device) -> Result<Device, WantOfMemory>
-    ensures { IfOk result (λ copy. copy ≡ device.now) }
-{
-    Ok(Device {
-        path: device.path.copy(alloc)?,
-        hw: device.hw.copy(alloc)?,
-        compat: device.compat.copy(alloc)?,
-        reqs: device.reqs.copy(alloc)?,
-    })
-}
-
-/// A join that can be refused for want of memory alone.
-fn only_memory(error: JoinError) -> WantOfMemory
-    requires { error ≡ JoinError.WantOfMemory }
-{
-    match error {
-        JoinError::WantOfMemory => AllocError,
-        JoinError::NoParent | JoinError::SamePath => unreachable!(),
-    }
-}
-
-/// From which birth number on the children of a device are looked at, where of those of the last one they are looked at
-/// from some number on.
-fn from_at(over: u64, last: u64, from: u64) -> u64
-    ensures { result ≡ (if over == last then from else 0) }
-{
-    if over == last { from } else { 0 }
+    ghost invariant = { λ d. IsKept d.world d.tree d.reserved d.arbiters d.over d.from };
 }
 
 impl Devices {
@@ -83,6 +53,9 @@ impl Devices {
         Ok(Devices {
             world: World::new(alloc)?,
             tree: Tree::new(alloc)?,
+            relations: Relations::new(alloc),
+            reserved: ResList::new(alloc),
+            arbiters: Arbiters::new(alloc)?,
             over: 0,
             from: 0,
         })
@@ -90,132 +63,46 @@ impl Devices {
 
     /// The nodes.
     pub(crate) fn tree(&self) -> &Tree
-        ensures tree { result.now ≡ self.now.tree }
-        ensures bare { AllByRecursion HoldsNothing self.now.tree.nodes }
-        ensures stay { AllStay self.now }
+        ensures { result.now ≡ self.now.tree }
     {
         &self.tree
     }
 
-    /// The node of the device of a path of the world.
-    pub(crate) fn node_of_device(&self, path: &InstancePath) -> Option<u64>
-        ensures { IfSome (device_of path.now self.now.world.devices) (λ d. result ≡ option_map (λ n. n.serial) (node_born d.born self.now.tree.nodes)) }
-    {
-        let born = self.world.born_of(path)?;
-        self.tree.find_born(born)
-    }
-
-    /// A device arrives, as `World::plug` says. Conditions: it has at most 64 IDs of each sort, and it needs nothing.
-    pub(crate) fn plug(
+    /// A member is related to an owner, as `Relations::relate` says.
+    pub(crate) fn relate(
         &mut self,
-        parent: &InstancePath,
-        path: InstancePath,
-        hw: IdList,
-        compat: IdList,
-        reqs: Reqs,
-    ) -> Result<u64, PlugError>
-        requires room { self.old.world.next < 2 ^ 63 }
-        requires hw { length hw ≤ 64 }
-        requires compat { length compat ≤ 64 }
-        requires needs { reqs ≡ [] }
-        ensures arrives { Arrives self.old.world parent.now path hw compat reqs result self.new.world }
-        ensures tree { self.new.tree ≡ self.old.tree }
+        kind: RelKind,
+        owner: u64,
+        member: u64,
+    ) -> Result<(), RelateError>
+        requires owner_there { IsSome (node_at owner self.old.tree.nodes) }
+        requires member_there { IsSome (node_at member self.old.tree.nodes) }
+        ensures related { RelatesFor (node_at owner self.old.tree.nodes) (node_at member self.old.tree.nodes) self.old.tree.nodes kind self.old.relations result self.new.relations }
+        ensures same { self.new ≡ record self.old { relations = self.new.relations } }
     {
-        self.world.plug(parent, path, hw, compat, reqs)
+        self.relations.relate(&self.tree, kind, owner, member)
     }
 
-    /// The first device that is to join below a node. Below the node where one joined last it looks on from that one.
-    fn next_to_join(&self, serial: u64) -> Option<u64>
-        requires { IsSome (node_at serial self.now.tree.nodes) }
-        ensures { result ≡ joins_next (node_at serial self.now.tree.nodes) self.now }
+    /// Whether a range clashes with what is reserved or with what a device holds. It takes no memory. Cost: the pairs held
+    /// of its kind.
+    pub(crate) fn is_in_use(&self, res: &Res) -> bool
+        ensures { result ≡ list_any (clashes res.now) (self.now.reserved ++ held_by self.now.tree.nodes) }
     {
-        let Some(node) = self.tree.node(serial) else {
-            unreachable!()
-        };
-        let from = from_at(node.born, self.over, self.from);
-        next_join(&self.world, &self.tree, serial, from)
+        is_in_use(&self.arbiters, res)
     }
 
-    /// The first device that is to join below a node joins, and its serial and path are told; none where none is to.
-    /// Conditions: the node is there, and fewer than 2^63 nodes joined. After want of memory all is as before. Cost: what
-    /// the device shows, and the number of nodes.
-    pub(crate) fn join_next(
-        &mut self,
-        alloc: Global,
-        serial: u64,
-    ) -> Result<Option<(u64, Text)>, WantOfMemory>
-        requires there { IsSome (node_at serial self.old.tree.nodes) }
-        requires room { self.old.tree.next < 2 ^ 63 }
-        ensures joined { IfOk result (λ joined. JoinedFor (node_at serial self.old.tree.nodes) joined self.old self.new) }
+    /// A range is reserved, as `device_holdings::reserve` says.
+    pub(crate) fn reserve(&mut self, res: Res) -> Result<(), WantOfMemory>
+        ensures reserved { OnOk result (self.new ≡ record self.old { reserved = self.old.reserved ++ res ∷ [] }) }
         ensures err { OnErr result (self.new ≡ self.old) }
     {
-        let Some(born) = self.next_to_join(serial) else {
-            return Ok(None);
-        };
-        let Some(node) = self.tree.node(serial) else {
-            unreachable!()
-        };
-        let over = node.born;
-        let Some(part) = self.world.part(born) else {
-            unreachable!()
-        };
-        let path = Text::make(alloc, part.path.bytes())?;
-        let device = copied(alloc, part)?;
-        let joined = self.tree.join(
-            serial,
-            born,
-            device.path,
-            device.hw,
-            device.compat,
-            device.reqs,
-        );
-        match joined {
-            Ok(joined) => {
-                self.over = over;
-                self.from = born + 1;
-                Ok(Some((joined, path)))
-            }
-            Err(error) => Err(only_memory(error)),
-        }
+        reserve(&mut self.reserved, &mut self.arbiters, res)
     }
 
-    /// The start of a device begins, as `StartWork::begin` says.
-    pub(crate) fn begin<R: Drivers>(
-        &mut self,
-        alloc: Global,
-        rack: &R,
-        infs: &[Inf],
-        serial: u64,
-        disabled: bool,
-    ) -> Result<(Label, Option<StartWork>), WantOfMemory>
-        requires there { IsSome (node_at serial self.old.tree.nodes) }
-        requires few { length infs.now ≤ 64 }
-        ensures begun { IfOk result (λ r. (budget : ℕ) (s : State) → s.core.rack ≡ R.rows rack.now → s.core.nodes ≡ self.old.tree.nodes → BegunFor (settings_of infs.now budget) s (node_at serial self.old.tree.nodes) disabled r.0 r.1 self.new.tree.nodes) }
-        ensures device { IfOk result (λ r. IfSome r.1 (λ work. work.serial ≡ serial)) }
-        ensures next { self.new.tree.next ≡ self.old.tree.next }
-        ensures world { self.new.world ≡ self.old.world }
-        ensures err { OnErr result (self.new ≡ self.old) }
+    /// What is reserved and what devices hold, with the owner of each, in the order of the printed map.
+    pub(crate) fn map_rows(&self, alloc: Global) -> Result<Vec<(Owner, Res)>, WantOfMemory>
+        ensures { IfOk result (λ rows. (c : Core) → c.reserved ≡ self.now.reserved → c.nodes ≡ self.now.tree.nodes → IsOrderly c → map (row_of c.nodes) rows.items ≡ Endings.map_rows c) }
     {
-        StartWork::begin(alloc, &mut self.tree, rack, infs, serial, disabled)
-    }
-
-    /// The next step of the start of a device, as `StartWork::next` says.
-    pub(crate) fn act<R: Drivers>(
-        &mut self,
-        alloc: Global,
-        work: &mut StartWork,
-        rack: &mut R,
-    ) -> Result<StartStep, WantOfMemory>
-        requires there { IsSome (node_at work.old.serial self.old.tree.nodes) }
-        requires goes { is_waiting (phase_walk work.old.phase) ≡ false }
-        ensures acts { IfOk result (λ step. Acts work.old.serial self.old.tree.nodes (R.rows rack.old) work.old.phase step self.new.tree.nodes (R.rows rack.new) work.new.phase) }
-        ensures serial { work.new.serial ≡ work.old.serial }
-        ensures next { self.new.tree.next ≡ self.old.tree.next }
-        ensures world { self.new.world ≡ self.old.world }
-        ensures work { OnErr result (work.new ≡ work.old) }
-        ensures rack { OnErr result (R.rows rack.new ≡ R.rows rack.old) }
-        ensures err { OnErr result (self.new ≡ self.old) }
-    {
-        work.next(alloc, &mut self.tree, rack)
+        map_rows(alloc, &self.arbiters)
     }
 }

@@ -1,17 +1,21 @@
-ghost use Rattle.std.specs.Prelude.{◌≡◌, ◌++◌, ◌∷◌, [], IfOk, OnOk, map, codes};
-ghost use Rattle.pnp_model.specs.Endings.{indent, tree_line, joined, print_order, problem_part, ending};
-ghost use Rattle.pnp_laws.specs.Kept.{InOrder};
+ghost use Rattle.std.specs.Prelude.{◌≡◌, ◌++◌, ◌∷◌, [], IfOk, OnOk, map, option_map};
+ghost use Rattle.pnp_model.specs.Endings.{indent, tree_line, map_line, joined, print_order, problem_part, ending};
 ghost use Rattle.pnp_labels.specs.Texts.{spaced, state_text};
 ghost use Rattle.std.specs.Fmt.{decimal};
-ghost use Rattle.pnp_machine.specs.Endings.{RowAdded, waiting_line, work_lines, works_lines};
+ghost use Rattle.device_holdings.specs.MapRows.{row_of};
+ghost use Rattle.pnp_machine.specs.Endings.{RowAdded, waiting_line, request_lines, works_lines, operation_lines};
+ghost use Rattle.pnp_machine.specs.Managers.{IsOfRun};
+ghost use Rattle.pnp_machine.specs.Operations.{operation_of};
 
 use crate::machine::Machine;
+use crate::operation::Operation;
 use device_ids::WantOfMemory;
 use device_stack::{Walk, driver_name};
 use devnode_tree::{Node, PrintRow, Tree};
 use driver_rack::Drivers;
-use pnp_labels::spaced::three;
-use pnp_labels::{DevState, Problem, decimal, minor_text, problem_text, state_text};
+use pnp_labels::spaced::{three, two};
+use pnp_labels::{DevState, Problem, decimal, minor_text, problem_text, res_text, state_text};
+use resource_reqs::{Owner, Res};
 use start_sequence::StartWork;
 use std::alloc::Global;
 
@@ -105,23 +109,24 @@ fn add_waiting<R: Drivers>(
     Ok(())
 }
 
-/// Appends the line of the request of a start, where it waits.
-fn add_work<R: Drivers>(
+/// Appends the line of a request at a device, where it waits.
+fn add_request<R: Drivers>(
     alloc: Global,
     out: &mut Vec<u8>,
     tree: &Tree,
     rack: &R,
-    work: &StartWork,
+    serial: u64,
+    walk: Option<&Walk>,
 ) -> Result<(), WantOfMemory>
-    ensures { OnOk result (out.new.items ≡ out.old.items ++ work_lines tree.now.nodes (R.rows rack.now) work.now) }
+    ensures { OnOk result (out.new.items ≡ out.old.items ++ request_lines tree.now.nodes (R.rows rack.now) serial (option_map (λ w. w.now.walk) walk.entry)) }
 {
-    let Some(walk) = work.walk() else {
+    let Some(walk) = walk else {
         return Ok(());
     };
     if walk.waits().is_none() {
         return Ok(());
     }
-    match tree.node(work.serial()) {
+    match tree.node(serial) {
         Some(node) => add_waiting(alloc, out, node, rack, walk),
         None => {
             out.push(b'\n')?;
@@ -130,7 +135,7 @@ fn add_work<R: Drivers>(
     }
 }
 
-/// Appends the lines of the requests that wait, in order of serial.
+/// Appends the lines of the requests that wait in starts, in order of serial.
 fn add_works<R: Drivers>(
     alloc: Global,
     out: &mut Vec<u8>,
@@ -141,21 +146,83 @@ fn add_works<R: Drivers>(
     ensures { OnOk result (out.new.items ≡ out.old.items ++ works_lines tree.now.nodes (R.rows rack.now) works.now) }
 {
     for work in works {
-        add_work(alloc, out, tree, rack, work)?;
+        add_request(alloc, out, tree, rack, work.serial(), work.walk())?;
+    }
+    Ok(())
+}
+
+/// Appends the line of the request of the operation that runs, where it waits.
+fn add_operation<R: Drivers>(
+    alloc: Global,
+    out: &mut Vec<u8>,
+    tree: &Tree,
+    rack: &R,
+    operation: &Option<Operation>,
+) -> Result<(), WantOfMemory>
+    ensures { OnOk result (out.new.items ≡ out.old.items ++ operation_lines tree.now.nodes (R.rows rack.now) (option_map operation_of operation.now)) }
+{
+    let Some(operation) = operation else {
+        return Ok(());
+    };
+    match operation.device() {
+        Some(serial) => add_request(alloc, out, tree, rack, serial, operation.walk()),
+        None => Ok(()),
+    }
+}
+
+/// Appends the line of what is held, with the path of who holds it.
+fn add_held(
+    alloc: Global,
+    out: &mut Vec<u8>,
+    tree: &Tree,
+    owner: Owner,
+    res: &Res,
+) -> Result<(), WantOfMemory>
+    ensures { OnOk result (out.new.items ≡ out.old.items ++ joined (map_line (row_of tree.now.nodes (owner, res.now)) ∷ [])) }
+{
+    let text = res_text(alloc, res)?;
+    let line = match owner {
+        Owner::Reserved => two(alloc, &text, b"reserved")?,
+        Owner::Device(serial) => match tree.node(serial) {
+            Some(node) => two(alloc, &text, node.path.bytes())?,
+            None => two(alloc, &text, b"")?,
+        },
+    };
+    out.extend_from_slice(&line)?;
+    out.push(b'\n')?;
+    Ok(())
+}
+
+/// Appends the lines of what is held and reserved, in the order of the map.
+fn add_rows(
+    alloc: Global,
+    out: &mut Vec<u8>,
+    tree: &Tree,
+    rows: &[(Owner, Res)],
+) -> Result<(), WantOfMemory>
+    ensures { OnOk result (out.new.items ≡ out.old.items ++ joined (map map_line (map (row_of tree.now.nodes) rows.now))) }
+{
+    for row in rows {
+        add_held(alloc, out, tree, row.0, &row.1)?;
     }
     Ok(())
 }
 
 impl<R: Drivers> Machine<R> {
-    /// The end of the output: the tree, what is held, which is nothing until searches are built, and the requests that
-    /// are outstanding.
+    /// The end of the output: the tree, what is held and reserved, and the requests that are outstanding. Condition: the state
+    /// is one of a run.
     pub(crate) fn ending(&self, alloc: Global) -> Result<Vec<u8>, WantOfMemory>
+        requires { IsOfRun self.now }
         ensures { IfOk result (λ text. text.items ≡ joined (ending self.now)) }
     {
         let tree = self.devices.tree();
         let mut out = Vec::from_slice(alloc, b"tree\n")?;
         add_tree(alloc, &mut out, tree)?;
-        out.extend_from_slice(b"map\noutstanding\n")?;
+        out.extend_from_slice(b"map\n")?;
+        let rows = self.devices.map_rows(alloc)?;
+        add_rows(alloc, &mut out, tree, &rows)?;
+        out.extend_from_slice(b"outstanding\n")?;
+        add_operation(alloc, &mut out, tree, &self.rack, &self.operation)?;
         add_works(alloc, &mut out, tree, &self.rack, self.starts.works())?;
         Ok(out)
     }

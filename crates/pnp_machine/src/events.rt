@@ -1,11 +1,11 @@
-ghost use Rattle.std.specs.Prelude.{◌≡◌, ◌<◌, ◌≤◌, ◌^◌, [], true, IfOk, OnErr, length, find};
+ghost use Rattle.std.specs.Prelude.{◌≡◌, ◌<◌, ◌^◌, IfOk, OnErr};
 ghost use Rattle.pnp_labels.specs.declared.event.Event.TheVariants as Event;
 ghost use Rattle.pnp_labels.specs.declared.label.Label.TheVariants as Label;
 ghost use Rattle.pnp_model.specs.Events.{happens, answer_of};
-ghost use Rattle.pnp_machine.specs.Machines.{IsDone, is_built, HasFewIds};
+ghost use Rattle.pnp_machine.specs.Machines.{IsDone, IsAnswered};
 
 use crate::machine::Machine;
-use crate::task::Task;
+use crate::operating::list_again;
 use device_ids::{IdList, InstancePath, Text, WantOfMemory};
 use device_stack::{driver_name, shown_of};
 use driver_rack::{Drivers, NameError, TeachError};
@@ -14,11 +14,11 @@ use pnp_labels::{
     Answer, DriverKind, Event, EventWord, Label, Minor, Reason, Rule, minor_text, shown_text,
 };
 use resource_reqs::Reqs;
-use script_bus::PlugError;
+use script_bus::{PlugError, PullError};
 use std::alloc::AllocError;
 
 /// The label of an event that is refused.
-fn refusal(word: EventWord, reason: Reason) -> Label
+pub(crate) fn refusal(word: EventWord, reason: Reason) -> Label
     ensures { result ≡ Label.Refused word reason }
 {
     Label::Refused { word, reason }
@@ -31,17 +31,6 @@ fn answer_of(ok: bool) -> Answer
     if ok { Answer::Ok } else { Answer::Fail }
 }
 
-/// Whether the parts of the machine that the event needs are built. This project's own.
-pub fn is_built(event: &Event) -> bool
-    ensures { result ≡ is_built event.now }
-{
-    match event {
-        Event::Plug { reqs, .. } => reqs.len() == 0,
-        Event::Name { .. } | Event::Teach { .. } | Event::Complete { .. } => true,
-        _ => false,
-    }
-}
-
 impl<R: Drivers> Machine<R> {
     /// A device arrives in the world; where its parent has a node, that node is to be listed.
     fn plug(
@@ -52,28 +41,44 @@ impl<R: Drivers> Machine<R> {
         compat: IdList,
         reqs: Reqs,
     ) -> Result<Label, WantOfMemory>
-        requires room { self.old.next_born < 2 ^ 63 }
-        requires hw { length hw ≤ 64 }
-        requires compat { length compat ≤ 64 }
-        requires needs { reqs ≡ [] }
+        requires { self.old.next_born < 2 ^ 63 }
         ensures done { IfOk result (λ label. IsDone (happens self.old (Event.Plug parent.now path hw compat reqs)) label self.new) }
         ensures err { OnErr result (self.new ≡ self.old) }
     {
         let what = Text::make(self.alloc, path.bytes())?;
-        self.tasks.reserve(1)?;
+        self.tasks.make_room()?;
         let over = self.devices.node_of_device(parent);
         let word = EventWord::Plug;
         match self.devices.plug(parent, path, hw, compat, reqs) {
             Ok(_) => {
-                if let Some(over) = over {
-                    self.tasks.push_back_reserved(Task::list(over));
-                }
+                list_again(&mut self.tasks, over);
                 Ok(Label::Did { word, what })
             }
             Err(PlugError::NoParent) => Ok(refusal(word, Reason::NoParent)),
             Err(PlugError::SameId) => Ok(refusal(word, Reason::SameId)),
             Err(PlugError::WorldFull) => Ok(refusal(word, Reason::WorldFull)),
             Err(PlugError::WantOfMemory) => Err(AllocError),
+        }
+    }
+
+    /// A device goes, with all below it; where its parent has a node, that node is to be listed.
+    fn pull(&mut self, path: &InstancePath) -> Result<Label, WantOfMemory>
+        ensures done { IfOk result (λ label. IsDone (happens self.old (Event.Pull path.now)) label self.new) }
+        ensures err { OnErr result (self.new ≡ self.old) }
+    {
+        let word = EventWord::Pull;
+        let Some(own) = self.devices.path_in_world(path) else {
+            return Ok(refusal(word, Reason::NoDevice));
+        };
+        let what = Text::make(self.alloc, own.bytes())?;
+        self.tasks.make_room()?;
+        match self.devices.pull(path) {
+            Ok(over) => {
+                list_again(&mut self.tasks, over);
+                Ok(Label::Did { word, what })
+            }
+            Err(PullError::NoDevice) => Ok(refusal(word, Reason::NoDevice)),
+            Err(PullError::RootStays) => Ok(refusal(word, Reason::RootStays)),
         }
     }
 
@@ -108,6 +113,18 @@ impl<R: Drivers> Machine<R> {
         }
     }
 
+    /// Whether a request of the minor waited at the device for this answer, which it got.
+    fn answer(&mut self, serial: u64, minor: Minor, ok: bool) -> bool
+        ensures { IsAnswered self.old serial minor ok result self.new }
+    {
+        if let Some(operation) = &mut self.operation
+            && operation.complete(serial, minor, ok)
+        {
+            return true;
+        }
+        self.starts.complete(serial, minor, ok)
+    }
+
     /// The request of a minor that waits at the device of a path gets its answer.
     fn complete(
         &mut self,
@@ -129,7 +146,7 @@ impl<R: Drivers> Machine<R> {
         let shown = shown_text(shown_of(minor, answer_of(ok)));
         let what = three(self.alloc, node.path.bytes(), minor_text(minor), shown)?;
         let what = Text::make(self.alloc, &what)?;
-        if self.starts.complete(serial, minor, ok) {
+        if self.answer(serial, minor, ok) {
             Ok(Label::Did { word, what })
         } else {
             Ok(refusal(word, Reason::NoSuchRequest))
@@ -137,12 +154,9 @@ impl<R: Drivers> Machine<R> {
     }
 
     /// An event happens, as the machine's definition says; a refusal changes nothing and its label names the reason.
-    /// Conditions: its parts of the machine are built, it has at most 64 IDs of each sort, and fewer than 2^63 devices were
-    /// born. After want of memory all is as before.
+    /// Condition: fewer than 2^63 devices were born. After want of memory all is as before.
     pub(crate) fn apply(&mut self, event: Event) -> Result<Label, WantOfMemory>
-        requires built { is_built event ≡ true }
-        requires ids { HasFewIds event }
-        requires room { self.old.next_born < 2 ^ 63 }
+        requires { self.old.next_born < 2 ^ 63 }
         ensures done { IfOk result (λ label. IsDone (happens self.old event) label self.new) }
         ensures err { OnErr result (self.new ≡ self.old) }
     {
@@ -154,10 +168,19 @@ impl<R: Drivers> Machine<R> {
                 compat,
                 reqs,
             } => self.plug(&parent, path, hw, compat, reqs),
+            Event::Pull { path } => self.pull(&path),
             Event::Name { name, kind } => self.name(name, kind),
             Event::Teach { name, rule } => self.teach(&name, rule),
+            Event::Disable { path } => self.disable(&path),
+            Event::Enable { path } => self.enable(&path),
+            Event::Eject { path } => self.eject(&path),
+            Event::Relate {
+                kind,
+                owner,
+                member,
+            } => self.relate(kind, &owner, &member),
+            Event::Reserve { res } => self.reserve(res),
             Event::Complete { path, minor, ok } => self.complete(&path, minor, ok),
-            _ => unreachable!(),
         }
     }
 }

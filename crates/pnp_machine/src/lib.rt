@@ -2,16 +2,26 @@
 #![tactic(auto)]
 
 mod acting;
+mod beginning;
+mod bus;
+mod commands;
 mod devices;
+mod disabled;
+mod doing;
 mod ending;
 mod events;
 mod listing;
 mod machine;
 mod manager;
+mod operating;
+mod operation;
 mod starting;
 mod starts;
-mod task;
+mod tasks;
 #[cfg(test)]
 mod tests;
+#[cfg(test)]
+mod tests_parts;
+mod turn;
 
-pub use manager::{Manager, Moved, is_built};
+pub use manager::{Manager, Moved};

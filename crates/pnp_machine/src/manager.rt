@@ -4,10 +4,9 @@ ghost use Rattle.pnp_model.specs.Events.{happens};
 ghost use Rattle.pnp_model.specs.Machine.{IsQuiet};
 ghost use Rattle.pnp_model.specs.Runs.{opening};
 ghost use Rattle.devnode_tree.specs.Trees.{Tree};
-ghost use Rattle.pnp_machine.specs.Machines.{IsDone, Moves, is_built, HasFewIds};
+ghost use Rattle.pnp_machine.specs.Machines.{IsDone, Moves, HasFewIds};
 ghost use Rattle.pnp_machine.specs.Managers.{settings, IsRunOf, KeepsLaws, LawsOf, IfQuiet};
 
-pub use crate::events::is_built;
 use crate::machine::Machine;
 use device_ids::WantOfMemory;
 use devnode_tree::Tree;
@@ -48,14 +47,16 @@ impl<R: Drivers> Model for Manager<R> {
 }
 
 impl<R: Drivers> Manager<R> {
-    /// The root alone, with the drivers of a rack. Condition: there are at most 64 INFs.
+    /// The root alone, with the drivers of a rack. Conditions: there are at most 64 INFs, and the budget of a search is at most
+    /// 1,000,000.
     pub fn new(
         alloc: Global,
         infs: Vec<Inf>,
         rack: R,
         budget: u64,
     ) -> Result<Manager<R>, WantOfMemory>
-        requires { length infs.items ≤ 64 }
+        requires few { length infs.items ≤ 64 }
+        requires budget { budget ≤ 1000000 }
         ensures { IfOk result (λ m. m ≡ record { infs = infs.items; budget = budget; events = 0; state = opening (R.rows rack) }) }
     {
         let machine = Machine::new(alloc, rack)?;
@@ -68,12 +69,12 @@ impl<R: Drivers> Manager<R> {
     }
 
     /// An event happens, at a quiet state: exactly what the machine's definition says, which for a refusal is a label with
-    /// the reason and no change. Conditions: the state is quiet, the event's parts of the machine are built, it has at most
-    /// 64 IDs of each sort, and fewer than 2^24 events happened before. After want of memory the manager is as before.
-    /// Cost: near that of the look-ups by path and name.
+    /// the reason and no change. Conditions: the state is quiet, the event has at most 64 IDs of each sort, and fewer than
+    /// 2^24 events happened before. After want of memory the manager is as before. Cost: near that of the look-ups by path
+    /// and name; for the departure of a device the number of those that go, for a relation what depends on its member, and
+    /// for a range the number of resources that are held.
     pub fn apply(&mut self, event: Event) -> Result<Label, WantOfMemory>
         requires quiet { IsQuiet (settings self.old) self.old.state }
-        requires built { is_built event ≡ true }
         requires ids { HasFewIds event }
         requires events { self.old.events < 2 ^ 24 }
         ensures done { IfOk result (λ label. IsDone (happens self.old.state event) label self.new.state) }
@@ -98,7 +99,7 @@ impl<R: Drivers> Manager<R> {
         ensures run { IsRunOf (settings self.new) self.new.events self.new.state }
         ensures err { OnErr result (self.new ≡ self.old) }
     {
-        self.machine.step(&self.infs)
+        self.machine.step(&self.infs, self.budget)
     }
 
     /// Whether no step is next.

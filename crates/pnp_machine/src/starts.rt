@@ -114,7 +114,7 @@ fn is_over(step: &StartStep) -> bool
 {
     match step {
         StartStep::Did(_) => false,
-        StartStep::Up(_) | StartStep::Over(_) => true,
+        StartStep::Needs(_) | StartStep::Up(_) | StartStep::Over(_) => true,
     }
 }
 
@@ -211,12 +211,12 @@ impl Starts {
         serial: u64,
         devices: &mut Devices,
         rack: &mut R,
+        budget: u64,
     ) -> Result<StartStep, WantOfMemory>
         requires first { first_ready self.old.works ≡ Some serial }
         requires there { IsSome (node_at serial devices.old.tree.nodes) }
-        ensures acts { IfOk result (λ step. ActsFor (activity_at serial self.old.works) self.old.works devices.old.tree.nodes (R.rows rack.old) step self.new.works devices.new.tree.nodes (R.rows rack.new)) }
-        ensures next { devices.new.tree.next ≡ devices.old.tree.next }
-        ensures world { devices.new.world ≡ devices.old.world }
+        requires budget { budget ≤ 1000000 }
+        ensures acts { IfOk result (λ step. ActsFor budget (activity_at serial self.old.works) self.old.works devices.old (R.rows rack.old) step self.new.works devices.new (R.rows rack.new)) }
         ensures starts { OnErr result (self.new.works ≡ self.old.works) }
         ensures devices { OnErr result (devices.new ≡ devices.old) }
         ensures rack { OnErr result (R.rows rack.new ≡ R.rows rack.old) }
@@ -225,7 +225,7 @@ impl Starts {
             unreachable!()
         };
         let work = &mut self.works[place];
-        let step = devices.act(alloc, work, rack)?;
+        let step = devices.act(alloc, work, rack, budget)?;
         drop_first(&mut self.ready, leaves(work, &step));
         drop_over(&mut self.works, place, is_over(&step));
         Ok(step)

@@ -1,12 +1,12 @@
 ghost use Rattle.std.specs.Prelude.{◌≡◌, ◌<◌, ◌≤◌, ◌+◌, ◌^◌, true, IfOk, OnOk};
 ghost use Rattle.pnp_machine.specs.Machines.{HasFewIds};
 
-use crate::{Manager, Moved, is_built};
+use crate::{Manager, Moved};
 use device_ids::{DeviceId, IdList, InstancePath, Text, TextList, WantOfMemory};
 use driver_rack::{Drivers, Rack, Scripted};
 use inf_reader::{Inf, ModelLine, ModelLines};
 use pnp_labels::{Answer, AskWhat, DriverKind, Event, Label, Minor, Rule, label_line};
-use resource_reqs::Reqs;
+use resource_reqs::{AltList, Group, Kind, Reqs, Want};
 use std::alloc::{AllocError, Global};
 use std::test::Fail;
 
@@ -25,7 +25,7 @@ fn happen<R: Drivers>(manager: &mut Manager<R>, event: Event) -> Result<Option<L
     requires { manager.old.events < 2 ^ 24 }
     ensures { OnOk result (manager.new.events ≤ manager.old.events + 1) }
 {
-    if manager.is_quiet() && is_built(&event) && has_few_ids(&event) {
+    if manager.is_quiet() && has_few_ids(&event) {
         Ok(Some(manager.apply(event)?))
     } else {
         Ok(None)
@@ -95,16 +95,40 @@ fn one_id(alloc: Global) -> Result<IdList, WantOfMemory> {
 }
 
 /// A device with that ID arrives below the root.
-fn arrival(alloc: Global) -> Result<Event, WantOfMemory> {
+fn plug(alloc: Global, own: &[u8], reqs: Reqs) -> Result<Event, WantOfMemory> {
     let parent = path(alloc, b"HTREE\\ROOT\\0")?;
-    let path = path(alloc, b"OWN\\DEV\\1")?;
+    let path = path(alloc, own)?;
     Ok(Event::Plug {
         parent,
         path,
         hw: one_id(alloc)?,
         compat: IdList::new(alloc),
-        reqs: Reqs::new(alloc),
+        reqs,
     })
+}
+
+/// The device that most tests have arrives.
+fn arrival(alloc: Global) -> Result<Event, WantOfMemory> {
+    plug(alloc, b"OWN\\DEV\\1", Reqs::new(alloc))
+}
+
+/// One interrupt from a range.
+fn interrupt(alloc: Global, low: u64, high: u64) -> Result<Reqs, WantOfMemory> {
+    let want = Want::make(Kind::Irq, low, high, 1, 1, false).map_err(|_| AllocError)?;
+    let mut group = Group::new(alloc);
+    group.push(want).map_err(|_| AllocError)?;
+    let mut list = AltList::new(alloc);
+    list.push(group).map_err(|_| AllocError)?;
+    let mut reqs = Reqs::new(alloc);
+    reqs.push(list).map_err(|_| AllocError)?;
+    Ok(reqs)
+}
+
+/// The driver gets the name of that service.
+fn naming(alloc: Global) -> Result<Event, WantOfMemory> {
+    let name = Text::make(alloc, b"serial")?;
+    let kind = DriverKind::Scripted;
+    Ok(Event::Name { name, kind })
 }
 
 /// The driver of that service answers a request so once.
@@ -140,9 +164,7 @@ fn teach<R: Drivers>(
     requires { manager.old.events ≡ 0 }
     ensures { OnOk result (manager.new.events ≤ 2) }
 {
-    let name = Text::make(alloc, b"serial")?;
-    let kind = DriverKind::Scripted;
-    happen(manager, Event::Name { name, kind })?;
+    happen(manager, naming(alloc)?)?;
     happen(manager, lesson(alloc, Minor::Start, answer)?)?;
     Ok(())
 }
@@ -173,14 +195,94 @@ fn lines_again(alloc: Global, answer: Answer) -> Result<Vec<u8>, WantOfMemory> {
     }
 }
 
+/// An event happens and the machine settles: the lines of both are appended.
+fn tell<R: Drivers>(
+    alloc: Global,
+    manager: &mut Manager<R>,
+    event: Event,
+    out: &mut Vec<u8>,
+) -> Result<(), WantOfMemory>
+    requires { manager.old.events < 2 ^ 24 }
+    ensures { OnOk result (manager.new.events ≤ manager.old.events + 1) }
+{
+    if let Some(label) = happen(manager, event)? {
+        out.extend_from_slice(&label_line(alloc, &label)?)?;
+    }
+    settle(alloc, manager, out)?;
+    Ok(())
+}
+
+/// The device is to be disabled, its driver refuses once, and it is to be disabled again.
+fn two_disables(alloc: Global) -> Result<Vec<u8>, WantOfMemory> {
+    let mut manager = one_driver(alloc)?;
+    let mut out = Vec::with_capacity(alloc, 4096)?;
+    let lesson = lesson(alloc, Minor::QueryRemove, Answer::Fail)?;
+    let first = path(alloc, b"OWN\\DEV\\1")?;
+    let second = path(alloc, b"own\\dev\\1")?;
+    tell(alloc, &mut manager, naming(alloc)?, &mut out)?;
+    tell(alloc, &mut manager, lesson, &mut out)?;
+    tell(alloc, &mut manager, arrival(alloc)?, &mut out)?;
+    tell(
+        alloc,
+        &mut manager,
+        Event::Disable { path: first },
+        &mut out,
+    )?;
+    tell(
+        alloc,
+        &mut manager,
+        Event::Disable { path: second },
+        &mut out,
+    )?;
+    out.extend_from_slice(&manager.ending(alloc)?)?;
+    Ok(out)
+}
+
+/// The device is pulled.
+fn one_pull(alloc: Global) -> Result<Vec<u8>, WantOfMemory> {
+    let mut manager = one_driver(alloc)?;
+    let mut out = Vec::with_capacity(alloc, 4096)?;
+    let path = path(alloc, b"own\\dev\\1")?;
+    tell(alloc, &mut manager, naming(alloc)?, &mut out)?;
+    tell(alloc, &mut manager, arrival(alloc)?, &mut out)?;
+    tell(alloc, &mut manager, Event::Pull { path }, &mut out)?;
+    out.extend_from_slice(&manager.ending(alloc)?)?;
+    Ok(out)
+}
+
+/// A device took the only interrupt that a second one can have, and could have another.
+fn one_rebalance(alloc: Global) -> Result<Vec<u8>, WantOfMemory> {
+    let mut manager = one_driver(alloc)?;
+    let mut out = Vec::with_capacity(alloc, 4096)?;
+    let first = plug(alloc, b"OWN\\DEV\\1", interrupt(alloc, 5, 6)?)?;
+    let second = plug(alloc, b"OWN\\DEV\\2", interrupt(alloc, 5, 5)?)?;
+    tell(alloc, &mut manager, naming(alloc)?, &mut out)?;
+    tell(alloc, &mut manager, first, &mut out)?;
+    tell(alloc, &mut manager, second, &mut out)?;
+    out.extend_from_slice(&manager.ending(alloc)?)?;
+    Ok(out)
+}
+
 /// With `--fail-alloc N` some step is refused for memory, and tried again: were its driver asked twice, it would answer ok,
 /// and the device would be up.
 #[test]
 fn a_refused_step_asks_its_driver_once(rt: HostRuntime) -> Result<(), Fail> {
     let alloc = rt.alloc();
     let out = lines_again(alloc, Answer::Fail)?;
-    let expected =
-        b"join 1 OWN\\DEV\\1\nlisted HTREE\\ROOT\\0\ninstall OWN\\DEV\\1 00ff0000 serial\nadd OWN\\DEV\\1 serial ok\nassign OWN\\DEV\\1\nSTART_DEVICE OWN\\DEV\\1 serial fail\nstate OWN\\DEV\\1 NotStarted\nproblem OWN\\DEV\\1 10\nREMOVE_DEVICE OWN\\DEV\\1 serial ok\nstate OWN\\DEV\\1 NoStack\ntree\n0 HTREE\\ROOT\\0 Started\n 1 OWN\\DEV\\1 NoStack problem 10\nmap\noutstanding\n";
+    let expected = b"join 1 OWN\\DEV\\1\n\
+        listed HTREE\\ROOT\\0\n\
+        install OWN\\DEV\\1 00ff0000 serial\n\
+        add OWN\\DEV\\1 serial ok\n\
+        assign OWN\\DEV\\1\n\
+        START_DEVICE OWN\\DEV\\1 serial fail\n\
+        state OWN\\DEV\\1 NotStarted\n\
+        problem OWN\\DEV\\1 10\n\
+        REMOVE_DEVICE OWN\\DEV\\1 serial ok\n\
+        state OWN\\DEV\\1 NoStack\n\
+        tree\n\
+        0 HTREE\\ROOT\\0 Started\n 1 OWN\\DEV\\1 NoStack problem 10\n\
+        map\n\
+        outstanding\n";
     assert_eq!(rt; out.as_slice(), expected.as_slice());
     Ok(())
 }
@@ -189,8 +291,130 @@ fn a_refused_step_asks_its_driver_once(rt: HostRuntime) -> Result<(), Fail> {
 fn a_start_waits_and_goes_on(rt: HostRuntime) -> Result<(), Fail> {
     let alloc = rt.alloc();
     let out = lines_again(alloc, Answer::Pend)?;
-    let expected =
-        b"join 1 OWN\\DEV\\1\nlisted HTREE\\ROOT\\0\ninstall OWN\\DEV\\1 00ff0000 serial\nadd OWN\\DEV\\1 serial ok\nassign OWN\\DEV\\1\nSTART_DEVICE OWN\\DEV\\1 serial pend\ntree\n0 HTREE\\ROOT\\0 Started\n 1 OWN\\DEV\\1 NotStarted\nmap\noutstanding\nOWN\\DEV\\1 START_DEVICE serial\n";
+    let expected = b"join 1 OWN\\DEV\\1\n\
+        listed HTREE\\ROOT\\0\n\
+        install OWN\\DEV\\1 00ff0000 serial\n\
+        add OWN\\DEV\\1 serial ok\n\
+        assign OWN\\DEV\\1\n\
+        START_DEVICE OWN\\DEV\\1 serial pend\n\
+        tree\n\
+        0 HTREE\\ROOT\\0 Started\n 1 OWN\\DEV\\1 NotStarted\n\
+        map\n\
+        outstanding\n\
+        OWN\\DEV\\1 START_DEVICE serial\n";
+    assert_eq!(rt; out.as_slice(), expected.as_slice());
+    Ok(())
+}
+
+#[test]
+fn a_refused_disable_changes_nothing_and_the_next_one_ends(rt: HostRuntime) -> Result<(), Fail> {
+    let alloc = rt.alloc();
+    let out = two_disables(alloc).or_else(|_| two_disables(alloc))?;
+    let expected = b"event driver serial\n\
+        event teach serial\n\
+        event plug OWN\\DEV\\1\n\
+        join 1 OWN\\DEV\\1\n\
+        listed HTREE\\ROOT\\0\n\
+        install OWN\\DEV\\1 00ff0000 serial\n\
+        add OWN\\DEV\\1 serial ok\n\
+        assign OWN\\DEV\\1\n\
+        START_DEVICE OWN\\DEV\\1 serial ok\n\
+        state OWN\\DEV\\1 Started\n\
+        listed OWN\\DEV\\1\n\
+        event disable OWN\\DEV\\1\n\
+        begin disable OWN\\DEV\\1\n\
+        QUERY_REMOVE_DEVICE OWN\\DEV\\1 serial fail\n\
+        state OWN\\DEV\\1 Started\n\
+        CANCEL_REMOVE_DEVICE OWN\\DEV\\1 serial ok\n\
+        state OWN\\DEV\\1 Started\n\
+        end disable OWN\\DEV\\1 veto OWN\\DEV\\1\n\
+        event disable OWN\\DEV\\1\n\
+        begin disable OWN\\DEV\\1\n\
+        QUERY_REMOVE_DEVICE OWN\\DEV\\1 serial ok\n\
+        state OWN\\DEV\\1 RemovePending\n\
+        REMOVE_DEVICE OWN\\DEV\\1 serial ok\n\
+        state OWN\\DEV\\1 NoStack\n\
+        problem OWN\\DEV\\1 22\n\
+        end disable OWN\\DEV\\1 done\n\
+        tree\n\
+        0 HTREE\\ROOT\\0 Started\n 1 OWN\\DEV\\1 NoStack problem 22\n\
+        map\n\
+        outstanding\n";
+    assert_eq!(rt; out.as_slice(), expected.as_slice());
+    Ok(())
+}
+
+#[test]
+fn a_pulled_device_loses_its_drivers_and_leaves(rt: HostRuntime) -> Result<(), Fail> {
+    let alloc = rt.alloc();
+    let out = one_pull(alloc).or_else(|_| one_pull(alloc))?;
+    let expected = b"event driver serial\n\
+        event plug OWN\\DEV\\1\n\
+        join 1 OWN\\DEV\\1\n\
+        listed HTREE\\ROOT\\0\n\
+        install OWN\\DEV\\1 00ff0000 serial\n\
+        add OWN\\DEV\\1 serial ok\n\
+        assign OWN\\DEV\\1\n\
+        START_DEVICE OWN\\DEV\\1 serial ok\n\
+        state OWN\\DEV\\1 Started\n\
+        listed OWN\\DEV\\1\n\
+        event pull OWN\\DEV\\1\n\
+        gone OWN\\DEV\\1\n\
+        listed HTREE\\ROOT\\0\n\
+        begin surprise OWN\\DEV\\1\n\
+        SURPRISE_REMOVAL OWN\\DEV\\1 serial ok\n\
+        state OWN\\DEV\\1 SurpriseRemoved\n\
+        REMOVE_DEVICE OWN\\DEV\\1 serial ok\n\
+        state OWN\\DEV\\1 NoStack\n\
+        leave OWN\\DEV\\1\n\
+        end surprise OWN\\DEV\\1 done\n\
+        tree\n\
+        0 HTREE\\ROOT\\0 Started\n\
+        map\n\
+        outstanding\n";
+    assert_eq!(rt; out.as_slice(), expected.as_slice());
+    Ok(())
+}
+
+#[test]
+fn a_rebalance_makes_room_for_a_device(rt: HostRuntime) -> Result<(), Fail> {
+    let alloc = rt.alloc();
+    let out = one_rebalance(alloc).or_else(|_| one_rebalance(alloc))?;
+    let expected = b"event driver serial\n\
+        event plug OWN\\DEV\\1\n\
+        join 1 OWN\\DEV\\1\n\
+        listed HTREE\\ROOT\\0\n\
+        install OWN\\DEV\\1 00ff0000 serial\n\
+        add OWN\\DEV\\1 serial ok\n\
+        assign OWN\\DEV\\1 irq:5-5\n\
+        START_DEVICE OWN\\DEV\\1 serial ok\n\
+        state OWN\\DEV\\1 Started\n\
+        listed OWN\\DEV\\1\n\
+        event plug OWN\\DEV\\2\n\
+        join 2 OWN\\DEV\\2\n\
+        listed HTREE\\ROOT\\0\n\
+        install OWN\\DEV\\2 00ff0000 serial\n\
+        add OWN\\DEV\\2 serial ok\n\
+        nofit OWN\\DEV\\2\n\
+        begin rebalance OWN\\DEV\\2\n\
+        QUERY_STOP_DEVICE OWN\\DEV\\1 serial ok\n\
+        state OWN\\DEV\\1 StopPending\n\
+        fits OWN\\DEV\\2\n\
+        STOP_DEVICE OWN\\DEV\\1 serial ok\n\
+        state OWN\\DEV\\1 Stopped\n\
+        commit 2\n\
+        START_DEVICE OWN\\DEV\\1 serial ok\n\
+        state OWN\\DEV\\1 Started\n\
+        end rebalance OWN\\DEV\\2 moved\n\
+        START_DEVICE OWN\\DEV\\2 serial ok\n\
+        state OWN\\DEV\\2 Started\n\
+        listed OWN\\DEV\\2\n\
+        tree\n\
+        0 HTREE\\ROOT\\0 Started\n 1 OWN\\DEV\\1 Started\n 2 OWN\\DEV\\2 Started\n\
+        map\n\
+        irq:5-5 OWN\\DEV\\2\n\
+        irq:6-6 OWN\\DEV\\1\n\
+        outstanding\n";
     assert_eq!(rt; out.as_slice(), expected.as_slice());
     Ok(())
 }

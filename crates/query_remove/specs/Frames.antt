@@ -13,6 +13,11 @@ use Rattle.query_remove.specs.Walks.{minor_of}
 abbrev pub minor_that_waits : RemovalStage → Option Minor
 minor_that_waits stage = minor_of (removal_walk stage)
 
+-- a device is settled
+abbrev pub is_settling : RemovalStage → Bool
+is_settling RemovalStage.Settling = true
+is_settling _ = false
+
 -- a removal that waits goes on with the answer; any other refuses, and stays
 abbrev pub Completes : Bool → Result (Unit {0}) NoSuchRequest → Removal → Bool → Removal → Type 0
 Completes true (Ok done) old ok new = new ≡ record old { stage = completed_removal (answer_of ok) old.stage }

@@ -1,8 +1,9 @@
-ghost use Rattle.std.specs.Prelude.{◌≡◌, ◌==◌, slice_get};
+ghost use Rattle.std.specs.Prelude.{◌≡◌, ◌==◌, slice_get, option_map};
 ghost use Rattle.pnp_model.specs.Tests.{has, is_eject};
 ghost use Rattle.pnp_model.specs.Cores.{node_at};
+ghost use Rattle.pnp_model.specs.Machine.{removal_walk};
 ghost use Rattle.pnp_model.specs.Removals.{finish_on, cancel_on};
-ghost use Rattle.query_remove.specs.Frames.{minor_that_waits, Completed, has_drivers};
+ghost use Rattle.query_remove.specs.Frames.{minor_that_waits, is_settling, Completed, has_drivers};
 
 use crate::queue::SerialQueue;
 use crate::walking::{complete_walk, waiting_minor};
@@ -78,8 +79,25 @@ impl Removal {
         }
     }
 
-    /// The device that is next.
-    pub(crate) fn first(&self) -> Option<u64>
+    /// The request that is on its way through the drivers of the device that is next; none exactly where none is.
+    pub fn walk(&self) -> Option<&Walk>
+        ensures { option_map (λ w. w.now.walk) result ≡ removal_walk self.now.stage }
+    {
+        match self.stage {
+            Stage::Settling | Stage::Ending => None,
+            _ => Some(&self.walk),
+        }
+    }
+
+    /// Whether the device that is next is settled with the next step: it leaves or remains.
+    pub fn settles(&self) -> bool
+        ensures { result ≡ is_settling self.now.stage }
+    {
+        matches!(&self.stage, Stage::Settling)
+    }
+
+    /// The device that is next; none exactly where none is.
+    pub fn first(&self) -> Option<u64>
         ensures { result ≡ slice_get self.now.todo 0 }
     {
         self.todo.get(0)

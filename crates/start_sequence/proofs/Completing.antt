@@ -1,5 +1,5 @@
 -- A walk that is completed, as part of its start.
-use Rattle.std.proofs.Common.{◌≡◌, ℕ, Bool, true, false, Result, Ok, Err, ap}
+use Rattle.std.proofs.Common.{ℕ, Bool, true, false, Result, Ok, Err, ap}
 use Rattle.pnp_model.specs.Records as Records
 use Rattle.pnp_model.specs.Records.{Activity, Walk}
 use Rattle.pnp_model.specs.Records.Phase.{Starting, Removing}

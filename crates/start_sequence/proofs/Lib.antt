@@ -1,6 +1,6 @@
 pub mod Numbers
 pub mod Completing
-pub mod Nothing
 pub mod Acting
 pub mod Choosing
-pub mod Bare
+pub mod Mirroring
+pub mod Finding

@@ -1,13 +1,12 @@
 -- The choice of drivers for a device, and the begin of its start.
-use Rattle.std.specs.Prelude.{◌≡◌, ◌≤◌, ℕ, ◌+◌, Bool, true, false, List, [], ◌∷◌, ◌++◌, Option, Some, None, option_map, nat_le, length}
+use Rattle.std.specs.Prelude.{◌≡◌, ◌≤◌, ℕ, Bool, true, false, List, ◌++◌, Option, Some, None, option_map, length}
 use Rattle.inf_reader.specs.declared.parts.Inf.{Inf}
 use Rattle.pnp_labels.specs.Texts.{Text}
 use Rattle.pnp_labels.specs.declared.label.Label.{Label}
 use Rattle.pnp_model.specs.Records as Records
 use Rattle.pnp_model.specs.Records.{Node, Core, Driver, State, Step, Settings, Activity}
-use Rattle.pnp_model.specs.Cores.{node_at}
 use Rattle.pnp_model.specs.States.{with_core, drop_task, begin_activity}
-use Rattle.pnp_model.specs.Tasks.{begin_trouble, install, numbered, install_service, start_enabled}
+use Rattle.pnp_model.specs.Tasks.{begin_trouble, install, install_service, start_enabled}
 use Rattle.driver_rank.specs.Best.{best}
 use Rattle.driver_rank.specs.declared.choice.Choice.{Choice}
 use Rattle.start_sequence.specs.declared.begin.Chosen.{Chosen}

@@ -1,18 +1,18 @@
 -- The parts of a step of a start.
 use Rattle.std.specs.Prelude.{◌≡◌, ℕ, Bool, true, false, List, [], ◌∷◌, ◌++◌, Option, Some, None, length}
-use Rattle.resource_reqs.specs.Resources.{Res}
 use Rattle.pnp_labels.specs.declared.label.Label.{Label}
 use Rattle.pnp_labels.specs.declared.states.Problem.{Problem}
 use Rattle.pnp_labels.specs.declared.words.AskWhat.{AskWhat}
-use Rattle.pnp_model.specs.Records.{Node, Core, Driver, Relation, Walk, Phase}
+use Rattle.pnp_model.specs.Records.{Node, Core, Driver, Walk, Phase}
 use Rattle.pnp_model.specs.Records.Phase.{Starting, Removing, Due}
 use Rattle.pnp_model.specs.Books.{name_of, rack_reply, rack_after}
 use Rattle.pnp_model.specs.Walks.{has_ended}
-use Rattle.pnp_model.specs.Cores.{node_at, forget, stacked, with_stack, with_holds, with_problem}
+use Rattle.pnp_model.specs.Cores.{is_node, forget, stacked, with_stack, with_problem}
 use Rattle.pnp_model.specs.Keyed.{changed_first}
-use Rattle.pnp_model.specs.Cores.{is_node}
-use Rattle.pnp_model.specs.Starts.{StartMove, StartBeside, start_on, remove_on}
-use Rattle.start_sequence.specs.Steps.{core_of, is_ok}
+use Rattle.pnp_model.specs.Records.Doing.{Searches}
+use Rattle.pnp_model.specs.Starts.{StartMove, StartBeside, start_on, remove_on, own_problem, searched}
+use Rattle.start_sequence.specs.Steps.{is_ok, Done}
+use Rattle.start_sequence.specs.declared.next.StartStep.{StartStep}
 use Rattle.start_sequence.specs.declared.next.Started.{Started}
 use Rattle.start_sequence.specs.declared.next.Started.TheVariants as starts
 use Rattle.start_sequence.specs.declared.next.Removed.{Removed}
@@ -51,11 +51,10 @@ RemovesFor None c w went c' w' = ⊥
 RemovesFor (Some node) c w went c' w' =
     forget node.serial c.relations ≡ c.relations → Removes (remove_on c node w (has_ended w (length node.stack))) went c' w'
 
--- the device got nothing
-abbrev pub AssignedFor : Option Node → List Node → Label → List Node → Type 0
-AssignedFor None nodes label nodes' = ⊥
-AssignedFor (Some node) nodes label nodes' =
-    (label ≡ Label.Assign node.path []) × (nodes' ≡ changed_first (is_node node.serial) (with_holds []) nodes)
+-- the search for the resources of the device was answered, for this budget
+abbrev pub SearchedFor : ℕ → Option Node → Core → StartStep → Core → Phase → Type 0
+SearchedFor budget None c step c' phase' = ⊥
+SearchedFor budget (Some node) c step c' phase' = Done budget (Searches (own_problem c node) (searched c node)) step c' phase'
 
 abbrev pub is_full : {A : Type 0} → List A → Bool
 is_full [] = false

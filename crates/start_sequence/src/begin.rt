@@ -1,12 +1,12 @@
 ghost use Rattle.std.specs.Prelude.{◌≡◌, ◌≤◌, ◌+◌, ℕ, nat_le, IfOk, IfSome, OnErr, IsSome, length};
-ghost use Rattle.std.specs.List.{AllByRecursion};
 ghost use Rattle.pnp_model.specs.Cores.{node_at};
 ghost use Rattle.pnp_model.specs.Records.{State};
 ghost use Rattle.pnp_model.specs.Tasks.{start_enabled, numbered};
 ghost use Rattle.devnode_tree.specs.Identities.{identities};
+ghost use Rattle.trial_journal.specs.Four as Four;
+ghost use Rattle.device_holdings.specs.Mirrors.{KeepsMirror};
 ghost use Rattle.start_sequence.specs.Begins.{settings_of, step_of, AppendedBy, ChosenBy, HasFewIds, BegunFor};
 ghost use Rattle.start_sequence.specs.Works.{phase_of};
-ghost use Rattle.start_sequence.specs.Steps.{HoldsNothing};
 ghost use Rattle.pnp_model.specs.Starts.{adding};
 
 use crate::pending::Pending;
@@ -128,7 +128,7 @@ impl StartWork {
     /// before the first driver. The line that is printed is told. Conditions: the device is there, with at most 64
     /// hardware IDs and 64 compatible ones, and there are at most 64 INFs. After want of
     /// memory the tree is as before. Cost: that of the best choice.
-    #[tactic(auto, using(devnode_tree::proofs::Identities::problem_keeps, crate::proofs::Bare::problem_bare))]
+    #[tactic(auto, using(devnode_tree::proofs::Identities::problem_keeps, crate::proofs::Mirroring::mirror_problem))]
     pub fn begin<R: Drivers>(
         alloc: Global,
         tree: &mut Tree,
@@ -144,7 +144,7 @@ impl StartWork {
         ensures device { IfOk result (λ r. IfSome r.1 (λ work. work.serial ≡ serial)) }
         ensures next { tree.new.next ≡ tree.old.next }
         ensures keeps { identities tree.new.nodes ≡ identities tree.old.nodes }
-        ensures bare { AllByRecursion HoldsNothing tree.old.nodes → AllByRecursion HoldsNothing tree.new.nodes }
+        ensures mirrors { (arbiters : Four.Arbiters) → KeepsMirror tree.old.nodes arbiters tree.new.nodes arbiters }
         ensures tree { OnErr result (tree.new ≡ tree.old) }
     {
         let Some(node) = tree.node(serial) else {

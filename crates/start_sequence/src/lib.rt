@@ -1,9 +1,10 @@
-//! The start of one device: its drivers are chosen, add it, and are asked to start it.
+//! The start of one device: its drivers are chosen and add it, resources are found for it, and its drivers are asked to start it.
 #![tactic(auto)]
 
 mod begin;
 mod next;
 mod pending;
+mod searching;
 #[cfg(test)]
 mod tests;
 mod work;

@@ -1,27 +1,31 @@
-ghost use Rattle.std.specs.Prelude.{◌≡◌, List, [], ◌++◌, ◌∷◌, IfOk, OnErr, IsSome, false};
-ghost use Rattle.std.specs.List.{AllByRecursion};
+ghost use Rattle.std.specs.Prelude.{◌≡◌, ◌≤◌, List, [], ◌++◌, ◌∷◌, IfOk, OnErr, IsSome, false};
 ghost use Rattle.pnp_model.specs.Cores.{node_at, stacked};
 ghost use Rattle.pnp_model.specs.Machine.{phase_walk, is_waiting};
 ghost use Rattle.pnp_model.specs.Records.{Relation};
 ghost use Rattle.resource_reqs.specs.Resources.{Res};
 ghost use Rattle.devnode_tree.specs.Identities.{identities};
-ghost use Rattle.start_sequence.specs.Steps.{core_of, Acts, first_pending, phase_added, NeedsNothing, HoldsNothing};
-ghost use Rattle.start_sequence.specs.Parts.{AddedFor, StartsFor, RemovesFor, TroubledFor, AssignedFor};
+ghost use Rattle.trial_journal.specs.Four as Four;
+ghost use Rattle.device_holdings.specs.Mirrors.{IsMirrored, KeepsMirror};
+ghost use Rattle.start_sequence.specs.Steps.{core_of, Acts, first_pending, phase_added};
+ghost use Rattle.start_sequence.specs.Parts.{AddedFor, StartsFor, RemovesFor, TroubledFor};
 
 use crate::work::{Phase, StartWork};
+use device_holdings::release;
 use device_ids::{Text, WantOfMemory};
 use device_stack::{Passed, Walk, ask_driver, driver_name, state_after};
 use devnode_tree::Tree;
 use driver_rack::Drivers;
 use pnp_labels::{Answer, Ask, AskWhat, DevState, Label, Minor, Problem, Stack};
-use resource_reqs::ResList;
 use std::alloc::Global;
+use trial_journal::Arbiters;
 
 /// A step of the start of a device, with what the machine has to do beside it. This project's own.
 #[derive(Debug, Drop)]
 pub enum StartStep {
     /// Nothing: the start goes on.
     Did(Label),
+    /// No assignment exists for the device, and the start is over: a rebalance of the device is to begin.
+    Needs(Label),
     /// The device is started and the start is over: its children are to be listed.
     Up(Label),
     /// The start is over.
@@ -67,7 +71,7 @@ fn taller(alloc: Global, stack: &Stack, driver: u32) -> Result<Stack, WantOfMemo
 }
 
 /// A driver is asked to add the device; with Ok it stands on top of the stack.
-#[tactic(auto, using(devnode_tree::proofs::Identities::stack_keeps, crate::proofs::Bare::stack_bare))]
+#[tactic(auto, using(devnode_tree::proofs::Identities::stack_keeps, crate::proofs::Mirroring::mirror_stack))]
 fn add<R: Drivers>(
     alloc: Global,
     serial: u64,
@@ -79,7 +83,7 @@ fn add<R: Drivers>(
     ensures added { IfOk result (λ r. AddedFor (node_at serial tree.old.nodes) driver tree.old.nodes (R.rows rack.old) r.0 r.1 tree.new.nodes (R.rows rack.new)) }
     ensures next { tree.new.next ≡ tree.old.next }
     ensures keeps { identities tree.new.nodes ≡ identities tree.old.nodes }
-    ensures bare { AllByRecursion HoldsNothing tree.old.nodes → AllByRecursion HoldsNothing tree.new.nodes }
+    ensures mirrors { (arbiters : Four.Arbiters) → KeepsMirror tree.old.nodes arbiters tree.new.nodes arbiters }
     ensures tree { OnErr result (tree.new ≡ tree.old) }
     ensures rack { OnErr result (R.rows rack.new ≡ R.rows rack.old) }
 {
@@ -107,30 +111,8 @@ fn add<R: Drivers>(
     Ok((label, ok))
 }
 
-/// The device that needs nothing gets nothing.
-#[tactic(auto, using(devnode_tree::proofs::Identities::holds_keep, crate::proofs::Bare::holds_bare))]
-fn assign(alloc: Global, serial: u64, tree: &mut Tree) -> Result<Label, WantOfMemory>
-    requires { IsSome (node_at serial tree.old.nodes) }
-    ensures assigned { IfOk result (λ label. AssignedFor (node_at serial tree.old.nodes) tree.old.nodes label tree.new.nodes) }
-    ensures next { tree.new.next ≡ tree.old.next }
-    ensures keeps { identities tree.new.nodes ≡ identities tree.old.nodes }
-    ensures bare { AllByRecursion HoldsNothing tree.old.nodes → AllByRecursion HoldsNothing tree.new.nodes }
-    ensures tree { OnErr result (tree.new ≡ tree.old) }
-{
-    let Some(node) = tree.node(serial) else {
-        unreachable!()
-    };
-    let serial = node.serial;
-    let path = Text::make(alloc, node.path.bytes())?;
-    let _ = tree.swap_holds(serial, ResList::new(alloc));
-    Ok(Label::Assign {
-        path,
-        held: ResList::new(alloc),
-    })
-}
-
 /// The next step of the request that starts the device.
-#[tactic(auto, using(devnode_tree::proofs::Identities::state_keeps, crate::proofs::Bare::state_bare))]
+#[tactic(auto, using(devnode_tree::proofs::Identities::state_keeps, crate::proofs::Mirroring::mirror_state))]
 fn start<R: Drivers>(
     alloc: Global,
     serial: u64,
@@ -143,7 +125,7 @@ fn start<R: Drivers>(
     ensures started { IfOk result (λ went. (relations : List Relation) (reserved : List Res) → StartsFor (node_at serial tree.old.nodes) (core_of tree.old.nodes (R.rows rack.old) relations reserved) walk.old.walk went (core_of tree.new.nodes (R.rows rack.new) relations reserved) walk.new.walk) }
     ensures next { tree.new.next ≡ tree.old.next }
     ensures keeps { identities tree.new.nodes ≡ identities tree.old.nodes }
-    ensures bare { AllByRecursion HoldsNothing tree.old.nodes → AllByRecursion HoldsNothing tree.new.nodes }
+    ensures mirrors { (arbiters : Four.Arbiters) → KeepsMirror tree.old.nodes arbiters tree.new.nodes arbiters }
     ensures walk { OnErr result (walk.new ≡ walk.old) }
     ensures tree { OnErr result (tree.new ≡ tree.old) }
     ensures rack { OnErr result (R.rows rack.new ≡ R.rows rack.old) }
@@ -170,21 +152,23 @@ fn start<R: Drivers>(
 }
 
 /// The next step of the request that removes the device's drivers; with its end the device has no drivers and holds
-/// nothing.
-#[tactic(auto, using(devnode_tree::proofs::Identities::bare_keeps, crate::proofs::Bare::strip_bare, crate::proofs::Acting::stripped))]
+/// nothing, in tree and arbiters.
+#[tactic(auto, using(devnode_tree::proofs::Identities::bare_keeps, crate::proofs::Acting::stripped))]
 fn remove<R: Drivers>(
     alloc: Global,
     serial: u64,
     walk: &mut Walk,
     tree: &mut Tree,
     rack: &mut R,
+    arbiters: &mut Arbiters,
 ) -> Result<Removed, WantOfMemory>
     requires there { IsSome (node_at serial tree.old.nodes) }
     requires goes { walk.old.walk.waits ≡ false }
+    requires mirrored { IsMirrored tree.old.nodes arbiters.old }
     ensures removed { IfOk result (λ went. (relations : List Relation) (reserved : List Res) → RemovesFor (node_at serial tree.old.nodes) (core_of tree.old.nodes (R.rows rack.old) relations reserved) walk.old.walk went (core_of tree.new.nodes (R.rows rack.new) relations reserved) walk.new.walk) }
     ensures next { tree.new.next ≡ tree.old.next }
     ensures keeps { identities tree.new.nodes ≡ identities tree.old.nodes }
-    ensures bare { AllByRecursion HoldsNothing tree.old.nodes → AllByRecursion HoldsNothing tree.new.nodes }
+    ensures mirrors { KeepsMirror tree.old.nodes arbiters.old tree.new.nodes arbiters.new }
     ensures walk { OnErr result (walk.new ≡ walk.old) }
     ensures tree { OnErr result (tree.new ≡ tree.old) }
     ensures rack { OnErr result (R.rows rack.new ≡ R.rows rack.old) }
@@ -197,7 +181,7 @@ fn remove<R: Drivers>(
     match walk.pass(alloc, &node.stack, &node.path, rack)? {
         Passed::Asked(label) => Ok(Removed::On(label)),
         Passed::Ended { refused: _ } => {
-            let _ = tree.strip(serial);
+            release(tree, arbiters, serial);
             let state = DevState::NoStack;
             Ok(Removed::Over(Label::State { path, state }))
         }
@@ -205,7 +189,7 @@ fn remove<R: Drivers>(
 }
 
 /// The device gets a problem; whether it has drivers is told.
-#[tactic(auto, using(devnode_tree::proofs::Identities::problem_keeps, crate::proofs::Bare::problem_bare))]
+#[tactic(auto, using(devnode_tree::proofs::Identities::problem_keeps, crate::proofs::Mirroring::mirror_problem))]
 fn trouble(
     alloc: Global,
     serial: u64,
@@ -216,7 +200,7 @@ fn trouble(
     ensures troubled { IfOk result (λ r. TroubledFor (node_at serial tree.old.nodes) problem tree.old.nodes r.0 r.1 tree.new.nodes) }
     ensures next { tree.new.next ≡ tree.old.next }
     ensures keeps { identities tree.new.nodes ≡ identities tree.old.nodes }
-    ensures bare { AllByRecursion HoldsNothing tree.old.nodes → AllByRecursion HoldsNothing tree.new.nodes }
+    ensures mirrors { (arbiters : Four.Arbiters) → KeepsMirror tree.old.nodes arbiters tree.new.nodes arbiters }
     ensures tree { OnErr result (tree.new ≡ tree.old) }
 {
     let Some(node) = tree.node(serial) else {
@@ -255,26 +239,32 @@ impl StartWork {
         }
     }
 
-    /// The next step of a start that does not wait: a driver is asked, or a request or a part of the start ends. The
-    /// step tells the line that is printed and what the machine has to do; after `Up` and `Over` the start is over.
-    /// Conditions: the device is there, it needs no resources, and it has no relations. After want of memory start,
-    /// tree and rack are as before, and no driver was asked. Cost: the rules of one book, and the logarithm of the
-    /// number of nodes.
-    #[tactic(auto, using(crate::proofs::Acting::added, crate::proofs::Acting::start_goes, crate::proofs::Acting::start_refused, crate::proofs::Acting::start_ends, crate::proofs::Acting::remove_goes, crate::proofs::Acting::remove_ends, crate::proofs::Acting::assigned, crate::proofs::Acting::assigned_at_once, crate::proofs::Acting::troubled, crate::proofs::Acting::dropped))]
+    /// The next step of a start that does not wait: a driver is asked, resources are searched for, or a request or a part of
+    /// the start ends. The step tells the line that is printed and what the machine has to do; after `Needs`, `Up` and
+    /// `Over` the start is over. The budget is the most prefixes that the search may try. Conditions: the device is there,
+    /// the arbiters hold just what is reserved and what devices hold, which is kept, and the budget is at most 1,000,000.
+    /// That a step is the machine's is told for a device without relations. After want of memory start, tree and rack are
+    /// as before, and no driver was asked. Cost: the rules of one book, and the logarithm of the number of nodes; where
+    /// resources are searched for that of `device_holdings::search`, and where drivers are gone, for each resource that the
+    /// device held, the pairs of its kind.
+    #[tactic(auto, using(crate::proofs::Acting::added, crate::proofs::Acting::start_goes, crate::proofs::Acting::start_refused, crate::proofs::Acting::start_ends, crate::proofs::Acting::remove_goes, crate::proofs::Acting::remove_ends, crate::proofs::Acting::searched, crate::proofs::Acting::searched_at_once, crate::proofs::Acting::troubled, crate::proofs::Acting::dropped))]
     pub fn next<R: Drivers>(
         &mut self,
         alloc: Global,
         tree: &mut Tree,
         rack: &mut R,
+        arbiters: &mut Arbiters,
+        budget: u64,
     ) -> Result<StartStep, WantOfMemory>
         requires there { IsSome (node_at self.old.serial tree.old.nodes) }
-        requires needs { NeedsNothing (node_at self.old.serial tree.old.nodes) }
         requires goes { is_waiting (phase_walk self.old.phase) ≡ false }
-        ensures acts { IfOk result (λ step. Acts self.old.serial tree.old.nodes (R.rows rack.old) self.old.phase step tree.new.nodes (R.rows rack.new) self.new.phase) }
+        requires mirrored { IsMirrored tree.old.nodes arbiters.old }
+        requires budget { budget ≤ 1000000 }
+        ensures acts { IfOk result (λ step. Acts budget arbiters.old self.old.serial tree.old.nodes (R.rows rack.old) self.old.phase step tree.new.nodes (R.rows rack.new) self.new.phase) }
         ensures serial { self.new.serial ≡ self.old.serial }
         ensures next { tree.new.next ≡ tree.old.next }
         ensures keeps { identities tree.new.nodes ≡ identities tree.old.nodes }
-        ensures bare { AllByRecursion HoldsNothing tree.old.nodes → AllByRecursion HoldsNothing tree.new.nodes }
+        ensures mirrors { KeepsMirror tree.old.nodes arbiters.old tree.new.nodes arbiters.new }
         ensures start { OnErr result (self.new ≡ self.old) }
         ensures tree { OnErr result (tree.new ≡ tree.old) }
         ensures rack { OnErr result (R.rows rack.new ≡ R.rows rack.old) }
@@ -286,11 +276,7 @@ impl StartWork {
             return Ok(StartStep::Did(label));
         }
         match &mut self.phase {
-            Phase::Adding(_) | Phase::Searching => {
-                let label = assign(alloc, serial, tree)?;
-                self.phase = Phase::Starting(Walk::begin(Minor::Start));
-                Ok(StartStep::Did(label))
-            }
+            Phase::Adding(_) | Phase::Searching => self.search(alloc, tree, arbiters, budget),
             Phase::Starting(walk) => match start(alloc, serial, walk, tree, rack)? {
                 Started::On(label) => Ok(StartStep::Did(label)),
                 Started::Up(label) => Ok(StartStep::Up(label)),
@@ -300,7 +286,7 @@ impl StartWork {
                 }
             },
             Phase::Removing(walk) => {
-                let label = match remove(alloc, serial, walk, tree, rack)? {
+                let label = match remove(alloc, serial, walk, tree, rack, arbiters)? {
                     Removed::On(label) => label,
                     Removed::Over(label) => return Ok(StartStep::Over(label)),
                 };

@@ -1,5 +1,6 @@
-ghost use Rattle.std.specs.Prelude.{◌≡◌, ◌==◌, slice_get};
+ghost use Rattle.std.specs.Prelude.{◌≡◌, ◌==◌, slice_get, option_map};
 ghost use Rattle.pnp_model.specs.Tests.{has};
+ghost use Rattle.pnp_model.specs.Machine.{surprise_walk};
 ghost use Rattle.pnp_model.specs.Surprises.{finish_on};
 ghost use Rattle.pnp_model.specs.Cores.{node_at};
 ghost use Rattle.query_remove.specs.Frames.{has_drivers};
@@ -69,8 +70,25 @@ impl Surprise {
         }
     }
 
-    /// The device that is next.
-    pub(crate) fn first(&self) -> Option<u64>
+    /// The request that is on its way through the drivers of the device that is next; none exactly where none is.
+    pub fn walk(&self) -> Option<&Walk>
+        ensures { option_map (λ w. w.now.walk) result ≡ surprise_walk self.now.stage }
+    {
+        match self.stage {
+            Stage::Settling | Stage::Ending => None,
+            _ => Some(&self.walk),
+        }
+    }
+
+    /// The device that the bus has lost.
+    pub fn target(&self) -> u64
+        ensures { result ≡ self.now.target }
+    {
+        self.target
+    }
+
+    /// The device that is next; none exactly where none is.
+    pub fn first(&self) -> Option<u64>
         ensures { result ≡ slice_get self.now.todo 0 }
     {
         self.todo.get(0)

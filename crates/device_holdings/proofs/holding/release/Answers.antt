@@ -14,4 +14,4 @@ pub returns-clause-mirrors : goal.returns-clause-mirrors
 returns-clause-mirrors c = λ reserved m.
     let k = c.args.serial in let nodes = c.args.tree.now.nodes in
     subst (λ (t : Tree). Mirrors reserved t.nodes c.take_all.new.arbiters) (sym c.strip-held.ensures.set)
-    (released reserved k nodes c.strip-held.result (c.strip-held.ensures.old ∙ unwrapped (node_at k nodes)) c.args.arbiters.now m c.take_all.new.arbiters c.take_all.ensures)
+    (released reserved k nodes c.strip-held.result (c.strip-held.ensures.old ∙ unwrapped (node_at k nodes)) c.args.arbiters.now m c.take_all.new.arbiters c.take_all.ensures.taken)

@@ -1,9 +1,12 @@
-use Rattle.std.proofs.Common.{◌≡◌, List, ◌++◌, drop}
+use Rattle.std.proofs.Common.{◌≡◌, ◌≤◌, List, ◌++◌, drop}
+use Rattle.resource_reqs.specs.declared.kind.Kind.{Kind}
 use Rattle.range_arbiter.specs.Pairs.{Pair}
-use Rattle.trial_journal.specs.Four.{lists_of}
+use Rattle.trial_journal.specs.Four.{of_kind, lists_of}
 use Rattle.device_holdings.specs.Mirrors.{pairs_of, lists_with}
 use Rattle.device_holdings.proofs.pairs.take_all.Given as goal
 
 abbrev pub invariant-held : goal.invariant-held
-invariant-held l =
-    (rest : List Pair) → lists_of l.initial.arbiters ≡ lists_with (pairs_of l.owner l.held ++ rest) → lists_of l.arbiters ≡ lists_with (pairs_of l.owner (drop l.at l.held) ++ rest)
+invariant-held l = record {
+  taken : (rest : List Pair) → lists_of l.initial.arbiters ≡ lists_with (pairs_of l.owner l.held ++ rest) → lists_of l.arbiters ≡ lists_with (pairs_of l.owner (drop l.at l.held) ++ rest);
+  spare : (kind : Kind) → (of_kind l.initial.arbiters kind).spare ≤ (of_kind l.arbiters kind).spare;
+}

@@ -2,17 +2,9 @@ use Rattle.std.proofs.Common.{◌∙◌, sym, true, subst}
 use Rattle.script_reader.specs.Script.{trace}
 use Rattle.script_reader.specs.Answers.{Answers}
 use Rattle.script_reader.specs.declared.next.Next.{Next}
-use Rattle.pnp_cli.proofs.Turning.{goes_on, goes_unbuilt, goes_bad, left_event}
+use Rattle.pnp_cli.proofs.Turning.{goes_on, goes_bad, left_event}
 use Rattle.pnp_cli.proofs.FewIds.{few_ids}
 use Rattle.pnp_cli.proofs.output.take_turn.Goals as goal
-
-pub returns-then-not-is_built : goal.returns-then-not-is_built
-returns-then-not-is_built g c =
-    let A : Next → Type 0 = λ n. Answers n c.args.reader.now c.next_event.new.self in
-    let answers : Answers (Next.Event c.in-Event.event) c.args.reader.now c.next_event.new.self = subst A c.in-Event.is c.in_ok-event.ensures.answers in
-    rw c.line.ensures
-    (goes_unbuilt c.args.manager.now c.args.reader.now c.next_event.new.self c.next_event.new.self.line c.in-Event.event c.args.out.now.items
-    answers.0 c.requires.finished (sym c.if-not-is_built.ensures) c.requires.awaits)
 
 pub returns-in-Bad : goal.returns-in-Bad
 returns-in-Bad g c =
@@ -32,7 +24,7 @@ returns-in_ok-answer_event-in-Event g c =
     let A : Next → Type 0 = λ n. Answers n c.args.reader.now c.next_event.new.self in
     let answers : Answers (Next.Event c.in-Event.event) c.args.reader.now c.next_event.new.self = subst A c.in-Event.is c.in_ok-event.ensures.answers in (
       goes_on c.args.manager.now c.answer_event.new.manager c.args.reader.now c.next_event.new.self c.next_event.new.self.line c.in-Event.event c.args.out.now.items c.answer_event.new.out.items
-          answers.0 c.requires.finished (sym c.if-not-is_built.ensures) c.in_ok-answer_event-in-Event.ensures,
+          answers.0 c.requires.finished c.in_ok-answer_event-in-Event.ensures,
       answers.0.finished ∙ c.requires.finished,
       answers.1,
       c.in_ok-answer_event-in-Event.ensures.events,

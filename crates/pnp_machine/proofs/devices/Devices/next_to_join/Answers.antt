@@ -1,12 +1,15 @@
 use Rattle.std.proofs.Common.{ap, sym}
 use Rattle.pnp_model.specs.Records.{Node}
+use Rattle.pnp_machine.specs.Devices.{Devices}
 use Rattle.pnp_machine.proofs.Joins.{kept_at, next_of}
 use Rattle.pnp_machine.proofs.devices.Devices.next_to_join.Goals as goal
 
 pub returns : goal.returns
 returns c =
-    let kept = kept_at c.self.inside.world c.self.inside.tree c.self.inside.over c.self.inside.from c.node-2.inside.born c.self.invariant in
+    let s = c.self.inside in
+    let ds : Devices = record { world = s.world; tree = s.tree; relations = s.relations; reserved = s.reserved } in
+    let kept = kept_at s.world s.tree s.reserved s.arbiters s.over s.from c.node-2.inside.born c.self.invariant in
     rw (← c.self.view_is)
-    (next_of (record { world = c.self.inside.world; tree = c.self.inside.tree }) c.args.serial c.node-2.inside.born c.from_at-from.result c.in-Some.node.now c.next_join.result
+    (next_of ds c.args.serial c.node-2.inside.born c.from_at-from.result c.in-Some.node.now c.next_join.result
     (sym c.in-Some.ensures.node) (ap (λ (n : Node). n.born) (sym c.node-2.view_is))
     (rw c.from_at-from.ensures kept.listed) c.next_join.ensures)

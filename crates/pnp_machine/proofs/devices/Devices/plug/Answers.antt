@@ -3,10 +3,10 @@ use Rattle.pnp_machine.proofs.devices.Devices.plug.Goals as goal
 
 pub invariant_of-self : goal.invariant_of-self
 invariant_of-self c =
+    let s = c.self.inside in
     let e = c.plug.ensures in
-    kept_arrival c.self.inside.world c.plug.new.self c.self.inside.tree c.self.inside.over c.self.inside.from c.self.invariant c.args.parent.now c.args.path c.args.hw c.args.compat
-    c.args.reqs c.requires.hw c.requires.compat c.requires.needs c.plug.result
-    (arrives c.self.inside.world c.plug.new.self c.args.parent.now c.args.path c.args.hw c.args.compat c.args.reqs c.plug.result e.plugged e.no_parent e.same_id e.full e.err)
+    kept_arrival s.world s.tree s.reserved s.arbiters s.over s.from c.self.invariant c.plug.new.self c.args.parent.now c.args.path c.args.hw c.args.compat c.args.reqs c.plug.result
+    (arrives s.world c.plug.new.self c.args.parent.now c.args.path c.args.hw c.args.compat c.args.reqs c.plug.result e.plugged e.no_parent e.same_id e.full e.err)
 
 pub returns-clause-arrives : goal.returns-clause-arrives
 returns-clause-arrives c =

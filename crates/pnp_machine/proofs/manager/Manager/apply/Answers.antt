@@ -1,11 +1,12 @@
 use Rattle.std.proofs.Common.{sym, ap, subst, arith}
 use Rattle.pnp_model.specs.Machine.{IsQuiet}
+use Rattle.start_sequence.specs.Begins.{settings_of}
 use Rattle.pnp_machine.specs.Managers.{Manager, settings}
-use Rattle.pnp_machine.proofs.RunLaws.{run_births, run_applied, laws_applied}
+use Rattle.pnp_machine.proofs.RunLaws.{run_births, run_applied, laws_applied, few_applied}
 use Rattle.pnp_machine.proofs.manager.Manager.apply.Goals as goal
 
-pub apply-requires-clause-room : goal.apply-requires-clause-room
-apply-requires-clause-room g c =
+pub apply-requires : goal.apply-requires
+apply-requires g c =
     let e = ap (λ (m : Manager). m.events) c.self.view_is in
     let few = c.requires.events in
     run_births _ _ _ c.self.invariant.run (omega arith)
@@ -15,6 +16,8 @@ invariant_of-self-2 g c =
     let quiet = subst (λ (m : Manager). IsQuiet (settings m) m.state) (sym c.self.view_is) c.requires.quiet in
     record {
       few = c.self.invariant.few;
+      spends = c.self.invariant.spends;
+      ids = few_applied (settings_of c.self.inside.infs.items c.self.inside.budget) _ _ c.self.invariant.ids c.args.event c.in_ok-label.label c.requires.ids quiet c.in_ok-label.ensures.done;
       run = run_applied _ _ _ _ c.args.event c.in_ok-label.label c.self.invariant.run quiet c.in_ok-label.ensures.done;
     }
 

@@ -1,9 +1,15 @@
-use Rattle.std.proofs.Common.{[], refl}
+use Rattle.std.proofs.Common.{[], refl, sym, subst}
+use Rattle.pnp_model.specs.Records.{State}
+use Rattle.pnp_machine.specs.Ids.{AreFewIds}
+use Rattle.pnp_machine.proofs.Ids.{few_opening}
 use Rattle.pnp_machine.proofs.manager.Manager.new.Goals as goal
 
 pub invariant_of-result : goal.invariant_of-result
 invariant_of-result g c =
+    let rack = g.R.Drivers.rows c.args.rack in
     record {
-      few = c.requires;
-      run = record { rack = g.R.Drivers.rows c.args.rack; entries = []; reaches = c.in_ok-machine.ensures; count = refl };
+      few = c.requires.few;
+      spends = c.requires.budget;
+      ids = subst (λ (s : State). AreFewIds s) (sym c.in_ok-machine.ensures) (few_opening rack);
+      run = record { rack = rack; entries = []; reaches = c.in_ok-machine.ensures; count = refl };
     }

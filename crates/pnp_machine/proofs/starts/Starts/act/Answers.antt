@@ -15,12 +15,12 @@ unreachable-requires g c =
     let xs = c.self.inside.works.items in
     let first = rw (← c.self.view_is) at c.requires.first in
     first_there c.args.serial xs c.self.invariant.order first
-    (find_from_none (is_activity c.args.serial) xs (rw c.deref.ensures.value at (sym c.in_default.ensures)))
+    (find_from_none (is_activity c.args.serial) xs (rw c.deref.ensures.value at (sym {b = position (is_activity c.args.serial) c.deref.result.now} c.in_default.ensures)))
 
 pub act-requires-clause-there : goal.act-requires-clause-there
 act-requires-clause-there g c =
     let xs = c.self.inside.works.items in
-    let place : position (is_activity c.args.serial) c.self.inside.works.items ≡ Some c.in-Some.place = rw c.deref.ensures.value at (sym c.in-Some.ensures) in
+    let place : position (is_activity c.args.serial) c.self.inside.works.items ≡ Some c.in-Some.place = rw c.deref.ensures.value at (sym {b = position (is_activity c.args.serial) c.deref.result.now} c.in-Some.ensures) in
     let held = find_from_position (is_activity c.args.serial) xs c.in-Some.place c.index_mut-work.result.now place ∙ sym (ap Some c.index_mut-work.ensures.value) in
     subst (λ k. IsSome (node_at k c.args.devices.now.tree.nodes)) (sym (own_activity c.args.serial c.index_mut-work.result.now xs held)) c.requires.there
 
@@ -29,7 +29,7 @@ act-requires-clause-goes g c =
     let xs = c.self.inside.works.items in
     let a = c.index_mut-work.result.now in
     let first = rw (← c.self.view_is) at c.requires.first in
-    let place : position (is_activity c.args.serial) c.self.inside.works.items ≡ Some c.in-Some.place = rw c.deref.ensures.value at (sym c.in-Some.ensures) in
+    let place : position (is_activity c.args.serial) c.self.inside.works.items ≡ Some c.in-Some.place = rw c.deref.ensures.value at (sym {b = position (is_activity c.args.serial) c.deref.result.now} c.in-Some.ensures) in
     let held = find_from_position (is_activity c.args.serial) xs c.in-Some.place a place ∙ sym (ap Some c.index_mut-work.ensures.value) in
     goes_not_waits (is_waiting (phase_walk a.phase))
     (find_passes is_ready xs a (ready_at c.args.serial xs a c.self.invariant.order first held))
@@ -49,7 +49,7 @@ invariant_of-self-2 g c =
     let b = c.act.new.work in
     let step = c.in_ok-step.step in
     let first = rw (← c.self.view_is) at c.requires.first in
-    let place : position (is_activity c.args.serial) c.self.inside.works.items ≡ Some c.in-Some.place = rw c.deref.ensures.value at (sym c.in-Some.ensures) in
+    let place : position (is_activity c.args.serial) c.self.inside.works.items ≡ Some c.in-Some.place = rw c.deref.ensures.value at (sym {b = position (is_activity c.args.serial) c.deref.result.now} c.in-Some.ensures) in
     let held = find_from_position (is_activity k) xs c.in-Some.place a place ∙ sym (ap Some c.index_mut-work.ensures.value) in
     let found = ready_at k xs a c.self.invariant.order first held in
     let own = own_activity k a xs held in
@@ -71,9 +71,9 @@ returns-clause-acts g c =
     let a = c.index_mut-work.result.now in
     let b = c.act.new.work in
     let step = c.in_ok-step.step in
-    let place : position (is_activity c.args.serial) c.self.inside.works.items ≡ Some c.in-Some.place = rw c.deref.ensures.value at (sym c.in-Some.ensures) in
+    let place : position (is_activity c.args.serial) c.self.inside.works.items ≡ Some c.in-Some.place = rw c.deref.ensures.value at (sym {b = position (is_activity c.args.serial) c.deref.result.now} c.in-Some.ensures) in
     let held = find_from_position (is_activity k) xs c.in-Some.place a place ∙ sym (ap Some c.index_mut-work.ensures.value) in
     let changed : b ≡ with_phase b.phase a = ap (λ s. record { serial = s; phase = b.phase }) c.act.ensures.serial in
     let items = works_acted step k b.phase xs c.drop_over.new.works.items a b c.in-Some.place place c.index_mut-work.ensures.value changed (rw c.is_over.ensures at c.drop_over.ensures.items) in
     rw (← c.self.view_is)
-    (acts_for step k xs c.drop_over.new.works.items a b.phase _ _ _ _ held c.in_ok-step.ensures.acts items)
+    (acts_for c.args.budget step k xs c.drop_over.new.works.items a b.phase _ _ _ _ held c.in_ok-step.ensures.acts items)

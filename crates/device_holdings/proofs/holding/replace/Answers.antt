@@ -1,0 +1,38 @@
+use Rattle.std.proofs.Common.{◌≡◌, ◌++◌, sym, subst, ◌∙◌, arith}
+use Rattle.resource_reqs.specs.declared.owner.Owner.TheVariants.{Device}
+use Rattle.pnp_model.specs.Cores.{node_at}
+use Rattle.devnode_tree.specs.Trees.{Tree}
+use Rattle.device_holdings.specs.Mirrors.{pairs_of, Mirrors}
+use Rattle.device_holdings.proofs.Apart.{holds_of, pairs_beside, swapped_out, old_first, longer, assigned}
+use Rattle.device_holdings.proofs.holding.replace.Goals as goal
+use Rattle.device_holdings.proofs.holding.replace.Goals.{After-swap_holds-old}
+
+-- the holdings that were there
+was_held : (c : After-swap_holds-old) → c.swap_holds-old.result ≡ holds_of (node_at c.args.serial c.args.tree.now.nodes)
+was_held c = c.swap_holds-old.ensures.old ∙ swapped_out (node_at c.args.serial c.args.tree.now.nodes) c.args.holds c.requires.there
+
+pub take_all-requires : goal.take_all-requires
+take_all-requires c =
+    let at = (goal.at.take_all-requires c).After-swap_holds-old in
+    let k = c.args.serial in let nodes = c.args.tree.now.nodes in let reserved = c.requires.mirrored.0 in (
+      pairs_of (Device k) c.args.holds ++ pairs_beside reserved k nodes,
+      old_first reserved k nodes c.swap_holds-old.result (was_held at) c.args.arbiters.now c.requires.mirrored.1 c.args.holds c.put_all.new.arbiters c.put_all.ensures.put,
+    )
+
+pub returns-clause-mirrors : goal.returns-clause-mirrors
+returns-clause-mirrors c = λ reserved m.
+    let at = (goal.at.returns-clause-mirrors c).After-swap_holds-old in
+    let k = c.args.serial in let nodes = c.args.tree.now.nodes in
+    subst (λ (t : Tree). Mirrors reserved t.nodes c.take_all.new.arbiters) (sym c.swap_holds-old.ensures.set)
+    (assigned reserved k nodes c.swap_holds-old.result (was_held at) c.args.arbiters.now m c.args.holds c.put_all.new.arbiters c.put_all.ensures.put
+    c.requires.there c.requires.room.few c.take_all.new.arbiters c.take_all.ensures.taken)
+
+pub returns-clause-room : goal.returns-clause-room
+returns-clause-room c = λ more room.
+    let at = (goal.at.returns-clause-room c).After-swap_holds-old in
+    let k = c.args.serial in let nodes = c.args.tree.now.nodes in record {
+      spare = λ kind. let free = room.spare kind in let put = c.put_all.ensures.spare kind in let taken = c.take_all.ensures.spare kind in omega arith;
+      few = λ kind.
+          let long = longer c.requires.mirrored.0 k nodes c.swap_holds-old.result (was_held at) c.args.arbiters.now c.requires.mirrored.1 c.args.holds c.put_all.new.arbiters c.put_all.ensures.put c.take_all.new.arbiters c.take_all.ensures.taken kind in
+          let few = room.few kind in omega arith;
+    }

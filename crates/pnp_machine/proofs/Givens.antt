@@ -1,0 +1,156 @@
+-- What a state of a run gives to each step.
+use Rattle.std.proofs.Common.{Contains, ℕ, suc, ◌<◌, ◌≡◌, ◌≢◌, inl, inr, true, false, List, [], ◌∷◌, ◌++◌, map, Option, Some, None, IsSome, refl, sym, ap, ◌∙◌, subst, arith, add-one}
+use Rattle.resource_reqs.specs.Resources.{Res, Reqs, Whole}
+use Rattle.pnp_labels.specs.declared.states.DevState.{DevState}
+use Rattle.pnp_labels.specs.declared.states.DevState.TheVariants.{NotStarted}
+use Rattle.pnp_model.specs.Keyed.{changed_first}
+use Rattle.pnp_model.specs.Records.{Node, Core, Driver, Activity, Phase, State, Step, Settings, Operation, Removal, Surprise, Doing}
+use Rattle.pnp_model.specs.Records.Phase.{Adding, Searching, Starting, Removing, Due}
+use Rattle.pnp_model.specs.Cores.{is_node, node_at, bare, forget, new_node, serials_of}
+use Rattle.pnp_model.specs.Laws.{Reaches, is_up_to_now}
+use Rattle.pnp_model.specs.Machine.{is_waiting, next, next_of, operation_next, operation_walk}
+use Rattle.pnp_model.specs.Rebalances.{committed}
+use Rattle.pnp_model.specs.Runs.{Entry, Goes}
+use Rattle.pnp_model.specs.Runs.Entry.{Happens, Did}
+use Rattle.pnp_model.specs.States.{activity_at}
+use Rattle.pnp_laws.specs.Kept.{Alone, Ascending, Fits, is_idle}
+use Rattle.pnp_laws.specs.Quiet.{RestsWith}
+use Rattle.pnp_laws.specs.Reached.{IsReached}
+use Rattle.pnp_laws.proofs.EventChanges.{happens_outside}
+use Rattle.pnp_laws.proofs.Lookups.{joined_from, left_from, map_from, node_from}
+use Rattle.pnp_laws.proofs.Reached.{reached_is_good}
+use Rattle.pnp_laws.proofs.Reaching.{kept}
+use Rattle.pnp_laws.proofs.Runs.{root_is}
+use Rattle.pnp_laws.proofs.RunsShare.{nothing_clashes}
+use Rattle.pnp_laws.proofs.RunsStand.{reaches_kept}
+use Rattle.pnp_laws.proofs.RunsStep.{quiet_where_it_rests}
+use Rattle.pnp_laws.proofs.RunsWhole.{all_hold_whole}
+use Rattle.devnode_tree.specs.Trees.{Ascends}
+use Rattle.device_holdings.specs.MapRows.{IsOrderly}
+use Rattle.query_remove.specs.Steps as query
+use Rattle.query_remove.proofs.Given.{removal_ready}
+use Rattle.surprise_remove.specs.Steps as surprise
+use Rattle.surprise_remove.proofs.Given.{surprise_ready}
+use Rattle.pnp_machine.proofs.Changes.{CoreChange, step_changes}
+use Rattle.pnp_machine.proofs.Related.{related_up, no_relations}
+
+-- The root needs nothing and holds nothing ---------------------------------------------------
+
+abbrev pub RootNeedsNothing : List Node → Type 0
+RootNeedsNothing nodes = (n : Node) → node_at 0 nodes ≡ Some n → n.reqs ≡ []
+
+changed_needs : (j : ℕ) (f : Node → Node) (nodes : List Node) → ((n : Node) → (f n).serial ≡ n.serial) → ((n : Node) → (f n).reqs ≡ n.reqs)
+    → RootNeedsNothing nodes → RootNeedsNothing (changed_first (is_node j) f nodes)
+changed_needs j f nodes serial reqs h m at =
+    elim (node_from j 0 f nodes m serial at) [
+      | inl (e, (n, there, same)) ↦ ap (λ (x : Node). x.reqs) same ∙ reqs n ∙ h n there
+      | inr (d, there) ↦ h m there
+    ]
+
+-- what joins is not the root
+joined_needs : (nodes : List Node) (new : Node) → 0 < new.serial → RootNeedsNothing nodes → RootNeedsNothing (nodes ++ new ∷ [])
+joined_needs nodes new up h m at =
+    elim (joined_from 0 nodes new m at) [
+      | inl there ↦ h m there
+      | inr (none, same, root) ↦ absurd (omega arith)
+    ]
+
+mapped_needs : (movers : List ℕ) (plan : List (List Res)) (nodes : List Node) → RootNeedsNothing nodes → RootNeedsNothing (map (committed movers plan) nodes)
+mapped_needs movers plan nodes h m at =
+    let from = map_from 0 (committed movers plan) nodes m (λ n. refl) at in
+    ap (λ (x : Node). x.reqs) from.2 ∙ h from.0 from.1
+
+core_needs : (s : State) (c : Core) → CoreChange s c → Ascending 0 s.core.nodes → 0 < s.next_serial → RootNeedsNothing s.core.nodes → RootNeedsNothing c.nodes
+core_needs s c (CoreChange.same a b) order begun h = subst RootNeedsNothing (sym a) h
+core_needs s c (CoreChange.changed j f keeps up a b) order begun h = subst RootNeedsNothing (sym a) (changed_needs j f s.core.nodes keeps.serial keeps.reqs h)
+core_needs s c (CoreChange.stripped j a b) order begun h = subst RootNeedsNothing (sym a) (changed_needs j bare s.core.nodes (λ n. refl) (λ n. refl) h)
+core_needs s c (CoreChange.mapped movers plan a b) order begun h = subst RootNeedsNothing (sym a) (mapped_needs movers plan s.core.nodes h)
+core_needs s c (CoreChange.joined parent d test found a b) order begun h =
+    subst RootNeedsNothing (sym a) (joined_needs s.core.nodes (new_node s.next_serial parent d) begun h)
+core_needs s c (CoreChange.left j a b) order begun h =
+    subst RootNeedsNothing (sym a) (λ m at. h m (left_from j 0 s.core.nodes m order at).1)
+
+goes_needs : (settings : Settings) (rack : List Driver) (old : State) (entry : Entry) (new : State) → IsReached settings rack old → RootNeedsNothing old.core.nodes → Goes settings old entry new
+    → RootNeedsNothing new.core.nodes
+goes_needs settings rack old (Happens event label) new reached h goes =
+    subst RootNeedsNothing (sym (subst (λ (t : Step). t.state.core.nodes ≡ old.core.nodes) goes.1 (happens_outside old event).nodes)) h
+goes_needs settings rack old (Did label) new reached h goes =
+    let good = reached_is_good settings rack old reached in
+    core_needs old new.core (step_changes settings old label new goes).core good.serials good.begun h
+
+-- a device that needs nothing holds nothing where it holds one whole alternative
+nothing_held : (reqs : Reqs) (holds : List Res) → reqs ≡ [] → Whole reqs holds → holds ≡ []
+nothing_held reqs holds e (inl (none, bare)) = bare
+nothing_held reqs holds e (inr (list, there, parts)) = absurd (let (k, below, is) = subst (λ (lists : Reqs). Contains lists list) e there in omega arith)
+
+-- Serials ascend, as the tree has it
+ascends : (low : ℕ) (nodes : List Node) → Ascending low nodes → Ascends low (serials_of nodes)
+ascends low [] h = tt
+ascends low (n ∷ nodes) h = (h.0, subst (λ (k : ℕ). Ascends k (serials_of nodes)) (sym (add-one n.serial)) (ascends (suc n.serial) nodes h.1))
+
+-- What each step needs -----------------------------------------------------------------------
+
+module _ (settings : Settings) (rack : List Driver) (entries : List Entry) (s : State) (run : Reaches settings rack entries s) where
+  pub root_needs_nothing : RootNeedsNothing s.core.nodes
+  root_needs_nothing =
+      kept (λ (x : State). RootNeedsNothing x.core.nodes) settings rack (goes_needs settings rack)
+      (λ n at. ap (λ (x : Node). x.reqs) (sym (root_is 0 n at).0)) s (entries, run)
+
+  pub root_holds_nothing : (n : Node) → node_at 0 s.core.nodes ≡ Some n → n.holds ≡ []
+  root_holds_nothing n at =
+      let state = ((reaches_kept settings rack entries s run).good.stacks 0 n at).root refl in
+      let whole = (all_hold_whole settings rack entries s run).up 0 n at (ap is_up_to_now state) in
+      nothing_held n.reqs n.holds (root_needs_nothing n at) whole
+
+  -- nothing clashes, serials ascend, and the root holds nothing
+  pub orderly : IsOrderly s.core
+  orderly =
+      record {
+        clear = nothing_clashes settings rack entries s run;
+        ascends = ascends 0 s.core.nodes (reaches_kept settings rack entries s run).good.serials;
+        root = root_holds_nothing;
+      }
+
+  -- an operation that runs and does not wait can go on
+  pub operation_goes : (o : Operation) → s.operation ≡ Some o → is_waiting (operation_walk o) ≡ false → IsSome (operation_next s o false)
+  operation_goes o runs awake = by_next (operation_next s o false) refl
+    where
+      by_next : (x : Option (Doing Step)) → operation_next s o false ≡ x → IsSome x
+      by_next None e =
+          let quiet : next settings s ≡ None = ap (next_of settings s) runs ∙ ap (operation_next s o) awake ∙ e in
+          let rests = subst (RestsWith s) runs ((quiet_where_it_rests settings rack entries s run).0 quiet) in
+          absurd (cc)
+      by_next (Some doing) e = refl
+
+  -- a removal can take its step, and what it settles may leave
+  pub removal_goes : (o : Removal) → s.operation ≡ Some (Operation.Removing o) → query.HasNext s.core.nodes o o.stage × query.SettlesStripped s.core.nodes o o.stage
+  removal_goes o runs = removal_ready s o (reaches_kept settings rack entries s run) (all_hold_whole settings rack entries s run) runs
+
+  -- likewise a surprise removal
+  pub surprise_goes : (o : Surprise) → s.operation ≡ Some (Operation.Surprising o) → surprise.HasNext s.core.nodes o o.stage × surprise.SettlesStripped s.core.nodes o o.stage
+  surprise_goes o runs = surprise_ready s o (reaches_kept settings rack entries s run) (all_hold_whole settings rack entries s run) runs
+
+  -- the device of a start is there, and not the root
+  pub start_there : (k : ℕ) (a : Activity) → activity_at k s.activities ≡ Some a → (n : Node) × (node_at k s.core.nodes ≡ Some n) × (k ≢ 0) × Fits a.phase n.state
+  start_there k a at = (reaches_kept settings rack entries s run).good.phases k a at
+
+  -- it was never up, so it has no relations
+  pub start_unrelated : (k : ℕ) (a : Activity) → activity_at k s.activities ≡ Some a → forget k s.core.relations ≡ s.core.relations
+  start_unrelated k a at =
+      let (n, there, up, fits) = start_there k a at in
+      no_relations s.core k n (related_up settings rack entries s run) there (fits_idle a.phase n.state fits)
+    where
+      waits_idle : (x : DevState) → x ≡ NotStarted → is_idle x ≡ true
+      waits_idle x e = ap is_idle e
+
+      fits_idle : (phase : Phase) (x : DevState) → Fits phase x → is_idle x ≡ true
+      fits_idle (Adding []) x h = waits_idle x h
+      fits_idle (Adding (d ∷ drivers)) x h = h
+      fits_idle Searching x h = waits_idle x h
+      fits_idle (Starting w) x h = waits_idle x h
+      fits_idle (Removing w) x h = waits_idle x h
+      fits_idle (Due problem) x h = h
+
+  -- while an operation runs, no device starts
+  pub alone : (o : Operation) → s.operation ≡ Some o → s.activities ≡ []
+  alone o runs = subst (λ (x : Option Operation). Alone x s.activities) runs (reaches_kept settings rack entries s run).good.alone

@@ -1,0 +1,221 @@
+-- A step of the operation that runs: what it needs, and that it is the machine's step.
+use Rattle.std.proofs.Common.{◌≡◌, ◌≢◌, ℕ, false, List, Option, Some, None, IfSome, refl, sym, ◌∙◌, ap, subst}
+use Rattle.inf_reader.specs.declared.parts.Inf.{Inf}
+use Rattle.pnp_labels.specs.Texts.{Text}
+use Rattle.pnp_labels.specs.declared.label.Label.{Label}
+use Rattle.pnp_labels.specs.declared.label.RemoveStep.{RemoveStep}
+use Rattle.pnp_labels.specs.declared.label.RemoveStep.TheVariants as removes
+use Rattle.pnp_model.specs.Machine.{Steps, operation_walk, is_waiting}
+use Rattle.pnp_model.specs.Records.{Core, Driver, Activity, Operation, Rebalance, Removal, Surprise, State, Settings, Task}
+use Rattle.pnp_model.specs.Removals.{RemovalMove, removed}
+use Rattle.pnp_model.specs.Surprises.{SurpriseMove}
+use Rattle.pnp_model.specs.States.{activity_at}
+use Rattle.pnp_laws.proofs.JoinMachine.{reaches_born}
+use Rattle.pnp_laws.proofs.Lists.{head_found}
+use Rattle.pnp_laws.proofs.RunsStand.{reaches_kept}
+use Rattle.start_sequence.specs.Begins.{settings_of}
+use Rattle.rebalance.specs.declared.next.RebalanceStep.{RebalanceStep}
+use Rattle.rebalance.specs.declared.next.RebalanceStep.TheVariants as rebalances
+use Rattle.rebalance.proofs.Given.{rebalance_ready}
+use Rattle.query_remove.specs.Steps as query
+use Rattle.surprise_remove.specs.Steps as surprise
+use Rattle.pnp_machine.specs.Devices.{Devices}
+use Rattle.pnp_machine.specs.Machines.{state_of, beside, label_of, IsNoRoot, IsNew, IsNewPath, IsTurn, settled_path, settled_in}
+use Rattle.pnp_machine.specs.Managers.{IsOfRun}
+use Rattle.pnp_machine.specs.Operations.{IsRebalance, IsRemoving, IsTarget, MayRebalance, MayRemove, RebalancesBy, RemovesBy}
+use Rattle.pnp_machine.specs.declared.turn.Turn.TheVariants as turns
+use Rattle.pnp_machine.proofs.Fresh.{settles_new}
+use Rattle.pnp_machine.proofs.Givens.{alone, removal_goes, surprise_goes}
+use Rattle.pnp_machine.proofs.RebalanceSteps as moved
+use Rattle.pnp_machine.proofs.RebalanceSteps.{rebalance_done}
+use Rattle.pnp_machine.proofs.RemoveSteps.{Settles, disables, ejects, settled_is, removal_done, surprise_done}
+use Rattle.pnp_machine.proofs.Turns.{operate_moves}
+
+-- What a step needs -----------------------------------------------------------------------
+
+same_running : (x y : Operation) → Some x ≡ Some y → x ≡ y
+same_running x y e = cc
+
+-- the operation that runs does not wait
+pub awake_is : (s : State) (o : Operation) → IsTurn turns.Operate s → s.operation ≡ Some o → is_waiting (operation_walk o) ≡ false
+awake_is s o (other, runs, awake) is =
+    subst (λ x. is_waiting (operation_walk x) ≡ false) (same_running other o (sym runs ∙ is)) awake
+
+module _ (s : State) (run : IsOfRun s) (turn : IsTurn turns.Operate s) where
+  pub may_rebalance : (o : Operation) → s.operation ≡ Some o → IsRebalance o → MayRebalance s.core.nodes o
+  may_rebalance (Operation.Rebalancing r) runs sort =
+      (rebalance_ready s r (reaches_kept run.told run.rack run.entries s run.reaches) runs, awake_is s (Operation.Rebalancing r) turn runs)
+  may_rebalance (Operation.Removing o) runs sort = absurd sort
+  may_rebalance (Operation.Surprising o) runs sort = absurd sort
+
+  pub may_remove : (o : Operation) → s.operation ≡ Some o → IsRemoving (Some o) → MayRemove s.core.nodes o
+  may_remove (Operation.Rebalancing r) runs sort = absurd sort
+  may_remove (Operation.Removing o) runs sort =
+      let goes = removal_goes run.told run.rack run.entries s run.reaches o runs in
+      (goes.0, goes.1, awake_is s (Operation.Removing o) turn runs)
+  may_remove (Operation.Surprising o) runs sort =
+      let goes = surprise_goes run.told run.rack run.entries s run.reaches o runs in
+      (goes.0, goes.1, awake_is s (Operation.Surprising o) turn runs)
+
+-- while it runs no device starts
+pub none_starts : (s : State) → IsOfRun s → (o : Operation) → s.operation ≡ Some o → (k : ℕ) (works : List Activity) → works ≡ s.activities → activity_at k works ≡ None
+none_starts s run o runs k works same = ap (activity_at k) (same ∙ alone run.told run.rack run.entries s run.reaches o runs)
+
+-- What a removal brings about ----------------------------------------------------------------
+
+module _ (s : State) (run : IsOfRun s) (o : Removal) (runs : s.operation ≡ Some (Operation.Removing o)) (c' : Core) (o' : Removal) where
+  -- who is ejected is not the root
+  settled_born : (m : RemovalMove) (born : ℕ) (h : Settles s.core o m.beside) → born ≡ h.node.born → born ≢ 0
+  settled_born m born h own zero =
+      let goes = (removal_goes run.told run.rack run.entries s run.reaches o runs).1 in
+      let settling = subst (λ x. query.SettlesStripped s.core.nodes o x) h.stage goes in
+      let stripped = subst (λ x. IfSome x (query.IsStripped s.core.nodes)) h.first settling in
+      let at = (head_found s.core.nodes o.todo h.node h.first).1 in
+      stripped.0.no_root ((reaches_born run.told run.rack run.entries s run.reaches).first h.node.serial h.node at (sym own ∙ zero))
+
+  removal_no_root : (step : RemoveStep) → query.MovedBy (removed s.core o) step c' o' → IsNoRoot step
+  removal_no_root step h = by_move (removed s.core o) refl step h
+    where
+      by_move : (x : Option RemovalMove) → removed s.core o ≡ x → (step : RemoveStep) → query.MovedBy x step c' o' → IsNoRoot step
+      by_move None e step h = absurd h
+      by_move (Some m) e (removes.Did label) h = tt
+      by_move (Some m) e (removes.Left label path born) h = tt
+      by_move (Some m) e (removes.Disabled label) h = tt
+      by_move (Some m) e (removes.Ejected label path born) (b, l, c, f) =
+          let settled = ejects s.core o m path born e b in
+          settled_born m born settled (settled.ejects path born b)
+      by_move (Some m) e (removes.Over label) h = tt
+
+  -- a path that is disabled was not
+  removal_new : (step : RemoveStep) (settled : Option Text) → settled ≡ settled_path o s.core.nodes → query.MovedBy (removed s.core o) step c' o' → IsNew step settled s.disabled
+  removal_new step settled set h = by_move (removed s.core o) refl step h
+    where
+      by_move : (x : Option RemovalMove) → removed s.core o ≡ x → (step : RemoveStep) → query.MovedBy x step c' o' → IsNew step settled s.disabled
+      by_move None e step h = absurd h
+      by_move (Some m) e (removes.Did label) h = tt
+      by_move (Some m) e (removes.Left label path born) h = tt
+      by_move (Some m) e (removes.Disabled label) (path, b, shows, l, c, f) =
+          let h = disables s.core o m path e b in
+          let is = h.disables path b in
+          let own = set ∙ settled_is s.core o m.beside h in
+          subst (λ x. IsNewPath x s.disabled) (sym own)
+          (settles_new run.told run.rack run.entries s run.reaches o h.node runs h.stage h.first is.1 is.2)
+      by_move (Some m) e (removes.Ejected label path born) h = tt
+      by_move (Some m) e (removes.Over label) h = tt
+
+module _ (o' : Surprise) (c' : Core) where
+  surprise_no_root : (x : Option SurpriseMove) (step : RemoveStep) → surprise.MovedBy x step c' o' → IsNoRoot step
+  surprise_no_root None step h = absurd h
+  surprise_no_root (Some m) (removes.Did label) h = tt
+  surprise_no_root (Some m) (removes.Left label path born) h = tt
+  surprise_no_root (Some m) (removes.Disabled label) h = tt
+  surprise_no_root (Some m) (removes.Ejected label path born) h = absurd h
+  surprise_no_root (Some m) (removes.Over label) h = tt
+
+  surprise_new : (x : Option SurpriseMove) (step : RemoveStep) (settled : Option Text) (paths : List Text) → surprise.MovedBy x step c' o' → IsNew step settled paths
+  surprise_new None step settled paths h = absurd h
+  surprise_new (Some m) (removes.Did label) settled paths h = tt
+  surprise_new (Some m) (removes.Left label path born) settled paths h = tt
+  surprise_new (Some m) (removes.Disabled label) settled paths h = absurd h
+  surprise_new (Some m) (removes.Ejected label path born) settled paths h = tt
+  surprise_new (Some m) (removes.Over label) settled paths h = tt
+
+module _ (ds ds' : Devices) (rack rack' : List Driver) (disabled : List Text) (works : List Activity) (tasks : List Task) (o o' : Operation) (s : State)
+    (is : state_of ds rack disabled works (Some o) tasks ≡ s) where
+  runs : s.operation ≡ Some o
+  runs = ap (λ (x : State). x.operation) (sym is)
+
+  pub no_root : IsOfRun s → (step : RemoveStep) → RemovesBy ds rack o step ds' rack' o' → IsNoRoot step
+  no_root run step h = by_kind o o' (subst (λ (x : State). IsOfRun x) (sym is) run) h
+    where
+      by_kind : (o o' : Operation) → IsOfRun (state_of ds rack disabled works (Some o) tasks) → RemovesBy ds rack o step ds' rack' o' → IsNoRoot step
+      by_kind (Operation.Removing o) (Operation.Removing o') run h = removal_no_root (state_of ds rack disabled works (Some (Operation.Removing o)) tasks) run o refl _ o' step h.0
+      by_kind (Operation.Surprising o) (Operation.Surprising o') run h = surprise_no_root o' _ _ step h.0
+      by_kind (Operation.Rebalancing o) o' run h = absurd h
+      by_kind (Operation.Removing o) (Operation.Rebalancing o') run h = absurd h
+      by_kind (Operation.Removing o) (Operation.Surprising o') run h = absurd h
+      by_kind (Operation.Surprising o) (Operation.Rebalancing o') run h = absurd h
+      by_kind (Operation.Surprising o) (Operation.Removing o') run h = absurd h
+
+  pub is_new : IsOfRun s → (step : RemoveStep) (settled : Option Text) → settled ≡ settled_in (Some o) ds.tree.nodes → RemovesBy ds rack o step ds' rack' o' → IsNew step settled disabled
+  is_new run step settled set h = by_kind o o' (subst (λ (x : State). IsOfRun x) (sym is) run) set h
+    where
+      by_kind : (o o' : Operation) → IsOfRun (state_of ds rack disabled works (Some o) tasks) → settled ≡ settled_in (Some o) ds.tree.nodes → RemovesBy ds rack o step ds' rack' o'
+          → IsNew step settled disabled
+      by_kind (Operation.Removing o) (Operation.Removing o') run set h =
+          removal_new (state_of ds rack disabled works (Some (Operation.Removing o)) tasks) run o refl _ o' step settled set h.0
+      by_kind (Operation.Surprising o) (Operation.Surprising o') run set h = surprise_new o' _ _ step settled disabled h.0
+      by_kind (Operation.Rebalancing o) o' run set h = absurd h
+      by_kind (Operation.Removing o) (Operation.Rebalancing o') run set h = absurd h
+      by_kind (Operation.Removing o) (Operation.Surprising o') run set h = absurd h
+      by_kind (Operation.Surprising o) (Operation.Rebalancing o') run set h = absurd h
+      by_kind (Operation.Surprising o) (Operation.Removing o') run set h = absurd h
+
+  -- The steps -----------------------------------------------------------------------------
+
+  -- of an operation that removes devices
+  pub removed_moves : (settings : Settings) (step : RemoveStep) (settled : Option Text) (label : Label) (t : State) → IsTurn turns.Operate s → settled ≡ settled_in (Some o) ds.tree.nodes
+      → RemovesBy ds rack o step ds' rack' o' → label ≡ label_of step → t ≡ beside step settled (state_of ds' rack' disabled works (Some o') tasks) → Steps settings s label t
+  removed_moves settings step settled label t turn set h l e =
+      subst (λ x. Steps settings s label x) (sym e)
+      (subst (λ x. Steps settings s x (beside step settled (state_of ds' rack' disabled works (Some o') tasks))) (sym l)
+      (subst (λ x. Steps settings x (label_of step) (beside step settled (state_of ds' rack' disabled works (Some o') tasks))) is
+      (by_kind o o' set (awake_is s o turn runs) h)))
+    where
+      by_kind : (o o' : Operation) → settled ≡ settled_in (Some o) ds.tree.nodes → is_waiting (operation_walk o) ≡ false → RemovesBy ds rack o step ds' rack' o'
+          → Steps settings (state_of ds rack disabled works (Some o) tasks) (label_of step) (beside step settled (state_of ds' rack' disabled works (Some o') tasks))
+      by_kind (Operation.Removing o) (Operation.Removing o') set awake h =
+          operate_moves settings (state_of ds rack disabled works (Some (Operation.Removing o)) tasks) (Operation.Removing o) refl _ _ awake
+          (removal_done ds ds' rack rack' disabled works tasks h.1 o o' step settled set h.0 settings)
+      by_kind (Operation.Surprising o) (Operation.Surprising o') set awake h =
+          subst (λ x. Steps settings (state_of ds rack disabled works (Some (Operation.Surprising o)) tasks) (label_of step) (beside step x (state_of ds' rack' disabled works (Some (Operation.Surprising o')) tasks))) (sym set)
+          (operate_moves settings (state_of ds rack disabled works (Some (Operation.Surprising o)) tasks) (Operation.Surprising o) refl _ _ awake
+          (surprise_done ds ds' rack rack' disabled works tasks h.1 o o' step h.0 settings))
+      by_kind (Operation.Rebalancing o) o' set awake h = absurd h
+      by_kind (Operation.Removing o) (Operation.Rebalancing o') set awake h = absurd h
+      by_kind (Operation.Removing o) (Operation.Surprising o') set awake h = absurd h
+      by_kind (Operation.Surprising o) (Operation.Rebalancing o') set awake h = absurd h
+      by_kind (Operation.Surprising o) (Operation.Removing o') set awake h = absurd h
+
+-- of a rebalance; it runs on, or is over
+abbrev pub running : RebalanceStep → Operation → Option Operation
+running (rebalances.Did label) o = Some o
+running (rebalances.FailedRestart label serial) o = Some o
+running (rebalances.OverStart label) o = None
+running (rebalances.OverUndo label) o = None
+running (rebalances.OverDropped label) o = None
+
+running_is : (step : RebalanceStep) (r : Rebalance) → running step (Operation.Rebalancing r) ≡ moved.operation_after step r
+running_is (rebalances.Did label) r = refl
+running_is (rebalances.FailedRestart label serial) r = refl
+running_is (rebalances.OverStart label) r = refl
+running_is (rebalances.OverUndo label) r = refl
+running_is (rebalances.OverDropped label) r = refl
+
+module _ (infs : List Inf) (budget : ℕ) (ds ds' : Devices) (rack rack' : List Driver) (disabled : List Text) (works : List Activity) (tasks : List Task) (step : RebalanceStep) (k : ℕ) where
+  pub rebalanced_moves : (o o' : Operation) (s : State) (works' : List Activity) (operation' : Option Operation) (tasks' : List Task) → state_of ds rack disabled works (Some o) tasks ≡ s
+      → IsTurn turns.Operate s → RebalancesBy budget ds rack o step ds' rack' o' → IsTarget k o' → works' ≡ moved.works_after step k works → operation' ≡ running step o'
+      → tasks' ≡ moved.tasks_after step tasks → Steps (settings_of infs budget) s (moved.label_of step) (state_of ds' rack' disabled works' operation' tasks')
+  rebalanced_moves (Operation.Rebalancing r) (Operation.Rebalancing r') s works' operation' tasks' is turn h target w o t =
+      let old = state_of ds rack disabled works (Some (Operation.Rebalancing r)) tasks in
+      let awake = awake_is s (Operation.Rebalancing r) turn (ap (λ (x : State). x.operation) (sym is)) in
+      let done = operate_moves (settings_of infs budget) old (Operation.Rebalancing r) refl _ _ awake
+      (rebalance_done ds ds' rack rack' disabled works tasks r r' h.1 infs budget step h.0) in
+      let same : state_of ds' rack' disabled works' operation' tasks' ≡ moved.after ds ds' rack rack' disabled works tasks r r' h.1 step =
+      ap (λ x. state_of ds' rack' disabled x operation' tasks') (w ∙ ap (λ i. moved.works_after step i works) target)
+      ∙ ap (λ x. state_of ds' rack' disabled (moved.works_after step r'.target works) x tasks') (o ∙ running_is step r')
+      ∙ ap (λ x. state_of ds' rack' disabled (moved.works_after step r'.target works) (moved.operation_after step r') x) t in
+      subst (λ x. Steps (settings_of infs budget) x (moved.label_of step) (state_of ds' rack' disabled works' operation' tasks')) is
+      (subst (λ x. Steps (settings_of infs budget) old (moved.label_of step) x) (sym same) done)
+  rebalanced_moves (Operation.Rebalancing r) (Operation.Removing r') s works' operation' tasks' is turn h target w o t = absurd h
+  rebalanced_moves (Operation.Rebalancing r) (Operation.Surprising r') s works' operation' tasks' is turn h target w o t = absurd h
+  rebalanced_moves (Operation.Removing r) r' s works' operation' tasks' is turn h target w o t = absurd h
+  rebalanced_moves (Operation.Surprising r) r' s works' operation' tasks' is turn h target w o t = absurd h
+
+-- the rebalance runs on as one
+pub stays_rebalance : (budget : ℕ) (ds ds' : Devices) (rack rack' : List Driver) (step : RebalanceStep) (o o' : Operation) → RebalancesBy budget ds rack o step ds' rack' o' → IsRebalance o'
+stays_rebalance budget ds ds' rack rack' step (Operation.Rebalancing r) (Operation.Rebalancing r') h = tt
+stays_rebalance budget ds ds' rack rack' step (Operation.Rebalancing r) (Operation.Removing r') h = absurd h
+stays_rebalance budget ds ds' rack rack' step (Operation.Rebalancing r) (Operation.Surprising r') h = absurd h
+stays_rebalance budget ds ds' rack rack' step (Operation.Removing r) r' h = absurd h
+stays_rebalance budget ds ds' rack rack' step (Operation.Surprising r) r' h = absurd h

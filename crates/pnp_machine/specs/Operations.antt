@@ -1,0 +1,65 @@
+-- The operation that runs, in the words of the machine, and what its next step does to the devices.
+use Rattle.std.specs.Prelude.{◌≡◌, ℕ, false, List, Option, Some, None}
+use Rattle.pnp_labels.specs.declared.label.RemoveStep.{RemoveStep}
+use Rattle.pnp_model.specs.Cores.{node_at}
+use Rattle.pnp_model.specs.Machine.{is_waiting, is_born, rebalance_walk, removal_walk, surprise_walk}
+use Rattle.pnp_model.specs.Records as machines
+use Rattle.pnp_model.specs.Records.{Node, Driver}
+use Rattle.rebalance.specs.Steps as rebalances
+use Rattle.rebalance.specs.declared.next.RebalanceStep.{RebalanceStep}
+use Rattle.query_remove.specs.Steps as removes
+use Rattle.surprise_remove.specs.Steps as surprises
+use Rattle.pnp_machine.specs.Devices.{Devices}
+use Rattle.pnp_machine.specs.Doings.{Rebalances, Removes, Surprises}
+use Rattle.pnp_machine.specs.declared.operation.Operation.{Operation}
+use Rattle.pnp_machine.specs.declared.operation.Operation.TheVariants.{Rebalancing, Removing, Surprising}
+
+abbrev pub operation_of : Operation → machines.Operation
+operation_of (Rebalancing r) = machines.Operation.Rebalancing r
+operation_of (Removing o) = machines.Operation.Removing o
+operation_of (Surprising o) = machines.Operation.Surprising o
+
+-- a rebalance runs
+abbrev pub IsRebalance : machines.Operation → Type 0
+IsRebalance (machines.Operation.Rebalancing r) = Unit {0}
+IsRebalance _ = ⊥
+
+abbrev pub IsRebalancing : Option machines.Operation → Type 0
+IsRebalancing None = ⊥
+IsRebalancing (Some o) = IsRebalance o
+
+-- the device for which it runs
+abbrev pub IsTarget : ℕ → machines.Operation → Type 0
+IsTarget k (machines.Operation.Rebalancing r) = k ≡ r.target
+IsTarget k _ = ⊥
+
+-- an operation runs that removes devices
+abbrev pub IsRemoving : Option machines.Operation → Type 0
+IsRemoving None = ⊥
+IsRemoving (Some (machines.Operation.Rebalancing r)) = ⊥
+IsRemoving (Some _) = Unit {0}
+
+-- it is a rebalance that does not wait, and the device that is next is there
+abbrev pub MayRebalance : List Node → machines.Operation → Type 0
+MayRebalance nodes (machines.Operation.Rebalancing r) = rebalances.HasNext nodes r r.stage × (is_waiting (rebalance_walk r.stage) ≡ false)
+MayRebalance nodes _ = ⊥
+
+-- it removes devices and does not wait, the device that is next is there, and one that is settled may leave
+abbrev pub MayRemove : List Node → machines.Operation → Type 0
+MayRemove nodes (machines.Operation.Rebalancing r) = ⊥
+MayRemove nodes (machines.Operation.Removing o) =
+    removes.HasNext nodes o o.stage × removes.SettlesStripped nodes o o.stage × (is_waiting (removal_walk o.stage) ≡ false)
+MayRemove nodes (machines.Operation.Surprising o) =
+    surprises.HasNext nodes o o.stage × surprises.SettlesStripped nodes o o.stage × (is_waiting (surprise_walk o.stage) ≡ false)
+
+-- the next step of a rebalance, for this budget
+abbrev pub RebalancesBy : ℕ → Devices → List Driver → machines.Operation → RebalanceStep → Devices → List Driver → machines.Operation → Type 0
+RebalancesBy budget ds rack (machines.Operation.Rebalancing r) step ds' rack' (machines.Operation.Rebalancing r') = Rebalances budget ds rack r step ds' rack' r'
+RebalancesBy budget ds rack _ step ds' rack' _ = ⊥
+
+-- the next step of an operation that removes devices
+abbrev pub RemovesBy : Devices → List Driver → machines.Operation → RemoveStep → Devices → List Driver → machines.Operation → Type 0
+RemovesBy ds rack (machines.Operation.Removing o) step ds' rack' (machines.Operation.Removing o') = Removes ds rack o step ds' rack' o'
+RemovesBy ds rack (machines.Operation.Surprising o) step ds' rack' (machines.Operation.Surprising o') =
+    Surprises ds rack o (is_born ds.world.devices (node_at o.target ds.tree.nodes)) step ds' rack' o'
+RemovesBy ds rack _ step ds' rack' _ = ⊥

@@ -1,0 +1,108 @@
+ghost use Rattle.std.specs.Prelude.{◌≡◌, [], IfOk, OnErr, Some, IsSome};
+ghost use Rattle.pnp_model.specs.Cores.{node_at};
+ghost use Rattle.pnp_model.specs.Rebalances.{begun_rebalance};
+ghost use Rattle.pnp_model.specs.Records.Duty.{Begins};
+ghost use Rattle.pnp_model.specs.Records as machines;
+ghost use Rattle.pnp_model.specs.Removals.{begun_removal};
+ghost use Rattle.pnp_model.specs.Surprises.{begun_surprise};
+ghost use Rattle.pnp_model.specs.Tasks.{begin, begin_step, skip};
+ghost use Rattle.pnp_model.specs.Tests.{operation_word};
+ghost use Rattle.pnp_machine.specs.Machines.{IsDone, DoneFor, can_rebalance, begun_with};
+
+use crate::machine::Machine;
+use crate::operation::Operation;
+use device_ids::WantOfMemory;
+use driver_rack::Drivers;
+use pnp_labels::{DevState, Label, OpKind, TaskKind};
+
+/// The word of an operation's task.
+fn word_of(kind: OpKind) -> TaskKind
+    ensures { result ≡ operation_word kind }
+{
+    match kind {
+        OpKind::Rebalance => TaskKind::Rebalance,
+        OpKind::Disable => TaskKind::Disable,
+        OpKind::Eject => TaskKind::Eject,
+        OpKind::Surprise => TaskKind::Surprise,
+    }
+}
+
+impl<R: Drivers> Machine<R> {
+    /// The first task has no operation to begin, and is dropped.
+    fn skip_begin(&mut self, kind: OpKind, serial: u64) -> Label
+        ensures { IsDone (skip (Begins kind) serial self.old) result self.new }
+    {
+        self.tasks.drop_first();
+        let task = word_of(kind);
+        Label::Skip { task, serial }
+    }
+
+    /// An operation begins: the first task is dropped, and the line is told.
+    fn run(&mut self, label: Label, operation: Operation) -> Label
+        ensures label { result ≡ label }
+        ensures state { self.new ≡ begun_with operation self.old }
+    {
+        self.tasks.drop_first();
+        self.operation = Some(operation);
+        label
+    }
+
+    /// Whether a device is there and NotStarted: what it needs can be found for it by a rebalance.
+    fn can_rebalance(&self, serial: u64) -> bool
+        ensures { result ≡ can_rebalance (node_at serial self.now.core.nodes) }
+    {
+        match self.devices.tree().node(serial) {
+            Some(node) => node.state == DevState::NotStarted,
+            None => false,
+        }
+    }
+
+    /// The rebalance for a device begins.
+    fn begin_rebalance(&mut self, serial: u64) -> Result<Label, WantOfMemory>
+        requires { IsSome (node_at serial self.old.core.nodes) }
+        ensures done { IfOk result (λ label. DoneFor (node_at serial self.old.core.nodes) (λ n. begin self.old OpKind.Rebalance n (machines.Operation.Rebalancing (begun_rebalance self.old.core n))) label self.new) }
+        ensures err { OnErr result (self.new ≡ self.old) }
+    {
+        let (label, rebalance) = self.devices.begin_rebalance(self.alloc, serial)?;
+        Ok(self.run(label, Operation::Rebalancing(rebalance)))
+    }
+
+    /// The removal of a device begins.
+    fn begin_removal(&mut self, kind: OpKind, serial: u64) -> Result<Label, WantOfMemory>
+        requires { IsSome (node_at serial self.old.core.nodes) }
+        ensures done { IfOk result (λ label. DoneFor (node_at serial self.old.core.nodes) (λ n. begin self.old kind n (machines.Operation.Removing (begun_removal self.old.core kind n))) label self.new) }
+        ensures err { OnErr result (self.new ≡ self.old) }
+    {
+        let (label, removal) = self.devices.begin_removal(self.alloc, kind, serial)?;
+        Ok(self.run(label, Operation::Removing(removal)))
+    }
+
+    /// The surprise removal of a device begins.
+    fn begin_surprise(&mut self, serial: u64) -> Result<Label, WantOfMemory>
+        requires { IsSome (node_at serial self.old.core.nodes) }
+        ensures done { IfOk result (λ label. DoneFor (node_at serial self.old.core.nodes) (λ n. begin self.old OpKind.Surprise n (machines.Operation.Surprising (begun_surprise self.old.core n))) label self.new) }
+        ensures err { OnErr result (self.new ≡ self.old) }
+    {
+        let (label, surprise) = self.devices.begin_surprise(self.alloc, serial)?;
+        Ok(self.run(label, Operation::Surprising(surprise)))
+    }
+
+    /// The task that begins an operation: it begins, or there is nothing to do. Condition: no device is being started.
+    /// After want of memory all is as before.
+    pub(crate) fn begin(&mut self, kind: OpKind, serial: u64) -> Result<Label, WantOfMemory>
+        requires { self.old.activities ≡ [] }
+        ensures done { IfOk result (λ label. IsDone (begin_step self.old kind serial (node_at serial self.old.core.nodes)) label self.new) }
+        ensures err { OnErr result (self.new ≡ self.old) }
+    {
+        if self.devices.tree().node(serial).is_none() {
+            return Ok(self.skip_begin(kind, serial));
+        }
+        match kind {
+            OpKind::Rebalance if self.can_rebalance(serial) => self.begin_rebalance(serial),
+            OpKind::Rebalance => Ok(self.skip_begin(kind, serial)),
+            OpKind::Disable if self.is_disabled(serial) => Ok(self.skip_begin(kind, serial)),
+            OpKind::Disable | OpKind::Eject => self.begin_removal(kind, serial),
+            OpKind::Surprise => self.begin_surprise(serial),
+        }
+    }
+}

@@ -1,0 +1,150 @@
+ghost use Rattle.std.specs.Prelude.{◌≡◌, [], ◌∷◌, IfOk, OnErr, IsSome};
+ghost use Rattle.pnp_labels.specs.declared.event.Event.TheVariants as Event;
+ghost use Rattle.pnp_labels.specs.Texts.{spaced};
+ghost use Rattle.pnp_model.specs.Cores.{node_at, path_of, serials_of};
+ghost use Rattle.pnp_model.specs.Events.{happens};
+ghost use Rattle.devnode_tree.specs.Trees.{Ascends};
+ghost use Rattle.pnp_machine.specs.Machines.{IsDone};
+
+use crate::events::refusal;
+use crate::machine::Machine;
+use crate::tasks::Duty;
+use device_ids::{InstancePath, Text, WantOfMemory};
+use driver_rack::Drivers;
+use pnp_labels::spaced::two;
+use pnp_labels::{EventWord, Label, OpKind, Reason, RelKind, res_text};
+use relations::RelateError;
+use resource_reqs::Res;
+use std::alloc::AllocError;
+
+impl<R: Drivers> Machine<R> {
+    /// A device is to be disabled.
+    pub(crate) fn disable(&mut self, path: &InstancePath) -> Result<Label, WantOfMemory>
+        ensures done { IfOk result (λ label. IsDone (happens self.old (Event.Disable path.now)) label self.new) }
+        ensures err { OnErr result (self.new ≡ self.old) }
+    {
+        let word = EventWord::Disable;
+        let tree = self.devices.tree();
+        let Some(serial) = tree.find(path) else {
+            return Ok(refusal(word, Reason::NoDevice));
+        };
+        if serial == 0 {
+            return Ok(refusal(word, Reason::RootStays));
+        }
+        if self.disabled.has(path) {
+            return Ok(refusal(word, Reason::AlreadyDisabled));
+        }
+        let what = self.own_path(serial)?;
+        self.tasks.make_room()?;
+        self.tasks.append(Duty::Begin(OpKind::Disable), serial);
+        Ok(Label::Did { word, what })
+    }
+
+    /// A path is no longer disabled, and its device is to be started.
+    pub(crate) fn enable(&mut self, path: &InstancePath) -> Result<Label, WantOfMemory>
+        ensures done { IfOk result (λ label. IsDone (happens self.old (Event.Enable path.now)) label self.new) }
+        ensures err { OnErr result (self.new ≡ self.old) }
+    {
+        let word = EventWord::Enable;
+        let Some(own) = self.disabled.find(path) else {
+            return Ok(refusal(word, Reason::NotDisabled));
+        };
+        let what = Text::make(self.alloc, own.bytes())?;
+        self.tasks.make_room()?;
+        self.disabled.take(path);
+        if let Some(serial) = self.devices.tree().find(path) {
+            self.tasks.append(Duty::Start, serial);
+        }
+        Ok(Label::Did { word, what })
+    }
+
+    /// A device is to be ejected.
+    pub(crate) fn eject(&mut self, path: &InstancePath) -> Result<Label, WantOfMemory>
+        ensures done { IfOk result (λ label. IsDone (happens self.old (Event.Eject path.now)) label self.new) }
+        ensures err { OnErr result (self.new ≡ self.old) }
+    {
+        let word = EventWord::Eject;
+        let Some(serial) = self.devices.tree().find(path) else {
+            return Ok(refusal(word, Reason::NoDevice));
+        };
+        if serial == 0 {
+            return Ok(refusal(word, Reason::RootStays));
+        }
+        let what = self.own_path(serial)?;
+        self.tasks.make_room()?;
+        self.tasks.append(Duty::Begin(OpKind::Eject), serial);
+        Ok(Label::Did { word, what })
+    }
+
+    /// The path of a node, as the tree spells it.
+    fn own_path(&self, serial: u64) -> Result<Text, WantOfMemory>
+        requires { IsSome (node_at serial self.now.core.nodes) }
+        ensures path { IfOk result (λ path. path ≡ path_of (node_at serial self.now.core.nodes)) }
+        ensures order { Ascends 0 (serials_of self.now.core.nodes) }
+    {
+        match self.devices.tree().node(serial) {
+            Some(node) => Text::make(self.alloc, node.path.bytes()),
+            None => unreachable!(),
+        }
+    }
+
+    /// The paths of two nodes.
+    fn own_paths(&self, owner: u64, member: u64) -> Result<Text, WantOfMemory>
+        requires owner { IsSome (node_at owner self.now.core.nodes) }
+        requires member { IsSome (node_at member self.now.core.nodes) }
+        ensures paths { IfOk result (λ text. text ≡ spaced (path_of (node_at owner self.now.core.nodes) ∷ path_of (node_at member self.now.core.nodes) ∷ [])) }
+        ensures order { Ascends 0 (serials_of self.now.core.nodes) }
+    {
+        let owner = self.own_path(owner)?;
+        let member = self.own_path(member)?;
+        let line = two(self.alloc, owner.bytes(), member.bytes())?;
+        Text::make(self.alloc, &line)
+    }
+
+    /// A member is related to an owner.
+    pub(crate) fn relate(
+        &mut self,
+        kind: RelKind,
+        owner: &InstancePath,
+        member: &InstancePath,
+    ) -> Result<Label, WantOfMemory>
+        ensures done { IfOk result (λ label. IsDone (happens self.old (Event.Relate kind owner.now member.now)) label self.new) }
+        ensures err { OnErr result (self.new ≡ self.old) }
+    {
+        let word = EventWord::Relate;
+        let tree = self.devices.tree();
+        let (Some(owner), Some(member)) = (tree.find(owner), tree.find(member)) else {
+            return Ok(refusal(word, Reason::NoDevice));
+        };
+        if self.operation.is_some() {
+            return Ok(refusal(word, Reason::Busy));
+        }
+        let what = self.own_paths(owner, member)?;
+        match self.devices.relate(kind, owner, member) {
+            Ok(()) => Ok(Label::Did { word, what }),
+            Err(RelateError::SelfRelation) => Ok(refusal(word, Reason::SelfRelation)),
+            Err(RelateError::SameRelation) => Ok(refusal(word, Reason::SameRelation)),
+            Err(RelateError::RelationCycle) => Ok(refusal(word, Reason::RelationCycle)),
+            Err(RelateError::NotStarted) => Ok(refusal(word, Reason::NotStarted)),
+            Err(RelateError::WantOfMemory) => Err(AllocError),
+        }
+    }
+
+    /// A range is reserved.
+    pub(crate) fn reserve(&mut self, res: Res) -> Result<Label, WantOfMemory>
+        ensures done { IfOk result (λ label. IsDone (happens self.old (Event.Reserve res)) label self.new) }
+        ensures err { OnErr result (self.new ≡ self.old) }
+    {
+        let word = EventWord::Reserve;
+        if self.operation.is_some() {
+            return Ok(refusal(word, Reason::Busy));
+        }
+        if self.devices.is_in_use(&res) {
+            return Ok(refusal(word, Reason::InUse));
+        }
+        let text = res_text(self.alloc, &res)?;
+        let what = Text::make(self.alloc, &text)?;
+        self.devices.reserve(res)?;
+        Ok(Label::Did { word, what })
+    }
+}

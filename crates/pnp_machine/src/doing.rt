@@ -1,0 +1,185 @@
+ghost use Rattle.std.specs.Prelude.{◌≡◌, ◌≤◌, ℕ, IfOk, IfSome, OnErr, IsSome, Bool, false, length};
+ghost use Rattle.pnp_model.specs.Cores.{node_at};
+ghost use Rattle.pnp_model.specs.Machine.{phase_walk, rebalance_walk, removal_walk, surprise_walk, is_waiting, is_born};
+ghost use Rattle.pnp_model.specs.Records.{State};
+ghost use Rattle.start_sequence.specs.Begins.{settings_of, BegunFor, HasFewIds};
+ghost use Rattle.rebalance.specs.Begins as rebalanced;
+ghost use Rattle.rebalance.specs.Steps as rebalances;
+ghost use Rattle.query_remove.specs.Begins as removals;
+ghost use Rattle.query_remove.specs.Steps as removes;
+ghost use Rattle.surprise_remove.specs.Begins as surprised;
+ghost use Rattle.surprise_remove.specs.Steps as surprises;
+ghost use Rattle.pnp_machine.specs.Doings.{Acts, Rebalances, Removes, Surprises};
+
+use crate::devices::Devices;
+use device_ids::WantOfMemory;
+use driver_rack::Drivers;
+use inf_reader::Inf;
+use pnp_labels::{Label, OpKind, RemoveStep};
+use query_remove::Removal;
+use rebalance::{Rebalance, RebalanceStep};
+use start_sequence::{StartStep, StartWork};
+use std::alloc::Global;
+use surprise_remove::Surprise;
+
+impl Devices {
+    /// The start of a device begins, as `StartWork::begin` says.
+    pub(crate) fn begin<R: Drivers>(
+        &mut self,
+        alloc: Global,
+        rack: &R,
+        infs: &[Inf],
+        serial: u64,
+        disabled: bool,
+    ) -> Result<(Label, Option<StartWork>), WantOfMemory>
+        requires there { IsSome (node_at serial self.old.tree.nodes) }
+        requires ids { HasFewIds (node_at serial self.old.tree.nodes) }
+        requires few { length infs.now ≤ 64 }
+        ensures begun { IfOk result (λ r. (budget : ℕ) (s : State) → s.core.rack ≡ R.rows rack.now → s.core.nodes ≡ self.old.tree.nodes → BegunFor (settings_of infs.now budget) s (node_at serial self.old.tree.nodes) disabled r.0 r.1 self.new.tree.nodes) }
+        ensures device { IfOk result (λ r. IfSome r.1 (λ work. work.serial ≡ serial)) }
+        ensures same { self.new ≡ record self.old { tree = record self.old.tree { nodes = self.new.tree.nodes } } }
+        ensures err { OnErr result (self.new ≡ self.old) }
+    {
+        StartWork::begin(alloc, &mut self.tree, rack, infs, serial, disabled)
+    }
+
+    /// The next step of the start of a device, as `StartWork::next` says.
+    pub(crate) fn act<R: Drivers>(
+        &mut self,
+        alloc: Global,
+        work: &mut StartWork,
+        rack: &mut R,
+        budget: u64,
+    ) -> Result<StartStep, WantOfMemory>
+        requires there { IsSome (node_at work.old.serial self.old.tree.nodes) }
+        requires goes { is_waiting (phase_walk work.old.phase) ≡ false }
+        requires budget { budget ≤ 1000000 }
+        ensures acts { IfOk result (λ step. Acts budget self.old work.old.serial (R.rows rack.old) work.old.phase step self.new (R.rows rack.new) work.new.phase) }
+        ensures serial { work.new.serial ≡ work.old.serial }
+        ensures work { OnErr result (work.new ≡ work.old) }
+        ensures rack { OnErr result (R.rows rack.new ≡ R.rows rack.old) }
+        ensures err { OnErr result (self.new ≡ self.old) }
+    {
+        work.next(alloc, &mut self.tree, rack, &mut self.arbiters, budget)
+    }
+
+    /// The rebalance for a device begins, as `Rebalance::begin` says.
+    pub(crate) fn begin_rebalance(
+        &self,
+        alloc: Global,
+        serial: u64,
+    ) -> Result<(Label, Rebalance), WantOfMemory>
+        requires { IsSome (node_at serial self.now.tree.nodes) }
+        ensures { IfOk result (λ begun. rebalanced.BegunFor (node_at serial self.now.tree.nodes) self.now.tree.nodes begun.0 begun.1) }
+    {
+        Rebalance::begin(alloc, &self.tree, serial)
+    }
+
+    /// The next step of a rebalance, as `Rebalance::next` says.
+    pub(crate) fn rebalance<R: Drivers>(
+        &mut self,
+        alloc: Global,
+        rebalance: &mut Rebalance,
+        rack: &mut R,
+        budget: u64,
+    ) -> Result<RebalanceStep, WantOfMemory>
+        requires there { rebalances.HasNext self.old.tree.nodes rebalance.old rebalance.old.stage }
+        requires goes { is_waiting (rebalance_walk rebalance.old.stage) ≡ false }
+        requires budget { budget ≤ 1000000 }
+        ensures rebalances { IfOk result (λ step. Rebalances budget self.old (R.rows rack.old) rebalance.old step self.new (R.rows rack.new) rebalance.new) }
+        ensures rebalance { OnErr result (rebalance.new ≡ rebalance.old) }
+        ensures rack { OnErr result (R.rows rack.new ≡ R.rows rack.old) }
+        ensures err { OnErr result (self.new ≡ self.old) }
+    {
+        rebalance.next(alloc, &mut self.tree, rack, &mut self.arbiters, budget)
+    }
+
+    /// The removal of a device begins, as `Removal::begin` says.
+    pub(crate) fn begin_removal(
+        &self,
+        alloc: Global,
+        kind: OpKind,
+        serial: u64,
+    ) -> Result<(Label, Removal), WantOfMemory>
+        requires { IsSome (node_at serial self.now.tree.nodes) }
+        ensures { IfOk result (λ begun. removals.BegunFor (node_at serial self.now.tree.nodes) self.now.tree.nodes self.now.relations kind begun.0 begun.1) }
+    {
+        Removal::begin(alloc, &self.tree, &self.relations, kind, serial)
+    }
+
+    /// The surprise removal of a device begins, as `Surprise::begin` says.
+    pub(crate) fn begin_surprise(
+        &self,
+        alloc: Global,
+        serial: u64,
+    ) -> Result<(Label, Surprise), WantOfMemory>
+        requires { IsSome (node_at serial self.now.tree.nodes) }
+        ensures { IfOk result (λ begun. surprised.BegunFor (node_at serial self.now.tree.nodes) self.now.tree.nodes self.now.relations begun.0 begun.1) }
+    {
+        Surprise::begin(alloc, &self.tree, &self.relations, serial)
+    }
+
+    /// The next step of a removal, as `Removal::next` says.
+    pub(crate) fn remove<R: Drivers>(
+        &mut self,
+        alloc: Global,
+        removal: &mut Removal,
+        rack: &mut R,
+    ) -> Result<RemoveStep, WantOfMemory>
+        requires there { removes.HasNext self.old.tree.nodes removal.old removal.old.stage }
+        requires settles { removes.SettlesStripped self.old.tree.nodes removal.old removal.old.stage }
+        requires goes { is_waiting (removal_walk removal.old.stage) ≡ false }
+        ensures removes { IfOk result (λ step. Removes self.old (R.rows rack.old) removal.old step self.new (R.rows rack.new) removal.new) }
+        ensures removal { OnErr result (removal.new ≡ removal.old) }
+        ensures rack { OnErr result (R.rows rack.new ≡ R.rows rack.old) }
+        ensures err { OnErr result (self.new ≡ self.old) }
+    {
+        let step = removal.next(
+            alloc,
+            &mut self.tree,
+            &mut self.relations,
+            rack,
+            &mut self.arbiters,
+        )?;
+        self.from = 0;
+        Ok(step)
+    }
+
+    /// Whether the node of a device is there and its birth number is in the world.
+    fn is_in_world(&self, serial: u64) -> bool
+        ensures { result ≡ is_born self.now.world.devices (node_at serial self.now.tree.nodes) }
+    {
+        match self.tree.node(serial) {
+            Some(node) => self.world.has(node.born),
+            None => false,
+        }
+    }
+
+    /// The next step of a surprise removal, as `Surprise::next` says.
+    pub(crate) fn surprise<R: Drivers>(
+        &mut self,
+        alloc: Global,
+        surprise: &mut Surprise,
+        rack: &mut R,
+    ) -> Result<RemoveStep, WantOfMemory>
+        requires there { surprises.HasNext self.old.tree.nodes surprise.old surprise.old.stage }
+        requires settles { surprises.SettlesStripped self.old.tree.nodes surprise.old surprise.old.stage }
+        requires goes { is_waiting (surprise_walk surprise.old.stage) ≡ false }
+        ensures surprises { IfOk result (λ step. Surprises self.old (R.rows rack.old) surprise.old (is_born self.old.world.devices (node_at surprise.old.target self.old.tree.nodes)) step self.new (R.rows rack.new) surprise.new) }
+        ensures surprise { OnErr result (surprise.new ≡ surprise.old) }
+        ensures rack { OnErr result (R.rows rack.new ≡ R.rows rack.old) }
+        ensures err { OnErr result (self.new ≡ self.old) }
+    {
+        let in_world = self.is_in_world(surprise.target());
+        let step = surprise.next(
+            alloc,
+            &mut self.tree,
+            &mut self.relations,
+            rack,
+            &mut self.arbiters,
+            in_world,
+        )?;
+        self.from = 0;
+        Ok(step)
+    }
+}

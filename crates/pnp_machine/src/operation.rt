@@ -1,0 +1,145 @@
+ghost use Rattle.std.specs.Prelude.{◌≡◌, ◌≤◌, Bool, true, false, IfOk, OnErr, option_map};
+ghost use Rattle.pnp_model.specs.Events.{operation_at, operation_waits, completed, answer_of};
+ghost use Rattle.pnp_model.specs.Machine.{operation_walk, is_waiting};
+ghost use Rattle.query_remove.specs.Walks.{minor_of};
+ghost use Rattle.pnp_machine.specs.Operations.{operation_of, IsRebalance, IsTarget, MayRebalance, MayRemove, RebalancesBy, RemovesBy};
+ghost use Rattle.pnp_machine.specs.Machines.{CompletesOperation};
+
+use crate::devices::Devices;
+use device_ids::WantOfMemory;
+use device_stack::{NoSuchRequest, Walk};
+use driver_rack::Drivers;
+use pnp_labels::{Minor, RemoveStep};
+use query_remove::Removal;
+use rebalance::{Rebalance, RebalanceStep};
+use std::alloc::Global;
+use surprise_remove::Surprise;
+
+/// The operation that runs: this project's own.
+#[derive(Drop)]
+pub(crate) enum Operation {
+    /// Devices stop so that one more can have its resources.
+    Rebalancing(Rebalance),
+    /// A device is disabled or ejected.
+    Removing(Removal),
+    /// A device is gone from its bus.
+    Surprising(Surprise),
+}
+
+impl Operation {
+    /// The device of the request that is on its way, or of the step that is next.
+    pub(crate) fn device(&self) -> Option<u64>
+        ensures { result ≡ operation_at (operation_of self.now) }
+    {
+        match self {
+            Operation::Rebalancing(rebalance) => rebalance.first(),
+            Operation::Removing(removal) => removal.first(),
+            Operation::Surprising(surprise) => surprise.first(),
+        }
+    }
+
+    /// The request that is on its way through a device's drivers; none exactly where none is.
+    pub(crate) fn walk(&self) -> Option<&Walk>
+        ensures { option_map (λ w. w.now.walk) result ≡ operation_walk (operation_of self.now) }
+    {
+        match self {
+            Operation::Rebalancing(rebalance) => rebalance.walk(),
+            Operation::Removing(removal) => removal.walk(),
+            Operation::Surprising(surprise) => surprise.walk(),
+        }
+    }
+
+    /// The request that waits for a driver; none exactly where none waits.
+    pub(crate) fn waits(&self) -> Option<Minor>
+        ensures { result ≡ minor_of (operation_walk (operation_of self.now)) }
+    {
+        match self {
+            Operation::Rebalancing(rebalance) => rebalance.waits(),
+            Operation::Removing(removal) => removal.waits(),
+            Operation::Surprising(surprise) => surprise.waits(),
+        }
+    }
+
+    /// Whether a request of the minor waits at a device.
+    fn waits_for(&self, minor: Minor, serial: u64) -> bool
+        ensures { result ≡ operation_waits minor serial (operation_of self.now) }
+    {
+        self.device() == Some(serial) && self.waits() == Some(minor)
+    }
+
+    /// The driver at which the request waits completes it.
+    fn answer(&mut self, ok: bool) -> Result<(), NoSuchRequest>
+        ensures { is_waiting (operation_walk (operation_of self.old)) ≡ true → operation_of self.new ≡ completed (answer_of ok) (operation_of self.old) }
+    {
+        match self {
+            Operation::Rebalancing(rebalance) => rebalance.complete(ok),
+            Operation::Removing(removal) => removal.complete(ok),
+            Operation::Surprising(surprise) => surprise.complete(ok),
+        }
+    }
+
+    /// Where a request of the minor waits at the device it gets its answer: Ok, or Fail. Whether one did is told. It takes
+    /// no memory.
+    pub(crate) fn complete(&mut self, serial: u64, minor: Minor, ok: bool) -> bool
+        ensures { CompletesOperation (operation_waits minor serial (operation_of self.old)) (operation_of self.old) ok result (operation_of self.new) }
+    {
+        if !self.waits_for(minor, serial) {
+            return false;
+        }
+        let _ = self.answer(ok);
+        true
+    }
+
+    /// The device for which a rebalance runs. Condition: it is a rebalance.
+    pub(crate) fn target(&self) -> u64
+        requires { IsRebalance (operation_of self.now) }
+        ensures { IsTarget result (operation_of self.now) }
+    {
+        match self {
+            Operation::Rebalancing(rebalance) => rebalance.target(),
+            Operation::Removing(_) | Operation::Surprising(_) => unreachable!(),
+        }
+    }
+
+    /// The next step of a rebalance, as `Rebalance::next` says. Conditions: it is one, and does not wait.
+    pub(crate) fn rebalance<R: Drivers>(
+        &mut self,
+        alloc: Global,
+        devices: &mut Devices,
+        rack: &mut R,
+        budget: u64,
+    ) -> Result<RebalanceStep, WantOfMemory>
+        requires may { MayRebalance devices.old.tree.nodes (operation_of self.old) }
+        requires budget { budget ≤ 1000000 }
+        ensures rebalances { IfOk result (λ step. RebalancesBy budget devices.old (R.rows rack.old) (operation_of self.old) step devices.new (R.rows rack.new) (operation_of self.new)) }
+        ensures operation { OnErr result (operation_of self.new ≡ operation_of self.old) }
+        ensures rack { OnErr result (R.rows rack.new ≡ R.rows rack.old) }
+        ensures err { OnErr result (devices.new ≡ devices.old) }
+    {
+        match self {
+            Operation::Rebalancing(rebalance) => devices.rebalance(alloc, rebalance, rack, budget),
+            Operation::Removing(_) | Operation::Surprising(_) => unreachable!(),
+        }
+    }
+
+    /// The next step of an operation that removes devices, as `Removal::next` and `Surprise::next` say. Conditions: it is
+    /// one, and does not wait.
+    pub(crate) fn remove<R: Drivers>(
+        &mut self,
+        alloc: Global,
+        devices: &mut Devices,
+        rack: &mut R,
+    ) -> Result<RemoveStep, WantOfMemory>
+        requires may { MayRemove devices.old.tree.nodes (operation_of self.old) }
+        ensures removes { IfOk result (λ step. RemovesBy devices.old (R.rows rack.old) (operation_of self.old) step devices.new (R.rows rack.new) (operation_of self.new)) }
+        ensures operation { OnErr result (operation_of self.new ≡ operation_of self.old) }
+        ensures rack { OnErr result (R.rows rack.new ≡ R.rows rack.old) }
+        ensures err { OnErr result (devices.new ≡ devices.old) }
+    {
+        match self {
+            Operation::Removing(removal) => devices.remove(alloc, removal, rack),
+            Operation::Surprising(surprise) => devices.surprise(alloc, surprise, rack),
+            Operation::Rebalancing(_) => unreachable!(),
+        }
+    }
+}

@@ -1,0 +1,9 @@
+pub mod Climbs
+pub mod Listing
+pub mod Taking
+pub mod Beginning
+pub mod Whole
+pub mod Moving
+pub mod Stepping
+pub mod Acting
+pub mod Given

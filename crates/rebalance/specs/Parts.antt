@@ -1,0 +1,67 @@
+-- The parts of a step of a rebalance.
+use Rattle.std.specs.Prelude.{◌≡◌, ℕ, Bool, true, List, Option, Some, None, is_some, reverse}
+use Rattle.resource_reqs.specs.Resources.{Res}
+use Rattle.resource_reqs.specs.Spelling.{IsAnswer}
+use Rattle.resource_reqs.specs.Spelling.Answer.{assignment, no_fit, spent}
+use Rattle.pnp_labels.specs.Texts.{Text}
+use Rattle.pnp_labels.specs.declared.label.Label.{Label}
+use Rattle.pnp_model.specs.Machine.{rebalance_walk}
+use Rattle.pnp_model.specs.Records.{Node, Core, Driver, Relation, Found, Rebalance, RebalanceStage}
+use Rattle.pnp_model.specs.Records.RebalanceStage.{Asking, TakingBack, Searching, Cancelling, Stuck, Stopping, Committing, Restarting, Failed, Ending}
+use Rattle.pnp_model.specs.Rebalances.{RebalanceMove, end_ask, take_back, cancel_step, stop_step, end_restart, close, stop_on, cancel_on, group_problem, searched}
+use Rattle.devnode_tree.specs.Trees.{Tree}
+use Rattle.devnode_tree.specs.Identities.{identities}
+use Rattle.trial_journal.specs.Four.{Arbiters}
+use Rattle.device_holdings.specs.Mirrors.{Mirrors, KeepsMirror}
+use Rattle.relations.specs.Leaving.{core_of}
+use Rattle.rebalance.specs.declared.next.RebalanceStep.{RebalanceStep}
+use Rattle.rebalance.specs.declared.next.RebalanceStep.TheVariants as steps
+use Rattle.rebalance.specs.Steps.{Moved}
+
+-- the move, whatever is related, whatever drivers there are and whatever is reserved
+abbrev pub Moves : (Core → RebalanceMove) → List Node → RebalanceStep → List Node → Rebalance → Type 0
+Moves move nodes step nodes' r' =
+    (relations : List Relation) (rack : List Driver) (reserved : List Res)
+    → Moved (move (core_of nodes relations rack reserved)) step (core_of nodes' relations rack reserved) r'
+
+-- likewise of this node
+abbrev pub MovesFor : Option Node → (Core → Node → RebalanceMove) → List Node → RebalanceStep → List Node → Rebalance → Type 0
+MovesFor None move nodes step nodes' r' = ⊥
+MovesFor (Some node) move nodes step nodes' r' = Moves (λ c. move c node) nodes step nodes' r'
+
+-- the end of the request of a stage
+abbrev pub end_move : Rebalance → RebalanceStage → Bool → Core → Node → RebalanceMove
+end_move r (Asking w) refused c node = end_ask c r node refused
+end_move r (TakingBack w) refused c node = take_back c r node w true
+end_move r (Cancelling w) refused c node = cancel_step c r node w true
+end_move r (Stopping w) refused c node = stop_step c r node w true
+end_move r (Restarting w) refused c node = end_restart c r node refused
+end_move r _ refused c node = close c r
+
+-- a request is on its way
+abbrev pub is_walking : RebalanceStage → Bool
+is_walking stage = is_some (rebalance_walk stage)
+
+-- a change that leaves who is there and what is held
+pub record StaysWhole (old new : Tree) : Type 0 where
+  pub next : new.next ≡ old.next
+  pub keeps : identities new.nodes ≡ identities old.nodes
+  pub mirrors : (arbiters : Arbiters) → KeepsMirror old.nodes arbiters new.nodes arbiters
+
+-- the line of what was found, and where the rebalance stands then
+abbrev pub found_label : Text → Found → Label
+found_label path (assignment plan) = Label.Fits path
+found_label path no_fit = Label.NoFit path
+found_label path spent = Label.Spent path
+
+abbrev pub found_frame : Rebalance → Found → Rebalance
+found_frame r (assignment plan) = stop_on (record r { found = assignment plan }) (reverse r.agreed)
+found_frame r no_fit = cancel_on (record r { found = no_fit }) r.agreed
+found_frame r spent = cancel_on (record r { found = spent }) r.agreed
+
+-- the move is by an answer to the problem of all movers
+abbrev pub Searched : List Node → Arbiters → Rebalance → ℕ → Label → Rebalance → Type 0
+Searched nodes arbiters r budget label r' =
+    (relations : List Relation) (rack : List Driver) (reserved : List Res) → Mirrors reserved nodes arbiters
+    → (found : Found) × IsAnswer (group_problem (core_of nodes relations rack reserved) r).fixed (group_problem (core_of nodes relations rack reserved) r).movers budget found
+    × Moved (searched (core_of nodes relations rack reserved) r found) (steps.Did label) (core_of nodes relations rack reserved) r'

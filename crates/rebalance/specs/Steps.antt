@@ -1,0 +1,43 @@
+-- One step of a rebalance, as the machine has it.
+use Rattle.std.specs.Prelude.{◌≡◌, ℕ, List, Option, Some, None, IsSome}
+use Rattle.resource_reqs.specs.Resources.{Res}
+use Rattle.resource_reqs.specs.Spelling.{IsAnswer}
+use Rattle.pnp_model.specs.Frames.{first_node}
+use Rattle.pnp_model.specs.Records.{Node, Core, Driver, Relation, Doing, Found, Rebalance, RebalanceStage}
+use Rattle.pnp_model.specs.Records.Doing.{Does, Searches}
+use Rattle.pnp_model.specs.Rebalances.{RebalanceMove, RebalanceBeside, rebalanced}
+use Rattle.trial_journal.specs.Four.{Arbiters}
+use Rattle.device_holdings.specs.Mirrors.{Mirrors}
+use Rattle.relations.specs.Leaving.{core_of}
+use Rattle.rebalance.specs.declared.next.RebalanceStep.{RebalanceStep}
+use Rattle.rebalance.specs.declared.next.RebalanceStep.TheVariants as steps
+
+-- what is printed, what is there then and where the rebalance stands then are those of the move, and the step tells what
+-- the machine has to do beside it
+abbrev pub Moved : RebalanceMove → RebalanceStep → Core → Rebalance → Type 0
+Moved m (steps.Did label) core r = (m.beside ≡ RebalanceBeside.On) × (label ≡ m.label) × (core ≡ m.core) × (r ≡ m.frame)
+Moved m (steps.FailedRestart label serial) core r = (m.beside ≡ RebalanceBeside.FailedRestart serial) × (label ≡ m.label) × (core ≡ m.core) × (r ≡ m.frame)
+Moved m (steps.OverStart label) core r = (m.beside ≡ RebalanceBeside.OverStart) × (label ≡ m.label) × (core ≡ m.core) × (r ≡ m.frame)
+Moved m (steps.OverUndo label) core r = (m.beside ≡ RebalanceBeside.OverUndo) × (label ≡ m.label) × (core ≡ m.core) × (r ≡ m.frame)
+Moved m (steps.OverDropped label) core r = (m.beside ≡ RebalanceBeside.OverDropped) × (label ≡ m.label) × (core ≡ m.core) × (r ≡ m.frame)
+
+-- the move is done, by the answer of its search where it searches
+abbrev pub MovedBy : ℕ → Option (Doing RebalanceMove) → RebalanceStep → Core → Rebalance → Type 0
+MovedBy budget None step core r = ⊥
+MovedBy budget (Some (Does m)) step core r = Moved m step core r
+MovedBy budget (Some (Searches problem by_answer)) step core r =
+    (found : Found) × IsAnswer problem.fixed problem.movers budget found × Moved (by_answer found) step core r
+
+-- the step of the rebalance, whatever is related, and whatever is reserved that the arbiters mirror
+abbrev pub Rebalances : List Node → Arbiters → List Driver → Rebalance → ℕ → RebalanceStep → List Node → List Driver → Rebalance → Type 0
+Rebalances nodes arbiters rack r budget step nodes' rack' r' =
+    (relations : List Relation) (reserved : List Res) → Mirrors reserved nodes arbiters
+    → MovedBy budget (rebalanced (core_of nodes relations rack reserved) r) step (core_of nodes' relations rack' reserved) r'
+
+-- where the step is one for a device, the device that is next is there
+abbrev pub HasNext : List Node → Rebalance → RebalanceStage → Type 0
+HasNext nodes r RebalanceStage.Searching = Unit {0}
+HasNext nodes r RebalanceStage.Stuck = Unit {0}
+HasNext nodes r RebalanceStage.Committing = Unit {0}
+HasNext nodes r RebalanceStage.Ending = Unit {0}
+HasNext nodes r stage = IsSome (first_node nodes r.todo)

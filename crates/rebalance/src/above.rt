@@ -1,0 +1,96 @@
+ghost use Rattle.std.specs.Prelude.{◌≡◌, ℕ, IfOk};
+ghost use Rattle.pnp_model.specs.Cores.{node_at};
+ghost use Rattle.pnp_model.specs.Keyed.{those};
+ghost use Rattle.pnp_model.specs.Tests.{has};
+ghost use Rattle.pnp_model.specs.Trees.{is_up, above, stands_up};
+ghost use Rattle.pnp_model.specs.Frames.{rest};
+ghost use Rattle.pnp_model.specs.Rebalances.{is_not_above, startable};
+
+use crate::queues::take_first;
+use device_ids::WantOfMemory;
+use devnode_tree::Tree;
+use pnp_labels::DevState;
+use query_remove::SerialQueue;
+use relations::SerialSet;
+use std::alloc::Global;
+
+/// Whether a device is there and Started.
+fn is_up(tree: &Tree, serial: u64) -> bool
+    ensures { result ≡ is_up (node_at serial tree.now.nodes) }
+{
+    match tree.node(serial) {
+        Some(node) => node.state == DevState::Started,
+        None => false,
+    }
+}
+
+/// Whether each device above a device is Started. It takes no memory. Cost: how deep the device stands, with the
+/// logarithm of the number of nodes for each level.
+pub(crate) fn stands_up(tree: &Tree, serial: u64) -> bool
+    ensures { result ≡ stands_up tree.now.nodes serial }
+{
+    let mut at = serial;
+    'levels: while at != 0 {
+        let Some(node) = tree.node(at) else {
+            return true;
+        };
+        let parent = node.parent;
+        if !is_up(tree, parent) {
+            return false;
+        }
+        at = parent;
+    }
+    true
+}
+
+/// The devices above a device. Cost: as `stands_up`.
+fn all_above(alloc: Global, tree: &Tree, serial: u64) -> Result<SerialSet, WantOfMemory>
+    ensures { IfOk result (λ set. (k : ℕ) → has set k ≡ has (above tree.now.nodes serial) k) }
+{
+    let mut set = SerialSet::new(alloc);
+    let mut at = serial;
+    'levels: while at != 0 {
+        let Some(node) = tree.node(at) else {
+            return Ok(set);
+        };
+        let parent = node.parent;
+        set.push(parent)?;
+        at = parent;
+    }
+    Ok(set)
+}
+
+/// What is still to ask after a device that refused: all but those above it. Cost: as `stands_up`, and how many there
+/// are.
+pub(crate) fn left_to_ask(
+    alloc: Global,
+    tree: &Tree,
+    refuser: u64,
+    todo: &SerialQueue,
+) -> Result<SerialQueue, WantOfMemory>
+    ensures { IfOk result (λ left. left ≡ those (is_not_above tree.now.nodes refuser) (rest todo.now)) }
+{
+    let above = all_above(alloc, tree, refuser)?;
+    let mut others = todo.copy(alloc)?;
+    others.drop_first();
+    let mut left = SerialQueue::new(alloc);
+    'others: while let Some(serial) = take_first(&mut others) {
+        if !above.has(serial) {
+            left.push_back(serial)?;
+        }
+    }
+    Ok(left)
+}
+
+/// Devices at the front that have one above that is not Started are passed over. It takes no memory. Cost: as
+/// `stands_up`, for each device that is passed over and one more.
+pub(crate) fn pass_over(tree: &Tree, todo: &mut SerialQueue)
+    ensures { todo.new ≡ startable tree.now.nodes todo.old }
+{
+    'front: while let Some(serial) = todo.get(0) {
+        if stands_up(tree, serial) {
+            return;
+        }
+        todo.drop_first();
+    }
+}

@@ -1,0 +1,178 @@
+ghost use Rattle.std.specs.Prelude.{◌≡◌, slice_get, option_map};
+ghost use Rattle.pnp_model.specs.Machine.{rebalance_walk};
+ghost use Rattle.pnp_model.specs.Rebalances.{ask_on, cancel_on, stop_on, restart_from, restart_on};
+ghost use Rattle.rebalance.specs.Frames.{minor_that_waits, Completed};
+
+use crate::above::pass_over;
+use assign_search::Found;
+use device_ids::Text;
+use device_stack::{NoSuchRequest, Walk};
+use devnode_tree::Tree;
+use pnp_labels::Minor;
+use query_remove::{SerialQueue, complete_walk, waiting_minor};
+use std::marker::Model;
+
+/// What is done next: this project's own.
+#[derive(Clone, Copy, Debug, PartialEq, Eq)]
+pub(crate) enum Stage {
+    /// The device that is next is asked whether it may stop.
+    Asking,
+    /// It refused, and is told that it goes on.
+    TakingBack,
+    /// Resources are searched for, for the target and all that agreed.
+    Searching,
+    /// The device that is next agreed, and is told that it goes on.
+    Cancelling,
+    /// The target gets a problem.
+    Stuck,
+    /// The device that is next is being stopped.
+    Stopping,
+    /// All get what was found.
+    Committing,
+    /// The device that is next is being started again.
+    Restarting,
+    /// It was not started, and gets a problem.
+    Failed,
+    /// None is next.
+    Ending,
+}
+
+/// A rebalance: devices are asked to stop, and all that agreed get new resources together with the one that lacks them
+/// (the driver kit, IRP_MN_QUERY_STOP_DEVICE and IRP_MN_STOP_DEVICE; that each step is one of the machine's is this
+/// project's own). A contract sees the record of where it stands.
+#[derive(Drop)]
+pub struct Rebalance {
+    pub(crate) target: u64,
+    pub(crate) path: Text,
+    pub(crate) todo: SerialQueue,
+    pub(crate) agreed: SerialQueue,
+    pub(crate) refused: SerialQueue,
+    pub(crate) found: Found,
+    pub(crate) stage: Stage,
+    pub(crate) walk: Walk,
+}
+
+impl Model for Rebalance {
+    ghost use Rattle.assign_search.specs.Fixed.{answer_of};
+    ghost use Rattle.pnp_model.specs.Records.{Rebalance};
+    ghost use Rattle.rebalance.specs.Stages.{stage_of};
+
+    ghost Value = { Rebalance };
+
+    ghost view = { λ r. record { target = r.target; path = r.path; todo = r.todo; agreed = r.agreed; refused = r.refused; found = answer_of r.found; stage = stage_of r.stage r.walk.walk } };
+}
+
+impl Rebalance {
+    /// The request that waits for a driver; none exactly where none waits.
+    pub fn waits(&self) -> Option<Minor>
+        ensures { result ≡ minor_that_waits self.now.stage }
+    {
+        match &self.stage {
+            Stage::Asking
+            | Stage::TakingBack
+            | Stage::Cancelling
+            | Stage::Stopping
+            | Stage::Restarting => waiting_minor(&self.walk),
+            _ => None,
+        }
+    }
+
+    /// The driver at which the request waits completes it: Ok, or Fail. `NoSuchRequest` exactly where none waits; then
+    /// nothing changes. It takes no memory.
+    pub fn complete(&mut self, ok: bool) -> Result<(), NoSuchRequest>
+        ensures { Completed result self.old ok self.new }
+    {
+        match &self.stage {
+            Stage::Asking
+            | Stage::TakingBack
+            | Stage::Cancelling
+            | Stage::Stopping
+            | Stage::Restarting => complete_walk(&mut self.walk, ok),
+            _ => Err(NoSuchRequest),
+        }
+    }
+
+    /// The request that is on its way through the drivers of the device that is next; none exactly where none is.
+    pub fn walk(&self) -> Option<&Walk>
+        ensures { option_map (λ w. w.now.walk) result ≡ rebalance_walk self.now.stage }
+    {
+        match &self.stage {
+            Stage::Asking
+            | Stage::TakingBack
+            | Stage::Cancelling
+            | Stage::Stopping
+            | Stage::Restarting => Some(&self.walk),
+            _ => None,
+        }
+    }
+
+    /// The device that it is for.
+    pub fn target(&self) -> u64
+        ensures { result ≡ self.now.target }
+    {
+        self.target
+    }
+
+    /// The device that is next; none exactly where none is.
+    pub fn first(&self) -> Option<u64>
+        ensures { result ≡ slice_get self.now.todo 0 }
+    {
+        self.todo.get(0)
+    }
+
+    /// The device that is next is asked, and where none is next resources are searched for.
+    pub(crate) fn ask_next(&mut self)
+        ensures { self.new ≡ ask_on self.old self.old.todo }
+    {
+        if self.todo.get(0).is_some() {
+            self.stage = Stage::Asking;
+            self.walk = Walk::begin(Minor::QueryStop);
+        } else {
+            self.stage = Stage::Searching;
+        }
+    }
+
+    /// The device that is next is told that it goes on, and where none is next the target gets a problem.
+    pub(crate) fn cancel_next(&mut self)
+        ensures { self.new ≡ cancel_on self.old self.old.todo }
+    {
+        if self.todo.get(0).is_some() {
+            self.stage = Stage::Cancelling;
+            self.walk = Walk::begin(Minor::CancelStop);
+        } else {
+            self.stage = Stage::Stuck;
+        }
+    }
+
+    /// The device that is next is stopped, and where none is next all get what was found.
+    pub(crate) fn stop_next(&mut self)
+        ensures { self.new ≡ stop_on self.old self.old.todo }
+    {
+        if self.todo.get(0).is_some() {
+            self.stage = Stage::Stopping;
+            self.walk = Walk::begin(Minor::Stop);
+        } else {
+            self.stage = Stage::Committing;
+        }
+    }
+
+    /// The device that is next is started again, and where none is next the end is.
+    pub(crate) fn restart_first(&mut self)
+        ensures { self.new ≡ restart_from self.old self.old.todo }
+    {
+        if self.todo.get(0).is_some() {
+            self.stage = Stage::Restarting;
+            self.walk = Walk::begin(Minor::Start);
+        } else {
+            self.stage = Stage::Ending;
+        }
+    }
+
+    /// The next device above which all are Started is started again, and where none is next the end is.
+    pub(crate) fn restart_next(&mut self, tree: &Tree)
+        ensures { self.new ≡ restart_on tree.now.nodes self.old self.old.todo }
+    {
+        pass_over(tree, &mut self.todo);
+        self.restart_first();
+    }
+}

@@ -1,0 +1,44 @@
+ghost use Rattle.std.specs.Prelude.{◌≡◌, [], ◌∷◌, ◌++◌, reverse, IfOk, IfNone, option_to_list};
+
+use device_ids::WantOfMemory;
+use query_remove::SerialQueue;
+use std::alloc::Global;
+
+/// Takes the next device.
+pub(crate) fn take_first(queue: &mut SerialQueue) -> Option<u64>
+    ensures taken { queue.old ≡ option_to_list result ++ queue.new }
+    ensures none { IfNone result (queue.old ≡ []) }
+{
+    let serial = queue.get(0)?;
+    queue.drop_first();
+    Some(serial)
+}
+
+/// The same devices, the last one first.
+pub(crate) fn reversed(alloc: Global, queue: &SerialQueue) -> Result<SerialQueue, WantOfMemory>
+    ensures { IfOk result (λ turned. turned ≡ reverse queue.now) }
+{
+    let mut left = queue.copy(alloc)?;
+    let mut turned = SerialQueue::new(alloc);
+    'left: while let Some(serial) = take_first(&mut left) {
+        turned.push_front(serial)?;
+    }
+    Ok(turned)
+}
+
+/// A device, and then these.
+pub(crate) fn with_first(
+    alloc: Global,
+    first: u64,
+    queue: &SerialQueue,
+) -> Result<Vec<u64>, WantOfMemory>
+    ensures { IfOk result (λ all. all.items ≡ first ∷ queue.now) }
+{
+    let mut left = queue.copy(alloc)?;
+    let mut all = Vec::new(alloc);
+    all.push(first)?;
+    'left: while let Some(serial) = take_first(&mut left) {
+        all.push(serial)?;
+    }
+    Ok(all)
+}

@@ -1,0 +1,150 @@
+ghost use Rattle.std.specs.Prelude.{◌≡◌, length, map, IfOk, OnOk, OnErr, IsSome};
+ghost use Rattle.assign_search.specs.Fixed.{answer_of};
+ghost use Rattle.pnp_model.specs.Frames.{first_node};
+ghost use Rattle.pnp_model.specs.Rebalances.{trouble_of, end_of, movers, plan_of, committed, stuck, commit_step, failed, close};
+ghost use Rattle.devnode_tree.specs.Identities.{identities};
+ghost use Rattle.device_holdings.specs.Mirrors.{IsMirrored, KeepsMirror};
+ghost use Rattle.rebalance.specs.declared.next.RebalanceStep.TheVariants as steps;
+ghost use Rattle.rebalance.specs.Parts.{Moves, MovesFor, StaysWhole};
+
+use crate::above::{pass_over, stands_up};
+use crate::frame::{Rebalance, Stage};
+use crate::next::RebalanceStep;
+use assign_search::Found;
+use device_holdings::assign_all;
+use device_ids::{Text, WantOfMemory};
+use devnode_tree::Tree;
+use pnp_labels::{Label, OpEnd, OpKind, Problem};
+use std::alloc::Global;
+use trial_journal::Arbiters;
+
+/// The problem of a device for which nothing was found.
+fn trouble_of(found: &Found) -> Problem
+    ensures { result ≡ trouble_of (answer_of found.now) }
+{
+    match found {
+        Found::Spent => Problem::Budget,
+        _ => Problem::NormalConflict,
+    }
+}
+
+/// How a rebalance ends.
+fn end_of(found: &Found) -> OpEnd
+    ensures { result ≡ end_of (answer_of found.now) }
+{
+    match found {
+        Found::Assignment(_) => OpEnd::Moved,
+        Found::NoFit => OpEnd::NoFit,
+        Found::Spent => OpEnd::Spent,
+    }
+}
+
+impl Rebalance {
+    /// Nothing was found: the target gets a problem.
+    pub(crate) fn stick(&mut self, alloc: Global, tree: &mut Tree) -> Result<Label, WantOfMemory>
+        ensures stuck { IfOk result (λ label. Moves (λ c. stuck c self.old) tree.old.nodes (steps.Did label) tree.new.nodes self.new) }
+        ensures whole { StaysWhole tree.old tree.new }
+        ensures rebalance { OnErr result (self.new ≡ self.old) }
+        ensures tree { OnErr result (tree.new ≡ tree.old) }
+    {
+        let path = self.path.copy(alloc)?;
+        let problem = trouble_of(&self.found);
+        tree.set_problem(self.target, Some(problem));
+        self.stage = Stage::Ending;
+        Ok(Label::Trouble { path, problem })
+    }
+
+    /// The target and all that agreed get what was found, at once; how many they are is told.
+    fn give(
+        &self,
+        alloc: Global,
+        tree: &mut Tree,
+        arbiters: &mut Arbiters,
+    ) -> Result<u64, WantOfMemory>
+        requires { IsMirrored tree.old.nodes arbiters.old }
+        ensures count { IfOk result (λ count. count ≡ length (movers self.now)) }
+        ensures given { OnOk result (tree.new ≡ record tree.old { nodes = map (committed (movers self.now) (plan_of self.now.found)) tree.old.nodes }) }
+        ensures mirrors { KeepsMirror tree.old.nodes arbiters.old tree.new.nodes arbiters.new }
+        ensures tree { OnErr result (tree.new ≡ tree.old) }
+    {
+        let movers = self.movers(alloc)?;
+        let count = movers.len() as u64;
+        let Found::Assignment(plan) = &self.found else {
+            return Ok(count);
+        };
+        assign_all(alloc, tree, arbiters, &movers, plan)?;
+        Ok(count)
+    }
+
+    /// All movers get what was found; then those that stopped are started again, the least serial first.
+    pub(crate) fn commit(
+        &mut self,
+        alloc: Global,
+        tree: &mut Tree,
+        arbiters: &mut Arbiters,
+    ) -> Result<Label, WantOfMemory>
+        requires { IsMirrored tree.old.nodes arbiters.old }
+        ensures committed { IfOk result (λ label. Moves (λ c. commit_step c self.old) tree.old.nodes (steps.Did label) tree.new.nodes self.new) }
+        ensures next { tree.new.next ≡ tree.old.next }
+        ensures keeps { identities tree.new.nodes ≡ identities tree.old.nodes }
+        ensures mirrors { KeepsMirror tree.old.nodes arbiters.old tree.new.nodes arbiters.new }
+        ensures rebalance { OnErr result (self.new ≡ self.old) }
+        ensures tree { OnErr result (tree.new ≡ tree.old) }
+    {
+        let mut todo = self.agreed.copy(alloc)?;
+        pass_over(tree, &mut todo);
+        let movers = self.give(alloc, tree, arbiters)?;
+        self.todo = todo;
+        self.restart_first();
+        Ok(Label::Commit { movers })
+    }
+
+    /// The device that is next was not started again: it gets a problem, and its surprise removal is to come.
+    pub(crate) fn fail(
+        &mut self,
+        alloc: Global,
+        tree: &mut Tree,
+    ) -> Result<RebalanceStep, WantOfMemory>
+        requires { IsSome (first_node tree.old.nodes self.old.todo) }
+        ensures failed { IfOk result (λ step. MovesFor (first_node tree.old.nodes self.old.todo) (λ c n. failed c self.old n) tree.old.nodes step tree.new.nodes self.new) }
+        ensures whole { StaysWhole tree.old tree.new }
+        ensures rebalance { OnErr result (self.new ≡ self.old) }
+        ensures tree { OnErr result (tree.new ≡ tree.old) }
+    {
+        let Some(serial) = self.first() else {
+            unreachable!()
+        };
+        let Some(node) = tree.node(serial) else {
+            unreachable!()
+        };
+        let serial = node.serial;
+        let path = Text::make(alloc, node.path.bytes())?;
+        let problem = Problem::FailedStart;
+        self.todo.drop_first();
+        self.restart_next(tree);
+        tree.set_problem(serial, Some(problem));
+        let label = Label::Trouble { path, problem };
+        Ok(RebalanceStep::FailedRestart { label, serial })
+    }
+
+    /// The rebalance ends.
+    pub(crate) fn close(&self, alloc: Global, tree: &Tree) -> Result<RebalanceStep, WantOfMemory>
+        ensures { IfOk result (λ step. Moves (λ c. close c self.now) tree.now.nodes step tree.now.nodes self.now) }
+    {
+        let label = Label::End {
+            op: OpKind::Rebalance,
+            path: self.path.copy(alloc)?,
+            result: end_of(&self.found),
+        };
+        match &self.found {
+            Found::Assignment(_) => {
+                if stands_up(tree, self.target) {
+                    Ok(RebalanceStep::OverStart(label))
+                } else {
+                    Ok(RebalanceStep::OverDropped(label))
+                }
+            }
+            _ => Ok(RebalanceStep::OverUndo(label)),
+        }
+    }
+}

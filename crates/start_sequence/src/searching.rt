@@ -1,0 +1,76 @@
+ghost use Rattle.std.specs.Prelude.{◌≡◌, ◌≤◌, List, IfOk, OnErr, IsSome};
+ghost use Rattle.resource_reqs.specs.Resources.{Res};
+ghost use Rattle.pnp_model.specs.Cores.{node_at};
+ghost use Rattle.pnp_model.specs.Records.{Driver, Relation};
+ghost use Rattle.pnp_model.specs.Starts.{own_part};
+ghost use Rattle.devnode_tree.specs.Identities.{identities};
+ghost use Rattle.device_holdings.specs.Mirrors.{Mirrors, IsMirrored, KeepsMirror};
+ghost use Rattle.start_sequence.specs.Steps.{core_of};
+ghost use Rattle.start_sequence.specs.Parts.{SearchedFor};
+
+use crate::next::StartStep;
+use crate::work::{Phase, StartWork};
+use assign_search::{Found, Plan};
+use device_holdings::{assign, search};
+use device_ids::{Text, WantOfMemory};
+use device_stack::Walk;
+use devnode_tree::Tree;
+use pnp_labels::{Label, Minor, Problem};
+use resource_reqs::ResList;
+use std::alloc::Global;
+use trial_journal::Arbiters;
+
+/// The resources of the one mover of a plan.
+fn own_part(alloc: Global, plan: &Plan) -> Result<ResList, WantOfMemory>
+    ensures { IfOk result (λ holds. holds ≡ own_part plan.now) }
+{
+    if plan.len() > 0 {
+        plan.get(0).copy(alloc)
+    } else {
+        Ok(ResList::new(alloc))
+    }
+}
+
+impl StartWork {
+    /// Resources are searched for the device, beside all that others hold and what is reserved: it gets what is found, in
+    /// tree and arbiters, and is to be started; or a rebalance is needed; or the budget was too small, which is the problem
+    /// that is due.
+    #[tactic(auto, using(devnode_tree::proofs::Identities::holds_keep))]
+    pub(crate) fn search(
+        &mut self,
+        alloc: Global,
+        tree: &mut Tree,
+        arbiters: &mut Arbiters,
+        budget: u64,
+    ) -> Result<StartStep, WantOfMemory>
+        requires there { IsSome (node_at self.old.serial tree.old.nodes) }
+        requires mirrored { IsMirrored tree.old.nodes arbiters.old }
+        requires budget { budget ≤ 1000000 }
+        ensures searched { IfOk result (λ step. (rack : List Driver) (relations : List Relation) (reserved : List Res) → Mirrors reserved tree.old.nodes arbiters.old → SearchedFor budget (node_at self.old.serial tree.old.nodes) (core_of tree.old.nodes rack relations reserved) step (core_of tree.new.nodes rack relations reserved) self.new.phase) }
+        ensures serial { self.new.serial ≡ self.old.serial }
+        ensures next { tree.new.next ≡ tree.old.next }
+        ensures keeps { identities tree.new.nodes ≡ identities tree.old.nodes }
+        ensures mirrors { KeepsMirror tree.old.nodes arbiters.old tree.new.nodes arbiters.new }
+        ensures start { OnErr result (self.new ≡ self.old) }
+        ensures tree { OnErr result (tree.new ≡ tree.old) }
+    {
+        let Some(node) = tree.node(self.serial) else {
+            unreachable!()
+        };
+        let path = Text::make(alloc, node.path.bytes())?;
+        match search(alloc, tree, arbiters, &[self.serial], budget)? {
+            Found::Assignment(plan) => {
+                let holds = own_part(alloc, &plan)?;
+                let held = holds.copy(alloc)?;
+                assign(tree, arbiters, self.serial, holds)?;
+                self.phase = Phase::Starting(Walk::begin(Minor::Start));
+                Ok(StartStep::Did(Label::Assign { path, held }))
+            }
+            Found::NoFit => Ok(StartStep::Needs(Label::NoFit { path })),
+            Found::Spent => {
+                self.phase = Phase::Due(Problem::Budget);
+                Ok(StartStep::Did(Label::Spent { path }))
+            }
+        }
+    }
+}
