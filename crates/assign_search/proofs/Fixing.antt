@@ -1,5 +1,5 @@
 -- What is fixed, and the board that holds it.
-use Rattle.std.proofs.Common.{◌≡◌, ℕ, Bool, true, false, not, ◌==◌, ◌+◌, ◌<◌, ◌≤◌, cond, inl, inr, List, [], ◌∷◌, ◌++◌, length, take, get_or, slice_get, Contains, Some, None, zero, suc, append_assoc, append-nil, length-append, length-take, Result, Ok, Err, is_ok, filter, refl, sym, ◌∙◌, ap, subst, arith}
+use Rattle.std.proofs.Common.{◌≡◌, ℕ, Bool, true, false, not, ◌==◌, ◌||◌, ◌+◌, ◌<◌, ◌≤◌, cond, inl, inr, List, [], ◌∷◌, ◌++◌, length, take, get_or, slice_get, Contains, Some, None, zero, suc, append_assoc, append-nil, length-append, length-take, Result, Ok, Err, is_ok, filter, refl, sym, ◌∙◌, ap, ap₂, subst, arith}
 use Rattle.std.specs.Prelude.{IsPermutation}
 use Rattle.std.specs.List.{list_any}
 use Rattle.std.specs.List.Sorted.{IsNonDecreasing, IsBinarySearchResult}
@@ -9,6 +9,7 @@ use native.Mathlib.Decide.{dec_lt}
 use Rattle.std.specs.Result.{MatchResult}
 use Rattle.std.proofs.lemmas.List.{take_all, get_or_default}
 use Rattle.std.proofs.lemmas.Option.{slice_get_within, get_or_from_slice_get}
+use Rattle.std.proofs.lemmas.List.Folds.{list_any-append, list_any_at, list_any_more}
 use Rattle.std.proofs.lemmas.List.Elements.{filter_more, filter-append, filter_agree}
 use Rattle.std.proofs.lemmas.List.Sorted.{searched, IsPermutation-append_left, IsPermutation-trans, IsPermutation-push_more, IsPermutation-map, IsPermutation-sym, Contains-permutation, length_permutation}
 use Rattle.resource_reqs.specs.declared.owner.Owner.{Owner}
@@ -16,7 +17,7 @@ use Rattle.resource_reqs.specs.declared.owner.Owner.TheVariants.{Reserved, Devic
 use Rattle.resource_reqs.proofs.Counts.{contains_cons, contains_nil}
 use Rattle.range_arbiter.specs.Pairs.{Pair, res_list}
 use Rattle.trial_journal.specs.Four.{Arbiters, all_pairs}
-use Rattle.assign_search.specs.Fixed.{is_mover, fixed_pairs}
+use Rattle.assign_search.specs.Fixed.{is_mover, fixed_pairs, has_moving, fixed_of}
 use Rattle.assign_search.proofs.SameHeld.{SameSet}
 use Rattle.assign_search.proofs.Touching.{contains_later}
 
@@ -92,15 +93,15 @@ copied_less old pairs serials at p board read moves copied =
     ∙ ap (λ b. fixed_pairs serials (take at pairs) ++ cond (not b) (p ∷ []) []) moves in
     subst (λ l. IsPermutation (old ++ l) board) (sym (kept ∙ append-nil (fixed_pairs serials (take at pairs)))) copied
 
+past_end : (pairs : List Pair) (at : ℕ) → slice_get pairs at ≡ None → length pairs ≤ at
+past_end [] at h = omega arith
+past_end (p ∷ pairs) zero h = cc
+past_end (p ∷ pairs) (suc at) h = let rest = past_end pairs at h in omega arith
+
 -- all were seen
 pub copied_all : (old pairs : List Pair) (serials : List ℕ) (at : ℕ) (board : List Pair) → slice_get pairs at ≡ None
     → IsPermutation (old ++ fixed_pairs serials (take at pairs)) board → IsPermutation (old ++ fixed_pairs serials pairs) board
 copied_all old pairs serials at board past copied = subst (λ l. IsPermutation (old ++ fixed_pairs serials l) board) (take_all at pairs (past_end pairs at past)) copied
-  where
-    past_end : (pairs : List Pair) (at : ℕ) → slice_get pairs at ≡ None → length pairs ≤ at
-    past_end [] at h = omega arith
-    past_end (p ∷ pairs) zero h = cc
-    past_end (p ∷ pairs) (suc at) h = let rest = past_end pairs at h in omega arith
 
 -- how many were copied
 pub copied_few : (old pairs : List Pair) (serials : List ℕ) (at : ℕ) (board : List Pair) → IsPermutation (old ++ fixed_pairs serials (take at pairs)) board
@@ -142,3 +143,61 @@ same_res a b moved r =
       λ h. Contains-permutation (res_list b) (res_list a) r (IsPermutation-sym (res_list a) (res_list b) mapped) h,
       λ h. Contains-permutation (res_list a) (res_list b) r mapped h,
     )
+
+-- one pair more that does not move
+pub none_more : (serials : List ℕ) (pairs : List Pair) (at : ℕ) (p : Pair) → slice_get pairs at ≡ Some p → is_mover serials p.0 ≡ false
+    → has_moving serials (take at pairs) ≡ false → has_moving serials (take (at + 1) pairs) ≡ false
+none_more serials pairs at p read fixed none =
+    let within : at < length pairs = slice_get_within pairs at p read in
+    let here : get_or pairs at p ≡ p = get_or_from_slice_get pairs at p p read in
+    list_any_more (λ (q : Pair). is_mover serials q.0) pairs at p within
+    ∙ ap (λ b. b || is_mover serials (get_or pairs at p).0) none
+    ∙ ap (λ (q : Pair). is_mover serials q.0) here ∙ fixed
+
+-- a pair that moves
+pub one_moves : (serials : List ℕ) (pairs : List Pair) (at : ℕ) (p : Pair) → slice_get pairs at ≡ Some p → is_mover serials p.0 ≡ true
+    → has_moving serials pairs ≡ true
+one_moves serials pairs at p read moves =
+    list_any_at (λ (q : Pair). is_mover serials q.0) pairs at p (slice_get_within pairs at p read)
+    (ap (λ (q : Pair). is_mover serials q.0) (get_or_from_slice_get pairs at p p read) ∙ moves)
+
+-- all were seen, and none moves
+pub none_at_all : (serials : List ℕ) (pairs : List Pair) (at : ℕ) → slice_get pairs at ≡ None
+    → has_moving serials (take at pairs) ≡ false → has_moving serials pairs ≡ false
+none_at_all serials pairs at past none = ap (has_moving serials) (sym (take_all at pairs (past_end pairs at past))) ∙ none
+
+-- where none moves all is fixed
+pub fixed_all : (serials : List ℕ) (pairs : List Pair) → has_moving serials pairs ≡ false → fixed_pairs serials pairs ≡ pairs
+fixed_all serials [] h = refl
+fixed_all serials (p ∷ pairs) h = elim (cases_Bool (is_mover serials p.0)) [
+  | inl e ↦ absurd (both_ways (has_moving serials (p ∷ pairs)) h (or_left (is_mover serials p.0) (has_moving serials pairs) e))
+  | inr e ↦
+      ap (λ b. cond (not b) (p ∷ fixed_pairs serials pairs) (fixed_pairs serials pairs)) e
+      ∙ ap (λ l. p ∷ l) (fixed_all serials pairs (ap (λ b. b || has_moving serials pairs) (sym e) ∙ h))
+]
+
+-- the order of serials makes no difference
+pub moving_same : (xs ys : List ℕ) → IsPermutation xs ys → (pairs : List Pair) → has_moving xs pairs ≡ has_moving ys pairs
+moving_same xs ys moved [] = refl
+moving_same xs ys moved (p ∷ pairs) = ap₂ (λ a b. a || b) (mover_same xs ys moved p.0) (moving_same xs ys moved pairs)
+
+-- what the arbiters hold is what is fixed, where no mover holds something
+pub all_fixed : (serials : List ℕ) (ascending : List ℕ) → IsPermutation serials ascending → (pairs : List Pair) → has_moving ascending pairs ≡ false
+    → SameSet (res_list pairs) (fixed_of serials pairs)
+all_fixed serials ascending moved pairs none r =
+    let same : fixed_of serials pairs ≡ res_list pairs = ap res_list (fixed_all serials pairs (moving_same serials ascending moved pairs ∙ none)) in
+    (λ h. subst (λ l. Contains l r) (sym same) h, λ h. subst (λ l. Contains l r) same h)
+
+-- kind by kind
+pub moving_four : (serials : List ℕ) (a : Arbiters)
+    → has_moving serials (all_pairs a) ≡ (((has_moving serials a.port.pairs || has_moving serials a.irq.pairs) || has_moving serials a.mem.pairs) || has_moving serials a.dma.pairs)
+moving_four serials a =
+    list_any-append (λ (q : Pair). is_mover serials q.0) (a.port.pairs ++ a.irq.pairs ++ a.mem.pairs) a.dma.pairs
+    ∙ ap (λ b. b || has_moving serials a.dma.pairs) (list_any-append (λ (q : Pair). is_mover serials q.0) (a.port.pairs ++ a.irq.pairs) a.mem.pairs
+    ∙ ap (λ b. b || has_moving serials a.mem.pairs) (list_any-append (λ (q : Pair). is_mover serials q.0) a.port.pairs a.irq.pairs))
+
+pub length_four : (a : Arbiters) → length (all_pairs a) ≡ ((length a.port.pairs + length a.irq.pairs) + length a.mem.pairs) + length a.dma.pairs
+length_four a =
+    length-append (a.port.pairs ++ a.irq.pairs ++ a.mem.pairs) a.dma.pairs
+    ∙ ap (λ n. n + length a.dma.pairs) (length-append (a.port.pairs ++ a.irq.pairs) a.mem.pairs
+    ∙ ap (λ n. n + length a.mem.pairs) (length-append a.port.pairs a.irq.pairs))

@@ -5,6 +5,7 @@ pub mod Extensions
 pub mod Held
 pub mod SameHeld
 pub mod Searching
+pub mod Along
 pub mod Planning
 pub mod SameAnswers
 pub mod Fixing

@@ -25,6 +25,10 @@ is_mover serials (Device serial) = list_any (λ s. s == serial) serials
 abbrev pub fixed_pairs : List ℕ → List Pair → List Pair
 fixed_pairs serials pairs = filter (λ p. not (is_mover serials p.0)) pairs
 
+-- whether some owner is one of these
+abbrev pub has_moving : List ℕ → List Pair → Bool
+has_moving serials pairs = list_any (λ p. is_mover serials p.0) pairs
+
 abbrev pub fixed_of : List ℕ → List Pair → List Res
 fixed_of serials pairs = res_list (fixed_pairs serials pairs)
 

@@ -166,3 +166,8 @@ put_in l Dma p = record l { dma = pairs_with l.dma p }
 abbrev pub lists_holding : Lists → Option Res → Lists
 lists_holding l None = l
 lists_holding l (Some res) = put_in l res.kind (Reserved, res)
+
+-- what the frames of a path placed is held beside the rest, the first frame's first
+abbrev pub lists_along : Lists → List Frame → Lists
+lists_along l [] = l
+lists_along l (f ∷ fs) = lists_along (lists_holding l f.res) fs

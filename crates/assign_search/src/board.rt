@@ -1,4 +1,4 @@
-ghost use Rattle.std.specs.Prelude.{◌≡◌, ◌<◌, ◌+◌, ◌^◌, length, Contains, OnOk};
+ghost use Rattle.std.specs.Prelude.{◌≡◌, ◌<◌, ◌+◌, ◌^◌, length, Contains, OnOk, OnErr};
 ghost use Rattle.std.specs.Option.{ForSome};
 ghost use Rattle.trial_journal.specs.Four.{of_kind, all_pairs, lists_of};
 ghost use Rattle.assign_search.specs.Walking.{put_in, lists_holding};
@@ -6,20 +6,22 @@ ghost use Rattle.assign_search.specs.Walking.{put_in, lists_holding};
 use resource_reqs::{Owner, Res, WantOfMemory};
 use trial_journal::Arbiters;
 
-/// Puts a pair on the board, and takes the memory for it before.
+/// Puts a pair on the board, and takes the memory for it before; after want of memory the lists are as before.
 pub fn add(board: &mut Arbiters, owner: Owner, res: Res) -> Result<(), WantOfMemory>
     requires { length (all_pairs board.old) + 1 < 2 ^ 32 }
-    ensures { OnOk result (lists_of board.new ≡ put_in (lists_of board.old) res.kind (owner, res)) }
+    ensures put { OnOk result (lists_of board.new ≡ put_in (lists_of board.old) res.kind (owner, res)) }
+    ensures err { OnErr result (lists_of board.new ≡ lists_of board.old) }
 {
     board.room(res.kind, 1)?;
     board.put(owner, res);
     Ok(())
 }
 
-/// Holds what a step places, as reserved.
+/// Holds what a step places, as reserved; after want of memory the lists are as before.
 pub fn hold(board: &mut Arbiters, res: &Option<Res>) -> Result<(), WantOfMemory>
     requires { length (all_pairs board.old) + 1 < 2 ^ 32 }
-    ensures { OnOk result (lists_of board.new ≡ lists_holding (lists_of board.old) res.now) }
+    ensures held { OnOk result (lists_of board.new ≡ lists_holding (lists_of board.old) res.now) }
+    ensures err { OnErr result (lists_of board.new ≡ lists_of board.old) }
 {
     if let Some(res) = res {
         add(board, Owner::Reserved, *res)?;

@@ -3,7 +3,7 @@ ghost use Rattle.std.specs.List.Sorted.{IsNonDecreasing};
 ghost use Rattle.resource_reqs.specs.declared.kind.Kind.{Kind};
 ghost use Rattle.resource_reqs.specs.Spelling.{IsAnswer};
 ghost use Rattle.trial_journal.specs.Four.{of_kind, all_pairs, lists_of};
-ghost use Rattle.assign_search.specs.Fixed.{serial_of, reqs_of, is_mover, fixed_pairs, fixed_of, answer_of};
+ghost use Rattle.assign_search.specs.Fixed.{serial_of, reqs_of, is_mover, fixed_pairs, has_moving, fixed_of, answer_of};
 
 use crate::board::add;
 use crate::mover::Mover;
@@ -41,6 +41,36 @@ fn owns_moving(serials: &[u64], owner: Owner) -> bool
     }
 }
 
+/// Whether the arbiter of a kind holds something for one of these serials. Cost: a look at each pair up to the
+/// first such.
+fn has_moving_of(arbiters: &Arbiters, serials: &[u64], kind: Kind) -> bool
+    requires ascending { IsNonDecreasing serials.now }
+    requires few { length (of_kind arbiters.now kind).pairs < 2 ^ 32 }
+    ensures { result ≡ has_moving serials.now (of_kind arbiters.now kind).pairs }
+{
+    let mut at = 0;
+    'pairs: while let Some(pair) = arbiters.held(kind, at) {
+        if owns_moving(serials, pair.0) {
+            return true;
+        }
+        at += 1;
+    }
+    false
+}
+
+/// Whether the arbiters hold something for one of these serials. Cost: a look at each pair up to the first
+/// such.
+fn has_moving(arbiters: &Arbiters, serials: &[u64]) -> bool
+    requires ascending { IsNonDecreasing serials.now }
+    requires few { (kind : Kind) → length (of_kind arbiters.now kind).pairs ≤ 2 ^ 29 }
+    ensures { result ≡ has_moving serials.now (all_pairs arbiters.now) }
+{
+    has_moving_of(arbiters, serials, Kind::Port)
+        || has_moving_of(arbiters, serials, Kind::Irq)
+        || has_moving_of(arbiters, serials, Kind::Mem)
+        || has_moving_of(arbiters, serials, Kind::Dma)
+}
+
 /// Puts on a board what the arbiter of a kind holds for none of these serials.
 fn copy_fixed(
     arbiters: &Arbiters,
@@ -63,18 +93,17 @@ fn copy_fixed(
     Ok(())
 }
 
-/// A board with all pairs whose owner is no mover.
+/// A board with all pairs whose owner is none of these serials.
 fn fixed_board(
     alloc: Global,
     arbiters: &Arbiters,
-    movers: &[Mover],
+    serials: &[u64],
 ) -> Result<Arbiters, WantOfMemory>
-    requires { (kind : Kind) → length (of_kind arbiters.now kind).pairs ≤ 2 ^ 29 }
-    ensures fixed { IfOk result (λ board. IsPermutation (fixed_pairs (map serial_of movers.now) (all_pairs arbiters.now)) (all_pairs board)) }
+    requires ascending { IsNonDecreasing serials.now }
+    requires few { (kind : Kind) → length (of_kind arbiters.now kind).pairs ≤ 2 ^ 29 }
+    ensures fixed { IfOk result (λ board. IsPermutation (fixed_pairs serials.now (all_pairs arbiters.now)) (all_pairs board)) }
     ensures few { IfOk result (λ board. length (all_pairs board) ≤ 2 ^ 31) }
 {
-    let ascending = serials_of(alloc, movers)?;
-    let serials: &[u64] = &ascending;
     let mut board = Arbiters::new(alloc)?;
     copy_fixed(arbiters, &mut board, serials, Kind::Port)?;
     copy_fixed(arbiters, &mut board, serials, Kind::Irq)?;
@@ -87,9 +116,9 @@ fn fixed_board(
 /// one whole list; and the budget is the most prefixes of spellings that may be tried. It is the first
 /// assignment in the order of preference, where so many are enough to find it; `NoFit`, where none exists and
 /// so many are enough to see that; else `Spent`. The lists of the arbiters are as before, whatever is answered
-/// (this project's own; the kernel's arbiters search likewise, the driver kit, "Arbiter Interface"). Cost: the
-/// pairs held, and for each prefix that is tried the wants of its group and of the groups and movers that its
-/// place touches.
+/// (this project's own; the kernel's arbiters search likewise, the driver kit, "Arbiter Interface"). Cost: a
+/// look at the owner of each pair held; where a mover holds one, a copy of the pairs that are fixed; and for
+/// each prefix that is tried the wants of its group and of the groups and movers that its place touches.
 pub fn answer(
     alloc: Global,
     arbiters: &mut Arbiters,
@@ -101,6 +130,11 @@ pub fn answer(
     ensures answer { IfOk result (λ found. IsAnswer (fixed_of (map serial_of movers.now) (all_pairs arbiters.old)) (map reqs_of movers.now) budget (answer_of found)) }
     ensures same { lists_of arbiters.new ≡ lists_of arbiters.old }
 {
-    let mut board = fixed_board(alloc, arbiters, movers)?;
+    let ascending = serials_of(alloc, movers)?;
+    let serials: &[u64] = &ascending;
+    if !has_moving(arbiters, serials) {
+        return search(alloc, arbiters, movers, budget);
+    }
+    let mut board = fixed_board(alloc, arbiters, serials)?;
     search(alloc, &mut board, movers, budget)
 }

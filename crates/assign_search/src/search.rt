@@ -1,9 +1,10 @@
-ghost use Rattle.std.specs.Prelude.{◌≡◌, ◌<◌, ◌+◌, ◌^◌, [], length, map, IfOk};
+ghost use Rattle.std.specs.Prelude.{◌≡◌, ◌<◌, ◌+◌, ◌^◌, ◌++◌, ◌∷◌, [], length, map, Contains, IfOk, OnOk, OnErr};
 ghost use Rattle.std.specs.List.{AllByRecursion};
-ghost use Rattle.trial_journal.specs.Four.{all_pairs};
+ghost use Rattle.std.specs.Option.{ForSome};
+ghost use Rattle.trial_journal.specs.Four.{of_kind, all_pairs, lists_of, Lists};
 ghost use Rattle.resource_reqs.specs.Spelling.{IsAnswer};
 ghost use Rattle.assign_search.specs.Fixed.{reqs_of, answer_of};
-ghost use Rattle.assign_search.specs.Walking.{HasOpenList, held_in};
+ghost use Rattle.assign_search.specs.Walking.{HasOpenList, held_in, lists_holding, lists_along};
 
 use crate::board::{hold, release};
 use crate::children::{is_complete, next_child};
@@ -12,7 +13,7 @@ use crate::mover::Mover;
 use crate::plan::Found;
 use crate::spelled::plan_of;
 use crate::spots::{Child, Frame, Spot, Step};
-use resource_reqs::WantOfMemory;
+use resource_reqs::{Owner, WantOfMemory};
 use std::alloc::Global;
 use trial_journal::Arbiters;
 
@@ -28,24 +29,53 @@ fn frame_of(before: Spot, child: &Child) -> Frame
     }
 }
 
+/// Appends the frame of what was put on the board last; after want of memory the path is as before, and what
+/// the frame placed is taken off the board.
+fn grow(board: &mut Arbiters, path: &mut Vec<Frame>, frame: Frame) -> Result<(), WantOfMemory>
+    requires { ForSome frame.res (λ r. Contains (of_kind board.old r.kind).pairs (Owner.Reserved, r)) }
+    ensures path { OnOk result (path.new.items ≡ path.old.items ++ frame ∷ []) }
+    ensures board { OnOk result (board.new ≡ board.old) }
+    ensures short { OnErr result (path.new.items ≡ path.old.items) }
+    ensures back { OnErr result (lists_holding (lists_of board.new) frame.res ≡ lists_of board.old) }
+{
+    if let Err(want) = path.push(frame) {
+        release(board, &frame.res);
+        return Err(want.into());
+    }
+    Ok(())
+}
+
+/// Takes off the board what the frames of a path placed, the last first.
+fn take_back(board: &mut Arbiters, path: &mut Vec<Frame>)
+    requires { (before : Lists) × (lists_of board.old ≡ lists_along before path.old.items) }
+    ensures { (before : Lists) → lists_of board.old ≡ lists_along before path.old.items → lists_of board.new ≡ before }
+{
+    'frames: while let Some(tried) = path.pop() {
+        release(board, &tried.res);
+    }
+}
+
 /// The answer beside what the board holds, where some mover has lists and each has one that is open. What is
-/// tried is put on the board and taken off again; what is left on it at the end says nothing.
+/// tried is put on the board; at the end what the frames of the path placed is left on it, whatever is
+/// answered.
 ///
 /// In depth, over a path of coordinates: from the spot where the path ends the next open coordinate is
 /// tried; where it leads to a live prefix the path grows by it, else the one after it is next; and where
 /// none is left the last coordinate of the path is given up for the one after it.
-fn search_paths(
+fn walk_paths(
     alloc: Global,
     board: &mut Arbiters,
     movers: &[Mover],
     budget: u64,
+    path: &mut Vec<Frame>,
 ) -> Result<Found, WantOfMemory>
     requires few { length (all_pairs board.old) + budget < 2 ^ 32 }
     requires some_list { ¬ AllByRecursion (λ reqs. reqs ≡ []) (map reqs_of movers.now) }
     requires open_lists { AllByRecursion (HasOpenList (held_in board.old)) (map reqs_of movers.now) }
-    ensures { IfOk result (λ found. IsAnswer (held_in board.old) (map reqs_of movers.now) budget (answer_of found)) }
+    requires empty { path.old.items ≡ [] }
+    ensures answer { IfOk result (λ found. IsAnswer (held_in board.old) (map reqs_of movers.now) budget (answer_of found)) }
+    ensures along { lists_of board.new ≡ lists_along (lists_of board.old) path.new.items }
 {
-    let mut path: Vec<Frame> = Vec::new(alloc);
     let mut spot = Spot::Between(0);
     let mut from = Step::Alt(0);
     let mut count: u64 = 0;
@@ -65,11 +95,11 @@ fn search_paths(
         count += 1;
         hold(board, &child.res)?;
         if is_complete(movers, child.spot) {
-            path.push(frame_of(spot, &child))?;
-            return Ok(Found::Assignment(plan_of(alloc, movers, &path)?));
+            grow(board, path, frame_of(spot, &child))?;
+            return Ok(Found::Assignment(plan_of(alloc, movers, path)?));
         }
         if is_live_child(board, movers, &child) {
-            path.push(frame_of(spot, &child))?;
+            grow(board, path, frame_of(spot, &child))?;
             spot = child.spot;
             from = Step::Alt(0);
         } else {
@@ -79,7 +109,28 @@ fn search_paths(
     }
 }
 
-/// The answer beside what the board holds, all of which is fixed.
+/// The same answer, with what the path placed taken off again: the lists of the board are as before, whatever
+/// is answered.
+fn search_paths(
+    alloc: Global,
+    board: &mut Arbiters,
+    movers: &[Mover],
+    budget: u64,
+) -> Result<Found, WantOfMemory>
+    requires few { length (all_pairs board.old) + budget < 2 ^ 32 }
+    requires some_list { ¬ AllByRecursion (λ reqs. reqs ≡ []) (map reqs_of movers.now) }
+    requires open_lists { AllByRecursion (HasOpenList (held_in board.old)) (map reqs_of movers.now) }
+    ensures answer { IfOk result (λ found. IsAnswer (held_in board.old) (map reqs_of movers.now) budget (answer_of found)) }
+    ensures same { lists_of board.new ≡ lists_of board.old }
+{
+    let mut path: Vec<Frame> = Vec::new(alloc);
+    let found = walk_paths(alloc, board, movers, budget, &mut path);
+    take_back(board, &mut path);
+    found
+}
+
+/// The answer beside what the board holds, all of which is fixed. The lists of the board are as before,
+/// whatever is answered.
 pub fn search(
     alloc: Global,
     board: &mut Arbiters,
@@ -87,7 +138,8 @@ pub fn search(
     budget: u64,
 ) -> Result<Found, WantOfMemory>
     requires { length (all_pairs board.old) + budget < 2 ^ 32 }
-    ensures { IfOk result (λ found. IsAnswer (held_in board.old) (map reqs_of movers.now) budget (answer_of found)) }
+    ensures answer { IfOk result (λ found. IsAnswer (held_in board.old) (map reqs_of movers.now) budget (answer_of found)) }
+    ensures same { lists_of board.new ≡ lists_of board.old }
 {
     if is_complete(movers, Spot::Between(0)) {
         return Ok(Found::Assignment(plan_of(alloc, movers, &[])?));

@@ -32,13 +32,29 @@ fn free_answer(alloc: Global, movers: &[Mover], budget: u64) -> Result<Found, Fa
     Ok(answer(alloc, &mut arbiters, movers, budget)?)
 }
 
-/// The answer where the device of serial 0 holds all memory.
+/// Whether the device of serial 0 holds all memory, and nothing else is held.
+fn is_full(arbiters: &Arbiters) -> bool {
+    let held = match arbiters.held(Kind::Mem, 0) {
+        Some((owner, res)) => owner == Owner::Device(0) && res.lo == 0 && res.hi == u64::MAX,
+        None => false,
+    };
+    held && arbiters.held(Kind::Mem, 1).is_none()
+        && arbiters.held(Kind::Port, 0).is_none()
+        && arbiters.held(Kind::Irq, 0).is_none()
+        && arbiters.held(Kind::Dma, 0).is_none()
+}
+
+/// The answer where the device of serial 0 holds all memory, which stays as it is.
 fn full_answer(alloc: Global, movers: &[Mover]) -> Result<Found, Fail> {
     let mut arbiters = Arbiters::new(alloc)?;
     let all = Res::make(Kind::Mem, 0, u64::MAX, false).ok_or("ends")?;
     arbiters.room(Kind::Mem, 1)?;
     arbiters.put(Owner::Device(0), all);
-    Ok(answer(alloc, &mut arbiters, movers, 2)?)
+    let found = answer(alloc, &mut arbiters, movers, 2)?;
+    if is_full(&arbiters) {
+        return Ok(found);
+    }
+    Err("what is held has changed")?
 }
 
 /// The first number of a resource of a plan.
@@ -114,6 +130,20 @@ fn others_stay(rt: HostRuntime) -> Result<(), Fail> {
     let mut movers = Vec::new(alloc);
     ask(&mut movers, 1, Kind::Mem, 0, 9)?;
     assert!(rt; matches!(full_answer(alloc, &movers)?, Found::NoFit));
+    Ok(())
+}
+
+#[test]
+fn lists_stay(rt: HostRuntime) -> Result<(), Fail> {
+    let alloc = rt.alloc();
+    let mut movers = Vec::new(alloc);
+    ask(&mut movers, 1, Kind::Irq, 5, 6)?;
+    let found = full_answer(alloc, &movers)?;
+    assert_eq!(rt; number_found(&found, 0, 0), Some(5));
+    ask(&mut movers, 2, Kind::Irq, 5, 5)?;
+    assert!(rt; matches!(full_answer(alloc, &movers)?, Found::Spent));
+    ask(&mut movers, 0, Kind::Mem, 0, 9)?;
+    assert!(rt; matches!(full_answer(alloc, &movers)?, Found::Spent));
     Ok(())
 }
 

@@ -1,8 +1,10 @@
-use Rattle.std.proofs.Common.{map, Result, Ok, Err, IfOk}
+use Rattle.std.proofs.Common.{ℕ, List, false, ap, map, sym, subst, arith, Result, Ok, Err, IfOk, ◌≡◌, ◌∙◌}
+use Rattle.std.specs.Prelude.{IsPermutation}
+use Rattle.resource_reqs.specs.declared.kind.Kind.TheVariants.{Port, Irq, Mem, Dma}
 use Rattle.trial_journal.specs.Four.{all_pairs}
-use Rattle.assign_search.specs.Fixed.{serial_of, reqs_of, fixed_pairs, fixed_of, answer_of}
+use Rattle.assign_search.specs.Fixed.{serial_of, reqs_of, fixed_pairs, has_moving, fixed_of, answer_of}
 use Rattle.assign_search.specs.Walking.{held_in}
-use Rattle.assign_search.proofs.Fixing.{same_res}
+use Rattle.assign_search.proofs.Fixing.{length_four, same_res, all_fixed, fixed_same}
 use Rattle.assign_search.proofs.SameAnswers.{answer_same}
 use Rattle.assign_search.proofs.problem.answer.Goals as goal
 
@@ -10,9 +12,32 @@ then_ok : {A E : Type 0} (r : Result A E) {P Q : A → Type 0} → ((x : A) → 
 then_ok (Ok x) f p = f x p
 then_ok (Err e) f p = tt
 
+pub search-requires : goal.search-requires
+search-requires c =
+    let all = length_four c.args.arbiters.now in
+    let port = c.requires.few Port in
+    let irq = c.requires.few Irq in
+    let mem = c.requires.few Mem in
+    let dma = c.requires.few Dma in
+    let most = c.requires.budget in
+    omega arith
+
+pub returns-then-not-has_moving-clause-answer : goal.returns-then-not-has_moving-clause-answer
+returns-then-not-has_moving-clause-answer c =
+    let none : has_moving c.in_ok-ascending.ascending.items (all_pairs c.args.arbiters.now) ≡ false =
+    ap (λ (l : List ℕ). has_moving l (all_pairs c.args.arbiters.now)) (sym c.deref-serials.ensures.value) ∙ sym c.has_moving.ensures ∙ c.if-not-has_moving.true in
+    then_ok c.search.result (λ found is.
+    answer_same (held_in c.args.arbiters.now) (fixed_of (map serial_of c.args.movers.now) (all_pairs c.args.arbiters.now))
+    (all_fixed (map serial_of c.args.movers.now) c.in_ok-ascending.ascending.items c.in_ok-ascending.ensures.same (all_pairs c.args.arbiters.now) none)
+    (map reqs_of c.args.movers.now) c.args.budget (answer_of found) is) c.search.ensures.answer
+
 pub returns-clause-answer : goal.returns-clause-answer
 returns-clause-answer c =
-    then_ok c.search.result (λ found is.
+    let same : fixed_pairs c.deref-serials.result.now (all_pairs c.args.arbiters.now) ≡ fixed_pairs (map serial_of c.args.movers.now) (all_pairs c.args.arbiters.now) =
+    ap (λ (l : List ℕ). fixed_pairs l (all_pairs c.args.arbiters.now)) c.deref-serials.ensures.value
+    ∙ sym (fixed_same (map serial_of c.args.movers.now) c.in_ok-ascending.ascending.items c.in_ok-ascending.ensures.same (all_pairs c.args.arbiters.now)) in
+    then_ok c.search-2.result (λ found is.
     answer_same (held_in c.in_ok-board.board) (fixed_of (map serial_of c.args.movers.now) (all_pairs c.args.arbiters.now))
-    (same_res (fixed_pairs (map serial_of c.args.movers.now) (all_pairs c.args.arbiters.now)) (all_pairs c.in_ok-board.board) c.in_ok-board.ensures.fixed)
-    (map reqs_of c.args.movers.now) c.args.budget (answer_of found) is) c.search.ensures
+    (same_res (fixed_pairs (map serial_of c.args.movers.now) (all_pairs c.args.arbiters.now)) (all_pairs c.in_ok-board.board)
+    (subst (λ l. IsPermutation l (all_pairs c.in_ok-board.board)) same c.in_ok-board.ensures.fixed))
+    (map reqs_of c.args.movers.now) c.args.budget (answer_of found) is) c.search-2.ensures.answer

@@ -36,7 +36,7 @@ pairs-preserved c =
             subst (λ b. IsPermutation (all_pairs c.args.board.now ++ fixed_pairs c.args.serials.now (take (c.pairs.at + 1) (of_kind c.args.arbiters.now c.args.kind).pairs)) (all_pairs b)) (sym w.board-is)
             (copied_more (all_pairs c.args.board.now) (of_kind c.args.arbiters.now c.args.kind).pairs c.args.serials.now c.pairs.at c.in-Some.pair (all_pairs c.pairs.board) (all_pairs w.add.new.board)
             (read at) (sym c.owns_moving.ensures ∙ w.if-not-owns_moving.true)
-            (subst (λ l. IsPermutation (c.in-Some.pair ∷ all_pairs c.pairs.board) (lists_pairs l)) (sym w.in_ok-add.ensures)
+            (subst (λ l. IsPermutation (c.in-Some.pair ∷ all_pairs c.pairs.board) (lists_pairs l)) (sym w.in_ok-add.ensures.put)
             (put_permutation (lists_of c.pairs.board) c.in-Some.pair.1.kind c.in-Some.pair))
             c.pairs.invariant.copied)
         | else-not-owns_moving w ↦

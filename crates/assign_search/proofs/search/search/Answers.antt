@@ -7,13 +7,13 @@ use Rattle.assign_search.proofs.Searching.{begins_dead}
 use Rattle.assign_search.proofs.Planning.{plan_at_once}
 use Rattle.assign_search.proofs.search.search.Goals as goal
 
-pub returns-then-is_complete : goal.returns-then-is_complete
-returns-then-is_complete c =
+pub returns-then-is_complete-clause-answer : goal.returns-then-is_complete-clause-answer
+returns-then-is_complete-clause-answer c =
     subst (IsPlan (held_in c.args.board.now) (map reqs_of c.args.movers.now) c.args.budget)
     (sym c.in_ok-plan_of.ensures)
     (plan_at_once (held_in c.args.board.now) (map reqs_of c.args.movers.now) c.args.budget (c.is_complete.ensures.0 c.if-is_complete.true).1)
 
-pub returns-then-not-all_lists : goal.returns-then-not-all_lists
-returns-then-not-all_lists c =
+pub returns-then-not-all_lists-clause-answer : goal.returns-then-not-all_lists-clause-answer
+returns-then-not-all_lists-clause-answer c =
     begins_dead (held_in c.args.board.now) (map reqs_of c.args.movers.now) c.args.budget
     (λ lists. false_true (sym c.if-not-all_lists.true ∙ c.all_lists.ensures.1 lists))

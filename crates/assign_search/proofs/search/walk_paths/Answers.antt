@@ -1,0 +1,172 @@
+use Rattle.std.proofs.Common.{◌≡◌, ◌+◌, ◌≤◌, ◌++◌, [], ◌∷◌, List, map, length, Contains, option_to_list, refl, sym, ◌∙◌, subst, arith, ap}
+use Rattle.resource_reqs.specs.declared.owner.Owner.TheVariants.{Reserved}
+use Rattle.resource_reqs.specs.Spelling.{IsPlan}
+use Rattle.range_arbiter.specs.Pairs.{Pair}
+use Rattle.trial_journal.specs.Four.{Arbiters, all_pairs, lists_of}
+use Rattle.assign_search.specs.declared.spots.Frame.{Frame}
+use Rattle.assign_search.specs.declared.spots.Spot.TheVariants.{Between}
+use Rattle.assign_search.specs.declared.spots.Step.TheVariants.{Alt}
+use Rattle.assign_search.specs.Fixed.{reqs_of}
+use Rattle.assign_search.specs.Walking.{held_in, plan_in, lists_holding, lists_along}
+use Rattle.assign_search.proofs.Rest.{false_true, none_of_length}
+use Rattle.assign_search.proofs.SameHeld.{fewer, more, holding_once, at_kind}
+use Rattle.assign_search.proofs.Searching.{Inv, begins, spent_child, live_now, live_child, dead_child, back_to, there, last_there, ends_none, same_itself}
+use Rattle.assign_search.proofs.Along.{along_more, along_back}
+use Rattle.assign_search.proofs.Planning.{plan_found}
+use Rattle.assign_search.proofs.search.walk_paths.Goals as goal
+use Rattle.assign_search.proofs.search.walk_paths.Goals.{In-Some-pop}
+
+pub search-init : goal.search-init
+search-init c = record {
+  state = subst (λ p. Inv (held_in c.args.board.now) (map reqs_of c.args.movers.now) (lists_of c.args.board.now) p (lists_of c.args.board.now) (Between 0) (Alt 0) 0) (sym c.requires.empty)
+      (begins (map reqs_of c.args.movers.now) (lists_of c.args.board.now)
+      c.requires.some_list c.requires.open_lists);
+  few = omega arith;
+  along = ap (lists_along (lists_of c.args.board.now)) (sym c.requires.empty);
+  within = omega arith;
+}
+
+pub returns-in_default-pop-clause-answer : goal.returns-in_default-pop-clause-answer
+returns-in_default-pop-clause-answer c =
+    let empty : c.search.path.items ≡ [] = none_of_length c.search.path.items (sym c.search.path.ok.0 ∙ c.in_default-pop.ensures.cases.0) in
+    ends_none (held_in c.args.board.now) (map reqs_of c.args.movers.now) (lists_of c.args.board.now) (same_itself (held_in c.args.board.now))
+    (lists_of c.search.board) c.search.spot c.search.from c.search.count c.args.budget
+    (subst (λ p. Inv (held_in c.args.board.now) (map reqs_of c.args.movers.now) (lists_of c.args.board.now) p (lists_of c.search.board) c.search.spot c.search.from c.search.count) empty c.search.invariant.state)
+    c.in_default.ensures.none c.search.invariant.within
+
+-- the path before the last frame was taken off
+path_popped : (c : In-Some-pop) → c.search.path.items ≡ c.pop.new.self.items ++ c.in-Some-pop.last ∷ []
+path_popped c = c.pop.ensures.items ∙ ap (λ o. c.pop.new.self.items ++ option_to_list o) c.in-Some-pop.is
+
+popped : (c : In-Some-pop) → Inv (held_in c.args.board.now) (map reqs_of c.args.movers.now) (lists_of c.args.board.now) (c.pop.new.self.items ++ c.in-Some-pop.last ∷ []) (lists_of c.search.board) c.search.spot c.search.from c.search.count
+popped c =
+    subst (λ p. Inv (held_in c.args.board.now) (map reqs_of c.args.movers.now) (lists_of c.args.board.now) p (lists_of c.search.board) c.search.spot c.search.from c.search.count)
+    (path_popped c) c.search.invariant.state
+
+pub release-requires : goal.release-requires
+release-requires c r some =
+    subst (λ (l : List Pair). Contains l (Reserved, r)) (at_kind c.search.board r.kind)
+    (last_there (held_in c.args.board.now) (map reqs_of c.args.movers.now) (lists_of c.args.board.now) c.pop.new.self.items c.in-Some-pop.last
+    (lists_of c.search.board) c.search.spot c.search.from c.search.count (popped ((goal.at.release-requires c).In-Some-pop)) r some)
+
+pub search-preserved-in_default : goal.search-preserved-in_default
+search-preserved-in_default c =
+    let before = popped ((goal.at.search-preserved-in_default c).In-Some-pop) in
+    let path_is = path_popped ((goal.at.search-preserved-in_default c).In-Some-pop) in
+    record {
+      state = back_to (held_in c.args.board.now) (map reqs_of c.args.movers.now) (lists_of c.args.board.now) (same_itself (held_in c.args.board.now))
+          c.pop.new.self.items c.in-Some-pop.last (lists_of c.search.board) (lists_of c.release.new.board) c.search.spot c.search.from c.search.count before c.in_default.ensures.none c.release.ensures;
+      few = fewer (lists_of c.release.new.board) (lists_of c.search.board) c.in-Some-pop.last.res (length (all_pairs c.args.board.now) + c.search.count) c.release.ensures c.search.invariant.few;
+      along = along_back (lists_of c.args.board.now) (lists_of c.search.board) (lists_of c.release.new.board) c.pop.new.self.items c.in-Some-pop.last
+          (c.search.invariant.along ∙ ap (lists_along (lists_of c.args.board.now)) path_is) c.release.ensures;
+      within = c.search.invariant.within;
+    }
+
+pub returns-then-count-budget-clause-answer : goal.returns-then-count-budget-clause-answer
+returns-then-count-budget-clause-answer c =
+    spent_child (held_in c.args.board.now) (map reqs_of c.args.movers.now) (lists_of c.args.board.now) (same_itself (held_in c.args.board.now))
+    c.search.path.items (lists_of c.search.board) c.search.spot c.search.from c.search.count c.search.invariant.state
+    c.in-Some.child c.args.budget c.in-Some.ensures.found (omega arith)
+
+pub returns-then-is_complete-clause-answer : goal.returns-then-is_complete-clause-answer
+returns-then-is_complete-clause-answer c =
+    let done = c.is_complete.ensures.0 c.if-is_complete.true in
+    let within : c.search.count ≤ c.args.budget = c.search.invariant.within in
+    let f : Frame = record { before = c.search.spot; step = c.in-Some.child.step; next = c.in-Some.child.next; res = c.in-Some.child.res } in
+    subst (IsPlan (held_in c.args.board.now) (map reqs_of c.args.movers.now) c.args.budget)
+    (sym (c.in_ok-plan_of.ensures ∙ ap (plan_in (map reqs_of c.args.movers.now)) (c.deref.ensures.value ∙ c.in_ok-grow.ensures.path
+    ∙ ap (λ x. c.search.path.items ++ x ∷ []) c.frame_of.ensures)))
+    (plan_found (held_in c.args.board.now) (map reqs_of c.args.movers.now) (lists_of c.args.board.now) (same_itself (held_in c.args.board.now))
+    c.search.path.items (lists_of c.search.board) c.search.spot c.search.from c.search.count c.search.invariant.state
+    c.in-Some.child f c.args.budget c.in-Some.ensures.found refl refl refl refl done.0 done.1 (omega arith))
+
+pub search-preserved-then-is_live_child : goal.search-preserved-then-is_live_child
+search-preserved-then-is_live_child c =
+    let within : c.search.count ≤ c.args.budget = c.search.invariant.within in
+    let f : Frame = record { before = c.search.spot; step = c.in-Some.child.step; next = c.in-Some.child.next; res = c.in-Some.child.res } in
+    let live = (live_now (held_in c.args.board.now) (map reqs_of c.args.movers.now) (lists_of c.args.board.now) (same_itself (held_in c.args.board.now))
+    c.search.path.items (lists_of c.search.board) c.search.spot c.search.from c.search.count c.search.invariant.state
+    c.in-Some.child c.in-Some.ensures.found (lists_of c.hold.new.board) c.is_live_child.result c.in_ok-hold.ensures.held c.is_live_child.ensures.listed c.is_live_child.ensures.placed).0 c.if-is_live_child.true in
+    let path_is : c.grow-then-is_live_child.new.path.items ≡ c.search.path.items ++ f ∷ [] =
+    c.in_ok-grow-2.ensures.path ∙ ap (λ x. c.search.path.items ++ x ∷ []) c.frame_of-then-is_live_child.ensures in
+    let lists_are : lists_of c.grow-then-is_live_child.new.board ≡ lists_of c.hold.new.board = ap lists_of c.in_ok-grow-2.ensures.board in
+    record {
+      state = subst (λ l. Inv (held_in c.args.board.now) (map reqs_of c.args.movers.now) (lists_of c.args.board.now) c.grow-then-is_live_child.new.path.items l c.in-Some.child.spot (Alt 0) (c.search.count + 1))
+          (sym lists_are)
+          (subst (λ p. Inv (held_in c.args.board.now) (map reqs_of c.args.movers.now) (lists_of c.args.board.now) p (lists_of c.hold.new.board) c.in-Some.child.spot (Alt 0) (c.search.count + 1))
+          (sym path_is)
+          (live_child (held_in c.args.board.now) (map reqs_of c.args.movers.now) (lists_of c.args.board.now) (same_itself (held_in c.args.board.now))
+          c.search.path.items (lists_of c.search.board) c.search.spot c.search.from c.search.count c.search.invariant.state
+          c.in-Some.child f (lists_of c.hold.new.board) c.in-Some.ensures.found refl refl refl refl c.in_ok-hold.ensures.held
+          (λ done. false_true (sym c.if-is_complete.false ∙ c.is_complete.ensures.1 done)) live.0 live.1));
+      few = subst (λ (b : Arbiters). length (all_pairs b) ≤ length (all_pairs c.args.board.now) + (c.search.count + 1)) (sym c.in_ok-grow-2.ensures.board)
+          (more (lists_of c.search.board) (lists_of c.hold.new.board) c.in-Some.child.res (length (all_pairs c.args.board.now)) c.search.count c.in_ok-hold.ensures.held c.search.invariant.few);
+      along = along_more (lists_of c.args.board.now) (lists_of c.search.board) (lists_of c.grow-then-is_live_child.new.board) c.search.path.items f
+          c.search.invariant.along (lists_are ∙ c.in_ok-hold.ensures.held) ∙ ap (lists_along (lists_of c.args.board.now)) (sym path_is);
+      within = omega arith;
+    }
+
+pub release-requires-else-is_live_child : goal.release-requires-else-is_live_child
+release-requires-else-is_live_child c r some =
+    subst (λ (l : List Pair). Contains l (Reserved, r)) (at_kind c.hold.new.board r.kind)
+    (there (lists_of c.search.board) (lists_of c.hold.new.board) c.in-Some.child.res c.in_ok-hold.ensures.held r some)
+
+pub search-preserved : goal.search-preserved
+search-preserved c =
+    let within : c.search.count ≤ c.args.budget = c.search.invariant.within in
+    let same : lists_of c.release-else-is_live_child.new.board ≡ lists_of c.search.board =
+    holding_once (lists_of c.release-else-is_live_child.new.board) (lists_of c.search.board) c.in-Some.child.res (c.release-else-is_live_child.ensures ∙ c.in_ok-hold.ensures.held) in
+    let live = live_now (held_in c.args.board.now) (map reqs_of c.args.movers.now) (lists_of c.args.board.now) (same_itself (held_in c.args.board.now))
+    c.search.path.items (lists_of c.search.board) c.search.spot c.search.from c.search.count c.search.invariant.state
+    c.in-Some.child c.in-Some.ensures.found (lists_of c.hold.new.board) c.is_live_child.result c.in_ok-hold.ensures.held c.is_live_child.ensures.listed c.is_live_child.ensures.placed in
+    record {
+      state = subst (λ l. Inv (held_in c.args.board.now) (map reqs_of c.args.movers.now) (lists_of c.args.board.now) c.search.path.items l c.search.spot c.in-Some.child.next (c.search.count + 1)) (sym same)
+          (dead_child (held_in c.args.board.now) (map reqs_of c.args.movers.now) (lists_of c.args.board.now) (same_itself (held_in c.args.board.now))
+          c.search.path.items (lists_of c.search.board) c.search.spot c.search.from c.search.count c.search.invariant.state
+          c.in-Some.child c.in-Some.ensures.found (λ both. false_true (sym c.if-is_live_child.false ∙ live.1 both)));
+      few = fewer (lists_of c.release-else-is_live_child.new.board) (lists_of c.hold.new.board) c.in-Some.child.res (length (all_pairs c.args.board.now) + (c.search.count + 1)) c.release-else-is_live_child.ensures
+          (more (lists_of c.search.board) (lists_of c.hold.new.board) c.in-Some.child.res (length (all_pairs c.args.board.now)) c.search.count c.in_ok-hold.ensures.held c.search.invariant.few);
+      along = same ∙ c.search.invariant.along;
+      within = omega arith;
+    }
+
+pub grow-requires : goal.grow-requires
+grow-requires c r some =
+    subst (λ (l : List Pair). Contains l (Reserved, r)) (at_kind c.hold.new.board r.kind)
+    (there (lists_of c.search.board) (lists_of c.hold.new.board) c.in-Some.child.res c.in_ok-hold.ensures.held r
+    (ap (λ (f : Frame). f.res) (sym c.frame_of.ensures) ∙ some))
+
+pub grow-requires-then-is_live_child : goal.grow-requires-then-is_live_child
+grow-requires-then-is_live_child c r some =
+    subst (λ (l : List Pair). Contains l (Reserved, r)) (at_kind c.hold.new.board r.kind)
+    (there (lists_of c.search.board) (lists_of c.hold.new.board) c.in-Some.child.res c.in_ok-hold.ensures.held r
+    (ap (λ (f : Frame). f.res) (sym c.frame_of-then-is_live_child.ensures) ∙ some))
+
+pub returns-in_err-grow-clause-along : goal.returns-in_err-grow-clause-along
+returns-in_err-grow-clause-along c =
+    holding_once (lists_of c.grow.new.board) (lists_of c.search.board) c.in-Some.child.res
+    (ap (λ (f : Frame). lists_holding (lists_of c.grow.new.board) f.res) (sym c.frame_of.ensures) ∙ c.in_err-grow.ensures.back ∙ c.in_ok-hold.ensures.held)
+    ∙ c.search.invariant.along ∙ ap (lists_along (lists_of c.args.board.now)) (sym c.in_err-grow.ensures.short)
+
+pub returns-in_err-grow-2-clause-along : goal.returns-in_err-grow-2-clause-along
+returns-in_err-grow-2-clause-along c =
+    holding_once (lists_of c.grow-then-is_live_child.new.board) (lists_of c.search.board) c.in-Some.child.res
+    (ap (λ (f : Frame). lists_holding (lists_of c.grow-then-is_live_child.new.board) f.res) (sym c.frame_of-then-is_live_child.ensures)
+    ∙ c.in_err-grow-2.ensures.back ∙ c.in_ok-hold.ensures.held)
+    ∙ c.search.invariant.along ∙ ap (lists_along (lists_of c.args.board.now)) (sym c.in_err-grow-2.ensures.short)
+
+pub returns-in_err-plan_of-clause-along : goal.returns-in_err-plan_of-clause-along
+returns-in_err-plan_of-clause-along c =
+    let f : Frame = record { before = c.search.spot; step = c.in-Some.child.step; next = c.in-Some.child.next; res = c.in-Some.child.res } in
+    let path_is : c.grow.new.path.items ≡ c.search.path.items ++ f ∷ [] =
+    c.in_ok-grow.ensures.path ∙ ap (λ x. c.search.path.items ++ x ∷ []) c.frame_of.ensures in
+    along_more (lists_of c.args.board.now) (lists_of c.search.board) (lists_of c.grow.new.board) c.search.path.items f
+    c.search.invariant.along (ap lists_of c.in_ok-grow.ensures.board ∙ c.in_ok-hold.ensures.held) ∙ ap (lists_along (lists_of c.args.board.now)) (sym path_is)
+
+pub returns-then-is_complete-clause-along : goal.returns-then-is_complete-clause-along
+returns-then-is_complete-clause-along c =
+    let f : Frame = record { before = c.search.spot; step = c.in-Some.child.step; next = c.in-Some.child.next; res = c.in-Some.child.res } in
+    let path_is : c.grow.new.path.items ≡ c.search.path.items ++ f ∷ [] =
+    c.in_ok-grow.ensures.path ∙ ap (λ x. c.search.path.items ++ x ∷ []) c.frame_of.ensures in
+    along_more (lists_of c.args.board.now) (lists_of c.search.board) (lists_of c.grow.new.board) c.search.path.items f
+    c.search.invariant.along (ap lists_of c.in_ok-grow.ensures.board ∙ c.in_ok-hold.ensures.held) ∙ ap (lists_along (lists_of c.args.board.now)) (sym path_is)
