@@ -72,35 +72,36 @@ pub fn first_pick(board: &Arbiters, group: &Group, want: u32, from: u64) -> Opti
     None
 }
 
-/// Whether some want of the group has an open place.
+/// Whether some want of the group has an open place. It is sought from a number on first: beside a resource that was just
+/// placed, what is free lies most often above it, so what is full below is not gone through again.
 #[tactic(auto, using(crate::proofs::Picking::none_open))]
-fn has_open(board: &Arbiters, group: &Group) -> bool
+fn has_open(board: &Arbiters, group: &Group, near: u64) -> bool
     ensures { IsTrue result ↔ HasOpen (held_in board.now) group.now }
 {
-    first_pick(board, group, 0, 0).is_some()
+    first_pick(board, group, 0, near).is_some() || first_pick(board, group, 0, 0).is_some()
 }
 
-/// Whether each group of the list from this one on has an open place.
-fn all_open(board: &Arbiters, list: &AltList, from: u32) -> bool
+/// Whether each group of the list from this one on has an open place, sought from a number on first.
+fn all_open(board: &Arbiters, list: &AltList, from: u32, near: u64) -> bool
     ensures { IsTrue result ↔ AllOpen (held_in board.now) (drop from list.now) }
 {
     'groups: for at in from..list.len() {
-        if !has_open(board, list.get(at)) {
+        if !has_open(board, list.get(at), near) {
             return false;
         }
     }
     true
 }
 
-/// Whether there are no lists, or one whose every group has an open place.
-fn has_open_list(board: &Arbiters, reqs: &Reqs) -> bool
+/// Whether there are no lists, or one whose every group has an open place, sought from a number on first.
+fn has_open_list(board: &Arbiters, reqs: &Reqs, near: u64) -> bool
     ensures { IsTrue result ↔ HasOpenList (held_in board.now) reqs.now }
 {
     if reqs.len() == 0 {
         return true;
     }
     'lists: for at in 0..reqs.len() {
-        if all_open(board, reqs.get(at), 0) {
+        if all_open(board, reqs.get(at), 0, near) {
             return true;
         }
     }
@@ -112,7 +113,7 @@ pub fn all_lists(board: &Arbiters, movers: &[Mover], from: usize) -> bool
     ensures { IsTrue result ↔ AllByRecursion (HasOpenList (held_in board.now)) (drop from (map reqs_of movers.now)) }
 {
     'movers: for at in from..movers.len() {
-        if !has_open_list(board, reqs_at(movers, at)) {
+        if !has_open_list(board, reqs_at(movers, at), 0) {
             return false;
         }
     }
@@ -172,7 +173,7 @@ fn groups_beside(board: &Arbiters, list: &AltList, from: u32, res: &Res) -> bool
 {
     'groups: for at in from..list.len() {
         let group = list.get(at);
-        if touches_group(group, res) && !has_open(board, group) {
+        if touches_group(group, res) && !has_open(board, group, res.hi) {
             return false;
         }
     }
@@ -185,7 +186,7 @@ fn lists_beside(board: &Arbiters, movers: &[Mover], from: usize, res: &Res) -> b
 {
     'movers: for at in from..movers.len() {
         let reqs = reqs_at(movers, at);
-        if touches_lists(reqs, res) && !has_open_list(board, reqs) {
+        if touches_lists(reqs, res) && !has_open_list(board, reqs, res.hi) {
             return false;
         }
     }
@@ -208,7 +209,7 @@ pub fn is_live_child(board: &Arbiters, movers: &[Mover], child: &Child) -> bool
         Spot::Inside(mover, list, group) => {
             let groups = groups_of(movers, mover, list);
             match &child.res {
-                None => all_open(board, groups, group),
+                None => all_open(board, groups, group, 0),
                 Some(res) => {
                     groups_beside(board, groups, group, res)
                         && lists_beside(board, movers, mover + 1, res)
