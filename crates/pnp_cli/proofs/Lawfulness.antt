@@ -1,4 +1,4 @@
--- What is printed for a script tells a lawful run.
+-- What is printed for a script tells a run, and that run keeps the laws.
 use Rattle.std.proofs.Common.{◌≡◌, ℕ, List, [], ◌∷◌, ◌++◌, Option, Some, None, IfSome, Result, Ok, Err, map, refl, sym, ◌∙◌, ap, subst, append_assoc}
 use Rattle.pnp_labels.specs.Texts.{Text}
 use Rattle.pnp_labels.specs.declared.event.Event.{Event}
@@ -6,8 +6,7 @@ use Rattle.pnp_labels.specs.declared.label.Label.{Label}
 use Rattle.pnp_model.specs.Records as machines
 use Rattle.pnp_model.specs.Records.{Driver, State}
 use Rattle.pnp_model.specs.Machine.{IsQuiet}
-use Rattle.pnp_model.specs.Laws.{Reaches}
-use Rattle.pnp_model.specs.Runs.{Entry, Goes, Run, printed, opening}
+use Rattle.pnp_model.specs.Runs.{Entry, Run, printed, opening}
 use Rattle.pnp_model.specs.Runs.Entry.{Happens, Did}
 use Rattle.pnp_laws.proofs.Reaching.{run_on}
 use Rattle.pnp_laws.proofs.RunsShare.{nothing_clashes}
@@ -16,45 +15,17 @@ use Rattle.pnp_laws.proofs.RunsStand.{every_run_follows, dependents_go_first}
 use Rattle.pnp_laws.proofs.RunsBegun.{operations_begin}
 use Rattle.pnp_laws.proofs.RunsEnds.{each_end_restores}
 use Rattle.pnp_laws.proofs.RunsConflict.{each_conflict_is_real}
+use Rattle.pnp_laws.proofs.JoinLimits.{joins_are_limited}
 use Rattle.script_reader.specs.Script.{Trace, gives, waits, ends, stops}
 use Rattle.inf_reader.specs.declared.parts.Inf.{Inf}
 use Rattle.pnp_cli.specs.Outputs.{Settles, Follows, Prints, text_of, end_text}
 use Rattle.pnp_cli.specs.Infs.{infs_in}
 use Rattle.pnp_cli.specs.Runs.{IsOutput, IsOutputBy, IsScriptOutput, machine, events_of}
-use Rattle.pnp_cli.specs.Lawful.{LawfulState, LawfulStep, LawfulFrom, happened, events_in, bad_text, TellsRun, TellsScript, TellsBy, Tells}
+use Rattle.pnp_cli.specs.Words.{settings_of}
+use Rattle.pnp_cli.specs.Lawful.{happened, events_in, bad_text, SomeRun, OfRun, EachState, EachStep, OfScript, OfInfs, OfOutput, ByDiagram, NothingClashes, AllHoldWhole, OperationsBegan, EndsRestore, DependentsGoFirst, ConflictsAreReal, FewJoin}
 use Rattle.pnp_cli.specs.declared.infs.InfsError.{InfsError}
 use Rattle.pnp_cli.specs.declared.parts.Settings.{Settings}
 use Rattle.pnp_cli.proofs.Texts.{text_append}
-
--- Each run is lawful -----------------------------------------------------------------
-
-lawful_state : (settings : machines.Settings) (rack : List Driver) (earlier : List Entry) (s : State) → Reaches settings rack earlier s → LawfulState s
-lawful_state settings rack earlier s reaches =
-    record { sharing = nothing_clashes settings rack earlier s reaches; whole = all_hold_whole settings rack earlier s reaches }
-
-lawful_step : (settings : machines.Settings) (rack : List Driver) (earlier : List Entry) (old : State) (entry : Entry) (new : State) → Reaches settings rack earlier old → Goes settings old entry new
-    → LawfulStep settings rack earlier old entry new
-lawful_step settings rack earlier old entry new reaches goes =
-    let follows = every_run_follows settings rack earlier old entry new reaches goes in
-    record {
-      diagram = follows.0;
-      walked = follows.1;
-      dependents = dependents_go_first settings rack earlier old entry new reaches goes;
-      begun = operations_begin settings rack earlier old entry new reaches goes;
-      restores = each_end_restores settings rack earlier old entry new reaches goes;
-      conflicts = λ path is. each_conflict_is_real settings rack earlier old entry new path reaches goes is;
-    }
-
-lawful_from : (settings : machines.Settings) (rack : List Driver) (earlier : List Entry) (s : State) (entries : List Entry) (last : State) → Reaches settings rack earlier s → Run settings s entries last
-    → LawfulFrom settings rack earlier s entries last
-lawful_from settings rack earlier s [] last reaches run = (lawful_state settings rack earlier s reaches, run)
-lawful_from settings rack earlier s (entry ∷ rest) last reaches (mid, goes, run) = (
-  mid,
-  lawful_state settings rack earlier s reaches,
-  goes,
-  lawful_step settings rack earlier s entry mid reaches goes,
-  lawful_from settings rack (earlier ++ entry ∷ []) mid rest last (run_on settings (opening rack) s mid earlier (entry ∷ []) reaches (mid, goes, refl)) run,
-)
 
 -- What is printed is told by a run ---------------------------------------------------
 
@@ -120,24 +91,81 @@ told_prints settings s ends text quiet is = record { entries = []; last = s; run
 told_prints settings s (stops number) text quiet is = record { entries = []; last = s; run = refl; rests = quiet; events = refl; is = is }
 told_prints settings s waits text quiet is = absurd is
 
-tells_run : (settings : machines.Settings) (rack : List Driver) (t : Trace) (text : Text) → Prints settings (opening rack) t text → TellsRun settings rack t text
-tells_run settings rack t text prints =
+some_run : (settings : machines.Settings) (rack : List Driver) (t : Trace) (text : Text) → Prints settings (opening rack) t text → SomeRun settings rack t text
+some_run settings rack t text prints =
     let told = told_prints settings (opening rack) t text refl prints in
-    record { entries = told.entries; last = told.last; run = lawful_from settings rack [] (opening rack) told.entries told.last refl told.run; rests = told.rests; events = told.events; is = told.is }
+    (told.entries, told.last, record { run = told.run; rests = told.rests; events = told.events; is = told.is })
 
-tells_script : (settings : machines.Settings) (rack : List Driver) (script : Option (List ℕ)) (text : Text) → IsScriptOutput settings rack script text → TellsScript settings rack script text
-tells_script settings rack None text is = tt
-tells_script settings rack (Some script) text is = tells_run settings rack (events_of script) text is
+-- What is said of outputs ----------------------------------------------------------------
 
-tells_by : (rack : List Driver) (budget : ℕ) (infs : Result (List Inf) InfsError) (script : Option (List ℕ)) (text : Text) → IsOutputBy rack budget infs script text → TellsBy rack budget infs script text
-tells_by rack budget (Ok infs) script text is = tells_script (machine infs budget) rack script text is
-tells_by rack budget (Err error) script text is = tt
+-- what holds of each text that is printed for a script
+Holds : (machines.Settings → List Driver → Trace → Text → Type 0) → Type 0
+Holds Says = (settings : machines.Settings) (rack : List Driver) (t : Trace) (text : Text) → Prints settings (opening rack) t text → Says settings rack t text
 
-pub output_tells : (rack : List Driver) (told : Text → Option (List ℕ)) (s : Settings) (text : Text) → IsOutput rack told s text → Tells rack told s text
-output_tells rack told s text is = tells_by rack s.budget (infs_in told s.infs) (told s.script) text is
+of_script : (Says : machines.Settings → List Driver → Trace → Text → Type 0) → Holds Says
+    → (settings : machines.Settings) (rack : List Driver) (script : Option (List ℕ)) (text : Text) → IsScriptOutput settings rack script text → OfScript Says settings rack script text
+unfolding Holds
+of_script Says holds settings rack None text is = tt
+of_script Says holds settings rack (Some script) text is = holds settings rack (events_of script) text is
 
--- whatever the words and the files say
-pub all_outputs_tell : (s : Option Settings) (contents : Option (Text → Option (List ℕ))) (rack : List Driver) → IfSome s (λ s. IfSome contents (λ told. (text : Text) → IsOutput rack told s text → Tells rack told s text))
-all_outputs_tell None contents rack = tt
-all_outputs_tell (Some s) None rack = tt
-all_outputs_tell (Some s) (Some told) rack = λ text is. output_tells rack told s text is
+of_infs : (Says : machines.Settings → List Driver → Trace → Text → Type 0) → Holds Says
+    → (rack : List Driver) (budget : ℕ) (infs : Result (List Inf) InfsError) (script : Option (List ℕ)) (text : Text) → IsOutputBy rack budget infs script text → OfInfs Says rack budget infs script text
+of_infs Says holds rack budget (Ok infs) script text is = of_script Says holds (machine infs budget) rack script text is
+of_infs Says holds rack budget (Err error) script text is = tt
+
+of_settings : (Says : machines.Settings → List Driver → Trace → Text → Type 0) → Holds Says
+    → (s : Option Settings) (contents : Option (Text → Option (List ℕ))) (rack : List Driver)
+    → IfSome s (λ s. IfSome contents (λ told. (text : Text) → IsOutput rack told s text → OfInfs Says rack s.budget (infs_in told s.infs) (told s.script) text))
+of_settings Says holds None contents rack = tt
+of_settings Says holds (Some s) None rack = tt
+of_settings Says holds (Some s) (Some told) rack = λ text is. of_infs Says holds rack s.budget (infs_in told s.infs) (told s.script) text is
+
+of_output : (Says : machines.Settings → List Driver → Trace → Text → Type 0) → Holds Says
+    → (words : List Text) (contents : Option (Text → Option (List ℕ))) (rack : List Driver) → OfOutput Says words contents rack
+of_output Says holds words contents rack = of_settings Says holds (settings_of words) contents rack
+
+-- The output of a command ------------------------------------------------------------------
+
+pub output_tells : (words : List Text) (contents : Option (Text → Option (List ℕ))) (rack : List Driver) → OfOutput SomeRun words contents rack
+unfolding Holds
+output_tells words contents rack = of_output SomeRun some_run words contents rack
+
+pub output_by_diagram : (words : List Text) (contents : Option (Text → Option (List ℕ))) (rack : List Driver) → OfOutput (EachStep ByDiagram) words contents rack
+unfolding Holds
+output_by_diagram words contents rack =
+    of_output (EachStep ByDiagram) (λ settings rack t text prints entries last told earlier old entry new step. every_run_follows settings rack earlier old entry new step.before step.goes) words contents rack
+
+pub output_shares : (words : List Text) (contents : Option (Text → Option (List ℕ))) (rack : List Driver) → OfOutput (EachState NothingClashes) words contents rack
+unfolding Holds
+output_shares words contents rack =
+    of_output (EachState NothingClashes) (λ settings rack t text prints entries last told s state. nothing_clashes settings rack state.earlier s state.before) words contents rack
+
+pub output_holds_whole : (words : List Text) (contents : Option (Text → Option (List ℕ))) (rack : List Driver) → OfOutput (EachState AllHoldWhole) words contents rack
+unfolding Holds
+output_holds_whole words contents rack =
+    of_output (EachState AllHoldWhole) (λ settings rack t text prints entries last told s state. all_hold_whole settings rack state.earlier s state.before) words contents rack
+
+pub output_begins : (words : List Text) (contents : Option (Text → Option (List ℕ))) (rack : List Driver) → OfOutput (EachStep OperationsBegan) words contents rack
+unfolding Holds
+output_begins words contents rack =
+    of_output (EachStep OperationsBegan) (λ settings rack t text prints entries last told earlier old entry new step. operations_begin settings rack earlier old entry new step.before step.goes) words contents rack
+
+pub output_restores : (words : List Text) (contents : Option (Text → Option (List ℕ))) (rack : List Driver) → OfOutput (EachStep EndsRestore) words contents rack
+unfolding Holds
+output_restores words contents rack =
+    of_output (EachStep EndsRestore) (λ settings rack t text prints entries last told earlier old entry new step. each_end_restores settings rack earlier old entry new step.before step.goes) words contents rack
+
+pub output_dependents : (words : List Text) (contents : Option (Text → Option (List ℕ))) (rack : List Driver) → OfOutput (EachStep DependentsGoFirst) words contents rack
+unfolding Holds
+output_dependents words contents rack =
+    of_output (EachStep DependentsGoFirst) (λ settings rack t text prints entries last told earlier old entry new step. dependents_go_first settings rack earlier old entry new step.before step.goes) words contents rack
+
+pub output_conflicts : (words : List Text) (contents : Option (Text → Option (List ℕ))) (rack : List Driver) → OfOutput (EachStep ConflictsAreReal) words contents rack
+unfolding Holds
+output_conflicts words contents rack =
+    of_output (EachStep ConflictsAreReal) (λ settings rack t text prints entries last told earlier old entry new step path is. each_conflict_is_real settings rack earlier old entry new path step.before step.goes is) words contents rack
+
+pub output_joins : (words : List Text) (contents : Option (Text → Option (List ℕ))) (rack : List Driver) → OfOutput (OfRun FewJoin) words contents rack
+unfolding Holds
+output_joins words contents rack =
+    of_output (OfRun FewJoin) (λ settings rack t text prints entries last told. joins_are_limited settings rack entries last told.run) words contents rack

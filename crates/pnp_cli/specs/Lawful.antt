@@ -1,5 +1,5 @@
--- That an output is that of a run of the machine, in which each state and each step keeps the laws.
-use Rattle.std.specs.Prelude.{ℕ, ◌≡◌, List, [], ◌∷◌, ◌++◌, Option, Some, None, Result, Ok, Err, map}
+-- That an output tells a run of the machine, and what is kept by each state and each step of that run.
+use Rattle.std.specs.Prelude.{ℕ, ◌*◌, ◌≤◌, ◌≡◌, List, [], ◌∷◌, ◌++◌, Option, Some, None, Result, Ok, Err, map}
 use Rattle.pnp_labels.specs.Texts.{Text}
 use Rattle.pnp_labels.specs.declared.event.Event.{Event}
 use Rattle.pnp_labels.specs.declared.states.Problem.{Problem}
@@ -7,45 +7,21 @@ use Rattle.pnp_labels.specs.declared.label.Label.{Label}
 use Rattle.pnp_model.specs.Records as machines
 use Rattle.pnp_model.specs.Records.{Driver, State}
 use Rattle.pnp_model.specs.Machine.{IsQuiet}
-use Rattle.pnp_model.specs.Runs.{Entry, Goes, printed, opening}
+use Rattle.pnp_model.specs.Runs.{Entry, Goes, Run, printed}
 use Rattle.pnp_model.specs.Runs.Entry.{Happens, Did}
 use Rattle.pnp_model.specs.Diagram.{FollowsDiagram, Walked}
 use Rattle.pnp_model.specs.Sharing.{Clear}
-use Rattle.pnp_model.specs.Laws.{HoldsWhole, DependentsFirst}
+use Rattle.pnp_model.specs.Laws.{Reaches, HoldsWhole, DependentsFirst}
 use Rattle.pnp_laws.specs.Begun.{Belongs, Restoring, Conflicts}
+use Rattle.pnp_laws.specs.Ends.{events, joins}
 use Rattle.script_reader.specs.Script.{Trace, gives, waits, ends, stops}
 use Rattle.inf_reader.specs.declared.parts.Inf.{Inf}
 use Rattle.pnp_cli.specs.Outputs.{text_of, error_line, end_text}
 use Rattle.pnp_cli.specs.Infs.{infs_in}
-use Rattle.pnp_cli.specs.Runs.{machine, events_of}
+use Rattle.pnp_cli.specs.Runs.{Given, IsOutput, machine, events_of}
 use Rattle.pnp_cli.specs.declared.infs.InfsError.{InfsError}
-use Rattle.pnp_cli.specs.declared.parts.Settings.{Settings}
 
--- no two resources clash, and each device holds what it should
-pub record LawfulState (s : State) : Type 0 where
-  pub sharing : Clear s.core.reserved s.core.nodes
-  pub whole : HoldsWhole s.core.nodes
-
--- what holds of a step after these entries: states change by the diagram, dependents go first, what ends has begun, a veto and a
--- futile rebalance restore, and problem 12 is real
-pub record LawfulStep (settings : machines.Settings) (rack : List Driver) (earlier : List Entry) (old : State) (entry : Entry) (new : State) : Type 0 where
-  pub diagram : FollowsDiagram (printed entry) old.core.nodes new.core.nodes
-  pub walked : Walked (printed entry) old.core.nodes new.core.nodes
-  pub dependents : DependentsFirst (printed entry) old.core new.core
-  pub begun : Belongs settings rack earlier old (printed entry)
-  pub restores : Restoring settings rack earlier old new (printed entry)
-  pub conflicts : (path : Text) → printed entry ≡ Label.Trouble path Problem.NormalConflict → Conflicts settings rack earlier old path
-
--- a run after these entries, with lawful states and steps
-abbrev pub LawfulFrom : machines.Settings → List Driver → List Entry → State → List Entry → State → Type 0
-LawfulFrom settings rack earlier s [] last = LawfulState s × (last ≡ s)
-LawfulFrom settings rack earlier s (entry ∷ rest) last =
-    (mid : State) × LawfulState s × Goes settings s entry mid × LawfulStep settings rack earlier s entry mid
-    × LawfulFrom settings rack (earlier ++ entry ∷ []) mid rest last
-
--- from the opening state on
-abbrev pub LawfulRun : machines.Settings → List Driver → List Entry → State → Type 0
-LawfulRun settings rack entries last = LawfulFrom settings rack [] (opening rack) entries last
+-- The run that an output tells ----------------------------------------------------------
 
 -- the events that happened
 abbrev pub happened : List Entry → List Event
@@ -67,25 +43,98 @@ bad_text waits = []
 bad_text ends = []
 bad_text (stops number) = error_line number
 
--- the text tells a lawful run of these events up to where nothing is next: a line for each label, then the bad line, then the end
-pub record TellsRun (settings : machines.Settings) (rack : List Driver) (t : Trace) (text : Text) : Type 0 where
-  pub entries : List Entry
-  pub last : State
-  pub run : LawfulRun settings rack entries last
+-- the text tells this run of the events, up to where nothing is next: a line for each label, then the bad line, then the end
+pub record IsTold (settings : machines.Settings) (rack : List Driver) (t : Trace) (text : Text) (entries : List Entry) (last : State) : Type 0 where
+  pub run : Reaches settings rack entries last
   pub rests : IsQuiet settings last
   pub events : happened entries ≡ events_in t
   pub is : text ≡ text_of (map printed entries) ++ (bad_text t ++ end_text last)
 
+-- a step of a run, with the entries before it
+pub record IsStep (settings : machines.Settings) (rack : List Driver) (entries : List Entry) (last : State) (earlier : List Entry) (old : State) (entry : Entry) (new : State) : Type 0 where
+  pub later : List Entry
+  pub all : entries ≡ earlier ++ entry ∷ later
+  pub before : Reaches settings rack earlier old
+  pub goes : Goes settings old entry new
+  pub after : Run settings new later last
+
+-- a state of a run
+pub record IsState (settings : machines.Settings) (rack : List Driver) (entries : List Entry) (last s : State) : Type 0 where
+  pub earlier : List Entry
+  pub later : List Entry
+  pub all : entries ≡ earlier ++ later
+  pub before : Reaches settings rack earlier s
+  pub after : Run settings s later last
+
+-- What is said of it ----------------------------------------------------------------------
+
+-- the text tells a run
+abbrev pub SomeRun : machines.Settings → List Driver → Trace → Text → Type 0
+SomeRun settings rack t text = (entries : List Entry) × (last : State) × IsTold settings rack t text entries last
+
+-- the run that it tells keeps a law
+abbrev pub OfRun : (List Entry → Type 0) → machines.Settings → List Driver → Trace → Text → Type 0
+OfRun Law settings rack t text = (entries : List Entry) (last : State) → IsTold settings rack t text entries last → Law entries
+
+-- each state of it does
+abbrev pub EachState : (State → Type 0) → machines.Settings → List Driver → Trace → Text → Type 0
+EachState Law settings rack t text =
+    (entries : List Entry) (last : State) → IsTold settings rack t text entries last
+    → (s : State) → IsState settings rack entries last s → Law s
+
+-- each step of it does
+abbrev pub EachStep : (machines.Settings → List Driver → List Entry → State → Entry → State → Type 0) → machines.Settings → List Driver → Trace → Text → Type 0
+EachStep Law settings rack t text =
+    (entries : List Entry) (last : State) → IsTold settings rack t text entries last
+    → (earlier : List Entry) (old : State) (entry : Entry) (new : State) → IsStep settings rack entries last earlier old entry new
+    → Law settings rack earlier old entry new
+
 -- for a script that is there
-abbrev pub TellsScript : machines.Settings → List Driver → Option (List ℕ) → Text → Type 0
-TellsScript settings rack None text = Unit {0}
-TellsScript settings rack (Some script) text = TellsRun settings rack (events_of script) text
+abbrev pub OfScript : (machines.Settings → List Driver → Trace → Text → Type 0) → machines.Settings → List Driver → Option (List ℕ) → Text → Type 0
+OfScript Says settings rack None text = Unit {0}
+OfScript Says settings rack (Some script) text = Says settings rack (events_of script) text
 
 -- where all INFs are taken
-abbrev pub TellsBy : List Driver → ℕ → Result (List Inf) InfsError → Option (List ℕ) → Text → Type 0
-TellsBy rack budget (Ok infs) script text = TellsScript (machine infs budget) rack script text
-TellsBy rack budget (Err error) script text = Unit {0}
+abbrev pub OfInfs : (machines.Settings → List Driver → Trace → Text → Type 0) → List Driver → ℕ → Result (List Inf) InfsError → Option (List ℕ) → Text → Type 0
+OfInfs Says rack budget (Ok infs) script text = OfScript Says (machine infs budget) rack script text
+OfInfs Says rack budget (Err error) script text = Unit {0}
 
--- the output for settings tells a lawful run of the script, where the files are there and all INFs are taken
-abbrev pub Tells : List Driver → (Text → Option (List ℕ)) → Settings → Text → Type 0
-Tells rack told s text = TellsBy rack s.budget (infs_in told s.infs) (told s.script) text
+-- it is so of the output for the words, the contents that the files tell, and the kinds and books of a rack
+abbrev pub OfOutput : (machines.Settings → List Driver → Trace → Text → Type 0) → List Text → Option (Text → Option (List ℕ)) → List Driver → Type 0
+OfOutput Says words contents rack = Given words contents (λ s told. (text : Text) → IsOutput rack told s text → OfInfs Says rack s.budget (infs_in told s.infs) (told s.script) text)
+
+-- The laws ----------------------------------------------------------------------------------
+
+-- devices change their states by the diagram, and join and leave without drivers
+abbrev pub ByDiagram : machines.Settings → List Driver → List Entry → State → Entry → State → Type 0
+ByDiagram settings rack earlier old entry new =
+    FollowsDiagram (printed entry) old.core.nodes new.core.nodes × Walked (printed entry) old.core.nodes new.core.nodes
+
+-- no two resources among all holdings and the reserved ranges clash
+abbrev pub NothingClashes : State → Type 0
+NothingClashes s = Clear s.core.reserved s.core.nodes
+
+-- devices that are up hold one whole alternative, and devices without drivers hold nothing
+abbrev pub AllHoldWhole : State → Type 0
+AllHoldWhole s = HoldsWhole s.core.nodes
+
+-- an end, and problem 12, come only where their operation began and has not ended since
+abbrev pub OperationsBegan : machines.Settings → List Driver → List Entry → State → Entry → State → Type 0
+OperationsBegan settings rack earlier old entry new = Belongs settings rack earlier old (printed entry)
+
+-- a veto restores all that was before the operation began; a rebalance that found nothing all but the problem of its device
+abbrev pub EndsRestore : machines.Settings → List Driver → List Entry → State → Entry → State → Type 0
+EndsRestore settings rack earlier old entry new = Restoring settings rack earlier old new (printed entry)
+
+-- a device loses its drivers after all that depend on it, and a node leaves after all below it
+abbrev pub DependentsGoFirst : machines.Settings → List Driver → List Entry → State → Entry → State → Type 0
+DependentsGoFirst settings rack earlier old entry new = DependentsFirst (printed entry) old.core new.core
+
+-- problem 12 comes only where no assignment exists for the device and all that can move
+abbrev pub ConflictsAreReal : machines.Settings → List Driver → List Entry → State → Entry → State → Type 0
+ConflictsAreReal settings rack earlier old entry new =
+    (path : Text) → printed entry ≡ Label.Trouble path Problem.NormalConflict → Conflicts settings rack earlier old path
+
+-- at most 4,096 nodes join for each event
+abbrev pub FewJoin : List Entry → Type 0
+FewJoin entries = joins entries ≤ 4096 * events entries

@@ -9,6 +9,7 @@ use Rattle.script_reader.specs.Script.{Trace, trace}
 use Rattle.inf_reader.specs.declared.parts.Inf.{Inf}
 use Rattle.pnp_cli.specs.Outputs.{Prints, has_bad}
 use Rattle.start_sequence.specs.Begins as begins
+use Rattle.pnp_cli.specs.Words.{settings_of}
 use Rattle.pnp_cli.specs.Infs.{limit, infs_in, refusal_line}
 use Rattle.pnp_cli.specs.declared.infs.InfsError.{InfsError}
 use Rattle.pnp_cli.specs.declared.infs.InfsError.TheVariants as faults
@@ -77,6 +78,10 @@ is_whole Status.Done = true
 is_whole Status.BadScript = true
 is_whole Status.BadInf = true
 is_whole _ = false
+
+-- what holds of the settings that words give and of what files tell, where they do
+abbrev pub Given : List Text → Option (Text → Option (List ℕ)) → (Settings → (Text → Option (List ℕ)) → Type 0) → Type 0
+Given words contents Says = IfSome (settings_of words) (λ s. IfSome contents (λ told. Says s told))
 
 -- some text of which this holds was written whole
 abbrev pub Wrote : (Text → Type 0) → Option Text → Option Text → Type 0

@@ -1,11 +1,16 @@
 -- The command of the program, which words it takes, and what they say.
-use Rattle.std.specs.Prelude.{ℕ, ◌+◌, ◌*◌, ◌-◌, ◌&&◌, nat_le, length, if◌then◌else◌, Bool, true, false, List, [], ◌∷◌, Option, Some, None, codes, unwrap_or}
+use Rattle.std.specs.Prelude.{ℕ, ◌+◌, ◌*◌, ◌-◌, ◌&&◌, nat_le, length, map, if◌then◌else◌, Bool, true, false, List, [], ◌∷◌, Option, Some, None, codes, unwrap_or, String, string_bytes}
+use Rattle.std.specs.Global.{Global}
 use Rattle.clap.specs.Walk.{Row, Rule, Text, first_of, all_of}
 use Rattle.clap.specs.Simple.{App, matches_of, new_app, new_rule, on_top, with_rule}
 use Rattle.clap.specs.Faults.{fault_of}
 use Rattle.clap.specs.Kinds.{Kinds}
 use Rattle.clap.specs.declared.builder.action.ArgAction.TheVariants.{Append}
 use Rattle.pnp_cli.specs.declared.parts.Settings.{Settings}
+
+-- the bytes of each word
+abbrev pub texts : List (String Global) → List Text
+texts words = map (λ word. string_bytes word) words
 
 abbrev pub budget_rule : Rule
 budget_rule = record (new_rule (codes "budget")) { long = Some (codes "budget") }

@@ -113,7 +113,7 @@ pub fn read_infs<F: Files>(
     Ok(infs)
 }
 
-/// The number of an error of an INF: this project's own.
+/// The number of an error of an INF: this project's own. That of want of memory is never printed.
 fn error_number(error: InfError) -> u64
     ensures { result ≡ error_number error }
 {

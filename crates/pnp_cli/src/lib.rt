@@ -2,6 +2,8 @@
 //! written.
 #![tactic(auto)]
 
+#[cfg(test)]
+mod fault_tests;
 mod infs;
 mod output;
 mod parts;

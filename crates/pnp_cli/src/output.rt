@@ -43,7 +43,7 @@ fn take_turn<R: Drivers>(
             Ok(Turn::On)
         }
         Next::Bad { line } => Ok(Turn::Bad(line)),
-        _ => Ok(Turn::End),
+        Next::End | Next::NeedMore => Ok(Turn::End),
     }
 }
 
@@ -121,7 +121,8 @@ fn output_of<R: Drivers>(
     })
 }
 
-/// The output for the bytes of a script, by INFs, a budget and the drivers of a rack.
+/// The output for the bytes of a script, by INFs, a budget and the drivers of a rack. The manager is made here and handed
+/// on, since the checker is slow where a function holds one over a `?`.
 pub fn output<R: Drivers>(
     alloc: Global,
     infs: Vec<Inf>,

@@ -1,9 +1,9 @@
-ghost use Rattle.std.specs.Prelude.{◌≡◌, ◌⊎◌, ◌<◌, ◌≤◌, ◌^◌, ℕ, List, [], ◌∷◌, Some, None, Ok, IfSome, IfOk, OnOk, IsErrOf, map, length, true, string_bytes};
+ghost use Rattle.std.specs.Prelude.{◌≡◌, ◌⊎◌, ◌<◌, ◌≤◌, ◌^◌, ℕ, List, [], ◌∷◌, Some, None, Ok, IfSome, IfOk, OnOk, IsErrOf, map, length, true};
 ghost use Rattle.pnp_io.specs.Outside.{Rose, Appends, AppendsFront};
-ghost use Rattle.pnp_cli.specs.Words.{settings_of};
+ghost use Rattle.pnp_cli.specs.Words.{texts, settings_of};
 ghost use Rattle.pnp_cli.specs.Infs.{infs_in, refusal_line, SomeRose};
-ghost use Rattle.pnp_cli.specs.Runs.{named, IsScriptOutput, IsOutput, IsOutputBy, machine, script_status, status_of, status_by, is_decided, is_whole, Wrote, WroteFront, Answers, Untouched, events_of};
-ghost use Rattle.pnp_cli.specs.Lawful.{Tells};
+ghost use Rattle.pnp_cli.specs.Runs.{named, IsScriptOutput, IsOutput, IsOutputBy, machine, script_status, status_of, status_by, is_decided, is_whole, Wrote, Given, WroteFront, Answers, Untouched, events_of};
+ghost use Rattle.pnp_cli.specs.Lawful.{OfOutput, SomeRun, OfRun, EachState, EachStep, ByDiagram, NothingClashes, AllHoldWhole, OperationsBegan, EndsRestore, DependentsGoFirst, ConflictsAreReal, FewJoin};
 ghost use Rattle.pnp_cli.specs.Limits.{IsWithin};
 ghost use Rattle.pnp_cli.specs.Outputs.{has_bad};
 ghost use Rattle.driver_rack.specs.Rows.{unnamed};
@@ -170,7 +170,7 @@ fn run_settings<R: Drivers, F: Files, K: Sink>(
     }
 }
 
-/// The same as `run`, over drivers of one type.
+/// The same as `run`, over drivers of one type; the laws are clauses of `run` alone.
 fn run_over<D: Driver, F: Files, K: Sink>(
     alloc: Global,
     words: &[String],
@@ -179,16 +179,15 @@ fn run_over<D: Driver, F: Files, K: Sink>(
     sink: &mut K,
 ) -> Status
     requires { length drivers.items < 2 ^ 32 }
-    ensures bad_words { result ≡ Status.BadWords → settings_of (map (λ word. string_bytes word) words.now) ≡ None }
-    ensures refused { settings_of (map (λ word. string_bytes word) words.now) ≡ None → (result ≡ Status.BadWords) ⊎ (result ≡ Status.WantOfMemory) }
-    ensures untouched { settings_of (map (λ word. string_bytes word) words.now) ≡ None → Untouched F.contents F.faults K.taken K.faults files.old files.new sink.old sink.new }
-    ensures decided { is_decided result ≡ true → IfSome (settings_of (map (λ word. string_bytes word) words.now)) (λ s. IfSome (F.contents files.old) (λ told. status_of told s ≡ Some result)) }
-    ensures whole { is_whole result ≡ true → IfSome (settings_of (map (λ word. string_bytes word) words.now)) (λ s. IfSome (F.contents files.old) (λ told. Wrote (IsOutput (map (λ d. unnamed (D.kind_of d) (D.book d)) drivers.items) told s) (K.taken sink.old) (K.taken sink.new))) }
-    ensures lawful { IfSome (settings_of (map (λ word. string_bytes word) words.now)) (λ s. IfSome (F.contents files.old) (λ told. (text : List ℕ) → IsOutput (map (λ d. unnamed (D.kind_of d) (D.book d)) drivers.items) told s text → Tells (map (λ d. unnamed (D.kind_of d) (D.book d)) drivers.items) told s text)) }
-    ensures front { IfSome (settings_of (map (λ word. string_bytes word) words.now)) (λ s. IfSome (F.contents files.old) (λ told. WroteFront (IsOutput (map (λ d. unnamed (D.kind_of d) (D.book d)) drivers.items) told s) (K.taken sink.old) (K.taken sink.new))) }
-    ensures read_fault { result ≡ Status.ReadFault → IfSome (settings_of (map (λ word. string_bytes word) words.now)) (λ s. SomeRose (F.faults files.old) (F.faults files.new) (named s)) }
+    ensures bad_words { result ≡ Status.BadWords → settings_of (texts words.now) ≡ None }
+    ensures refused { settings_of (texts words.now) ≡ None → (result ≡ Status.BadWords) ⊎ (result ≡ Status.WantOfMemory) }
+    ensures untouched { settings_of (texts words.now) ≡ None → Untouched F.contents F.faults K.taken K.faults files.old files.new sink.old sink.new }
+    ensures decided { is_decided result ≡ true → Given (texts words.now) (F.contents files.old) (λ s told. status_of told s ≡ Some result) }
+    ensures whole { is_whole result ≡ true → Given (texts words.now) (F.contents files.old) (λ s told. Wrote (IsOutput (map (λ d. unnamed (D.kind_of d) (D.book d)) drivers.items) told s) (K.taken sink.old) (K.taken sink.new)) }
+    ensures front { Given (texts words.now) (F.contents files.old) (λ s told. WroteFront (IsOutput (map (λ d. unnamed (D.kind_of d) (D.book d)) drivers.items) told s) (K.taken sink.old) (K.taken sink.new)) }
+    ensures read_fault { result ≡ Status.ReadFault → IfSome (settings_of (texts words.now)) (λ s. SomeRose (F.faults files.old) (F.faults files.new) (named s)) }
     ensures write_fault { result ≡ Status.WriteFault → Rose (K.faults sink.old) (K.faults sink.new) }
-    ensures answered { IfSome (settings_of (map (λ word. string_bytes word) words.now)) (λ s. IfSome (F.contents files.old) (λ told. Answers (status_of told s) (SomeRose (F.faults files.old) (F.faults files.new) (named s)) (Rose (K.faults sink.old) (K.faults sink.new)) result)) }
+    ensures answered { Given (texts words.now) (F.contents files.old) (λ s told. Answers (status_of told s) (SomeRose (F.faults files.old) (F.faults files.new) (named s)) (Rose (K.faults sink.old) (K.faults sink.new)) result) }
 {
     match settings(alloc, words) {
         Err(WordsError::BadWords) => Status::BadWords,
@@ -204,7 +203,8 @@ fn run_over<D: Driver, F: Files, K: Sink>(
 /// script, runs it over the drivers of a rack, and writes its output and nothing else; where an INF is refused,
 /// its number, error and line are the output. The condition is that the rack has fewer than 2^32 drivers. Each
 /// status comes as its clauses say; after a fault, and after want of memory, what was written is a front of the
-/// output. It always returns. Cost: near linear in the bytes read, and that of the machine's steps. This project's own.
+/// output. The output tells a run of the machine that keeps the laws of the last clauses. It always returns. Cost:
+/// near linear in the bytes read, and that of the machine's steps. This project's own.
 pub fn run<F: Files, K: Sink>(
     alloc: Global,
     words: &[String],
@@ -213,16 +213,24 @@ pub fn run<F: Files, K: Sink>(
     sink: &mut K,
 ) -> Status
     requires { length rack.items < 2 ^ 32 }
-    ensures bad_words { result ≡ Status.BadWords → settings_of (map (λ word. string_bytes word) words.now) ≡ None }
-    ensures refused { settings_of (map (λ word. string_bytes word) words.now) ≡ None → (result ≡ Status.BadWords) ⊎ (result ≡ Status.WantOfMemory) }
-    ensures untouched { settings_of (map (λ word. string_bytes word) words.now) ≡ None → Untouched F.contents F.faults K.taken K.faults files.old files.new sink.old sink.new }
-    ensures decided { is_decided result ≡ true → IfSome (settings_of (map (λ word. string_bytes word) words.now)) (λ s. IfSome (F.contents files.old) (λ told. status_of told s ≡ Some result)) }
-    ensures whole { is_whole result ≡ true → IfSome (settings_of (map (λ word. string_bytes word) words.now)) (λ s. IfSome (F.contents files.old) (λ told. Wrote (IsOutput (map (λ b. unnamed (kind_of b) (book b)) rack.items) told s) (K.taken sink.old) (K.taken sink.new))) }
-    ensures lawful { IfSome (settings_of (map (λ word. string_bytes word) words.now)) (λ s. IfSome (F.contents files.old) (λ told. (text : List ℕ) → IsOutput (map (λ b. unnamed (kind_of b) (book b)) rack.items) told s text → Tells (map (λ b. unnamed (kind_of b) (book b)) rack.items) told s text)) }
-    ensures front { IfSome (settings_of (map (λ word. string_bytes word) words.now)) (λ s. IfSome (F.contents files.old) (λ told. WroteFront (IsOutput (map (λ b. unnamed (kind_of b) (book b)) rack.items) told s) (K.taken sink.old) (K.taken sink.new))) }
-    ensures read_fault { result ≡ Status.ReadFault → IfSome (settings_of (map (λ word. string_bytes word) words.now)) (λ s. SomeRose (F.faults files.old) (F.faults files.new) (named s)) }
+    ensures bad_words { result ≡ Status.BadWords → settings_of (texts words.now) ≡ None }
+    ensures refused { settings_of (texts words.now) ≡ None → (result ≡ Status.BadWords) ⊎ (result ≡ Status.WantOfMemory) }
+    ensures untouched { settings_of (texts words.now) ≡ None → Untouched F.contents F.faults K.taken K.faults files.old files.new sink.old sink.new }
+    ensures decided { is_decided result ≡ true → Given (texts words.now) (F.contents files.old) (λ s told. status_of told s ≡ Some result) }
+    ensures whole { is_whole result ≡ true → Given (texts words.now) (F.contents files.old) (λ s told. Wrote (IsOutput (map (λ b. unnamed (kind_of b) (book b)) rack.items) told s) (K.taken sink.old) (K.taken sink.new)) }
+    ensures front { Given (texts words.now) (F.contents files.old) (λ s told. WroteFront (IsOutput (map (λ b. unnamed (kind_of b) (book b)) rack.items) told s) (K.taken sink.old) (K.taken sink.new)) }
+    ensures read_fault { result ≡ Status.ReadFault → IfSome (settings_of (texts words.now)) (λ s. SomeRose (F.faults files.old) (F.faults files.new) (named s)) }
     ensures write_fault { result ≡ Status.WriteFault → Rose (K.faults sink.old) (K.faults sink.new) }
-    ensures answered { IfSome (settings_of (map (λ word. string_bytes word) words.now)) (λ s. IfSome (F.contents files.old) (λ told. Answers (status_of told s) (SomeRose (F.faults files.old) (F.faults files.new) (named s)) (Rose (K.faults sink.old) (K.faults sink.new)) result)) }
+    ensures answered { Given (texts words.now) (F.contents files.old) (λ s told. Answers (status_of told s) (SomeRose (F.faults files.old) (F.faults files.new) (named s)) (Rose (K.faults sink.old) (K.faults sink.new)) result) }
+    ensures tells { OfOutput SomeRun (texts words.now) (F.contents files.old) (map (λ b. unnamed (kind_of b) (book b)) rack.items) }
+    ensures diagram { OfOutput (EachStep ByDiagram) (texts words.now) (F.contents files.old) (map (λ b. unnamed (kind_of b) (book b)) rack.items) }
+    ensures sharing { OfOutput (EachState NothingClashes) (texts words.now) (F.contents files.old) (map (λ b. unnamed (kind_of b) (book b)) rack.items) }
+    ensures holdings { OfOutput (EachState AllHoldWhole) (texts words.now) (F.contents files.old) (map (λ b. unnamed (kind_of b) (book b)) rack.items) }
+    ensures restores { OfOutput (EachStep EndsRestore) (texts words.now) (F.contents files.old) (map (λ b. unnamed (kind_of b) (book b)) rack.items) }
+    ensures dependents { OfOutput (EachStep DependentsGoFirst) (texts words.now) (F.contents files.old) (map (λ b. unnamed (kind_of b) (book b)) rack.items) }
+    ensures conflicts { OfOutput (EachStep ConflictsAreReal) (texts words.now) (F.contents files.old) (map (λ b. unnamed (kind_of b) (book b)) rack.items) }
+    ensures begun { OfOutput (EachStep OperationsBegan) (texts words.now) (F.contents files.old) (map (λ b. unnamed (kind_of b) (book b)) rack.items) }
+    ensures joins { OfOutput (OfRun FewJoin) (texts words.now) (F.contents files.old) (map (λ b. unnamed (kind_of b) (book b)) rack.items) }
 {
     run_over(alloc, words, rack, files, sink)
 }

@@ -7,7 +7,7 @@ use std::alloc::Global;
 use std::process::Abort;
 use std::test::Fail;
 
-const OWN_INF: &str = r#"[Version]
+pub const OWN_INF: &str = r#"[Version]
 Signature="$Windows NT$"
 DriverVer=01/01/2020,1.0.0.0
 [Manufacturer]
@@ -28,16 +28,13 @@ HKR,,"LowerFilters",0x00010000,"low"
 /// The names of at most two INFs.
 const NAMES: [&str; 2] = ["1", "2"];
 
-/// Compares status and output of a script with these INFs over two Scripted drivers, four Steady ones and a Stubborn one.
-fn writes(
-    rt: &impl Abort,
+/// The status of a script with these INFs over two Scripted drivers, four Steady ones and a Stubborn one, and the sink after it.
+pub fn ended(
     alloc: Global,
     infs: &[&[u8]],
     script: &str,
     mut sink: MemSink,
-    status: Status,
-    text: &[u8],
-) -> Result<(), Fail> {
+) -> Result<(Status, MemSink), Fail> {
     let mut rack: Vec<Box<dyn Driver>> = Vec::new(alloc);
     for _ in 0..2 {
         rack.push(Box::new(alloc, Scripted::make(alloc)?)?)?;
@@ -46,7 +43,9 @@ fn writes(
         rack.push(Box::new(alloc, Steady::make())?)?;
     }
     rack.push(Box::new(alloc, Stubborn::make())?)?;
-    assert!(rt; rack.len() < 8);
+    if rack.len() > 7 {
+        return Err(Fail::from("drivers"));
+    }
     let mut words = words_of(alloc, &["pnpmgr", "s"])?;
     let mut files = MemFiles::new(alloc);
     files.add(b"s", script.as_bytes())?;
@@ -54,7 +53,21 @@ fn writes(
         words.push(String::from_str(alloc, name)?)?;
         files.add(name.as_bytes(), inf)?;
     }
-    let answer = run(alloc, &words, rack, &mut files, &mut sink);
+    let status = run(alloc, &words, rack, &mut files, &mut sink);
+    Ok((status, sink))
+}
+
+/// Compares status and output of a script with these INFs.
+fn writes(
+    rt: &impl Abort,
+    alloc: Global,
+    infs: &[&[u8]],
+    script: &str,
+    sink: MemSink,
+    status: Status,
+    text: &[u8],
+) -> Result<(), Fail> {
+    let (answer, sink) = ended(alloc, infs, script, sink)?;
     assert_eq!(rt; answer, status);
     assert!(rt; sink.taken() == text, "{:?}", sink.taken());
     Ok(())
@@ -73,11 +86,11 @@ fn runs(
     writes(rt, alloc, infs, script, sink, status, text.as_bytes())
 }
 
-const ONE_DEVICE_SCRIPT: &str = r"driver dev steady
+pub const ONE_DEVICE_SCRIPT: &str = r"driver dev steady
 plug HTREE\ROOT\0 OWN\DEV 1
 ";
 
-const ONE_DEVICE_TEXT: &str = r"event driver dev
+pub const ONE_DEVICE_TEXT: &str = r"event driver dev
 event plug OWN\DEV\1
 join 1 OWN\DEV\1
 listed HTREE\ROOT\0

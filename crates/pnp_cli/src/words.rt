@@ -1,9 +1,9 @@
 //! The words of the command line, read by one simple command.
-ghost use Rattle.std.specs.Prelude.{◌≡◌, ◌≤◌, ◌<◌, Some, None, IfOk, IsErrOf, map, option_map, string_bytes, true, false, length};
+ghost use Rattle.std.specs.Prelude.{◌≡◌, ◌≤◌, ◌<◌, Some, None, IfOk, IsErrOf, map, option_map, true, false, length};
 ghost use Rattle.clap.specs.Simple.{app_of, matches_of};
 ghost use Rattle.clap.specs.Walk.{rows_of, first_of, all_of};
 ghost use Rattle.clap.specs.Matches.{found_of};
-ghost use Rattle.pnp_cli.specs.Words.{pnpmgr, is_accepted, number_of, within, budget_of, parts_of, infs_of, settings_of};
+ghost use Rattle.pnp_cli.specs.Words.{pnpmgr, is_accepted, number_of, within, budget_of, parts_of, infs_of, settings_of, texts};
 ghost use Rattle.pnp_cli.specs.declared.parts.WordsError.TheVariants.{BadWords};
 
 use crate::parts::{Settings, WordsError};
@@ -17,6 +17,12 @@ const MOST_INFS: usize = 64;
 
 /// The budget where none is given: this project's own.
 const BUDGET: u64 = 20_000;
+
+/// The greatest budget: this project's own.
+const MOST_BUDGET: u64 = 1_000_000;
+
+/// The most digits of a number: this project's own.
+const MOST_DIGITS: usize = 7;
 
 /// The command: `pnpmgr [--budget N] SCRIPT [INF ...]`.
 fn command<'a>(alloc: Global) -> Result<Command<'a>, WantOfMemory>
@@ -33,8 +39,8 @@ fn command<'a>(alloc: Global) -> Result<Command<'a>, WantOfMemory>
 
 /// What the command finds in the words.
 fn matches<'a>(alloc: Global, words: &'a [String]) -> Result<ArgMatches<'a>, WordsError>
-    ensures ok { IfOk result (λ m. (is_accepted (map (λ word. string_bytes word) words.now) ≡ true) × (rows_of (found_of m) ≡ matches_of pnpmgr (map (λ word. string_bytes word) words.now))) }
-    ensures bad { IsErrOf result BadWords → is_accepted (map (λ word. string_bytes word) words.now) ≡ false }
+    ensures ok { IfOk result (λ m. (is_accepted (texts words.now) ≡ true) × (rows_of (found_of m) ≡ matches_of pnpmgr (texts words.now))) }
+    ensures bad { IsErrOf result BadWords → is_accepted (texts words.now) ≡ false }
 {
     let command = command(alloc)?;
     match command.try_get_matches_from(words) {
@@ -51,15 +57,15 @@ fn number(text: &str) -> Option<u64>
     ensures { result ≡ number_of text.now }
 {
     let bytes = text.as_bytes();
-    if bytes.is_empty() || bytes.len() > 7 {
+    if bytes.is_empty() || bytes.len() > MOST_DIGITS {
         return None;
     }
     let mut n = 0u64;
     for b in bytes {
-        if !(48 <= *b && *b <= 57) {
+        if !(b'0' <= *b && *b <= b'9') {
             return None;
         }
-        n = n * 10 + (*b - 48) as u64;
+        n = n * 10 + (*b - b'0') as u64;
     }
     Some(n)
 }
@@ -71,7 +77,7 @@ fn within(number: Option<u64>) -> Option<u64>
     match number {
         None => None,
         Some(n) => {
-            if 1 <= n && n <= 1_000_000 {
+            if 1 <= n && n <= MOST_BUDGET {
                 Some(n)
             } else {
                 None
@@ -158,8 +164,8 @@ fn settings_from(alloc: Global, found: &ArgMatches) -> Result<Settings, WordsErr
 /// 1,000,000, or more than 64 INFs are named; and there nothing but `WantOfMemory` may come in its place. Cost:
 /// the words' bytes. This project's own.
 pub fn settings(alloc: Global, words: &[String]) -> Result<Settings, WordsError>
-    ensures ok { IfOk result (λ s. settings_of (map (λ word. string_bytes word) words.now) ≡ Some s) }
-    ensures bad { IsErrOf result BadWords → settings_of (map (λ word. string_bytes word) words.now) ≡ None }
+    ensures ok { IfOk result (λ s. settings_of (texts words.now) ≡ Some s) }
+    ensures bad { IsErrOf result BadWords → settings_of (texts words.now) ≡ None }
 {
     if words.is_empty() {
         return Err(WordsError::BadWords);

@@ -81,7 +81,7 @@ fn add_row(
 }
 
 /// Appends the lines of the tree, each node after the one above it.
-pub fn add_tree(alloc: Global, out: &mut Vec<u8>, tree: &Tree) -> Result<(), WantOfMemory>
+fn add_tree(alloc: Global, out: &mut Vec<u8>, tree: &Tree) -> Result<(), WantOfMemory>
     ensures { OnOk result (out.new.items ≡ out.old.items ++ joined (map tree_line (print_order tree.now.nodes))) }
 {
     let rows = tree.print_rows(alloc)?;

@@ -117,7 +117,7 @@ impl<R: Drivers> Manager<R> {
     }
 
     /// The end of the output: the tree, what is held, and the requests that are outstanding. Cost: the number of nodes
-    /// times its logarithm.
+    /// times its logarithm, and the number of pairs that are held or reserved.
     pub fn ending(&self, alloc: Global) -> Result<Vec<u8>, WantOfMemory>
         ensures { IfOk result (λ text. text.items ≡ joined (ending self.now.state)) }
     {

@@ -7,11 +7,13 @@ use pnp_io::{HostFiles, HostSink};
 use std::alloc::{AllocError, Global};
 use std::process::ExitCode;
 
-/// How many drivers of each kind the rack has.
+/// How many scripted drivers the rack has: this project's own.
 const SCRIPTED: u32 = 128;
 
+/// How many steady drivers the rack has: this project's own.
 const STEADY: u32 = 32;
 
+/// How many stubborn drivers the rack has: this project's own.
 const STUBBORN: u32 = 16;
 
 fn main(rt: HostRuntime) -> std::io::Result<ExitCode> {

@@ -1,30 +1,14 @@
-use Rattle.std.proofs.Common.{map, string_bytes}
+use Rattle.std.proofs.Common.{map}
 use Rattle.driver_rack.specs.Rows.{unnamed}
-use Rattle.pnp_cli.specs.Words.{settings_of}
+use Rattle.pnp_cli.specs.Words.{texts, settings_of}
 use Rattle.pnp_cli.proofs.Fronts.{none_of_output}
-use Rattle.pnp_cli.proofs.Lawfulness.{all_outputs_tell}
 use Rattle.pnp_cli.proofs.Limited.{settings_within}
 use Rattle.pnp_cli.proofs.program.run_over.Goals as goal
 
 pub returns-clause-front : goal.returns-clause-front
 returns-clause-front g c =
-    none_of_output (settings_of (map (λ word. string_bytes word) c.args.words.now)) (g.F.Files.contents c.args.files.now)
+    none_of_output (settings_of (texts c.args.words.now)) (g.F.Files.contents c.args.files.now)
     (map (λ d. unnamed (g.D.Driver.kind_of d) (g.D.Driver.book d)) c.args.drivers.items) (g.K.Sink.taken c.args.sink.now)
 
 pub run_settings-requires : goal.run_settings-requires
-run_settings-requires g c = settings_within (map (λ word. string_bytes word) c.args.words.now) c.in-Ok.settings c.in-Ok.ensures.ok
-
-pub returns-in-Err-WantOfMemory-clause-lawful : goal.returns-in-Err-WantOfMemory-clause-lawful
-returns-in-Err-WantOfMemory-clause-lawful g c =
-    all_outputs_tell (settings_of (map (λ word. string_bytes word) c.args.words.now)) (g.F.Files.contents c.args.files.now)
-    (map (λ d. unnamed (g.D.Driver.kind_of d) (g.D.Driver.book d)) c.args.drivers.items)
-
-pub returns-in-Ok-make-clause-lawful : goal.returns-in-Ok-make-clause-lawful
-returns-in-Ok-make-clause-lawful g c =
-    all_outputs_tell (settings_of (map (λ word. string_bytes word) c.args.words.now)) (g.F.Files.contents c.args.files.now)
-    (map (λ d. unnamed (g.D.Driver.kind_of d) (g.D.Driver.book d)) c.args.drivers.items)
-
-pub returns-clause-lawful : goal.returns-clause-lawful
-returns-clause-lawful g c =
-    all_outputs_tell (settings_of (map (λ word. string_bytes word) c.args.words.now)) (g.F.Files.contents c.args.files.now)
-    (map (λ d. unnamed (g.D.Driver.kind_of d) (g.D.Driver.book d)) c.args.drivers.items)
+run_settings-requires g c = settings_within (texts c.args.words.now) c.in-Ok.settings c.in-Ok.ensures.ok

@@ -1,0 +1,30 @@
+use Rattle.pnp_cli.specs.Words.{texts}
+use Rattle.pnp_cli.proofs.Lawfulness.{output_tells, output_by_diagram, output_shares, output_holds_whole, output_restores, output_dependents, output_conflicts, output_begins, output_joins}
+use Rattle.pnp_cli.proofs.program.run.Goals as goal
+
+pub returns-clause-tells : goal.returns-clause-tells
+returns-clause-tells g c = output_tells (texts c.args.words.now) (g.F.Files.contents c.args.files.now) _
+
+pub returns-clause-diagram : goal.returns-clause-diagram
+returns-clause-diagram g c = output_by_diagram (texts c.args.words.now) (g.F.Files.contents c.args.files.now) _
+
+pub returns-clause-sharing : goal.returns-clause-sharing
+returns-clause-sharing g c = output_shares (texts c.args.words.now) (g.F.Files.contents c.args.files.now) _
+
+pub returns-clause-holdings : goal.returns-clause-holdings
+returns-clause-holdings g c = output_holds_whole (texts c.args.words.now) (g.F.Files.contents c.args.files.now) _
+
+pub returns-clause-restores : goal.returns-clause-restores
+returns-clause-restores g c = output_restores (texts c.args.words.now) (g.F.Files.contents c.args.files.now) _
+
+pub returns-clause-dependents : goal.returns-clause-dependents
+returns-clause-dependents g c = output_dependents (texts c.args.words.now) (g.F.Files.contents c.args.files.now) _
+
+pub returns-clause-conflicts : goal.returns-clause-conflicts
+returns-clause-conflicts g c = output_conflicts (texts c.args.words.now) (g.F.Files.contents c.args.files.now) _
+
+pub returns-clause-begun : goal.returns-clause-begun
+returns-clause-begun g c = output_begins (texts c.args.words.now) (g.F.Files.contents c.args.files.now) _
+
+pub returns-clause-joins : goal.returns-clause-joins
+returns-clause-joins g c = output_joins (texts c.args.words.now) (g.F.Files.contents c.args.files.now) _
