@@ -1,18 +1,19 @@
 -- What an arrival does to the world, and what is kept of devices and nodes.
-use Rattle.std.proofs.Common.{◌≡◌, ℕ, ◌+◌, ◌<◌, ◌↔◌, true, List, [], ◌∷◌, ◌++◌, length, Option, Some, None, Result, Ok, Err, IfSome, OnOk, OnErr, IsErrOf, IsSome, nat_le, refl, sym, ap, subst, arith}
-use Rattle.std.specs.List.{AllByRecursion}
+use Rattle.std.proofs.Common.{◌≡◌, ℕ, ◌+◌, ◌<◌, ◌↔◌, ◌==◌, ◌||◌, Bool, true, List, [], ◌∷◌, ◌++◌, length, Option, Some, None, Result, Ok, Err, IfSome, OnOk, OnErr, IsErrOf, IsSome, nat_le, refl, sym, ap, subst, arith}
+use Rattle.std.specs.List.{AllByRecursion, list_any}
 use Rattle.std.proofs.lemmas.Bool.Decides.{nat_tests}
 use Rattle.resource_reqs.specs.Resources.{Res, Reqs}
 use Rattle.pnp_labels.specs.Texts.{Text}
 use Rattle.pnp_model.specs.Records.{Device, Node}
-use Rattle.pnp_model.specs.States.{device_of}
+use Rattle.pnp_model.specs.States.{device_of, is_in_world}
+use Rattle.script_bus.proofs.Unplugs.{by_bool}
 use Rattle.devnode_tree.specs.Trees.{Tree}
 use Rattle.script_bus.specs.Worlds.{World, plugged}
 use Rattle.script_bus.specs.declared.error.PlugError.{PlugError}
 use Rattle.script_bus.specs.declared.error.PlugError.TheVariants.{NoParent, SameId, WorldFull, WantOfMemory}
 use Rattle.trial_journal.specs.Four.{Arbiters}
 use Rattle.device_holdings.specs.Mirrors.{Mirrors}
-use Rattle.pnp_machine.specs.Devices.{Arrives, NotJoining, IsKept}
+use Rattle.pnp_machine.specs.Devices.{Arrives, NotJoining, IsHere, IsKept}
 
 none_or_some : {A : Type 0} (o : Option A) → (o ≡ None → ⊥) → (x : A) × (o ≡ Some x)
 none_or_some None never = absurd (never refl)
@@ -83,26 +84,35 @@ none_before over nodes [] = tt
 none_before over nodes (d ∷ ds) = (λ less. absurd (omega arith), none_before over nodes ds)
 
 -- all children are looked at anew
-pub kept_anew : (w w' : World) (t t' : Tree) (reserved reserved' : List Res) (arbiters arbiters' : Arbiters) (over from other : ℕ) → IsKept w t reserved arbiters over from
-    → Mirrors reserved' t'.nodes arbiters' → IsKept w' t' reserved' arbiters' other 0
-kept_anew w w' t t' reserved reserved' arbiters arbiters' over from other kept mirrors =
-    record { listed = none_before other t'.nodes w'.devices; within = omega arith; mirrors = mirrors }
+pub kept_anew : (w w' : World) (t t' : Tree) (reserved reserved' : List Res) (arbiters arbiters' : Arbiters) (over from : ℕ) (whole : Option ℕ) (other : ℕ) → IsKept w t reserved arbiters over from whole
+    → Mirrors reserved' t'.nodes arbiters' → IsKept w' t' reserved' arbiters' other 0 None
+kept_anew w w' t t' reserved reserved' arbiters arbiters' over from whole other kept mirrors =
+    record { listed = none_before other t'.nodes w'.devices; within = omega arith; here = λ k e. absurd (cc); mirrors = mirrors }
 
-module _ (w : World) (t : Tree) (reserved : List Res) (arbiters : Arbiters) (over from : ℕ) (kept : IsKept w t reserved arbiters over from) where
-  kept_arrived : (d : Device) → d.born ≡ w.next → (w' : World) → w'.devices ≡ w.devices ++ d ∷ [] → w'.next ≡ w.next + 1 → IsKept w' t reserved arbiters over from
+-- the world with one device more
+any_more : {A : Type 0} (p : A → Bool) (xs : List A) (y : A) → list_any p xs ≡ true → list_any p (xs ++ y ∷ []) ≡ true
+any_more p [] y h = absurd (cc)
+any_more p (x ∷ xs) y h = by_bool (λ b. (b || list_any p xs) ≡ true → (b || list_any p (xs ++ y ∷ [])) ≡ true) (p x) (λ e h. refl) (λ e h. any_more p xs y h) h
+
+module _ (w : World) (t : Tree) (reserved : List Res) (arbiters : Arbiters) (over from : ℕ) (whole : Option ℕ) (kept : IsKept w t reserved arbiters over from whole) where
+  kept_arrived : (d : Device) → d.born ≡ w.next → (w' : World) → w'.devices ≡ w.devices ++ d ∷ [] → w'.next ≡ w.next + 1 → IsKept w' t reserved arbiters over from whole
   kept_arrived d born w' devices next =
       record {
         listed =
             subst (AllByRecursion (NotJoining over from t.nodes)) (sym devices)
             (all_appended (NotJoining over from t.nodes) w.devices d kept.listed (λ less. absurd (let le = kept.within in omega arith)));
         within = let le = kept.within in omega arith;
+        here = λ k e.
+            all_of (IsHere k w.devices) (IsHere k w'.devices)
+            (λ n h child. subst (λ ds. is_in_world ds n.born ≡ true) (sym devices) (any_more (λ x. x.born == n.born) w.devices d (h child)))
+            t.nodes (kept.here k e);
         mirrors = kept.mirrors;
       }
 
-  same : (w' : World) → w' ≡ w → IsKept w' t reserved arbiters over from
-  same w' is = subst (λ (x : World). IsKept x t reserved arbiters over from) (sym is) kept
+  same : (w' : World) → w' ≡ w → IsKept w' t reserved arbiters over from whole
+  same w' is = subst (λ (x : World). IsKept x t reserved arbiters over from whole) (sym is) kept
 
-  pub kept_arrival : (w' : World) (parent path : Text) (hw compat : List Text) (reqs : Reqs) (r : Result ℕ PlugError) → Arrives w parent path hw compat reqs r w' → IsKept w' t reserved arbiters over from
+  pub kept_arrival : (w' : World) (parent path : Text) (hw compat : List Text) (reqs : Reqs) (r : Result ℕ PlugError) → Arrives w parent path hw compat reqs r w' → IsKept w' t reserved arbiters over from whole
   kept_arrival w' parent path hw compat reqs (Ok born) (d, at, free, room, is) =
       kept_arrived (record { born = w.next; parent = d.born; path = path; hw = hw; compat = compat; reqs = reqs }) refl w'
       (ap (λ (x : World). x.devices) is) (ap (λ (x : World). x.next) is)

@@ -8,6 +8,7 @@ use Rattle.resource_reqs.specs.Resources.{Res}
 use Rattle.pnp_labels.specs.Texts.{Text}
 use Rattle.pnp_model.specs.Cores.{node_at, serials_of}
 use Rattle.pnp_model.specs.Keyed.{those}
+use Rattle.pnp_model.specs.Machine.{is_born}
 use Rattle.pnp_model.specs.Records.{Device, Node, Task}
 use Rattle.pnp_model.specs.Runs.{root_node}
 use Rattle.pnp_model.specs.States.{device_born, device_of, is_in_world}
@@ -25,17 +26,17 @@ use Rattle.pnp_laws.proofs.Lookups.{own_serial}
 use Rattle.script_bus.proofs.Found.{found_again}
 use Rattle.script_bus.proofs.Places.{all_found}
 use Rattle.script_bus.proofs.Unplugs.{by_cond, all_both, root_rule, same_self}
-use Rattle.pnp_machine.specs.Devices.{Devices, Departs, IsKept, serial_born, relisted_device, is_gone_from, is_gone_node, is_gone_at, gone_below}
+use Rattle.pnp_machine.specs.Devices.{Devices, Departs, IsKept, serial_born, relisted_device, is_gone_from, is_gone_node, is_gone_at, gone_below, IsHere}
 use Rattle.pnp_machine.proofs.Arrivals.{none_before}
 
 -- The opening ---------------------------------------------------------------------
 
 pub kept_opened : (w : World) (t : Tree) (reserved : List Res) (a : Arbiters) → t ≡ record { nodes = root_node ∷ []; next = 1 } → reserved ≡ []
-    → ((kind : Kind) → of_kind a kind ≡ record { kind = kind; pairs = []; spare = 0 }) → IsKept w t reserved a 0 0
+    → ((kind : Kind) → of_kind a kind ≡ record { kind = kind; pairs = []; spare = 0 }) → IsKept w t reserved a 0 0 None
 kept_opened w t reserved a opened none new =
-    subst (λ (x : Tree). IsKept w x reserved a 0 0) (sym opened)
-    (subst (λ l. IsKept w (record { nodes = root_node ∷ []; next = 1 }) l a 0 0) (sym none)
-    (record { listed = none_before 0 (root_node ∷ []) w.devices; within = omega arith; mirrors = mirrors_none (root_node ∷ []) a refl new }))
+    subst (λ (x : Tree). IsKept w x reserved a 0 0 None) (sym opened)
+    (subst (λ l. IsKept w (record { nodes = root_node ∷ []; next = 1 }) l a 0 0 None) (sym none)
+    (record { listed = none_before 0 (root_node ∷ []) w.devices; within = omega arith; here = λ k e. absurd (cc); mirrors = mirrors_none (root_node ∷ []) a refl new }))
 
 -- A device that is found by its path --------------------------------------------------
 
@@ -185,3 +186,55 @@ module _ (ds : Devices) (tasks : List Task) where
       → None ≡ option_map (λ (n : Node). n.serial) (gone_below ds tasks k)
   none_gone k [] is tree none = sym (gone_by_none k (sym is))
   none_gone k (j ∷ ks) is tree none = none ∙ ap (find (is_gone_at ds tasks)) is ∙ sym (gone_by_serial (tree (omega arith)) k)
+
+-- Whether all below a node are in the world ---------------------------------------------------
+
+not_not : (b : Bool) → not b ≡ false → b ≡ true
+not_not true e = refl
+not_not false e = absurd (cc)
+
+-- the node is not there, or its device is not in the world
+abbrev pub is_lost : Devices → ℕ → Bool
+is_lost ds k = not (is_born ds.world.devices (node_at k ds.tree.nodes))
+
+-- then none of them is gone
+pub none_of_whole : (ds : Devices) (tasks : List Task) (k : ℕ) → AllByRecursion (IsHere k ds.world.devices) ds.tree.nodes → None ≡ option_map (λ (n : Node). n.serial) (gone_below ds tasks k)
+none_of_whole ds tasks k all = sym (ap (option_map (λ (n : Node). n.serial)) (none_from ds.tree.nodes all))
+  where
+    none_from : (ns : List Node) → AllByRecursion (IsHere k ds.world.devices) ns → find (is_gone_from ds.world.devices tasks) (those (is_child k) ns) ≡ None
+    none_from [] all = refl
+    none_from (n ∷ ns) all =
+        by_cond (λ l. find (is_gone_from ds.world.devices tasks) l ≡ None) (is_child k n) (n ∷ those (is_child k) ns) (those (is_child k) ns)
+        (λ e. ap (λ b. cond (not b && not (list_any (is_surprise_of n.serial) tasks)) (Some n) (find (is_gone_from ds.world.devices tasks) (those (is_child k) ns))) (all.0 e) ∙ none_from ns all.1)
+        (λ e. none_from ns all.1)
+
+module _ (ds : Devices) (k : ℕ) where
+  one_less : (n : Node) (ns : List Node) → (serials_of (those (is_child k) ns) ≡ [] → AllByRecursion (IsHere k ds.world.devices) ns)
+      → (b : Bool) → is_child k n ≡ b → serials_of (cond b (n ∷ those (is_child k) ns) (those (is_child k) ns)) ≡ [] → AllByRecursion (IsHere k ds.world.devices) (n ∷ ns)
+  one_less n ns rest true q e = absurd (cc)
+  one_less n ns rest false q e = (λ child. absurd (cc), rest e)
+
+  childless : (ns : List Node) → serials_of (those (is_child k) ns) ≡ [] → AllByRecursion (IsHere k ds.world.devices) ns
+  childless [] e = tt
+  childless (n ∷ ns) e = one_less n ns (λ e. childless ns e) (is_child k n) refl e
+
+  not_lost : (n : Node) (ns : List Node) → node_at n.serial ds.tree.nodes ≡ Some n → (None ≡ find (is_lost ds) (serials_of (those (is_child k) ns)) → AllByRecursion (IsHere k ds.world.devices) ns)
+      → (b : Bool) → is_lost ds n.serial ≡ b → None ≡ cond b (Some n.serial) (find (is_lost ds) (serials_of (those (is_child k) ns))) → AllByRecursion (IsHere k ds.world.devices) (n ∷ ns)
+  not_lost n ns own rest true q none = absurd (cc)
+  not_lost n ns own rest false q none = (λ child. not_not (is_in_world ds.world.devices n.born) (sym (ap (λ o. not (is_born ds.world.devices o)) own) ∙ q), rest none)
+
+  one_found : (n : Node) (ns : List Node) → node_at n.serial ds.tree.nodes ≡ Some n → (None ≡ find (is_lost ds) (serials_of (those (is_child k) ns)) → AllByRecursion (IsHere k ds.world.devices) ns)
+      → (b : Bool) → is_child k n ≡ b → None ≡ find (is_lost ds) (serials_of (cond b (n ∷ those (is_child k) ns) (those (is_child k) ns))) → AllByRecursion (IsHere k ds.world.devices) (n ∷ ns)
+  one_found n ns own rest true q none = not_lost n ns own rest (is_lost ds n.serial) refl none
+  one_found n ns own rest false q none = (λ child. absurd (cc), rest none)
+
+  here_from : (ns : List Node) → AllByRecursion (λ n. node_at n.serial ds.tree.nodes ≡ Some n) ns → None ≡ find (is_lost ds) (serials_of (those (is_child k) ns)) → AllByRecursion (IsHere k ds.world.devices) ns
+  here_from [] own none = tt
+  here_from (n ∷ ns) own none = one_found n ns own.0 (λ e. here_from ns own.1 e) (is_child k n) refl none
+
+  -- where no child was found to be lost
+  pub all_here : (ks : List ℕ) → ks ≡ child_serials ds.tree.nodes k → (0 < length ks → IsTree ds.tree) → None ≡ find (is_lost ds) ks → AllByRecursion (IsHere k ds.world.devices) ds.tree.nodes
+  all_here [] is tree none = childless ds.tree.nodes (sym is)
+  all_here (j ∷ ks) is tree none =
+      let h : IsTree ds.tree = tree (omega arith) in
+      here_from ds.tree.nodes (own_nodes 0 ds.tree.nodes h.ascends) (none ∙ ap (find (is_lost ds)) is)

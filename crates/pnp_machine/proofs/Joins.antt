@@ -7,9 +7,9 @@ use Rattle.resource_reqs.specs.Resources.{Res}
 use Rattle.pnp_labels.specs.Texts.{Text}
 use Rattle.pnp_model.specs.Cores.{node_at, new_node, fresh_node}
 use Rattle.pnp_model.specs.Records.{Device, Node, Relation}
-use Rattle.pnp_model.specs.States.{device_born}
+use Rattle.pnp_model.specs.States.{device_born, is_in_world}
 use Rattle.pnp_model.specs.Tasks.{joins, joining, has_born, has_path}
-use Rattle.devnode_tree.specs.Identities.{identities}
+use Rattle.devnode_tree.specs.Identities.{Identity, identity, identities}
 use Rattle.devnode_tree.specs.Trees.{Tree, with_node, Ascends}
 use Rattle.devnode_tree.specs.declared.error.JoinError.{JoinError}
 use Rattle.devnode_tree.specs.declared.error.JoinError.TheVariants as errors
@@ -22,8 +22,8 @@ use Rattle.device_holdings.proofs.Apart.{mirrors_joined}
 use Rattle.pnp_laws.proofs.Lookups.{own_serial}
 use Rattle.script_bus.proofs.Found.{found_again}
 use Rattle.script_bus.proofs.Unplugs.{by_bool}
-use Rattle.pnp_machine.specs.Devices.{Devices, NotJoining, IsKept, JoinedFor, joins_next}
-use Rattle.pnp_machine.proofs.Arrivals.{all_of, kept_anew}
+use Rattle.pnp_machine.specs.Devices.{Devices, NotJoining, IsHere, IsKept, JoinedFor, joins_next}
+use Rattle.pnp_machine.proofs.Arrivals.{all_of, all_appended, none_before}
 
 -- Nodes by their identities -----------------------------------------------------------
 
@@ -41,14 +41,26 @@ joins_same over nodes nodes' d e =
     (born_by d.born nodes' ∙ ap (list_any (λ i. i.born == d.born)) e ∙ sym (born_by d.born nodes))
     (path_by d.path nodes' ∙ ap (list_any (λ i. same i.path d.path)) e ∙ sym (path_by d.path nodes))
 
+here_same : (k : ℕ) (ds : List Device) (nodes nodes' : List Node) → identities nodes' ≡ identities nodes → AllByRecursion (IsHere k ds) nodes → AllByRecursion (IsHere k ds) nodes'
+here_same k ds [] [] e all = tt
+here_same k ds [] (n ∷ ns) e all = absurd (cc)
+here_same k ds (m ∷ ms) [] e all = absurd (cc)
+here_same k ds (m ∷ ms) (n ∷ ns) e all =
+    let head : identity n ≡ identity m = cc in
+    let tail : identities ns ≡ identities ms = cc in (
+      subst (λ (i : Identity). (i.parent == k && not (i.serial == 0)) ≡ true → is_in_world ds i.born ≡ true) (sym head) all.0,
+      here_same k ds ms ns tail all.1,
+    )
+
 -- a step that leaves who a node is
-pub kept_acted : (w : World) (t t' : Tree) (reserved : List Res) (arbiters arbiters' : Arbiters) (over from : ℕ) → IsKept w t reserved arbiters over from → identities t'.nodes ≡ identities t.nodes
-    → Mirrors reserved t'.nodes arbiters' → IsKept w t' reserved arbiters' over from
-kept_acted w t t' reserved arbiters arbiters' over from kept e mirrors =
+pub kept_acted : (w : World) (t t' : Tree) (reserved : List Res) (arbiters arbiters' : Arbiters) (over from : ℕ) (whole : Option ℕ) → IsKept w t reserved arbiters over from whole → identities t'.nodes ≡ identities t.nodes
+    → Mirrors reserved t'.nodes arbiters' → IsKept w t' reserved arbiters' over from whole
+kept_acted w t t' reserved arbiters arbiters' over from whole kept e mirrors =
     record {
       listed =
           all_of (NotJoining over from t.nodes) (NotJoining over from t'.nodes) (λ d h less. joins_same over t.nodes t'.nodes d e ∙ h less) w.devices kept.listed;
       within = kept.within;
+      here = λ k is. here_same k w.devices t.nodes t'.nodes e (kept.here k is);
       mirrors = mirrors;
     }
 
@@ -69,11 +81,11 @@ next_is w t n from o all e = e ∙ ap (option_map (λ d. d.born)) (find_on n t f
 
 module _ (w : World) (t : Tree) (reserved : List Res) (arbiters : Arbiters) where
   -- another node's children are looked at from the first one on
-  pub kept_at : (last from over : ℕ) → IsKept w t reserved arbiters last from → IsKept w t reserved arbiters over (cond (over == last) from 0)
-  kept_at last from over kept =
-      by_bool (λ b. IsKept w t reserved arbiters over (cond b from 0)) (over == last)
-      (λ e. let same : last ≡ over = grind (arith, nat_tests) in subst (λ k. IsKept w t reserved arbiters k from) same kept)
-      (λ e. kept_anew w w t t reserved reserved arbiters arbiters last from over kept kept.mirrors)
+  pub kept_at : (last from over : ℕ) (whole : Option ℕ) → IsKept w t reserved arbiters last from whole → IsKept w t reserved arbiters over (cond (over == last) from 0) whole
+  kept_at last from over whole kept =
+      by_bool (λ b. IsKept w t reserved arbiters over (cond b from 0) whole) (over == last)
+      (λ e. let same : last ≡ over = grind (arith, nat_tests) in subst (λ k. IsKept w t reserved arbiters k from whole) same kept)
+      (λ e. record { listed = none_before over t.nodes w.devices; within = omega arith; here = kept.here; mirrors = kept.mirrors })
 
 pub next_of : (ds : Devices) (k over from : ℕ) (n : Node) (o : Option ℕ) → node_at k ds.tree.nodes ≡ Some n → n.born ≡ over
     → AllByRecursion (NotJoining over from ds.tree.nodes) ds.world.devices
@@ -202,10 +214,15 @@ born_below next born (x ∷ ds) d all at =
     (λ e at. born_below next born ds d all.1 at)
     at
 
+in_world : (born : ℕ) (ds : List Device) (d : Device) → device_born born ds ≡ Some d → is_in_world ds born ≡ true
+in_world born [] d at = absurd (cc)
+in_world born (x ∷ ds) d at =
+    by_bool (λ b. cond b (Some x) (device_born born ds) ≡ Some d → (b || is_in_world ds born) ≡ true) (x.born == born) (λ e at. refl) (λ e at. in_world born ds d at) at
+
 -- the first device has joined
-pub kept_joined : (w : World) (t : Tree) (reserved : List Res) (arbiters : Arbiters) (over from serial parent born : ℕ) → IsWorld w → IsKept w t reserved arbiters over from → (j : Joining w t over born)
-    → IsKept w (with_node (new_node serial parent j.device) t) reserved arbiters over (born + 1)
-kept_joined w t reserved arbiters over from serial parent born h kept j =
+pub kept_joined : (w : World) (t : Tree) (reserved : List Res) (arbiters : Arbiters) (over from serial parent born : ℕ) (whole : Option ℕ) → IsWorld w → IsKept w t reserved arbiters over from whole → (j : Joining w t over born)
+    → IsKept w (with_node (new_node serial parent j.device) t) reserved arbiters over (born + 1) whole
+kept_joined w t reserved arbiters over from serial parent born whole h kept j =
     let d = j.device in
     let n = new_node serial parent d in
     let below : d.born < w.next = born_below w.next born w.devices d h.below j.at in
@@ -215,6 +232,7 @@ kept_joined w t reserved arbiters over from serial parent born h kept j =
           all_of (λ e. e.born < d.born → joins over t.nodes e ≡ false) (NotJoining over (born + 1) (t.nodes ++ n ∷ []))
           (λ e before less. by_test e before less (e.born == d.born) refl) w.devices (first_before (joins over t.nodes) 0 w.devices d h.ascends j.first);
       within = omega arith;
+      here = λ k e. all_appended (IsHere k w.devices) t.nodes n (kept.here k e) (λ child. subst (λ i. is_in_world w.devices i ≡ true) (sym is) (in_world born w.devices d j.at));
       mirrors = mirrors_joined reserved t.nodes n arbiters refl kept.mirrors;
     }
   where
@@ -269,14 +287,14 @@ module _ (w : World) (t t' : Tree) (k born serial : ℕ) (j : JoinsAt w t k born
       ∙ ap (λ i. with_node (fresh_node t.next i born device.path device.hw device.compat device.reqs) t) (sym (own_serial k j.node t.nodes j.there))
       ∙ ap (λ i. with_node (fresh_node t.next j.node.serial i device.path device.hw device.compat device.reqs) t) (sym j.joining.born_is)
 
-  pub kept_after : (reserved : List Res) (arbiters : Arbiters) (last from over : ℕ) (n : Node) → IsWorld w → IsKept w t reserved arbiters last from → Some n ≡ node_at k t.nodes → over ≡ n.born
-      → IsKept w t' reserved arbiters over (born + 1)
-  kept_after reserved arbiters last from over n h kept at is_over =
+  pub kept_after : (reserved : List Res) (arbiters : Arbiters) (last from over : ℕ) (whole : Option ℕ) (n : Node) → IsWorld w → IsKept w t reserved arbiters last from whole → Some n ≡ node_at k t.nodes → over ≡ n.born
+      → IsKept w t' reserved arbiters over (born + 1) whole
+  kept_after reserved arbiters last from over whole n h kept at is_over =
       let same : n ≡ j.node = let e = at ∙ j.there in cc in
       let own : over ≡ j.node.born = is_over ∙ ap (λ (x : Node). x.born) same in
-      subst (λ i. IsKept w t' reserved arbiters i (born + 1)) (sym own)
-      (subst (λ (x : Tree). IsKept w x reserved arbiters j.node.born (born + 1)) (sym tree_is)
-      (kept_joined w t reserved arbiters j.node.born (cond (j.node.born == last) from 0) t.next j.node.serial born h (kept_at w t reserved arbiters last from j.node.born kept) j.joining))
+      subst (λ i. IsKept w t' reserved arbiters i (born + 1) whole) (sym own)
+      (subst (λ (x : Tree). IsKept w x reserved arbiters j.node.born (born + 1) whole) (sym tree_is)
+      (kept_joined w t reserved arbiters j.node.born (cond (j.node.born == last) from 0) t.next j.node.serial born whole h (kept_at w t reserved arbiters last from j.node.born whole kept) j.joining))
 
   module _ (relations : List Relation) (reserved : List Res) where
     abbrev a_devices : Tree → Devices

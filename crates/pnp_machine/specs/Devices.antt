@@ -7,7 +7,7 @@ use Rattle.pnp_model.specs.Records.{Device, Node, Relation, Task}
 use Rattle.pnp_model.specs.Runs.{root_device, root_node}
 use Rattle.pnp_model.specs.States.{is_in_world, device_of, node_born}
 use Rattle.pnp_model.specs.Tasks.{joins, joining, is_surprise_of}
-use Rattle.pnp_model.specs.Trees.{children}
+use Rattle.pnp_model.specs.Trees.{children, is_child}
 use Rattle.devnode_tree.specs.Trees.{Tree, with_node}
 use Rattle.resource_reqs.specs.Resources.{Res, Reqs}
 use Rattle.script_bus.specs.Worlds.{World, plugged, without_device}
@@ -38,11 +38,16 @@ opening_devices =
 abbrev pub NotJoining : ℕ → ℕ → List Node → Device → Type 0
 NotJoining over from nodes d = d.born < from → joins over nodes d ≡ false
 
--- below the device where one joined last none joins that was born before the one from which on it is looked, and the
--- arbiters hold just what is reserved and what devices hold
-pub record IsKept (world : World) (tree : Tree) (reserved : List Res) (arbiters : Arbiters) (over from : ℕ) : Type 0 where
+-- a child of a node is in the world
+abbrev pub IsHere : ℕ → List Device → Node → Type 0
+IsHere k devices n = is_child k n ≡ true → is_in_world devices n.born ≡ true
+
+-- below the device where one joined last none joins that was born before the one from which on it is looked; each child of
+-- the node that is whole is in the world; and the arbiters hold just what is reserved and what devices hold
+pub record IsKept (world : World) (tree : Tree) (reserved : List Res) (arbiters : Arbiters) (over from : ℕ) (whole : Option ℕ) : Type 0 where
   pub listed : AllByRecursion (NotJoining over from tree.nodes) world.devices
   pub within : from ≤ world.next
+  pub here : (k : ℕ) → whole ≡ Some k → AllByRecursion (IsHere k world.devices) tree.nodes
   pub mirrors : Mirrors reserved tree.nodes arbiters
 
 -- the birth number of the first device that is to join below a node

@@ -1,11 +1,12 @@
-ghost use Rattle.std.specs.Prelude.{◌≡◌, ◌≢◌, ◌==◌, if◌then◌else◌, ◌<◌, ◌≤◌, ◌^◌, IfOk, IfSome, OnErr, IsSome, option_map};
+ghost use Rattle.std.specs.Prelude.{◌≡◌, ◌≢◌, ◌==◌, if◌then◌else◌, ◌<◌, ◌≤◌, ◌^◌, true, IfOk, IfSome, OnErr, IsSome, option_map};
+ghost use Rattle.std.specs.List.{AllByRecursion};
 ghost use Rattle.pnp_labels.specs.Texts.{Text as Letters};
 ghost use Rattle.devnode_tree.specs.Trees.{IsTree};
 ghost use Rattle.devnode_tree.specs.declared.error.JoinError.TheVariants as JoinError;
 ghost use Rattle.pnp_model.specs.Cores.{node_at};
 ghost use Rattle.pnp_model.specs.States.{device_of};
 ghost use Rattle.script_bus.specs.Worlds.{without_device};
-ghost use Rattle.pnp_machine.specs.Devices.{Arrives, Departs, JoinedFor, joins_next, serial_born, relisted, gone_below, is_gone_at};
+ghost use Rattle.pnp_machine.specs.Devices.{Arrives, Departs, JoinedFor, joins_next, serial_born, relisted, gone_below, is_gone_at, IsHere};
 
 use crate::devices::Devices;
 use crate::tasks::Tasks;
@@ -88,6 +89,7 @@ impl Devices {
     {
         let parent = self.world.pull(path)?;
         self.from = 0;
+        self.whole = None;
         Ok(self.tree.find_born(parent))
     }
 
@@ -98,6 +100,7 @@ impl Devices {
     {
         self.world.unplug(born);
         self.from = 0;
+        self.whole = None;
     }
 
     /// Where the world has another device of a path than the one with the birth number, the node of its parent. Cost: the
@@ -179,9 +182,30 @@ impl Devices {
         }
     }
 
-    /// The first child of a node that is gone from the world and has no surprise task. It takes no memory. Cost: the number of
-    /// children.
-    pub(crate) fn gone_below(&self, tasks: &Tasks, serial: u64) -> Option<u64>
+    /// Whether each child of a node is known to be in the world.
+    fn is_whole(&self, serial: u64) -> bool
+        ensures { result ≡ true → AllByRecursion (IsHere serial self.now.world.devices) self.now.tree.nodes }
+    {
+        match self.whole {
+            Some(whole) => whole == serial,
+            None => false,
+        }
+    }
+
+    /// Whether each child of a node is in the world.
+    fn has_all(&self, serial: u64) -> bool
+        ensures { result ≡ true → AllByRecursion (IsHere serial self.now.world.devices) self.now.tree.nodes }
+    {
+        for child in self.tree.children(serial) {
+            if !self.is_in_world(*child) {
+                return false;
+            }
+        }
+        true
+    }
+
+    /// The first child of a node that is gone from the world and has no surprise task.
+    fn first_gone(&self, tasks: &Tasks, serial: u64) -> Option<u64>
         ensures { result ≡ option_map (λ n. n.serial) (gone_below self.now tasks.now.tasks serial) }
     {
         for child in self.tree.children(serial) {
@@ -190,5 +214,21 @@ impl Devices {
             }
         }
         None
+    }
+
+    /// The first child of a node that is gone from the world and has no surprise task. It takes no memory. Cost: the number of
+    /// children, or nothing where since the last time for this node none was gone and no device went.
+    pub(crate) fn gone_below(&mut self, tasks: &Tasks, serial: u64) -> Option<u64>
+        ensures gone { result ≡ option_map (λ n. n.serial) (gone_below self.old tasks.now.tasks serial) }
+        ensures same { self.new ≡ self.old }
+    {
+        if self.is_whole(serial) {
+            return None;
+        }
+        if self.has_all(serial) {
+            self.whole = Some(serial);
+            return None;
+        }
+        self.first_gone(tasks, serial)
     }
 }

@@ -33,6 +33,8 @@ pub(crate) struct Devices {
     pub(crate) over: u64,
     /// Of its children none that was born before this one is to join.
     pub(crate) from: u64,
+    /// A node of which each child is known to be in the world, if one is.
+    pub(crate) whole: Option<u64>,
 }
 
 impl Model for Devices {
@@ -42,7 +44,7 @@ impl Model for Devices {
 
     ghost view = { λ d. record { world = d.world; tree = d.tree; relations = d.relations; reserved = d.reserved } };
 
-    ghost invariant = { λ d. IsKept d.world d.tree d.reserved d.arbiters d.over d.from };
+    ghost invariant = { λ d. IsKept d.world d.tree d.reserved d.arbiters d.over d.from d.whole };
 }
 
 impl Devices {
@@ -58,6 +60,7 @@ impl Devices {
             arbiters: Arbiters::new(alloc)?,
             over: 0,
             from: 0,
+            whole: None,
         })
     }
 

@@ -1,4 +1,5 @@
 ghost use Rattle.std.specs.Prelude.{◌≡◌, ◌≤◌, ℕ, IfOk, IfSome, OnErr, IsSome, Bool, false, length};
+ghost use Rattle.devnode_tree.specs.Trees.{IsTree};
 ghost use Rattle.pnp_model.specs.Cores.{node_at};
 ghost use Rattle.pnp_model.specs.Machine.{phase_walk, rebalance_walk, removal_walk, surprise_walk, is_waiting, is_born};
 ghost use Rattle.pnp_model.specs.Records.{State};
@@ -142,12 +143,14 @@ impl Devices {
             &mut self.arbiters,
         )?;
         self.from = 0;
+        self.whole = None;
         Ok(step)
     }
 
     /// Whether the node of a device is there and its birth number is in the world.
-    fn is_in_world(&self, serial: u64) -> bool
-        ensures { result ≡ is_born self.now.world.devices (node_at serial self.now.tree.nodes) }
+    pub(crate) fn is_in_world(&self, serial: u64) -> bool
+        ensures born { result ≡ is_born self.now.world.devices (node_at serial self.now.tree.nodes) }
+        ensures tree { IsTree self.now.tree }
     {
         match self.tree.node(serial) {
             Some(node) => self.world.has(node.born),
@@ -180,6 +183,7 @@ impl Devices {
             in_world,
         )?;
         self.from = 0;
+        self.whole = None;
         Ok(step)
     }
 }

@@ -27,7 +27,7 @@ invariant_of-self c =
     let j = joins_at s.world s.tree s.relations s.reserved c.args.self.now c.args.serial c.in-Some.born c.self.view_is c.part.ensures.world c.in-Some.ensures in
     let part = c.in_ok-device.ensures ∙ part_is s.world s.tree j.node.born c.in-Some.born c.in-Some-part.part.now j.joining c.in-Some-part.ensures.part in
     kept_after s.world s.tree c.join-joined.new.self c.args.serial c.in-Some.born c.in-Ok.joined j c.in_ok-device.device part c.in-Ok.ensures.serial
-    c.in-Ok.ensures.joined s.reserved s.arbiters s.over s.from c.node-2.inside.born c.in-Some-node.node.now c.part.ensures.world c.self.invariant c.in-Some-node.ensures.node
+    c.in-Ok.ensures.joined s.reserved s.arbiters s.over s.from c.node-2.inside.born s.whole c.in-Some-node.node.now c.part.ensures.world c.self.invariant c.in-Some-node.ensures.node
     (ap (λ (n : Node). n.born) c.node-2.view_is)
 
 pub only_memory-requires : goal.only_memory-requires

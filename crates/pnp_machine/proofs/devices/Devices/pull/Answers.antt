@@ -18,7 +18,7 @@ returns-in_err-parent c =
 pub invariant_of-self-2 : goal.invariant_of-self-2
 invariant_of-self-2 c =
     let s = c.self.inside in
-    kept_anew s.world c.pull.new.self s.tree s.tree s.reserved s.reserved s.arbiters s.arbiters s.over s.from s.over c.self.invariant c.self.invariant.mirrors
+    kept_anew s.world c.pull.new.self s.tree s.tree s.reserved s.reserved s.arbiters s.arbiters s.over s.from s.whole s.over c.self.invariant c.self.invariant.mirrors
 
 pub returns : goal.returns
 returns c =

@@ -1,7 +1,7 @@
 use Rattle.std.proofs.Common.{◌≡◌, ◌<◌, drop, find}
 use Rattle.devnode_tree.specs.Trees.{IsTree}
 use Rattle.pnp_machine.specs.Devices.{is_gone_at}
-use Rattle.pnp_machine.proofs.devices.Devices.gone_below.Given as goal
+use Rattle.pnp_machine.proofs.devices.Devices.first_gone.Given as goal
 
 abbrev pub invariant-loop-child : goal.invariant-loop-child
 invariant-loop-child l =
