@@ -192,7 +192,7 @@ impl Devices {
         }
     }
 
-    /// Whether each child of a node is in the world.
+    /// Whether a node has children, and each of them is in the world.
     fn has_all(&self, serial: u64) -> bool
         ensures { result ≡ true → AllByRecursion (IsHere serial self.now.world.devices) self.now.tree.nodes }
     {
@@ -201,7 +201,7 @@ impl Devices {
                 return false;
             }
         }
-        true
+        !self.tree.children(serial).is_empty()
     }
 
     /// The first child of a node that is gone from the world and has no surprise task.
@@ -217,7 +217,7 @@ impl Devices {
     }
 
     /// The first child of a node that is gone from the world and has no surprise task. It takes no memory. Cost: the number of
-    /// children, or nothing where since the last time for this node none was gone and no device went.
+    /// children; nothing for the node with children for which this was asked last, where none was gone and no device went since.
     pub(crate) fn gone_below(&mut self, tasks: &Tasks, serial: u64) -> Option<u64>
         ensures gone { result ≡ option_map (λ n. n.serial) (gone_below self.old tasks.now.tasks serial) }
         ensures same { self.new ≡ self.old }
