@@ -10,12 +10,16 @@ use crate::spots::{Child, Spot, Step};
 use resource_reqs::{AltList, Group, Reqs, Res, Want};
 use trial_journal::Arbiters;
 
-/// A want of a group with an open place, what to try after it, and what it places.
+/// An open place of a want of a group.
 #[derive(Clone, Copy, Debug)]
 pub struct Pick {
+    /// The number of the want.
     pub want: u32,
+    /// Where the place starts.
     pub start: u64,
+    /// The coordinate to try after it.
     pub next: Step,
+    /// The place.
     pub res: Res,
 }
 

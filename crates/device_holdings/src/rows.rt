@@ -10,7 +10,7 @@ use resource_reqs::{Kind, Owner, Res, WantOfMemory};
 use std::alloc::Global;
 use trial_journal::Arbiters;
 
-/// The ends of a resource are in order.
+/// Tells the prover, by reading a resource, that its ends are in order.
 fn has_ends_in_order(res: &Res)
     ensures { res.now.lo ≤ res.now.hi }
 {

@@ -1,5 +1,5 @@
 -- One step of a request that does not wait, with the line that it prints.
-use Rattle.std.specs.Prelude.{◌≡◌, ℕ, Bool, true, false, List, Option, Some, None, length, slice_index}
+use Rattle.std.specs.Prelude.{◌≡◌, ℕ, true, false, List, length, slice_index}
 use Rattle.pnp_labels.specs.Texts.{Text}
 use Rattle.pnp_labels.specs.declared.label.Label.{Label}
 use Rattle.pnp_labels.specs.declared.words.AskWhat.TheVariants.{Irp}
@@ -12,14 +12,6 @@ use Rattle.device_stack.specs.declared.walk.Passed.TheVariants.{Asked, Ended}
 -- the driver that is asked next
 abbrev pub front : Walk → List ℕ → ℕ
 front w stack = slice_index stack (place_of w.minor (length stack) w.asked)
-
--- none where it has ended
-abbrev pub front_unless : Bool → Walk → List ℕ → Option ℕ
-front_unless true w stack = None
-front_unless false w stack = Some (front w stack)
-
-abbrev pub driver_next : Walk → List ℕ → Option ℕ
-driver_next w stack = front_unless (has_ended w (length stack)) w stack
 
 -- the driver of this number was asked: its line, and what walk and rack are then
 abbrev pub AskedOf : Walk → Text → List Driver → ℕ → Label → Walk → List Driver → Type 0

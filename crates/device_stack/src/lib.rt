@@ -9,4 +9,4 @@ mod walk;
 
 pub use ask::{ask_driver, driver_name};
 pub use rules::{shown_of, state_after};
-pub use walk::{NoSuchRequest, Passed, Waiting, Walk, WalkStep};
+pub use walk::{NoSuchRequest, Passed, Walk, WalkStep};

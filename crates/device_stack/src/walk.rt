@@ -1,7 +1,8 @@
 ghost use Rattle.std.specs.Prelude.{◌≡◌, ◌<◌, length, false, IfOk, OnErr};
 ghost use Rattle.pnp_model.specs.Walks.{walk_of, is_bad, has_ended, after};
 ghost use Rattle.device_stack.specs.Steps.{went, waits_at, Completed};
-ghost use Rattle.device_stack.specs.Passing.{front, driver_next, Passes};
+ghost use Rattle.device_stack.specs.Passing.{front, Passes};
+ghost use Rattle.device_stack.specs.Waiting.{minor_if, CompletedWalk};
 
 use crate::ask::{ask_driver, driver_name};
 use crate::rules::{answer_of, may_fail, place_of, shown_of, verdict};
@@ -10,18 +11,6 @@ use driver_rack::Drivers;
 use pnp_labels::{Answer, Ask, AskWhat, Label, Minor, Stack, Verdict};
 use std::alloc::Global;
 use std::marker::Model;
-
-/// A request that waits at a driver of a device: the device's serial, the request, and the driver's place in the
-/// stack, counted from the bottom. This project's own.
-#[derive(Clone, Copy, Debug, PartialEq, Eq)]
-pub struct Waiting {
-    /// The device.
-    pub serial: u64,
-    /// The request.
-    pub minor: Minor,
-    /// The place of the driver.
-    pub pos: u64,
-}
 
 /// No request waits there. This project's own.
 #[derive(Clone, Copy, Debug, PartialEq, Eq)]
@@ -102,6 +91,13 @@ impl Walk {
         if self.waits { Some(self.pos) } else { None }
     }
 
+    /// The request, where it waits for a driver; none exactly where it waits for none.
+    pub fn waiting_minor(&self) -> Option<Minor>
+        ensures { result ≡ minor_if self.now.walk self.now.walk.waits }
+    {
+        if self.waits { Some(self.minor) } else { None }
+    }
+
     /// Whether a driver refused it.
     fn is_bad(&self) -> bool
         ensures { result ≡ is_bad self.now.walk }
@@ -127,18 +123,6 @@ impl Walk {
             self.asked += 1;
             self.failed = matches!(answer, Answer::Fail);
         }
-    }
-
-    /// The driver that is asked next, or that owes the answer where it waits; none exactly where the request has
-    /// ended.
-    pub fn driver_next(&self, stack: &Stack) -> Option<u32>
-        ensures { result ≡ driver_next self.now.walk stack.now }
-    {
-        if self.has_ended(stack.len()) {
-            return None;
-        }
-        let pos = place_of(self.minor, stack.len(), self.asked);
-        Some(*stack.get(pos))
     }
 
     /// The driver that owes the answer where the request waits, by its number in the rack; 0 where the stack has no
@@ -223,5 +207,12 @@ impl Walk {
         } else {
             Err(NoSuchRequest)
         }
+    }
+    /// Takes the completion that the driver owes at which it waits: Ok, or Fail. `NoSuchRequest` exactly where it
+    /// waits at none; then nothing changes. It takes no memory.
+    pub fn complete_waiting(&mut self, ok: bool) -> Result<(), NoSuchRequest>
+        ensures { CompletedWalk result self.old.walk ok self.new.walk }
+    {
+        self.complete(self.pos, ok)
     }
 }

@@ -2,7 +2,7 @@ ghost use Rattle.std.specs.Prelude.{◌≡◌, ◌<◌, ◌^◌, ◌↔◌, [], 
 ghost use Rattle.pnp_model.specs.Cores.{node_at, with_state, with_problem, with_holds, with_drivers, with_stack, bare, fresh_node};
 ghost use Rattle.pnp_model.specs.States.{node_of, node_born};
 ghost use Rattle.pnp_model.specs.Tasks.{has_path};
-ghost use Rattle.pnp_model.specs.Trees.{children};
+ghost use Rattle.pnp_model.specs.Trees.{children, is_up};
 ghost use Rattle.pnp_model.specs.Runs.{root_node};
 ghost use Rattle.devnode_tree.specs.Entries.{child_serials};
 ghost use Rattle.devnode_tree.specs.Trees.{changed, with_node, without_node, CanLeave, IsTree};
@@ -194,6 +194,17 @@ impl Tree {
     {
         let place = place_of(&self.entries, serial)?;
         Some(&self.entries[place].node)
+    }
+
+    /// Whether the node with a serial is there and Started. It takes no memory. Cost: the logarithm of the number of
+    /// nodes.
+    pub fn is_up(&self, serial: u64) -> bool
+        ensures { result ≡ is_up (node_at serial self.now.nodes) }
+    {
+        match self.node(serial) {
+            Some(node) => node.state == DevState::Started,
+            None => false,
+        }
     }
 
     /// The serial of the node with a path, up to ASCII case, and none exactly where no node has it. It takes no

@@ -47,7 +47,7 @@ pub enum DriverKind {
 pub enum RelKind {
     /// RemovalRelations: the member loses its drivers when the owner does.
     Removal,
-    /// EjectionRelations: the member leaves the machine when the owner is ejected.
+    /// EjectionRelations: the member loses its drivers when the owner is ejected, and stays in the machine, with problem 47.
     Ejection,
 }
 

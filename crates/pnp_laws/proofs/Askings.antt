@@ -12,7 +12,7 @@ use Rattle.pnp_model.specs.Rebalances.{is_asked, is_not_above}
 use Rattle.pnp_laws.specs.Kept.{Ascending}
 use Rattle.pnp_laws.specs.Rebalanced.{Placed, IsAskedAt, Falling, Rising, StaysOut, Asks}
 use Rattle.pnp_laws.proofs.Closures.{those_serial}
-use Rattle.pnp_laws.proofs.Lists.{has-append, those_has, those_not, those_keeps, those_found}
+use Rattle.pnp_laws.proofs.Lists.{has-append, those_has, those_not, those_keeps, those_found, below_serial}
 use Rattle.pnp_laws.proofs.OpSteps.{has-reverse}
 use Rattle.pnp_laws.proofs.Pauses.{above_low}
 
@@ -72,16 +72,12 @@ falling_reverse (x ∷ xs) h =
     let turn : reverse (x ∷ xs) ≡ reverse xs ++ x ∷ [] = reverse-append (x ∷ []) xs in
     subst (λ (ks : List ℕ). Falling ks) (sym turn) (falling_push (reverse xs) x (falling_reverse xs h.1) (λ j e. h.0 j (sym (has-reverse xs j) ∙ e)))
 
-serials_from : (lo : ℕ) (test : Node → Bool) (ns : List Node) (k : ℕ) → Ascending lo ns → has (serials_of (those test ns)) k ≡ true → lo ≤ k
-serials_from lo test [] k g h = absurd (cc)
-serials_from lo test (n ∷ ns) k g h = grind (arith, nat_tests, serials_from (suc n.serial) test ns k)
-
 rising_serials : (lo : ℕ) (test : Node → Bool) (ns : List Node) → Ascending lo ns → Rising (serials_of (those test ns))
 rising_serials lo test [] g = tt
 rising_serials lo test (n ∷ ns) g =
     let by_test : (b : Bool) → Rising (serials_of (cond b (n ∷ those test ns) (those test ns))) =
     λ b. elim b as (λ b. Rising (serials_of (cond b (n ∷ those test ns) (those test ns)))) [
-      | true ↦ (λ j e. let low = serials_from (suc n.serial) test ns j g.1 e in omega arith, rising_serials (suc n.serial) test ns g.1)
+      | true ↦ (λ j e. let low = below_serial (suc n.serial) test ns j g.1 e in omega arith, rising_serials (suc n.serial) test ns g.1)
       | false ↦ rising_serials (suc n.serial) test ns g.1
     ] in
     by_test (test n)

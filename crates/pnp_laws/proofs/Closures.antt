@@ -11,6 +11,7 @@ use Rattle.pnp_model.specs.Trees.{hangs_on, is_in_or_on, grown, closed_in, close
 use Rattle.pnp_laws.specs.Kept.{Ascending, Within, Distinct}
 use Rattle.pnp_laws.proofs.Lookups.{own_serial, none_below}
 use Rattle.pnp_laws.proofs.Lists.{those_found, serials_distinct}
+use Rattle.pnp_laws.proofs.Truths.{or_cases, and_both, or_right, or_left}
 
 -- a node of the tail is found in the whole
 pub tail_at : (lo : ℕ) (x : Node) (xs : List Node) (j : ℕ) (m : Node) → Ascending lo (x ∷ xs) → node_at j xs ≡ Some m → node_at j (x ∷ xs) ≡ Some m
@@ -107,18 +108,6 @@ of_nodes q nodes g =
 abbrev pub Closed : Core → List ℕ → Type 0
 Closed c set = (j : ℕ) (m : Node) → node_at j c.nodes ≡ Some m → hangs_on c set m ≡ true → has set j ≡ true
 
-or_right : (a b : Bool) → b ≡ true → (a || b) ≡ true
-or_right true b h = refl
-or_right false b h = h
-
-or_left : (a b : Bool) → a ≡ true → (a || b) ≡ true
-or_left true b h = refl
-or_left false b h = absurd (cc)
-
-or_cases : (a b : Bool) → (a || b) ≡ true → (a ≡ true) ⊎ (b ≡ true)
-or_cases true b h = inl refl
-or_cases false b h = inr h
-
 all_pass : (nodes : List Node) → length (those (λ n. true) nodes) ≡ length nodes
 all_pass [] = refl
 all_pass (n ∷ ns) = ap suc (all_pass ns)
@@ -177,11 +166,6 @@ closed_keeps c set j m g at h =
     (λ s q. grown_has c s j m g at (or_left (has s m.serial) (hangs_on c s m) (subst (λ (i : ℕ). has s i ≡ true) (sym (own_serial j m c.nodes at)) q))) h
 
 -- what hangs on a set hangs on one of it
-
-and_both : (a b : Bool) → (a && b) ≡ true → (a ≡ true) × (b ≡ true)
-and_both true true h = (refl, refl)
-and_both true false h = absurd (cc)
-and_both false b h = absurd (cc)
 
 abbrev on_relation : ℕ → List ℕ → Relation → Bool
 on_relation k set r = r.member == k && has set r.owner

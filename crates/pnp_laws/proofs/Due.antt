@@ -16,9 +16,10 @@ use Rattle.pnp_labels.specs.declared.states.DevState.TheVariants.{Stopped}
 use Rattle.pnp_laws.proofs.Lookups.{own_serial}
 use Rattle.pnp_laws.proofs.Closures.{closed_in_closed, closed_keeps, closed_within, dependents_closed, hangs_some, hangs_more, those_serial, Closed, OfNodes}
 use Rattle.pnp_laws.proofs.Orders.{Ranked, step_of, order_has, any_some, without_length, without_has}
-use Rattle.pnp_laws.proofs.Ranks.{NoNewEdge, Rooted, or_left}
+use Rattle.pnp_laws.proofs.Ranks.{NoNewEdge, Rooted}
 use Rattle.pnp_laws.proofs.OpSteps.{is_Stopped}
 use Rattle.pnp_laws.proofs.Lists.{those_found}
+use Rattle.pnp_laws.proofs.Truths.{or_left}
 
 -- where another kind of task comes first, nothing leads
 pub none_leads : (tasks : List Task) (task : Task) → slice_get tasks 0 ≡ Some task → is_surprise_task task.kind ≡ false → leads tasks ≡ []

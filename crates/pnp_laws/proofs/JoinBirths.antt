@@ -8,10 +8,10 @@ use Rattle.pnp_model.specs.Tasks.{joins, join_step, has_born, has_path}
 use Rattle.pnp_labels.specs.declared.states.DevState.TheVariants.{Started}
 use Rattle.pnp_laws.specs.Kept.{IsGood}
 use Rattle.pnp_laws.proofs.Lookups.{some_same, joined_from, joined_keeps}
-use Rattle.pnp_laws.proofs.Ranks.{and_both}
 use Rattle.pnp_laws.proofs.Standing.{Tree}
 use Rattle.pnp_laws.proofs.Joins.{below, joinable, joinable_less, starting_none, starts, start_cost, starts_less, unborn, below_node, start_costs, can_join, closed, is_bare, some_there, is_live, lives, In, Sub, sub_in, Grows, Born, Flows, any_from, any_at, parent_there}
-use Rattle.pnp_laws.proofs.JoinSteps.{Joined, live_is}
+use Rattle.pnp_laws.proofs.JoinSteps.{Joined, live_is, starts_pushed}
+use Rattle.pnp_laws.proofs.Truths.{and_both, both_true}
 
 -- Worlds -------------------------------------------------------------------------------------------------
 
@@ -107,10 +107,6 @@ unborn_less n k = by_test (nat_lt k n) (nat_lt k (n + 1)) (λ h. grind (arith, n
     by_test false true h = omega arith
     by_test false false h = omega arith
 
-pub pushed : (cost : ℕ → ℕ) (tasks : List Task) (task : Task) → starts cost (tasks ++ task ∷ []) ≡ starts cost tasks + start_cost cost task.kind task.serial
-pushed cost [] task = omega arith
-pushed cost (t ∷ tasks) task = let more = pushed cost tasks task in omega arith
-
 pub born_joins : (s : State) (node : Node) (d : Device) → Joining s node d → Born (join_step s node d).state
 born_joins s node d h =
     let b = h.born in
@@ -143,7 +139,7 @@ born_joins s node d h =
             | inr x ↦ subst (λ (z : Node). z.born < s.next_born) (sym x.1) (b.fresh d h.there)
           ];
       soon =
-          let a = pushed (unborn (s.next_serial + 1)) s.tasks (record { kind = Duty.Starting; serial = s.next_serial }) in
+          let a = starts_pushed (unborn (s.next_serial + 1)) s.tasks (record { kind = Duty.Starting; serial = s.next_serial }) in
           let c = starts_less (unborn (s.next_serial + 1)) (unborn s.next_serial) s.tasks (unborn_less s.next_serial) in
           let z = b.soon in
           let e : unborn (s.next_serial + 1) s.next_serial ≡ 0 = ap (λ (x : Bool). cond x 0 1) (now s.next_serial) in
@@ -264,16 +260,12 @@ pair true true e f = absurd (cc)
 pair true false e f = refl
 pair false b e f = absurd (cc)
 
-both : (a b : Bool) → a ≡ true → b ≡ true → (a && b) ≡ true
-both true b e f = f
-both false b e f = absurd (cc)
-
 pub could_join : (s : State) (node : Node) (d : Device) → Joining s node d → (lives s d.parent && not (has_born d.born s.core.nodes)) ≡ true
 could_join s node d h =
     let u = unknown s node d h.join in
     let live_node : is_live s node ≡ true = live_is s node (ap (λ (o : Option Operation). closed o node.serial) h.none) (inl (ap is_bare h.up)) in
     pair (lives s d.parent) (has_born d.born s.core.nodes)
-    (any_from (λ n. n.born == d.parent && is_live s n) s.core.nodes node.serial node h.at (both (node.born == d.parent) (is_live s node) (let e = u.0 in grind (arith, nat_tests)) live_node)) u.1
+    (any_from (λ n. n.born == d.parent && is_live s n) s.core.nodes node.serial node h.at (both_true (node.born == d.parent) (is_live s node) (let e = u.0 in grind (arith, nat_tests)) live_node)) u.1
 
 pub is_born_now : (s : State) (node : Node) (d : Device) → Joining s node d → has_born d.born (join_step s node d).state.core.nodes ≡ true
 is_born_now s node d h = any_from (λ n. n.born == d.born) (join_step s node d).state.core.nodes s.next_serial (new_node s.next_serial node.serial d) (new_there s node d h) (grind (arith, nat_tests))
@@ -309,7 +301,7 @@ less_joins s node d good_t h =
     let u = unknown s node d h.join in
     let apart : d.parent ≢ d.born = λ e. no_node s d.born node.serial node u.1 h.at (sym u.0 ∙ e) in
     let a = join_less (lives t) (λ b. has_born b t.core.nodes) (lives s) (λ b. has_born b s.core.nodes) 0 s.world d h.born.grows h.there (λ x i g. could_before s node d x good_t h g) (could_join s node d h) (is_born_now s node d h) apart in
-    let p = pushed (start_costs t) s.tasks (record { kind = Duty.Starting; serial = s.next_serial }) in
+    let p = starts_pushed (start_costs t) s.tasks (record { kind = Duty.Starting; serial = s.next_serial }) in
     let own : start_costs t s.next_serial ≡ below d.born s.world = ap (below_node s.world) (new_there s node d h) in
     let c = starts_below s.next_serial (start_costs t) (start_costs s) s.tasks h.born.soon (λ k l. cost_less k l) in
     omega arith

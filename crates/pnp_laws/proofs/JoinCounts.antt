@@ -8,9 +8,9 @@ use Rattle.pnp_model.specs.Cores.{node_at}
 use Rattle.pnp_model.specs.Tasks.{has_born}
 use Rattle.pnp_laws.specs.Kept.{Ascending, IsGood}
 use Rattle.pnp_laws.proofs.Lookups.{own_serial}
-use Rattle.pnp_laws.proofs.Ranks.{and_both}
 use Rattle.pnp_laws.proofs.Standing.{Tree}
 use Rattle.pnp_laws.proofs.Joins.{starts, is_live, lives, In, Sub, any_from, any_at, Born, Flows, start_of, starts_with, one_born}
+use Rattle.pnp_laws.proofs.Truths.{and_both, both_true, or_left}
 
 -- Devices that may join ------------------------------------------------------------------------------------
 
@@ -100,10 +100,6 @@ reach_room opens test (d ∷ ds) (root, few) = by_test (is_counted opens test d)
     by_test : (a : Bool) → a ≡ false → reach opens test ds ≤ length ds → cond a (1 + reach (λ b. opens b || d.born == b) test ds) (reach opens test ds) ≤ 4096
     by_test true e h = absurd (cc)
     by_test false e h = omega arith
-
-pub or_left : (a b : Bool) → a ≡ true → (a || b) ≡ true
-or_left true b e = refl
-or_left false b e = absurd (cc)
 
 or_more : (a b c : Bool) → (a ≡ true → b ≡ true) → (a || c) ≡ true → (b || c) ≡ true
 or_more true b c f e = or_left b c (f refl)
@@ -235,10 +231,6 @@ flows_pay s t f k = (let h = f.tasks (one_of k) in omega arith, by_node (node_at
 pub not_live : (b : Bool) → (b ≡ true → ⊥) → not b ≡ true
 not_live true h = absurd (h refl)
 not_live false h = refl
-
-pub both_true : (a b : Bool) → a ≡ true → b ≡ true → (a && b) ≡ true
-both_true true b e f = f
-both_true false b e f = absurd (cc)
 
 -- where a device that is to start now was live, a task is no more to spare
 spare_used : (b : Bool) (c d : ℕ) → b ≡ true → c ≤ d → nat_lt 0 c ≡ true → spare false c < spare b d

@@ -18,7 +18,8 @@ use Rattle.pnp_labels.specs.declared.label.OpKind.{OpKind}
 use Rattle.pnp_laws.specs.Kept.{IsGood, Ascending}
 use Rattle.pnp_laws.proofs.Closures.{tail_at}
 use Rattle.pnp_laws.proofs.Joins.{In, Sub, sub_same, sub_in, sub_without, Grows, Born, starts, unborn}
-use Rattle.pnp_laws.proofs.JoinBirths.{grows_sub, pushed}
+use Rattle.pnp_laws.proofs.JoinBirths.{grows_sub}
+use Rattle.pnp_laws.proofs.JoinSteps.{starts_pushed}
 use Rattle.pnp_model.specs.Events as ev
 
 abbrev BornStep : State → State → Type 0
@@ -46,7 +47,7 @@ same_step s t a b c d e good born = born_calm s t (subst (λ (w : List Device). 
 born_task : (s t : State) (task : Task) → t.world ≡ s.world → t.next_born ≡ s.next_born → t.core.nodes ≡ s.core.nodes → t.next_serial ≡ s.next_serial → t.tasks ≡ s.tasks ++ task ∷ [] → starts (unborn s.next_serial) (task ∷ []) ≡ 0 → Born s → Born t
 born_task s t task a b c d e free born =
     born_calm s t (subst (λ (w : List Device). Sub w s.world) (sym a) (sub_same s.world)) b c d
-    (subst (λ (ts : List Task). starts (unborn s.next_serial) ts ≡ 0) (sym e) (let p = pushed (unborn s.next_serial) s.tasks task in let z = born.soon in omega arith)) born
+    (subst (λ (ts : List Task). starts (unborn s.next_serial) ts ≡ 0) (sym e) (let p = starts_pushed (unborn s.next_serial) s.tasks task in let z = born.soon in omega arith)) born
 
 born_list : (o : Option Node) (u : State) → Born u → Born (list_node o u)
 born_list None u born = born

@@ -9,23 +9,15 @@ use Rattle.pnp_labels.specs.declared.states.DevState.{DevState}
 use Rattle.pnp_labels.specs.declared.states.DevState.TheVariants.{NoStack, NotStarted, Started, StopPending, Stopped, RemovePending, SurpriseRemoved}
 use Rattle.pnp_laws.specs.Kept.{IsGood, is_idle}
 use Rattle.pnp_laws.proofs.Lookups.{some_same, found_self, joined_from, joined_keeps}
-use Rattle.pnp_laws.proofs.Ranks.{and_both}
 use Rattle.pnp_laws.proofs.SoundStarts.{child_hangs}
 use Rattle.pnp_laws.proofs.Standing.{Tree}
 use Rattle.pnp_laws.proofs.Joins.{starts_less, unborn, closed, is_bare, is_live, lives, In, sub_same, Grows, Born, any_from, any_at, parent_there}
-use Rattle.pnp_laws.proofs.JoinSteps.{Joined, live_is}
-use Rattle.pnp_laws.proofs.JoinBirths.{Joining, unknown, no_node, under, grows_in, pushed, new_there, new_dead, could_join, could_before, is_born_now}
-use Rattle.pnp_laws.proofs.JoinCounts.{is_counted, reach, counted_more, reach_less, is_alive, live_at, one_of, start_count, is_to_start, opens_at, is_outside, spare, total, spare_at, spares, join_price, total_less, spare_less, or_left, both_true, one_is, not_true}
+use Rattle.pnp_laws.proofs.JoinSteps.{Joined, live_is, starts_pushed}
+use Rattle.pnp_laws.proofs.JoinBirths.{Joining, unknown, no_node, under, grows_in, new_there, new_dead, could_join, could_before, is_born_now}
+use Rattle.pnp_laws.proofs.JoinCounts.{is_counted, reach, counted_more, reach_less, is_alive, live_at, one_of, start_count, is_to_start, opens_at, is_outside, spare, total, spare_at, spares, join_price, total_less, spare_less, one_is, not_true}
+use Rattle.pnp_laws.proofs.Truths.{and_both, both_true, or_cases, or_right, or_left}
 
 -- Counting ---------------------------------------------------------------------------------------------------
-
-or_cases : (a b : Bool) → (a || b) ≡ true → (a ≡ true) ⊎ (b ≡ true)
-or_cases true b h = inl refl
-or_cases false b h = inr h
-
-or_right : (a b : Bool) → b ≡ true → (a || b) ≡ true
-or_right true b h = refl
-or_right false b h = h
 
 neither : (a b c : Bool) → a ≡ false → b ≡ false → ((a || b) && c) ≡ false
 neither true b c e f = absurd (cc)
@@ -111,7 +103,7 @@ other_than k n l = ap as_number (apart k n l)
     apart k n l = grind (arith, nat_tests)
 
 counts_joined : (s : State) (node : Node) (d : Device) (k : ℕ) → start_count (join_step s node d).state k ≡ start_count s k + one_of k s.next_serial
-counts_joined s node d k = pushed (one_of k) s.tasks (record { kind = Duty.Starting; serial = s.next_serial })
+counts_joined s node d k = starts_pushed (one_of k) s.tasks (record { kind = Duty.Starting; serial = s.next_serial })
 
 counts_same : (s : State) (node : Node) (d : Device) (k : ℕ) → k < s.next_serial → start_count (join_step s node d).state k ≡ start_count s k
 counts_same s node d k l = let a = counts_joined s node d k in let b = other_than k s.next_serial l in omega arith

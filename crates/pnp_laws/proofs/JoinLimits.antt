@@ -4,7 +4,7 @@ use Rattle.std.specs.List.{list_any}
 use Rattle.std.proofs.lemmas.Bool.{cases_eq}
 use Rattle.std.proofs.lemmas.Bool.Decides.{nat_tests}
 use Rattle.pnp_model.specs.Tests.{has}
-use Rattle.pnp_model.specs.Records.{Node, Driver, Activity, Task, State, Step, Settings, Operation, Removal, RemovalStage, Duty}
+use Rattle.pnp_model.specs.Records.{Node, Driver, Task, State, Step, Settings, Operation, Removal, RemovalStage, Duty}
 use Rattle.pnp_model.specs.Cores.{node_at}
 use Rattle.pnp_model.specs.States.{activity_at}
 use Rattle.pnp_model.specs.Runs.{Entry, Goes, Run, printed, opening}
@@ -15,15 +15,15 @@ use Rattle.pnp_labels.specs.declared.label.Label.{Label}
 use Rattle.pnp_laws.specs.Begun.{IsWord}
 use Rattle.pnp_laws.specs.Ends.{IsNoJoin, AllSteps, events, joined, joins, starts_one, waiting_starts, JoinsLaw, FewJoinLaw}
 use Rattle.pnp_laws.specs.Kept.{IsGood}
-use Rattle.pnp_laws.proofs.Ranks.{and_both}
 use Rattle.pnp_laws.proofs.EventChanges.{Answered, Outside, happens_outside}
 use Rattle.pnp_laws.proofs.RunsStand.{Kept, kept_goes, opening_kept}
 use Rattle.pnp_laws.proofs.Joins.{starts, start_cost, closed, removal_closed, some_there, sub_is, any_from, any_at, Born}
-use Rattle.pnp_laws.proofs.JoinSteps.{live_is, live_from}
+use Rattle.pnp_laws.proofs.JoinSteps.{live_is, live_from, some_is}
 use Rattle.pnp_laws.proofs.JoinMachine.{step_flows, born_goes, opening_born}
-use Rattle.pnp_laws.proofs.JoinCounts.{reach_room, reach_less, is_alive, live_at, one_of, start_count, is_to_start, opens_at, is_outside, may_join, spare, total, spare_at, spares, join_price, HasRoom, total_less, spare_most, spare_less, spares_less, flows_price, both_true, one_is, not_true}
+use Rattle.pnp_laws.proofs.JoinCounts.{reach_room, reach_less, is_alive, live_at, one_of, start_count, is_to_start, opens_at, is_outside, may_join, spare, total, spare_at, spares, join_price, HasRoom, total_less, spare_most, spare_less, spares_less, flows_price, one_is, not_true}
 use Rattle.pnp_laws.proofs.JoinFalls.{joined_price}
 use Rattle.pnp_laws.proofs.JoinRooms.{room_flows, Starts, outer_happens}
+use Rattle.pnp_laws.proofs.Truths.{and_both, both_true}
 use Rattle.pnp_model.specs.Events as ev
 
 -- Who is live after an event -----------------------------------------------------------------------------------
@@ -53,10 +53,6 @@ answered_closed : (old new : Option Operation) (k : ℕ) → Answered old new �
 answered_closed old new k (inl e) = ap (λ (o : Option Operation). closed o k) e
 answered_closed old new k (inr (ok, o, e, g)) = ap (λ (x : Option Operation). closed x k) g ∙ answer_closed (ev.answer_of ok) o k ∙ sym (ap (λ (x : Option Operation). closed x k) e)
 
-some_of : (o : Option Activity) → some_there o ≡ true → (a : Activity) × (o ≡ Some a)
-some_of None h = absurd (cc)
-some_of (Some a) h = (a, refl)
-
 live_outside : (s : State) (step : Step) → Outside s step → (k : ℕ) → live_at step.state k ≡ true → live_at s k ≡ true
 live_outside s step out k h =
     let t = step.state in
@@ -70,7 +66,7 @@ live_outside s step out k h =
         (elim l.1 [
           | inl q ↦ inl q
           | inr q ↦
-              let a = some_of (activity_at n.serial step.state.activities) q in
+              let a = some_is (activity_at n.serial step.state.activities) q in
               let b = out.activities n.serial a.0 a.1 in
               inr (ap some_there b.1)
         ])

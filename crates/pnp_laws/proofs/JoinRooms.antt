@@ -16,8 +16,7 @@ use Rattle.pnp_labels.specs.declared.words.RelKind.{RelKind}
 use Rattle.pnp_labels.specs.declared.event.Event.{Event}
 use Rattle.pnp_labels.specs.declared.label.OpKind.{OpKind}
 use Rattle.pnp_laws.proofs.Joins.{starts, start_cost, Grows, Born, Flows}
-use Rattle.pnp_laws.proofs.JoinSteps.{cheaper_pushed}
-use Rattle.pnp_laws.proofs.JoinBirths.{pushed}
+use Rattle.pnp_laws.proofs.JoinSteps.{cheaper_pushed, starts_pushed}
 use Rattle.pnp_laws.proofs.JoinCounts.{HasRoom, live_at, is_outside}
 use Rattle.pnp_model.specs.Events as ev
 
@@ -107,7 +106,7 @@ outer_start s path (Some n) =
     record {
       room = λ born room. room;
       serial = refl;
-      tasks = inr (n.serial, λ cost. pushed cost s.tasks (record { kind = Duty.Starting; serial = n.serial }), refl, λ k. refl, λ d. refl);
+      tasks = inr (n.serial, λ cost. starts_pushed cost s.tasks (record { kind = Duty.Starting; serial = n.serial }), refl, λ k. refl, λ d. refl);
     }
 
 outer_room : (s : State) (d : Device) (b : Bool) → nat_le (length s.world) 4096 ≡ b → Outer s (ev.plug_room s d b).state

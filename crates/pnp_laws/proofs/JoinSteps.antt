@@ -277,7 +277,7 @@ flows_still s step still counts world tasks closes active =
 pub cheaper_same : (tasks : List Task) → Cheaper tasks tasks
 cheaper_same tasks cost = omega arith
 
-starts_pushed : (cost : ℕ → ℕ) (tasks : List Task) (task : Task) → starts cost (tasks ++ task ∷ []) ≡ starts cost tasks + start_cost cost task.kind task.serial
+pub starts_pushed : (cost : ℕ → ℕ) (tasks : List Task) (task : Task) → starts cost (tasks ++ task ∷ []) ≡ starts cost tasks + start_cost cost task.kind task.serial
 starts_pushed cost [] task = omega arith
 starts_pushed cost (t ∷ tasks) task = let more = starts_pushed cost tasks task in omega arith
 
@@ -290,7 +290,7 @@ cheaper_dropped (t ∷ tasks) cost = omega arith
 
 -- Activities --------------------------------------------------------------------------------------------
 
-some_is : (o : Option Activity) → some_there o ≡ true → (a : Activity) × (o ≡ Some a)
+pub some_is : (o : Option Activity) → some_there o ≡ true → (a : Activity) × (o ≡ Some a)
 some_is None h = absurd (cc)
 some_is (Some a) h = (a, refl)
 

@@ -13,8 +13,8 @@ use Rattle.pnp_labels.specs.declared.states.DevState.TheVariants.{NoStack, NotSt
 use Rattle.pnp_laws.specs.Kept.{Ascending}
 use Rattle.pnp_laws.proofs.Lookups.{some_same}
 use Rattle.pnp_laws.proofs.Closures.{tail_at}
-use Rattle.pnp_laws.proofs.Ranks.{and_both}
 use Rattle.pnp_laws.proofs.Standing.{Tree, FromThose}
+use Rattle.pnp_laws.proofs.Truths.{and_both}
 
 -- how many devices of the world stand below a birth number
 abbrev pub below : ℕ → List Device → ℕ

@@ -6,6 +6,7 @@ pub mod Diagrams
 pub mod Kept
 pub mod Closures
 pub mod Orders
+pub mod Truths
 pub mod Ranks
 pub mod Due
 pub mod Aboves

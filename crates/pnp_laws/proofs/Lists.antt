@@ -88,7 +88,7 @@ not_in xs k false h g = h
 
 -- nodes in order
 
-below_serial : (lo : ℕ) (test : Node → Bool) (ns : List Node) (k : ℕ) → Ascending lo ns → has (serials_of (those test ns)) k ≡ true → lo ≤ k
+pub below_serial : (lo : ℕ) (test : Node → Bool) (ns : List Node) (k : ℕ) → Ascending lo ns → has (serials_of (those test ns)) k ≡ true → lo ≤ k
 below_serial lo test [] k g h = absurd (cc)
 below_serial lo test (n ∷ ns) k g h = grind (arith, nat_tests, below_serial (suc n.serial) test ns k)
 

@@ -8,7 +8,7 @@ use Rattle.resource_reqs.specs.Spelling.Answer.{no_fit}
 use Rattle.pnp_model.specs.Keyed.{those}
 use Rattle.pnp_model.specs.Tests.{has, has_same, is_surprise_task}
 use Rattle.pnp_model.specs.Records.{Node, Device, Driver, Task, Activity, State, Settings, Choice, Operation, Rebalance, RebalanceStage, Surprise, SurpriseStage, Duty}
-use Rattle.pnp_model.specs.Cores.{node_at, with_problem, serials_of, stack_of}
+use Rattle.pnp_model.specs.Cores.{node_at, with_problem, serials_of}
 use Rattle.pnp_model.specs.Books.{driver_named}
 use Rattle.pnp_model.specs.Trees.{children, is_child, leaving}
 use Rattle.pnp_model.specs.States.{drop_task, activity_at, is_in_world}
@@ -23,13 +23,13 @@ use Rattle.pnp_labels.specs.declared.label.OpKind.{OpKind}
 use Rattle.pnp_labels.specs.declared.states.Problem.{Problem}
 use Rattle.pnp_laws.specs.Kept.{Ascending}
 use Rattle.pnp_laws.proofs.Lookups.{own_serial}
-use Rattle.pnp_laws.proofs.Ranks.{and_both}
 use Rattle.pnp_laws.proofs.Closures.{head_at, tail_at}
 use Rattle.pnp_laws.proofs.SoundTasks.{find_passes}
 use Rattle.pnp_laws.proofs.Measures.{Falls, falls_coarse, coarse_by, count, count_less, tasks_cost, tasks_pushed, duty_cost, sum, sum_entered, phase_cost, is_open, is_target, born_in, operation_cost, SameBirths, births_same, births_changed}
 use Rattle.pnp_laws.proofs.MeasureOps.{those_shorter, ask_most, Lowers, lower_so}
-use Rattle.pnp_laws.proofs.MeasureSurprises.{count_none}
+use Rattle.pnp_laws.proofs.MeasureSurprises.{count_none, tell_target}
 use Rattle.pnp_laws.proofs.MeasureTasks.{open_dropped, dropped_cost, open_pushed, no_cost, adding_cost}
+use Rattle.pnp_laws.proofs.Truths.{and_both}
 use Rattle.pnp_model.specs.Rebalances as re
 use Rattle.pnp_model.specs.Surprises as su
 
@@ -290,23 +290,11 @@ open_surprise (t ∷ tasks) o q k i first none target h =
     turn false true g = absurd (cc)
     turn false false g = refl
 
-surprise_target : (nodes : List Node) (o : Surprise) (ks : List ℕ) → (su.tell_on nodes o ks).target ≡ o.target
-surprise_target nodes o [] = by_set o.set
-  where
-    by_set : (ks : List ℕ) → (su.finish_on nodes o ks).target ≡ o.target
-    by_set [] = refl
-    by_set (k ∷ ks) = by_stack (stack_of (node_at k nodes))
-      where
-        by_stack : (stack : List ℕ) → (su.finish_with o (k ∷ ks) stack).target ≡ o.target
-        by_stack [] = refl
-        by_stack (d ∷ ds) = refl
-surprise_target nodes o (k ∷ ks) = refl
-
 lowers_surprise : (s : State) (node : Node) (k : ℕ) → node_at k s.core.nodes ≡ Some node → First s (Duty.Begins OpKind.Surprise) k → s.operation ≡ None → Lowers s (begin s OpKind.Surprise node (Operation.Surprising (su.begun_surprise s.core node)))
 lowers_surprise s node k at first none =
     let o : Surprise = record { target = node.serial; path = node.path; set = leaving s.core node.serial; todo = []; stage = SurpriseStage.Ending } in
     let q = su.begun_surprise s.core node in
-    let target : q.target ≡ k = surprise_target s.core.nodes o (those (λ i. su.is_told_node (node_at i s.core.nodes)) (leaving s.core node.serial)) ∙ own_serial k node s.core.nodes at in
+    let target : q.target ≡ k = tell_target s.core.nodes o (those (λ i. su.is_told_node (node_at i s.core.nodes)) (leaving s.core node.serial)) ∙ own_serial k node s.core.nodes at in
     let d = no_cost (born_in s) s.operation none in
     let c : operation_cost (born_in s) (Some (Operation.Surprising q)) ≡ cond (born_in s k) 5 1 = ap (λ (i : ℕ). cond (born_in s i) 5 1) target in
     let l = lighter (born_in s k) in

@@ -87,7 +87,7 @@ finish_most nodes o (k ∷ ks) = by_stack (stack_of (node_at k nodes))
     by_stack [] = record { rank = omega arith; left = omega arith; same = refl }
     by_stack (d ∷ ds) = record { rank = omega arith; left = omega arith; same = refl }
 
-tell_target : (nodes : List Node) (o : Surprise) (ks : List ℕ) → (su.tell_on nodes o ks).target ≡ o.target
+pub tell_target : (nodes : List Node) (o : Surprise) (ks : List ℕ) → (su.tell_on nodes o ks).target ≡ o.target
 tell_target nodes o [] = (finish_most nodes o o.set).same
 tell_target nodes o (k ∷ ks) = refl
 

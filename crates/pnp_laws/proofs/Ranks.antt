@@ -13,6 +13,7 @@ use Rattle.pnp_laws.specs.Kept.{Ascending}
 use Rattle.pnp_laws.proofs.Lookups.{own_serial, node_from, joined_from, left_from}
 use Rattle.pnp_laws.proofs.Closures.{dependents_closed, closed_keeps, hangs_more, those_serial}
 use Rattle.pnp_laws.proofs.Orders.{Ranked, RootFree}
+use Rattle.pnp_laws.proofs.Truths.{or_cases, and_both, or_left, or_right}
 
 -- what hangs in d hung in c
 abbrev pub NoNewEdge : Core → Core → Type 0
@@ -40,18 +41,6 @@ edges_changed j f c keeps parent k i m at h =
 pub edges_left : (j : ℕ) (c : Core) → Ascending 0 c.nodes → NoNewEdge c (drop_node j c)
 edges_left j c order k i m at h = (m, (left_from j i c.nodes m order at).1, h)
 
-pub or_cases : (a b : Bool) → (a || b) ≡ true → (a ≡ true) ⊎ (b ≡ true)
-or_cases true b h = inl refl
-or_cases false b h = inr h
-
-pub or_left : (a b : Bool) → a ≡ true → (a || b) ≡ true
-or_left true b h = refl
-or_left false b h = absurd (cc)
-
-or_right : (a b : Bool) → b ≡ true → (a || b) ≡ true
-or_right true b h = refl
-or_right false b h = h
-
 fewer_related : (test keep : Relation → Bool) (rs : List Relation) → list_any test (those keep rs) ≡ true → list_any test rs ≡ true
 fewer_related test keep [] h = h
 fewer_related test keep (r ∷ rs) h =
@@ -77,11 +66,6 @@ edges_stripped j c k i m at h =
     edges_changed j bare c (λ x. refl) (λ x. refl) k i m at less
 
 -- A device joins ---------------------------------------------------------------------------
-
-pub and_both : (a b : Bool) → (a && b) ≡ true → (a ≡ true) × (b ≡ true)
-and_both true true h = (refl, refl)
-and_both true false h = absurd (cc)
-and_both false b h = absurd (cc)
 
 pub one_has : (k i : ℕ) → has (k ∷ []) i ≡ true → k ≡ i
 one_has k i h = grind (arith, nat_tests)

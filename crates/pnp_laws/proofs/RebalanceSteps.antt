@@ -15,7 +15,7 @@ use Rattle.pnp_model.specs.Frames.{first_node, rest}
 use Rattle.pnp_model.specs.Rebalances.{ask_on, cancel_on, stop_on, startable, restart_from, restart_on, is_asked, begun_rebalance, is_not_above, end_ask, ask_step, take_back, searched, cancel_step, trouble_of, stuck, stop_step, committed, movers, plan_of, commit_step, end_restart, restart_step, failed, over, moved_on, rebalance_step}
 use Rattle.pnp_model.specs.Machine.{rebalance_lifted}
 use Rattle.pnp_laws.specs.Kept.{Good, Lawful, Each, OperationFits, Distinct, Apart, Within, Waits, RebalanceKeeps, asking_state, pending_state, stopping_state, stopped_state, Fits, is_calm, is_stopped}
-use Rattle.pnp_model.specs.Diagram.{Change, Row}
+use Rattle.pnp_model.specs.Diagram.{Change}
 use Rattle.pnp_model.specs.Diagram.Row.{query_stop, cancel_stop_refused, cancel_stop, stop, restart}
 use Rattle.pnp_labels.specs.declared.states.DevState.{DevState}
 use Rattle.pnp_labels.specs.declared.words.Minor.{Minor}
@@ -29,6 +29,8 @@ use Rattle.pnp_laws.proofs.Diagrams.{Each_changed, Each_same, Each_mapped, diagr
 use Rattle.pnp_laws.proofs.Kept.{lawful_by, Good_nodes, Good_mapped, LawfulNext}
 use Rattle.pnp_laws.proofs.Lists.{HeadIs, head_found, head_has, rest_has, rest_not, rest_distinct, rest_within, those_has, those_not, those_distinct, those_found, serials_distinct}
 use Rattle.pnp_laws.proofs.OpSteps.{lawful_walked, lawful_still, lawful_close, up_stack, waits_changed, waits_mapped, is_Started, is_StopPending, is_Stopped, started_calm, stopped_calm, has-reverse, Distinct-reverse}
+use Rattle.pnp_laws.proofs.Truths.{and_both}
+use Rattle.pnp_laws.proofs.RemovalSteps.{asked_apart, row}
 
 -- What comes next keeps the facts ------------------------------------------------
 
@@ -88,12 +90,6 @@ asked_here todo agreed j h = grind (arith, nat_tests)
 asked_there : (todo more agreed : List ℕ) (j k : ℕ) (x : DevState) → j ≢ k → has more k ≡ has todo k → asking_state todo agreed k x ≡ true → asking_state more (j ∷ agreed) k x ≡ true
 asked_there todo more agreed j k x d e h = grind (arith, nat_tests)
 
-asked_apart : (todo more agreed : List ℕ) (j : ℕ) → has more j ≡ false → ((k : ℕ) → has more k ≡ true → has todo k ≡ true) → Apart todo agreed → Apart more (j ∷ agreed)
-asked_apart todo more agreed j h within apart k g =
-    let a = within k g in
-    let b = apart k a in
-    elim (cases_eq j k) [ inl e ↦ absurd (let z = subst (λ (i : ℕ). has more i ≡ false) e h in cc) | inr d ↦ grind (arith, nat_tests) ]
-
 fewer_asked : (todo more agreed : List ℕ) (k : ℕ) (x : DevState) → (has more k ≡ true → has todo k ≡ true) → (has todo k ≡ true → has agreed k ≡ false) → asking_state todo agreed k x ≡ true → asking_state more agreed k x ≡ true
 fewer_asked todo more agreed k x within apart h = grind (arith, nat_tests, started_calm x)
 
@@ -135,9 +131,6 @@ walked : (s t : State) (label : Label) (node : Node) (todo : List ℕ) (o p : Op
 walked s t label node todo o p x y w a b c d xn yn fits change =
     lawful_walked s t label (with_state y) node o p a b (c ∙ w.alone) d (λ x. refl) w.at
     (up_stack node.serial node.state y node.stack (w.good.stacks node.serial node w.at) (λ e. xn (sym w.state ∙ e)) yn w.up) fits change w.good
-
-row : (path : List ℕ) (a b y : DevState) (minor : Minor) (bad : Bool) → a ≡ b → Row b minor bad y → Change (Label.State path y) a y
-row path a b y minor bad e r = inr (refl, (minor, bad, subst (λ (z : DevState). Row z minor bad y) (sym e) r))
 
 -- The steps --------------------------------------------------------------------------
 
@@ -447,14 +440,9 @@ lawful_rebalance s r Failed None first alone runs keeps good = tt
 
 -- The begin ---------------------------------------------------------------------------
 
-both : (a b : Bool) → (a && b) ≡ true → (a ≡ true) × (b ≡ true)
-both true true h = (refl, refl)
-both true false h = absurd (cc)
-both false b h = absurd (cc)
-
-asked_up : (n : Node) → is_asked n ≡ true → (n.state ≡ Started) × (n.serial ≢ 0)
+pub asked_up : (n : Node) → is_asked n ≡ true → (n.state ≡ Started) × (n.serial ≢ 0)
 asked_up n h =
-    let two = both (is_started n.state) (not (n.serial == 0)) h in
+    let two = and_both (is_started n.state) (not (n.serial == 0)) h in
     let t1 = two.1 in
     (is_Started n.state two.0, grind (arith, nat_tests))
 

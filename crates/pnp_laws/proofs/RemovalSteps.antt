@@ -103,7 +103,7 @@ head_refusing todo agreed j x h g = is_Started x (grind (arith))
 pub head_restoring : (todo : List ℕ) (j : ℕ) (x : DevState) → has todo j ≡ true → restoring_state todo j x ≡ true → x ≡ RemovePending
 head_restoring todo j x h g = is_RemovePending x (grind (arith))
 
-asked_apart : (todo more agreed : List ℕ) (j : ℕ) → has more j ≡ false → ((k : ℕ) → has more k ≡ true → has todo k ≡ true) → Apart todo agreed → Apart more (j ∷ agreed)
+pub asked_apart : (todo more agreed : List ℕ) (j : ℕ) → has more j ≡ false → ((k : ℕ) → has more k ≡ true → has todo k ≡ true) → Apart todo agreed → Apart more (j ∷ agreed)
 asked_apart todo more agreed j h within apart k g =
     let a = within k g in
     let b = apart k a in
@@ -123,7 +123,7 @@ record AtWork (s : State) (node : Node) (o : Removal) : Type 0 where
 pub not_root : (set todo : List ℕ) (j : ℕ) → has set 0 ≡ false → Within todo set → has todo j ≡ true → j ≢ 0
 not_root set todo j h within g = λ z. let w = within j g in let w0 = subst (λ (i : ℕ). has set i ≡ true) z w in cc
 
-row : (path : List ℕ) (a b y : DevState) (minor : Minor) (bad : Bool) → a ≡ b → Row b minor bad y → Change (Label.State path y) a y
+pub row : (path : List ℕ) (a b y : DevState) (minor : Minor) (bad : Bool) → a ≡ b → Row b minor bad y → Change (Label.State path y) a y
 row path a b y minor bad e r = inr (refl, (minor, bad, subst (λ (z : DevState). Row z minor bad y) (sym e) r))
 
 pub stacks_changed : (j : ℕ) (y : DevState) (node : Node) (nodes : List Node) → StacksFit nodes → node_at j nodes ≡ Some node → HasStackOf j y node.stack → StacksFit (changed_first (is_node j) (with_state y) nodes)

@@ -1,5 +1,5 @@
 -- In each run problem 12 comes only where nothing fits the device and all that can move.
-use Rattle.std.proofs.Common.{ℕ, ◌≡◌, ◌≢◌, ◌==◌, ◌⊎◌, inl, inr, Bool, true, false, not, ◌&&◌, List, [], ◌∷◌, ◌++◌, map, Some, refl, sym, ap, ◌∙◌, subst, arith}
+use Rattle.std.proofs.Common.{ℕ, ◌≡◌, ◌≢◌, ◌==◌, ◌⊎◌, inl, inr, true, false, not, ◌&&◌, List, [], ◌∷◌, ◌++◌, map, Some, refl, sym, ap, ◌∙◌, subst, arith}
 use Rattle.std.proofs.lemmas.Bool.Decides.{nat_tests}
 use Rattle.resource_reqs.specs.Resources.{Res, Reqs, Fits}
 use Rattle.resource_reqs.specs.Spelling.Answer.{assignment, no_fit, spent}
@@ -22,7 +22,6 @@ use Rattle.pnp_labels.specs.declared.label.OpKind.{OpKind}
 use Rattle.pnp_laws.specs.Holdings.{has_plan}
 use Rattle.pnp_laws.specs.Rebalanced.{Placed, Undone, AskedSince, Asks, IsAskedAt, Underway}
 use Rattle.pnp_laws.proofs.Lookups.{own_serial}
-use Rattle.pnp_laws.proofs.OpSteps.{is_Started}
 use Rattle.pnp_laws.proofs.Reached.{reached_is_good, reached_is_placed}
 use Rattle.pnp_laws.proofs.RebalanceMoves.{NoConflict}
 use Rattle.pnp_laws.proofs.RebalanceRuns.{Stepped, IsOver, rebalance_stepped, lasts}
@@ -31,6 +30,7 @@ use Rattle.pnp_laws.proofs.BeginSteps.{step_did}
 use Rattle.pnp_laws.proofs.RunsBegun.{operations_begin}
 use Rattle.pnp_laws.proofs.RunsFutile.{Since, since_begin, reached_after}
 use Rattle.pnp_laws.proofs.Ascents.{has_from_contains, contains_from_has, rising_from_increasing, increasing_from_rising, same_ascent}
+use Rattle.pnp_laws.proofs.RebalanceSteps.{asked_up}
 
 -- The step that prints problem 12 -----------------------------------------------------------
 
@@ -57,22 +57,11 @@ no_fit_found spent h e = absurd (cc)
 
 -- Who can move --------------------------------------------------------------------------------
 
-both : (a b : Bool) → (a && b) ≡ true → (a ≡ true) × (b ≡ true)
-both true true h = (refl, refl)
-both true false h = absurd (cc)
-both false b h = absurd (cc)
-
 asked_node : (n : Node) → n.state ≡ Started → n.serial ≢ 0 → is_asked n ≡ true
 asked_node n state up =
     let one : is_started n.state ≡ true = ap is_started state in
     let two : (n.serial == 0) ≡ false = grind (arith, nat_tests) in
     grind (arith)
-
-asked_parts : (n : Node) → is_asked n ≡ true → (n.state ≡ Started) × (n.serial ≢ 0)
-asked_parts n h =
-    let two = both (is_started n.state) (not (n.serial == 0)) h in
-    let t1 = two.1 in
-    (is_Started n.state two.0, grind (arith, nat_tests))
 
 not_both : (ks : List ℕ) (k : ℕ) → has ks k ≡ true → has ks k ≡ false → ⊥
 not_both ks k h g = cc
@@ -117,7 +106,7 @@ agreed_free : (settings : Settings) (rack : List Driver) (path : Text) (before b
 agreed_free settings rack path before begun entries last u stuck k h =
     let asked = stuck.asks.agrees k h in
     let node = asked.0 in
-    let parts = asked_parts node asked.2 in
+    let parts = asked_up node asked.2 in
     let own = own_serial k node before.core.nodes asked.1 in
     let stays : StaysSince settings begun entries last k → ⊥ =
     λ out. elim out [

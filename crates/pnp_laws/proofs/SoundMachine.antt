@@ -25,7 +25,6 @@ use Rattle.pnp_laws.specs.Due.{AllDue}
 use Rattle.pnp_laws.proofs.Lookups.{own_serial, found_self, ready_found, some_same}
 use Rattle.pnp_laws.proofs.OpSteps.{is_Started}
 use Rattle.pnp_laws.proofs.Orders.{leaving_fits}
-use Rattle.pnp_laws.proofs.Ranks.{and_both}
 use Rattle.pnp_laws.proofs.Closures.{head_at, tail_at}
 use Rattle.pnp_laws.proofs.Due.{settled_from_due}
 use Rattle.pnp_laws.proofs.Standing.{Tree, DueBut, waiting, rebalance_waiting, StageKept, OrderKept, RemovalOrder, SurpriseOrder, Stands, Sound, Finishes, RebalanceThere, RemovalThere, SurpriseThere}
@@ -38,6 +37,7 @@ use Rattle.pnp_laws.proofs.SoundStarts.{SoundNext, sound_act, stage_none}
 use Rattle.pnp_laws.proofs.SoundRebalances.{sound_rebalance}
 use Rattle.pnp_laws.proofs.SoundRemovals.{sound_removal, sound_surprise}
 use Rattle.pnp_laws.proofs.SoundTasks.{sound_list, sound_start, sound_begin_step}
+use Rattle.pnp_laws.proofs.Truths.{and_both}
 use Rattle.pnp_model.specs.Machine as ma
 use Rattle.pnp_model.specs.Events as ev
 

@@ -21,7 +21,7 @@ use Rattle.pnp_labels.specs.declared.words.Minor.{Minor}
 use Rattle.pnp_labels.specs.declared.states.Problem.{Problem}
 use Rattle.pnp_labels.specs.declared.label.OpKind.{OpKind}
 use Rattle.pnp_labels.specs.declared.label.Label.{Label}
-use Rattle.pnp_labels.specs.declared.states.DevState.TheVariants.{NoStack, Started, StopPending, Stopped}
+use Rattle.pnp_labels.specs.declared.states.DevState.TheVariants.{Started, StopPending, Stopped}
 use Rattle.pnp_laws.specs.Kept.{Good, Each, RebalanceKeeps, stopped_state, is_calm, is_idle}
 use Rattle.pnp_laws.specs.Due.{leads, is_due}
 use Rattle.pnp_laws.proofs.Lookups.{node_changed_same, some_same, node_from, map_from}
@@ -36,6 +36,7 @@ use Rattle.pnp_laws.proofs.Sounds.{IsPlain, LeadsMore, leads_same, leads_first, 
 use Rattle.pnp_laws.proofs.SoundStarts.{SoundNext}
 use Rattle.pnp_laws.proofs.SoundOps.{Work, same_state, op_walk, op_still, problem_alike}
 use Rattle.pnp_laws.proofs.Restarts.{ordered_agreed, ordered_fewer, rising_weaker, rising_rest, rising_startable, due_restart}
+use Rattle.pnp_laws.proofs.SoundRemovals.{started_stays}
 
 -- What comes next, by what is still to do ----------------------------------------------------------
 
@@ -82,9 +83,6 @@ now_at j f node nodes keeps at = node_changed_same j f nodes keeps ∙ ap (optio
 
 -- Asking -------------------------------------------------------------------------------------------
 
-started_is : (x : DevState) → x ≡ Started → (x ≢ NoStack) × (x ≢ Stopped)
-started_is x e = (λ q. cc, λ q. cc)
-
 sound_end_ask : (s : State) (r : Rebalance) (node : Node) (w : Walk) (bad : Bool) → RebalanceKeeps r (Asking w) s.core.nodes → OrderKept r (Asking w) × RebalanceThere r (Asking w) s.core.nodes → Work s node r.todo → DueBut [] s.tasks s.core.nodes → Stands s → Sound s (rebalance_lifted s (end_ask s.core r node bad))
 sound_end_ask s r node w false keeps order work due h =
     let state = head_started r.todo r.agreed node.serial node.state (head_has node.serial r.todo work.head) (keeps.each node.serial node work.at) in
@@ -94,7 +92,7 @@ sound_end_ask s r node w false keeps order work due h =
     (more_there node.serial r.agreed (with_state StopPending node) _ (now_at node.serial (with_state StopPending) node s.core.nodes (λ x. refl) work.at) (same_there r.agreed s.core _ same order.1.1))) (waits_ask_on (record r { agreed = node.serial ∷ r.agreed }) (rest r.todo)) due h
 sound_end_ask s r node w true keeps order work due h =
     let state = head_started r.todo r.agreed node.serial node.state (head_has node.serial r.todo work.head) (keeps.each node.serial node work.at) in
-    op_walk s _ node r.todo [] Minor.QueryStop true Started node.state work state refl refl refl refl (λ q. ap is_idle (sym state) ∙ q) (started_is node.state state).0 (started_is node.state state).1 (subst (λ (x : DevState). Row Started Minor.QueryStop true x) (sym state) query_stop_bad)
+    op_walk s _ node r.todo [] Minor.QueryStop true Started node.state work state refl refl refl refl (λ q. ap is_idle (sym state) ∙ q) (started_stays node.state state).0 (started_stays node.state state).1 (subst (λ (x : DevState). Row Started Minor.QueryStop true x) (sym state) query_stop_bad)
     (λ same. (order.0, (same_goes r.todo s.core _ same order.1.0, same_there r.agreed s.core _ same order.1.1))) refl due h
 
 sound_ask : (s : State) (r : Rebalance) (node : Node) (w : Walk) (ends : Bool) → RebalanceKeeps r (Asking w) s.core.nodes → OrderKept r (Asking w) × RebalanceThere r (Asking w) s.core.nodes → Work s node r.todo → DueBut [] s.tasks s.core.nodes → Stands s → Sound s (rebalance_lifted s (ask_step s.core r node w ends))

@@ -54,7 +54,7 @@ order_cancel_on : (o : Removal) (ks : List ℕ) (c : Core) → AllThere ks c.nod
 order_cancel_on o [] c there = (tt, tt)
 order_cancel_on o (k ∷ ks) c there = (tt, goes_on k ks c.nodes there)
 
-started_stays : (x : DevState) → x ≡ Started → (x ≢ NoStack) × (x ≢ Stopped)
+pub started_stays : (x : DevState) → x ≡ Started → (x ≢ NoStack) × (x ≢ Stopped)
 started_stays x e = (λ q. cc, λ q. cc)
 
 sound_end_ask : (s : State) (o : Removal) (node : Node) (w : Walk) (bad : Bool) → RemovalKeeps o (RemovalStage.Asking w) s.core.nodes → RemovalOrder s.core o (RemovalStage.Asking w) × RemovalThere o (RemovalStage.Asking w) s.core.nodes → Work s node o.todo → DueBut [] s.tasks s.core.nodes → Stands s → Sound s (removal_lifted s (rm.end_ask s.core o node bad))

@@ -28,10 +28,10 @@ use Rattle.pnp_laws.proofs.Lists.{those_found}
 use Rattle.pnp_laws.proofs.Lookups.{own_serial}
 use Rattle.pnp_laws.proofs.StartSteps.{stacked_idle}
 use Rattle.pnp_laws.proofs.Closures.{closed_within, hangs_some}
-use Rattle.pnp_laws.proofs.Ranks.{or_left}
 use Rattle.pnp_laws.proofs.Standing.{TasksUp, waiting, StageKept, Stands, Sound}
 use Rattle.pnp_laws.proofs.TreeChanges.{Alike, same_changed, nodes_same}
 use Rattle.pnp_laws.proofs.Sounds.{IsPlain, LeadsMore, leads_same, leads_pushed, up_append, due_still, due_changed, due_stripped, sound_still, sound_same, sound_walk, sound_strip}
+use Rattle.pnp_laws.proofs.Truths.{or_left}
 
 -- no operation runs
 

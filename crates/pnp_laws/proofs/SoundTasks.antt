@@ -22,7 +22,6 @@ use Rattle.pnp_laws.proofs.Lookups.{own_serial, found_self, joined_from, joined_
 use Rattle.pnp_laws.proofs.Lists.{those_found}
 use Rattle.pnp_laws.proofs.Closures.{closed_keeps}
 use Rattle.pnp_laws.proofs.Orders.{any_some}
-use Rattle.pnp_laws.proofs.Ranks.{and_both}
 use Rattle.pnp_laws.proofs.Due.{below_in_set}
 use Rattle.pnp_laws.proofs.Aboves.{is_above_in, has_cases, any_from, due_more}
 use Rattle.pnp_laws.proofs.Standing.{Tree, DueBut, waiting, StageKept, Stands, Sound}
@@ -37,6 +36,7 @@ use Rattle.pnp_model.specs.Removals as rm
 use Rattle.pnp_model.specs.Surprises as su
 use Rattle.pnp_laws.proofs.SoundRebalances as sre
 use Rattle.pnp_laws.proofs.SoundRemovals as srm
+use Rattle.pnp_laws.proofs.Truths.{and_both}
 
 -- the first task, which is no surprise, is dropped
 pub sound_drop : (s : State) (label : Label) (task : Task) → IsPlain label → slice_get s.tasks 0 ≡ Some task → is_surprise_task task.kind ≡ false → s.operation ≡ None → Stands s → Sound s (record { label = label; state = drop_task s })

@@ -24,7 +24,7 @@ use Rattle.pnp_laws.proofs.Standing.{Tree, TasksUp, DutyUp, DueBut, waiting, Sta
 use Rattle.pnp_laws.proofs.TreeChanges.{SameTree, SameNodes, same_still, tree_same, above_same}
 use Rattle.pnp_laws.proofs.TreeMoves.{Childless, was_stripped, now_stripped, tree_stripped, tree_left, above_left}
 use Rattle.pnp_laws.proofs.Closures.{tail_at}
-use Rattle.pnp_laws.proofs.Ranks.{and_both}
+use Rattle.pnp_laws.proofs.Truths.{and_both}
 
 -- Tasks ---------------------------------------------------------------------------------------
 

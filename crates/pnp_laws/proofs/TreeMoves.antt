@@ -15,9 +15,10 @@ use Rattle.pnp_model.specs.Events.{add_relation}
 use Rattle.pnp_model.specs.Tasks.{has_path}
 use Rattle.pnp_laws.specs.Kept.{Ascending, is_idle, AllBelow}
 use Rattle.pnp_laws.proofs.Lookups.{own_serial, some_same, node_from, node_changed_same, node_changed_other, joined_from, joined_keeps, left_from, left_other}
-use Rattle.pnp_laws.proofs.Ranks.{Ranked_less, RootFree_less, Rooted, RelationsBelow, edges_left, edges_stripped, edge_below, raised, Ranked_joined, lifted, Ranked_related, member_not_root, or_cases, and_both, one_has, related_below, new_edge}
+use Rattle.pnp_laws.proofs.Ranks.{Ranked_less, RootFree_less, Rooted, RelationsBelow, edges_left, edges_stripped, edge_below, raised, Ranked_joined, lifted, Ranked_related, member_not_root, one_has, related_below, new_edge}
 use Rattle.pnp_laws.proofs.Due.{RootIsOwn}
 use Rattle.pnp_laws.proofs.Standing.{Tree}
+use Rattle.pnp_laws.proofs.Truths.{or_cases, and_both}
 
 -- no device has j as its parent
 abbrev pub Childless : ℕ → List Node → Type 0

@@ -26,7 +26,7 @@ use Rattle.pnp_laws.specs.Kept.{Good, IsGood, Fits, OperationFits}
 use Rattle.pnp_laws.specs.Holdings.{Turn, is_starting, StartsWhole, StageWhole, OperationWhole, IsWhole, Turned}
 use Rattle.pnp_laws.proofs.Lookups.{found_self, ready_found, joined_from, entered_same}
 use Rattle.pnp_laws.proofs.EventChanges.{Answered, happens_outside}
-use Rattle.pnp_laws.proofs.WholeSteps.{held, troubled_well, keeps_problem, changed_starts, entered_others, turned_by, TurnedNext, whole_act}
+use Rattle.pnp_laws.proofs.WholeSteps.{held, troubled_well, keeps_problem, changed_starts, entered_others, turned_by, TurnedNext, whole_act, idle_stage, adding_quiet}
 use Rattle.pnp_laws.proofs.WholeOperations.{whole_ask_on, whole_rebalance}
 use Rattle.pnp_laws.proofs.WholeRemovals.{whole_removal, whole_surprise}
 use Rattle.pnp_model.specs.Machine as ma
@@ -39,9 +39,6 @@ record AtRest (s : State) : Type 0 where
   none : s.operation ≡ None
   good : Good s.next_serial s.core.nodes s.activities None
   old : IsWhole s
-
-idle_stage : (t : State) → t.operation ≡ None → OperationWhole t.operation t.core.nodes
-idle_stage t e = subst (λ (x : Option Operation). OperationWhole x t.core.nodes) (sym e) tt
 
 still : (s t : State) → AtRest s → t.core.nodes ≡ s.core.nodes → t.activities ≡ s.activities → t.operation ≡ s.operation → Turned s t
 still s t w a b c = turned_by s t s.core.nodes s.activities a b (idle_stage t (c ∙ w.none)) (Turn.same refl) w.old.starts
@@ -90,10 +87,6 @@ whole_trouble s node problem at w =
     turned_by s t (changed_first (is_node node.serial) f s.core.nodes) s.activities refl refl (idle_stage t w.none)
     (Turn.changed node.serial f node refl at (keeps_problem (Some problem)) (troubled_well node (Some problem) (held s node.serial node at w.old)))
     (changed_starts node.serial f node s.core.nodes s.activities s.activities (keeps_problem (Some problem)) at (λ k a d g. g) (λ a g st. w.old.starts node.serial a g st node at) w.old.starts)
-
-adding_quiet : (ds : List ℕ) → is_starting (adding ds) ≡ false
-adding_quiet [] = refl
-adding_quiet (d ∷ ds) = refl
 
 -- the drivers of the device are to be added
 whole_install : (s : State) (node : Node) (rank driver : ℕ) (drivers : List ℕ) → node_at node.serial s.core.nodes ≡ Some node → activity_at node.serial s.activities ≡ None → AtRest s → Turned s (install s node rank driver drivers).state

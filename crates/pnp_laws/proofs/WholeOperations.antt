@@ -201,7 +201,7 @@ walked : (s t : State) (node : Node) (y : DevState) (o : Operation) → AtWork s
 walked s t node y o w a b c d stage =
     turned_op s t o w.alone b c stage (Turn.changed node.serial (with_state y) node a w.at (keeps_state y) (moved_well node y w.up d (held s node.serial node w.at w.old)))
 
-bad_stays : (node : Node) → is_up_to_now node.state ≡ true → node.state ≢ NoStack
+pub bad_stays : (node : Node) → is_up_to_now node.state ≡ true → node.state ≢ NoStack
 bad_stays node up e = let z = ap is_up_to_now e in cc
 
 whole_end_ask : (s : State) (r : Rebalance) (node : Node) (bad : Bool) → AtWork s node → Turned s (rebalance_lifted s (re.end_ask s.core r node bad)).state

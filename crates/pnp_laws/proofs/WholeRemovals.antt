@@ -24,7 +24,7 @@ use Rattle.pnp_laws.proofs.SharingRemovals.{relist_core}
 use Rattle.pnp_laws.proofs.OpSteps.{is_RemovePending}
 use Rattle.pnp_laws.proofs.RemovalSteps.{head_querying, head_refusing}
 use Rattle.pnp_laws.proofs.WholeSteps.{held, moved_well, down_well, troubled_well, bare_well, keeps_state, keeps_problem, keeps_bare, TurnedNext}
-use Rattle.pnp_laws.proofs.WholeOperations.{turned_op, turned_close}
+use Rattle.pnp_laws.proofs.WholeOperations.{turned_op, turned_close, bad_stays}
 use Rattle.pnp_model.specs.Removals as rm
 use Rattle.pnp_model.specs.Surprises as su
 
@@ -67,9 +67,6 @@ leaving s t u node o path born e asks w a b c =
     let only = relist_only path born u in
     turned_op s t o w.alone (ap (λ (x : State). x.activities) e ∙ only.activities ∙ b) (ap (λ (x : State). x.operation) e ∙ only.operation ∙ c) (asks t.core.nodes)
     (Turn.left node.serial (ap (λ (x : Core). x.nodes) core ∙ a) w.order)
-
-bad_stays : (node : Node) → is_up_to_now node.state ≡ true → node.state ≢ NoStack
-bad_stays node up e = let z = ap is_up_to_now e in cc
 
 -- Removal ------------------------------------------------------------------------------------
 

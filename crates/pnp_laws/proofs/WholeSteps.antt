@@ -21,11 +21,12 @@ use Rattle.pnp_labels.specs.declared.states.DevState.{DevState}
 use Rattle.pnp_labels.specs.declared.words.Minor.{Minor}
 use Rattle.pnp_labels.specs.declared.words.Answer.{Answer}
 use Rattle.pnp_labels.specs.declared.states.Problem.{Problem}
-use Rattle.pnp_labels.specs.declared.states.DevState.TheVariants.{NoStack, NotStarted, Started, StopPending, Stopped, RemovePending, SurpriseRemoved}
+use Rattle.pnp_labels.specs.declared.states.DevState.TheVariants.{NoStack, NotStarted, Started}
 use Rattle.pnp_labels.specs.declared.words.Answer.TheVariants.{Ok, Fail, Pend}
-use Rattle.pnp_laws.specs.Kept.{InOrder, Fits, is_idle}
+use Rattle.pnp_laws.specs.Kept.{InOrder, Fits}
 use Rattle.pnp_laws.specs.Holdings.{KeepsReqs, HeldWell, Turn, is_starting, WholeAt, StartsWhole, OperationWhole, IsWhole, Turned}
 use Rattle.pnp_laws.proofs.Lookups.{node_from, some_same, phase_from, phase_set_other, ended_same, ended_other, entered_other}
+use Rattle.pnp_laws.proofs.StartSteps.{stacked_idle}
 
 -- What a device holds ------------------------------------------------------------------
 
@@ -91,7 +92,7 @@ same_starts j nodes acts new others own old k a there st m g =
 
 -- By kinds of step --------------------------------------------------------------------------
 
-idle_stage : (t : State) → t.operation ≡ None → OperationWhole t.operation t.core.nodes
+pub idle_stage : (t : State) → t.operation ≡ None → OperationWhole t.operation t.core.nodes
 idle_stage t e = subst (λ (x : Option Operation). OperationWhole x t.core.nodes) (sym e) tt
 
 pub turned_by : (s t : State) (nodes : List Node) (acts : List Activity) → t.core.nodes ≡ nodes → t.activities ≡ acts → OperationWhole t.operation t.core.nodes → Turn s.core.nodes nodes → StartsWhole acts nodes → Turned s t
@@ -168,16 +169,7 @@ record AtStart (s : State) (node : Node) (phase : Phase) : Type 0 where
   whole : is_starting phase ≡ true → Whole node.reqs node.holds
   old : IsWhole s
 
-stacked_waits : (x : DevState) → is_idle x ≡ true → stacked x ≡ NotStarted
-stacked_waits NoStack h = refl
-stacked_waits NotStarted h = refl
-stacked_waits Started h = cc
-stacked_waits StopPending h = cc
-stacked_waits Stopped h = cc
-stacked_waits RemovePending h = cc
-stacked_waits SurpriseRemoved h = cc
-
-adding_quiet : (ds : List ℕ) → is_starting (adding ds) ≡ false
+pub adding_quiet : (ds : List ℕ) → is_starting (adding ds) ≡ false
 adding_quiet [] = refl
 adding_quiet (d ∷ ds) = refl
 
@@ -186,7 +178,7 @@ whole_add s c node d ds more Ok e w =
     let f = with_stack (node.stack ++ d ∷ []) (stacked node.state) in
     turned_go s _ f node (adding ds) (ap (λ (x : List Node). changed_first (is_node node.serial) f x) e) refl w.none w.at
     (record { serial = λ n. refl; reqs = λ n. refl })
-    (waiting_well (f node) (stacked_waits node.state w.fits)) (λ st. absurd (let q = adding_quiet ds in cc)) w.old
+    (waiting_well (f node) (stacked_idle node.state w.fits)) (λ st. absurd (let q = adding_quiet ds in cc)) w.old
 whole_add s c node d ds more Fail e w = turned_phase s _ node (Due Problem.FailedAdd) e refl w.none (λ st. absurd (cc)) w.old
 whole_add s c node d ds more Pend e w = turned_phase s _ node (Due Problem.FailedAdd) e refl w.none (λ st. absurd (cc)) w.old
 

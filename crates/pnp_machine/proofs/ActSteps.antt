@@ -4,7 +4,7 @@ use Rattle.pnp_labels.specs.Texts.{Text}
 use Rattle.pnp_labels.specs.declared.label.Label.{Label}
 use Rattle.pnp_labels.specs.declared.label.OpKind.{OpKind}
 use Rattle.inf_reader.specs.declared.parts.Inf.{Inf}
-use Rattle.pnp_model.specs.Cores.{node_at, forget}
+use Rattle.pnp_model.specs.Cores.{node_at, forget, core_of}
 use Rattle.pnp_model.specs.Machine.{Steps, IsStep, idle_next, activity_next, start_lifted, is_ready}
 use Rattle.pnp_model.specs.Records.{Node, Core, Driver, Activity, Phase, State, Settings, Operation, Task, Doing, doing_map, Duty}
 use Rattle.pnp_model.specs.Records.Doing.{Does, Searches}
@@ -12,7 +12,7 @@ use Rattle.pnp_model.specs.Starts.{StartMove, StartBeside, act}
 use Rattle.pnp_model.specs.States.{activity_at}
 use Rattle.pnp_laws.proofs.Lookups.{own_serial, ready_found}
 use Rattle.start_sequence.specs.Begins.{settings_of}
-use Rattle.start_sequence.specs.Steps.{core_of, Moved, Done, DoneFor}
+use Rattle.start_sequence.specs.Steps.{Moved, Done, DoneFor}
 use Rattle.start_sequence.specs.declared.next.StartStep.{StartStep}
 use Rattle.start_sequence.specs.declared.next.StartStep.TheVariants as steps
 use Rattle.pnp_machine.specs.Devices.{Devices}
@@ -60,7 +60,7 @@ module _ (ds ds' : Devices) (rack rack' : List Driver) (disabled : List Text) (w
   s' = state_of ds' rack' disabled works' operation tasks'
 
   abbrev c' : Core
-  c' = core_of ds'.tree.nodes rack' ds.relations ds.reserved
+  c' = core_of ds'.tree.nodes ds.relations rack' ds.reserved
 
   after_is : (w : List Activity) (t : List Task) → works' ≡ w → tasks' ≡ t → s' ≡ state_of (with_nodes ds ds'.tree.nodes) rack' disabled w operation t
   after_is w t e f =

@@ -12,7 +12,7 @@ use Rattle.pnp_model.specs.Machine.{phase_walk}
 use Rattle.pnp_model.specs.Records.{Node, Driver, Walk, Activity, Operation, State, Task}
 use Rattle.pnp_model.specs.States.{activity_at, is_activity, node_of, with_phase}
 use Rattle.pnp_model.specs.Tests.{same_minor}
-use Rattle.query_remove.specs.Walks.{minor_of, minor_if}
+use Rattle.device_stack.specs.Waiting.{minor_of, minor_if}
 use Rattle.pnp_laws.proofs.Lookups.{own_activity}
 use Rattle.pnp_machine.specs.Devices.{Devices}
 use Rattle.pnp_machine.specs.Machines.{state_of, IsDone, IsAnswered, CompletesOperation, answer_label}

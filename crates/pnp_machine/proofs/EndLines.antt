@@ -6,7 +6,7 @@ use Rattle.std.proofs.lemmas.Bool.Decides.{nat_tests}
 use Rattle.range_arbiter.specs.Pairs.{Pair}
 use Rattle.device_holdings.specs.MapRows.{row_of as row_of_pair}
 use Rattle.pnp_labels.specs.Texts.{Text}
-use Rattle.pnp_model.specs.Cores.{node_at, serials_of}
+use Rattle.pnp_model.specs.Cores.{node_at, serials_of, core_of}
 use Rattle.pnp_model.specs.Endings.{Placed, placed, print_order, root_of, map_rows, joined, tree_line, map_line, ending, outstanding_line, outstanding_text, outstanding, operation_rows, at_row, activity_rows, walk_row, waiting_row, serial_before, Outstanding}
 use Rattle.pnp_model.specs.Events.{operation_at}
 use Rattle.pnp_model.specs.Keyed.{in_order, put_before, those}
@@ -17,7 +17,6 @@ use Rattle.pnp_laws.specs.Kept.{InOrder}
 use Rattle.devnode_tree.specs.Rows.{row_of}
 use Rattle.devnode_tree.specs.Trees.{Ascends, Tree}
 use Rattle.devnode_tree.specs.declared.print.PrintRow.{PrintRow}
-use Rattle.start_sequence.specs.Steps.{core_of}
 use Rattle.pnp_machine.specs.Endings.{RowAdded, request_lines, works_lines, operation_lines}
 use Rattle.pnp_machine.proofs.Texts.{joined_append}
 
@@ -148,21 +147,21 @@ map_append f (x ∷ xs) ys = ap (λ l. f x ∷ l) (map_append f xs ys)
 
 pub works_next : (nodes : List Node) (rack : List Driver) (a : Activity) (more : List Activity) → works_lines nodes rack (a ∷ more) ≡ request_lines nodes rack a.serial (phase_walk a.phase) ++ works_lines nodes rack more
 works_next nodes rack a more =
-    let line = outstanding_line (core_of nodes rack [] []) in
+    let line = outstanding_line (core_of nodes [] rack []) in
     ap joined (map_append line (walk_row a.serial (phase_walk a.phase)) (activity_rows more)) ∙ joined_append (map line (walk_row a.serial (phase_walk a.phase))) (map line (activity_rows more))
 
 -- a line says nothing of what is related or reserved
-line_same : (c : Core) (row : Outstanding) → outstanding_line c row ≡ outstanding_line (core_of c.nodes c.rack [] []) row
+line_same : (c : Core) (row : Outstanding) → outstanding_line c row ≡ outstanding_line (core_of c.nodes [] c.rack []) row
 line_same c row = by_node (node_at row.serial c.nodes)
   where
-    by_node : (o : Option Node) → outstanding_text c row o ≡ outstanding_text (core_of c.nodes c.rack [] []) row o
+    by_node : (o : Option Node) → outstanding_text c row o ≡ outstanding_text (core_of c.nodes [] c.rack []) row o
     by_node None = refl
     by_node (Some n) = refl
 
-lines_same : (c : Core) (rows : List Outstanding) → map (outstanding_line c) rows ≡ map (outstanding_line (core_of c.nodes c.rack [] [])) rows
+lines_same : (c : Core) (rows : List Outstanding) → map (outstanding_line c) rows ≡ map (outstanding_line (core_of c.nodes [] c.rack [])) rows
 lines_same c [] = refl
 lines_same c (row ∷ rows) =
-    ap (λ l. l ∷ map (outstanding_line c) rows) (line_same c row) ∙ ap (λ rest. outstanding_line (core_of c.nodes c.rack [] []) row ∷ rest) (lines_same c rows)
+    ap (λ l. l ∷ map (outstanding_line c) rows) (line_same c row) ∙ ap (λ rest. outstanding_line (core_of c.nodes [] c.rack []) row ∷ rest) (lines_same c rows)
 
 -- the rows stand in order from lo on
 abbrev RowsFrom : ℕ → List Outstanding → Type 0
@@ -237,7 +236,7 @@ module _ (s : State) (order : InOrder 0 s.activities) (alone : (o : Operation) �
 
   outstanding_is : joined (map (outstanding_line s.core) (outstanding s)) ≡ operation_lines nodes rack s.operation ++ works_lines nodes rack s.activities
   outstanding_is =
-      let line = outstanding_line (core_of nodes rack [] []) in
+      let line = outstanding_line (core_of nodes [] rack []) in
       ap (λ rows. joined (map (outstanding_line s.core) rows)) (rows_are s.operation s.activities order alone)
       ∙ ap joined (lines_same s.core (operation_rows s.operation ++ activity_rows s.activities))
       ∙ ap joined (map_append line (operation_rows s.operation) (activity_rows s.activities))

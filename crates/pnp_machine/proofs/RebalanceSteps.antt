@@ -9,11 +9,11 @@ use Rattle.pnp_model.specs.Machine.{IsStep, operation_next, after_rebalance, reb
 use Rattle.pnp_model.specs.Records.{Core, Driver, Activity, Operation, Rebalance, State, Step, Task, Doing, doing_map, Duty}
 use Rattle.pnp_model.specs.Records.Doing.{Does, Searches}
 use Rattle.pnp_model.specs.Records.Phase.{Starting, Removing}
+use Rattle.pnp_model.specs.Cores.{core_of}
 use Rattle.pnp_model.specs.Rebalances.{RebalanceBeside, RebalanceMove, rebalanced}
 use Rattle.pnp_model.specs.States.{with_core, entered}
 use Rattle.pnp_model.specs.Walks.{walk_of}
 use Rattle.start_sequence.specs.Begins.{settings_of}
-use Rattle.start_sequence.specs.Steps.{core_of}
 use Rattle.rebalance.specs.Steps as rebalances
 use Rattle.rebalance.specs.declared.next.RebalanceStep.{RebalanceStep}
 use Rattle.rebalance.specs.declared.next.RebalanceStep.TheVariants as steps
@@ -57,7 +57,7 @@ module _ (ds ds' : Devices) (rack rack' : List Driver) (disabled : List Text) (w
   s = state_of ds rack disabled works (Some (Operation.Rebalancing r)) tasks
 
   abbrev c' : Core
-  c' = core_of ds'.tree.nodes rack' ds.relations ds.reserved
+  c' = core_of ds'.tree.nodes ds.relations rack' ds.reserved
 
   -- the state after it
   abbrev pub after : RebalanceStep → State

@@ -11,7 +11,7 @@ use Rattle.pnp_model.specs.Records.Duty.{Begins}
 use Rattle.pnp_model.specs.Tasks.{list_step, start_step, begin_step}
 use Rattle.pnp_laws.specs.Kept.{IsGood}
 use Rattle.pnp_laws.proofs.Lookups.{ready_found}
-use Rattle.query_remove.specs.Walks.{minor_of, minor_if}
+use Rattle.device_stack.specs.Waiting.{minor_of, minor_if}
 use Rattle.pnp_machine.specs.Machines.{IsDone, IsDoing, IsTurn}
 use Rattle.pnp_machine.specs.Managers.{IsOfRun}
 use Rattle.pnp_machine.specs.Starts.{first_ready}

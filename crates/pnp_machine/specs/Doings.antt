@@ -1,12 +1,12 @@
 -- What a step of a start or of an operation does to the devices.
 use Rattle.std.specs.Prelude.{◌≡◌, ℕ, Bool, List}
-use Rattle.pnp_model.specs.Cores.{node_at}
+use Rattle.pnp_model.specs.Cores.{node_at, core_of}
 use Rattle.pnp_model.specs.Records.{Core, Driver, Phase, Rebalance, Removal, Surprise}
 use Rattle.pnp_model.specs.Rebalances.{rebalanced}
 use Rattle.pnp_model.specs.Removals.{removed}
 use Rattle.pnp_model.specs.Surprises.{surprised}
 use Rattle.pnp_labels.specs.declared.label.RemoveStep.{RemoveStep}
-use Rattle.start_sequence.specs.Steps.{core_of, DoneFor}
+use Rattle.start_sequence.specs.Steps.{DoneFor}
 use Rattle.start_sequence.specs.declared.next.StartStep.{StartStep}
 use Rattle.rebalance.specs.Steps as rebalances
 use Rattle.rebalance.specs.declared.next.RebalanceStep.{RebalanceStep}
@@ -15,18 +15,18 @@ use Rattle.surprise_remove.specs.Steps as surprises
 use Rattle.pnp_machine.specs.Devices.{Devices}
 
 abbrev pub core_with : Devices → List Driver → Core
-core_with ds rack = core_of ds.tree.nodes rack ds.relations ds.reserved
+core_with ds rack = core_of ds.tree.nodes ds.relations rack ds.reserved
 
 -- the step of the start of device k, for this budget; all but the nodes stay
 abbrev pub Acts : ℕ → Devices → ℕ → List Driver → Phase → StartStep → Devices → List Driver → Phase → Type 0
 Acts budget ds k rack phase step ds' rack' phase' =
-    DoneFor budget (node_at k ds.tree.nodes) (core_with ds rack) phase step (core_of ds'.tree.nodes rack' ds.relations ds.reserved) phase'
+    DoneFor budget (node_at k ds.tree.nodes) (core_with ds rack) phase step (core_of ds'.tree.nodes ds.relations rack' ds.reserved) phase'
     × (ds' ≡ record ds { tree = record ds.tree { nodes = ds'.tree.nodes } })
 
 -- the step of a rebalance, for this budget; all but the nodes stay
 abbrev pub Rebalances : ℕ → Devices → List Driver → Rebalance → RebalanceStep → Devices → List Driver → Rebalance → Type 0
 Rebalances budget ds rack r step ds' rack' r' =
-    rebalances.MovedBy budget (rebalanced (core_with ds rack) r) step (core_of ds'.tree.nodes rack' ds.relations ds.reserved) r'
+    rebalances.MovedBy budget (rebalanced (core_with ds rack) r) step (core_of ds'.tree.nodes ds.relations rack' ds.reserved) r'
     × (ds' ≡ record ds { tree = record ds.tree { nodes = ds'.tree.nodes } })
 
 -- all but nodes and relations stay

@@ -1,13 +1,12 @@
 -- The lines of the end of the output.
 use Rattle.std.specs.Prelude.{◌≡◌, ℕ, List, [], ◌∷◌, ◌++◌, Option, Some, map, length, slice_index}
 use Rattle.pnp_labels.specs.Texts.{Text}
-use Rattle.pnp_model.specs.Cores.{node_at}
+use Rattle.pnp_model.specs.Cores.{node_at, core_of}
 use Rattle.pnp_model.specs.Records.{Node, Driver, Walk, Activity, Operation}
 use Rattle.pnp_model.specs.Endings.{joined, tree_line, outstanding_line, activity_rows, operation_rows, walk_row}
 use Rattle.pnp_model.specs.Books.{name_of}
 use Rattle.pnp_model.specs.Walks.{place_of}
 use Rattle.pnp_labels.specs.Texts.{spaced, minor_text}
-use Rattle.start_sequence.specs.Steps.{core_of}
 use Rattle.devnode_tree.specs.Trees.{Tree, IsTree}
 use Rattle.devnode_tree.specs.declared.print.PrintRow.{PrintRow}
 
@@ -23,11 +22,11 @@ waiting_line node rack w =
 
 -- the line of a request at a device, where it waits
 abbrev pub request_lines : List Node → List Driver → ℕ → Option Walk → Text
-request_lines nodes rack k walk = joined (map (outstanding_line (core_of nodes rack [] [])) (walk_row k walk))
+request_lines nodes rack k walk = joined (map (outstanding_line (core_of nodes [] rack [])) (walk_row k walk))
 
 -- the lines of those of starts, and of the operation that runs
 abbrev pub works_lines : List Node → List Driver → List Activity → Text
-works_lines nodes rack works = joined (map (outstanding_line (core_of nodes rack [] [])) (activity_rows works))
+works_lines nodes rack works = joined (map (outstanding_line (core_of nodes [] rack [])) (activity_rows works))
 
 abbrev pub operation_lines : List Node → List Driver → Option Operation → Text
-operation_lines nodes rack operation = joined (map (outstanding_line (core_of nodes rack [] [])) (operation_rows operation))
+operation_lines nodes rack operation = joined (map (outstanding_line (core_of nodes [] rack [])) (operation_rows operation))

@@ -1,7 +1,7 @@
 ghost use Rattle.std.specs.Prelude.{◌≡◌, ◌≤◌, Bool, true, false, IfOk, OnErr, option_map};
 ghost use Rattle.pnp_model.specs.Events.{operation_at, operation_waits, completed, answer_of};
 ghost use Rattle.pnp_model.specs.Machine.{operation_walk, is_waiting};
-ghost use Rattle.query_remove.specs.Walks.{minor_of};
+ghost use Rattle.device_stack.specs.Waiting.{minor_of};
 ghost use Rattle.pnp_machine.specs.Operations.{operation_of, IsRebalance, IsTarget, MayRebalance, MayRemove, RebalancesBy, RemovesBy};
 ghost use Rattle.pnp_machine.specs.Machines.{CompletesOperation};
 

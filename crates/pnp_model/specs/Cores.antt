@@ -10,6 +10,9 @@ use Rattle.pnp_labels.specs.declared.words.Minor.{Minor}
 use Rattle.pnp_labels.specs.declared.states.DevState.TheVariants.{NoStack, NotStarted}
 use Rattle.pnp_labels.specs.declared.words.Minor.TheVariants.{Start, QueryRemove, Remove, CancelRemove, Stop, QueryStop, CancelStop, SurpriseRemoval}
 
+abbrev pub core_of : List Node → List Relation → List Driver → List Res → Core
+core_of nodes relations rack reserved = record { nodes = nodes; relations = relations; rack = rack; reserved = reserved }
+
 abbrev pub is_node : ℕ → Node → Bool
 is_node k n = n.serial == k
 

@@ -67,7 +67,7 @@ AddReg = Gbe.Reg
 AddService = gbeexpress, %SPSVCINST_ASSOCSERVICE%, Gbe.Service
 
 [Gbe1536.Wol.NT]
-FeatureScore = D1
+FeatureScore = E0
 
 [Gbe1536.Wol.NT.Services]
 AddService = gbewol, 0x00000802, Gbe.Service
@@ -87,7 +87,7 @@ SPSVCINST_ASSOCSERVICE = 0x00000002
 const NET_GIVES: &str = "20191105 3377777030529032\n\
     25 208 =gbeexpress ids|PCI\\VEN_A0A0&DEV_1533&SUBSYS_00008086|PCI\\VEN_A0A0&DEV_1533 lower|gbelow upper|gbeup|gbetop\n\
     27 255 =gbeexpress ids|PCI\\VEN_A0A0&DEV_1536 lower upper\n\
-    28 209 =gbewol ids|PCI\\VEN_A0A0&DEV_1537 lower upper\n";
+    28 224 =gbewol ids|PCI\\VEN_A0A0&DEV_1537 lower upper\n";
 
 /// A sound card of old, with logical configurations.
 const AUDIO: &str = r#"[Version]

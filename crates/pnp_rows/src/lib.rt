@@ -15,3 +15,7 @@ mod inf_vendors;
 mod inf_versions;
 #[cfg(test)]
 mod script_lines;
+#[cfg(test)]
+mod script_shown;
+#[cfg(test)]
+mod script_whole;

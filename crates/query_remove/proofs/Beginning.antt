@@ -6,13 +6,13 @@ use Rattle.pnp_labels.specs.declared.label.OpKind.{OpKind}
 use Rattle.pnp_labels.specs.declared.words.Minor.{Minor}
 use Rattle.pnp_model.specs.Keyed.{those}
 use Rattle.pnp_model.specs.Walks.{walk_of}
-use Rattle.pnp_model.specs.Cores.{node_at, stack_of}
+use Rattle.pnp_model.specs.Cores.{node_at, stack_of, core_of}
 use Rattle.pnp_model.specs.Records as Records
 use Rattle.pnp_model.specs.Records.{Node, Driver, Relation, Walk, Removal}
 use Rattle.pnp_model.specs.Trees.{is_up, leaving}
 use Rattle.pnp_model.specs.Removals.{finish_with, finish_on, ask_on}
 use Rattle.pnp_laws.proofs.Lookups.{found_self}
-use Rattle.relations.specs.Leaving.{core_of, IsLeaving}
+use Rattle.relations.specs.Leaving.{IsLeaving}
 use Rattle.relations.specs.Relating.{ejected}
 use Rattle.query_remove.specs.Begins.{BegunFor}
 use Rattle.query_remove.specs.Frames.{finish_if_none}

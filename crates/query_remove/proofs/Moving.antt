@@ -10,13 +10,12 @@ use Rattle.pnp_labels.specs.declared.states.Problem.{Problem}
 use Rattle.pnp_model.specs.Keyed.{changed_first, without_first}
 use Rattle.pnp_model.specs.Tests.{has, is_eject}
 use Rattle.pnp_model.specs.Walks.{walk_of, state_after}
-use Rattle.pnp_model.specs.Cores.{is_node, node_at, with_problem, stack_of, bare, forget}
+use Rattle.pnp_model.specs.Cores.{is_node, node_at, with_problem, stack_of, bare, forget, core_of}
 use Rattle.pnp_model.specs.Frames.{first_node, rest}
 use Rattle.pnp_model.specs.Records as Records
 use Rattle.pnp_model.specs.Records.{Node, Core, Driver, Relation, Walk, Removal}
 use Rattle.pnp_model.specs.Removals.{finish_with, finish_on, ask_on, cancel_on, end_ask, take_back, cancel_step, settle, settle_outer, settle_related, settle_target, remove_step, RemovalMove, RemoveBeside}
 use Rattle.pnp_laws.proofs.Lookups.{own_serial}
-use Rattle.relations.specs.Leaving.{core_of}
 use Rattle.query_remove.specs.Walks.{EndsFor}
 use Rattle.devnode_tree.specs.Trees.{CanLeave}
 use Rattle.query_remove.specs.Steps.{Moved, IsStripped}

@@ -5,11 +5,10 @@ use Rattle.pnp_labels.specs.Texts.{Text}
 use Rattle.pnp_labels.specs.declared.label.Label.{Label}
 use Rattle.pnp_labels.specs.declared.label.RemoveStep.TheVariants as steps
 use Rattle.pnp_model.specs.Walks.{is_bad, has_ended}
-use Rattle.pnp_model.specs.Cores.{node_at}
+use Rattle.pnp_model.specs.Cores.{node_at, core_of}
 use Rattle.pnp_model.specs.Frames.{asked, first_node}
 use Rattle.pnp_model.specs.Records.{Node, Core, Driver, Relation, Walk, Removal}
 use Rattle.pnp_model.specs.Removals.{RemovalMove, removal_step, removed, ask_step, take_back, cancel_step, remove_step}
-use Rattle.relations.specs.Leaving.{core_of}
 use Rattle.query_remove.specs.Stages.{stage_of}
 use Rattle.query_remove.specs.Walks.{WalksFor}
 use Rattle.query_remove.specs.Steps.{Moved, MovedBy}

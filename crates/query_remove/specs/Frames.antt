@@ -7,7 +7,7 @@ use Rattle.pnp_model.specs.Removals.{finish_on}
 use Rattle.pnp_model.specs.Machine.{removal_walk, is_waiting}
 use Rattle.pnp_model.specs.Events.{answer_of, completed_removal}
 use Rattle.device_stack.specs.declared.walk.NoSuchRequest.{NoSuchRequest}
-use Rattle.query_remove.specs.Walks.{minor_of}
+use Rattle.device_stack.specs.Waiting.{minor_of}
 
 -- the request that waits in a stage
 abbrev pub minor_that_waits : RemovalStage → Option Minor

@@ -6,14 +6,13 @@ use Rattle.pnp_labels.specs.Texts.{Text}
 use Rattle.pnp_labels.specs.declared.label.RemoveStep.{RemoveStep}
 use Rattle.pnp_labels.specs.declared.label.OpEnd.{OpEnd}
 use Rattle.pnp_model.specs.Tests.{has}
-use Rattle.pnp_model.specs.Cores.{node_at, path_of}
+use Rattle.pnp_model.specs.Cores.{node_at, path_of, core_of}
 use Rattle.pnp_labels.specs.declared.label.RemoveStep.TheVariants as steps
 use Rattle.pnp_labels.specs.declared.states.Problem.{Problem}
 use Rattle.pnp_model.specs.Machine.{removal_walk}
 use Rattle.pnp_model.specs.Records.{Node, Core, Driver, Relation, Removal, RemovalStage}
 use Rattle.pnp_model.specs.Records.RemovalStage.{Asking, TakingBack, Cancelling, Removing, Settling, Ending}
 use Rattle.pnp_model.specs.Removals.{RemovalMove, end_ask, take_back, cancel_step, remove_step, close, settle}
-use Rattle.relations.specs.Leaving.{core_of}
 use Rattle.query_remove.specs.Steps.{Moved}
 
 -- the move of this node, whatever drivers there are and whatever is reserved

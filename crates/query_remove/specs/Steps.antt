@@ -8,9 +8,9 @@ use Rattle.pnp_labels.specs.declared.label.RemoveStep.TheVariants as steps
 use Rattle.pnp_labels.specs.declared.states.Problem.{Problem}
 use Rattle.pnp_model.specs.Frames.{first_node}
 use Rattle.pnp_model.specs.Records.{Node, Core, Driver, Relation, Removal, RemovalStage}
+use Rattle.pnp_model.specs.Cores.{core_of}
 use Rattle.pnp_model.specs.Removals.{RemovalMove, RemoveBeside, removed}
 use Rattle.devnode_tree.specs.Trees.{CanLeave}
-use Rattle.relations.specs.Leaving.{core_of}
 
 -- what is printed, what is there then and where the removal stands then are those of the move, and the step tells what
 -- the machine has to do beside it

@@ -10,19 +10,9 @@ use crate::queue::SerialQueue;
 use device_ids::{Text, WantOfMemory};
 use device_stack::Walk;
 use devnode_tree::Tree;
-use pnp_labels::{DevState, Label, Minor, OpKind};
+use pnp_labels::{Label, Minor, OpKind};
 use relations::{Relations, SerialSet};
 use std::alloc::Global;
-
-/// Whether a device is there and Started.
-fn is_up(tree: &Tree, serial: u64) -> bool
-    ensures { result ≡ is_up (node_at serial tree.now.nodes) }
-{
-    match tree.node(serial) {
-        Some(node) => node.state == DevState::Started,
-        None => false,
-    }
-}
 
 /// Those of a set that are Started.
 fn started(alloc: Global, tree: &Tree, set: &SerialSet) -> Result<SerialQueue, WantOfMemory>
@@ -31,7 +21,7 @@ fn started(alloc: Global, tree: &Tree, set: &SerialSet) -> Result<SerialQueue, W
     let mut queue = SerialQueue::new(alloc);
     for at in 0..set.len() {
         let serial = set.get(at);
-        if is_up(tree, serial) {
+        if tree.is_up(serial) {
             queue.push_back(serial)?;
         }
     }

@@ -6,7 +6,6 @@ ghost use Rattle.pnp_model.specs.Removals.{finish_on, cancel_on};
 ghost use Rattle.query_remove.specs.Frames.{minor_that_waits, is_settling, Completed, has_drivers};
 
 use crate::queue::SerialQueue;
-use crate::walking::{complete_walk, waiting_minor};
 use device_ids::Text;
 use device_stack::{NoSuchRequest, Walk};
 use devnode_tree::Tree;
@@ -64,7 +63,7 @@ impl Removal {
     {
         match self.stage {
             Stage::Settling | Stage::Ending => None,
-            _ => waiting_minor(&self.walk),
+            _ => self.walk.waiting_minor(),
         }
     }
 
@@ -75,7 +74,7 @@ impl Removal {
     {
         match self.stage {
             Stage::Settling | Stage::Ending => Err(NoSuchRequest),
-            _ => complete_walk(&mut self.walk, ok),
+            _ => self.walk.complete_waiting(ok),
         }
     }
 
@@ -153,8 +152,8 @@ impl Removal {
     }
 }
 
-/// Whether a device has drivers.
-fn has_drivers(tree: &Tree, serial: u64) -> bool
+/// Whether a device is there and has drivers. It takes no memory. Cost: the logarithm of the number of nodes.
+pub fn has_drivers(tree: &Tree, serial: u64) -> bool
     ensures { result ≡ has_drivers (node_at serial tree.now.nodes) }
 {
     match tree.node(serial) {

@@ -10,6 +10,6 @@ mod settling;
 mod tests;
 mod walking;
 
-pub use frame::Removal;
+pub use frame::{Removal, has_drivers};
 pub use queue::SerialQueue;
-pub use walking::{Walked, complete_walk, end_walk, pass_on, strip, waiting_minor};
+pub use walking::{Walked, end_walk, pass_on, strip};

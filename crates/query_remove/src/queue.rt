@@ -6,8 +6,8 @@ use std::alloc::Global;
 use std::collections::VecDeque;
 use std::marker::Model;
 
-/// The devices of an operation that are still to do, by their serials; the first is the next. A contract sees the list.
-/// This project's own.
+/// The devices of an operation that are still to do, by their serials; the first is the next. Each call costs the same
+/// whatever there is in it, on average, except where it says more. A contract sees the list. This project's own.
 #[derive(Drop)]
 pub struct SerialQueue {
     serials: VecDeque<u64>,
@@ -31,7 +31,7 @@ impl SerialQueue {
         }
     }
 
-    /// The devices of a set, in its order.
+    /// The devices of a set, in its order. Cost: their number.
     pub fn of(alloc: Global, set: &SerialSet) -> Result<SerialQueue, WantOfMemory>
         ensures { IfOk result (λ queue. queue ≡ set.now) }
     {
@@ -42,7 +42,7 @@ impl SerialQueue {
         Ok(queue)
     }
 
-    /// The same devices once more.
+    /// The same devices once more. Cost: their number.
     pub fn copy(&self, alloc: Global) -> Result<SerialQueue, WantOfMemory>
         ensures { IfOk result (λ queue. queue ≡ self.now) }
     {

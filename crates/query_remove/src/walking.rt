@@ -1,17 +1,16 @@
 ghost use Rattle.std.specs.Prelude.{◌≡◌, List, IfOk, OnErr, IsSome, false};
-ghost use Rattle.pnp_model.specs.Cores.{node_at, forget, bare};
+ghost use Rattle.pnp_model.specs.Cores.{node_at, forget, bare, core_of};
 ghost use Rattle.pnp_model.specs.Records.{Node, Relation};
 ghost use Rattle.resource_reqs.specs.Resources.{Res};
 ghost use Rattle.pnp_labels.specs.declared.states.DevState.TheVariants.{NoStack};
 ghost use Rattle.devnode_tree.specs.Trees.{changed};
 ghost use Rattle.trial_journal.specs.Four as Four;
 ghost use Rattle.device_holdings.specs.Mirrors.{IsMirrored, KeepsMirror};
-ghost use Rattle.relations.specs.Leaving.{core_of};
-ghost use Rattle.query_remove.specs.Walks.{WalksFor, EndsFor, minor_if, CompletedWalk};
+ghost use Rattle.query_remove.specs.Walks.{WalksFor, EndsFor};
 
 use device_holdings::release;
 use device_ids::{Text, WantOfMemory};
-use device_stack::{NoSuchRequest, Passed, Walk, state_after};
+use device_stack::{Passed, Walk, state_after};
 use devnode_tree::Tree;
 use driver_rack::Drivers;
 use pnp_labels::{DevState, Label, Minor};
@@ -95,22 +94,5 @@ pub fn strip(
     Label::State {
         path,
         state: DevState::NoStack,
-    }
-}
-
-/// The request of a walk that waits.
-pub fn waiting_minor(walk: &Walk) -> Option<Minor>
-    ensures { result ≡ minor_if walk.now.walk walk.now.walk.waits }
-{
-    walk.waits().map(|_| walk.minor())
-}
-
-/// Completes a walk where it waits.
-pub fn complete_walk(walk: &mut Walk, ok: bool) -> Result<(), NoSuchRequest>
-    ensures { CompletedWalk result walk.old.walk ok walk.new.walk }
-{
-    match walk.waits() {
-        Some(pos) => walk.complete(pos, ok),
-        None => Err(NoSuchRequest),
     }
 }

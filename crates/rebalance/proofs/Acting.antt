@@ -8,7 +8,7 @@ use Rattle.pnp_labels.specs.declared.label.Label.{Label}
 use Rattle.pnp_labels.specs.declared.label.OpKind.{OpKind}
 use Rattle.pnp_labels.specs.declared.states.Problem.{Problem}
 use Rattle.pnp_model.specs.Keyed.{changed_first}
-use Rattle.pnp_model.specs.Cores.{is_node, node_at, with_problem}
+use Rattle.pnp_model.specs.Cores.{is_node, node_at, with_problem, core_of}
 use Rattle.pnp_model.specs.Frames.{first_node, rest}
 use Rattle.pnp_model.specs.Trees.{stands_up}
 use Rattle.pnp_model.specs.Records as Records
@@ -22,7 +22,6 @@ use Rattle.assign_search.specs.declared.plan.Found.{Found as Answer}
 use Rattle.assign_search.specs.declared.plan.Found.TheVariants.{Assignment, NoFit, Spent}
 use Rattle.device_holdings.specs.Mirrors.{Mirrors}
 use Rattle.device_holdings.specs.Answers.{Answers}
-use Rattle.relations.specs.Leaving.{core_of}
 use Rattle.query_remove.proofs.Queues.{first_is}
 use Rattle.rebalance.specs.Steps.{Moved, MovedBy, Rebalances}
 use Rattle.rebalance.specs.Parts.{Moves, MovesFor, Searched, found_label, found_frame}

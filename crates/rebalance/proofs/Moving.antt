@@ -7,13 +7,12 @@ use Rattle.pnp_labels.specs.declared.words.Minor.{Minor}
 use Rattle.pnp_labels.specs.declared.states.DevState.TheVariants.{Started}
 use Rattle.pnp_model.specs.Keyed.{changed_first, those}
 use Rattle.pnp_model.specs.Walks.{walk_of, state_after}
-use Rattle.pnp_model.specs.Cores.{is_node, node_at, with_state, set_state}
+use Rattle.pnp_model.specs.Cores.{is_node, node_at, with_state, set_state, core_of}
 use Rattle.pnp_model.specs.Frames.{rest, state_label, ended}
 use Rattle.pnp_model.specs.Records as Records
 use Rattle.pnp_model.specs.Records.{Node, Core, Driver, Relation, Walk, Rebalance}
 use Rattle.pnp_model.specs.Rebalances.{RebalanceMove, RebalanceBeside, moves, ask_on, cancel_on, stop_on, startable, restart_from, restart_on, is_not_above, end_ask, take_back, cancel_step, stop_step, end_restart, close}
 use Rattle.pnp_laws.proofs.Lookups.{own_serial}
-use Rattle.relations.specs.Leaving.{core_of}
 use Rattle.query_remove.specs.Walks.{EndsFor}
 use Rattle.query_remove.specs.Parts.{PathIs}
 use Rattle.rebalance.specs.Stages.{stage_of}

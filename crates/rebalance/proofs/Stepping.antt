@@ -4,12 +4,11 @@ use Rattle.resource_reqs.specs.Resources.{Res}
 use Rattle.pnp_labels.specs.Texts.{Text}
 use Rattle.pnp_labels.specs.declared.label.Label.{Label}
 use Rattle.pnp_model.specs.Walks.{is_bad, has_ended}
-use Rattle.pnp_model.specs.Cores.{node_at}
+use Rattle.pnp_model.specs.Cores.{node_at, core_of}
 use Rattle.pnp_model.specs.Frames.{asked, first_node}
 use Rattle.pnp_model.specs.Records.{Node, Core, Driver, Relation, Walk, Doing, Rebalance}
 use Rattle.pnp_model.specs.Records.Doing.{Does}
 use Rattle.pnp_model.specs.Rebalances.{RebalanceMove, rebalance_step, rebalanced, ask_step, take_back, cancel_step, stop_step, restart_step}
-use Rattle.relations.specs.Leaving.{core_of}
 use Rattle.query_remove.specs.Walks.{WalksFor}
 use Rattle.query_remove.specs.declared.walking.Walked.TheVariants.{On, Ended}
 use Rattle.query_remove.proofs.Queues.{first_is}

@@ -4,8 +4,8 @@ use Rattle.resource_reqs.specs.Resources.{Res}
 use Rattle.pnp_labels.specs.declared.label.Label.{Label}
 use Rattle.pnp_labels.specs.declared.label.OpKind.{OpKind}
 use Rattle.pnp_model.specs.Records.{Node, Driver, Relation, Rebalance}
+use Rattle.pnp_model.specs.Cores.{core_of}
 use Rattle.pnp_model.specs.Rebalances.{begun_rebalance}
-use Rattle.relations.specs.Leaving.{core_of}
 
 -- its line, and where it stands then, whatever is related, whatever drivers there are and whatever is reserved
 abbrev pub BegunFor : Option Node → List Node → Label → Rebalance → Type 0

@@ -8,12 +8,12 @@ use Rattle.pnp_labels.specs.declared.label.Label.{Label}
 use Rattle.pnp_model.specs.Machine.{rebalance_walk}
 use Rattle.pnp_model.specs.Records.{Node, Core, Driver, Relation, Found, Rebalance, RebalanceStage}
 use Rattle.pnp_model.specs.Records.RebalanceStage.{Asking, TakingBack, Searching, Cancelling, Stuck, Stopping, Committing, Restarting, Failed, Ending}
+use Rattle.pnp_model.specs.Cores.{core_of}
 use Rattle.pnp_model.specs.Rebalances.{RebalanceMove, end_ask, take_back, cancel_step, stop_step, end_restart, close, stop_on, cancel_on, group_problem, searched}
 use Rattle.devnode_tree.specs.Trees.{Tree}
 use Rattle.devnode_tree.specs.Identities.{identities}
 use Rattle.trial_journal.specs.Four.{Arbiters}
 use Rattle.device_holdings.specs.Mirrors.{Mirrors, KeepsMirror}
-use Rattle.relations.specs.Leaving.{core_of}
 use Rattle.rebalance.specs.declared.next.RebalanceStep.{RebalanceStep}
 use Rattle.rebalance.specs.declared.next.RebalanceStep.TheVariants as steps
 use Rattle.rebalance.specs.Steps.{Moved}

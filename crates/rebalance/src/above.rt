@@ -1,5 +1,4 @@
 ghost use Rattle.std.specs.Prelude.{◌≡◌, ℕ, IfOk};
-ghost use Rattle.pnp_model.specs.Cores.{node_at};
 ghost use Rattle.pnp_model.specs.Keyed.{those};
 ghost use Rattle.pnp_model.specs.Tests.{has};
 ghost use Rattle.pnp_model.specs.Trees.{is_up, above, stands_up};
@@ -9,20 +8,9 @@ ghost use Rattle.pnp_model.specs.Rebalances.{is_not_above, startable};
 use crate::queues::take_first;
 use device_ids::WantOfMemory;
 use devnode_tree::Tree;
-use pnp_labels::DevState;
 use query_remove::SerialQueue;
 use relations::SerialSet;
 use std::alloc::Global;
-
-/// Whether a device is there and Started.
-fn is_up(tree: &Tree, serial: u64) -> bool
-    ensures { result ≡ is_up (node_at serial tree.now.nodes) }
-{
-    match tree.node(serial) {
-        Some(node) => node.state == DevState::Started,
-        None => false,
-    }
-}
 
 /// Whether each device above a device is Started. It takes no memory. Cost: how deep the device stands, with the
 /// logarithm of the number of nodes for each level.
@@ -35,7 +23,7 @@ pub(crate) fn stands_up(tree: &Tree, serial: u64) -> bool
             return true;
         };
         let parent = node.parent;
-        if !is_up(tree, parent) {
+        if !tree.is_up(parent) {
             return false;
         }
         at = parent;

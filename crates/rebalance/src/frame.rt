@@ -9,7 +9,7 @@ use device_ids::Text;
 use device_stack::{NoSuchRequest, Walk};
 use devnode_tree::Tree;
 use pnp_labels::Minor;
-use query_remove::{SerialQueue, complete_walk, waiting_minor};
+use query_remove::SerialQueue;
 use std::marker::Model;
 
 /// What is done next: this project's own.
@@ -72,7 +72,7 @@ impl Rebalance {
             | Stage::TakingBack
             | Stage::Cancelling
             | Stage::Stopping
-            | Stage::Restarting => waiting_minor(&self.walk),
+            | Stage::Restarting => self.walk.waiting_minor(),
             _ => None,
         }
     }
@@ -87,7 +87,7 @@ impl Rebalance {
             | Stage::TakingBack
             | Stage::Cancelling
             | Stage::Stopping
-            | Stage::Restarting => complete_walk(&mut self.walk, ok),
+            | Stage::Restarting => self.walk.complete_waiting(ok),
             _ => Err(NoSuchRequest),
         }
     }

@@ -2,11 +2,11 @@ ghost use Rattle.std.specs.Prelude.{◌≡◌, ◌≤◌, ℕ, List, IfOk, OnErr
 ghost use Rattle.resource_reqs.specs.Resources.{Res};
 ghost use Rattle.pnp_model.specs.Frames.{first_node};
 ghost use Rattle.pnp_model.specs.Records.{Relation};
+ghost use Rattle.pnp_model.specs.Cores.{core_of};
 ghost use Rattle.pnp_model.specs.Rebalances.{rebalanced};
 ghost use Rattle.pnp_model.specs.Machine.{rebalance_walk, is_waiting};
 ghost use Rattle.devnode_tree.specs.Identities.{identities};
 ghost use Rattle.device_holdings.specs.Mirrors.{IsMirrored, KeepsMirror};
-ghost use Rattle.relations.specs.Leaving.{core_of};
 ghost use Rattle.rebalance.specs.Steps.{MovedBy, Rebalances, HasNext};
 ghost use Rattle.rebalance.specs.Parts.{StaysWhole, is_walking};
 

@@ -5,8 +5,9 @@ use Rattle.resource_reqs.specs.Resources.{Res}
 use Rattle.pnp_model.specs.Keyed.{those, without_first}
 use Rattle.pnp_model.specs.Tests.{has}
 use Rattle.pnp_model.specs.Records.{Node, Driver, Relation}
+use Rattle.pnp_model.specs.Cores.{core_of}
 use Rattle.pnp_model.specs.Trees.{grown, closed_in, direct, dependents, set_of, is_free, greatest, leaving_in, leaving}
-use Rattle.relations.specs.Leaving.{core_of, base}
+use Rattle.relations.specs.Leaving.{base}
 
 module _ (nodes : List Node) (relations : List Relation) (rack : List Driver) (reserved : List Res) where
   closed_same : (n : ℕ) (set : List ℕ) → closed_in n (core_of nodes relations rack reserved) set ≡ closed_in n (base nodes relations) set

@@ -4,7 +4,7 @@ use Rattle.std.specs.List.{list_any}
 use Rattle.std.proofs.lemmas.Bool.Decides.{nat_tests}
 use Rattle.resource_reqs.specs.Resources.{Res}
 use Rattle.pnp_model.specs.Tests.{has, is_started}
-use Rattle.pnp_model.specs.Cores.{node_at}
+use Rattle.pnp_model.specs.Cores.{node_at, core_of}
 use Rattle.pnp_model.specs.Records.{Node, Core, Driver, Relation, State}
 use Rattle.pnp_model.specs.Trees.{dependents, is_up}
 use Rattle.pnp_model.specs.States.{with_core}
@@ -13,7 +13,7 @@ use Rattle.pnp_labels.specs.declared.label.EventWord.{EventWord}
 use Rattle.pnp_model.specs.Events.{did, is_relation, relate_two, relate_new, relate_free, relate_up}
 use Rattle.pnp_labels.specs.declared.words.RelKind.{RelKind}
 use Rattle.pnp_laws.proofs.Lookups.{own_serial}
-use Rattle.relations.specs.Leaving.{core_of, base}
+use Rattle.relations.specs.Leaving.{base}
 use Rattle.relations.specs.Relating.{Relates, RelatesFor, RelatesFree, are_up}
 use Rattle.relations.specs.declared.error.RelateError.{RelateError}
 use Rattle.relations.specs.declared.error.RelateError.TheVariants.{SelfRelation, SameRelation, RelationCycle, NotStarted, WantOfMemory}

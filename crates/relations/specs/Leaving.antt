@@ -3,12 +3,9 @@ use Rattle.std.specs.Prelude.{◌≡◌, ℕ, ◌==◌, Bool, List, [], ◌∷�
 use Rattle.resource_reqs.specs.Resources.{Res}
 use Rattle.pnp_model.specs.Keyed.{those}
 use Rattle.pnp_model.specs.Records.{Node, Core, Driver, Relation}
-use Rattle.pnp_model.specs.Cores.{node_at}
+use Rattle.pnp_model.specs.Cores.{core_of, node_at}
 use Rattle.pnp_model.specs.Trees.{leaving}
 use Rattle.devnode_tree.specs.Entries.{child_serials}
-
-abbrev pub core_of : List Node → List Relation → List Driver → List Res → Core
-core_of nodes relations rack reserved = record { nodes = nodes; relations = relations; rack = rack; reserved = reserved }
 
 -- the leaving order of the device, whatever drivers there are and whatever is reserved
 abbrev pub IsLeaving : List Node → List Relation → ℕ → List ℕ → Type 0

@@ -3,6 +3,7 @@ use Rattle.std.specs.Prelude.{◌≡◌, ℕ, ◌==◌, Bool, true, false, ◌&&
 use Rattle.resource_reqs.specs.Resources.{Res}
 use Rattle.pnp_model.specs.Keyed.{those}
 use Rattle.pnp_model.specs.Records.{Node, Driver, Relation, State}
+use Rattle.pnp_model.specs.Cores.{core_of}
 use Rattle.pnp_model.specs.Removals.{is_ejecting}
 use Rattle.pnp_model.specs.States.{with_core}
 use Rattle.pnp_model.specs.Events.{refused, did, relate_two}
@@ -11,7 +12,6 @@ use Rattle.pnp_labels.specs.Texts.{spaced}
 use Rattle.pnp_labels.specs.declared.words.RelKind.{RelKind}
 use Rattle.pnp_labels.specs.declared.label.EventWord.{EventWord}
 use Rattle.pnp_labels.specs.declared.label.Reason.{Reason}
-use Rattle.relations.specs.Leaving.{core_of}
 use Rattle.relations.specs.declared.error.RelateError.{RelateError}
 use Rattle.relations.specs.declared.error.RelateError.TheVariants.{SelfRelation, SameRelation, RelationCycle, NotStarted, WantOfMemory}
 

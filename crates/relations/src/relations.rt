@@ -15,7 +15,7 @@ use crate::search::depends_on;
 use crate::serial_set::SerialSet;
 use device_ids::WantOfMemory;
 use devnode_tree::Tree;
-use pnp_labels::{DevState, RelKind, SerialList};
+use pnp_labels::{RelKind, SerialList};
 use std::alloc::Global;
 use std::marker::Model;
 
@@ -154,7 +154,7 @@ impl Relations {
     ) -> Result<(), RelateError>
         ensures { RelatesFree (are_up (node_at owner tree.now.nodes) (node_at member tree.now.nodes)) (record { kind = kind; owner = owner; member = member }) self.old result self.new }
     {
-        if !(is_up(tree, owner) && is_up(tree, member)) {
+        if !(tree.is_up(owner) && tree.is_up(member)) {
             return Err(RelateError::NotStarted);
         }
         match self.add(Relation {
@@ -189,15 +189,5 @@ impl Relations {
         put(&mut self.by_owner, to_member);
         put(&mut self.by_member, to_owner);
         Ok(())
-    }
-}
-
-/// Whether a device is there and Started.
-fn is_up(tree: &Tree, serial: u64) -> bool
-    ensures { result ≡ is_up (node_at serial tree.now.nodes) }
-{
-    match tree.node(serial) {
-        Some(node) => node.state == DevState::Started,
-        None => false,
     }
 }

@@ -7,7 +7,8 @@ use std::alloc::Global;
 use std::collections::HashSet;
 use std::marker::Model;
 
-/// Serials in an order, looked up without a scan. A contract sees the list. This project's own.
+/// Serials in an order, looked up by a hash. Each call costs the same whatever there is in it, except where it says
+/// more. A contract sees the list. This project's own.
 #[derive(Drop)]
 pub struct SerialSet {
     serials: Vec<u64>,
@@ -36,7 +37,7 @@ impl SerialSet {
         }
     }
 
-    /// These serials.
+    /// These serials. Cost: their number.
     pub fn of(alloc: Global, serials: &SerialList) -> Result<SerialSet, WantOfMemory>
         ensures { IfOk result (λ set. set ≡ serials.now) }
     {
@@ -47,7 +48,7 @@ impl SerialSet {
         Ok(set)
     }
 
-    /// Appends a serial.
+    /// Appends a serial. The cost is constant on average, since the room grows by doubling.
     pub fn push(&mut self, serial: u64) -> Result<(), WantOfMemory>
         ensures { OnOk result (self.new ≡ self.old ++ serial ∷ []) }
     {

@@ -11,12 +11,12 @@ use Rattle.pnp_labels.specs.declared.words.Minor.{Minor}
 use Rattle.pnp_model.specs.Records.{Node, Core, Driver, Relation, Walk, Phase}
 use Rattle.pnp_model.specs.Records.Phase.{Adding, Searching, Starting, Removing, Due}
 use Rattle.pnp_model.specs.Books.{name_of, name_or_none, printed_name, rack_reply, rack_after, with_later, later}
-use Rattle.pnp_model.specs.Cores.{is_node, forget, bare, strip, set_problem}
+use Rattle.pnp_model.specs.Cores.{is_node, forget, bare, strip, set_problem, core_of}
 use Rattle.pnp_model.specs.Keyed.{changed_first}
 use Rattle.pnp_model.specs.Frames.{core_after}
 use Rattle.pnp_model.specs.Starts.{add_driver, act, undo}
 use Rattle.pnp_model.specs.Walks.{walk_of}
-use Rattle.start_sequence.specs.Steps.{core_of, Moved, Done, DoneFor, first_pending, phase_added, is_ok}
+use Rattle.start_sequence.specs.Steps.{Moved, Done, DoneFor, first_pending, phase_added, is_ok}
 use Rattle.start_sequence.specs.Parts.{nodes_added, AddedFor, StartsFor, RemovesFor, SearchedFor, TroubledFor}
 use Rattle.start_sequence.specs.declared.next.StartStep.{StartStep}
 use Rattle.start_sequence.specs.declared.next.StartStep.TheVariants as steps
@@ -25,8 +25,8 @@ use Rattle.start_sequence.specs.declared.next.Removed.TheVariants as removes
 
 -- without relations there is nothing to forget
 pub stripped : (k : ℕ) (nodes : List Node) (rack : List Driver) (relations : List Relation) (reserved : List Res) → forget k relations ≡ relations
-    → core_of (changed_first (is_node k) bare nodes) rack relations reserved ≡ strip k (core_of nodes rack relations reserved)
-stripped k nodes rack relations reserved none = ap (λ r. core_of (changed_first (is_node k) bare nodes) rack r reserved) (sym none)
+    → core_of (changed_first (is_node k) bare nodes) relations rack reserved ≡ strip k (core_of nodes relations rack reserved)
+stripped k nodes rack relations reserved none = ap (λ r. core_of (changed_first (is_node k) bare nodes) r rack reserved) (sym none)
 
 -- a driver that is asked keeps its name
 named_in : (what : AskWhat) (path : Text) (rack : List Driver) (k : ℕ) (d : Driver) → slice_get rack k ≡ Some d
@@ -45,17 +45,17 @@ name_after what path rack k = name_by what path rack k (slice_get rack k) refl
 
 module _ (nodes : List Node) (rack : List Driver) (relations : List Relation) (reserved : List Res) (node : Node) where
   added_by : (d : ℕ) (ds : List ℕ) (a : Answer)
-      → Moved (add_driver (core_after (core_of nodes rack relations reserved) AskWhat.Add node.path d) node d ds a)
+      → Moved (add_driver (core_after (core_of nodes relations rack reserved) AskWhat.Add node.path d) node d ds a)
       (steps.Did (Label.Add node.path (name_of rack d) (is_ok a)))
-      (core_of (nodes_added node d (is_ok a) nodes) (rack_after AskWhat.Add node.path rack d) relations reserved) (phase_added (Adding (d ∷ ds)) (is_ok a))
+      (core_of (nodes_added node d (is_ok a) nodes) relations (rack_after AskWhat.Add node.path rack d) reserved) (phase_added (Adding (d ∷ ds)) (is_ok a))
   added_by d ds Ok = (refl, ap (λ name. Label.Add node.path name true) (sym (name_after AskWhat.Add node.path rack d)), refl, refl)
   added_by d ds Fail = (refl, ap (λ name. Label.Add node.path name false) (sym (name_after AskWhat.Add node.path rack d)), refl, refl)
   added_by d ds Pend = (refl, ap (λ name. Label.Add node.path name false) (sym (name_after AskWhat.Add node.path rack d)), refl, refl)
 
   added_first : (budget : ℕ) (drivers : List ℕ) (d : ℕ) → slice_get drivers 0 ≡ Some d
-      → Done budget (act (core_of nodes rack relations reserved) node (Adding drivers))
+      → Done budget (act (core_of nodes relations rack reserved) node (Adding drivers))
       (steps.Did (Label.Add node.path (name_of rack d) (is_ok (rack_reply AskWhat.Add node.path rack d))))
-      (core_of (nodes_added node d (is_ok (rack_reply AskWhat.Add node.path rack d)) nodes) (rack_after AskWhat.Add node.path rack d) relations reserved)
+      (core_of (nodes_added node d (is_ok (rack_reply AskWhat.Add node.path rack d)) nodes) relations (rack_after AskWhat.Add node.path rack d) reserved)
       (phase_added (Adding drivers) (is_ok (rack_reply AskWhat.Add node.path rack d)))
   added_first budget [] d at = absurd (cc)
   added_first budget (e ∷ ds) d at =
@@ -64,7 +64,7 @@ module _ (nodes : List Node) (rack : List Driver) (relations : List Relation) (r
 
 pub added : (budget : ℕ) (o : Option Node) (nodes nodes' : List Node) (rack rack' : List Driver) (relations : List Relation) (reserved : List Res) (phase : Phase) (d : ℕ) (label : Label) (ok : Bool)
     → first_pending phase ≡ Some d → AddedFor o d nodes rack label ok nodes' rack'
-    → DoneFor budget o (core_of nodes rack relations reserved) phase (steps.Did label) (core_of nodes' rack' relations reserved) (phase_added phase ok)
+    → DoneFor budget o (core_of nodes relations rack reserved) phase (steps.Did label) (core_of nodes' relations rack' reserved) (phase_added phase ok)
 added budget None nodes nodes' rack rack' relations reserved phase d label ok at h = h
 added budget (Some node) nodes nodes' rack rack' relations reserved (Adding drivers) d label ok at h =
     λ none. rw (h.1, h.2, h.3, h.0) (added_first nodes rack relations reserved node budget drivers d at)
@@ -122,23 +122,23 @@ searched_at_once budget (Some node) c c' step [] phase at h = λ none. h
 
 module _ (budget : ℕ) (nodes nodes' : List Node) (rack : List Driver) (relations : List Relation) (reserved : List Res) (label : Label) where
   pub troubled : (o : Option Node) (problem : Problem) → TroubledFor o problem nodes label true nodes'
-      → DoneFor budget o (core_of nodes rack relations reserved) (Due problem) (steps.Did label) (core_of nodes' rack relations reserved) (Removing (walk_of Minor.Remove))
+      → DoneFor budget o (core_of nodes relations rack reserved) (Due problem) (steps.Did label) (core_of nodes' relations rack reserved) (Removing (walk_of Minor.Remove))
   troubled None problem h = h
   troubled (Some node) problem h = λ none. by_stack node.stack refl
     where
       by_stack : (stack : List ℕ) → node.stack ≡ stack
-          → Moved (undo (set_problem node.serial (Some problem) (core_of nodes rack relations reserved)) node problem stack) (steps.Did label)
-          (core_of nodes' rack relations reserved) (Removing (walk_of Minor.Remove))
+          → Moved (undo (set_problem node.serial (Some problem) (core_of nodes relations rack reserved)) node problem stack) (steps.Did label)
+          (core_of nodes' relations rack reserved) (Removing (walk_of Minor.Remove))
       by_stack [] is = absurd (let full = rw is at h.1 in cc)
-      by_stack (d ∷ ds) is = (refl, h.0, ap (λ nodes. core_of nodes rack relations reserved) h.2, refl)
+      by_stack (d ∷ ds) is = (refl, h.0, ap (λ nodes. core_of nodes relations rack reserved) h.2, refl)
 
   pub dropped : (o : Option Node) (problem : Problem) (phase : Phase) → TroubledFor o problem nodes label false nodes'
-      → DoneFor budget o (core_of nodes rack relations reserved) (Due problem) (steps.Over label) (core_of nodes' rack relations reserved) phase
+      → DoneFor budget o (core_of nodes relations rack reserved) (Due problem) (steps.Over label) (core_of nodes' relations rack reserved) phase
   dropped None problem phase h = h
   dropped (Some node) problem phase h = λ none. by_stack node.stack refl
     where
       by_stack : (stack : List ℕ) → node.stack ≡ stack
-          → Moved (undo (set_problem node.serial (Some problem) (core_of nodes rack relations reserved)) node problem stack) (steps.Over label)
-          (core_of nodes' rack relations reserved) phase
-      by_stack [] is = (refl, h.0, ap (λ nodes. core_of nodes rack relations reserved) h.2)
+          → Moved (undo (set_problem node.serial (Some problem) (core_of nodes relations rack reserved)) node problem stack) (steps.Over label)
+          (core_of nodes' relations rack reserved) phase
+      by_stack [] is = (refl, h.0, ap (λ nodes. core_of nodes relations rack reserved) h.2)
       by_stack (d ∷ ds) is = absurd (let full = rw is at h.1 in cc)

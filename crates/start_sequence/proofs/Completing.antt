@@ -4,7 +4,8 @@ use Rattle.pnp_model.specs.Records as Records
 use Rattle.pnp_model.specs.Records.{Activity, Walk}
 use Rattle.pnp_model.specs.Records.Phase.{Starting, Removing}
 use Rattle.device_stack.specs.declared.walk.NoSuchRequest.{NoSuchRequest}
-use Rattle.start_sequence.specs.Works.{CompletesWalk, CompletedWalk, CompletesWork, CompletedWork}
+use Rattle.device_stack.specs.Waiting.{CompletesWalk, CompletedWalk}
+use Rattle.start_sequence.specs.Works.{CompletesWork, CompletedWork}
 
 abbrev pub activity : ℕ → Records.Phase → Activity
 activity serial phase = record { serial = serial; phase = phase }

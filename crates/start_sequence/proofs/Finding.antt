@@ -12,7 +12,7 @@ use Rattle.pnp_model.specs.Records.{Node, Core, Driver, Relation, Phase}
 use Rattle.pnp_model.specs.Records.Phase.{Starting, Due}
 use Rattle.pnp_model.specs.Records.Doing.{Searches}
 use Rattle.pnp_model.specs.Rebalances.{reqs_of}
-use Rattle.pnp_model.specs.Cores.{is_node, node_at, with_holds}
+use Rattle.pnp_model.specs.Cores.{is_node, node_at, with_holds, core_of}
 use Rattle.pnp_model.specs.Starts.{own_part, own_problem, searched}
 use Rattle.pnp_model.specs.Walks.{walk_of}
 use Rattle.trial_journal.specs.Four.{Arbiters}
@@ -21,7 +21,7 @@ use Rattle.assign_search.specs.declared.plan.Found.{Found}
 use Rattle.assign_search.specs.declared.plan.Found.TheVariants.{Assignment, NoFit, Spent}
 use Rattle.device_holdings.specs.Mirrors.{Mirrors}
 use Rattle.device_holdings.specs.Answers.{held_beside, Answers}
-use Rattle.start_sequence.specs.Steps.{core_of, Done}
+use Rattle.start_sequence.specs.Steps.{Done}
 use Rattle.start_sequence.specs.Parts.{SearchedFor}
 use Rattle.start_sequence.specs.declared.next.StartStep.{StartStep}
 use Rattle.start_sequence.specs.declared.next.StartStep.TheVariants as steps
@@ -33,7 +33,7 @@ own_serial k n (x ∷ xs) h = grind (arith, nat_tests, own_serial k n xs)
 module _ (budget k : ℕ) (nodes : List Node) (a : Arbiters) (node : Node) (at : node_at k nodes ≡ Some node) (path : Text) (named : path ≡ node.path)
     (rack : List Driver) (relations : List Relation) (reserved : List Res) (mirrors : Mirrors reserved nodes a) where
   abbrev before : Core
-  before = core_of nodes rack relations reserved
+  before = core_of nodes relations rack reserved
 
   -- the answer of the problem of the machine
   own_answer : (found : Found) → Answers nodes a (k ∷ []) budget found → IsAnswer (own_problem before node).fixed (own_problem before node).movers budget (answer_of found)
@@ -43,13 +43,13 @@ module _ (budget k : ℕ) (nodes : List Node) (a : Arbiters) (node : Node) (at :
 
   -- the step for the device that was found
   for_node : (step : StartStep) (nodes' : List Node) (phase : Phase)
-      → Done budget (Searches (own_problem before node) (searched before node)) step (core_of nodes' rack relations reserved) phase
-      → SearchedFor budget (node_at k nodes) before step (core_of nodes' rack relations reserved) phase
-  for_node step nodes' phase h = subst (λ (o : Option Node). SearchedFor budget o before step (core_of nodes' rack relations reserved) phase) (sym at) h
+      → Done budget (Searches (own_problem before node) (searched before node)) step (core_of nodes' relations rack reserved) phase
+      → SearchedFor budget (node_at k nodes) before step (core_of nodes' relations rack reserved) phase
+  for_node step nodes' phase h = subst (λ (o : Option Node). SearchedFor budget o before step (core_of nodes' relations rack reserved) phase) (sym at) h
 
   pub found_assignment : (plan : List (List Res)) (holds held : List Res) (nodes' : List Node) (phase : Phase) → Answers nodes a (k ∷ []) budget (Assignment plan)
       → holds ≡ own_part plan → held ≡ holds → nodes' ≡ changed_first (is_node k) (with_holds holds) nodes → phase ≡ Starting (walk_of Minor.Start)
-      → SearchedFor budget (node_at k nodes) before (steps.Did (Label.Assign path held)) (core_of nodes' rack relations reserved) phase
+      → SearchedFor budget (node_at k nodes) before (steps.Did (Label.Assign path held)) (core_of nodes' relations rack reserved) phase
   found_assignment plan holds held nodes' phase answers part same changed starts =
       for_node (steps.Did (Label.Assign path held)) nodes' phase (
         answer_of (Assignment plan),
@@ -57,7 +57,7 @@ module _ (budget k : ℕ) (nodes : List Node) (a : Arbiters) (node : Node) (at :
         (
           refl,
           ap (λ t. Label.Assign t held) named ∙ ap (λ l. Label.Assign node.path l) (same ∙ part),
-          ap (λ ns. core_of ns rack relations reserved)
+          ap (λ ns. core_of ns relations rack reserved)
               (changed ∙ (ap (λ l. changed_first (is_node k) (with_holds l) nodes) part ∙ ap (λ i. changed_first (is_node i) (with_holds (own_part plan)) nodes) (sym (own_serial k node nodes at)))),
           starts,
         ),

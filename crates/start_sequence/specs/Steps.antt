@@ -8,15 +8,12 @@ use Rattle.pnp_labels.specs.declared.words.Answer.TheVariants.{Ok}
 use Rattle.pnp_model.specs.Records.{Node, Core, Driver, Relation, Phase, Found, Doing}
 use Rattle.pnp_model.specs.Records.Phase.{Adding, Due}
 use Rattle.pnp_model.specs.Records.Doing.{Does, Searches}
-use Rattle.pnp_model.specs.Cores.{node_at, forget}
+use Rattle.pnp_model.specs.Cores.{core_of, node_at, forget}
 use Rattle.pnp_model.specs.Starts.{StartMove, StartBeside, act, adding}
 use Rattle.trial_journal.specs.Four.{Arbiters}
 use Rattle.device_holdings.specs.Mirrors.{Mirrors}
 use Rattle.start_sequence.specs.declared.next.StartStep.{StartStep}
 use Rattle.start_sequence.specs.declared.next.StartStep.TheVariants as steps
-
-abbrev pub core_of : List Node → List Driver → List Relation → List Res → Core
-core_of nodes rack relations reserved = record { nodes = nodes; relations = relations; rack = rack; reserved = reserved }
 
 -- what is printed and what is there then are those of the move, and the step tells what is to be done beside it; where the
 -- start goes on, its phase is that of the move
@@ -44,7 +41,7 @@ DoneFor budget (Some node) c phase step c' phase' =
 abbrev pub Acts : ℕ → Arbiters → ℕ → List Node → List Driver → Phase → StartStep → List Node → List Driver → Phase → Type 0
 Acts budget arbiters k nodes rack phase step nodes' rack' phase' =
     (relations : List Relation) (reserved : List Res) → Mirrors reserved nodes arbiters
-    → DoneFor budget (node_at k nodes) (core_of nodes rack relations reserved) phase step (core_of nodes' rack' relations reserved) phase'
+    → DoneFor budget (node_at k nodes) (core_of nodes relations rack reserved) phase step (core_of nodes' relations rack' reserved) phase'
 
 -- the driver that is to be asked next to add the device
 abbrev pub first_pending : Phase → Option ℕ

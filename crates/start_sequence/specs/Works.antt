@@ -1,12 +1,12 @@
 -- What a start is in the words of the machine.
-use Rattle.std.specs.Prelude.{◌≡◌, Bool, true, false, List, [], ◌∷◌, Option, Some, None, Ok, Err, Result}
+use Rattle.std.specs.Prelude.{◌≡◌, Bool, true, false, List, [], ◌∷◌, Option, Ok, Err, Result}
 use Rattle.pnp_labels.specs.declared.words.Minor.{Minor}
 use Rattle.pnp_model.specs.Records as Records
-use Rattle.pnp_model.specs.Records.{Activity, Walk}
+use Rattle.pnp_model.specs.Records.{Activity}
 use Rattle.pnp_model.specs.Machine.{phase_walk, is_waiting}
 use Rattle.pnp_model.specs.Events.{answer_of, completed_phase}
-use Rattle.pnp_model.specs.Walks.{after}
 use Rattle.device_stack.specs.declared.walk.NoSuchRequest.{NoSuchRequest}
+use Rattle.device_stack.specs.Waiting.{minor_of}
 use Rattle.start_sequence.specs.declared.work.Phase.{Phase}
 use Rattle.start_sequence.specs.declared.work.Phase.TheVariants.{Adding, Searching, Starting, Removing, Due}
 
@@ -21,27 +21,9 @@ phase_of (Starting standing) = Records.Phase.Starting standing.walk
 phase_of (Removing standing) = Records.Phase.Removing standing.walk
 phase_of (Due problem) = Records.Phase.Due problem
 
-abbrev pub minor_if : Walk → Bool → Option Minor
-minor_if w true = Some w.minor
-minor_if w false = None
-
-abbrev pub minor_of : Option Walk → Option Minor
-minor_of None = None
-minor_of (Some w) = minor_if w w.waits
-
 -- the request that waits in a phase
 abbrev pub minor_that_waits : Records.Phase → Option Minor
 minor_that_waits phase = minor_of (phase_walk phase)
-
--- a walk that waits goes on with the answer; any other refuses, and stays
-abbrev pub CompletesWalk : Bool → Result (Unit {0}) NoSuchRequest → Walk → Bool → Walk → Type 0
-CompletesWalk true (Ok done) old ok new = new ≡ after old (answer_of ok)
-CompletesWalk false (Err refused) old ok new = new ≡ old
-CompletesWalk true (Err refused) old ok new = ⊥
-CompletesWalk false (Ok done) old ok new = ⊥
-
-abbrev pub CompletedWalk : Result (Unit {0}) NoSuchRequest → Walk → Bool → Walk → Type 0
-CompletedWalk result old ok new = CompletesWalk old.waits result old ok new
 
 -- a start that waits goes on with the answer; any other refuses, and stays
 abbrev pub CompletesWork : Bool → Result (Unit {0}) NoSuchRequest → Activity → Bool → Activity → Type 0

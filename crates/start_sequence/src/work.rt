@@ -3,7 +3,7 @@ ghost use Rattle.pnp_model.specs.Machine.{phase_walk};
 ghost use Rattle.pnp_model.specs.Walks.{walk_of};
 ghost use Rattle.pnp_model.specs.Records.Phase.{Starting, Removing};
 ghost use Rattle.pnp_labels.specs.declared.words.Minor.TheVariants.{Start, Remove};
-ghost use Rattle.start_sequence.specs.Works.{minor_if, minor_that_waits, CompletedWalk, CompletedWork};
+ghost use Rattle.start_sequence.specs.Works.{minor_that_waits, CompletedWork};
 
 use crate::pending::Pending;
 use device_stack::{NoSuchRequest, Walk};
@@ -41,23 +41,6 @@ impl Model for StartWork {
     ghost Value = { Activity };
 
     ghost view = { λ w. record { serial = w.serial; phase = phase_of w.phase } };
-}
-
-/// The request of a walk that waits.
-fn waiting_minor(walk: &Walk) -> Option<Minor>
-    ensures { result ≡ minor_if walk.now.walk walk.now.walk.waits }
-{
-    walk.waits().map(|_| walk.minor())
-}
-
-/// Completes a walk where it waits.
-fn complete_walk(walk: &mut Walk, ok: bool) -> Result<(), NoSuchRequest>
-    ensures { CompletedWalk result walk.old.walk ok walk.new.walk }
-{
-    match walk.waits() {
-        Some(pos) => walk.complete(pos, ok),
-        None => Err(NoSuchRequest),
-    }
 }
 
 impl StartWork {
@@ -99,7 +82,7 @@ impl StartWork {
         ensures { result ≡ minor_that_waits self.now.phase }
     {
         match &self.phase {
-            Phase::Starting(walk) | Phase::Removing(walk) => waiting_minor(walk),
+            Phase::Starting(walk) | Phase::Removing(walk) => walk.waiting_minor(),
             _ => None,
         }
     }
@@ -111,8 +94,8 @@ impl StartWork {
         ensures { CompletedWork result self.old ok self.new }
     {
         match &mut self.phase {
-            Phase::Starting(walk) => complete_walk(walk, ok),
-            Phase::Removing(walk) => complete_walk(walk, ok),
+            Phase::Starting(walk) => walk.complete_waiting(ok),
+            Phase::Removing(walk) => walk.complete_waiting(ok),
             _ => Err(NoSuchRequest),
         }
     }

@@ -6,12 +6,12 @@ use Rattle.pnp_labels.specs.declared.label.OpKind.{OpKind}
 use Rattle.pnp_labels.specs.declared.words.Minor.{Minor}
 use Rattle.pnp_model.specs.Keyed.{those}
 use Rattle.pnp_model.specs.Walks.{walk_of}
-use Rattle.pnp_model.specs.Cores.{node_at, stack_of}
+use Rattle.pnp_model.specs.Cores.{node_at, stack_of, core_of}
 use Rattle.pnp_model.specs.Records as Records
 use Rattle.pnp_model.specs.Records.{Node, Relation, Walk, Surprise}
 use Rattle.pnp_model.specs.Trees.{leaving}
 use Rattle.pnp_model.specs.Surprises.{finish_with, finish_on, tell_on, is_told_node}
-use Rattle.relations.specs.Leaving.{core_of, IsLeaving}
+use Rattle.relations.specs.Leaving.{IsLeaving}
 use Rattle.surprise_remove.specs.Begins.{BegunFor}
 use Rattle.surprise_remove.specs.Frames.{finish_if_none}
 

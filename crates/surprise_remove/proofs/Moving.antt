@@ -11,14 +11,13 @@ use Rattle.pnp_labels.specs.declared.states.DevState.TheVariants.{NoStack}
 use Rattle.pnp_model.specs.Keyed.{changed_first, without_first}
 use Rattle.pnp_model.specs.Tests.{has}
 use Rattle.pnp_model.specs.Walks.{state_after}
-use Rattle.pnp_model.specs.Cores.{is_node, node_at, with_problem, stack_of, bare, forget}
+use Rattle.pnp_model.specs.Cores.{is_node, node_at, with_problem, stack_of, bare, forget, core_of}
 use Rattle.pnp_model.specs.Frames.{first_node, rest}
 use Rattle.pnp_model.specs.Records as Records
 use Rattle.pnp_model.specs.Records.{Node, Core, Driver, Relation, Walk, Surprise}
 use Rattle.pnp_model.specs.Removals.{RemoveBeside}
 use Rattle.pnp_model.specs.Surprises.{finish_with, finish_on, tell_on, tell_step, remove_step, settle, settle_target, settle_other, SurpriseMove}
 use Rattle.pnp_laws.proofs.Lookups.{own_serial}
-use Rattle.relations.specs.Leaving.{core_of}
 use Rattle.query_remove.specs.Walks.{EndsFor}
 use Rattle.query_remove.specs.Parts.{PathIs}
 use Rattle.query_remove.proofs.Queues.{rest_is}

@@ -5,11 +5,10 @@ use Rattle.pnp_labels.specs.Texts.{Text}
 use Rattle.pnp_labels.specs.declared.label.Label.{Label}
 use Rattle.pnp_labels.specs.declared.label.RemoveStep.TheVariants as steps
 use Rattle.pnp_model.specs.Walks.{has_ended}
-use Rattle.pnp_model.specs.Cores.{node_at}
+use Rattle.pnp_model.specs.Cores.{node_at, core_of}
 use Rattle.pnp_model.specs.Frames.{asked, first_node}
 use Rattle.pnp_model.specs.Records.{Node, Core, Driver, Relation, Walk, Surprise}
 use Rattle.pnp_model.specs.Surprises.{SurpriseMove, surprise_step, surprised, tell_step, remove_step}
-use Rattle.relations.specs.Leaving.{core_of}
 use Rattle.query_remove.specs.Walks.{WalksFor}
 use Rattle.query_remove.specs.declared.walking.Walked.TheVariants.{On, Ended}
 use Rattle.query_remove.proofs.Queues.{first_is}

@@ -7,8 +7,8 @@ use Rattle.pnp_labels.specs.declared.label.RemoveStep.TheVariants as steps
 use Rattle.pnp_model.specs.Machine.{surprise_walk}
 use Rattle.pnp_model.specs.Records.{Node, Core, Driver, Relation, Surprise, SurpriseStage}
 use Rattle.pnp_model.specs.Records.SurpriseStage.{Telling, Removing, Settling, Ending}
+use Rattle.pnp_model.specs.Cores.{core_of}
 use Rattle.pnp_model.specs.Surprises.{SurpriseMove, tell_step, remove_step, close, settle}
-use Rattle.relations.specs.Leaving.{core_of}
 use Rattle.surprise_remove.specs.Steps.{Moved}
 
 -- the move of this node, whatever drivers there are and whatever is reserved

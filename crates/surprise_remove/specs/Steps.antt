@@ -5,9 +5,9 @@ use Rattle.pnp_labels.specs.declared.label.RemoveStep.{RemoveStep}
 use Rattle.pnp_labels.specs.declared.label.RemoveStep.TheVariants as steps
 use Rattle.pnp_model.specs.Frames.{first_node}
 use Rattle.pnp_model.specs.Records.{Node, Core, Driver, Relation, Surprise, SurpriseStage}
+use Rattle.pnp_model.specs.Cores.{core_of}
 use Rattle.pnp_model.specs.Removals.{RemoveBeside}
 use Rattle.pnp_model.specs.Surprises.{SurpriseMove, surprised}
-use Rattle.relations.specs.Leaving.{core_of}
 use Rattle.query_remove.specs.Steps.{IsStripped}
 
 -- what is printed, what is there then and where the operation stands then are those of the move, and the step tells what

@@ -2,15 +2,13 @@ ghost use Rattle.std.specs.Prelude.{◌≡◌, ◌==◌, slice_get, option_map};
 ghost use Rattle.pnp_model.specs.Tests.{has};
 ghost use Rattle.pnp_model.specs.Machine.{surprise_walk};
 ghost use Rattle.pnp_model.specs.Surprises.{finish_on};
-ghost use Rattle.pnp_model.specs.Cores.{node_at};
-ghost use Rattle.query_remove.specs.Frames.{has_drivers};
 ghost use Rattle.surprise_remove.specs.Frames.{minor_that_waits, Completed};
 
 use device_ids::Text;
 use device_stack::{NoSuchRequest, Walk};
 use devnode_tree::Tree;
 use pnp_labels::Minor;
-use query_remove::{SerialQueue, complete_walk, waiting_minor};
+use query_remove::{SerialQueue, has_drivers};
 use relations::SerialSet;
 use std::marker::Model;
 
@@ -55,7 +53,7 @@ impl Surprise {
     {
         match self.stage {
             Stage::Settling | Stage::Ending => None,
-            _ => waiting_minor(&self.walk),
+            _ => self.walk.waiting_minor(),
         }
     }
 
@@ -66,7 +64,7 @@ impl Surprise {
     {
         match self.stage {
             Stage::Settling | Stage::Ending => Err(NoSuchRequest),
-            _ => complete_walk(&mut self.walk, ok),
+            _ => self.walk.complete_waiting(ok),
         }
     }
 
@@ -122,15 +120,5 @@ impl Surprise {
         } else {
             self.stage = Stage::Settling;
         }
-    }
-}
-
-/// Whether a device has drivers.
-fn has_drivers(tree: &Tree, serial: u64) -> bool
-    ensures { result ≡ has_drivers (node_at serial tree.now.nodes) }
-{
-    match tree.node(serial) {
-        Some(node) => node.stack.len() > 0,
-        None => false,
     }
 }

@@ -1,13 +1,12 @@
 use Rattle.std.proofs.Common.{ℕ, ◌∙◌, ap, sym, subst}
 use Rattle.pnp_labels.specs.declared.label.Label.{Label}
 use Rattle.pnp_labels.specs.declared.states.Problem.{Problem}
-use Rattle.pnp_model.specs.Cores.{node_at}
+use Rattle.pnp_model.specs.Cores.{node_at, core_of}
 use Rattle.pnp_model.specs.Records.{Activity, Node}
 use Rattle.pnp_model.specs.Records.Phase.{Starting, Due}
 use Rattle.device_stack.specs.Standing.{Standing}
 use Rattle.devnode_tree.specs.Trees.{Tree}
 use Rattle.start_sequence.specs.Parts.{SearchedFor}
-use Rattle.start_sequence.specs.Steps.{core_of}
 use Rattle.start_sequence.specs.declared.next.StartStep.TheVariants as steps
 use Rattle.start_sequence.proofs.Finding.{found_assignment, found_nothing, found_spent}
 use Rattle.start_sequence.proofs.work.StartWork.search.Goals as goal
@@ -20,7 +19,7 @@ returns-in_ok-assign-in-Assignment-clause-searched c rack relations reserved mir
     let held = c.in_ok-held-in-Assignment.held in
     let answers = rw c.in-Assignment.is at c.in_ok-plan.ensures.answers in
     subst
-    (λ (i : ℕ). SearchedFor c.args.budget (node_at i nodes) (core_of nodes rack relations reserved) (steps.Did (Label.Assign c.in_ok-path.path held)) (core_of c.assign.new.tree.nodes rack relations reserved)
+    (λ (i : ℕ). SearchedFor c.args.budget (node_at i nodes) (core_of nodes relations rack reserved) (steps.Did (Label.Assign c.in_ok-path.path held)) (core_of c.assign.new.tree.nodes relations rack reserved)
     (Starting c.begin.result.walk)) (ap (λ (a : Activity). a.serial) c.self.view_is)
     (found_assignment c.args.budget k nodes c.args.arbiters.now c.in-Some.node.now (sym c.in-Some.ensures.node) c.in_ok-path.path named rack relations reserved mirrors
     c.in-Assignment.plan c.in_ok-holds-in-Assignment.holds held c.assign.new.tree.nodes (Starting c.begin.result.walk) answers c.in_ok-holds-in-Assignment.ensures c.in_ok-held-in-Assignment.ensures
@@ -31,7 +30,7 @@ returns-in-NoFit-clause-searched c rack relations reserved mirrors =
     let nodes = c.args.tree.now.nodes in
     let named = c.in_ok-path.ensures ∙ (c.bytes.ensures.bytes ∙ ap (λ (n : Node). n.path) c.node-2.view_is) in
     let answers = rw c.in-NoFit.is at c.in_ok-plan.ensures.answers in
-    let before = core_of nodes rack relations reserved in
+    let before = core_of nodes relations rack reserved in
     subst (λ (i : ℕ). SearchedFor c.args.budget (node_at i nodes) before (steps.Needs (Label.NoFit c.in_ok-path.path)) before c.args.self.now.phase) (ap (λ (a : Activity). a.serial) c.self.view_is)
     (found_nothing c.args.budget c.self.inside.serial nodes c.args.arbiters.now c.in-Some.node.now (sym c.in-Some.ensures.node) c.in_ok-path.path named rack relations reserved mirrors c.args.self.now.phase answers)
 
@@ -40,6 +39,6 @@ returns-in-Spent-clause-searched c rack relations reserved mirrors =
     let nodes = c.args.tree.now.nodes in
     let named = c.in_ok-path.ensures ∙ (c.bytes.ensures.bytes ∙ ap (λ (n : Node). n.path) c.node-2.view_is) in
     let answers = rw c.in-Spent.is at c.in_ok-plan.ensures.answers in
-    let before = core_of nodes rack relations reserved in
+    let before = core_of nodes relations rack reserved in
     subst (λ (i : ℕ). SearchedFor c.args.budget (node_at i nodes) before (steps.Did (Label.Spent c.in_ok-path.path)) before (Due Problem.Budget)) (ap (λ (a : Activity). a.serial) c.self.view_is)
     (found_spent c.args.budget c.self.inside.serial nodes c.args.arbiters.now c.in-Some.node.now (sym c.in-Some.ensures.node) c.in_ok-path.path named rack relations reserved mirrors answers)

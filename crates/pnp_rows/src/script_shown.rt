@@ -1,0 +1,128 @@
+//! An event as a line of text, so that a table can say which event is meant.
+use device_ids::IdList;
+use pnp_labels::{Event, Rule};
+use resource_reqs::{AltList, Reqs};
+use std::alloc::{AllocError, Global};
+
+fn put(text: &mut Vec<u8>, word: &[u8]) -> Result<(), AllocError> {
+    text.extend_from_slice(word)?;
+    text.push(b' ')?;
+    Ok(())
+}
+
+fn put_words(text: &mut Vec<u8>, words: &[&[u8]]) -> Result<(), AllocError> {
+    for word in words {
+        put(text, word)?;
+    }
+    Ok(())
+}
+
+fn put_ids(text: &mut Vec<u8>, name: &[u8], ids: &IdList) -> Result<(), AllocError> {
+    put(text, name)?;
+    for at in 0..ids.len() {
+        put(text, ids.get(at).bytes())?;
+    }
+    Ok(())
+}
+
+fn put_list(alloc: Global, text: &mut Vec<u8>, list: &AltList) -> Result<(), AllocError> {
+    put(text, b"list")?;
+    for at in 0..list.len() {
+        put(text, b"group")?;
+        let group = list.get(at);
+        for place in 0..group.len() {
+            let want = group.get(place);
+            let shown = format!(in alloc;
+                "{:?} {}-{} {} {} {}",
+                want.kind, want.min, want.max, want.len, want.align, want.shared
+            )?;
+            put(text, shown.as_bytes())?;
+        }
+    }
+    Ok(())
+}
+
+fn put_reqs(alloc: Global, text: &mut Vec<u8>, reqs: &Reqs) -> Result<(), AllocError> {
+    for at in 0..reqs.len() {
+        put_list(alloc, text, reqs.get(at))?;
+    }
+    Ok(())
+}
+
+fn put_rule(alloc: Global, text: &mut Vec<u8>, rule: &Rule) -> Result<(), AllocError> {
+    let shown = format!(in alloc; "{:?}", rule.what)?;
+    put(text, shown.as_bytes())?;
+    match &rule.path {
+        Some(path) => put(text, path.bytes())?,
+        None => put(text, b"*")?,
+    }
+    let shown = format!(in alloc; "{:?} {:?}", rule.answer, rule.uses)?;
+    put(text, shown.as_bytes())
+}
+
+fn put_operation(text: &mut Vec<u8>, event: &Event) -> Result<(), AllocError> {
+    match event {
+        Event::Pull { path } => put_words(text, &[b"Pull", path.bytes()]),
+        Event::Disable { path } => put_words(text, &[b"Disable", path.bytes()]),
+        Event::Enable { path } => put_words(text, &[b"Enable", path.bytes()]),
+        Event::Eject { path } => put_words(text, &[b"Eject", path.bytes()]),
+        _ => Ok(()),
+    }
+}
+
+fn put_plug(alloc: Global, text: &mut Vec<u8>, event: &Event) -> Result<(), AllocError> {
+    if let Event::Plug {
+        parent,
+        path,
+        hw,
+        compat,
+        reqs,
+    } = event
+    {
+        put_words(text, &[b"Plug", parent.bytes(), path.bytes()])?;
+        put_ids(text, b"hw", hw)?;
+        put_ids(text, b"compat", compat)?;
+        put_reqs(alloc, text, reqs)?;
+    }
+    Ok(())
+}
+
+/// An event with its fields, each followed by a space.
+pub fn shown(alloc: Global, event: &Event) -> Result<Vec<u8>, AllocError> {
+    let mut text = Vec::new(alloc);
+    match event {
+        Event::Plug { .. } => put_plug(alloc, &mut text, event)?,
+        Event::Name { name, kind } => {
+            let kind = format!(in alloc; "{:?}", kind)?;
+            put_words(&mut text, &[b"Name", name.bytes(), kind.as_bytes()])?;
+        }
+        Event::Teach { name, rule } => {
+            put_words(&mut text, &[b"Teach", name.bytes()])?;
+            put_rule(alloc, &mut text, rule)?;
+        }
+        Event::Relate {
+            kind,
+            owner,
+            member,
+        } => {
+            let kind = format!(in alloc; "{:?}", kind)?;
+            put_words(
+                &mut text,
+                &[b"Relate", kind.as_bytes(), owner.bytes(), member.bytes()],
+            )?;
+        }
+        Event::Reserve { res } => {
+            let res = format!(in alloc;
+                "Reserve {:?} {}-{} {}",
+                res.kind, res.lo, res.hi, res.shared
+            )?;
+            put(&mut text, res.as_bytes())?;
+        }
+        Event::Complete { path, minor, ok } => {
+            let end = format!(in alloc; "{:?} {}", minor, ok)?;
+            put_words(&mut text, &[b"Complete", path.bytes(), end.as_bytes()])?;
+        }
+        _ => put_operation(&mut text, event)?,
+    }
+    Ok(text)
+}

@@ -1,0 +1,73 @@
+//! A whole script with every form, in one piece and in pieces of any size.
+use crate::script_shown::shown;
+use script_reader::{Script, ScriptEnd, read_events, read_pieces};
+use std::alloc::Global;
+use std::process::Abort;
+use std::test::Fail;
+
+const SCRIPT: &[u8] = b"# every form once\r
+driver dev\tscripted
+plug HTREE\\ROOT\\0 OWN\\DEV 1 need=mem:0xE0000000-0xEFFFFFFF/0x20000@64:shared|irq:5;port:8-15/8 hw=OWN\\A,OWN\\B need=dma:1:shared
+
+  teach dev QUERY_STOP_DEVICE * pend 1000000\r
+teach d-e_v.2 add OWN\\DEV\\1 fail
+reserve irq:4
+relate ejection OWN\\DEV\\1 HTREE\\ROOT\\0
+complete OWN\\DEV\\1 START_DEVICE ok
+disable OWN\\DEV\\1
+ # not an event
+enable own\\dev\\1
+eject OWN\\DEV\\1
+pull OWN\\DEV\\1
+plug OWN\\X\\2 A B\\C compat=*PNP0501
+plag";
+
+const EVENTS: [(u64, &[u8]); 12] = [
+    (2, b"Name dev Scripted "),
+    (
+        3,
+        b"Plug HTREE\\ROOT\\0 OWN\\DEV\\1 hw OWN\\A OWN\\B compat list group Mem 3758096384-4026531839 131072 64 true Irq 5-5 1 1 false group Port 8-15 8 1 false list group Dma 1-1 1 1 true ",
+    ),
+    (5, b"Teach dev Irp(QueryStop) * Pend Some(1000000) "),
+    (6, b"Teach d-e_v.2 Add OWN\\DEV\\1 Fail None "),
+    (7, b"Reserve Irq 4-4 false "),
+    (8, b"Relate Ejection OWN\\DEV\\1 HTREE\\ROOT\\0 "),
+    (9, b"Complete OWN\\DEV\\1 Start true "),
+    (10, b"Disable OWN\\DEV\\1 "),
+    (12, b"Enable own\\dev\\1 "),
+    (13, b"Eject OWN\\DEV\\1 "),
+    (14, b"Pull OWN\\DEV\\1 "),
+    (15, b"Plug OWN\\X\\2 A\\B\\C hw A compat *PNP0501 "),
+];
+
+fn assert_script(rt: &impl Abort, alloc: Global, script: &Script) -> Result<(), Fail> {
+    assert!(rt; script.ends == (ScriptEnd::Bad { line: 16 }));
+    assert_eq!(rt; script.lines.len(), EVENTS.len());
+    let mut at = 0;
+    for line in &script.lines {
+        let Some((number, text)) = EVENTS.get(at) else {
+            break;
+        };
+        assert_eq!(rt; line.line, *number);
+        let event = shown(alloc, &line.event)?;
+        assert!(rt; event.as_slice() == *text, "line {number}");
+        at += 1;
+    }
+    Ok(())
+}
+
+#[test]
+fn gives_each_form(rt: HostRuntime) -> Result<(), Fail> {
+    let script = read_events(rt.alloc(), SCRIPT)?;
+    assert_script(&rt, rt.alloc(), &script)
+}
+
+#[test]
+fn pieces_of_any_size(rt: HostRuntime) -> Result<(), Fail> {
+    for size in [1usize, 7, 4096] {
+        assert!(rt; 0 < size);
+        let script = read_pieces(rt.alloc(), SCRIPT, size)?;
+        assert_script(&rt, rt.alloc(), &script)?;
+    }
+    Ok(())
+}
