@@ -13,7 +13,7 @@ use Rattle.pnp_model.specs.Records.{Node, Device, Driver, Relation, Activity, St
 use Rattle.pnp_model.specs.Books.{is_named, is_unnamed}
 use Rattle.pnp_model.specs.States.{activity_at, list_node, node_born, node_of, device_of, plug, unplug, enable_path, without_those}
 use Rattle.pnp_model.specs.Tests.{is_started}
-use Rattle.pnp_laws.proofs.Ranks.{and_both}
+use Rattle.pnp_laws.proofs.Truths.{and_both}
 use Rattle.pnp_machine.specs.Machines.{HasFewIds}
 use Rattle.pnp_model.specs.Events as ev
 
