@@ -47,7 +47,8 @@ pub enum DriverKind {
 pub enum RelKind {
     /// RemovalRelations: the member loses its drivers when the owner does.
     Removal,
-    /// EjectionRelations: the member loses its drivers when the owner is ejected, and stays in the machine, with problem 47.
+    /// EjectionRelations: the member loses its drivers when the owner does; where it stays after an eject, its problem is
+    /// 47.
     Ejection,
 }
 

@@ -11,5 +11,6 @@ mod RowsRemovals
 mod RowsRelations
 mod RowsReturns
 mod RowsBoard
+mod RowsKept
 mod RowsMixed
 mod RowsMixedMore
