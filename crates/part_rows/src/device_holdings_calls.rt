@@ -1,8 +1,8 @@
 ghost use Rattle.std.specs.Prelude.{[], IfOk};
 ghost use Rattle.device_holdings.specs.Mirrors.{Mirrors};
 
-use device_holdings::{assign, assign_all, is_in_use, map_rows, release, reserve, search};
 use assign_search::Found;
+use device_holdings::{assign, assign_all, is_in_use, map_rows, release, reserve, search};
 use device_ids::{DeviceId, IdList, InstancePath};
 use devnode_tree::Tree;
 use pnp_labels::DevState;

@@ -1,4 +1,6 @@
-use device_ids::{DeviceId, IdError, IdList, InstancePath, PathError, Text, TextList, cut, split_once};
+use device_ids::{
+    DeviceId, IdError, IdList, InstancePath, PathError, Text, TextList, cut, split_once,
+};
 use std::test::Fail;
 
 #[test]

@@ -1,5 +1,5 @@
-use device_stack::{NoSuchRequest, Walk, WalkStep, ask_driver};
 use device_ids::InstancePath;
+use device_stack::{NoSuchRequest, Walk, WalkStep, ask_driver};
 use driver_rack::{Drivers, Rack, Scripted, Stubborn};
 use pnp_labels::{Answer, Ask, AskWhat, Minor, Rule, Stack, Verdict};
 use std::test::Fail;

@@ -1,7 +1,7 @@
 ghost use Rattle.std.specs.Prelude.{◌≡◌, ◌+◌, ◌<◌, ◌^◌, IfOk, OnOk, OnErr};
 
-use devnode_tree::{JoinError, PrintRow, Tree};
 use device_ids::{IdList, InstancePath};
+use devnode_tree::{JoinError, PrintRow, Tree};
 use pnp_labels::{DevState, Problem, Stack};
 use resource_reqs::{Kind, Reqs, Res, ResList};
 use std::alloc::Global;

@@ -1,7 +1,7 @@
 ghost use Rattle.std.specs.Prelude.{◌<◌, ◌^◌, length};
 
-use driver_rack::{Driver, Drivers, NameError, Rack, Scripted, Steady, Stubborn, TeachError};
 use device_ids::{InstancePath, Text, WantOfMemory};
+use driver_rack::{Driver, Drivers, NameError, Rack, Scripted, Steady, Stubborn, TeachError};
 use pnp_labels::{Answer, Ask, AskWhat, DriverKind, Minor, Rule};
 use std::alloc::Global;
 use std::test::Fail;

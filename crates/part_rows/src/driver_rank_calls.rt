@@ -1,6 +1,6 @@
 //! What is chosen, worked out by hand or by another program of the same rules.
-use driver_rank::{Choice, best};
 use device_ids::{DeviceId, IdList, Text, TextList};
+use driver_rank::{Choice, best};
 use inf_reader::{Inf, ModelLine, ModelLines};
 use std::alloc::{AllocError, Global};
 use std::test::Fail;

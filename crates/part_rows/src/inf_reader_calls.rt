@@ -1,6 +1,6 @@
 //! INFs with what they must give, worked out by hand or by another program of the same rules.
-use inf_reader::{Inf, InfError, ModelLine, read};
 use device_ids::TextList;
+use inf_reader::{Inf, InfError, ModelLine, read};
 use std::alloc::{AllocError, Global};
 use std::test::Fail;
 

@@ -1,8 +1,8 @@
+use device_ids::Text;
 use pnp_labels::{
     BornList, DevState, EventWord, Label, Minor, OpEnd, OpKind, Problem, Reason, SerialList, Shown,
     Stack, TaskKind, label_line,
 };
-use device_ids::Text;
 use resource_reqs::{Kind, Res, ResList};
 use std::alloc::Global;
 use std::process::Abort;

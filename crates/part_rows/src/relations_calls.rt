@@ -1,9 +1,9 @@
 ghost use Rattle.std.specs.Prelude.{◌≡◌, ◌+◌, ◌<◌, ◌^◌, IfOk, OnOk};
 
-use relations::{RelateError, Relations, SerialSet};
 use device_ids::{IdList, InstancePath};
 use devnode_tree::Tree;
 use pnp_labels::{DevState, RelKind, SerialList};
+use relations::{RelateError, Relations, SerialSet};
 use resource_reqs::Reqs;
 use std::alloc::Global;
 use std::process::Abort;

@@ -1,10 +1,10 @@
 //! Worlds and what listings find, worked out by hand.
 ghost use Rattle.std.specs.Prelude.{◌≡◌, ◌+◌, ◌<◌, ◌^◌, IfOk, OnOk, OnErr};
 
-use script_bus::{Difference, PlugError, PullError, World, difference, next_join};
 use device_ids::{IdList, InstancePath};
 use devnode_tree::Tree;
 use resource_reqs::Reqs;
+use script_bus::{Difference, PlugError, PullError, World, difference, next_join};
 use std::alloc::Global;
 use std::test::Fail;
 
