@@ -88,3 +88,9 @@ pub mod Falling
 pub mod StepsLeft
 pub mod EventBirths
 pub mod RunsSerials
+pub mod RunsKeys
+pub mod StackMoves
+pub mod StackSteps
+pub mod StackEvents
+pub mod RunsStacks
+pub mod RunsTold

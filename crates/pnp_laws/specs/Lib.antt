@@ -11,3 +11,6 @@ pub mod Quiet
 pub mod Ends
 pub mod StepsLeft
 pub mod Serials
+pub mod Keys
+pub mod Stacks
+pub mod Told
