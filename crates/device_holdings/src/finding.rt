@@ -5,8 +5,7 @@ ghost use Rattle.pnp_model.specs.Cores.{node_at};
 ghost use Rattle.pnp_model.specs.Records.{Node};
 ghost use Rattle.pnp_model.specs.Frames.{held_by};
 ghost use Rattle.pnp_model.specs.Rebalances.{reqs_of};
-ghost use Rattle.range_arbiter.specs.Pairs.{res_list};
-ghost use Rattle.trial_journal.specs.Four.{of_kind, lists_of};
+ghost use Rattle.trial_journal.specs.Four.{lists_of};
 ghost use Rattle.assign_search.specs.Fixed as Fixed;
 ghost use Rattle.device_holdings.specs.Mirrors.{AreFew, Mirrors, IsMirrored};
 ghost use Rattle.device_holdings.specs.Answers.{needs_of, Answers};
@@ -14,7 +13,7 @@ ghost use Rattle.device_holdings.specs.Idle.{IsIdle, AreIdle};
 
 use assign_search::{Found, Mover, answer, answer_beside};
 use devnode_tree::Tree;
-use resource_reqs::{Kind, Reqs, Res, WantOfMemory, clash};
+use resource_reqs::{Reqs, Res, WantOfMemory};
 use std::alloc::Global;
 use trial_journal::Arbiters;
 
@@ -90,26 +89,11 @@ pub fn search(
     answer(alloc, arbiters, &movers, budget)
 }
 
-/// Whether a range clashes with a pair of a kind.
-fn is_among(arbiters: &Arbiters, kind: Kind, res: &Res) -> bool
-    requires { AreFew (lists_of arbiters.now) }
-    ensures { result ≡ list_any (clashes res.now) (res_list (of_kind arbiters.now kind).pairs) }
-{
-    let mut at = 0;
-    'pairs: while let Some(pair) = arbiters.held(kind, at) {
-        if clash(res, &pair.1) {
-            return true;
-        }
-        at += 1;
-    }
-    false
-}
-
 /// Whether a range clashes with what is reserved or with what a device holds. Condition: few pairs are held. It takes
-/// no memory. Cost: the pairs of its kind.
+/// no memory. Cost: that of `Arbiters::clashes`.
 pub fn is_in_use(arbiters: &Arbiters, res: &Res) -> bool
     requires { AreFew (lists_of arbiters.now) }
     ensures { (reserved : List Res) (nodes : List Node) → Mirrors reserved nodes arbiters.now → result ≡ list_any (clashes res.now) (reserved ++ held_by nodes) }
 {
-    is_among(arbiters, res.kind, res)
+    arbiters.clashes(res)
 }
