@@ -21,7 +21,7 @@ use Rattle.assign_search.specs.Fixed.{is_mover, fixed_pairs, has_moving, fixed_o
 use Rattle.assign_search.proofs.SameHeld.{SameSet}
 use Rattle.assign_search.proofs.Touching.{contains_later}
 
-any_means : (serials : List ℕ) (x : ℕ) → list_any (λ s. s == x) serials ≡ true → Contains serials x
+pub any_means : (serials : List ℕ) (x : ℕ) → list_any (λ s. s == x) serials ≡ true → Contains serials x
 any_means [] x h = cc
 any_means (s ∷ serials) x h = elim (or_cases (s == x) (list_any (λ s. s == x) serials) h) [
   | inl e ↦ (0, omega arith, eqb-true s x e)

@@ -9,3 +9,4 @@ pub mod Along
 pub mod Planning
 pub mod SameAnswers
 pub mod Fixing
+pub mod Watched

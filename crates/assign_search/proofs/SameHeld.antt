@@ -116,7 +116,7 @@ length-holding l None = (omega arith, omega arith)
 length-holding l (Some r) = let more = length-put_in l r.kind (Reserved, r) in (omega arith, omega arith)
 
 -- what a resource that is put in adds
-put_adds : (l : Lists) (r : Res) (x : Res) → (Contains (lists_res (lists_holding l (Some r))) x → Contains (lists_res l) x ⊎ (r ≡ x))
+pub put_adds : (l : Lists) (r : Res) (x : Res) → (Contains (lists_res (lists_holding l (Some r))) x → Contains (lists_res l) x ⊎ (r ≡ x))
     × ((Contains (lists_res l) x → Contains (lists_res (lists_holding l (Some r))) x) × Contains (lists_res (lists_holding l (Some r))) r)
 put_adds l r x =
     let p : Pair = (Reserved, r) in

@@ -15,6 +15,7 @@ use Rattle.assign_search.specs.declared.spots.Step.TheVariants.{Alt}
 use Rattle.assign_search.specs.declared.spots.Child.{Child}
 use Rattle.assign_search.specs.declared.spots.Frame.{Frame}
 use Rattle.assign_search.specs.Walking.{coord_of, coords, groups_at, movers_at, point_at, IsSpot, IsOpenCoord, Goes, IsChild, NoChild, NextOpen, HasOpen, AllOpen, HasOpenList, Adds, list_at, lists_holding}
+use Rattle.assign_search.specs.Watching.{Within}
 use Rattle.assign_search.proofs.Held.{held_of, clean_of_open, live_of_open, open_of_live, open_at, later_next, groups_next}
 use Rattle.assign_search.proofs.SameHeld.{SameSet, lists_res, board_of, board_same, child_same, no_child_same, all_open_same, lists_same, same_back, put_there, holding_once}
 
@@ -175,7 +176,7 @@ module _ (fixed : List Res) (ms : List Reqs) (base : Lists) (same_base : SameSet
   -- what the look ahead says of a child, of what is held then
   pub live_now : (child : Child) (is : Next child) (lists' : Lists) (r : Bool) → lists' ≡ lists_holding lists child.res
       → (child.res ≡ None → AllByRecursion (HasOpenList (lists_res lists')) (movers_at ms child.spot) → IsTrue r ↔ AllOpen (lists_res lists') (groups_at ms child.spot))
-      → ((res : Res) (before : List Res) → child.res ≡ Some res → Adds before res (lists_res lists') → AllOpen before (groups_at ms child.spot)
+      → ((res : Res) (before : List Res) → child.res ≡ Some res → Within before (lists_res lists) → Adds before res (lists_res lists') → AllOpen before (groups_at ms child.spot)
       → AllByRecursion (HasOpenList before) (movers_at ms child.spot)
       → IsTrue r ↔ (AllOpen (lists_res lists') (groups_at ms child.spot) × AllByRecursion (HasOpenList (lists_res lists')) (movers_at ms child.spot)))
       → IsTrue r ↔ (AllOpen (held_of fixed (grew child is).placed) (groups_at ms child.spot) × AllByRecursion (HasOpenList (held_of fixed (grew child is).placed)) (movers_at ms child.spot))
@@ -213,7 +214,7 @@ module _ (fixed : List Res) (ms : List Reqs) (base : Lists) (same_base : SameSet
           let by = listed e (lists_from open_lists) in
           (λ h. (to_held (by.0 h), open_lists), λ both. by.1 (from_held both.0))
       go (Some res) e (p, is_placed, made) =
-          let by = placed res (held_of fixed inv.placed) e (adds_placed fixed inv.placed (grew child is).placed res (lists_res lists') (p, is_placed, made) same)
+          let by = placed res (held_of fixed inv.placed) e (λ x h. (held_now x).1 h) (adds_placed fixed inv.placed (grew child is).placed res (lists_res lists') (p, is_placed, made) same)
           (groups_next (HasOpen (held_of fixed inv.placed)) inv.placed (groups_at ms spot) (movers_at ms spot) (coord_of child.step) (point_at ms (grew child is).placed child.spot) p g.goes is_placed old.0) later in
           (λ h. (to_held (by.0 h).0, lists_to (by.0 h).1), λ both. by.1 (from_held both.0, lists_from both.1))
 

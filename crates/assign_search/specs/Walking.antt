@@ -107,15 +107,9 @@ NoChild held groups movers from = (x : Coord) → (Less x from → ⊥) → IsOp
 abbrev pub Touches : Want → Res → Type 0
 Touches want res = (res.kind ≡ want.kind) × (¬ (IsTrue res.shared × IsTrue want.shared)) × (want.min ≤ res.hi) × (res.lo ≤ want.max)
 
--- some want of the group, of the list, of the lists
+-- some want of the group
 abbrev pub TouchesGroup : Group → Res → Type 0
 TouchesGroup group res = (want : Want) × Contains group want × Touches want res
-
-abbrev pub TouchesList : AltList → Res → Type 0
-TouchesList list res = (group : Group) × Contains list group × TouchesGroup group res
-
-abbrev pub TouchesLists : Reqs → Res → Type 0
-TouchesLists reqs res = (list : AltList) × Contains reqs list × TouchesList list res
 
 -- holds nothing but what was held before and this resource
 abbrev pub Adds : List Res → Res → List Res → Type 0

@@ -4,6 +4,7 @@
 mod board;
 mod children;
 pub mod laws;
+mod live;
 mod look;
 mod mover;
 mod plan;
@@ -11,10 +12,11 @@ mod problem;
 mod search;
 mod spelled;
 mod spots;
+mod watch;
 
 pub use mover::Mover;
 pub use plan::{Found, Plan};
-pub use problem::answer;
+pub use problem::{answer, answer_beside};
 pub use resource_reqs::WantOfMemory;
 
 #[cfg(test)]

@@ -1,12 +1,13 @@
-ghost use Rattle.std.specs.Prelude.{◌≡◌, ◌↔◌, ◌≤◌, ◌<◌, ℕ, IsTrue, IfSome, IfNone, List, map, drop, length, slice_get, Some, None};
+ghost use Rattle.std.specs.Prelude.{◌≡◌, ◌↔◌, ◌<◌, ℕ, IsTrue, IfSome, IfNone, List, map, drop, length, slice_get, Some, None};
 ghost use Rattle.std.specs.List.{AllByRecursion};
-ghost use Rattle.resource_reqs.specs.Resources.{Res, Want, May, res_at};
+ghost use Rattle.resource_reqs.specs.Resources.{Res, Want, May, IsOpen, res_at};
 ghost use Rattle.resource_reqs.specs.Spelling.{Less, place};
 ghost use Rattle.assign_search.specs.Fixed.{reqs_of};
-ghost use Rattle.assign_search.specs.Walking.{OpenPick, NoPick, NoPickFrom, NextPick, HasOpen, AllOpen, HasOpenList, Touches, TouchesGroup, TouchesList, TouchesLists, Adds, IsSpot, groups_at, movers_at, held_in, coord_of};
+ghost use Rattle.assign_search.specs.Walking.{OpenPick, NoPick, NoPickFrom, NextPick, HasOpen, AllOpen, HasOpenList, Touches, TouchesGroup, Adds, held_in, coord_of};
+ghost use Rattle.assign_search.specs.Watching.{IsPlaceOf};
 
-use crate::mover::{Mover, groups_of, reqs_at};
-use crate::spots::{Child, Spot, Step};
+use crate::mover::{Mover, reqs_at};
+use crate::spots::Step;
 use resource_reqs::{AltList, Group, Reqs, Res, Want};
 use trial_journal::Arbiters;
 
@@ -24,7 +25,7 @@ pub struct Pick {
 }
 
 /// The resource of a want at a start.
-fn place_at(want: &Want, start: u64) -> Res
+pub fn place_at(want: &Want, start: u64) -> Res
     requires { May want.now (res_at want.now start) }
     ensures { result ≡ res_at want.now start }
 {
@@ -76,36 +77,72 @@ pub fn first_pick(board: &Arbiters, group: &Group, want: u32, from: u64) -> Opti
     None
 }
 
-/// Whether some want of the group has an open place. It is sought from a number on first: beside a resource that was just
-/// placed, what is free lies most often above it, so what is full below is not gone through again.
-#[tactic(auto, using(crate::proofs::Picking::none_open))]
-fn has_open(board: &Arbiters, group: &Group, near: u64) -> bool
-    ensures { IsTrue result ↔ HasOpen (held_in board.now) group.now }
+/// The most starts that are tried near the end of a want.
+const PROBES: u32 = 12;
+
+/// An open place of the want near its last start: from there, then from starts that lie further and further
+/// back. None says nothing: one may lie lower.
+fn late_start(board: &Arbiters, need: &Want) -> Option<u64>
+    ensures { IfSome result (λ s. IsOpen (held_in board.now) need.now s) }
 {
-    first_pick(board, group, 0, near).is_some() || first_pick(board, group, 0, 0).is_some()
+    let last = need.max - (need.len - 1);
+    let mut back = 0u64;
+    'probes: for _probe in 0..PROBES {
+        let found = board.next_place(need, last.saturating_sub(back));
+        if found.is_some() {
+            return found;
+        }
+        back = back.saturating_mul(4).saturating_add(need.len);
+    }
+    None
 }
 
-/// Whether each group of the list from this one on has an open place, sought from a number on first.
-fn all_open(board: &Arbiters, list: &AltList, from: u32, near: u64) -> bool
+/// Some open place of the group, late in its first want where there is one; none exactly where no place of the
+/// group is open. The search takes the earliest places, so that a late one is seldom hit by what it places.
+pub fn late_place(board: &Arbiters, group: &Group) -> Option<Res>
+    ensures found { IfSome result (λ res. IsPlaceOf (held_in board.now) group.now res) }
+    ensures none { IfNone result (¬ HasOpen (held_in board.now) group.now) }
+{
+    if group.len() != 0 {
+        let need = group.get(0);
+        if let Some(start) = late_start(board, need) {
+            return Some(place_at(need, start));
+        }
+    }
+    match first_pick(board, group, 0, 0) {
+        Some(pick) => Some(pick.res),
+        None => None,
+    }
+}
+
+/// Whether some want of the group has an open place.
+fn has_open(board: &Arbiters, group: &Group) -> bool
+    ensures { IsTrue result ↔ HasOpen (held_in board.now) group.now }
+{
+    late_place(board, group).is_some()
+}
+
+/// Whether each group of the list from this one on has an open place.
+pub fn all_open(board: &Arbiters, list: &AltList, from: u32) -> bool
     ensures { IsTrue result ↔ AllOpen (held_in board.now) (drop from list.now) }
 {
     'groups: for at in from..list.len() {
-        if !has_open(board, list.get(at), near) {
+        if !has_open(board, list.get(at)) {
             return false;
         }
     }
     true
 }
 
-/// Whether there are no lists, or one whose every group has an open place, sought from a number on first.
-fn has_open_list(board: &Arbiters, reqs: &Reqs, near: u64) -> bool
+/// Whether there are no lists, or one whose every group has an open place.
+fn has_open_list(board: &Arbiters, reqs: &Reqs) -> bool
     ensures { IsTrue result ↔ HasOpenList (held_in board.now) reqs.now }
 {
     if reqs.len() == 0 {
         return true;
     }
     'lists: for at in 0..reqs.len() {
-        if all_open(board, reqs.get(at), 0, near) {
+        if all_open(board, reqs.get(at), 0) {
             return true;
         }
     }
@@ -117,7 +154,7 @@ pub fn all_lists(board: &Arbiters, movers: &[Mover], from: usize) -> bool
     ensures { IsTrue result ↔ AllByRecursion (HasOpenList (held_in board.now)) (drop from (map reqs_of movers.now)) }
 {
     'movers: for at in from..movers.len() {
-        if !has_open_list(board, reqs_at(movers, at), 0) {
+        if !has_open_list(board, reqs_at(movers, at)) {
             return false;
         }
     }
@@ -146,79 +183,16 @@ fn touches_group(group: &Group, res: &Res) -> bool
     false
 }
 
-/// Whether some place of some want of the list may clash with the resource.
-fn touches_list(list: &AltList, res: &Res) -> bool
-    ensures { IsTrue result ↔ TouchesList list.now res.now }
-{
-    'groups: for at in 0..list.len() {
-        if touches_group(list.get(at), res) {
-            return true;
-        }
-    }
-    false
-}
-
-/// Whether some place of some want of the lists may clash with the resource.
-fn touches_lists(reqs: &Reqs, res: &Res) -> bool
-    ensures { IsTrue result ↔ TouchesLists reqs.now res.now }
-{
-    'lists: for at in 0..reqs.len() {
-        if touches_list(reqs.get(at), res) {
-            return true;
-        }
-    }
-    false
-}
-
 /// Whether each group of the list from this one on still has an open place beside a resource that came to
 /// what was held: only those that it touches are looked at anew.
-fn groups_beside(board: &Arbiters, list: &AltList, from: u32, res: &Res) -> bool
+pub fn groups_beside(board: &Arbiters, list: &AltList, from: u32, res: &Res) -> bool
     ensures { (before : List Res) → Adds before res.now (held_in board.now) → AllOpen before (drop from list.now) → IsTrue result ↔ AllOpen (held_in board.now) (drop from list.now) }
 {
     'groups: for at in from..list.len() {
         let group = list.get(at);
-        if touches_group(group, res) && !has_open(board, group, res.hi) {
+        if touches_group(group, res) && !has_open(board, group) {
             return false;
         }
     }
     true
-}
-
-/// The same of the lists of each mover from this one on.
-fn lists_beside(board: &Arbiters, movers: &[Mover], from: usize, res: &Res) -> bool
-    ensures { (before : List Res) → Adds before res.now (held_in board.now) → AllByRecursion (HasOpenList before) (drop from (map reqs_of movers.now)) → IsTrue result ↔ AllByRecursion (HasOpenList (held_in board.now)) (drop from (map reqs_of movers.now)) }
-{
-    'movers: for at in from..movers.len() {
-        let reqs = reqs_at(movers, at);
-        if touches_lists(reqs, res) && !has_open_list(board, reqs, res.hi) {
-            return false;
-        }
-    }
-    true
-}
-
-/// Whether each group and each mover that is left after a child has an open place or list, where all had
-/// one before it. A list that is chosen leaves the later movers as they are; a place is looked at beside the
-/// groups and movers that it touches.
-pub fn is_live_child(board: &Arbiters, movers: &[Mover], child: &Child) -> bool
-    requires { IsSpot (map reqs_of movers.now) child.now.spot }
-    ensures listed { child.now.res ≡ None → AllByRecursion (HasOpenList (held_in board.now)) (movers_at (map reqs_of movers.now) child.now.spot)
-        → IsTrue result ↔ AllOpen (held_in board.now) (groups_at (map reqs_of movers.now) child.now.spot) }
-    ensures placed { (res : Res) (before : List Res) → child.now.res ≡ Some res → Adds before res (held_in board.now)
-        → AllOpen before (groups_at (map reqs_of movers.now) child.now.spot) → AllByRecursion (HasOpenList before) (movers_at (map reqs_of movers.now) child.now.spot)
-        → IsTrue result ↔ (AllOpen (held_in board.now) (groups_at (map reqs_of movers.now) child.now.spot) × AllByRecursion (HasOpenList (held_in board.now)) (movers_at (map reqs_of movers.now) child.now.spot)) }
-{
-    match child.spot {
-        Spot::Between(mover) => all_lists(board, movers, mover),
-        Spot::Inside(mover, list, group) => {
-            let groups = groups_of(movers, mover, list);
-            match &child.res {
-                None => all_open(board, groups, group, 0),
-                Some(res) => {
-                    groups_beside(board, groups, group, res)
-                        && lists_beside(board, movers, mover + 1, res)
-                }
-            }
-        }
-    }
 }

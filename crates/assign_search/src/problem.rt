@@ -1,4 +1,4 @@
-ghost use Rattle.std.specs.Prelude.{◌≡◌, ◌≤◌, ◌<◌, ◌+◌, ◌^◌, ◌++◌, length, map, IfOk, OnOk, IsPermutation};
+ghost use Rattle.std.specs.Prelude.{◌≡◌, ◌≤◌, ◌<◌, ◌+◌, ◌^◌, ◌++◌, false, length, map, IfOk, OnOk, IsPermutation};
 ghost use Rattle.std.specs.List.Sorted.{IsNonDecreasing};
 ghost use Rattle.resource_reqs.specs.declared.kind.Kind.{Kind};
 ghost use Rattle.resource_reqs.specs.Spelling.{IsAnswer};
@@ -112,13 +112,32 @@ fn fixed_board(
     Ok(board)
 }
 
+/// The same answer as of `answer`, where no mover holds anything, as at the start of a device: all that is held is
+/// fixed, and no pair is looked at for its owner. The lists of the arbiters are as before, whatever is answered.
+/// Cost: for each prefix that is tried the wants of its group, the groups that its place touches, one look at what is
+/// remembered of each later mover, and a search for new places where it hits one (this project's own).
+pub fn answer_beside(
+    alloc: Global,
+    arbiters: &mut Arbiters,
+    movers: &[Mover],
+    budget: u64,
+) -> Result<Found, WantOfMemory>
+    requires few { (kind : Kind) → length (of_kind arbiters.old kind).pairs ≤ 2 ^ 29 }
+    requires none { has_moving (map serial_of movers.now) (all_pairs arbiters.old) ≡ false }
+    requires budget { budget ≤ 1000000 }
+    ensures answer { IfOk result (λ found. IsAnswer (fixed_of (map serial_of movers.now) (all_pairs arbiters.old)) (map reqs_of movers.now) budget (answer_of found)) }
+    ensures same { lists_of arbiters.new ≡ lists_of arbiters.old }
+{
+    search(alloc, arbiters, movers, budget)
+}
+
 /// The answer to a problem: what is fixed is all that is held by others than the movers; each mover asks for
 /// one whole list; and the budget is the most prefixes of spellings that may be tried. It is the first
 /// assignment in the order of preference, where so many are enough to find it; `NoFit`, where none exists and
 /// so many are enough to see that; else `Spent`. The lists of the arbiters are as before, whatever is answered
 /// (this project's own; the kernel's arbiters search likewise, the driver kit, "Arbiter Interface"). Cost: a
-/// look at the owner of each pair held; where a mover holds one, a copy of the pairs that are fixed; and for
-/// each prefix that is tried the wants of its group and of the groups and movers that its place touches.
+/// look at the owner of each pair held; where a mover holds one, a copy of the pairs that are fixed; and that of
+/// the search (`answer_beside`).
 pub fn answer(
     alloc: Global,
     arbiters: &mut Arbiters,

@@ -1,18 +1,22 @@
-ghost use Rattle.std.specs.Prelude.{◌≡◌, ◌<◌, ◌+◌, ◌^◌, ◌++◌, ◌∷◌, [], length, map, Contains, IfOk, OnOk, OnErr};
+ghost use Rattle.std.specs.Prelude.{◌≡◌, ◌↔◌, ◌<◌, ◌+◌, ◌^◌, ◌++◌, ◌∷◌, List, [], length, map, Contains, IfOk, OnOk, OnErr, IsTrue, Some, None};
 ghost use Rattle.std.specs.List.{AllByRecursion};
 ghost use Rattle.std.specs.Option.{ForSome};
 ghost use Rattle.trial_journal.specs.Four.{of_kind, all_pairs, lists_of, Lists};
+ghost use Rattle.resource_reqs.specs.Resources.{Res};
 ghost use Rattle.resource_reqs.specs.Spelling.{IsAnswer};
 ghost use Rattle.assign_search.specs.Fixed.{reqs_of, answer_of};
-ghost use Rattle.assign_search.specs.Walking.{HasOpenList, held_in, lists_holding, lists_along};
+ghost use Rattle.assign_search.specs.Walking.{AllOpen, HasOpenList, Adds, IsSpot, groups_at, movers_at, held_in, lists_holding, lists_along};
+ghost use Rattle.assign_search.specs.Watching.{AllWatched, AddsStep, Within};
 
 use crate::board::{hold, release};
 use crate::children::{is_complete, next_child};
-use crate::look::{all_lists, is_live_child};
+use crate::live::is_live_child;
+use crate::look::all_lists;
 use crate::mover::Mover;
 use crate::plan::Found;
 use crate::spelled::plan_of;
 use crate::spots::{Child, Frame, Spot, Step};
+use crate::watch::{Watch, no_watch};
 use resource_reqs::{Owner, WantOfMemory};
 use std::alloc::Global;
 use trial_journal::Arbiters;
@@ -45,6 +49,41 @@ fn grow(board: &mut Arbiters, path: &mut Vec<Frame>, frame: Frame) -> Result<(),
     Ok(())
 }
 
+/// Whether a prefix that grows by a child is live. After want of memory what the child placed is taken off the
+/// board.
+fn look_ahead(
+    alloc: Global,
+    board: &mut Arbiters,
+    movers: &[Mover],
+    child: &Child,
+    watch: &mut Watch,
+) -> Result<bool, WantOfMemory>
+    requires spot { IsSpot (map reqs_of movers.now) child.now.spot }
+    requires long { length watch.old.places.items ≡ length movers.now }
+    requires there { ForSome child.now.res (λ r. Contains (of_kind board.old r.kind).pairs (Owner.Reserved, r)) }
+    ensures long { length watch.new.places.items ≡ length movers.now }
+    ensures board { OnOk result (board.new ≡ board.old) }
+    ensures back { OnErr result (lists_holding (lists_of board.new) child.now.res ≡ lists_of board.old) }
+    ensures listed { child.now.res ≡ None → AllByRecursion (HasOpenList (held_in board.old)) (movers_at (map reqs_of movers.now) child.now.spot)
+        → IfOk result (λ live. IsTrue live ↔ AllOpen (held_in board.old) (groups_at (map reqs_of movers.now) child.now.spot)) }
+    ensures placed { (res : Res) (before : List Res) → child.now.res ≡ Some res → Adds before res (held_in board.old)
+        → AllWatched before (map reqs_of movers.now) watch.old.sure watch.old.places.items
+        → AllOpen before (groups_at (map reqs_of movers.now) child.now.spot) → AllByRecursion (HasOpenList before) (movers_at (map reqs_of movers.now) child.now.spot)
+        → IfOk result (λ live. IsTrue live ↔ (AllOpen (held_in board.old) (groups_at (map reqs_of movers.now) child.now.spot) × AllByRecursion (HasOpenList (held_in board.old)) (movers_at (map reqs_of movers.now) child.now.spot))) }
+    ensures watched { (before : List Res) → AddsStep before child.now.res (held_in board.old) → AllWatched before (map reqs_of movers.now) watch.old.sure watch.old.places.items
+        → IfOk result (λ live. IsTrue live → AllWatched (held_in board.old) (map reqs_of movers.now) watch.new.sure watch.new.places.items) }
+    ensures kept { (before : List Res) → Within before (held_in board.old) → AllWatched before (map reqs_of movers.now) watch.old.sure watch.old.places.items
+        → IfOk result (λ live. (IsTrue live → ⊥) → AllWatched before (map reqs_of movers.now) watch.new.sure watch.new.places.items) }
+{
+    match is_live_child(alloc, board, movers, child, watch) {
+        Ok(live) => Ok(live),
+        Err(want) => {
+            release(board, &child.res);
+            Err(want)
+        }
+    }
+}
+
 /// Takes off the board what the frames of a path placed, the last first.
 fn take_back(board: &mut Arbiters, path: &mut Vec<Frame>)
     requires { (before : Lists) × (lists_of board.old ≡ lists_along before path.old.items) }
@@ -68,11 +107,14 @@ fn walk_paths(
     movers: &[Mover],
     budget: u64,
     path: &mut Vec<Frame>,
+    watch: &mut Watch,
 ) -> Result<Found, WantOfMemory>
     requires few { length (all_pairs board.old) + budget < 2 ^ 32 }
     requires some_list { ¬ AllByRecursion (λ reqs. reqs ≡ []) (map reqs_of movers.now) }
     requires open_lists { AllByRecursion (HasOpenList (held_in board.old)) (map reqs_of movers.now) }
     requires empty { path.old.items ≡ [] }
+    requires long { length watch.old.places.items ≡ length movers.now }
+    requires sure { watch.old.sure ≡ length movers.now }
     ensures answer { IfOk result (λ found. IsAnswer (held_in board.old) (map reqs_of movers.now) budget (answer_of found)) }
     ensures along { lists_of board.new ≡ lists_along (lists_of board.old) path.new.items }
 {
@@ -98,7 +140,8 @@ fn walk_paths(
             grow(board, path, frame_of(spot, &child))?;
             return Ok(Found::Assignment(plan_of(alloc, movers, path)?));
         }
-        if is_live_child(board, movers, &child) {
+        let live = look_ahead(alloc, board, movers, &child, watch)?;
+        if live {
             grow(board, path, frame_of(spot, &child))?;
             spot = child.spot;
             from = Step::Alt(0);
@@ -123,8 +166,9 @@ fn search_paths(
     ensures answer { IfOk result (λ found. IsAnswer (held_in board.old) (map reqs_of movers.now) budget (answer_of found)) }
     ensures same { lists_of board.new ≡ lists_of board.old }
 {
+    let mut watch = no_watch(alloc, movers)?;
     let mut path: Vec<Frame> = Vec::new(alloc);
-    let found = walk_paths(alloc, board, movers, budget, &mut path);
+    let found = walk_paths(alloc, board, movers, budget, &mut path, &mut watch);
     take_back(board, &mut path);
     found
 }

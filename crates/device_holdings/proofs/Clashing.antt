@@ -1,7 +1,6 @@
 -- What clashes with a range: among the pairs of its kind, and among all.
-use Rattle.std.proofs.Common.{◌≡◌, ℕ, zero, suc, ◌+◌, Bool, true, false, cond, ◌||◌, List, [], ◌∷◌, ◌++◌, take, slice_get, Some, None, refl, sym, ap, ◌∙◌, arith}
+use Rattle.std.proofs.Common.{◌≡◌, Bool, true, false, cond, ◌||◌, List, [], ◌∷◌, ◌++◌, refl, sym, ap, ◌∙◌}
 use Rattle.std.specs.List.{list_any}
-use Rattle.std.proofs.lemmas.Bool.Decides.{nat_tests}
 use Rattle.resource_reqs.specs.declared.kind.Kind.{Kind}
 use Rattle.resource_reqs.specs.declared.kind.Kind.TheVariants.{Port, Irq, Mem, Dma}
 use Rattle.resource_reqs.specs.declared.owner.Owner.{Owner}
@@ -84,39 +83,3 @@ pub in_use : (r : Res) (reserved : List Res) (nodes : List Node) (a : Arbiters) 
     → list_any (clashes r) (res_list (list_at (lists_of a) r.kind)) ≡ list_any (clashes r) (reserved ++ held_by nodes)
 in_use r reserved nodes a m =
     ap (λ l. list_any (clashes r) (res_list (list_at l r.kind))) m.lists ∙ any_with r (held_pairs reserved nodes) ∙ ap (list_any (clashes r)) (res_held reserved nodes)
-
--- Pair by pair --------------------------------------------------------------------------
-
-module _ (t : Res → Bool) where
-  pub any_here : (xs : List Pair) (i : ℕ) (p : Pair) → slice_get xs i ≡ Some p → t p.1 ≡ true → list_any t (res_list xs) ≡ true
-  any_here [] i p at h = absurd (cc)
-  any_here (x ∷ xs) zero p at h = let same : x ≡ p = cc in rw (ap (λ (q : Pair). t q.1) same ∙ h) refl
-  any_here (x ∷ xs) (suc i) p at h = or_true (t x.1) (any_here xs i p at h)
-    where
-      or_true : (b : Bool) {d : Bool} → d ≡ true → (b || d) ≡ true
-      or_true true e = refl
-      or_true false e = e
-
-  cut_more : (x : Pair) (xs : List Pair) (i : ℕ) → take (suc i + 1) (x ∷ xs) ≡ x ∷ take (i + 1) xs
-  cut_more x xs i = grind arith
-
-  pub none_more : (xs : List Pair) (i : ℕ) (p : Pair) → slice_get xs i ≡ Some p → t p.1 ≡ false → list_any t (res_list (take i xs)) ≡ false → list_any t (res_list (take (i + 1) xs)) ≡ false
-  none_more [] i p at h none = absurd (cc)
-  none_more (x ∷ xs) zero p at h none = let same : x ≡ p = cc in let here = ap (λ (q : Pair). t q.1) same ∙ h in grind (arith, nat_tests)
-  none_more (x ∷ xs) (suc i) p at h none =
-      rw (cut_more x xs i) (both (t x.1) none (none_more xs i p at h))
-    where
-      both : (b : Bool) → (b || list_any t (res_list (take i xs))) ≡ false → (list_any t (res_list (take i xs)) ≡ false → list_any t (res_list (take (i + 1) xs)) ≡ false)
-          → (b || list_any t (res_list (take (i + 1) xs))) ≡ false
-      both true none more = absurd (cc)
-      both false none more = more none
-
-  pub none_all : (xs : List Pair) (i : ℕ) → slice_get xs i ≡ None → list_any t (res_list (take i xs)) ≡ false → list_any t (res_list xs) ≡ false
-  none_all [] i at none = refl
-  none_all (x ∷ xs) zero at none = absurd (cc)
-  none_all (x ∷ xs) (suc i) at none = both (t x.1) none (none_all xs i at)
-    where
-      both : (b : Bool) → (b || list_any t (res_list (take i xs))) ≡ false → (list_any t (res_list (take i xs)) ≡ false → list_any t (res_list xs) ≡ false)
-          → (b || list_any t (res_list xs)) ≡ false
-      both true none more = absurd (cc)
-      both false none more = more none

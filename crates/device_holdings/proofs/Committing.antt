@@ -1,11 +1,9 @@
 -- Devices get the parts of a plan one after another, the last first: in the end all have theirs.
-use Rattle.std.proofs.Common.{◌≡◌, ℕ, zero, suc, ◌+◌, ◌-◌, ◌≤◌, ◌<◌, ◌^◌, ◌==◌, Bool, true, false, cond, min, List, [], ◌∷◌, ◌++◌, length, map, take, drop, sum_by, slice_get, Option, Some, None, refl, sym, ap, ◌∙◌, subst, arith}
+use Rattle.std.proofs.Common.{◌≡◌, ℕ, zero, suc, ◌+◌, ◌-◌, ◌<◌, ◌^◌, ◌==◌, Bool, true, false, cond, min, List, [], ◌∷◌, ◌++◌, length, map, take, drop, sum_by, slice_get, Some, None, refl, sym, ap, ◌∙◌, subst, arith}
 use Rattle.std.proofs.lemmas.Bool.Decides.{nat_tests}
 use Rattle.std.proofs.lemmas.List.Sums.{sum_by_push}
 use Rattle.resource_reqs.specs.Resources.{Res}
-use Rattle.resource_reqs.specs.declared.kind.Kind.{Kind}
-use Rattle.trial_journal.specs.Four.{Arbiters, of_kind, lists_of}
-use Rattle.assign_search.specs.Walking.{list_at}
+use Rattle.trial_journal.specs.Four.{Arbiters}
 use Rattle.pnp_model.specs.Keyed.{changed_first}
 use Rattle.pnp_model.specs.Cores.{is_node, node_at, serials_of, with_holds}
 use Rattle.pnp_model.specs.Records.{Node}

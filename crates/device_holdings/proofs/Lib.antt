@@ -6,3 +6,4 @@ pub mod RowOrder
 pub mod TieLemmas
 pub mod RowsAre
 pub mod Committing
+pub mod Idling

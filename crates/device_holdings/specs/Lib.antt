@@ -1,3 +1,4 @@
 pub mod Mirrors
 pub mod Answers
 pub mod MapRows
+pub mod Idle

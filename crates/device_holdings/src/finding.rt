@@ -1,19 +1,19 @@
-ghost use Rattle.std.specs.Prelude.{◌≡◌, ◌≤◌, ◌++◌, List, map, IfOk};
+ghost use Rattle.std.specs.Prelude.{◌≡◌, ◌≤◌, ◌++◌, List, map, IfOk, IsTrue};
 ghost use Rattle.std.specs.List.{list_any};
 ghost use Rattle.resource_reqs.specs.Resources.{Res, clashes};
 ghost use Rattle.pnp_model.specs.Cores.{node_at};
 ghost use Rattle.pnp_model.specs.Records.{Node};
 ghost use Rattle.pnp_model.specs.Frames.{held_by};
 ghost use Rattle.pnp_model.specs.Rebalances.{reqs_of};
-ghost use Rattle.range_arbiter.specs.Pairs.{res_list};
-ghost use Rattle.trial_journal.specs.Four.{of_kind, lists_of};
+ghost use Rattle.trial_journal.specs.Four.{lists_of};
 ghost use Rattle.assign_search.specs.Fixed as Fixed;
 ghost use Rattle.device_holdings.specs.Mirrors.{AreFew, Mirrors, IsMirrored};
 ghost use Rattle.device_holdings.specs.Answers.{needs_of, Answers};
+ghost use Rattle.device_holdings.specs.Idle.{IsIdle, AreIdle};
 
-use assign_search::{Found, Mover, answer};
+use assign_search::{Found, Mover, answer, answer_beside};
 use devnode_tree::Tree;
-use resource_reqs::{Kind, Reqs, Res, WantOfMemory, clash};
+use resource_reqs::{Reqs, Res, WantOfMemory};
 use std::alloc::Global;
 use trial_journal::Arbiters;
 
@@ -42,11 +42,34 @@ fn movers_of(alloc: Global, tree: &Tree, serials: &[u64]) -> Result<Vec<Mover>, 
     Ok(movers)
 }
 
+/// Whether a device holds nothing, or is not there.
+fn is_idle(tree: &Tree, serial: u64) -> bool
+    ensures { IsTrue result → IsIdle serial tree.now.nodes }
+{
+    match tree.node(serial) {
+        Some(node) => node.holds.len() == 0,
+        None => true,
+    }
+}
+
+/// Whether none of the devices of these serials holds anything. Cost: one look-up for each.
+fn are_idle(tree: &Tree, serials: &[u64]) -> bool
+    ensures { IsTrue result → AreIdle serials.now tree.now.nodes }
+{
+    'serials: for serial in serials {
+        if !is_idle(tree, *serial) {
+            return false;
+        }
+    }
+    true
+}
+
 /// The search for the devices of these serials, beside all that others hold and what is reserved: each mover asks
 /// for one whole list of what its device needs, and the budget is the most prefixes that may be tried (this
 /// project's own; the kernel's arbiters search likewise, the driver kit, "Arbiter Interface"). Conditions: the
 /// arbiters hold just what is reserved and what devices hold, and the budget is at most 1,000,000. The arbiters hold
-/// the same whatever is answered. Cost: the pairs held, and that of `assign_search::answer`.
+/// the same whatever is answered. Cost: where the tree says that none of the devices holds anything, as at the start of
+/// a device, that of `assign_search::answer_beside`; else that of `assign_search::answer`.
 pub fn search(
     alloc: Global,
     tree: &Tree,
@@ -60,29 +83,17 @@ pub fn search(
     ensures same { lists_of arbiters.new ≡ lists_of arbiters.old }
 {
     let movers = movers_of(alloc, tree, serials)?;
+    if are_idle(tree, serials) {
+        return answer_beside(alloc, arbiters, &movers, budget);
+    }
     answer(alloc, arbiters, &movers, budget)
 }
 
-/// Whether a range clashes with a pair of a kind.
-fn is_among(arbiters: &Arbiters, kind: Kind, res: &Res) -> bool
-    requires { AreFew (lists_of arbiters.now) }
-    ensures { result ≡ list_any (clashes res.now) (res_list (of_kind arbiters.now kind).pairs) }
-{
-    let mut at = 0;
-    'pairs: while let Some(pair) = arbiters.held(kind, at) {
-        if clash(res, &pair.1) {
-            return true;
-        }
-        at += 1;
-    }
-    false
-}
-
 /// Whether a range clashes with what is reserved or with what a device holds. Condition: few pairs are held. It takes
-/// no memory. Cost: the pairs of its kind.
+/// no memory. Cost: that of `Arbiters::clashes`.
 pub fn is_in_use(arbiters: &Arbiters, res: &Res) -> bool
     requires { AreFew (lists_of arbiters.now) }
     ensures { (reserved : List Res) (nodes : List Node) → Mirrors reserved nodes arbiters.now → result ≡ list_any (clashes res.now) (reserved ++ held_by nodes) }
 {
-    is_among(arbiters, res.kind, res)
+    arbiters.clashes(res)
 }

@@ -1,5 +1,6 @@
 ghost use Rattle.std.specs.Prelude.{◌≡◌, ◌≤◌, ◌<◌, ◌+◌, ◌-◌, ◌^◌, ℕ, [], length, Contains, IfOk, OnOk, IfSome, IfNone, slice_get};
-ghost use Rattle.resource_reqs.specs.Resources.{IsOpen};
+ghost use Rattle.std.specs.List.{list_any};
+ghost use Rattle.resource_reqs.specs.Resources.{IsOpen, clashes};
 ghost use Rattle.range_arbiter.specs.Pairs.{pairs_with, res_list};
 
 use range_arbiter::{Kind, Owner, RangeArbiter, Res, Want, WantOfMemory};
@@ -58,6 +59,15 @@ impl NumberArbiter {
         ensures none { IfNone result ((t : ℕ) → from ≤ t → ¬ IsOpen (res_list self.now.pairs) want.now t) }
     {
         self.numbers.next_place(want, from)
+    }
+
+    /// Whether the resource clashes with a pair that is held. It takes no memory. Cost: the logarithm of the number
+    /// of pairs, and one step for each pair from the first one that reaches the resource up to the first one that
+    /// begins beyond it.
+    pub fn clashes(&self, res: &Res) -> bool
+        ensures { result ≡ list_any (clashes res.now) (res_list self.now.pairs) }
+    {
+        self.numbers.clashes(res)
     }
 
     /// Puts the pair at its place. It takes no memory. Cost: the number of pairs after that place.

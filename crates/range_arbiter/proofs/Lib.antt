@@ -3,3 +3,4 @@ pub mod PairOrder
 pub mod Sweeping
 pub mod Keeping
 pub mod PairLists
+pub mod Clashes

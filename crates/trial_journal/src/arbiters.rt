@@ -1,5 +1,6 @@
 ghost use Rattle.std.specs.Prelude.{◌≡◌, ◌≤◌, ◌<◌, ◌+◌, ◌^◌, ℕ, [], length, Contains, IfOk, OnOk, IfSome, IfNone, slice_get};
-ghost use Rattle.resource_reqs.specs.Resources.{IsOpen};
+ghost use Rattle.std.specs.List.{list_any};
+ghost use Rattle.resource_reqs.specs.Resources.{IsOpen, clashes};
 ghost use Rattle.range_arbiter.specs.Pairs.{res_list};
 ghost use Rattle.resource_reqs.specs.declared.kind.Kind.{Kind};
 ghost use Rattle.trial_journal.specs.Four.{of_kind, with_kind, all_pairs, arbiters_with, AreOfKinds};
@@ -95,6 +96,19 @@ impl Arbiters {
         ensures none { IfNone result ((t : ℕ) → from ≤ t → ¬ IsOpen (res_list (all_pairs self.now)) want.now t) }
     {
         self.place_of_kind(want, from)
+    }
+
+    /// Whether the resource clashes with a pair of its kind that is held. It takes no memory. Cost: that of the
+    /// kind's arbiter.
+    pub fn clashes(&self, res: &Res) -> bool
+        ensures { result ≡ list_any (clashes res.now) (res_list (of_kind self.now res.now.kind).pairs) }
+    {
+        match res.kind {
+            Kind::Port => self.ports.clashes(res),
+            Kind::Irq => self.irqs.clashes(res),
+            Kind::Mem => self.memory.clashes(res),
+            Kind::Dma => self.channels.clashes(res),
+        }
     }
 
     /// Puts the pair at its place in the list of its kind. It takes no memory. Cost: the number of pairs

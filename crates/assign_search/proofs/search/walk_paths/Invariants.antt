@@ -2,6 +2,7 @@ use Rattle.std.proofs.Common.{◌≡◌, ◌+◌, ◌*◌, ◌-◌, ◌≤◌, m
 use Rattle.trial_journal.specs.Four.{all_pairs, lists_of}
 use Rattle.assign_search.specs.Fixed.{reqs_of}
 use Rattle.assign_search.specs.Walking.{held_in, lists_along}
+use Rattle.assign_search.specs.Watching.{AllWatched}
 use Rattle.assign_search.proofs.Searching.{Inv}
 use Rattle.assign_search.proofs.search.walk_paths.Given as goal
 
@@ -11,6 +12,8 @@ invariant-search l = record {
   few : length (all_pairs l.board) ≤ length (all_pairs l.fn.board) + l.count;
   along : lists_of l.board ≡ lists_along (lists_of l.fn.board) l.path.items;
   within : l.count ≤ l.budget;
+  long : length l.watch.places.items ≡ length l.movers;
+  watched : AllWatched (held_in l.board) (map reqs_of l.movers) l.watch.sure l.watch.places.items;
 }
 
 abbrev pub decreases-search : goal.decreases-search

@@ -1,5 +1,4 @@
-use Rattle.std.proofs.Common.{ℕ, List, length, subst}
-use Rattle.resource_reqs.specs.Resources.{Res}
+use Rattle.std.proofs.Common.{ℕ, subst}
 use Rattle.device_holdings.specs.Mirrors.{HasRoom}
 use Rattle.device_holdings.proofs.Apart.{mirrors_same}
 use Rattle.device_holdings.proofs.holding.assign.Goals as goal

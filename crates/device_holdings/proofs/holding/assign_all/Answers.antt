@@ -1,4 +1,4 @@
-use Rattle.std.proofs.Common.{◌≡◌, ℕ, suc, false, Option, None, is_some, option_copied, Bor, length-append, ◌+◌, ◌-◌, ◌^◌, ◌∙◌, ◌++◌, [], ◌∷◌, List, length, take, drop, map, min, sum_by, Some, slice_get, ap, sym, subst, refl, arith}
+use Rattle.std.proofs.Common.{◌≡◌, ℕ, suc, false, Option, None, is_some, option_copied, Bor, length-append, ◌+◌, ◌-◌, ◌^◌, ◌∙◌, [], ◌∷◌, List, length, take, drop, map, min, sum_by, Some, slice_get, ap, sym, subst, refl, arith}
 use Rattle.std.proofs.Math.ListN.{drop_of_length-le}
 use Rattle.std.proofs.lemmas.List.{take_all}
 use Rattle.std.proofs.lemmas.Option.{slice_get_read}

@@ -1,0 +1,6 @@
+use Rattle.assign_search.specs.Walking.{held_in}
+use Rattle.assign_search.proofs.Picking.{none_open}
+use Rattle.assign_search.proofs.look.late_place.Goals as goal
+
+pub returns-in-None-clause-none : goal.returns-in-None-clause-none
+returns-in-None-clause-none c open_ = none_open (held_in c.args.board.now) c.args.group.now c.in-None.ensures.none open_

@@ -1,0 +1,11 @@
+use Rattle.std.proofs.Common.{◌≡◌, map}
+use Rattle.assign_search.specs.Fixed.{reqs_of}
+use Rattle.assign_search.specs.Walking.{held_in}
+use Rattle.assign_search.proofs.Watched.{SeenTo}
+use Rattle.assign_search.proofs.watch.lists_beside.Given as goal
+
+abbrev pub invariant-movers : goal.invariant-movers
+invariant-movers l = record {
+  sure : l.watch.sure ≡ l.initial.watch.sure;
+  state : SeenTo (held_in l.board) l.res (map reqs_of l.movers) l.from l.initial.watch.sure l.initial.watch.places.items l.watch.places.items l.at;
+}
