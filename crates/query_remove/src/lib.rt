@@ -4,12 +4,8 @@
 mod begin;
 mod frame;
 mod next;
-mod queue;
 mod settling;
 #[cfg(test)]
 mod tests;
-mod walking;
 
-pub use frame::{Removal, has_drivers};
-pub use queue::SerialQueue;
-pub use walking::{Walked, end_walk, pass_on, strip};
+pub use frame::Removal;

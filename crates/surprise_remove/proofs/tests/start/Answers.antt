@@ -1,7 +1,7 @@
 use Rattle.std.proofs.Common.{sym, subst}
 use Rattle.devnode_tree.specs.Trees.{Tree}
 use Rattle.device_holdings.specs.Mirrors.{KeepsMirror}
-use Rattle.query_remove.proofs.Mirroring.{mirror_stack}
+use Rattle.operation_frame.proofs.Mirroring.{mirror_stack}
 use Rattle.surprise_remove.proofs.tests.start.Goals as goal
 
 pub returns : goal.returns
