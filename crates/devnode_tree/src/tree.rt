@@ -196,6 +196,18 @@ impl Tree {
         Some(&self.entries[place].node)
     }
 
+    /// The node with a serial. Condition: there is one. It takes no memory. Cost: the logarithm of the number of nodes.
+    pub fn at(&self, serial: u64) -> &Node
+        requires { IsSome (node_at serial self.now.nodes) }
+        ensures node { Some result.now ≡ node_at serial self.now.nodes }
+        ensures tree { IsTree self.now }
+    {
+        match self.node(serial) {
+            Some(node) => node,
+            None => unreachable!(),
+        }
+    }
+
     /// Whether the node with a serial is there and Started. It takes no memory. Cost: the logarithm of the number of
     /// nodes.
     pub fn is_up(&self, serial: u64) -> bool

@@ -17,6 +17,7 @@ use Rattle.start_sequence.specs.Begins.{settings_of}
 use Rattle.rebalance.specs.declared.next.RebalanceStep.{RebalanceStep}
 use Rattle.rebalance.specs.declared.next.RebalanceStep.TheVariants as rebalances
 use Rattle.rebalance.proofs.Given.{rebalance_ready}
+use Rattle.operation_frame.specs.Nodes.{IsStripped}
 use Rattle.query_remove.specs.Steps as query
 use Rattle.surprise_remove.specs.Steps as surprise
 use Rattle.pnp_machine.specs.Devices.{Devices}
@@ -69,7 +70,7 @@ module _ (s : State) (run : IsOfRun s) (o : Removal) (runs : s.operation ≡ Som
   settled_born m born h own zero =
       let goes = (removal_goes run.told run.rack run.entries s run.reaches o runs).1 in
       let settling = subst (λ x. query.SettlesStripped s.core.nodes o x) h.stage goes in
-      let stripped = subst (λ x. IfSome x (query.IsStripped s.core.nodes)) h.first settling in
+      let stripped = subst (λ x. IfSome x (IsStripped s.core.nodes)) h.first settling in
       let at = (head_found s.core.nodes o.todo h.node h.first).1 in
       stripped.0.no_root ((reaches_born run.told run.rack run.entries s run.reaches).first h.node.serial h.node at (sym own ∙ zero))
 

@@ -1,22 +1,22 @@
 //! The machine whole: what an event does to it, and which step is next.
 #![tactic(auto)]
 
-mod acting;
-mod beginning;
+mod begin_operation;
 mod bus;
 mod commands;
 mod devices;
+mod devices_operations;
 mod disabled;
-mod doing;
 mod ending;
 mod events;
 mod listing;
 mod machine;
 mod manager;
-mod operating;
 mod operation;
-mod starting;
 mod starts;
+mod step_operation;
+mod step_start;
+mod task_start;
 mod tasks;
 mod turn;
 

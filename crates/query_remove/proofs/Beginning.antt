@@ -11,14 +11,10 @@ use Rattle.pnp_model.specs.Records as Records
 use Rattle.pnp_model.specs.Records.{Node, Driver, Relation, Walk, Removal}
 use Rattle.pnp_model.specs.Trees.{is_up, leaving}
 use Rattle.pnp_model.specs.Removals.{finish_with, finish_on, ask_on}
-use Rattle.pnp_laws.proofs.Lookups.{found_self}
 use Rattle.relations.specs.Leaving.{IsLeaving}
 use Rattle.relations.specs.Relating.{ejected}
 use Rattle.query_remove.specs.Begins.{BegunFor}
 use Rattle.query_remove.specs.Frames.{finish_if_none}
-
-pub found_own : (nodes : List Node) (k : ℕ) (node : Node) → Some node ≡ node_at k nodes → is_some (node_at node.serial nodes) ≡ true
-found_own nodes k node at = ap is_some (found_self k nodes node (sym at))
 
 -- before the first is asked
 abbrev before : OpKind → Node → List ℕ → List ℕ → List ℕ → Removal

@@ -1,5 +1,3 @@
-pub mod Mirroring
-pub mod Queues
 pub mod Moving
 pub mod Stepping
 pub mod Beginning

@@ -16,11 +16,12 @@ use Rattle.pnp_model.specs.Records as Records
 use Rattle.pnp_model.specs.Records.{Node, Core, Driver, Relation, Walk, Removal}
 use Rattle.pnp_model.specs.Removals.{finish_with, finish_on, ask_on, cancel_on, end_ask, take_back, cancel_step, settle, settle_outer, settle_related, settle_target, remove_step, RemovalMove, RemoveBeside}
 use Rattle.pnp_laws.proofs.Lookups.{own_serial}
-use Rattle.query_remove.specs.Walks.{EndsFor}
+use Rattle.operation_frame.specs.Nodes.{PathIs}
+use Rattle.operation_frame.specs.Walks.{EndsFor}
 use Rattle.devnode_tree.specs.Trees.{CanLeave}
-use Rattle.query_remove.specs.Steps.{Moved, IsStripped}
-use Rattle.query_remove.proofs.Queues.{first_is}
-use Rattle.query_remove.specs.Parts.{MovesFor, PathIs, HoldsNothing, problem_if, SettlesFor, end_move, is_walking}
+use Rattle.query_remove.specs.Steps.{Moved}
+use Rattle.operation_frame.proofs.Queues.{rest_is}
+use Rattle.query_remove.specs.Parts.{MovesFor, problem_if, SettlesFor, end_move, is_walking}
 use Rattle.query_remove.specs.Stages.{stage_of}
 use Rattle.query_remove.specs.declared.frame.Stage.{Stage}
 use Rattle.query_remove.specs.declared.frame.Stage.TheVariants.{Asking, TakingBack, Cancelling, Removing, Settling, Ending}
@@ -156,38 +157,20 @@ module _ (nodes nodes' : List Node) (o o' : Removal) (node : Node) (at : first_n
 
 -- The frames --------------------------------------------------------------------------------------
 
-rest_of : (todo : List ℕ) → drop 1 todo ≡ rest todo
-rest_of [] = refl
-rest_of (k ∷ ks) = refl
-
 pub agree_frame : (nodes : List Node) (o : Removal) (k : ℕ) (a t : List ℕ) → a ≡ k ∷ o.agreed → t ≡ drop 1 o.todo
     → ask_on nodes (record o { agreed = a; todo = t }) t ≡ ask_on nodes (record o { agreed = k ∷ o.agreed }) (rest o.todo)
 agree_frame nodes o k a t ea et =
     ap (λ (a : List ℕ). ask_on nodes (record o { agreed = a; todo = t }) t) ea
-    ∙ (ap (λ (t : List ℕ). ask_on nodes (record o { agreed = k ∷ o.agreed; todo = t }) t) (et ∙ rest_of o.todo)
+    ∙ (ap (λ (t : List ℕ). ask_on nodes (record o { agreed = k ∷ o.agreed; todo = t }) t) (et ∙ rest_is o.todo)
     ∙ ask_same nodes (record o { agreed = k ∷ o.agreed }) (rest o.todo) (rest o.todo))
 
 pub take_frame : (o : Removal) (t : List ℕ) → t ≡ o.agreed → cancel_on (record o { todo = t }) t ≡ cancel_on o o.agreed
 take_frame o t e = ap (λ (t : List ℕ). cancel_on (record o { todo = t }) t) e ∙ cancel_same o o.agreed o.agreed
 
 pub cancel_frame : (o : Removal) (t : List ℕ) → t ≡ drop 1 o.todo → cancel_on (record o { todo = t }) t ≡ cancel_on o (rest o.todo)
-cancel_frame o t e = ap (λ (t : List ℕ). cancel_on (record o { todo = t }) t) (e ∙ rest_of o.todo) ∙ cancel_same o (rest o.todo) (rest o.todo)
-
--- What stands first may leave -----------------------------------------------------------------------
-
-pub stripped_at : (nodes : List Node) (todo : List ℕ) (k : ℕ) (node : Node) → Some k ≡ slice_get todo 0 → Some node ≡ node_at k nodes → IfSome (first_node nodes todo) (IsStripped nodes)
-    → CanLeave node.serial nodes × HoldsNothing (node_at node.serial nodes)
-stripped_at nodes todo k node first at h =
-    let is : first_node nodes todo ≡ Some node = first_is nodes todo k (sym first) ∙ sym at in
-    let two = subst (λ (o : Option Node). IfSome o (IsStripped nodes)) is h in
-    let found : node_at node.serial nodes ≡ Some node = ap (λ i. node_at i nodes) (own_serial k node nodes (sym at)) ∙ sym at in
-    (two.0, subst (λ (o : Option Node). HoldsNothing o) (sym found) two.1)
+cancel_frame o t e = ap (λ (t : List ℕ). cancel_on (record o { todo = t }) t) (e ∙ rest_is o.todo) ∙ cancel_same o (rest o.todo) (rest o.todo)
 
 -- The request of a stage ends ---------------------------------------------------------------------
-
-pub ok_moves : {E : Type 0} (P Q : Label → Type 0) → ((label : Label) → P label → Q label) → (r : Result Label E) → IfOk r P → IfOk r Q
-ok_moves P Q f (Ok label) h = f label h
-ok_moves P Q f (Err e) h = tt
 
 -- another name of the move
 pub moves_as : (x : Option Node) (move move' : Core → Node → RemovalMove) (nodes : List Node) (relations : List Relation) (label : Label) (nodes' : List Node) (relations' : List Relation) (o' : Removal)

@@ -10,26 +10,13 @@ use Rattle.pnp_model.specs.Frames.{asked, first_node}
 use Rattle.pnp_model.specs.Records.{Node, Core, Driver, Relation, Walk, Removal}
 use Rattle.pnp_model.specs.Removals.{RemovalMove, removal_step, removed, ask_step, take_back, cancel_step, remove_step}
 use Rattle.query_remove.specs.Stages.{stage_of}
-use Rattle.query_remove.specs.Walks.{WalksFor}
+use Rattle.operation_frame.specs.Walks.{WalksFor}
 use Rattle.query_remove.specs.Steps.{Moved, MovedBy}
-use Rattle.query_remove.specs.Parts.{MovesFor, PathIs, end_move, is_walking}
-use Rattle.query_remove.specs.declared.walking.Walked.TheVariants.{On, Ended}
+use Rattle.query_remove.specs.Parts.{MovesFor, end_move, is_walking}
+use Rattle.operation_frame.specs.declared.walking.Walked.TheVariants.{On, Ended}
 use Rattle.query_remove.specs.declared.frame.Stage.{Stage}
 use Rattle.query_remove.specs.declared.frame.Stage.TheVariants.{Asking, TakingBack, Cancelling, Removing, Settling, Ending}
-use Rattle.query_remove.proofs.Queues.{first_is}
-
-pub on_err : {T E : Type 0} (P : Type 0) (r : Result T E) → P → OnErr r P
-on_err P (Ok x) h = tt
-on_err P (Err e) h = h
-
--- what stays where a request has ended
-pub ended_path : (x : Option Node) (c c' : Core) (w w' : Walk) (path : Text) (refused : Bool) → WalksFor x c w (Ended path refused) c' w' → PathIs x path
-ended_path None c c' w w' path refused h = h
-ended_path (Some node) c c' w w' path refused h = h.2
-
-pub ended_same : (x : Option Node) (c c' : Core) (w w' : Walk) (path : Text) (refused : Bool) → WalksFor x c w (Ended path refused) c' w' → (c' ≡ c) × (w' ≡ w)
-ended_same None c c' w w' path refused h = absurd h
-ended_same (Some node) c c' w w' path refused h = (h.3, h.4)
+use Rattle.operation_frame.proofs.Queues.{first_is}
 
 moved_as : (m : Option RemovalMove) (l l' : Label) (c c' : Core) (o o' : Removal) → l' ≡ l → c' ≡ c → o' ≡ o → MovedBy m (steps.Did l) c o → MovedBy m (steps.Did l') c' o'
 moved_as m l l' c c' o o' a b e h =

@@ -1,13 +1,13 @@
 -- A removal in the words of the machine.
-use Rattle.std.specs.Prelude.{◌≡◌, ℕ, Bool, true, false, List, [], ◌∷◌, Option, Ok, Err, Result}
+use Rattle.std.specs.Prelude.{ℕ, Bool, true, false, List, [], ◌∷◌, Option, Result}
 use Rattle.pnp_labels.specs.declared.words.Minor.{Minor}
 use Rattle.pnp_model.specs.Records.{Node, Removal, RemovalStage}
-use Rattle.pnp_model.specs.Cores.{stack_of}
 use Rattle.pnp_model.specs.Removals.{finish_on}
 use Rattle.pnp_model.specs.Machine.{removal_walk, is_waiting}
 use Rattle.pnp_model.specs.Events.{answer_of, completed_removal}
 use Rattle.device_stack.specs.declared.walk.NoSuchRequest.{NoSuchRequest}
 use Rattle.device_stack.specs.Waiting.{minor_of}
+use Rattle.operation_frame.specs.Steps.{Completes}
 
 -- the request that waits in a stage
 abbrev pub minor_that_waits : RemovalStage → Option Minor
@@ -19,21 +19,8 @@ is_settling RemovalStage.Settling = true
 is_settling _ = false
 
 -- a removal that waits goes on with the answer; any other refuses, and stays
-abbrev pub Completes : Bool → Result (Unit {0}) NoSuchRequest → Removal → Bool → Removal → Type 0
-Completes true (Ok done) old ok new = new ≡ record old { stage = completed_removal (answer_of ok) old.stage }
-Completes false (Err refused) old ok new = new ≡ old
-Completes true (Err refused) old ok new = ⊥
-Completes false (Ok done) old ok new = ⊥
-
 abbrev pub Completed : Result (Unit {0}) NoSuchRequest → Removal → Bool → Removal → Type 0
-Completed result old ok new = Completes (is_waiting (removal_walk old.stage)) result old ok new
-
-abbrev pub is_full : {A : Type 0} → List A → Bool
-is_full [] = false
-is_full (x ∷ xs) = true
-
-abbrev pub has_drivers : Option Node → Bool
-has_drivers o = is_full (stack_of o)
+Completed result old ok new = Completes (is_waiting (removal_walk old.stage)) result old (record old { stage = completed_removal (answer_of ok) old.stage }) new
 
 -- where there is none to ask, all of the set are finished
 abbrev pub finish_if_none : List Node → Removal → List ℕ → Removal

@@ -1,5 +1,4 @@
 pub mod Stages
-pub mod Walks
 pub mod Frames
 pub mod Begins
 pub mod Steps

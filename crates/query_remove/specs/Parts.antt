@@ -1,8 +1,7 @@
 -- The parts of a step of a removal.
-use Rattle.std.specs.Prelude.{◌≡◌, ℕ, Bool, true, false, List, [], ◌∷◌, Option, Some, None, is_some}
+use Rattle.std.specs.Prelude.{Bool, true, false, ℕ, List, Option, Some, None, is_some}
 use Rattle.resource_reqs.specs.Resources.{Res}
 use Rattle.pnp_labels.specs.declared.label.Label.{Label}
-use Rattle.pnp_labels.specs.Texts.{Text}
 use Rattle.pnp_labels.specs.declared.label.RemoveStep.{RemoveStep}
 use Rattle.pnp_labels.specs.declared.label.OpEnd.{OpEnd}
 use Rattle.pnp_model.specs.Tests.{has}
@@ -38,19 +37,6 @@ is_walking stage = is_some (removal_walk stage)
 abbrev pub problem_if : Bool → Problem
 problem_if true = Problem.HeldForEject
 problem_if false = Problem.Held
-
-abbrev pub PathIs : Option Node → Text → Type 0
-PathIs None path = ⊥
-PathIs (Some node) path = path ≡ node.path
-
-abbrev pub HoldsNothing : Option Node → Type 0
-HoldsNothing None = Unit {0}
-HoldsNothing (Some node) = node.holds ≡ []
-
--- the set, where no other device is still to do
-abbrev pub all_after : List ℕ → List ℕ → List ℕ
-all_after set [] = set
-all_after set (k ∷ ks) = []
 
 -- a device that is settled leaves or remains
 abbrev pub SettlesFor : Option Node → List Node → Removal → RemoveStep → List Node → Removal → Type 0

@@ -1,5 +1,5 @@
 -- One step of a removal, as the machine has it.
-use Rattle.std.specs.Prelude.{◌≡◌, List, [], Option, Some, None, IsSome, IfSome}
+use Rattle.std.specs.Prelude.{◌≡◌, List, Option, IsSome, IfSome}
 use Rattle.resource_reqs.specs.Resources.{Res}
 use Rattle.pnp_labels.specs.Texts.{Text}
 use Rattle.pnp_labels.specs.declared.label.Label.{Label}
@@ -10,21 +10,22 @@ use Rattle.pnp_model.specs.Frames.{first_node}
 use Rattle.pnp_model.specs.Records.{Node, Core, Driver, Relation, Removal, RemovalStage}
 use Rattle.pnp_model.specs.Cores.{core_of}
 use Rattle.pnp_model.specs.Removals.{RemovalMove, RemoveBeside, removed}
-use Rattle.devnode_tree.specs.Trees.{CanLeave}
+use Rattle.operation_frame.specs.Nodes.{IsStripped}
+use Rattle.operation_frame.specs.Steps as frames
+use Rattle.operation_frame.specs.Steps.{StepIs}
 
 -- what is printed, what is there then and where the removal stands then are those of the move, and the step tells what
 -- the machine has to do beside it
 abbrev pub Moved : RemovalMove → RemoveStep → Core → Removal → Type 0
-Moved m (steps.Did label) core o = (m.beside ≡ RemoveBeside.On) × (label ≡ m.label) × (core ≡ m.core) × (o ≡ m.frame)
-Moved m (steps.Left label path born) core o = (m.beside ≡ RemoveBeside.Left path born) × (label ≡ m.label) × (core ≡ m.core) × (o ≡ m.frame)
+Moved m (steps.Did label) core o = StepIs m RemoveBeside.On label core o
+Moved m (steps.Left label path born) core o = StepIs m (RemoveBeside.Left path born) label core o
 Moved m (steps.Disabled label) core o =
     (path : Text) × (m.beside ≡ RemoveBeside.Disabled path) × (label ≡ Label.Trouble path Problem.Disabled) × (label ≡ m.label) × (core ≡ m.core) × (o ≡ m.frame)
-Moved m (steps.Ejected label path born) core o = (m.beside ≡ RemoveBeside.Ejected path born) × (label ≡ m.label) × (core ≡ m.core) × (o ≡ m.frame)
-Moved m (steps.Over label) core o = (m.beside ≡ RemoveBeside.Over) × (label ≡ m.label) × (core ≡ m.core) × (o ≡ m.frame)
+Moved m (steps.Ejected label path born) core o = StepIs m (RemoveBeside.Ejected path born) label core o
+Moved m (steps.Over label) core o = StepIs m RemoveBeside.Over label core o
 
 abbrev pub MovedBy : Option RemovalMove → RemoveStep → Core → Removal → Type 0
-MovedBy None step core o = ⊥
-MovedBy (Some m) step core o = Moved m step core o
+MovedBy m step core o = frames.MovedBy Moved m step core o
 
 -- the step of the removal, whatever is reserved
 abbrev pub Removes : List Node → List Relation → List Driver → Removal → RemoveStep → List Node → List Relation → List Driver → Removal → Type 0
@@ -37,9 +38,6 @@ HasNext nodes o RemovalStage.Ending = Unit {0}
 HasNext nodes o stage = IsSome (first_node nodes o.todo)
 
 -- where a device is settled, it may leave: it has no drivers, no holdings and no children, and is not the root
-abbrev pub IsStripped : List Node → Node → Type 0
-IsStripped nodes n = CanLeave n.serial nodes × (n.holds ≡ [])
-
 abbrev pub SettlesStripped : List Node → Removal → RemovalStage → Type 0
 SettlesStripped nodes o RemovalStage.Settling = IfSome (first_node nodes o.todo) (IsStripped nodes)
 SettlesStripped nodes o stage = Unit {0}

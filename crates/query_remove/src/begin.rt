@@ -6,10 +6,10 @@ ghost use Rattle.query_remove.specs.Frames.{finish_if_none};
 ghost use Rattle.query_remove.specs.Begins.{BegunFor};
 
 use crate::frame::{Removal, Stage};
-use crate::queue::SerialQueue;
 use device_ids::{Text, WantOfMemory};
 use device_stack::Walk;
 use devnode_tree::Tree;
+use operation_frame::SerialQueue;
 use pnp_labels::{Label, Minor, OpKind};
 use relations::{Relations, SerialSet};
 use std::alloc::Global;
@@ -41,9 +41,7 @@ impl Removal {
         requires { IsSome (node_at serial tree.now.nodes) }
         ensures { IfOk result (λ begun. BegunFor (node_at serial tree.now.nodes) tree.now.nodes relations.now kind begun.0 begun.1) }
     {
-        let Some(node) = tree.node(serial) else {
-            unreachable!()
-        };
+        let node = tree.at(serial);
         let target = node.serial;
         let line = Text::make(alloc, node.path.bytes())?;
         let path = Text::make(alloc, node.path.bytes())?;

@@ -1,14 +1,13 @@
 ghost use Rattle.std.specs.Prelude.{◌≡◌, ◌==◌, slice_get, option_map};
 ghost use Rattle.pnp_model.specs.Tests.{has, is_eject};
-ghost use Rattle.pnp_model.specs.Cores.{node_at};
 ghost use Rattle.pnp_model.specs.Machine.{removal_walk};
 ghost use Rattle.pnp_model.specs.Removals.{finish_on, cancel_on};
-ghost use Rattle.query_remove.specs.Frames.{minor_that_waits, is_settling, Completed, has_drivers};
+ghost use Rattle.query_remove.specs.Frames.{minor_that_waits, is_settling, Completed};
 
-use crate::queue::SerialQueue;
 use device_ids::Text;
 use device_stack::{NoSuchRequest, Walk};
 use devnode_tree::Tree;
+use operation_frame::{SerialQueue, has_drivers};
 use pnp_labels::{Minor, OpKind};
 use relations::SerialSet;
 use std::marker::Model;
@@ -149,15 +148,5 @@ impl Removal {
         } else {
             self.stage = Stage::Ending;
         }
-    }
-}
-
-/// Whether a device is there and has drivers. It takes no memory. Cost: the logarithm of the number of nodes.
-pub fn has_drivers(tree: &Tree, serial: u64) -> bool
-    ensures { result ≡ has_drivers (node_at serial tree.now.nodes) }
-{
-    match tree.node(serial) {
-        Some(node) => node.stack.len() > 0,
-        None => false,
     }
 }

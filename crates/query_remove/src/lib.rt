@@ -4,10 +4,6 @@
 mod begin;
 mod frame;
 mod next;
-mod queue;
 mod settling;
-mod walking;
 
-pub use frame::{Removal, has_drivers};
-pub use queue::SerialQueue;
-pub use walking::{Walked, end_walk, pass_on, strip};
+pub use frame::Removal;

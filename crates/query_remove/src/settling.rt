@@ -1,17 +1,16 @@
 ghost use Rattle.std.specs.Prelude.{◌≡◌, ◌&&◌, IfOk, OnErr, IsSome, IfSome};
-ghost use Rattle.pnp_model.specs.Cores.{node_at, with_problem};
 ghost use Rattle.pnp_model.specs.Frames.{first_node, rest};
 ghost use Rattle.pnp_model.specs.Removals.{finish_on};
 ghost use Rattle.pnp_model.specs.Tests.{has, is_eject};
 ghost use Rattle.trial_journal.specs.Four as Four;
 ghost use Rattle.device_holdings.specs.Mirrors.{KeepsMirror};
-ghost use Rattle.devnode_tree.specs.Trees.{CanLeave, changed, without_node};
-ghost use Rattle.query_remove.specs.Parts.{problem_if, HoldsNothing, SettlesFor, end_in};
-ghost use Rattle.query_remove.specs.Steps.{IsStripped};
+ghost use Rattle.query_remove.specs.Parts.{problem_if, SettlesFor, end_in};
+ghost use Rattle.operation_frame.specs.Nodes.{IsStripped};
 
 use crate::frame::Removal;
 use device_ids::{Text, WantOfMemory};
 use devnode_tree::Tree;
+use operation_frame::{leave, remain};
 use pnp_labels::{Label, OpEnd, Problem, RemoveStep};
 use std::alloc::Global;
 
@@ -22,28 +21,6 @@ impl Removal {
     {
         self.todo.drop_first();
         self.finish_next(tree);
-    }
-
-    /// The device that is next leaves.
-    fn leave(&mut self, serial: u64, tree: &mut Tree)
-        requires may_leave { CanLeave serial tree.old.nodes }
-        requires bare { HoldsNothing (node_at serial tree.old.nodes) }
-        ensures frame { self.new ≡ finish_on tree.old.nodes self.old (rest self.old.todo) }
-        ensures left { tree.new ≡ without_node serial tree.old }
-        ensures mirrors { (arbiters : Four.Arbiters) → KeepsMirror tree.old.nodes arbiters tree.new.nodes arbiters }
-    {
-        self.go_on(tree);
-        tree.leave(serial);
-    }
-
-    /// The device that is next remains, with a problem.
-    fn remain(&mut self, serial: u64, problem: Problem, tree: &mut Tree)
-        ensures frame { self.new ≡ finish_on tree.old.nodes self.old (rest self.old.todo) }
-        ensures changed { tree.new ≡ changed serial (with_problem (Some problem)) tree.old }
-        ensures mirrors { (arbiters : Four.Arbiters) → KeepsMirror tree.old.nodes arbiters tree.new.nodes arbiters }
-    {
-        self.go_on(tree);
-        tree.set_problem(serial, Some(problem));
     }
 
     /// The problem of a related device that remains (that it is told apart after an eject is this project's own).
@@ -74,34 +51,36 @@ impl Removal {
         let Some(serial) = self.first() else {
             unreachable!()
         };
-        let Some(node) = tree.node(serial) else {
-            unreachable!()
-        };
+        let node = tree.at(serial);
         let serial = node.serial;
         let born = node.born;
         let in_set = self.removes(node.parent);
         let line = Text::make(alloc, node.path.bytes())?;
         let path = node.path.copy(alloc)?;
         if in_set {
-            self.leave(serial, tree);
+            self.go_on(tree);
+            leave(serial, tree);
             let label = Label::Leave { path: line };
             return Ok(RemoveStep::Left { label, path, born });
         }
         if !self.is_target(serial) {
             let problem = self.problem_of(serial);
-            self.remain(serial, problem, tree);
+            self.go_on(tree);
+            remain(serial, problem, tree);
             return Ok(RemoveStep::Did(Label::Trouble {
                 path: line,
                 problem,
             }));
         }
         if self.is_eject() {
-            self.leave(serial, tree);
+            self.go_on(tree);
+            leave(serial, tree);
             let label = Label::Ejected { path: line };
             return Ok(RemoveStep::Ejected { label, path, born });
         }
         let problem = Problem::Disabled;
-        self.remain(serial, problem, tree);
+        self.go_on(tree);
+        remain(serial, problem, tree);
         Ok(RemoveStep::Disabled(Label::Trouble {
             path: line,
             problem,

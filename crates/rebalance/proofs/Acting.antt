@@ -22,7 +22,7 @@ use Rattle.assign_search.specs.declared.plan.Found.{Found as Answer}
 use Rattle.assign_search.specs.declared.plan.Found.TheVariants.{Assignment, NoFit, Spent}
 use Rattle.device_holdings.specs.Mirrors.{Mirrors}
 use Rattle.device_holdings.specs.Answers.{Answers}
-use Rattle.query_remove.proofs.Queues.{first_is}
+use Rattle.operation_frame.proofs.Queues.{first_is}
 use Rattle.rebalance.specs.Steps.{Moved, MovedBy, Rebalances}
 use Rattle.rebalance.specs.Parts.{Moves, MovesFor, Searched, found_label, found_frame}
 use Rattle.rebalance.specs.declared.next.RebalanceStep.{RebalanceStep}

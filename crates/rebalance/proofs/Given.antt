@@ -3,7 +3,7 @@ use Rattle.std.proofs.Common.{◌≡◌, List, Option, Some, subst}
 use Rattle.pnp_model.specs.Records.{Node, State, Operation, Rebalance, RebalanceStage}
 use Rattle.pnp_laws.proofs.Standing.{StageKept, RebalanceThere}
 use Rattle.pnp_laws.proofs.RunsStand.{Kept}
-use Rattle.query_remove.proofs.Given.{first_there}
+use Rattle.operation_frame.proofs.Given.{first_there}
 use Rattle.rebalance.specs.Steps.{HasNext}
 
 rebalance_there : (nodes : List Node) (r : Rebalance) (stage : RebalanceStage) → RebalanceThere r stage nodes → HasNext nodes r stage

@@ -13,8 +13,8 @@ use Rattle.pnp_model.specs.Records as Records
 use Rattle.pnp_model.specs.Records.{Node, Core, Driver, Relation, Walk, Rebalance}
 use Rattle.pnp_model.specs.Rebalances.{RebalanceMove, RebalanceBeside, moves, ask_on, cancel_on, stop_on, startable, restart_from, restart_on, is_not_above, end_ask, take_back, cancel_step, stop_step, end_restart, close}
 use Rattle.pnp_laws.proofs.Lookups.{own_serial}
-use Rattle.query_remove.specs.Walks.{EndsFor}
-use Rattle.query_remove.specs.Parts.{PathIs}
+use Rattle.operation_frame.specs.Walks.{EndsFor}
+use Rattle.operation_frame.specs.Nodes.{PathIs}
 use Rattle.rebalance.specs.Stages.{stage_of}
 use Rattle.rebalance.specs.Steps.{Moved}
 use Rattle.rebalance.specs.Parts.{Moves, MovesFor, end_move, is_walking}
@@ -115,10 +115,6 @@ module _ (nodes nodes' : List Node) (k : ℕ) (path : Text) (label : Label) (r r
       ended_is Minor.Start true (λ c n. end_restart c r n true) (λ n. record r { stage = Records.RebalanceStage.Failed }) p e (λ c n. refl) (λ relations rack reserved n. refl) (λ n at is. f)
 
 -- The request of a stage ends ---------------------------------------------------------------------
-
-pub ok_moves : {E : Type 0} (P Q : Label → Type 0) → ((label : Label) → P label → Q label) → (res : Result Label E) → IfOk res P → IfOk res Q
-ok_moves P Q f (Ok label) h = f label h
-ok_moves P Q f (Err e) h = tt
 
 -- another name of the move
 pub moves_as : (x : Option Node) (move move' : Core → Node → RebalanceMove) (nodes : List Node) (step : RebalanceStep) (nodes' : List Node) (r' : Rebalance)

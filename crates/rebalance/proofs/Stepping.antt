@@ -9,9 +9,9 @@ use Rattle.pnp_model.specs.Frames.{asked, first_node}
 use Rattle.pnp_model.specs.Records.{Node, Core, Driver, Relation, Walk, Doing, Rebalance}
 use Rattle.pnp_model.specs.Records.Doing.{Does}
 use Rattle.pnp_model.specs.Rebalances.{RebalanceMove, rebalance_step, rebalanced, ask_step, take_back, cancel_step, stop_step, restart_step}
-use Rattle.query_remove.specs.Walks.{WalksFor}
-use Rattle.query_remove.specs.declared.walking.Walked.TheVariants.{On, Ended}
-use Rattle.query_remove.proofs.Queues.{first_is}
+use Rattle.operation_frame.specs.Walks.{WalksFor}
+use Rattle.operation_frame.specs.declared.walking.Walked.TheVariants.{On, Ended}
+use Rattle.operation_frame.proofs.Queues.{first_is}
 use Rattle.rebalance.specs.Stages.{stage_of}
 use Rattle.rebalance.specs.Steps.{Moved, MovedBy}
 use Rattle.rebalance.specs.Parts.{MovesFor, end_move, is_walking}

@@ -15,8 +15,8 @@ use Rattle.device_holdings.specs.Mirrors.{KeepsMirror}
 use Rattle.devnode_tree.specs.Trees.{Tree, changed}
 use Rattle.devnode_tree.specs.Identities.{identity, identities}
 use Rattle.devnode_tree.proofs.Identities.{state_keeps, problem_keeps}
-use Rattle.query_remove.specs.Walks.{EndsFor}
-use Rattle.query_remove.proofs.Mirroring.{mirror_problem}
+use Rattle.operation_frame.specs.Walks.{EndsFor}
+use Rattle.operation_frame.proofs.Mirroring.{mirror_problem}
 use Rattle.rebalance.specs.Parts.{StaysWhole}
 
 pub stays : (t : Tree) → StaysWhole t t
@@ -43,7 +43,3 @@ problem_whole t t' k problem is = record {
 pub commit_keeps : (serials : List ℕ) (plan : List (List Res)) (nodes : List Node) → identities (map (committed serials plan) nodes) ≡ identities nodes
 commit_keeps serials plan [] = refl
 commit_keeps serials plan (n ∷ ns) = ap (λ l. identity n ∷ l) (commit_keeps serials plan ns)
-
-pub on_err : {T E : Type 0} (P : Type 0) (r : Result T E) → P → OnErr r P
-on_err P (Ok x) h = tt
-on_err P (Err e) h = h

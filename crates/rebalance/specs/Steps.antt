@@ -1,5 +1,5 @@
 -- One step of a rebalance, as the machine has it.
-use Rattle.std.specs.Prelude.{◌≡◌, ℕ, List, Option, Some, None, IsSome}
+use Rattle.std.specs.Prelude.{ℕ, List, Option, Some, None, IsSome}
 use Rattle.resource_reqs.specs.Resources.{Res}
 use Rattle.resource_reqs.specs.Spelling.{IsAnswer}
 use Rattle.pnp_model.specs.Frames.{first_node}
@@ -9,17 +9,18 @@ use Rattle.pnp_model.specs.Cores.{core_of}
 use Rattle.pnp_model.specs.Rebalances.{RebalanceMove, RebalanceBeside, rebalanced}
 use Rattle.trial_journal.specs.Four.{Arbiters}
 use Rattle.device_holdings.specs.Mirrors.{Mirrors}
+use Rattle.operation_frame.specs.Steps.{StepIs}
 use Rattle.rebalance.specs.declared.next.RebalanceStep.{RebalanceStep}
 use Rattle.rebalance.specs.declared.next.RebalanceStep.TheVariants as steps
 
 -- what is printed, what is there then and where the rebalance stands then are those of the move, and the step tells what
 -- the machine has to do beside it
 abbrev pub Moved : RebalanceMove → RebalanceStep → Core → Rebalance → Type 0
-Moved m (steps.Did label) core r = (m.beside ≡ RebalanceBeside.On) × (label ≡ m.label) × (core ≡ m.core) × (r ≡ m.frame)
-Moved m (steps.FailedRestart label serial) core r = (m.beside ≡ RebalanceBeside.FailedRestart serial) × (label ≡ m.label) × (core ≡ m.core) × (r ≡ m.frame)
-Moved m (steps.OverStart label) core r = (m.beside ≡ RebalanceBeside.OverStart) × (label ≡ m.label) × (core ≡ m.core) × (r ≡ m.frame)
-Moved m (steps.OverUndo label) core r = (m.beside ≡ RebalanceBeside.OverUndo) × (label ≡ m.label) × (core ≡ m.core) × (r ≡ m.frame)
-Moved m (steps.OverDropped label) core r = (m.beside ≡ RebalanceBeside.OverDropped) × (label ≡ m.label) × (core ≡ m.core) × (r ≡ m.frame)
+Moved m (steps.Did label) core r = StepIs m RebalanceBeside.On label core r
+Moved m (steps.FailedRestart label serial) core r = StepIs m (RebalanceBeside.FailedRestart serial) label core r
+Moved m (steps.OverStart label) core r = StepIs m RebalanceBeside.OverStart label core r
+Moved m (steps.OverUndo label) core r = StepIs m RebalanceBeside.OverUndo label core r
+Moved m (steps.OverDropped label) core r = StepIs m RebalanceBeside.OverDropped label core r
 
 -- the move is done, by the answer of its search where it searches
 abbrev pub MovedBy : ℕ → Option (Doing RebalanceMove) → RebalanceStep → Core → Rebalance → Type 0

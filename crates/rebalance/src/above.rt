@@ -8,7 +8,7 @@ ghost use Rattle.pnp_model.specs.Rebalances.{is_not_above, startable};
 use crate::queues::take_first;
 use device_ids::WantOfMemory;
 use devnode_tree::Tree;
-use query_remove::SerialQueue;
+use operation_frame::SerialQueue;
 use relations::SerialSet;
 use std::alloc::Global;
 

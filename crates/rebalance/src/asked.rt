@@ -8,7 +8,7 @@ ghost use Rattle.rebalance.specs.Frames.{is_asked_in};
 use device_ids::WantOfMemory;
 use devnode_tree::Tree;
 use pnp_labels::DevState;
-use query_remove::SerialQueue;
+use operation_frame::SerialQueue;
 use std::alloc::Global;
 use std::collections::BTreeSet;
 

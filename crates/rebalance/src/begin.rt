@@ -9,7 +9,7 @@ use device_ids::{Text, WantOfMemory};
 use device_stack::Walk;
 use devnode_tree::Tree;
 use pnp_labels::{Label, Minor, OpKind};
-use query_remove::SerialQueue;
+use operation_frame::SerialQueue;
 use std::alloc::Global;
 
 impl Rebalance {
@@ -23,9 +23,7 @@ impl Rebalance {
         requires { IsSome (node_at serial tree.now.nodes) }
         ensures { IfOk result (λ begun. BegunFor (node_at serial tree.now.nodes) tree.now.nodes begun.0 begun.1) }
     {
-        let Some(node) = tree.node(serial) else {
-            unreachable!()
-        };
+        let node = tree.at(serial);
         let target = node.serial;
         let line = Text::make(alloc, node.path.bytes())?;
         let path = Text::make(alloc, node.path.bytes())?;

@@ -9,7 +9,7 @@ use device_ids::Text;
 use device_stack::{NoSuchRequest, Walk};
 use devnode_tree::Tree;
 use pnp_labels::Minor;
-use query_remove::SerialQueue;
+use operation_frame::SerialQueue;
 use std::marker::Model;
 
 /// What is done next: this project's own.

@@ -15,7 +15,7 @@ use device_ids::WantOfMemory;
 use devnode_tree::Tree;
 use driver_rack::Drivers;
 use pnp_labels::Label;
-use query_remove::{Walked, pass_on};
+use operation_frame::{Walked, pass_on};
 use std::alloc::Global;
 use trial_journal::Arbiters;
 

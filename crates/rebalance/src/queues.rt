@@ -1,7 +1,7 @@
 ghost use Rattle.std.specs.Prelude.{◌≡◌, [], ◌∷◌, ◌++◌, reverse, IfOk, IfNone, option_to_list};
 
 use device_ids::WantOfMemory;
-use query_remove::SerialQueue;
+use operation_frame::SerialQueue;
 use std::alloc::Global;
 
 /// Takes the next device.

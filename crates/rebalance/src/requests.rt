@@ -2,8 +2,8 @@ ghost use Rattle.std.specs.Prelude.{◌≡◌, IfOk, OnErr, true, false};
 ghost use Rattle.pnp_model.specs.Cores.{node_at};
 ghost use Rattle.pnp_model.specs.Records as Records;
 ghost use Rattle.pnp_model.specs.Rebalances.{end_ask, take_back, cancel_step, stop_step, end_restart};
-ghost use Rattle.query_remove.specs.Parts.{PathIs};
-ghost use Rattle.query_remove.specs.Walks.{EndsFor};
+ghost use Rattle.operation_frame.specs.Nodes.{PathIs};
+ghost use Rattle.operation_frame.specs.Walks.{EndsFor};
 ghost use Rattle.rebalance.specs.declared.next.RebalanceStep.TheVariants as steps;
 ghost use Rattle.rebalance.specs.Parts.{MovesFor, StaysWhole, end_move, is_walking};
 
@@ -13,7 +13,7 @@ use device_ids::{Text, WantOfMemory};
 use device_stack::Walk;
 use devnode_tree::Tree;
 use pnp_labels::{Label, Minor};
-use query_remove::end_walk;
+use operation_frame::end_walk;
 use std::alloc::Global;
 
 /// A request ends: the device gets the state after it, and the line tells it.

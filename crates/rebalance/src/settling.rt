@@ -114,9 +114,7 @@ impl Rebalance {
         let Some(serial) = self.first() else {
             unreachable!()
         };
-        let Some(node) = tree.node(serial) else {
-            unreachable!()
-        };
+        let node = tree.at(serial);
         let serial = node.serial;
         let path = Text::make(alloc, node.path.bytes())?;
         let problem = Problem::FailedStart;

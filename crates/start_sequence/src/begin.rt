@@ -147,9 +147,7 @@ impl StartWork {
         ensures mirrors { (arbiters : Four.Arbiters) → KeepsMirror tree.old.nodes arbiters tree.new.nodes arbiters }
         ensures tree { OnErr result (tree.new ≡ tree.old) }
     {
-        let Some(node) = tree.node(serial) else {
-            unreachable!()
-        };
+        let node = tree.at(serial);
         let serial = node.serial;
         let path = Text::make(alloc, node.path.bytes())?;
         match choose(alloc, rack, infs, node, disabled)? {

@@ -87,9 +87,7 @@ fn add<R: Drivers>(
     ensures tree { OnErr result (tree.new ≡ tree.old) }
     ensures rack { OnErr result (R.rows rack.new ≡ R.rows rack.old) }
 {
-    let Some(node) = tree.node(serial) else {
-        unreachable!()
-    };
+    let node = tree.at(serial);
     let serial = node.serial;
     let state = stacked(node.state);
     let name = driver_name(alloc, rack, driver)?;
@@ -130,9 +128,7 @@ fn start<R: Drivers>(
     ensures tree { OnErr result (tree.new ≡ tree.old) }
     ensures rack { OnErr result (R.rows rack.new ≡ R.rows rack.old) }
 {
-    let Some(node) = tree.node(serial) else {
-        unreachable!()
-    };
+    let node = tree.at(serial);
     let serial = node.serial;
     let old = node.state;
     let path = Text::make(alloc, node.path.bytes())?;
@@ -173,9 +169,7 @@ fn remove<R: Drivers>(
     ensures tree { OnErr result (tree.new ≡ tree.old) }
     ensures rack { OnErr result (R.rows rack.new ≡ R.rows rack.old) }
 {
-    let Some(node) = tree.node(serial) else {
-        unreachable!()
-    };
+    let node = tree.at(serial);
     let serial = node.serial;
     let path = Text::make(alloc, node.path.bytes())?;
     match walk.pass(alloc, &node.stack, &node.path, rack)? {
@@ -203,9 +197,7 @@ fn trouble(
     ensures mirrors { (arbiters : Four.Arbiters) → KeepsMirror tree.old.nodes arbiters tree.new.nodes arbiters }
     ensures tree { OnErr result (tree.new ≡ tree.old) }
 {
-    let Some(node) = tree.node(serial) else {
-        unreachable!()
-    };
+    let node = tree.at(serial);
     let serial = node.serial;
     let has_drivers = node.stack.len() > 0;
     let path = Text::make(alloc, node.path.bytes())?;

@@ -53,9 +53,7 @@ impl StartWork {
         ensures start { OnErr result (self.new ≡ self.old) }
         ensures tree { OnErr result (tree.new ≡ tree.old) }
     {
-        let Some(node) = tree.node(self.serial) else {
-            unreachable!()
-        };
+        let node = tree.at(self.serial);
         let path = Text::make(alloc, node.path.bytes())?;
         match search(alloc, tree, arbiters, &[self.serial], budget)? {
             Found::Assignment(plan) => {

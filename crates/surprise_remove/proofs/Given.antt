@@ -1,13 +1,11 @@
 -- What each state of a run keeps gives a step of a surprise removal what it needs.
-use Rattle.std.proofs.Common.{◌≡◌, ℕ, List, Option, Some, None, IfSome, refl, subst}
+use Rattle.std.proofs.Common.{◌≡◌, ℕ, List, Option, Some, subst}
 use Rattle.pnp_model.specs.Laws.{HoldsWhole}
-use Rattle.pnp_model.specs.Frames.{first_node}
 use Rattle.pnp_model.specs.Records.{Node, Core, State, Operation, Surprise, SurpriseStage}
 use Rattle.pnp_laws.specs.Kept.{Ascending, SurpriseKeeps, OperationFits}
 use Rattle.pnp_laws.proofs.Standing.{Tree, StageKept, SurpriseOrder, SurpriseThere}
 use Rattle.pnp_laws.proofs.RunsStand.{Kept}
-use Rattle.query_remove.specs.Steps.{IsStripped}
-use Rattle.query_remove.proofs.Given.{first_there, may_leave}
+use Rattle.operation_frame.proofs.Given.{first_there, next_may_leave}
 use Rattle.surprise_remove.specs.Steps.{HasNext, SettlesStripped}
 
 surprise_there : (nodes : List Node) (o : Surprise) (stage : SurpriseStage) → SurpriseThere o stage nodes → HasNext nodes o stage
@@ -20,11 +18,7 @@ surprise_settles : (next : ℕ) (c : Core) (o : Surprise) (stage : SurpriseStage
 surprise_settles next c o (SurpriseStage.Telling w) order tree whole keeps h = tt
 surprise_settles next c o (SurpriseStage.Removing w) order tree whole keeps h = tt
 surprise_settles next c o SurpriseStage.Ending order tree whole keeps h = tt
-surprise_settles next c o SurpriseStage.Settling order tree whole keeps h = by (first_node c.nodes o.todo) refl
-  where
-    by : (x : Option Node) → first_node c.nodes o.todo ≡ x → IfSome x (IsStripped c.nodes)
-    by None at = tt
-    by (Some node) at = may_leave next c o.set o.todo node order tree whole keeps.rootless keeps.inside h keeps.each at
+surprise_settles next c o SurpriseStage.Settling order tree whole keeps h = next_may_leave next c o.set o.todo order tree whole keeps.rootless keeps.inside h keeps.each
 
 -- a surprise removal under way in a state of a run can take its step, where no request waits
 pub surprise_ready : (s : State) (o : Surprise) → Kept s → HoldsWhole s.core.nodes → s.operation ≡ Some (Operation.Surprising o) → HasNext s.core.nodes o o.stage × SettlesStripped s.core.nodes o o.stage

@@ -18,9 +18,9 @@ use Rattle.pnp_model.specs.Records.{Node, Core, Driver, Relation, Walk, Surprise
 use Rattle.pnp_model.specs.Removals.{RemoveBeside}
 use Rattle.pnp_model.specs.Surprises.{finish_with, finish_on, tell_on, tell_step, remove_step, settle, settle_target, settle_other, SurpriseMove}
 use Rattle.pnp_laws.proofs.Lookups.{own_serial}
-use Rattle.query_remove.specs.Walks.{EndsFor}
-use Rattle.query_remove.specs.Parts.{PathIs}
-use Rattle.query_remove.proofs.Queues.{rest_is}
+use Rattle.operation_frame.specs.Walks.{EndsFor}
+use Rattle.operation_frame.specs.Nodes.{PathIs}
+use Rattle.operation_frame.proofs.Queues.{rest_is}
 use Rattle.surprise_remove.specs.Steps.{Moved}
 use Rattle.surprise_remove.specs.Parts.{MovesFor, SettlesFor, end_move, is_walking}
 use Rattle.surprise_remove.specs.Stages.{stage_of}

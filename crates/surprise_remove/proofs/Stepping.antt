@@ -9,9 +9,9 @@ use Rattle.pnp_model.specs.Cores.{node_at, core_of}
 use Rattle.pnp_model.specs.Frames.{asked, first_node}
 use Rattle.pnp_model.specs.Records.{Node, Core, Driver, Relation, Walk, Surprise}
 use Rattle.pnp_model.specs.Surprises.{SurpriseMove, surprise_step, surprised, tell_step, remove_step}
-use Rattle.query_remove.specs.Walks.{WalksFor}
-use Rattle.query_remove.specs.declared.walking.Walked.TheVariants.{On, Ended}
-use Rattle.query_remove.proofs.Queues.{first_is}
+use Rattle.operation_frame.specs.Walks.{WalksFor}
+use Rattle.operation_frame.specs.declared.walking.Walked.TheVariants.{On, Ended}
+use Rattle.operation_frame.proofs.Queues.{first_is}
 use Rattle.surprise_remove.specs.Stages.{stage_of}
 use Rattle.surprise_remove.specs.Steps.{Moved, MovedBy}
 use Rattle.surprise_remove.specs.Parts.{MovesFor, end_move, is_walking}

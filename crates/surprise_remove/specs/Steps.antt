@@ -1,5 +1,5 @@
 -- One step of a surprise removal, as the machine has it.
-use Rattle.std.specs.Prelude.{◌≡◌, Bool, List, Option, Some, None, IsSome, IfSome}
+use Rattle.std.specs.Prelude.{Bool, List, Option, IsSome, IfSome}
 use Rattle.resource_reqs.specs.Resources.{Res}
 use Rattle.pnp_labels.specs.declared.label.RemoveStep.{RemoveStep}
 use Rattle.pnp_labels.specs.declared.label.RemoveStep.TheVariants as steps
@@ -8,20 +8,21 @@ use Rattle.pnp_model.specs.Records.{Node, Core, Driver, Relation, Surprise, Surp
 use Rattle.pnp_model.specs.Cores.{core_of}
 use Rattle.pnp_model.specs.Removals.{RemoveBeside}
 use Rattle.pnp_model.specs.Surprises.{SurpriseMove, surprised}
-use Rattle.query_remove.specs.Steps.{IsStripped}
+use Rattle.operation_frame.specs.Nodes.{IsStripped}
+use Rattle.operation_frame.specs.Steps as frames
+use Rattle.operation_frame.specs.Steps.{StepIs}
 
 -- what is printed, what is there then and where the operation stands then are those of the move, and the step tells what
 -- the machine has to do beside it
 abbrev pub Moved : SurpriseMove → RemoveStep → Core → Surprise → Type 0
-Moved m (steps.Did label) core o = (m.beside ≡ RemoveBeside.On) × (label ≡ m.label) × (core ≡ m.core) × (o ≡ m.frame)
-Moved m (steps.Left label path born) core o = (m.beside ≡ RemoveBeside.Left path born) × (label ≡ m.label) × (core ≡ m.core) × (o ≡ m.frame)
+Moved m (steps.Did label) core o = StepIs m RemoveBeside.On label core o
+Moved m (steps.Left label path born) core o = StepIs m (RemoveBeside.Left path born) label core o
 Moved m (steps.Disabled label) core o = ⊥
 Moved m (steps.Ejected label path born) core o = ⊥
-Moved m (steps.Over label) core o = (m.beside ≡ RemoveBeside.Over) × (label ≡ m.label) × (core ≡ m.core) × (o ≡ m.frame)
+Moved m (steps.Over label) core o = StepIs m RemoveBeside.Over label core o
 
 abbrev pub MovedBy : Option SurpriseMove → RemoveStep → Core → Surprise → Type 0
-MovedBy None step core o = ⊥
-MovedBy (Some m) step core o = Moved m step core o
+MovedBy m step core o = frames.MovedBy Moved m step core o
 
 -- the step of the surprise removal, whatever is reserved
 abbrev pub Surprises : List Node → List Relation → List Driver → Surprise → Bool → RemoveStep → List Node → List Relation → List Driver → Surprise → Type 0

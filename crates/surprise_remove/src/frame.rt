@@ -8,7 +8,7 @@ use device_ids::Text;
 use device_stack::{NoSuchRequest, Walk};
 use devnode_tree::Tree;
 use pnp_labels::Minor;
-use query_remove::{SerialQueue, has_drivers};
+use operation_frame::{SerialQueue, has_drivers};
 use relations::SerialSet;
 use std::marker::Model;
 

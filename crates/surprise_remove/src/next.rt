@@ -2,12 +2,13 @@ ghost use Rattle.std.specs.Prelude.{◌≡◌, List, IfOk, OnErr, IsSome, true, 
 ghost use Rattle.pnp_model.specs.Cores.{node_at};
 ghost use Rattle.pnp_model.specs.Machine.{surprise_walk, is_waiting};
 ghost use Rattle.pnp_model.specs.Surprises.{tell_on, tell_step};
-ghost use Rattle.pnp_model.specs.Frames.{first_node, rest};
+ghost use Rattle.pnp_model.specs.Frames.{first_node};
 ghost use Rattle.pnp_model.specs.Records as Records;
 ghost use Rattle.pnp_model.specs.Records.{Relation};
 ghost use Rattle.trial_journal.specs.Four as Four;
 ghost use Rattle.device_holdings.specs.Mirrors.{IsMirrored, KeepsMirror};
-ghost use Rattle.query_remove.specs.Parts.{PathIs, all_after};
+ghost use Rattle.operation_frame.specs.Nodes.{PathIs};
+ghost use Rattle.operation_frame.specs.Queues.{all_after};
 ghost use Rattle.surprise_remove.specs.Steps.{Surprises, HasNext, SettlesStripped};
 ghost use Rattle.surprise_remove.specs.Parts.{MovesFor, end_move, is_walking};
 
@@ -17,22 +18,12 @@ use device_stack::Walk;
 use devnode_tree::Tree;
 use driver_rack::Drivers;
 use pnp_labels::{Label, Minor, RemoveStep};
-use query_remove::{SerialQueue, Walked, end_walk, pass_on, strip};
+use operation_frame::{SerialQueue, Walked, end_walk, pass_on, strip};
 use relations::Relations;
 use std::alloc::Global;
 use trial_journal::Arbiters;
 
 impl Surprise {
-    /// The devices of the set, where no other device is to be told after the next one.
-    fn all_after_last(&self, alloc: Global) -> Result<SerialQueue, WantOfMemory>
-        ensures { IfOk result (λ all. all ≡ all_after self.now.set (rest self.now.todo)) }
-    {
-        match self.todo.get(1) {
-            Some(_) => Ok(SerialQueue::new(alloc)),
-            None => SerialQueue::of(alloc, &self.set),
-        }
-    }
-
     /// The device that is next is told, and where none is next all are finished.
     fn tell_next(&mut self, tree: &Tree, all: SerialQueue)
         requires { all ≡ all_after self.old.set self.old.todo }
@@ -62,7 +53,7 @@ impl Surprise {
         ensures surprise { OnErr result (self.new ≡ self.old) }
         ensures tree { OnErr result (tree.new ≡ tree.old) }
     {
-        let all = self.all_after_last(alloc)?;
+        let all = self.todo.all_after_next(alloc, &self.set)?;
         self.todo.drop_first();
         self.tell_next(tree, all);
         Ok(end_walk(Minor::SurpriseRemoval, false, path, serial, tree))

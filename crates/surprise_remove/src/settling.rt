@@ -1,12 +1,9 @@
 ghost use Rattle.std.specs.Prelude.{◌≡◌, IfOk, OnErr, IsSome, IfSome};
-ghost use Rattle.pnp_model.specs.Cores.{node_at, with_problem};
 ghost use Rattle.pnp_model.specs.Frames.{first_node, rest};
 ghost use Rattle.pnp_model.specs.Surprises.{finish_on};
 ghost use Rattle.trial_journal.specs.Four as Four;
 ghost use Rattle.device_holdings.specs.Mirrors.{KeepsMirror};
-ghost use Rattle.devnode_tree.specs.Trees.{CanLeave, changed, without_node};
-ghost use Rattle.query_remove.specs.Parts.{HoldsNothing};
-ghost use Rattle.query_remove.specs.Steps.{IsStripped};
+ghost use Rattle.operation_frame.specs.Nodes.{IsStripped};
 ghost use Rattle.pnp_labels.specs.declared.label.OpEnd.{OpEnd};
 ghost use Rattle.pnp_labels.specs.declared.label.OpKind.{OpKind};
 ghost use Rattle.pnp_labels.specs.declared.label.Label.{Label};
@@ -15,6 +12,7 @@ ghost use Rattle.surprise_remove.specs.Parts.{SettlesFor};
 use crate::frame::Surprise;
 use device_ids::{Text, WantOfMemory};
 use devnode_tree::Tree;
+use operation_frame::{leave, remain};
 use pnp_labels::{Label, OpEnd, OpKind, Problem, RemoveStep};
 use std::alloc::Global;
 
@@ -25,28 +23,6 @@ impl Surprise {
     {
         self.todo.drop_first();
         self.finish_next(tree);
-    }
-
-    /// The device that is next leaves.
-    fn leave(&mut self, serial: u64, tree: &mut Tree)
-        requires may_leave { CanLeave serial tree.old.nodes }
-        requires bare { HoldsNothing (node_at serial tree.old.nodes) }
-        ensures frame { self.new ≡ finish_on tree.old.nodes self.old (rest self.old.todo) }
-        ensures left { tree.new ≡ without_node serial tree.old }
-        ensures mirrors { (arbiters : Four.Arbiters) → KeepsMirror tree.old.nodes arbiters tree.new.nodes arbiters }
-    {
-        self.go_on(tree);
-        tree.leave(serial);
-    }
-
-    /// The device that is next remains, with a problem.
-    fn remain(&mut self, serial: u64, problem: Problem, tree: &mut Tree)
-        ensures frame { self.new ≡ finish_on tree.old.nodes self.old (rest self.old.todo) }
-        ensures changed { tree.new ≡ changed serial (with_problem (Some problem)) tree.old }
-        ensures mirrors { (arbiters : Four.Arbiters) → KeepsMirror tree.old.nodes arbiters tree.new.nodes arbiters }
-    {
-        self.go_on(tree);
-        tree.set_problem(serial, Some(problem));
     }
 
     /// The device that is next, which has no drivers, leaves where it is gone or its parent leaves, and remains with a
@@ -68,9 +44,7 @@ impl Surprise {
         let Some(serial) = self.first() else {
             unreachable!()
         };
-        let Some(node) = tree.node(serial) else {
-            unreachable!()
-        };
+        let node = tree.at(serial);
         let serial = node.serial;
         let born = node.born;
         let in_set = self.removes(node.parent);
@@ -82,13 +56,15 @@ impl Surprise {
             }
         } else if !in_set {
             let problem = Problem::Held;
-            self.remain(serial, problem, tree);
+            self.go_on(tree);
+            remain(serial, problem, tree);
             return Ok(RemoveStep::Did(Label::Trouble {
                 path: line,
                 problem,
             }));
         }
-        self.leave(serial, tree);
+        self.go_on(tree);
+        leave(serial, tree);
         let label = Label::Leave { path: line };
         Ok(RemoveStep::Left { label, path, born })
     }

@@ -2,7 +2,7 @@ use Rattle.std.proofs.Common.{ℕ, ◌≡◌, ◌+◌, ◌∙◌, ◌++◌, Bool
 use Rattle.pnp_model.specs.Cores.{node_at}
 use Rattle.pnp_model.specs.Keyed.{those}
 use Rattle.pnp_model.specs.Trees.{is_up}
-use Rattle.query_remove.proofs.Queues.{passes_more}
+use Rattle.operation_frame.proofs.Queues.{passes_more}
 use Rattle.query_remove.proofs.begin.started.Goals as goal
 use Rattle.query_remove.proofs.begin.started.Goals.{then-is_up+in_ok-push_back, else-is_up}
 

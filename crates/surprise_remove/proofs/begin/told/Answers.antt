@@ -2,7 +2,7 @@ use Rattle.std.proofs.Common.{ℕ, ◌≡◌, ◌+◌, ◌∙◌, ◌++◌, Bool
 use Rattle.pnp_model.specs.Cores.{node_at}
 use Rattle.pnp_model.specs.Keyed.{those}
 use Rattle.pnp_model.specs.Surprises.{is_told_node}
-use Rattle.query_remove.proofs.Queues.{passes_more}
+use Rattle.operation_frame.proofs.Queues.{passes_more}
 use Rattle.surprise_remove.proofs.begin.told.Goals as goal
 use Rattle.surprise_remove.proofs.begin.told.Goals.{then-is_told+in_ok-push_back, else-is_told}
 

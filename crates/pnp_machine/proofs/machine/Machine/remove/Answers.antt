@@ -12,16 +12,16 @@ remove-requires g c =
     let sort = subst IsRemoving runs c.requires.kind in
     record { may = subst (λ (s : State). MayRemove s.core.nodes o) (sym c.self.view_is) (may_remove c.args.self.now c.requires.run c.requires.turn o runs sort) }
 
-pub do_beside-requires-clause-root : goal.do_beside-requires-clause-root
-do_beside-requires-clause-root g c =
+pub apply_effect-requires-clause-root : goal.apply_effect-requires-clause-root
+apply_effect-requires-clause-root g c =
     let s = c.self.inside in
     let rack = g.R.Drivers.rows s.rack in
     let is = ap (λ o. state_of s.devices rack s.disabled.paths s.starts.works (option_map operation_of o) s.tasks.tasks) (sym c.in-Some.is) ∙ c.self.view_is in
     no_root s.devices c.remove.new.devices rack (g.R.Drivers.rows c.remove.new.rack) s.disabled.paths s.starts.works s.tasks.tasks (operation_of c.in-Some.operation) (operation_of c.remove.new.self)
     c.args.self.now is c.requires.run c.in_ok-step.step c.in_ok-step.ensures.removes
 
-pub do_beside-requires-clause-new : goal.do_beside-requires-clause-new
-do_beside-requires-clause-new g c =
+pub apply_effect-requires-clause-new : goal.apply_effect-requires-clause-new
+apply_effect-requires-clause-new g c =
     let s = c.self.inside in
     let rack = g.R.Drivers.rows s.rack in
     let is = ap (λ o. state_of s.devices rack s.disabled.paths s.starts.works (option_map operation_of o) s.tasks.tasks) (sym c.in-Some.is) ∙ c.self.view_is in
@@ -38,8 +38,8 @@ returns-clause-done g c = λ settings.
     let o = operation_of c.remove.new.self in
     let is = ap (λ o. state_of s.devices rack s.disabled.paths s.starts.works (option_map operation_of o) s.tasks.tasks) (sym c.in-Some.is) ∙ c.self.view_is in
     let settled = c.in_ok-settled.ensures ∙ ap (λ (x : State). settled_in x.operation x.core.nodes) (sym is) in
-    let done = c.do_beside.ensures.state later s.starts.works
+    let done = c.apply_effect.ensures.state later s.starts.works
     ∙ ap (λ x. beside c.in_ok-step.step c.in_ok-settled.settled (state_of c.remove.new.devices later x s.starts.works (Some o) c.make_room-2.new.self.tasks)) c.in_ok-make_room.ensures.paths
     ∙ ap (λ x. beside c.in_ok-step.step c.in_ok-settled.settled (state_of c.remove.new.devices later s.disabled.paths s.starts.works (Some o) x)) c.in_ok-make_room-2.ensures.tasks in
     removed_moves s.devices c.remove.new.devices rack later s.disabled.paths s.starts.works s.tasks.tasks (operation_of c.in-Some.operation) o c.args.self.now is settings c.in_ok-step.step
-    c.in_ok-settled.settled c.do_beside.result _ c.requires.turn settled c.in_ok-step.ensures.removes c.do_beside.ensures.label done
+    c.in_ok-settled.settled c.apply_effect.result _ c.requires.turn settled c.in_ok-step.ensures.removes c.apply_effect.ensures.label done

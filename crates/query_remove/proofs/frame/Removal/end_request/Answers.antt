@@ -6,7 +6,8 @@ use Rattle.pnp_model.specs.Removals.{end_ask, take_back, cancel_step, remove_ste
 use Rattle.devnode_tree.specs.Trees.{Tree}
 use Rattle.query_remove.specs.Stages.{stage_of}
 use Rattle.query_remove.specs.Parts.{MovesFor, end_move, is_walking}
-use Rattle.query_remove.proofs.Moving.{ok_moves, moves_as, as_asked, as_taken, as_cancelled, as_removed, stripped_is, only_removing}
+use Rattle.operation_frame.proofs.Requests.{ok_moves}
+use Rattle.query_remove.proofs.Moving.{moves_as, as_asked, as_taken, as_cancelled, as_removed, stripped_is, only_removing}
 use Rattle.query_remove.proofs.frame.Removal.end_request.Goals as goal
 
 pub returns-then-refused-clause-mirrors : goal.returns-then-refused-clause-mirrors

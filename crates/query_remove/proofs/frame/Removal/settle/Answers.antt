@@ -2,9 +2,11 @@ use Rattle.std.proofs.Common.{ℕ, ◌∙◌, ◌==◌, ◌&&◌, Some, ap, sym,
 use Rattle.pnp_model.specs.Cores.{is_node, node_at, with_problem}
 use Rattle.pnp_model.specs.Records.{Node}
 use Rattle.devnode_tree.specs.Trees.{Tree, CanLeave}
-use Rattle.query_remove.specs.Parts.{HoldsNothing, problem_if}
-use Rattle.query_remove.proofs.Moving.{stripped_at, settled_related}
-use Rattle.query_remove.proofs.Queues.{first_is}
+use Rattle.operation_frame.specs.Nodes.{HoldsNothing}
+use Rattle.operation_frame.proofs.Queues.{first_is}
+use Rattle.operation_frame.proofs.Requests.{stripped_at}
+use Rattle.query_remove.specs.Parts.{problem_if}
+use Rattle.query_remove.proofs.Moving.{settled_related}
 use Rattle.pnp_model.specs.Keyed.{changed_first}
 use Rattle.pnp_model.specs.Tests.{has, is_eject}
 use Rattle.query_remove.proofs.frame.Removal.settle.Goals as goal
@@ -12,35 +14,35 @@ use Rattle.query_remove.proofs.frame.Removal.settle.Goals as goal
 pub leave-requires-clause-bare : goal.leave-requires-clause-bare
 leave-requires-clause-bare c =
     let nodes = c.args.tree.now.nodes in
-    let seen = ap (λ (n : Node). n.serial) c.node-2.view_is in
+    let seen = ap (λ (n : Node). n.serial) c.node.view_is in
     subst (λ (k : ℕ). HoldsNothing (node_at k nodes)) (sym seen)
-    (stripped_at nodes c.args.self.now.todo c.in-Some.serial c.in-Some-node.node.now c.in-Some.ensures c.in-Some-node.ensures.node c.requires.settles).1
+    (stripped_at nodes c.args.self.now.todo c.in-Some.serial c.at-node.result.now c.in-Some.ensures c.at-node.ensures.node c.requires.settles).1
 
 pub leave-requires-then-is_eject-clause-may_leave : goal.leave-requires-then-is_eject-clause-may_leave
 leave-requires-then-is_eject-clause-may_leave c =
     let nodes = c.args.tree.now.nodes in
-    let seen = ap (λ (n : Node). n.serial) c.node-2.view_is in
+    let seen = ap (λ (n : Node). n.serial) c.node.view_is in
     subst (λ (k : ℕ). CanLeave k nodes) (sym seen)
-    (stripped_at nodes c.args.self.now.todo c.in-Some.serial c.in-Some-node.node.now c.in-Some.ensures c.in-Some-node.ensures.node c.requires.settles).0
+    (stripped_at nodes c.args.self.now.todo c.in-Some.serial c.at-node.result.now c.in-Some.ensures c.at-node.ensures.node c.requires.settles).0
 
 pub leave-requires-then-is_eject-clause-bare : goal.leave-requires-then-is_eject-clause-bare
 leave-requires-then-is_eject-clause-bare c =
     let nodes = c.args.tree.now.nodes in
-    let seen = ap (λ (n : Node). n.serial) c.node-2.view_is in
+    let seen = ap (λ (n : Node). n.serial) c.node.view_is in
     subst (λ (k : ℕ). HoldsNothing (node_at k nodes)) (sym seen)
-    (stripped_at nodes c.args.self.now.todo c.in-Some.serial c.in-Some-node.node.now c.in-Some.ensures c.in-Some-node.ensures.node c.requires.settles).1
+    (stripped_at nodes c.args.self.now.todo c.in-Some.serial c.at-node.result.now c.in-Some.ensures c.at-node.ensures.node c.requires.settles).1
 
 pub returns-then-not-is_target-clause-settles : goal.returns-then-not-is_target-clause-settles
 returns-then-not-is_target-clause-settles c =
     let nodes = c.args.tree.now.nodes in
     let o = c.args.self.now in
-    let node = c.in-Some-node.node.now in
-    let seen = c.node-2.view_is in
+    let node = c.at-node.result.now in
+    let seen = c.node.view_is in
     let serial = ap (λ (n : Node). n.serial) seen in
-    let at = first_is nodes o.todo c.in-Some.serial (sym c.in-Some.ensures) ∙ sym c.in-Some-node.ensures.node in
+    let at = first_is nodes o.todo c.in-Some.serial (sym c.in-Some.ensures) ∙ sym c.at-node.ensures.node in
     let named = c.in_ok-line.ensures ∙ (c.bytes.ensures.bytes ∙ ap (λ (n : Node). n.path) seen) in
     let outside = sym (ap (λ (n : Node). has o.set n.parent) seen) ∙ (sym c.removes-in_set.ensures ∙ c.if-in_set.false) in
     let other = sym (ap (λ (k : ℕ). k == o.target) serial) ∙ (sym c.is_target.ensures ∙ c.if-not-is_target.true) in
     let problem = c.problem_of-problem.ensures ∙ ap (λ (k : ℕ). problem_if (is_eject o.kind && has o.ejecting k)) serial in
-    settled_related nodes c.remain.new.tree.nodes o c.remain.new.self node at c.in_ok-line.line named c.remain.ensures.frame outside other c.problem_of-problem.result problem
+    settled_related nodes c.remain.new.tree.nodes o c.go_on-then-not-is_target.new.self node at c.in_ok-line.line named c.go_on-then-not-is_target.ensures outside other c.problem_of-problem.result problem
     (ap (λ (t : Tree). t.nodes) c.remain.ensures.changed ∙ ap (λ (k : ℕ). changed_first (is_node k) (with_problem (Some c.problem_of-problem.result)) nodes) serial)

@@ -4,7 +4,8 @@ use Rattle.pnp_model.specs.Records.{Core, Walk, Removal}
 use Rattle.query_remove.specs.Stages.{stage_of}
 use Rattle.query_remove.specs.Parts.{is_walking}
 use Rattle.query_remove.specs.contracts.frame.Removal.{the_view}
-use Rattle.query_remove.proofs.Stepping.{on_err, ended_path, ended_same, goes_on, ends_so}
+use Rattle.operation_frame.proofs.Requests.{on_err, ended_path, ended_same}
+use Rattle.query_remove.proofs.Stepping.{goes_on, ends_so}
 use Rattle.query_remove.proofs.frame.Removal.walk_on.Goals as goal
 
 pub end_request-requires-clause-path : goal.end_request-requires-clause-path

@@ -6,7 +6,8 @@ use Rattle.pnp_model.specs.Rebalances.{take_back, cancel_step, stop_step}
 use Rattle.rebalance.specs.Stages.{stage_of}
 use Rattle.rebalance.specs.Parts.{MovesFor, end_move}
 use Rattle.rebalance.specs.declared.next.RebalanceStep.TheVariants as steps
-use Rattle.rebalance.proofs.Moving.{ok_moves, moves_as, as_taken, as_cancelled, as_stopped}
+use Rattle.operation_frame.proofs.Requests.{ok_moves}
+use Rattle.rebalance.proofs.Moving.{moves_as, as_taken, as_cancelled, as_stopped}
 use Rattle.rebalance.proofs.frame.Rebalance.end_request.Goals as goal
 
 pub returns-in-TakingBack-clause-ended : goal.returns-in-TakingBack-clause-ended

@@ -4,4 +4,4 @@ use Rattle.rebalance.proofs.Whole.{problem_whole}
 use Rattle.rebalance.proofs.frame.Rebalance.fail.Goals as goal
 
 pub returns-clause-whole : goal.returns-clause-whole
-returns-clause-whole c = problem_whole c.args.tree.now c.set_problem.new.self c.node-2.inside.serial (Some Problem.FailedStart) c.set_problem.ensures
+returns-clause-whole c = problem_whole c.args.tree.now c.set_problem.new.self c.node.inside.serial (Some Problem.FailedStart) c.set_problem.ensures

@@ -4,7 +4,7 @@ use Rattle.pnp_model.specs.Records.{Core, Walk, Rebalance}
 use Rattle.rebalance.specs.Stages.{stage_of}
 use Rattle.rebalance.specs.Parts.{is_walking}
 use Rattle.rebalance.specs.contracts.frame.Rebalance.{the_view}
-use Rattle.query_remove.proofs.Stepping.{on_err, ended_path, ended_same}
+use Rattle.operation_frame.proofs.Requests.{on_err, ended_path, ended_same}
 use Rattle.rebalance.proofs.Stepping.{goes_on, ends_so}
 use Rattle.rebalance.proofs.frame.Rebalance.walk_on.Goals as goal
 

@@ -8,7 +8,7 @@ use Rattle.start_sequence.proofs.work.StartWork.begin.Goals as goal
 
 pub returns-in_ok-driver-in-Drivers-clause-device : goal.returns-in_ok-driver-in-Drivers-clause-device
 returns-in_ok-driver-in-Drivers-clause-device g c =
-    ap (λ (n : Node). n.serial) c.node-2.view_is ∙ own_serial c.args.serial c.in-Some.node.now c.args.tree.now.nodes (sym c.in-Some.ensures.node)
+    ap (λ (n : Node). n.serial) c.node.view_is ∙ own_serial c.args.serial c.at-node.result.now c.args.tree.now.nodes (sym c.at-node.ensures.node)
 
 pub returns-in-Trouble-clause-mirrors : goal.returns-in-Trouble-clause-mirrors
 returns-in-Trouble-clause-mirrors g c =

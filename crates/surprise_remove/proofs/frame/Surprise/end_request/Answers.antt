@@ -4,7 +4,7 @@ use Rattle.pnp_model.specs.Records.{Surprise}
 use Rattle.pnp_model.specs.Cores.{node_at}
 use Rattle.pnp_model.specs.Surprises.{tell_step, remove_step}
 use Rattle.devnode_tree.specs.Trees.{Tree}
-use Rattle.query_remove.proofs.Moving.{ok_moves}
+use Rattle.operation_frame.proofs.Requests.{ok_moves}
 use Rattle.surprise_remove.specs.Stages.{stage_of}
 use Rattle.surprise_remove.specs.Parts.{MovesFor, end_move, is_walking}
 use Rattle.surprise_remove.proofs.Moving.{moves_as, as_told, as_removed, stripped_is, only_removing}

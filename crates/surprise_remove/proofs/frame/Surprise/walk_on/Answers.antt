@@ -4,7 +4,7 @@ use Rattle.pnp_model.specs.Records.{Core, Walk, Surprise}
 use Rattle.surprise_remove.specs.Stages.{stage_of}
 use Rattle.surprise_remove.specs.Parts.{is_walking}
 use Rattle.surprise_remove.specs.contracts.frame.Surprise.{the_view}
-use Rattle.query_remove.proofs.Stepping.{on_err, ended_path, ended_same}
+use Rattle.operation_frame.proofs.Requests.{on_err, ended_path, ended_same}
 use Rattle.surprise_remove.proofs.Stepping.{goes_on, ends_so}
 use Rattle.surprise_remove.proofs.frame.Surprise.walk_on.Goals as goal
 

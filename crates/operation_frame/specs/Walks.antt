@@ -8,8 +8,8 @@ use Rattle.pnp_model.specs.Records.{Node, Core, Walk}
 use Rattle.pnp_model.specs.Cores.{is_node, with_state}
 use Rattle.pnp_model.specs.Walks.{is_bad, has_ended, state_after}
 use Rattle.pnp_model.specs.Frames.{asked}
-use Rattle.query_remove.specs.declared.walking.Walked.{Walked}
-use Rattle.query_remove.specs.declared.walking.Walked.TheVariants.{On, Ended}
+use Rattle.operation_frame.specs.declared.walking.Walked.{Walked}
+use Rattle.operation_frame.specs.declared.walking.Walked.TheVariants.{On, Ended}
 
 -- the next driver was asked, or the request has ended
 abbrev pub WalksFor : Option Node → Core → Walk → Walked → Core → Walk → Type 0

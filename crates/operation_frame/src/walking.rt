@@ -6,7 +6,7 @@ ghost use Rattle.pnp_labels.specs.declared.states.DevState.TheVariants.{NoStack}
 ghost use Rattle.devnode_tree.specs.Trees.{changed};
 ghost use Rattle.trial_journal.specs.Four as Four;
 ghost use Rattle.device_holdings.specs.Mirrors.{IsMirrored, KeepsMirror};
-ghost use Rattle.query_remove.specs.Walks.{WalksFor, EndsFor};
+ghost use Rattle.operation_frame.specs.Walks.{WalksFor, EndsFor};
 
 use device_holdings::release;
 use device_ids::{Text, WantOfMemory};
@@ -44,9 +44,7 @@ pub fn pass_on<R: Drivers>(
     ensures walk { OnErr result (walk.new ≡ walk.old) }
     ensures rack { OnErr result (R.rows rack.new ≡ R.rows rack.old) }
 {
-    let Some(node) = tree.node(serial) else {
-        unreachable!()
-    };
+    let node = tree.at(serial);
     let path = Text::make(alloc, node.path.bytes())?;
     match walk.pass(alloc, &node.stack, &node.path, rack)? {
         Passed::Asked(label) => Ok(Walked::On(label)),
@@ -62,9 +60,7 @@ pub fn end_walk(minor: Minor, refused: bool, path: Text, serial: u64, tree: &mut
     ensures next { tree.new.next ≡ tree.old.next }
     ensures mirrors { (arbiters : Four.Arbiters) → KeepsMirror tree.old.nodes arbiters tree.new.nodes arbiters }
 {
-    let Some(node) = tree.node(serial) else {
-        unreachable!()
-    };
+    let node = tree.at(serial);
     let serial = node.serial;
     let old = node.state;
     let state = state_after(minor, refused, old);

@@ -1,8 +1,8 @@
 use Rattle.std.proofs.Common.{subst, sym}
 use Rattle.devnode_tree.specs.Trees.{Tree}
 use Rattle.device_holdings.specs.Mirrors.{KeepsMirror}
-use Rattle.query_remove.proofs.Mirroring.{mirror_state}
-use Rattle.query_remove.proofs.walking.end_walk.Goals as goal
+use Rattle.operation_frame.proofs.Mirroring.{mirror_state}
+use Rattle.operation_frame.proofs.walking.end_walk.Goals as goal
 
 pub returns-clause-mirrors : goal.returns-clause-mirrors
 returns-clause-mirrors c =

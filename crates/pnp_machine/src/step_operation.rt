@@ -54,7 +54,7 @@ pub(crate) fn list_again(tasks: &mut Tasks, serial: Option<u64>)
 /// What the machine does beside a step of an operation that removes devices: where a node left, the world may have another
 /// device of its path; a path is disabled; the world loses who was ejected; or the operation is over. Conditions: there
 /// is room, who is ejected is not the root, and a path that is disabled was not. It takes no memory.
-fn do_beside(
+fn apply_effect(
     devices: &mut Devices,
     disabled: &mut DisabledPaths,
     operation: &mut Option<Operation>,
@@ -122,7 +122,7 @@ impl<R: Drivers> Machine<R> {
             unreachable!()
         };
         let step = operation.remove(self.alloc, &mut self.devices, &mut self.rack)?;
-        Ok(do_beside(
+        Ok(apply_effect(
             &mut self.devices,
             &mut self.disabled,
             &mut self.operation,

@@ -10,7 +10,7 @@ use Rattle.pnp_labels.specs.declared.states.DevState.{DevState}
 use Rattle.pnp_labels.specs.declared.states.Problem.{Problem}
 use Rattle.pnp_labels.specs.declared.states.DevState.TheVariants.{NoStack}
 use Rattle.devnode_tree.specs.Trees.{CanLeave}
-use Rattle.query_remove.specs.Parts.{HoldsNothing}
+use Rattle.operation_frame.specs.Nodes.{HoldsNothing}
 use Rattle.device_holdings.specs.Mirrors.{pairs_of, node_pairs, lists_with, KeepsMirror}
 
 mirror_same : (nodes nodes' : List Node) (a : Arbiters) → node_pairs nodes' ≡ node_pairs nodes → KeepsMirror nodes a nodes' a

@@ -1,8 +1,8 @@
 use Rattle.std.proofs.Common.{subst, sym, Some}
 use Rattle.devnode_tree.specs.Trees.{Tree}
 use Rattle.device_holdings.specs.Mirrors.{KeepsMirror}
-use Rattle.query_remove.proofs.Mirroring.{mirror_problem}
-use Rattle.surprise_remove.proofs.frame.Surprise.remain.Goals as goal
+use Rattle.operation_frame.proofs.Mirroring.{mirror_problem}
+use Rattle.operation_frame.proofs.leaving.remain.Goals as goal
 
 pub returns-clause-mirrors : goal.returns-clause-mirrors
 returns-clause-mirrors c =

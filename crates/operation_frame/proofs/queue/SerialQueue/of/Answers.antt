@@ -1,6 +1,6 @@
 use Rattle.std.proofs.Common.{◌∙◌, ◌++◌, [], ◌∷◌, ap, sym}
 use Rattle.relations.proofs.Graphs.{take_next}
-use Rattle.query_remove.proofs.queue.SerialQueue.of.Goals as goal
+use Rattle.operation_frame.proofs.queue.SerialQueue.of.Goals as goal
 
 pub loop-at-preserved : goal.loop-at-preserved
 loop-at-preserved c =

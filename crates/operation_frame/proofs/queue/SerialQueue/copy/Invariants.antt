@@ -1,5 +1,5 @@
 use Rattle.std.proofs.Common.{◌≡◌, take}
-use Rattle.query_remove.proofs.queue.SerialQueue.copy.Given as goal
+use Rattle.operation_frame.proofs.queue.SerialQueue.copy.Given as goal
 
 abbrev pub invariant-loop-at : goal.invariant-loop-at
 invariant-loop-at l = l.queue ≡ take l.at l.self-inside.serials.items

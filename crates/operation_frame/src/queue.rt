@@ -1,4 +1,6 @@
 ghost use Rattle.std.specs.Prelude.{◌≡◌, ◌∷◌, ◌++◌, [], IfOk, OnOk, OnErr, drop, slice_get};
+ghost use Rattle.pnp_model.specs.Frames.{rest};
+ghost use Rattle.operation_frame.specs.Queues.{all_after};
 
 use device_ids::WantOfMemory;
 use relations::SerialSet;
@@ -51,6 +53,20 @@ impl SerialQueue {
             queue.push_back(self.serials[at])?;
         }
         Ok(queue)
+    }
+
+    /// The devices of a set, where no other is to do after the next one; else none. Cost: their number.
+    pub fn all_after_next(
+        &self,
+        alloc: Global,
+        set: &SerialSet,
+    ) -> Result<SerialQueue, WantOfMemory>
+        ensures { IfOk result (λ all. all ≡ all_after set.now (rest self.now)) }
+    {
+        match self.get(1) {
+            Some(_) => Ok(SerialQueue::new(alloc)),
+            None => SerialQueue::of(alloc, set),
+        }
     }
 
     /// A device is put behind all others.

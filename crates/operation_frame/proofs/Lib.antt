@@ -1,0 +1,4 @@
+pub mod Mirroring
+pub mod Queues
+pub mod Given
+pub mod Requests

@@ -1,0 +1,39 @@
+-- What is known of the device that is next, and of its request, where a step of an operation is put together.
+use Rattle.std.proofs.Common.{◌≡◌, ℕ, Bool, List, Option, Some, None, IfSome, IfOk, Result, Ok, Err, OnErr, slice_get, refl, sym, ap, ◌∙◌, subst}
+use Rattle.pnp_labels.specs.Texts.{Text}
+use Rattle.pnp_labels.specs.declared.label.Label.{Label}
+use Rattle.pnp_model.specs.Cores.{node_at}
+use Rattle.pnp_model.specs.Frames.{first_node}
+use Rattle.pnp_model.specs.Records.{Node, Core, Walk}
+use Rattle.pnp_laws.proofs.Lookups.{own_serial}
+use Rattle.devnode_tree.specs.Trees.{CanLeave}
+use Rattle.operation_frame.specs.Nodes.{PathIs, HoldsNothing, IsStripped}
+use Rattle.operation_frame.specs.Walks.{WalksFor}
+use Rattle.operation_frame.specs.declared.walking.Walked.TheVariants.{On, Ended}
+use Rattle.operation_frame.proofs.Queues.{first_is}
+
+pub on_err : {T E : Type 0} (P : Type 0) (r : Result T E) → P → OnErr r P
+on_err P (Ok x) h = tt
+on_err P (Err e) h = h
+
+-- what stays where a request has ended
+pub ended_path : (x : Option Node) (c c' : Core) (w w' : Walk) (path : Text) (refused : Bool) → WalksFor x c w (Ended path refused) c' w' → PathIs x path
+ended_path None c c' w w' path refused h = h
+ended_path (Some node) c c' w w' path refused h = h.2
+
+pub ended_same : (x : Option Node) (c c' : Core) (w w' : Walk) (path : Text) (refused : Bool) → WalksFor x c w (Ended path refused) c' w' → (c' ≡ c) × (w' ≡ w)
+ended_same None c c' w w' path refused h = absurd h
+ended_same (Some node) c c' w w' path refused h = (h.3, h.4)
+
+-- the device that is next may leave, and holds nothing
+pub stripped_at : (nodes : List Node) (todo : List ℕ) (k : ℕ) (node : Node) → Some k ≡ slice_get todo 0 → Some node ≡ node_at k nodes → IfSome (first_node nodes todo) (IsStripped nodes)
+    → CanLeave node.serial nodes × HoldsNothing (node_at node.serial nodes)
+stripped_at nodes todo k node first at h =
+    let is : first_node nodes todo ≡ Some node = first_is nodes todo k (sym first) ∙ sym at in
+    let two = subst (λ (o : Option Node). IfSome o (IsStripped nodes)) is h in
+    let found : node_at node.serial nodes ≡ Some node = ap (λ i. node_at i nodes) (own_serial k node nodes (sym at)) ∙ sym at in
+    (two.0, subst (λ (o : Option Node). HoldsNothing o) (sym found) two.1)
+
+pub ok_moves : {E : Type 0} (P Q : Label → Type 0) → ((label : Label) → P label → Q label) → (r : Result Label E) → IfOk r P → IfOk r Q
+ok_moves P Q f (Ok label) h = f label h
+ok_moves P Q f (Err e) h = tt

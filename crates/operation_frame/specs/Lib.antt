@@ -1,0 +1,4 @@
+pub mod Nodes
+pub mod Queues
+pub mod Steps
+pub mod Walks

@@ -1,0 +1,7 @@
+-- The devices that are still to do.
+use Rattle.std.specs.Prelude.{ℕ, List, [], ◌∷◌}
+
+-- the set, where no other device is still to do
+abbrev pub all_after : List ℕ → List ℕ → List ℕ
+all_after set [] = set
+all_after set (k ∷ ks) = []

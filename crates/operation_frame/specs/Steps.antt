@@ -1,0 +1,23 @@
+-- One step of an operation as a move of the machine, whatever the operation is.
+use Rattle.std.specs.Prelude.{◌≡◌, Bool, true, false, Option, Some, None, Ok, Err, Result}
+use Rattle.pnp_labels.specs.declared.label.Label.{Label}
+use Rattle.pnp_model.specs.Frames.{Move}
+use Rattle.pnp_model.specs.Records.{Core}
+use Rattle.device_stack.specs.declared.walk.NoSuchRequest.{NoSuchRequest}
+
+-- what is printed, what is there then and where the operation stands then are those of the move, and this is what the
+-- machine has to do beside it
+abbrev pub StepIs : {F B : Type 0} → Move F B → B → Label → Core → F → Type 0
+StepIs m beside label core frame = (m.beside ≡ beside) × (label ≡ m.label) × (core ≡ m.core) × (frame ≡ m.frame)
+
+-- there is a move, and the step is of it
+abbrev pub MovedBy : {M S F : Type 0} → (M → S → Core → F → Type 0) → Option M → S → Core → F → Type 0
+MovedBy Is None step core frame = ⊥
+MovedBy Is (Some m) step core frame = Is m step core frame
+
+-- an operation that waits goes on, to where the answer takes it; any other refuses, and stays
+abbrev pub Completes : {F : Type 0} → Bool → Result (Unit {0}) NoSuchRequest → F → F → F → Type 0
+Completes true (Ok done) old further new = new ≡ further
+Completes false (Err refused) old further new = new ≡ old
+Completes true (Err refused) old further new = ⊥
+Completes false (Ok done) old further new = ⊥
