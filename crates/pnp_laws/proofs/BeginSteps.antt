@@ -9,8 +9,8 @@ use Rattle.pnp_model.specs.Runs.Entry.{Happens, Did}
 use Rattle.pnp_labels.specs.Texts.{Text}
 use Rattle.pnp_labels.specs.declared.label.Label.{Label}
 use Rattle.pnp_labels.specs.declared.label.OpKind.{OpKind}
+use Rattle.pnp_laws.specs.Words.{IsBeside, IsWord, DuesFine}
 use Rattle.pnp_laws.specs.Reached.{IsReached}
-use Rattle.pnp_laws.specs.Begun.{IsBeside, IsWord, DuesFine}
 use Rattle.pnp_laws.proofs.Reaching.{kept}
 use Rattle.pnp_laws.proofs.EventChanges.{beside_word, happens_outside}
 use Rattle.pnp_laws.proofs.Courses.{begun, Way, Course}

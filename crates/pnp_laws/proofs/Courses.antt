@@ -26,7 +26,7 @@ use Rattle.pnp_labels.specs.declared.label.OpEnd.{OpEnd}
 use Rattle.pnp_labels.specs.declared.words.Answer.{Answer}
 use Rattle.pnp_labels.specs.declared.words.Answer.TheVariants.{Ok, Fail, Pend}
 use Rattle.pnp_labels.specs.declared.states.DevState.TheVariants.{NoStack, NotStarted, Started, StopPending, Stopped, RemovePending, SurpriseRemoved}
-use Rattle.pnp_laws.specs.Begun.{kind_of, path_of, is_removal, EndsBy, SameWork, NotTwelve, IsBeside, DueFine, DuesFine}
+use Rattle.pnp_laws.specs.Words.{kind_of, path_of, is_removal, EndsBy, SameWork, NotTwelve, IsBeside, DueFine, DuesFine}
 use Rattle.pnp_laws.proofs.Lookups.{found_self}
 use Rattle.pnp_laws.proofs.Dues.{dues_without, dues_changed, dues_entered, dues_as}
 

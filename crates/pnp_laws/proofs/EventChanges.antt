@@ -18,8 +18,8 @@ use Rattle.pnp_labels.specs.declared.event.Event.{Event}
 use Rattle.pnp_labels.specs.declared.label.Label.{Label}
 use Rattle.pnp_labels.specs.declared.label.EventWord.{EventWord}
 use Rattle.pnp_labels.specs.declared.label.Reason.{Reason}
+use Rattle.pnp_laws.specs.Words.{IsWord, IsBeside, DueFine, DuesFine}
 use Rattle.pnp_laws.specs.Holdings.{is_starting}
-use Rattle.pnp_laws.specs.Begun.{IsWord, IsBeside, DueFine, DuesFine}
 use Rattle.pnp_laws.proofs.Dues.{dues_as, dues_changed, dues_found}
 use Rattle.pnp_laws.proofs.Lookups.{phase_from}
 use Rattle.pnp_model.specs.Events as ev

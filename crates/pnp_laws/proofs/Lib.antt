@@ -2,6 +2,10 @@ pub mod Decides
 pub mod AnswerThere
 pub mod Lookups
 pub mod Lists
+pub mod EffectsOfStarts
+pub mod EffectsOfOperations
+pub mod EffectsOfEvents
+pub mod EffectsOf
 pub mod Diagrams
 pub mod Kept
 pub mod Closures

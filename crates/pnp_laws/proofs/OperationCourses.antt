@@ -19,7 +19,7 @@ use Rattle.pnp_labels.specs.declared.label.Label.{Label}
 use Rattle.pnp_labels.specs.declared.label.OpKind.{OpKind}
 use Rattle.pnp_labels.specs.declared.label.OpEnd.{OpEnd}
 use Rattle.pnp_labels.specs.declared.event.Event.{Event}
-use Rattle.pnp_laws.specs.Begun.{is_removal, NoVeto, EndsBy, kind_of, path_of, SameWork, IsBeside, DueFine, DuesFine}
+use Rattle.pnp_laws.specs.Words.{is_removal, NoVeto, EndsBy, kind_of, path_of, SameWork, IsBeside, DueFine, DuesFine}
 use Rattle.pnp_laws.proofs.Finishing.{relist_only}
 use Rattle.pnp_laws.proofs.Dues.{dues_entered, dues_as, dues_found}
 use Rattle.pnp_laws.proofs.EventChanges.{Answered, beside_word, happens_outside}

@@ -8,7 +8,8 @@ use Rattle.pnp_labels.specs.Texts.{Text}
 use Rattle.pnp_labels.specs.declared.states.Problem.{Problem}
 use Rattle.pnp_labels.specs.declared.label.Label.{Label}
 use Rattle.pnp_labels.specs.declared.label.OpKind.{OpKind}
-use Rattle.pnp_laws.specs.Begun.{IsWord, HasBegun, Belongs, BegunLaw, kind_of, path_of, SameWork, NotTwelve, IsBeside}
+use Rattle.pnp_laws.specs.Words.{IsWord, kind_of, path_of, SameWork, NotTwelve, IsBeside}
+use Rattle.pnp_laws.specs.Begun.{HasBegun, Belongs, BegunLaw}
 use Rattle.pnp_laws.proofs.Reaching.{run_on}
 use Rattle.pnp_laws.proofs.Courses.{begun, Way}
 use Rattle.pnp_laws.proofs.EventChanges.{beside_word, happens_outside}

@@ -3,7 +3,8 @@ use Rattle.std.proofs.Common.{◌+◌, ◌≤◌, ◌≡◌, inl, inr, List, [],
 use Rattle.pnp_model.specs.Records.{State, Step, Settings}
 use Rattle.pnp_model.specs.Runs.{Entry, Goes, Run, printed, opening}
 use Rattle.pnp_model.specs.Runs.Entry.{Happens, Did}
-use Rattle.pnp_laws.specs.Ends.{events, joined, joins}
+use Rattle.pnp_laws.specs.Words.{joined}
+use Rattle.pnp_laws.specs.Ends.{events, joins}
 use Rattle.pnp_laws.specs.Serials.{SerialsLaw, FewSerialsLaw, FewBirthsLaw}
 use Rattle.pnp_laws.proofs.EventChanges.{Outside, happens_outside}
 use Rattle.pnp_laws.proofs.EventBirths.{few_happens}

@@ -13,8 +13,8 @@ use Rattle.pnp_labels.specs.Texts.{Text}
 use Rattle.pnp_labels.specs.declared.label.Label.{Label}
 use Rattle.pnp_labels.specs.declared.label.OpKind.{OpKind}
 use Rattle.pnp_labels.specs.declared.label.OpEnd.{OpEnd}
+use Rattle.pnp_laws.specs.Words.{is_removal, NoVeto, EndsBy}
 use Rattle.pnp_laws.specs.Kept.{IsGood}
-use Rattle.pnp_laws.specs.Begun.{is_removal, NoVeto, EndsBy}
 use Rattle.pnp_laws.specs.Reached.{IsReached}
 use Rattle.pnp_laws.specs.RunsWell.{RunWell}
 use Rattle.pnp_laws.proofs.Runs.{lawful_goes}

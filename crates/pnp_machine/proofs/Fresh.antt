@@ -34,7 +34,7 @@ use Rattle.pnp_model.specs.Tasks.{begin_step, disable_task, install_best, list_s
 use Rattle.pnp_model.specs.Tests.{has, has_same, is_eject}
 use Rattle.pnp_model.specs.Trees.{leaving}
 use Rattle.pnp_model.specs.Walks.{is_bad}
-use Rattle.pnp_laws.specs.Begun.{is_removal}
+use Rattle.pnp_laws.specs.Words.{is_removal}
 use Rattle.pnp_laws.specs.Kept.{Ascending, Distinct, OperationFits}
 use Rattle.pnp_laws.specs.Reached.{IsReached}
 use Rattle.pnp_laws.proofs.BeginSteps.{course_goes, reached_dues}
