@@ -202,7 +202,7 @@ module _ (s : State) (r : Rebalance) (runs : s.operation ≡ Some (Operation.Reb
     closes_moved : (plan : List (List Res)) (result : OpEnd) (up : Bool) → r.found ≡ assignment plan → NoVeto result
         → Steps s (ma.rebalance_lifted s (record { label = Label.End OpKind.Rebalance r.path result; core = s.core; frame = r; beside = re.moved_on up }))
     closes_moved plan result true found by =
-        closes s (Operation.Rebalancing r) runs _ _ result refl refl refl refl refl refl refl refl by refl (ActivityEffect.enters r.target (Phase.Starting (walk_of Minor.Start)) (Enters.restarts r plan runs is refl found) refl)
+        closes s (Operation.Rebalancing r) runs _ _ result refl refl refl refl refl refl refl refl by refl (ActivityEffect.enters r.target (Phase.Starting (walk_of Minor.Start)) (Enters.restarts r plan runs is refl found refl) refl)
     closes_moved plan result false found by = closes s (Operation.Rebalancing r) runs _ _ result refl refl refl refl refl refl refl refl by refl (ActivityEffect.same refl)
 
     re_closes : (found : Found) (result : OpEnd) → r.found ≡ found → NoVeto result → Steps s (ma.rebalance_lifted s (record { label = Label.End OpKind.Rebalance r.path result; core = s.core; frame = r; beside = re.over s.core r found }))

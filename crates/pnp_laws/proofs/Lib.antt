@@ -38,9 +38,9 @@ pub mod EventSteps
 pub mod MachineSteps
 pub mod Runs
 pub mod Sharing
-pub mod SharingSteps
-pub mod SharingRemovals
-pub mod SharingMachine
+pub mod Passing
+pub mod PlansKept
+pub mod SharingEffects
 pub mod RunsShare
 pub mod Vetoes
 pub mod VetoSteps

@@ -18,7 +18,7 @@ use Rattle.pnp_laws.specs.Vetoes.{turned}
 use Rattle.pnp_laws.specs.Rebalanced.{Placed, paused, Paused}
 use Rattle.pnp_laws.proofs.Lookups.{node_changed_same, node_changed_other}
 use Rattle.pnp_laws.proofs.Vetoes.{turned_same, turned_twice}
-use Rattle.pnp_laws.proofs.SharingSteps.{beside_changed}
+use Rattle.pnp_laws.proofs.PlansKept.{beside_changed}
 use Rattle.pnp_laws.proofs.WholeSteps.{keeps_state}
 use Rattle.pnp_laws.proofs.WholeOperations.{all_reqs_changed}
 

@@ -20,7 +20,7 @@ use Rattle.pnp_laws.specs.Kept.{Ascending, RemovalKeeps, restoring_state}
 use Rattle.pnp_laws.specs.Holdings.{HeldWell, KeepsReqs, Turn, OperationWhole, IsWhole, Turned}
 use Rattle.pnp_laws.proofs.Lists.{head_found, head_has}
 use Rattle.pnp_laws.proofs.Finishing.{relist_only}
-use Rattle.pnp_laws.proofs.SharingRemovals.{relist_core}
+use Rattle.pnp_laws.proofs.Finishing.{relist_core}
 use Rattle.pnp_laws.proofs.OpSteps.{is_RemovePending}
 use Rattle.pnp_laws.proofs.RemovalSteps.{head_querying, head_refusing}
 use Rattle.pnp_laws.proofs.WholeSteps.{held, moved_well, down_well, troubled_well, bare_well, keeps_state, keeps_problem, keeps_bare, TurnedNext}

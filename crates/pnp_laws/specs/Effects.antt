@@ -28,7 +28,7 @@ use Rattle.pnp_model.specs.Tasks.{begin, is_gone, join_step, joining}
 use Rattle.pnp_model.specs.Machine.{is_ready, operation_walk}
 use Rattle.pnp_model.specs.Events.{answer_of, completed, completed_phase}
 use Rattle.pnp_model.specs.Runs.{Entry, Goes, printed}
-use Rattle.pnp_model.specs.Runs.Entry.{Happens}
+use Rattle.pnp_model.specs.Runs.Entry.{Happens, Did}
 use Rattle.pnp_model.specs.Records.{Node, Core, Device, Relation, Walk, Activity, Phase, Task, Duty, State, Step, Operation, Rebalance, RebalanceStage, Removal, RemovalStage, Settings, Surprise, SurpriseStage}
 use Rattle.pnp_laws.specs.Words.{IsBeside, IsWord, NotTwelve, SameWork, EndsBy, is_removal, kind_of, path_of, joined}
 use Rattle.device_ids.specs.Folding as folding
@@ -154,7 +154,7 @@ pub data NodeEffect (s : State) (label : Label) (t : State) : Type 0 where
 
 pub data RangeEffect (s t : State) : Type 0 where
   same : t.core.reserved ≡ s.core.reserved → RangeEffect s t
-  reserves : (res : Res) → s.operation ≡ None → list_any (clashes res) (s.core.reserved ++ held_by s.core.nodes) ≡ false → t.core.reserved ≡ s.core.reserved ++ res ∷ [] → RangeEffect s t
+  reserves : (res : Res) → s.operation ≡ None → list_any (clashes res) (s.core.reserved ++ held_by s.core.nodes) ≡ false → t.core.nodes ≡ s.core.nodes → t.core.reserved ≡ s.core.reserved ++ res ∷ [] → RangeEffect s t
 
 pub record Plugged (s : State) (entry : Entry) (d : Device) : Type 0 where
   pub over : Device
@@ -207,11 +207,13 @@ pub record Owes (s : State) (label : Label) : Type 0 where
   pub path : Text
   pub prints : label ≡ Label.Trouble path problem
 
+-- an event leaves it as it is, or answers its walk
+pub data AnswerEffect (s : State) (label : Label) (t : State) : Type 0 where
+  stays : IsWord label → t.core.nodes ≡ s.core.nodes → t.operation ≡ s.operation → AnswerEffect s label t
+  answered : IsWord label → t.core.nodes ≡ s.core.nodes → (ok : Bool) (o : Operation) → s.operation ≡ Some o → t.operation ≡ Some (completed (answer_of ok) o) → AnswerEffect s label t
+
+-- in a step none runs; or one begins, goes on, or ends
 pub data OpEffect (s : State) (label : Label) (t : State) : Type 0 where
-  -- an event leaves it as it is, or answers its walk
-  stays : IsWord label → t.operation ≡ s.operation → OpEffect s label t
-  answered : IsWord label → (ok : Bool) (o : Operation) → s.operation ≡ Some o → t.operation ≡ Some (completed (answer_of ok) o) → OpEffect s label t
-  -- in a step none runs; or one begins, goes on, or ends
   idles : s.operation ≡ None → t.operation ≡ None → IsBeside label ⊎ Owes s label → OpEffect s label t
   begins : (kind : OpKind) (node : Node) → s.operation ≡ None → s.activities ≡ [] → node_at node.serial s.core.nodes ≡ Some node → BeginsFor s kind node
       → record { label = label; state = t } ≡ begin s kind node (begun s.core kind node) → OpEffect s label t
@@ -219,14 +221,18 @@ pub data OpEffect (s : State) (label : Label) (t : State) : Type 0 where
       → IsBeside label ⊎ ((kind_of o ≡ OpKind.Rebalance) × (label ≡ Label.Trouble (path_of o) Problem.NormalConflict)) → OpEffect s label t
   ends : (o : Operation) (result : OpEnd) → s.operation ≡ Some o → t.operation ≡ None → label ≡ Label.End (kind_of o) (path_of o) result → EndsBy (is_removal o) result → OpEffect s label t
 
+abbrev pub OperationEffect : State → Entry → State → Type 0
+OperationEffect s (Happens event label) t = AnswerEffect s label t
+OperationEffect s (Did label) t = OpEffect s label t
+
 -- Activities -----------------------------------------------------------------------------
 
 -- why the start of a device begins in a phase: its drivers were chosen; or the rebalance for it closes
-pub data Enters (s : State) (k : ℕ) : Phase → Type 0 where
-  installs : (drivers : List ℕ) → activity_at k s.activities ≡ None → Enters s k (adding drivers)
-  restarts : (r : Rebalance) (plan : List (List Res)) → s.operation ≡ Some (Operation.Rebalancing r) → r.stage ≡ RebalanceStage.Ending → r.target ≡ k → r.found ≡ assignment plan
-      → Enters s k (Phase.Starting (walk_of Minor.Start))
-  undoes : (r : Rebalance) → s.operation ≡ Some (Operation.Rebalancing r) → r.target ≡ k → Enters s k (Phase.Removing (walk_of Minor.Remove))
+pub data Enters (s : State) (k : ℕ) (t : State) : Phase → Type 0 where
+  installs : (drivers : List ℕ) → activity_at k s.activities ≡ None → Enters s k t (adding drivers)
+  restarts : (r : Rebalance) (plan : List (List Res)) → s.operation ≡ Some (Operation.Rebalancing r) → r.stage ≡ RebalanceStage.Ending → r.target ≡ k → r.found ≡ assignment plan → t.core.nodes ≡ s.core.nodes
+      → Enters s k t (Phase.Starting (walk_of Minor.Start))
+  undoes : (r : Rebalance) → s.operation ≡ Some (Operation.Rebalancing r) → r.target ≡ k → Enters s k t (Phase.Removing (walk_of Minor.Remove))
 
 -- how the start of device k goes on
 pub data PhaseStep (s : State) (k : ℕ) (t : State) : Phase → Phase → Type 0 where
@@ -240,7 +246,7 @@ pub data PhaseStep (s : State) (k : ℕ) (t : State) : Phase → Phase → Type 
 
 pub data ActivityEffect (s t : State) : Type 0 where
   same : t.activities ≡ s.activities → ActivityEffect s t
-  enters : (k : ℕ) (phase : Phase) → Enters s k phase → t.activities ≡ entered (record { serial = k; phase = phase }) s.activities → ActivityEffect s t
+  enters : (k : ℕ) (phase : Phase) → Enters s k t phase → t.activities ≡ entered (record { serial = k; phase = phase }) s.activities → ActivityEffect s t
   goes : (k : ℕ) (old new : Phase) → PhaseStep s k t old new → t.activities ≡ changed_first (is_activity k) (with_phase new) s.activities → ActivityEffect s t
   ends : (k : ℕ) (phase : Phase) → Acting s k phase → t.activities ≡ without_first (is_activity k) s.activities → ActivityEffect s t
 
@@ -268,7 +274,7 @@ pub data TaskEffect (s t : State) : Type 0 where
 pub record Effect (s : State) (entry : Entry) (t : State) : Type 0 where
   pub nodes : NodeEffect s (printed entry) t
   pub ranges : RangeEffect s t
-  pub operation : OpEffect s (printed entry) t
+  pub operation : OperationEffect s entry t
   pub activities : ActivityEffect s t
   pub tasks : TaskEffect s t
   pub world : WorldEffect s entry t

@@ -29,7 +29,7 @@ use Rattle.pnp_model.specs.Walks.{is_bad}
 use Rattle.pnp_laws.specs.Kept.{is_idle}
 use Rattle.pnp_laws.proofs.Lists.{head_found}
 use Rattle.pnp_laws.proofs.Lookups.{found_self, some_same}
-use Rattle.pnp_laws.proofs.SharingRemovals.{relist_core}
+use Rattle.pnp_laws.proofs.Finishing.{relist_core}
 use Rattle.pnp_model.specs.Machine as ma
 use Rattle.pnp_model.specs.Rebalances as re
 use Rattle.pnp_model.specs.Removals as rm
