@@ -36,7 +36,7 @@ module _ (s : State) (event : Event) where
       record {
         nodes = nodes;
         ranges = ranges;
-        operation = AnswerEffect.stays word same operation;
+        operation = AnswerEffect.stays word same activities operation;
         activities = ActivityEffect.same activities;
         tasks = tasks;
         world = world;
@@ -188,7 +188,7 @@ module _ (s : State) (event : Event) where
       record {
         nodes = NodeEffect.same refl refl;
         ranges = RangeEffect.same refl;
-        operation = AnswerEffect.stays tt refl refl;
+        operation = AnswerEffect.answers tt refl node.serial a ok at refl refl;
         activities = ActivityEffect.goes node.serial a.phase (ev.completed_phase (ev.answer_of ok) a.phase) (PhaseStep.answered a ok at refl) refl;
         tasks = TaskEffect.same refl;
         world = WorldEffect.same refl refl;
@@ -205,7 +205,7 @@ module _ (s : State) (event : Event) where
       record {
         nodes = NodeEffect.same refl refl;
         ranges = RangeEffect.same refl;
-        operation = AnswerEffect.answered tt refl ok o runs refl;
+        operation = AnswerEffect.answered tt refl refl ok o runs refl;
         activities = ActivityEffect.same refl;
         tasks = TaskEffect.same refl;
         world = WorldEffect.same refl refl;

@@ -60,7 +60,6 @@ pub mod Pauses
 pub mod Askings
 pub mod RebalanceMoves
 pub mod Courses
-pub mod OperationCourses
 pub mod BeginSteps
 pub mod RunsBegun
 pub mod RebalanceRuns
@@ -90,5 +89,4 @@ pub mod MeasureBegins
 pub mod RunsEnd
 pub mod Falling
 pub mod StepsLeft
-pub mod EventBirths
 pub mod RunsSerials

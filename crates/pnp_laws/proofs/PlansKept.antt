@@ -31,6 +31,7 @@ use Rattle.pnp_laws.specs.Plans.{IsPlanned, PlanFits, PlanKept, StagePlan}
 use Rattle.pnp_laws.specs.Reached.{IsReached}
 use Rattle.pnp_laws.specs.Words.{SameWork, kind_of, is_removal}
 use Rattle.pnp_laws.proofs.EffectsOf.{effect_goes}
+use Rattle.pnp_laws.proofs.EventChanges.{ranges_stay}
 use Rattle.pnp_laws.proofs.Lookups.{map_from, node_changed_other, node_changed_same, node_from, own_serial}
 use Rattle.pnp_laws.proofs.Passing.{AllNext, all_step}
 use Rattle.pnp_laws.proofs.Reaching.{kept}
@@ -263,11 +264,6 @@ planned_as t o reserved nodes a b c h =
     subst (λ (x : Option Operation). PlanKept x t.core.reserved t.core.nodes) (sym a)
     (subst (λ (x : List Res). PlanKept o x t.core.nodes) (sym b) (subst (λ (x : List Node). PlanKept o reserved x) (sym c) h))
 
--- ranges stay while an operation runs
-ranges_stay : (s t : State) (o : Operation) → s.operation ≡ Some o → RangeEffect s t → t.core.reserved ≡ s.core.reserved
-ranges_stay s t o runs (RangeEffect.same e) = e
-ranges_stay s t o runs (RangeEffect.reserves res none free nodes e) = absurd (cc)
-
 stays_plan : (s t : State) (o : Option Operation) → s.operation ≡ o → t.operation ≡ s.operation → t.core.nodes ≡ s.core.nodes → RangeEffect s t → IsPlanned s → IsPlanned t
 stays_plan s t None none now nodes ranges h = planned_as t None t.core.reserved t.core.nodes (now ∙ none) refl refl tt
 stays_plan s t (Some o) runs now nodes ranges h = planned_as t s.operation s.core.reserved s.core.nodes now (ranges_stay s t o runs ranges) nodes h
@@ -284,8 +280,9 @@ goes_plan settings s label t (Operation.Rebalancing r) p runs now work goes h =
     (subst (λ (x : Option Operation). AllNext (λ y. IsPlanned y.state) settings.budget (next_of settings s x)) (sym runs) (planned_on s r settings.budget walk plan)) goes
 
 event_plan : (s : State) (label : Label) (t : State) → RangeEffect s t → AnswerEffect s label t → IsPlanned s → IsPlanned t
-event_plan s label t ranges (AnswerEffect.stays word nodes now) h = stays_plan s t s.operation refl now nodes ranges h
-event_plan s label t ranges (AnswerEffect.answered word nodes ok o runs now) h =
+event_plan s label t ranges (AnswerEffect.stays word nodes acts now) h = stays_plan s t s.operation refl now nodes ranges h
+event_plan s label t ranges (AnswerEffect.answers word nodes k a ok at acts now) h = stays_plan s t s.operation refl now nodes ranges h
+event_plan s label t ranges (AnswerEffect.answered word nodes acts ok o runs now) h =
     planned_as t (Some (ev.completed (ev.answer_of ok) o)) s.core.reserved s.core.nodes now (ranges_stay s t o runs ranges) nodes
     (answered_plan (ev.answer_of ok) o s.core.reserved s.core.nodes (subst (λ (x : Option Operation). PlanKept x s.core.reserved s.core.nodes) runs h))
 

@@ -20,8 +20,8 @@ use Rattle.pnp_laws.specs.RunsWell.{RunWell}
 use Rattle.pnp_laws.proofs.Runs.{lawful_goes}
 use Rattle.pnp_laws.proofs.RunsStand.{Kept, kept_goes, run_well, reaches_kept}
 use Rattle.pnp_laws.proofs.Reaching.{reached_on}
-use Rattle.pnp_laws.proofs.Courses.{Way}
-use Rattle.pnp_laws.proofs.BeginSteps.{Begun, begins_right, reached_dues, course_goes}
+use Rattle.pnp_laws.proofs.Courses.{Way, course_goes}
+use Rattle.pnp_laws.proofs.BeginSteps.{Begun, begins_right, reached_dues}
 use Rattle.pnp_laws.proofs.Vetoes.{since_begun, veto_restores}
 use Rattle.pnp_laws.proofs.VetoSteps.{VetoSince, Closed, veto_step, veto_happens}
 

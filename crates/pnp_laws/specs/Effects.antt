@@ -207,10 +207,12 @@ pub record Owes (s : State) (label : Label) : Type 0 where
   pub path : Text
   pub prints : label ≡ Label.Trouble path problem
 
--- an event leaves it as it is, or answers its walk
+-- an event leaves operation and activities as they are, or answers one walk
 pub data AnswerEffect (s : State) (label : Label) (t : State) : Type 0 where
-  stays : IsWord label → t.core.nodes ≡ s.core.nodes → t.operation ≡ s.operation → AnswerEffect s label t
-  answered : IsWord label → t.core.nodes ≡ s.core.nodes → (ok : Bool) (o : Operation) → s.operation ≡ Some o → t.operation ≡ Some (completed (answer_of ok) o) → AnswerEffect s label t
+  stays : IsWord label → t.core.nodes ≡ s.core.nodes → t.activities ≡ s.activities → t.operation ≡ s.operation → AnswerEffect s label t
+  answers : IsWord label → t.core.nodes ≡ s.core.nodes → (k : ℕ) (a : Activity) (ok : Bool) → activity_at k s.activities ≡ Some a
+      → t.activities ≡ changed_first (is_activity k) (with_phase (completed_phase (answer_of ok) a.phase)) s.activities → t.operation ≡ s.operation → AnswerEffect s label t
+  answered : IsWord label → t.core.nodes ≡ s.core.nodes → t.activities ≡ s.activities → (ok : Bool) (o : Operation) → s.operation ≡ Some o → t.operation ≡ Some (completed (answer_of ok) o) → AnswerEffect s label t
 
 -- in a step none runs; or one begins, goes on, or ends
 pub data OpEffect (s : State) (label : Label) (t : State) : Type 0 where

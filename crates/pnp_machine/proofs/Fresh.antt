@@ -37,8 +37,8 @@ use Rattle.pnp_model.specs.Walks.{is_bad}
 use Rattle.pnp_laws.specs.Words.{is_removal}
 use Rattle.pnp_laws.specs.Kept.{Ascending, Distinct, OperationFits}
 use Rattle.pnp_laws.specs.Reached.{IsReached}
-use Rattle.pnp_laws.proofs.BeginSteps.{course_goes, reached_dues}
-use Rattle.pnp_laws.proofs.Courses.{Way}
+use Rattle.pnp_laws.proofs.BeginSteps.{reached_dues}
+use Rattle.pnp_laws.proofs.Courses.{Way, course_goes}
 use Rattle.pnp_laws.proofs.EventChanges.{Answered, happens_outside}
 use Rattle.pnp_laws.proofs.Finishing.{relist_only}
 use Rattle.pnp_laws.proofs.Lists.{HeadIs, head_found, head_has, rest_not, rest_within}
