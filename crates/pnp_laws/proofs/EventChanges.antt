@@ -35,7 +35,7 @@ pub record Outside (s : State) (step : Step) : Type 0 where
   pub operation : Answered s.operation step.state.operation
 
 -- an answer starts no START and ends none
-starting_still : (answer : Answer) (phase : Phase) → is_starting (ev.completed_phase answer phase) ≡ is_starting phase
+pub starting_still : (answer : Answer) (phase : Phase) → is_starting (ev.completed_phase answer phase) ≡ is_starting phase
 starting_still answer (Adding drivers) = refl
 starting_still answer Searching = refl
 starting_still answer (Starting w) = refl

@@ -6,6 +6,7 @@ pub mod EffectsOfStarts
 pub mod EffectsOfOperations
 pub mod EffectsOfEvents
 pub mod EffectsOf
+pub mod EffectViews
 pub mod Diagrams
 pub mod Kept
 pub mod Closures
@@ -50,11 +51,7 @@ pub mod Reaching
 pub mod Reached
 pub mod Dues
 pub mod EventChanges
-pub mod Turns
-pub mod WholeSteps
-pub mod WholeOperations
-pub mod WholeRemovals
-pub mod WholeMachine
+pub mod HoldingsKept
 pub mod RunsWhole
 pub mod Pauses
 pub mod Askings

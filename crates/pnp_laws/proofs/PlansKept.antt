@@ -72,20 +72,23 @@ beside_changed j f movers (n ∷ ns) keeps holds =
     λ a b e. e in
     grind (arith)
 
+pub keeps_state : (y : DevState) → KeepsReqs (with_state y)
+keeps_state y = record { serial = λ n. refl; reqs = λ n. refl }
+
 -- a change that keeps all but state and problem
-record KeepsHeld (f : Node → Node) : Type 0 where
-  reqs : KeepsReqs f
-  holds : (n : Node) → (f n).holds ≡ n.holds
+pub record KeepsHeld (f : Node → Node) : Type 0 where
+  pub reqs : KeepsReqs f
+  pub holds : (n : Node) → (f n).holds ≡ n.holds
 
 held_state : (y : DevState) → KeepsHeld (with_state y)
-held_state y = record { reqs = record { serial = λ n. refl; reqs = λ n. refl }; holds = λ n. refl }
+held_state y = record { reqs = keeps_state y; holds = λ n. refl }
 
 fits_changed : (r : Rebalance) (j : ℕ) (f : Node → Node) (reserved : List Res) (nodes : List Node) → KeepsHeld f → PlanFits r reserved nodes → PlanFits r reserved (changed_first (is_node j) f nodes)
 fits_changed r j f reserved nodes keeps h =
     subst (λ (xs : List Reqs). IsAssignment (reserved ++ held_by (those (is_beside (re.movers r)) (changed_first (is_node j) f nodes))) xs (re.plan_of r.found)) (sym (all_reqs_changed j f nodes (re.movers r) keeps.reqs))
     (subst (λ (xs : List Res). IsAssignment (reserved ++ xs) (map (λ k. re.reqs_of (node_at k nodes)) (re.movers r)) (re.plan_of r.found)) (sym (beside_changed j f (re.movers r) nodes keeps.reqs.serial keeps.holds)) h)
 
-whole_changed : (k j : ℕ) (f : Node → Node) (nodes : List Node) → KeepsHeld f → WholeAt k nodes → WholeAt k (changed_first (is_node j) f nodes)
+pub whole_changed : (k j : ℕ) (f : Node → Node) (nodes : List Node) → KeepsHeld f → WholeAt k nodes → WholeAt k (changed_first (is_node j) f nodes)
 whole_changed k j f nodes keeps h m g =
     elim (node_from j k f nodes m keeps.reqs.serial g) [
       | inl (e, (y, q, r)) ↦
