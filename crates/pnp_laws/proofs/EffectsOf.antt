@@ -1,19 +1,16 @@
 -- Each step and each event has an effect: the one pass over what the machine does next.
-use Rattle.std.proofs.Common.{ℕ, ◌≡◌, ◌∙◌, List, [], ◌∷◌, Option, Some, None, refl, sym, ap, subst}
+use Rattle.std.proofs.Common.{ℕ, ◌≡◌, List, [], ◌∷◌, Option, Some, None, refl, sym, subst}
 use Rattle.std.specs.List.{find, slice_get}
 use Rattle.pnp_labels.specs.declared.label.Label.{Label}
 use Rattle.pnp_labels.specs.declared.label.OpKind.{OpKind}
-use Rattle.pnp_labels.specs.declared.event.Event.{Event}
 use Rattle.pnp_model.specs.Cores.{node_at}
-use Rattle.pnp_model.specs.Events.{happens}
 use Rattle.pnp_model.specs.Records.{Activity, Doing, Duty, Node, Operation, Settings, State, Step, Task}
 use Rattle.pnp_model.specs.Records.Doing.{Does, Searches}
-use Rattle.pnp_model.specs.Runs.{Entry, Goes}
 use Rattle.pnp_model.specs.Runs.Entry.{Happens, Did}
 use Rattle.pnp_laws.specs.Effects.{Effect, EffectLaw}
 use Rattle.pnp_laws.proofs.EffectsOfEvents.{Happened, event_effect}
 use Rattle.pnp_laws.proofs.EffectsOfOperations.{operation_effect}
-use Rattle.pnp_laws.proofs.EffectsOfStarts.{Steps, EffectBy, EffectNext, acts_effect, begins_effect, lists_effect, starts_effect}
+use Rattle.pnp_laws.proofs.EffectsOfStarts.{Steps, EffectNext, acts_effect, begins_effect, lists_effect, starts_effect}
 use Rattle.pnp_laws.proofs.Lookups.{found_self, own_serial}
 use Rattle.pnp_model.specs.Machine as ma
 

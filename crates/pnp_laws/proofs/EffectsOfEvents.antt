@@ -1,5 +1,5 @@
 -- What an event does.
-use Rattle.std.proofs.Common.{ℕ, ◌+◌, ◌≡◌, ◌⊎◌, inl, inr, ◌==◌, ◌&&◌, Bool, true, false, List, [], ◌∷◌, ◌++◌, length, nat_le, Option, Some, None, refl, sym, ap, ◌∙◌, subst, arith}
+use Rattle.std.proofs.Common.{◌≡◌, inl, ◌==◌, ◌&&◌, Bool, true, false, List, [], ◌∷◌, ◌++◌, length, nat_le, Option, Some, None, refl, ap, arith}
 use Rattle.std.specs.List.{find, list_any}
 use Rattle.resource_reqs.specs.Resources.{Res, Reqs, clashes}
 use Rattle.pnp_labels.specs.Texts.{Text}
@@ -17,10 +17,10 @@ use Rattle.pnp_model.specs.Frames.{held_by}
 use Rattle.pnp_model.specs.Records.{Activity, Core, Device, Driver, Duty, Node, Operation, State, Step, Task}
 use Rattle.pnp_model.specs.Runs.Entry.{Happens}
 use Rattle.pnp_model.specs.States.{activity_at, device_of, enable_path, list_node, node_born, node_of, plug, unplug}
-use Rattle.pnp_model.specs.Tests.{has, has_same, is_started}
+use Rattle.pnp_model.specs.Tests.{has, is_started}
 use Rattle.pnp_model.specs.Trees.{dependents}
 use Rattle.pnp_laws.specs.Words.{IsWord, joined}
-use Rattle.pnp_laws.specs.Effects.{ActivityEffect, AnswerEffect, Effect, NodeEffect, Origin, PathEffect, PhaseStep, Plugged, RangeEffect, Related, TaskEffect, WorldEffect}
+use Rattle.pnp_laws.specs.Effects.{ActivityEffect, AnswerEffect, Effect, NodeEffect, Origin, PathEffect, PhaseStep, RangeEffect, Related, TaskEffect, WorldEffect}
 use Rattle.pnp_laws.proofs.Truths.{and_both}
 use Rattle.device_ids.specs.Folding as folding
 use Rattle.pnp_model.specs.Events as ev

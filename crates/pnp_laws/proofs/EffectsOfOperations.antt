@@ -1,5 +1,5 @@
 -- What a step of an operation does.
-use Rattle.std.proofs.Common.{ℕ, ◌+◌, ◌≡◌, ◌≢◌, ◌⊎◌, inl, inr, ◌==◌, Bool, true, false, List, [], ◌∷◌, ◌++◌, length, map, reverse, Option, Some, None, refl, sym, ap, ◌∙◌, subst, arith}
+use Rattle.std.proofs.Common.{ℕ, ◌≡◌, ◌≢◌, ◌⊎◌, inl, inr, Bool, true, false, List, [], ◌∷◌, ◌++◌, length, reverse, Option, Some, None, refl, ap, ◌∙◌, arith}
 use Rattle.std.specs.Option.{option_map}
 use Rattle.resource_reqs.specs.Resources.{Res}
 use Rattle.resource_reqs.specs.Spelling.{IsAnswer}
@@ -10,20 +10,19 @@ use Rattle.pnp_labels.specs.declared.words.Minor.{Minor}
 use Rattle.pnp_labels.specs.declared.label.OpKind.{OpKind}
 use Rattle.pnp_labels.specs.declared.label.OpEnd.{OpEnd}
 use Rattle.pnp_labels.specs.declared.label.Label.{Label}
-use Rattle.pnp_model.specs.Cores.{bare, forget, is_node, node_at, serials_of, stack_of, with_problem, with_state}
+use Rattle.pnp_model.specs.Cores.{bare, forget, is_node, node_at, serials_of, stack_of, with_state}
 use Rattle.pnp_model.specs.Frames.{ended, first_node, rest}
 use Rattle.pnp_model.specs.Keyed.{changed_first, those, without_first}
-use Rattle.pnp_model.specs.Records.{Core, Device, Doing, Duty, Found, Node, Operation, Phase, Rebalance, RebalanceStage, Removal, RemovalStage, State, Step, Surprise, SurpriseStage, Task, Walk, doing_map}
-use Rattle.pnp_model.specs.Records.Doing.{Does, Searches}
-use Rattle.pnp_model.specs.Runs.{Entry}
+use Rattle.pnp_model.specs.Records.{Core, Device, Duty, Found, Node, Operation, Phase, Rebalance, RebalanceStage, Removal, RemovalStage, State, Surprise, SurpriseStage, Task, Walk, doing_map}
+use Rattle.pnp_model.specs.Records.Doing.{Does}
 use Rattle.pnp_model.specs.Runs.Entry.{Did}
 use Rattle.pnp_model.specs.States.{append_task, device_of, list_node, node_born, relist, relist_device, relist_other, set_operation, unplug, with_core}
 use Rattle.pnp_model.specs.Tests.{has, is_eject}
 use Rattle.pnp_model.specs.Trees.{is_up, leaving, stands_up}
 use Rattle.pnp_model.specs.Walks.{has_ended, is_bad, state_after, walk_of}
 use Rattle.pnp_laws.specs.Words.{IsBeside, NoVeto, EndsBy, SameWork, is_removal, joined, kind_of, path_of}
-use Rattle.pnp_laws.specs.Effects.{ActivityEffect, Alters, Asking, Effect, Enters, NodeEffect, OpEffect, Origin, PathEffect, RangeEffect, Request, TaskEffect, WorldEffect, todo_of, begun, ends_bad, operation_minor, rebalance_minor, removal_minor, surprise_minor}
-use Rattle.pnp_laws.proofs.EffectsOfStarts.{Steps, EffectBy, EffectNext, inside}
+use Rattle.pnp_laws.specs.Effects.{ActivityEffect, Alters, Effect, Enters, NodeEffect, OpEffect, Origin, PathEffect, RangeEffect, Request, TaskEffect, WorldEffect, todo_of, begun, ends_bad, operation_minor, rebalance_minor, removal_minor, surprise_minor}
+use Rattle.pnp_laws.proofs.EffectsOfStarts.{Steps, EffectNext, inside}
 use Rattle.pnp_laws.proofs.Lists.{head_found}
 use Rattle.pnp_model.specs.Machine as ma
 use Rattle.pnp_model.specs.Rebalances as re
@@ -88,9 +87,11 @@ begun_work c OpKind.Rebalance node =
     (refl, re_ask_on (record { target = node.serial; path = node.path; todo = []; agreed = []; refused = []; found = no_fit; stage = RebalanceStage.Searching }) (reverse (serials_of (those re.is_asked c.nodes))))
 begun_work c OpKind.Disable node = removal_work c OpKind.Disable node (leaving c node.serial)
 begun_work c OpKind.Eject node = removal_work c OpKind.Eject node (leaving c node.serial)
-begun_work c OpKind.Surprise node =
-    (refl, (su_tell_on c.nodes (record { target = node.serial; path = node.path; set = leaving c node.serial; todo = []; stage = SurpriseStage.Ending })
-    (those (λ k. su.is_told_node (node_at k c.nodes)) (leaving c node.serial))).path)
+begun_work c OpKind.Surprise node = (
+  refl,
+  (su_tell_on c.nodes (record { target = node.serial; path = node.path; set = leaving c node.serial; todo = []; stage = SurpriseStage.Ending })
+      (those (λ k. su.is_told_node (node_at k c.nodes)) (leaving c node.serial))).path,
+)
 
 -- An operation that runs ---------------------------------------------------------------
 

@@ -1,7 +1,6 @@
 -- What a step does where no operation runs.
-use Rattle.std.proofs.Common.{ℕ, ◌+◌, ◌≡◌, ◌≢◌, ◌⊎◌, inl, inr, Bool, true, false, List, [], ◌∷◌, ◌++◌, length, Option, Some, None, refl, sym, ap, ◌∙◌, arith}
+use Rattle.std.proofs.Common.{ℕ, ◌≡◌, ◌⊎◌, inl, inr, Bool, true, false, List, [], ◌∷◌, ◌++◌, length, Option, Some, None, refl, ap, arith}
 use Rattle.std.specs.List.{find, slice_get}
-use Rattle.resource_reqs.specs.Resources.{Res}
 use Rattle.resource_reqs.specs.Spelling.{IsAnswer}
 use Rattle.resource_reqs.specs.Spelling.Answer.{assignment, no_fit, spent}
 use Rattle.pnp_labels.specs.Texts.{Text}
@@ -16,14 +15,14 @@ use Rattle.pnp_labels.specs.declared.label.Label.{Label}
 use Rattle.pnp_model.specs.Books.{driver_named}
 use Rattle.pnp_model.specs.Cores.{is_node, node_at, stacked, with_problem, with_stack}
 use Rattle.pnp_model.specs.Frames.{fixed_beside}
-use Rattle.pnp_model.specs.Keyed.{changed_first, without_first}
+use Rattle.pnp_model.specs.Keyed.{changed_first}
 use Rattle.pnp_model.specs.Machine.{after_start, is_ready, start_lifted}
-use Rattle.pnp_model.specs.Records.{Activity, Choice, Core, Device, Doing, Duty, Found, Node, Operation, Phase, Settings, State, Step, Task, Walk, doing_map}
+use Rattle.pnp_model.specs.Records.{Activity, Choice, Core, Device, Doing, Duty, Found, Node, Phase, Settings, State, Step, Task, Walk, doing_map}
 use Rattle.pnp_model.specs.Records.Doing.{Does, Searches}
 use Rattle.pnp_model.specs.Records.Phase.{Adding, Searching, Starting, Removing, Due}
 use Rattle.pnp_model.specs.Runs.Entry.{Did}
 use Rattle.pnp_model.specs.Starts.{StartBeside, add_driver, adding, act, end_start, remove_on, searched, start_on, undo}
-use Rattle.pnp_model.specs.States.{activity_at, drop_task, is_activity, with_core}
+use Rattle.pnp_model.specs.States.{activity_at, drop_task, with_core}
 use Rattle.pnp_model.specs.Tasks.{begin, begin_step, begin_trouble, disable_task, gone_child, gone_or_listed, install, install_best, install_few, install_named, install_service, join_or_on, joining, list_step, list_up, numbered, rebalance_idle, rebalance_task, start_bare, start_enabled, start_idle, start_step}
 use Rattle.pnp_model.specs.Tests.{has_same}
 use Rattle.pnp_model.specs.Walks.{has_ended, is_bad, walk_of}

@@ -1,11 +1,10 @@
 -- What an event leaves as it is: every node; and in an operation all but its walk.
-use Rattle.std.proofs.Common.{ℕ, ◌≡◌, ◌⊎◌, inl, inr, Bool, List, Option, Some, None, refl, ap, ◌∙◌, subst}
-use Rattle.resource_reqs.specs.Resources.{Res}
+use Rattle.std.proofs.Common.{ℕ, ◌≡◌, ◌⊎◌, inl, inr, Bool, List, Option, Some, refl, ap, ◌∙◌, subst}
 use Rattle.pnp_labels.specs.declared.words.Answer.{Answer}
 use Rattle.pnp_labels.specs.declared.event.Event.{Event}
 use Rattle.pnp_labels.specs.declared.label.Label.{Label}
 use Rattle.pnp_model.specs.Keyed.{changed_first}
-use Rattle.pnp_model.specs.Records.{Activity, Phase, Relation, State, Step, Operation}
+use Rattle.pnp_model.specs.Records.{Activity, Phase, State, Step, Operation}
 use Rattle.pnp_model.specs.Records.Phase.{Adding, Searching, Starting, Removing, Due}
 use Rattle.pnp_model.specs.States.{activity_at, is_activity, with_phase}
 use Rattle.pnp_laws.specs.Effects.{AnswerEffect, NodeEffect, RangeEffect}

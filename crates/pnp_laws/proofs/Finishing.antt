@@ -4,7 +4,7 @@ use Rattle.std.proofs.lemmas.Bool.{cases_eq}
 use Rattle.std.proofs.lemmas.Bool.Decides.{nat_tests}
 use Rattle.std.specs.Option.{option_map}
 use Rattle.pnp_model.specs.Keyed.{changed_first, without_first}
-use Rattle.pnp_model.specs.Records.{Node, Core, Device, State}
+use Rattle.pnp_model.specs.Records.{Node, Device, State}
 use Rattle.pnp_model.specs.Cores.{is_node, node_at, stack_of, bare}
 use Rattle.pnp_model.specs.States.{relist, relist_device, relist_other, list_node, device_of, node_born}
 use Rattle.pnp_model.specs.Tests.{has, is_no_stack}

@@ -1,5 +1,5 @@
 -- Devices that are up hold one whole alternative, and devices without drivers nothing: by what a step does to nodes and activities.
-use Rattle.std.proofs.Common.{ℕ, ◌<◌, ◌≡◌, ◌≢◌, ◌⊎◌, inl, inr, Bool, true, false, List, [], ◌∷◌, ◌++◌, map, Option, Some, None, refl, sym, ap, ◌∙◌, subst, arith}
+use Rattle.std.proofs.Common.{ℕ, ◌≡◌, ◌≢◌, ◌⊎◌, inl, inr, Bool, true, false, List, [], ◌∷◌, ◌++◌, map, Option, Some, None, refl, sym, ap, ◌∙◌, subst, arith}
 use Rattle.std.specs.List.{AllZip}
 use Rattle.std.proofs.lemmas.Bool.{cases_eq}
 use Rattle.std.proofs.lemmas.Bool.Decides.{nat_tests}
@@ -11,27 +11,27 @@ use Rattle.pnp_labels.specs.declared.states.DevState.{DevState}
 use Rattle.pnp_labels.specs.declared.states.DevState.TheVariants.{NoStack, NotStarted, Started, StopPending, Stopped, RemovePending, SurpriseRemoved}
 use Rattle.pnp_labels.specs.declared.words.Minor.{Minor}
 use Rattle.pnp_labels.specs.declared.words.Minor.TheVariants.{Start, QueryRemove, Remove, CancelRemove, Stop, QueryStop, CancelStop, SurpriseRemoval}
-use Rattle.pnp_model.specs.Cores.{bare, is_node, new_node, node_at, stacked, with_holds, with_problem, with_stack, with_state}
-use Rattle.pnp_model.specs.Frames.{first_node, fixed_beside}
+use Rattle.pnp_model.specs.Cores.{bare, is_node, new_node, node_at, stacked, with_holds, with_stack, with_state}
+use Rattle.pnp_model.specs.Frames.{fixed_beside}
 use Rattle.pnp_model.specs.Keyed.{changed_first, without_first}
 use Rattle.pnp_model.specs.Laws.{is_up_to_now, HoldsWhole}
 use Rattle.pnp_model.specs.Machine.{is_ready}
 use Rattle.pnp_model.specs.Rebalances.{committed, movers, part_for, plan_of}
-use Rattle.pnp_model.specs.Records.{Activity, Core, Node, Operation, Phase, Rebalance, RebalanceStage, Removal, RemovalStage, State, Step, Surprise, SurpriseStage, Walk}
+use Rattle.pnp_model.specs.Records.{Activity, Node, Operation, Phase, Rebalance, RebalanceStage, Removal, RemovalStage, State, Step, Surprise, SurpriseStage, Walk}
 use Rattle.pnp_model.specs.Starts.{adding, own_part}
-use Rattle.pnp_model.specs.States.{activity_at, entered, is_activity, with_phase}
+use Rattle.pnp_model.specs.States.{activity_at, entered, is_activity}
 use Rattle.pnp_model.specs.Tests.{has, is_told}
 use Rattle.pnp_model.specs.Walks.{state_after}
-use Rattle.pnp_laws.specs.Effects.{ActivityEffect, Acting, Alters, Asking, Assigned, Enters, IsSearch, NodeEffect, PhaseStep, Request, operation_minor, rebalance_minor, removal_minor, surprise_minor, todo_of}
+use Rattle.pnp_laws.specs.Effects.{ActivityEffect, Acting, Alters, Assigned, Enters, IsSearch, NodeEffect, PhaseStep, Request, operation_minor, rebalance_minor, removal_minor, surprise_minor, todo_of}
 use Rattle.pnp_laws.specs.Holdings.{HeldWell, IsWhole, StartsWhole, WholeAt, has_plan, is_starting}
-use Rattle.pnp_laws.specs.Kept.{Alone, Ascending, Fits, Good, InOrder, IsGood, OperationFits, RebalanceKeeps, RemovalKeeps, SurpriseKeeps, asking_state, pending_state, restoring_state, stopped_state, stopping_state, telling_state}
+use Rattle.pnp_laws.specs.Kept.{Alone, Fits, InOrder, IsGood, OperationFits, RebalanceKeeps, RemovalKeeps, SurpriseKeeps, asking_state, pending_state, restoring_state, stopped_state, stopping_state, telling_state}
 use Rattle.pnp_laws.specs.Plans.{IsPlanned, PlanFits, PlanKept, StagePlan}
 use Rattle.pnp_laws.proofs.EffectViews.{alters_keeps}
 use Rattle.pnp_laws.proofs.EventChanges.{starting_still}
 use Rattle.pnp_laws.proofs.Lists.{head_found, head_has}
-use Rattle.pnp_laws.proofs.Lookups.{ended_other, ended_same, entered_other, entered_same, joined_from, left_from, map_from, node_from, own_serial, phase_from, phase_set_other, ready_found, some_same}
+use Rattle.pnp_laws.proofs.Lookups.{ended_other, ended_same, entered_other, entered_same, joined_from, left_from, map_from, node_from, own_serial, phase_from, ready_found, some_same}
 use Rattle.pnp_laws.proofs.OpSteps.{is_RemovePending, is_Started, is_StopPending, is_Stopped}
-use Rattle.pnp_laws.proofs.PlansKept.{KeepsHeld, mover_whole, whole_changed}
+use Rattle.pnp_laws.proofs.PlansKept.{mover_whole, whole_changed}
 use Rattle.pnp_laws.proofs.RemovalSteps.{head_querying, head_refusing}
 use Rattle.pnp_laws.proofs.StartSteps.{stacked_idle}
 use Rattle.pnp_model.specs.Events as ev

@@ -1,5 +1,5 @@
 -- What holds of all that a search may answer holds of the step.
-use Rattle.std.proofs.Common.{ℕ, ◌≡◌, Option, Some, None, sym, subst}
+use Rattle.std.proofs.Common.{ℕ, Option, Some, None, sym, subst}
 use Rattle.resource_reqs.specs.Spelling.{IsAnswer}
 use Rattle.pnp_model.specs.Machine.{IsStep}
 use Rattle.pnp_model.specs.Records.{Doing, Found, Settings, Step}

@@ -1,5 +1,5 @@
 -- A plan that was found fits until it is used, and then the device of the rebalance holds its part: what each stage of a rebalance keeps.
-use Rattle.std.proofs.Common.{ℕ, ◌≡◌, ◌≢◌, ◌⊎◌, inl, inr, Bool, true, false, not, cond, List, [], ◌∷◌, ◌++◌, map, Option, Some, None, refl, sym, ap, ◌∙◌, subst, arith, reverse}
+use Rattle.std.proofs.Common.{ℕ, ◌≡◌, inl, inr, Bool, true, false, not, cond, List, [], ◌∷◌, ◌++◌, map, Option, Some, None, refl, sym, ap, ◌∙◌, subst, arith, reverse}
 use Rattle.std.specs.List.{AllZip}
 use Rattle.std.specs.Option.{option_map}
 use Rattle.std.proofs.lemmas.Bool.{cases_eq}
@@ -15,21 +15,20 @@ use Rattle.pnp_labels.specs.declared.states.DevState.TheVariants as states
 use Rattle.pnp_labels.specs.declared.label.OpKind.{OpKind}
 use Rattle.pnp_labels.specs.declared.label.Label.{Label}
 use Rattle.pnp_model.specs.Cores.{is_node, node_at, serials_of, with_problem, with_state}
-use Rattle.pnp_model.specs.Frames.{ended, first_node, fixed_beside, held_by, is_beside, rest}
+use Rattle.pnp_model.specs.Frames.{ended, first_node, held_by, is_beside, rest}
 use Rattle.pnp_model.specs.Keyed.{changed_first, those}
-use Rattle.pnp_model.specs.Machine.{IsStep, is_waiting, next, next_of, operation_next, operation_walk, rebalance_lifted}
-use Rattle.pnp_model.specs.Records.{Core, Doing, Driver, Found, Node, Operation, Rebalance, RebalanceStage, Settings, State, Step, Walk, doing_map}
-use Rattle.pnp_model.specs.Records.Doing.{Does, Searches}
-use Rattle.pnp_model.specs.Runs.{Entry, Goes, opening}
+use Rattle.pnp_model.specs.Machine.{is_waiting, next, next_of, operation_next, operation_walk, rebalance_lifted}
+use Rattle.pnp_model.specs.Records.{Core, Driver, Found, Node, Operation, Rebalance, RebalanceStage, Settings, State, Step, Walk, doing_map}
+use Rattle.pnp_model.specs.Runs.{Entry, Goes}
 use Rattle.pnp_model.specs.Runs.Entry.{Happens, Did}
 use Rattle.pnp_model.specs.Tests.{has}
 use Rattle.pnp_model.specs.Trees.{stands_up}
 use Rattle.pnp_model.specs.Walks.{is_bad}
-use Rattle.pnp_laws.specs.Effects.{AnswerEffect, Effect, OpEffect, RangeEffect, begun}
+use Rattle.pnp_laws.specs.Effects.{AnswerEffect, OpEffect, RangeEffect, begun}
 use Rattle.pnp_laws.specs.Holdings.{KeepsReqs, has_plan, WholeAt}
 use Rattle.pnp_laws.specs.Plans.{IsPlanned, PlanFits, PlanKept, StagePlan}
 use Rattle.pnp_laws.specs.Reached.{IsReached}
-use Rattle.pnp_laws.specs.Words.{SameWork, kind_of, is_removal}
+use Rattle.pnp_laws.specs.Words.{SameWork}
 use Rattle.pnp_laws.proofs.EffectsOf.{effect_goes}
 use Rattle.pnp_laws.proofs.EventChanges.{ranges_stay}
 use Rattle.pnp_laws.proofs.Lookups.{map_from, node_changed_other, node_changed_same, node_from, own_serial}

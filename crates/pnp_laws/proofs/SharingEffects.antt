@@ -1,21 +1,20 @@
 -- No step and no event lets resources clash: by what they do to nodes and ranges.
-use Rattle.std.proofs.Common.{ℕ, ◌≡◌, inl, inr, List, [], ◌∷◌, ◌++◌, map, Option, Some, None, refl, sym, ap, ◌∙◌, subst, arith}
+use Rattle.std.proofs.Common.{ℕ, ◌≡◌, inl, inr, List, [], ◌∷◌, ◌++◌, map, Option, refl, sym, ap, ◌∙◌, subst, arith}
 use Rattle.std.proofs.lemmas.List.{length-map}
 use Rattle.std.proofs.lemmas.Slice.Zip.{AllZip-long}
 use Rattle.resource_reqs.specs.Resources.{Res, Reqs, IsAssignment, Whole}
 use Rattle.resource_reqs.proofs.Answering.{plan_is}
 use Rattle.pnp_labels.specs.declared.label.Label.{Label}
-use Rattle.pnp_model.specs.Cores.{bare, is_node, node_at, new_node, with_holds}
+use Rattle.pnp_model.specs.Cores.{bare, is_node, node_at, new_node}
 use Rattle.pnp_model.specs.Frames.{fixed_beside}
-use Rattle.pnp_model.specs.Keyed.{changed_first, without_first}
-use Rattle.pnp_model.specs.Rebalances.{committed, movers, plan_of, reqs_of}
+use Rattle.pnp_model.specs.Keyed.{changed_first}
+use Rattle.pnp_model.specs.Rebalances.{movers, plan_of, reqs_of}
 use Rattle.pnp_model.specs.Records.{Node, Operation, RebalanceStage, State, Step}
-use Rattle.pnp_model.specs.Runs.{Entry}
 use Rattle.pnp_model.specs.Sharing.{Clear}
 use Rattle.pnp_model.specs.Starts.{own_part}
-use Rattle.pnp_laws.specs.Effects.{Alters, Effect, NodeEffect, RangeEffect}
+use Rattle.pnp_laws.specs.Effects.{Alters, NodeEffect, RangeEffect}
 use Rattle.pnp_laws.specs.Kept.{Ascending}
-use Rattle.pnp_laws.specs.Plans.{IsPlanned, PlanFits, PlanKept, StagePlan}
+use Rattle.pnp_laws.specs.Plans.{IsPlanned, PlanKept, StagePlan}
 use Rattle.pnp_laws.proofs.Lookups.{joined_from, left_from, node_from}
 use Rattle.pnp_laws.proofs.Sharing.{Clear_assigned, Clear_committed, Clear_no_more, Clear_reserved, NoMore}
 

@@ -1,8 +1,7 @@
 -- Operations begin before they end: where an end or problem 12 is printed, its operation began and has not ended since.
-use Rattle.std.specs.Prelude.{ℕ, ◌≡◌, Bool, true, false, List, [], ◌∷◌, ◌++◌, Some}
+use Rattle.std.specs.Prelude.{ℕ, ◌≡◌, List, ◌∷◌, ◌++◌, Some}
 use Rattle.pnp_model.specs.Cores.{node_at}
-use Rattle.pnp_model.specs.Records.{Driver, Node, State, Settings, Activity, Phase, Operation}
-use Rattle.pnp_model.specs.Records.Phase.{Due}
+use Rattle.pnp_model.specs.Records.{Driver, Node, State, Settings}
 use Rattle.pnp_model.specs.Runs.{Entry, Goes, Run, printed}
 use Rattle.pnp_model.specs.Runs.Entry.{Did}
 use Rattle.pnp_model.specs.Laws.{Reaches, AllWithin, AreFree, NothingFits, Restores, RestoresBut}

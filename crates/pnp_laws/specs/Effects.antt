@@ -5,7 +5,6 @@ use Rattle.resource_reqs.specs.Resources.{Res, clashes}
 use Rattle.resource_reqs.specs.Spelling.{IsAnswer}
 use Rattle.resource_reqs.specs.Spelling.Answer.{assignment}
 use Rattle.pnp_labels.specs.Texts.{Text}
-use Rattle.pnp_labels.specs.declared.states.DevState.{DevState}
 use Rattle.pnp_labels.specs.declared.states.DevState.TheVariants.{NotStarted, Started}
 use Rattle.pnp_labels.specs.declared.states.Problem.{Problem}
 use Rattle.pnp_labels.specs.declared.words.Minor.{Minor}
@@ -14,7 +13,7 @@ use Rattle.pnp_labels.specs.declared.label.OpKind.{OpKind}
 use Rattle.pnp_labels.specs.declared.label.OpEnd.{OpEnd}
 use Rattle.pnp_labels.specs.declared.label.Label.{Label}
 use Rattle.pnp_model.specs.Keyed.{changed_first, without_first}
-use Rattle.pnp_model.specs.Tests.{has, has_same, is_eject, is_started}
+use Rattle.pnp_model.specs.Tests.{has, has_same, is_started}
 use Rattle.pnp_model.specs.Trees.{children, dependents}
 use Rattle.pnp_model.specs.Walks.{walk_of, may_fail, is_bad, has_ended, state_after}
 use Rattle.pnp_model.specs.Cores.{is_node, node_at, forget, bare, stacked, with_state, with_problem, with_stack, with_holds}
@@ -29,7 +28,7 @@ use Rattle.pnp_model.specs.Machine.{is_ready, operation_walk}
 use Rattle.pnp_model.specs.Events.{answer_of, completed, completed_phase}
 use Rattle.pnp_model.specs.Runs.{Entry, Goes, printed}
 use Rattle.pnp_model.specs.Runs.Entry.{Happens, Did}
-use Rattle.pnp_model.specs.Records.{Node, Core, Device, Relation, Walk, Activity, Phase, Task, Duty, State, Step, Operation, Rebalance, RebalanceStage, Removal, RemovalStage, Settings, Surprise, SurpriseStage}
+use Rattle.pnp_model.specs.Records.{Node, Core, Device, Relation, Walk, Activity, Phase, Task, Duty, State, Operation, Rebalance, RebalanceStage, Removal, RemovalStage, Settings, SurpriseStage}
 use Rattle.pnp_laws.specs.Words.{IsBeside, IsWord, NotTwelve, SameWork, EndsBy, is_removal, kind_of, path_of, joined}
 use Rattle.device_ids.specs.Folding as folding
 

@@ -4,7 +4,6 @@ use Rattle.pnp_model.specs.Records.{Driver, Task, State, Settings, Duty}
 use Rattle.pnp_model.specs.Laws.{Reaches}
 use Rattle.pnp_model.specs.Runs.{Entry, Run, printed}
 use Rattle.pnp_model.specs.Runs.Entry.{Happens, Did}
-use Rattle.pnp_labels.specs.declared.label.Label.{Label}
 use Rattle.pnp_laws.specs.Quiet.{Rests}
 use Rattle.pnp_laws.specs.Words.{joined}
 

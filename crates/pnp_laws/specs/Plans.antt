@@ -1,5 +1,5 @@
 -- What is kept of a plan that was found: it fits until it is used, and then the device of the rebalance holds its part.
-use Rattle.std.specs.Prelude.{ℕ, ◌≡◌, ◌++◌, Bool, true, false, List, Option, Some, None, map}
+use Rattle.std.specs.Prelude.{◌≡◌, ◌++◌, true, false, List, Option, Some, None, map}
 use Rattle.resource_reqs.specs.Resources.{Res, IsAssignment}
 use Rattle.pnp_model.specs.Cores.{node_at}
 use Rattle.pnp_model.specs.Frames.{held_by, is_beside}
