@@ -311,7 +311,7 @@ module _ (s : State) (o : Removal) (runs : s.operation ≡ Some (Operation.Remov
           activities = ActivityEffect.same refl;
           tasks = TaskEffect.same refl;
           world = WorldEffect.same refl refl;
-          paths = PathEffect.disables o node runs first refl;
+          paths = PathEffect.disables o node runs first refl refl;
           serial = omega arith;
         }
 

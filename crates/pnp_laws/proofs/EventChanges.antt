@@ -1,5 +1,5 @@
 -- What an event leaves as it is: every node; and in an operation all but its walk.
-use Rattle.std.proofs.Common.{ℕ, ◌≡◌, ◌⊎◌, inl, inr, Bool, List, Option, Some, refl, ap, ◌∙◌, subst}
+use Rattle.std.proofs.Common.{ℕ, ◌+◌, arith, ◌≡◌, ◌⊎◌, inl, inr, Bool, List, Option, Some, refl, ap, ◌∙◌, subst}
 use Rattle.pnp_labels.specs.declared.words.Answer.{Answer}
 use Rattle.pnp_labels.specs.declared.event.Event.{Event}
 use Rattle.pnp_labels.specs.declared.label.Label.{Label}
@@ -9,7 +9,7 @@ use Rattle.pnp_model.specs.Records.Phase.{Adding, Searching, Starting, Removing,
 use Rattle.pnp_model.specs.States.{activity_at, is_activity, with_phase}
 use Rattle.pnp_laws.specs.Effects.{AnswerEffect, NodeEffect, RangeEffect}
 use Rattle.pnp_laws.specs.Holdings.{is_starting}
-use Rattle.pnp_laws.specs.Words.{IsWord, IsBeside, DueFine, DuesFine}
+use Rattle.pnp_laws.specs.Words.{IsWord, IsBeside, DueFine, DuesFine, joined}
 use Rattle.pnp_laws.proofs.Dues.{dues_as, dues_changed, dues_found}
 use Rattle.pnp_laws.proofs.EffectsOfEvents.{event_effect}
 use Rattle.pnp_laws.proofs.Lookups.{phase_from}
@@ -60,13 +60,19 @@ answered_activities answer j a activities at k x g =
       | inr (d, q) ↦ (x, q, refl)
     ]
 
+-- an event gives no serial
+pub still_serial : (old new : ℕ) (label : Label) → IsWord label → new ≡ old + joined label → new ≡ old
+still_serial old new (Label.Did word what) w e = omega arith
+still_serial old new (Label.Refused word reason) w e = omega arith
+still_serial old new _ w e = absurd w
+
 -- ranges stay while an operation runs
 pub ranges_stay : (s t : State) (o : Operation) → s.operation ≡ Some o → RangeEffect s t → t.core.reserved ≡ s.core.reserved
 ranges_stay s t o runs (RangeEffect.same e) = e
 ranges_stay s t o runs (RangeEffect.reserves res none free nodes e) = absurd (cc)
 
 -- and so do relations in an event
-relations_stay : (s : State) (label : Label) (t : State) (o : Operation) → IsWord label → s.operation ≡ Some o → NodeEffect s label t → t.core.relations ≡ s.core.relations
+pub relations_stay : (s : State) (label : Label) (t : State) (o : Operation) → IsWord label → s.operation ≡ Some o → NodeEffect s label t → t.core.relations ≡ s.core.relations
 relations_stay s label t o word runs (NodeEffect.same nodes e) = e
 relations_stay s label t o word runs (NodeEffect.changed j f alters nodes e) = e
 relations_stay s label t o word runs (NodeEffect.stripped node w at request ends prints nodes e) = absurd (subst (λ (x : Label). IsWord x) prints word)

@@ -176,10 +176,11 @@ pub data WorldEffect (s : State) (entry : Entry) (t : State) : Type 0 where
   plugged : (d : Device) → Plugged s entry d → t.world ≡ s.world ++ d ∷ [] → t.next_born ≡ s.next_born + 1 → WorldEffect s entry t
   unplugged : (born : ℕ) → Unplugs s born → t.world ≡ without_those (born ∷ []) s.world → t.next_born ≡ s.next_born → WorldEffect s entry t
 
-pub data PathEffect (s t : State) : Type 0 where
-  same : t.disabled ≡ s.disabled → PathEffect s t
-  disables : (o : Removal) (node : Node) → s.operation ≡ Some (Operation.Removing o) → first_node s.core.nodes o.todo ≡ Some node → t.disabled ≡ s.disabled ++ node.path ∷ [] → PathEffect s t
-  enables : (path : Text) → t.disabled ≡ without_first (folding.same path) s.disabled → PathEffect s t
+pub data PathEffect (s : State) (label : Label) (t : State) : Type 0 where
+  same : t.disabled ≡ s.disabled → PathEffect s label t
+  disables : (o : Removal) (node : Node) → s.operation ≡ Some (Operation.Removing o) → first_node s.core.nodes o.todo ≡ Some node → label ≡ Label.Trouble node.path Problem.Disabled
+      → t.disabled ≡ s.disabled ++ node.path ∷ [] → PathEffect s label t
+  enables : (path : Text) → t.disabled ≡ without_first (folding.same path) s.disabled → PathEffect s label t
 
 -- The operation ------------------------------------------------------------------------
 
@@ -253,14 +254,20 @@ pub data ActivityEffect (s t : State) : Type 0 where
 
 -- Tasks ------------------------------------------------------------------------------------
 
--- why a task is appended
+-- why a step appends a task
 pub data Origin (s : State) : Duty → ℕ → Type 0 where
   lists : (k : ℕ) → Origin s Duty.Listing k
   joins : Origin s Duty.Starting s.next_serial
-  enables : (path : Text) (n : Node) → node_of path s.core.nodes ≡ Some n → Origin s Duty.Starting n.serial
   needs : (k : ℕ) (phase : Phase) → Acting s k phase → Origin s (Duty.Begins OpKind.Rebalance) k
   surprises : (over : ℕ) (child : Node) → find (is_gone s) (children over s.core.nodes) ≡ Some child → Origin s (Duty.Begins OpKind.Surprise) child.serial
-  asks : (kind : OpKind) (n : Node) (path : Text) → node_of path s.core.nodes ≡ Some n → (n.serial == 0) ≡ false → Origin s (Duty.Begins kind) n.serial
+
+-- an event appends one task at most
+pub data CommandEffect (s t : State) : Type 0 where
+  same : t.tasks ≡ s.tasks → CommandEffect s t
+  lists : (k : ℕ) → t.tasks ≡ s.tasks ++ record { kind = Duty.Listing; serial = k } ∷ [] → CommandEffect s t
+  starts : (path : Text) (n : Node) → node_of path s.core.nodes ≡ Some n → t.tasks ≡ s.tasks ++ record { kind = Duty.Starting; serial = n.serial } ∷ [] → CommandEffect s t
+  begins : (kind : OpKind) (n : Node) (path : Text) → node_of path s.core.nodes ≡ Some n → (n.serial == 0) ≡ false
+      → t.tasks ≡ s.tasks ++ record { kind = Duty.Begins kind; serial = n.serial } ∷ [] → CommandEffect s t
 
 pub data TaskEffect (s t : State) : Type 0 where
   same : t.tasks ≡ s.tasks → TaskEffect s t
@@ -270,6 +277,10 @@ pub data TaskEffect (s t : State) : Type 0 where
   put_first : (node : Node) (r : Rebalance) → s.operation ≡ Some (Operation.Rebalancing r) → r.stage ≡ RebalanceStage.Failed → first_node s.core.nodes r.todo ≡ Some node
       → t.tasks ≡ record { kind = Duty.Begins OpKind.Surprise; serial = node.serial } ∷ s.tasks → TaskEffect s t
 
+abbrev pub TasksEffect : State → Entry → State → Type 0
+TasksEffect s (Happens event label) t = CommandEffect s t
+TasksEffect s (Did label) t = TaskEffect s t
+
 -- All of it --------------------------------------------------------------------------------
 
 pub record Effect (s : State) (entry : Entry) (t : State) : Type 0 where
@@ -277,9 +288,9 @@ pub record Effect (s : State) (entry : Entry) (t : State) : Type 0 where
   pub ranges : RangeEffect s t
   pub operation : OperationEffect s entry t
   pub activities : ActivityEffect s t
-  pub tasks : TaskEffect s t
+  pub tasks : TasksEffect s entry t
   pub world : WorldEffect s entry t
-  pub paths : PathEffect s t
+  pub paths : PathEffect s (printed entry) t
   pub serial : t.next_serial ≡ s.next_serial + joined (printed entry)
 
 -- each step and each event has one
