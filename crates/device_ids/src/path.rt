@@ -1,4 +1,4 @@
-ghost use Rattle.std.specs.Prelude.{◌≡◌, ◌≢◌, ◌↔◌, ◌≤◌, ◌<◌, ◌+◌, ◌++◌, ℕ, [], ◌∷◌, length, take, drop, Some, None, false, true, IsTrue, IfOk, OnOk, OnErr, IsErrOf, IsOkUnless, MatchOption, Err, ◌⊎◌};
+ghost use Rattle.std.specs.Prelude.{◌≡◌, ◌≢◌, ◌↔◌, ◌≤◌, ◌<◌, ◌+◌, ◌++◌, ℕ, [], ◌∷◌, length, take, drop, Some, None, false, true, IsTrue, IfOk, OnOk, OnErr, IsErrOf, IsOkUnless, MatchOption, Err};
 ghost use Rattle.device_ids.specs.Faults.{path_fault};
 ghost use Rattle.device_ids.specs.declared.error.PathError.{PathError};
 ghost use Rattle.device_ids.specs.Folding.{folded, same};
@@ -8,8 +8,11 @@ use crate::cuts::split_once;
 use crate::error::PathError;
 use crate::id::{DeviceId, is_legal};
 use crate::text::WantOfMemory;
-use std::alloc::{AllocError, Global};
+use std::alloc::Global;
 use std::marker::Model;
+
+/// The most bytes of two identifiers with a backslash between them.
+const LONGEST_JOINED: usize = 399;
 
 /// The place of the last backslash, where the bytes are three parts between two, none of them empty.
 fn last_backslash(bytes: &[u8]) -> Option<usize>
@@ -81,21 +84,20 @@ impl InstancePath {
         })
     }
 
-    /// Device ID, backslash, instance ID. Errors: those of `read` at the joined bytes, or want of memory,
-    /// which joining them takes first. Cost: the length.
+    /// Device ID, backslash, instance ID. Errors: those of `read` at the joined bytes, in its order: they are
+    /// joined on the stack, so want of memory comes last. Cost: the length.
     pub fn join(
         alloc: Global,
         device: &DeviceId,
         instance: &DeviceId,
     ) -> Result<InstancePath, PathError>
         ensures ok { IfOk result (λ path. (path ≡ joined device.now instance.now) × IsTrue (is_path path)) }
-        ensures fault { (fault : PathError) → path_fault (joined device.now instance.now) ≡ Some fault → (result ≡ Err fault) ⊎ (result ≡ Err PathError.WantOfMemory) }
+        ensures fault { (fault : PathError) → path_fault (joined device.now instance.now) ≡ Some fault → result ≡ Err fault }
         ensures legal { IsTrue (is_path (joined device.now instance.now)) → IsOkUnless result PathError.WantOfMemory }
     {
-        match joined(alloc, device.bytes(), instance.bytes()) {
-            Ok(bytes) => InstancePath::of_bytes(alloc, bytes),
-            Err(_) => Err(PathError::WantOfMemory),
-        }
+        let mut bytes = [0; LONGEST_JOINED];
+        let len = write_joined(&mut bytes, device.bytes(), instance.bytes());
+        InstancePath::read(alloc, &bytes[..len])
     }
 
     /// The path of these bytes. Errors, the first that holds: `Parts` where they are not three non-empty
@@ -151,12 +153,16 @@ impl InstancePath {
     }
 }
 
-/// Both, with a backslash between them.
-fn joined(alloc: Global, device: &[u8], instance: &[u8]) -> Result<Vec<u8>, AllocError>
-    ensures { IfOk result (λ bytes. bytes.items ≡ joined device.now instance.now) }
+/// Writes both, with a backslash between them, to the front, and answers their length.
+fn write_joined(bytes: &mut [u8], device: &[u8], instance: &[u8]) -> usize
+    requires { length device.now + 1 + length instance.now ≤ length bytes.old }
+    ensures len { result ≡ length (joined device.now instance.now) }
+    ensures front { take result bytes.new ≡ joined device.now instance.now }
 {
-    let mut bytes = Vec::from_slice(alloc, device)?;
-    bytes.push(b'\\')?;
-    bytes.extend_from_slice(instance)?;
-    Ok(bytes)
+    let at = device.len();
+    let len = at + 1 + instance.len();
+    bytes[..at].copy_from_slice(device);
+    bytes[at] = b'\\';
+    bytes[at + 1..len].copy_from_slice(instance);
+    len
 }

@@ -92,6 +92,14 @@ impl TextList {
         }
     }
 
+    /// No text, with room for so many.
+    pub fn with_room(alloc: Global, room: u64) -> Result<TextList, WantOfMemory>
+        ensures { IfOk result (λ texts. texts ≡ []) }
+    {
+        let texts = Vec::with_capacity(alloc, room as usize)?;
+        Ok(TextList { texts })
+    }
+
     /// Appends a text; after want of memory the list is as before.
     pub fn push(&mut self, part: Text) -> Result<(), WantOfMemory>
         ensures pushed { OnOk result (self.new ≡ self.old ++ part ∷ []) }

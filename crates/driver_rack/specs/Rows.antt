@@ -26,7 +26,8 @@ Named (Ok k) kind name old new =
 Named (Err SameName) kind name old new = ((k : ℕ) × (driver_named name old ≡ Some k)) × (new ≡ old)
 Named (Err RackEmpty) kind name old new =
     (driver_named name old ≡ None) × (position (is_unnamed kind) old ≡ None) × (new ≡ old)
-Named (Err WantOfMemory) kind name old new = new ≡ old
+Named (Err WantOfMemory) kind name old new =
+    (driver_named name old ≡ None) × ((k : ℕ) × (position (is_unnamed kind) old ≡ Some k)) × (new ≡ old)
 
 -- the driver answered by its book, which loses a use
 pub record Asked (k : ℕ) (what : AskWhat) (path : Text) (answer : Answer) (old new : List Driver) : Type 0 where

@@ -31,7 +31,7 @@ pub trait Drivers: Drop {
 
     /// Gives a name to the first driver of the kind that has none, and answers its number. Errors, the first
     /// that holds: `SameName` where a driver has the name up to ASCII case, `RackEmpty` where no driver of the
-    /// kind is without a name; and `WantOfMemory`. After an error the rack is as before.
+    /// kind is without a name; and, where neither holds, `WantOfMemory`. After an error the rack is as before.
     fn name(&mut self, kind: DriverKind, name: &Text) -> Result<u32, NameError>
         ensures { Named result kind name.now (rows self.old) (rows self.new) };
 

@@ -24,7 +24,7 @@ header_by number (Some p) = Header (folded (trimmed_bytes p.0))
 unfoldable pub header_of : ℕ → List Symbol → Item
 header_of number symbols = header_by number (cut_once 0x5D (drop 1 (map written symbols)))
 
--- a line whose last character is a `\` outside quotes
+-- a line of the text goes on with the next one where its own last character is a `\` outside quotes
 abbrev pub goes_on : List Symbol → Bool
 goes_on symbols = is_plain 0x5C (slice_index_or symbols (length symbols - 1) Mark)
 
@@ -33,22 +33,23 @@ abbrev pub joined_line : ℕ → List Symbol → List Item
 joined_line number [] = []
 joined_line number (s ∷ symbols) = Line number (s ∷ symbols) ∷ []
 
--- a line that goes on gives nothing yet, and stays open without its `\`
-abbrev pub settled : ℕ → List Symbol → List Item
-settled number symbols = if goes_on symbols then [] else joined_line number symbols
+-- a line that goes on gives nothing yet, and stays open without its `\`, behind what is open before it
+abbrev pub settled : ℕ → List Symbol → List Symbol → List Item
+settled number before symbols = if goes_on symbols then [] else joined_line number (before ++ symbols)
 
-abbrev pub opened : ℕ → List Symbol → Option Open
-opened number symbols = if goes_on symbols then Some (record { number = number; symbols = take (length symbols - 1) symbols }) else None
+abbrev pub opened : ℕ → List Symbol → List Symbol → Option Open
+opened number before symbols =
+    if goes_on symbols then Some (record { number = number; symbols = before ++ take (length symbols - 1) symbols }) else None
 
 -- what the next line gives behind the line that is open, if any, and what is open then: a line that continues another
 -- is no header, and has the number of the first
 abbrev pub given : Option Open → ℕ → List Symbol → List Item
-given None number symbols = if is_header symbols then header_of number symbols ∷ [] else settled number symbols
-given (Some o) number symbols = settled o.number (o.symbols ++ symbols)
+given None number symbols = if is_header symbols then header_of number symbols ∷ [] else settled number [] symbols
+given (Some o) number symbols = settled o.number o.symbols symbols
 
 abbrev pub open_after : Option Open → ℕ → List Symbol → Option Open
-open_after None number symbols = if is_header symbols then None else opened number symbols
-open_after (Some o) number symbols = opened o.number (o.symbols ++ symbols)
+open_after None number symbols = if is_header symbols then None else opened number [] symbols
+open_after (Some o) number symbols = opened o.number o.symbols symbols
 
 -- what is open where the text ends is a joined line
 abbrev pub left_open : Option Open → List Item

@@ -51,7 +51,7 @@ fn header_of(alloc: Global, number: u32, symbols: &[Symbol]) -> Result<Item, All
     }
 }
 
-/// Whether a line goes on with the next one.
+/// Whether a line of the text goes on with the next one: its own last character tells.
 fn goes_on(symbols: &[Symbol]) -> bool
     ensures { result ≡ goes_on symbols.now }
 {
@@ -68,20 +68,31 @@ fn push_joined(items: &mut Vec<Item>, number: u32, symbols: Symbols) -> Result<(
     Ok(())
 }
 
-/// Takes in a joined line, which is open where it goes on.
+/// Takes in the next line behind what is open, which stays open where that line goes on.
 fn settle(
     items: &mut Vec<Item>,
-    number: u32,
+    begun: Open,
     mut symbols: Symbols,
 ) -> Result<Option<Open>, AllocError>
-    ensures items { OnOk result (items.new.items ≡ items.old.items ++ settled number symbols) }
-    ensures still { IfOk result (λ left. left ≡ opened number symbols) }
+    ensures items { OnOk result (items.new.items ≡ items.old.items ++ settled begun.number begun.symbols symbols) }
+    ensures still { IfOk result (λ left. left ≡ opened begun.number begun.symbols symbols) }
 {
-    if goes_on(symbols.as_slice()) {
+    let Open {
+        number,
+        symbols: mut before,
+    } = begun;
+    let goes_on = goes_on(symbols.as_slice());
+    if goes_on {
         symbols.drop_last();
-        return Ok(Some(Open { number, symbols }));
     }
-    push_joined(items, number, symbols)?;
+    before.append(&symbols)?;
+    if goes_on {
+        return Ok(Some(Open {
+            number,
+            symbols: before,
+        }));
+    }
+    push_joined(items, number, before)?;
     Ok(None)
 }
 
@@ -97,16 +108,13 @@ fn take_in(
     ensures still { IfOk result (λ left. left ≡ open_after begun number symbols) }
 {
     match begun {
-        Some(mut open) => {
-            open.symbols.append(&symbols)?;
-            settle(items, open.number, open.symbols)
-        }
+        Some(open) => settle(items, open, symbols),
         None => {
             if is_header(symbols.as_slice()) {
                 items.push(header_of(alloc, number, symbols.as_slice())?)?;
                 return Ok(None);
             }
-            settle(items, number, symbols)
+            settle(items, Open { number, symbols: Symbols::new(alloc) }, symbols)
         }
     }
 }

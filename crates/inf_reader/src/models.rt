@@ -261,7 +261,7 @@ fn install_of(alloc: Global, sections: &Sections, name: &[u8]) -> Result<Install
 fn copied_all(alloc: Global, texts: &TextList) -> Result<TextList, AllocError>
     ensures { IfOk result (λ all. all ≡ texts.now) }
 {
-    let mut all = TextList::new(alloc);
+    let mut all = TextList::with_room(alloc, texts.len())?;
     push_copies(alloc, texts, &mut all)?;
     Ok(all)
 }
@@ -280,9 +280,10 @@ fn copied_text(alloc: Global, text: &Option<Text>) -> Result<Option<Text>, Alloc
 fn ids_of(alloc: Global, values: &Texts) -> Result<TextList, AllocError>
     ensures { IfOk result (λ ids. ids ≡ take 8 (drop 1 values.now)) }
 {
-    let mut ids = TextList::new(alloc);
     let texts = texts_from(values, 1);
-    for at in 0..texts.len().min(8) {
+    let count = texts.len().min(8);
+    let mut ids = TextList::with_room(alloc, count as u64)?;
+    for at in 0..count {
         ids.push(texts[at].copy(alloc)?)?;
     }
     Ok(ids)
@@ -361,6 +362,7 @@ pub fn all_models(
     };
     for name in makers.as_slice() {
         let entries = sections.keyed(alloc, name.bytes())?;
+        lines.reserve(entries.len())?;
         push_models(alloc, sections, &mut installs, entries, &mut lines)?;
     }
     Ok(lines)

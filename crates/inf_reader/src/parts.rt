@@ -85,6 +85,13 @@ impl ModelLines {
         }
     }
 
+    /// Takes memory for so many more lines.
+    pub fn reserve(&mut self, more: usize) -> Result<(), WantOfMemory>
+        ensures { self.new ≡ self.old }
+    {
+        self.lines.reserve(more)
+    }
+
     /// Appends a line; after want of memory the list is as before.
     pub fn push(&mut self, part: ModelLine) -> Result<(), WantOfMemory>
         ensures pushed { OnOk result (self.new ≡ self.old ++ part ∷ []) }

@@ -1,5 +1,5 @@
 //! A line's characters, with what is quoted told apart.
-ghost use Rattle.std.specs.Prelude.{◌≡◌, ◌+◌, ◌-◌, ◌<◌, ◌≤◌, ◌++◌, length, take, count_by, option_map, IfOk, OnOk, IfSome, map};
+ghost use Rattle.std.specs.Prelude.{◌≡◌, ◌+◌, ◌-◌, ◌<◌, ◌≤◌, ◌++◌, [], length, take, count_by, option_map, IfOk, OnOk, IfSome, map};
 ghost use Rattle.std.specs.List.{position};
 ghost use Rattle.inf_reader.specs.Cuts.{cut_at};
 ghost use Rattle.std.specs.Option.{option_to_list};
@@ -42,6 +42,15 @@ impl Model for Symbols {
 }
 
 impl Symbols {
+    /// No character. It takes no memory.
+    pub fn new(alloc: Global) -> Symbols
+        ensures { result ≡ [] }
+    {
+        Symbols {
+            symbols: Vec::new(alloc),
+        }
+    }
+
     /// The characters of a line, without its comment and without blanks at its ends.
     pub fn of_line(alloc: Global, line: &[u8]) -> Result<Symbols, AllocError>
         ensures { IfOk result (λ symbols. symbols ≡ symbols_in line.now) }

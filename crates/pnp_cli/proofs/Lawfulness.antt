@@ -10,6 +10,9 @@ use Rattle.pnp_model.specs.Runs.{Entry, Run, printed, opening}
 use Rattle.pnp_model.specs.Runs.Entry.{Happens, Did}
 use Rattle.pnp_laws.proofs.Reaching.{run_on}
 use Rattle.pnp_laws.proofs.RunsShare.{nothing_clashes}
+use Rattle.pnp_laws.proofs.RunsKeys.{no_cycle, nothing_printed_clashes}
+use Rattle.pnp_laws.proofs.RunsStacks.{keyed, names_are_known, stacks_fit}
+use Rattle.pnp_laws.proofs.RunsTold.{states_are_told}
 use Rattle.pnp_laws.proofs.RunsWhole.{all_hold_whole}
 use Rattle.pnp_laws.proofs.RunsStand.{every_run_follows, dependents_go_first}
 use Rattle.pnp_laws.proofs.RunsBegun.{operations_begin}
@@ -22,7 +25,7 @@ use Rattle.pnp_cli.specs.Outputs.{Settles, Follows, Prints, text_of, end_text}
 use Rattle.pnp_cli.specs.Infs.{infs_in}
 use Rattle.pnp_cli.specs.Runs.{IsOutput, IsOutputBy, IsScriptOutput, machine, events_of}
 use Rattle.pnp_cli.specs.Words.{settings_of}
-use Rattle.pnp_cli.specs.Lawful.{happened, events_in, bad_text, SomeRun, OfRun, EachState, EachStep, OfScript, OfInfs, OfOutput, ByDiagram, NothingClashes, AllHoldWhole, OperationsBegan, EndsRestore, DependentsGoFirst, ConflictsAreReal, FewJoin}
+use Rattle.pnp_cli.specs.Lawful.{happened, events_in, bad_text, SomeRun, OfRun, EachState, EachStep, OfScript, OfInfs, OfOutput, ByDiagram, NothingClashes, AllHoldWhole, OperationsBegan, EndsRestore, DependentsGoFirst, ConflictsAreReal, FewJoin, AllStatesTold, NodesAreKeyed, NothingOnItself, MapIsClear, AllStacksFit, NamesAreKnown}
 use Rattle.pnp_cli.specs.declared.infs.InfsError.{InfsError}
 use Rattle.pnp_cli.specs.declared.parts.Settings.{Settings}
 use Rattle.pnp_cli.proofs.Texts.{text_append}
@@ -169,3 +172,33 @@ pub output_joins : (words : List Text) (contents : Option (Text → Option (List
 unfolding Holds
 output_joins words contents rack =
     of_output (OfRun FewJoin) (λ settings rack t text prints entries last told. joins_are_limited settings rack entries last told.run) words contents rack
+
+pub output_told : (words : List Text) (contents : Option (Text → Option (List ℕ))) (rack : List Driver) → OfOutput (EachStep AllStatesTold) words contents rack
+unfolding Holds
+output_told words contents rack =
+    of_output (EachStep AllStatesTold) (λ settings rack t text prints entries last told earlier old entry new step. states_are_told settings rack earlier old entry new step.before step.goes) words contents rack
+
+pub output_keyed : (words : List Text) (contents : Option (Text → Option (List ℕ))) (rack : List Driver) → OfOutput (EachState NodesAreKeyed) words contents rack
+unfolding Holds
+output_keyed words contents rack =
+    of_output (EachState NodesAreKeyed) (λ settings rack t text prints entries last told s state. keyed settings rack state.earlier s state.before) words contents rack
+
+pub output_acyclic : (words : List Text) (contents : Option (Text → Option (List ℕ))) (rack : List Driver) → OfOutput (EachState NothingOnItself) words contents rack
+unfolding Holds
+output_acyclic words contents rack =
+    of_output (EachState NothingOnItself) (λ settings rack t text prints entries last told s state. no_cycle settings rack state.earlier s state.before) words contents rack
+
+pub output_map_clear : (words : List Text) (contents : Option (Text → Option (List ℕ))) (rack : List Driver) → OfOutput (EachState MapIsClear) words contents rack
+unfolding Holds
+output_map_clear words contents rack =
+    of_output (EachState MapIsClear) (λ settings rack t text prints entries last told s state. nothing_printed_clashes settings rack state.earlier s state.before) words contents rack
+
+pub output_stacks : (words : List Text) (contents : Option (Text → Option (List ℕ))) (rack : List Driver) → OfOutput (EachState AllStacksFit) words contents rack
+unfolding Holds
+output_stacks words contents rack =
+    of_output (EachState AllStacksFit) (λ settings rack t text prints entries last told s state. stacks_fit settings rack state.earlier s state.before) words contents rack
+
+pub output_names : (words : List Text) (contents : Option (Text → Option (List ℕ))) (rack : List Driver) → OfOutput (EachStep NamesAreKnown) words contents rack
+unfolding Holds
+output_names words contents rack =
+    of_output (EachStep NamesAreKnown) (λ settings rack t text prints entries last told earlier old entry new step. names_are_known settings rack earlier old entry new step.before step.goes) words contents rack

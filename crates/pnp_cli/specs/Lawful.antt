@@ -14,6 +14,9 @@ use Rattle.pnp_model.specs.Sharing.{Clear}
 use Rattle.pnp_model.specs.Laws.{Reaches, HoldsWhole, DependentsFirst}
 use Rattle.pnp_laws.specs.Begun.{Belongs, Restoring, Conflicts}
 use Rattle.pnp_laws.specs.Ends.{events, joins}
+use Rattle.pnp_laws.specs.Keys.{Keyed, IsAcyclic, NothingHeldClashes}
+use Rattle.pnp_laws.specs.Stacks.{NamesDriver, StacksFit}
+use Rattle.pnp_laws.specs.Told.{StatesTold}
 use Rattle.script_reader.specs.Script.{Trace, gives, waits, ends, stops}
 use Rattle.inf_reader.specs.declared.parts.Inf.{Inf}
 use Rattle.pnp_cli.specs.Outputs.{text_of, error_line, end_text}
@@ -138,3 +141,27 @@ ConflictsAreReal settings rack earlier old entry new =
 -- at most 4,096 nodes join for each event
 abbrev pub FewJoin : List Entry → Type 0
 FewJoin entries = joins entries ≤ 4096 * events entries
+
+-- only the device whose path is printed changes its state, by the row of the request that has just ended there
+abbrev pub AllStatesTold : machines.Settings → List Driver → List Entry → State → Entry → State → Type 0
+AllStatesTold settings rack earlier old entry new = StatesTold (printed entry) old new
+
+-- serials ascend; birth numbers, and paths up to ASCII case, name one node; each node but the root has its parent
+abbrev pub NodesAreKeyed : State → Type 0
+NodesAreKeyed s = Keyed s
+
+-- nothing depends on itself
+abbrev pub NothingOnItself : State → Type 0
+NothingOnItself s = IsAcyclic s.core
+
+-- no two of all that is reserved or held clash, of the one list that is printed
+abbrev pub MapIsClear : State → Type 0
+MapIsClear s = NothingHeldClashes s.core
+
+-- a device has at most 16 drivers, each with a name
+abbrev pub AllStacksFit : State → Type 0
+AllStacksFit s = StacksFit s
+
+-- a driver that is asked or added is printed by its name
+abbrev pub NamesAreKnown : machines.Settings → List Driver → List Entry → State → Entry → State → Type 0
+NamesAreKnown settings rack earlier old entry new = NamesDriver (printed entry) new.core.rack

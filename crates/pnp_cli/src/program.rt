@@ -3,7 +3,7 @@ ghost use Rattle.pnp_io.specs.Outside.{Rose, Appends, AppendsFront};
 ghost use Rattle.pnp_cli.specs.Words.{texts, settings_of};
 ghost use Rattle.pnp_cli.specs.Infs.{infs_in, refusal_line, SomeRose};
 ghost use Rattle.pnp_cli.specs.Runs.{named, IsScriptOutput, IsOutput, IsOutputBy, machine, script_status, status_of, status_by, is_decided, is_whole, Wrote, Given, WroteFront, Answers, Untouched, events_of};
-ghost use Rattle.pnp_cli.specs.Lawful.{OfOutput, SomeRun, OfRun, EachState, EachStep, ByDiagram, NothingClashes, AllHoldWhole, OperationsBegan, EndsRestore, DependentsGoFirst, ConflictsAreReal, FewJoin};
+ghost use Rattle.pnp_cli.specs.Lawful.{OfOutput, SomeRun, OfRun, EachState, EachStep, ByDiagram, NothingClashes, AllHoldWhole, OperationsBegan, EndsRestore, DependentsGoFirst, ConflictsAreReal, FewJoin, AllStatesTold, NodesAreKeyed, NothingOnItself, MapIsClear, AllStacksFit, NamesAreKnown};
 ghost use Rattle.pnp_cli.specs.Limits.{IsWithin};
 ghost use Rattle.pnp_cli.specs.Outputs.{has_bad};
 ghost use Rattle.driver_rack.specs.Rows.{unnamed};
@@ -231,6 +231,12 @@ pub fn run<F: Files, K: Sink>(
     ensures conflicts { OfOutput (EachStep ConflictsAreReal) (texts words.now) (F.contents files.old) (map (λ b. unnamed (kind_of b) (book b)) rack.items) }
     ensures begun { OfOutput (EachStep OperationsBegan) (texts words.now) (F.contents files.old) (map (λ b. unnamed (kind_of b) (book b)) rack.items) }
     ensures joins { OfOutput (OfRun FewJoin) (texts words.now) (F.contents files.old) (map (λ b. unnamed (kind_of b) (book b)) rack.items) }
+    ensures told { OfOutput (EachStep AllStatesTold) (texts words.now) (F.contents files.old) (map (λ b. unnamed (kind_of b) (book b)) rack.items) }
+    ensures keys { OfOutput (EachState NodesAreKeyed) (texts words.now) (F.contents files.old) (map (λ b. unnamed (kind_of b) (book b)) rack.items) }
+    ensures acyclic { OfOutput (EachState NothingOnItself) (texts words.now) (F.contents files.old) (map (λ b. unnamed (kind_of b) (book b)) rack.items) }
+    ensures apart { OfOutput (EachState MapIsClear) (texts words.now) (F.contents files.old) (map (λ b. unnamed (kind_of b) (book b)) rack.items) }
+    ensures stacks { OfOutput (EachState AllStacksFit) (texts words.now) (F.contents files.old) (map (λ b. unnamed (kind_of b) (book b)) rack.items) }
+    ensures names { OfOutput (EachStep NamesAreKnown) (texts words.now) (F.contents files.old) (map (λ b. unnamed (kind_of b) (book b)) rack.items) }
 {
     run_over(alloc, words, rack, files, sink)
 }

@@ -87,3 +87,9 @@ pub mod RunsEnd
 pub mod Falling
 pub mod StepsLeft
 pub mod RunsSerials
+pub mod RunsKeys
+pub mod StackMoves
+pub mod StackSteps
+pub mod StackEvents
+pub mod RunsStacks
+pub mod RunsTold

@@ -13,3 +13,6 @@ pub mod Ends
 pub mod StepsLeft
 pub mod Serials
 pub mod Effects
+pub mod Keys
+pub mod Stacks
+pub mod Told

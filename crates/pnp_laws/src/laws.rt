@@ -3,9 +3,12 @@
 ghost use Rattle.pnp_laws.specs.Begun.{BegunLaw, EachConflictLaw, EachEndLaw};
 ghost use Rattle.pnp_laws.specs.Effects.{EffectLaw};
 ghost use Rattle.pnp_laws.specs.Ends.{SettlesLaw, JoinsLaw, FewJoinLaw};
+ghost use Rattle.pnp_laws.specs.Keys.{KeysLaw, MapLaw, NoCycleLaw};
 ghost use Rattle.pnp_laws.specs.Quiet.{QuietLaw, StepLaw};
 ghost use Rattle.pnp_laws.specs.Serials.{SerialsLaw, FewSerialsLaw, FewBirthsLaw};
+ghost use Rattle.pnp_laws.specs.Stacks.{NamesLaw, StacksLaw};
 ghost use Rattle.pnp_laws.specs.StepsLeft.{StepsLeftLaw};
+ghost use Rattle.pnp_laws.specs.Told.{StatesLaw};
 ghost use Rattle.pnp_model.specs.Laws.{DiagramLaw, SharingLaw, WholeLaw, VetoLaw, FutileLaw, DependentsLaw, ConflictLaw};
 
 /// In each state of each run no two resources among all holdings and the reserved ranges clash: two clash where
@@ -135,4 +138,44 @@ pub fn few_births()
 /// world and disabled paths, with the evidence that the other laws read.
 pub fn each_step_has_an_effect()
     ensures { EffectLaw }
+{}
+
+/// In each state of each run serials ascend, a birth number names one node, a path names one up to ASCII case, and each
+/// node but the root has its parent, which has a lower serial.
+#[tactic(auto, using(crate::proofs::RunsStacks::keyed))]
+pub fn nodes_are_keyed()
+    ensures { KeysLaw }
+{}
+
+/// In each state of each run nothing depends on itself, by children and relations together.
+#[tactic(auto, using(crate::proofs::RunsKeys::no_cycle))]
+pub fn nothing_depends_on_itself()
+    ensures { NoCycleLaw }
+{}
+
+/// In each state of each run no two of all ranges that are reserved or held clash: of one list, which is the list that is
+/// printed under `map`.
+#[tactic(auto, using(crate::proofs::RunsKeys::nothing_printed_clashes))]
+pub fn nothing_printed_clashes()
+    ensures { MapLaw }
+{}
+
+/// In each state of each run a device has at most 16 drivers, each of the rack and with a name; but for the root it has
+/// none exactly where it is NoStack.
+#[tactic(auto, using(crate::proofs::RunsStacks::stacks_fit))]
+pub fn stacks_fit()
+    ensures { StacksLaw }
+{}
+
+/// Where a driver is asked or added, the name that is printed is that of a driver of the rack.
+#[tactic(auto, using(crate::proofs::RunsStacks::names_are_known))]
+pub fn names_are_known()
+    ensures { NamesLaw }
+{}
+
+/// In each step of each run only the device whose path is printed changes its state; where a state is printed, it comes to
+/// it by the row of the diagram for the very request that has just ended there, and for how that ended.
+#[tactic(auto, using(crate::proofs::RunsTold::states_are_told))]
+pub fn states_are_told()
+    ensures { StatesLaw }
 {}

@@ -16,9 +16,12 @@ use Rattle.pnp_laws.proofs.Reaching.{run_on}
 use Rattle.pnp_laws.proofs.RunsBegun.{operations_begin}
 use Rattle.pnp_laws.proofs.RunsConflict.{each_conflict_is_real}
 use Rattle.pnp_laws.proofs.RunsEnds.{each_end_restores}
+use Rattle.pnp_laws.proofs.RunsKeys.{no_cycle, nothing_printed_clashes}
 use Rattle.pnp_laws.proofs.RunsSerials.{few_serials, few_births}
 use Rattle.pnp_laws.proofs.RunsShare.{nothing_clashes}
+use Rattle.pnp_laws.proofs.RunsStacks.{keyed, names_are_known, stacks_fit}
 use Rattle.pnp_laws.proofs.RunsStand.{dependents_go_first, every_run_follows}
+use Rattle.pnp_laws.proofs.RunsTold.{states_are_told}
 use Rattle.pnp_laws.proofs.RunsWhole.{all_hold_whole}
 use Rattle.pnp_machine.specs.Machines.{IsDone, Moves}
 use Rattle.pnp_machine.specs.Ids.{AreFewIds}
@@ -51,7 +54,13 @@ module _ (told : Settings) (s t : State) where
         walked = follows.1;
         clear = nothing_clashes told h.rack (h.entries ++ entry ∷ []) t more;
         whole = all_hold_whole told h.rack (h.entries ++ entry ∷ []) t more;
+        states = states_are_told told h.rack h.entries s entry t h.reaches goes;
         first = dependents_go_first told h.rack h.entries s entry t h.reaches goes;
+        keyed = keyed told h.rack (h.entries ++ entry ∷ []) t more;
+        acyclic = no_cycle told h.rack (h.entries ++ entry ∷ []) t more;
+        apart = nothing_printed_clashes told h.rack (h.entries ++ entry ∷ []) t more;
+        stacks = stacks_fit told h.rack (h.entries ++ entry ∷ []) t more;
+        names = names_are_known told h.rack h.entries s entry t h.reaches goes;
         begun = λ rack entries reaches. operations_begin told rack entries s entry t reaches goes;
         restores = λ rack entries reaches. each_end_restores told rack entries s entry t reaches goes;
         conflicts = λ rack entries path reaches is. each_conflict_is_real told rack entries s entry t path reaches goes is;

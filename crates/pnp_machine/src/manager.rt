@@ -89,10 +89,9 @@ impl<R: Drivers> Manager<R> {
     }
 
     /// The next step of the machine, exactly as its definition says. Quiet comes exactly where no step is next, and then
-    /// nothing changes. Condition: at most 2^24 events happened. After want of memory the manager and every book are as
-    /// before, no driver was asked, and the same step can be tried again. Cost: that of what the step does.
+    /// nothing changes. After want of memory the manager and every book are as before, no driver was asked, and the same
+    /// step can be tried again. Cost: that of what the step does.
     pub fn step(&mut self) -> Result<Moved, WantOfMemory>
-        requires events { self.old.events ≤ 2 ^ 24 }
         ensures moves { IfOk result (λ moved. Moves (settings self.old) self.old.state moved self.new.state) }
         ensures same { self.new ≡ record self.old { state = self.new.state } }
         ensures laws { IfOk result (λ moved. LawsOf (settings self.old) moved self.old.state self.new.state) }

@@ -1,4 +1,4 @@
-ghost use Rattle.std.specs.Prelude.{◌≡◌, ◌==◌, [], ◌∷◌, ◌++◌, IfOk, OnOk, OnErr, IsSome, filter, map};
+ghost use Rattle.std.specs.Prelude.{◌≡◌, ◌≢◌, ◌==◌, [], ◌∷◌, ◌++◌, false, Err, IfOk, OnOk, OnErr, IsSome, filter, map};
 ghost use Rattle.std.specs.List.{list_any};
 ghost use Rattle.pnp_model.specs.Cores.{node_at, forget};
 ghost use Rattle.pnp_model.specs.Events.{is_relation};
@@ -56,8 +56,8 @@ impl Relations {
     }
 
     /// Relates a member to an owner, as the last relation. Condition: both are there. Errors, the first that holds:
-    /// `SelfRelation`, `SameRelation`, `RelationCycle`, `NotStarted`. `WantOfMemory` may come in place of the last two
-    /// and of success. After an error all is as before. Cost: what depends on the member, the relations of the owner,
+    /// `SelfRelation`, `SameRelation`, `RelationCycle`, `NotStarted`. `WantOfMemory` may come in place of the last two,
+    /// which need memory to be told, and of success. After an error all is as before. Cost: what depends on the member, the relations of the owner,
     /// and the logarithm of all. This project's own.
     pub fn relate(
         &mut self,
@@ -68,7 +68,8 @@ impl Relations {
     ) -> Result<(), RelateError>
         requires owner_there { IsSome (node_at owner tree.now.nodes) }
         requires member_there { IsSome (node_at member tree.now.nodes) }
-        ensures { RelatesFor (node_at owner tree.now.nodes) (node_at member tree.now.nodes) tree.now.nodes kind self.old result self.new }
+        ensures related { RelatesFor (node_at owner tree.now.nodes) (node_at member tree.now.nodes) tree.now.nodes kind self.old result self.new }
+        ensures memory_later { result ≡ Err RelateError.WantOfMemory → (owner ≢ member) × (list_any (is_relation kind owner member) self.old ≡ false) }
     {
         if owner == member {
             return Err(RelateError::SelfRelation);

@@ -1,5 +1,5 @@
 use Rattle.pnp_cli.specs.Words.{texts}
-use Rattle.pnp_cli.proofs.Lawfulness.{output_tells, output_by_diagram, output_shares, output_holds_whole, output_restores, output_dependents, output_conflicts, output_begins, output_joins}
+use Rattle.pnp_cli.proofs.Lawfulness.{output_tells, output_by_diagram, output_shares, output_holds_whole, output_restores, output_dependents, output_conflicts, output_begins, output_joins, output_told, output_keyed, output_acyclic, output_map_clear, output_stacks, output_names}
 use Rattle.pnp_cli.proofs.program.run.Goals as goal
 
 pub returns-clause-tells : goal.returns-clause-tells
@@ -28,3 +28,21 @@ returns-clause-begun g c = output_begins (texts c.args.words.now) (g.F.Files.con
 
 pub returns-clause-joins : goal.returns-clause-joins
 returns-clause-joins g c = output_joins (texts c.args.words.now) (g.F.Files.contents c.args.files.now) _
+
+pub returns-clause-told : goal.returns-clause-told
+returns-clause-told g c = output_told (texts c.args.words.now) (g.F.Files.contents c.args.files.now) _
+
+pub returns-clause-keys : goal.returns-clause-keys
+returns-clause-keys g c = output_keyed (texts c.args.words.now) (g.F.Files.contents c.args.files.now) _
+
+pub returns-clause-acyclic : goal.returns-clause-acyclic
+returns-clause-acyclic g c = output_acyclic (texts c.args.words.now) (g.F.Files.contents c.args.files.now) _
+
+pub returns-clause-apart : goal.returns-clause-apart
+returns-clause-apart g c = output_map_clear (texts c.args.words.now) (g.F.Files.contents c.args.files.now) _
+
+pub returns-clause-stacks : goal.returns-clause-stacks
+returns-clause-stacks g c = output_stacks (texts c.args.words.now) (g.F.Files.contents c.args.files.now) _
+
+pub returns-clause-names : goal.returns-clause-names
+returns-clause-names g c = output_names (texts c.args.words.now) (g.F.Files.contents c.args.files.now) _

@@ -17,6 +17,7 @@ invariant_of-self-2 g c =
     record {
       few = c.self.invariant.few;
       spends = c.self.invariant.spends;
+      happened = let e = ap (λ (m : Manager). m.events) c.self.view_is in let few = c.requires.events in omega arith;
       ids = few_applied (settings_of c.self.inside.infs.items c.self.inside.budget) _ _ c.self.invariant.ids c.args.event c.in_ok-label.label c.requires.ids quiet c.in_ok-label.ensures.done;
       run = run_applied _ _ _ _ c.args.event c.in_ok-label.label c.self.invariant.run quiet c.in_ok-label.ensures.done;
     }

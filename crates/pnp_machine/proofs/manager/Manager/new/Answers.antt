@@ -1,4 +1,4 @@
-use Rattle.std.proofs.Common.{[], refl, sym, subst}
+use Rattle.std.proofs.Common.{[], refl, sym, subst, arith}
 use Rattle.pnp_model.specs.Records.{State}
 use Rattle.pnp_machine.specs.Ids.{AreFewIds}
 use Rattle.pnp_machine.proofs.Ids.{few_opening}
@@ -10,6 +10,7 @@ invariant_of-result g c =
     record {
       few = c.requires.few;
       spends = c.requires.budget;
+      happened = omega arith;
       ids = subst (λ (s : State). AreFewIds s) (sym c.in_ok-machine.ensures) (few_opening rack);
       run = record { rack = rack; entries = []; reaches = c.in_ok-machine.ensures; count = refl };
     }

@@ -1,14 +1,9 @@
-use Rattle.std.proofs.Common.{ap, arith}
 use Rattle.start_sequence.specs.Begins.{settings_of}
-use Rattle.pnp_machine.specs.Managers.{Manager}
 use Rattle.pnp_machine.proofs.RunLaws.{run_serials, run_after, laws_after, few_after}
 use Rattle.pnp_machine.proofs.manager.Manager.step.Goals as goal
 
 pub step-requires-clause-room : goal.step-requires-clause-room
-step-requires-clause-room g c =
-    let e = ap (λ (m : Manager). m.events) c.self.view_is in
-    let few = c.requires in
-    run_serials _ _ _ c.self.invariant.run (omega arith)
+step-requires-clause-room g c = run_serials _ _ _ c.self.invariant.run c.self.invariant.happened
 
 pub invariant_of-self : goal.invariant_of-self
 invariant_of-self g c =
@@ -16,6 +11,7 @@ invariant_of-self g c =
     record {
       few = c.self.invariant.few;
       spends = c.self.invariant.spends;
+      happened = c.self.invariant.happened;
       ids = few_after (settings_of c.self.inside.infs.items c.self.inside.budget) _ _ c.self.invariant.ids c.step.result moves c.step.ensures.err;
       run = run_after _ _ _ _ c.self.invariant.run c.step.result moves c.step.ensures.err;
     }
