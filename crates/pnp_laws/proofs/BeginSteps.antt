@@ -9,16 +9,12 @@ use Rattle.pnp_model.specs.Runs.Entry.{Happens, Did}
 use Rattle.pnp_labels.specs.Texts.{Text}
 use Rattle.pnp_labels.specs.declared.label.Label.{Label}
 use Rattle.pnp_labels.specs.declared.label.OpKind.{OpKind}
+use Rattle.pnp_laws.specs.Words.{IsBeside, IsWord, DuesFine}
+use Rattle.pnp_laws.specs.Effects.{begun}
 use Rattle.pnp_laws.specs.Reached.{IsReached}
-use Rattle.pnp_laws.specs.Begun.{IsBeside, IsWord, DuesFine}
 use Rattle.pnp_laws.proofs.Reaching.{kept}
 use Rattle.pnp_laws.proofs.EventChanges.{beside_word, happens_outside}
-use Rattle.pnp_laws.proofs.Courses.{begun, Way, Course}
-use Rattle.pnp_laws.proofs.OperationCourses.{course_step, course_happens}
-
-pub course_goes : (settings : Settings) (old : State) (entry : Entry) (new : State) → DuesFine old.activities → Goes settings old entry new → Course old (record { label = printed entry; state = new })
-course_goes settings old (Happens event label) new dues goes = subst (λ (x : Step). Course old x) goes.1 (course_happens old event)
-course_goes settings old (Did label) new dues goes = course_step settings old (record { label = label; state = new }) dues goes
+use Rattle.pnp_laws.proofs.Courses.{Way, course_goes}
 
 -- in no reached state an activity owes problem 12
 pub reached_dues : (settings : Settings) (rack : List Driver) (s : State) → IsReached settings rack s → DuesFine s.activities
@@ -44,7 +40,7 @@ begun_way s t kind path (Way.goes o p runs after work (inr (kinds, label))) = ab
 begun_way s t kind path (Way.ends o result runs after label by) = absurd (cc)
 
 pub begins_right : (settings : Settings) (s t : State) (kind : OpKind) (path : Text) → DuesFine s.activities → Steps settings s (Label.Begin kind path) t → Begun s kind path t
-begins_right settings s t kind path dues h = begun_way s t kind path (course_step settings s (record { label = Label.Begin kind path; state = t }) dues h).way
+begins_right settings s t kind path dues h = begun_way s t kind path (course_goes settings s (Did (Label.Begin kind path)) t dues h).way
 
 -- what is no word of an event was printed by a step
 pub step_did : (settings : Settings) (s : State) (entry : Entry) (t : State) → Goes settings s entry t → (IsBeside (printed entry) → ⊥) → Goes settings s (Did (printed entry)) t

@@ -4,7 +4,7 @@ use Rattle.std.specs.List.{find}
 use Rattle.pnp_model.specs.Keyed.{changed_first, without_first}
 use Rattle.pnp_model.specs.Records.{Activity, Phase}
 use Rattle.pnp_model.specs.States.{is_activity, is_above, with_phase, entered}
-use Rattle.pnp_laws.specs.Begun.{DueFine, DuesFine}
+use Rattle.pnp_laws.specs.Words.{DueFine, DuesFine}
 
 pub dues_without : (j : ℕ) (acts : List Activity) → DuesFine acts → DuesFine (without_first (is_activity j) acts)
 dues_without j [] h = tt

@@ -150,3 +150,19 @@ device_only born (Some d) s = other_only d (d.born == born) s
 
 pub relist_only : (path : List ℕ) (born : ℕ) (s : State) → OnlyTasks s (relist path born s)
 relist_only path born s = device_only born (device_of path s.world) s
+
+-- listing again leaves the core as it is
+pub relist_core : (path : List ℕ) (born : ℕ) (s : State) → (relist path born s).core ≡ s.core
+relist_core path born s = device_core born (device_of path s.world) s
+  where
+    list_core : (o : Option Node) (s : State) → (list_node o s).core ≡ s.core
+    list_core None s = refl
+    list_core (Some n) s = refl
+
+    other_core : (d : Device) (b : Bool) (s : State) → (relist_other d b s).core ≡ s.core
+    other_core d true s = refl
+    other_core d false s = list_core (node_born d.parent s.core.nodes) s
+
+    device_core : (born : ℕ) (o : Option Device) (s : State) → (relist_device born o s).core ≡ s.core
+    device_core born None s = refl
+    device_core born (Some d) s = other_core d (d.born == born) s

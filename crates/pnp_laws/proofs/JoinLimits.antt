@@ -12,8 +12,8 @@ use Rattle.pnp_model.specs.Runs.Entry.{Happens, Did}
 use Rattle.pnp_labels.specs.declared.words.Answer.{Answer}
 use Rattle.pnp_labels.specs.declared.event.Event.{Event}
 use Rattle.pnp_labels.specs.declared.label.Label.{Label}
-use Rattle.pnp_laws.specs.Begun.{IsWord}
-use Rattle.pnp_laws.specs.Ends.{IsNoJoin, AllSteps, events, joined, joins, starts_one, waiting_starts, JoinsLaw, FewJoinLaw}
+use Rattle.pnp_laws.specs.Words.{IsWord, IsNoJoin, joined}
+use Rattle.pnp_laws.specs.Ends.{AllSteps, events, joins, starts_one, waiting_starts, JoinsLaw, FewJoinLaw}
 use Rattle.pnp_laws.specs.Kept.{IsGood}
 use Rattle.pnp_laws.proofs.EventChanges.{Answered, Outside, happens_outside}
 use Rattle.pnp_laws.proofs.RunsStand.{Kept, kept_goes, opening_kept}

@@ -10,7 +10,7 @@ use Rattle.pnp_model.specs.Laws.{Reaches}
 use Rattle.pnp_model.specs.Runs.{Entry, Goes, Run, opening}
 use Rattle.pnp_model.specs.Runs.Entry.{Happens, Did}
 use Rattle.pnp_labels.specs.declared.label.OpKind.{OpKind}
-use Rattle.pnp_laws.specs.Ends.{IsNoJoin}
+use Rattle.pnp_laws.specs.Words.{IsNoJoin}
 use Rattle.pnp_laws.specs.Kept.{IsGood, OperationFits, Alone}
 use Rattle.pnp_laws.proofs.Lookups.{own_serial, ready_found}
 use Rattle.pnp_laws.proofs.Standing.{StageKept}

@@ -16,7 +16,7 @@ use Rattle.pnp_model.specs.Machine.{after_remove, removal_lifted, surprise_lifte
 use Rattle.pnp_labels.specs.declared.states.DevState.TheVariants.{NoStack}
 use Rattle.pnp_labels.specs.declared.label.Label.{Label}
 use Rattle.pnp_labels.specs.declared.states.Problem.{Problem}
-use Rattle.pnp_laws.specs.Ends.{IsNoJoin}
+use Rattle.pnp_laws.specs.Words.{IsNoJoin}
 use Rattle.pnp_laws.specs.Kept.{RemovalKeeps, SurpriseKeeps, settling_state, Each, Within}
 use Rattle.pnp_laws.proofs.Lookups.{some_same, own_serial, left_missing}
 use Rattle.pnp_laws.proofs.Lists.{HeadIs, head_found, head_has, rest_has}

@@ -22,7 +22,7 @@ use Rattle.pnp_labels.specs.declared.words.Minor.{Minor}
 use Rattle.pnp_labels.specs.declared.words.Answer.{Answer}
 use Rattle.pnp_labels.specs.declared.words.Answer.TheVariants.{Ok, Fail, Pend}
 use Rattle.pnp_labels.specs.declared.label.Label.{Label}
-use Rattle.pnp_laws.specs.Ends.{IsNoJoin}
+use Rattle.pnp_laws.specs.Words.{IsNoJoin}
 use Rattle.pnp_laws.specs.Kept.{IsGood, Fits, InOrder}
 use Rattle.pnp_laws.proofs.Lookups.{some_same, own_serial, node_from, entered_same, entered_other, phase_from, ended_same, ended_other}
 use Rattle.pnp_laws.proofs.Standing.{Sound, IsNoLeave}

@@ -13,7 +13,7 @@ use Rattle.pnp_labels.specs.declared.words.Answer.{Answer}
 use Rattle.pnp_labels.specs.declared.words.RelKind.{RelKind}
 use Rattle.pnp_model.specs.Events.{happens}
 use Rattle.pnp_model.specs.Runs.{traced, settled, opening}
-use Rattle.pnp_laws.specs.Ends.{joined}
+use Rattle.pnp_laws.specs.Words.{joined}
 
 -- one driver serves every device
 abbrev settings : Settings

@@ -18,7 +18,7 @@ use Rattle.pnp_labels.specs.declared.words.Answer.{Answer}
 use Rattle.pnp_labels.specs.declared.words.Answer.TheVariants.{Ok, Fail, Pend}
 use Rattle.pnp_labels.specs.declared.label.Label.{Label}
 use Rattle.pnp_labels.specs.declared.label.OpKind.{OpKind}
-use Rattle.pnp_laws.specs.Ends.{IsNoJoin}
+use Rattle.pnp_laws.specs.Words.{IsNoJoin}
 use Rattle.pnp_laws.proofs.Lists.{HeadIs, head_found}
 use Rattle.pnp_laws.proofs.Measures.{Falls, falls_coarse, coarse, coarse_on, tasks_cost, duty_cost, sum, phase_cost, is_open, is_target, born_in, operation_cost, rebalance_cost, rank_of, rebalance_rank, left_of, rebalance_left, answers, answers_of, SameBirths, births_same, births_changed, births_mapped, coarse_by, sum_entered}
 use Rattle.pnp_model.specs.Rebalances as re

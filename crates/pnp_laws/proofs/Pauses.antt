@@ -18,9 +18,7 @@ use Rattle.pnp_laws.specs.Vetoes.{turned}
 use Rattle.pnp_laws.specs.Rebalanced.{Placed, paused, Paused}
 use Rattle.pnp_laws.proofs.Lookups.{node_changed_same, node_changed_other}
 use Rattle.pnp_laws.proofs.Vetoes.{turned_same, turned_twice}
-use Rattle.pnp_laws.proofs.SharingSteps.{beside_changed}
-use Rattle.pnp_laws.proofs.WholeSteps.{keeps_state}
-use Rattle.pnp_laws.proofs.WholeOperations.{all_reqs_changed}
+use Rattle.pnp_laws.proofs.PlansKept.{all_reqs_changed, beside_changed, keeps_state}
 
 -- one more agrees
 pub paused_agreed : (before now : Core) (k : ℕ) (agreed : List ℕ) (n : Node) → node_at k now.nodes ≡ Some n → n.state ≡ Started → Paused before now agreed →

@@ -8,12 +8,14 @@ use Rattle.pnp_labels.specs.Texts.{Text}
 use Rattle.pnp_labels.specs.declared.states.Problem.{Problem}
 use Rattle.pnp_labels.specs.declared.label.Label.{Label}
 use Rattle.pnp_labels.specs.declared.label.OpKind.{OpKind}
-use Rattle.pnp_laws.specs.Begun.{IsWord, HasBegun, Belongs, BegunLaw, kind_of, path_of, SameWork, NotTwelve, IsBeside}
+use Rattle.pnp_laws.specs.Words.{IsWord, kind_of, path_of, SameWork, NotTwelve, IsBeside}
+use Rattle.pnp_laws.specs.Begun.{HasBegun, Belongs, BegunLaw}
 use Rattle.pnp_laws.proofs.Reaching.{run_on}
-use Rattle.pnp_laws.proofs.Courses.{begun, Way}
+use Rattle.pnp_laws.specs.Effects.{begun}
+use Rattle.pnp_laws.proofs.Courses.{Way, course_goes}
 use Rattle.pnp_laws.proofs.EventChanges.{beside_word, happens_outside}
-use Rattle.pnp_laws.proofs.OperationCourses.{begun_work}
-use Rattle.pnp_laws.proofs.BeginSteps.{course_goes, reached_dues}
+use Rattle.pnp_laws.proofs.EffectsOfOperations.{begun_work}
+use Rattle.pnp_laws.proofs.BeginSteps.{reached_dues}
 
 -- the operation that runs has begun
 abbrev RunsBegun : Settings → List Driver → List Entry → State → Type 0

@@ -1,5 +1,5 @@
 -- In each run problem 12 comes only where nothing fits the device and all that can move.
-use Rattle.std.proofs.Common.{ℕ, ◌≡◌, ◌≢◌, ◌==◌, ◌⊎◌, inl, inr, true, false, not, ◌&&◌, List, [], ◌∷◌, ◌++◌, map, Some, refl, sym, ap, ◌∙◌, subst, arith}
+use Rattle.std.proofs.Common.{ℕ, ◌≡◌, ◌≢◌, ◌==◌, ◌⊎◌, inl, inr, true, false, List, [], ◌∷◌, ◌++◌, map, Some, refl, sym, ap, ◌∙◌, subst, arith}
 use Rattle.std.proofs.lemmas.Bool.Decides.{nat_tests}
 use Rattle.resource_reqs.specs.Resources.{Res, Reqs, Fits}
 use Rattle.resource_reqs.specs.Spelling.Answer.{assignment, no_fit, spent}
@@ -19,13 +19,14 @@ use Rattle.pnp_labels.specs.declared.states.Problem.{Problem}
 use Rattle.pnp_labels.specs.declared.states.DevState.TheVariants.{Started}
 use Rattle.pnp_labels.specs.declared.label.Label.{Label}
 use Rattle.pnp_labels.specs.declared.label.OpKind.{OpKind}
+use Rattle.pnp_laws.specs.Words.{IsBeside}
 use Rattle.pnp_laws.specs.Holdings.{has_plan}
 use Rattle.pnp_laws.specs.Rebalanced.{Placed, Undone, AskedSince, Asks, IsAskedAt, Underway}
 use Rattle.pnp_laws.proofs.Lookups.{own_serial}
 use Rattle.pnp_laws.proofs.Reached.{reached_is_good, reached_is_placed}
 use Rattle.pnp_laws.proofs.RebalanceMoves.{NoConflict}
 use Rattle.pnp_laws.proofs.RebalanceRuns.{Stepped, IsOver, rebalance_stepped, lasts}
-use Rattle.pnp_laws.specs.Begun.{HasBegun, Belongs, IsBeside, EachConflictLaw}
+use Rattle.pnp_laws.specs.Begun.{HasBegun, Belongs, EachConflictLaw}
 use Rattle.pnp_laws.proofs.BeginSteps.{step_did}
 use Rattle.pnp_laws.proofs.RunsBegun.{operations_begin}
 use Rattle.pnp_laws.proofs.RunsFutile.{Since, since_begin, reached_after}

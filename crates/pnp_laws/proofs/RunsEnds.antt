@@ -8,7 +8,8 @@ use Rattle.pnp_labels.specs.Texts.{Text}
 use Rattle.pnp_labels.specs.declared.label.Label.{Label}
 use Rattle.pnp_labels.specs.declared.label.OpKind.{OpKind}
 use Rattle.pnp_labels.specs.declared.label.OpEnd.{OpEnd}
-use Rattle.pnp_laws.specs.Begun.{HasBegun, Belongs, Restoring, IsBeside, EachEndLaw}
+use Rattle.pnp_laws.specs.Words.{IsBeside}
+use Rattle.pnp_laws.specs.Begun.{HasBegun, Belongs, Restoring, EachEndLaw}
 use Rattle.pnp_laws.proofs.BeginSteps.{step_did}
 use Rattle.pnp_laws.proofs.RunsBegun.{operations_begin}
 use Rattle.pnp_laws.proofs.RunsFutile.{futile_restores}

@@ -22,7 +22,7 @@ use Rattle.pnp_model.specs.Runs.Entry.{Happens, Did}
 use Rattle.pnp_model.specs.Starts.{adding}
 use Rattle.pnp_model.specs.States.{activity_at, entered, is_activity, with_phase}
 use Rattle.pnp_model.specs.Tasks.{has_path}
-use Rattle.pnp_laws.specs.Begun.{IsWord}
+use Rattle.pnp_laws.specs.Words.{IsWord}
 use Rattle.pnp_laws.specs.Keys.{FoldedApart, KeysLaw}
 use Rattle.pnp_laws.specs.Kept.{Ascending, InOrder, IsGood}
 use Rattle.pnp_laws.specs.Reached.{IsReached}

@@ -9,13 +9,13 @@ use Rattle.pnp_model.specs.Runs.{Entry, Goes, Run, printed, opening, root_node}
 use Rattle.pnp_model.specs.Runs.Entry.{Happens, Did}
 use Rattle.pnp_labels.specs.declared.event.Event.{Event}
 use Rattle.pnp_labels.specs.declared.label.Label.{Label}
+use Rattle.pnp_laws.specs.Words.{IsWord}
 use Rattle.pnp_laws.specs.Kept.{IsGood}
 use Rattle.pnp_laws.specs.RunsWell.{MayBegin, RunWell}
 use Rattle.pnp_laws.proofs.Runs.{lawful_goes, opening_is_good, root_is}
 use Rattle.pnp_laws.proofs.TreeMoves.{edge_cases}
 use Rattle.pnp_laws.proofs.Standing.{Stands}
 use Rattle.pnp_laws.proofs.Sounds.{IsPlain, walked_plain, first_stays}
-use Rattle.pnp_laws.specs.Begun.{IsWord}
 use Rattle.pnp_laws.proofs.EventChanges.{Outside, happens_outside}
 use Rattle.pnp_laws.proofs.SoundMachine.{sound_step, stands_happens, begins_well}
 

@@ -17,7 +17,7 @@ use Rattle.pnp_model.specs.Runs.{Entry, printed}
 use Rattle.pnp_model.specs.Runs.Entry.{Happens, Did}
 use Rattle.pnp_model.specs.Tests.{has, is_told}
 use Rattle.pnp_model.specs.Walks.{has_ended, is_bad, may_fail, state_after}
-use Rattle.pnp_laws.specs.Begun.{IsWord}
+use Rattle.pnp_laws.specs.Words.{IsWord}
 use Rattle.pnp_laws.specs.Kept.{Ascending, Fits, IsGood, OperationFits, at_head, is_stripped_next, rebalance_state, removal_state, surprise_state}
 use Rattle.pnp_laws.specs.Told.{ChangesAt, IsUnder, Request, StatesLaw, ends_bad, operation_request, phase_request, rebalance_request, removal_request, request, surprise_request}
 use Rattle.pnp_laws.proofs.EventChanges.{happens_outside, Outside}

@@ -13,15 +13,15 @@ use Rattle.pnp_labels.specs.Texts.{Text}
 use Rattle.pnp_labels.specs.declared.label.Label.{Label}
 use Rattle.pnp_labels.specs.declared.label.OpKind.{OpKind}
 use Rattle.pnp_labels.specs.declared.label.OpEnd.{OpEnd}
+use Rattle.pnp_laws.specs.Words.{is_removal, NoVeto, EndsBy}
 use Rattle.pnp_laws.specs.Kept.{IsGood}
-use Rattle.pnp_laws.specs.Begun.{is_removal, NoVeto, EndsBy}
 use Rattle.pnp_laws.specs.Reached.{IsReached}
 use Rattle.pnp_laws.specs.RunsWell.{RunWell}
 use Rattle.pnp_laws.proofs.Runs.{lawful_goes}
 use Rattle.pnp_laws.proofs.RunsStand.{Kept, kept_goes, run_well, reaches_kept}
 use Rattle.pnp_laws.proofs.Reaching.{reached_on}
-use Rattle.pnp_laws.proofs.Courses.{Way}
-use Rattle.pnp_laws.proofs.BeginSteps.{Begun, begins_right, reached_dues, course_goes}
+use Rattle.pnp_laws.proofs.Courses.{Way, course_goes}
+use Rattle.pnp_laws.proofs.BeginSteps.{Begun, begins_right, reached_dues}
 use Rattle.pnp_laws.proofs.Vetoes.{since_begun, veto_restores}
 use Rattle.pnp_laws.proofs.VetoSteps.{VetoSince, Closed, veto_step, veto_happens}
 

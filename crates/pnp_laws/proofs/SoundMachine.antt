@@ -1,5 +1,5 @@
 -- Each step and each event of the machine keeps the tree and what is due.
-use Rattle.std.proofs.Common.{ℕ, suc, ◌≡◌, ◌≢◌, ◌==◌, inl, inr, Bool, true, false, ◌&&◌, cond, List, [], ◌∷◌, ◌++◌, Option, Some, None, refl, sym, ap, subst, arith}
+use Rattle.std.proofs.Common.{ℕ, suc, ◌≡◌, ◌⊎◌, ◌∙◌, ◌≢◌, ◌==◌, inl, inr, Bool, true, false, ◌&&◌, cond, List, [], ◌∷◌, ◌++◌, Option, Some, None, refl, sym, ap, subst, arith}
 use Rattle.std.specs.List.{find, slice_get}
 use Rattle.std.proofs.lemmas.Bool.Decides.{nat_tests}
 use Rattle.device_ids.specs.Folding.{same}
@@ -11,7 +11,7 @@ use Rattle.pnp_model.specs.Cores.{node_at}
 use Rattle.pnp_model.specs.Books.{is_named, is_unnamed}
 use Rattle.pnp_model.specs.Frames.{first_node}
 use Rattle.pnp_model.specs.Trees.{dependents}
-use Rattle.pnp_model.specs.States.{activity_at, list_node, node_born, node_of, device_of, plug, unplug, enable_path}
+use Rattle.pnp_model.specs.States.{activity_at, list_node, node_born, node_of, device_of, plug, unplug, enable_path, set_operation, with_core}
 use Rattle.pnp_labels.specs.Texts.{Text}
 use Rattle.pnp_labels.specs.declared.words.Minor.{Minor}
 use Rattle.pnp_labels.specs.declared.words.Answer.{Answer}
@@ -22,6 +22,11 @@ use Rattle.pnp_labels.specs.declared.event.Event.{Event}
 use Rattle.pnp_labels.specs.declared.label.OpKind.{OpKind}
 use Rattle.pnp_laws.specs.Kept.{Ascending, Good, IsGood, BeginsWell, Fits, is_idle}
 use Rattle.pnp_laws.specs.Due.{AllDue}
+use Rattle.pnp_labels.specs.declared.label.Label.{Label}
+use Rattle.pnp_laws.specs.Effects.{AnswerEffect, CommandEffect, NodeEffect, Related}
+use Rattle.pnp_laws.specs.Words.{IsWord}
+use Rattle.pnp_laws.proofs.EffectsOfEvents.{event_effect}
+use Rattle.pnp_laws.proofs.EventChanges.{happens_outside, relations_stay, still_serial}
 use Rattle.pnp_laws.proofs.Lookups.{own_serial, found_self, ready_found, some_same}
 use Rattle.pnp_laws.proofs.OpSteps.{is_Started}
 use Rattle.pnp_laws.proofs.Orders.{leaving_fits}
@@ -150,116 +155,15 @@ outside s t order a b next op tasks h =
           (due_still (waiting s.operation) (waiting s.operation) s.tasks t.tasks s.core.nodes t.core.nodes a tasks.leads (λ k q. q) h.due);
     }
 
-listed : (s u : State) (o : Option Node) → Ascending 0 s.core.nodes → u.core.nodes ≡ s.core.nodes → u.core.relations ≡ s.core.relations → u.next_serial ≡ s.next_serial → u.operation ≡ s.operation → u.tasks ≡ s.tasks → Stands s → Stands (list_node o u)
-listed s u None order a b next op tasks h = outside s u order a b next op (subst (λ (ts : List Task). MoreTasks s.tasks ts) (sym tasks) (more_same s.tasks)) h
-listed s u (Some n) order a b next op tasks h =
-    outside s (list_node (Some n) u) order a b next op
-    (subst (λ (ts : List Task). MoreTasks s.tasks (ts ++ record { kind = Duty.Listing; serial = n.serial } ∷ [])) (sym tasks) (more_pushed s.tasks (record { kind = Duty.Listing; serial = n.serial }) (inl refl))) h
-
-plugs_room : (s : State) (d : Device) (b : Bool) → Ascending 0 s.core.nodes → Stands s → Stands (ev.plug_room s d b).state
-plugs_room s d false order h = h
-plugs_room s d true order h = listed s (plug d s) (node_born d.parent s.core.nodes) order refl refl refl refl refl h
-
-plugs_fresh : (s : State) (d : Device) (o : Option Device) → Ascending 0 s.core.nodes → Stands s → Stands (ev.plug_fresh s d o).state
-plugs_fresh s d (Some x) order h = h
-plugs_fresh s d None order h = plugs_room s d _ order h
-
-plugs : (s : State) (path : Text) (hw compat : List Text) (reqs : Reqs) (o : Option Device) → Ascending 0 s.core.nodes → Stands s → Stands (ev.plug_below s path hw compat reqs o).state
-plugs s path hw compat reqs None order h = h
-plugs s path hw compat reqs (Some over) order h = plugs_fresh s (ev.new_device s over.born path hw compat reqs) (device_of path s.world) order h
-
-pulls_device : (s : State) (d : Device) (b : Bool) → Ascending 0 s.core.nodes → Stands s → Stands (ev.pull_device s d b).state
-pulls_device s d true order h = h
-pulls_device s d false order h = listed s (unplug d.born s) (node_born d.parent s.core.nodes) order refl refl refl refl refl h
-
-pulls : (s : State) (o : Option Device) → Ascending 0 s.core.nodes → Stands s → Stands (ev.pull_at s o).state
-pulls s None order h = h
-pulls s (Some d) order h = pulls_device s d _ order h
-
-names_free : (s : State) (name : Text) (kind : DriverKind) (o : Option Driver) → Ascending 0 s.core.nodes → Stands s → Stands (ev.name_free s name kind o).state
-names_free s name kind None order h = h
-names_free s name kind (Some d) order h = outside s _ order refl refl refl refl (more_same s.tasks) h
-
-names : (s : State) (name : Text) (kind : DriverKind) (o : Option Driver) → Ascending 0 s.core.nodes → Stands s → Stands (ev.name_at s name kind o).state
-names s name kind (Some d) order h = h
-names s name kind None order h = names_free s name kind (find (is_unnamed kind) s.core.rack) order h
-
-teaches_room : (s : State) (d : Driver) (name : Text) (rule : Rule) (b : Bool) → Ascending 0 s.core.nodes → Stands s → Stands (ev.teach_room s d name rule b).state
-teaches_room s d name rule false order h = h
-teaches_room s d name rule true order h = outside s _ order refl refl refl refl (more_same s.tasks) h
-
-teaches_kind : (s : State) (d : Driver) (name : Text) (rule : Rule) (b : Bool) → Ascending 0 s.core.nodes → Stands s → Stands (ev.teach_kind s d name rule b).state
-teaches_kind s d name rule false order h = h
-teaches_kind s d name rule true order h = teaches_room s d name rule _ order h
-
-teaches : (s : State) (name : Text) (rule : Rule) (o : Option Driver) → Ascending 0 s.core.nodes → Stands s → Stands (ev.teach_at s name rule o).state
-teaches s name rule None order h = h
-teaches s name rule (Some d) order h = teaches_kind s d name rule _ order h
-
 -- the begin of an operation is appended for a device that is not the root
 more_begins : (tasks : List Task) (kind : OpKind) (k : ℕ) → k ≢ 0 → MoreTasks tasks (tasks ++ record { kind = Duty.Begins kind; serial = k } ∷ [])
 more_begins tasks kind k up = record { up = λ h. up_append tasks (record { kind = Duty.Begins kind; serial = k }) up h; leads = leads_pushed tasks (record { kind = Duty.Begins kind; serial = k }) }
 
-disables_enabled : (s : State) (node : Node) (b : Bool) → node.serial ≢ 0 → Ascending 0 s.core.nodes → Stands s → Stands (ev.disable_enabled s node b).state
-disables_enabled s node true up order h = h
-disables_enabled s node false up order h = outside s _ order refl refl refl refl (more_begins s.tasks OpKind.Disable node.serial up) h
-
-disables_below : (s : State) (path : Text) (node : Node) (b : Bool) → (node.serial == 0) ≡ b → Ascending 0 s.core.nodes → Stands s → Stands (ev.disable_below s path node b).state
-disables_below s path node true e order h = h
-disables_below s path node false e order h = disables_enabled s node _ (grind (arith, nat_tests)) order h
-
-disables : (s : State) (path : Text) (o : Option Node) → Ascending 0 s.core.nodes → Stands s → Stands (ev.disable_at s path o).state
-disables s path None order h = h
-disables s path (Some node) order h = disables_below s path node _ refl order h
-
-starts : (s u : State) (o : Option Node) → Ascending 0 s.core.nodes → u.core.nodes ≡ s.core.nodes → u.core.relations ≡ s.core.relations → u.next_serial ≡ s.next_serial → u.operation ≡ s.operation → u.tasks ≡ s.tasks → Stands s → Stands (ev.start_node o u)
-starts s u None order a b next op tasks h = outside s u order a b next op (subst (λ (ts : List Task). MoreTasks s.tasks ts) (sym tasks) (more_same s.tasks)) h
-starts s u (Some n) order a b next op tasks h =
-    outside s (ev.start_node (Some n) u) order a b next op
-    (subst (λ (ts : List Task). MoreTasks s.tasks (ts ++ record { kind = Duty.Starting; serial = n.serial } ∷ [])) (sym tasks) (more_pushed s.tasks (record { kind = Duty.Starting; serial = n.serial }) (inr refl))) h
-
-enables : (s : State) (path : Text) (o : Option Text) → Ascending 0 s.core.nodes → Stands s → Stands (ev.enable_at s path o).state
-enables s path None order h = h
-enables s path (Some own) order h = starts s (enable_path path s) (node_of path s.core.nodes) order refl refl refl refl refl h
-
-ejects_below : (s : State) (node : Node) (b : Bool) → (node.serial == 0) ≡ b → Ascending 0 s.core.nodes → Stands s → Stands (ev.eject_below s node b).state
-ejects_below s node true e order h = h
-ejects_below s node false e order h = outside s _ order refl refl refl refl (more_begins s.tasks OpKind.Eject node.serial (grind (arith, nat_tests))) h
-
-ejects : (s : State) (o : Option Node) → Ascending 0 s.core.nodes → Stands s → Stands (ev.eject_at s o).state
-ejects s None order h = h
-ejects s (Some node) order h = ejects_below s node _ refl order h
-
--- two devices that are there
-record Pair (s : State) (a b : Node) : Type 0 where
-  owner : node_at a.serial s.core.nodes ≡ Some a
-  member : node_at b.serial s.core.nodes ≡ Some b
-  none : s.operation ≡ None
-  good : Good s.next_serial s.core.nodes s.activities None
-
-relates_up : (s : State) (kind : RelKind) (a b : Node) (x : Bool) → (is_started a.state && is_started b.state) ≡ x → a.serial ≢ b.serial → has (dependents s.core b.serial) a.serial ≡ false → Pair s a b → Stands s → Stands (ev.relate_up s kind a b x).state
-relates_up s kind a b false e apart free p h = h
-relates_up s kind a b true e apart free p h =
-    let r : Relation = record { kind = kind; owner = a.serial; member = b.serial } in
-    let up = is_Started a.state (and_both (is_started a.state) (is_started b.state) e).0 in
-    record {
-      tree = tree_related s.next_serial s.core r a b p.good.serials p.good.below p.owner p.member (ap is_idle up) apart free h.tree;
-      up = h.up;
-      stage = stage_none s.operation _ p.none;
-      due = h.due;
-    }
-
-relates_free : (s : State) (kind : RelKind) (a b : Node) (x : Bool) → has (dependents s.core b.serial) a.serial ≡ x → a.serial ≢ b.serial → Pair s a b → Stands s → Stands (ev.relate_free s kind a b x).state
-relates_free s kind a b true e apart p h = h
-relates_free s kind a b false e apart p h = relates_up s kind a b _ refl apart e p h
-
-relates_new : (s : State) (kind : RelKind) (a b : Node) (x : Bool) → a.serial ≢ b.serial → Pair s a b → Stands s → Stands (ev.relate_new s kind a b x).state
-relates_new s kind a b true apart p h = h
-relates_new s kind a b false apart p h = relates_free s kind a b _ refl apart p h
-
-relates_two : (s : State) (kind : RelKind) (a b : Node) (x : Bool) → (a.serial == b.serial) ≡ x → Pair s a b → Stands s → Stands (ev.relate_two s kind a b x).state
-relates_two s kind a b true e p h = h
-relates_two s kind a b false e p h = relates_new s kind a b _ (grind (arith, nat_tests)) p h
+event_tasks : (s t : State) → CommandEffect s t → MoreTasks s.tasks t.tasks
+event_tasks s t (CommandEffect.same e) = subst (λ (ts : List Task). MoreTasks s.tasks ts) (sym e) (more_same s.tasks)
+event_tasks s t (CommandEffect.lists k e) = subst (λ (ts : List Task). MoreTasks s.tasks ts) (sym e) (more_pushed s.tasks (record { kind = Duty.Listing; serial = k }) (inl refl))
+event_tasks s t (CommandEffect.starts path n found e) = subst (λ (ts : List Task). MoreTasks s.tasks ts) (sym e) (more_pushed s.tasks (record { kind = Duty.Starting; serial = n.serial }) (inr refl))
+event_tasks s t (CommandEffect.begins kind n path found up e) = subst (λ (ts : List Task). MoreTasks s.tasks ts) (sym e) (more_begins s.tasks kind n.serial (grind (arith, nat_tests)))
 
 -- a node that is found by another test is found by its serial
 by_serial : (test : Node → Bool) (lo : ℕ) (nodes : List Node) (n : Node) → Ascending lo nodes → find test nodes ≡ Some n → node_at n.serial nodes ≡ Some n
@@ -273,24 +177,24 @@ by_serial test lo (x ∷ xs) n order h =
     ] in
     by_test (test x) h
 
-relates_idle : (s : State) (kind : RelKind) (a b : Node) (o : Option Operation) → s.operation ≡ o → node_at a.serial s.core.nodes ≡ Some a → node_at b.serial s.core.nodes ≡ Some b → IsGood s → Stands s → Stands (ev.relate_idle s kind a b o).state
-relates_idle s kind a b (Some o) e at there good h = h
-relates_idle s kind a b None e at there good h =
-    relates_two s kind a b _ refl (record { owner = at; member = there; none = e; good = subst (λ (x : Option Operation). Good s.next_serial s.core.nodes s.activities x) e good }) h
-
-relates : (s : State) (kind : RelKind) (owner member : Text) (a b : Option Node) → node_of owner s.core.nodes ≡ a → node_of member s.core.nodes ≡ b → IsGood s → Stands s → Stands (ev.relate_at s kind a b).state
-relates s kind owner member (Some a) (Some b) e f good h =
-    relates_idle s kind a b s.operation refl (by_serial (λ n. same n.path owner) 0 s.core.nodes a good.serials e) (by_serial (λ n. same n.path member) 0 s.core.nodes b good.serials f) good h
-relates s kind owner member (Some a) None e f good h = h
-relates s kind owner member None b e f good h = h
-
-reserves_free : (s : State) (res : Res) (b : Bool) → Ascending 0 s.core.nodes → Stands s → Stands (ev.reserve_free s res b).state
-reserves_free s res true order h = h
-reserves_free s res false order h = outside s _ order refl refl refl refl (more_same s.tasks) h
-
-reserves : (s : State) (res : Res) (o : Option Operation) → Ascending 0 s.core.nodes → Stands s → Stands (ev.reserve_idle s res o).state
-reserves s res (Some o) order h = h
-reserves s res None order h = reserves_free s res _ order h
+-- two devices are related
+related_stands : (s : State) (r : Relation) → Related s r → IsGood s → Stands s → Stands (with_core (ev.add_relation r s.core) s)
+related_stands s r rel good h =
+    let up = is_Started rel.owner.state rel.owner_up in
+    let owner = by_serial (λ n. same n.path rel.owner_path) 0 s.core.nodes rel.owner good.serials rel.owner_at in
+    let member = by_serial (λ n. same n.path rel.member_path) 0 s.core.nodes rel.member good.serials rel.member_at in
+    let apart : rel.owner.serial ≢ rel.member.serial = differ rel.owner.serial rel.member.serial rel.apart in
+    let free = subst (λ (i : ℕ). has (dependents s.core i) r.owner ≡ false) (sym rel.member_is) (subst (λ (i : ℕ). has (dependents s.core rel.member.serial) i ≡ false) (sym rel.owner_is) rel.free) in
+    record {
+      tree = tree_related s.next_serial s.core r rel.owner rel.member good.serials good.below (subst (λ (i : ℕ). node_at i s.core.nodes ≡ Some rel.owner) (sym rel.owner_is) owner)
+          (subst (λ (i : ℕ). node_at i s.core.nodes ≡ Some rel.member) (sym rel.member_is) member) (ap is_idle up) (λ e. apart (sym rel.owner_is ∙ e ∙ rel.member_is)) free h.tree;
+      up = h.up;
+      stage = stage_none s.operation _ rel.none;
+      due = h.due;
+    }
+  where
+    differ : (j k : ℕ) → (j == k) ≡ false → j ≢ k
+    differ j k e = grind (arith, nat_tests)
 
 -- complete
 
@@ -345,16 +249,8 @@ completed_waiting answer (Operation.Rebalancing r) = completed_waits answer r r.
 completed_waiting answer (Operation.Removing o) = refl
 completed_waiting answer (Operation.Surprising o) = refl
 
-completes_activity : (s : State) (node : Node) (minor : Minor) (ok : Bool) (a : Activity) (b : Bool) → Ascending 0 s.core.nodes → Stands s → Stands (ev.complete_activity s node minor ok a b).state
-completes_activity s node minor ok a false order h = h
-completes_activity s node minor ok a true order h = outside s _ order refl refl refl refl (more_same s.tasks) h
-
-completes_active : (s : State) (node : Node) (minor : Minor) (ok : Bool) (o : Option Activity) → Ascending 0 s.core.nodes → Stands s → Stands (ev.complete_active s node minor ok o).state
-completes_active s node minor ok None order h = h
-completes_active s node minor ok (Some a) order h = completes_activity s node minor ok a _ order h
-
-completes_operation : (s : State) (node : Node) (minor : Minor) (ok : Bool) (o : Operation) (b : Bool) → s.operation ≡ Some o → Ascending 0 s.core.nodes → Stands s → Stands (ev.complete_operation s node minor ok o b).state
-completes_operation s node minor ok o true e order h =
+answered_stands : (s : State) (ok : Bool) (o : Operation) → s.operation ≡ Some o → Stands s → Stands (set_operation (Some (ev.completed (ev.answer_of ok) o)) s)
+answered_stands s ok o e h =
     record {
       tree = h.tree;
       up = h.up;
@@ -363,24 +259,30 @@ completes_operation s node minor ok o true e order h =
           subst (λ (ks : List ℕ). DueBut ks s.tasks s.core.nodes) (sym (completed_waiting (ev.answer_of ok) o))
           (subst (λ (x : Option Operation). DueBut (waiting x) s.tasks s.core.nodes) e h.due);
     }
-completes_operation s node minor ok o false e order h = completes_active s node minor ok (activity_at node.serial s.activities) order h
 
-completes_node : (s : State) (node : Node) (minor : Minor) (ok : Bool) (o : Option Operation) → s.operation ≡ o → Ascending 0 s.core.nodes → Stands s → Stands (ev.complete_node s node minor ok o).state
-completes_node s node minor ok (Some o) e order h = completes_operation s node minor ok o (ev.operation_waits minor node.serial o) e order h
-completes_node s node minor ok None e order h = completes_active s node minor ok (activity_at node.serial s.activities) order h
+-- in an event relations stay, or one is added
+event_relations : (s : State) (label : Label) (t : State) → IsWord label → NodeEffect s label t → (t.core.relations ≡ s.core.relations) ⊎ ((r : Relation) × Related s r × (t.core.relations ≡ s.core.relations ++ r ∷ []))
+event_relations s label t word (NodeEffect.same nodes e) = inl e
+event_relations s label t word (NodeEffect.changed j f alters nodes e) = inl e
+event_relations s label t word (NodeEffect.stripped node w at request ends prints nodes e) = absurd (subst (λ (x : Label). IsWord x) prints word)
+event_relations s label t word (NodeEffect.commits r runs is nodes e) = inl e
+event_relations s label t word (NodeEffect.joins node d none at up there is) = inl (ap (λ (x : Step). x.state.core.relations) is)
+event_relations s label t word (NodeEffect.left node o runs first nodes e) = inl e
+event_relations s label t word (NodeEffect.related r rel nodes e) = inr (r, rel, e)
 
-completes : (s : State) (minor : Minor) (ok : Bool) (o : Option Node) → Ascending 0 s.core.nodes → Stands s → Stands (ev.complete_at s minor ok o).state
-completes s minor ok None order h = h
-completes s minor ok (Some node) order h = completes_node s node minor ok s.operation refl order h
+stands_still : (s t : State) → IsGood s → t.core.nodes ≡ s.core.nodes → t.next_serial ≡ s.next_serial → t.operation ≡ s.operation → MoreTasks s.tasks t.tasks
+    → (t.core.relations ≡ s.core.relations) ⊎ ((r : Relation) × Related s r × (t.core.relations ≡ s.core.relations ++ r ∷ [])) → Stands s → Stands t
+stands_still s t good nodes serial now tasks (inl e) h = outside s t good.serials nodes e serial now tasks h
+stands_still s t good nodes serial now tasks (inr (r, rel, e)) h = outside (with_core (ev.add_relation r s.core) s) t good.serials nodes e serial now tasks (related_stands s r rel good h)
+
+stands_event : (s : State) (label : Label) (t : State) → IsGood s → t.next_serial ≡ s.next_serial → NodeEffect s label t → CommandEffect s t → AnswerEffect s label t → Stands s → Stands t
+stands_event s label t good serial nodes tasks (AnswerEffect.stays word same acts now) h = stands_still s t good same serial now (event_tasks s t tasks) (event_relations s label t word nodes) h
+stands_event s label t good serial nodes tasks (AnswerEffect.answers word same k a ok at acts now) h = stands_still s t good same serial now (event_tasks s t tasks) (event_relations s label t word nodes) h
+stands_event s label t good serial nodes tasks (AnswerEffect.answered word same acts ok o runs now) h =
+    outside (set_operation (Some (ev.completed (ev.answer_of ok) o)) s) t good.serials same (relations_stay s label t o word runs nodes) serial now (event_tasks s t tasks) (answered_stands s ok o runs h)
 
 pub stands_happens : (s : State) (event : Event) → IsGood s → Stands s → Stands (ev.happens s event).state
-stands_happens s (Event.Plug parent path hw compat reqs) good h = plugs s path hw compat reqs (device_of parent s.world) good.serials h
-stands_happens s (Event.Pull path) good h = pulls s (device_of path s.world) good.serials h
-stands_happens s (Event.Name name kind) good h = names s name kind (find (is_named name) s.core.rack) good.serials h
-stands_happens s (Event.Teach name rule) good h = teaches s name rule (find (is_named name) s.core.rack) good.serials h
-stands_happens s (Event.Disable path) good h = disables s path (node_of path s.core.nodes) good.serials h
-stands_happens s (Event.Enable path) good h = enables s path (find (same path) s.disabled) good.serials h
-stands_happens s (Event.Eject path) good h = ejects s (node_of path s.core.nodes) good.serials h
-stands_happens s (Event.Relate kind owner member) good h = relates s kind owner member (node_of owner s.core.nodes) (node_of member s.core.nodes) refl refl good h
-stands_happens s (Event.Reserve res) good h = reserves s res s.operation good.serials h
-stands_happens s (Event.Complete path minor ok) good h = completes s minor ok (node_of path s.core.nodes) good.serials h
+stands_happens s event good h =
+    let effect = event_effect s event in
+    let step = ev.happens s event in
+    stands_event s step.label step.state good (still_serial s.next_serial step.state.next_serial step.label (happens_outside s event).word effect.serial) effect.nodes effect.tasks effect.operation h

@@ -26,7 +26,7 @@ use Rattle.pnp_laws.proofs.Lists.{HeadIs, head_found, head_has, rest_has}
 use Rattle.pnp_laws.proofs.Finishing.{head_stripped, head_bare, strips, relist_only}
 use Rattle.pnp_laws.proofs.RemovalSteps.{head_querying, head_refusing, head_restoring, not_root}
 use Rattle.pnp_laws.proofs.SurpriseSteps.{head_told, told_or, last_alone}
-use Rattle.pnp_laws.proofs.SharingRemovals.{relist_core}
+use Rattle.pnp_laws.proofs.Finishing.{relist_core}
 use Rattle.pnp_laws.proofs.Standing.{IsNoLeave, DueBut, waiting, StageKept, RemovalOrder, RemovalThere, SurpriseOrder, SurpriseThere, Stands, Sound, Finishes, AllThere, TargetLeft}
 use Rattle.pnp_laws.proofs.Theres.{goes_on, fewer_there, rest_there, same_there, same_goes, strip_goes, left_there}
 use Rattle.pnp_laws.proofs.Finishes.{fades_same, finishes_all, finishes_still, finishes_strip, finishes_stays, finishes_left}

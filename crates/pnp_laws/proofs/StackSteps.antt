@@ -35,7 +35,7 @@ use Rattle.pnp_laws.proofs.Finishing.{relist_only}
 use Rattle.pnp_laws.proofs.Lists.{head_found}
 use Rattle.pnp_laws.proofs.Lookups.{found_self, own_serial, ready_found}
 use Rattle.pnp_laws.proofs.SoundTasks.{find_passes}
-use Rattle.pnp_laws.proofs.SharingRemovals.{relist_core}
+use Rattle.pnp_laws.proofs.Finishing.{relist_core}
 use Rattle.pnp_laws.proofs.StackMoves.{SameNames, names_after, named_append, numbered_named, found_named, place_below, KeepsStack, Adds, Ended, NodeMove, IsBeyond, AddMove, AsksFit, IsUnasked, unasked_fits, Moves}
 use Rattle.pnp_laws.proofs.Truths.{and_both}
 use Rattle.pnp_model.specs.Machine as ma

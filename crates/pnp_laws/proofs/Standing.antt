@@ -7,8 +7,8 @@ use Rattle.pnp_model.specs.Trees.{hangs_on}
 use Rattle.pnp_model.specs.Diagram.{Walked}
 use Rattle.pnp_model.specs.Laws.{DependentsFirst}
 use Rattle.pnp_labels.specs.declared.label.Label.{Label}
-use Rattle.pnp_laws.specs.Ends.{IsNoJoin}
 use Rattle.pnp_labels.specs.declared.states.DevState.TheVariants.{NoStack, Stopped}
+use Rattle.pnp_laws.specs.Words.{IsNoJoin}
 use Rattle.pnp_laws.specs.Kept.{is_idle}
 use Rattle.pnp_laws.specs.Due.{is_due}
 use Rattle.pnp_laws.proofs.Closures.{Closed}

@@ -19,7 +19,7 @@ use Rattle.pnp_labels.specs.declared.event.Event.{Event}
 use Rattle.pnp_laws.proofs.Vetoes.{IsOn, since_step}
 use Rattle.pnp_laws.proofs.EventChanges.{Answered, happens_outside}
 use Rattle.pnp_laws.proofs.Finishing.{relist_only}
-use Rattle.pnp_laws.proofs.SharingRemovals.{relist_core}
+use Rattle.pnp_laws.proofs.Finishing.{relist_core}
 use Rattle.pnp_model.specs.Removals as rm
 use Rattle.pnp_model.specs.Events as ev
 

@@ -4,13 +4,8 @@ use Rattle.pnp_model.specs.Records.{Driver, Task, State, Settings, Duty}
 use Rattle.pnp_model.specs.Laws.{Reaches}
 use Rattle.pnp_model.specs.Runs.{Entry, Run, printed}
 use Rattle.pnp_model.specs.Runs.Entry.{Happens, Did}
-use Rattle.pnp_labels.specs.declared.label.Label.{Label}
 use Rattle.pnp_laws.specs.Quiet.{Rests}
-
--- no device joins
-abbrev pub IsNoJoin : Label → Type 0
-IsNoJoin (Label.Join k path) = ⊥
-IsNoJoin _ = Unit {0}
+use Rattle.pnp_laws.specs.Words.{joined}
 
 -- steps alone, and no event
 abbrev pub AllSteps : List Entry → Type 0
@@ -38,10 +33,6 @@ abbrev pub events : List Entry → ℕ
 events [] = 0
 events (Happens event label ∷ rest) = 1 + events rest
 events (Did label ∷ rest) = events rest
-
-abbrev pub joined : Label → ℕ
-joined (Label.Join k path) = 1
-joined _ = 0
 
 -- how many nodes joined
 abbrev pub joins : List Entry → ℕ

@@ -1,4 +1,5 @@
 pub mod Kept
+pub mod Words
 pub mod Plans
 pub mod RunsWell
 pub mod Vetoes
@@ -11,6 +12,7 @@ pub mod Quiet
 pub mod Ends
 pub mod StepsLeft
 pub mod Serials
+pub mod Effects
 pub mod Keys
 pub mod Stacks
 pub mod Told

@@ -1,29 +1,33 @@
--- What is kept of a plan that was found, and of resources.
-use Rattle.std.specs.Prelude.{◌≡◌, List, Option, Some, None, length}
-use Rattle.resource_reqs.specs.Resources.{Reqs, IsAssignment}
-use Rattle.pnp_model.specs.Frames.{fixed_beside}
-use Rattle.pnp_model.specs.Rebalances.{movers, plan_of}
-use Rattle.pnp_model.specs.Records.{Core, State, Operation, Rebalance, RebalanceStage}
-use Rattle.pnp_model.specs.Sharing.{Clear}
-use Rattle.pnp_laws.specs.Kept.{Serials}
+-- What is kept of a plan that was found: it fits until it is used, and then the device of the rebalance holds its part.
+use Rattle.std.specs.Prelude.{◌≡◌, ◌++◌, true, false, List, Option, Some, None, map}
+use Rattle.resource_reqs.specs.Resources.{Res, IsAssignment}
+use Rattle.pnp_model.specs.Cores.{node_at}
+use Rattle.pnp_model.specs.Frames.{held_by, is_beside}
+use Rattle.pnp_model.specs.Keyed.{those}
+use Rattle.pnp_model.specs.Rebalances.{movers, plan_of, reqs_of}
+use Rattle.pnp_model.specs.Records.{Node, State, Operation, Rebalance, RebalanceStage}
+use Rattle.pnp_laws.specs.Holdings.{has_plan, WholeAt}
 
--- the found plan is an assignment, until it is used
-abbrev pub HasPlan : Rebalance → Core → Type 0
-HasPlan r c =
-    (reqs : List Reqs) × IsAssignment (fixed_beside c (movers r)) reqs (plan_of r.found) × (length reqs ≡ length (movers r))
+-- the found plan is an assignment for those that move, beside what is reserved and what all others hold
+abbrev pub PlanFits : Rebalance → List Res → List Node → Type 0
+PlanFits r reserved nodes =
+    IsAssignment (reserved ++ held_by (those (is_beside (movers r)) nodes)) (map (λ k. reqs_of (node_at k nodes)) (movers r)) (plan_of r.found)
 
-abbrev pub PlanKept : Rebalance → RebalanceStage → Core → Type 0
-PlanKept r (RebalanceStage.Stopping w) c = HasPlan r c
-PlanKept r RebalanceStage.Committing c = HasPlan r c
-PlanKept r _ c = Unit {0}
+abbrev pub StagePlan : Rebalance → RebalanceStage → List Res → List Node → Type 0
+StagePlan r (RebalanceStage.Cancelling w) reserved nodes = has_plan r.found ≡ false
+StagePlan r RebalanceStage.Stuck reserved nodes = has_plan r.found ≡ false
+StagePlan r (RebalanceStage.Stopping w) reserved nodes = PlanFits r reserved nodes
+StagePlan r RebalanceStage.Committing reserved nodes = PlanFits r reserved nodes
+StagePlan r (RebalanceStage.Restarting w) reserved nodes = WholeAt r.target nodes
+StagePlan r RebalanceStage.Failed reserved nodes = WholeAt r.target nodes
+StagePlan r RebalanceStage.Ending reserved nodes = has_plan r.found ≡ true → WholeAt r.target nodes
+StagePlan r _ reserved nodes = Unit {0}
 
-abbrev pub OperationPlans : Option Operation → Core → Type 0
-OperationPlans None c = Unit {0}
-OperationPlans (Some (Operation.Rebalancing r)) c = PlanKept r r.stage c
-OperationPlans (Some (Operation.Removing o)) c = Unit {0}
-OperationPlans (Some (Operation.Surprising o)) c = Unit {0}
+abbrev pub PlanKept : Option Operation → List Res → List Node → Type 0
+PlanKept None reserved nodes = Unit {0}
+PlanKept (Some (Operation.Rebalancing r)) reserved nodes = StagePlan r r.stage reserved nodes
+PlanKept (Some (Operation.Removing o)) reserved nodes = Unit {0}
+PlanKept (Some (Operation.Surprising o)) reserved nodes = Unit {0}
 
-pub record IsShared (s : State) : Type 0 where
-  pub serials : Serials s.next_serial s.core.nodes
-  pub clear : Clear s.core.reserved s.core.nodes
-  pub plans : OperationPlans s.operation s.core
+abbrev pub IsPlanned : State → Type 0
+IsPlanned s = PlanKept s.operation s.core.reserved s.core.nodes

@@ -1,6 +1,7 @@
 //! What holds of every run of the device machine, for every rack of drivers and whatever happens.
 
 ghost use Rattle.pnp_laws.specs.Begun.{BegunLaw, EachConflictLaw, EachEndLaw};
+ghost use Rattle.pnp_laws.specs.Effects.{EffectLaw};
 ghost use Rattle.pnp_laws.specs.Ends.{SettlesLaw, JoinsLaw, FewJoinLaw};
 ghost use Rattle.pnp_laws.specs.Keys.{KeysLaw, MapLaw, NoCycleLaw};
 ghost use Rattle.pnp_laws.specs.Quiet.{QuietLaw, StepLaw};
@@ -131,6 +132,12 @@ pub fn few_serials()
 #[tactic(auto, using(crate::proofs::RunsSerials::few_births))]
 pub fn few_births()
     ensures { FewBirthsLaw }
+{}
+
+/// Each step and each event has an effect: what it does to nodes, relations, ranges, operation, activities, tasks,
+/// world and disabled paths, with the evidence that the other laws read.
+pub fn each_step_has_an_effect()
+    ensures { EffectLaw }
 {}
 
 /// In each state of each run serials ascend, a birth number names one node, a path names one up to ASCII case, and each

@@ -34,16 +34,18 @@ use Rattle.pnp_model.specs.Tasks.{begin_step, disable_task, install_best, list_s
 use Rattle.pnp_model.specs.Tests.{has, has_same, is_eject}
 use Rattle.pnp_model.specs.Trees.{leaving}
 use Rattle.pnp_model.specs.Walks.{is_bad}
-use Rattle.pnp_laws.specs.Begun.{is_removal}
-use Rattle.pnp_laws.specs.Kept.{Ascending, Distinct, OperationFits}
+use Rattle.pnp_laws.specs.Words.{IsWord, is_removal}
+use Rattle.pnp_laws.specs.Effects.{BeginsFor, OpEffect, PathEffect, begun}
+use Rattle.pnp_laws.specs.Kept.{Ascending, Distinct, IsGood, OperationFits}
 use Rattle.pnp_laws.specs.Reached.{IsReached}
-use Rattle.pnp_laws.proofs.BeginSteps.{course_goes, reached_dues}
-use Rattle.pnp_laws.proofs.Courses.{Way}
+use Rattle.pnp_laws.proofs.EffectsOf.{effect_goes}
+use Rattle.pnp_laws.proofs.EffectsOfEvents.{event_effect}
 use Rattle.pnp_laws.proofs.EventChanges.{Answered, happens_outside}
 use Rattle.pnp_laws.proofs.Finishing.{relist_only}
 use Rattle.pnp_laws.proofs.Lists.{HeadIs, head_found, head_has, rest_not, rest_within}
 use Rattle.pnp_laws.proofs.Lookups.{found_self, left_from, node_from, some_same}
 use Rattle.pnp_laws.proofs.Reached.{reached_is_good}
+use Rattle.pnp_laws.proofs.Passing.{AllNext, all_step}
 use Rattle.pnp_laws.proofs.Reaching.{kept}
 use Rattle.pnp_model.specs.Events as ev
 
@@ -73,14 +75,8 @@ FreshWhile (Some (Operation.Surprising o)) nodes disabled = Unit {0}
 abbrev pub IsTargetFresh : State → Type 0
 IsTargetFresh s = FreshWhile s.operation s.core.nodes s.disabled
 
--- by the answer that a search has
-abbrev FreshBy : Doing Step → Type 0
-FreshBy (Does step) = IsTargetFresh step.state
-FreshBy (Searches problem by_answer) = (found : Found) → IsTargetFresh (by_answer found).state
-
-abbrev FreshNext : Option (Doing Step) → Type 0
-FreshNext None = Unit {0}
-FreshNext (Some doing) = FreshBy doing
+abbrev FreshNext : ℕ → Option (Doing Step) → Type 0
+FreshNext budget doing = AllNext (λ x. IsTargetFresh x.state) budget doing
 
 -- What keeps it -----------------------------------------------------------------------
 
@@ -192,24 +188,24 @@ module _ (s : State) (o : Removal) where
           relist_fresh node.path node.born (set_operation (Some (Operation.Removing m.frame)) (with_core m.core s)) leaves_fresh
       settles false = settles_outer _ refl
 
-  removal_fresh : (stage : RemovalStage) (n : Option Node) → first_node s.core.nodes o.todo ≡ n → Ascending 0 s.core.nodes → Distinct o.todo
-      → (is_eject o.kind ≡ false → FreshIn o stage s.core.nodes s.disabled) → FreshNext (option_map (λ m. Does (removal_lifted s m)) (removal_step s.core o stage n))
-  removal_fresh RemovalStage.Ending n first order distinct h = tt
-  removal_fresh (RemovalStage.Asking w) (Some node) first order distinct h = queries node w _ h
-  removal_fresh (RemovalStage.TakingBack w) (Some node) first order distinct h = takes_back node w _
-  removal_fresh (RemovalStage.Cancelling w) (Some node) first order distinct h = cancels_query node w _
-  removal_fresh (RemovalStage.Removing w) (Some node) first order distinct h = removes h node w _
-  removal_fresh RemovalStage.Settling (Some node) first order distinct h =
+  removal_fresh : (budget : ℕ) (stage : RemovalStage) (n : Option Node) → first_node s.core.nodes o.todo ≡ n → Ascending 0 s.core.nodes → Distinct o.todo
+      → (is_eject o.kind ≡ false → FreshIn o stage s.core.nodes s.disabled) → FreshNext budget (option_map (λ m. Does (removal_lifted s m)) (removal_step s.core o stage n))
+  removal_fresh budget RemovalStage.Ending n first order distinct h = tt
+  removal_fresh budget (RemovalStage.Asking w) (Some node) first order distinct h = queries node w _ h
+  removal_fresh budget (RemovalStage.TakingBack w) (Some node) first order distinct h = takes_back node w _
+  removal_fresh budget (RemovalStage.Cancelling w) (Some node) first order distinct h = cancels_query node w _
+  removal_fresh budget (RemovalStage.Removing w) (Some node) first order distinct h = removes h node w _
+  removal_fresh budget RemovalStage.Settling (Some node) first order distinct h =
       settles h order distinct node (head_found s.core.nodes o.todo node first).0 (has o.set node.parent)
-  removal_fresh (RemovalStage.Asking w) None first order distinct h = tt
-  removal_fresh (RemovalStage.TakingBack w) None first order distinct h = tt
-  removal_fresh (RemovalStage.Cancelling w) None first order distinct h = tt
-  removal_fresh (RemovalStage.Removing w) None first order distinct h = tt
-  removal_fresh RemovalStage.Settling None first order distinct h = tt
+  removal_fresh budget (RemovalStage.Asking w) None first order distinct h = tt
+  removal_fresh budget (RemovalStage.TakingBack w) None first order distinct h = tt
+  removal_fresh budget (RemovalStage.Cancelling w) None first order distinct h = tt
+  removal_fresh budget (RemovalStage.Removing w) None first order distinct h = tt
+  removal_fresh budget RemovalStage.Settling None first order distinct h = tt
 
-  removing_fresh : (waits : Bool) → Ascending 0 s.core.nodes → Distinct o.todo → FreshFor o s.core.nodes s.disabled → FreshNext (operation_next s (Operation.Removing o) waits)
-  removing_fresh true order distinct h = tt
-  removing_fresh false order distinct h = removal_fresh o.stage (first_node s.core.nodes o.todo) refl order distinct h
+  removing_fresh : (budget : ℕ) (waits : Bool) → Ascending 0 s.core.nodes → Distinct o.todo → FreshFor o s.core.nodes s.disabled → FreshNext budget (operation_next s (Operation.Removing o) waits)
+  removing_fresh budget true order distinct h = tt
+  removing_fresh budget false order distinct h = removal_fresh budget o.stage (first_node s.core.nodes o.todo) refl order distinct h
 
 -- A step where no operation runs ----------------------------------------------------------------
 
@@ -219,103 +215,41 @@ begun_fresh c disabled kind node set h =
     asks c.nodes c.nodes disabled
     (record { kind = kind; target = node.serial; path = node.path; set = set; ejecting = ejecting c set; todo = []; agreed = []; refuser = None; stage = RemovalStage.Ending }) _ h
 
-module _ (s : State) (none : s.operation ≡ None) where
-  idles : (t : State) → t.operation ≡ s.operation → IsTargetFresh t
-  idles t e = subst (λ (x : Option Operation). FreshWhile x t.core.nodes t.disabled) (sym (e ∙ none)) tt
-
-  goes_on : (k : ℕ) (phase : Phase) (beside : StartBeside) (t : State) → (after_start k phase beside t).operation ≡ t.operation
-  goes_on k phase StartBeside.On t = refl
-  goes_on k phase StartBeside.Needs t = refl
-  goes_on k phase StartBeside.Up t = refl
-  goes_on k phase StartBeside.Over t = refl
-
-  does : (k : ℕ) (m : StartMove) → IsTargetFresh (start_lifted s k m).state
-  does k m = idles (start_lifted s k m).state (goes_on k m.frame m.beside (with_core m.core s))
-
-  acts : (k : ℕ) (doing : Doing StartMove) → FreshBy (doing_map (start_lifted s k) doing)
-  acts k (Does m) = does k m
-  acts k (Searches problem by_answer) = λ found. does k (by_answer found)
-
-  activity_fresh : (a : Activity) (o : Option Node) → FreshNext (activity_next s a o)
-  activity_fresh a None = tt
-  activity_fresh a (Some node) = acts node.serial (act s.core node a.phase)
-
-  -- to list and to start devices leaves the operation as it is
-  lists : (k : ℕ) (o : Option Node) → (list_step s k o).state.operation ≡ s.operation
-  lists k o = grind arith
-
-  installs_best : (node : Node) (o : Option Choice) → (install_best s node o).state.operation ≡ s.operation
-  installs_best node o = grind arith
-
-  starts : (settings : Settings) (k : ℕ) (o : Option Node) → (start_step settings s k o).state.operation ≡ s.operation
-  starts settings k o = grind (arith, installs_best)
-
-  rebalances_idle : (node : Node) (o : Option Activity) → IsTargetFresh (rebalance_idle s node o).state
-  rebalances_idle node (Some a) = idles (drop_task s) refl
-  rebalances_idle node None = tt
-
-  rebalances : (node : Node) (x : DevState) → IsTargetFresh (rebalance_task s node x).state
-  rebalances node NotStarted = rebalances_idle node (activity_at node.serial s.activities)
-  rebalances node NoStack = idles (drop_task s) refl
-  rebalances node Started = idles (drop_task s) refl
-  rebalances node StopPending = idles (drop_task s) refl
-  rebalances node Stopped = idles (drop_task s) refl
-  rebalances node RemovePending = idles (drop_task s) refl
-  rebalances node SurpriseRemoved = idles (drop_task s) refl
-
-  -- a disable begins where the path is not disabled
-  disables : (node : Node) → node_at node.serial s.core.nodes ≡ Some node → (disabled : Bool) → has_same node.path s.disabled ≡ disabled → IsTargetFresh (disable_task s node disabled).state
-  disables node at true is = idles (drop_task s) refl
-  disables node at false is =
-      begun_fresh s.core s.disabled OpKind.Disable node (leaving s.core node.serial)
-      (λ e m there. ap (λ (x : Node). has_same x.path s.disabled) (some_same (node_at node.serial s.core.nodes) m node there at) ∙ is)
-
-  begins : (kind : OpKind) (k : ℕ) (o : Option Node) → node_at k s.core.nodes ≡ o → IsTargetFresh (begin_step s kind k o).state
-  begins kind k None at = idles (drop_task s) refl
-  begins OpKind.Rebalance k (Some node) at = rebalances node node.state
-  begins OpKind.Disable k (Some node) at = disables node (found_self k s.core.nodes node at) _ refl
-  begins OpKind.Eject k (Some node) at = begun_fresh s.core s.disabled OpKind.Eject node (leaving s.core node.serial) (λ e. absurd (cc))
-  begins OpKind.Surprise k (Some node) at = tt
-
-  begins_alone : (kind : OpKind) (k : ℕ) (activities : List Activity) → FreshNext (begin_alone s kind k activities)
-  begins_alone kind k [] = begins kind k (node_at k s.core.nodes) refl
-  begins_alone kind k (a ∷ activities) = tt
-
-  does_task : (settings : Settings) (kind : Duty) (k : ℕ) → FreshNext (task_of settings s kind k)
-  does_task settings Duty.Listing k = let o = node_at k s.core.nodes in idles (list_step s k o).state (lists k o)
-  does_task settings Duty.Starting k = let o = node_at k s.core.nodes in idles (start_step settings s k o).state (starts settings k o)
-  does_task settings (Duty.Begins kind) k = begins_alone kind k s.activities
-
-  task_fresh : (settings : Settings) (o : Option Task) → FreshNext (task_next settings s o)
-  task_fresh settings None = tt
-  task_fresh settings (Some task) = does_task settings task.kind task.serial
-
-  idle_fresh : (settings : Settings) (o : Option Activity) → FreshNext (idle_next settings s o)
-  idle_fresh settings (Some a) = activity_fresh a (node_at a.serial s.core.nodes)
-  idle_fresh settings None = task_fresh settings (slice_get s.tasks 0)
+-- a disable begins where the path is not disabled
+begins_fresh : (s : State) (kind : OpKind) (node : Node) → node_at node.serial s.core.nodes ≡ Some node → BeginsFor s kind node → FreshWhile (Some (begun s.core kind node)) s.core.nodes s.disabled
+begins_fresh s OpKind.Rebalance node at fits = tt
+begins_fresh s OpKind.Disable node at fits =
+    begun_fresh s.core s.disabled OpKind.Disable node (leaving s.core node.serial)
+    (λ e m there. ap (λ (x : Node). has_same x.path s.disabled) (some_same (node_at node.serial s.core.nodes) m node there at) ∙ fits)
+begins_fresh s OpKind.Eject node at fits = begun_fresh s.core s.disabled OpKind.Eject node (leaving s.core node.serial) (λ e. absurd (cc))
+begins_fresh s OpKind.Surprise node at fits = tt
 
 -- Each step ----------------------------------------------------------------------------------------
 
-step_fresh : (settings : Settings) (x : Option (Doing Step)) (step : Step) → FreshNext x → IsStep settings x step → IsTargetFresh step.state
-step_fresh settings None step h is = absurd is
-step_fresh settings (Some (Does one)) step h is = subst (λ (x : Step). IsTargetFresh x.state) (sym is) h
-step_fresh settings (Some (Searches problem by_answer)) step h is = subst (λ (x : Step). IsTargetFresh x.state) (sym is.2) (h is.0)
-
 -- an operation that is no removal becomes none
-other_fresh : (s : State) (step : Step) (o : Operation) → s.operation ≡ Some o → is_removal o ≡ false → Way s step → IsTargetFresh step.state
-other_fresh s step o runs other way =
-    elim way [
-      | Way.idles none after beside ↦ absurd (cc)
-      | Way.begins kind node none at is ↦ absurd (cc)
-      | Way.goes q p own after work beside ↦ subst (λ (x : Option Operation). FreshWhile x step.state.core.nodes step.state.disabled) (sym after)
-          (by_sort p (work.sort ∙ ap is_removal (some_same s.operation q o own runs) ∙ other))
-      | Way.ends q result own after label by ↦ subst (λ (x : Option Operation). FreshWhile x step.state.core.nodes step.state.disabled) (sym after) tt
-    ]
+other_fresh : (t : State) (p : Operation) → t.operation ≡ Some p → is_removal p ≡ false → IsTargetFresh t
+other_fresh t p now sort = subst (λ (x : Option Operation). FreshWhile x t.core.nodes t.disabled) (sym now) (by_sort p sort)
   where
-    by_sort : (p : Operation) → is_removal p ≡ false → FreshWhile (Some p) step.state.core.nodes step.state.disabled
+    by_sort : (q : Operation) → is_removal q ≡ false → FreshWhile (Some q) t.core.nodes t.disabled
     by_sort (Operation.Rebalancing r) e = tt
     by_sort (Operation.Removing q) e = absurd (cc)
     by_sort (Operation.Surprising q) e = tt
+
+none_fresh : (t : State) → t.operation ≡ None → IsTargetFresh t
+none_fresh t now = subst (λ (x : Option Operation). FreshWhile x t.core.nodes t.disabled) (sym now) tt
+
+step_fresh : (settings : Settings) (s : State) (label : Label) (t : State) → IsGood s → OpEffect s label t → Goes settings s (Did label) t → IsTargetFresh s → IsTargetFresh t
+step_fresh settings s label t good (OpEffect.idles none now prints) goes h = none_fresh t now
+step_fresh settings s label t good (OpEffect.begins kind node none alone at fits is) goes h = subst (λ (x : Step). IsTargetFresh x.state) (sym is) (begins_fresh s kind node at fits)
+step_fresh settings s label t good (OpEffect.goes (Operation.Rebalancing r) p runs now work prints) goes h = other_fresh t p now work.sort
+step_fresh settings s label t good (OpEffect.goes (Operation.Surprising o) p runs now work prints) goes h = other_fresh t p now work.sort
+step_fresh settings s label t good (OpEffect.goes (Operation.Removing o) p runs now work prints) goes h =
+    let keeps = subst (λ (x : Option Operation). OperationFits x s.core.nodes) runs good.fits in
+    let fresh = subst (λ (x : Option Operation). FreshWhile x s.core.nodes s.disabled) runs h in
+    all_step (λ x. IsTargetFresh x.state) settings (next settings s) (record { label = label; state = t })
+    (subst (λ (x : Option Operation). FreshNext settings.budget (next_of settings s x)) (sym runs)
+    (removing_fresh s o settings.budget (is_waiting (operation_walk (Operation.Removing o))) good.serials keeps.todo fresh)) goes
+step_fresh settings s label t good (OpEffect.ends o result runs now prints by) goes h = none_fresh t now
 
 -- Events -------------------------------------------------------------------------------------------
 
@@ -330,56 +264,10 @@ fewer_without : (test : Text → Bool) (paths : List Text) → IsFewer paths (wi
 fewer_without test [] p h = h
 fewer_without test (q ∷ qs) p h = grind (arith, fewer_without test qs p)
 
-module _ (s : State) where
-  plugs : (path : Text) (hw compat : List Text) (reqs : Reqs) (o : Option Device) → (ev.plug_below s path hw compat reqs o).state.disabled ≡ s.disabled
-  plugs path hw compat reqs o = grind arith
-
-  pulls : (o : Option Device) → (ev.pull_at s o).state.disabled ≡ s.disabled
-  pulls o = grind arith
-
-  names : (name : Text) (kind : DriverKind) (o : Option Driver) → (ev.name_at s name kind o).state.disabled ≡ s.disabled
-  names name kind o = grind arith
-
-  teaches : (name : Text) (rule : Rule) (o : Option Driver) → (ev.teach_at s name rule o).state.disabled ≡ s.disabled
-  teaches name rule o = grind arith
-
-  disable_asked : (path : Text) (o : Option Node) → (ev.disable_at s path o).state.disabled ≡ s.disabled
-  disable_asked path o = grind arith
-
-  enables : (path : Text) (o : Option Text) → IsFewer s.disabled (ev.enable_at s path o).state.disabled
-  enables path None = fewer_same s.disabled s.disabled refl
-  enables path (Some own) = by_node (node_of path s.core.nodes)
-    where
-      by_node : (o : Option Node) → IsFewer s.disabled (ev.start_node o (enable_path path s)).disabled
-      by_node None = fewer_without (same path) s.disabled
-      by_node (Some n) = fewer_without (same path) s.disabled
-
-  ejects : (o : Option Node) → (ev.eject_at s o).state.disabled ≡ s.disabled
-  ejects o = grind arith
-
-  relates : (kind : RelKind) (a b : Option Node) → (ev.relate_at s kind a b).state.disabled ≡ s.disabled
-  relates kind a b = grind arith
-
-  reserves : (res : Res) (o : Option Operation) → (ev.reserve_idle s res o).state.disabled ≡ s.disabled
-  reserves res o = grind arith
-
-  completes_active : (node : Node) (minor : Minor) (ok : Bool) (o : Option Activity) → (ev.complete_active s node minor ok o).state.disabled ≡ s.disabled
-  completes_active node minor ok o = grind arith
-
-  completes : (minor : Minor) (ok : Bool) (o : Option Node) → (ev.complete_at s minor ok o).state.disabled ≡ s.disabled
-  completes minor ok o = grind (arith, completes_active)
-
-  happens_fewer : (event : Event) → IsFewer s.disabled (ev.happens s event).state.disabled
-  happens_fewer (Event.Plug parent path hw compat reqs) = fewer_same _ _ (plugs path hw compat reqs (device_of parent s.world))
-  happens_fewer (Event.Pull path) = fewer_same _ _ (pulls (device_of path s.world))
-  happens_fewer (Event.Name name kind) = fewer_same _ _ (names name kind (find (is_named name) s.core.rack))
-  happens_fewer (Event.Teach name rule) = fewer_same _ _ (teaches name rule (find (is_named name) s.core.rack))
-  happens_fewer (Event.Disable path) = fewer_same _ _ (disable_asked path (node_of path s.core.nodes))
-  happens_fewer (Event.Enable path) = enables path (find (same path) s.disabled)
-  happens_fewer (Event.Eject path) = fewer_same _ _ (ejects (node_of path s.core.nodes))
-  happens_fewer (Event.Relate kind owner member) = fewer_same _ _ (relates kind (node_of owner s.core.nodes) (node_of member s.core.nodes))
-  happens_fewer (Event.Reserve res) = fewer_same _ _ (reserves res s.operation)
-  happens_fewer (Event.Complete path minor ok) = fewer_same _ _ (completes minor ok (node_of path s.core.nodes))
+fewer_paths : (s : State) (label : Label) (t : State) → IsWord label → PathEffect s label t → IsFewer s.disabled t.disabled
+fewer_paths s label t word (PathEffect.same e) = fewer_same s.disabled t.disabled e
+fewer_paths s label t word (PathEffect.disables o node runs first prints e) = absurd (subst (λ (x : Label). IsWord x) prints word)
+fewer_paths s label t word (PathEffect.enables path e) = subst (IsFewer s.disabled) (sym e) (fewer_without (same path) s.disabled)
 
 fewer_fresh : (nodes : List Node) (old new : List Text) → IsFewer old new → (o : Option Operation) → FreshWhile o nodes old → FreshWhile o nodes new
 fewer_fresh nodes old new fewer None h = tt
@@ -420,32 +308,14 @@ event_fresh s event h =
     let t = (ev.happens s event).state in
     let out = happens_outside s event in
     subst (λ (x : List Node). FreshWhile t.operation x t.disabled) (sym out.nodes)
-    (fewer_fresh s.core.nodes s.disabled t.disabled (happens_fewer s event) t.operation (answered_fresh s.core.nodes s.disabled s.operation t.operation out.operation h))
+    (fewer_fresh s.core.nodes s.disabled t.disabled (fewer_paths s (ev.happens s event).label t out.word (event_effect s event).paths) t.operation (answered_fresh s.core.nodes s.disabled s.operation t.operation out.operation h))
 
 -- Runs -----------------------------------------------------------------------------------------------
 
 goes_fresh : (settings : Settings) (rack : List Driver) (old : State) (entry : Entry) (new : State) → IsReached settings rack old → IsTargetFresh old → Goes settings old entry new → IsTargetFresh new
 goes_fresh settings rack old (Happens event label) new reached h goes = subst (λ (x : Step). IsTargetFresh x.state) goes.1 (event_fresh old event h)
-goes_fresh settings rack old (Did label) new reached h goes = by_operation old.operation refl
-  where
-    step : Step
-    step = record { label = label; state = new }
-
-    follows : (o : Option Operation) → old.operation ≡ o → FreshNext (next_of settings old o) → IsTargetFresh new
-    follows o runs fresh = step_fresh settings (next settings old) step (subst (λ (x : Option Operation). FreshNext (next_of settings old x)) (sym runs) fresh) goes
-
-    other : (o : Operation) → old.operation ≡ Some o → is_removal o ≡ false → IsTargetFresh new
-    other o runs sort = other_fresh old step o runs sort (course_goes settings old (Did label) new (reached_dues settings rack old reached) goes).way
-
-    by_operation : (o : Option Operation) → old.operation ≡ o → IsTargetFresh new
-    by_operation None none = follows None none (idle_fresh old none settings (find is_ready old.activities))
-    by_operation (Some (Operation.Rebalancing r)) runs = other (Operation.Rebalancing r) runs refl
-    by_operation (Some (Operation.Surprising o)) runs = other (Operation.Surprising o) runs refl
-    by_operation (Some (Operation.Removing o)) runs =
-        let good = reached_is_good settings rack old reached in
-        let keeps = subst (λ (x : Option Operation). OperationFits x old.core.nodes) runs good.fits in
-        follows (Some (Operation.Removing o)) runs
-        (removing_fresh old o (is_waiting (operation_walk (Operation.Removing o))) good.serials keeps.todo (subst (λ (x : Option Operation). FreshWhile x old.core.nodes old.disabled) runs h))
+goes_fresh settings rack old (Did label) new reached h goes =
+    step_fresh settings old label new (reached_is_good settings rack old reached) (effect_goes settings old (Did label) new goes).operation goes h
 
 pub target_fresh : (settings : Settings) (rack : List Driver) (entries : List Entry) (s : State) → Reaches settings rack entries s → IsTargetFresh s
 target_fresh settings rack entries s run = kept IsTargetFresh settings rack (goes_fresh settings rack) tt s (entries, run)

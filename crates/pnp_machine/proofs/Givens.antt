@@ -1,6 +1,7 @@
 -- What a state of a run gives to each step.
 use Rattle.std.proofs.Common.{Contains, ℕ, suc, ◌<◌, ◌≡◌, ◌≢◌, inl, inr, true, false, List, [], ◌∷◌, ◌++◌, map, Option, Some, None, IsSome, refl, sym, ap, ◌∙◌, subst, arith, add-one}
 use Rattle.resource_reqs.specs.Resources.{Res, Reqs, Whole}
+use Rattle.pnp_labels.specs.declared.label.Label.{Label}
 use Rattle.pnp_labels.specs.declared.states.DevState.{DevState}
 use Rattle.pnp_labels.specs.declared.states.DevState.TheVariants.{NotStarted}
 use Rattle.pnp_model.specs.Keyed.{changed_first}
@@ -9,14 +10,15 @@ use Rattle.pnp_model.specs.Records.Phase.{Adding, Searching, Starting, Removing,
 use Rattle.pnp_model.specs.Cores.{is_node, node_at, bare, forget, new_node, serials_of}
 use Rattle.pnp_model.specs.Laws.{Reaches, is_up_to_now}
 use Rattle.pnp_model.specs.Machine.{is_waiting, next, next_of, operation_next, operation_walk}
-use Rattle.pnp_model.specs.Rebalances.{committed}
-use Rattle.pnp_model.specs.Runs.{Entry, Goes}
-use Rattle.pnp_model.specs.Runs.Entry.{Happens, Did}
+use Rattle.pnp_model.specs.Rebalances.{committed, movers, plan_of}
+use Rattle.pnp_model.specs.Runs.{Entry, Goes, printed}
 use Rattle.pnp_model.specs.States.{activity_at}
 use Rattle.pnp_laws.specs.Kept.{Alone, Ascending, Fits, is_idle}
 use Rattle.pnp_laws.specs.Quiet.{RestsWith}
 use Rattle.pnp_laws.specs.Reached.{IsReached}
-use Rattle.pnp_laws.proofs.EventChanges.{happens_outside}
+use Rattle.pnp_laws.specs.Effects.{NodeEffect}
+use Rattle.pnp_laws.proofs.EffectViews.{alters_keeps}
+use Rattle.pnp_laws.proofs.EffectsOf.{effect_goes}
 use Rattle.pnp_laws.proofs.Lookups.{joined_from, left_from, map_from, node_from}
 use Rattle.pnp_laws.proofs.Reached.{reached_is_good}
 use Rattle.pnp_laws.proofs.Reaching.{kept}
@@ -31,7 +33,6 @@ use Rattle.query_remove.specs.Steps as query
 use Rattle.query_remove.proofs.Given.{removal_ready}
 use Rattle.surprise_remove.specs.Steps as surprise
 use Rattle.surprise_remove.proofs.Given.{surprise_ready}
-use Rattle.pnp_machine.proofs.Changes.{CoreChange, step_changes}
 use Rattle.pnp_machine.proofs.Related.{related_up, no_relations}
 
 -- The root needs nothing and holds nothing ---------------------------------------------------
@@ -60,23 +61,23 @@ mapped_needs movers plan nodes h m at =
     let from = map_from 0 (committed movers plan) nodes m (λ n. refl) at in
     ap (λ (x : Node). x.reqs) from.2 ∙ h from.0 from.1
 
-core_needs : (s : State) (c : Core) → CoreChange s c → Ascending 0 s.core.nodes → 0 < s.next_serial → RootNeedsNothing s.core.nodes → RootNeedsNothing c.nodes
-core_needs s c (CoreChange.same a b) order begun h = subst RootNeedsNothing (sym a) h
-core_needs s c (CoreChange.changed j f keeps up a b) order begun h = subst RootNeedsNothing (sym a) (changed_needs j f s.core.nodes keeps.serial keeps.reqs h)
-core_needs s c (CoreChange.stripped j a b) order begun h = subst RootNeedsNothing (sym a) (changed_needs j bare s.core.nodes (λ n. refl) (λ n. refl) h)
-core_needs s c (CoreChange.mapped movers plan a b) order begun h = subst RootNeedsNothing (sym a) (mapped_needs movers plan s.core.nodes h)
-core_needs s c (CoreChange.joined parent d test found a b) order begun h =
-    subst RootNeedsNothing (sym a) (joined_needs s.core.nodes (new_node s.next_serial parent d) begun h)
-core_needs s c (CoreChange.left j a b) order begun h =
-    subst RootNeedsNothing (sym a) (λ m at. h m (left_from j 0 s.core.nodes m order at).1)
+effect_needs : (s : State) (label : Label) (t : State) → NodeEffect s label t → Ascending 0 s.core.nodes → 0 < s.next_serial → RootNeedsNothing s.core.nodes → RootNeedsNothing t.core.nodes
+effect_needs s label t (NodeEffect.same a b) order begun h = subst RootNeedsNothing (sym a) h
+effect_needs s label t (NodeEffect.changed j f alters a b) order begun h =
+    let keeps = alters_keeps s label j f alters in
+    subst RootNeedsNothing (sym a) (changed_needs j f s.core.nodes keeps.serial keeps.reqs h)
+effect_needs s label t (NodeEffect.stripped node w at request ends prints a b) order begun h = subst RootNeedsNothing (sym a) (changed_needs node.serial bare s.core.nodes (λ n. refl) (λ n. refl) h)
+effect_needs s label t (NodeEffect.commits r runs is a b) order begun h = subst RootNeedsNothing (sym a) (mapped_needs (movers r) (plan_of r.found) s.core.nodes h)
+effect_needs s label t (NodeEffect.joins node d none at up there is) order begun h =
+    subst (λ (x : Step). RootNeedsNothing x.state.core.nodes) (sym is) (joined_needs s.core.nodes (new_node s.next_serial node.serial d) begun h)
+effect_needs s label t (NodeEffect.left node o runs first a b) order begun h = subst RootNeedsNothing (sym a) (λ m at. h m (left_from node.serial 0 s.core.nodes m order at).1)
+effect_needs s label t (NodeEffect.related r related a b) order begun h = subst RootNeedsNothing (sym a) h
 
 goes_needs : (settings : Settings) (rack : List Driver) (old : State) (entry : Entry) (new : State) → IsReached settings rack old → RootNeedsNothing old.core.nodes → Goes settings old entry new
     → RootNeedsNothing new.core.nodes
-goes_needs settings rack old (Happens event label) new reached h goes =
-    subst RootNeedsNothing (sym (subst (λ (t : Step). t.state.core.nodes ≡ old.core.nodes) goes.1 (happens_outside old event).nodes)) h
-goes_needs settings rack old (Did label) new reached h goes =
+goes_needs settings rack old entry new reached h goes =
     let good = reached_is_good settings rack old reached in
-    core_needs old new.core (step_changes settings old label new goes).core good.serials good.begun h
+    effect_needs old (printed entry) new (effect_goes settings old entry new goes).nodes good.serials good.begun h
 
 -- a device that needs nothing holds nothing where it holds one whole alternative
 nothing_held : (reqs : Reqs) (holds : List Res) → reqs ≡ [] → Whole reqs holds → holds ≡ []

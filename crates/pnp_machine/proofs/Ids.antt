@@ -1,21 +1,20 @@
 -- In a run whose events have few IDs each node and each device of the world has few.
 use Rattle.std.proofs.Common.{ℕ, ◌≡◌, ◌≤◌, ◌||◌, Bool, true, false, cond, List, [], ◌∷◌, ◌++◌, map, length, Option, Some, None, refl, sym, subst, arith}
 use Rattle.std.specs.List.{find, AllByRecursion}
-use Rattle.pnp_labels.specs.declared.event.Event.{Event}
+use Rattle.pnp_labels.specs.declared.label.Label.{Label}
 use Rattle.pnp_model.specs.Keyed.{changed_first, without_first}
 use Rattle.pnp_model.specs.Records.{Device, Node, Core, Driver, State, Step, Settings}
 use Rattle.pnp_model.specs.Cores.{is_node, node_at, new_node, bare}
-use Rattle.pnp_model.specs.Rebalances.{committed}
-use Rattle.pnp_model.specs.Runs.{Entry, Goes, opening}
-use Rattle.pnp_model.specs.Runs.Entry.{Happens, Did}
+use Rattle.pnp_model.specs.Rebalances.{committed, movers, plan_of}
+use Rattle.pnp_model.specs.Runs.{Entry, Goes, opening, printed}
 use Rattle.pnp_model.specs.States.{without_those}
+use Rattle.pnp_model.specs.Tasks.{joins}
 use Rattle.pnp_model.specs.Tests.{has}
-use Rattle.pnp_laws.proofs.EventChanges.{happens_outside}
+use Rattle.pnp_laws.specs.Effects.{NodeEffect, WorldEffect}
+use Rattle.pnp_laws.proofs.EffectViews.{KeepsIds, alters_keeps}
+use Rattle.pnp_laws.proofs.EffectsOf.{effect_goes}
 use Rattle.start_sequence.specs.Begins as begins
 use Rattle.pnp_machine.specs.Ids.{IsFewNode, IsFewDevice, AreFewIds, IsFewEntry}
-use Rattle.pnp_machine.specs.Machines.{HasFewIds}
-use Rattle.pnp_machine.proofs.Changes.{KeepsIds, CoreChange, WorldChange, step_changes}
-use Rattle.pnp_machine.proofs.Happenings.{Happening, happens_changes}
 
 -- What all members of a list have ---------------------------------------------------------
 
@@ -73,42 +72,36 @@ keeps_few f keeps n h = few_same n (f n) (keeps.hw n) (keeps.compat n) h
 from_nodes : (c : Core) (nodes : List Node) → c.nodes ≡ nodes → AllByRecursion IsFewNode nodes → AllByRecursion IsFewNode c.nodes
 from_nodes c nodes e h = subst (AllByRecursion IsFewNode) (sym e) h
 
-few_nodes : (s : State) (c : Core) → CoreChange s c → AreFewIds s → AllByRecursion IsFewNode c.nodes
-few_nodes s c (CoreChange.same a b) h = from_nodes c s.core.nodes a h.0
-few_nodes s c (CoreChange.changed j f keeps up a b) h = from_nodes c _ a (changed_have IsFewNode (is_node j) f (keeps_few f keeps) s.core.nodes h.0)
-few_nodes s c (CoreChange.stripped j a b) h =
-    from_nodes c _ a (changed_have IsFewNode (is_node j) bare (λ n few. record { hw = few.hw; compat = few.compat }) s.core.nodes h.0)
-few_nodes s c (CoreChange.mapped movers plan a b) h =
-    from_nodes c _ a (mapped_have IsFewNode (committed movers plan) (λ n few. record { hw = few.hw; compat = few.compat }) s.core.nodes h.0)
-few_nodes s c (CoreChange.joined parent d test found a b) h =
-    let few = found_has IsFewDevice test s.world d h.1 found in
-    from_nodes c _ a (one_more_has IsFewNode (new_node s.next_serial parent d) (record { hw = few.hw; compat = few.compat }) s.core.nodes h.0)
-few_nodes s c (CoreChange.left j a b) h = from_nodes c _ a (left_have IsFewNode (is_node j) s.core.nodes h.0)
+few_nodes : (s : State) (label : Label) (t : State) → NodeEffect s label t → AreFewIds s → AllByRecursion IsFewNode t.core.nodes
+few_nodes s label t (NodeEffect.same a b) h = from_nodes t.core s.core.nodes a h.0
+few_nodes s label t (NodeEffect.changed j f alters a b) h =
+    from_nodes t.core _ a (changed_have IsFewNode (is_node j) f (keeps_few f (alters_keeps s label j f alters)) s.core.nodes h.0)
+few_nodes s label t (NodeEffect.stripped node w at request ends prints a b) h =
+    from_nodes t.core _ a (changed_have IsFewNode (is_node node.serial) bare (λ n few. record { hw = few.hw; compat = few.compat }) s.core.nodes h.0)
+few_nodes s label t (NodeEffect.commits r runs is a b) h =
+    from_nodes t.core _ a (mapped_have IsFewNode (committed (movers r) (plan_of r.found)) (λ n few. record { hw = few.hw; compat = few.compat }) s.core.nodes h.0)
+few_nodes s label t (NodeEffect.joins node d none at up there is) h =
+    let few = found_has IsFewDevice (joins node.born s.core.nodes) s.world d h.1 there in
+    subst (λ (x : Step). AllByRecursion IsFewNode x.state.core.nodes) (sym is)
+    (one_more_has IsFewNode (new_node s.next_serial node.serial d) (record { hw = few.hw; compat = few.compat }) s.core.nodes h.0)
+few_nodes s label t (NodeEffect.left node o runs first a b) h = from_nodes t.core _ a (left_have IsFewNode (is_node node.serial) s.core.nodes h.0)
+few_nodes s label t (NodeEffect.related r related a b) h = from_nodes t.core s.core.nodes a h.0
 
-few_world : (old new : List Device) → WorldChange old new → AllByRecursion IsFewDevice old → AllByRecursion IsFewDevice new
-few_world old new (WorldChange.same e) h = subst (AllByRecursion IsFewDevice) (sym e) h
-few_world old new (WorldChange.fewer gone e) h = subst (AllByRecursion IsFewDevice) (sym e) (fewer_have IsFewDevice gone old h)
-
-few_happens : (s t : State) (event : Event) → Happening s event t → HasFewIds event → AllByRecursion IsFewDevice s.world → AllByRecursion IsFewDevice t.world
-few_happens s t event (Happening.still e b) few h = subst (AllByRecursion IsFewDevice) (sym e) h
-few_happens s t event (Happening.plugged d own e b) few h =
-    let ids = own few in
+few_world : (s : State) (entry : Entry) (t : State) → WorldEffect s entry t → IsFewEntry entry → AllByRecursion IsFewDevice s.world → AllByRecursion IsFewDevice t.world
+few_world s entry t (WorldEffect.same e born) few h = subst (AllByRecursion IsFewDevice) (sym e) h
+few_world s entry t (WorldEffect.plugged d plug e born) few h =
+    let ids = subst (λ (x : Entry). IsFewEntry x) plug.event few in
     subst (AllByRecursion IsFewDevice) (sym e) (one_more_has IsFewDevice d (record { hw = ids.0; compat = ids.1 }) s.world h)
-few_happens s t event (Happening.pulled gone e b) few h = subst (AllByRecursion IsFewDevice) (sym e) (fewer_have IsFewDevice gone s.world h)
-few_happens s t event (Happening.related r owner member e b) few h = subst (AllByRecursion IsFewDevice) (sym e) h
+few_world s entry t (WorldEffect.unplugged born why e next) few h = subst (AllByRecursion IsFewDevice) (sym e) (fewer_have IsFewDevice (born ∷ []) s.world h)
 
 pub few_opening : (rack : List Driver) → AreFewIds (opening rack)
 few_opening rack = ((record { hw = omega arith; compat = omega arith }, tt), (record { hw = omega arith; compat = omega arith }, tt))
 
 -- steps keep this, and so do events that have few IDs
 pub few_goes : (settings : Settings) (old : State) (entry : Entry) (new : State) → Goes settings old entry new → IsFewEntry entry → AreFewIds old → AreFewIds new
-few_goes settings old (Happens event label) new goes few h = (
-  from_nodes new.core old.core.nodes (subst (λ (t : Step). t.state.core.nodes ≡ old.core.nodes) goes.1 (happens_outside old event).nodes) h.0,
-  few_happens old new event (subst (λ (t : Step). Happening old event t.state) goes.1 (happens_changes old event)) few h.1,
-)
-few_goes settings old (Did label) new goes few h =
-    let changes = step_changes settings old label new goes in
-    (few_nodes old new.core changes.core h, few_world old.world new.world changes.world h.1)
+few_goes settings old entry new goes few h =
+    let effect = effect_goes settings old entry new goes in
+    (few_nodes old (printed entry) new effect.nodes h, few_world old entry new effect.world few h.1)
 
 -- so the device of a start has few
 pub few_at : (s : State) (k : ℕ) → AreFewIds s → begins.HasFewIds (node_at k s.core.nodes)

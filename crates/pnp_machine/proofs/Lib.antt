@@ -4,9 +4,7 @@ pub mod Folding
 pub mod Inserts
 pub mod Ready
 pub mod Indexes
-pub mod Changes
 pub mod Fresh
-pub mod Happenings
 pub mod Related
 pub mod Ids
 pub mod Givens

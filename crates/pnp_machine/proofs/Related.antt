@@ -4,28 +4,29 @@ use Rattle.std.specs.List.{find, AllByRecursion}
 use Rattle.std.proofs.lemmas.Bool.{cases_eq}
 use Rattle.std.proofs.lemmas.Bool.Decides.{nat_tests}
 use Rattle.resource_reqs.specs.Resources.{Res}
-use Rattle.pnp_labels.specs.declared.event.Event.{Event}
+use Rattle.pnp_labels.specs.Texts.{Text}
 use Rattle.pnp_labels.specs.declared.label.Label.{Label}
 use Rattle.pnp_labels.specs.declared.states.DevState.{DevState}
 use Rattle.pnp_labels.specs.declared.states.DevState.TheVariants.{NoStack, NotStarted, Started, StopPending, Stopped, RemovePending, SurpriseRemoved}
 use Rattle.pnp_model.specs.Keyed.{changed_first, without_first, those}
 use Rattle.pnp_model.specs.Records.{Node, Core, Driver, Relation, State, Step, Settings}
-use Rattle.pnp_model.specs.Cores.{is_node, node_at, bare, forget, is_apart_from}
+use Rattle.pnp_model.specs.Cores.{is_node, node_at, new_node, bare, forget, is_apart_from}
 use Rattle.pnp_model.specs.Diagram.{FollowsDiagram}
 use Rattle.pnp_model.specs.Laws.{Reaches}
-use Rattle.pnp_model.specs.Rebalances.{committed}
-use Rattle.pnp_model.specs.Runs.{Entry, Goes}
-use Rattle.pnp_model.specs.Runs.Entry.{Happens, Did}
+use Rattle.pnp_model.specs.Rebalances.{committed, movers, plan_of}
+use Rattle.pnp_model.specs.Runs.{Entry, Goes, printed}
+use Rattle.pnp_model.specs.States.{node_of}
 use Rattle.pnp_model.specs.Tests.{is_started}
 use Rattle.pnp_laws.specs.Kept.{Ascending, is_idle}
 use Rattle.pnp_laws.specs.Reached.{IsReached}
-use Rattle.pnp_laws.proofs.EventChanges.{happens_outside}
+use Rattle.pnp_laws.specs.Effects.{NodeEffect}
+use Rattle.pnp_laws.proofs.EffectViews.{KeepsIds, StaysUp, alters_keeps, alters_up}
+use Rattle.pnp_laws.proofs.EffectsOf.{effect_goes}
 use Rattle.pnp_laws.proofs.Lookups.{joined_keeps, left_other, left_same, node_at-map, node_changed_other, node_changed_same, some_same}
 use Rattle.pnp_laws.proofs.Reached.{reached_is_good}
 use Rattle.pnp_laws.proofs.Reaching.{kept}
 use Rattle.pnp_laws.proofs.RunsStand.{every_run_follows}
-use Rattle.pnp_machine.proofs.Changes.{KeepsIds, StaysUp, CoreChange, step_changes}
-use Rattle.pnp_machine.proofs.Happenings.{IsFoundUp, Happening, happens_changes}
+use Rattle.device_ids.specs.Folding as folding
 
 -- the device is there, and has been up since its drivers were added
 abbrev pub IsUpAt : List Node → ℕ → Type 0
@@ -101,20 +102,6 @@ from_parts : (c : Core) (nodes : List Node) (relations : List Relation) → c.no
 from_parts c nodes relations a b h =
     subst (λ (x : List Node). AllByRecursion (JoinsUp x) c.relations) (sym a) (subst (λ (x : List Relation). AllByRecursion (JoinsUp nodes) x) (sym b) h)
 
-core_up : (s : State) (c : Core) (label : Label) → CoreChange s c → Ascending 0 s.core.nodes → FollowsDiagram label s.core.nodes c.nodes → RelatedUp s.core → RelatedUp c
-core_up s c label (CoreChange.same a b) order follows h = from_parts c s.core.nodes s.core.relations a b h
-core_up s c label (CoreChange.changed j f keeps up a b) order follows h =
-    from_parts c (changed_first (is_node j) f s.core.nodes) s.core.relations a b (all_up s.core.nodes _ (changed_up j f s.core.nodes keeps up) s.core.relations h)
-core_up s c label (CoreChange.stripped j a b) order follows h =
-    from_parts c (changed_first (is_node j) bare s.core.nodes) (forget j s.core.relations) a b (others_up s.core.nodes _ j (bare_up j s.core.nodes) s.core.relations h)
-core_up s c label (CoreChange.mapped movers plan a b) order follows h =
-    from_parts c (map (committed movers plan) s.core.nodes) s.core.relations a b (all_up s.core.nodes _ (mapped_up movers plan s.core.nodes) s.core.relations h)
-core_up s c label (CoreChange.joined parent d test found a b) order follows h =
-    from_parts c _ s.core.relations a b (all_up s.core.nodes _ (joined_up s.core.nodes _) s.core.relations h)
-core_up s c label (CoreChange.left j a b) order follows h =
-    let leaves = subst (λ (x : List Node). FollowsDiagram label s.core.nodes x) a follows in
-    from_parts c (without_first (is_node j) s.core.nodes) s.core.relations a b (all_up s.core.nodes _ (left_up label j s.core.nodes order leaves) s.core.relations h)
-
 -- a device that is found is found by its serial
 found_at : (test : Node → Bool) (lo : ℕ) (nodes : List Node) (n : Node) → Ascending lo nodes → find test nodes ≡ Some n → (lo ≤ n.serial) × (node_at n.serial nodes ≡ Some n)
 found_at test lo [] n order h = absurd (cc)
@@ -129,25 +116,33 @@ started_up Stopped h = refl
 started_up RemovePending h = refl
 started_up SurpriseRemoved h = refl
 
-found_up : (nodes : List Node) (k : ℕ) → Ascending 0 nodes → IsFoundUp nodes k → IsUpAt nodes k
-found_up nodes k order h =
-    subst (λ (i : ℕ). IsUpAt nodes i) h.own (h.node, (found_at h.test 0 nodes h.node order h.found).1, started_up h.node.state h.up)
+found_up : (nodes : List Node) (path : Text) (n : Node) → Ascending 0 nodes → node_of path nodes ≡ Some n → is_started n.state ≡ true → IsUpAt nodes n.serial
+found_up nodes path n order found up = (n, (found_at (λ m. folding.same m.path path) 0 nodes n order found).1, started_up n.state up)
 
-event_up : (s t : State) (event : Event) → Happening s event t → t.core.nodes ≡ s.core.nodes → Ascending 0 s.core.nodes → RelatedUp s.core → RelatedUp t.core
-event_up s t event (Happening.still world same) a order h = from_parts t.core s.core.nodes s.core.relations a same h
-event_up s t event (Happening.plugged d few world same) a order h = from_parts t.core s.core.nodes s.core.relations a same h
-event_up s t event (Happening.pulled gone world same) a order h = from_parts t.core s.core.nodes s.core.relations a same h
-event_up s t event (Happening.related r owner member world more) a order h =
-    from_parts t.core s.core.nodes (s.core.relations ++ r ∷ []) a more
-    (one_more_up s.core.nodes s.core.nodes r (found_up s.core.nodes r.owner order owner, found_up s.core.nodes r.member order member) s.core.relations h)
+effect_up : (s : State) (label : Label) (t : State) → NodeEffect s label t → Ascending 0 s.core.nodes → FollowsDiagram label s.core.nodes t.core.nodes → RelatedUp s.core → RelatedUp t.core
+effect_up s label t (NodeEffect.same a b) order follows h = from_parts t.core s.core.nodes s.core.relations a b h
+effect_up s label t (NodeEffect.changed j f alters a b) order follows h =
+    from_parts t.core (changed_first (is_node j) f s.core.nodes) s.core.relations a b
+    (all_up s.core.nodes _ (changed_up j f s.core.nodes (alters_keeps s label j f alters) (alters_up s label j f alters)) s.core.relations h)
+effect_up s label t (NodeEffect.stripped node w at request ends prints a b) order follows h =
+    from_parts t.core (changed_first (is_node node.serial) bare s.core.nodes) (forget node.serial s.core.relations) a b (others_up s.core.nodes _ node.serial (bare_up node.serial s.core.nodes) s.core.relations h)
+effect_up s label t (NodeEffect.commits r runs is a b) order follows h =
+    from_parts t.core (map (committed (movers r) (plan_of r.found)) s.core.nodes) s.core.relations a b (all_up s.core.nodes _ (mapped_up (movers r) (plan_of r.found) s.core.nodes) s.core.relations h)
+effect_up s label t (NodeEffect.joins node d none at up there is) order follows h =
+    subst (λ (x : Step). RelatedUp x.state.core) (sym is) (all_up s.core.nodes _ (joined_up s.core.nodes (new_node s.next_serial node.serial d)) s.core.relations h)
+effect_up s label t (NodeEffect.left node o runs first a b) order follows h =
+    let leaves = subst (λ (x : List Node). FollowsDiagram label s.core.nodes x) a follows in
+    from_parts t.core (without_first (is_node node.serial) s.core.nodes) s.core.relations a b (all_up s.core.nodes _ (left_up label node.serial s.core.nodes order leaves) s.core.relations h)
+effect_up s label t (NodeEffect.related r related a b) order follows h =
+    let owner = found_up s.core.nodes related.owner_path related.owner order related.owner_at related.owner_up in
+    let member = found_up s.core.nodes related.member_path related.member order related.member_at related.member_up in
+    from_parts t.core s.core.nodes (s.core.relations ++ r ∷ []) a b
+    (one_more_up s.core.nodes s.core.nodes r (subst (λ (i : ℕ). IsUpAt s.core.nodes i) (sym related.owner_is) owner, subst (λ (i : ℕ). IsUpAt s.core.nodes i) (sym related.member_is) member) s.core.relations h)
 
 goes_up : (settings : Settings) (rack : List Driver) (old : State) (entry : Entry) (new : State) → IsReached settings rack old → RelatedUp old.core → Goes settings old entry new → RelatedUp new.core
-goes_up settings rack old (Happens event label) new reached h goes =
-    event_up old new event (subst (λ (t : Step). Happening old event t.state) goes.1 (happens_changes old event))
-    (subst (λ (t : Step). t.state.core.nodes ≡ old.core.nodes) goes.1 (happens_outside old event).nodes) (reached_is_good settings rack old reached).serials h
-goes_up settings rack old (Did label) new reached h goes =
-    core_up old new.core label (step_changes settings old label new goes).core (reached_is_good settings rack old reached).serials
-    (every_run_follows settings rack reached.0 old (Did label) new reached.1 goes).0 h
+goes_up settings rack old entry new reached h goes =
+    effect_up old (printed entry) new (effect_goes settings old entry new goes).nodes (reached_is_good settings rack old reached).serials
+    (every_run_follows settings rack reached.0 old entry new reached.1 goes).0 h
 
 pub reached_up : (settings : Settings) (rack : List Driver) (s : State) → IsReached settings rack s → RelatedUp s.core
 reached_up settings rack s reached = kept (λ (x : State). RelatedUp x.core) settings rack (goes_up settings rack) tt s reached

@@ -1,0 +1,303 @@
+-- A plan that was found fits until it is used, and then the device of the rebalance holds its part: what each stage of a rebalance keeps.
+use Rattle.std.proofs.Common.{ℕ, ◌≡◌, inl, inr, Bool, true, false, not, cond, List, [], ◌∷◌, ◌++◌, map, Option, Some, None, refl, sym, ap, ◌∙◌, subst, arith, reverse}
+use Rattle.std.specs.List.{AllZip}
+use Rattle.std.specs.Option.{option_map}
+use Rattle.std.proofs.lemmas.Bool.{cases_eq}
+use Rattle.std.proofs.lemmas.Bool.Decides.{nat_tests}
+use Rattle.resource_reqs.specs.Resources.{Res, Reqs, IsAssignment, Whole}
+use Rattle.resource_reqs.specs.Spelling.{IsAnswer}
+use Rattle.resource_reqs.specs.Spelling.Answer.{assignment, no_fit, spent}
+use Rattle.resource_reqs.proofs.Answering.{plan_is}
+use Rattle.pnp_labels.specs.declared.words.Answer.{Answer}
+use Rattle.pnp_labels.specs.declared.words.Minor.{Minor}
+use Rattle.pnp_labels.specs.declared.states.DevState.{DevState}
+use Rattle.pnp_labels.specs.declared.states.DevState.TheVariants as states
+use Rattle.pnp_labels.specs.declared.label.OpKind.{OpKind}
+use Rattle.pnp_labels.specs.declared.label.Label.{Label}
+use Rattle.pnp_model.specs.Cores.{is_node, node_at, serials_of, with_problem, with_state}
+use Rattle.pnp_model.specs.Frames.{ended, first_node, held_by, is_beside, rest}
+use Rattle.pnp_model.specs.Keyed.{changed_first, those}
+use Rattle.pnp_model.specs.Machine.{is_waiting, next, next_of, operation_next, operation_walk, rebalance_lifted}
+use Rattle.pnp_model.specs.Records.{Core, Driver, Found, Node, Operation, Rebalance, RebalanceStage, Settings, State, Step, Walk, doing_map}
+use Rattle.pnp_model.specs.Runs.{Entry, Goes}
+use Rattle.pnp_model.specs.Runs.Entry.{Happens, Did}
+use Rattle.pnp_model.specs.Tests.{has}
+use Rattle.pnp_model.specs.Trees.{stands_up}
+use Rattle.pnp_model.specs.Walks.{is_bad}
+use Rattle.pnp_laws.specs.Effects.{AnswerEffect, OpEffect, RangeEffect, begun}
+use Rattle.pnp_laws.specs.Holdings.{KeepsReqs, has_plan, WholeAt}
+use Rattle.pnp_laws.specs.Plans.{IsPlanned, PlanFits, PlanKept, StagePlan}
+use Rattle.pnp_laws.specs.Reached.{IsReached}
+use Rattle.pnp_laws.specs.Words.{SameWork}
+use Rattle.pnp_laws.proofs.EffectsOf.{effect_goes}
+use Rattle.pnp_laws.proofs.EventChanges.{ranges_stay}
+use Rattle.pnp_laws.proofs.Lookups.{map_from, node_changed_other, node_changed_same, node_from, own_serial}
+use Rattle.pnp_laws.proofs.Passing.{AllNext, all_step}
+use Rattle.pnp_laws.proofs.Reaching.{kept}
+use Rattle.pnp_model.specs.Events as ev
+use Rattle.pnp_model.specs.Rebalances as re
+
+-- Requirements stay, and so do the holdings where states and problems change ---------------
+
+reqs_map : (f : Node → Node) (o : Option Node) → ((n : Node) → (f n).reqs ≡ n.reqs) → re.reqs_of (option_map f o) ≡ re.reqs_of o
+reqs_map f None keeps = refl
+reqs_map f (Some n) keeps = keeps n
+
+reqs_changed : (j k : ℕ) (f : Node → Node) (nodes : List Node) → KeepsReqs f → re.reqs_of (node_at k (changed_first (is_node j) f nodes)) ≡ re.reqs_of (node_at k nodes)
+reqs_changed j k f nodes keeps =
+    elim (cases_eq j k) [
+      | inl e ↦
+          subst (λ (i : ℕ). re.reqs_of (node_at k (changed_first (is_node i) f nodes)) ≡ re.reqs_of (node_at k nodes)) (sym e)
+          (ap re.reqs_of (node_changed_same k f nodes keeps.serial) ∙ reqs_map f (node_at k nodes) keeps.reqs)
+      | inr d ↦ ap re.reqs_of (node_changed_other j k f nodes keeps.serial d)
+    ]
+
+pub all_reqs_changed : (j : ℕ) (f : Node → Node) (nodes : List Node) (ks : List ℕ) → KeepsReqs f →
+    map (λ k. re.reqs_of (node_at k (changed_first (is_node j) f nodes))) ks ≡ map (λ k. re.reqs_of (node_at k nodes)) ks
+all_reqs_changed j f nodes [] keeps = refl
+all_reqs_changed j f nodes (k ∷ ks) keeps =
+    ap (λ (x : Reqs). x ∷ map (λ i. re.reqs_of (node_at i (changed_first (is_node j) f nodes))) ks) (reqs_changed j k f nodes keeps)
+    ∙ ap (λ (xs : List Reqs). re.reqs_of (node_at k nodes) ∷ xs) (all_reqs_changed j f nodes ks keeps)
+
+-- what others hold, where a device changes in other parts
+pub beside_changed : (j : ℕ) (f : Node → Node) (movers : List ℕ) (nodes : List Node) → ((x : Node) → (f x).serial ≡ x.serial) → ((x : Node) → (f x).holds ≡ x.holds) →
+    held_by (those (is_beside movers) (changed_first (is_node j) f nodes)) ≡ held_by (those (is_beside movers) nodes)
+beside_changed j f movers [] keeps holds = refl
+beside_changed j f movers (n ∷ ns) keeps holds =
+    let more = beside_changed j f movers ns keeps holds in
+    let same_test : is_beside movers (f n) ≡ is_beside movers n = ap (λ (i : ℕ). not (has movers i)) (keeps n) in
+    let h = holds n in
+    let by_two : (a b : Bool) → held_by (those (is_beside movers) (cond a (f n ∷ ns) (n ∷ changed_first (is_node j) f ns))) ≡ held_by (cond b (n ∷ those (is_beside movers) ns) (those (is_beside movers) ns)) → held_by (those (is_beside movers) (cond a (f n ∷ ns) (n ∷ changed_first (is_node j) f ns))) ≡ held_by (cond b (n ∷ those (is_beside movers) ns) (those (is_beside movers) ns)) =
+    λ a b e. e in
+    grind (arith)
+
+pub keeps_state : (y : DevState) → KeepsReqs (with_state y)
+keeps_state y = record { serial = λ n. refl; reqs = λ n. refl }
+
+-- a change that keeps all but state and problem
+pub record KeepsHeld (f : Node → Node) : Type 0 where
+  pub reqs : KeepsReqs f
+  pub holds : (n : Node) → (f n).holds ≡ n.holds
+
+held_state : (y : DevState) → KeepsHeld (with_state y)
+held_state y = record { reqs = keeps_state y; holds = λ n. refl }
+
+fits_changed : (r : Rebalance) (j : ℕ) (f : Node → Node) (reserved : List Res) (nodes : List Node) → KeepsHeld f → PlanFits r reserved nodes → PlanFits r reserved (changed_first (is_node j) f nodes)
+fits_changed r j f reserved nodes keeps h =
+    subst (λ (xs : List Reqs). IsAssignment (reserved ++ held_by (those (is_beside (re.movers r)) (changed_first (is_node j) f nodes))) xs (re.plan_of r.found)) (sym (all_reqs_changed j f nodes (re.movers r) keeps.reqs))
+    (subst (λ (xs : List Res). IsAssignment (reserved ++ xs) (map (λ k. re.reqs_of (node_at k nodes)) (re.movers r)) (re.plan_of r.found)) (sym (beside_changed j f (re.movers r) nodes keeps.reqs.serial keeps.holds)) h)
+
+pub whole_changed : (k j : ℕ) (f : Node → Node) (nodes : List Node) → KeepsHeld f → WholeAt k nodes → WholeAt k (changed_first (is_node j) f nodes)
+whole_changed k j f nodes keeps h m g =
+    elim (node_from j k f nodes m keeps.reqs.serial g) [
+      | inl (e, (y, q, r)) ↦
+          subst (λ (x : List Res). Whole m.reqs x) (sym (ap (λ (z : Node). z.holds) r ∙ keeps.holds y)) (subst (λ (x : Reqs). Whole x y.holds) (sym (ap (λ (z : Node). z.reqs) r ∙ keeps.reqs.reqs y)) (h y q))
+      | inr (d, q) ↦ h m q
+    ]
+
+-- The parts of a plan ---------------------------------------------------------------------------
+
+-- each mover's part is whole for what `reqs` asks of it
+part_whole : (reqs : ℕ → Reqs) (k : ℕ) (js : List ℕ) (plan : List (List Res)) (held : List Res) → AllZip Whole (map reqs js) plan → has js k ≡ true → Whole (reqs k) (re.part_for k js plan held)
+part_whole reqs k [] plan held all h = absurd (cc)
+part_whole reqs k (j ∷ js) [] held all h = absurd all
+part_whole reqs k (j ∷ js) (holds ∷ plan) held all h =
+    elim (cases_eq j k) [
+      | inl e ↦
+          let same : re.part_for k (j ∷ js) (holds ∷ plan) held ≡ holds = grind (arith, nat_tests) in
+          subst (λ (x : List Res). Whole (reqs k) x) (sym same) (subst (λ (i : ℕ). Whole (reqs i) holds) e all.0)
+      | inr d ↦
+          let same : re.part_for k (j ∷ js) (holds ∷ plan) held ≡ re.part_for k js plan held = grind (arith, nat_tests) in
+          subst (λ (x : List Res). Whole (reqs k) x) (sym same) (part_whole reqs k js plan held all.1 (grind (arith, nat_tests)))
+    ]
+
+-- the part of a mover that is there
+pub mover_whole : (r : Rebalance) (reserved : List Res) (nodes : List Node) (k : ℕ) (n : Node) → PlanFits r reserved nodes → node_at k nodes ≡ Some n → has (re.movers r) k ≡ true
+    → Whole n.reqs (re.committed (re.movers r) (re.plan_of r.found) n).holds
+mover_whole r reserved nodes k n fits at h =
+    let own = own_serial k n nodes at in
+    let part = part_whole (λ i. re.reqs_of (node_at i nodes)) k (re.movers r) (re.plan_of r.found) n.holds fits.whole h in
+    let part2 = subst (λ (x : Reqs). Whole x (re.part_for k (re.movers r) (re.plan_of r.found) n.holds)) (ap re.reqs_of at) part in
+    subst (λ (i : ℕ). Whole n.reqs (re.part_for i (re.movers r) (re.plan_of r.found) n.holds)) (sym own) part2
+
+target_whole : (r : Rebalance) (reserved : List Res) (nodes : List Node) → PlanFits r reserved nodes → WholeAt r.target (map (re.committed (re.movers r) (re.plan_of r.found)) nodes)
+target_whole r reserved nodes fits m g =
+    let from = map_from r.target (re.committed (re.movers r) (re.plan_of r.found)) nodes m (λ x. refl) g in
+    subst (λ (z : Node). Whole z.reqs z.holds) (sym from.2) (mover_whole r reserved nodes r.target from.0 fits from.1 (grind (arith, nat_tests)))
+
+-- What comes next ---------------------------------------------------------------------------------
+
+module _ (r : Rebalance) (reserved : List Res) (nodes : List Node) where
+  asks_on : (ks : List ℕ) → PlanKept (Some (Operation.Rebalancing (re.ask_on r ks))) reserved nodes
+  asks_on [] = tt
+  asks_on (k ∷ ks) = tt
+
+  cancels_on : (ks : List ℕ) → has_plan r.found ≡ false → PlanKept (Some (Operation.Rebalancing (re.cancel_on r ks))) reserved nodes
+  cancels_on [] h = h
+  cancels_on (k ∷ ks) h = h
+
+  stops_on : (ks : List ℕ) → PlanFits r reserved nodes → PlanKept (Some (Operation.Rebalancing (re.stop_on r ks))) reserved nodes
+  stops_on [] h = h
+  stops_on (k ∷ ks) h = h
+
+  restarts_on : (ks : List ℕ) → WholeAt r.target nodes → PlanKept (Some (Operation.Rebalancing (re.restart_from r ks))) reserved nodes
+  restarts_on [] h = λ e. h
+  restarts_on (k ∷ ks) h = h
+
+-- The stages ----------------------------------------------------------------------------------------
+
+module _ (s : State) (r : Rebalance) where
+  searches : (budget : ℕ) (found : Found) → IsAnswer (re.group_problem s.core r).fixed (re.group_problem s.core r).movers budget found → IsPlanned (rebalance_lifted s (re.searched s.core r found)).state
+  searches budget (assignment plan) answer =
+      stops_on (record r { found = assignment plan }) s.core.reserved s.core.nodes (reverse r.agreed) (plan_is (re.group_problem s.core r).fixed (re.group_problem s.core r).movers budget plan answer)
+  searches budget no_fit answer = cancels_on (record r { found = no_fit }) s.core.reserved s.core.nodes r.agreed refl
+  searches budget spent answer = cancels_on (record r { found = spent }) s.core.reserved s.core.nodes r.agreed refl
+
+  closes_moved : (label : Label) (up : Bool) → IsPlanned (rebalance_lifted s (record { label = label; core = s.core; frame = r; beside = re.moved_on up })).state
+  closes_moved label true = tt
+  closes_moved label false = tt
+
+  closes : (label : Label) (found : Found) → IsPlanned (rebalance_lifted s (record { label = label; core = s.core; frame = r; beside = re.over s.core r found })).state
+  closes label (assignment plan) = closes_moved label (stands_up s.core.nodes r.target)
+  closes label no_fit = tt
+  closes label spent = tt
+
+  module _ (node : Node) (w : Walk) where
+    ends_ask : (bad : Bool) → IsPlanned (rebalance_lifted s (re.end_ask s.core r node bad)).state
+    ends_ask false = asks_on (record r { agreed = node.serial ∷ r.agreed }) _ _ (rest r.todo)
+    ends_ask true = tt
+
+    asks : (ends : Bool) → IsPlanned (rebalance_lifted s (re.ask_step s.core r node w ends)).state
+    asks true = ends_ask (is_bad w)
+    asks false = tt
+
+    takes_back : (ends : Bool) → IsPlanned (rebalance_lifted s (re.take_back s.core r node w ends)).state
+    takes_back true = asks_on r _ _ (those (re.is_not_above s.core.nodes node.serial) (rest r.todo))
+    takes_back false = tt
+
+    cancels : (ends : Bool) → has_plan r.found ≡ false → IsPlanned (rebalance_lifted s (re.cancel_step s.core r node w ends)).state
+    cancels true h = cancels_on r _ _ (rest r.todo) h
+    cancels false h = h
+
+    stops : (ends : Bool) → PlanFits r s.core.reserved s.core.nodes → IsPlanned (rebalance_lifted s (re.stop_step s.core r node w ends)).state
+    stops true h = stops_on r _ _ (rest r.todo) (fits_changed r node.serial (with_state states.Stopped) s.core.reserved s.core.nodes (held_state states.Stopped) h)
+    stops false h = h
+
+    ends_restart : (bad : Bool) → WholeAt r.target s.core.nodes → IsPlanned (rebalance_lifted s (re.end_restart s.core r node bad)).state
+    ends_restart true h = whole_changed r.target node.serial (with_state node.state) s.core.nodes (held_state node.state) h
+    ends_restart false h =
+        restarts_on r _ _ (re.startable (ended s.core node Minor.Start false).nodes (rest r.todo)) (whole_changed r.target node.serial (with_state states.Started) s.core.nodes (held_state states.Started) h)
+
+    restarts : (ends : Bool) → WholeAt r.target s.core.nodes → IsPlanned (rebalance_lifted s (re.restart_step s.core r node w ends)).state
+    restarts true h = ends_restart (is_bad w) h
+    restarts false h = h
+
+  fails : (node : Node) → WholeAt r.target s.core.nodes → IsPlanned (rebalance_lifted s (re.failed s.core r node)).state
+  fails node h =
+      restarts_on r _ _ (re.startable s.core.nodes (rest r.todo))
+      (whole_changed r.target node.serial (with_problem _) s.core.nodes (record { reqs = record { serial = λ n. refl; reqs = λ n. refl }; holds = λ n. refl }) h)
+
+  planned : (budget : ℕ) (stage : RebalanceStage) (n : Option Node) → StagePlan r stage s.core.reserved s.core.nodes
+      → AllNext (λ x. IsPlanned x.state) budget (option_map (doing_map (rebalance_lifted s)) (re.rebalance_step s.core r stage n))
+  planned budget RebalanceStage.Searching n h = λ found answer. searches budget found answer
+  planned budget RebalanceStage.Stuck n h = λ e. absurd (cc)
+  planned budget RebalanceStage.Committing n h = restarts_on r _ _ (re.startable s.core.nodes r.agreed) (target_whole r s.core.reserved s.core.nodes h)
+  planned budget RebalanceStage.Ending n h = closes (Label.End OpKind.Rebalance r.path (re.end_of r.found)) r.found
+  planned budget (RebalanceStage.Asking w) (Some node) h = asks node w _
+  planned budget (RebalanceStage.TakingBack w) (Some node) h = takes_back node w _
+  planned budget (RebalanceStage.Cancelling w) (Some node) h = cancels node w _ h
+  planned budget (RebalanceStage.Stopping w) (Some node) h = stops node w _ h
+  planned budget (RebalanceStage.Restarting w) (Some node) h = restarts node w _ h
+  planned budget RebalanceStage.Failed (Some node) h = fails node h
+  planned budget (RebalanceStage.Asking w) None h = tt
+  planned budget (RebalanceStage.TakingBack w) None h = tt
+  planned budget (RebalanceStage.Cancelling w) None h = tt
+  planned budget (RebalanceStage.Stopping w) None h = tt
+  planned budget (RebalanceStage.Restarting w) None h = tt
+  planned budget RebalanceStage.Failed None h = tt
+
+  planned_on : (budget : ℕ) (waits : Bool) → StagePlan r r.stage s.core.reserved s.core.nodes → AllNext (λ x. IsPlanned x.state) budget (operation_next s (Operation.Rebalancing r) waits)
+  planned_on budget true h = tt
+  planned_on budget false h = planned budget r.stage (first_node s.core.nodes r.todo) h
+
+-- Steps and events ------------------------------------------------------------------------------------
+
+-- an answer leaves its walk where it is
+answered_stage : (answer : Answer) (r : Rebalance) (stage : RebalanceStage) (reserved : List Res) (nodes : List Node) → StagePlan r stage reserved nodes
+    → StagePlan (record r { stage = ev.completed_rebalance answer stage }) (ev.completed_rebalance answer stage) reserved nodes
+answered_stage answer r (RebalanceStage.Asking w) reserved nodes h = tt
+answered_stage answer r (RebalanceStage.TakingBack w) reserved nodes h = tt
+answered_stage answer r RebalanceStage.Searching reserved nodes h = tt
+answered_stage answer r (RebalanceStage.Cancelling w) reserved nodes h = h
+answered_stage answer r RebalanceStage.Stuck reserved nodes h = h
+answered_stage answer r (RebalanceStage.Stopping w) reserved nodes h = h
+answered_stage answer r RebalanceStage.Committing reserved nodes h = h
+answered_stage answer r (RebalanceStage.Restarting w) reserved nodes h = h
+answered_stage answer r RebalanceStage.Failed reserved nodes h = h
+answered_stage answer r RebalanceStage.Ending reserved nodes h = h
+
+answered_plan : (answer : Answer) (o : Operation) (reserved : List Res) (nodes : List Node) → PlanKept (Some o) reserved nodes → PlanKept (Some (ev.completed answer o)) reserved nodes
+answered_plan answer (Operation.Rebalancing r) reserved nodes h = answered_stage answer r r.stage reserved nodes h
+answered_plan answer (Operation.Removing o) reserved nodes h = tt
+answered_plan answer (Operation.Surprising o) reserved nodes h = tt
+
+-- an operation that begins has found nothing yet
+begun_plan : (c : Core) (kind : OpKind) (node : Node) → PlanKept (Some (begun c kind node)) c.reserved c.nodes
+begun_plan c OpKind.Rebalance node =
+    asks_on (record { target = node.serial; path = node.path; todo = []; agreed = []; refused = []; found = no_fit; stage = RebalanceStage.Searching }) c.reserved c.nodes (reverse (serials_of (those re.is_asked c.nodes)))
+begun_plan c OpKind.Disable node = tt
+begun_plan c OpKind.Eject node = tt
+begun_plan c OpKind.Surprise node = tt
+
+-- what goes on and is no rebalance becomes none
+abbrev IsOther : Operation → Type 0
+IsOther (Operation.Rebalancing r) = ⊥
+IsOther _ = Unit {0}
+
+other_plan : (o p : Operation) (reserved : List Res) (nodes : List Node) → IsOther o → SameWork o p → PlanKept (Some p) reserved nodes
+other_plan (Operation.Rebalancing q) p reserved nodes other work = absurd other
+other_plan (Operation.Removing q) (Operation.Rebalancing r) reserved nodes other work = absurd (let e = work.sort in cc)
+other_plan (Operation.Surprising q) (Operation.Rebalancing r) reserved nodes other work = absurd (let e = work.kind in cc)
+other_plan o (Operation.Removing p) reserved nodes other work = tt
+other_plan o (Operation.Surprising p) reserved nodes other work = tt
+
+planned_as : (t : State) (o : Option Operation) (reserved : List Res) (nodes : List Node) → t.operation ≡ o → t.core.reserved ≡ reserved → t.core.nodes ≡ nodes → PlanKept o reserved nodes → IsPlanned t
+planned_as t o reserved nodes a b c h =
+    subst (λ (x : Option Operation). PlanKept x t.core.reserved t.core.nodes) (sym a)
+    (subst (λ (x : List Res). PlanKept o x t.core.nodes) (sym b) (subst (λ (x : List Node). PlanKept o reserved x) (sym c) h))
+
+stays_plan : (s t : State) (o : Option Operation) → s.operation ≡ o → t.operation ≡ s.operation → t.core.nodes ≡ s.core.nodes → RangeEffect s t → IsPlanned s → IsPlanned t
+stays_plan s t None none now nodes ranges h = planned_as t None t.core.reserved t.core.nodes (now ∙ none) refl refl tt
+stays_plan s t (Some o) runs now nodes ranges h = planned_as t s.operation s.core.reserved s.core.nodes now (ranges_stay s t o runs ranges) nodes h
+
+goes_plan : (settings : Settings) (s : State) (label : Label) (t : State) (o p : Operation) → s.operation ≡ Some o → t.operation ≡ Some p → SameWork o p → Goes settings s (Did label) t → IsPlanned s → IsPlanned t
+goes_plan settings s label t (Operation.Removing o) p runs now work goes h =
+    planned_as t (Some p) t.core.reserved t.core.nodes now refl refl (other_plan (Operation.Removing o) p t.core.reserved t.core.nodes tt work)
+goes_plan settings s label t (Operation.Surprising o) p runs now work goes h =
+    planned_as t (Some p) t.core.reserved t.core.nodes now refl refl (other_plan (Operation.Surprising o) p t.core.reserved t.core.nodes tt work)
+goes_plan settings s label t (Operation.Rebalancing r) p runs now work goes h =
+    let walk = is_waiting (operation_walk (Operation.Rebalancing r)) in
+    let plan = subst (λ (x : Option Operation). PlanKept x s.core.reserved s.core.nodes) runs h in
+    all_step (λ x. IsPlanned x.state) settings (next settings s) (record { label = label; state = t })
+    (subst (λ (x : Option Operation). AllNext (λ y. IsPlanned y.state) settings.budget (next_of settings s x)) (sym runs) (planned_on s r settings.budget walk plan)) goes
+
+event_plan : (s : State) (label : Label) (t : State) → RangeEffect s t → AnswerEffect s label t → IsPlanned s → IsPlanned t
+event_plan s label t ranges (AnswerEffect.stays word nodes acts now) h = stays_plan s t s.operation refl now nodes ranges h
+event_plan s label t ranges (AnswerEffect.answers word nodes k a ok at acts now) h = stays_plan s t s.operation refl now nodes ranges h
+event_plan s label t ranges (AnswerEffect.answered word nodes acts ok o runs now) h =
+    planned_as t (Some (ev.completed (ev.answer_of ok) o)) s.core.reserved s.core.nodes now (ranges_stay s t o runs ranges) nodes
+    (answered_plan (ev.answer_of ok) o s.core.reserved s.core.nodes (subst (λ (x : Option Operation). PlanKept x s.core.reserved s.core.nodes) runs h))
+
+step_plan : (settings : Settings) (s : State) (label : Label) (t : State) → OpEffect s label t → Goes settings s (Did label) t → IsPlanned s → IsPlanned t
+step_plan settings s label t (OpEffect.idles none now prints) goes h = planned_as t None t.core.reserved t.core.nodes now refl refl tt
+step_plan settings s label t (OpEffect.begins kind node none alone at fits is) goes h =
+    subst (λ (x : Step). IsPlanned x.state) (sym is) (begun_plan s.core kind node)
+step_plan settings s label t (OpEffect.goes o p runs now work prints) goes h = goes_plan settings s label t o p runs now work goes h
+step_plan settings s label t (OpEffect.ends o result runs now prints by) goes h = planned_as t None t.core.reserved t.core.nodes now refl refl tt
+
+planned_goes : (settings : Settings) (s : State) (entry : Entry) (t : State) → IsPlanned s → Goes settings s entry t → IsPlanned t
+planned_goes settings s (Happens event label) t h goes = let effect = effect_goes settings s (Happens event label) t goes in event_plan s label t effect.ranges effect.operation h
+planned_goes settings s (Did label) t h goes = step_plan settings s label t (effect_goes settings s (Did label) t goes).operation goes h
+
+pub reached_is_planned : (settings : Settings) (rack : List Driver) (s : State) → IsReached settings rack s → IsPlanned s
+reached_is_planned settings rack s reached = kept IsPlanned settings rack (λ old entry new before h goes. planned_goes settings old entry new h goes) tt s reached

@@ -1,0 +1,298 @@
+-- What a step of the machine, or an event, can do to a state: the one account that laws over steps read.
+use Rattle.std.specs.Prelude.{ℕ, ◌+◌, ◌≡◌, ◌≢◌, ◌⊎◌, ◌==◌, ◌&&◌, Bool, true, false, List, [], ◌∷◌, ◌++◌, Option, Some, None, length, map, find, drop, nat_le, slice_get}
+use Rattle.std.specs.List.{list_any}
+use Rattle.resource_reqs.specs.Resources.{Res, clashes}
+use Rattle.resource_reqs.specs.Spelling.{IsAnswer}
+use Rattle.resource_reqs.specs.Spelling.Answer.{assignment}
+use Rattle.pnp_labels.specs.Texts.{Text}
+use Rattle.pnp_labels.specs.declared.states.DevState.TheVariants.{NotStarted, Started}
+use Rattle.pnp_labels.specs.declared.states.Problem.{Problem}
+use Rattle.pnp_labels.specs.declared.words.Minor.{Minor}
+use Rattle.pnp_labels.specs.declared.event.Event.{Event}
+use Rattle.pnp_labels.specs.declared.label.OpKind.{OpKind}
+use Rattle.pnp_labels.specs.declared.label.OpEnd.{OpEnd}
+use Rattle.pnp_labels.specs.declared.label.Label.{Label}
+use Rattle.pnp_model.specs.Keyed.{changed_first, without_first}
+use Rattle.pnp_model.specs.Tests.{has, has_same, is_started}
+use Rattle.pnp_model.specs.Trees.{children, dependents}
+use Rattle.pnp_model.specs.Walks.{walk_of, may_fail, is_bad, has_ended, state_after}
+use Rattle.pnp_model.specs.Cores.{is_node, node_at, forget, bare, stacked, with_state, with_problem, with_stack, with_holds}
+use Rattle.pnp_model.specs.Frames.{first_node, fixed_beside, held_by}
+use Rattle.pnp_model.specs.States.{is_activity, activity_at, device_of, entered, node_of, with_phase, without_those}
+use Rattle.pnp_model.specs.Starts.{adding, own_part}
+use Rattle.pnp_model.specs.Rebalances.{begun_rebalance, committed, movers, plan_of}
+use Rattle.pnp_model.specs.Removals.{begun_removal}
+use Rattle.pnp_model.specs.Surprises.{begun_surprise}
+use Rattle.pnp_model.specs.Tasks.{begin, is_gone, join_step, joining}
+use Rattle.pnp_model.specs.Machine.{is_ready, operation_walk}
+use Rattle.pnp_model.specs.Events.{answer_of, completed, completed_phase}
+use Rattle.pnp_model.specs.Runs.{Entry, Goes, printed}
+use Rattle.pnp_model.specs.Runs.Entry.{Happens, Did}
+use Rattle.pnp_model.specs.Records.{Node, Core, Device, Relation, Walk, Activity, Phase, Task, Duty, State, Operation, Rebalance, RebalanceStage, Removal, RemovalStage, Settings, SurpriseStage}
+use Rattle.pnp_laws.specs.Words.{IsBeside, IsWord, NotTwelve, SameWork, EndsBy, is_removal, kind_of, path_of, joined}
+use Rattle.device_ids.specs.Folding as folding
+
+-- Who does it ----------------------------------------------------------------------
+
+-- no operation runs, and the start of device k, in this phase, is the first that is ready
+pub record Acting (s : State) (k : ℕ) (phase : Phase) : Type 0 where
+  pub none : s.operation ≡ None
+  pub activity : Activity
+  pub ready : find is_ready s.activities ≡ Some activity
+  pub own : activity.serial ≡ k
+  pub is : activity.phase ≡ phase
+
+-- the devices of an operation that are still to do, the one of its walk first
+abbrev pub todo_of : Operation → List ℕ
+todo_of (Operation.Rebalancing r) = r.todo
+todo_of (Operation.Removing o) = o.todo
+todo_of (Operation.Surprising o) = o.todo
+
+-- what is asked in a stage
+abbrev pub rebalance_minor : RebalanceStage → Option Minor
+rebalance_minor (RebalanceStage.Asking w) = Some Minor.QueryStop
+rebalance_minor (RebalanceStage.TakingBack w) = Some Minor.CancelStop
+rebalance_minor (RebalanceStage.Cancelling w) = Some Minor.CancelStop
+rebalance_minor (RebalanceStage.Stopping w) = Some Minor.Stop
+rebalance_minor (RebalanceStage.Restarting w) = Some Minor.Start
+rebalance_minor _ = None
+
+abbrev pub removal_minor : RemovalStage → Option Minor
+removal_minor (RemovalStage.Asking w) = Some Minor.QueryRemove
+removal_minor (RemovalStage.TakingBack w) = Some Minor.CancelRemove
+removal_minor (RemovalStage.Cancelling w) = Some Minor.CancelRemove
+removal_minor (RemovalStage.Removing w) = Some Minor.Remove
+removal_minor _ = None
+
+abbrev pub surprise_minor : SurpriseStage → Option Minor
+surprise_minor (SurpriseStage.Telling w) = Some Minor.SurpriseRemoval
+surprise_minor (SurpriseStage.Removing w) = Some Minor.Remove
+surprise_minor _ = None
+
+abbrev pub operation_minor : Operation → Option Minor
+operation_minor (Operation.Rebalancing r) = rebalance_minor r.stage
+operation_minor (Operation.Removing o) = removal_minor o.stage
+operation_minor (Operation.Surprising o) = surprise_minor o.stage
+
+-- a walk of the operation that runs, at its first device
+pub record Asking (s : State) (node : Node) (minor : Minor) (w : Walk) : Type 0 where
+  pub operation : Operation
+  pub runs : s.operation ≡ Some operation
+  pub first : first_node s.core.nodes (todo_of operation) ≡ Some node
+  pub walk : operation_walk operation ≡ Some w
+  pub minor_is : operation_minor operation ≡ Some minor
+
+-- the request whose walk through the drivers of a device ends: by the start of the device, or by the operation that runs
+pub data Request (s : State) (node : Node) : Minor → Walk → Type 0 where
+  starts : (w : Walk) → Acting s node.serial (Phase.Starting w) → Request s node Minor.Start w
+  undoes : (w : Walk) → Acting s node.serial (Phase.Removing w) → Request s node Minor.Remove w
+  operates : (minor : Minor) (w : Walk) → Asking s node minor w → Request s node minor w
+
+-- only requests that may fail end badly
+abbrev pub ends_bad : Minor → Walk → Bool
+ends_bad minor w = may_fail minor && is_bad w
+
+-- what was found for one device beside all others
+pub record Assigned (s : State) (node : Node) (plan : List (List Res)) : Type 0 where
+  pub at : node_at node.serial s.core.nodes ≡ Some node
+  pub budget : ℕ
+  pub answer : IsAnswer (fixed_beside s.core (node.serial ∷ [])) (node.reqs ∷ []) budget (assignment plan)
+
+-- its search is next
+abbrev pub IsSearch : Phase → Type 0
+IsSearch (Phase.Adding []) = Unit {0}
+IsSearch Phase.Searching = Unit {0}
+IsSearch _ = ⊥
+
+-- Nodes and relations ----------------------------------------------------------------
+
+-- how a device changes that keeps its drivers: by the end of a walk, by a problem that is set or cleared, by one driver
+-- more, or by resources that were found for it
+pub data Alters (s : State) (label : Label) : ℕ → (Node → Node) → Type 0 where
+  walked : (node : Node) (minor : Minor) (w : Walk) (bad : Bool) → node_at node.serial s.core.nodes ≡ Some node → Request s node minor w → minor ≢ Minor.Remove
+      → has_ended w (length node.stack) ≡ true → ends_bad minor w ≡ bad → label ≡ Label.State node.path (state_after minor bad node.state)
+      → Alters s label node.serial (with_state (state_after minor bad node.state))
+  troubled : (j : ℕ) (problem : Option Problem) → Alters s label j (with_problem problem)
+  stacks : (node : Node) (d : ℕ) (ds : List ℕ) → node_at node.serial s.core.nodes ≡ Some node → Acting s node.serial (Phase.Adding (d ∷ ds))
+      → Alters s label node.serial (with_stack (node.stack ++ d ∷ []) (stacked node.state))
+  assigned : (node : Node) (phase : Phase) (plan : List (List Res)) → Acting s node.serial phase → IsSearch phase → Assigned s node plan
+      → Alters s label node.serial (with_holds (own_part plan))
+
+pub record Related (s : State) (r : Relation) : Type 0 where
+  pub none : s.operation ≡ None
+  pub owner : Node
+  pub member : Node
+  pub owner_path : Text
+  pub member_path : Text
+  pub owner_at : node_of owner_path s.core.nodes ≡ Some owner
+  pub member_at : node_of member_path s.core.nodes ≡ Some member
+  pub owner_is : r.owner ≡ owner.serial
+  pub member_is : r.member ≡ member.serial
+  pub owner_up : is_started owner.state ≡ true
+  pub member_up : is_started member.state ≡ true
+  pub apart : (owner.serial == member.serial) ≡ false
+  pub free : has (dependents s.core member.serial) owner.serial ≡ false
+
+pub data NodeEffect (s : State) (label : Label) (t : State) : Type 0 where
+  same : t.core.nodes ≡ s.core.nodes → t.core.relations ≡ s.core.relations → NodeEffect s label t
+  changed : (j : ℕ) (f : Node → Node) → Alters s label j f → t.core.nodes ≡ changed_first (is_node j) f s.core.nodes → t.core.relations ≡ s.core.relations → NodeEffect s label t
+  -- a REMOVE walk ended: the device loses drivers, holdings and relations
+  stripped : (node : Node) (w : Walk) → node_at node.serial s.core.nodes ≡ Some node → Request s node Minor.Remove w → has_ended w (length node.stack) ≡ true
+      → label ≡ Label.State node.path (state_after Minor.Remove false node.state)
+      → t.core.nodes ≡ changed_first (is_node node.serial) bare s.core.nodes → t.core.relations ≡ forget node.serial s.core.relations → NodeEffect s label t
+  -- the plan of a rebalance is used
+  commits : (r : Rebalance) → s.operation ≡ Some (Operation.Rebalancing r) → r.stage ≡ RebalanceStage.Committing
+      → t.core.nodes ≡ map (committed (movers r) (plan_of r.found)) s.core.nodes → t.core.relations ≡ s.core.relations → NodeEffect s label t
+  joins : (node : Node) (d : Device) → s.operation ≡ None → node_at node.serial s.core.nodes ≡ Some node → node.state ≡ Started
+      → joining node.born s.core.nodes s.world ≡ Some d → record { label = label; state = t } ≡ join_step s node d → NodeEffect s label t
+  left : (node : Node) (o : Operation) → s.operation ≡ Some o → first_node s.core.nodes (todo_of o) ≡ Some node
+      → t.core.nodes ≡ without_first (is_node node.serial) s.core.nodes → t.core.relations ≡ s.core.relations → NodeEffect s label t
+  related : (r : Relation) → Related s r → t.core.nodes ≡ s.core.nodes → t.core.relations ≡ s.core.relations ++ r ∷ [] → NodeEffect s label t
+
+-- Ranges, world, disabled paths --------------------------------------------------------
+
+pub data RangeEffect (s t : State) : Type 0 where
+  same : t.core.reserved ≡ s.core.reserved → RangeEffect s t
+  reserves : (res : Res) → s.operation ≡ None → list_any (clashes res) (s.core.reserved ++ held_by s.core.nodes) ≡ false → t.core.nodes ≡ s.core.nodes → t.core.reserved ≡ s.core.reserved ++ res ∷ [] → RangeEffect s t
+
+pub record Plugged (s : State) (entry : Entry) (d : Device) : Type 0 where
+  pub over : Device
+  pub parent : Text
+  pub label : Label
+  pub there : device_of parent s.world ≡ Some over
+  pub under : d.parent ≡ over.born
+  pub born : d.born ≡ s.next_born
+  pub room : nat_le (length s.world) 4096 ≡ true
+  pub event : entry ≡ Happens (Event.Plug parent d.path d.hw d.compat d.reqs) label
+
+-- what leaves the world: a device that is not the root, or the device of a node that leaves
+abbrev pub Unplugs : State → ℕ → Type 0
+Unplugs s born =
+    ((d : Device) × (path : Text) × (device_of path s.world ≡ Some d) × (d.born ≡ born) × ((d.born == 0) ≡ false))
+    ⊎ ((node : Node) × (o : Operation) × (s.operation ≡ Some o) × (first_node s.core.nodes (todo_of o) ≡ Some node) × (node.born ≡ born))
+
+pub data WorldEffect (s : State) (entry : Entry) (t : State) : Type 0 where
+  same : t.world ≡ s.world → t.next_born ≡ s.next_born → WorldEffect s entry t
+  plugged : (d : Device) → Plugged s entry d → t.world ≡ s.world ++ d ∷ [] → t.next_born ≡ s.next_born + 1 → WorldEffect s entry t
+  unplugged : (born : ℕ) → Unplugs s born → t.world ≡ without_those (born ∷ []) s.world → t.next_born ≡ s.next_born → WorldEffect s entry t
+
+pub data PathEffect (s : State) (label : Label) (t : State) : Type 0 where
+  same : t.disabled ≡ s.disabled → PathEffect s label t
+  disables : (o : Removal) (node : Node) → s.operation ≡ Some (Operation.Removing o) → first_node s.core.nodes o.todo ≡ Some node → label ≡ Label.Trouble node.path Problem.Disabled
+      → t.disabled ≡ s.disabled ++ node.path ∷ [] → PathEffect s label t
+  enables : (path : Text) → t.disabled ≡ without_first (folding.same path) s.disabled → PathEffect s label t
+
+-- The operation ------------------------------------------------------------------------
+
+-- the operation of a kind, as it begins
+abbrev pub begun : Core → OpKind → Node → Operation
+begun c OpKind.Rebalance node = Operation.Rebalancing (begun_rebalance c node)
+begun c OpKind.Disable node = Operation.Removing (begun_removal c OpKind.Disable node)
+begun c OpKind.Eject node = Operation.Removing (begun_removal c OpKind.Eject node)
+begun c OpKind.Surprise node = Operation.Surprising (begun_surprise c node)
+
+-- what is tested before it begins
+abbrev pub BeginsFor : State → OpKind → Node → Type 0
+BeginsFor s OpKind.Rebalance node = (node.state ≡ NotStarted) × (activity_at node.serial s.activities ≡ None)
+BeginsFor s OpKind.Disable node = has_same node.path s.disabled ≡ false
+BeginsFor s OpKind.Eject node = Unit {0}
+BeginsFor s OpKind.Surprise node = Unit {0}
+
+-- an activity prints the problem that it owes
+pub record Owes (s : State) (label : Label) : Type 0 where
+  pub activity : Activity
+  pub ready : find is_ready s.activities ≡ Some activity
+  pub problem : Problem
+  pub is : activity.phase ≡ Phase.Due problem
+  pub path : Text
+  pub prints : label ≡ Label.Trouble path problem
+
+-- an event leaves operation and activities as they are, or answers one walk
+pub data AnswerEffect (s : State) (label : Label) (t : State) : Type 0 where
+  stays : IsWord label → t.core.nodes ≡ s.core.nodes → t.activities ≡ s.activities → t.operation ≡ s.operation → AnswerEffect s label t
+  answers : IsWord label → t.core.nodes ≡ s.core.nodes → (k : ℕ) (a : Activity) (ok : Bool) → activity_at k s.activities ≡ Some a
+      → t.activities ≡ changed_first (is_activity k) (with_phase (completed_phase (answer_of ok) a.phase)) s.activities → t.operation ≡ s.operation → AnswerEffect s label t
+  answered : IsWord label → t.core.nodes ≡ s.core.nodes → t.activities ≡ s.activities → (ok : Bool) (o : Operation) → s.operation ≡ Some o → t.operation ≡ Some (completed (answer_of ok) o) → AnswerEffect s label t
+
+-- in a step none runs; or one begins, goes on, or ends
+pub data OpEffect (s : State) (label : Label) (t : State) : Type 0 where
+  idles : s.operation ≡ None → t.operation ≡ None → IsBeside label ⊎ Owes s label → OpEffect s label t
+  begins : (kind : OpKind) (node : Node) → s.operation ≡ None → s.activities ≡ [] → node_at node.serial s.core.nodes ≡ Some node → BeginsFor s kind node
+      → record { label = label; state = t } ≡ begin s kind node (begun s.core kind node) → OpEffect s label t
+  goes : (o p : Operation) → s.operation ≡ Some o → t.operation ≡ Some p → SameWork o p
+      → IsBeside label ⊎ ((kind_of o ≡ OpKind.Rebalance) × (label ≡ Label.Trouble (path_of o) Problem.NormalConflict)) → OpEffect s label t
+  ends : (o : Operation) (result : OpEnd) → s.operation ≡ Some o → t.operation ≡ None → label ≡ Label.End (kind_of o) (path_of o) result → EndsBy (is_removal o) result → OpEffect s label t
+
+abbrev pub OperationEffect : State → Entry → State → Type 0
+OperationEffect s (Happens event label) t = AnswerEffect s label t
+OperationEffect s (Did label) t = OpEffect s label t
+
+-- Activities -----------------------------------------------------------------------------
+
+-- why the start of a device begins in a phase: its drivers were chosen; or the rebalance for it closes
+pub data Enters (s : State) (k : ℕ) (t : State) : Phase → Type 0 where
+  installs : (drivers : List ℕ) → activity_at k s.activities ≡ None → Enters s k t (adding drivers)
+  restarts : (r : Rebalance) (plan : List (List Res)) → s.operation ≡ Some (Operation.Rebalancing r) → r.stage ≡ RebalanceStage.Ending → r.target ≡ k → r.found ≡ assignment plan → t.core.nodes ≡ s.core.nodes
+      → Enters s k t (Phase.Starting (walk_of Minor.Start))
+  undoes : (r : Rebalance) → s.operation ≡ Some (Operation.Rebalancing r) → r.target ≡ k → Enters s k t (Phase.Removing (walk_of Minor.Remove))
+
+-- how the start of device k goes on
+pub data PhaseStep (s : State) (k : ℕ) (t : State) : Phase → Phase → Type 0 where
+  added : (d : ℕ) (ds : List ℕ) → Acting s k (Phase.Adding (d ∷ ds)) → PhaseStep s k t (Phase.Adding (d ∷ ds)) (adding ds)
+  fits : (phase : Phase) (node : Node) (plan : List (List Res)) → Acting s k phase → IsSearch phase → Assigned s node plan → node.serial ≡ k
+      → t.core.nodes ≡ changed_first (is_node k) (with_holds (own_part plan)) s.core.nodes → PhaseStep s k t phase (Phase.Starting (walk_of Minor.Start))
+  asked : (w v : Walk) → Acting s k (Phase.Starting w) → t.core.nodes ≡ s.core.nodes → PhaseStep s k t (Phase.Starting w) (Phase.Starting v)
+  fails : (phase : Phase) (problem : Problem) → Acting s k phase → NotTwelve problem → PhaseStep s k t phase (Phase.Due problem)
+  undoes : (phase : Phase) (w : Walk) → Acting s k phase → PhaseStep s k t phase (Phase.Removing w)
+  answered : (a : Activity) (ok : Bool) → activity_at k s.activities ≡ Some a → t.core.nodes ≡ s.core.nodes → PhaseStep s k t a.phase (completed_phase (answer_of ok) a.phase)
+
+pub data ActivityEffect (s t : State) : Type 0 where
+  same : t.activities ≡ s.activities → ActivityEffect s t
+  enters : (k : ℕ) (phase : Phase) → Enters s k t phase → t.activities ≡ entered (record { serial = k; phase = phase }) s.activities → ActivityEffect s t
+  goes : (k : ℕ) (old new : Phase) → PhaseStep s k t old new → t.activities ≡ changed_first (is_activity k) (with_phase new) s.activities → ActivityEffect s t
+  ends : (k : ℕ) (phase : Phase) → Acting s k phase → t.activities ≡ without_first (is_activity k) s.activities → ActivityEffect s t
+
+-- Tasks ------------------------------------------------------------------------------------
+
+-- why a step appends a task
+pub data Origin (s : State) : Duty → ℕ → Type 0 where
+  lists : (k : ℕ) → Origin s Duty.Listing k
+  joins : Origin s Duty.Starting s.next_serial
+  needs : (k : ℕ) (phase : Phase) → Acting s k phase → Origin s (Duty.Begins OpKind.Rebalance) k
+  surprises : (over : ℕ) (child : Node) → find (is_gone s) (children over s.core.nodes) ≡ Some child → Origin s (Duty.Begins OpKind.Surprise) child.serial
+
+-- an event appends one task at most
+pub data CommandEffect (s t : State) : Type 0 where
+  same : t.tasks ≡ s.tasks → CommandEffect s t
+  lists : (k : ℕ) → t.tasks ≡ s.tasks ++ record { kind = Duty.Listing; serial = k } ∷ [] → CommandEffect s t
+  starts : (path : Text) (n : Node) → node_of path s.core.nodes ≡ Some n → t.tasks ≡ s.tasks ++ record { kind = Duty.Starting; serial = n.serial } ∷ [] → CommandEffect s t
+  begins : (kind : OpKind) (n : Node) (path : Text) → node_of path s.core.nodes ≡ Some n → (n.serial == 0) ≡ false
+      → t.tasks ≡ s.tasks ++ record { kind = Duty.Begins kind; serial = n.serial } ∷ [] → CommandEffect s t
+
+pub data TaskEffect (s t : State) : Type 0 where
+  same : t.tasks ≡ s.tasks → TaskEffect s t
+  appended : (task : Task) → Origin s task.kind task.serial → t.tasks ≡ s.tasks ++ task ∷ [] → TaskEffect s t
+  dropped : (task : Task) → s.operation ≡ None → slice_get s.tasks 0 ≡ Some task → t.tasks ≡ drop 1 s.tasks → TaskEffect s t
+  -- the surprise removal of a device that failed its restart
+  put_first : (node : Node) (r : Rebalance) → s.operation ≡ Some (Operation.Rebalancing r) → r.stage ≡ RebalanceStage.Failed → first_node s.core.nodes r.todo ≡ Some node
+      → t.tasks ≡ record { kind = Duty.Begins OpKind.Surprise; serial = node.serial } ∷ s.tasks → TaskEffect s t
+
+abbrev pub TasksEffect : State → Entry → State → Type 0
+TasksEffect s (Happens event label) t = CommandEffect s t
+TasksEffect s (Did label) t = TaskEffect s t
+
+-- All of it --------------------------------------------------------------------------------
+
+pub record Effect (s : State) (entry : Entry) (t : State) : Type 0 where
+  pub nodes : NodeEffect s (printed entry) t
+  pub ranges : RangeEffect s t
+  pub operation : OperationEffect s entry t
+  pub activities : ActivityEffect s t
+  pub tasks : TasksEffect s entry t
+  pub world : WorldEffect s entry t
+  pub paths : PathEffect s (printed entry) t
+  pub serial : t.next_serial ≡ s.next_serial + joined (printed entry)
+
+-- each step and each event has one
+abbrev pub EffectLaw : Type 0
+EffectLaw = (settings : Settings) (s : State) (entry : Entry) (t : State) → Goes settings s entry t → Effect s entry t
