@@ -114,7 +114,14 @@ fn take_in(
                 items.push(header_of(alloc, number, symbols.as_slice())?)?;
                 return Ok(None);
             }
-            settle(items, Open { number, symbols: Symbols::new(alloc) }, symbols)
+            settle(
+                items,
+                Open {
+                    number,
+                    symbols: Symbols::new(alloc),
+                },
+                symbols,
+            )
         }
     }
 }

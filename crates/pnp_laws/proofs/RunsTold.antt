@@ -212,8 +212,7 @@ states_are_told settings rack entries old (Did label) new run goes =
           let at_k : node_at k old.core.nodes ≡ Some node = subst (λ (i : ℕ). node_at i old.core.nodes ≡ Some node) k_is e.at in
           let one : node ≡ n = some_same (node_at k old.core.nodes) node n at_k at in
           let under = subst (λ (i : ℕ). IsUnder old i e.request) k_is e.under in
-          let row = row_of old k node e.request all.good at_k under (ends_bad e.request) refl in
-          (
+          let row = row_of old k node e.request all.good at_k under (ends_bad e.request) refl in (
             e.request,
             under,
             subst (λ (x : Node). has_ended e.request.walk (length x.stack) ≡ true) one e.ended,

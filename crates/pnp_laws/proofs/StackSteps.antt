@@ -128,7 +128,7 @@ asked s step node w at on nodes rack adds minor shown label =
       adds = adds;
       names = λ d. ap (λ r. name_or_none (slice_get r d)) rack ∙ names_after (AskWhat.Irp w.minor) node.path s.core.rack (next_driver node w) d;
       asks = subst (λ (l : Label). AsksFit s l) (sym label)
-      (node, place_of w.minor (length node.stack) w.asked, at, place_below w (length node.stack) on, refl);
+          (node, place_of w.minor (length node.stack) w.asked, at, place_below w (length node.stack) on, refl);
     }
 
 -- Tasks -----------------------------------------------------------------------------
