@@ -98,9 +98,9 @@ search-preserved-then-live c =
     let f : Frame = record { before = c.search.spot; step = c.in-Some.child.step; next = c.in-Some.child.next; res = c.in-Some.child.res } in
     let live = (live_now (held_in c.args.board.now) (map reqs_of c.args.movers.now) (lists_of c.args.board.now) (same_itself (held_in c.args.board.now))
     c.search.path.items (lists_of c.search.board) c.search.spot c.search.from c.search.count c.search.invariant.state
-    c.in-Some.child c.in-Some.ensures.found (lists_of c.hold.new.board) c.in_ok-live.live c.in_ok-hold.ensures.held c.in_ok-live.ensures.listed 
+    c.in-Some.child c.in-Some.ensures.found (lists_of c.hold.new.board) c.in_ok-live.live c.in_ok-hold.ensures.held c.in_ok-live.ensures.listed
     (λ res before some within' adds groups lists. c.in_ok-live.ensures.placed res before some adds
-        (all_watched_less before (held_in c.search.board) within' (map reqs_of c.args.movers.now) c.search.watch.sure c.search.watch.places.items c.search.invariant.watched) groups lists)).0 c.if-live.true in
+    (all_watched_less before (held_in c.search.board) within' (map reqs_of c.args.movers.now) c.search.watch.sure c.search.watch.places.items c.search.invariant.watched) groups lists)).0 c.if-live.true in
     let path_is : c.grow-then-live.new.path.items ≡ c.search.path.items ++ f ∷ [] =
     c.in_ok-grow-2.ensures.path ∙ ap (λ x. c.search.path.items ++ x ∷ []) c.frame_of-then-live.ensures in
     let lists_are : lists_of c.grow-then-live.new.board ≡ lists_of c.hold.new.board = ap lists_of (c.in_ok-grow-2.ensures.board ∙ c.in_ok-live.ensures.board) in
@@ -147,9 +147,9 @@ search-preserved c =
     (c.release-else-live.ensures ∙ ap lists_of c.in_ok-live.ensures.board ∙ c.in_ok-hold.ensures.held) in
     let live = live_now (held_in c.args.board.now) (map reqs_of c.args.movers.now) (lists_of c.args.board.now) (same_itself (held_in c.args.board.now))
     c.search.path.items (lists_of c.search.board) c.search.spot c.search.from c.search.count c.search.invariant.state
-    c.in-Some.child c.in-Some.ensures.found (lists_of c.hold.new.board) c.in_ok-live.live c.in_ok-hold.ensures.held c.in_ok-live.ensures.listed 
+    c.in-Some.child c.in-Some.ensures.found (lists_of c.hold.new.board) c.in_ok-live.live c.in_ok-hold.ensures.held c.in_ok-live.ensures.listed
     (λ res before some within' adds groups lists. c.in_ok-live.ensures.placed res before some adds
-        (all_watched_less before (held_in c.search.board) within' (map reqs_of c.args.movers.now) c.search.watch.sure c.search.watch.places.items c.search.invariant.watched) groups lists) in
+    (all_watched_less before (held_in c.search.board) within' (map reqs_of c.args.movers.now) c.search.watch.sure c.search.watch.places.items c.search.invariant.watched) groups lists) in
     record {
       state = subst (λ l. Inv (held_in c.args.board.now) (map reqs_of c.args.movers.now) (lists_of c.args.board.now) c.search.path.items l c.search.spot c.in-Some.child.next (c.search.count + 1)) (sym same)
           (dead_child (held_in c.args.board.now) (map reqs_of c.args.movers.now) (lists_of c.args.board.now) (same_itself (held_in c.args.board.now))
