@@ -1,15 +1,13 @@
--- What is printed for a trace: one text at most, and step by step.
-use Rattle.std.proofs.Common.{◌≡◌, ℕ, List, [], ◌∷◌, ◌++◌, refl, sym, ◌∙◌, ap, ap₂, subst}
-use Rattle.pnp_labels.specs.Texts.{Text}
+-- From a state there is one way on at most.
+use Rattle.std.proofs.Common.{◌≡◌, List, [], ◌∷◌, refl, sym, ◌∙◌, ap, ap₂, subst}
 use Rattle.pnp_labels.specs.declared.event.Event.{Event}
 use Rattle.pnp_labels.specs.declared.label.Label.{Label}
 use Rattle.pnp_model.specs.Records.{State, Step, Settings}
 use Rattle.pnp_model.specs.Machine.{Steps, IsStep, IsQuiet}
 use Rattle.pnp_model.proofs.Determined.{one_label, one_state}
-use Rattle.script_reader.specs.Script.{Trace, gives, waits, ends, stops}
-use Rattle.pnp_cli.specs.Outputs.{Settles, Follows, Prints, text_of}
+use Rattle.pnp_cli.specs.Outputs.{Settles, Follows}
 
-no_step : (settings : Settings) (s new : State) (label : Label) → IsQuiet settings s → Steps settings s label new → ⊥
+pub no_step : (settings : Settings) (s new : State) (label : Label) → IsQuiet settings s → Steps settings s label new → ⊥
 no_step settings s new label quiet step =
     subst (λ o. IsStep settings o (record { label = label; state = new })) quiet step
 
@@ -37,7 +35,7 @@ label_of_step step = step.label
 abbrev state_of_step : Step → State
 state_of_step step = step.state
 
-follows_one : (settings : Settings) (s a b : State) (event : Event) (labels labels' : List Label)
+pub follows_one : (settings : Settings) (s a b : State) (event : Event) (labels labels' : List Label)
     → Follows settings s event labels a → Follows settings s event labels' b → SameEnd labels labels' a b
 follows_one settings s a b event labels labels' h g =
     let step : record { label = h.first; state = h.begun } ≡ record { label = g.first; state = g.begun } = sym h.happened ∙ g.happened in
@@ -49,17 +47,9 @@ follows_one settings s a b event labels labels' h g =
       state = rest.state;
     }
 
--- a script has one output at most
-pub prints_one : (settings : Settings) (s : State) (t : Trace) (x y : Text) → Prints settings s t x → Prints settings s t y → x ≡ y
-prints_one settings s (gives number event rest) x y (labels, new, more, follows, prints, is) (labels', new', more', follows', prints', is') =
-    let same : SameEnd labels labels' new new' = follows_one settings s new new' event labels labels' follows follows' in
-    let texts : more ≡ more' = prints_one settings new' rest more more' (subst (λ m. Prints settings m rest more) same.state prints) prints' in
-    is ∙ ap₂ (λ ls m. text_of ls ++ m) same.labels texts ∙ sym is'
-prints_one settings s ends x y h g = h ∙ sym g
-prints_one settings s (stops number) x y h g = h ∙ sym g
-prints_one settings s waits x y h g = absurd h
-
--- one event more
-pub prints_more : (settings : Settings) (s new : State) (number : ℕ) (event : Event) (rest : Trace) (labels : List Label) (more : Text)
-    → Follows settings s event labels new → Prints settings new rest more → Prints settings s (gives number event rest) (text_of labels ++ more)
-prints_more settings s new number event rest labels more follows prints = (labels, new, more, follows, prints, refl)
+-- a step that is made is the first of all
+pub peel : (settings : Settings) (s mid new : State) (label : Label) (labels : List Label) → Steps settings s label mid → Settles settings s labels new
+    → (rest : List Label) × (labels ≡ label ∷ rest) × Settles settings mid rest new
+peel settings s mid new label [] steps h = absurd (no_step settings s mid label h.1 steps)
+peel settings s mid new label (x ∷ xs) steps (mid', step, more) =
+    (xs, ap (λ l. l ∷ xs) (one_label settings s x label mid' mid step steps), subst (λ m. Settles settings m xs new) (one_state settings s x label mid' mid step steps) more)
