@@ -42,10 +42,12 @@ decided_told (Some told) name bad m m' t t' c c' h = decided_file bad m m' (told
 wrote_file : (bad : Option ℕ) (m m' : Manager) (file : Option (List ℕ)) (t t' t'' : Option Text) (c c' : Tally) → Ran bad m file t c m' t' c' → Appends t' t'' (line_of_bad bad ++ end_text m'.state)
     → Wrote (IsPrintedFor (settings m) m.state file) t t''
 wrote_file bad m m' file t t' t'' c c' h took =
-    subst (λ (x : Option (List ℕ)). Wrote (IsPrintedFor (settings m) m.state x) t t'') (sym h.there)
-    (written (events_of h.script) h.labels m'.state, (h.labels, m'.state, h.plays, refl),
+    subst (λ (x : Option (List ℕ)). Wrote (IsPrintedFor (settings m) m.state x) t t'') (sym h.there) (
+      written (events_of h.script) h.labels m'.state,
+      (h.labels, m'.state, h.plays, refl),
       subst (λ (x : Text). Appends t t'' (text_of h.labels ++ (x ++ end_text m'.state))) (sym h.line)
-      (appends_both t t' t'' (text_of h.labels) (line_of_bad bad ++ end_text m'.state) h.told.took took))
+          (appends_both t t' t'' (text_of h.labels) (line_of_bad bad ++ end_text m'.state) h.told.took took),
+    )
 
 pub wrote_told : (contents : Option (Text → Option (List ℕ))) (name : Text) (bad : Option ℕ) (m m' : Manager) (t t' t'' : Option Text) (c c' : Tally)
     → IfSome contents (λ told. Ran bad m (told name) t c m' t' c') → Appends t' t'' (line_of_bad bad ++ end_text m'.state)

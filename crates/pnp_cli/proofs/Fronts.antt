@@ -43,9 +43,11 @@ front_in old new xs ys h =
 
 -- behind a whole text a front of another
 pub front_after : (old mid new : Option (List ℕ)) (xs ys : List ℕ) → Appends old mid xs → AppendsFront mid new ys → AppendsFront old new (xs ++ ys)
-front_after old mid new xs ys h g =
-    (length xs + g.0, omega (arith, g.1, length-append xs ys),
-      subst (λ (t : List ℕ). Appends old new t) (sym (take_after xs ys g.0)) (appends_both old mid new xs (take g.0 ys) h g.2))
+front_after old mid new xs ys h g = (
+  length xs + g.0,
+  omega (arith, g.1, length-append xs ys),
+  subst (λ (t : List ℕ). Appends old new t) (sym (take_after xs ys g.0)) (appends_both old mid new xs (take g.0 ys) h g.2),
+)
 
 -- a front of whatever the output is, where nothing was written
 pub none_of_output : (s : Option Settings) (contents : Option (Text → Option (List ℕ))) (rack : List Driver) (taken : Option Text)

@@ -364,10 +364,10 @@ last_file : (m m' : Manager) (file : Option (List ℕ)) (bytes : List ℕ) (t t'
 last_file m m' file bytes t t' t'' labels r there goes took front =
     subst (λ (x : Option (List ℕ)). TookFront (settings m) m.state x t t'') (sym there)
     (λ all last plays.
-        let leads : Leads (settings m) m.state (trace true 0 (bytes ++ [])) labels m'.state (trace true r.passed (r.rest ++ [])) = goes.leads true [] (λ shut_. absurd (let e : false ≡ true = shut_ in cc)) in
-        let b = leads.back all last (subst (λ (x : List ℕ). Plays (settings m) m.state (trace true 0 x) all last) (sym (append-nil bytes)) plays) in
-        lines_front t t' t'' all labels b.0 b.1 took
-        (front true [] b.0 last (λ shut_. (refl, refl)) (subst (λ (x : Settings). Plays x m'.state (trace true r.passed (r.rest ++ [])) b.0 last) (sym goes.same) b.2)))
+    let leads : Leads (settings m) m.state (trace true 0 (bytes ++ [])) labels m'.state (trace true r.passed (r.rest ++ [])) = goes.leads true [] (λ shut_. absurd (let e : false ≡ true = shut_ in cc)) in
+    let b = leads.back all last (subst (λ (x : List ℕ). Plays (settings m) m.state (trace true 0 x) all last) (sym (append-nil bytes)) plays) in
+    lines_front t t' t'' all labels b.0 b.1 took
+    (front true [] b.0 last (λ shut_. (refl, refl)) (subst (λ (x : Settings). Plays x m'.state (trace true r.passed (r.rest ++ [])) b.0 last) (sym goes.same) b.2)))
 
 pub so_far_front_last : (contents : Option (List ℕ → Option (List ℕ))) (name : List ℕ) (m m' : Manager) (t t' t'' : Option Text) (c c' : Tally) (at n : ℕ) (r : Reading) (old new : List ℕ)
     → SoFar contents name m t c at m' r t' c' → ReadsTold contents name at n old new → n ≡ 0 → 0 < length old → TakenFront m' (shut r) t' t''

@@ -83,5 +83,14 @@ pub fn run_pieces<R: Drivers, F: Files, K: Sink>(
 {
     let mut buffer = vec![in alloc; 0u8; PIECE]?;
     let mut reader = Reader::new(alloc);
-    run_through(alloc, manager, files, name, &mut buffer, &mut reader, sink, tally)
+    run_through(
+        alloc,
+        manager,
+        files,
+        name,
+        &mut buffer,
+        &mut reader,
+        sink,
+        tally,
+    )
 }

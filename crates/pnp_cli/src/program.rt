@@ -11,8 +11,8 @@ ghost use Rattle.pnp_cli.specs.Lawful.{OfOutput, SomeRun, OfRun, EachState, Each
 ghost use Rattle.pnp_cli.specs.Limits.{IsWithin};
 ghost use Rattle.driver_rack.specs.Rows.{unnamed};
 
-use crate::infs::{InfsError, read_infs, refusal_line};
 use crate::ending::write_end;
+use crate::infs::{InfsError, read_infs, refusal_line};
 use crate::parts::{Settings, WordsError};
 use crate::pieces::run_pieces;
 use crate::status::Status;

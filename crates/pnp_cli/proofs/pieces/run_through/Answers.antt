@@ -31,9 +31,9 @@ returns-then-n-eq0-clause-ran g c =
     (λ (bad : Option ℕ). TakenBad bad c.pieces.manager (shut c.pieces.reader) (g.K.Sink.taken c.pieces.sink) c.pieces.tally c.take_last.new.manager c.take_last.new.reader (g.K.Sink.taken c.take_last.new.sink) c.take_last.new.tally)
     (λ (bad : Option ℕ). IfSome (g.F.Files.contents c.args.files.now) (λ told. Ran bad c.args.manager.now (told c.args.name.now) (g.K.Sink.taken c.args.sink.now) c.args.tally.now c.take_last.new.manager (g.K.Sink.taken c.take_last.new.sink) c.take_last.new.tally))
     (λ bad taken.
-        ran_end (g.F.Files.contents c.args.files.now) c.args.name.now bad c.args.manager.now c.pieces.manager c.take_last.new.manager
-        (g.K.Sink.taken c.args.sink.now) (g.K.Sink.taken c.pieces.sink) (g.K.Sink.taken c.take_last.new.sink) c.args.tally.now c.pieces.tally c.take_last.new.tally
-        c.pieces.at c.in_ok-n.n c.pieces.reader c.take_last.new.reader c.pieces.buffer c.read.new.into c.pieces.invariant.so reads c.if-n-eq0.true c.pieces.invariant.long taken)
+    ran_end (g.F.Files.contents c.args.files.now) c.args.name.now bad c.args.manager.now c.pieces.manager c.take_last.new.manager
+    (g.K.Sink.taken c.args.sink.now) (g.K.Sink.taken c.pieces.sink) (g.K.Sink.taken c.take_last.new.sink) c.args.tally.now c.pieces.tally c.take_last.new.tally
+    c.pieces.at c.in_ok-n.n c.pieces.reader c.take_last.new.reader c.pieces.buffer c.read.new.into c.pieces.invariant.so reads c.if-n-eq0.true c.pieces.invariant.long taken)
     c.take_last.ensures.ok
 
 pub returns-then-n-eq0-clause-front : goal.returns-then-n-eq0-clause-front
