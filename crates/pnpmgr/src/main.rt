@@ -2,12 +2,10 @@
 //! itself: whatever comes before `run` has a status of its own.
 #![tactic(auto)]
 
-ghost use Rattle.std.specs.Prelude.{◌≤◌, IfOk, length};
-
 use driver_rack::{Driver, Scripted, Steady, Stubborn};
 use pnp_cli::{Status, run};
 use pnp_io::{HostFiles, HostSink};
-use std::alloc::{AllocError, Global};
+use std::alloc::AllocError;
 use std::io::ErrorKind;
 use std::process::ExitCode;
 
@@ -19,23 +17,6 @@ const STEADY: u32 = 32;
 
 /// How many stubborn drivers the rack has: this project's own.
 const STUBBORN: u32 = 16;
-
-/// The rack: scripted drivers, then steady ones, then stubborn ones.
-fn make_rack(alloc: Global) -> Result<Vec<Box<dyn Driver>>, AllocError>
-    ensures { IfOk result (λ rack. length rack.items ≤ 176) }
-{
-    let mut rack: Vec<Box<dyn Driver>> = Vec::new(alloc);
-    'scripted: for _ in 0..SCRIPTED {
-        rack.push(Box::new(alloc, Scripted::make(alloc)?)?)?;
-    }
-    'steady: for _ in 0..STEADY {
-        rack.push(Box::new(alloc, Steady::make())?)?;
-    }
-    'stubborn: for _ in 0..STUBBORN {
-        rack.push(Box::new(alloc, Stubborn::make())?)?;
-    }
-    Ok(rack)
-}
 
 /// The words of the command line. Words that are not UTF-8 are refused as `BadWords`; else memory was refused.
 fn words_of(rt: &HostRuntime) -> Result<Vec<String>, Status> {
@@ -51,18 +32,33 @@ fn words_of(rt: &HostRuntime) -> Result<Vec<String>, Status> {
     }
 }
 
-/// Runs what the words name.
-fn answer(rt: &HostRuntime) -> Status {
-    let words = match words_of(rt) {
-        Ok(words) => words,
-        Err(status) => return status,
-    };
-    let Ok(rack) = make_rack(rt.alloc()) else {
-        return Status::WantOfMemory;
-    };
+/// Runs what the words name, over the rack: scripted drivers, then steady ones, then stubborn ones.
+fn run_words(rt: &HostRuntime, words: &[String]) -> Result<Status, AllocError> {
+    let alloc = rt.alloc();
+    let mut rack: Vec<Box<dyn Driver>> = Vec::new(alloc);
+    'scripted: for _ in 0..SCRIPTED {
+        rack.push(Box::new(alloc, Scripted::make(alloc)?)?)?;
+    }
+    'steady: for _ in 0..STEADY {
+        rack.push(Box::new(alloc, Steady::make())?)?;
+    }
+    'stubborn: for _ in 0..STUBBORN {
+        rack.push(Box::new(alloc, Stubborn::make())?)?;
+    }
     let mut files = HostFiles::make(rt);
     let mut sink = HostSink::make(rt);
-    run(rt.alloc(), &words, rack, &mut files, &mut sink)
+    Ok(run(alloc, words, rack, &mut files, &mut sink))
+}
+
+/// The status of a run.
+fn answer(rt: &HostRuntime) -> Status {
+    match words_of(rt) {
+        Err(status) => status,
+        Ok(words) => match run_words(rt, &words) {
+            Ok(status) => status,
+            Err(_) => Status::WantOfMemory,
+        },
+    }
 }
 
 fn main(rt: HostRuntime) -> ExitCode {

@@ -1,5 +1,5 @@
 use Rattle.std.proofs.Common.{◌≤◌, ◌+◌, length}
-use Rattle.pnpmgr.proofs.make_rack.Given as goal
+use Rattle.pnpmgr.proofs.run_words.Given as goal
 
 abbrev pub invariant-scripted : goal.invariant-scripted
 invariant-scripted l = length l.rack.items ≤ l.counter
