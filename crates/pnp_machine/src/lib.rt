@@ -18,10 +18,6 @@ mod operation;
 mod starting;
 mod starts;
 mod tasks;
-#[cfg(test)]
-mod tests;
-#[cfg(test)]
-mod tests_parts;
 mod turn;
 
 pub use manager::{Manager, Moved};

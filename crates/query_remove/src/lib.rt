@@ -6,8 +6,6 @@ mod frame;
 mod next;
 mod queue;
 mod settling;
-#[cfg(test)]
-mod tests;
 mod walking;
 
 pub use frame::{Removal, has_drivers};
