@@ -1,5 +1,5 @@
 -- What is printed for a script tells a run, and that run keeps the laws.
-use Rattle.std.proofs.Common.{◌≡◌, ℕ, List, [], ◌∷◌, ◌++◌, Option, Some, None, IfSome, Result, Ok, Err, map, refl, sym, ◌∙◌, ap, subst, append_assoc}
+use Rattle.std.proofs.Common.{◌≡◌, ℕ, List, [], ◌∷◌, ◌++◌, Option, Some, None, IfSome, Result, Ok, Err, map, refl, sym, ◌∙◌, ap, subst}
 use Rattle.pnp_labels.specs.Texts.{Text}
 use Rattle.pnp_labels.specs.declared.event.Event.{Event}
 use Rattle.pnp_labels.specs.declared.label.Label.{Label}
@@ -21,14 +21,14 @@ use Rattle.pnp_laws.proofs.RunsConflict.{each_conflict_is_real}
 use Rattle.pnp_laws.proofs.JoinLimits.{joins_are_limited}
 use Rattle.script_reader.specs.Script.{Trace, gives, waits, ends, stops}
 use Rattle.inf_reader.specs.declared.parts.Inf.{Inf}
-use Rattle.pnp_cli.specs.Outputs.{Settles, Follows, Prints, text_of, end_text}
+use Rattle.pnp_cli.specs.Outputs.{Settles, Follows, Plays, Prints, written}
 use Rattle.pnp_cli.specs.Infs.{infs_in}
-use Rattle.pnp_cli.specs.Runs.{IsOutput, IsOutputBy, IsScriptOutput, machine, events_of}
+use Rattle.pnp_cli.specs.Runs.{IsOutput, IsOutputBy, IsScriptOutput, machine}
+use Rattle.pnp_cli.specs.Contents.{events_of}
 use Rattle.pnp_cli.specs.Words.{settings_of}
-use Rattle.pnp_cli.specs.Lawful.{happened, events_in, bad_text, SomeRun, OfRun, EachState, EachStep, OfScript, OfInfs, OfOutput, ByDiagram, NothingClashes, AllHoldWhole, OperationsBegan, EndsRestore, DependentsGoFirst, ConflictsAreReal, FewJoin, AllStatesTold, NodesAreKeyed, NothingOnItself, MapIsClear, AllStacksFit, NamesAreKnown}
+use Rattle.pnp_cli.specs.Lawful.{happened, events_in, SomeRun, OfRun, EachState, EachStep, OfScript, OfInfs, OfOutput, ByDiagram, NothingClashes, AllHoldWhole, OperationsBegan, EndsRestore, DependentsGoFirst, ConflictsAreReal, FewJoin, AllStatesTold, NodesAreKeyed, NothingOnItself, MapIsClear, AllStacksFit, NamesAreKnown}
 use Rattle.pnp_cli.specs.declared.infs.InfsError.{InfsError}
 use Rattle.pnp_cli.specs.declared.parts.Settings.{Settings}
-use Rattle.pnp_cli.proofs.Texts.{text_append}
 
 -- What is printed is told by a run ---------------------------------------------------
 
@@ -60,44 +60,40 @@ map_printed [] ys = refl
 map_printed (x ∷ xs) ys = ap (λ (ls : List Label). printed x ∷ ls) (map_printed xs ys)
 
 -- the same from any state on
-record Told (settings : machines.Settings) (s : State) (t : Trace) (text : Text) : Type 0 where
+record Telling (settings : machines.Settings) (s : State) (t : Trace) (labels : List Label) (last : State) : Type 0 where
   entries : List Entry
-  last : State
   run : Run settings s entries last
   rests : IsQuiet settings last
   events : happened entries ≡ events_in t
-  is : text ≡ text_of (map printed entries) ++ (bad_text t ++ end_text last)
+  shows : map printed entries ≡ labels
 
-told_event : (settings : machines.Settings) (s new : State) (number : ℕ) (event : Event) (rest : Trace) (labels : List Label) (more : Text) → IsQuiet settings s → Follows settings s event labels new → Told settings new rest more
-    → Told settings s (gives number event rest) (text_of labels ++ more)
-told_event settings s new number event rest labels more quiet h told =
+telling_event : (settings : machines.Settings) (s new last : State) (number : ℕ) (event : Event) (rest : Trace) (labels more : List Label) → IsQuiet settings s → Follows settings s event labels new → Telling settings new rest more last
+    → Telling settings s (gives number event rest) (labels ++ more) last
+telling_event settings s new last number event rest labels more quiet h told =
     let first : List Entry = Happens event h.first ∷ done h.more in
     let own : map printed first ≡ labels = ap (λ (ls : List Label). h.first ∷ ls) (done_printed h.more) ∙ sym h.printed in
     record {
       entries = first ++ told.entries;
-      last = told.last;
-      run = run_on settings s new told.last first told.entries (h.begun, (quiet, h.happened), done_run settings h.begun new h.more h.settled) told.run;
+      run = run_on settings s new last first told.entries (h.begun, (quiet, h.happened), done_run settings h.begun new h.more h.settled) told.run;
       rests = told.rests;
       events = ap (λ (es : List Event). event ∷ es) (done_happened h.more told.entries ∙ told.events);
-      is =
-          ap (λ (x : Text). text_of labels ++ x) told.is
-          ∙ sym (append_assoc (text_of labels) (text_of (map printed told.entries)) (bad_text rest ++ end_text told.last))
-          ∙ ap (λ (x : Text). x ++ (bad_text rest ++ end_text told.last))
-          (sym (text_append labels (map printed told.entries)) ∙ ap (λ (ls : List Label). text_of (ls ++ map printed told.entries)) (sym own) ∙ ap text_of (sym (map_printed first told.entries)));
+      shows = map_printed first told.entries ∙ ap (λ (ls : List Label). ls ++ map printed told.entries) own ∙ ap (λ (ls : List Label). labels ++ ls) told.shows;
     }
 
-told_prints : (settings : machines.Settings) (s : State) (t : Trace) (text : Text) → IsQuiet settings s → Prints settings s t text → Told settings s t text
-told_prints settings s (gives number event rest) text quiet (labels, new, more, follows, prints, is) =
+telling_plays : (settings : machines.Settings) (s : State) (t : Trace) (labels : List Label) (last : State) → IsQuiet settings s → Plays settings s t labels last → Telling settings s t labels last
+telling_plays settings s (gives number event rest) labels last quiet (here, new, more, follows, plays, is) =
     let now_quiet = done_quiet settings follows.begun new follows.more follows.settled in
-    subst (λ (x : Text). Told settings s (gives number event rest) x) (sym is) (told_event settings s new number event rest labels more quiet follows (told_prints settings new rest more now_quiet prints))
-told_prints settings s ends text quiet is = record { entries = []; last = s; run = refl; rests = quiet; events = refl; is = is }
-told_prints settings s (stops number) text quiet is = record { entries = []; last = s; run = refl; rests = quiet; events = refl; is = is }
-told_prints settings s waits text quiet is = absurd is
+    subst (λ (x : List Label). Telling settings s (gives number event rest) x last) (sym is) (telling_event settings s new last number event rest here more quiet follows (telling_plays settings new rest more last now_quiet plays))
+telling_plays settings s ends labels last quiet is =
+    subst (λ (x : List Label). Telling settings s ends x last) (sym is.0) (record { entries = []; run = is.1; rests = subst (λ (x : State). IsQuiet settings x) (sym is.1) quiet; events = refl; shows = refl })
+telling_plays settings s (stops number) labels last quiet is =
+    subst (λ (x : List Label). Telling settings s (stops number) x last) (sym is.0) (record { entries = []; run = is.1; rests = subst (λ (x : State). IsQuiet settings x) (sym is.1) quiet; events = refl; shows = refl })
+telling_plays settings s waits labels last quiet is = absurd is
 
 some_run : (settings : machines.Settings) (rack : List Driver) (t : Trace) (text : Text) → Prints settings (opening rack) t text → SomeRun settings rack t text
-some_run settings rack t text prints =
-    let told = told_prints settings (opening rack) t text refl prints in
-    (told.entries, told.last, record { run = told.run; rests = told.rests; events = told.events; is = told.is })
+some_run settings rack t text (labels, last, plays, is) =
+    let told = telling_plays settings (opening rack) t labels last refl plays in
+    (told.entries, last, record { run = told.run; rests = told.rests; events = told.events; is = is ∙ ap (λ (ls : List Label). written t ls last) (sym told.shows) })
 
 -- What is said of outputs ----------------------------------------------------------------
 

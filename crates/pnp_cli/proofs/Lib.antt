@@ -1,10 +1,12 @@
-pub mod Texts
 pub mod FewIds
-pub mod Settling
-pub mod Printing
-pub mod Lawfulness
-pub mod Turning
 pub mod Fronts
+pub mod Telling
+pub mod Sameness
+pub mod Settling
+pub mod Going
+pub mod Whole
+pub mod Ended
+pub mod Lawfulness
 pub mod Refusals
 pub mod WordRows
 pub mod InfSteps

@@ -19,9 +19,10 @@ use Rattle.pnp_laws.specs.Stacks.{NamesDriver, StacksFit}
 use Rattle.pnp_laws.specs.Told.{StatesTold}
 use Rattle.script_reader.specs.Script.{Trace, gives, waits, ends, stops}
 use Rattle.inf_reader.specs.declared.parts.Inf.{Inf}
-use Rattle.pnp_cli.specs.Outputs.{text_of, error_line, end_text}
+use Rattle.pnp_cli.specs.Outputs.{written}
 use Rattle.pnp_cli.specs.Infs.{infs_in}
-use Rattle.pnp_cli.specs.Runs.{Given, IsOutput, machine, events_of}
+use Rattle.pnp_cli.specs.Contents.{events_of}
+use Rattle.pnp_cli.specs.Runs.{Given, IsOutput, machine}
 use Rattle.pnp_cli.specs.declared.infs.InfsError.{InfsError}
 
 -- The run that an output tells ----------------------------------------------------------
@@ -39,19 +40,12 @@ events_in waits = []
 events_in ends = []
 events_in (stops number) = []
 
--- the line of the first bad line, if there is one
-abbrev pub bad_text : Trace → Text
-bad_text (gives number event rest) = bad_text rest
-bad_text waits = []
-bad_text ends = []
-bad_text (stops number) = error_line number
-
 -- the text tells this run of the events, up to where nothing is next: a line for each label, then the bad line, then the end
 pub record IsTold (settings : machines.Settings) (rack : List Driver) (t : Trace) (text : Text) (entries : List Entry) (last : State) : Type 0 where
   pub run : Reaches settings rack entries last
   pub rests : IsQuiet settings last
   pub events : happened entries ≡ events_in t
-  pub is : text ≡ text_of (map printed entries) ++ (bad_text t ++ end_text last)
+  pub is : text ≡ written t (map printed entries) last
 
 -- a step of a run, with the entries before it
 pub record IsStep (settings : machines.Settings) (rack : List Driver) (entries : List Entry) (last : State) (earlier : List Entry) (old : State) (entry : Entry) (new : State) : Type 0 where

@@ -1,7 +1,10 @@
 pub mod Words
 pub mod Infs
 pub mod Outputs
+pub mod Contents
+pub mod Tallies
 pub mod Turns
+pub mod Pieces
 pub mod Runs
 pub mod Lawful
 pub mod Limits

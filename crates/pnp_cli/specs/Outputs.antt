@@ -1,5 +1,5 @@
--- What a run writes: the lines of its labels, the line of a bad line, and the end of the output.
-use Rattle.std.specs.Prelude.{ℕ, ◌≡◌, Bool, true, false, List, [], ◌∷◌, ◌++◌, map, codes}
+-- What a run prints: the lines of its labels, the line of a bad line, and the end of the output.
+use Rattle.std.specs.Prelude.{ℕ, ◌≡◌, List, [], ◌∷◌, ◌++◌, map, codes}
 use Rattle.std.specs.Fmt.{decimal}
 use Rattle.pnp_labels.specs.Texts.{Text, label_line}
 use Rattle.pnp_labels.specs.declared.event.Event.{Event}
@@ -24,6 +24,16 @@ pub record Follows (settings : Settings) (s : State) (event : Event) (labels : L
   pub printed : labels ≡ first ∷ more
   pub settled : Settles settings begun more new
 
+-- From a quiet state, the events of a script happen one after another: these are all labels, up to the end of the script or
+-- to its first bad line, and this is the last state.
+abbrev pub Plays : Settings → State → Trace → List Label → State → Type 0
+Plays settings s (gives number event rest) labels last =
+    (here : List Label) × (new : State) × (more : List Label)
+    × Follows settings s event here new × Plays settings new rest more last × (labels ≡ here ++ more)
+Plays settings s ends labels last = (labels ≡ []) × (last ≡ s)
+Plays settings s (stops number) labels last = (labels ≡ []) × (last ≡ s)
+Plays settings s waits labels last = ⊥
+
 -- a line for each label
 abbrev pub text_of : List Label → Text
 text_of labels = joined (map label_line labels)
@@ -31,22 +41,21 @@ text_of labels = joined (map label_line labels)
 abbrev pub error_line : ℕ → Text
 error_line number = codes "script error line " ++ decimal number ++ 10 ∷ []
 
+-- the line of the first bad line, if there is one
+abbrev pub bad_text : Trace → Text
+bad_text (gives number event rest) = bad_text rest
+bad_text waits = []
+bad_text ends = []
+bad_text (stops number) = error_line number
+
 -- the end of the output: tree, map, and outstanding requests
 abbrev pub end_text : State → Text
 end_text s = joined (ending s)
 
--- from a quiet state, what is written for the events of a script, one after another, and for how it ends
-abbrev pub Prints : Settings → State → Trace → Text → Type 0
-Prints settings s (gives number event rest) out =
-    (labels : List Label) × (new : State) × (more : Text)
-    × Follows settings s event labels new × Prints settings new rest more × (out ≡ text_of labels ++ more)
-Prints settings s ends out = out ≡ end_text s
-Prints settings s (stops number) out = out ≡ error_line number ++ end_text s
-Prints settings s waits out = ⊥
+-- what is written of labels and of a last state, for a script
+abbrev pub written : Trace → List Label → State → Text
+written t labels last = text_of labels ++ (bad_text t ++ end_text last)
 
--- whether a line is bad
-abbrev pub has_bad : Trace → Bool
-has_bad (gives number event rest) = has_bad rest
-has_bad ends = false
-has_bad waits = false
-has_bad (stops number) = true
+-- what is written for the events of a script from a quiet state on, and for how it ends
+abbrev pub Prints : Settings → State → Trace → Text → Type 0
+Prints settings s t text = (labels : List Label) × (last : State) × Plays settings s t labels last × (text ≡ written t labels last)

@@ -1,16 +1,16 @@
 -- What a run writes and answers, by the words and by the contents of the files as they are told.
-use Rattle.std.specs.Prelude.{◌≡◌, ◌⊎◌, ℕ, Bool, true, false, nat_le, List, [], ◌∷◌, ◌++◌, Option, Some, None, IfSome, Result, Ok, Err, length, if◌then◌else◌}
+use Rattle.std.specs.Prelude.{◌≡◌, ◌⊎◌, ℕ, Bool, true, false, List, [], ◌∷◌, ◌++◌, Option, Some, None, IfSome, Result, Ok, Err}
 use Rattle.pnp_io.specs.Outside.{Appends, AppendsFront}
 use Rattle.pnp_labels.specs.Texts.{Text}
 use Rattle.pnp_model.specs.Records as machines
 use Rattle.pnp_model.specs.Records.{Driver}
 use Rattle.pnp_model.specs.Runs.{opening}
-use Rattle.script_reader.specs.Script.{Trace, trace}
 use Rattle.inf_reader.specs.declared.parts.Inf.{Inf}
-use Rattle.pnp_cli.specs.Outputs.{Prints, has_bad}
+use Rattle.pnp_cli.specs.Outputs.{Prints}
+use Rattle.pnp_cli.specs.Contents.{events_of, script_status}
 use Rattle.start_sequence.specs.Begins as begins
 use Rattle.pnp_cli.specs.Words.{settings_of}
-use Rattle.pnp_cli.specs.Infs.{limit, infs_in, refusal_line}
+use Rattle.pnp_cli.specs.Infs.{infs_in, refusal_line}
 use Rattle.pnp_cli.specs.declared.infs.InfsError.{InfsError}
 use Rattle.pnp_cli.specs.declared.infs.InfsError.TheVariants as faults
 use Rattle.pnp_cli.specs.declared.parts.Settings.{Settings}
@@ -24,14 +24,14 @@ named s = s.infs ++ s.script ∷ []
 abbrev pub machine : List Inf → ℕ → machines.Settings
 machine infs budget = begins.settings_of infs budget
 
--- what the bytes of a script give
-abbrev pub events_of : List ℕ → Trace
-events_of script = trace true 0 script
+-- what is written for a script from a state on: nothing, where it is not there
+abbrev pub IsPrintedFor : machines.Settings → machines.State → Option (List ℕ) → Text → Type 0
+IsPrintedFor told_machine s None text = text ≡ []
+IsPrintedFor told_machine s (Some script) text = Prints told_machine s (events_of script) text
 
--- what is written for a script: nothing, where it is not there
+-- the same from the opening state on
 abbrev pub IsScriptOutput : machines.Settings → List Driver → Option (List ℕ) → Text → Type 0
-IsScriptOutput told_machine rack None text = text ≡ []
-IsScriptOutput told_machine rack (Some script) text = Prints told_machine (opening rack) (events_of script) text
+IsScriptOutput told_machine rack script text = IsPrintedFor told_machine (opening rack) script text
 
 -- the same, by what the INFs come to: the line of the first one that is refused; nothing, where one is not there or too large
 abbrev pub IsOutputBy : List Driver → ℕ → Result (List Inf) InfsError → Option (List ℕ) → Text → Type 0
@@ -42,16 +42,6 @@ IsOutputBy rack budget (Err error) script text = text ≡ []
 -- the output for settings, by the contents of the files and the kinds and books of a rack
 abbrev pub IsOutput : List Driver → (Text → Option (List ℕ)) → Settings → Text → Type 0
 IsOutput rack told s text = IsOutputBy rack s.budget (infs_in told s.infs) (told s.script) text
-
--- the answer for a script with a bad line or without
-abbrev pub answer_of : Bool → Status
-answer_of true = Status.BadScript
-answer_of false = Status.Done
-
--- the answer for a script, or none where it is not there
-abbrev pub script_status : Option (List ℕ) → Option Status
-script_status None = None
-script_status (Some script) = Some (if nat_le (length script) limit then answer_of (has_bad (events_of script)) else Status.TooLarge)
 
 -- the same, by what the INFs come to; an INF that is not there gives none
 abbrev pub status_by : Result (List Inf) InfsError → Option (List ℕ) → Option Status

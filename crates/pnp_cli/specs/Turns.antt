@@ -1,73 +1,121 @@
--- How the reading of a script and the running of its events go on together, turn by turn.
-use Rattle.std.specs.Prelude.{ℕ, ◌≡◌, ◌<◌, ◌+◌, true, List, ◌++◌, Option, Some, None, length}
+-- How the reading of a script and the running of its events go on together.
+use Rattle.std.specs.Prelude.{ℕ, ◌≡◌, ◌≤◌, ◌+◌, ◌^◌, Bool, true, List, [], ◌++◌, Option, Some, None, length}
+use Rattle.pnp_io.specs.Outside.{Appends, AppendsFront}
 use Rattle.pnp_labels.specs.Texts.{Text}
 use Rattle.pnp_labels.specs.declared.event.Event.{Event}
 use Rattle.pnp_labels.specs.declared.label.Label.{Label}
 use Rattle.pnp_model.specs.Records.{State, Settings}
 use Rattle.pnp_model.specs.Machine.{IsQuiet}
-use Rattle.pnp_machine.specs.Managers.{Manager, settings, IsRunOf}
 use Rattle.script_reader.specs.Reading.{Reading}
-use Rattle.script_reader.specs.Script.{Trace, ends, stops, trace}
-use Rattle.pnp_cli.specs.Outputs.{Settles, Follows, Prints, has_bad, text_of}
-use Rattle.pnp_cli.specs.declared.output.Turn.{Turn}
-use Rattle.pnp_cli.specs.declared.output.Turn.TheVariants.{On, End, Bad}
+use Rattle.script_reader.specs.Script.{Trace, trace, waits, ends, stops, MayFollow, IsStuck, Waits, Ends}
+use Rattle.pnp_machine.specs.Managers.{Manager, settings, IsRunOf}
+use Rattle.pnp_cli.specs.Outputs.{Settles, Follows, Plays, bad_text, text_of}
+use Rattle.pnp_cli.specs.Tallies.{with_all}
+use Rattle.pnp_cli.specs.Contents.{answer_of}
+use Rattle.pnp_cli.specs.declared.tally.Tally.{Tally}
+use Rattle.pnp_cli.specs.declared.turn.Ending.{Ending}
+use Rattle.pnp_cli.specs.declared.turn.Ending.TheVariants.{NeedsMore, Over, Bad}
 
 -- a state of a run in which nothing is next
 pub record Awaits (m : Manager) : Type 0 where
   pub run : IsRunOf (settings m) m.events m.state
   pub quiet : IsQuiet (settings m) m.state
 
--- the machine stepped until it was quiet, and the lines of its labels were appended
-pub record Settled (old : Manager) (out : Text) (new : Manager) (out' : Text) : Type 0 where
+-- the lines of these labels were written, and the labels counted
+pub record Told (old : Option Text) (tally : Tally) (labels : List Label) (new : Option Text) (tally' : Tally) : Type 0 where
+  pub took : Appends old new (text_of labels)
+  pub counted : tally' ≡ with_all tally labels
+
+-- some front of what waits was written, and the rest waits
+pub record Passes (old : Option Text) (waits : Text) (new : Option Text) (waits' : Text) : Type 0 where
+  pub wrote : Text
+  pub took : Appends old new wrote
+  pub all : waits ≡ wrote ++ waits'
+
+-- The lines of these labels came behind those that waited; some front of all of them was written, and the others wait.
+pub record Held (old : Option Text) (waits : Text) (tally : Tally) (labels : List Label) (new : Option Text) (waits' : Text) (tally' : Tally) : Type 0 where
+  pub wrote : Text
+  pub took : Appends old new wrote
+  pub all : waits ++ text_of labels ≡ wrote ++ waits'
+  pub counted : tally' ≡ with_all tally labels
+
+-- the machine stepped until it was quiet; what waited was written, and the lines of its labels, which were counted
+pub record Settled (old : Manager) (taken : Option Text) (waits : Text) (tally : Tally) (new : Manager) (taken' : Option Text) (tally' : Tally) : Type 0 where
   pub labels : List Label
   pub settles : Settles (settings old) old.state labels new.state
-  pub appended : out' ≡ out ++ text_of labels
+  pub took : Appends taken taken' (waits ++ text_of labels)
+  pub counted : tally' ≡ with_all tally labels
   pub same : settings new ≡ settings old
   pub events : new.events ≡ old.events
   pub run : IsRunOf (settings new) new.events new.state
 
--- the machine did what follows from the event, and the lines of its labels were appended
-pub record Answered (old : Manager) (event : Event) (out : Text) (new : Manager) (out' : Text) : Type 0 where
+-- the machine did what follows from the event, and its labels were told
+pub record Answered (old : Manager) (event : Event) (taken : Option Text) (tally : Tally) (new : Manager) (taken' : Option Text) (tally' : Tally) : Type 0 where
   pub labels : List Label
   pub follows : Follows (settings old) old.state event labels new.state
-  pub appended : out' ≡ out ++ text_of labels
+  pub told : Told taken tally labels taken' tally'
   pub same : settings new ≡ settings old
   pub events : new.events ≡ old.events + 1
   pub run : IsRunOf (settings new) new.events new.state
 
--- what is left to read
-abbrev pub left : Reading → Trace
-left r = trace true r.passed r.rest
+-- a front was written of what waits and of the lines of whatever labels follow
+abbrev pub SettlesFront : Manager → Text → Option Text → Option Text → Type 0
+SettlesFront m behind old new = (labels : List Label) (last : State) → Settles (settings m) m.state labels last → AppendsFront old new (behind ++ text_of labels)
 
--- these bytes, and then what is printed for the new state and the rest of the script, are what is printed for the old ones
-pub record Leads (told : Settings) (s : State) (t : Trace) (x : Text) (s' : State) (t' : Trace) : Type 0 where
-  pub prints : (more : Text) → Prints told s' t' more → Prints told s t (x ++ more)
-  pub bad : has_bad t ≡ has_bad t'
+abbrev pub FollowsFront : Manager → Event → Option Text → Option Text → Type 0
+FollowsFront m event old new = (labels : List Label) (last : State) → Follows (settings m) m.state event labels last → AppendsFront old new (text_of labels)
 
--- the same with what was appended, where the machine awaits what comes
-pub record Goes (m : Manager) (t : Trace) (out : Text) (m' : Manager) (t' : Trace) (out' : Text) : Type 0 where
-  pub text : Text
-  pub leads : Leads (settings m) m.state t text m'.state t'
-  pub appended : out' ≡ out ++ text
+-- The run of t from s begins with these labels and goes on as that of t' from s', and both ends are alike.
+pub record Leads (told : Settings) (s : State) (t : Trace) (labels : List Label) (s' : State) (t' : Trace) : Type 0 where
+  pub on : (more : List Label) (last : State) → Plays told s' t' more last → Plays told s t (labels ++ more) last
+  pub back : (all : List Label) (last : State) → Plays told s t all last → (more : List Label) × (all ≡ labels ++ more) × Plays told s' t' more last
+  pub bad : bad_text t ≡ bad_text t'
+  pub answer : answer_of t ≡ answer_of t'
+
+-- However the script goes on behind these bytes, its run begins with these labels and goes on from the bytes that are left.
+pub record Goes (finished : Bool) (m : Manager) (passed : ℕ) (bytes : List ℕ) (labels : List Label) (m' : Manager) (passed' : ℕ) (rest : List ℕ) : Type 0 where
+  pub leads : (later : Bool) (more : List ℕ) → MayFollow finished [] later more
+      → Leads (settings m) m.state (trace later passed (bytes ++ more)) labels m'.state (trace later passed' (rest ++ more))
   pub same : settings m' ≡ settings m
   pub awaits : Awaits m'
 
-abbrev pub end_of : Option ℕ → Trace
-end_of None = ends
-end_of (Some number) = stops number
+-- how a reader stands that has given all its events
+abbrev pub Stands : Ending → Reading → Type 0
+Stands NeedsMore r = Waits r.finished r.rest
+Stands Over r = Ends r.finished r.rest
+Stands (Bad line) r = IsStuck r.finished r.rest × (line ≡ r.passed + 1)
 
-abbrev pub Turned : Turn → Manager → Reading → Text → Manager → Reading → Text → Type 0
-Turned On m r out m' r' out' =
-    Goes m (left r) out m' (left r') out' × (r'.finished ≡ true) × (length r'.rest < length r.rest) × (m'.events ≡ m.events + 1)
-Turned End m r out m' r' out' = Goes m (left r) out m' ends out'
-Turned (Bad number) m r out m' r' out' = Goes m (left r) out m' (stops number) out'
+-- all events of what was fed happened
+pub record Taken (m : Manager) (r : Reading) (taken : Option Text) (tally : Tally) (ending : Ending) (m' : Manager) (r' : Reading) (taken' : Option Text) (tally' : Tally) : Type 0 where
+  pub labels : List Label
+  pub goes : Goes r.finished m r.passed r.rest labels m' r'.passed r'.rest
+  pub told : Told taken tally labels taken' tally'
+  pub finished : r'.finished ≡ r.finished
+  pub fed : r'.fed ≡ r.fed
+  pub room : m'.events + length r'.rest ≤ m.events + length r.rest
+  pub stands : Stands ending r'
 
--- all events happened, and the script is at its end or at a bad line
-abbrev pub Ended : Option ℕ → Manager → Reading → Text → Manager → Text → Type 0
-Ended bad m r out m' out' = Goes m (left r) out m' (end_of bad) out'
+-- of whatever the bytes that are left, and those that follow, come to, a front of the lines was written
+abbrev pub TakenFront : Manager → Reading → Option Text → Option Text → Type 0
+TakenFront m r old new =
+    (later : Bool) (more : List ℕ) (labels : List Label) (last : State) → MayFollow r.finished [] later more
+    → Plays (settings m) m.state (trace later r.passed (r.rest ++ more)) labels last → AppendsFront old new (text_of labels)
 
--- what is printed was appended
-pub record Printed (m : Manager) (t : Trace) (out out' : Text) : Type 0 where
-  pub text : Text
-  pub prints : Prints (settings m) m.state t text
-  pub appended : out' ≡ out ++ text
+-- the number of the bad line, if there is one
+abbrev pub bad_of : Ending → Option ℕ
+bad_of NeedsMore = None
+bad_of Over = None
+bad_of (Bad line) = Some line
+
+-- all events of what was fed happened, and this is the number of the bad line, if there is one
+pub record TakenBad (bad : Option ℕ) (m : Manager) (r : Reading) (taken : Option Text) (tally : Tally) (m' : Manager) (r' : Reading) (taken' : Option Text) (tally' : Tally) : Type 0 where
+  pub ending : Ending
+  pub events : Taken m r taken tally ending m' r' taken' tally'
+  pub number : bad ≡ bad_of ending
+
+-- the reader to which this piece is fed, and the one that is finished
+abbrev pub fed_with : List ℕ → Reading → Reading
+fed_with piece r = record r { rest = r.rest ++ piece; fed = r.fed + length piece; stored = r.stored + length piece }
+
+abbrev pub shut : Reading → Reading
+shut r = record r { finished = true }

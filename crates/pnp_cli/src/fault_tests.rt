@@ -1,8 +1,9 @@
 //! Memory or writes that are refused on the way: the status says so, and what was written is a front of the output. The
 //! first three are for runs in which one allocation fails (`rt try --test --fail-alloc N`).
-use crate::Status;
 use crate::row_tests::{ONE_DEVICE_SCRIPT, ONE_DEVICE_TEXT, OWN_INF, ended};
-use pnp_io::MemSink;
+use crate::word_tests::words_of;
+use crate::{Status, run};
+use pnp_io::{MemFiles, MemSink};
 use std::alloc::Global;
 use std::process::Abort;
 use std::test::Fail;
@@ -263,5 +264,46 @@ fn each_write_fails(rt: HostRuntime) -> Result<(), Fail> {
         assert_eq!(rt; status, Status::WriteFault);
         assert!(rt; sink.taken() == &text[..room], "{:?}", sink.taken());
     }
+    Ok(())
+}
+
+/// Whichever write fails, what the sink took is the front of the output that the writes before it made; the lines of one
+/// event are one write, and the end of the output another.
+#[test]
+fn each_call_of_write_fails(rt: HostRuntime) -> Result<(), Fail> {
+    let alloc = rt.alloc();
+    let text = ONE_DEVICE_TEXT.as_bytes();
+    let taken = [0, "event driver dev\n".len()];
+    for call in 0..2usize {
+        let mut sink = MemSink::new(alloc, 4096)?;
+        sink.fail_at(call as u64 + 1)?;
+        let (status, sink) = ended(alloc, &[OWN_INF.as_bytes()], ONE_DEVICE_SCRIPT, sink)?;
+        assert_eq!(rt; status, Status::WriteFault);
+        assert_eq!(rt; sink.taken().len(), taken[call]);
+        assert!(rt; text.starts_with(sink.taken()), "{:?}", sink.taken());
+    }
+    Ok(())
+}
+
+/// Reads and writes of one byte at a time make the same output.
+#[test]
+fn one_byte_at_a_time(rt: HostRuntime) -> Result<(), Fail> {
+    let alloc = rt.alloc();
+    let mut files = MemFiles::new(alloc);
+    files.add(b"s", ONE_DEVICE_SCRIPT.as_bytes())?;
+    let mut sink = MemSink::new(alloc, 4096)?;
+    for call in 1..101u64 {
+        files.short_at(call, 1)?;
+        sink.short_at(call, 1)?;
+    }
+    let mut whole = MemSink::new(alloc, 4096)?;
+    let words = words_of(alloc, &["pnpmgr", "s"])?;
+    let short = run(alloc, &words, Vec::new(alloc), &mut files, &mut sink);
+    assert_eq!(rt; short, Status::Done);
+    let mut plain = MemFiles::new(alloc);
+    plain.add(b"s", ONE_DEVICE_SCRIPT.as_bytes())?;
+    let long = run(alloc, &words, Vec::new(alloc), &mut plain, &mut whole);
+    assert_eq!(rt; long, Status::Done);
+    assert!(rt; sink.taken() == whole.taken(), "{:?}", sink.taken());
     Ok(())
 }

@@ -2,18 +2,23 @@
 //! written.
 #![tactic(auto)]
 
+mod ending;
 #[cfg(test)]
 mod fault_tests;
 mod infs;
-mod output;
 mod parts;
+mod pieces;
 mod program;
 #[cfg(test)]
 mod row_tests;
 mod settle;
 mod status;
+mod taking;
+mod tally;
+mod tell;
 #[cfg(test)]
 mod tests;
+mod turn;
 #[cfg(test)]
 mod word_tests;
 mod words;

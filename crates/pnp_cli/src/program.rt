@@ -2,73 +2,28 @@ ghost use Rattle.std.specs.Prelude.{◌≡◌, ◌⊎◌, ◌<◌, ◌≤◌, �
 ghost use Rattle.pnp_io.specs.Outside.{Rose, Appends, AppendsFront};
 ghost use Rattle.pnp_cli.specs.Words.{texts, settings_of};
 ghost use Rattle.pnp_cli.specs.Infs.{infs_in, refusal_line, SomeRose};
-ghost use Rattle.pnp_cli.specs.Runs.{named, IsScriptOutput, IsOutput, IsOutputBy, machine, script_status, status_of, status_by, is_decided, is_whole, Wrote, Given, WroteFront, Answers, Untouched, events_of};
+ghost use Rattle.pnp_cli.specs.Runs.{named, IsPrintedFor, IsScriptOutput, IsOutput, IsOutputBy, machine, status_of, status_by, is_decided, is_whole, Wrote, Given, WroteFront, Answers, Untouched};
+ghost use Rattle.pnp_cli.specs.Contents.{script_status};
+ghost use Rattle.pnp_cli.specs.Pieces.{answer_by};
+ghost use Rattle.pnp_cli.specs.Turns.{Awaits};
+ghost use Rattle.pnp_machine.specs.Managers.{settings};
 ghost use Rattle.pnp_cli.specs.Lawful.{OfOutput, SomeRun, OfRun, EachState, EachStep, ByDiagram, NothingClashes, AllHoldWhole, OperationsBegan, EndsRestore, DependentsGoFirst, ConflictsAreReal, FewJoin, AllStatesTold, NodesAreKeyed, NothingOnItself, MapIsClear, AllStacksFit, NamesAreKnown};
 ghost use Rattle.pnp_cli.specs.Limits.{IsWithin};
-ghost use Rattle.pnp_cli.specs.Outputs.{has_bad};
 ghost use Rattle.driver_rack.specs.Rows.{unnamed};
 
-use crate::infs::{InfsError, LIMIT, read_infs, refusal_line};
-use crate::output::output;
+use crate::ending::write_end;
+use crate::infs::{InfsError, read_infs, refusal_line};
 use crate::parts::{Settings, WordsError};
+use crate::pieces::run_pieces;
 use crate::status::Status;
+use crate::tally::Tally;
+use crate::turn::{PieceError, WriteError};
 use crate::words::settings;
 use driver_rack::{Driver, Drivers, Rack};
 use inf_reader::{Inf, InfError};
-use pnp_io::{Failed, Files, ReadError, Sink, read_all, write_all};
-use std::alloc::{AllocError, Global};
-
-/// Why an output was not written whole.
-#[derive(Clone, Copy, Debug, PartialEq, Eq)]
-enum WriteError {
-    WriteFault,
-    WantOfMemory,
-}
-
-impl From<AllocError> for WriteError {
-    ghost use Rattle.std.specs.Prelude.{◌≡◌};
-    ghost use Rattle.pnp_cli.specs.declared.program.WriteError.TheVariants.{WantOfMemory};
-
-    ghost from_gives = { λ _ e. e ≡ WantOfMemory };
-
-    fn from(_: AllocError) -> Self {
-        WriteError::WantOfMemory
-    }
-}
-
-impl From<Failed> for WriteError {
-    ghost use Rattle.std.specs.Prelude.{◌≡◌};
-    ghost use Rattle.pnp_cli.specs.declared.program.WriteError.TheVariants.{WriteFault};
-
-    ghost from_gives = { λ _ e. e ≡ WriteFault };
-
-    fn from(_: Failed) -> Self {
-        WriteError::WriteFault
-    }
-}
-
-/// Writes the output for the bytes of a script, and answers whether a line of it is bad.
-fn write_output<R: Drivers, K: Sink>(
-    alloc: Global,
-    infs: Vec<Inf>,
-    budget: u64,
-    rack: R,
-    script: &[u8],
-    sink: &mut K,
-) -> Result<bool, WriteError>
-    requires infs { length infs.items ≤ 64 }
-    requires budget { budget ≤ 1000000 }
-    requires script { length script.now ≤ 2 ^ 24 }
-    ensures took { OnOk result ((text : List ℕ) × IsScriptOutput (machine infs.items budget) (R.rows rack) (Some script.now) text × Appends (K.taken sink.old) (K.taken sink.new) text) }
-    ensures bad { IfOk result (λ bad. bad ≡ has_bad (events_of script.now)) }
-    ensures front { (text : List ℕ) → IsScriptOutput (machine infs.items budget) (R.rows rack) (Some script.now) text → AppendsFront (K.taken sink.old) (K.taken sink.new) text }
-    ensures failed { IsErrOf result WriteError.WriteFault → Rose (K.faults sink.old) (K.faults sink.new) }
-    ensures counts { K.faults sink.old ≤ K.faults sink.new }
-{
-    let whole = output(alloc, infs, budget, rack, script)?;
-    write_all(sink, &whole.text)?;
-    Ok(whole.has_bad)
-}
+use pnp_io::{Files, Sink, write_all};
+use pnp_machine::Manager;
+use std::alloc::Global;
 
 /// Writes the line of a refused INF.
 fn tell_refusal<K: Sink>(
@@ -86,7 +41,60 @@ fn tell_refusal<K: Sink>(
     Ok(())
 }
 
-/// Runs the script of a name.
+/// Runs the script of a name over a machine to which nothing happened, and writes the end of the output. Where the script has a
+/// bad line its number is answered.
+fn run_whole<R: Drivers, F: Files, K: Sink>(
+    alloc: Global,
+    manager: &mut Manager<R>,
+    name: &[u8],
+    files: &mut F,
+    sink: &mut K,
+    tally: &mut Tally,
+) -> Result<Option<u64>, PieceError>
+    requires awaits { Awaits manager.old }
+    requires events { manager.old.events ≡ 0 }
+    ensures decided { IfOk result (λ bad. IfSome (F.contents files.old) (λ told. script_status (told name.now) ≡ Some (answer_by bad))) }
+    ensures whole { IfOk result (λ bad. IfSome (F.contents files.old) (λ told. Wrote (IsPrintedFor (settings manager.old) manager.old.state (told name.now)) (K.taken sink.old) (K.taken sink.new))) }
+    ensures too_large { IsErrOf result PieceError.TooLarge → IfSome (F.contents files.old) (λ told. script_status (told name.now) ≡ Some Status.TooLarge) }
+    ensures front { IfSome (F.contents files.old) (λ told. WroteFront (IsPrintedFor (settings manager.old) manager.old.state (told name.now)) (K.taken sink.old) (K.taken sink.new)) }
+    ensures read_fault { IsErrOf result PieceError.ReadFault → Rose (F.faults files.old name.now) (F.faults files.new name.now) }
+    ensures write_fault { IsErrOf result PieceError.WriteFault → Rose (K.faults sink.old) (K.faults sink.new) }
+{
+    let bad = run_pieces(alloc, manager, files, name, sink, tally)?;
+    write_end(alloc, manager, bad, sink)?;
+    Ok(bad)
+}
+
+/// Runs the script of a name over a machine to which nothing happened.
+fn run_machine<R: Drivers, F: Files, K: Sink>(
+    alloc: Global,
+    manager: &mut Manager<R>,
+    name: &[u8],
+    files: &mut F,
+    sink: &mut K,
+) -> Status
+    requires awaits { Awaits manager.old }
+    requires events { manager.old.events ≡ 0 }
+    ensures words { result ≡ Status.BadWords → ⊥ }
+    ensures decided { is_decided result ≡ true → IfSome (F.contents files.old) (λ told. script_status (told name.now) ≡ Some result) }
+    ensures whole { is_whole result ≡ true → IfSome (F.contents files.old) (λ told. Wrote (IsPrintedFor (settings manager.old) manager.old.state (told name.now)) (K.taken sink.old) (K.taken sink.new)) }
+    ensures front { IfSome (F.contents files.old) (λ told. WroteFront (IsPrintedFor (settings manager.old) manager.old.state (told name.now)) (K.taken sink.old) (K.taken sink.new)) }
+    ensures read_fault { result ≡ Status.ReadFault → Rose (F.faults files.old name.now) (F.faults files.new name.now) }
+    ensures write_fault { result ≡ Status.WriteFault → Rose (K.faults sink.old) (K.faults sink.new) }
+    ensures answered { IfSome (F.contents files.old) (λ told. Answers (script_status (told name.now)) (Rose (F.faults files.old name.now) (F.faults files.new name.now)) (Rose (K.faults sink.old) (K.faults sink.new)) result) }
+{
+    let mut tally = Tally { steps: 0, moved: 0 };
+    match run_whole(alloc, manager, name, files, sink, &mut tally) {
+        Ok(None) => Status::Done,
+        Ok(Some(_)) => Status::BadScript,
+        Err(PieceError::ReadFault) => Status::ReadFault,
+        Err(PieceError::WriteFault) => Status::WriteFault,
+        Err(PieceError::TooLarge) => Status::TooLarge,
+        Err(PieceError::WantOfMemory) => Status::WantOfMemory,
+    }
+}
+
+/// Runs the script of a name. The manager is made here and handed on, since the checker is slow where a function holds one.
 fn run_script<R: Drivers, F: Files, K: Sink>(
     alloc: Global,
     name: &[u8],
@@ -106,16 +114,9 @@ fn run_script<R: Drivers, F: Files, K: Sink>(
     ensures write_fault { result ≡ Status.WriteFault → Rose (K.faults sink.old) (K.faults sink.new) }
     ensures answered { IfSome (F.contents files.old) (λ told. Answers (script_status (told name.now)) (Rose (F.faults files.old name.now) (F.faults files.new name.now)) (Rose (K.faults sink.old) (K.faults sink.new)) result) }
 {
-    match read_all(alloc, files, name, LIMIT) {
-        Ok(script) => match write_output(alloc, infs, budget, rack, &script, sink) {
-            Ok(false) => Status::Done,
-            Ok(true) => Status::BadScript,
-            Err(WriteError::WriteFault) => Status::WriteFault,
-            Err(WriteError::WantOfMemory) => Status::WantOfMemory,
-        },
-        Err(ReadError::ReadFault) => Status::ReadFault,
-        Err(ReadError::TooLarge) => Status::TooLarge,
-        Err(ReadError::WantOfMemory) => Status::WantOfMemory,
+    match Manager::new(alloc, infs, rack, budget) {
+        Ok(mut manager) => run_machine(alloc, &mut manager, name, files, sink),
+        Err(_) => Status::WantOfMemory,
     }
 }
 

@@ -1,57 +1,84 @@
-//! What follows from an event: the machine steps until it is quiet, and each step has a line.
-ghost use Rattle.std.specs.Prelude.{◌≡◌, ◌<◌, ◌≤◌, ◌^◌, ◌++◌, ◌∷◌, [], OnOk, true};
+ghost use Rattle.std.specs.Prelude.{◌≡◌, ◌<◌, ◌≤◌, ◌^◌, [], OnOk, IsErrOf};
+ghost use Rattle.pnp_io.specs.Outside.{Rose};
 ghost use Rattle.pnp_machine.specs.Machines.{HasFewIds};
 ghost use Rattle.pnp_machine.specs.Managers.{settings, IsRunOf};
-ghost use Rattle.pnp_cli.specs.Outputs.{text_of};
-ghost use Rattle.pnp_cli.specs.Turns.{Settled, Answered, Awaits};
+ghost use Rattle.pnp_cli.specs.Turns.{Settled, Answered, Awaits, SettlesFront, FollowsFront};
 
-use device_ids::WantOfMemory;
+use crate::tally::Tally;
+use crate::tell::{tell, write_lines};
+use crate::turn::WriteError;
 use driver_rack::Drivers;
-use pnp_labels::{Event, Label, label_line};
+use pnp_io::Sink;
+use pnp_labels::Event;
 use pnp_machine::{Manager, Moved};
 use std::alloc::Global;
 
-/// Appends the line of a label.
-fn add_label(alloc: Global, out: &mut Vec<u8>, label: Label) -> Result<(), WantOfMemory>
-    ensures { OnOk result (out.new.items ≡ out.old.items ++ text_of (label ∷ [])) }
-{
-    let line = label_line(alloc, &label)?;
-    out.extend_from_slice(&line)?;
-    Ok(())
-}
-
-/// The machine steps until it is quiet, and the line of each step is appended. Cost: that of the steps.
-fn settle<R: Drivers>(
+/// The machine steps until it is quiet, and each label is told.
+fn settle<R: Drivers, K: Sink>(
     alloc: Global,
     manager: &mut Manager<R>,
-    out: &mut Vec<u8>,
-) -> Result<(), WantOfMemory>
+    lines: &mut Vec<u8>,
+    sink: &mut K,
+    tally: &mut Tally,
+) -> Result<(), WriteError>
     requires run { IsRunOf (settings manager.old) manager.old.events manager.old.state }
     requires events { manager.old.events ≤ 2 ^ 24 }
-    ensures { OnOk result (Settled manager.old out.old.items manager.new out.new.items) }
+    ensures ok { OnOk result (Settled manager.old (K.taken sink.old) lines.old.items tally.old manager.new (K.taken sink.new) tally.new) }
+    ensures front { SettlesFront manager.old lines.old.items (K.taken sink.old) (K.taken sink.new) }
+    ensures failed { IsErrOf result WriteError.WriteFault → Rose (K.faults sink.old) (K.faults sink.new) }
+    ensures counts { K.faults sink.old ≤ K.faults sink.new }
 {
     'steps: loop {
         match manager.step()? {
-            Moved::Label(label) => add_label(alloc, out, label)?,
-            Moved::Quiet => return Ok(()),
+            Moved::Label(label) => tell(alloc, sink, lines, tally, label)?,
+            Moved::Quiet => {
+                write_lines(sink, lines)?;
+                return Ok(());
+            }
         }
     }
 }
 
-/// An event happens, and the machine does all that follows from it; the lines are appended.
-pub fn answer_event<R: Drivers>(
+/// The event happens, and the machine does all that follows from it; each label is told.
+fn answer_with<R: Drivers, K: Sink>(
     alloc: Global,
     manager: &mut Manager<R>,
     event: Event,
-    out: &mut Vec<u8>,
-) -> Result<(), WantOfMemory>
+    lines: &mut Vec<u8>,
+    sink: &mut K,
+    tally: &mut Tally,
+) -> Result<(), WriteError>
     requires awaits { Awaits manager.old }
     requires few { HasFewIds event }
     requires events { manager.old.events < 2 ^ 24 }
-    ensures { OnOk result (Answered manager.old event out.old.items manager.new out.new.items) }
+    requires none { lines.old.items ≡ [] }
+    ensures ok { OnOk result (Answered manager.old event (K.taken sink.old) tally.old manager.new (K.taken sink.new) tally.new) }
+    ensures front { FollowsFront manager.old event (K.taken sink.old) (K.taken sink.new) }
+    ensures failed { IsErrOf result WriteError.WriteFault → Rose (K.faults sink.old) (K.faults sink.new) }
+    ensures counts { K.faults sink.old ≤ K.faults sink.new }
 {
     let label = manager.apply(event)?;
-    add_label(alloc, out, label)?;
-    settle(alloc, manager, out)?;
+    tell(alloc, sink, lines, tally, label)?;
+    settle(alloc, manager, lines, sink, tally)?;
     Ok(())
+}
+
+/// An event happens, and the machine does all that follows from it; each label is told.
+pub fn answer_event<R: Drivers, K: Sink>(
+    alloc: Global,
+    manager: &mut Manager<R>,
+    event: Event,
+    sink: &mut K,
+    tally: &mut Tally,
+) -> Result<(), WriteError>
+    requires awaits { Awaits manager.old }
+    requires few { HasFewIds event }
+    requires events { manager.old.events < 2 ^ 24 }
+    ensures ok { OnOk result (Answered manager.old event (K.taken sink.old) tally.old manager.new (K.taken sink.new) tally.new) }
+    ensures front { FollowsFront manager.old event (K.taken sink.old) (K.taken sink.new) }
+    ensures failed { IsErrOf result WriteError.WriteFault → Rose (K.faults sink.old) (K.faults sink.new) }
+    ensures counts { K.faults sink.old ≤ K.faults sink.new }
+{
+    let mut lines = Vec::new(alloc);
+    answer_with(alloc, manager, event, &mut lines, sink, tally)
 }

@@ -214,7 +214,7 @@ fn taken_infs(rt: HostRuntime) -> Result<(), Fail> {
     answers(&rt, alloc, &mut files, Status::Done, text)
 }
 
-/// Each file takes two reads; whichever fails, nothing is written.
+/// Each file takes two reads; whichever fails, the end of the output is not written.
 #[test]
 fn each_read_fails(rt: HostRuntime) -> Result<(), Fail> {
     let alloc = rt.alloc();
@@ -226,20 +226,51 @@ fn each_read_fails(rt: HostRuntime) -> Result<(), Fail> {
     Ok(())
 }
 
-/// An INF of 16,777,217 bytes, and then such a script.
+const BARE_END: &str = "tree\n0 HTREE\\ROOT\\0 Started\nmap\noutstanding\n";
+
+const BAD_FIRST_LINE: &str =
+    "script error line 1\ntree\n0 HTREE\\ROOT\\0 Started\nmap\noutstanding\n";
+
+/// 4,096 comments of 4,096 bytes with their LF: as many bytes as a script may have.
+fn comments(alloc: Global) -> Result<Vec<u8>, Fail> {
+    let mut line = vec![in alloc; b'#'; 4095]?;
+    line.push(b'\n')?;
+    let mut bytes = Vec::new(alloc);
+    for _ in 0..4096u32 {
+        bytes.extend_from_slice(&line)?;
+    }
+    Ok(bytes)
+}
+
+/// An INF of 16,777,217 bytes; a script of 16,777,216, and one of a byte more.
 #[test]
 fn large_files(rt: HostRuntime) -> Result<(), Fail> {
     let alloc = rt.alloc();
-    let bytes = vec![in alloc; b';'; 16_777_217]?;
+    let mut bytes = comments(alloc)?;
     let mut files = files_of(alloc, &ALL_THERE)?;
-    files.add(b"2", &bytes)?;
-    answers(&rt, alloc, &mut files, Status::TooLarge, "")?;
-    files.add(b"2", GOOD_INF)?;
     files.add(b"s", &bytes)?;
+    answers(&rt, alloc, &mut files, Status::Done, BARE_END)?;
+    bytes.push(b'#')?;
+    files.add(b"s", &bytes)?;
+    answers(&rt, alloc, &mut files, Status::TooLarge, "")?;
+    files.add(b"2", &bytes)?;
     answers(&rt, alloc, &mut files, Status::TooLarge, "")?;
     files.add(b"1", b"")?;
     let text = "inf 1 error 1 line 0\n";
     answers(&rt, alloc, &mut files, Status::BadInf, text)
+}
+
+/// A line is bad at its 4,097th byte, however much follows.
+#[test]
+fn a_line_without_end(rt: HostRuntime) -> Result<(), Fail> {
+    let alloc = rt.alloc();
+    let bytes = vec![in alloc; b'#'; 17_000_000]?;
+    let mut files = files_of(alloc, &ALL_THERE)?;
+    files.add(b"s", &bytes)?;
+    answers(&rt, alloc, &mut files, Status::BadScript, BAD_FIRST_LINE)?;
+    let line = vec![in alloc; b'#'; 4096]?;
+    files.add(b"s", &line)?;
+    answers(&rt, alloc, &mut files, Status::Done, BARE_END)
 }
 
 #[test]

@@ -4,16 +4,30 @@ ghost use Rattle.pnp_io.specs.Outside.{Appends, ReadsTold, Rose, raised};
 
 use crate::outside::{Failed, Files, Sink};
 use std::fs::File;
-use std::io::{Read, Seek, SeekFrom, Write};
+use std::io::{ErrorKind, Read, Seek, SeekFrom, Write};
 use std::marker::Model;
 use std::rt::Files as Handle;
 
+/// The longest name that is kept; the system opens no longer one.
+const LONGEST: usize = 4096;
+
+/// A file that is open: its name and the place that the next read begins at, if it is not moved.
+#[derive(Drop)]
+struct Open<F> {
+    name: [u8; 4096],
+    length: usize,
+    at: u64,
+    file: F,
+}
+
 /// The files of the system, by path. A contract sees the count of the reads that failed, of any name; nothing
 /// is told of what the files hold. A file that is not there or cannot be read is a fault, and a name that is
-/// not UTF-8. What the system answers is trusted. This project's own.
+/// not UTF-8 or longer than 4,096 bytes. The file of the last read stays open, so that one that is read in order
+/// is opened once and never moved: it may be a pipe. What the system answers is trusted. This project's own.
 #[derive(Drop)]
 pub struct HostFiles<'a, R: Handle> {
     rt: &'a R,
+    open: Option<Open<R::File>>,
     faults: u64,
 }
 
@@ -30,18 +44,99 @@ impl<'a, R: Handle> HostFiles<'a, R> {
     pub fn make(rt: &'a R) -> HostFiles<'a, R>
         ensures { result ≡ 0 }
     {
-        HostFiles { rt, faults: 0 }
+        HostFiles {
+            rt,
+            open: None,
+            faults: 0,
+        }
     }
 }
 
-/// Reads a part of a file of the system.
-fn read_part<R: Handle>(rt: &R, name: &[u8], at: u64, into: &mut [u8]) -> Option<usize>
+/// Opens a file of the system.
+fn open_file<R: Handle>(rt: &R, name: &[u8]) -> Option<Open<R::File>> {
+    let length = name.len();
+    if length > LONGEST {
+        return None;
+    }
+    let path = std::str::from_utf8(name).ok()?;
+    let file = File::open(rt, path).ok()?;
+    let mut kept = [0u8; 4096];
+    kept[..length].copy_from_slice(name);
+    Some(Open {
+        name: kept,
+        length,
+        at: 0,
+        file,
+    })
+}
+
+impl<F: Read + Seek> Open<F> {
+    /// Whether this is the file of a name.
+    fn is_of(&self, name: &[u8]) -> bool {
+        self.name.get(..self.length) == Some(name)
+    }
+
+    /// Reads from a place on, to which the file is moved only where it stands elsewhere. A read that is
+    /// interrupted is tried again.
+    fn read_at(&mut self, at: u64, into: &mut [u8]) -> Option<usize>
+        ensures { IfSome result (λ n. n ≤ length into.old) }
+    {
+        if self.at != at {
+            self.file.seek(SeekFrom::Start(at)).ok()?;
+            self.at = at;
+        }
+        let n = read_once(&mut self.file, into)?;
+        self.at = at.saturating_add(n as u64);
+        Some(n)
+    }
+}
+
+/// Reads from where the file stands. A read that is interrupted is tried again.
+fn read_once<F: Read>(file: &mut F, into: &mut [u8]) -> Option<usize>
     ensures { IfSome result (λ n. n ≤ length into.old) }
 {
-    let path = std::str::from_utf8(name).ok()?;
-    let mut file = File::open(rt, path).ok()?;
-    file.seek(SeekFrom::Start(at)).ok()?;
-    file.read(into).ok()
+    for _ in 0..u64::MAX {
+        match file.read(into) {
+            Ok(n) => return Some(n),
+            Err(error) if error.kind() == ErrorKind::Interrupted => {}
+            Err(_) => return None,
+        }
+    }
+    None
+}
+
+/// Writes from the front of a piece to standard output. A write that is interrupted is tried again.
+fn write_once<R: Print>(rt: &R, bytes: &[u8]) -> Option<usize>
+    ensures { IfSome result (λ n. n ≤ length bytes.now) }
+{
+    for _ in 0..u64::MAX {
+        match std::io::writer(rt).write(bytes) {
+            Ok(n) => return Some(n),
+            Err(error) if error.kind() == ErrorKind::Interrupted => {}
+            Err(_) => return None,
+        }
+    }
+    None
+}
+
+impl<'a, R: Handle> HostFiles<'a, R> {
+    /// Reads a part of a file, which stays open.
+    fn read_part(&mut self, name: &[u8], at: u64, into: &mut [u8]) -> Option<usize>
+        ensures within { IfSome result (λ n. n ≤ length into.old) }
+        ensures same { self.new ≡ self.old }
+    {
+        let kept = match self.open.take() {
+            Some(open) if open.is_of(name) => Some(open),
+            _ => None,
+        };
+        let mut open = match kept {
+            Some(open) => open,
+            None => open_file(self.rt, name)?,
+        };
+        let n = open.read_at(at, into)?;
+        self.open = Some(open);
+        Some(n)
+    }
 }
 
 impl<'a, R: Handle> Files for HostFiles<'a, R> {
@@ -51,8 +146,8 @@ impl<'a, R: Handle> Files for HostFiles<'a, R> {
 
     ghost faults = { λ files name. files };
 
-    /// Reads a part of a file of the system, which is opened for each read. Exactly a read that failed is
-    /// counted.
+    /// Reads a part of a file of the system, which is opened where the last read was of another name or failed.
+    /// Exactly a read that failed is counted; one that is interrupted is tried again.
     fn read(&mut self, name: &[u8], at: u64, into: &mut [u8]) -> Result<usize, Failed>
         ensures within { IfOk result (λ n. n ≤ length into.old) }
         ensures told { IfOk result (λ n. ReadsTold None name.now at n into.old into.new) }
@@ -60,7 +155,7 @@ impl<'a, R: Handle> Files for HostFiles<'a, R> {
         ensures counts { self.old ≤ self.new }
         ensures after { self.new ≡ (if is_err result then raised self.old else self.old) }
     {
-        match read_part(self.rt, name, at, into) {
+        match self.read_part(name, at, into) {
             Some(n) => Ok(n),
             None => {
                 self.faults = self.faults.saturating_add(1);
@@ -103,7 +198,8 @@ impl<'a, R: Print> Sink for HostSink<'a, R> {
 
     ghost faults = { λ sink. sink };
 
-    /// Writes from the front of the piece to standard output. Exactly a write that failed is counted.
+    /// Writes from the front of the piece to standard output. Exactly a write that failed is counted; one that is
+    /// interrupted is tried again.
     fn write(&mut self, bytes: &[u8]) -> Result<usize, Failed>
         ensures within { IfOk result (λ n. n ≤ length bytes.now) }
         ensures some { IfOk result (λ n. 0 < length bytes.now → 0 < n) }
@@ -113,8 +209,8 @@ impl<'a, R: Print> Sink for HostSink<'a, R> {
         ensures counts { self.old ≤ self.new }
         ensures after { self.new ≡ (if is_err result then raised self.old else self.old) }
     {
-        match std::io::writer(self.rt).write(bytes) {
-            Ok(n) if n > 0 || bytes.is_empty() => Ok(n),
+        match write_once(self.rt, bytes) {
+            Some(n) if n > 0 || bytes.is_empty() => Ok(n),
             _ => {
                 self.faults = self.faults.saturating_add(1);
                 Err(Failed)

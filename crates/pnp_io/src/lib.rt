@@ -5,6 +5,8 @@
 mod host;
 mod memory;
 mod outside;
+mod short;
+mod sure;
 #[cfg(test)]
 mod tests;
 mod whole;
@@ -12,4 +14,5 @@ mod whole;
 pub use host::{HostFiles, HostSink};
 pub use memory::{MemFiles, MemSink, WantOfMemory};
 pub use outside::{Failed, Files, Sink};
+pub use sure::{SureFiles, SureSink};
 pub use whole::{ReadError, read_all, write_all};

@@ -2,10 +2,11 @@
 ghost use Rattle.std.specs.Prelude.{◌≡◌, ◌≤◌, ◌<◌, ◌-◌, ◌∷◌, ◌++◌, ℕ, List, [], IfOk, IfSome, IsErr, OnOk, OnErr, Some, is_err, length, min, option_map, take, if◌then◌else◌};
 ghost use Rattle.std.specs.List.{position};
 ghost use Rattle.std.specs.Str.{bytes_eq};
-ghost use Rattle.pnp_io.specs.Outside.{Appends, Reads, ReadsTold, Rose};
-ghost use Rattle.pnp_io.specs.Memory.{file_in, with_file, read_fails, after_read, room_left, write_fails, after_write};
+ghost use Rattle.pnp_io.specs.Outside.{Appends, Reads, ReadsTold, Rose, raised};
+ghost use Rattle.pnp_io.specs.Memory.{file_in, with_file, moved, read_fails, after_read, write_fails, written, after_write};
 
 use crate::outside::{Failed, Files, Sink};
+use crate::short::{Short, moved};
 use std::alloc::{AllocError, Global};
 use std::marker::Model;
 
@@ -86,27 +87,40 @@ fn find<'a>(entries: &'a [Entry], name: &[u8]) -> Option<&'a [u8]>
     None
 }
 
-/// Copies bytes from a place on to the front of a buffer, as many as fit.
-fn copy_from(bytes: &[u8], at: u64, into: &mut [u8]) -> usize
-    ensures reads { Reads (Some bytes.now) at result into.old into.new }
-    ensures count { result ≡ min (length into.old) (length bytes.now - at) }
+/// Copies so many bytes from a place on to the front of a buffer. Conditions: so many are there, and there is none only where
+/// no byte is left or the buffer is empty.
+fn copy_from(bytes: &[u8], at: u64, n: usize, into: &mut [u8])
+    requires room { n ≤ length into.old }
+    requires enough { n ≤ length bytes.now - at }
+    requires end { n ≡ 0 → 0 < length into.old → length bytes.now ≤ at }
+    ensures { Reads (Some bytes.now) at n into.old into.new }
 {
-    if at >= bytes.len() as u64 {
-        return 0;
+    if n > 0 {
+        let start = at as usize;
+        into[..n].copy_from_slice(&bytes[start..start + n]);
     }
-    let rest = &bytes[at as usize..];
-    let n = rest.len().min(into.len());
-    into[..n].copy_from_slice(&rest[..n]);
+}
+
+/// Reads bytes from a place on to the front of a buffer, as many as fit and no more than are listed for the call.
+pub fn read_from(bytes: &[u8], at: u64, short: &[Short], call: u64, into: &mut [u8]) -> usize
+    ensures reads { Reads (Some bytes.now) at result into.old into.new }
+    ensures count { result ≡ moved short.now call (min (length into.old) (length bytes.now - at)) }
+{
+    let left = (bytes.len() as u64).saturating_sub(at) as usize;
+    let n = moved(short, call, into.len().min(left));
+    copy_from(bytes, at, n, into);
     n
 }
 
 /// Files in memory, whose contents are told. A contract sees the names with their bytes, the numbers of the
-/// reads that are to fail, and how many reads were made and how many failed, of any name. This project's own.
+/// reads that are to fail and of those that are to be short, and how many reads were made and how many failed, of
+/// any name. This project's own.
 #[derive(Drop)]
 pub struct MemFiles {
     alloc: Global,
     entries: Vec<Entry>,
     listed: Vec<u64>,
+    short: Vec<Short>,
     calls: u64,
     faults: u64,
 }
@@ -116,18 +130,19 @@ impl Model for MemFiles {
 
     ghost Value = { HeldFiles };
 
-    ghost view = { λ m. record { files = m.entries.items; listed = m.listed.items; calls = m.calls; faults = m.faults } };
+    ghost view = { λ m. record { files = m.entries.items; listed = m.listed.items; short = m.short.items; calls = m.calls; faults = m.faults } };
 }
 
 impl MemFiles {
     /// No file, and no read that is to fail. It takes no memory.
     pub fn new(alloc: Global) -> MemFiles
-        ensures { result ≡ record { files = []; listed = []; calls = 0; faults = 0 } }
+        ensures { result ≡ record { files = []; listed = []; short = []; calls = 0; faults = 0 } }
     {
         MemFiles {
             alloc,
             entries: Vec::new(alloc),
             listed: Vec::new(alloc),
+            short: Vec::new(alloc),
             calls: 0,
             faults: 0,
         }
@@ -153,6 +168,17 @@ impl MemFiles {
         self.listed.push(call)?;
         Ok(())
     }
+
+    /// Lists a read that gives at most so many bytes, by its number counted from 1; where one number is listed twice, the
+    /// first counts. Condition: `most` is at least 1. After want of memory all is as before.
+    pub fn short_at(&mut self, call: u64, most: u64) -> Result<(), WantOfMemory>
+        requires { 1 ≤ most }
+        ensures short { OnOk result (self.new ≡ record self.old { short = self.old.short ++ (call, most) ∷ [] }) }
+        ensures err { OnErr result (self.new ≡ self.old) }
+    {
+        self.short.push(Short::make(call, most))?;
+        Ok(())
+    }
 }
 
 impl Files for MemFiles {
@@ -163,14 +189,14 @@ impl Files for MemFiles {
 
     ghost faults = { λ held name. held.faults };
 
-    /// Reads all bytes of the named file from `at` on that the buffer has room for. It fails exactly where its
-    /// number, counted from 1, is listed or there is no such name, and then the buffer is as before. Exactly a
-    /// read that failed is counted as a fault. It takes no memory. Cost: the bytes, and the numbers of names
-    /// and of listed reads.
+    /// Reads all bytes of the named file from `at` on that the buffer has room for, and at most as many as are
+    /// listed for its number. It fails exactly where its number, counted from 1, is listed or there is no such
+    /// name, and then the buffer is as before. Exactly a read that failed is counted as a fault. It takes no
+    /// memory. Cost: the bytes, and the numbers of names and of listed reads.
     fn read(&mut self, name: &[u8], at: u64, into: &mut [u8]) -> Result<usize, Failed>
         ensures within { IfOk result (λ n. n ≤ length into.old) }
         ensures told { IfOk result (λ n. Reads (file_in self.old.files name.now) at n into.old into.new) }
-        ensures count { IfOk result (λ n. IfSome (file_in self.old.files name.now) (λ bytes. n ≡ min (length into.old) (length bytes - at))) }
+        ensures count { IfOk result (λ n. IfSome (file_in self.old.files name.now) (λ bytes. n ≡ moved self.old.short (raised self.old.calls) (min (length into.old) (length bytes - at)))) }
         ensures fails { is_err result ≡ read_fails self.old name.now }
         ensures buffer { OnErr result (into.new ≡ into.old) }
         ensures after { self.new ≡ after_read self.old name.now }
@@ -181,7 +207,7 @@ impl Files for MemFiles {
         if !self.listed.contains(&self.calls)
             && let Some(bytes) = find(&self.entries, name)
         {
-            return Ok(copy_from(bytes, at, into));
+            return Ok(read_from(bytes, at, &self.short, self.calls, into));
         }
         self.faults = self.faults.saturating_add(1);
         Err(Failed)
@@ -189,13 +215,14 @@ impl Files for MemFiles {
 }
 
 /// A sink in memory, which tells the bytes that it took. A contract sees these, how many it takes at most, the
-/// numbers of the writes that are to fail, and how many writes were made and how many failed. This project's
-/// own.
+/// numbers of the writes that are to fail and of those that are to be short, and how many writes were made and
+/// how many failed. This project's own.
 #[derive(Drop)]
 pub struct MemSink {
     taken: Vec<u8>,
     room: usize,
     listed: Vec<u64>,
+    short: Vec<Short>,
     calls: u64,
     faults: u64,
 }
@@ -206,7 +233,7 @@ impl Model for MemSink {
 
     ghost Value = { HeldSink };
 
-    ghost view = { λ s. record { taken = s.taken.items; room = s.room; listed = s.listed.items; calls = s.calls; faults = s.faults } };
+    ghost view = { λ s. record { taken = s.taken.items; room = s.room; listed = s.listed.items; short = s.short.items; calls = s.calls; faults = s.faults } };
 
     ghost invariant = { λ s. s.room ≤ vec_capacity s.taken };
 }
@@ -214,7 +241,7 @@ impl Model for MemSink {
 impl MemSink {
     /// A sink with memory for `room` bytes, which took none yet.
     pub fn new(alloc: Global, room: u64) -> Result<MemSink, WantOfMemory>
-        ensures { IfOk result (λ sink. sink ≡ record { taken = []; room = room; listed = []; calls = 0; faults = 0 }) }
+        ensures { IfOk result (λ sink. sink ≡ record { taken = []; room = room; listed = []; short = []; calls = 0; faults = 0 }) }
     {
         let room = room as usize;
         let taken = Vec::with_capacity(alloc, room)?;
@@ -222,6 +249,7 @@ impl MemSink {
             taken,
             room,
             listed: Vec::new(alloc),
+            short: Vec::new(alloc),
             calls: 0,
             faults: 0,
         })
@@ -233,6 +261,17 @@ impl MemSink {
         ensures err { OnErr result (self.new ≡ self.old) }
     {
         self.listed.push(call)?;
+        Ok(())
+    }
+
+    /// Lists a write that takes at most so many bytes, by its number counted from 1; where one number is listed twice, the
+    /// first counts. Condition: `most` is at least 1. After want of memory all is as before.
+    pub fn short_at(&mut self, call: u64, most: u64) -> Result<(), WantOfMemory>
+        requires { 1 ≤ most }
+        ensures short { OnOk result (self.new ≡ record self.old { short = self.old.short ++ (call, most) ∷ [] }) }
+        ensures err { OnErr result (self.new ≡ self.old) }
+    {
+        self.short.push(Short::make(call, most))?;
         Ok(())
     }
 
@@ -251,15 +290,16 @@ impl Sink for MemSink {
 
     ghost faults = { λ held. held.faults };
 
-    /// Takes as many bytes of the piece as fit. It fails exactly where its number, counted from 1, is listed, or
-    /// the piece is not empty and `room` bytes were taken already. Exactly a write that failed is counted as a
-    /// fault. It takes no memory. Cost: the bytes, and the number of listed writes.
+    /// Takes as many bytes of the piece as fit, and at most as many as are listed for its number. It fails exactly
+    /// where its number, counted from 1, is listed, or the piece is not empty and `room` bytes were taken already.
+    /// Exactly a write that failed is counted as a fault. It takes no memory. Cost: the bytes, and the number of
+    /// listed writes.
     fn write(&mut self, bytes: &[u8]) -> Result<usize, Failed>
         ensures within { IfOk result (λ n. n ≤ length bytes.now) }
         ensures some { IfOk result (λ n. 0 < length bytes.now → 0 < n) }
         ensures took { IfOk result (λ n. self.new.taken ≡ self.old.taken ++ take n bytes.now) }
         ensures nothing { OnErr result (self.new.taken ≡ self.old.taken) }
-        ensures count { IfOk result (λ n. n ≡ min (length bytes.now) (room_left self.old)) }
+        ensures count { IfOk result (λ n. n ≡ written self.old bytes.now) }
         ensures fails { is_err result ≡ write_fails self.old bytes.now }
         ensures after { self.new ≡ after_write self.old bytes.now }
         ensures failed { IsErr result → Rose self.old.faults self.new.faults }
@@ -271,7 +311,7 @@ impl Sink for MemSink {
             self.faults = self.faults.saturating_add(1);
             return Err(Failed);
         }
-        let n = bytes.len().min(left);
+        let n = moved(&self.short, self.calls, bytes.len().min(left));
         self.taken.extend_from_slice(&bytes[..n]).unwrap();
         Ok(n)
     }

@@ -1,0 +1,58 @@
+//! The end of what is written for a script: the line of a bad line, if there is one, then the tree, the map and the requests that
+//! are outstanding.
+ghost use Rattle.std.specs.Prelude.{◌≡◌, ◌≤◌, ◌++◌, IfOk, OnOk, IsErrOf};
+ghost use Rattle.pnp_io.specs.Outside.{Rose, Appends, AppendsFront};
+ghost use Rattle.pnp_cli.specs.Outputs.{end_text, error_line};
+ghost use Rattle.pnp_cli.specs.Pieces.{line_of_bad};
+
+use crate::turn::WriteError;
+use device_ids::WantOfMemory;
+use driver_rack::Drivers;
+use pnp_io::{Sink, write_all};
+use pnp_labels::decimal;
+use pnp_machine::Manager;
+use std::alloc::Global;
+
+/// The line that tells of a bad line.
+fn bad_line(alloc: Global, line: u64) -> Result<Vec<u8>, WantOfMemory>
+    ensures { IfOk result (λ text. text.items ≡ error_line line) }
+{
+    let mut text = Vec::from_slice(alloc, b"script error line ")?;
+    text.extend_from_slice(decimal(alloc, line)?.as_bytes())?;
+    text.push(b'\n')?;
+    Ok(text)
+}
+
+/// The line of a bad line, if there is one, and the end of the output.
+fn end_of_output<R: Drivers>(
+    alloc: Global,
+    manager: &Manager<R>,
+    bad: Option<u64>,
+) -> Result<Vec<u8>, WantOfMemory>
+    ensures { IfOk result (λ text. text.items ≡ line_of_bad bad ++ end_text manager.now.state) }
+{
+    let ending = manager.ending(alloc)?;
+    let Some(line) = bad else {
+        return Ok(ending);
+    };
+    let mut text = bad_line(alloc, line)?;
+    text.extend_from_slice(&ending)?;
+    Ok(text)
+}
+
+/// Writes the line of a bad line, if there is one, and the end of the output.
+pub fn write_end<R: Drivers, K: Sink>(
+    alloc: Global,
+    manager: &Manager<R>,
+    bad: Option<u64>,
+    sink: &mut K,
+) -> Result<(), WriteError>
+    ensures took { OnOk result (Appends (K.taken sink.old) (K.taken sink.new) (line_of_bad bad ++ end_text manager.now.state)) }
+    ensures front { AppendsFront (K.taken sink.old) (K.taken sink.new) (line_of_bad bad ++ end_text manager.now.state) }
+    ensures failed { IsErrOf result WriteError.WriteFault → Rose (K.faults sink.old) (K.faults sink.new) }
+    ensures counts { K.faults sink.old ≤ K.faults sink.new }
+{
+    let text = end_of_output(alloc, manager, bad)?;
+    write_all(sink, &text)?;
+    Ok(())
+}

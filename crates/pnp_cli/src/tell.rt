@@ -1,0 +1,61 @@
+ghost use Rattle.std.specs.Prelude.{◌≡◌, ◌≤◌, ◌<◌, ◌++◌, ◌∷◌, [], OnOk, OnErr, IsErr, IsErrOf, length};
+ghost use Rattle.pnp_io.specs.Outside.{Rose, Appends, AppendsFront};
+ghost use Rattle.pnp_cli.specs.Outputs.{text_of};
+ghost use Rattle.pnp_cli.specs.Turns.{Held, Passes};
+
+use crate::tally::{Tally, count};
+use crate::turn::WriteError;
+use pnp_io::{Failed, Sink, write_all};
+use pnp_labels::{Label, label_line};
+use std::alloc::Global;
+
+/// Where so many bytes wait, they are written.
+const MOST: usize = 4096;
+
+/// Writes the lines that wait.
+pub fn write_lines<K: Sink>(sink: &mut K, lines: &mut Vec<u8>) -> Result<(), Failed>
+    ensures took { OnOk result (Appends (K.taken sink.old) (K.taken sink.new) lines.old.items) }
+    ensures none { OnOk result (lines.new.items ≡ []) }
+    ensures front { OnErr result (AppendsFront (K.taken sink.old) (K.taken sink.new) lines.old.items) }
+    ensures failed { IsErr result → Rose (K.faults sink.old) (K.faults sink.new) }
+    ensures counts { K.faults sink.old ≤ K.faults sink.new }
+{
+    write_all(sink, lines)?;
+    lines.clear();
+    Ok(())
+}
+
+/// Writes the lines that wait, where they have 4,096 bytes.
+fn write_many<K: Sink>(sink: &mut K, lines: &mut Vec<u8>) -> Result<(), Failed>
+    ensures passes { OnOk result (Passes (K.taken sink.old) lines.old.items (K.taken sink.new) lines.new.items) }
+    ensures few { OnOk result (length lines.new.items < 4096) }
+    ensures front { OnErr result (AppendsFront (K.taken sink.old) (K.taken sink.new) lines.old.items) }
+    ensures failed { IsErr result → Rose (K.faults sink.old) (K.faults sink.new) }
+    ensures counts { K.faults sink.old ≤ K.faults sink.new }
+{
+    if lines.len() < MOST {
+        return Ok(());
+    }
+    write_lines(sink, lines)
+}
+
+/// Appends the line of a label to those that wait, which are written where they have 4,096 bytes; and counts it.
+pub fn tell<K: Sink>(
+    alloc: Global,
+    sink: &mut K,
+    lines: &mut Vec<u8>,
+    tally: &mut Tally,
+    label: Label,
+) -> Result<(), WriteError>
+    ensures held { OnOk result (Held (K.taken sink.old) lines.old.items tally.old (label ∷ []) (K.taken sink.new) lines.new.items tally.new) }
+    ensures few { OnOk result (length lines.new.items < 4096) }
+    ensures front { AppendsFront (K.taken sink.old) (K.taken sink.new) (lines.old.items ++ text_of (label ∷ [])) }
+    ensures failed { IsErrOf result WriteError.WriteFault → Rose (K.faults sink.old) (K.faults sink.new) }
+    ensures counts { K.faults sink.old ≤ K.faults sink.new }
+{
+    let line = label_line(alloc, &label)?;
+    lines.extend_from_slice(&line)?;
+    count(tally, &label);
+    write_many(sink, lines)?;
+    Ok(())
+}
