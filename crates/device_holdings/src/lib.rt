@@ -5,8 +5,6 @@ mod finding;
 mod holding;
 mod pairs;
 mod rows;
-#[cfg(test)]
-mod tests;
 
 pub use finding::{is_in_use, search};
 pub use holding::{assign, assign_all, release, reserve};

@@ -5,8 +5,6 @@ mod cuts;
 mod error;
 mod id;
 mod path;
-#[cfg(test)]
-mod tests;
 mod text;
 
 pub use cuts::{cut, split_once};

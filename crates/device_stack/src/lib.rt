@@ -3,8 +3,6 @@
 
 mod ask;
 mod rules;
-#[cfg(test)]
-mod tests;
 mod walk;
 
 pub use ask::{ask_driver, driver_name};

@@ -6,8 +6,6 @@ mod entry;
 mod error;
 mod node;
 mod print;
-#[cfg(test)]
-mod tests;
 mod tree;
 
 pub use error::JoinError;

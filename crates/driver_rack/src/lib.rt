@@ -8,8 +8,6 @@ mod kinds;
 mod names;
 mod rack;
 mod rules;
-#[cfg(test)]
-mod tests;
 
 pub use driver::Driver;
 pub use drivers::Drivers;

@@ -7,8 +7,6 @@ mod choice;
 mod given;
 pub mod laws;
 mod ranking;
-#[cfg(test)]
-mod tests;
 
 pub use choice::Choice;
 pub use ranking::best;

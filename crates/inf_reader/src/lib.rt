@@ -13,8 +13,6 @@ mod reading;
 mod section;
 mod sections;
 mod symbols;
-#[cfg(test)]
-mod tests;
 mod text;
 mod texts;
 mod tokens;

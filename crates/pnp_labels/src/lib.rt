@@ -7,8 +7,6 @@ mod line;
 mod lists;
 pub mod spaced;
 mod states;
-#[cfg(test)]
-mod tests;
 mod texts;
 mod words;
 

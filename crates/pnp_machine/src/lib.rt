@@ -18,10 +18,6 @@ mod step_operation;
 mod step_start;
 mod task_start;
 mod tasks;
-#[cfg(test)]
-mod tests;
-#[cfg(test)]
-mod tests_parts;
 mod turn;
 
 pub use manager::{Manager, Moved};

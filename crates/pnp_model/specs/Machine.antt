@@ -97,7 +97,7 @@ is_waiting (Some w) = w.waits
 abbrev pub is_ready : Activity → Bool
 is_ready a = not (is_waiting (phase_walk a.phase))
 
--- AskWhat is next ----------------------------------------------------------------
+-- What is next -------------------------------------------------------------------
 
 abbrev pub is_born : List Device → Option Node → Bool
 is_born world None = false

@@ -7,8 +7,8 @@ ghost use Rattle.rebalance.specs.Frames.{is_asked_in};
 
 use device_ids::WantOfMemory;
 use devnode_tree::Tree;
-use pnp_labels::DevState;
 use operation_frame::SerialQueue;
+use pnp_labels::DevState;
 use std::alloc::Global;
 use std::collections::BTreeSet;
 

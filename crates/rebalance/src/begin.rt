@@ -8,8 +8,8 @@ use assign_search::Found;
 use device_ids::{Text, WantOfMemory};
 use device_stack::Walk;
 use devnode_tree::Tree;
-use pnp_labels::{Label, Minor, OpKind};
 use operation_frame::SerialQueue;
+use pnp_labels::{Label, Minor, OpKind};
 use std::alloc::Global;
 
 impl Rebalance {

@@ -8,8 +8,8 @@ use assign_search::Found;
 use device_ids::Text;
 use device_stack::{NoSuchRequest, Walk};
 use devnode_tree::Tree;
-use pnp_labels::Minor;
 use operation_frame::SerialQueue;
+use pnp_labels::Minor;
 use std::marker::Model;
 
 /// What is done next: this project's own.

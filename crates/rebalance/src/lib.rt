@@ -10,8 +10,6 @@ mod queues;
 mod requests;
 mod searching;
 mod settling;
-#[cfg(test)]
-mod tests;
 
 pub use frame::Rebalance;
 pub use next::RebalanceStep;

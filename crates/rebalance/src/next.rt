@@ -14,8 +14,8 @@ use crate::frame::{Rebalance, Stage};
 use device_ids::WantOfMemory;
 use devnode_tree::Tree;
 use driver_rack::Drivers;
-use pnp_labels::Label;
 use operation_frame::{Walked, pass_on};
+use pnp_labels::Label;
 use std::alloc::Global;
 use trial_journal::Arbiters;
 

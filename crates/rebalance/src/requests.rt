@@ -12,8 +12,8 @@ use crate::frame::{Rebalance, Stage};
 use device_ids::{Text, WantOfMemory};
 use device_stack::Walk;
 use devnode_tree::Tree;
-use pnp_labels::{Label, Minor};
 use operation_frame::end_walk;
+use pnp_labels::{Label, Minor};
 use std::alloc::Global;
 
 /// A request ends: the device gets the state after it, and the line tells it.

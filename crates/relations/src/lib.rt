@@ -9,8 +9,6 @@ mod relation;
 mod relations;
 mod search;
 mod serial_set;
-#[cfg(test)]
-mod tests;
 
 pub use error::RelateError;
 pub use relations::Relations;

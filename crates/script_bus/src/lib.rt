@@ -5,8 +5,6 @@ mod change;
 mod device;
 mod error;
 mod listing;
-#[cfg(test)]
-mod tests;
 mod world;
 
 pub use change::Difference;

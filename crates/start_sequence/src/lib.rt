@@ -5,8 +5,6 @@ mod begin;
 mod next;
 mod pending;
 mod searching;
-#[cfg(test)]
-mod tests;
 mod work;
 
 pub use next::StartStep;

@@ -9,8 +9,8 @@ use crate::frame::{Stage, Surprise};
 use device_ids::{Text, WantOfMemory};
 use device_stack::Walk;
 use devnode_tree::Tree;
-use pnp_labels::{DevState, Label, Minor, OpKind};
 use operation_frame::SerialQueue;
+use pnp_labels::{DevState, Label, Minor, OpKind};
 use relations::{Relations, SerialSet};
 use std::alloc::Global;
 

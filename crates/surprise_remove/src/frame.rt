@@ -7,8 +7,8 @@ ghost use Rattle.surprise_remove.specs.Frames.{minor_that_waits, Completed};
 use device_ids::Text;
 use device_stack::{NoSuchRequest, Walk};
 use devnode_tree::Tree;
-use pnp_labels::Minor;
 use operation_frame::{SerialQueue, has_drivers};
+use pnp_labels::Minor;
 use relations::SerialSet;
 use std::marker::Model;
 

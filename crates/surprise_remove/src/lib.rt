@@ -5,7 +5,5 @@ mod begin;
 mod frame;
 mod next;
 mod settling;
-#[cfg(test)]
-mod tests;
 
 pub use frame::Surprise;

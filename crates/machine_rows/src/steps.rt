@@ -1,0 +1,231 @@
+ghost use Rattle.std.specs.Prelude.{◌≡◌, ◌<◌, ◌≤◌, ◌+◌, ◌^◌, true, IfOk, OnOk};
+ghost use Rattle.pnp_machine.specs.Machines.{HasFewIds};
+
+use device_ids::{DeviceId, IdList, InstancePath, Text, TextList, WantOfMemory};
+use driver_rack::{Drivers, Rack, Scripted};
+use inf_reader::{Inf, ModelLine, ModelLines};
+use pnp_labels::{Answer, AskWhat, DriverKind, Event, Label, Minor, Rule, label_line};
+use pnp_machine::{Manager, Moved};
+use resource_reqs::Reqs;
+use std::alloc::{AllocError, Global};
+use std::test::Fail;
+
+/// Whether an event has at most 64 IDs of each sort.
+fn has_few_ids(event: &Event) -> bool
+    ensures { result ≡ true → HasFewIds event.now }
+{
+    match event {
+        Event::Plug { hw, compat, .. } => hw.len() <= 64 && compat.len() <= 64,
+        _ => true,
+    }
+}
+
+/// An event happens, where it may.
+fn happen<R: Drivers>(manager: &mut Manager<R>, event: Event) -> Result<Option<Label>, WantOfMemory>
+    requires { manager.old.events < 2 ^ 24 }
+    ensures { OnOk result (manager.new.events ≤ manager.old.events + 1) }
+{
+    if manager.is_quiet() && has_few_ids(&event) {
+        Ok(Some(manager.apply(event)?))
+    } else {
+        Ok(None)
+    }
+}
+
+/// The next step. Where memory is refused, it is tried once more.
+fn step_again<R: Drivers>(manager: &mut Manager<R>) -> Result<Moved, WantOfMemory>
+    requires { manager.old.events ≤ 2 ^ 24 }
+    ensures { manager.new.events ≡ manager.old.events }
+{
+    match manager.step() {
+        Ok(moved) => Ok(moved),
+        Err(_) => manager.step(),
+    }
+}
+
+/// The machine steps until it is quiet, at most a hundred times, and the lines are appended.
+fn settle<R: Drivers>(
+    alloc: Global,
+    manager: &mut Manager<R>,
+    out: &mut Vec<u8>,
+) -> Result<(), WantOfMemory>
+    requires { manager.old.events ≤ 2 ^ 24 }
+    ensures { OnOk result (manager.new.events ≡ manager.old.events) }
+{
+    'steps: for _ in 0..100 {
+        match step_again(manager)? {
+            Moved::Label(label) => out.extend_from_slice(&label_line(alloc, &label)?)?,
+            Moved::Quiet => return Ok(()),
+        }
+    }
+    Ok(())
+}
+
+/// An INF whose one line gives the device a service.
+fn one_line(alloc: Global) -> Result<Inf, WantOfMemory> {
+    let mut ids = TextList::new(alloc);
+    ids.push(Text::make(alloc, b"OWN\\DEV")?)?;
+    let mut lines = ModelLines::new(alloc);
+    lines.push(ModelLine {
+        line: 1,
+        ids,
+        score: 255,
+        service: Some(Text::make(alloc, b"serial")?),
+        lower: TextList::new(alloc),
+        upper: TextList::new(alloc),
+    })?;
+    Ok(Inf {
+        date: 20010101,
+        version: 0,
+        lines,
+    })
+}
+
+/// A path of the machine.
+fn path(alloc: Global, bytes: &[u8]) -> Result<InstancePath, WantOfMemory> {
+    InstancePath::read(alloc, bytes).map_err(|_| AllocError)
+}
+
+/// One ID.
+fn one_id(alloc: Global) -> Result<IdList, WantOfMemory> {
+    let id = DeviceId::read(alloc, b"OWN\\DEV").map_err(|_| AllocError)?;
+    let mut ids = IdList::new(alloc);
+    ids.push(id)?;
+    Ok(ids)
+}
+
+/// A device with that ID arrives below the root.
+fn arrival(alloc: Global) -> Result<Event, WantOfMemory> {
+    Ok(Event::Plug {
+        parent: path(alloc, b"HTREE\\ROOT\\0")?,
+        path: path(alloc, b"OWN\\DEV\\1")?,
+        hw: one_id(alloc)?,
+        compat: IdList::new(alloc),
+        reqs: Reqs::new(alloc),
+    })
+}
+
+/// The driver gets the name of that service.
+fn naming(alloc: Global) -> Result<Event, WantOfMemory> {
+    let name = Text::make(alloc, b"serial")?;
+    let kind = DriverKind::Scripted;
+    Ok(Event::Name { name, kind })
+}
+
+/// The driver of that service answers a request so once.
+fn lesson(alloc: Global, minor: Minor, answer: Answer) -> Result<Event, WantOfMemory> {
+    Ok(Event::Teach {
+        name: Text::make(alloc, b"serial")?,
+        rule: Rule {
+            what: AskWhat::Irp(minor),
+            path: None,
+            answer,
+            uses: Some(1),
+        },
+    })
+}
+
+/// A manager of one scripted driver, with that INF.
+fn one_driver(alloc: Global) -> Result<Manager<Rack<Scripted>>, WantOfMemory>
+    ensures { IfOk result (λ m. m.events ≡ 0) }
+{
+    let mut infs = Vec::with_capacity(alloc, 1)?;
+    infs.push(one_line(alloc)?)?;
+    let mut drivers = Vec::with_capacity(alloc, 1)?;
+    drivers.push(Scripted::make(alloc)?)?;
+    Manager::new(alloc, infs, Rack::make(alloc, drivers)?, 100)
+}
+
+/// The driver gets its name, and learns its answer to its first START_DEVICE.
+fn teach<R: Drivers>(
+    alloc: Global,
+    manager: &mut Manager<R>,
+    answer: Answer,
+) -> Result<(), WantOfMemory>
+    requires { manager.old.events ≡ 0 }
+    ensures { OnOk result (manager.new.events ≤ 2) }
+{
+    happen(manager, naming(alloc)?)?;
+    happen(manager, lesson(alloc, Minor::Start, answer)?)?;
+    Ok(())
+}
+
+/// The device arrives: the lines that follow, and the end of the output.
+fn arrive<R: Drivers>(alloc: Global, manager: &mut Manager<R>) -> Result<Vec<u8>, WantOfMemory>
+    requires { manager.old.events ≤ 2 }
+{
+    let mut out = Vec::with_capacity(alloc, 4096)?;
+    happen(manager, arrival(alloc)?)?;
+    settle(alloc, manager, &mut out)?;
+    out.extend_from_slice(&manager.ending(alloc)?)?;
+    Ok(out)
+}
+
+/// The driver is taught, and the device arrives.
+fn play<R: Drivers>(
+    alloc: Global,
+    manager: &mut Manager<R>,
+    answer: Answer,
+) -> Result<Vec<u8>, WantOfMemory>
+    requires { manager.old.events ≡ 0 }
+{
+    teach(alloc, manager, answer)?;
+    arrive(alloc, manager)
+}
+
+/// The lines of a device that arrives, whose driver answers its first START_DEVICE so, and the end of the output.
+fn lines(alloc: Global, answer: Answer) -> Result<Vec<u8>, WantOfMemory> {
+    let mut manager = one_driver(alloc)?;
+    play(alloc, &mut manager, answer)
+}
+
+/// The same, made anew where memory was refused outside a step.
+fn lines_again(alloc: Global, answer: Answer) -> Result<Vec<u8>, WantOfMemory> {
+    match lines(alloc, answer) {
+        Ok(out) => Ok(out),
+        Err(_) => lines(alloc, answer),
+    }
+}
+
+/// With `--fail-alloc N` some step is refused for memory, and tried again: were its driver asked twice, it would answer ok,
+/// and the device would be up.
+#[test]
+fn a_refused_step_asks_its_driver_once(rt: HostRuntime) -> Result<(), Fail> {
+    let alloc = rt.alloc();
+    let out = lines_again(alloc, Answer::Fail)?;
+    let expected = b"join 1 OWN\\DEV\\1\n\
+        listed HTREE\\ROOT\\0\n\
+        install OWN\\DEV\\1 00ff0000 serial\n\
+        add OWN\\DEV\\1 serial ok\n\
+        assign OWN\\DEV\\1\n\
+        START_DEVICE OWN\\DEV\\1 serial fail\n\
+        state OWN\\DEV\\1 NotStarted\n\
+        problem OWN\\DEV\\1 10\n\
+        REMOVE_DEVICE OWN\\DEV\\1 serial ok\n\
+        state OWN\\DEV\\1 NoStack\n\
+        tree\n\
+        0 HTREE\\ROOT\\0 Started\n 1 OWN\\DEV\\1 NoStack problem 10\n\
+        map\n\
+        outstanding\n";
+    assert_eq!(rt; out.as_slice(), expected.as_slice());
+    Ok(())
+}
+
+#[test]
+fn a_start_waits_and_goes_on(rt: HostRuntime) -> Result<(), Fail> {
+    let alloc = rt.alloc();
+    let out = lines_again(alloc, Answer::Pend)?;
+    let expected = b"join 1 OWN\\DEV\\1\n\
+        listed HTREE\\ROOT\\0\n\
+        install OWN\\DEV\\1 00ff0000 serial\n\
+        add OWN\\DEV\\1 serial ok\n\
+        assign OWN\\DEV\\1\n\
+        START_DEVICE OWN\\DEV\\1 serial pend\n\
+        tree\n\
+        0 HTREE\\ROOT\\0 Started\n 1 OWN\\DEV\\1 NotStarted\n\
+        map\n\
+        outstanding\n\
+        OWN\\DEV\\1 START_DEVICE serial\n";
+    assert_eq!(rt; out.as_slice(), expected.as_slice());
+    Ok(())
+}

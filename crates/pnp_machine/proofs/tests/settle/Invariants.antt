@@ -1,5 +1,0 @@
-use Rattle.std.proofs.Common.{◌≡◌}
-use Rattle.pnp_machine.proofs.tests.settle.Given as goal
-
-abbrev pub invariant-steps : goal.invariant-steps
-invariant-steps g l = l.manager.events ≡ l.initial.manager.events

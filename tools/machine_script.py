@@ -1,0 +1,176 @@
+"""What the importers share: a machine's devices, and the script and the INF that are written of them."""
+import os
+import re
+import sys
+from dataclasses import dataclass, field
+
+# What the language of scripts allows: docs/LANGUAGE.md.
+MOST_GROUPS = 16
+MOST_IDS = 64
+MOST_LINE = 4096
+# How many scripted drivers the program has; the last of them serves for all that are beyond.
+MOST_DRIVERS = 128
+ROOT = r"HTREE\ROOT\0"
+
+
+@dataclass
+class Resource:
+    """Numbers of a kind that a device has: their first and last, and the window in which others would serve too, if any."""
+
+    kind: str
+    low: int
+    high: int
+    shared: bool = False
+    room: tuple = ()
+
+    def clashes(self, other):
+        return self.kind == other.kind and self.low <= other.high and other.low <= self.high
+
+    def place(self):
+        number = hex if self.kind in ("port", "mem") else str
+        return f"{self.kind}:{number(self.low)}-{number(self.high)}"
+
+    def want(self):
+        """Returns the want of a script, for this very place or for any in the room that is as large, at a multiple of its size."""
+        shared = ":shared" if self.shared else ""
+        if self.kind in ("irq", "dma"):
+            return f"{self.kind}:{self.low}{shared}"
+        size = self.high - self.low + 1
+        if self.room:
+            return f"{self.kind}:{self.room[0]:#x}-{self.room[1]:#x}/{size}@{size}{shared}"
+        return f"{self.place()}/{size}{shared}"
+
+
+@dataclass
+class Device:
+    """A device: its parent's path, the two parts of its own, its IDs, what it has, and its driver's name."""
+
+    title: str
+    parent: str
+    name: str
+    instance: str
+    hardware: list
+    compatible: list
+    driver: str
+    model: str
+    resources: list = field(default_factory=list)
+    notes: list = field(default_factory=list)
+
+    @property
+    def path(self):
+        return f"{self.name}\\{self.instance}"
+
+    def line(self):
+        """Returns the line of the script, with fewer IDs where all would make it too long."""
+        hardware, compatible = self.hardware[:MOST_IDS], self.compatible[:MOST_IDS]
+        while True:
+            words = [f"plug {self.parent} {self.name} {self.instance}"]
+            words += [f"hw={','.join(hardware)}"] * bool(hardware) + [f"compat={','.join(compatible)}"] * bool(compatible)
+            words += [f"need={';'.join(it.want() for it in self.resources)}"] * bool(self.resources)
+            line = " ".join(words)
+            if len(line) <= MOST_LINE or not (compatible or hardware[1:]):
+                return line
+            (compatible or hardware).pop()
+
+
+def is_id(text):
+    """Returns whether the text is an identifier of the language."""
+    return re.fullmatch(r"[!-+\--\x7f]{1,199}", text) is not None
+
+
+def plain(text):
+    """Returns the text as one line of printable ASCII."""
+    return re.sub(r"[^ -~]", "?", text)
+
+
+def driver_name(text):
+    """Returns a name that a driver may have."""
+    return re.sub(r"[^A-Za-z0-9_.-]", "_", text)[:64] or "unnamed"
+
+
+def settle(devices):
+    """Leaves out what clashes, since no two devices may have the same numbers: of two the larger one, as a bridge's window. Interrupts and channels that several have are shared."""
+    ranges = [(it.high - it.low, number, it, device) for number, (it, device) in enumerate((it, device) for device in devices for it in device.resources)]
+    taken, numbers = [], {}
+    for _, _, it, device in sorted(ranges, key=lambda entry: entry[:2]):
+        if it.kind in ("irq", "dma"):
+            numbers.setdefault((it.kind, it.low), []).append(it)
+        elif any(it.clashes(other) for other in taken):
+            device.resources = [other for other in device.resources if other is not it]
+            device.notes.append(f"left out {it.place()}: it holds, or is held in, what another device has")
+        else:
+            taken.append(it)
+    for same in numbers.values():
+        for it in same:
+            it.shared = it.shared or len(same) > 1
+    return taken
+
+
+def reserve_the_rest(devices):
+    """Takes from a device what is beyond the groups of one list, and returns those ranges."""
+    rest = []
+    for device in devices:
+        over = [it for it in device.resources[MOST_GROUPS:] if not it.shared]
+        if device.resources[MOST_GROUPS:]:
+            device.notes.append(f"has {len(device.resources)} resources: those beyond {MOST_GROUPS} are reserved, or left out where they are shared")
+            device.resources = device.resources[:MOST_GROUPS]
+        rest += over
+    return rest
+
+
+def name_drivers(devices):
+    """Gives all beyond the most drivers one in common, and returns the names, each once."""
+    names = list(dict.fromkeys(it.driver.lower() for it in devices))
+    if len(names) > MOST_DRIVERS:
+        kept = set(names[: MOST_DRIVERS - 1])
+        for it in devices:
+            it.driver = it.driver if it.driver.lower() in kept else "other"
+    return list({it.driver.lower(): it.driver for it in devices}.values())
+
+
+def script_of(heading, reserved, devices):
+    """Returns the text of the script. reserved: pairs of a name and a resource."""
+    lines = [f"# {plain(it)}" for it in heading]
+    lines += [f"driver {it} scripted" for it in name_drivers(devices)]
+    for name, it in reserved:
+        lines += [f"# {plain(name)}", f"reserve {it.place()}"]
+    for device in devices:
+        lines += [f"# {plain(it)}" for it in [device.title, *device.notes]]
+        lines.append(device.line())
+    return "\n".join([*lines, ""])
+
+
+def quoted(text):
+    """Returns a value of an INF that reads as the text."""
+    text = text.replace("%", "%%")
+    return '"' + text.replace('"', '""') + '"' if re.search(r'[;,=" ]|\\$', text) else text
+
+
+def inf_of(heading, devices):
+    """Returns the text of an INF with a models line, and a service, for each model of device."""
+    models = list({it.model.lower(): it for it in devices}.values())
+    lines = [f"; {plain(it)}" for it in heading]
+    lines += ["[Version]", 'Signature = "$Windows NT$"', "DriverVer = 01/01/2024,1.0.0.0", "", "[Manufacturer]", '"Imported" = Models,NTamd64', "", "[Models.NTamd64]"]
+    lines += [f'{quoted(plain(it.title) + " ")} = Install_{number}, {quoted(it.model)}' for number, it in enumerate(models, 1)]
+    for number, it in enumerate(models, 1):
+        lines += ["", f"[Install_{number}]", f"[Install_{number}.Services]", f"AddService = {it.driver}, 0x00000002, Service"]
+    return "\n".join([*lines, "", "[Service]", "ServiceType = 1", ""])
+
+
+def write(prefix, heading, reserved, devices, force):
+    """Writes PREFIX.pnp and PREFIX.inf, and returns the status of the importer."""
+    texts = {f"{prefix}.pnp": script_of(heading, reserved, devices), f"{prefix}.inf": inf_of(heading, devices)}
+    there = [it for it in texts if os.path.lexists(it)]
+    if there and not force:
+        print(f"{there[0]} is there already: --force writes over it", file=sys.stderr)
+        return 1
+    try:
+        for file, text in texts.items():
+            with open(file, "w", encoding="ascii", newline="\n") as it:
+                it.write(text)
+    except OSError as error:
+        print(f"{error.filename} cannot be written: {error.strerror}", file=sys.stderr)
+        return 1
+    left = sum("left out" in note for it in devices for note in it.notes)
+    print(f"{prefix}.pnp and {prefix}.inf: {len(devices)} devices, {len(reserved)} reserved ranges, {left} resources left out", file=sys.stderr)
+    return 0
