@@ -58,11 +58,15 @@ fn reads_the_files_of_the_system(rt: HostRuntime) -> Result<(), Fail> {
     let script = read_all(rt.alloc(), &mut files, b"small.script", 100);
     let mut buffer = [0u8; 4];
     let part = files.read(b"small.script", 7, &mut buffer);
+    let mut first = [0u8; 4];
+    let front = files.read(b"small.script", 0, &mut first);
     fs::remove_file(&rt, "small.script")?;
     assert_eq!(rt; script?.as_slice(), text);
     assert_eq!(rt; part, Ok(4));
     assert_eq!(rt; buffer.as_slice(), b"dev ".as_slice());
-    assert_eq!(rt; files.read(b"small.script", 0, &mut buffer), Err(Failed));
+    assert_eq!(rt; front, Ok(4));
+    assert_eq!(rt; first.as_slice(), b"driv".as_slice());
+    assert_eq!(rt; files.read(b"missing.script", 0, &mut buffer), Err(Failed));
     assert_eq!(rt; files.read(b"\xFF", 0, &mut buffer), Err(Failed));
     Ok(())
 }
