@@ -3,6 +3,7 @@ pub mod AnswerThere
 pub mod Lookups
 pub mod Lists
 pub mod EffectsOfStarts
+pub mod Stages
 pub mod EffectsOfOperations
 pub mod EffectsOfEvents
 pub mod EffectsOf
