@@ -80,8 +80,7 @@ pub mod JoinLimits
 mod JoinTwice
 pub mod Measures
 pub mod MeasureOps
-pub mod MeasureRemovals
-pub mod MeasureSurprises
+pub mod MeasureStages
 pub mod MeasureTasks
 pub mod MeasureBegins
 pub mod RunsEnd

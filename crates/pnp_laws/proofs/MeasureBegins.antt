@@ -26,8 +26,8 @@ use Rattle.pnp_laws.proofs.Lookups.{own_serial}
 use Rattle.pnp_laws.proofs.Closures.{head_at, tail_at}
 use Rattle.pnp_laws.proofs.SoundTasks.{find_passes}
 use Rattle.pnp_laws.proofs.Measures.{Falls, falls_coarse, coarse_by, count, count_less, tasks_cost, tasks_pushed, duty_cost, sum, sum_entered, phase_cost, is_open, is_target, born_in, operation_cost, SameBirths, births_same, births_changed}
-use Rattle.pnp_laws.proofs.MeasureOps.{those_shorter, ask_most, Lowers, lower_so}
-use Rattle.pnp_laws.proofs.MeasureSurprises.{count_none, tell_target}
+use Rattle.pnp_laws.proofs.MeasureOps.{count_none, those_shorter, Lowers, lower_so}
+use Rattle.pnp_laws.proofs.MeasureStages.{ask_most, tell_target}
 use Rattle.pnp_laws.proofs.MeasureTasks.{open_dropped, dropped_cost, open_pushed, no_cost, adding_cost}
 use Rattle.pnp_laws.proofs.Truths.{and_both}
 use Rattle.pnp_model.specs.Rebalances as re

@@ -12,6 +12,7 @@ use Rattle.pnp_model.specs.Tasks.{is_surprise_of}
 use Rattle.pnp_model.specs.Frames.{first_node}
 use Rattle.pnp_model.specs.Machine.{phase_walk, operation_walk, is_born}
 use Rattle.pnp_labels.specs.declared.label.OpKind.{OpKind}
+use Rattle.pnp_laws.specs.Effects.{todo_of}
 use Rattle.pnp_laws.proofs.Lookups.{node_changed_same, node_changed_other, node_at-map}
 
 -- What is still to begin ----------------------------------------------------------------------------
@@ -159,11 +160,6 @@ abbrev pub answers : Option Walk → ℕ → ℕ
 answers None n = 0
 answers (Some w) n = 2 * (n - w.asked) + cond w.waits 0 1
 
-abbrev pub operation_todo : Operation → List ℕ
-operation_todo (Operation.Rebalancing r) = r.todo
-operation_todo (Operation.Removing o) = o.todo
-operation_todo (Operation.Surprising o) = o.todo
-
 abbrev pub stack_at : List Node → ℕ → ℕ
 stack_at nodes k = length (stack_of (node_at k nodes))
 
@@ -172,7 +168,7 @@ activity_answers nodes a = answers (phase_walk a.phase) (stack_at nodes a.serial
 
 abbrev pub answers_of : List Node → List Activity → Option Operation → ℕ
 answers_of nodes activities None = sum (activity_answers nodes) activities
-answers_of nodes activities (Some o) = answers (operation_walk o) (length (stack_of (first_node nodes (operation_todo o))))
+answers_of nodes activities (Some o) = answers (operation_walk o) (length (stack_of (first_node nodes (todo_of o))))
 
 -- One is lower -----------------------------------------------------------------------------------------
 
@@ -372,54 +368,41 @@ operation_less born was (Some (Operation.Surprising o)) h = by_test (born o.targ
     by_test false true g = omega arith
     by_test false false g = omega arith
 
+-- what tasks, activities and operation of a state cost by the births of another
+abbrev pub costs : State → State → ℕ
+costs s t = tasks_cost (length (serials_of s.core.nodes)) (born_in s) t.tasks + (sum (λ a. phase_cost (length (serials_of s.core.nodes)) a.phase) t.activities + operation_cost (born_in s) t.operation)
+
+-- births stay, and at most d more can be found gone
+pub coarse_most : (s t : State) (d : ℕ) → SameBirths s.core.nodes t.core.nodes → t.world ≡ s.world → count (is_open t.tasks t.operation) (serials_of s.core.nodes) ≤ count (is_open s.tasks s.operation) (serials_of s.core.nodes) + d
+    → coarse t + costs s s ≤ coarse s + costs s t + 3 * d
+coarse_most s t d same world opens =
+    let n : length (serials_of t.core.nodes) ≡ length (serials_of s.core.nodes) = ap (λ (ks : List ℕ). length ks) same.serials in
+    let born : (k : ℕ) → born_in t k ≡ true → born_in s k ≡ true = λ k h. sym (ap (λ (w : List Device). is_born w (node_at k t.core.nodes)) world ∙ same.births s.world k) ∙ h in
+    let a = ap (λ (ks : List ℕ). count (is_open t.tasks t.operation) ks) same.serials in
+    let b = tasks_less (length (serials_of t.core.nodes)) (length (serials_of s.core.nodes)) (born_in t) (born_in s) t.tasks (omega arith) born in
+    let c : sum (λ a. phase_cost (length (serials_of t.core.nodes)) a.phase) t.activities ≡ sum (λ a. phase_cost (length (serials_of s.core.nodes)) a.phase) t.activities =
+    ap (λ (m : ℕ). sum (λ a. phase_cost m a.phase) t.activities) n in
+    let e = operation_less (born_in t) (born_in s) t.operation born in
+    omega arith
+
+-- nobody more can be found gone
+pub coarse_no_more : (s t : State) → SameBirths s.core.nodes t.core.nodes → t.world ≡ s.world → ((k : ℕ) → is_open t.tasks t.operation k ≡ true → is_open s.tasks s.operation k ≡ true) → coarse t + costs s s ≤ coarse s + costs s t
+coarse_no_more s t same world opens =
+    let l = coarse_most s t 0 same world (let c = count_less (is_open t.tasks t.operation) (is_open s.tasks s.operation) (serials_of s.core.nodes) opens in omega arith) in omega arith
+
+pub coarse_by : (s t : State) → SameBirths s.core.nodes t.core.nodes → t.world ≡ s.world → ((k : ℕ) → is_open t.tasks t.operation k ≡ true → is_open s.tasks s.operation k ≡ true) → costs s t < costs s s → coarse t < coarse s
+coarse_by s t same world opens less = let l = coarse_no_more s t same world opens in omega arith
+
+-- tasks stay, and the target of a surprise removal
+pub open_same : (tasks more : List Task) (o p : Option Operation) (k : ℕ) → more ≡ tasks → is_target p k ≡ is_target o k → is_open more p k ≡ true → is_open tasks o k ≡ true
+open_same tasks more o p k e target h =
+    ap (λ (b : Bool). not (list_any (is_surprise_of k) tasks) && not b) (sym target) ∙ (ap (λ (ts : List Task). not (list_any (is_surprise_of k) ts) && not (is_target p k)) (sym e) ∙ h)
+
 -- in an operation: births, tasks and activities stay, and the operation costs no more
 pub coarse_on : (s t : State) → SameBirths s.core.nodes t.core.nodes → t.world ≡ s.world → t.tasks ≡ s.tasks → t.activities ≡ s.activities → ((k : ℕ) → is_target t.operation k ≡ is_target s.operation k) →
     operation_cost (born_in s) t.operation ≤ operation_cost (born_in s) s.operation → coarse t ≤ coarse s
 coarse_on s t same world tasks acts target cost =
-    let n : length (serials_of t.core.nodes) ≡ length (serials_of s.core.nodes) = ap (λ (ks : List ℕ). length ks) same.serials in
-    let born : (k : ℕ) → born_in t k ≡ true → born_in s k ≡ true = λ k h. sym (ap (λ (w : List Device). is_born w (node_at k t.core.nodes)) world ∙ same.births s.world k) ∙ h in
-    let a : count (is_open t.tasks t.operation) (serials_of t.core.nodes) ≤ count (is_open s.tasks s.operation) (serials_of s.core.nodes) =
-    subst (λ (ks : List ℕ). count (is_open t.tasks t.operation) ks ≤ count (is_open s.tasks s.operation) (serials_of s.core.nodes)) (sym same.serials)
-    (count_less (is_open t.tasks t.operation) (is_open s.tasks s.operation) (serials_of s.core.nodes)
-    (λ k h. ap (λ (b : Bool). not (list_any (is_surprise_of k) s.tasks) && not b) (sym (target k)) ∙ ap (λ (ts : List Task). not (list_any (is_surprise_of k) ts) && not (is_target t.operation k)) (sym tasks) ∙ h)) in
-    let b0 = tasks_less (length (serials_of t.core.nodes)) (length (serials_of s.core.nodes)) (born_in t) (born_in s) s.tasks (omega arith) born in
-    let b : tasks_cost (length (serials_of t.core.nodes)) (born_in t) t.tasks ≤ tasks_cost (length (serials_of s.core.nodes)) (born_in s) s.tasks =
-    subst (λ (ts : List Task). tasks_cost (length (serials_of t.core.nodes)) (born_in t) ts ≤ tasks_cost (length (serials_of s.core.nodes)) (born_in s) s.tasks) (sym tasks) b0 in
-    let c : sum (λ a. phase_cost (length (serials_of t.core.nodes)) a.phase) t.activities ≡ sum (λ a. phase_cost (length (serials_of s.core.nodes)) a.phase) s.activities =
-    ap (λ (m : ℕ). sum (λ a. phase_cost m a.phase) t.activities) n ∙ ap (λ (xs : List Activity). sum (λ a. phase_cost (length (serials_of s.core.nodes)) a.phase) xs) acts in
-    let d = operation_less (born_in t) (born_in s) t.operation born in
-    omega arith
-
--- births stay, nobody more can be found gone, and tasks, activities and operation together cost less
-pub coarse_by : (s t : State) → SameBirths s.core.nodes t.core.nodes → t.world ≡ s.world → ((k : ℕ) → is_open t.tasks t.operation k ≡ true → is_open s.tasks s.operation k ≡ true) →
-    tasks_cost (length (serials_of s.core.nodes)) (born_in s) t.tasks + (sum (λ a. phase_cost (length (serials_of s.core.nodes)) a.phase) t.activities + operation_cost (born_in s) t.operation)
-    < tasks_cost (length (serials_of s.core.nodes)) (born_in s) s.tasks + (sum (λ a. phase_cost (length (serials_of s.core.nodes)) a.phase) s.activities + operation_cost (born_in s) s.operation) →
-    coarse t < coarse s
-coarse_by s t same world opens less =
-    let n : length (serials_of t.core.nodes) ≡ length (serials_of s.core.nodes) = ap (λ (ks : List ℕ). length ks) same.serials in
-    let born : (k : ℕ) → born_in t k ≡ true → born_in s k ≡ true = λ k h. sym (ap (λ (w : List Device). is_born w (node_at k t.core.nodes)) world ∙ same.births s.world k) ∙ h in
-    let a : count (is_open t.tasks t.operation) (serials_of t.core.nodes) ≤ count (is_open s.tasks s.operation) (serials_of s.core.nodes) =
-    subst (λ (ks : List ℕ). count (is_open t.tasks t.operation) ks ≤ count (is_open s.tasks s.operation) (serials_of s.core.nodes)) (sym same.serials)
-    (count_less (is_open t.tasks t.operation) (is_open s.tasks s.operation) (serials_of s.core.nodes) opens) in
-    let b = tasks_less (length (serials_of t.core.nodes)) (length (serials_of s.core.nodes)) (born_in t) (born_in s) t.tasks (omega arith) born in
-    let c : sum (λ a. phase_cost (length (serials_of t.core.nodes)) a.phase) t.activities ≡ sum (λ a. phase_cost (length (serials_of s.core.nodes)) a.phase) t.activities =
-    ap (λ (m : ℕ). sum (λ a. phase_cost m a.phase) t.activities) n in
-    let d = operation_less (born_in t) (born_in s) t.operation born in
-    omega arith
-
--- the same, where they cost no more
-pub coarse_most : (s t : State) → SameBirths s.core.nodes t.core.nodes → t.world ≡ s.world → ((k : ℕ) → is_open t.tasks t.operation k ≡ true → is_open s.tasks s.operation k ≡ true) →
-    tasks_cost (length (serials_of s.core.nodes)) (born_in s) t.tasks + (sum (λ a. phase_cost (length (serials_of s.core.nodes)) a.phase) t.activities + operation_cost (born_in s) t.operation)
-    ≤ tasks_cost (length (serials_of s.core.nodes)) (born_in s) s.tasks + (sum (λ a. phase_cost (length (serials_of s.core.nodes)) a.phase) s.activities + operation_cost (born_in s) s.operation) →
-    coarse t ≤ coarse s
-coarse_most s t same world opens less =
-    let n : length (serials_of t.core.nodes) ≡ length (serials_of s.core.nodes) = ap (λ (ks : List ℕ). length ks) same.serials in
-    let born : (k : ℕ) → born_in t k ≡ true → born_in s k ≡ true = λ k h. sym (ap (λ (w : List Device). is_born w (node_at k t.core.nodes)) world ∙ same.births s.world k) ∙ h in
-    let a : count (is_open t.tasks t.operation) (serials_of t.core.nodes) ≤ count (is_open s.tasks s.operation) (serials_of s.core.nodes) =
-    subst (λ (ks : List ℕ). count (is_open t.tasks t.operation) ks ≤ count (is_open s.tasks s.operation) (serials_of s.core.nodes)) (sym same.serials)
-    (count_less (is_open t.tasks t.operation) (is_open s.tasks s.operation) (serials_of s.core.nodes) opens) in
-    let b = tasks_less (length (serials_of t.core.nodes)) (length (serials_of s.core.nodes)) (born_in t) (born_in s) t.tasks (omega arith) born in
-    let c : sum (λ a. phase_cost (length (serials_of t.core.nodes)) a.phase) t.activities ≡ sum (λ a. phase_cost (length (serials_of s.core.nodes)) a.phase) t.activities =
-    ap (λ (m : ℕ). sum (λ a. phase_cost m a.phase) t.activities) n in
-    let d = operation_less (born_in t) (born_in s) t.operation born in
+    let l = coarse_no_more s t same world (λ k h. open_same s.tasks t.tasks s.operation t.operation k tasks (target k) h) in
+    let a = ap (tasks_cost (length (serials_of s.core.nodes)) (born_in s)) tasks in
+    let b = ap (λ (xs : List Activity). sum (λ a. phase_cost (length (serials_of s.core.nodes)) a.phase) xs) acts in
     omega arith

@@ -26,11 +26,10 @@ use Rattle.pnp_laws.proofs.Lists.{HeadIs, head_found, head_has, rest_has}
 use Rattle.pnp_laws.proofs.Finishing.{head_stripped, head_bare, strips, relist_only}
 use Rattle.pnp_laws.proofs.RemovalSteps.{head_querying, head_refusing, head_restoring, not_root}
 use Rattle.pnp_laws.proofs.SurpriseSteps.{head_told, told_or, last_alone}
-use Rattle.pnp_laws.proofs.Finishing.{relist_core}
 use Rattle.pnp_laws.proofs.Standing.{IsNoLeave, DueBut, waiting, StageKept, RemovalOrder, RemovalThere, SurpriseOrder, SurpriseThere, Stands, Sound, Finishes, AllThere, TargetLeft}
 use Rattle.pnp_laws.proofs.Theres.{goes_on, fewer_there, rest_there, same_there, same_goes, strip_goes, left_there}
 use Rattle.pnp_laws.proofs.Finishes.{fades_same, finishes_all, finishes_still, finishes_strip, finishes_stays, finishes_left}
-use Rattle.pnp_laws.proofs.SoundOps.{Work, op_walk, op_still, op_strip, op_trouble, op_left, was_troubled, now_ascending, MoreTasks, more_relist}
+use Rattle.pnp_laws.proofs.SoundOps.{Work, op_walk, op_still, op_strip, op_trouble, op_left, was_troubled, now_ascending, MoreTasks, more_listed}
 use Rattle.pnp_laws.proofs.SoundStarts.{SoundNext}
 use Rattle.pnp_laws.proofs.Sounds.{IsPlain}
 use Rattle.pnp_model.specs.Removals as rm
@@ -129,7 +128,7 @@ sound_target s o node true over keeps order work due h =
     let m = rm.leaves s.core o node (Label.Ejected node.path) (RemoveBeside.Ejected node.path node.born) in
     let u = unplug node.born (set_operation (Some (Operation.Removing m.frame)) (with_core m.core s)) in
     let only = relist_only node.path node.born u in
-    sound_leaves s _ o node (Label.Ejected node.path) tt (λ h. h) (relist_core node.path node.born u) only.serial (more_relist node.path node.born u) only.operation keeps order work due h
+    sound_leaves s _ o node (Label.Ejected node.path) tt (λ h. h) only.core only.serial (more_listed s.tasks _ only.tasks) only.operation keeps order work due h
 sound_target s o node false over keeps order work due h = sound_remains s _ o node Problem.Disabled refl refl refl refl refl over keeps order work due h
 
 sound_outer : (s : State) (o : Removal) (node : Node) (b : Bool) → has o.set node.parent ≡ false → RemovalKeeps o RemovalStage.Settling s.core.nodes → RemovalOrder s.core o RemovalStage.Settling × RemovalThere o RemovalStage.Settling s.core.nodes → Work s node o.todo → DueBut [] s.tasks s.core.nodes → Stands s → Sound s (removal_lifted s (rm.settle_outer s.core o node b))
@@ -141,7 +140,7 @@ sound_settle s o node true over keeps order work due h =
     let m = rm.leaves s.core o node (Label.Leave node.path) (RemoveBeside.Left node.path node.born) in
     let u = set_operation (Some (Operation.Removing m.frame)) (with_core m.core s) in
     let only = relist_only node.path node.born u in
-    sound_leaves s _ o node (Label.Leave node.path) tt (λ h. h) (relist_core node.path node.born u) only.serial (more_relist node.path node.born u) only.operation keeps order work due h
+    sound_leaves s _ o node (Label.Leave node.path) tt (λ h. h) only.core only.serial (more_listed s.tasks _ only.tasks) only.operation keeps order work due h
 sound_settle s o node false over keeps order work due h = sound_outer s o node _ over keeps order work due h
 
 work_on : (s : State) (node : Node) (todo : List ℕ) (next : ℕ) (p : Option Operation) → first_node s.core.nodes todo ≡ Some node → (has todo node.serial ≡ true → node.serial ≢ 0) → Good next s.core.nodes [] p → Work s node todo
@@ -229,8 +228,8 @@ sound_su_leaves s o node keeps order work due h =
     let m = su.leaves s.core o node in
     let u = set_operation (Some (Operation.Surprising m.frame)) (with_core m.core s) in
     let only = relist_only node.path node.born u in
-    let is = relist_core node.path node.born u in
-    op_left s (relist node.path node.born u) node o.todo o.set o.set (Label.Leave node.path) work tt (λ h. h) (keeps.inside node.serial (head_has node.serial o.todo work.head)) order.0 is only.serial (more_relist node.path node.born u)
+    let is = only.core in
+    op_left s (relist node.path node.born u) node o.todo o.set o.set (Label.Leave node.path) work tt (λ h. h) (keeps.inside node.serial (head_has node.serial o.todo work.head)) order.0 is only.serial (more_listed s.tasks _ only.tasks)
     (subst (λ (x : Option Operation). StageKept x (relist node.path node.born u).core) (sym only.operation)
     (order_su_finish_on s.core.nodes o (rest o.todo) (relist node.path node.born u).core
     (subst (λ (c : Core). Finishes c o.set (rest o.todo)) (sym is) (finishes_left s.core o.set o.todo node.serial work.order work.head order.0))

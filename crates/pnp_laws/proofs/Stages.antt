@@ -5,7 +5,6 @@ use Rattle.resource_reqs.specs.Spelling.{IsAnswer}
 use Rattle.pnp_labels.specs.declared.words.AskWhat.{AskWhat}
 use Rattle.pnp_labels.specs.declared.words.Answer.{Answer}
 use Rattle.pnp_labels.specs.declared.states.Problem.{Problem}
-use Rattle.pnp_labels.specs.declared.label.Label.{Label}
 use Rattle.pnp_model.specs.Books.{rack_reply}
 use Rattle.pnp_model.specs.Frames.{asked, first_node, next_driver}
 use Rattle.pnp_model.specs.Records.{Core, Doing, Found, Node, Operation, Rebalance, RebalanceStage, Removal, RemovalStage, Settings, State, Step, Surprise, SurpriseStage, Walk, doing_map}

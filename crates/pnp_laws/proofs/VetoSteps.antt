@@ -19,7 +19,6 @@ use Rattle.pnp_labels.specs.declared.event.Event.{Event}
 use Rattle.pnp_laws.proofs.Vetoes.{IsOn, since_step}
 use Rattle.pnp_laws.proofs.EventChanges.{Answered, happens_outside}
 use Rattle.pnp_laws.proofs.Finishing.{relist_only}
-use Rattle.pnp_laws.proofs.Finishing.{relist_core}
 use Rattle.pnp_model.specs.Removals as rm
 use Rattle.pnp_model.specs.Events as ev
 
@@ -94,11 +93,11 @@ gone_on : (before : Core) (s : State) (m : RemovalMove) (beside : RemoveBeside) 
 gone_on before s m RemoveBeside.On on h = record { op = m.frame; runs = refl; since = h }
 gone_on before s m (RemoveBeside.Left path born) on h =
     let u = set_operation (Some (Operation.Removing m.frame)) (with_core m.core s) in
-    record { op = m.frame; runs = (relist_only path born u).operation; since = subst (λ (c : Core). Since before c m.frame m.frame.stage) (sym (relist_core path born u)) h }
+    record { op = m.frame; runs = (relist_only path born u).operation; since = subst (λ (c : Core). Since before c m.frame m.frame.stage) (sym (relist_only path born u).core) h }
 gone_on before s m (RemoveBeside.Disabled path) on h = record { op = m.frame; runs = refl; since = h }
 gone_on before s m (RemoveBeside.Ejected path born) on h =
     let u = unplug born (set_operation (Some (Operation.Removing m.frame)) (with_core m.core s)) in
-    record { op = m.frame; runs = (relist_only path born u).operation; since = subst (λ (c : Core). Since before c m.frame m.frame.stage) (sym (relist_core path born u)) h }
+    record { op = m.frame; runs = (relist_only path born u).operation; since = subst (λ (c : Core). Since before c m.frame m.frame.stage) (sym (relist_only path born u).core) h }
 gone_on before s m RemoveBeside.Over on h = absurd on
 
 -- the operation closed, in a state that a veto restores
