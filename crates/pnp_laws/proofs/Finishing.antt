@@ -20,30 +20,21 @@ use Rattle.pnp_laws.proofs.Lists.{HeadIs}
 
 pub is_NoStack : (x : DevState) → is_no_stack x ≡ true → x ≡ NoStack
 is_NoStack NoStack h = refl
-is_NoStack NotStarted h = cc
-is_NoStack Started h = cc
-is_NoStack StopPending h = cc
-is_NoStack Stopped h = cc
-is_NoStack RemovePending h = cc
-is_NoStack SurpriseRemoved h = cc
+is_NoStack _ h = cc
 
 with_drivers : (x : DevState) → x ≢ NoStack → is_removable x ≡ true → is_stripped_next x ≡ true
 with_drivers NoStack d h = absurd (d refl)
 with_drivers NotStarted d h = refl
-with_drivers Started d h = cc
-with_drivers StopPending d h = cc
-with_drivers Stopped d h = cc
 with_drivers RemovePending d h = refl
 with_drivers SurpriseRemoved d h = refl
+with_drivers _ d h = cc
 
 pub strips : (x : DevState) → is_stripped_next x ≡ true → Row x Minor.Remove false NoStack
 strips NoStack h = absurd (cc)
 strips NotStarted h = remove
-strips Started h = absurd (cc)
-strips StopPending h = absurd (cc)
-strips Stopped h = absurd (cc)
 strips RemovePending h = remove_pending
 strips SurpriseRemoved h = remove_surprised
+strips _ h = absurd (cc)
 
 abbrev pub StacksFit : List Node → Type 0
 StacksFit nodes = (k : ℕ) (n : Node) → node_at k nodes ≡ Some n → HasStackOf k n.state n.stack

@@ -119,15 +119,7 @@ numbers_completed answer (Operation.Rebalancing r) w walk =
     by_stage : (stage : RebalanceStage) → (rebalance_rank (ev.completed_rebalance answer stage) ≡ rebalance_rank stage) × (rebalance_left r.todo (ev.completed_rebalance answer stage) ≡ rebalance_left r.todo stage)
         × (rebalance_cost (record r { stage = ev.completed_rebalance answer stage }) (ev.completed_rebalance answer stage) ≡ rebalance_cost r stage) × (rebalance_walk (ev.completed_rebalance answer stage) ≡ option_map (λ (v : Walk). after v answer) (rebalance_walk stage))
     by_stage (RebalanceStage.Asking v) = (refl, refl, refl, refl)
-    by_stage (RebalanceStage.TakingBack v) = (refl, refl, refl, refl)
-    by_stage RebalanceStage.Searching = (refl, refl, refl, refl)
-    by_stage (RebalanceStage.Cancelling v) = (refl, refl, refl, refl)
-    by_stage RebalanceStage.Stuck = (refl, refl, refl, refl)
-    by_stage (RebalanceStage.Stopping v) = (refl, refl, refl, refl)
-    by_stage RebalanceStage.Committing = (refl, refl, refl, refl)
-    by_stage (RebalanceStage.Restarting v) = (refl, refl, refl, refl)
-    by_stage RebalanceStage.Failed = (refl, refl, refl, refl)
-    by_stage RebalanceStage.Ending = (refl, refl, refl, refl)
+    by_stage _ = (refl, refl, refl, refl)
 numbers_completed answer (Operation.Removing o) w walk =
     let same = by_stage o.stage in
     record { rank = same.0; left = same.1; cost = λ born. refl; target = λ k. refl; todo = refl; walk = same.2 ∙ ap (option_map (λ (v : Walk). after v answer)) walk }
@@ -135,11 +127,7 @@ numbers_completed answer (Operation.Removing o) w walk =
     by_stage : (stage : RemovalStage) → (removal_rank (ev.completed_removal answer stage) ≡ removal_rank stage) × (removal_left o.todo (ev.completed_removal answer stage) ≡ removal_left o.todo stage)
         × (removal_walk (ev.completed_removal answer stage) ≡ option_map (λ (v : Walk). after v answer) (removal_walk stage))
     by_stage (RemovalStage.Asking v) = (refl, refl, refl)
-    by_stage (RemovalStage.TakingBack v) = (refl, refl, refl)
-    by_stage (RemovalStage.Cancelling v) = (refl, refl, refl)
-    by_stage (RemovalStage.Removing v) = (refl, refl, refl)
-    by_stage RemovalStage.Settling = (refl, refl, refl)
-    by_stage RemovalStage.Ending = (refl, refl, refl)
+    by_stage _ = (refl, refl, refl)
 numbers_completed answer (Operation.Surprising o) w walk =
     let same = by_stage o.stage in
     record { rank = same.0; left = same.1; cost = λ born. refl; target = λ k. refl; todo = refl; walk = same.2 ∙ ap (option_map (λ (v : Walk). after v answer)) walk }
@@ -147,9 +135,7 @@ numbers_completed answer (Operation.Surprising o) w walk =
     by_stage : (stage : SurpriseStage) → (surprise_rank (ev.completed_surprise answer stage) ≡ surprise_rank stage) × (surprise_left o.todo (ev.completed_surprise answer stage) ≡ surprise_left o.todo stage)
         × (surprise_walk (ev.completed_surprise answer stage) ≡ option_map (λ (v : Walk). after v answer) (surprise_walk stage))
     by_stage (SurpriseStage.Telling v) = (refl, refl, refl)
-    by_stage (SurpriseStage.Removing v) = (refl, refl, refl)
-    by_stage SurpriseStage.Settling = (refl, refl, refl)
-    by_stage SurpriseStage.Ending = (refl, refl, refl)
+    by_stage _ = (refl, refl, refl)
 
 pub falls_asking : (s : State) (o : Operation) (node : Node) (w : Walk) → s.operation ≡ Some o → Asks s o node w → Falls s (asking s o node w).state
 falls_asking s o node w runs asks =

@@ -67,10 +67,8 @@ operation_cost born (Some (Operation.Surprising o)) = cond (born o.target) 5 1
 
 -- the device of the surprise removal that runs
 abbrev pub is_target : Option Operation → ℕ → Bool
-is_target None k = false
-is_target (Some (Operation.Rebalancing r)) k = false
-is_target (Some (Operation.Removing o)) k = false
 is_target (Some (Operation.Surprising o)) k = o.target == k
+is_target _ k = false
 
 -- it may still be found gone
 abbrev pub is_open : List Task → Option Operation → ℕ → Bool
@@ -189,31 +187,17 @@ rank_small (Some (Operation.Rebalancing r)) = by_stage r.stage
   where
     by_stage : (stage : RebalanceStage) → rebalance_rank stage ≤ 7
     by_stage (RebalanceStage.Asking w) = omega arith
-    by_stage (RebalanceStage.TakingBack w) = omega arith
-    by_stage RebalanceStage.Searching = omega arith
-    by_stage (RebalanceStage.Cancelling w) = omega arith
-    by_stage (RebalanceStage.Stopping w) = omega arith
-    by_stage RebalanceStage.Committing = omega arith
-    by_stage RebalanceStage.Stuck = omega arith
-    by_stage (RebalanceStage.Restarting w) = omega arith
-    by_stage RebalanceStage.Failed = omega arith
-    by_stage RebalanceStage.Ending = omega arith
+    by_stage _ = omega arith
 rank_small (Some (Operation.Removing o)) = by_stage o.stage
   where
     by_stage : (stage : RemovalStage) → removal_rank stage ≤ 7
     by_stage (RemovalStage.Asking w) = omega arith
-    by_stage (RemovalStage.TakingBack w) = omega arith
-    by_stage (RemovalStage.Cancelling w) = omega arith
-    by_stage (RemovalStage.Removing w) = omega arith
-    by_stage RemovalStage.Settling = omega arith
-    by_stage RemovalStage.Ending = omega arith
+    by_stage _ = omega arith
 rank_small (Some (Operation.Surprising o)) = by_stage o.stage
   where
     by_stage : (stage : SurpriseStage) → surprise_rank stage ≤ 7
     by_stage (SurpriseStage.Telling w) = omega arith
-    by_stage (SurpriseStage.Removing w) = omega arith
-    by_stage SurpriseStage.Settling = omega arith
-    by_stage SurpriseStage.Ending = omega arith
+    by_stage _ = omega arith
 
 -- less is to begin
 pub falls_coarse : (s t : State) → coarse t < coarse s → Falls s t
@@ -275,12 +259,10 @@ tasks_pushed n born [] task = omega arith
 tasks_pushed n born (t ∷ tasks) task = let more = tasks_pushed n born tasks task in omega arith
 
 begin_less : (n m : ℕ) (a b : Bool) (kind : OpKind) → n ≤ m → (a ≡ true → b ≡ true) → begin_cost n a kind ≤ begin_cost m b kind
-begin_less n m a b OpKind.Rebalance l h = omega arith
-begin_less n m a b OpKind.Disable l h = omega arith
-begin_less n m a b OpKind.Eject l h = omega arith
 begin_less n m true b OpKind.Surprise l h = subst (λ (x : Bool). 6 ≤ cond x 6 2) (sym (h refl)) (omega arith)
 begin_less n m false true OpKind.Surprise l h = omega arith
 begin_less n m false false OpKind.Surprise l h = omega arith
+begin_less n m a b _ l h = omega arith
 
 duty_less : (n m : ℕ) (a b : Bool) (duty : Duty) → n ≤ m → (a ≡ true → b ≡ true) → duty_cost n a duty ≤ duty_cost m b duty
 duty_less n m a b Duty.Listing l h = omega arith
@@ -296,10 +278,7 @@ tasks_less n m born was (t ∷ tasks) l h =
 
 pub phase_less : (n m : ℕ) (phase : Phase) → n ≤ m → phase_cost n phase ≤ phase_cost m phase
 phase_less n m (Phase.Adding drivers) l = omega arith
-phase_less n m Phase.Searching l = omega arith
-phase_less n m (Phase.Starting w) l = omega arith
-phase_less n m (Phase.Due problem) l = omega arith
-phase_less n m (Phase.Removing w) l = omega arith
+phase_less n m _ l = omega arith
 
 -- Counts -----------------------------------------------------------------------------------------------------
 
@@ -358,15 +337,13 @@ births_mapped f old new is keeps born =
 -- What is to begin is no more ----------------------------------------------------------------------------------
 
 pub operation_less : (born was : ℕ → Bool) (o : Option Operation) → ((k : ℕ) → born k ≡ true → was k ≡ true) → operation_cost born o ≤ operation_cost was o
-operation_less born was None h = omega arith
-operation_less born was (Some (Operation.Rebalancing r)) h = omega arith
-operation_less born was (Some (Operation.Removing o)) h = omega arith
 operation_less born was (Some (Operation.Surprising o)) h = by_test (born o.target) (was o.target) (h o.target)
   where
     by_test : (a b : Bool) → (a ≡ true → b ≡ true) → cond a 5 1 ≤ cond b 5 1
     by_test true b g = subst (λ (x : Bool). 5 ≤ cond x 5 1) (sym (g refl)) (omega arith)
     by_test false true g = omega arith
     by_test false false g = omega arith
+operation_less born was _ h = omega arith
 
 -- what tasks, activities and operation of a state cost by the births of another
 abbrev pub costs : State → State → ℕ

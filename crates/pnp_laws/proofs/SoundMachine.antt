@@ -73,31 +73,17 @@ completed_rebalance : (answer : Answer) (nodes : List Node) (r : Rebalance) (sta
     OrderKept (record r { stage = ev.completed_rebalance answer stage }) (ev.completed_rebalance answer stage) × RebalanceThere (record r { stage = ev.completed_rebalance answer stage }) (ev.completed_rebalance answer stage) nodes)
     × (rebalance_waiting (record r { stage = ev.completed_rebalance answer stage }) (ev.completed_rebalance answer stage) ≡ rebalance_waiting r stage)
 completed_rebalance answer nodes r (RebalanceStage.Asking w) = (λ h. h, refl)
-completed_rebalance answer nodes r (RebalanceStage.TakingBack w) = (λ h. h, refl)
-completed_rebalance answer nodes r RebalanceStage.Searching = (λ h. h, refl)
-completed_rebalance answer nodes r (RebalanceStage.Cancelling w) = (λ h. h, refl)
-completed_rebalance answer nodes r RebalanceStage.Stuck = (λ h. h, refl)
-completed_rebalance answer nodes r (RebalanceStage.Stopping w) = (λ h. h, refl)
-completed_rebalance answer nodes r RebalanceStage.Committing = (λ h. h, refl)
-completed_rebalance answer nodes r (RebalanceStage.Restarting w) = (λ h. h, refl)
-completed_rebalance answer nodes r RebalanceStage.Failed = (λ h. h, refl)
-completed_rebalance answer nodes r RebalanceStage.Ending = (λ h. h, refl)
+completed_rebalance answer nodes r _ = (λ h. h, refl)
 
 completed_removal : (answer : Answer) (c : Core) (o : Removal) (stage : RemovalStage) → RemovalOrder c o stage × RemovalThere o stage c.nodes →
     RemovalOrder c (record o { stage = ev.completed_removal answer stage }) (ev.completed_removal answer stage) × RemovalThere (record o { stage = ev.completed_removal answer stage }) (ev.completed_removal answer stage) c.nodes
 completed_removal answer c o (RemovalStage.Asking w) h = h
-completed_removal answer c o (RemovalStage.TakingBack w) h = h
-completed_removal answer c o (RemovalStage.Cancelling w) h = h
-completed_removal answer c o (RemovalStage.Removing w) h = h
-completed_removal answer c o RemovalStage.Settling h = h
-completed_removal answer c o RemovalStage.Ending h = h
+completed_removal answer c o _ h = h
 
 completed_surprise : (answer : Answer) (c : Core) (o : Surprise) (stage : SurpriseStage) → SurpriseOrder c o stage × SurpriseThere o stage c.nodes →
     SurpriseOrder c (record o { stage = ev.completed_surprise answer stage }) (ev.completed_surprise answer stage) × SurpriseThere (record o { stage = ev.completed_surprise answer stage }) (ev.completed_surprise answer stage) c.nodes
 completed_surprise answer c o (SurpriseStage.Telling w) h = h
-completed_surprise answer c o (SurpriseStage.Removing w) h = h
-completed_surprise answer c o SurpriseStage.Settling h = h
-completed_surprise answer c o SurpriseStage.Ending h = h
+completed_surprise answer c o _ h = h
 
 completed_stage : (answer : Answer) (o : Operation) (c : Core) → StageKept (Some o) c → StageKept (Some (ev.completed answer o)) c
 completed_stage answer (Operation.Rebalancing r) c h = (completed_rebalance answer c.nodes r r.stage).0 h

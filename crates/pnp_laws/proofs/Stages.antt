@@ -127,12 +127,7 @@ module _ (budget : ℕ) (s : State) (r : Rebalance) where
       (λ good. OperationStep.rebalances r _ _ is (RebalanceStep.restarts node w (record { first = first; ended = ended }) good)))
       (re_asks (RebalanceStage.Restarting w) node w is first refl waits)
   rebalance_step RebalanceStage.Failed (Some node) is first waits = OperationStep.rebalances r _ _ is (RebalanceStep.failed node first)
-  rebalance_step (RebalanceStage.Asking w) None is first waits = tt
-  rebalance_step (RebalanceStage.TakingBack w) None is first waits = tt
-  rebalance_step (RebalanceStage.Cancelling w) None is first waits = tt
-  rebalance_step (RebalanceStage.Stopping w) None is first waits = tt
-  rebalance_step (RebalanceStage.Restarting w) None is first waits = tt
-  rebalance_step RebalanceStage.Failed None is first waits = tt
+  rebalance_step _ None is first waits = tt
 
 module _ (budget : ℕ) (s : State) (o : Removal) where
   rm_asks : (stage : RemovalStage) (node : Node) (w : Walk) → o.stage ≡ stage → first_node s.core.nodes o.todo ≡ Some node → ma.removal_walk stage ≡ Some w → w.waits ≡ false → has_ended w (length node.stack) ≡ false
@@ -170,11 +165,7 @@ module _ (budget : ℕ) (s : State) (o : Removal) where
   removal_step RemovalStage.Settling (Some node) is first waits =
       by_test (λ b. OperationStep s (Operation.Removing o) (ma.removal_lifted s (rm.settle s.core o node b))) (has o.set node.parent)
       (λ inside. OperationStep.removes o _ _ is (RemovalStep.leaves node first)) (rm_settles node is first)
-  removal_step (RemovalStage.Asking w) None is first waits = tt
-  removal_step (RemovalStage.TakingBack w) None is first waits = tt
-  removal_step (RemovalStage.Cancelling w) None is first waits = tt
-  removal_step (RemovalStage.Removing w) None is first waits = tt
-  removal_step RemovalStage.Settling None is first waits = tt
+  removal_step _ None is first waits = tt
 
 module _ (budget : ℕ) (s : State) (o : Surprise) where
   su_asks : (stage : SurpriseStage) (node : Node) (w : Walk) → o.stage ≡ stage → first_node s.core.nodes o.todo ≡ Some node → ma.surprise_walk stage ≡ Some w → w.waits ≡ false → has_ended w (length node.stack) ≡ false
@@ -198,9 +189,7 @@ module _ (budget : ℕ) (s : State) (o : Surprise) where
       (λ back. OperationStep.surprises o _ _ is (SurpriseStep.stays node first target back)) (λ gone. OperationStep.surprises o _ _ is (SurpriseStep.leaves node first)))
       (λ other. by_test (λ b. OperationStep s (Operation.Surprising o) (ma.surprise_lifted s (su.settle_other s.core o node b))) (has o.set node.parent)
       (λ inside. OperationStep.surprises o _ _ is (SurpriseStep.leaves node first)) (λ over. OperationStep.surprises o _ _ is (SurpriseStep.remains node first other over)))
-  surprise_step (SurpriseStage.Telling w) None is first waits = tt
-  surprise_step (SurpriseStage.Removing w) None is first waits = tt
-  surprise_step SurpriseStage.Settling None is first waits = tt
+  surprise_step _ None is first waits = tt
 
 operation_next : (budget : ℕ) (s : State) (o : Operation) (waits : Bool) → ma.is_waiting (ma.operation_walk o) ≡ waits → StepsBy budget s o (ma.operation_next s o waits)
 operation_next budget s o true e = tt

@@ -79,11 +79,7 @@ ends_or_on c o (TakingBack w) (Some node) m e = inr (same_on _ m e (on_take_back
 ends_or_on c o (Cancelling w) (Some node) m e = inr (same_on _ m e (on_cancel c o node w _))
 ends_or_on c o (Removing w) (Some node) m e = inr (same_on _ m e (on_remove c o node w _))
 ends_or_on c o Settling (Some node) m e = inr (same_on _ m e (on_settle c o node _))
-ends_or_on c o (Asking w) None m e = absurd (cc)
-ends_or_on c o (TakingBack w) None m e = absurd (cc)
-ends_or_on c o (Cancelling w) None m e = absurd (cc)
-ends_or_on c o (Removing w) None m e = absurd (cc)
-ends_or_on c o Settling None m e = absurd (cc)
+ends_or_on c o _ None m e = absurd (cc)
 
 -- A step ----------------------------------------------------------------------------------
 
@@ -157,11 +153,7 @@ outside before s t a b c d h = record { op = h.op; runs = d ∙ h.runs; since = 
 
 completed_since : (before c : Core) (answer : Answer) (o : Removal) (stage : RemovalStage) → Since before c o stage → Since before c (record o { stage = ev.completed_removal answer stage }) (ev.completed_removal answer stage)
 completed_since before c answer o (Asking w) h = h
-completed_since before c answer o (TakingBack w) h = h
-completed_since before c answer o (Cancelling w) h = h
-completed_since before c answer o (Removing w) h = h
-completed_since before c answer o Settling h = h
-completed_since before c answer o Ending h = h
+completed_since before c answer o _ h = h
 
 -- the operation stays, or its walk gets an answer
 answered_since : (before : Core) (s t : State) → t.core.nodes ≡ s.core.nodes → t.core.relations ≡ s.core.relations → t.core.reserved ≡ s.core.reserved → Answered s.operation t.operation → VetoSince before s → VetoSince before t
