@@ -46,21 +46,13 @@ dec_not (no h) = yes h
 
 dec_kind : (a b : Kind) → Dec (a ≡ b)
 dec_kind Port Port = yes refl
-dec_kind Port Irq = no (λ e. cc)
-dec_kind Port Mem = no (λ e. cc)
-dec_kind Port Dma = no (λ e. cc)
-dec_kind Irq Port = no (λ e. cc)
 dec_kind Irq Irq = yes refl
-dec_kind Irq Mem = no (λ e. cc)
-dec_kind Irq Dma = no (λ e. cc)
-dec_kind Mem Port = no (λ e. cc)
-dec_kind Mem Irq = no (λ e. cc)
 dec_kind Mem Mem = yes refl
-dec_kind Mem Dma = no (λ e. cc)
-dec_kind Dma Port = no (λ e. cc)
-dec_kind Dma Irq = no (λ e. cc)
-dec_kind Dma Mem = no (λ e. cc)
 dec_kind Dma Dma = yes refl
+dec_kind Port _ = no (λ e. cc)
+dec_kind Irq _ = no (λ e. cc)
+dec_kind Mem _ = no (λ e. cc)
+dec_kind Dma _ = no (λ e. cc)
 
 dec_bool : (a b : Bool) → Dec (a ≡ b)
 dec_bool true true = yes refl
@@ -166,88 +158,58 @@ dec_complete fixed at clean =
 
 -- Coordinates in order ---------------------------------------------------------------------------------
 
-alts : ℕ → ℕ → List Coord
-alts from zero = []
-alts from (suc n) = alt from ∷ alts (suc from) n
+-- the coordinates of n numbers, in order
+counted : (ℕ → Coord) → ℕ → ℕ → List Coord
+counted f from zero = []
+counted f from (suc n) = f from ∷ counted f (suc from) n
 
-alts_above : (k from n : ℕ) → k < from → AllByRecursion (Less (alt k)) (alts from n)
-unfolding alts
-alts_above k from zero l = tt
-alts_above k from (suc n) l = (l, alts_above k (suc from) n (omega arith))
+counted_all : (f : ℕ → Coord) (P : Coord → Type 0) (from n : ℕ) → ((k : ℕ) → from ≤ k → P (f k)) → AllByRecursion P (counted f from n)
+unfolding counted
+counted_all f P from zero h = tt
+counted_all f P from (suc n) h = (h from (omega arith), counted_all f P (suc from) n (λ k l. h k (omega arith)))
 
-alts_rising : (from n : ℕ) → Rising (alts from n)
-unfolding alts
-alts_rising from zero = tt
-alts_rising from (suc n) = (alts_above from (suc from) n (omega arith), alts_rising (suc from) n)
+counted_rising : (f : ℕ → Coord) (from n : ℕ) → ((j k : ℕ) → j < k → Less (f j) (f k)) → Rising (counted f from n)
+unfolding counted
+counted_rising f from zero up = tt
+counted_rising f from (suc n) up = (counted_all f (Less (f from)) (suc from) n (λ k l. up from k (omega arith)), counted_rising f (suc from) n up)
 
-alts_has : (from n i : ℕ) → from ≤ i → i < from + n → Contains (alts from n) (alt i)
-unfolding alts
-alts_has from zero i a b = absurd (omega arith)
-alts_has from (suc n) i a b =
+counted_has : (f : ℕ → Coord) (from n i : ℕ) → from ≤ i → i < from + n → Contains (counted f from n) (f i)
+unfolding counted
+counted_has f from zero i a b = absurd (omega arith)
+counted_has f from (suc n) i a b =
     elim (ℕ_discrete from i) [
-      | yes e ↦ subst (λ (k : ℕ). Contains (alt from ∷ alts (suc from) n) (alt k)) e (contains_here (alt from) (alts (suc from) n))
-      | no d ↦ contains_later (alt from) (alts (suc from) n) (alt i) (alts_has (suc from) n i (omega arith) (omega arith))
-    ]
-
-starts : ℕ → ℕ → ℕ → List Coord
-starts w from zero = []
-starts w from (suc n) = place w from ∷ starts w (suc from) n
-
-starts_above : (w k from n : ℕ) → k < from → AllByRecursion (Less (place w k)) (starts w from n)
-unfolding starts
-starts_above w k from zero l = tt
-starts_above w k from (suc n) l = (inr (refl, l), starts_above w k (suc from) n (omega arith))
-
-starts_over : (v k w from n : ℕ) → v < w → AllByRecursion (Less (place v k)) (starts w from n)
-unfolding starts
-starts_over v k w from zero l = tt
-starts_over v k w from (suc n) l = (inl l, starts_over v k w (suc from) n l)
-
-starts_rising : (w from n : ℕ) → Rising (starts w from n)
-unfolding starts
-starts_rising w from zero = tt
-starts_rising w from (suc n) = (starts_above w from (suc from) n (omega arith), starts_rising w (suc from) n)
-
-starts_has : (w from n s : ℕ) → from ≤ s → s < from + n → Contains (starts w from n) (place w s)
-unfolding starts
-starts_has w from zero s a b = absurd (omega arith)
-starts_has w from (suc n) s a b =
-    elim (ℕ_discrete from s) [
-      | yes e ↦ subst (λ (k : ℕ). Contains (place w from ∷ starts w (suc from) n) (place w k)) e (contains_here (place w from) (starts w (suc from) n))
-      | no d ↦ contains_later (place w from) (starts w (suc from) n) (place w s) (starts_has w (suc from) n s (omega arith) (omega arith))
+      | yes e ↦ subst (λ (k : ℕ). Contains (f from ∷ counted f (suc from) n) (f k)) e (contains_here (f from) (counted f (suc from) n))
+      | no d ↦ contains_later (f from) (counted f (suc from) n) (f i) (counted_has f (suc from) n i (omega arith) (omega arith))
     ]
 
 rows : ℕ → ℕ → ℕ → List Coord
 rows w zero top = []
-rows w (suc n) top = starts w 0 top ++ rows (suc w) n top
+rows w (suc n) top = counted (place w) 0 top ++ rows (suc w) n top
 
 rows_over : (v k w n top : ℕ) → v < w → AllByRecursion (Less (place v k)) (rows w n top)
 unfolding rows
 rows_over v k w zero top l = tt
-rows_over v k w (suc n) top l = all_append (Less (place v k)) (starts w 0 top) (rows (suc w) n top) (starts_over v k w 0 top l) (rows_over v k (suc w) n top (omega arith))
+rows_over v k w (suc n) top l = all_append (Less (place v k)) (counted (place w) 0 top) (rows (suc w) n top) (counted_all (place w) (Less (place v k)) 0 top (λ i m. inl l)) (rows_over v k (suc w) n top (omega arith))
 
 rising_append : (xs ys : List Coord) → Rising xs → Rising ys → AllByRecursion (λ x. AllByRecursion (Less x) ys) xs → Rising (xs ++ ys)
 rising_append [] ys a b over = b
 rising_append (x ∷ xs) ys a b over = (all_append (Less x) xs ys a.0 over.0, rising_append xs ys a.1 b over.1)
 
-starts_rows : (w from m n top : ℕ) → AllByRecursion (λ x. AllByRecursion (Less x) (rows (suc w) n top)) (starts w from m)
-unfolding starts
-starts_rows w from zero n top = tt
-starts_rows w from (suc m) n top = (rows_over w from (suc w) n top (omega arith), starts_rows w (suc from) m n top)
-
 rows_rising : (w n top : ℕ) → Rising (rows w n top)
 unfolding rows
 rows_rising w zero top = tt
-rows_rising w (suc n) top = rising_append (starts w 0 top) (rows (suc w) n top) (starts_rising w 0 top) (rows_rising (suc w) n top) (starts_rows w 0 top n top)
+rows_rising w (suc n) top =
+    rising_append (counted (place w) 0 top) (rows (suc w) n top) (counted_rising (place w) 0 top (λ j k l. inr (refl, l))) (rows_rising (suc w) n top)
+    (counted_all (place w) (λ x. AllByRecursion (Less x) (rows (suc w) n top)) 0 top (λ k l. rows_over w k (suc w) n top (omega arith)))
 
 rows_has : (w n top v s : ℕ) → w ≤ v → v < w + n → s < top → Contains (rows w n top) (place v s)
 unfolding rows
 rows_has w zero top v s a b c = absurd (omega arith)
 rows_has w (suc n) top v s a b c =
     elim (ℕ_discrete w v) [
-      | yes e ↦ subst (λ (k : ℕ). Contains (starts w 0 top ++ rows (suc w) n top) (place k s)) e
-          (Contains-append_left (starts w 0 top) (rows (suc w) n top) (place w s) (starts_has w 0 top s (omega arith) (omega arith)))
-      | no d ↦ Contains-append_right (starts w 0 top) (rows (suc w) n top) (place v s) (rows_has (suc w) n top v s (omega arith) (omega arith) c)
+      | yes e ↦ subst (λ (k : ℕ). Contains (counted (place w) 0 top ++ rows (suc w) n top) (place k s)) e
+          (Contains-append_left (counted (place w) 0 top) (rows (suc w) n top) (place w s) (counted_has (place w) 0 top s (omega arith) (omega arith)))
+      | no d ↦ Contains-append_right (counted (place w) 0 top) (rows (suc w) n top) (place v s) (rows_has (suc w) n top v s (omega arith) (omega arith) c)
     ]
 
 -- Those that go on -----------------------------------------------------------------------------------
@@ -324,12 +286,12 @@ tops_over (x ∷ group) zero want h = let same : x ≡ want = cc in let e = ap (
 tops_over (x ∷ group) (suc w) want h = let more = tops_over group w want h in omega arith
 
 pub coords_of : List Group → List Reqs → List Coord
-coords_of [] movers = alts 0 (lists_of movers)
+coords_of [] movers = counted alt 0 (lists_of movers)
 coords_of (group ∷ groups) movers = rows 0 (length group) (tops group)
 
 pub coords_rising : (groups : List Group) (movers : List Reqs) → Rising (coords_of groups movers)
 unfolding coords_of
-coords_rising [] movers = alts_rising 0 (lists_of movers)
+coords_rising [] movers = counted_rising alt 0 (lists_of movers) (λ j k l. l)
 coords_rising (group ∷ groups) movers = rows_rising 0 (length group) (tops group)
 
 chosen_below : (placed : List Place) (movers : List Reqs) (i : ℕ) (to : Point) → choose placed movers i ≡ Some to → i < lists_of movers
@@ -347,7 +309,7 @@ coords_every fixed at c (to, goes, clean) = by_groups at.groups refl c goes (ste
     by_groups : (groups : List Group) → at.groups ≡ groups → (c : Coord) → next at c ≡ Some to → Step at to c → Contains (coords_of groups at.movers) c
     by_groups [] e (alt i) g step =
         let g2 : choose at.placed at.movers i ≡ Some to = subst (λ (x : List Group). next_in at.placed x at.movers (alt i) ≡ Some to) e g in
-        alts_has 0 (lists_of at.movers) i (omega arith) (let b = chosen_below at.placed at.movers i to g2 in omega arith)
+        counted_has alt 0 (lists_of at.movers) i (omega arith) (let b = chosen_below at.placed at.movers i to g2 in omega arith)
     by_groups [] e (place w s) g (placing group want e2 m read placed) = absurd (cc)
     by_groups (group ∷ groups) e (alt i) g (listing e2 placed up) = absurd (cc)
     by_groups (group ∷ groups) e (place w s) g (placing other want e2 m read placed) =

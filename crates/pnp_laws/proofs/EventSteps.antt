@@ -172,7 +172,7 @@ keeps_surprise answer o (SurpriseStage.Removing w) nodes k = record { set = k.se
 keeps_surprise answer o SurpriseStage.Settling nodes k = record { set = k.set; rootless = k.rootless; last = k.last; todo = k.todo; inside = k.inside; ends = k.ends; each = k.each }
 keeps_surprise answer o SurpriseStage.Ending nodes k = record { set = k.set; rootless = k.rootless; last = k.last; todo = k.todo; inside = k.inside; ends = k.ends; each = k.each }
 
-completed_operation : (answer : Answer) (o : Operation) (nodes : List Node) → OperationFits (Some o) nodes → OperationFits (Some (completed answer o)) nodes
+pub completed_operation : (answer : Answer) (o : Operation) (nodes : List Node) → OperationFits (Some o) nodes → OperationFits (Some (completed answer o)) nodes
 completed_operation answer (Operation.Rebalancing r) nodes h = keeps_rebalance answer r r.stage nodes h
 completed_operation answer (Operation.Removing o) nodes h = keeps_removal answer o o.stage nodes h
 completed_operation answer (Operation.Surprising o) nodes h = keeps_surprise answer o o.stage nodes h

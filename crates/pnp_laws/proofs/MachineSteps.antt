@@ -1,17 +1,17 @@
 -- Each step of the machine keeps what a run keeps and follows the diagram.
 use Rattle.std.proofs.Common.{ℕ, ◌≡◌, ◌≢◌, Bool, true, false, List, [], ◌∷◌, Option, Some, None, refl, sym, subst}
 use Rattle.std.specs.List.{find, slice_get}
-use Rattle.pnp_model.specs.Records.{Node, Activity, Task, State, Step, Settings, Operation, Doing, Duty}
+use Rattle.pnp_model.specs.Records.{Node, Activity, Task, State, Step, Settings, Operation, Doing, Duty, RebalanceStage, RemovalStage, SurpriseStage}
 use Rattle.pnp_model.specs.Records.Doing.{Does, Searches}
 use Rattle.pnp_model.specs.Cores.{node_at}
 use Rattle.pnp_model.specs.Tests.{has_same}
 use Rattle.pnp_model.specs.States.{activity_at}
 use Rattle.pnp_model.specs.Trees.{leaving}
-use Rattle.pnp_model.specs.Frames.{first_node}
+use Rattle.pnp_model.specs.Events.{completed}
 use Rattle.pnp_model.specs.Removals.{begun_removal}
 use Rattle.pnp_model.specs.Tasks.{begin, rebalance_idle, rebalance_task, disable_task, begin_step}
-use Rattle.pnp_model.specs.Machine.{operation_walk, is_waiting, is_ready, operation_next, is_target_in_world, activity_next, begin_alone, task_of, task_next, idle_next, next_of, next, IsStep}
-use Rattle.pnp_laws.specs.Kept.{Good, IsGood, Lawful, Fits, OperationFits, BeginsWell, OrderFits, removes, is_stopped}
+use Rattle.pnp_model.specs.Machine.{is_ready, is_target_in_world, activity_next, begin_alone, task_of, task_next, idle_next, next_of, next, IsStep}
+use Rattle.pnp_laws.specs.Kept.{Good, IsGood, Lawful, Fits, OperationFits, RebalanceKeeps, RemovalKeeps, SurpriseKeeps, BeginsWell, OrderFits, removes, is_stopped}
 use Rattle.pnp_laws.specs.RunsWell.{MayBegin}
 use Rattle.pnp_labels.specs.declared.states.DevState.{DevState}
 use Rattle.pnp_labels.specs.declared.label.Label.{Label}
@@ -20,6 +20,9 @@ use Rattle.pnp_labels.specs.declared.states.DevState.TheVariants.{NoStack, NotSt
 use Rattle.pnp_laws.proofs.Lookups.{own_serial, found_self, ready_found}
 use Rattle.pnp_laws.proofs.Diagrams.{diagram_same}
 use Rattle.pnp_laws.proofs.Kept.{lawful_by, Good_nodes, LawfulNext}
+use Rattle.pnp_laws.proofs.EventSteps.{completed_operation}
+use Rattle.pnp_laws.proofs.OpSteps.{lawful_still}
+use Rattle.pnp_laws.proofs.Stages.{OperationStep, operation_step, reply}
 use Rattle.pnp_laws.proofs.StartSteps.{lawful_act}
 use Rattle.pnp_laws.proofs.TaskSteps.{lawful_skip, lawful_list, lawful_start}
 use Rattle.pnp_laws.proofs.RebalanceSteps.{lawful_rebalance, fits_begun_rebalance}
@@ -108,27 +111,19 @@ lawful_idle_next settings s (Some a) h none begins good g =
     lawful_activity s a (node_at a.serial s.core.nodes) refl (ready_found is_ready 0 s.activities a g.order h).1 none g
 lawful_idle_next settings s None h none begins good g = lawful_task settings s (slice_get s.tasks 0) refl none begins good g
 
-lawful_operation : (s : State) (o : Operation) (waits : Bool) → s.operation ≡ Some o → Good s.next_serial s.core.nodes s.activities (Some o) → LawfulNext s (operation_next s o waits)
-lawful_operation s o true runs good = tt
-lawful_operation s (Operation.Rebalancing r) false runs good =
+lawful_operation : (s : State) (o : Operation) (step : Step) → s.operation ≡ Some o → Good s.next_serial s.core.nodes s.activities (Some o) → OperationStep s o step → Lawful s step
+lawful_operation s p step runs good (OperationStep.asks o node w asks) =
+    let g = subst (λ (x : List Activity). Good s.next_serial s.core.nodes x (Some o)) good.alone good in
+    lawful_still s _ _ o (completed (reply s.core node w) o) refl refl good.alone refl (completed_operation (reply s.core node w) o s.core.nodes good.fits) g
+lawful_operation s p step runs good (OperationStep.rebalances r stage m is x) =
     let g = subst (λ (x : List Activity). Good s.next_serial s.core.nodes x (Some (Operation.Rebalancing r))) good.alone good in
-    lawful_rebalance s r r.stage (first_node s.core.nodes r.todo) refl good.alone runs good.fits g
-lawful_operation s (Operation.Removing o) false runs good =
+    lawful_rebalance s r good.alone runs g stage m (subst (λ (y : RebalanceStage). RebalanceKeeps r y s.core.nodes) is good.fits) x
+lawful_operation s p step runs good (OperationStep.removes o stage m is x) =
     let g = subst (λ (x : List Activity). Good s.next_serial s.core.nodes x (Some (Operation.Removing o))) good.alone good in
-    lawful_removal s o o.stage (first_node s.core.nodes o.todo) refl good.alone good.fits g
-lawful_operation s (Operation.Surprising o) false runs good =
+    lawful_removal s o good.alone g stage m (subst (λ (y : RemovalStage). RemovalKeeps o y s.core.nodes) is good.fits) x
+lawful_operation s p step runs good (OperationStep.surprises o stage m is x) =
     let g = subst (λ (x : List Activity). Good s.next_serial s.core.nodes x (Some (Operation.Surprising o))) good.alone good in
-    lawful_surprise s o (is_target_in_world s o) o.stage (first_node s.core.nodes o.todo) refl good.alone good.fits g
-
-lawful_next_of : (settings : Settings) (s : State) (o : Option Operation) → s.operation ≡ o → MayBegin s → IsGood s → LawfulNext s (next_of settings s o)
-lawful_next_of settings s (Some o) h begins good =
-    lawful_operation s o (is_waiting (operation_walk o)) h (subst (λ (x : Option Operation). Good s.next_serial s.core.nodes s.activities x) h good)
-lawful_next_of settings s None h begins good =
-    lawful_idle_next settings s (find is_ready s.activities) refl h (begins h) good
-    (subst (λ (x : Option Operation). Good s.next_serial s.core.nodes s.activities x) h good)
-
-pub lawful_next : (settings : Settings) (s : State) → MayBegin s → IsGood s → LawfulNext s (next settings s)
-lawful_next settings s begins good = lawful_next_of settings s s.operation refl begins good
+    lawful_surprise s o good.alone g (is_target_in_world s o) stage m (subst (λ (y : SurpriseStage). SurpriseKeeps o y s.core.nodes) is good.fits) x
 
 lawful_doing : (settings : Settings) (s : State) (o : Option (Doing Step)) (step : Step) → LawfulNext s o → IsStep settings o step → Lawful s step
 lawful_doing settings s None step l h = absurd h
@@ -136,4 +131,11 @@ lawful_doing settings s (Some (Does one)) step l h = subst (λ (x : Step). Lawfu
 lawful_doing settings s (Some (Searches problem by_answer)) step l h = subst (λ (x : Step). Lawful s x) (sym h.2) (l h.0)
 
 pub lawful_step : (settings : Settings) (s : State) (step : Step) → MayBegin s → IsGood s → IsStep settings (next settings s) step → Lawful s step
-lawful_step settings s step begins good h = lawful_doing settings s (next settings s) step (lawful_next settings s begins good) h
+lawful_step settings s step begins good h = by_operation s.operation refl
+  where
+    by_operation : (o : Option Operation) → s.operation ≡ o → Lawful s step
+    by_operation (Some o) runs = lawful_operation s o step runs (subst (λ (x : Option Operation). Good s.next_serial s.core.nodes s.activities x) runs good) (operation_step settings s o step runs h)
+    by_operation None none =
+        lawful_doing settings s (next_of settings s None) step
+        (lawful_idle_next settings s (find is_ready s.activities) refl none (begins none) good (subst (λ (x : Option Operation). Good s.next_serial s.core.nodes s.activities x) none good))
+        (subst (λ (x : Option Operation). IsStep settings (next_of settings s x) step) none h)

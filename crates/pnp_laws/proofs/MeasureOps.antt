@@ -346,11 +346,3 @@ pub record Lowers (s : State) (step : Step) : Type 0 where
 
 pub lower_so : (s : State) (step : Step) → Falls s step.state → Lowers s step
 lower_so s step h = record { lowers = λ n. h }
-
-abbrev pub LowersDoing : State → Doing Step → Type 0
-LowersDoing s (Does step) = Lowers s step
-LowersDoing s (Searches problem by_answer) = (found : Found) → Lowers s (by_answer found)
-
-abbrev pub LowersNext : State → Option (Doing Step) → Type 0
-LowersNext s None = Unit {0}
-LowersNext s (Some doing) = LowersDoing s doing

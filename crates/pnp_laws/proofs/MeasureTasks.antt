@@ -18,8 +18,9 @@ use Rattle.pnp_labels.specs.declared.words.Answer.TheVariants.{Ok, Fail, Pend}
 use Rattle.pnp_labels.specs.declared.label.OpKind.{OpKind}
 use Rattle.pnp_labels.specs.declared.states.Problem.{Problem}
 use Rattle.pnp_laws.proofs.Lookups.{own_activity}
+use Rattle.pnp_laws.proofs.Passing.{AllBy}
 use Rattle.pnp_laws.proofs.Measures.{Falls, falls_coarse, coarse_by, coarse_no_more, open_same, tasks_cost, tasks_pushed, duty_cost, sum, sum_changed, sum_without, phase_cost, is_open, is_target, born_in, operation_cost, rank_of, left_of, answers, answers_of, activity_answers, stack_at, SameBirths, births_same, births_changed}
-use Rattle.pnp_laws.proofs.MeasureOps.{falls_answers, asked_less, lower_so, LowersDoing}
+use Rattle.pnp_laws.proofs.MeasureOps.{Lowers, falls_answers, asked_less, lower_so}
 
 -- What may be found gone ---------------------------------------------------------------------------------
 
@@ -171,7 +172,7 @@ falls_undo : (s : State) (node : Node) (problem : Problem) (stack : List ℕ) �
 falls_undo s node problem [] active = ends_alone s _ node (Due problem) active (births_changed node.serial (with_problem (Some problem)) s.core.nodes _ refl (λ x. refl) (λ x. refl)) refl refl active.none refl (omega arith)
 falls_undo s node problem (d ∷ ds) active = goes_cheaper s _ node (Due problem) (Removing (walk_of Minor.Remove)) active (births_changed node.serial (with_problem (Some problem)) s.core.nodes _ refl (λ x. refl) (λ x. refl)) refl refl active.none refl (omega arith)
 
-pub lowers_act : (s : State) (node : Node) (phase : Phase) → is_waiting (phase_walk phase) ≡ false → Active s node phase → LowersDoing s (doing_map (start_lifted s node.serial) (act s.core node phase))
+pub lowers_act : (s : State) (node : Node) (phase : Phase) → is_waiting (phase_walk phase) ≡ false → Active s node phase → AllBy (Lowers s) (doing_map (start_lifted s node.serial) (act s.core node phase))
 lowers_act s node (Adding []) waits active = λ found. lower_so s _ (falls_searched s node (Adding []) found (omega arith) active)
 lowers_act s node (Adding (d ∷ ds)) waits active = lower_so s _ (falls_add s _ node d ds _ refl active)
 lowers_act s node Searching waits active = λ found. lower_so s _ (falls_searched s node Searching found (omega arith) active)

@@ -15,15 +15,14 @@ use Rattle.pnp_labels.specs.declared.states.DevState.TheVariants as states
 use Rattle.pnp_labels.specs.declared.label.OpKind.{OpKind}
 use Rattle.pnp_labels.specs.declared.label.Label.{Label}
 use Rattle.pnp_model.specs.Cores.{is_node, node_at, serials_of, with_problem, with_state}
-use Rattle.pnp_model.specs.Frames.{ended, first_node, held_by, is_beside, rest}
+use Rattle.pnp_model.specs.Frames.{ended, held_by, is_beside, rest}
 use Rattle.pnp_model.specs.Keyed.{changed_first, those}
-use Rattle.pnp_model.specs.Machine.{is_waiting, next, next_of, operation_next, operation_walk, rebalance_lifted}
-use Rattle.pnp_model.specs.Records.{Core, Driver, Found, Node, Operation, Rebalance, RebalanceStage, Settings, State, Step, Walk, doing_map}
+use Rattle.pnp_model.specs.Machine.{rebalance_lifted}
+use Rattle.pnp_model.specs.Records.{Core, Driver, Found, Node, Operation, Rebalance, RebalanceStage, Settings, State, Step}
 use Rattle.pnp_model.specs.Runs.{Entry, Goes}
 use Rattle.pnp_model.specs.Runs.Entry.{Happens, Did}
 use Rattle.pnp_model.specs.Tests.{has}
 use Rattle.pnp_model.specs.Trees.{stands_up}
-use Rattle.pnp_model.specs.Walks.{is_bad}
 use Rattle.pnp_laws.specs.Effects.{AnswerEffect, OpEffect, RangeEffect, begun}
 use Rattle.pnp_laws.specs.Holdings.{KeepsReqs, has_plan, WholeAt}
 use Rattle.pnp_laws.specs.Plans.{IsPlanned, PlanFits, PlanKept, StagePlan}
@@ -32,8 +31,8 @@ use Rattle.pnp_laws.specs.Words.{SameWork}
 use Rattle.pnp_laws.proofs.EffectsOf.{effect_goes}
 use Rattle.pnp_laws.proofs.EventChanges.{ranges_stay}
 use Rattle.pnp_laws.proofs.Lookups.{map_from, node_changed_other, node_changed_same, node_from, own_serial}
-use Rattle.pnp_laws.proofs.Passing.{AllNext, all_step}
 use Rattle.pnp_laws.proofs.Reaching.{kept}
+use Rattle.pnp_laws.proofs.Stages.{OperationStep, RebalanceStep, operation_step, reply}
 use Rattle.pnp_model.specs.Events as ev
 use Rattle.pnp_model.specs.Rebalances as re
 
@@ -162,60 +161,22 @@ module _ (s : State) (r : Rebalance) where
   closes label no_fit = tt
   closes label spent = tt
 
-  module _ (node : Node) (w : Walk) where
-    ends_ask : (bad : Bool) → IsPlanned (rebalance_lifted s (re.end_ask s.core r node bad)).state
-    ends_ask false = asks_on (record r { agreed = node.serial ∷ r.agreed }) _ _ (rest r.todo)
-    ends_ask true = tt
-
-    asks : (ends : Bool) → IsPlanned (rebalance_lifted s (re.ask_step s.core r node w ends)).state
-    asks true = ends_ask (is_bad w)
-    asks false = tt
-
-    takes_back : (ends : Bool) → IsPlanned (rebalance_lifted s (re.take_back s.core r node w ends)).state
-    takes_back true = asks_on r _ _ (those (re.is_not_above s.core.nodes node.serial) (rest r.todo))
-    takes_back false = tt
-
-    cancels : (ends : Bool) → has_plan r.found ≡ false → IsPlanned (rebalance_lifted s (re.cancel_step s.core r node w ends)).state
-    cancels true h = cancels_on r _ _ (rest r.todo) h
-    cancels false h = h
-
-    stops : (ends : Bool) → PlanFits r s.core.reserved s.core.nodes → IsPlanned (rebalance_lifted s (re.stop_step s.core r node w ends)).state
-    stops true h = stops_on r _ _ (rest r.todo) (fits_changed r node.serial (with_state states.Stopped) s.core.reserved s.core.nodes (held_state states.Stopped) h)
-    stops false h = h
-
-    ends_restart : (bad : Bool) → WholeAt r.target s.core.nodes → IsPlanned (rebalance_lifted s (re.end_restart s.core r node bad)).state
-    ends_restart true h = whole_changed r.target node.serial (with_state node.state) s.core.nodes (held_state node.state) h
-    ends_restart false h =
-        restarts_on r _ _ (re.startable (ended s.core node Minor.Start false).nodes (rest r.todo)) (whole_changed r.target node.serial (with_state states.Started) s.core.nodes (held_state states.Started) h)
-
-    restarts : (ends : Bool) → WholeAt r.target s.core.nodes → IsPlanned (rebalance_lifted s (re.restart_step s.core r node w ends)).state
-    restarts true h = ends_restart (is_bad w) h
-    restarts false h = h
-
-  fails : (node : Node) → WholeAt r.target s.core.nodes → IsPlanned (rebalance_lifted s (re.failed s.core r node)).state
-  fails node h =
+  planned : (stage : RebalanceStage) (m : re.RebalanceMove) → StagePlan r stage s.core.reserved s.core.nodes → RebalanceStep s.core r stage m → IsPlanned (rebalance_lifted s m).state
+  planned stage m h (RebalanceStep.agrees node w e good) = asks_on (record r { agreed = node.serial ∷ r.agreed }) _ _ (rest r.todo)
+  planned stage m h (RebalanceStep.refuses node w e bad) = tt
+  planned stage m h (RebalanceStep.takes_back node w e) = asks_on r _ _ (those (re.is_not_above s.core.nodes node.serial) (rest r.todo))
+  planned stage m h (RebalanceStep.searches found budget answer) = searches budget found answer
+  planned stage m h (RebalanceStep.cancels node w e) = cancels_on r _ _ (rest r.todo) h
+  planned stage m h RebalanceStep.sticks = λ e. absurd (cc)
+  planned stage m h (RebalanceStep.stops node w e) = stops_on r _ _ (rest r.todo) (fits_changed r node.serial (with_state states.Stopped) s.core.reserved s.core.nodes (held_state states.Stopped) h)
+  planned stage m h RebalanceStep.commits = restarts_on r _ _ (re.startable s.core.nodes r.agreed) (target_whole r s.core.reserved s.core.nodes h)
+  planned stage m h (RebalanceStep.restarts node w e good) =
+      restarts_on r _ _ (re.startable (ended s.core node Minor.Start false).nodes (rest r.todo)) (whole_changed r.target node.serial (with_state states.Started) s.core.nodes (held_state states.Started) h)
+  planned stage m h (RebalanceStep.fails node w e bad) = whole_changed r.target node.serial (with_state node.state) s.core.nodes (held_state node.state) h
+  planned stage m h (RebalanceStep.failed node first) =
       restarts_on r _ _ (re.startable s.core.nodes (rest r.todo))
       (whole_changed r.target node.serial (with_problem _) s.core.nodes (record { reqs = record { serial = λ n. refl; reqs = λ n. refl }; holds = λ n. refl }) h)
-
-  planned : (budget : ℕ) (stage : RebalanceStage) (n : Option Node) → StagePlan r stage s.core.reserved s.core.nodes
-      → AllNext (λ x. IsPlanned x.state) budget (option_map (doing_map (rebalance_lifted s)) (re.rebalance_step s.core r stage n))
-  planned budget RebalanceStage.Searching n h = λ found answer. searches budget found answer
-  planned budget RebalanceStage.Stuck n h = λ e. absurd (cc)
-  planned budget RebalanceStage.Committing n h = restarts_on r _ _ (re.startable s.core.nodes r.agreed) (target_whole r s.core.reserved s.core.nodes h)
-  planned budget RebalanceStage.Ending n h = closes (Label.End OpKind.Rebalance r.path (re.end_of r.found)) r.found
-  planned budget (RebalanceStage.Asking w) (Some node) h = asks node w _
-  planned budget (RebalanceStage.TakingBack w) (Some node) h = takes_back node w _
-  planned budget (RebalanceStage.Cancelling w) (Some node) h = cancels node w _ h
-  planned budget (RebalanceStage.Stopping w) (Some node) h = stops node w _ h
-  planned budget (RebalanceStage.Restarting w) (Some node) h = restarts node w _ h
-  planned budget RebalanceStage.Failed (Some node) h = fails node h
-  planned budget _ None h = tt
-
-  planned_on : (budget : ℕ) (waits : Bool) → StagePlan r r.stage s.core.reserved s.core.nodes → AllNext (λ x. IsPlanned x.state) budget (operation_next s (Operation.Rebalancing r) waits)
-  planned_on budget true h = tt
-  planned_on budget false h = planned budget r.stage (first_node s.core.nodes r.todo) h
-
--- Steps and events ------------------------------------------------------------------------------------
+  planned stage m h RebalanceStep.closes = closes (Label.End OpKind.Rebalance r.path (re.end_of r.found)) r.found
 
 -- an answer leaves its walk where it is
 answered_stage : (answer : Answer) (r : Rebalance) (stage : RebalanceStage) (reserved : List Res) (nodes : List Node) → StagePlan r stage reserved nodes
@@ -227,6 +188,21 @@ answered_plan : (answer : Answer) (o : Operation) (reserved : List Res) (nodes :
 answered_plan answer (Operation.Rebalancing r) reserved nodes h = answered_stage answer r r.stage reserved nodes h
 answered_plan answer (Operation.Removing o) reserved nodes h = tt
 answered_plan answer (Operation.Surprising o) reserved nodes h = tt
+
+-- the plan of a rebalance that runs
+abbrev PlanOf : Operation → List Res → List Node → Type 0
+PlanOf (Operation.Rebalancing r) reserved nodes = StagePlan r r.stage reserved nodes
+PlanOf _ reserved nodes = ⊥
+
+planned_operation : (s : State) (o : Operation) (step : Step) → PlanOf o s.core.reserved s.core.nodes → OperationStep s o step → IsPlanned step.state
+planned_operation s p step h (OperationStep.asks (Operation.Rebalancing r) node w asks) = answered_stage (reply s.core node w) r r.stage s.core.reserved s.core.nodes h
+planned_operation s p step h (OperationStep.asks (Operation.Removing o) node w asks) = absurd h
+planned_operation s p step h (OperationStep.asks (Operation.Surprising o) node w asks) = absurd h
+planned_operation s p step h (OperationStep.rebalances r stage m is x) = planned s r stage m (subst (λ (y : RebalanceStage). StagePlan r y s.core.reserved s.core.nodes) is h) x
+planned_operation s p step h (OperationStep.removes o stage m is x) = absurd h
+planned_operation s p step h (OperationStep.surprises o stage m is x) = absurd h
+
+-- Steps and events ------------------------------------------------------------------------------------
 
 -- an operation that begins has found nothing yet
 begun_plan : (c : Core) (kind : OpKind) (node : Node) → PlanKept (Some (begun c kind node)) c.reserved c.nodes
@@ -261,10 +237,8 @@ goes_plan settings s label t (Operation.Removing o) p runs now work goes h =
 goes_plan settings s label t (Operation.Surprising o) p runs now work goes h =
     planned_as t (Some p) t.core.reserved t.core.nodes now refl refl (other_plan (Operation.Surprising o) p t.core.reserved t.core.nodes tt work)
 goes_plan settings s label t (Operation.Rebalancing r) p runs now work goes h =
-    let walk = is_waiting (operation_walk (Operation.Rebalancing r)) in
-    let plan = subst (λ (x : Option Operation). PlanKept x s.core.reserved s.core.nodes) runs h in
-    all_step (λ x. IsPlanned x.state) settings (next settings s) (record { label = label; state = t })
-    (subst (λ (x : Option Operation). AllNext (λ y. IsPlanned y.state) settings.budget (next_of settings s x)) (sym runs) (planned_on s r settings.budget walk plan)) goes
+    planned_operation s (Operation.Rebalancing r) (record { label = label; state = t }) (subst (λ (x : Option Operation). PlanKept x s.core.reserved s.core.nodes) runs h)
+    (operation_step settings s (Operation.Rebalancing r) (record { label = label; state = t }) runs goes)
 
 event_plan : (s : State) (label : Label) (t : State) → RangeEffect s t → AnswerEffect s label t → IsPlanned s → IsPlanned t
 event_plan s label t ranges (AnswerEffect.stays word nodes acts now) h = stays_plan s t s.operation refl now nodes ranges h

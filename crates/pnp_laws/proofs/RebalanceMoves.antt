@@ -4,19 +4,16 @@ use Rattle.resource_reqs.specs.Spelling.{IsAnswer}
 use Rattle.resource_reqs.specs.Spelling.Answer.{assignment, no_fit, spent}
 use Rattle.resource_reqs.proofs.Answering.{no_fit_means}
 use Rattle.pnp_model.specs.Keyed.{changed_first, those}
-use Rattle.pnp_model.specs.Records.{Node, Core, Rebalance, RebalanceStage, Walk, Found, Doing}
-use Rattle.pnp_model.specs.Records.Doing.{Does, Searches}
+use Rattle.pnp_model.specs.Records.{Node, Core, Rebalance, RebalanceStage, Walk, Found}
 use Rattle.pnp_model.specs.Records.RebalanceStage.{Asking, TakingBack, Searching, Cancelling, Stuck, Stopping, Committing, Restarting, Failed, Ending}
 use Rattle.pnp_model.specs.Cores.{is_node, node_at, with_problem}
 use Rattle.pnp_model.specs.Tests.{has}
 use Rattle.pnp_model.specs.Trees.{above}
 use Rattle.pnp_model.specs.Walks.{is_bad, has_ended, after}
-use Rattle.pnp_model.specs.Books.{rack_reply}
-use Rattle.pnp_model.specs.Frames.{first_node, rest, ended, asked, next_driver, fixed_beside}
+use Rattle.pnp_model.specs.Frames.{first_node, rest, ended, asked, fixed_beside}
 use Rattle.pnp_model.specs.Laws.{IsWithin, NothingFits}
 use Rattle.pnp_labels.specs.declared.states.Problem.{Problem}
 use Rattle.pnp_labels.specs.declared.words.Minor.{Minor}
-use Rattle.pnp_labels.specs.declared.words.AskWhat.{AskWhat}
 use Rattle.pnp_labels.specs.declared.words.Answer.{Answer}
 use Rattle.pnp_labels.specs.declared.words.Answer.TheVariants.{Ok, Fail, Pend}
 use Rattle.pnp_labels.specs.declared.label.Label.{Label}
@@ -26,8 +23,11 @@ use Rattle.pnp_laws.specs.Holdings.{has_plan}
 use Rattle.pnp_laws.specs.Rebalanced.{Placed, Paused, Undone, Asks, EndsBad, IsHopeless, AskedSince, Refusing}
 use Rattle.pnp_laws.proofs.Lists.{HeadIs, head_found, head_has}
 use Rattle.pnp_laws.proofs.OpSteps.{is_Started}
+use Rattle.pnp_laws.proofs.Stages.{RebalanceStep, reply}
 use Rattle.pnp_laws.proofs.Pauses.{paused_agreed, paused_same, paused_back, paused_still, above_paused, hopeless_before}
 use Rattle.pnp_laws.proofs.Askings.{cons_cases, cons_here, cons_there, asks_agreed, asks_refused}
+use Rattle.pnp_model.specs.Events as ev
+use Rattle.pnp_model.specs.Machine as ma
 use Rattle.pnp_model.specs.Rebalances as re
 
 -- What a step is to show --------------------------------------------------------------
@@ -194,10 +194,6 @@ on_refused before c r node w bad head paused asks =
       quiet = inl tt;
     }
 
-on_end_ask : (before c : Core) (r : Rebalance) (node : Node) (w : Walk) (bad : Bool) → is_bad w ≡ bad → AtHead c r node → Paused before c r.agreed → Asks before.nodes r.todo r.agreed r.refused → MovesOn before c r (Asking w) (re.end_ask c r node bad)
-on_end_ask before c r node w false e head paused asks = on_agreed before c r node w e head paused asks
-on_end_ask before c r node w true e head paused asks = on_refused before c r node w e head paused asks
-
 -- a walk that has not ended is not bad, and after one more answer it waits only where it is not bad
 
 not_bad : (w : Walk) (n : ℕ) → has_ended w n ≡ false → is_bad w ≡ false
@@ -212,24 +208,56 @@ after_ends w Ok h e = refl
 after_ends w Fail h e = refl
 after_ends w Pend h e = absurd (cc)
 
-on_ask : (before c : Core) (r : Rebalance) (node : Node) (w : Walk) (ends : Bool) → has_ended w (length node.stack) ≡ ends → AtHead c r node → Paused before c r.agreed → Asks before.nodes r.todo r.agreed r.refused → MovesOn before c r (Asking w) (re.ask_step c r node w ends)
-on_ask before c r node w true e head paused asks = on_end_ask before c r node w (is_bad w) refl head paused asks
-on_ask before c r node w false e head paused asks =
-    let good = not_bad w (length node.stack) e in
+-- An ask of any stage --------------------------------------------------------------------------------
+
+-- nodes, relations and ranges stay
+pub undone_still : (before c d : Core) (r : Rebalance) (stage : RebalanceStage) → d.nodes ≡ c.nodes → d.relations ≡ c.relations → d.reserved ≡ c.reserved → Undone before c r stage → Undone before d r stage
+undone_still before c d r (Asking w) a b e h = paused_still before c d r.agreed a b e h
+undone_still before c d r (TakingBack w) a b e h = paused_still before c d r.agreed a b e h
+undone_still before c d r Searching a b e h = paused_still before c d r.agreed a b e h
+undone_still before c d r (Cancelling w) a b e h = (paused_still before c d r.todo a b e h.0, h.1)
+undone_still before c d r Stuck a b e h = (paused_still before c d [] a b e h.0, h.1)
+undone_still before c d r Ending a b e (inl h) = inl h
+undone_still before c d r Ending a b e (inr h) = inr (record { nodes = a ∙ h.nodes; relations = b ∙ h.relations; reserved = e ∙ h.reserved })
+undone_still before c d r _ a b e h = h
+
+pub answered_undone : (before c : Core) (answer : Answer) (r : Rebalance) (stage : RebalanceStage) → Undone before c r stage →
+    Undone before c (record r { stage = ev.completed_rebalance answer stage }) (ev.completed_rebalance answer stage)
+answered_undone before c answer r Ending (inl h) = inl h
+answered_undone before c answer r Ending (inr h) = inr (record { nodes = h.nodes; relations = h.relations; reserved = h.reserved })
+answered_undone before c answer r _ h = h
+
+-- who was asked, where a walk that is bad does not wait for its next answer
+pub answered_asked : (before : Core) (answer : Answer) (r : Rebalance) (stage : RebalanceStage) → ((w : Walk) → stage ≡ Asking w → EndsBad (after w answer)) → AskedSince before r stage →
+    AskedSince before (record r { stage = ev.completed_rebalance answer stage }) (ev.completed_rebalance answer stage)
+answered_asked before answer r (Asking w) ends h = (h.0, ends w refl)
+answered_asked before answer r _ ends h = h
+
+pub on_asks : (before c : Core) (r : Rebalance) (stage : RebalanceStage) (node : Node) (w : Walk) → ma.rebalance_walk stage ≡ Some w → has_ended w (length node.stack) ≡ false → first_node c.nodes r.todo ≡ Some node → Undone before c r stage → AskedSince before r stage →
+    MovesOn before c r stage (re.moves (asked c node w).label (asked c node w).core (record r { stage = ev.completed_rebalance (reply c node w) stage }))
+on_asks before c r stage node w walk more first undone since =
+    let answer = reply c node w in
+    let good = not_bad w (length node.stack) more in
+    let now = (asked c node w).core in
     record {
       within = tt;
       on = tt;
       device = record { target = refl; path = refl };
-      undone = paused_still before c _ r.agreed refl refl refl paused;
-      asked = (asks, after_ends w (rack_reply (AskWhat.Irp w.minor) node.path c.rack (next_driver node w)) good);
+      undone = answered_undone before now answer r stage (undone_still before c now r stage refl refl refl undone);
+      asked = answered_asked before answer r stage (λ v is. subst (λ (x : Walk). EndsBad (after x answer)) (same_walk stage v w is walk) (after_ends w answer good)) since;
       told = λ k h. inl h;
       keeps = λ k h. h;
-      tells = λ k h. absurd (let q = h.2 in let bad = h.5 in cc);
+      tells = λ k h. absurd (let bad = h.5 in let same = same_walk stage h.0 w h.2 walk in let here = ap is_bad same in cc);
       quiet = inl tt;
     }
+  where
+    same_walk : (stage : RebalanceStage) (v w : Walk) → stage ≡ Asking v → ma.rebalance_walk stage ≡ Some w → w ≡ v
+    same_walk stage v w is walk = let e = ap ma.rebalance_walk is in cc
 
-on_take_back : (before c : Core) (r : Rebalance) (node : Node) (w : Walk) (ends : Bool) → Placed before.nodes → AtHead c r node → Paused before c r.agreed → AskedSince before r (TakingBack w) → MovesOn before c r (TakingBack w) (re.take_back c r node w ends)
-on_take_back before c r node w true placed head paused (j, more, refused, form, asks) =
+-- Taking back ------------------------------------------------------------------------------------------
+
+on_take_back : (before c : Core) (r : Rebalance) (node : Node) (w : Walk) → Placed before.nodes → AtHead c r node → Paused before c r.agreed → AskedSince before r (TakingBack w) → MovesOn before c r (TakingBack w) (re.take_back c r node w true)
+on_take_back before c r node w placed head paused (j, more, refused, form, asks) =
     let test = re.is_not_above c.nodes node.serial in
     let own : j ≡ node.serial = let f = head.form in cc in
     let up : above c.nodes node.serial ≡ above before.nodes node.serial =
@@ -240,8 +268,6 @@ on_take_back before c r node w true placed head paused (j, more, refused, form, 
     asks_nobody before c r (TakingBack w) _ tt tt tt (same_ask_on r r (those test (rest r.todo)) (own_frame r))
     (undone_ask_on before _ r (those test (rest r.todo)) (paused_same before c node.serial Started r.agreed node head.at head.state paused))
     (asked_ask_on before r (those test (rest r.todo)) asks4) (inl tt)
-on_take_back before c r node w false placed head paused asked =
-    asks_nobody before c r (TakingBack w) _ tt tt tt (record { device = record { target = refl; path = refl }; refused = refl }) (paused_still before c _ r.agreed refl refl refl paused) asked (inl tt)
 
 -- The search ------------------------------------------------------------------------------------
 
@@ -262,13 +288,11 @@ on_searched before c r budget spent answer paused asks =
 
 -- Nothing was found -------------------------------------------------------------------------------
 
-on_cancel : (before c : Core) (r : Rebalance) (node : Node) (w : Walk) (ends : Bool) → r.todo ≡ node.serial ∷ rest r.todo → Undone before c r (Cancelling w) → AskedSince before r (Cancelling w) → MovesOn before c r (Cancelling w) (re.cancel_step c r node w ends)
-on_cancel before c r node w true form undone asked =
+on_cancel : (before c : Core) (r : Rebalance) (node : Node) (w : Walk) → r.todo ≡ node.serial ∷ rest r.todo → Undone before c r (Cancelling w) → AskedSince before r (Cancelling w) → MovesOn before c r (Cancelling w) (re.cancel_step c r node w true)
+on_cancel before c r node w form undone asked =
     let back = paused_back before c node.serial (rest r.todo) (subst (λ (x : List ℕ). Paused before c x) form undone.0) in
     asks_nobody before c r (Cancelling w) _ tt tt tt (same_cancel_on r r (rest r.todo) (own_frame r)) (undone_cancel_on before _ r (rest r.todo) back undone.1)
     (asked_cancel_on before r (rest r.todo) asked.0 asked.1) (inl tt)
-on_cancel before c r node w false form undone asked =
-    asks_nobody before c r (Cancelling w) _ tt tt tt (record { device = record { target = refl; path = refl }; refused = refl }) (paused_still before c _ r.todo refl refl refl undone.0, undone.1) asked (inl tt)
 
 on_stuck : (before c : Core) (r : Rebalance) → Undone before c r Stuck → MovesOn before c r Stuck (re.stuck c r)
 on_stuck before c r undone =
@@ -278,10 +302,9 @@ on_stuck before c r undone =
 
 -- A plan was found ----------------------------------------------------------------------------------
 
-on_stop : (before c : Core) (r : Rebalance) (node : Node) (w : Walk) (ends : Bool) → has_plan r.found ≡ true → MovesOn before c r (Stopping w) (re.stop_step c r node w ends)
-on_stop before c r node w true h =
+on_stop : (before c : Core) (r : Rebalance) (node : Node) (w : Walk) → has_plan r.found ≡ true → MovesOn before c r (Stopping w) (re.stop_step c r node w true)
+on_stop before c r node w h =
     asks_nobody before c r (Stopping w) _ tt tt tt (same_stop_on r r (rest r.todo) (own_frame r)) (undone_stop_on before _ r (rest r.todo) h) (asked_stop_on before r (rest r.todo)) (inl tt)
-on_stop before c r node w false h = asks_nobody before c r (Stopping w) _ tt tt tt (record { device = record { target = refl; path = refl }; refused = refl }) h tt (inl tt)
 
 on_commit : (before c : Core) (r : Rebalance) → has_plan r.found ≡ true → MovesOn before c r Committing (re.commit_step c r)
 on_commit before c r h =
@@ -294,10 +317,6 @@ on_end_restart before c r node w false h =
     let ks = re.startable (ended c node Minor.Start false).nodes (rest r.todo) in
     asks_nobody before c r (Restarting w) _ tt tt tt (same_restart r ks) (undone_restart before _ r ks h) (asked_restart before r ks) (inl tt)
 
-on_restart : (before c : Core) (r : Rebalance) (node : Node) (w : Walk) (ends : Bool) → has_plan r.found ≡ true → MovesOn before c r (Restarting w) (re.restart_step c r node w ends)
-on_restart before c r node w true h = on_end_restart before c r node w (is_bad w) h
-on_restart before c r node w false h = asks_nobody before c r (Restarting w) _ tt tt tt (record { device = record { target = refl; path = refl }; refused = refl }) h tt (inl tt)
-
 on_failed : (before c : Core) (r : Rebalance) (node : Node) → has_plan r.found ≡ true → MovesOn before c r Failed (re.failed c r node)
 on_failed before c r node h =
     let ks = re.startable c.nodes (rest r.todo) in
@@ -309,14 +328,6 @@ on_failed before c r node h =
 abbrev pub OnOrOver : Core → Core → Rebalance → RebalanceStage → re.RebalanceMove → Type 0
 OnOrOver before c r stage m = MovesOn before c r stage m ⊎ ((stage ≡ Ending) × (m ≡ re.close c r))
 
-abbrev pub OnDoing : ℕ → Core → Core → Rebalance → RebalanceStage → Doing re.RebalanceMove → Type 0
-OnDoing budget before c r stage (Does m) = OnOrOver before c r stage m
-OnDoing budget before c r stage (Searches problem by_answer) = (found : Found) → IsAnswer problem.fixed problem.movers budget found → OnOrOver before c r stage (by_answer found)
-
-abbrev pub OnNext : ℕ → Core → Core → Rebalance → RebalanceStage → Option (Doing re.RebalanceMove) → Type 0
-OnNext budget before c r stage None = Unit {0}
-OnNext budget before c r stage (Some doing) = OnDoing budget before c r stage doing
-
 started_head : (c : Core) (r : Rebalance) (node : Node) → first_node c.nodes r.todo ≡ Some node → ((k : ℕ) (n : Node) → node_at k c.nodes ≡ Some n → asking_state r.todo r.agreed k n.state ≡ true) → AtHead c r node
 started_head c r node first each =
     let h = head_found c.nodes r.todo node first in
@@ -324,17 +335,17 @@ started_head c r node first each =
     let test = each node.serial node h.1 in
     record { first = first; form = head_form node.serial r.todo h.0; at = h.1; state = is_Started node.state (grind (arith)) }
 
-pub rebalance_moves : (budget : ℕ) (before c : Core) (r : Rebalance) (stage : RebalanceStage) (o : Option Node) → first_node c.nodes r.todo ≡ o → Placed before.nodes → RebalanceKeeps r stage c.nodes → Undone before c r stage → AskedSince before r stage →
-    OnNext budget before c r stage (re.rebalance_step c r stage o)
-rebalance_moves budget before c r Searching o first placed keeps undone asked = λ found answer. inl (on_searched before c r budget found answer undone asked)
-rebalance_moves budget before c r Stuck o first placed keeps undone asked = inl (on_stuck before c r undone)
-rebalance_moves budget before c r Committing o first placed keeps undone asked = inl (on_commit before c r undone)
-rebalance_moves budget before c r Ending o first placed keeps undone asked = inr (refl, refl)
-rebalance_moves budget before c r (Asking w) (Some node) first placed keeps undone asked = inl (on_ask before c r node w _ refl (started_head c r node first keeps.each) undone asked.0)
-rebalance_moves budget before c r (TakingBack w) (Some node) first placed keeps undone asked = inl (on_take_back before c r node w _ placed (started_head c r node first keeps.each) undone asked)
-rebalance_moves budget before c r (Cancelling w) (Some node) first placed keeps undone asked =
-    inl (on_cancel before c r node w _ (head_form node.serial r.todo (head_found c.nodes r.todo node first).0) undone asked)
-rebalance_moves budget before c r (Stopping w) (Some node) first placed keeps undone asked = inl (on_stop before c r node w _ undone)
-rebalance_moves budget before c r (Restarting w) (Some node) first placed keeps undone asked = inl (on_restart before c r node w _ undone)
-rebalance_moves budget before c r Failed (Some node) first placed keeps undone asked = inl (on_failed before c r node undone)
-rebalance_moves budget before c r _ None first placed keeps undone asked = tt
+pub rebalance_moves : (before c : Core) (r : Rebalance) (stage : RebalanceStage) (m : re.RebalanceMove) → Placed before.nodes → RebalanceKeeps r stage c.nodes → Undone before c r stage → AskedSince before r stage → RebalanceStep c r stage m → OnOrOver before c r stage m
+rebalance_moves before c r stage m placed keeps undone asked (RebalanceStep.agrees node w e good) = inl (on_agreed before c r node w good (started_head c r node e.first keeps.each) undone asked.0)
+rebalance_moves before c r stage m placed keeps undone asked (RebalanceStep.refuses node w e bad) = inl (on_refused before c r node w bad (started_head c r node e.first keeps.each) undone asked.0)
+rebalance_moves before c r stage m placed keeps undone asked (RebalanceStep.takes_back node w e) = inl (on_take_back before c r node w placed (started_head c r node e.first keeps.each) undone asked)
+rebalance_moves before c r stage m placed keeps undone asked (RebalanceStep.searches found budget answer) = inl (on_searched before c r budget found answer undone asked)
+rebalance_moves before c r stage m placed keeps undone asked (RebalanceStep.cancels node w e) =
+    inl (on_cancel before c r node w (head_form node.serial r.todo (head_found c.nodes r.todo node e.first).0) undone asked)
+rebalance_moves before c r stage m placed keeps undone asked RebalanceStep.sticks = inl (on_stuck before c r undone)
+rebalance_moves before c r stage m placed keeps undone asked (RebalanceStep.stops node w e) = inl (on_stop before c r node w undone)
+rebalance_moves before c r stage m placed keeps undone asked RebalanceStep.commits = inl (on_commit before c r undone)
+rebalance_moves before c r stage m placed keeps undone asked (RebalanceStep.restarts node w e good) = inl (on_end_restart before c r node w false undone)
+rebalance_moves before c r stage m placed keeps undone asked (RebalanceStep.fails node w e bad) = inl (on_end_restart before c r node w true undone)
+rebalance_moves before c r stage m placed keeps undone asked (RebalanceStep.failed node first) = inl (on_failed before c r node undone)
+rebalance_moves before c r stage m placed keeps undone asked RebalanceStep.closes = inr (refl, refl)

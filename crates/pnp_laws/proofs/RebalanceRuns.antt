@@ -10,22 +10,22 @@ use Rattle.pnp_model.specs.Cores.{node_at, serials_of}
 use Rattle.pnp_model.specs.Tests.{has}
 use Rattle.pnp_model.specs.States.{with_core}
 use Rattle.pnp_model.specs.Walks.{after}
-use Rattle.pnp_model.specs.Frames.{first_node}
+use Rattle.pnp_model.specs.Frames.{asked, first_node}
 use Rattle.pnp_model.specs.Runs.{Entry, Goes, Run, printed}
 use Rattle.pnp_model.specs.Runs.Entry.{Happens, Did}
 use Rattle.pnp_model.specs.Laws.{IsWithin, AllWithin, Refuses, RefusedSince}
 use Rattle.pnp_labels.specs.declared.label.Label.{Label}
 use Rattle.pnp_labels.specs.declared.label.OpKind.{OpKind}
-use Rattle.pnp_laws.specs.Kept.{Ascending, IsGood, OperationFits}
+use Rattle.pnp_laws.specs.Kept.{Ascending, IsGood, OperationFits, RebalanceKeeps}
 use Rattle.pnp_laws.specs.Reached.{IsReached}
 use Rattle.pnp_laws.specs.Rebalanced.{Placed, Undone, EndsBad, AskedSince, Refusing, Underway}
 use Rattle.pnp_laws.proofs.Reaching.{reached_on}
 use Rattle.pnp_laws.proofs.Reached.{reached_is_good}
 use Rattle.pnp_laws.proofs.EventChanges.{Outside, Answered, happens_outside}
-use Rattle.pnp_laws.proofs.Pauses.{paused_still}
 use Rattle.pnp_laws.proofs.Askings.{asks_begun}
 use Rattle.pnp_laws.proofs.BeginSteps.{Begun}
-use Rattle.pnp_laws.proofs.RebalanceMoves.{GoesOn, MovesOn, OnNext, SameFrame, same_ask_on, own_frame, undone_ask_on, asked_ask_on, rebalance_moves}
+use Rattle.pnp_laws.proofs.RebalanceMoves.{GoesOn, MovesOn, SameFrame, answered_asked, answered_undone, same_ask_on, own_frame, on_asks, undone_ask_on, undone_still, asked_ask_on, rebalance_moves}
+use Rattle.pnp_laws.proofs.Stages.{OperationStep, RebalanceStep, operation_step, reply}
 use Rattle.pnp_model.specs.Machine as ma
 use Rattle.pnp_model.specs.Events as ev
 use Rattle.pnp_model.specs.Rebalances as re
@@ -41,30 +41,33 @@ pub record IsOver (s : State) (r : Rebalance) (step : Step) : Type 0 where
   pub ending : r.stage ≡ Ending
   pub is : step ≡ ma.rebalance_lifted s (re.close s.core r)
 
-by_doing : (before : Core) (settings : Settings) (s : State) (r : Rebalance) (o : Option (Doing re.RebalanceMove)) (step : Step) → OnNext settings.budget before s.core r r.stage o →
-    ma.IsStep settings (option_map (doing_map (ma.rebalance_lifted s)) o) step → Stepped before s r step ⊎ IsOver s r step
-by_doing before settings s r None step l h = absurd h
-by_doing before settings s r (Some (Does m)) step (inl on) h = inl (record { move = m; is = h; moves = on })
-by_doing before settings s r (Some (Does m)) step (inr (ending, close)) h = inr (record { ending = ending; is = h ∙ ap (ma.rebalance_lifted s) close })
-by_doing before settings s r (Some (Searches problem by_answer)) step l h =
-    elim (l h.0 h.1) [
-      | inl on ↦ inl (record { move = by_answer h.0; is = h.2; moves = on })
-      | inr (ending, close) ↦ inr (record { ending = ending; is = h.2 ∙ ap (ma.rebalance_lifted s) close })
-    ]
+-- what is kept of a rebalance that runs, and its step
+abbrev Holds : Core → State → Operation → Type 0
+Holds before s (Operation.Rebalancing r) = RebalanceKeeps r r.stage s.core.nodes × Undone before s.core r r.stage × AskedSince before r r.stage
+Holds before s _ = ⊥
 
-by_wait : (before : Core) (settings : Settings) (s : State) (r : Rebalance) (waits : Bool) (step : Step) → OnNext settings.budget before s.core r r.stage (re.rebalanced s.core r) →
-    ma.IsStep settings (ma.operation_next s (Operation.Rebalancing r) waits) step → Stepped before s r step ⊎ IsOver s r step
-by_wait before settings s r true step l h = absurd h
-by_wait before settings s r false step l h = by_doing before settings s r (re.rebalanced s.core r) step l h
+abbrev StepOf : Core → State → Operation → Step → Type 0
+StepOf before s (Operation.Rebalancing r) step = Stepped before s r step ⊎ IsOver s r step
+StepOf before s _ step = ⊥
+
+by_step : (before : Core) (s : State) (o : Operation) (step : Step) → Placed before.nodes → Holds before s o → OperationStep s o step → StepOf before s o step
+by_step before s p step placed h (OperationStep.asks (Operation.Rebalancing r) node w asks) =
+    inl (record { move = re.moves (asked s.core node w).label (asked s.core node w).core (record r { stage = ev.completed_rebalance (reply s.core node w) r.stage }); is = refl; moves = on_asks before s.core r r.stage node w asks.walk asks.more asks.first h.1 h.2 })
+by_step before s p step placed h (OperationStep.asks (Operation.Removing o) node w asks) = h
+by_step before s p step placed h (OperationStep.asks (Operation.Surprising o) node w asks) = h
+by_step before s p step placed h (OperationStep.removes o stage m is x) = h
+by_step before s p step placed h (OperationStep.surprises o stage m is x) = h
+by_step before s p step placed h (OperationStep.rebalances r stage m is x) =
+    let all = rebalance_moves before s.core r r.stage m placed h.0 h.1 h.2 (subst (λ (y : RebalanceStage). RebalanceStep s.core r y m) (sym is) x) in
+    elim all [
+      | inl on ↦ inl (record { move = m; is = refl; moves = on })
+      | inr (ending, close) ↦ inr (record { ending = ending; is = ap (ma.rebalance_lifted s) close })
+    ]
 
 pub rebalance_stepped : (path : List ℕ) (before : Core) (settings : Settings) (s : State) (step : Step) (u : Underway path before s) → Placed before.nodes → IsGood s → ma.IsStep settings (ma.next settings s) step →
     Stepped before s u.frame step ⊎ IsOver s u.frame step
 rebalance_stepped path before settings s step u placed good h =
-    let r = u.frame in
-    let keeps = subst (λ (x : Option Operation). OperationFits x s.core.nodes) u.runs good.fits in
-    by_wait before settings s r (ma.is_waiting (ma.operation_walk (Operation.Rebalancing r))) step
-    (rebalance_moves settings.budget before s.core r r.stage (first_node s.core.nodes r.todo) refl placed keeps u.undone u.asked)
-    (subst (λ (x : Option Operation). ma.IsStep settings (ma.next_of settings s x) step) u.runs h)
+    by_step before s (Operation.Rebalancing u.frame) step placed (subst (λ (x : Option Operation). OperationFits x s.core.nodes) u.runs good.fits, u.undone, u.asked) (operation_step settings s (Operation.Rebalancing u.frame) step u.runs h)
 
 -- The next state ------------------------------------------------------------------------------
 
@@ -119,31 +122,9 @@ follows_step path before s label t u h =
 
 -- An event -----------------------------------------------------------------------------------------
 
--- nodes, relations and ranges stay
-undone_still : (before c d : Core) (r : Rebalance) (stage : RebalanceStage) → d.nodes ≡ c.nodes → d.relations ≡ c.relations → d.reserved ≡ c.reserved → Undone before c r stage → Undone before d r stage
-undone_still before c d r (Asking w) a b e h = paused_still before c d r.agreed a b e h
-undone_still before c d r (TakingBack w) a b e h = paused_still before c d r.agreed a b e h
-undone_still before c d r Searching a b e h = paused_still before c d r.agreed a b e h
-undone_still before c d r (Cancelling w) a b e h = (paused_still before c d r.todo a b e h.0, h.1)
-undone_still before c d r Stuck a b e h = (paused_still before c d [] a b e h.0, h.1)
-undone_still before c d r Ending a b e (inl h) = inl h
-undone_still before c d r Ending a b e (inr h) = inr (record { nodes = a ∙ h.nodes; relations = b ∙ h.relations; reserved = e ∙ h.reserved })
-undone_still before c d r _ a b e h = h
-
-answered_undone : (before c : Core) (ok : Bool) (r : Rebalance) (stage : RebalanceStage) → Undone before c r stage →
-    Undone before c (record r { stage = ev.completed_rebalance (ev.answer_of ok) stage }) (ev.completed_rebalance (ev.answer_of ok) stage)
-answered_undone before c ok r Ending (inl h) = inl h
-answered_undone before c ok r Ending (inr h) = inr (record { nodes = h.nodes; relations = h.relations; reserved = h.reserved })
-answered_undone before c ok r _ h = h
-
 answer_ends : (ok : Bool) (w : Walk) → EndsBad (after w (ev.answer_of ok))
 answer_ends true w e = refl
 answer_ends false w e = refl
-
-answered_asked : (before : Core) (ok : Bool) (r : Rebalance) (stage : RebalanceStage) → AskedSince before r stage →
-    AskedSince before (record r { stage = ev.completed_rebalance (ev.answer_of ok) stage }) (ev.completed_rebalance (ev.answer_of ok) stage)
-answered_asked before ok r (Asking w) h = (h.0, answer_ends ok w)
-answered_asked before ok r _ h = h
 
 -- a state in which a device has just refused is not quiet
 not_quiet : (settings : Settings) (s : State) (r : Rebalance) (k : ℕ) → s.operation ≡ Some (Operation.Rebalancing r) → ((w : Walk) → r.stage ≡ Asking w → EndsBad w) → Refusing s.core r r.stage k → ma.next settings s ≡ None → ⊥
@@ -182,8 +163,8 @@ follows_answer path before settings s t label u quiet out (inr (ok, o, e, q)) =
         runs = q ∙ ap (λ (x : Operation). Some (ev.completed (ev.answer_of ok) x)) same;
         named = u.named;
         target = u.target;
-        undone = answered_undone before t.core ok r r.stage (same_core s t label r before u.runs out u.undone);
-        asked = answered_asked before ok r r.stage u.asked;
+        undone = answered_undone before t.core (ev.answer_of ok) r r.stage (same_core s t label r before u.runs out u.undone);
+        asked = answered_asked before (ev.answer_of ok) r r.stage (λ w is. answer_ends ok w) u.asked;
       };
       told = λ k h. inl h;
       keeps = λ k h. h;

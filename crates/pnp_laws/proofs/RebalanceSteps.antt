@@ -12,7 +12,7 @@ use Rattle.pnp_model.specs.Walks.{is_bad, walk_of}
 use Rattle.pnp_model.specs.Tests.{has, is_started}
 use Rattle.pnp_model.specs.Trees.{stands_up}
 use Rattle.pnp_model.specs.Frames.{first_node, rest}
-use Rattle.pnp_model.specs.Rebalances.{ask_on, cancel_on, stop_on, startable, restart_from, restart_on, is_asked, begun_rebalance, is_not_above, end_ask, ask_step, take_back, searched, cancel_step, trouble_of, stuck, stop_step, committed, movers, plan_of, commit_step, end_restart, restart_step, failed, over, moved_on, rebalance_step}
+use Rattle.pnp_model.specs.Rebalances.{RebalanceMove, ask_on, cancel_on, stop_on, startable, restart_from, restart_on, is_asked, begun_rebalance, is_not_above, searched, trouble_of, committed, movers, plan_of, end_of, moved_on, over}
 use Rattle.pnp_model.specs.Machine.{rebalance_lifted}
 use Rattle.pnp_laws.specs.Kept.{Good, Lawful, Each, OperationFits, Distinct, Apart, Within, Waits, RebalanceKeeps, asking_state, pending_state, stopping_state, stopped_state, Fits, is_calm, is_stopped}
 use Rattle.pnp_model.specs.Diagram.{Change}
@@ -20,17 +20,19 @@ use Rattle.pnp_model.specs.Diagram.Row.{query_stop, cancel_stop_refused, cancel_
 use Rattle.pnp_labels.specs.declared.states.DevState.{DevState}
 use Rattle.pnp_labels.specs.declared.words.Minor.{Minor}
 use Rattle.pnp_labels.specs.declared.label.Label.{Label}
+use Rattle.pnp_labels.specs.declared.label.OpKind.{OpKind}
 use Rattle.pnp_labels.specs.declared.states.Problem.{Problem}
 use Rattle.pnp_labels.specs.declared.states.DevState.TheVariants.{NoStack, NotStarted, Started, StopPending, Stopped}
 use Rattle.pnp_laws.proofs.Lookups.{own_serial, found_self, node_changed_same, node_changed_other}
 use Rattle.pnp_model.specs.States.{entered}
 use Rattle.pnp_model.specs.Records.Phase.{Starting, Removing}
 use Rattle.pnp_laws.proofs.Diagrams.{Each_changed, Each_same, Each_mapped, diagram_mapped, diagram_same}
-use Rattle.pnp_laws.proofs.Kept.{lawful_by, Good_nodes, Good_mapped, LawfulNext}
+use Rattle.pnp_laws.proofs.Kept.{lawful_by, Good_nodes, Good_mapped}
 use Rattle.pnp_laws.proofs.Lists.{HeadIs, head_found, head_has, rest_has, rest_not, rest_distinct, rest_within, those_has, those_not, those_distinct, those_found, serials_distinct}
 use Rattle.pnp_laws.proofs.OpSteps.{lawful_walked, lawful_still, lawful_close, up_stack, waits_changed, waits_mapped, is_Started, is_StopPending, is_Stopped, started_calm, stopped_calm, has-reverse, Distinct-reverse}
 use Rattle.pnp_laws.proofs.Truths.{and_both}
 use Rattle.pnp_laws.proofs.RemovalSteps.{asked_apart, row}
+use Rattle.pnp_laws.proofs.Stages.{RebalanceStep}
 
 -- What comes next keeps the facts ------------------------------------------------
 
@@ -132,118 +134,19 @@ walked s t label node todo o p x y w a b c d xn yn fits change =
     lawful_walked s t label (with_state y) node o p a b (c ∙ w.alone) d (λ x. refl) w.at
     (up_stack node.serial node.state y node.stack (w.good.stacks node.serial node w.at) (λ e. xn (sym w.state ∙ e)) yn w.up) fits change w.good
 
--- The steps --------------------------------------------------------------------------
-
-lawful_end_ask : (s : State) (r : Rebalance) (node : Node) (w : Walk) (bad : Bool) → RebalanceKeeps r (Asking w) s.core.nodes → AtWork s node r.todo (Operation.Rebalancing r) Started →
-    Lawful s (rebalance_lifted s (end_ask s.core r node bad))
-lawful_end_ask s r node w false keeps work =
-    let j = node.serial in
-    let not_rest = rest_not j r.todo work.head keeps.todo in
-    walked s _ _ node r.todo (Operation.Rebalancing r) _ Started StopPending work refl refl refl refl (λ e. cc) (λ e. cc)
-    (fits_ask_on (record r { agreed = j ∷ r.agreed }) (rest r.todo) (changed_first (is_node j) (with_state StopPending) s.core.nodes)
-    (rest_distinct r.todo keeps.todo)
-    (keeps.asks j (head_has j r.todo work.head), keeps.agreed)
-    (rest_rootless r.todo keeps.rootless)
-    (let up = work.up in let old = keeps.no_root in grind (arith, nat_tests))
-    (asked_apart r.todo (rest r.todo) r.agreed j not_rest (λ k h. rest_within k r.todo h) keeps.asks)
-    (Each_changed (asking_state r.todo r.agreed) (asking_state (rest r.todo) (j ∷ r.agreed)) j (with_state StopPending) s.core.nodes node (λ x. refl) work.at
-    (asked_here (rest r.todo) r.agreed j not_rest)
-    (λ k x d h. asked_there r.todo (rest r.todo) r.agreed j k x d (rest_has j k r.todo work.head d) h) keeps.each)
-    (waits_changed r.target j (with_state StopPending) s.core.nodes node (λ x. refl) work.at (λ e. let z = work.state in cc) keeps.waits))
-    (row node.path node.state Started StopPending Minor.QueryStop false work.state query_stop)
-lawful_end_ask s r node w true keeps work =
-    let j = node.serial in
-    walked s _ _ node r.todo (Operation.Rebalancing r) _ Started node.state work refl refl refl refl (λ e. cc) (λ e. let z = work.state in cc)
-    (record {
-      todo = keeps.todo;
-      agreed = keeps.agreed;
-      rootless = keeps.rootless;
-      no_root = keeps.no_root;
-      asks = keeps.asks;
-      each =
-          Each_changed (asking_state r.todo r.agreed) (asking_state r.todo r.agreed) j (with_state node.state) s.core.nodes node (λ x. refl) work.at
-          (keeps.each j node work.at) (λ k x d h. h) keeps.each;
-      waits = waits_changed r.target j (with_state node.state) s.core.nodes node (λ x. refl) work.at (λ e. let z = work.state in cc) keeps.waits;
-    })
-    (inl refl)
-
--- an ask changes no node: the same facts hold of the frame with its walk
-lawful_ask_step : (s : State) (r : Rebalance) (node : Node) (w : Walk) (ends : Bool) → RebalanceKeeps r (Asking w) s.core.nodes → AtWork s node r.todo (Operation.Rebalancing r) Started →
-    Lawful s (rebalance_lifted s (ask_step s.core r node w ends))
-lawful_ask_step s r node w true keeps work = lawful_end_ask s r node w (is_bad w) keeps work
-lawful_ask_step s r node w false keeps work =
-    lawful_still s _ _ (Operation.Rebalancing r) _ refl refl work.alone refl
-    (record { todo = keeps.todo; agreed = keeps.agreed; rootless = keeps.rootless; no_root = keeps.no_root; asks = keeps.asks; each = keeps.each; waits = keeps.waits })
-    work.good
+-- What the steps need ---------------------------------------------------------------------
 
 back_here : (todo agreed more : List ℕ) (j : ℕ) → has todo j ≡ true → has more j ≡ false → Apart todo agreed → asking_state more agreed j Started ≡ true
 back_here todo agreed more j h g apart = let a = apart j h in grind (arith)
 
-lawful_take_back : (s : State) (r : Rebalance) (node : Node) (w : Walk) (ends : Bool) → RebalanceKeeps r (TakingBack w) s.core.nodes → AtWork s node r.todo (Operation.Rebalancing r) Started →
-    Lawful s (rebalance_lifted s (take_back s.core r node w ends))
-lawful_take_back s r node w true keeps work =
-    let j = node.serial in
-    let more = those (is_not_above s.core.nodes j) (rest r.todo) in
-    let not_more = those_not (is_not_above s.core.nodes j) (rest r.todo) j (rest_not j r.todo work.head keeps.todo) in
-    let within : (k : ℕ) → has more k ≡ true → has r.todo k ≡ true = λ k h. rest_within k r.todo (those_has (is_not_above s.core.nodes j) (rest r.todo) k h).0 in
-    walked s _ _ node r.todo (Operation.Rebalancing r) _ Started Started work refl refl refl refl (λ e. cc) (λ e. cc)
-    (fits_ask_on r more (changed_first (is_node j) (with_state Started) s.core.nodes)
-    (those_distinct (is_not_above s.core.nodes j) (rest r.todo) (rest_distinct r.todo keeps.todo))
-    keeps.agreed
-    (those_not (is_not_above s.core.nodes j) (rest r.todo) 0 (rest_rootless r.todo keeps.rootless))
-    keeps.no_root
-    (λ k h. keeps.asks k (within k h))
-    (Each_changed (asking_state r.todo r.agreed) (asking_state more r.agreed) j (with_state Started) s.core.nodes node (λ x. refl) work.at
-    (back_here r.todo r.agreed more j (head_has j r.todo work.head) not_more keeps.asks)
-    (λ k x d h. fewer_asked r.todo more r.agreed k x (within k) (keeps.asks k) h) keeps.each)
-    (waits_changed r.target j (with_state Started) s.core.nodes node (λ x. refl) work.at (λ e. let z = work.state in cc) keeps.waits))
-    (row node.path node.state Started Started Minor.CancelStop false work.state cancel_stop_refused)
-lawful_take_back s r node w false keeps work =
-    lawful_still s _ _ (Operation.Rebalancing r) _ refl refl work.alone refl
-    (record { todo = keeps.todo; agreed = keeps.agreed; rootless = keeps.rootless; no_root = keeps.no_root; asks = keeps.asks; each = keeps.each; waits = keeps.waits })
-    work.good
-
 turned_stopping : (agreed : List ℕ) (k : ℕ) (x : DevState) → pending_state agreed k x ≡ true → stopping_state (reverse agreed) agreed k x ≡ true
 turned_stopping agreed k x h = let e = has-reverse agreed k in grind (arith)
-
-lawful_searched : (s : State) (r : Rebalance) (found : Found) → s.activities ≡ [] → RebalanceKeeps r Searching s.core.nodes → Good s.next_serial s.core.nodes [] (Some (Operation.Rebalancing r)) →
-    Lawful s (rebalance_lifted s (searched s.core r found))
-lawful_searched s r (assignment plan) alone keeps good =
-    lawful_still s _ _ (Operation.Rebalancing r) _ refl refl alone refl
-    (fits_stop_on (record r { found = assignment plan }) (reverse r.agreed) s.core.nodes (Distinct-reverse r.agreed keeps.agreed) keeps.agreed
-    (has-reverse r.agreed 0 ∙ keeps.no_root) keeps.no_root
-    (λ k h. sym (has-reverse r.agreed k) ∙ h)
-    (Each_same (pending_state r.agreed) (stopping_state (reverse r.agreed) r.agreed) s.core.nodes (λ k x h. turned_stopping r.agreed k x h) keeps.each)
-    keeps.waits) good
-lawful_searched s r no_fit alone keeps good =
-    lawful_still s _ _ (Operation.Rebalancing r) _ refl refl alone refl
-    (fits_cancel_on (record r { found = no_fit }) r.agreed s.core.nodes keeps.agreed keeps.agreed keeps.no_root keeps.no_root keeps.each keeps.waits) good
-lawful_searched s r spent alone keeps good =
-    lawful_still s _ _ (Operation.Rebalancing r) _ refl refl alone refl
-    (fits_cancel_on (record r { found = spent }) r.agreed s.core.nodes keeps.agreed keeps.agreed keeps.no_root keeps.no_root keeps.each keeps.waits) good
 
 rest_pending : (todo : List ℕ) (k : ℕ) (x : DevState) → has (rest todo) k ≡ has todo k → pending_state todo k x ≡ true → pending_state (rest todo) k x ≡ true
 rest_pending todo k x e h = grind (arith)
 
 calm_pending : (todo : List ℕ) (k : ℕ) → has todo k ≡ false → pending_state todo k Started ≡ true
 calm_pending todo k h = grind (arith)
-
-lawful_cancel : (s : State) (r : Rebalance) (node : Node) (w : Walk) (ends : Bool) → RebalanceKeeps r (Cancelling w) s.core.nodes → AtWork s node r.todo (Operation.Rebalancing r) StopPending →
-    Lawful s (rebalance_lifted s (cancel_step s.core r node w ends))
-lawful_cancel s r node w true keeps work =
-    let j = node.serial in
-    walked s _ _ node r.todo (Operation.Rebalancing r) _ StopPending Started work refl refl refl refl (λ e. cc) (λ e. cc)
-    (fits_cancel_on r (rest r.todo) (changed_first (is_node j) (with_state Started) s.core.nodes)
-    (rest_distinct r.todo keeps.todo) keeps.agreed (rest_rootless r.todo keeps.rootless) keeps.no_root
-    (Each_changed (pending_state r.todo) (pending_state (rest r.todo)) j (with_state Started) s.core.nodes node (λ x. refl) work.at
-    (calm_pending (rest r.todo) j (rest_not j r.todo work.head keeps.todo))
-    (λ k x d h. rest_pending r.todo k x (rest_has j k r.todo work.head d) h) keeps.each)
-    (waits_changed r.target j (with_state Started) s.core.nodes node (λ x. refl) work.at (λ e. let z = work.state in cc) keeps.waits))
-    (row node.path node.state StopPending Started Minor.CancelStop false work.state cancel_stop)
-lawful_cancel s r node w false keeps work =
-    lawful_still s _ _ (Operation.Rebalancing r) _ refl refl work.alone refl
-    (record { todo = keeps.todo; agreed = keeps.agreed; rootless = keeps.rootless; no_root = keeps.no_root; asks = keeps.asks; each = keeps.each; waits = keeps.waits })
-    work.good
 
 -- a problem of a node changes no state
 problem_each : (test : ℕ → DevState → Bool) (j : ℕ) (problem : Option Problem) (nodes : List Node) (n : Node) → node_at j nodes ≡ Some n → Each test nodes → Each test (changed_first (is_node j) (with_problem problem) nodes)
@@ -260,120 +163,17 @@ problem_waits k j problem nodes w =
       | inr d ↦ (w.0, node_changed_other j k (with_problem problem) nodes (λ x. refl) d ∙ w.1, w.2)
     ]
 
-lawful_stuck : (s : State) (r : Rebalance) → s.activities ≡ [] → RebalanceKeeps r Stuck s.core.nodes → Good s.next_serial s.core.nodes [] (Some (Operation.Rebalancing r)) →
-    Lawful s (rebalance_lifted s (stuck s.core r))
-lawful_stuck s r alone keeps good =
-    let node = keeps.waits.0 in
-    let own = own_serial r.target node s.core.nodes keeps.waits.1 in
-    let at = found_self r.target s.core.nodes node keeps.waits.1 in
-    let f = with_problem (Some (trouble_of r.found)) in
-    lawful_walked s _ (Label.Trouble r.path (trouble_of r.found)) f node (Operation.Rebalancing r) (Operation.Rebalancing (record r { stage = Ending })) refl
-    (ap (λ (i : ℕ). changed_first (is_node i) f s.core.nodes) (sym own)) alone refl (λ x. refl) at (good.stacks node.serial node at)
-    (record {
-      todo = keeps.todo;
-      agreed = keeps.agreed;
-      rootless = keeps.rootless;
-      no_root = keeps.no_root;
-      asks = tt;
-      each = problem_each (λ k x. is_calm x) node.serial (Some (trouble_of r.found)) s.core.nodes node at keeps.each;
-      waits = problem_waits r.target node.serial (Some (trouble_of r.found)) s.core.nodes keeps.waits;
-    })
-    refl good
-
 stop_here : (todo agreed : List ℕ) (j : ℕ) → has todo j ≡ false → has agreed j ≡ true → stopping_state todo agreed j Stopped ≡ true
 stop_here todo agreed j h g = grind (arith)
 
 rest_stopping : (todo agreed : List ℕ) (k : ℕ) (x : DevState) → has (rest todo) k ≡ has todo k → stopping_state todo agreed k x ≡ true → stopping_state (rest todo) agreed k x ≡ true
 rest_stopping todo agreed k x e h = grind (arith)
 
-lawful_stop : (s : State) (r : Rebalance) (node : Node) (w : Walk) (ends : Bool) → RebalanceKeeps r (Stopping w) s.core.nodes → AtWork s node r.todo (Operation.Rebalancing r) StopPending →
-    Lawful s (rebalance_lifted s (stop_step s.core r node w ends))
-lawful_stop s r node w true keeps work =
-    let j = node.serial in
-    walked s _ _ node r.todo (Operation.Rebalancing r) _ StopPending Stopped work refl refl refl refl (λ e. cc) (λ e. cc)
-    (fits_stop_on r (rest r.todo) (changed_first (is_node j) (with_state Stopped) s.core.nodes)
-    (rest_distinct r.todo keeps.todo) keeps.agreed (rest_rootless r.todo keeps.rootless) keeps.no_root
-    (λ k h. keeps.asks k (rest_within k r.todo h))
-    (Each_changed (stopping_state r.todo r.agreed) (stopping_state (rest r.todo) r.agreed) j (with_state Stopped) s.core.nodes node (λ x. refl) work.at
-    (stop_here (rest r.todo) r.agreed j (rest_not j r.todo work.head keeps.todo) (keeps.asks j (head_has j r.todo work.head)))
-    (λ k x d h. rest_stopping r.todo r.agreed k x (rest_has j k r.todo work.head d) h) keeps.each)
-    (waits_changed r.target j (with_state Stopped) s.core.nodes node (λ x. refl) work.at (λ e. let z = work.state in cc) keeps.waits))
-    (row node.path node.state StopPending Stopped Minor.Stop false work.state stop)
-lawful_stop s r node w false keeps work =
-    lawful_still s _ _ (Operation.Rebalancing r) _ refl refl work.alone refl
-    (record { todo = keeps.todo; agreed = keeps.agreed; rootless = keeps.rootless; no_root = keeps.no_root; asks = keeps.asks; each = keeps.each; waits = keeps.waits })
-    work.good
-
-lawful_commit : (s : State) (r : Rebalance) → s.activities ≡ [] → RebalanceKeeps r Committing s.core.nodes → Good s.next_serial s.core.nodes [] (Some (Operation.Rebalancing r)) →
-    Lawful s (rebalance_lifted s (commit_step s.core r))
-lawful_commit s r alone keeps good =
-    let f = committed (movers r) (plan_of r.found) in
-    let fits = fits_restart_on s.core.nodes r r.agreed (map f s.core.nodes) keeps.agreed keeps.agreed keeps.no_root keeps.no_root
-    (Each_mapped (stopped_state r.agreed) (stopped_state r.agreed) f s.core.nodes (λ x. refl) (λ x. refl) (λ k x h. h) keeps.each)
-    (waits_mapped r.target f s.core.nodes (λ x. refl) (λ x. refl) keeps.waits) in
-    lawful_by s _ (Label.Commit (length (movers r))) s.next_serial (map f s.core.nodes) [] (Some (Operation.Rebalancing (restart_on s.core.nodes r r.agreed))) refl refl alone refl
-    (Good_mapped s.next_serial f s.core.nodes (Some (Operation.Rebalancing r)) (Some (Operation.Rebalancing (restart_on s.core.nodes r r.agreed))) (λ x. refl) (λ x. refl) (λ x. refl) fits refl good)
-    (diagram_mapped (Label.Commit (length (movers r))) f s.core.nodes (λ x. refl) (λ x. refl))
-
 rest_stopped : (todo : List ℕ) (k : ℕ) (x : DevState) → has (rest todo) k ≡ has todo k → stopped_state todo k x ≡ true → stopped_state (rest todo) k x ≡ true
 rest_stopped todo k x e h = grind (arith)
 
 calm_stopped : (todo : List ℕ) (k : ℕ) (x : DevState) → has todo k ≡ false → is_calm x ≡ true → stopped_state todo k x ≡ true
 calm_stopped todo k x h g = grind (arith)
-
-lawful_end_restart : (s : State) (r : Rebalance) (node : Node) (w : Walk) (bad : Bool) → RebalanceKeeps r (Restarting w) s.core.nodes → AtWork s node r.todo (Operation.Rebalancing r) Stopped →
-    Lawful s (rebalance_lifted s (end_restart s.core r node bad))
-lawful_end_restart s r node w true keeps work =
-    let j = node.serial in
-    walked s _ _ node r.todo (Operation.Rebalancing r) _ Stopped node.state work refl refl refl refl (λ e. cc) (λ e. let z = work.state in cc)
-    (record {
-      todo = keeps.todo;
-      agreed = keeps.agreed;
-      rootless = keeps.rootless;
-      no_root = keeps.no_root;
-      asks = tt;
-      each =
-          Each_changed (stopped_state r.todo) (stopped_state r.todo) j (with_state node.state) s.core.nodes node (λ x. refl) work.at
-          (keeps.each j node work.at) (λ k x d h. h) keeps.each;
-      waits = waits_changed r.target j (with_state node.state) s.core.nodes node (λ x. refl) work.at (λ e. let z = work.state in cc) keeps.waits;
-    })
-    (inl refl)
-lawful_end_restart s r node w false keeps work =
-    let j = node.serial in
-    let nodes = changed_first (is_node j) (with_state Started) s.core.nodes in
-    walked s _ _ node r.todo (Operation.Rebalancing r) _ Stopped Started work refl refl refl refl (λ e. cc) (λ e. cc)
-    (fits_restart_on nodes r (rest r.todo) nodes
-    (rest_distinct r.todo keeps.todo) keeps.agreed (rest_rootless r.todo keeps.rootless) keeps.no_root
-    (Each_changed (stopped_state r.todo) (stopped_state (rest r.todo)) j (with_state Started) s.core.nodes node (λ x. refl) work.at
-    (calm_stopped (rest r.todo) j Started (rest_not j r.todo work.head keeps.todo) refl)
-    (λ k x d h. rest_stopped r.todo k x (rest_has j k r.todo work.head d) h) keeps.each)
-    (waits_changed r.target j (with_state Started) s.core.nodes node (λ x. refl) work.at (λ e. let z = work.state in cc) keeps.waits))
-    (row node.path node.state Stopped Started Minor.Start false work.state restart)
-
-lawful_restart : (s : State) (r : Rebalance) (node : Node) (w : Walk) (ends : Bool) → RebalanceKeeps r (Restarting w) s.core.nodes → AtWork s node r.todo (Operation.Rebalancing r) Stopped →
-    Lawful s (rebalance_lifted s (restart_step s.core r node w ends))
-lawful_restart s r node w true keeps work = lawful_end_restart s r node w (is_bad w) keeps work
-lawful_restart s r node w false keeps work =
-    lawful_still s _ _ (Operation.Rebalancing r) _ refl refl work.alone refl
-    (record { todo = keeps.todo; agreed = keeps.agreed; rootless = keeps.rootless; no_root = keeps.no_root; asks = keeps.asks; each = keeps.each; waits = keeps.waits })
-    work.good
-
-lawful_failed : (s : State) (r : Rebalance) (node : Node) → RebalanceKeeps r Failed s.core.nodes → AtWork s node r.todo (Operation.Rebalancing r) Stopped →
-    Lawful s (rebalance_lifted s (failed s.core r node))
-lawful_failed s r node keeps work =
-    let j = node.serial in
-    let nodes = changed_first (is_node j) (with_problem (Some Problem.FailedStart)) s.core.nodes in
-    lawful_walked s _ (Label.Trouble node.path Problem.FailedStart) (with_problem (Some Problem.FailedStart)) node (Operation.Rebalancing r) _ refl
-    refl work.alone refl (λ x. refl) work.at (work.good.stacks j node work.at)
-    (fits_restart_on s.core.nodes r (rest r.todo) nodes
-    (rest_distinct r.todo keeps.todo) keeps.agreed (rest_rootless r.todo keeps.rootless) keeps.no_root
-    (Each_changed (stopped_state r.todo) (stopped_state (rest r.todo)) j (with_problem (Some Problem.FailedStart)) s.core.nodes node (λ x. refl) work.at
-    (calm_stopped (rest r.todo) j node.state (rest_not j r.todo work.head keeps.todo) (ap is_calm work.state))
-    (λ k x d h. rest_stopped r.todo k x (rest_has j k r.todo work.head d) h) keeps.each)
-    (problem_waits r.target j (Some Problem.FailedStart) s.core.nodes keeps.waits))
-    refl work.good
-
--- the end: the target has an activity, or none
 
 lawful_then : (s t : State) (label : Label) (r : Rebalance) (phase : Phase) → t.next_serial ≡ s.next_serial → t.core.nodes ≡ s.core.nodes → t.activities ≡ entered (record { serial = r.target; phase = phase }) s.activities → t.operation ≡ None →
     s.activities ≡ [] → Fits phase NotStarted → RebalanceKeeps r Ending s.core.nodes → Good s.next_serial s.core.nodes [] (Some (Operation.Rebalancing r)) → Lawful s (record { label = label; state = t })
@@ -394,17 +194,6 @@ lawful_then s t label r phase a b c d alone fit keeps good =
     tt keeps.each good)
     (diagram_same label s.core.nodes)
 
-lawful_moved : (s : State) (r : Rebalance) (up : Bool) (label : Label) → s.activities ≡ [] → RebalanceKeeps r Ending s.core.nodes → Good s.next_serial s.core.nodes [] (Some (Operation.Rebalancing r)) →
-    Lawful s (rebalance_lifted s (record { label = label; core = s.core; frame = r; beside = moved_on up }))
-lawful_moved s r true label alone keeps good = lawful_then s _ label r (Starting (walk_of Minor.Start)) refl refl refl refl alone refl keeps good
-lawful_moved s r false label alone keeps good = lawful_close s _ label (Operation.Rebalancing r) refl refl alone refl keeps.each good
-
-lawful_over : (s : State) (r : Rebalance) (found : Found) (label : Label) → s.activities ≡ [] → RebalanceKeeps r Ending s.core.nodes → Good s.next_serial s.core.nodes [] (Some (Operation.Rebalancing r)) →
-    Lawful s (rebalance_lifted s (record { label = label; core = s.core; frame = r; beside = over s.core r found }))
-lawful_over s r (assignment plan) label alone keeps good = lawful_moved s r (stands_up s.core.nodes r.target) label alone keeps good
-lawful_over s r no_fit label alone keeps good = lawful_then s _ label r (Removing (walk_of Minor.Remove)) refl refl refl refl alone refl keeps good
-lawful_over s r spent label alone keeps good = lawful_then s _ label r (Removing (walk_of Minor.Remove)) refl refl refl refl alone refl keeps good
-
 at_work : (s : State) (r : Rebalance) (node : Node) (x : DevState) → s.activities ≡ [] → s.operation ≡ Some (Operation.Rebalancing r) → first_node s.core.nodes r.todo ≡ Some node → has r.todo 0 ≡ false →
     (has r.todo node.serial ≡ true → node_at node.serial s.core.nodes ≡ Some node → node.state ≡ x) → Good s.next_serial s.core.nodes [] (Some (Operation.Rebalancing r)) →
     AtWork s node r.todo (Operation.Rebalancing r) x
@@ -412,26 +201,175 @@ at_work s r node x alone runs first rootless state good =
     let h = head_found s.core.nodes r.todo node first in
     record { alone = alone; runs = runs; head = h.0; at = h.1; up = rootless_head node.serial r.todo h.0 rootless; state = state (head_has node.serial r.todo h.0) h.1; good = good }
 
-pub lawful_rebalance : (s : State) (r : Rebalance) (stage : RebalanceStage) (o : Option Node) → first_node s.core.nodes r.todo ≡ o → s.activities ≡ [] → s.operation ≡ Some (Operation.Rebalancing r) →
-    RebalanceKeeps r stage s.core.nodes → Good s.next_serial s.core.nodes [] (Some (Operation.Rebalancing r)) →
-    LawfulNext s (option_map (doing_map (rebalance_lifted s)) (rebalance_step s.core r stage o))
-lawful_rebalance s r Searching o first alone runs keeps good = λ found. lawful_searched s r found alone keeps good
-lawful_rebalance s r Stuck o first alone runs keeps good = lawful_stuck s r alone keeps good
-lawful_rebalance s r Committing o first alone runs keeps good = lawful_commit s r alone keeps good
-lawful_rebalance s r Ending o first alone runs keeps good = lawful_over s r r.found _ alone keeps good
-lawful_rebalance s r (Asking w) (Some node) first alone runs keeps good =
-    lawful_ask_step s r node w _ keeps (at_work s r node Started alone runs first keeps.rootless (λ h at. head_started r.todo r.agreed node.serial node.state h (keeps.each node.serial node at)) good)
-lawful_rebalance s r (TakingBack w) (Some node) first alone runs keeps good =
-    lawful_take_back s r node w _ keeps (at_work s r node Started alone runs first keeps.rootless (λ h at. head_started r.todo r.agreed node.serial node.state h (keeps.each node.serial node at)) good)
-lawful_rebalance s r (Cancelling w) (Some node) first alone runs keeps good =
-    lawful_cancel s r node w _ keeps (at_work s r node StopPending alone runs first keeps.rootless (λ h at. head_pending r.todo node.serial node.state h (keeps.each node.serial node at)) good)
-lawful_rebalance s r (Stopping w) (Some node) first alone runs keeps good =
-    lawful_stop s r node w _ keeps (at_work s r node StopPending alone runs first keeps.rootless (λ h at. head_stopping r.todo r.agreed node.serial node.state h (keeps.each node.serial node at)) good)
-lawful_rebalance s r (Restarting w) (Some node) first alone runs keeps good =
-    lawful_restart s r node w _ keeps (at_work s r node Stopped alone runs first keeps.rootless (λ h at. head_stopped r.todo node.serial node.state h (keeps.each node.serial node at)) good)
-lawful_rebalance s r Failed (Some node) first alone runs keeps good =
-    lawful_failed s r node keeps (at_work s r node Stopped alone runs first keeps.rootless (λ h at. head_stopped r.todo node.serial node.state h (keeps.each node.serial node at)) good)
-lawful_rebalance s r _ None first alone runs keeps good = tt
+-- The steps --------------------------------------------------------------------------
+
+module _ (s : State) (r : Rebalance) (alone : s.activities ≡ []) (runs : s.operation ≡ Some (Operation.Rebalancing r)) (good : Good s.next_serial s.core.nodes [] (Some (Operation.Rebalancing r))) where
+  re_searched : (found : Found) → RebalanceKeeps r Searching s.core.nodes → Lawful s (rebalance_lifted s (searched s.core r found))
+  re_searched (assignment plan) keeps =
+      lawful_still s _ _ (Operation.Rebalancing r) _ refl refl alone refl
+      (fits_stop_on (record r { found = assignment plan }) (reverse r.agreed) s.core.nodes (Distinct-reverse r.agreed keeps.agreed) keeps.agreed
+      (has-reverse r.agreed 0 ∙ keeps.no_root) keeps.no_root
+      (λ k h. sym (has-reverse r.agreed k) ∙ h)
+      (Each_same (pending_state r.agreed) (stopping_state (reverse r.agreed) r.agreed) s.core.nodes (λ k x h. turned_stopping r.agreed k x h) keeps.each)
+      keeps.waits) good
+  re_searched no_fit keeps =
+      lawful_still s _ _ (Operation.Rebalancing r) _ refl refl alone refl
+      (fits_cancel_on (record r { found = no_fit }) r.agreed s.core.nodes keeps.agreed keeps.agreed keeps.no_root keeps.no_root keeps.each keeps.waits) good
+  re_searched spent keeps =
+      lawful_still s _ _ (Operation.Rebalancing r) _ refl refl alone refl
+      (fits_cancel_on (record r { found = spent }) r.agreed s.core.nodes keeps.agreed keeps.agreed keeps.no_root keeps.no_root keeps.each keeps.waits) good
+
+  re_closes : (found : Found) (label : Label) → RebalanceKeeps r Ending s.core.nodes → Lawful s (rebalance_lifted s (record { label = label; core = s.core; frame = r; beside = over s.core r found }))
+  re_closes (assignment plan) label keeps = by_test (stands_up s.core.nodes r.target)
+    where
+      by_test : (up : Bool) → Lawful s (rebalance_lifted s (record { label = label; core = s.core; frame = r; beside = moved_on up }))
+      by_test true = lawful_then s _ label r (Starting (walk_of Minor.Start)) refl refl refl refl alone refl keeps good
+      by_test false = lawful_close s _ label (Operation.Rebalancing r) refl refl alone refl keeps.each good
+  re_closes no_fit label keeps = lawful_then s _ label r (Removing (walk_of Minor.Remove)) refl refl refl refl alone refl keeps good
+  re_closes spent label keeps = lawful_then s _ label r (Removing (walk_of Minor.Remove)) refl refl refl refl alone refl keeps good
+
+  pub lawful_rebalance : (stage : RebalanceStage) (m : RebalanceMove) → RebalanceKeeps r stage s.core.nodes → RebalanceStep s.core r stage m → Lawful s (rebalance_lifted s m)
+  lawful_rebalance stage m keeps (RebalanceStep.agrees node w e ok) =
+      let work = at_work s r node Started alone runs e.first keeps.rootless (λ here at. head_started r.todo r.agreed node.serial node.state here (keeps.each node.serial node at)) good in
+      let j = node.serial in
+      let not_rest = rest_not j r.todo work.head keeps.todo in
+      walked s _ _ node r.todo (Operation.Rebalancing r) _ Started StopPending work refl refl refl refl (λ e. cc) (λ e. cc)
+      (fits_ask_on (record r { agreed = j ∷ r.agreed }) (rest r.todo) (changed_first (is_node j) (with_state StopPending) s.core.nodes)
+      (rest_distinct r.todo keeps.todo)
+      (keeps.asks j (head_has j r.todo work.head), keeps.agreed)
+      (rest_rootless r.todo keeps.rootless)
+      (let up = work.up in let old = keeps.no_root in grind (arith, nat_tests))
+      (asked_apart r.todo (rest r.todo) r.agreed j not_rest (λ k h. rest_within k r.todo h) keeps.asks)
+      (Each_changed (asking_state r.todo r.agreed) (asking_state (rest r.todo) (j ∷ r.agreed)) j (with_state StopPending) s.core.nodes node (λ x. refl) work.at
+      (asked_here (rest r.todo) r.agreed j not_rest)
+      (λ k x d h. asked_there r.todo (rest r.todo) r.agreed j k x d (rest_has j k r.todo work.head d) h) keeps.each)
+      (waits_changed r.target j (with_state StopPending) s.core.nodes node (λ x. refl) work.at (λ e. let z = work.state in cc) keeps.waits))
+      (row node.path node.state Started StopPending Minor.QueryStop false work.state query_stop)
+  lawful_rebalance stage m keeps (RebalanceStep.refuses node w e bad) =
+      let work = at_work s r node Started alone runs e.first keeps.rootless (λ here at. head_started r.todo r.agreed node.serial node.state here (keeps.each node.serial node at)) good in
+      let j = node.serial in
+      walked s _ _ node r.todo (Operation.Rebalancing r) _ Started node.state work refl refl refl refl (λ e. cc) (λ e. let z = work.state in cc)
+      (record {
+        todo = keeps.todo;
+        agreed = keeps.agreed;
+        rootless = keeps.rootless;
+        no_root = keeps.no_root;
+        asks = keeps.asks;
+        each =
+            Each_changed (asking_state r.todo r.agreed) (asking_state r.todo r.agreed) j (with_state node.state) s.core.nodes node (λ x. refl) work.at
+            (keeps.each j node work.at) (λ k x d h. h) keeps.each;
+        waits = waits_changed r.target j (with_state node.state) s.core.nodes node (λ x. refl) work.at (λ e. let z = work.state in cc) keeps.waits;
+      })
+      (inl refl)
+  lawful_rebalance stage m keeps (RebalanceStep.takes_back node w e) =
+      let work = at_work s r node Started alone runs e.first keeps.rootless (λ here at. head_started r.todo r.agreed node.serial node.state here (keeps.each node.serial node at)) good in
+      let j = node.serial in
+      let more = those (is_not_above s.core.nodes j) (rest r.todo) in
+      let not_more = those_not (is_not_above s.core.nodes j) (rest r.todo) j (rest_not j r.todo work.head keeps.todo) in
+      let within : (k : ℕ) → has more k ≡ true → has r.todo k ≡ true = λ k h. rest_within k r.todo (those_has (is_not_above s.core.nodes j) (rest r.todo) k h).0 in
+      walked s _ _ node r.todo (Operation.Rebalancing r) _ Started Started work refl refl refl refl (λ e. cc) (λ e. cc)
+      (fits_ask_on r more (changed_first (is_node j) (with_state Started) s.core.nodes)
+      (those_distinct (is_not_above s.core.nodes j) (rest r.todo) (rest_distinct r.todo keeps.todo))
+      keeps.agreed
+      (those_not (is_not_above s.core.nodes j) (rest r.todo) 0 (rest_rootless r.todo keeps.rootless))
+      keeps.no_root
+      (λ k h. keeps.asks k (within k h))
+      (Each_changed (asking_state r.todo r.agreed) (asking_state more r.agreed) j (with_state Started) s.core.nodes node (λ x. refl) work.at
+      (back_here r.todo r.agreed more j (head_has j r.todo work.head) not_more keeps.asks)
+      (λ k x d h. fewer_asked r.todo more r.agreed k x (within k) (keeps.asks k) h) keeps.each)
+      (waits_changed r.target j (with_state Started) s.core.nodes node (λ x. refl) work.at (λ e. let z = work.state in cc) keeps.waits))
+      (row node.path node.state Started Started Minor.CancelStop false work.state cancel_stop_refused)
+  lawful_rebalance stage m keeps (RebalanceStep.searches found budget answer) = re_searched found keeps
+  lawful_rebalance stage m keeps (RebalanceStep.cancels node w e) =
+      let work = at_work s r node StopPending alone runs e.first keeps.rootless (λ here at. head_pending r.todo node.serial node.state here (keeps.each node.serial node at)) good in
+      let j = node.serial in
+      walked s _ _ node r.todo (Operation.Rebalancing r) _ StopPending Started work refl refl refl refl (λ e. cc) (λ e. cc)
+      (fits_cancel_on r (rest r.todo) (changed_first (is_node j) (with_state Started) s.core.nodes)
+      (rest_distinct r.todo keeps.todo) keeps.agreed (rest_rootless r.todo keeps.rootless) keeps.no_root
+      (Each_changed (pending_state r.todo) (pending_state (rest r.todo)) j (with_state Started) s.core.nodes node (λ x. refl) work.at
+      (calm_pending (rest r.todo) j (rest_not j r.todo work.head keeps.todo))
+      (λ k x d h. rest_pending r.todo k x (rest_has j k r.todo work.head d) h) keeps.each)
+      (waits_changed r.target j (with_state Started) s.core.nodes node (λ x. refl) work.at (λ e. let z = work.state in cc) keeps.waits))
+      (row node.path node.state StopPending Started Minor.CancelStop false work.state cancel_stop)
+  lawful_rebalance stage m keeps RebalanceStep.sticks =
+      let node = keeps.waits.0 in
+      let own = own_serial r.target node s.core.nodes keeps.waits.1 in
+      let at = found_self r.target s.core.nodes node keeps.waits.1 in
+      let f = with_problem (Some (trouble_of r.found)) in
+      lawful_walked s _ (Label.Trouble r.path (trouble_of r.found)) f node (Operation.Rebalancing r) (Operation.Rebalancing (record r { stage = Ending })) refl
+      (ap (λ (i : ℕ). changed_first (is_node i) f s.core.nodes) (sym own)) alone refl (λ x. refl) at (good.stacks node.serial node at)
+      (record {
+        todo = keeps.todo;
+        agreed = keeps.agreed;
+        rootless = keeps.rootless;
+        no_root = keeps.no_root;
+        asks = tt;
+        each = problem_each (λ k x. is_calm x) node.serial (Some (trouble_of r.found)) s.core.nodes node at keeps.each;
+        waits = problem_waits r.target node.serial (Some (trouble_of r.found)) s.core.nodes keeps.waits;
+      })
+      refl good
+  lawful_rebalance stage m keeps (RebalanceStep.stops node w e) =
+      let work = at_work s r node StopPending alone runs e.first keeps.rootless (λ here at. head_stopping r.todo r.agreed node.serial node.state here (keeps.each node.serial node at)) good in
+      let j = node.serial in
+      walked s _ _ node r.todo (Operation.Rebalancing r) _ StopPending Stopped work refl refl refl refl (λ e. cc) (λ e. cc)
+      (fits_stop_on r (rest r.todo) (changed_first (is_node j) (with_state Stopped) s.core.nodes)
+      (rest_distinct r.todo keeps.todo) keeps.agreed (rest_rootless r.todo keeps.rootless) keeps.no_root
+      (λ k h. keeps.asks k (rest_within k r.todo h))
+      (Each_changed (stopping_state r.todo r.agreed) (stopping_state (rest r.todo) r.agreed) j (with_state Stopped) s.core.nodes node (λ x. refl) work.at
+      (stop_here (rest r.todo) r.agreed j (rest_not j r.todo work.head keeps.todo) (keeps.asks j (head_has j r.todo work.head)))
+      (λ k x d h. rest_stopping r.todo r.agreed k x (rest_has j k r.todo work.head d) h) keeps.each)
+      (waits_changed r.target j (with_state Stopped) s.core.nodes node (λ x. refl) work.at (λ e. let z = work.state in cc) keeps.waits))
+      (row node.path node.state StopPending Stopped Minor.Stop false work.state stop)
+  lawful_rebalance stage m keeps RebalanceStep.commits =
+      let f = committed (movers r) (plan_of r.found) in
+      let fits = fits_restart_on s.core.nodes r r.agreed (map f s.core.nodes) keeps.agreed keeps.agreed keeps.no_root keeps.no_root
+      (Each_mapped (stopped_state r.agreed) (stopped_state r.agreed) f s.core.nodes (λ x. refl) (λ x. refl) (λ k x h. h) keeps.each)
+      (waits_mapped r.target f s.core.nodes (λ x. refl) (λ x. refl) keeps.waits) in
+      lawful_by s _ (Label.Commit (length (movers r))) s.next_serial (map f s.core.nodes) [] (Some (Operation.Rebalancing (restart_on s.core.nodes r r.agreed))) refl refl alone refl
+      (Good_mapped s.next_serial f s.core.nodes (Some (Operation.Rebalancing r)) (Some (Operation.Rebalancing (restart_on s.core.nodes r r.agreed))) (λ x. refl) (λ x. refl) (λ x. refl) fits refl good)
+      (diagram_mapped (Label.Commit (length (movers r))) f s.core.nodes (λ x. refl) (λ x. refl))
+  lawful_rebalance stage m keeps (RebalanceStep.restarts node w e ok) =
+      let work = at_work s r node Stopped alone runs e.first keeps.rootless (λ here at. head_stopped r.todo node.serial node.state here (keeps.each node.serial node at)) good in
+      let j = node.serial in
+      let nodes = changed_first (is_node j) (with_state Started) s.core.nodes in
+      walked s _ _ node r.todo (Operation.Rebalancing r) _ Stopped Started work refl refl refl refl (λ e. cc) (λ e. cc)
+      (fits_restart_on nodes r (rest r.todo) nodes
+      (rest_distinct r.todo keeps.todo) keeps.agreed (rest_rootless r.todo keeps.rootless) keeps.no_root
+      (Each_changed (stopped_state r.todo) (stopped_state (rest r.todo)) j (with_state Started) s.core.nodes node (λ x. refl) work.at
+      (calm_stopped (rest r.todo) j Started (rest_not j r.todo work.head keeps.todo) refl)
+      (λ k x d h. rest_stopped r.todo k x (rest_has j k r.todo work.head d) h) keeps.each)
+      (waits_changed r.target j (with_state Started) s.core.nodes node (λ x. refl) work.at (λ e. let z = work.state in cc) keeps.waits))
+      (row node.path node.state Stopped Started Minor.Start false work.state restart)
+  lawful_rebalance stage m keeps (RebalanceStep.fails node w e bad) =
+      let work = at_work s r node Stopped alone runs e.first keeps.rootless (λ here at. head_stopped r.todo node.serial node.state here (keeps.each node.serial node at)) good in
+      let j = node.serial in
+      walked s _ _ node r.todo (Operation.Rebalancing r) _ Stopped node.state work refl refl refl refl (λ e. cc) (λ e. let z = work.state in cc)
+      (record {
+        todo = keeps.todo;
+        agreed = keeps.agreed;
+        rootless = keeps.rootless;
+        no_root = keeps.no_root;
+        asks = tt;
+        each =
+            Each_changed (stopped_state r.todo) (stopped_state r.todo) j (with_state node.state) s.core.nodes node (λ x. refl) work.at
+            (keeps.each j node work.at) (λ k x d h. h) keeps.each;
+        waits = waits_changed r.target j (with_state node.state) s.core.nodes node (λ x. refl) work.at (λ e. let z = work.state in cc) keeps.waits;
+      })
+      (inl refl)
+  lawful_rebalance stage m keeps (RebalanceStep.failed node first) =
+      let work = at_work s r node Stopped alone runs first keeps.rootless (λ here at. head_stopped r.todo node.serial node.state here (keeps.each node.serial node at)) good in
+      let j = node.serial in
+      let nodes = changed_first (is_node j) (with_problem (Some Problem.FailedStart)) s.core.nodes in
+      lawful_walked s _ (Label.Trouble node.path Problem.FailedStart) (with_problem (Some Problem.FailedStart)) node (Operation.Rebalancing r) _ refl
+      refl work.alone refl (λ x. refl) work.at (work.good.stacks j node work.at)
+      (fits_restart_on s.core.nodes r (rest r.todo) nodes
+      (rest_distinct r.todo keeps.todo) keeps.agreed (rest_rootless r.todo keeps.rootless) keeps.no_root
+      (Each_changed (stopped_state r.todo) (stopped_state (rest r.todo)) j (with_problem (Some Problem.FailedStart)) s.core.nodes node (λ x. refl) work.at
+      (calm_stopped (rest r.todo) j node.state (rest_not j r.todo work.head keeps.todo) (ap is_calm work.state))
+      (λ k x d h. rest_stopped r.todo k x (rest_has j k r.todo work.head d) h) keeps.each)
+      (problem_waits r.target j (Some Problem.FailedStart) s.core.nodes keeps.waits))
+      refl work.good
+  lawful_rebalance stage m keeps RebalanceStep.closes = re_closes r.found (Label.End OpKind.Rebalance r.path (end_of r.found)) keeps
 
 -- The begin ---------------------------------------------------------------------------
 

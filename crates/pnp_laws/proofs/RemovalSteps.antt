@@ -4,16 +4,14 @@ use Rattle.std.proofs.lemmas.Bool.{cases_eq}
 use Rattle.std.proofs.lemmas.Bool.Decides.{nat_tests}
 use Rattle.std.specs.Option.{option_map}
 use Rattle.pnp_model.specs.Keyed.{changed_first, without_first, those}
-use Rattle.pnp_model.specs.Records.{Node, State, Operation, Removal, RemovalStage, Walk}
-use Rattle.pnp_model.specs.Records.Doing.{Does}
+use Rattle.pnp_model.specs.Records.{Node, State, Operation, Removal, RemovalStage}
 use Rattle.pnp_model.specs.Records.RemovalStage.{Asking, TakingBack, Cancelling, Removing, Settling, Ending}
-use Rattle.pnp_model.specs.Cores.{is_node, node_at, with_state, with_problem, bare, stack_of}
-use Rattle.pnp_model.specs.Walks.{is_bad}
-use Rattle.pnp_model.specs.Tests.{has, is_started, is_eject}
+use Rattle.pnp_model.specs.Cores.{drop_node, is_node, node_at, with_state, with_problem, bare, stack_of}
+use Rattle.pnp_model.specs.Tests.{has, is_started}
 use Rattle.pnp_model.specs.Trees.{is_up}
 use Rattle.pnp_model.specs.States.{unplug, set_operation, with_core}
 use Rattle.pnp_model.specs.Frames.{first_node, rest}
-use Rattle.pnp_model.specs.Removals.{ejecting, RemoveBeside, finish_with, finish_on, ask_on, cancel_on, begun_with, end_ask, ask_step, take_back, cancel_step, remove_step, leaves, settle_related, settle_target, settle_outer, settle, removal_step}
+use Rattle.pnp_model.specs.Removals.{RemovalMove, ejecting, finish_with, finish_on, ask_on, cancel_on, begun_with}
 use Rattle.pnp_model.specs.Machine.{removal_lifted}
 use Rattle.pnp_laws.specs.Kept.{Good, Lawful, Each, HasStackOf, OperationFits, Distinct, Apart, Within, RemovalKeeps, Ascending, querying_state, refusing_state, restoring_state, finishing_state, settling_state, removing_state, is_calm, is_idle, is_stopped}
 use Rattle.pnp_model.specs.Diagram.{Change, Row}
@@ -26,9 +24,10 @@ use Rattle.pnp_labels.specs.declared.label.OpKind.{OpKind}
 use Rattle.pnp_labels.specs.declared.states.DevState.TheVariants.{NoStack, NotStarted, Started, StopPending, Stopped, RemovePending, SurpriseRemoved}
 use Rattle.pnp_laws.proofs.Lookups.{node_from, left_from}
 use Rattle.pnp_laws.proofs.Diagrams.{Each_changed, Each_same, Each_left, diagram_left}
-use Rattle.pnp_laws.proofs.Kept.{lawful_by, Good_left, LawfulNext}
+use Rattle.pnp_laws.proofs.Kept.{lawful_by, Good_left}
 use Rattle.pnp_laws.proofs.Lists.{HeadIs, head_found, head_has, rest_has, rest_not, rest_distinct, rest_within, those_has, those_keeps, those_distinct}
 use Rattle.pnp_laws.proofs.OpSteps.{lawful_walked, lawful_still, lawful_close, up_stack, is_Started, is_RemovePending, started_calm}
+use Rattle.pnp_laws.proofs.Stages.{RemovalStep}
 use Rattle.pnp_laws.proofs.StartSteps.{idle_calm}
 use Rattle.pnp_laws.proofs.Finishing.{StacksFit, settle_each, remove_each, head_stripped, head_bare, stripped_here, stripped_there, settled_there, calm_here, stack_kept, stack_left, strips, relist_only}
 
@@ -140,104 +139,6 @@ walked s t label node o p x y w e up a b c d xn yn fits change =
     lawful_walked s t label (with_state y) node (Operation.Removing o) p a b (c ∙ w.alone) d (λ x. refl) w.at stack
     (fits (stacks_changed node.serial y node s.core.nodes w.good.stacks w.at stack)) change w.good
 
--- The steps ----------------------------------------------------------------------------
-
-lawful_end_ask : (s : State) (o : Removal) (node : Node) (w : Walk) (bad : Bool) → RemovalKeeps o (Asking w) s.core.nodes → AtWork s node o → Lawful s (removal_lifted s (end_ask s.core o node bad))
-lawful_end_ask s o node w false keeps work =
-    let j = node.serial in
-    let here = head_has j o.todo work.head in
-    let state = head_querying o.todo o.agreed o.set j node.state here (keeps.each j node work.at) in
-    let not_rest = rest_not j o.todo work.head keeps.todo in
-    walked s _ _ node o _ Started RemovePending work state (not_root o.set o.todo j keeps.rootless keeps.asks.2 here) refl refl refl refl (λ e. cc) (λ e. cc)
-    (λ stacks. fits_ask_on s.core.nodes (record o { agreed = j ∷ o.agreed }) (rest o.todo) (changed_first (is_node j) (with_state RemovePending) s.core.nodes)
-    (λ k. stack_kept j k (with_state RemovePending) s.core.nodes (λ x. refl) (λ x. refl))
-    keeps.set keeps.rootless
-    (rest_distinct o.todo keeps.todo)
-    (keeps.asks.0 j here, keeps.agreed)
-    (asked_apart o.todo (rest o.todo) o.agreed j not_rest (λ k h. rest_within k o.todo h) keeps.asks.0)
-    (asked_within o.agreed o.set j (keeps.asks.2 j here) keeps.asks.1)
-    (λ k h. keeps.asks.2 k (rest_within k o.todo h))
-    stacks
-    (Each_changed (querying_state o.todo o.agreed o.set) (querying_state (rest o.todo) (j ∷ o.agreed) o.set) j (with_state RemovePending) s.core.nodes node (λ x. refl) work.at
-    (asked_here (rest o.todo) o.agreed o.set j not_rest)
-    (λ k x d h. asked_there o.todo (rest o.todo) o.agreed o.set j k x d (rest_has j k o.todo work.head d) h) keeps.each))
-    (row node.path node.state Started RemovePending Minor.QueryRemove false state query_remove)
-lawful_end_ask s o node w true keeps work =
-    let j = node.serial in
-    let here = head_has j o.todo work.head in
-    let state = head_querying o.todo o.agreed o.set j node.state here (keeps.each j node work.at) in
-    walked s _ _ node o _ Started node.state work state (not_root o.set o.todo j keeps.rootless keeps.asks.2 here) refl refl refl refl (λ e. cc) (λ e. let z = state in cc)
-    (λ stacks. record {
-      set = keeps.set;
-      rootless = keeps.rootless;
-      todo = keeps.todo;
-      agreed = keeps.agreed;
-      asks = keeps.asks;
-      each =
-          Each_changed (querying_state o.todo o.agreed o.set) (refusing_state o.todo o.agreed) j (with_state node.state) s.core.nodes node (λ x. refl) work.at
-          (refused_state o.todo o.agreed o.set j node.state (keeps.each j node work.at)) (λ k x d h. refused_state o.todo o.agreed o.set k x h) keeps.each;
-    })
-    (inl refl)
-
-lawful_ask_step : (s : State) (o : Removal) (node : Node) (w : Walk) (ends : Bool) → RemovalKeeps o (Asking w) s.core.nodes → AtWork s node o → Lawful s (removal_lifted s (ask_step s.core o node w ends))
-lawful_ask_step s o node w true keeps work = lawful_end_ask s o node w (is_bad w) keeps work
-lawful_ask_step s o node w false keeps work =
-    lawful_still s _ _ (Operation.Removing o) _ refl refl work.alone refl
-    (record { set = keeps.set; rootless = keeps.rootless; todo = keeps.todo; agreed = keeps.agreed; asks = keeps.asks; each = keeps.each }) work.good
-
-lawful_take_back : (s : State) (o : Removal) (node : Node) (w : Walk) (ends : Bool) → RemovalKeeps o (TakingBack w) s.core.nodes → AtWork s node o → Lawful s (removal_lifted s (take_back s.core o node w ends))
-lawful_take_back s o node w true keeps work =
-    let j = node.serial in
-    let here = head_has j o.todo work.head in
-    let state = head_refusing o.todo o.agreed j node.state here (keeps.each j node work.at) in
-    walked s _ _ node o _ Started Started work state (not_root o.set o.todo j keeps.rootless keeps.asks.2 here) refl refl refl refl (λ e. cc) (λ e. cc)
-    (λ stacks. fits_cancel_on o o.agreed (changed_first (is_node j) (with_state Started) s.core.nodes) keeps.set keeps.rootless keeps.agreed keeps.agreed keeps.asks.1
-    (Each_changed (refusing_state o.todo o.agreed) (restoring_state o.agreed) j (with_state Started) s.core.nodes node (λ x. refl) work.at
-    (back_here o.todo o.agreed j here (keeps.asks.0 j))
-    (λ k x d h. back_there o.todo o.agreed k x (keeps.asks.0 k) h) keeps.each))
-    (row node.path node.state Started Started Minor.CancelRemove false state cancel_remove_refused)
-lawful_take_back s o node w false keeps work =
-    lawful_still s _ _ (Operation.Removing o) _ refl refl work.alone refl
-    (record { set = keeps.set; rootless = keeps.rootless; todo = keeps.todo; agreed = keeps.agreed; asks = keeps.asks; each = keeps.each }) work.good
-
-lawful_cancel : (s : State) (o : Removal) (node : Node) (w : Walk) (ends : Bool) → RemovalKeeps o (Cancelling w) s.core.nodes → AtWork s node o → Lawful s (removal_lifted s (cancel_step s.core o node w ends))
-lawful_cancel s o node w true keeps work =
-    let j = node.serial in
-    let here = head_has j o.todo work.head in
-    let state = head_restoring o.todo j node.state here (keeps.each j node work.at) in
-    walked s _ _ node o _ RemovePending Started work state (not_root o.set o.todo j keeps.rootless keeps.asks here) refl refl refl refl (λ e. cc) (λ e. cc)
-    (λ stacks. fits_cancel_on o (rest o.todo) (changed_first (is_node j) (with_state Started) s.core.nodes) keeps.set keeps.rootless (rest_distinct o.todo keeps.todo) keeps.agreed
-    (λ k h. keeps.asks k (rest_within k o.todo h))
-    (Each_changed (restoring_state o.todo) (restoring_state (rest o.todo)) j (with_state Started) s.core.nodes node (λ x. refl) work.at
-    (calm_restoring (rest o.todo) j (rest_not j o.todo work.head keeps.todo))
-    (λ k x d h. rest_restoring o.todo k x (rest_has j k o.todo work.head d) h) keeps.each))
-    (row node.path node.state RemovePending Started Minor.CancelRemove false state cancel_remove)
-lawful_cancel s o node w false keeps work =
-    lawful_still s _ _ (Operation.Removing o) _ refl refl work.alone refl
-    (record { set = keeps.set; rootless = keeps.rootless; todo = keeps.todo; agreed = keeps.agreed; asks = keeps.asks; each = keeps.each }) work.good
-
-lawful_remove : (s : State) (o : Removal) (node : Node) (w : Walk) (ends : Bool) → RemovalKeeps o (Removing w) s.core.nodes → AtWork s node o → Lawful s (removal_lifted s (remove_step s.core o node w ends))
-lawful_remove s o node w true keeps work =
-    let j = node.serial in
-    let up = not_root o.set o.todo j keeps.rootless keeps.asks (head_has j o.todo work.head) in
-    lawful_walked s _ (Label.State node.path NoStack) bare node (Operation.Removing o) _ refl refl work.alone refl (λ x. refl) work.at
-    (record { none = λ h. refl; some = λ d h. refl; root = λ z. absurd (up z) })
-    (record {
-      set = keeps.set;
-      rootless = keeps.rootless;
-      todo = keeps.todo;
-      agreed = keeps.agreed;
-      asks = keeps.asks;
-      each =
-          Each_changed (removing_state o.todo) (settling_state o.todo) j bare s.core.nodes node (λ x. refl) work.at (stripped_here o.todo j work.head)
-          (λ k x d h. stripped_there o.todo j k x work.head d h) keeps.each;
-    })
-    (inr (refl, (Minor.Remove, false, strips node.state (head_stripped o.todo j node.state work.head (keeps.each j node work.at)))))
-    work.good
-lawful_remove s o node w false keeps work =
-    lawful_still s _ _ (Operation.Removing o) _ refl refl work.alone refl
-    (record { set = keeps.set; rootless = keeps.rootless; todo = keeps.todo; agreed = keeps.agreed; asks = keeps.asks; each = keeps.each }) work.good
-
 pub stacks_problem : (j : ℕ) (problem : Option Problem) (nodes : List Node) → StacksFit nodes → StacksFit (changed_first (is_node j) (with_problem problem) nodes)
 stacks_problem j problem nodes stacks k m g =
     elim (node_from j k (with_problem problem) nodes m (λ x. refl) g) [
@@ -245,80 +146,139 @@ stacks_problem j problem nodes stacks k m g =
       | inr (d, q) ↦ stacks k m q
     ]
 
--- the device remains, with a problem
-lawful_remains : (s t : State) (o : Removal) (node : Node) (problem : Problem) → t.next_serial ≡ s.next_serial → t.core.nodes ≡ changed_first (is_node node.serial) (with_problem (Some problem)) s.core.nodes → t.activities ≡ s.activities →
-    t.operation ≡ Some (Operation.Removing (finish_on s.core.nodes o (rest o.todo))) → RemovalKeeps o Settling s.core.nodes → AtWork s node o → Lawful s (record { label = Label.Trouble node.path problem; state = t })
-lawful_remains s t o node problem a b c d keeps work =
-    let j = node.serial in
-    let f = with_problem (Some problem) in
-    let state = head_bare o.todo j node.state work.head (keeps.each j node work.at) in
-    lawful_walked s t (Label.Trouble node.path problem) f node (Operation.Removing o) _ a b (c ∙ work.alone) d (λ x. refl) work.at (work.good.stacks j node work.at)
-    (fits_finish_on s.core.nodes o (rest o.todo) (changed_first (is_node j) f s.core.nodes)
-    (λ k h. stack_kept j k f s.core.nodes (λ x. refl) (λ x. refl)) keeps.set keeps.rootless (rest_distinct o.todo keeps.todo) keeps.agreed
-    (λ k h. keeps.asks k (rest_within k o.todo h))
-    (stacks_problem j (Some problem) s.core.nodes work.good.stacks)
-    (Each_changed (settling_state o.todo) (finishing_state (rest o.todo)) j f s.core.nodes node (λ x. refl) work.at
-    (subst (λ (x : DevState). finishing_state (rest o.todo) j x ≡ true) (sym state) (calm_here (rest o.todo) j (rest_not j o.todo work.head keeps.todo)))
-    (λ k x d h. settled_there o.todo j k x work.head d h) keeps.each))
-    refl work.good
-
 pub stacks_left : (j : ℕ) (nodes : List Node) → Ascending 0 nodes → StacksFit nodes → StacksFit (without_first (is_node j) nodes)
 stacks_left j nodes order stacks k m g = stacks k m (left_from j k nodes m order g).1
-
--- the device leaves
-lawful_leaves : (s t : State) (o : Removal) (node : Node) (label : Label) → t.next_serial ≡ s.next_serial → t.core.nodes ≡ without_first (is_node node.serial) s.core.nodes → t.activities ≡ s.activities →
-    t.operation ≡ Some (Operation.Removing (finish_on s.core.nodes o (rest o.todo))) → RemovalKeeps o Settling s.core.nodes → AtWork s node o → Lawful s (record { label = label; state = t })
-lawful_leaves s t o node label a b c d keeps work =
-    let j = node.serial in
-    let nodes = without_first (is_node j) s.core.nodes in
-    let state = head_bare o.todo j node.state work.head (keeps.each j node work.at) in
-    let not_rest = rest_not j o.todo work.head keeps.todo in
-    lawful_by s t label s.next_serial nodes [] (Some (Operation.Removing (finish_on s.core.nodes o (rest o.todo)))) a b (c ∙ work.alone) d
-    (Good_left s.next_serial j s.core.nodes (Some (Operation.Removing o)) _
-    (fits_finish_on s.core.nodes o (rest o.todo) nodes
-    (λ k h. stack_left j k s.core.nodes (λ e. let z = subst (λ (i : ℕ). has (rest o.todo) i ≡ false) e not_rest in cc))
-    keeps.set keeps.rootless (rest_distinct o.todo keeps.todo) keeps.agreed
-    (λ k h. keeps.asks k (rest_within k o.todo h))
-    (stacks_left j s.core.nodes work.good.serials work.good.stacks)
-    (Each_left (settling_state o.todo) (finishing_state (rest o.todo)) j s.core.nodes work.good.serials (λ k x d h. settled_there o.todo j k x work.head d h) keeps.each))
-    refl work.good)
-    (diagram_left label j s.core.nodes node work.good.serials work.at state)
-
-lawful_related : (s : State) (o : Removal) (node : Node) (b : Bool) → RemovalKeeps o Settling s.core.nodes → AtWork s node o → Lawful s (removal_lifted s (settle_related s.core o node b))
-lawful_related s o node true keeps work = lawful_remains s _ o node Problem.HeldForEject refl refl refl refl keeps work
-lawful_related s o node false keeps work = lawful_remains s _ o node Problem.Held refl refl refl refl keeps work
-
-lawful_target : (s : State) (o : Removal) (node : Node) (b : Bool) → RemovalKeeps o Settling s.core.nodes → AtWork s node o → Lawful s (removal_lifted s (settle_target s.core o node b))
-lawful_target s o node true keeps work =
-    let m = leaves s.core o node (Label.Ejected node.path) (RemoveBeside.Ejected node.path node.born) in
-    let only = relist_only node.path node.born (unplug node.born (set_operation (Some (Operation.Removing m.frame)) (with_core m.core s))) in
-    lawful_leaves s _ o node (Label.Ejected node.path) only.serial only.nodes only.activities only.operation keeps work
-lawful_target s o node false keeps work = lawful_remains s _ o node Problem.Disabled refl refl refl refl keeps work
-
-lawful_outer : (s : State) (o : Removal) (node : Node) (b : Bool) → RemovalKeeps o Settling s.core.nodes → AtWork s node o → Lawful s (removal_lifted s (settle_outer s.core o node b))
-lawful_outer s o node true keeps work = lawful_target s o node (is_eject o.kind) keeps work
-lawful_outer s o node false keeps work = lawful_related s o node _ keeps work
-
-lawful_settle : (s : State) (o : Removal) (node : Node) (b : Bool) → RemovalKeeps o Settling s.core.nodes → AtWork s node o → Lawful s (removal_lifted s (settle s.core o node b))
-lawful_settle s o node true keeps work =
-    let m = leaves s.core o node (Label.Leave node.path) (RemoveBeside.Left node.path node.born) in
-    let only = relist_only node.path node.born (set_operation (Some (Operation.Removing m.frame)) (with_core m.core s)) in
-    lawful_leaves s _ o node (Label.Leave node.path) only.serial only.nodes only.activities only.operation keeps work
-lawful_settle s o node false keeps work = lawful_outer s o node _ keeps work
 
 at_work : (s : State) (o : Removal) (node : Node) → s.activities ≡ [] → first_node s.core.nodes o.todo ≡ Some node → Good s.next_serial s.core.nodes [] (Some (Operation.Removing o)) → AtWork s node o
 at_work s o node alone first good = let h = head_found s.core.nodes o.todo node first in record { alone = alone; head = h.0; at = h.1; good = good }
 
-pub lawful_removal : (s : State) (o : Removal) (stage : RemovalStage) (n : Option Node) → first_node s.core.nodes o.todo ≡ n → s.activities ≡ [] →
-    RemovalKeeps o stage s.core.nodes → Good s.next_serial s.core.nodes [] (Some (Operation.Removing o)) →
-    LawfulNext s (option_map (λ m. Does (removal_lifted s m)) (removal_step s.core o stage n))
-lawful_removal s o Ending n first alone keeps good = lawful_close s _ _ (Operation.Removing o) refl refl alone refl keeps.each good
-lawful_removal s o (Asking w) (Some node) first alone keeps good = lawful_ask_step s o node w _ keeps (at_work s o node alone first good)
-lawful_removal s o (TakingBack w) (Some node) first alone keeps good = lawful_take_back s o node w _ keeps (at_work s o node alone first good)
-lawful_removal s o (Cancelling w) (Some node) first alone keeps good = lawful_cancel s o node w _ keeps (at_work s o node alone first good)
-lawful_removal s o (Removing w) (Some node) first alone keeps good = lawful_remove s o node w _ keeps (at_work s o node alone first good)
-lawful_removal s o Settling (Some node) first alone keeps good = lawful_settle s o node _ keeps (at_work s o node alone first good)
-lawful_removal s o _ None first alone keeps good = tt
+-- The steps ----------------------------------------------------------------------------
+
+module _ (s : State) (o : Removal) (alone : s.activities ≡ []) (good : Good s.next_serial s.core.nodes [] (Some (Operation.Removing o))) where
+  -- the device remains, with a problem
+  rm_remains : (t : State) (node : Node) (problem : Problem) → t.next_serial ≡ s.next_serial → t.core.nodes ≡ changed_first (is_node node.serial) (with_problem (Some problem)) s.core.nodes → t.activities ≡ s.activities →
+      t.operation ≡ Some (Operation.Removing (finish_on s.core.nodes o (rest o.todo))) → RemovalKeeps o Settling s.core.nodes → AtWork s node o → Lawful s (record { label = Label.Trouble node.path problem; state = t })
+  rm_remains t node problem a b c d keeps work =
+      let j = node.serial in
+      let f = with_problem (Some problem) in
+      let state = head_bare o.todo j node.state work.head (keeps.each j node work.at) in
+      lawful_walked s t (Label.Trouble node.path problem) f node (Operation.Removing o) _ a b (c ∙ work.alone) d (λ x. refl) work.at (work.good.stacks j node work.at)
+      (fits_finish_on s.core.nodes o (rest o.todo) (changed_first (is_node j) f s.core.nodes)
+      (λ k h. stack_kept j k f s.core.nodes (λ x. refl) (λ x. refl)) keeps.set keeps.rootless (rest_distinct o.todo keeps.todo) keeps.agreed
+      (λ k h. keeps.asks k (rest_within k o.todo h))
+      (stacks_problem j (Some problem) s.core.nodes work.good.stacks)
+      (Each_changed (settling_state o.todo) (finishing_state (rest o.todo)) j f s.core.nodes node (λ x. refl) work.at
+      (subst (λ (x : DevState). finishing_state (rest o.todo) j x ≡ true) (sym state) (calm_here (rest o.todo) j (rest_not j o.todo work.head keeps.todo)))
+      (λ k x d h. settled_there o.todo j k x work.head d h) keeps.each))
+      refl work.good
+
+  -- the device leaves
+  rm_leaves : (t : State) (node : Node) (label : Label) → t.next_serial ≡ s.next_serial → t.core.nodes ≡ without_first (is_node node.serial) s.core.nodes → t.activities ≡ s.activities →
+      t.operation ≡ Some (Operation.Removing (finish_on s.core.nodes o (rest o.todo))) → RemovalKeeps o Settling s.core.nodes → AtWork s node o → Lawful s (record { label = label; state = t })
+  rm_leaves t node label a b c d keeps work =
+      let j = node.serial in
+      let nodes = without_first (is_node j) s.core.nodes in
+      let state = head_bare o.todo j node.state work.head (keeps.each j node work.at) in
+      let not_rest = rest_not j o.todo work.head keeps.todo in
+      lawful_by s t label s.next_serial nodes [] (Some (Operation.Removing (finish_on s.core.nodes o (rest o.todo)))) a b (c ∙ work.alone) d
+      (Good_left s.next_serial j s.core.nodes (Some (Operation.Removing o)) _
+      (fits_finish_on s.core.nodes o (rest o.todo) nodes
+      (λ k h. stack_left j k s.core.nodes (λ e. let z = subst (λ (i : ℕ). has (rest o.todo) i ≡ false) e not_rest in cc))
+      keeps.set keeps.rootless (rest_distinct o.todo keeps.todo) keeps.agreed
+      (λ k h. keeps.asks k (rest_within k o.todo h))
+      (stacks_left j s.core.nodes work.good.serials work.good.stacks)
+      (Each_left (settling_state o.todo) (finishing_state (rest o.todo)) j s.core.nodes work.good.serials (λ k x d h. settled_there o.todo j k x work.head d h) keeps.each))
+      refl work.good)
+      (diagram_left label j s.core.nodes node work.good.serials work.at state)
+
+  pub lawful_removal : (stage : RemovalStage) (m : RemovalMove) → RemovalKeeps o stage s.core.nodes → RemovalStep s.core o stage m → Lawful s (removal_lifted s m)
+  lawful_removal stage m keeps (RemovalStep.agrees node w e ok) =
+      let work = at_work s o node alone e.first good in
+      let j = node.serial in
+      let here = head_has j o.todo work.head in
+      let state = head_querying o.todo o.agreed o.set j node.state here (keeps.each j node work.at) in
+      let not_rest = rest_not j o.todo work.head keeps.todo in
+      walked s _ _ node o _ Started RemovePending work state (not_root o.set o.todo j keeps.rootless keeps.asks.2 here) refl refl refl refl (λ e. cc) (λ e. cc)
+      (λ stacks. fits_ask_on s.core.nodes (record o { agreed = j ∷ o.agreed }) (rest o.todo) (changed_first (is_node j) (with_state RemovePending) s.core.nodes)
+      (λ k. stack_kept j k (with_state RemovePending) s.core.nodes (λ x. refl) (λ x. refl))
+      keeps.set keeps.rootless
+      (rest_distinct o.todo keeps.todo)
+      (keeps.asks.0 j here, keeps.agreed)
+      (asked_apart o.todo (rest o.todo) o.agreed j not_rest (λ k h. rest_within k o.todo h) keeps.asks.0)
+      (asked_within o.agreed o.set j (keeps.asks.2 j here) keeps.asks.1)
+      (λ k h. keeps.asks.2 k (rest_within k o.todo h))
+      stacks
+      (Each_changed (querying_state o.todo o.agreed o.set) (querying_state (rest o.todo) (j ∷ o.agreed) o.set) j (with_state RemovePending) s.core.nodes node (λ x. refl) work.at
+      (asked_here (rest o.todo) o.agreed o.set j not_rest)
+      (λ k x d h. asked_there o.todo (rest o.todo) o.agreed o.set j k x d (rest_has j k o.todo work.head d) h) keeps.each))
+      (row node.path node.state Started RemovePending Minor.QueryRemove false state query_remove)
+  lawful_removal stage m keeps (RemovalStep.refuses node w e bad) =
+      let work = at_work s o node alone e.first good in
+      let j = node.serial in
+      let here = head_has j o.todo work.head in
+      let state = head_querying o.todo o.agreed o.set j node.state here (keeps.each j node work.at) in
+      walked s _ _ node o _ Started node.state work state (not_root o.set o.todo j keeps.rootless keeps.asks.2 here) refl refl refl refl (λ e. cc) (λ e. let z = state in cc)
+      (λ stacks. record {
+        set = keeps.set;
+        rootless = keeps.rootless;
+        todo = keeps.todo;
+        agreed = keeps.agreed;
+        asks = keeps.asks;
+        each =
+            Each_changed (querying_state o.todo o.agreed o.set) (refusing_state o.todo o.agreed) j (with_state node.state) s.core.nodes node (λ x. refl) work.at
+            (refused_state o.todo o.agreed o.set j node.state (keeps.each j node work.at)) (λ k x d h. refused_state o.todo o.agreed o.set k x h) keeps.each;
+      })
+      (inl refl)
+  lawful_removal stage m keeps (RemovalStep.takes_back node w e) =
+      let work = at_work s o node alone e.first good in
+      let j = node.serial in
+      let here = head_has j o.todo work.head in
+      let state = head_refusing o.todo o.agreed j node.state here (keeps.each j node work.at) in
+      walked s _ _ node o _ Started Started work state (not_root o.set o.todo j keeps.rootless keeps.asks.2 here) refl refl refl refl (λ e. cc) (λ e. cc)
+      (λ stacks. fits_cancel_on o o.agreed (changed_first (is_node j) (with_state Started) s.core.nodes) keeps.set keeps.rootless keeps.agreed keeps.agreed keeps.asks.1
+      (Each_changed (refusing_state o.todo o.agreed) (restoring_state o.agreed) j (with_state Started) s.core.nodes node (λ x. refl) work.at
+      (back_here o.todo o.agreed j here (keeps.asks.0 j))
+      (λ k x d h. back_there o.todo o.agreed k x (keeps.asks.0 k) h) keeps.each))
+      (row node.path node.state Started Started Minor.CancelRemove false state cancel_remove_refused)
+  lawful_removal stage m keeps (RemovalStep.cancels node w e) =
+      let work = at_work s o node alone e.first good in
+      let j = node.serial in
+      let here = head_has j o.todo work.head in
+      let state = head_restoring o.todo j node.state here (keeps.each j node work.at) in
+      walked s _ _ node o _ RemovePending Started work state (not_root o.set o.todo j keeps.rootless keeps.asks here) refl refl refl refl (λ e. cc) (λ e. cc)
+      (λ stacks. fits_cancel_on o (rest o.todo) (changed_first (is_node j) (with_state Started) s.core.nodes) keeps.set keeps.rootless (rest_distinct o.todo keeps.todo) keeps.agreed
+      (λ k h. keeps.asks k (rest_within k o.todo h))
+      (Each_changed (restoring_state o.todo) (restoring_state (rest o.todo)) j (with_state Started) s.core.nodes node (λ x. refl) work.at
+      (calm_restoring (rest o.todo) j (rest_not j o.todo work.head keeps.todo))
+      (λ k x d h. rest_restoring o.todo k x (rest_has j k o.todo work.head d) h) keeps.each))
+      (row node.path node.state RemovePending Started Minor.CancelRemove false state cancel_remove)
+  lawful_removal stage m keeps (RemovalStep.removes node w e) =
+      let work = at_work s o node alone e.first good in
+      let j = node.serial in
+      let up = not_root o.set o.todo j keeps.rootless keeps.asks (head_has j o.todo work.head) in
+      lawful_walked s _ (Label.State node.path NoStack) bare node (Operation.Removing o) _ refl refl work.alone refl (λ x. refl) work.at
+      (record { none = λ h. refl; some = λ d h. refl; root = λ z. absurd (up z) })
+      (record {
+        set = keeps.set;
+        rootless = keeps.rootless;
+        todo = keeps.todo;
+        agreed = keeps.agreed;
+        asks = keeps.asks;
+        each =
+            Each_changed (removing_state o.todo) (settling_state o.todo) j bare s.core.nodes node (λ x. refl) work.at (stripped_here o.todo j work.head)
+            (λ k x d h. stripped_there o.todo j k x work.head d h) keeps.each;
+      })
+      (inr (refl, (Minor.Remove, false, strips node.state (head_stripped o.todo j node.state work.head (keeps.each j node work.at)))))
+      work.good
+  lawful_removal stage m keeps (RemovalStep.leaves node first) =
+      let only = relist_only node.path node.born (set_operation (Some (Operation.Removing (finish_on s.core.nodes o (rest o.todo)))) (with_core (drop_node node.serial s.core) s)) in
+      rm_leaves _ node (Label.Leave node.path) only.serial only.nodes only.activities only.operation keeps (at_work s o node alone first good)
+  lawful_removal stage m keeps (RemovalStep.ejects node first) =
+      let only = relist_only node.path node.born (unplug node.born (set_operation (Some (Operation.Removing (finish_on s.core.nodes o (rest o.todo)))) (with_core (drop_node node.serial s.core) s))) in
+      rm_leaves _ node (Label.Ejected node.path) only.serial only.nodes only.activities only.operation keeps (at_work s o node alone first good)
+  lawful_removal stage m keeps (RemovalStep.disables node first over) = rm_remains _ node Problem.Disabled refl refl refl refl keeps (at_work s o node alone first good)
+  lawful_removal stage m keeps (RemovalStep.remains node problem first over other) = rm_remains _ node problem refl refl refl refl keeps (at_work s o node alone first good)
+  lawful_removal stage m keeps RemovalStep.closes = lawful_close s _ _ (Operation.Removing o) refl refl alone refl keeps.each good
 
 -- The begin: no device of the set is Stopped -----------------------------------------------
 

@@ -19,7 +19,8 @@ use Rattle.pnp_laws.proofs.Measures.{coarse, rank_of, left_of, answers_of}
 use Rattle.pnp_laws.specs.Ends.{AllSteps, Settles, SettlesLaw}
 use Rattle.pnp_laws.proofs.RunsStep.{rests_or, nothing_next, doing_one}
 use Rattle.pnp_model.proofs.Determined.{one_state}
-use Rattle.pnp_laws.proofs.MeasureOps.{Lowers, LowersNext, lower_so}
+use Rattle.pnp_laws.proofs.MeasureOps.{Lowers, lower_so}
+use Rattle.pnp_laws.proofs.Passing.{AllNext, all_step}
 use Rattle.pnp_laws.proofs.MeasureStages.{falls_operation}
 use Rattle.pnp_laws.proofs.MeasureTasks.{lowers_act}
 use Rattle.pnp_laws.proofs.MeasureBegins.{lowers_list, lowers_start, lowers_begin_step}
@@ -30,16 +31,16 @@ use Rattle.pnp_model.specs.Machine as ma
 
 -- Each step but a join ---------------------------------------------------------------------------------
 
-lowers_alone : (s : State) (kind : OpKind) (k : ℕ) (acts : List Activity) → slice_get s.tasks 0 ≡ Some (record { kind = Duty.Begins kind; serial = k }) → s.operation ≡ None → LowersNext s (ma.begin_alone s kind k acts)
+lowers_alone : (s : State) (kind : OpKind) (k : ℕ) (acts : List Activity) → slice_get s.tasks 0 ≡ Some (record { kind = Duty.Begins kind; serial = k }) → s.operation ≡ None → AllNext (Lowers s) (ma.begin_alone s kind k acts)
 lowers_alone s kind k [] first none = lowers_begin_step s kind k (node_at k s.core.nodes) refl first none
 lowers_alone s kind k (a ∷ acts) first none = tt
 
-lowers_task_of : (settings : Settings) (s : State) (kind : Duty) (k : ℕ) → slice_get s.tasks 0 ≡ Some (record { kind = kind; serial = k }) → s.operation ≡ None → Kept s → LowersNext s (ma.task_of settings s kind k)
+lowers_task_of : (settings : Settings) (s : State) (kind : Duty) (k : ℕ) → slice_get s.tasks 0 ≡ Some (record { kind = kind; serial = k }) → s.operation ≡ None → Kept s → AllNext (Lowers s) (ma.task_of settings s kind k)
 lowers_task_of settings s Duty.Listing k first none kept = lowers_list s k (node_at k s.core.nodes) first none kept.good.serials
 lowers_task_of settings s Duty.Starting k first none kept = lowers_start settings s k (node_at k s.core.nodes) first none
 lowers_task_of settings s (Duty.Begins kind) k first none kept = lowers_alone s kind k s.activities first none
 
-lowers_task : (settings : Settings) (s : State) (o : Option Task) → slice_get s.tasks 0 ≡ o → s.operation ≡ None → Kept s → LowersNext s (ma.task_next settings s o)
+lowers_task : (settings : Settings) (s : State) (o : Option Task) → slice_get s.tasks 0 ≡ o → s.operation ≡ None → Kept s → AllNext (Lowers s) (ma.task_next settings s o)
 lowers_task settings s None first none kept = tt
 lowers_task settings s (Some task) first none kept = lowers_task_of settings s task.kind task.serial first none kept
 
@@ -50,22 +51,17 @@ ready_waits a h = turn (ma.is_waiting (ma.phase_walk a.phase)) h
     turn true g = absurd (cc)
     turn false g = refl
 
-lowers_activity : (s : State) (a : Activity) (o : Option Node) → node_at a.serial s.core.nodes ≡ o → activity_at a.serial s.activities ≡ Some a → ma.is_ready a ≡ true → s.operation ≡ None → LowersNext s (ma.activity_next s a o)
+lowers_activity : (s : State) (a : Activity) (o : Option Node) → node_at a.serial s.core.nodes ≡ o → activity_at a.serial s.activities ≡ Some a → ma.is_ready a ≡ true → s.operation ≡ None → AllNext (Lowers s) (ma.activity_next s a o)
 lowers_activity s a None e at ready none = tt
 lowers_activity s a (Some node) e at ready none =
     let own = own_serial a.serial node s.core.nodes e in
     lowers_act s node a.phase (ready_waits a ready)
     (record { none = none; activity = a; there = subst (λ (i : ℕ). activity_at i s.activities ≡ Some a) (sym own) at; is = refl; at = found_self a.serial s.core.nodes node e })
 
-lowers_idle_next : (settings : Settings) (s : State) (o : Option Activity) → find ma.is_ready s.activities ≡ o → s.operation ≡ None → Kept s → LowersNext s (ma.idle_next settings s o)
+lowers_idle_next : (settings : Settings) (s : State) (o : Option Activity) → find ma.is_ready s.activities ≡ o → s.operation ≡ None → Kept s → AllNext (Lowers s) (ma.idle_next settings s o)
 lowers_idle_next settings s (Some a) e none kept =
     lowers_activity s a (node_at a.serial s.core.nodes) refl (ready_found ma.is_ready 0 s.activities a kept.good.order e).1 (find_passes ma.is_ready s.activities a e) none
 lowers_idle_next settings s None e none kept = lowers_task settings s (slice_get s.tasks 0) refl none kept
-
-lowers_doing : (settings : Settings) (s : State) (o : Option (Doing Step)) (step : Step) → LowersNext s o → ma.IsStep settings o step → Lowers s step
-lowers_doing settings s None step l is = absurd is
-lowers_doing settings s (Some (Does one)) step l is = subst (λ (x : Step). Lowers s x) (sym is) l
-lowers_doing settings s (Some (Searches problem by_answer)) step l is = subst (λ (x : Step). Lowers s x) (sym is.2) (l is.0)
 
 pub lowers_step : (settings : Settings) (s : State) (step : Step) → Kept s → ma.IsStep settings (ma.next settings s) step → Lowers s step
 lowers_step settings s step kept is = by_operation s.operation refl
@@ -73,7 +69,7 @@ lowers_step settings s step kept is = by_operation s.operation refl
     by_operation : (o : Option Operation) → s.operation ≡ o → Lowers s step
     by_operation (Some o) runs = lower_so s step (falls_operation s o step runs kept.good.serials (subst (λ (x : Option Operation). StageKept x s.core) runs kept.stands.stage) (operation_step settings s o step runs is))
     by_operation None none =
-        lowers_doing settings s (ma.next_of settings s None) step (lowers_idle_next settings s (find ma.is_ready s.activities) refl none kept) (subst (λ (x : Option Operation). ma.IsStep settings (ma.next_of settings s x) step) none is)
+        all_step (Lowers s) settings (ma.next_of settings s None) step (lowers_idle_next settings s (find ma.is_ready s.activities) refl none kept) (subst (λ (x : Option Operation). ma.IsStep settings (ma.next_of settings s x) step) none is)
 
 -- Numbers that fall come to an end ----------------------------------------------------------------------
 

@@ -31,7 +31,8 @@ use Rattle.pnp_laws.proofs.TreeMoves.{tree_related}
 use Rattle.pnp_laws.proofs.Sounds.{leads_pushed, up_append, up_first, due_still}
 use Rattle.pnp_laws.proofs.Finishes.{fades_same, finishes_still}
 use Rattle.pnp_laws.proofs.SoundOps.{MoreTasks, more_same, more_pushed, op_still}
-use Rattle.pnp_laws.proofs.SoundStarts.{SoundNext, sound_act, stage_none}
+use Rattle.pnp_laws.proofs.Passing.{AllNext, all_step}
+use Rattle.pnp_laws.proofs.SoundStarts.{sound_act, stage_none}
 use Rattle.pnp_laws.proofs.SoundRebalances.{sound_rebalance}
 use Rattle.pnp_laws.proofs.SoundRemovals.{sound_removal, sound_surprise}
 use Rattle.pnp_laws.proofs.Stages.{OperationStep, asking, operation_step, reply}
@@ -97,20 +98,20 @@ completed_waiting answer nodes (Operation.Surprising o) = refl
 
 -- Steps --------------------------------------------------------------------------------------------
 
-sound_alone : (s : State) (kind : OpKind) (k : ℕ) (acts : List Activity) → slice_get s.tasks 0 ≡ Some (record { kind = Duty.Begins kind; serial = k }) → s.operation ≡ None → Good s.next_serial s.core.nodes s.activities None → Stands s → SoundNext s (ma.begin_alone s kind k acts)
+sound_alone : (s : State) (kind : OpKind) (k : ℕ) (acts : List Activity) → slice_get s.tasks 0 ≡ Some (record { kind = Duty.Begins kind; serial = k }) → s.operation ≡ None → Good s.next_serial s.core.nodes s.activities None → Stands s → AllNext (Sound s) (ma.begin_alone s kind k acts)
 sound_alone s kind k [] first none good h = sound_begin_step s kind k (node_at k s.core.nodes) refl first none good h
 sound_alone s kind k (a ∷ acts) first none good h = tt
 
-sound_task_of : (settings : Settings) (s : State) (kind : Duty) (k : ℕ) → slice_get s.tasks 0 ≡ Some (record { kind = kind; serial = k }) → s.operation ≡ None → Good s.next_serial s.core.nodes s.activities None → Stands s → SoundNext s (ma.task_of settings s kind k)
+sound_task_of : (settings : Settings) (s : State) (kind : Duty) (k : ℕ) → slice_get s.tasks 0 ≡ Some (record { kind = kind; serial = k }) → s.operation ≡ None → Good s.next_serial s.core.nodes s.activities None → Stands s → AllNext (Sound s) (ma.task_of settings s kind k)
 sound_task_of settings s Duty.Listing k first none good h = sound_list s k (node_at k s.core.nodes) refl first none good h
 sound_task_of settings s Duty.Starting k first none good h = sound_start settings s k (node_at k s.core.nodes) refl first none h
 sound_task_of settings s (Duty.Begins kind) k first none good h = sound_alone s kind k s.activities first none good h
 
-sound_task : (settings : Settings) (s : State) (o : Option Task) → slice_get s.tasks 0 ≡ o → s.operation ≡ None → Good s.next_serial s.core.nodes s.activities None → Stands s → SoundNext s (ma.task_next settings s o)
+sound_task : (settings : Settings) (s : State) (o : Option Task) → slice_get s.tasks 0 ≡ o → s.operation ≡ None → Good s.next_serial s.core.nodes s.activities None → Stands s → AllNext (Sound s) (ma.task_next settings s o)
 sound_task settings s None first none good h = tt
 sound_task settings s (Some task) first none good h = sound_task_of settings s task.kind task.serial first none good h
 
-sound_activity : (s : State) (a : Activity) (o : Option Node) → node_at a.serial s.core.nodes ≡ o → activity_at a.serial s.activities ≡ Some a → s.operation ≡ None → Good s.next_serial s.core.nodes s.activities None → Stands s → SoundNext s (ma.activity_next s a o)
+sound_activity : (s : State) (a : Activity) (o : Option Node) → node_at a.serial s.core.nodes ≡ o → activity_at a.serial s.activities ≡ Some a → s.operation ≡ None → Good s.next_serial s.core.nodes s.activities None → Stands s → AllNext (Sound s) (ma.activity_next s a o)
 sound_activity s a None e at none good h = tt
 sound_activity s a (Some node) e at none good h =
     let old = good.phases a.serial a at in
@@ -119,7 +120,7 @@ sound_activity s a (Some node) e at none good h =
     let fit = subst (λ (x : Node). Fits a.phase x.state) same old.3 in
     sound_act s node a.phase none (found_self a.serial s.core.nodes node e) (subst (λ (i : ℕ). i ≢ 0) (sym own) old.2) fit good.serials h
 
-sound_idle_next : (settings : Settings) (s : State) (o : Option Activity) → find ma.is_ready s.activities ≡ o → s.operation ≡ None → Good s.next_serial s.core.nodes s.activities None → Stands s → SoundNext s (ma.idle_next settings s o)
+sound_idle_next : (settings : Settings) (s : State) (o : Option Activity) → find ma.is_ready s.activities ≡ o → s.operation ≡ None → Good s.next_serial s.core.nodes s.activities None → Stands s → AllNext (Sound s) (ma.idle_next settings s o)
 sound_idle_next settings s (Some a) e none good h = sound_activity s a (node_at a.serial s.core.nodes) refl (ready_found ma.is_ready 0 s.activities a good.order e).1 none good h
 sound_idle_next settings s None e none good h = sound_task settings s (slice_get s.tasks 0) refl none good h
 
@@ -140,11 +141,6 @@ sound_operation s p step good kept due h (OperationStep.surprises o stage m is x
     sound_surprise s o g due h (ma.is_target_in_world s o) stage m (subst (λ (y : SurpriseStage). SurpriseKeeps o y s.core.nodes) is good.fits) (subst (λ (y : SurpriseStage). SurpriseOrder s.core o y) is kept.0)
     (subst (λ (y : SurpriseStage). SurpriseThere o y s.core.nodes) is kept.1) x
 
-sound_doing : (settings : Settings) (s : State) (o : Option (Doing Step)) (step : Step) → SoundNext s o → ma.IsStep settings o step → Sound s step
-sound_doing settings s None step l is = absurd is
-sound_doing settings s (Some (Does one)) step l is = subst (λ (x : Step). Sound s x) (sym is) l
-sound_doing settings s (Some (Searches problem by_answer)) step l is = subst (λ (x : Step). Sound s x) (sym is.2) (l is.0)
-
 pub sound_step : (settings : Settings) (s : State) (step : Step) → IsGood s → Stands s → ma.IsStep settings (ma.next settings s) step → Sound s step
 sound_step settings s step good h is = by_operation s.operation refl
   where
@@ -153,7 +149,7 @@ sound_step settings s step good h is = by_operation s.operation refl
         sound_operation s o step (subst (λ (x : Option Operation). Good s.next_serial s.core.nodes s.activities x) runs good) (subst (λ (x : Option Operation). StageKept x s.core) runs h.stage)
         (subst (λ (x : Option Operation). DueBut (waiting x) s.tasks s.core.nodes) runs h.due) h (operation_step settings s o step runs is)
     by_operation None none =
-        sound_doing settings s (ma.next_of settings s None) step (sound_idle_next settings s (find ma.is_ready s.activities) refl none (subst (λ (x : Option Operation). Good s.next_serial s.core.nodes s.activities x) none good) h)
+        all_step (Sound s) settings (ma.next_of settings s None) step (sound_idle_next settings s (find ma.is_ready s.activities) refl none (subst (λ (x : Option Operation). Good s.next_serial s.core.nodes s.activities x) none good) h)
         (subst (λ (x : Option Operation). ma.IsStep settings (ma.next_of settings s x) step) none is)
 
 -- What the begin of an operation needs -------------------------------------------------------------

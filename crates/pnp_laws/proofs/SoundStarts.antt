@@ -5,8 +5,7 @@ use Rattle.std.proofs.lemmas.Bool.Decides.{nat_tests}
 use Rattle.resource_reqs.specs.Spelling.Answer.{assignment, no_fit, spent}
 use Rattle.pnp_model.specs.Keyed.{changed_first}
 use Rattle.pnp_model.specs.Tests.{has}
-use Rattle.pnp_model.specs.Records.{Node, Core, Phase, State, Step, Found, Walk, Operation, Doing, Duty, doing_map}
-use Rattle.pnp_model.specs.Records.Doing.{Does, Searches}
+use Rattle.pnp_model.specs.Records.{Node, Core, Phase, State, Step, Found, Walk, Operation, Duty, doing_map}
 use Rattle.pnp_model.specs.Records.Phase.{Adding, Searching, Starting, Removing, Due}
 use Rattle.pnp_model.specs.Cores.{is_node, node_at, with_state, with_problem, with_stack, with_holds, stacked}
 use Rattle.pnp_model.specs.Trees.{dependents, direct, hangs_on}
@@ -26,6 +25,7 @@ use Rattle.pnp_labels.specs.declared.words.Answer.TheVariants.{Ok, Fail, Pend}
 use Rattle.pnp_laws.specs.Kept.{Ascending, Fits, is_idle}
 use Rattle.pnp_laws.proofs.Lists.{those_found}
 use Rattle.pnp_laws.proofs.Lookups.{own_serial}
+use Rattle.pnp_laws.proofs.Passing.{AllBy}
 use Rattle.pnp_laws.proofs.StartSteps.{stacked_idle}
 use Rattle.pnp_laws.proofs.Closures.{closed_within, hangs_some}
 use Rattle.pnp_laws.proofs.Standing.{TasksUp, waiting, StageKept, Stands, Sound}
@@ -130,16 +130,7 @@ sound_undo : (s : State) (node : Node) (problem : Problem) (stack : List ℕ) �
 sound_undo s node problem [] none at h = calm_changed s _ _ (with_problem (Some problem)) node tt refl refl refl none none (λ x. refl) at (plain_alike (with_problem (Some problem)) node refl refl refl refl refl) (λ e. e) h.up (leads_same s.tasks) h
 sound_undo s node problem (d ∷ ds) none at h = calm_changed s _ _ (with_problem (Some problem)) node tt refl refl refl none none (λ x. refl) at (plain_alike (with_problem (Some problem)) node refl refl refl refl refl) (λ e. e) h.up (leads_same s.tasks) h
 
--- whatever a search answers
-abbrev pub SoundDoing : State → Doing Step → Type 0
-SoundDoing s (Does step) = Sound s step
-SoundDoing s (Searches problem by_answer) = (found : Found) → Sound s (by_answer found)
-
-abbrev pub SoundNext : State → Option (Doing Step) → Type 0
-SoundNext s None = Unit {0}
-SoundNext s (Some doing) = SoundDoing s doing
-
-pub sound_act : (s : State) (node : Node) (phase : Phase) → s.operation ≡ None → node_at node.serial s.core.nodes ≡ Some node → node.serial ≢ 0 → Fits phase node.state → Ascending 0 s.core.nodes → Stands s → SoundDoing s (doing_map (start_lifted s node.serial) (act s.core node phase))
+pub sound_act : (s : State) (node : Node) (phase : Phase) → s.operation ≡ None → node_at node.serial s.core.nodes ≡ Some node → node.serial ≢ 0 → Fits phase node.state → Ascending 0 s.core.nodes → Stands s → AllBy (Sound s) (doing_map (start_lifted s node.serial) (act s.core node phase))
 sound_act s node (Adding []) none at up fit order h = λ found. sound_searched s node found none at up h
 sound_act s node (Adding (d ∷ ds)) none at up fit order h = sound_add s _ node d ds _ refl refl none at fit h
 sound_act s node Searching none at up fit order h = λ found. sound_searched s node found none at up h

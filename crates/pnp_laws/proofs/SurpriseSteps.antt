@@ -3,14 +3,13 @@ use Rattle.std.proofs.Common.{ℕ, ◌≡◌, ◌≢◌, ◌==◌, inr, Bool, tr
 use Rattle.std.proofs.lemmas.Bool.Decides.{nat_tests}
 use Rattle.std.specs.Option.{option_map}
 use Rattle.pnp_model.specs.Keyed.{changed_first, without_first, those}
-use Rattle.pnp_model.specs.Records.{Node, State, Operation, Surprise, SurpriseStage, Walk}
-use Rattle.pnp_model.specs.Records.Doing.{Does}
+use Rattle.pnp_model.specs.Records.{Node, State, Operation, Surprise, SurpriseStage}
 use Rattle.pnp_model.specs.Records.SurpriseStage.{Telling, Removing, Settling, Ending}
-use Rattle.pnp_model.specs.Cores.{is_node, node_at, with_state, with_problem, bare, stack_of}
+use Rattle.pnp_model.specs.Cores.{drop_node, is_node, node_at, with_state, with_problem, bare, stack_of}
 use Rattle.pnp_model.specs.Tests.{has, is_told}
 use Rattle.pnp_model.specs.States.{set_operation, with_core}
 use Rattle.pnp_model.specs.Frames.{first_node, rest}
-use Rattle.pnp_model.specs.Surprises.{finish_with, finish_on, tell_on, is_told_node, begun_with, tell_step, remove_step, leaves, settle_target, settle_other, settle, surprise_step}
+use Rattle.pnp_model.specs.Surprises.{SurpriseMove, finish_with, finish_on, tell_on, is_told_node, begun_with}
 use Rattle.pnp_model.specs.Machine.{surprise_lifted}
 use Rattle.pnp_laws.specs.Kept.{Good, Lawful, Each, OperationFits, Distinct, Within, IsLast, SurpriseKeeps, telling_state, finishing_state, settling_state, removing_state, is_calm, is_removable}
 use Rattle.pnp_model.specs.Diagram.{Row}
@@ -21,10 +20,11 @@ use Rattle.pnp_labels.specs.declared.label.Label.{Label}
 use Rattle.pnp_labels.specs.declared.states.Problem.{Problem}
 use Rattle.pnp_labels.specs.declared.states.DevState.TheVariants.{NoStack, NotStarted, Started, StopPending, Stopped, RemovePending, SurpriseRemoved}
 use Rattle.pnp_laws.proofs.Diagrams.{Each_changed, Each_same, Each_left, diagram_left}
-use Rattle.pnp_laws.proofs.Kept.{lawful_by, Good_left, LawfulNext}
+use Rattle.pnp_laws.proofs.Kept.{lawful_by, Good_left}
 use Rattle.pnp_laws.proofs.Lists.{HeadIs, head_found, head_has, rest_has, rest_not, rest_distinct, rest_within, those_has, those_keeps, those_distinct}
 use Rattle.pnp_laws.proofs.OpSteps.{lawful_walked, lawful_still, lawful_close, up_stack}
 use Rattle.pnp_laws.proofs.Finishing.{StacksFit, settle_each, remove_each, head_stripped, head_bare, stripped_here, stripped_there, settled_there, calm_here, stack_kept, stack_left, strips, relist_only}
+use Rattle.pnp_laws.proofs.Stages.{SurpriseStep}
 use Rattle.pnp_laws.proofs.RemovalSteps.{stacks_changed, stacks_problem, stacks_left, not_root, not_true}
 
 -- What comes next keeps the facts
@@ -94,111 +94,90 @@ record AtWork (s : State) (node : Node) (o : Surprise) : Type 0 where
   at : node_at node.serial s.core.nodes ≡ Some node
   good : Good s.next_serial s.core.nodes [] (Some (Operation.Surprising o))
 
--- The steps
-
-lawful_tell : (s : State) (o : Surprise) (node : Node) (w : Walk) (ends : Bool) → SurpriseKeeps o (Telling w) s.core.nodes → AtWork s node o → Lawful s (surprise_lifted s (tell_step s.core o node w ends))
-lawful_tell s o node w true keeps work =
-    let j = node.serial in
-    let f = with_state SurpriseRemoved in
-    let here = head_has j o.todo work.head in
-    let told = told_or node.state (head_told o.todo o.set j node.state here (keeps.each j node work.at)) in
-    let up = not_root o.set o.todo j keeps.rootless keeps.inside here in
-    let stack = up_stack j node.state SurpriseRemoved node.stack (work.good.stacks j node work.at) told.1 (λ e. cc) up in
-    lawful_walked s _ (Label.State node.path SurpriseRemoved) f node (Operation.Surprising o) _ refl refl work.alone refl (λ x. refl) work.at stack
-    (fits_tell_on s.core.nodes o (rest o.todo) (changed_first (is_node j) f s.core.nodes)
-    (λ k. stack_kept j k f s.core.nodes (λ x. refl) (λ x. refl)) keeps.set keeps.rootless keeps.last (rest_distinct o.todo keeps.todo)
-    (λ k h. keeps.inside k (rest_within k o.todo h))
-    (stacks_changed j SurpriseRemoved node s.core.nodes work.good.stacks work.at stack)
-    (Each_changed (telling_state o.todo o.set) (telling_state (rest o.todo) o.set) j f s.core.nodes node (λ x. refl) work.at
-    (told_here (rest o.todo) o.set j (rest_not j o.todo work.head keeps.todo) (keeps.inside j here))
-    (λ k x d h. told_there o.todo (rest o.todo) o.set k x (rest_has j k o.todo work.head d) h) keeps.each))
-    (inr (refl, (Minor.SurpriseRemoval, false, told.0))) work.good
-lawful_tell s o node w false keeps work =
-    lawful_still s _ _ (Operation.Surprising o) _ refl refl work.alone refl
-    (record { set = keeps.set; rootless = keeps.rootless; last = keeps.last; todo = keeps.todo; inside = keeps.inside; ends = keeps.ends; each = keeps.each }) work.good
-
-lawful_remove : (s : State) (o : Surprise) (node : Node) (w : Walk) (ends : Bool) → SurpriseKeeps o (Removing w) s.core.nodes → AtWork s node o → Lawful s (surprise_lifted s (remove_step s.core o node w ends))
-lawful_remove s o node w true keeps work =
-    let j = node.serial in
-    let up = not_root o.set o.todo j keeps.rootless keeps.inside (head_has j o.todo work.head) in
-    lawful_walked s _ (Label.State node.path NoStack) bare node (Operation.Surprising o) _ refl refl work.alone refl (λ x. refl) work.at
-    (record { none = λ h. refl; some = λ d h. refl; root = λ z. absurd (up z) })
-    (record {
-      set = keeps.set;
-      rootless = keeps.rootless;
-      last = keeps.last;
-      todo = keeps.todo;
-      inside = keeps.inside;
-      ends = keeps.ends;
-      each =
-          Each_changed (removing_state o.todo) (settling_state o.todo) j bare s.core.nodes node (λ x. refl) work.at (stripped_here o.todo j work.head)
-          (λ k x d h. stripped_there o.todo j k x work.head d h) keeps.each;
-    })
-    (inr (refl, (Minor.Remove, false, strips node.state (head_stripped o.todo j node.state work.head (keeps.each j node work.at)))))
-    work.good
-lawful_remove s o node w false keeps work =
-    lawful_still s _ _ (Operation.Surprising o) _ refl refl work.alone refl
-    (record { set = keeps.set; rootless = keeps.rootless; last = keeps.last; todo = keeps.todo; inside = keeps.inside; ends = keeps.ends; each = keeps.each }) work.good
-
-lawful_leaves : (s : State) (o : Surprise) (node : Node) → SurpriseKeeps o Settling s.core.nodes → AtWork s node o → Lawful s (surprise_lifted s (leaves s.core o node))
-lawful_leaves s o node keeps work =
-    let j = node.serial in
-    let nodes = without_first (is_node j) s.core.nodes in
-    let m = leaves s.core o node in
-    let only = relist_only node.path node.born (set_operation (Some (Operation.Surprising m.frame)) (with_core m.core s)) in
-    let state = head_bare o.todo j node.state work.head (keeps.each j node work.at) in
-    let not_rest = rest_not j o.todo work.head keeps.todo in
-    lawful_by s _ (Label.Leave node.path) s.next_serial nodes [] (Some (Operation.Surprising (finish_on s.core.nodes o (rest o.todo)))) only.serial only.nodes (only.activities ∙ work.alone) only.operation
-    (Good_left s.next_serial j s.core.nodes (Some (Operation.Surprising o)) _
-    (fits_finish_on s.core.nodes o (rest o.todo) nodes
-    (λ k h. stack_left j k s.core.nodes (λ e. let z = subst (λ (i : ℕ). has (rest o.todo) i ≡ false) e not_rest in cc))
-    keeps.set keeps.rootless keeps.last (rest_distinct o.todo keeps.todo)
-    (λ k h. keeps.inside k (rest_within k o.todo h))
-    (rest_last o.target o.todo keeps.ends)
-    (stacks_left j s.core.nodes work.good.serials work.good.stacks)
-    (Each_left (settling_state o.todo) (finishing_state (rest o.todo)) j s.core.nodes work.good.serials (λ k x d h. settled_there o.todo j k x work.head d h) keeps.each))
-    refl work.good)
-    (diagram_left (Label.Leave node.path) j s.core.nodes node work.good.serials work.at state)
-
-lawful_target : (s : State) (o : Surprise) (node : Node) (in_world : Bool) → node.serial ≡ o.target → SurpriseKeeps o Settling s.core.nodes → AtWork s node o → Lawful s (surprise_lifted s (settle_target s.core o node in_world))
-lawful_target s o node true e keeps work =
-    let over = last_alone o.target o.todo (subst (λ (i : ℕ). HeadIs i o.todo) e work.head) keeps.ends in
-    lawful_close s _ _ (Operation.Surprising o) refl refl work.alone refl
-    (Each_same (settling_state o.todo) (λ k x. is_calm x) s.core.nodes (λ k x h. alone_calm o.todo node.serial k x work.head over h) keeps.each) work.good
-lawful_target s o node false e keeps work = lawful_leaves s o node keeps work
-
-lawful_other : (s : State) (o : Surprise) (node : Node) (b : Bool) → SurpriseKeeps o Settling s.core.nodes → AtWork s node o → Lawful s (surprise_lifted s (settle_other s.core o node b))
-lawful_other s o node true keeps work = lawful_leaves s o node keeps work
-lawful_other s o node false keeps work =
-    let j = node.serial in
-    let f = with_problem (Some Problem.Held) in
-    let state = head_bare o.todo j node.state work.head (keeps.each j node work.at) in
-    lawful_walked s _ (Label.Trouble node.path Problem.Held) f node (Operation.Surprising o) _ refl refl work.alone refl (λ x. refl) work.at (work.good.stacks j node work.at)
-    (fits_finish_on s.core.nodes o (rest o.todo) (changed_first (is_node j) f s.core.nodes)
-    (λ k h. stack_kept j k f s.core.nodes (λ x. refl) (λ x. refl)) keeps.set keeps.rootless keeps.last (rest_distinct o.todo keeps.todo)
-    (λ k h. keeps.inside k (rest_within k o.todo h))
-    (rest_last o.target o.todo keeps.ends)
-    (stacks_problem j (Some Problem.Held) s.core.nodes work.good.stacks)
-    (Each_changed (settling_state o.todo) (finishing_state (rest o.todo)) j f s.core.nodes node (λ x. refl) work.at
-    (subst (λ (x : DevState). finishing_state (rest o.todo) j x ≡ true) (sym state) (calm_here (rest o.todo) j (rest_not j o.todo work.head keeps.todo)))
-    (λ k x d h. settled_there o.todo j k x work.head d h) keeps.each))
-    refl work.good
-
-lawful_settle : (s : State) (o : Surprise) (node : Node) (in_world b : Bool) → (node.serial == o.target) ≡ b → SurpriseKeeps o Settling s.core.nodes → AtWork s node o → Lawful s (surprise_lifted s (settle s.core o node in_world b))
-lawful_settle s o node in_world true e keeps work = lawful_target s o node in_world (grind (arith, nat_tests)) keeps work
-lawful_settle s o node in_world false e keeps work = lawful_other s o node _ keeps work
-
 at_work : (s : State) (o : Surprise) (node : Node) → s.activities ≡ [] → first_node s.core.nodes o.todo ≡ Some node → Good s.next_serial s.core.nodes [] (Some (Operation.Surprising o)) → AtWork s node o
 at_work s o node alone first good = let h = head_found s.core.nodes o.todo node first in record { alone = alone; head = h.0; at = h.1; good = good }
 
-pub lawful_surprise : (s : State) (o : Surprise) (in_world : Bool) (stage : SurpriseStage) (n : Option Node) → first_node s.core.nodes o.todo ≡ n → s.activities ≡ [] →
-    SurpriseKeeps o stage s.core.nodes → Good s.next_serial s.core.nodes [] (Some (Operation.Surprising o)) →
-    LawfulNext s (option_map (λ m. Does (surprise_lifted s m)) (surprise_step s.core o in_world stage n))
-lawful_surprise s o in_world Ending n first alone keeps good = lawful_close s _ _ (Operation.Surprising o) refl refl alone refl keeps.each good
-lawful_surprise s o in_world (Telling w) (Some node) first alone keeps good = lawful_tell s o node w _ keeps (at_work s o node alone first good)
-lawful_surprise s o in_world (Removing w) (Some node) first alone keeps good = lawful_remove s o node w _ keeps (at_work s o node alone first good)
-lawful_surprise s o in_world Settling (Some node) first alone keeps good = lawful_settle s o node in_world _ refl keeps (at_work s o node alone first good)
-lawful_surprise s o in_world _ None first alone keeps good = tt
+-- The steps
+
+module _ (s : State) (o : Surprise) (alone : s.activities ≡ []) (good : Good s.next_serial s.core.nodes [] (Some (Operation.Surprising o))) where
+  pub lawful_surprise : (in_world : Bool) (stage : SurpriseStage) (m : SurpriseMove) → SurpriseKeeps o stage s.core.nodes → SurpriseStep s.core o in_world stage m → Lawful s (surprise_lifted s m)
+  lawful_surprise in_world stage m keeps (SurpriseStep.tells node w e) =
+      let work = at_work s o node alone e.first good in
+      let j = node.serial in
+      let f = with_state SurpriseRemoved in
+      let here = head_has j o.todo work.head in
+      let told = told_or node.state (head_told o.todo o.set j node.state here (keeps.each j node work.at)) in
+      let up = not_root o.set o.todo j keeps.rootless keeps.inside here in
+      let stack = up_stack j node.state SurpriseRemoved node.stack (work.good.stacks j node work.at) told.1 (λ e. cc) up in
+      lawful_walked s _ (Label.State node.path SurpriseRemoved) f node (Operation.Surprising o) _ refl refl work.alone refl (λ x. refl) work.at stack
+      (fits_tell_on s.core.nodes o (rest o.todo) (changed_first (is_node j) f s.core.nodes)
+      (λ k. stack_kept j k f s.core.nodes (λ x. refl) (λ x. refl)) keeps.set keeps.rootless keeps.last (rest_distinct o.todo keeps.todo)
+      (λ k h. keeps.inside k (rest_within k o.todo h))
+      (stacks_changed j SurpriseRemoved node s.core.nodes work.good.stacks work.at stack)
+      (Each_changed (telling_state o.todo o.set) (telling_state (rest o.todo) o.set) j f s.core.nodes node (λ x. refl) work.at
+      (told_here (rest o.todo) o.set j (rest_not j o.todo work.head keeps.todo) (keeps.inside j here))
+      (λ k x d h. told_there o.todo (rest o.todo) o.set k x (rest_has j k o.todo work.head d) h) keeps.each))
+      (inr (refl, (Minor.SurpriseRemoval, false, told.0))) work.good
+  lawful_surprise in_world stage m keeps (SurpriseStep.removes node w e) =
+      let work = at_work s o node alone e.first good in
+      let j = node.serial in
+      let up = not_root o.set o.todo j keeps.rootless keeps.inside (head_has j o.todo work.head) in
+      lawful_walked s _ (Label.State node.path NoStack) bare node (Operation.Surprising o) _ refl refl work.alone refl (λ x. refl) work.at
+      (record { none = λ h. refl; some = λ d h. refl; root = λ z. absurd (up z) })
+      (record {
+        set = keeps.set;
+        rootless = keeps.rootless;
+        last = keeps.last;
+        todo = keeps.todo;
+        inside = keeps.inside;
+        ends = keeps.ends;
+        each =
+            Each_changed (removing_state o.todo) (settling_state o.todo) j bare s.core.nodes node (λ x. refl) work.at (stripped_here o.todo j work.head)
+            (λ k x d h. stripped_there o.todo j k x work.head d h) keeps.each;
+      })
+      (inr (refl, (Minor.Remove, false, strips node.state (head_stripped o.todo j node.state work.head (keeps.each j node work.at)))))
+      work.good
+  lawful_surprise in_world stage m keeps (SurpriseStep.leaves node first) =
+      let work = at_work s o node alone first good in
+      let j = node.serial in
+      let nodes = without_first (is_node j) s.core.nodes in
+      let q = finish_on s.core.nodes o (rest o.todo) in
+      let only = relist_only node.path node.born (set_operation (Some (Operation.Surprising q)) (with_core (drop_node node.serial s.core) s)) in
+      let state = head_bare o.todo j node.state work.head (keeps.each j node work.at) in
+      let not_rest = rest_not j o.todo work.head keeps.todo in
+      lawful_by s _ (Label.Leave node.path) s.next_serial nodes [] (Some (Operation.Surprising q)) only.serial only.nodes (only.activities ∙ work.alone) only.operation
+      (Good_left s.next_serial j s.core.nodes (Some (Operation.Surprising o)) _
+      (fits_finish_on s.core.nodes o (rest o.todo) nodes
+      (λ k h. stack_left j k s.core.nodes (λ e. let z = subst (λ (i : ℕ). has (rest o.todo) i ≡ false) e not_rest in cc))
+      keeps.set keeps.rootless keeps.last (rest_distinct o.todo keeps.todo)
+      (λ k h. keeps.inside k (rest_within k o.todo h))
+      (rest_last o.target o.todo keeps.ends)
+      (stacks_left j s.core.nodes work.good.serials work.good.stacks)
+      (Each_left (settling_state o.todo) (finishing_state (rest o.todo)) j s.core.nodes work.good.serials (λ k x d h. settled_there o.todo j k x work.head d h) keeps.each))
+      refl work.good)
+      (diagram_left (Label.Leave node.path) j s.core.nodes node work.good.serials work.at state)
+  lawful_surprise in_world stage m keeps (SurpriseStep.remains node first other over) =
+      let work = at_work s o node alone first good in
+      let j = node.serial in
+      let f = with_problem (Some Problem.Held) in
+      let state = head_bare o.todo j node.state work.head (keeps.each j node work.at) in
+      lawful_walked s _ (Label.Trouble node.path Problem.Held) f node (Operation.Surprising o) _ refl refl work.alone refl (λ x. refl) work.at (work.good.stacks j node work.at)
+      (fits_finish_on s.core.nodes o (rest o.todo) (changed_first (is_node j) f s.core.nodes)
+      (λ k h. stack_kept j k f s.core.nodes (λ x. refl) (λ x. refl)) keeps.set keeps.rootless keeps.last (rest_distinct o.todo keeps.todo)
+      (λ k h. keeps.inside k (rest_within k o.todo h))
+      (rest_last o.target o.todo keeps.ends)
+      (stacks_problem j (Some Problem.Held) s.core.nodes work.good.stacks)
+      (Each_changed (settling_state o.todo) (finishing_state (rest o.todo)) j f s.core.nodes node (λ x. refl) work.at
+      (subst (λ (x : DevState). finishing_state (rest o.todo) j x ≡ true) (sym state) (calm_here (rest o.todo) j (rest_not j o.todo work.head keeps.todo)))
+      (λ k x d h. settled_there o.todo j k x work.head d h) keeps.each))
+      refl work.good
+  lawful_surprise in_world stage m keeps (SurpriseStep.stays node first target back) =
+      let work = at_work s o node alone first good in
+      let is : node.serial ≡ o.target = grind (arith, nat_tests) in
+      let over = last_alone o.target o.todo (subst (λ (i : ℕ). HeadIs i o.todo) is work.head) keeps.ends in
+      lawful_close s _ _ (Operation.Surprising o) refl refl alone refl
+      (Each_same (settling_state o.todo) (λ k x. is_calm x) s.core.nodes (λ k x h. alone_calm o.todo node.serial k x work.head over h) keeps.each) good
+  lawful_surprise in_world stage m keeps SurpriseStep.closes = lawful_close s _ _ (Operation.Surprising o) refl refl alone refl keeps.each good
 
 -- The begin
 

@@ -1,16 +1,16 @@
 -- Each step of a removal keeps what a veto is to restore.
-use Rattle.std.proofs.Common.{ℕ, ◌≡◌, ◌==◌, inl, inr, Bool, true, false, cond, List, [], ◌∷◌, length, Option, Some, None, refl, sym, ap, ◌∙◌, subst, arith}
+use Rattle.std.proofs.Common.{ℕ, ◌≡◌, ◌==◌, ◌⊎◌, inl, inr, Bool, true, false, cond, List, [], ◌∷◌, Option, Some, None, refl, sym, ap, ◌∙◌, subst, arith}
 use Rattle.std.proofs.lemmas.Bool.{cases_eq}
 use Rattle.std.proofs.lemmas.Bool.Decides.{nat_tests}
 use Rattle.pnp_model.specs.Keyed.{those}
-use Rattle.pnp_model.specs.Records.{Node, Core, Removal, RemovalStage, Walk}
+use Rattle.pnp_model.specs.Records.{Node, Core, Removal, RemovalStage}
 use Rattle.pnp_model.specs.Records.RemovalStage.{Asking, TakingBack, Cancelling, Removing, Settling, Ending}
 use Rattle.pnp_model.specs.Cores.{node_at, with_state, stack_of}
 use Rattle.pnp_model.specs.Tests.{has}
 use Rattle.pnp_model.specs.Trees.{is_up}
-use Rattle.pnp_model.specs.Walks.{is_bad, has_ended}
 use Rattle.pnp_model.specs.Frames.{first_node, rest}
-use Rattle.pnp_model.specs.Removals.{RemovalMove, RemoveBeside, finish_with, finish_on, ask_on, cancel_on, begun_with, ejecting, end_ask, ask_step, take_back, cancel_step, remove_step, settle_related, settle_target, settle_outer, settle, close, removal_step}
+use Rattle.pnp_model.specs.Laws.{IsWithin}
+use Rattle.pnp_model.specs.Removals.{RemovalMove, RemoveBeside, finish_with, finish_on, ask_on, cancel_on, begun_with, ejecting, close}
 use Rattle.pnp_laws.specs.Kept.{RemovalKeeps}
 use Rattle.pnp_laws.specs.Vetoes.{turned, marked, Held, Since}
 use Rattle.pnp_labels.specs.declared.states.DevState.{DevState}
@@ -19,6 +19,7 @@ use Rattle.pnp_labels.specs.declared.states.DevState.TheVariants.{Started, Remov
 use Rattle.pnp_laws.proofs.Lookups.{own_serial}
 use Rattle.pnp_laws.proofs.Lists.{head_found, head_has}
 use Rattle.pnp_laws.proofs.RemovalSteps.{head_querying, head_refusing}
+use Rattle.pnp_laws.proofs.Stages.{RemovalStep}
 
 -- to give a node the state that it has changes nothing
 pub turned_same : (k : ℕ) (x : DevState) (nodes : List Node) (n : Node) → node_at k nodes ≡ Some n → n.state ≡ x → turned x k nodes ≡ nodes
@@ -96,22 +97,6 @@ since_cancel_on before now o (k ∷ ks) h = h
 
 -- the steps
 
-abbrev SinceMove : Core → RemovalMove → Type 0
-SinceMove before m = Since before m.core m.frame m.frame.stage
-
-since_end_ask : (before c : Core) (o : Removal) (node : Node) (bad : Bool) → node_at node.serial c.nodes ≡ Some node → node.state ≡ Started → Held before c o.agreed → o.refuser ≡ None → SinceMove before (end_ask c o node bad)
-since_end_ask before c o node false at e h none =
-    since_ask_on before _ c.nodes (record o { agreed = node.serial ∷ o.agreed }) (rest o.todo) (held_agreed before c node.serial o.agreed node at e h) none
-since_end_ask before c o node true at e h none = held_same before c node.serial node.state o.agreed node at refl h
-
-since_ask : (before c : Core) (o : Removal) (node : Node) (w : Walk) (ends : Bool) → node_at node.serial c.nodes ≡ Some node → node.state ≡ Started → Held before c o.agreed → o.refuser ≡ None → SinceMove before (ask_step c o node w ends)
-since_ask before c o node w true at e h none = since_end_ask before c o node (is_bad w) at e h none
-since_ask before c o node w false at e h none = (record { nodes = h.nodes; back = h.back; relations = h.relations; reserved = h.reserved }, none)
-
-since_take_back : (before c : Core) (o : Removal) (node : Node) (w : Walk) (ends : Bool) → node_at node.serial c.nodes ≡ Some node → node.state ≡ Started → Held before c o.agreed → SinceMove before (take_back c o node w ends)
-since_take_back before c o node w true at e h = since_cancel_on before _ o o.agreed (held_same before c node.serial Started o.agreed node at e h)
-since_take_back before c o node w false at e h = record { nodes = h.nodes; back = h.back; relations = h.relations; reserved = h.reserved }
-
 since_cancel_head : (before c : Core) (o : Removal) (todo : List ℕ) (node : Node) → first_node c.nodes todo ≡ Some node → Held before c todo →
     Since before (record c { nodes = turned Started node.serial c.nodes }) (cancel_on o (rest todo)) (cancel_on o (rest todo)).stage
 since_cancel_head before c o [] node first h = absurd (cc)
@@ -120,57 +105,39 @@ since_cancel_head before c o (k ∷ ks) node first h =
     subst (λ (i : ℕ). Since before (record c { nodes = turned Started i c.nodes }) (cancel_on o ks) (cancel_on o ks).stage) (sym own)
     (since_cancel_on before (record c { nodes = turned Started k c.nodes }) o ks (held_back before c k ks h))
 
-since_cancel : (before c : Core) (o : Removal) (node : Node) (w : Walk) (ends : Bool) → first_node c.nodes o.todo ≡ Some node → Held before c o.todo → SinceMove before (cancel_step c o node w ends)
-since_cancel before c o node w true first h = since_cancel_head before c o o.todo node first h
-since_cancel before c o node w false first h = record { nodes = h.nodes; back = h.back; relations = h.relations; reserved = h.reserved }
-
-since_remove : (before c : Core) (o : Removal) (node : Node) (w : Walk) (ends : Bool) → o.refuser ≡ None → SinceMove before (remove_step c o node w ends)
-since_remove before c o node w true e = e
-since_remove before c o node w false e = e
-
-since_related : (before c : Core) (o : Removal) (node : Node) (b : Bool) → o.refuser ≡ None → SinceMove before (settle_related c o node b)
-since_related before c o node true e = since_finish_on before _ c.nodes o (rest o.todo) e
-since_related before c o node false e = since_finish_on before _ c.nodes o (rest o.todo) e
-
-since_target : (before c : Core) (o : Removal) (node : Node) (b : Bool) → o.refuser ≡ None → SinceMove before (settle_target c o node b)
-since_target before c o node true e = since_finish_on before _ c.nodes o (rest o.todo) e
-since_target before c o node false e = since_finish_on before _ c.nodes o (rest o.todo) e
-
-since_outer : (before c : Core) (o : Removal) (node : Node) (b : Bool) → o.refuser ≡ None → SinceMove before (settle_outer c o node b)
-since_outer before c o node true e = since_target before c o node _ e
-since_outer before c o node false e = since_related before c o node _ e
-
-since_settle : (before c : Core) (o : Removal) (node : Node) (b : Bool) → o.refuser ≡ None → SinceMove before (settle c o node b)
-since_settle before c o node true e = since_finish_on before _ c.nodes o (rest o.todo) e
-since_settle before c o node false e = since_outer before c o node _ e
-
 -- the operation goes on
 abbrev pub IsOn : RemoveBeside → Type 0
 IsOn RemoveBeside.Over = ⊥
 IsOn _ = Unit {0}
 
-pub since_step : (before c : Core) (o : Removal) (stage : RemovalStage) (n : Option Node) (m : RemovalMove) → first_node c.nodes o.todo ≡ n → RemovalKeeps o stage c.nodes → Since before c o stage → removal_step c o stage n ≡ Some m → IsOn m.beside → SinceMove before m
-since_step before c o Ending n m first keeps since e on = let same : close c o ≡ m = cc in absurd (subst (λ (x : RemovalMove). IsOn x.beside) (sym same) on)
-since_step before c o (Asking w) (Some node) m first keeps since e on =
-    let h = head_found c.nodes o.todo node first in
-    let state = head_querying o.todo o.agreed o.set node.serial node.state (head_has node.serial o.todo h.0) (keeps.each node.serial node h.1) in
-    let same : ask_step c o node w (has_ended w (length node.stack)) ≡ m = cc in
-    subst (λ (x : RemovalMove). SinceMove before x) same (since_ask before c o node w _ h.1 state since.0 since.1)
-since_step before c o (TakingBack w) (Some node) m first keeps since e on =
-    let h = head_found c.nodes o.todo node first in
-    let state = head_refusing o.todo o.agreed node.serial node.state (head_has node.serial o.todo h.0) (keeps.each node.serial node h.1) in
-    let same : take_back c o node w (has_ended w (length node.stack)) ≡ m = cc in
-    subst (λ (x : RemovalMove). SinceMove before x) same (since_take_back before c o node w _ h.1 state since)
-since_step before c o (Cancelling w) (Some node) m first keeps since e on =
-    let same : cancel_step c o node w (has_ended w (length node.stack)) ≡ m = cc in
-    subst (λ (x : RemovalMove). SinceMove before x) same (since_cancel before c o node w _ first since)
-since_step before c o (Removing w) (Some node) m first keeps since e on =
-    let same : remove_step c o node w (has_ended w (length node.stack)) ≡ m = cc in
-    subst (λ (x : RemovalMove). SinceMove before x) same (since_remove before c o node w _ since)
-since_step before c o Settling (Some node) m first keeps since e on =
-    let same : settle c o node (has o.set node.parent) ≡ m = cc in
-    subst (λ (x : RemovalMove). SinceMove before x) same (since_settle before c o node _ since)
-since_step before c o _ None m first keeps since e on = absurd (cc)
+pub record SinceOn (before : Core) (m : RemovalMove) : Type 0 where
+  pub within : IsWithin m.label
+  pub on : IsOn m.beside
+  pub since : Since before m.core m.frame m.frame.stage
+
+module _ (before c : Core) (o : Removal) where
+  finishes : (m : RemovalMove) → IsWithin m.label → IsOn m.beside → m.frame ≡ finish_on c.nodes o (rest o.todo) → o.refuser ≡ None → SinceOn before m
+  finishes m within on is none = record { within = within; on = on; since = subst (λ (q : Removal). Since before m.core q q.stage) (sym is) (since_finish_on before m.core c.nodes o (rest o.todo) none) }
+
+  -- only the last stage closes
+  pub since_step : (stage : RemovalStage) (m : RemovalMove) → RemovalKeeps o stage c.nodes → Since before c o stage → RemovalStep c o stage m → SinceOn before m ⊎ ((stage ≡ Ending) × (m ≡ close c o))
+  since_step stage m keeps since (RemovalStep.agrees node w e good) =
+      let h = head_found c.nodes o.todo node e.first in
+      let state = head_querying o.todo o.agreed o.set node.serial node.state (head_has node.serial o.todo h.0) (keeps.each node.serial node h.1) in
+      inl (record { within = tt; on = tt; since = since_ask_on before _ c.nodes (record o { agreed = node.serial ∷ o.agreed }) (rest o.todo) (held_agreed before c node.serial o.agreed node h.1 state since.0) since.1 })
+  since_step stage m keeps since (RemovalStep.refuses node w e bad) =
+      inl (record { within = tt; on = tt; since = held_same before c node.serial node.state o.agreed node (head_found c.nodes o.todo node e.first).1 refl since.0 })
+  since_step stage m keeps since (RemovalStep.takes_back node w e) =
+      let h = head_found c.nodes o.todo node e.first in
+      let state = head_refusing o.todo o.agreed node.serial node.state (head_has node.serial o.todo h.0) (keeps.each node.serial node h.1) in
+      inl (record { within = tt; on = tt; since = since_cancel_on before _ o o.agreed (held_same before c node.serial Started o.agreed node h.1 state since) })
+  since_step stage m keeps since (RemovalStep.cancels node w e) = inl (record { within = tt; on = tt; since = since_cancel_head before c o o.todo node e.first since })
+  since_step stage m keeps since (RemovalStep.removes node w e) = inl (record { within = tt; on = tt; since = since })
+  since_step stage m keeps since (RemovalStep.leaves node first) = inl (finishes _ tt tt refl since)
+  since_step stage m keeps since (RemovalStep.ejects node first) = inl (finishes _ tt tt refl since)
+  since_step stage m keeps since (RemovalStep.disables node first over) = inl (finishes _ tt tt refl since)
+  since_step stage m keeps since (RemovalStep.remains node problem first over other) = inl (finishes _ tt tt refl since)
+  since_step stage m keeps since RemovalStep.closes = inr (refl, refl)
 
 -- the begin
 pub since_begun : (c : Core) (kind : OpKind) (node : Node) (set : List ℕ) → Since c c (begun_with c kind node set) (begun_with c kind node set).stage
