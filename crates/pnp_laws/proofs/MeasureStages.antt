@@ -200,7 +200,7 @@ falls_removal s o stage m runs is order (RemovalStep.ejects node first) =
     let u = unplug node.born (set_operation (Some (Operation.Removing (rm.finish_on s.core.nodes o (rest o.todo)))) (with_core (drop_node node.serial s.core) s)) in
     let only = relist_only node.path node.born u in
     falls_leaves s (relist node.path node.born u) (Operation.Removing o) _ node order first runs only.operation only.nodes (same_in s u node.path node.born (fewer_in (node.born ∷ []) s.world)) only.tasks only.activities (λ k. refl) (omega arith)
-falls_removal s o stage m runs is order (RemovalStep.disables node first over) = rm_remains s _ o node Problem.Disabled runs is first refl refl refl refl refl
+falls_removal s o stage m runs is order (RemovalStep.disables node first over target) = rm_remains s _ o node Problem.Disabled runs is first refl refl refl refl refl
 falls_removal s o stage m runs is order (RemovalStep.remains node problem first over other) = rm_remains s _ o node problem runs is first refl refl refl refl refl
 falls_removal s o stage m runs is order RemovalStep.closes = falls_close s _ (Operation.Removing o) runs (λ k. refl) refl refl refl refl (omega arith)
 

@@ -276,7 +276,7 @@ module _ (s : State) (o : Removal) (alone : s.activities ≡ []) (good : Good s.
   lawful_removal stage m keeps (RemovalStep.ejects node first) =
       let only = relist_only node.path node.born (unplug node.born (set_operation (Some (Operation.Removing (finish_on s.core.nodes o (rest o.todo)))) (with_core (drop_node node.serial s.core) s))) in
       rm_leaves _ node (Label.Ejected node.path) only.serial only.nodes only.activities only.operation keeps (at_work s o node alone first good)
-  lawful_removal stage m keeps (RemovalStep.disables node first over) = rm_remains _ node Problem.Disabled refl refl refl refl keeps (at_work s o node alone first good)
+  lawful_removal stage m keeps (RemovalStep.disables node first over target) = rm_remains _ node Problem.Disabled refl refl refl refl keeps (at_work s o node alone first good)
   lawful_removal stage m keeps (RemovalStep.remains node problem first over other) = rm_remains _ node problem refl refl refl refl keeps (at_work s o node alone first good)
   lawful_removal stage m keeps RemovalStep.closes = lawful_close s _ _ (Operation.Removing o) refl refl alone refl keeps.each good
 

@@ -124,7 +124,7 @@ module _ (s : State) (o : Removal) (good : Good s.next_serial s.core.nodes [] (S
       rm_leaves (set_operation (Some (Operation.Removing (rm.finish_on s.core.nodes o (rest o.todo)))) (with_core (drop_node node.serial s.core) s)) node (Label.Leave node.path) first tt (λ q. q) refl refl refl refl keeps order there
   sound_removal stage m keeps order there (RemovalStep.ejects node first) =
       rm_leaves (unplug node.born (set_operation (Some (Operation.Removing (rm.finish_on s.core.nodes o (rest o.todo)))) (with_core (drop_node node.serial s.core) s))) node (Label.Ejected node.path) first tt (λ q. q) refl refl refl refl keeps order there
-  sound_removal stage m keeps order there (RemovalStep.disables node first over) = rm_remains _ node Problem.Disabled first over refl refl refl refl refl keeps order there
+  sound_removal stage m keeps order there (RemovalStep.disables node first over target) = rm_remains _ node Problem.Disabled first over refl refl refl refl refl keeps order there
   sound_removal stage m keeps order there (RemovalStep.remains node problem first over other) = rm_remains _ node problem first over refl refl refl refl refl keeps order there
   sound_removal stage m keeps order there RemovalStep.closes = op_still s _ _ [] tt refl refl refl refl (λ same. tt) refl due h
 

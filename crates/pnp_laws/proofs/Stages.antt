@@ -48,7 +48,7 @@ pub data RemovalStep (c : Core) (o : Removal) : RemovalStage → rm.RemovalMove 
   removes : (node : Node) (w : Walk) → Ends c o.todo node w → RemovalStep c o (RemovalStage.Removing w) (rm.remove_step c o node w true)
   leaves : (node : Node) → first_node c.nodes o.todo ≡ Some node → RemovalStep c o RemovalStage.Settling (rm.settle c o node true)
   ejects : (node : Node) → first_node c.nodes o.todo ≡ Some node → RemovalStep c o RemovalStage.Settling (rm.settle_target c o node true)
-  disables : (node : Node) → first_node c.nodes o.todo ≡ Some node → has o.set node.parent ≡ false → RemovalStep c o RemovalStage.Settling (rm.settle_target c o node false)
+  disables : (node : Node) → first_node c.nodes o.todo ≡ Some node → has o.set node.parent ≡ false → (node.serial == o.target) ≡ true → RemovalStep c o RemovalStage.Settling (rm.settle_target c o node false)
   remains : (node : Node) (problem : Problem) → first_node c.nodes o.todo ≡ Some node → has o.set node.parent ≡ false → NotTwelve problem → RemovalStep c o RemovalStage.Settling (rm.remains c o node problem RemoveBeside.On)
   closes : RemovalStep c o RemovalStage.Ending (rm.close c o)
 
@@ -140,7 +140,7 @@ module _ (budget : ℕ) (s : State) (o : Removal) where
   rm_settles node is first over =
       by_test (λ b. OperationStep s (Operation.Removing o) (ma.removal_lifted s (rm.settle_outer s.core o node b))) (node.serial == o.target)
       (λ target. by_test (λ b. OperationStep s (Operation.Removing o) (ma.removal_lifted s (rm.settle_target s.core o node b))) (is_eject o.kind)
-      (λ eject. OperationStep.removes o _ _ is (RemovalStep.ejects node first)) (λ disable. OperationStep.removes o _ _ is (RemovalStep.disables node first over)))
+      (λ eject. OperationStep.removes o _ _ is (RemovalStep.ejects node first)) (λ disable. OperationStep.removes o _ _ is (RemovalStep.disables node first over target)))
       (λ other. by_test (λ b. OperationStep s (Operation.Removing o) (ma.removal_lifted s (rm.settle_related s.core o node b))) (is_eject o.kind && has o.ejecting node.serial)
       (λ ejecting. OperationStep.removes o _ _ is (RemovalStep.remains node Problem.HeldForEject first over tt)) (λ held. OperationStep.removes o _ _ is (RemovalStep.remains node Problem.Held first over tt)))
 

@@ -135,7 +135,7 @@ module _ (before c : Core) (o : Removal) where
   since_step stage m keeps since (RemovalStep.removes node w e) = inl (record { within = tt; on = tt; since = since })
   since_step stage m keeps since (RemovalStep.leaves node first) = inl (finishes _ tt tt refl since)
   since_step stage m keeps since (RemovalStep.ejects node first) = inl (finishes _ tt tt refl since)
-  since_step stage m keeps since (RemovalStep.disables node first over) = inl (finishes _ tt tt refl since)
+  since_step stage m keeps since (RemovalStep.disables node first over target) = inl (finishes _ tt tt refl since)
   since_step stage m keeps since (RemovalStep.remains node problem first over other) = inl (finishes _ tt tt refl since)
   since_step stage m keeps since RemovalStep.closes = inr (refl, refl)
 

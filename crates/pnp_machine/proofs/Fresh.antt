@@ -18,14 +18,14 @@ use Rattle.pnp_labels.specs.declared.event.Rule.{Rule}
 use Rattle.pnp_labels.specs.declared.label.OpKind.{OpKind}
 use Rattle.pnp_labels.specs.declared.label.Label.{Label}
 use Rattle.pnp_model.specs.Books.{is_named}
-use Rattle.pnp_model.specs.Cores.{is_node, node_at, bare, with_state, with_problem, stack_of}
+use Rattle.pnp_model.specs.Cores.{drop_node, is_node, node_at, bare, with_state, with_problem, stack_of}
 use Rattle.pnp_model.specs.Frames.{first_node, rest}
 use Rattle.pnp_model.specs.Keyed.{changed_first, without_first}
 use Rattle.pnp_model.specs.Laws.{Reaches}
 use Rattle.pnp_model.specs.Machine.{begin_alone, activity_next, idle_next, is_ready, is_waiting, next, next_of, operation_next, operation_walk, after_start, removal_lifted, start_lifted, task_next, task_of, IsStep}
 use Rattle.pnp_model.specs.Records.{Activity, Choice, Core, Device, Doing, Driver, Duty, Found, Node, Operation, Phase, Removal, RemovalStage, Settings, State, Step, Task, Walk, doing_map}
 use Rattle.pnp_model.specs.Records.Doing.{Does, Searches}
-use Rattle.pnp_model.specs.Removals.{RemoveBeside, ask_on, ask_step, begun_with, cancel_on, cancel_step, ejecting, end_ask, finish_on, finish_with, leaves, remove_step, removal_step, settle, settle_outer, settle_related, settle_target, take_back}
+use Rattle.pnp_model.specs.Removals.{RemovalMove, ask_on, begun_with, cancel_on, ejecting, finish_on, finish_with}
 use Rattle.pnp_model.specs.Runs.{Entry, Goes}
 use Rattle.pnp_model.specs.Runs.Entry.{Happens, Did}
 use Rattle.pnp_model.specs.Starts.{StartBeside, StartMove, act}
@@ -45,8 +45,8 @@ use Rattle.pnp_laws.proofs.Finishing.{relist_only}
 use Rattle.pnp_laws.proofs.Lists.{HeadIs, head_found, head_has, rest_not, rest_within}
 use Rattle.pnp_laws.proofs.Lookups.{found_self, left_from, node_from, some_same}
 use Rattle.pnp_laws.proofs.Reached.{reached_is_good}
-use Rattle.pnp_laws.proofs.Passing.{AllNext, all_step}
 use Rattle.pnp_laws.proofs.Reaching.{kept}
+use Rattle.pnp_laws.proofs.Stages.{OperationStep, RemovalStep, operation_step, reply}
 use Rattle.pnp_model.specs.Events as ev
 
 -- the path of the device is not disabled
@@ -74,9 +74,6 @@ FreshWhile (Some (Operation.Surprising o)) nodes disabled = Unit {0}
 
 abbrev pub IsTargetFresh : State → Type 0
 IsTargetFresh s = FreshWhile s.operation s.core.nodes s.disabled
-
-abbrev FreshNext : ℕ → Option (Doing Step) → Type 0
-FreshNext budget doing = AllNext (λ x. IsTargetFresh x.state) budget doing
 
 -- What keeps it -----------------------------------------------------------------------
 
@@ -127,85 +124,42 @@ module _ (old new : List Node) (disabled : List Text) where
 -- A step of a removal -----------------------------------------------------------------------
 
 module _ (s : State) (o : Removal) where
-  queries_on : (node : Node) (bad : Bool) → (is_eject o.kind ≡ false → IsFreshAt o.target s.core.nodes s.disabled) → IsTargetFresh (removal_lifted s (end_ask s.core o node bad)).state
-  queries_on node true h = λ e. tt
-  queries_on node false h =
+  remains_fresh : (node : Node) (problem : Problem) → (is_eject o.kind ≡ false → has o.todo o.target ≡ true → IsFreshAt o.target s.core.nodes s.disabled)
+      → FreshFor (finish_on s.core.nodes o (rest o.todo)) (changed_first (is_node node.serial) (with_problem (Some problem)) s.core.nodes) s.disabled
+  remains_fresh node problem h =
+      finishes s.core.nodes _ s.disabled o (rest o.todo)
+      (λ e there. changed_fresh o.target node.serial (with_problem (Some problem)) s.core.nodes s.disabled (λ n. refl) (λ n. refl) (h e (rest_within o.target o.todo there)))
+
+  leaves_fresh : (node : Node) → Ascending 0 s.core.nodes → (is_eject o.kind ≡ false → has o.todo o.target ≡ true → IsFreshAt o.target s.core.nodes s.disabled)
+      → FreshFor (finish_on s.core.nodes o (rest o.todo)) (without_first (is_node node.serial) s.core.nodes) s.disabled
+  leaves_fresh node order h =
+      finishes s.core.nodes _ s.disabled o (rest o.todo)
+      (λ e there. left_fresh o.target node.serial s.core.nodes s.disabled order (h e (rest_within o.target o.todo there)))
+
+  -- the target is no longer to do
+  not_again : (node : Node) → HeadIs node.serial o.todo → Distinct o.todo → (node.serial == o.target) ≡ true → has (rest o.todo) o.target ≡ true → ⊥
+  not_again node head distinct is there =
+      let own : node.serial ≡ o.target = grind (arith, nat_tests) in
+      let gone = subst (λ (k : ℕ). has (rest o.todo) k ≡ false) own (rest_not node.serial o.todo head distinct) in
+      cc
+
+  removal_fresh : (stage : RemovalStage) (m : RemovalMove) → Ascending 0 s.core.nodes → Distinct o.todo → (is_eject o.kind ≡ false → FreshIn o stage s.core.nodes s.disabled) → RemovalStep s.core o stage m
+      → IsTargetFresh (removal_lifted s m).state
+  removal_fresh stage m order distinct h (RemovalStep.agrees node w e good) =
       asks s.core.nodes _ s.disabled (record o { agreed = node.serial ∷ o.agreed }) (rest o.todo)
       (λ e. changed_fresh o.target node.serial (with_state RemovePending) s.core.nodes s.disabled (λ n. refl) (λ n. refl) (h e))
-
-  queries : (node : Node) (w : Walk) (ends : Bool) → (is_eject o.kind ≡ false → IsFreshAt o.target s.core.nodes s.disabled) → IsTargetFresh (removal_lifted s (ask_step s.core o node w ends)).state
-  queries node w true h = queries_on node (is_bad w) h
-  queries node w false h = h
-
-  takes_back : (node : Node) (w : Walk) (ends : Bool) → IsTargetFresh (removal_lifted s (take_back s.core o node w ends)).state
-  takes_back node w true = cancels s.core.nodes _ s.disabled o o.agreed
-  takes_back node w false = λ e. tt
-
-  cancels_query : (node : Node) (w : Walk) (ends : Bool) → IsTargetFresh (removal_lifted s (cancel_step s.core o node w ends)).state
-  cancels_query node w true = cancels s.core.nodes _ s.disabled o (rest o.todo)
-  cancels_query node w false = λ e. tt
-
-  module _ (h : is_eject o.kind ≡ false → has o.todo o.target ≡ true → IsFreshAt o.target s.core.nodes s.disabled) where
-    removes : (node : Node) (w : Walk) (ends : Bool) → IsTargetFresh (removal_lifted s (remove_step s.core o node w ends)).state
-    removes node w true = λ e there. changed_fresh o.target node.serial bare s.core.nodes s.disabled (λ n. refl) (λ n. refl) (h e there)
-    removes node w false = h
-
-    remains_fresh : (node : Node) (problem : Problem) → FreshFor (finish_on s.core.nodes o (rest o.todo)) (changed_first (is_node node.serial) (with_problem (Some problem)) s.core.nodes) s.disabled
-    remains_fresh node problem =
-        finishes s.core.nodes _ s.disabled o (rest o.todo)
-        (λ e there. changed_fresh o.target node.serial (with_problem (Some problem)) s.core.nodes s.disabled (λ n. refl) (λ n. refl) (h e (rest_within o.target o.todo there)))
-
-    settles_related : (node : Node) (b : Bool) → IsTargetFresh (removal_lifted s (settle_related s.core o node b)).state
-    settles_related node true = remains_fresh node Problem.HeldForEject
-    settles_related node false = remains_fresh node Problem.Held
-
-    module _ (order : Ascending 0 s.core.nodes) (distinct : Distinct o.todo) (node : Node) (head : HeadIs node.serial o.todo) where
-      leaves_fresh : FreshFor (finish_on s.core.nodes o (rest o.todo)) (without_first (is_node node.serial) s.core.nodes) s.disabled
-      leaves_fresh =
-          finishes s.core.nodes _ s.disabled o (rest o.todo)
-          (λ e there. left_fresh o.target node.serial s.core.nodes s.disabled order (h e (rest_within o.target o.todo there)))
-
-      -- the target is no longer to do
-      not_again : (node.serial == o.target) ≡ true → has (rest o.todo) o.target ≡ true → ⊥
-      not_again is there =
-          let own : node.serial ≡ o.target = grind (arith, nat_tests) in
-          let gone = subst (λ (k : ℕ). has (rest o.todo) k ≡ false) own (rest_not node.serial o.todo head distinct) in
-          cc
-
-      settles_target : (b : Bool) → (node.serial == o.target) ≡ true → IsTargetFresh (removal_lifted s (settle_target s.core o node b)).state
-      settles_target true is =
-          let m = leaves s.core o node (Label.Ejected node.path) (RemoveBeside.Ejected node.path node.born) in
-          relist_fresh node.path node.born (unplug node.born (set_operation (Some (Operation.Removing m.frame)) (with_core m.core s))) leaves_fresh
-      settles_target false is = finishes s.core.nodes _ (s.disabled ++ node.path ∷ []) o (rest o.todo) (λ e there. absurd (not_again is there))
-
-      settles_outer : (b : Bool) → (node.serial == o.target) ≡ b → IsTargetFresh (removal_lifted s (settle_outer s.core o node b)).state
-      settles_outer true is = settles_target (is_eject o.kind) is
-      settles_outer false is = settles_related node _
-
-      settles : (b : Bool) → IsTargetFresh (removal_lifted s (settle s.core o node b)).state
-      settles true =
-          let m = leaves s.core o node (Label.Leave node.path) (RemoveBeside.Left node.path node.born) in
-          relist_fresh node.path node.born (set_operation (Some (Operation.Removing m.frame)) (with_core m.core s)) leaves_fresh
-      settles false = settles_outer _ refl
-
-  removal_fresh : (budget : ℕ) (stage : RemovalStage) (n : Option Node) → first_node s.core.nodes o.todo ≡ n → Ascending 0 s.core.nodes → Distinct o.todo
-      → (is_eject o.kind ≡ false → FreshIn o stage s.core.nodes s.disabled) → FreshNext budget (option_map (λ m. Does (removal_lifted s m)) (removal_step s.core o stage n))
-  removal_fresh budget RemovalStage.Ending n first order distinct h = tt
-  removal_fresh budget (RemovalStage.Asking w) (Some node) first order distinct h = queries node w _ h
-  removal_fresh budget (RemovalStage.TakingBack w) (Some node) first order distinct h = takes_back node w _
-  removal_fresh budget (RemovalStage.Cancelling w) (Some node) first order distinct h = cancels_query node w _
-  removal_fresh budget (RemovalStage.Removing w) (Some node) first order distinct h = removes h node w _
-  removal_fresh budget RemovalStage.Settling (Some node) first order distinct h =
-      settles h order distinct node (head_found s.core.nodes o.todo node first).0 (has o.set node.parent)
-  removal_fresh budget (RemovalStage.Asking w) None first order distinct h = tt
-  removal_fresh budget (RemovalStage.TakingBack w) None first order distinct h = tt
-  removal_fresh budget (RemovalStage.Cancelling w) None first order distinct h = tt
-  removal_fresh budget (RemovalStage.Removing w) None first order distinct h = tt
-  removal_fresh budget RemovalStage.Settling None first order distinct h = tt
-
-  removing_fresh : (budget : ℕ) (waits : Bool) → Ascending 0 s.core.nodes → Distinct o.todo → FreshFor o s.core.nodes s.disabled → FreshNext budget (operation_next s (Operation.Removing o) waits)
-  removing_fresh budget true order distinct h = tt
-  removing_fresh budget false order distinct h = removal_fresh budget o.stage (first_node s.core.nodes o.todo) refl order distinct h
+  removal_fresh stage m order distinct h (RemovalStep.refuses node w e bad) = λ e. tt
+  removal_fresh stage m order distinct h (RemovalStep.takes_back node w e) = cancels s.core.nodes _ s.disabled o o.agreed
+  removal_fresh stage m order distinct h (RemovalStep.cancels node w e) = cancels s.core.nodes _ s.disabled o (rest o.todo)
+  removal_fresh stage m order distinct h (RemovalStep.removes node w e) = λ e there. changed_fresh o.target node.serial bare s.core.nodes s.disabled (λ n. refl) (λ n. refl) (h e there)
+  removal_fresh stage m order distinct h (RemovalStep.leaves node first) =
+      relist_fresh node.path node.born (set_operation (Some (Operation.Removing (finish_on s.core.nodes o (rest o.todo)))) (with_core (drop_node node.serial s.core) s)) (leaves_fresh node order h)
+  removal_fresh stage m order distinct h (RemovalStep.ejects node first) =
+      relist_fresh node.path node.born (unplug node.born (set_operation (Some (Operation.Removing (finish_on s.core.nodes o (rest o.todo)))) (with_core (drop_node node.serial s.core) s))) (leaves_fresh node order h)
+  removal_fresh stage m order distinct h (RemovalStep.disables node first over target) =
+      finishes s.core.nodes _ (s.disabled ++ node.path ∷ []) o (rest o.todo) (λ e there. absurd (not_again node (head_found s.core.nodes o.todo node first).0 distinct target there))
+  removal_fresh stage m order distinct h (RemovalStep.remains node problem first over other) = remains_fresh node problem h
+  removal_fresh stage m order distinct h RemovalStep.closes = tt
 
 -- A step where no operation runs ----------------------------------------------------------------
 
@@ -223,6 +177,31 @@ begins_fresh s OpKind.Disable node at fits =
     (λ e m there. ap (λ (x : Node). has_same x.path s.disabled) (some_same (node_at node.serial s.core.nodes) m node there at) ∙ fits)
 begins_fresh s OpKind.Eject node at fits = begun_fresh s.core s.disabled OpKind.Eject node (leaving s.core node.serial) (λ e. absurd (cc))
 begins_fresh s OpKind.Surprise node at fits = tt
+
+-- an answer leaves its walk where it is
+answer_fresh : (nodes : List Node) (disabled : List Text) (answer : Answer) (o : Operation) → FreshWhile (Some o) nodes disabled → FreshWhile (Some (ev.completed answer o)) nodes disabled
+answer_fresh nodes disabled answer (Operation.Rebalancing r) h = tt
+answer_fresh nodes disabled answer (Operation.Surprising o) h = tt
+answer_fresh nodes disabled answer (Operation.Removing o) h = λ e. by_stage o.stage (h e)
+  where
+    by_stage : (stage : RemovalStage) → FreshIn o stage nodes disabled → FreshIn (record o { stage = ev.completed_removal answer o.stage }) (ev.completed_removal answer stage) nodes disabled
+    by_stage (RemovalStage.TakingBack w) g = tt
+    by_stage (RemovalStage.Cancelling w) g = tt
+    by_stage RemovalStage.Ending g = tt
+    by_stage _ g = g
+
+-- the step of a removal that runs
+abbrev FreshOf : State → Operation → Type 0
+FreshOf s (Operation.Removing o) = Distinct o.todo × FreshFor o s.core.nodes s.disabled
+FreshOf s _ = ⊥
+
+operation_fresh : (s : State) (o : Operation) (step : Step) → Ascending 0 s.core.nodes → FreshOf s o → OperationStep s o step → IsTargetFresh step.state
+operation_fresh s p step order h (OperationStep.asks (Operation.Removing o) node w asks) = answer_fresh s.core.nodes s.disabled (reply s.core node w) (Operation.Removing o) h.1
+operation_fresh s p step order h (OperationStep.asks (Operation.Rebalancing r) node w asks) = absurd h
+operation_fresh s p step order h (OperationStep.asks (Operation.Surprising o) node w asks) = absurd h
+operation_fresh s p step order h (OperationStep.rebalances r stage m is x) = absurd h
+operation_fresh s p step order h (OperationStep.removes o stage m is x) = removal_fresh s o stage m order h.0 (subst (λ (y : RemovalStage). is_eject o.kind ≡ false → FreshIn o y s.core.nodes s.disabled) is h.1) x
+operation_fresh s p step order h (OperationStep.surprises o stage m is x) = absurd h
 
 -- Each step ----------------------------------------------------------------------------------------
 
@@ -246,9 +225,7 @@ step_fresh settings s label t good (OpEffect.goes (Operation.Surprising o) p run
 step_fresh settings s label t good (OpEffect.goes (Operation.Removing o) p runs now work prints) goes h =
     let keeps = subst (λ (x : Option Operation). OperationFits x s.core.nodes) runs good.fits in
     let fresh = subst (λ (x : Option Operation). FreshWhile x s.core.nodes s.disabled) runs h in
-    all_step (λ x. IsTargetFresh x.state) settings (next settings s) (record { label = label; state = t })
-    (subst (λ (x : Option Operation). FreshNext settings.budget (next_of settings s x)) (sym runs)
-    (removing_fresh s o settings.budget (is_waiting (operation_walk (Operation.Removing o))) good.serials keeps.todo fresh)) goes
+    operation_fresh s (Operation.Removing o) (record { label = label; state = t }) good.serials (keeps.todo, fresh) (operation_step settings s (Operation.Removing o) (record { label = label; state = t }) runs goes)
 step_fresh settings s label t good (OpEffect.ends o result runs now prints by) goes h = none_fresh t now
 
 -- Events -------------------------------------------------------------------------------------------
@@ -281,20 +258,6 @@ fewer_fresh nodes old new fewer (Some (Operation.Removing o)) h = λ e. by_stage
     by_stage (RemovalStage.Cancelling w) g = tt
     by_stage (RemovalStage.Removing w) g = λ there n at. fewer n.path (g there n at)
     by_stage RemovalStage.Settling g = λ there n at. fewer n.path (g there n at)
-    by_stage RemovalStage.Ending g = tt
-
--- an answer leaves its walk where it is
-answer_fresh : (nodes : List Node) (disabled : List Text) (answer : Answer) (o : Operation) → FreshWhile (Some o) nodes disabled → FreshWhile (Some (ev.completed answer o)) nodes disabled
-answer_fresh nodes disabled answer (Operation.Rebalancing r) h = tt
-answer_fresh nodes disabled answer (Operation.Surprising o) h = tt
-answer_fresh nodes disabled answer (Operation.Removing o) h = λ e. by_stage o.stage (h e)
-  where
-    by_stage : (stage : RemovalStage) → FreshIn o stage nodes disabled → FreshIn (record o { stage = ev.completed_removal answer o.stage }) (ev.completed_removal answer stage) nodes disabled
-    by_stage (RemovalStage.Asking w) g = g
-    by_stage (RemovalStage.TakingBack w) g = tt
-    by_stage (RemovalStage.Cancelling w) g = tt
-    by_stage (RemovalStage.Removing w) g = g
-    by_stage RemovalStage.Settling g = g
     by_stage RemovalStage.Ending g = tt
 
 answered_fresh : (nodes : List Node) (disabled : List Text) (old new : Option Operation) → Answered old new → FreshWhile old nodes disabled → FreshWhile new nodes disabled
