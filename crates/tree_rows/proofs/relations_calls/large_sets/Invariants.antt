@@ -1,5 +1,5 @@
 use Rattle.std.proofs.Common.{◌≡◌, ◌+◌}
-use Rattle.part_rows.proofs.relations_calls.large_sets.Given as goal
+use Rattle.tree_rows.proofs.relations_calls.large_sets.Given as goal
 
 abbrev pub invariant-loop-wide : goal.invariant-loop-wide
 invariant-loop-wide g l = l.tree.next ≡ l.wide + 1

@@ -2,7 +2,7 @@ use Rattle.std.proofs.Common.{List, subst, sym}
 use Rattle.resource_reqs.specs.Resources.{Res}
 use Rattle.device_holdings.specs.Mirrors.{Mirrors}
 use Rattle.device_holdings.proofs.Apart.{mirrors_same}
-use Rattle.part_rows.proofs.device_holdings_calls.a_device_gets_and_loses_its_interrupt.Goals as goal
+use Rattle.stack_rows.proofs.device_holdings_calls.a_device_gets_and_loses_its_interrupt.Goals as goal
 
 pub assign-requires-clause-mirrored : goal.assign-requires-clause-mirrored
 assign-requires-clause-mirrored g c = (

@@ -6,7 +6,7 @@ use Rattle.pnp_model.specs.Runs.{root_node}
 use Rattle.devnode_tree.specs.Trees.{Tree, with_node}
 use Rattle.device_holdings.specs.Mirrors.{Mirrors}
 use Rattle.device_holdings.proofs.Apart.{mirrors_none, mirrors_joined}
-use Rattle.part_rows.proofs.device_holdings_calls.one_device.Goals as goal
+use Rattle.stack_rows.proofs.device_holdings_calls.one_device.Goals as goal
 
 two_nodes : (t u : Tree) (n : Node) (a : Arbiters) → t ≡ record { nodes = root_node ∷ []; next = 1 } → u ≡ with_node n t → n.holds ≡ []
     → ((kind : Kind) → of_kind a kind ≡ record { kind = kind; pairs = []; spare = 0 }) → Mirrors [] u.nodes a

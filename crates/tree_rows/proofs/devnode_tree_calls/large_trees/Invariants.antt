@@ -1,5 +1,5 @@
 use Rattle.std.proofs.Common.{◌≡◌, ◌+◌}
-use Rattle.part_rows.proofs.devnode_tree_calls.large_trees.Given as goal
+use Rattle.tree_rows.proofs.devnode_tree_calls.large_trees.Given as goal
 
 abbrev pub invariant-loop-wide : goal.invariant-loop-wide
 invariant-loop-wide g l = l.tree.next ≡ l.wide-counter + 1

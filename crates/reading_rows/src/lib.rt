@@ -2,15 +2,7 @@
 #![tactic(auto)]
 
 #[cfg(test)]
-mod device_holdings_calls;
-#[cfg(test)]
 mod device_ids_calls;
-#[cfg(test)]
-mod device_stack_calls;
-#[cfg(test)]
-mod devnode_tree_calls;
-#[cfg(test)]
-mod driver_rack_calls;
 #[cfg(test)]
 mod driver_rank_calls;
 #[cfg(test)]
@@ -18,8 +10,4 @@ mod inf_reader_calls;
 #[cfg(test)]
 mod pnp_labels_calls;
 #[cfg(test)]
-mod relations_calls;
-#[cfg(test)]
 mod resource_reqs_calls;
-#[cfg(test)]
-mod script_bus_calls;
