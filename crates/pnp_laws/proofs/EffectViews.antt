@@ -22,7 +22,7 @@ pub record KeepsIds (f : Node → Node) : Type 0 where
 pub alters_keeps : (s : State) (label : Label) (j : ℕ) (f : Node → Node) → Alters s label j f → KeepsIds f
 alters_keeps s label j f (Alters.walked node minor w bad at request other ends verdict prints) = record { serial = λ n. refl; hw = λ n. refl; compat = λ n. refl; reqs = λ n. refl }
 alters_keeps s label j f (Alters.troubled k problem) = record { serial = λ n. refl; hw = λ n. refl; compat = λ n. refl; reqs = λ n. refl }
-alters_keeps s label j f (Alters.stacks node d ds at acts) = record { serial = λ n. refl; hw = λ n. refl; compat = λ n. refl; reqs = λ n. refl }
+alters_keeps s label j f (Alters.stacks node d ds name at acts prints) = record { serial = λ n. refl; hw = λ n. refl; compat = λ n. refl; reqs = λ n. refl }
 alters_keeps s label j f (Alters.assigned node phase plan acts search part) = record { serial = λ n. refl; hw = λ n. refl; compat = λ n. refl; reqs = λ n. refl }
 
 -- a device that was up does not become one that never was
@@ -55,6 +55,6 @@ pub alters_up : (s : State) (label : Label) (j : ℕ) (f : Node → Node) → Al
 alters_up s label j f (Alters.walked node minor w bad at request other ends verdict prints) n there =
     subst (λ (m : Node). StaysUp m.state (state_after minor bad node.state)) (some_same (node_at node.serial s.core.nodes) node n at there) (walk_up minor bad node.state other)
 alters_up s label j f (Alters.troubled k problem) n there = λ up. up
-alters_up s label j f (Alters.stacks node d ds at acts) n there =
+alters_up s label j f (Alters.stacks node d ds name at acts prints) n there =
     subst (λ (m : Node). StaysUp m.state (stacked node.state)) (some_same (node_at node.serial s.core.nodes) node n at there) (stacked_up node.state)
 alters_up s label j f (Alters.assigned node phase plan acts search part) n there = λ up. up

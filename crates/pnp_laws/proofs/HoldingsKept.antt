@@ -233,7 +233,7 @@ module _ (s : State) (label : Label) (good : IsGood s) (planned : IsPlanned s) (
       subst (λ (x : Node). HeldWell (with_state (state_after minor bad node.state) x)) same
       (record { up = λ e. asked_whole node minor w other at request; bare = λ e. (well node.serial node at).bare (stays_bare minor bad node.state other e) })
   altered_well j f (Alters.troubled k problem) n there = let h = well k n there in record { up = h.up; bare = h.bare }
-  altered_well j f (Alters.stacks node d ds at acts) n there =
+  altered_well j f (Alters.stacks node d ds name at acts prints) n there =
       waiting_well (with_stack (node.stack ++ d ∷ []) (stacked node.state) n) (stacked_idle node.state (fits_at node.serial (Phase.Adding (d ∷ ds)) node acts at))
   altered_well j f (Alters.assigned node phase plan acts search part) n there =
       waiting_well (with_holds (own_part plan) n) (search_waits phase n.state search (fits_at node.serial phase n acts there))
@@ -288,7 +288,7 @@ module _ (s : State) (label : Label) (good : IsGood s) (planned : IsPlanned s) (
     altered_starts j f (Alters.walked node minor w bad at request other ends verdict prints) =
         whole_changed k node.serial _ s.core.nodes (record { reqs = record { serial = λ n. refl; reqs = λ n. refl }; holds = λ n. refl }) before
     altered_starts j f (Alters.troubled i problem) = whole_changed k i _ s.core.nodes (record { reqs = record { serial = λ n. refl; reqs = λ n. refl }; holds = λ n. refl }) before
-    altered_starts j f (Alters.stacks node d ds at acts) = whole_changed k node.serial _ s.core.nodes (record { reqs = record { serial = λ n. refl; reqs = λ n. refl }; holds = λ n. refl }) before
+    altered_starts j f (Alters.stacks node d ds name at acts prints) = whole_changed k node.serial _ s.core.nodes (record { reqs = record { serial = λ n. refl; reqs = λ n. refl }; holds = λ n. refl }) before
     altered_starts j f (Alters.assigned node phase plan acts search part) = λ m g.
         elim (node_from node.serial k (with_holds (own_part plan)) s.core.nodes m (λ n. refl) g) [
           | inl (e, more) ↦ absurd (not_acting phase (subst (λ (i : ℕ). Acting s i phase) e acts) (search_quiet phase search))
@@ -330,12 +330,12 @@ module _ (s : State) (label : Label) (good : IsGood s) (planned : IsPlanned s) (
       subst (WholeAt r.target) (sym nodes) (kept (ap has_plan found))
 
   entered_starts : (t : State) (k : ℕ) (phase : Phase) → Enters s k t phase → is_starting phase ≡ true → WholeAt k t.core.nodes
-  entered_starts t k phase (Enters.installs drivers free) starts = absurd (let quiet = adding_quiet drivers in cc)
+  entered_starts t k phase (Enters.installs drivers chosen) starts = absurd (let quiet = adding_quiet drivers in cc)
   entered_starts t k phase (Enters.restarts r plan runs is target found nodes) starts = subst (λ (i : ℕ). WholeAt i t.core.nodes) target (restarted t r plan runs is found nodes)
   entered_starts t k phase (Enters.undoes r runs target) starts = absurd (cc)
 
   entered_free : (t : State) (k : ℕ) (phase : Phase) → Enters s k t phase → activity_at k s.activities ≡ None
-  entered_free t k phase (Enters.installs drivers free) = free
+  entered_free t k phase (Enters.installs drivers chosen) = chosen.free
   entered_free t k phase (Enters.restarts r plan runs is target found nodes) = ap (activity_at k) (alone (Operation.Rebalancing r) runs)
   entered_free t k phase (Enters.undoes r runs target) = ap (activity_at k) (alone (Operation.Rebalancing r) runs)
 
