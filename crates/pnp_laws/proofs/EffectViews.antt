@@ -6,11 +6,24 @@ use Rattle.pnp_labels.specs.declared.states.DevState.TheVariants.{NoStack, NotSt
 use Rattle.pnp_labels.specs.declared.words.Minor.{Minor}
 use Rattle.pnp_labels.specs.declared.words.Minor.TheVariants.{Start, QueryRemove, Remove, CancelRemove, Stop, QueryStop, CancelStop, SurpriseRemoval}
 use Rattle.pnp_model.specs.Cores.{node_at, stacked}
-use Rattle.pnp_model.specs.Records.{Node, State}
+use Rattle.pnp_model.specs.Machine.{is_ready}
+use Rattle.pnp_model.specs.Records.{Activity, Node, Phase, State}
+use Rattle.pnp_model.specs.States.{activity_at}
 use Rattle.pnp_model.specs.Walks.{state_after}
-use Rattle.pnp_laws.specs.Effects.{Alters}
-use Rattle.pnp_laws.specs.Kept.{is_idle}
-use Rattle.pnp_laws.proofs.Lookups.{some_same}
+use Rattle.pnp_laws.specs.Effects.{Acting, Alters}
+use Rattle.pnp_laws.specs.Kept.{InOrder, is_idle}
+use Rattle.pnp_laws.proofs.Lookups.{ready_found, some_same}
+
+-- the start that acts, by its device
+pub record ActsAt (s : State) (k : ℕ) (phase : Phase) : Type 0 where
+  pub activity : Activity
+  pub at : activity_at k s.activities ≡ Some activity
+  pub is : activity.phase ≡ phase
+
+pub acting_at : (s : State) (k : ℕ) (phase : Phase) → InOrder 0 s.activities → Acting s k phase → ActsAt s k phase
+acting_at s k phase order acts =
+    let at = (ready_found is_ready 0 s.activities acts.activity order acts.ready).1 in
+    record { activity = acts.activity; at = subst (λ (i : ℕ). activity_at i s.activities ≡ Some acts.activity) acts.own at; is = acts.is }
 
 -- a change of a node that keeps its serial, its IDs and its requirements
 pub record KeepsIds (f : Node → Node) : Type 0 where

@@ -15,7 +15,6 @@ use Rattle.pnp_model.specs.Cores.{bare, is_node, new_node, node_at, stacked, wit
 use Rattle.pnp_model.specs.Frames.{fixed_beside}
 use Rattle.pnp_model.specs.Keyed.{changed_first, without_first}
 use Rattle.pnp_model.specs.Laws.{is_up_to_now, HoldsWhole}
-use Rattle.pnp_model.specs.Machine.{is_ready}
 use Rattle.pnp_model.specs.Rebalances.{committed, movers, part_for, plan_of}
 use Rattle.pnp_model.specs.Records.{Activity, Node, Operation, Phase, Rebalance, RebalanceStage, Removal, RemovalStage, State, Step, Surprise, SurpriseStage, Walk}
 use Rattle.pnp_model.specs.Starts.{adding, own_part}
@@ -24,12 +23,12 @@ use Rattle.pnp_model.specs.Tests.{has, is_told}
 use Rattle.pnp_model.specs.Walks.{state_after}
 use Rattle.pnp_laws.specs.Effects.{ActivityEffect, Acting, Alters, Assigned, Enters, IsSearch, NodeEffect, PhaseStep, Request, operation_minor, rebalance_minor, removal_minor, surprise_minor, todo_of}
 use Rattle.pnp_laws.specs.Holdings.{HeldWell, IsWhole, StartsWhole, WholeAt, has_plan, is_starting}
-use Rattle.pnp_laws.specs.Kept.{Alone, Fits, InOrder, IsGood, OperationFits, RebalanceKeeps, RemovalKeeps, SurpriseKeeps, asking_state, pending_state, restoring_state, stopped_state, stopping_state, telling_state}
+use Rattle.pnp_laws.specs.Kept.{Alone, Fits, IsGood, OperationFits, RebalanceKeeps, RemovalKeeps, SurpriseKeeps, asking_state, pending_state, restoring_state, stopped_state, stopping_state, telling_state}
 use Rattle.pnp_laws.specs.Plans.{IsPlanned, PlanFits, PlanKept, StagePlan}
-use Rattle.pnp_laws.proofs.EffectViews.{alters_keeps}
+use Rattle.pnp_laws.proofs.EffectViews.{acting_at, alters_keeps}
 use Rattle.pnp_laws.proofs.EventChanges.{starting_still}
 use Rattle.pnp_laws.proofs.Lists.{head_found, head_has}
-use Rattle.pnp_laws.proofs.Lookups.{ended_other, ended_same, entered_other, entered_same, joined_from, left_from, map_from, node_from, own_serial, phase_from, ready_found, some_same}
+use Rattle.pnp_laws.proofs.Lookups.{ended_other, ended_same, entered_other, entered_same, joined_from, left_from, map_from, node_from, own_serial, phase_from, some_same}
 use Rattle.pnp_laws.proofs.OpSteps.{is_RemovePending, is_Started, is_StopPending, is_Stopped}
 use Rattle.pnp_laws.proofs.PlansKept.{mover_whole, whole_changed}
 use Rattle.pnp_laws.proofs.RemovalSteps.{head_querying, head_refusing}
@@ -107,17 +106,6 @@ module _ (nodes : List Node) (node : Node) (minor : Minor) (other : minor ≢ Mi
   asked_up (Operation.Surprising o) keeps here is = su_up o o.stage keeps here is
 
 -- Starts ------------------------------------------------------------------------------------
-
--- a device whose start is under way
-record Started_at (s : State) (k : ℕ) (phase : Phase) : Type 0 where
-  activity : Activity
-  at : activity_at k s.activities ≡ Some activity
-  is : activity.phase ≡ phase
-
-acting_at : (s : State) (k : ℕ) (phase : Phase) → InOrder 0 s.activities → Acting s k phase → Started_at s k phase
-acting_at s k phase order acts =
-    let at = (ready_found is_ready 0 s.activities acts.activity order acts.ready).1 in
-    record { activity = acts.activity; at = subst (λ (i : ℕ). activity_at i s.activities ≡ Some acts.activity) acts.own at; is = acts.is }
 
 adding_quiet : (ds : List ℕ) → is_starting (adding ds) ≡ false
 adding_quiet [] = refl
