@@ -66,7 +66,7 @@ adding_fine [] = tt
 adding_fine (d ∷ ds) = tt
 
 entered_fine : (s : State) (k : ℕ) (t : State) (phase : Phase) → Enters s k t phase → DueFine phase
-entered_fine s k t phase (Enters.installs drivers free) = adding_fine drivers
+entered_fine s k t phase (Enters.installs drivers chosen) = adding_fine drivers
 entered_fine s k t phase (Enters.restarts r plan runs is target found nodes) = tt
 entered_fine s k t phase (Enters.undoes r runs target) = tt
 

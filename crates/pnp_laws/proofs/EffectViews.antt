@@ -6,11 +6,24 @@ use Rattle.pnp_labels.specs.declared.states.DevState.TheVariants.{NoStack, NotSt
 use Rattle.pnp_labels.specs.declared.words.Minor.{Minor}
 use Rattle.pnp_labels.specs.declared.words.Minor.TheVariants.{Start, QueryRemove, Remove, CancelRemove, Stop, QueryStop, CancelStop, SurpriseRemoval}
 use Rattle.pnp_model.specs.Cores.{node_at, stacked}
-use Rattle.pnp_model.specs.Records.{Node, State}
+use Rattle.pnp_model.specs.Machine.{is_ready}
+use Rattle.pnp_model.specs.Records.{Activity, Node, Phase, State}
+use Rattle.pnp_model.specs.States.{activity_at}
 use Rattle.pnp_model.specs.Walks.{state_after}
-use Rattle.pnp_laws.specs.Effects.{Alters}
-use Rattle.pnp_laws.specs.Kept.{is_idle}
-use Rattle.pnp_laws.proofs.Lookups.{some_same}
+use Rattle.pnp_laws.specs.Effects.{Acting, Alters}
+use Rattle.pnp_laws.specs.Kept.{InOrder, is_idle}
+use Rattle.pnp_laws.proofs.Lookups.{ready_found, some_same}
+
+-- the start that acts, by its device
+pub record ActsAt (s : State) (k : ℕ) (phase : Phase) : Type 0 where
+  pub activity : Activity
+  pub at : activity_at k s.activities ≡ Some activity
+  pub is : activity.phase ≡ phase
+
+pub acting_at : (s : State) (k : ℕ) (phase : Phase) → InOrder 0 s.activities → Acting s k phase → ActsAt s k phase
+acting_at s k phase order acts =
+    let at = (ready_found is_ready 0 s.activities acts.activity order acts.ready).1 in
+    record { activity = acts.activity; at = subst (λ (i : ℕ). activity_at i s.activities ≡ Some acts.activity) acts.own at; is = acts.is }
 
 -- a change of a node that keeps its serial, its IDs and its requirements
 pub record KeepsIds (f : Node → Node) : Type 0 where
@@ -22,7 +35,7 @@ pub record KeepsIds (f : Node → Node) : Type 0 where
 pub alters_keeps : (s : State) (label : Label) (j : ℕ) (f : Node → Node) → Alters s label j f → KeepsIds f
 alters_keeps s label j f (Alters.walked node minor w bad at request other ends verdict prints) = record { serial = λ n. refl; hw = λ n. refl; compat = λ n. refl; reqs = λ n. refl }
 alters_keeps s label j f (Alters.troubled k problem) = record { serial = λ n. refl; hw = λ n. refl; compat = λ n. refl; reqs = λ n. refl }
-alters_keeps s label j f (Alters.stacks node d ds at acts) = record { serial = λ n. refl; hw = λ n. refl; compat = λ n. refl; reqs = λ n. refl }
+alters_keeps s label j f (Alters.stacks node d ds name at acts prints) = record { serial = λ n. refl; hw = λ n. refl; compat = λ n. refl; reqs = λ n. refl }
 alters_keeps s label j f (Alters.assigned node phase plan acts search part) = record { serial = λ n. refl; hw = λ n. refl; compat = λ n. refl; reqs = λ n. refl }
 
 -- a device that was up does not become one that never was
@@ -55,6 +68,6 @@ pub alters_up : (s : State) (label : Label) (j : ℕ) (f : Node → Node) → Al
 alters_up s label j f (Alters.walked node minor w bad at request other ends verdict prints) n there =
     subst (λ (m : Node). StaysUp m.state (state_after minor bad node.state)) (some_same (node_at node.serial s.core.nodes) node n at there) (walk_up minor bad node.state other)
 alters_up s label j f (Alters.troubled k problem) n there = λ up. up
-alters_up s label j f (Alters.stacks node d ds at acts) n there =
+alters_up s label j f (Alters.stacks node d ds name at acts prints) n there =
     subst (λ (m : Node). StaysUp m.state (stacked node.state)) (some_same (node_at node.serial s.core.nodes) node n at there) (stacked_up node.state)
 alters_up s label j f (Alters.assigned node phase plan acts search part) n there = λ up. up

@@ -15,7 +15,6 @@ use Rattle.pnp_model.specs.Cores.{bare, is_node, new_node, node_at, stacked, wit
 use Rattle.pnp_model.specs.Frames.{fixed_beside}
 use Rattle.pnp_model.specs.Keyed.{changed_first, without_first}
 use Rattle.pnp_model.specs.Laws.{is_up_to_now, HoldsWhole}
-use Rattle.pnp_model.specs.Machine.{is_ready}
 use Rattle.pnp_model.specs.Rebalances.{committed, movers, part_for, plan_of}
 use Rattle.pnp_model.specs.Records.{Activity, Node, Operation, Phase, Rebalance, RebalanceStage, Removal, RemovalStage, State, Step, Surprise, SurpriseStage, Walk}
 use Rattle.pnp_model.specs.Starts.{adding, own_part}
@@ -24,12 +23,12 @@ use Rattle.pnp_model.specs.Tests.{has, is_told}
 use Rattle.pnp_model.specs.Walks.{state_after}
 use Rattle.pnp_laws.specs.Effects.{ActivityEffect, Acting, Alters, Assigned, Enters, IsSearch, NodeEffect, PhaseStep, Request, operation_minor, rebalance_minor, removal_minor, surprise_minor, todo_of}
 use Rattle.pnp_laws.specs.Holdings.{HeldWell, IsWhole, StartsWhole, WholeAt, has_plan, is_starting}
-use Rattle.pnp_laws.specs.Kept.{Alone, Fits, InOrder, IsGood, OperationFits, RebalanceKeeps, RemovalKeeps, SurpriseKeeps, asking_state, pending_state, restoring_state, stopped_state, stopping_state, telling_state}
+use Rattle.pnp_laws.specs.Kept.{Alone, Fits, IsGood, OperationFits, RebalanceKeeps, RemovalKeeps, SurpriseKeeps, asking_state, pending_state, restoring_state, stopped_state, stopping_state, telling_state}
 use Rattle.pnp_laws.specs.Plans.{IsPlanned, PlanFits, PlanKept, StagePlan}
-use Rattle.pnp_laws.proofs.EffectViews.{alters_keeps}
+use Rattle.pnp_laws.proofs.EffectViews.{acting_at, alters_keeps}
 use Rattle.pnp_laws.proofs.EventChanges.{starting_still}
 use Rattle.pnp_laws.proofs.Lists.{head_found, head_has}
-use Rattle.pnp_laws.proofs.Lookups.{ended_other, ended_same, entered_other, entered_same, joined_from, left_from, map_from, node_from, own_serial, phase_from, ready_found, some_same}
+use Rattle.pnp_laws.proofs.Lookups.{ended_other, ended_same, entered_other, entered_same, joined_from, left_from, map_from, node_from, own_serial, phase_from, some_same}
 use Rattle.pnp_laws.proofs.OpSteps.{is_RemovePending, is_Started, is_StopPending, is_Stopped}
 use Rattle.pnp_laws.proofs.PlansKept.{mover_whole, whole_changed}
 use Rattle.pnp_laws.proofs.RemovalSteps.{head_querying, head_refusing}
@@ -107,17 +106,6 @@ module _ (nodes : List Node) (node : Node) (minor : Minor) (other : minor ≢ Mi
   asked_up (Operation.Surprising o) keeps here is = su_up o o.stage keeps here is
 
 -- Starts ------------------------------------------------------------------------------------
-
--- a device whose start is under way
-record Started_at (s : State) (k : ℕ) (phase : Phase) : Type 0 where
-  activity : Activity
-  at : activity_at k s.activities ≡ Some activity
-  is : activity.phase ≡ phase
-
-acting_at : (s : State) (k : ℕ) (phase : Phase) → InOrder 0 s.activities → Acting s k phase → Started_at s k phase
-acting_at s k phase order acts =
-    let at = (ready_found is_ready 0 s.activities acts.activity order acts.ready).1 in
-    record { activity = acts.activity; at = subst (λ (i : ℕ). activity_at i s.activities ≡ Some acts.activity) acts.own at; is = acts.is }
 
 adding_quiet : (ds : List ℕ) → is_starting (adding ds) ≡ false
 adding_quiet [] = refl
@@ -233,7 +221,7 @@ module _ (s : State) (label : Label) (good : IsGood s) (planned : IsPlanned s) (
       subst (λ (x : Node). HeldWell (with_state (state_after minor bad node.state) x)) same
       (record { up = λ e. asked_whole node minor w other at request; bare = λ e. (well node.serial node at).bare (stays_bare minor bad node.state other e) })
   altered_well j f (Alters.troubled k problem) n there = let h = well k n there in record { up = h.up; bare = h.bare }
-  altered_well j f (Alters.stacks node d ds at acts) n there =
+  altered_well j f (Alters.stacks node d ds name at acts prints) n there =
       waiting_well (with_stack (node.stack ++ d ∷ []) (stacked node.state) n) (stacked_idle node.state (fits_at node.serial (Phase.Adding (d ∷ ds)) node acts at))
   altered_well j f (Alters.assigned node phase plan acts search part) n there =
       waiting_well (with_holds (own_part plan) n) (search_waits phase n.state search (fits_at node.serial phase n acts there))
@@ -288,7 +276,7 @@ module _ (s : State) (label : Label) (good : IsGood s) (planned : IsPlanned s) (
     altered_starts j f (Alters.walked node minor w bad at request other ends verdict prints) =
         whole_changed k node.serial _ s.core.nodes (record { reqs = record { serial = λ n. refl; reqs = λ n. refl }; holds = λ n. refl }) before
     altered_starts j f (Alters.troubled i problem) = whole_changed k i _ s.core.nodes (record { reqs = record { serial = λ n. refl; reqs = λ n. refl }; holds = λ n. refl }) before
-    altered_starts j f (Alters.stacks node d ds at acts) = whole_changed k node.serial _ s.core.nodes (record { reqs = record { serial = λ n. refl; reqs = λ n. refl }; holds = λ n. refl }) before
+    altered_starts j f (Alters.stacks node d ds name at acts prints) = whole_changed k node.serial _ s.core.nodes (record { reqs = record { serial = λ n. refl; reqs = λ n. refl }; holds = λ n. refl }) before
     altered_starts j f (Alters.assigned node phase plan acts search part) = λ m g.
         elim (node_from node.serial k (with_holds (own_part plan)) s.core.nodes m (λ n. refl) g) [
           | inl (e, more) ↦ absurd (not_acting phase (subst (λ (i : ℕ). Acting s i phase) e acts) (search_quiet phase search))
@@ -330,12 +318,12 @@ module _ (s : State) (label : Label) (good : IsGood s) (planned : IsPlanned s) (
       subst (WholeAt r.target) (sym nodes) (kept (ap has_plan found))
 
   entered_starts : (t : State) (k : ℕ) (phase : Phase) → Enters s k t phase → is_starting phase ≡ true → WholeAt k t.core.nodes
-  entered_starts t k phase (Enters.installs drivers free) starts = absurd (let quiet = adding_quiet drivers in cc)
+  entered_starts t k phase (Enters.installs drivers chosen) starts = absurd (let quiet = adding_quiet drivers in cc)
   entered_starts t k phase (Enters.restarts r plan runs is target found nodes) starts = subst (λ (i : ℕ). WholeAt i t.core.nodes) target (restarted t r plan runs is found nodes)
   entered_starts t k phase (Enters.undoes r runs target) starts = absurd (cc)
 
   entered_free : (t : State) (k : ℕ) (phase : Phase) → Enters s k t phase → activity_at k s.activities ≡ None
-  entered_free t k phase (Enters.installs drivers free) = free
+  entered_free t k phase (Enters.installs drivers chosen) = chosen.free
   entered_free t k phase (Enters.restarts r plan runs is target found nodes) = ap (activity_at k) (alone (Operation.Rebalancing r) runs)
   entered_free t k phase (Enters.undoes r runs target) = ap (activity_at k) (alone (Operation.Rebalancing r) runs)
 

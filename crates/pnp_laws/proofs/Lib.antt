@@ -88,8 +88,6 @@ pub mod Falling
 pub mod StepsLeft
 pub mod RunsSerials
 pub mod RunsKeys
-pub mod StackMoves
-pub mod StackSteps
-pub mod StackEvents
+pub mod DriverNames
 pub mod RunsStacks
 pub mod RunsTold

@@ -1,31 +1,32 @@
 -- In each step of a run only the device whose path is printed changes its state, by the row of the request that has ended.
-use Rattle.std.proofs.Common.{ℕ, ◌≡◌, ◌==◌, ◌⊎◌, ◌&&◌, inl, inr, Bool, true, false, List, [], ◌∷◌, ◌++◌, length, Option, Some, None, refl, sym, ap, ◌∙◌, subst, arith}
+use Rattle.std.proofs.Common.{ℕ, ◌≡◌, ◌⊎◌, ◌&&◌, inl, inr, Bool, true, false, List, [], ◌∷◌, length, Option, Some, refl, sym, ap, ◌∙◌, subst, arith}
 use Rattle.std.proofs.lemmas.Bool.Decides.{nat_tests}
-use Rattle.resource_reqs.specs.Resources.{Res}
 use Rattle.pnp_labels.specs.Texts.{Text}
 use Rattle.pnp_labels.specs.declared.label.Label.{Label}
 use Rattle.pnp_labels.specs.declared.states.DevState.{DevState}
 use Rattle.pnp_labels.specs.declared.states.DevState.TheVariants.{NoStack, NotStarted, Started, StopPending, Stopped, RemovePending, SurpriseRemoved}
 use Rattle.pnp_labels.specs.declared.words.Minor.{Minor}
-use Rattle.pnp_model.specs.Cores.{node_at, bare, new_node, stacked, with_stack, with_state}
+use Rattle.pnp_model.specs.Cores.{is_node, node_at, bare, new_node}
 use Rattle.pnp_model.specs.Diagram.{Row}
 use Rattle.pnp_model.specs.Events.{front, operation_at}
-use Rattle.pnp_model.specs.Rebalances.{committed}
-use Rattle.pnp_model.specs.Records.{Activity, Node, Operation, Phase, Rebalance, RebalanceStage, Removal, RemovalStage, State, Step, Surprise, SurpriseStage, Walk}
+use Rattle.pnp_model.specs.Frames.{first_node}
+use Rattle.pnp_model.specs.Keyed.{changed_first}
+use Rattle.pnp_model.specs.Machine.{operation_walk, rebalance_walk, removal_walk, surprise_walk}
+use Rattle.pnp_model.specs.Rebalances.{committed, movers, plan_of}
+use Rattle.pnp_model.specs.Records.{Node, Operation, Phase, Rebalance, RebalanceStage, Removal, RemovalStage, State, Step, Surprise, SurpriseStage, Walk}
 use Rattle.pnp_model.specs.Records.Phase.{Adding, Searching, Starting, Removing, Due}
-use Rattle.pnp_model.specs.Runs.{Entry, printed}
-use Rattle.pnp_model.specs.Runs.Entry.{Happens, Did}
+use Rattle.pnp_model.specs.Runs.{printed}
 use Rattle.pnp_model.specs.Tests.{has, is_told}
 use Rattle.pnp_model.specs.Walks.{has_ended, is_bad, may_fail, state_after}
-use Rattle.pnp_laws.specs.Words.{IsWord}
-use Rattle.pnp_laws.specs.Kept.{Ascending, Fits, IsGood, OperationFits, at_head, is_stripped_next, rebalance_state, removal_state, surprise_state}
+use Rattle.pnp_laws.specs.Effects.{Acting, Alters, DriverEffect, IsUnasked, NodeEffect, operation_minor, rebalance_minor, removal_minor, surprise_minor, todo_of}
+use Rattle.pnp_laws.specs.Kept.{Ascending, Fits, InOrder, IsGood, OperationFits, at_head, is_stripped_next, rebalance_state, removal_state, surprise_state}
 use Rattle.pnp_laws.specs.Told.{ChangesAt, IsUnder, Request, StatesLaw, ends_bad, operation_request, phase_request, rebalance_request, removal_request, request, surprise_request}
-use Rattle.pnp_laws.proofs.EventChanges.{happens_outside, Outside}
+use Rattle.pnp_laws.proofs.EffectsOf.{effect_goes}
+use Rattle.pnp_laws.proofs.EffectViews.{acting_at, alters_keeps}
 use Rattle.pnp_laws.proofs.Lookups.{own_serial, some_same, node_from, joined_from, left_from, map_from}
 use Rattle.pnp_laws.proofs.OpSteps.{is_Started, is_StopPending, is_Stopped, is_RemovePending}
-use Rattle.pnp_laws.proofs.RunsStand.{reaches_kept}
-use Rattle.pnp_laws.proofs.StackMoves.{AsksFit, Ended, NodeMove}
-use Rattle.pnp_laws.proofs.StackSteps.{step_moves}
+use Rattle.pnp_laws.proofs.RunsStand.{Kept, reaches_kept}
+use Rattle.pnp_laws.specs.Effects as Effects
 
 -- The row of a request ---------------------------------------------------------------------------------
 
@@ -146,76 +147,125 @@ row_of s k n r good at (IsUnder.starts a none there is) =
     let same : phase.0 ≡ n = some_same (node_at k s.core.nodes) phase.0 n phase.1 at in
     start_row a.phase r n.state (subst (λ (x : Node). Fits a.phase x.state) same phase.3) is
 
+-- the request of a stage
+rebalance_is : (stage : RebalanceStage) (minor : Minor) (w : Walk) → rebalance_walk stage ≡ Some w → rebalance_minor stage ≡ Some minor → rebalance_request stage ≡ request minor w
+rebalance_is (RebalanceStage.Asking v) minor w a b = cc
+rebalance_is (RebalanceStage.TakingBack v) minor w a b = cc
+rebalance_is (RebalanceStage.Cancelling v) minor w a b = cc
+rebalance_is (RebalanceStage.Stopping v) minor w a b = cc
+rebalance_is (RebalanceStage.Restarting v) minor w a b = cc
+rebalance_is _ minor w a b = absurd (cc)
+
+removal_is : (stage : RemovalStage) (minor : Minor) (w : Walk) → removal_walk stage ≡ Some w → removal_minor stage ≡ Some minor → removal_request stage ≡ request minor w
+removal_is (RemovalStage.Asking v) minor w a b = cc
+removal_is (RemovalStage.TakingBack v) minor w a b = cc
+removal_is (RemovalStage.Cancelling v) minor w a b = cc
+removal_is (RemovalStage.Removing v) minor w a b = cc
+removal_is _ minor w a b = absurd (cc)
+
+surprise_is : (stage : SurpriseStage) (minor : Minor) (w : Walk) → surprise_walk stage ≡ Some w → surprise_minor stage ≡ Some minor → surprise_request stage ≡ request minor w
+surprise_is (SurpriseStage.Telling v) minor w a b = cc
+surprise_is (SurpriseStage.Removing v) minor w a b = cc
+surprise_is _ minor w a b = absurd (cc)
+
+-- the first device of an operation
+front_is : (nodes : List Node) (todo : List ℕ) (node : Node) → first_node nodes todo ≡ Some node → front todo ≡ Some node.serial
+front_is nodes [] node e = absurd (cc)
+front_is nodes (k ∷ ks) node e = ap Some (sym (own_serial k node nodes e))
+
+operation_under : (s : State) (node : Node) (minor : Minor) (w : Walk) (o : Operation) → s.operation ≡ Some o → first_node s.core.nodes (todo_of o) ≡ Some node → operation_walk o ≡ Some w → operation_minor o ≡ Some minor
+    → IsUnder s node.serial (record { minor = minor; walk = w })
+operation_under s node minor w (Operation.Rebalancing r) runs first walk is = IsUnder.operates (Operation.Rebalancing r) runs (front_is s.core.nodes r.todo node first) (rebalance_is r.stage minor w walk is)
+operation_under s node minor w (Operation.Removing o) runs first walk is = IsUnder.operates (Operation.Removing o) runs (front_is s.core.nodes o.todo node first) (removal_is o.stage minor w walk is)
+operation_under s node minor w (Operation.Surprising o) runs first walk is = IsUnder.operates (Operation.Surprising o) runs (front_is s.core.nodes o.todo node first) (surprise_is o.stage minor w walk is)
+
+start_under : (s : State) (k : ℕ) (phase : Phase) (r : Request) → InOrder 0 s.activities → Acting s k phase → phase_request phase ≡ Some r → IsUnder s k r
+start_under s k phase r order acts is = let here = acting_at s k phase order acts in IsUnder.starts here.activity acts.none here.at (ap phase_request here.is ∙ is)
+
+is_under : (s : State) (node : Node) (minor : Minor) (w : Walk) → InOrder 0 s.activities → Effects.Request s node minor w → IsUnder s node.serial (record { minor = minor; walk = w })
+is_under s node _ w order (Effects.Request.starts _ acts) = start_under s node.serial (Starting w) _ order acts refl
+is_under s node _ w order (Effects.Request.undoes _ acts) = start_under s node.serial (Removing w) _ order acts refl
+is_under s node minor w order (Effects.Request.operates _ _ asks) = operation_under s node minor w asks.operation asks.runs asks.first asks.walk asks.minor_is
+
 -- Who changes --------------------------------------------------------------------------------------------
 
-module _ (s : State) (label : Label) (t : State) (k : ℕ) (n m : Node) (at : node_at k s.core.nodes ≡ Some n) where
-  same_state : node_at k s.core.nodes ≡ Some m → m.state ≡ n.state
-  same_state q = ap (λ (z : Node). z.state) (some_same (node_at k s.core.nodes) m n q at)
+module _ (s : State) (label : Label) (t : State) where
+  -- a device whose state is told keeps its path
+  altered_alone : (j : ℕ) (f : Node → Node) → Alters s label j f → (n : Node) → node_at j s.core.nodes ≡ Some n → ((f n).state ≡ n.state) ⊎ ChangesAt label n.path
+  altered_alone j f (Alters.walked node minor w bad at request other ends verdict prints) n there =
+      inr (subst (λ (l : Label). ChangesAt l n.path) (sym prints) (ap (λ (z : Node). z.path) (some_same (node_at j s.core.nodes) n node there at)))
+  altered_alone j f (Alters.troubled k problem) n there = inl refl
+  altered_alone j f (Alters.stacks node d ds name at acts prints) n there =
+      inr (subst (λ (l : Label). ChangesAt l n.path) (sym prints) (ap (λ (z : Node). z.path) (some_same (node_at j s.core.nodes) n node there at)))
+  altered_alone j f (Alters.assigned node phase plan acts search part) n there = inl refl
 
-  own_path : (node : Node) → node_at node.serial s.core.nodes ≡ Some node → node.serial ≡ k → n.path ≡ node.path
-  own_path node there e = ap (λ (z : Node). z.path) (some_same (node_at k s.core.nodes) n node at (subst (λ (i : ℕ). node_at i s.core.nodes ≡ Some node) e there))
+  module _ (k : ℕ) (n m : Node) (at : node_at k s.core.nodes ≡ Some n) where
+    same_state : node_at k s.core.nodes ≡ Some m → (m.state ≡ n.state) ⊎ ChangesAt label n.path
+    same_state q = inl (ap (λ (z : Node). z.state) (some_same (node_at k s.core.nodes) m n q at))
 
-  alone : Ascending 0 s.core.nodes → NodeMove s label t → node_at k t.core.nodes ≡ Some m → (m.state ≡ n.state) ⊎ ChangesAt label n.path
-  alone order (NodeMove.same a) now = inl (same_state (subst (λ (x : List Node). node_at k x ≡ Some m) a now))
-  alone order (NodeMove.changed j f keeps a) now =
-      elim (node_from j k f s.core.nodes m keeps.serial (subst (λ (x : List Node). node_at k x ≡ Some m) a now)) [
-        | inl (e, (y, q, r)) ↦ inl (ap (λ (z : Node). z.state) r ∙ keeps.state y ∙ ap (λ (z : Node). z.state) (some_same (node_at k s.core.nodes) y n q at))
-        | inr (d, q) ↦ inl (same_state q)
-      ]
-  alone order (NodeMove.walked node y ended a) now =
-      elim (node_from node.serial k (with_state y) s.core.nodes m (λ x. refl) (subst (λ (x : List Node). node_at k x ≡ Some m) a now)) [
-        | inl (e, rest) ↦ inr (subst (λ (l : Label). ChangesAt l n.path) (sym ended.prints) (own_path node ended.at e))
-        | inr (d, q) ↦ inl (same_state q)
-      ]
-  alone order (NodeMove.stripped node ended a) now =
-      elim (node_from node.serial k bare s.core.nodes m (λ x. refl) (subst (λ (x : List Node). node_at k x ≡ Some m) a now)) [
-        | inl (e, rest) ↦ inr (subst (λ (l : Label). ChangesAt l n.path) (sym ended.prints) (own_path node ended.at e))
-        | inr (d, q) ↦ inl (same_state q)
-      ]
-  alone order (NodeMove.mapped movers plan a) now =
-      let old = map_from k (committed movers plan) s.core.nodes m (λ x. refl) (subst (λ (x : List Node). node_at k x ≡ Some m) a now) in
-      inl (ap (λ (z : Node). z.state) old.2 ∙ ap (λ (z : Node). z.state) (some_same (node_at k s.core.nodes) old.0 n old.1 at))
-  alone order (NodeMove.joined parent d fresh a) now =
-      elim (joined_from k s.core.nodes (new_node s.next_serial parent d) m (subst (λ (x : List Node). node_at k x ≡ Some m) a now)) [
-        | inl q ↦ inl (same_state q)
-        | inr (none, is, own) ↦ absurd (let gone = none in cc)
-      ]
-  alone order (NodeMove.left j a) now = inl (same_state (left_from j k s.core.nodes m order (subst (λ (x : List Node). node_at k x ≡ Some m) a now)).1)
-  alone order (NodeMove.pushed node d ds name prints there adds a b) now =
-      elim (node_from node.serial k (with_stack (node.stack ++ d ∷ []) (stacked node.state)) s.core.nodes m (λ x. refl) (subst (λ (x : List Node). node_at k x ≡ Some m) a now)) [
-        | inl (e, rest) ↦ inr (subst (λ (l : Label). ChangesAt l n.path) (sym prints) (own_path node there e))
-        | inr (d2, q) ↦ inl (same_state q)
-      ]
+    changed_alone : (j : ℕ) (f : Node → Node) → ((x : Node) → (f x).serial ≡ x.serial) → ((x : Node) → node_at j s.core.nodes ≡ Some x → ((f x).state ≡ x.state) ⊎ ChangesAt label x.path)
+        → node_at k (changed_first (is_node j) f s.core.nodes) ≡ Some m → (m.state ≡ n.state) ⊎ ChangesAt label n.path
+    changed_alone j f serial own now =
+        elim (node_from j k f s.core.nodes m serial now) [
+          | inl (e, (x, q, r)) ↦
+              let same : x ≡ n = some_same (node_at k s.core.nodes) x n q at in
+              let at_j = subst (λ (i : ℕ). node_at i s.core.nodes ≡ Some n) (sym e) at in
+              subst (λ (z : Node). (z.state ≡ n.state) ⊎ ChangesAt label n.path) (ap f (sym same) ∙ sym r) (own n at_j)
+          | inr (d, q) ↦ same_state q
+        ]
 
--- The law --------------------------------------------------------------------------------------------------
+    alone : Ascending 0 s.core.nodes → NodeEffect s label t → node_at k t.core.nodes ≡ Some m → (m.state ≡ n.state) ⊎ ChangesAt label n.path
+    alone order (NodeEffect.same e rest) now = same_state (subst (λ (x : List Node). node_at k x ≡ Some m) e now)
+    alone order (NodeEffect.changed j f alters e rest) now =
+        changed_alone j f (alters_keeps s label j f alters).serial (altered_alone j f alters) (subst (λ (x : List Node). node_at k x ≡ Some m) e now)
+    alone order (NodeEffect.stripped node w there request ends prints e rest) now =
+        changed_alone node.serial bare (λ x. refl)
+        (λ x q. inr (subst (λ (l : Label). ChangesAt l x.path) (sym prints) (ap (λ (z : Node). z.path) (some_same (node_at node.serial s.core.nodes) x node q there))))
+        (subst (λ (x : List Node). node_at k x ≡ Some m) e now)
+    alone order (NodeEffect.commits r runs is e rest) now =
+        let old = map_from k (committed (movers r) (plan_of r.found)) s.core.nodes m (λ x. refl) (subst (λ (x : List Node). node_at k x ≡ Some m) e now) in
+        inl (ap (λ (z : Node). z.state) old.2 ∙ ap (λ (z : Node). z.state) (some_same (node_at k s.core.nodes) old.0 n old.1 at))
+    alone order (NodeEffect.joins node d none there up below is) now =
+        elim (joined_from k s.core.nodes (new_node s.next_serial node.serial d) m (subst (λ (x : Step). node_at k x.state.core.nodes ≡ Some m) is now)) [
+          | inl q ↦ same_state q
+          | inr (gone, new, own) ↦ absurd (let missing = gone in cc)
+        ]
+    alone order (NodeEffect.left node o runs first e rest) now = same_state (left_from node.serial k s.core.nodes m order (subst (λ (x : List Node). node_at k x ≡ Some m) e now)).1
+    alone order (NodeEffect.related r related e rest) now = same_state (subst (λ (x : List Node). node_at k x ≡ Some m) e now)
 
--- an event tells no state
-no_state : (label : Label) (path : Text) (state : DevState) → IsWord label → label ≡ Label.State path state → ⊥
-no_state label path state word e = subst (λ (l : Label). IsWord l) e word
+-- Whose state is told --------------------------------------------------------------------------------------
+
+no_state : (label : Label) (path : Text) (state : DevState) → IsUnasked label → label ≡ Label.State path state → ⊥
+no_state label path state unasked e = subst (λ (l : Label). IsUnasked l) e unasked
+
+module _ (s : State) (label : Label) (t : State) (all : Kept s) (path : Text) (state : DevState) (is : label ≡ Label.State path state) (k : ℕ) (n : Node) (at : node_at k s.core.nodes ≡ Some n) (own : n.path ≡ path) where
+  told : DriverEffect s label t → (r : Request) × IsUnder s k r × (has_ended r.walk (length n.stack) ≡ true) × Row n.state r.minor (ends_bad r) state
+  told (DriverEffect.ended node minor w bad there request ends verdict prints rack) =
+      let r : Request = record { minor = minor; walk = w } in
+      let same_label : Label.State path state ≡ Label.State node.path (state_after minor bad node.state) = sym is ∙ prints in
+      let same_path : path ≡ node.path = cc in
+      let same_after : state_after minor bad node.state ≡ state = cc in
+      let k_is : node.serial ≡ k = all.stands.tree.paths node.serial k node n there at (sym same_path ∙ sym own) in
+      let one : node ≡ n = some_same (node_at k s.core.nodes) node n (subst (λ (i : ℕ). node_at i s.core.nodes ≡ Some node) k_is there) at in
+      let under = subst (λ (i : ℕ). IsUnder s i r) k_is (is_under s node minor w all.good.order request) in
+      let after : state_after minor (ends_bad r) n.state ≡ state = ap (λ (b : Bool). state_after minor b n.state) verdict ∙ ap (λ (z : Node). state_after minor bad z.state) (sym one) ∙ same_after in (
+        r,
+        under,
+        subst (λ (x : Node). has_ended w (length x.stack) ≡ true) one ends,
+        subst (λ (y : DevState). Row n.state minor (ends_bad r) y) after (row_of s k n r all.good at under (ends_bad r) refl),
+      )
+  told (DriverEffect.same unasked rack) = absurd (no_state label path state unasked is)
+  told (DriverEffect.asked node w shown there on prints rack) = absurd (cc)
+  told (DriverEffect.added node d ds acts prints rack activities) = absurd (cc)
+  told (DriverEffect.refused node d ds acts prints rack) = absurd (cc)
+  told (DriverEffect.named kind name unasked rack) = absurd (no_state label path state unasked is)
+  told (DriverEffect.taught name rule unasked rack) = absurd (no_state label path state unasked is)
 
 pub states_are_told : StatesLaw
-states_are_told settings rack entries old (Happens event label) new run goes =
-    let out = subst (λ (t : Step). Outside old t) goes.1 (happens_outside old event) in
-    record {
-      alone = λ k n m at now. inl (ap (λ (z : Node). z.state) (some_same (node_at k old.core.nodes) m n (subst (λ (x : List Node). node_at k x ≡ Some m) out.nodes now) at));
-      walked = λ path state is k n at own. absurd (no_state label path state out.word is);
-    }
-states_are_told settings rack entries old (Did label) new run goes =
+states_are_told settings rack entries old entry new run goes =
     let all = reaches_kept settings rack entries old run in
-    let moves = step_moves settings old (record { label = label; state = new }) all.good.order goes in
+    let effect = effect_goes settings old entry new goes in
     record {
-      alone = λ k n m at now. alone old label new k n m at all.good.serials moves.nodes now;
-      walked = λ path state is k n at own.
-          let (node, e) = subst (λ (l : Label). AsksFit old l) is moves.asks in
-          let same_path : path ≡ node.path = let p = e.prints in cc in
-          let k_is : node.serial ≡ k = all.stands.tree.paths node.serial k node n e.at at (sym same_path ∙ sym own) in
-          let at_k : node_at k old.core.nodes ≡ Some node = subst (λ (i : ℕ). node_at i old.core.nodes ≡ Some node) k_is e.at in
-          let one : node ≡ n = some_same (node_at k old.core.nodes) node n at_k at in
-          let under = subst (λ (i : ℕ). IsUnder old i e.request) k_is e.under in
-          let row = row_of old k node e.request all.good at_k under (ends_bad e.request) refl in (
-            e.request,
-            under,
-            subst (λ (x : Node). has_ended e.request.walk (length x.stack) ≡ true) one e.ended,
-            subst (λ (x : Node). Row x.state e.request.minor (ends_bad e.request) state) one (subst (λ (y : DevState). Row node.state e.request.minor (ends_bad e.request) y) (sym e.after) row),
-          );
+      alone = λ k n m at now. alone old (printed entry) new k n m at all.good.serials effect.nodes now;
+      walked = λ path state is k n at own. told old (printed entry) new all path state is k n at own effect.drivers;
     }

@@ -5,27 +5,32 @@ use Rattle.resource_reqs.specs.Resources.{Res, clashes}
 use Rattle.resource_reqs.specs.Spelling.{IsAnswer}
 use Rattle.resource_reqs.specs.Spelling.Answer.{assignment}
 use Rattle.pnp_labels.specs.Texts.{Text}
-use Rattle.pnp_labels.specs.declared.states.DevState.TheVariants.{NotStarted, Started}
+use Rattle.pnp_labels.specs.declared.states.DevState.TheVariants.{NoStack, NotStarted, Started}
 use Rattle.pnp_labels.specs.declared.states.Problem.{Problem}
+use Rattle.pnp_labels.specs.declared.words.AskWhat.{AskWhat}
+use Rattle.pnp_labels.specs.declared.words.DriverKind.{DriverKind}
 use Rattle.pnp_labels.specs.declared.words.Minor.{Minor}
 use Rattle.pnp_labels.specs.declared.event.Event.{Event}
+use Rattle.pnp_labels.specs.declared.event.Rule.{Rule}
 use Rattle.pnp_labels.specs.declared.label.OpKind.{OpKind}
 use Rattle.pnp_labels.specs.declared.label.OpEnd.{OpEnd}
 use Rattle.pnp_labels.specs.declared.label.Label.{Label}
+use Rattle.pnp_labels.specs.declared.label.Shown.{Shown}
+use Rattle.pnp_model.specs.Books.{driver_named, is_named, is_unnamed, name_of, rack_after, with_name}
 use Rattle.pnp_model.specs.Keyed.{changed_first, without_first}
 use Rattle.pnp_model.specs.Tests.{has, has_same, is_started}
 use Rattle.pnp_model.specs.Trees.{children, dependents}
 use Rattle.pnp_model.specs.Walks.{walk_of, may_fail, is_bad, has_ended, state_after}
 use Rattle.pnp_model.specs.Cores.{is_node, node_at, forget, bare, stacked, with_state, with_problem, with_stack, with_holds}
-use Rattle.pnp_model.specs.Frames.{first_node, fixed_beside, held_by}
+use Rattle.pnp_model.specs.Frames.{first_node, fixed_beside, held_by, next_driver}
 use Rattle.pnp_model.specs.States.{is_activity, activity_at, device_of, entered, node_of, with_phase, without_those}
 use Rattle.pnp_model.specs.Starts.{adding, own_part}
 use Rattle.pnp_model.specs.Rebalances.{begun_rebalance, committed, movers, plan_of}
 use Rattle.pnp_model.specs.Removals.{begun_removal}
 use Rattle.pnp_model.specs.Surprises.{begun_surprise}
-use Rattle.pnp_model.specs.Tasks.{begin, is_gone, join_step, joining}
+use Rattle.pnp_model.specs.Tasks.{begin, is_gone, join_step, joining, numbered}
 use Rattle.pnp_model.specs.Machine.{is_ready, operation_walk}
-use Rattle.pnp_model.specs.Events.{answer_of, completed, completed_phase}
+use Rattle.pnp_model.specs.Events.{answer_of, completed, completed_phase, with_rule}
 use Rattle.pnp_model.specs.Runs.{Entry, Goes, printed}
 use Rattle.pnp_model.specs.Runs.Entry.{Happens, Did}
 use Rattle.pnp_model.specs.Records.{Node, Core, Device, Relation, Walk, Activity, Phase, Task, Duty, State, Operation, Rebalance, RebalanceStage, Removal, RemovalStage, Settings, SurpriseStage}
@@ -113,7 +118,7 @@ pub data Alters (s : State) (label : Label) : ℕ → (Node → Node) → Type 0
       → has_ended w (length node.stack) ≡ true → ends_bad minor w ≡ bad → label ≡ Label.State node.path (state_after minor bad node.state)
       → Alters s label node.serial (with_state (state_after minor bad node.state))
   troubled : (j : ℕ) (problem : Option Problem) → Alters s label j (with_problem problem)
-  stacks : (node : Node) (d : ℕ) (ds : List ℕ) → node_at node.serial s.core.nodes ≡ Some node → Acting s node.serial (Phase.Adding (d ∷ ds))
+  stacks : (node : Node) (d : ℕ) (ds : List ℕ) (name : Text) → node_at node.serial s.core.nodes ≡ Some node → Acting s node.serial (Phase.Adding (d ∷ ds)) → label ≡ Label.Add node.path name true
       → Alters s label node.serial (with_stack (node.stack ++ d ∷ []) (stacked node.state))
   assigned : (node : Node) (phase : Phase) (plan : List (List Res)) → Acting s node.serial phase → IsSearch phase → Assigned s node plan
       → Alters s label node.serial (with_holds (own_part plan))
@@ -148,6 +153,51 @@ pub data NodeEffect (s : State) (label : Label) (t : State) : Type 0 where
   left : (node : Node) (o : Operation) → s.operation ≡ Some o → first_node s.core.nodes (todo_of o) ≡ Some node
       → t.core.nodes ≡ without_first (is_node node.serial) s.core.nodes → t.core.relations ≡ s.core.relations → NodeEffect s label t
   related : (r : Relation) → Related s r → t.core.nodes ≡ s.core.nodes → t.core.relations ≡ s.core.relations ++ r ∷ [] → NodeEffect s label t
+
+-- Drivers ------------------------------------------------------------------------------
+
+-- no driver is asked or added, and no state is told
+abbrev pub IsUnasked : Label → Type 0
+IsUnasked (Label.Asked minor path name shown) = ⊥
+IsUnasked (Label.Add path name ok) = ⊥
+IsUnasked (Label.State path state) = ⊥
+IsUnasked _ = Unit {0}
+
+-- which driver answers, and how the rack is then; where a state is told, whose request has ended
+pub data DriverEffect (s : State) (label : Label) (t : State) : Type 0 where
+  same : IsUnasked label → t.core.rack ≡ s.core.rack → DriverEffect s label t
+  ended : (node : Node) (minor : Minor) (w : Walk) (bad : Bool) → node_at node.serial s.core.nodes ≡ Some node → Request s node minor w
+      → has_ended w (length node.stack) ≡ true → ends_bad minor w ≡ bad → label ≡ Label.State node.path (state_after minor bad node.state)
+      → t.core.rack ≡ s.core.rack → DriverEffect s label t
+  asked : (node : Node) (w : Walk) (shown : Shown) → node_at node.serial s.core.nodes ≡ Some node → has_ended w (length node.stack) ≡ false
+      → label ≡ Label.Asked w.minor node.path (name_of s.core.rack (next_driver node w)) shown
+      → t.core.rack ≡ rack_after (AskWhat.Irp w.minor) node.path s.core.rack (next_driver node w) → DriverEffect s label t
+  added : (node : Node) (d : ℕ) (ds : List ℕ) → Acting s node.serial (Phase.Adding (d ∷ ds)) → label ≡ Label.Add node.path (name_of t.core.rack d) true
+      → t.core.rack ≡ rack_after AskWhat.Add node.path s.core.rack d
+      → t.activities ≡ changed_first (is_activity node.serial) (with_phase (adding ds)) s.activities → DriverEffect s label t
+  refused : (node : Node) (d : ℕ) (ds : List ℕ) → Acting s node.serial (Phase.Adding (d ∷ ds)) → label ≡ Label.Add node.path (name_of t.core.rack d) false
+      → t.core.rack ≡ rack_after AskWhat.Add node.path s.core.rack d → DriverEffect s label t
+  -- a driver that had no name gets one; a driver learns an answer
+  named : (kind : DriverKind) (name : Text) → IsUnasked label → t.core.rack ≡ changed_first (is_unnamed kind) (with_name name) s.core.rack → DriverEffect s label t
+  taught : (name : Text) (rule : Rule) → IsUnasked label → t.core.rack ≡ changed_first (is_named name) (with_rule rule) s.core.rack → DriverEffect s label t
+
+-- the drivers that were chosen for a device without drivers: lower filters, its service, upper filters
+pub record Chosen (s : State) (k : ℕ) (drivers : List ℕ) : Type 0 where
+  pub free : activity_at k s.activities ≡ None
+  pub node : Node
+  pub at : node_at k s.core.nodes ≡ Some node
+  pub bare : node.state ≡ NoStack
+  pub lower_names : List Text
+  pub service : Text
+  pub upper_names : List Text
+  pub few : nat_le (length lower_names + 1 + length upper_names) 16 ≡ true
+  pub lower : List ℕ
+  pub driver : ℕ
+  pub upper : List ℕ
+  pub lower_are : numbered s.core.rack lower_names ≡ Some lower
+  pub driver_is : driver_named service s.core.rack ≡ Some driver
+  pub upper_are : numbered s.core.rack upper_names ≡ Some upper
+  pub all : drivers ≡ lower ++ driver ∷ upper
 
 -- Ranges, world, disabled paths --------------------------------------------------------
 
@@ -231,7 +281,7 @@ OperationEffect s (Did label) t = OpEffect s label t
 
 -- why the start of a device begins in a phase: its drivers were chosen; or the rebalance for it closes
 pub data Enters (s : State) (k : ℕ) (t : State) : Phase → Type 0 where
-  installs : (drivers : List ℕ) → activity_at k s.activities ≡ None → Enters s k t (adding drivers)
+  installs : (drivers : List ℕ) → Chosen s k drivers → Enters s k t (adding drivers)
   restarts : (r : Rebalance) (plan : List (List Res)) → s.operation ≡ Some (Operation.Rebalancing r) → r.stage ≡ RebalanceStage.Ending → r.target ≡ k → r.found ≡ assignment plan → t.core.nodes ≡ s.core.nodes
       → Enters s k t (Phase.Starting (walk_of Minor.Start))
   undoes : (r : Rebalance) → s.operation ≡ Some (Operation.Rebalancing r) → r.target ≡ k → Enters s k t (Phase.Removing (walk_of Minor.Remove))
@@ -285,6 +335,7 @@ TasksEffect s (Did label) t = TaskEffect s t
 
 pub record Effect (s : State) (entry : Entry) (t : State) : Type 0 where
   pub nodes : NodeEffect s (printed entry) t
+  pub drivers : DriverEffect s (printed entry) t
   pub ranges : RangeEffect s t
   pub operation : OperationEffect s entry t
   pub activities : ActivityEffect s t

@@ -134,8 +134,8 @@ pub fn few_births()
     ensures { FewBirthsLaw }
 {}
 
-/// Each step and each event has an effect: what it does to nodes, relations, ranges, operation, activities, tasks,
-/// world and disabled paths, with the evidence that the other laws read.
+/// Each step and each event has an effect: what it does to nodes, relations, drivers, ranges, operation, activities,
+/// tasks, world and disabled paths, with the evidence that the other laws read.
 pub fn each_step_has_an_effect()
     ensures { EffectLaw }
 {}
