@@ -10,7 +10,7 @@ use Rattle.device_ids.specs.Folding.{same}
 use Rattle.pnp_model.specs.Books.{is_named, is_unnamed}
 use Rattle.pnp_model.specs.States.{activity_at, is_activity, with_phase, node_born, node_of, device_of, plug, unplug, enable_path}
 use Rattle.pnp_model.specs.Machine.{phase_walk}
-use Rattle.pnp_model.specs.Events.{refused, new_device, plug_room, plug_fresh, plug_below, pull_device, pull_at, name_free, name_at, teach_room, teach_kind, teach_at, disable_enabled, disable_below, disable_at, start_node, enable_at, eject_below, eject_at, relate_up, relate_free, relate_new, relate_two, relate_idle, relate_at, reserve_free, reserve_idle, answer_of, completed_phase, completed_rebalance, completed_removal, completed_surprise, completed, waits_for, operation_waits, complete_activity, complete_active, complete_operation, complete_node, complete_at, happens}
+use Rattle.pnp_model.specs.Events.{did, refused, new_device, plug_room, plug_fresh, plug_below, pull_device, pull_at, name_free, name_at, teach_room, teach_kind, teach_at, disable_enabled, disable_below, disable_at, start_node, enable_at, eject_below, eject_at, relate_up, relate_free, relate_new, relate_two, relate_idle, relate_at, reserve_free, reserve_idle, answer_of, completed_phase, completed_rebalance, completed_removal, completed_surprise, completed, waits_for, operation_waits, complete_activity, complete_active, complete_operation, complete_node, complete_at, happens}
 use Rattle.pnp_laws.specs.Kept.{Good, IsGood, Lawful, Fits, OperationFits, Alone, RebalanceKeeps, RemovalKeeps, SurpriseKeeps}
 use Rattle.pnp_labels.specs.Texts.{Text}
 use Rattle.pnp_labels.specs.declared.states.DevState.{DevState}
@@ -26,7 +26,7 @@ use Rattle.pnp_laws.proofs.Lookups.{phase_from, InOrder-set_phase}
 use Rattle.pnp_laws.proofs.Diagrams.{diagram_same}
 use Rattle.pnp_laws.proofs.Kept.{lawful_by, Good_nodes}
 use Rattle.pnp_laws.proofs.TaskSteps.{unchanged}
-use Rattle.pnp_laws.proofs.Finishing.{OnlyTasks, list_only}
+use Rattle.pnp_laws.proofs.Finishing.{list_only}
 
 lawful_refused : (s : State) (word : EventWord) (reason : Reason) → IsGood s → Lawful s (refused word reason s)
 lawful_refused s word reason good = unchanged s _ _ refl refl refl refl good
@@ -87,15 +87,13 @@ lawful_disable : (s : State) (path : Text) (o : Option Node) → IsGood s → La
 lawful_disable s path None good = lawful_refused s _ _ good
 lawful_disable s path (Some node) good = lawful_disable_below s path node _ good
 
-start_only : (o : Option Node) (s : State) → OnlyTasks s (start_node o s)
-start_only None s = record { serial = refl; nodes = refl; activities = refl; operation = refl }
-start_only (Some n) s = record { serial = refl; nodes = refl; activities = refl; operation = refl }
-
 lawful_enable : (s : State) (path : Text) (o : Option Text) → IsGood s → Lawful s (enable_at s path o)
 lawful_enable s path None good = lawful_refused s _ _ good
-lawful_enable s path (Some own) good =
-    let only = start_only (node_of path s.core.nodes) (enable_path path s) in
-    unchanged s _ _ only.serial only.nodes only.activities only.operation good
+lawful_enable s path (Some own) good = by_node (node_of path s.core.nodes)
+  where
+    by_node : (o : Option Node) → Lawful s (did EventWord.Enable own (start_node o (enable_path path s)))
+    by_node None = unchanged s _ _ refl refl refl refl good
+    by_node (Some n) = unchanged s _ _ refl refl refl refl good
 
 lawful_eject_below : (s : State) (node : Node) (b : Bool) → IsGood s → Lawful s (eject_below s node b)
 lawful_eject_below s node true good = lawful_refused s _ _ good

@@ -1,10 +1,10 @@
 -- What removal and surprise share: devices are finished one after another.
-use Rattle.std.proofs.Common.{ℕ, ◌≡◌, ◌≢◌, ◌==◌, inl, inr, Bool, true, false, List, [], ◌∷◌, Option, Some, None, refl, sym, ap, ◌∙◌, subst, arith}
+use Rattle.std.proofs.Common.{ℕ, ◌≡◌, ◌≢◌, ◌==◌, ◌⊎◌, inl, inr, Bool, true, false, List, [], ◌∷◌, ◌++◌, Option, Some, None, refl, sym, ap, ◌∙◌, subst, arith}
 use Rattle.std.proofs.lemmas.Bool.{cases_eq}
 use Rattle.std.proofs.lemmas.Bool.Decides.{nat_tests}
 use Rattle.std.specs.Option.{option_map}
 use Rattle.pnp_model.specs.Keyed.{changed_first, without_first}
-use Rattle.pnp_model.specs.Records.{Node, Device, State}
+use Rattle.pnp_model.specs.Records.{Node, Device, Duty, State, Task}
 use Rattle.pnp_model.specs.Cores.{is_node, node_at, stack_of, bare}
 use Rattle.pnp_model.specs.States.{relist, relist_device, relist_other, list_node, device_of, node_born}
 use Rattle.pnp_model.specs.Tests.{has, is_no_stack}
@@ -20,30 +20,21 @@ use Rattle.pnp_laws.proofs.Lists.{HeadIs}
 
 pub is_NoStack : (x : DevState) → is_no_stack x ≡ true → x ≡ NoStack
 is_NoStack NoStack h = refl
-is_NoStack NotStarted h = cc
-is_NoStack Started h = cc
-is_NoStack StopPending h = cc
-is_NoStack Stopped h = cc
-is_NoStack RemovePending h = cc
-is_NoStack SurpriseRemoved h = cc
+is_NoStack _ h = cc
 
 with_drivers : (x : DevState) → x ≢ NoStack → is_removable x ≡ true → is_stripped_next x ≡ true
 with_drivers NoStack d h = absurd (d refl)
 with_drivers NotStarted d h = refl
-with_drivers Started d h = cc
-with_drivers StopPending d h = cc
-with_drivers Stopped d h = cc
 with_drivers RemovePending d h = refl
 with_drivers SurpriseRemoved d h = refl
+with_drivers _ d h = cc
 
 pub strips : (x : DevState) → is_stripped_next x ≡ true → Row x Minor.Remove false NoStack
 strips NoStack h = absurd (cc)
 strips NotStarted h = remove
-strips Started h = absurd (cc)
-strips StopPending h = absurd (cc)
-strips Stopped h = absurd (cc)
 strips RemovePending h = remove_pending
 strips SurpriseRemoved h = remove_surprised
+strips _ h = absurd (cc)
 
 abbrev pub StacksFit : List Node → Type 0
 StacksFit nodes = (k : ℕ) (n : Node) → node_at k nodes ≡ Some n → HasStackOf k n.state n.stack
@@ -128,41 +119,38 @@ stack_kept j k f nodes keeps stack =
 pub stack_left : (j k : ℕ) (nodes : List Node) → j ≢ k → stack_of (node_at k (without_first (is_node j) nodes)) ≡ stack_of (node_at k nodes)
 stack_left j k nodes d = ap stack_of (left_other j k nodes d)
 
--- listing again changes tasks alone
+-- listing again changes tasks alone: at most a listing is added
+
+abbrev pub Listed : List Task → List Task → Type 0
+Listed tasks more = (more ≡ tasks) ⊎ ((k : ℕ) × (more ≡ tasks ++ record { kind = Duty.Listing; serial = k } ∷ []))
 
 pub record OnlyTasks (s t : State) : Type 0 where
   pub serial : t.next_serial ≡ s.next_serial
+  pub core : t.core ≡ s.core
   pub nodes : t.core.nodes ≡ s.core.nodes
   pub activities : t.activities ≡ s.activities
   pub operation : t.operation ≡ s.operation
+  pub world : t.world ≡ s.world
+  pub births : t.next_born ≡ s.next_born
+  pub tasks : Listed s.tasks t.tasks
+
+same_only : (s : State) → OnlyTasks s s
+same_only s = record { serial = refl; core = refl; nodes = refl; activities = refl; operation = refl; world = refl; births = refl; tasks = inl refl }
 
 pub list_only : (o : Option Node) (s : State) → OnlyTasks s (list_node o s)
-list_only None s = record { serial = refl; nodes = refl; activities = refl; operation = refl }
-list_only (Some n) s = record { serial = refl; nodes = refl; activities = refl; operation = refl }
-
-other_only : (d : Device) (b : Bool) (s : State) → OnlyTasks s (relist_other d b s)
-other_only d true s = record { serial = refl; nodes = refl; activities = refl; operation = refl }
-other_only d false s = list_only (node_born d.parent s.core.nodes) s
-
-device_only : (born : ℕ) (o : Option Device) (s : State) → OnlyTasks s (relist_device born o s)
-device_only born None s = record { serial = refl; nodes = refl; activities = refl; operation = refl }
-device_only born (Some d) s = other_only d (d.born == born) s
+list_only None s = same_only s
+list_only (Some n) s = record { serial = refl; core = refl; nodes = refl; activities = refl; operation = refl; world = refl; births = refl; tasks = inr (n.serial, refl) }
 
 pub relist_only : (path : List ℕ) (born : ℕ) (s : State) → OnlyTasks s (relist path born s)
-relist_only path born s = device_only born (device_of path s.world) s
-
--- listing again leaves the core as it is
-pub relist_core : (path : List ℕ) (born : ℕ) (s : State) → (relist path born s).core ≡ s.core
-relist_core path born s = device_core born (device_of path s.world) s
+relist_only path born s = by_device (device_of path s.world)
   where
-    list_core : (o : Option Node) (s : State) → (list_node o s).core ≡ s.core
-    list_core None s = refl
-    list_core (Some n) s = refl
+    by_other : (d : Device) (b : Bool) → OnlyTasks s (relist_other d b s)
+    by_other d true = same_only s
+    by_other d false = list_only (node_born d.parent s.core.nodes) s
 
-    other_core : (d : Device) (b : Bool) (s : State) → (relist_other d b s).core ≡ s.core
-    other_core d true s = refl
-    other_core d false s = list_core (node_born d.parent s.core.nodes) s
+    by_device : (o : Option Device) → OnlyTasks s (relist_device born o s)
+    by_device None = same_only s
+    by_device (Some d) = by_other d (d.born == born)
 
-    device_core : (born : ℕ) (o : Option Device) (s : State) → (relist_device born o s).core ≡ s.core
-    device_core born None s = refl
-    device_core born (Some d) s = other_core d (d.born == born) s
+pub relist_core : (path : List ℕ) (born : ℕ) (s : State) → (relist path born s).core ≡ s.core
+relist_core path born s = (relist_only path born s).core

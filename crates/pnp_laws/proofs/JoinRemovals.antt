@@ -20,11 +20,10 @@ use Rattle.pnp_laws.specs.Words.{IsNoJoin}
 use Rattle.pnp_laws.specs.Kept.{RemovalKeeps, SurpriseKeeps, settling_state, Each, Within}
 use Rattle.pnp_laws.proofs.Lookups.{some_same, own_serial, left_missing}
 use Rattle.pnp_laws.proofs.Lists.{HeadIs, head_found, head_has, rest_has}
-use Rattle.pnp_laws.proofs.Finishing.{relist_only, head_bare}
+use Rattle.pnp_laws.proofs.Finishing.{Listed, relist_only, head_bare}
 use Rattle.pnp_laws.proofs.SurpriseSteps.{last_alone}
 use Rattle.pnp_laws.proofs.Standing.{Finishes, RemovalOrder, SurpriseOrder}
 use Rattle.pnp_laws.proofs.SoundRemovals.{waits_finish_on, waits_tell_on}
-use Rattle.pnp_laws.proofs.MeasureRemovals.{Listed, listed_again, same_world, same_births}
 use Rattle.pnp_laws.proofs.Joins.{starts, closed, removal_closed, is_bare, some_there, is_live, In, Counts, Stays, Gone}
 use Rattle.pnp_laws.proofs.JoinSteps.{IsNoAdd, IsStill, Knows, FlowsStep, FlowsNext, Closes, Cheaper, cheaper_same, cheaper_pushed, active_same, closes_open, bare_stays, flows_on, flows_still}
 use Rattle.pnp_model.specs.Removals as rm
@@ -171,9 +170,9 @@ flows_target s o node true h =
     let u = unplug node.born (set_operation (Some (Operation.Removing m.frame)) (with_core m.core s)) in
     let t = relist node.path node.born u in
     let only = relist_only node.path node.born u in
-    let world : t.world ≡ without_those (node.born ∷ []) s.world = same_world node.path node.born u in
-    op_left s t (Label.Ejected node.path) node tt h.at only.nodes (only.serial, same_births node.path node.born u)
-    (inr (node, h.at, h.up, world)) (cheaper_listed s.tasks t.tasks (listed_again node.path node.born u)) only.activities
+    let world : t.world ≡ without_those (node.born ∷ []) s.world = only.world in
+    op_left s t (Label.Ejected node.path) node tt h.at only.nodes (only.serial, only.births)
+    (inr (node, h.at, h.up, world)) (cheaper_listed s.tasks t.tasks only.tasks) only.activities
     (λ knows. settled_closes s t o node (Label.Ejected node.path) h (record { op = only.operation; acts = only.activities }) tt tt knows)
     (λ knows. inl (λ d there. unplugged (node.born ∷ []) node.born s.world (grind (arith, nat_tests)) d (subst (λ (w : List Device). In d w) world there)))
 flows_target s o node false h =
@@ -191,8 +190,8 @@ flows_settle s o node true inside h =
     let u = set_operation (Some (Operation.Removing m.frame)) (with_core m.core s) in
     let t = relist node.path node.born u in
     let only = relist_only node.path node.born u in
-    op_left s t (Label.Leave node.path) node tt h.at only.nodes (only.serial, same_births node.path node.born u)
-    (inl (same_world node.path node.born u)) (cheaper_listed s.tasks t.tasks (listed_again node.path node.born u)) only.activities
+    op_left s t (Label.Leave node.path) node tt h.at only.nodes (only.serial, only.births)
+    (inl only.world) (cheaper_listed s.tasks t.tasks only.tasks) only.activities
     (λ knows. settled_closes s t o node (Label.Leave node.path) h (record { op = only.operation; acts = only.activities }) tt tt knows)
     (λ knows. inr (λ m at. settled_dead s t o node (Label.Leave node.path) h (record { op = only.operation; acts = only.activities }) tt tt knows node.parent m inside at))
 flows_settle s o node false inside h = flows_outer s o node _ h
@@ -282,10 +281,10 @@ flows_su_leaves s o node h at why =
     let u = set_operation (Some (Operation.Surprising m.frame)) (with_core m.core s) in
     let t = relist node.path node.born u in
     let only = relist_only node.path node.born u in
-    let world : t.world ≡ s.world = same_world node.path node.born u in
+    let world : t.world ≡ s.world = only.world in
     let set : m.frame.set ≡ o.set = waits_finish_on s.core.nodes o (rest o.todo) in
     let shut : (k : ℕ) → closed t.operation k ≡ has o.set k = λ k. ap (λ (x : Option Operation). closed x k) only.operation ∙ ap (λ (ks : List ℕ). has ks k) set in
-    op_left s t (Label.Leave node.path) node tt at only.nodes (only.serial, same_births node.path node.born u) (inl world) (cheaper_listed s.tasks t.tasks (listed_again node.path node.born u)) only.activities
+    op_left s t (Label.Leave node.path) node tt at only.nodes (only.serial, only.births) (inl world) (cheaper_listed s.tasks t.tasks only.tasks) only.activities
     (λ knows k n at_k free. inl (su_closed s o h k ∙ sym (shut k) ∙ free))
     (λ knows. elim why [
       | inl inside ↦ inr (λ p at_p. dead_closed t p (ap (closed t.operation) (own_serial node.parent p t.core.nodes at_p) ∙ shut node.parent ∙ inside))

@@ -3,6 +3,7 @@ pub mod AnswerThere
 pub mod Lookups
 pub mod Lists
 pub mod EffectsOfStarts
+pub mod Stages
 pub mod EffectsOfOperations
 pub mod EffectsOfEvents
 pub mod EffectsOf
@@ -79,8 +80,7 @@ pub mod JoinLimits
 mod JoinTwice
 pub mod Measures
 pub mod MeasureOps
-pub mod MeasureRemovals
-pub mod MeasureSurprises
+pub mod MeasureStages
 pub mod MeasureTasks
 pub mod MeasureBegins
 pub mod RunsEnd

@@ -26,8 +26,8 @@ use Rattle.pnp_laws.proofs.Lookups.{own_serial}
 use Rattle.pnp_laws.proofs.Closures.{head_at, tail_at}
 use Rattle.pnp_laws.proofs.SoundTasks.{find_passes}
 use Rattle.pnp_laws.proofs.Measures.{Falls, falls_coarse, coarse_by, count, count_less, tasks_cost, tasks_pushed, duty_cost, sum, sum_entered, phase_cost, is_open, is_target, born_in, operation_cost, SameBirths, births_same, births_changed}
-use Rattle.pnp_laws.proofs.MeasureOps.{those_shorter, ask_most, Lowers, lower_so}
-use Rattle.pnp_laws.proofs.MeasureSurprises.{count_none, tell_target}
+use Rattle.pnp_laws.proofs.MeasureOps.{count_none, those_shorter, Lowers, lower_so}
+use Rattle.pnp_laws.proofs.MeasureStages.{ask_most, tell_target}
 use Rattle.pnp_laws.proofs.MeasureTasks.{open_dropped, dropped_cost, open_pushed, no_cost, adding_cost}
 use Rattle.pnp_laws.proofs.Truths.{and_both}
 use Rattle.pnp_model.specs.Rebalances as re
@@ -43,11 +43,9 @@ task_falls s t task first same world tasks opens less =
     falls_coarse s t (coarse_by s t same world opens (omega arith))
 
 begin_some : (n : ℕ) (b : Bool) (kind : OpKind) → 1 ≤ duty_cost n b (Duty.Begins kind)
-begin_some n b OpKind.Rebalance = omega arith
-begin_some n b OpKind.Disable = omega arith
-begin_some n b OpKind.Eject = omega arith
 begin_some n true OpKind.Surprise = omega arith
 begin_some n false OpKind.Surprise = omega arith
+begin_some n b _ = omega arith
 
 duty_some : (n : ℕ) (b : Bool) (duty : Duty) → 1 ≤ duty_cost n b duty
 duty_some n b Duty.Listing = omega arith
@@ -161,12 +159,7 @@ lowers_join_or_on s node k (Some d) first none order = record { lowers = λ n. a
 
 lowers_list_up : (s : State) (node : Node) (k : ℕ) (x : DevState) → First s Duty.Listing k → s.operation ≡ None → Ascending 0 s.core.nodes → Lowers s (list_up s node x)
 lowers_list_up s node k Started first none order = lowers_join_or_on s node k (joining node.born s.core.nodes s.world) first none order
-lowers_list_up s node k NoStack first none order = lowers_drop s _ _ first refl
-lowers_list_up s node k NotStarted first none order = lowers_drop s _ _ first refl
-lowers_list_up s node k StopPending first none order = lowers_drop s _ _ first refl
-lowers_list_up s node k Stopped first none order = lowers_drop s _ _ first refl
-lowers_list_up s node k RemovePending first none order = lowers_drop s _ _ first refl
-lowers_list_up s node k SurpriseRemoved first none order = lowers_drop s _ _ first refl
+lowers_list_up s node k _ first none order = lowers_drop s _ _ first refl
 
 pub lowers_list : (s : State) (k : ℕ) (o : Option Node) → First s Duty.Listing k → s.operation ≡ None → Ascending 0 s.core.nodes → Lowers s (list_step s k o)
 lowers_list s k None first none order = lowers_drop s _ _ first refl
@@ -226,12 +219,7 @@ lowers_idle settings s node None k first none = lowers_enabled settings s node (
 
 lowers_bare : (settings : Settings) (s : State) (node : Node) (x : DevState) (k : ℕ) → First s Duty.Starting k → s.operation ≡ None → Lowers s (start_bare settings s node x)
 lowers_bare settings s node NoStack k first none = lowers_idle settings s node (activity_at node.serial s.activities) k first none
-lowers_bare settings s node NotStarted k first none = lowers_drop s _ _ first refl
-lowers_bare settings s node Started k first none = lowers_drop s _ _ first refl
-lowers_bare settings s node StopPending k first none = lowers_drop s _ _ first refl
-lowers_bare settings s node Stopped k first none = lowers_drop s _ _ first refl
-lowers_bare settings s node RemovePending k first none = lowers_drop s _ _ first refl
-lowers_bare settings s node SurpriseRemoved k first none = lowers_drop s _ _ first refl
+lowers_bare settings s node _ k first none = lowers_drop s _ _ first refl
 
 pub lowers_start : (settings : Settings) (s : State) (k : ℕ) (o : Option Node) → First s Duty.Starting k → s.operation ≡ None → Lowers s (start_step settings s k o)
 lowers_start settings s k None first none = lowers_drop s _ _ first refl
@@ -264,12 +252,7 @@ lowers_rebalance_idle s node None k first none =
 
 lowers_rebalance : (s : State) (node : Node) (x : DevState) (k : ℕ) → First s (Duty.Begins OpKind.Rebalance) k → s.operation ≡ None → Lowers s (rebalance_task s node x)
 lowers_rebalance s node NotStarted k first none = lowers_rebalance_idle s node (activity_at node.serial s.activities) k first none
-lowers_rebalance s node NoStack k first none = lowers_drop s _ _ first refl
-lowers_rebalance s node Started k first none = lowers_drop s _ _ first refl
-lowers_rebalance s node StopPending k first none = lowers_drop s _ _ first refl
-lowers_rebalance s node Stopped k first none = lowers_drop s _ _ first refl
-lowers_rebalance s node RemovePending k first none = lowers_drop s _ _ first refl
-lowers_rebalance s node SurpriseRemoved k first none = lowers_drop s _ _ first refl
+lowers_rebalance s node _ k first none = lowers_drop s _ _ first refl
 
 lowers_disable : (s : State) (node : Node) (b : Bool) (k : ℕ) → First s (Duty.Begins OpKind.Disable) k → s.operation ≡ None → Lowers s (disable_task s node b)
 lowers_disable s node true k first none = lowers_drop s _ _ first refl
@@ -326,11 +309,9 @@ lowers_none s label k gone first =
         ]
 
 pub lowers_begin_step : (s : State) (kind : OpKind) (k : ℕ) (o : Option Node) → node_at k s.core.nodes ≡ o → First s (Duty.Begins kind) k → s.operation ≡ None → Lowers s (begin_step s kind k o)
-lowers_begin_step s OpKind.Rebalance k None e first none = lowers_drop s _ _ first refl
-lowers_begin_step s OpKind.Disable k None e first none = lowers_drop s _ _ first refl
-lowers_begin_step s OpKind.Eject k None e first none = lowers_drop s _ _ first refl
 lowers_begin_step s OpKind.Surprise k None e first none = lowers_none s _ k e first
 lowers_begin_step s OpKind.Rebalance k (Some node) e first none = lowers_rebalance s node node.state k first none
 lowers_begin_step s OpKind.Disable k (Some node) e first none = lowers_disable s node (has_same node.path s.disabled) k first none
 lowers_begin_step s OpKind.Eject k (Some node) e first none = begins s OpKind.Eject node _ _ first refl (λ i. refl) none (omega arith)
 lowers_begin_step s OpKind.Surprise k (Some node) e first none = lowers_surprise s node k e first none
+lowers_begin_step s _ k None e first none = lowers_drop s _ _ first refl

@@ -1,26 +1,32 @@
--- Each step of an operation lowers what is still to begin, to do, or to answer.
-use Rattle.std.proofs.Common.{ℕ, suc, ◌+◌, ◌-◌, ◌*◌, ◌<◌, ◌≤◌, ◌≡◌, inl, inr, Bool, true, false, not, ◌&&◌, ◌||◌, cond, List, [], ◌∷◌, length, Option, Some, None, refl, sym, ap, ◌∙◌, arith, reverse, nat_le}
+-- How what is still to begin, to do, or to answer is lowered: an operation goes on, is asked, loses a device, or closes.
+use Rattle.std.proofs.Common.{ℕ, suc, ◌+◌, ◌-◌, ◌*◌, ◌<◌, ◌≤◌, ◌≡◌, ◌≢◌, ◌==◌, ◌⊎◌, inl, inr, Bool, true, false, not, ◌&&◌, ◌||◌, cond, List, [], ◌∷◌, ◌++◌, length, Option, Some, None, refl, sym, ap, ◌∙◌, subst, arith, nat_le}
 use Rattle.std.specs.List.{list_any}
 use Rattle.std.specs.Option.{option_map}
+use Rattle.std.proofs.lemmas.Bool.{cases_eq}
 use Rattle.std.proofs.lemmas.Bool.Decides.{nat_tests}
-use Rattle.resource_reqs.specs.Spelling.Answer.{assignment, no_fit, spent}
-use Rattle.pnp_model.specs.Keyed.{those}
-use Rattle.pnp_model.specs.Records.{Node, Task, Activity, Phase, Walk, State, Step, Found, Operation, Rebalance, RebalanceStage, Doing, Duty, doing_map}
+use Rattle.pnp_model.specs.Keyed.{those, without_first}
+use Rattle.pnp_model.specs.Tests.{has}
+use Rattle.pnp_model.specs.Records.{Node, Device, Task, Activity, Walk, State, Step, Found, Operation, RebalanceStage, RemovalStage, Surprise, SurpriseStage, Doing, Duty}
 use Rattle.pnp_model.specs.Records.Doing.{Does, Searches}
-use Rattle.pnp_model.specs.Cores.{serials_of, stack_of}
-use Rattle.pnp_model.specs.Walks.{after, is_bad, has_ended, walk_of}
+use Rattle.pnp_model.specs.Cores.{is_node, node_at, serials_of, stack_of}
+use Rattle.pnp_model.specs.Walks.{after, is_bad, has_ended}
 use Rattle.pnp_model.specs.Trees.{stands_up}
 use Rattle.pnp_model.specs.Frames.{first_node, rest}
+use Rattle.pnp_model.specs.States.{is_in_world, relist, without_those}
 use Rattle.pnp_model.specs.Tasks.{is_surprise_of}
-use Rattle.pnp_model.specs.Machine.{rebalance_lifted, rebalance_walk, is_waiting}
-use Rattle.pnp_labels.specs.declared.words.Minor.{Minor}
+use Rattle.pnp_model.specs.Machine.{is_born, operation_walk, rebalance_walk, removal_walk, surprise_walk}
+use Rattle.pnp_labels.specs.Texts.{Text}
 use Rattle.pnp_labels.specs.declared.words.Answer.{Answer}
 use Rattle.pnp_labels.specs.declared.words.Answer.TheVariants.{Ok, Fail, Pend}
-use Rattle.pnp_labels.specs.declared.label.Label.{Label}
-use Rattle.pnp_labels.specs.declared.label.OpKind.{OpKind}
+use Rattle.pnp_laws.specs.Effects.{todo_of}
+use Rattle.pnp_laws.specs.Kept.{Ascending}
 use Rattle.pnp_laws.specs.Words.{IsNoJoin}
-use Rattle.pnp_laws.proofs.Lists.{HeadIs, head_found}
-use Rattle.pnp_laws.proofs.Measures.{Falls, falls_coarse, coarse, coarse_on, tasks_cost, duty_cost, sum, phase_cost, is_open, is_target, born_in, operation_cost, rebalance_cost, rank_of, rebalance_rank, left_of, rebalance_left, answers, answers_of, SameBirths, births_same, births_changed, births_mapped, coarse_by, sum_entered}
+use Rattle.pnp_laws.proofs.Lists.{head_found}
+use Rattle.pnp_laws.proofs.Lookups.{left_from, none_below}
+use Rattle.pnp_laws.proofs.Finishing.{Listed, relist_only}
+use Rattle.pnp_laws.proofs.Stages.{Asks, asking, reply}
+use Rattle.pnp_laws.proofs.Measures.{Falls, falls_coarse, coarse, coarse_on, coarse_by, coarse_most, count, count_less, tasks_less, tasks_cost, tasks_pushed, sum, phase_cost, phase_less, is_open, is_target, open_same, born_in, operation_cost, operation_less, rebalance_cost, rank_of, rebalance_rank, removal_rank, surprise_rank, left_of, rebalance_left, removal_left, surprise_left, answers, answers_of, SameBirths, births_same}
+use Rattle.pnp_model.specs.Events as ev
 use Rattle.pnp_model.specs.Rebalances as re
 
 -- By the first number that is lower ---------------------------------------------------------------------
@@ -57,9 +63,9 @@ asked_less w Pend n e h = let c = answers_now w n e in omega arith
 
 -- Lists --------------------------------------------------------------------------------------------------
 
-pub rest_shorter : (j : ℕ) (todo : List ℕ) → HeadIs j todo → length (rest todo) + 1 ≡ length todo
-rest_shorter j [] head = absurd head
-rest_shorter j (i ∷ is) head = omega arith
+pub rest_shorter : (nodes : List Node) (todo : List ℕ) (node : Node) → first_node nodes todo ≡ Some node → length (rest todo) + 1 ≡ length todo
+rest_shorter nodes [] node first = absurd (cc)
+rest_shorter nodes (k ∷ ks) node first = omega arith
 
 pub those_shorter : {A : Type 0} (test : A → Bool) (xs : List A) → length (those test xs) ≤ length xs
 those_shorter test [] = omega arith
@@ -69,7 +75,7 @@ those_shorter test (x ∷ xs) = by_test (test x) (those_shorter test xs)
     by_test true h = omega arith
     by_test false h = omega arith
 
-startable_shorter : (nodes : List Node) (ks : List ℕ) → length (re.startable nodes ks) ≤ length ks
+pub startable_shorter : (nodes : List Node) (ks : List ℕ) → length (re.startable nodes ks) ≤ length ks
 startable_shorter nodes [] = omega arith
 startable_shorter nodes (k ∷ ks) = by_test (stands_up nodes k) (startable_shorter nodes ks)
   where
@@ -77,241 +83,263 @@ startable_shorter nodes (k ∷ ks) = by_test (stands_up nodes k) (startable_shor
     by_test true h = omega arith
     by_test false h = omega arith
 
--- What comes next in a rebalance ---------------------------------------------------------------------------
+-- An operation that goes on ----------------------------------------------------------------------------
 
--- costs and ranks of a rebalance are at most these
-pub record AtMost (r : Rebalance) (a b c : ℕ) : Type 0 where
-  pub cost : rebalance_cost r r.stage ≤ a
-  pub rank : rebalance_rank r.stage ≤ b
-  pub left : rebalance_left r.todo r.stage ≤ c
+-- at a lower rank, or at most at the same with less left
+abbrev pub Down : ℕ → ℕ → ℕ → ℕ → Type 0
+Down a b x y = (a < b) ⊎ ((a ≤ b) × (x < y))
 
-pub ask_most : (r : Rebalance) (ks : List ℕ) → AtMost (re.ask_on r ks) (7 * (length ks + length r.agreed) + 6) 6 (2 * length ks + 1)
-ask_most r [] = record { cost = omega arith; rank = omega arith; left = omega arith }
-ask_most r (k ∷ ks) = record { cost = omega arith; rank = omega arith; left = omega arith }
+-- births, world, tasks and activities stay
+pub falls_on : (s t : State) (o p : Operation) → s.operation ≡ Some o → t.operation ≡ Some p → SameBirths s.core.nodes t.core.nodes → t.world ≡ s.world → t.tasks ≡ s.tasks → t.activities ≡ s.activities → ((k : ℕ) → is_target (Some p) k ≡ is_target (Some o) k) →
+    operation_cost (born_in s) (Some p) ≤ operation_cost (born_in s) (Some o) → Down (rank_of (Some p)) (rank_of (Some o)) (left_of (Some p)) (left_of (Some o)) → Falls s t
+falls_on s t o p runs now same world tasks acts target cost down =
+    let c = ap (operation_cost (born_in s)) runs in
+    let d = ap (operation_cost (born_in s)) now in
+    let most = coarse_on s t same world tasks acts (λ k. ap (λ (x : Option Operation). is_target x k) now ∙ target k ∙ sym (ap (λ (x : Option Operation). is_target x k) runs)) (omega arith) in
+    let a = ap rank_of runs in
+    let b = ap rank_of now in
+    let x = ap left_of runs in
+    let y = ap left_of now in
+    elim down [ inl l ↦ falls_rank s t most (omega arith) | inr (l, less) ↦ falls_left s t most (omega arith) (omega arith) ]
 
-cancel_most : (r : Rebalance) (ks : List ℕ) → AtMost (re.cancel_on r ks) 6 4 (2 * length ks)
-cancel_most r [] = record { cost = omega arith; rank = omega arith; left = omega arith }
-cancel_most r (k ∷ ks) = record { cost = omega arith; rank = omega arith; left = omega arith }
+-- an answer leaves all numbers but what is still to answer
+record SameNumbers (o p : Operation) (v : Walk) : Type 0 where
+  rank : rank_of (Some p) ≡ rank_of (Some o)
+  left : left_of (Some p) ≡ left_of (Some o)
+  cost : (born : ℕ → Bool) → operation_cost born (Some p) ≡ operation_cost born (Some o)
+  target : (k : ℕ) → is_target (Some p) k ≡ is_target (Some o) k
+  todo : todo_of p ≡ todo_of o
+  walk : operation_walk p ≡ Some v
 
-stop_most : (r : Rebalance) (ks : List ℕ) → AtMost (re.stop_on r ks) (7 * length r.agreed + 6) 4 (2 * length ks)
-stop_most r [] = record { cost = omega arith; rank = omega arith; left = omega arith }
-stop_most r (k ∷ ks) = record { cost = omega arith; rank = omega arith; left = omega arith }
+numbers_completed : (answer : Answer) (o : Operation) (w : Walk) → operation_walk o ≡ Some w → SameNumbers o (ev.completed answer o) (after w answer)
+numbers_completed answer (Operation.Rebalancing r) w walk =
+    let same = by_stage r.stage in
+    record { rank = same.0; left = same.1; cost = λ born. same.2; target = λ k. refl; todo = refl; walk = same.3 ∙ ap (option_map (λ (v : Walk). after v answer)) walk }
+  where
+    by_stage : (stage : RebalanceStage) → (rebalance_rank (ev.completed_rebalance answer stage) ≡ rebalance_rank stage) × (rebalance_left r.todo (ev.completed_rebalance answer stage) ≡ rebalance_left r.todo stage)
+        × (rebalance_cost (record r { stage = ev.completed_rebalance answer stage }) (ev.completed_rebalance answer stage) ≡ rebalance_cost r stage) × (rebalance_walk (ev.completed_rebalance answer stage) ≡ option_map (λ (v : Walk). after v answer) (rebalance_walk stage))
+    by_stage (RebalanceStage.Asking v) = (refl, refl, refl, refl)
+    by_stage _ = (refl, refl, refl, refl)
+numbers_completed answer (Operation.Removing o) w walk =
+    let same = by_stage o.stage in
+    record { rank = same.0; left = same.1; cost = λ born. refl; target = λ k. refl; todo = refl; walk = same.2 ∙ ap (option_map (λ (v : Walk). after v answer)) walk }
+  where
+    by_stage : (stage : RemovalStage) → (removal_rank (ev.completed_removal answer stage) ≡ removal_rank stage) × (removal_left o.todo (ev.completed_removal answer stage) ≡ removal_left o.todo stage)
+        × (removal_walk (ev.completed_removal answer stage) ≡ option_map (λ (v : Walk). after v answer) (removal_walk stage))
+    by_stage (RemovalStage.Asking v) = (refl, refl, refl)
+    by_stage _ = (refl, refl, refl)
+numbers_completed answer (Operation.Surprising o) w walk =
+    let same = by_stage o.stage in
+    record { rank = same.0; left = same.1; cost = λ born. refl; target = λ k. refl; todo = refl; walk = same.2 ∙ ap (option_map (λ (v : Walk). after v answer)) walk }
+  where
+    by_stage : (stage : SurpriseStage) → (surprise_rank (ev.completed_surprise answer stage) ≡ surprise_rank stage) × (surprise_left o.todo (ev.completed_surprise answer stage) ≡ surprise_left o.todo stage)
+        × (surprise_walk (ev.completed_surprise answer stage) ≡ option_map (λ (v : Walk). after v answer) (surprise_walk stage))
+    by_stage (SurpriseStage.Telling v) = (refl, refl, refl)
+    by_stage _ = (refl, refl, refl)
 
-restart_most : (r : Rebalance) (ks : List ℕ) → AtMost (re.restart_from r ks) (7 * length ks + 6) 2 (2 * length ks + 1)
-restart_most r [] = record { cost = omega arith; rank = omega arith; left = omega arith }
-restart_most r (k ∷ ks) = record { cost = omega arith; rank = omega arith; left = omega arith }
-
--- a rebalance in this stage
-pub record InRebalance (s : State) (r : Rebalance) (stage : RebalanceStage) : Type 0 where
-  pub runs : s.operation ≡ Some (Operation.Rebalancing r)
-  pub is : r.stage ≡ stage
-
-cost_in : (s : State) (r : Rebalance) (stage : RebalanceStage) → InRebalance s r stage → (born : ℕ → Bool) → operation_cost born s.operation ≡ rebalance_cost r stage
-cost_in s r stage in_it born = ap (operation_cost born) in_it.runs ∙ ap (rebalance_cost r) in_it.is
-
-rank_in : (s : State) (r : Rebalance) (stage : RebalanceStage) → InRebalance s r stage → rank_of s.operation ≡ rebalance_rank stage
-rank_in s r stage in_it = ap rank_of in_it.runs ∙ ap rebalance_rank in_it.is
-
-left_in : (s : State) (r : Rebalance) (stage : RebalanceStage) → InRebalance s r stage → left_of s.operation ≡ rebalance_left r.todo stage
-left_in s r stage in_it = ap left_of in_it.runs ∙ ap (rebalance_left r.todo) in_it.is
-
-no_target : (s : State) (r : Rebalance) (stage : RebalanceStage) → InRebalance s r stage → (k : ℕ) → is_target s.operation k ≡ false
-no_target s r stage in_it k = ap (λ (o : Option Operation). is_target o k) in_it.runs
-
--- the rebalance goes on; births, tasks and activities stay
-re_coarse : (s t : State) (r q : Rebalance) (stage : RebalanceStage) → InRebalance s r stage → t.operation ≡ Some (Operation.Rebalancing q) → SameBirths s.core.nodes t.core.nodes → t.world ≡ s.world → t.tasks ≡ s.tasks → t.activities ≡ s.activities → rebalance_cost q q.stage ≤ rebalance_cost r stage → coarse t ≤ coarse s
-re_coarse s t r q stage in_it now same world tasks acts cost =
-    coarse_on s t same world tasks acts (λ k. ap (λ (o : Option Operation). is_target o k) now ∙ sym (no_target s r stage in_it k))
-    (let a = ap (operation_cost (born_in s)) now in let b = cost_in s r stage in_it (born_in s) in omega arith)
-
-re_rank : (s t : State) (r q : Rebalance) (stage : RebalanceStage) → InRebalance s r stage → t.operation ≡ Some (Operation.Rebalancing q) → SameBirths s.core.nodes t.core.nodes → t.world ≡ s.world → t.tasks ≡ s.tasks → t.activities ≡ s.activities → rebalance_cost q q.stage ≤ rebalance_cost r stage →
-    rebalance_rank q.stage < rebalance_rank stage → Falls s t
-re_rank s t r q stage in_it now same world tasks acts cost rank =
-    falls_rank s t (re_coarse s t r q stage in_it now same world tasks acts cost) (let a = ap rank_of now in let b = rank_in s r stage in_it in omega arith)
-
-re_left : (s t : State) (r q : Rebalance) (stage : RebalanceStage) → InRebalance s r stage → t.operation ≡ Some (Operation.Rebalancing q) → SameBirths s.core.nodes t.core.nodes → t.world ≡ s.world → t.tasks ≡ s.tasks → t.activities ≡ s.activities → rebalance_cost q q.stage ≤ rebalance_cost r stage →
-    rebalance_rank q.stage ≤ rebalance_rank stage → rebalance_left q.todo q.stage < rebalance_left r.todo stage → Falls s t
-re_left s t r q stage in_it now same world tasks acts cost rank left =
-    falls_left s t (re_coarse s t r q stage in_it now same world tasks acts cost) (let a = ap rank_of now in let b = rank_in s r stage in_it in omega arith) (let a = ap left_of now in let b = left_in s r stage in_it in omega arith)
-
--- the same stage, with its walk after an ask
-re_ask : (s t : State) (r : Rebalance) (wrap : Walk → RebalanceStage) (node : Node) (w : Walk) (answer : Answer) → ((v : Walk) → rebalance_walk (wrap v) ≡ Some v) → InRebalance s r (wrap w) → t.operation ≡ Some (Operation.Rebalancing (record r { stage = wrap (after w answer) })) →
-    t.core.nodes ≡ s.core.nodes → t.world ≡ s.world → t.tasks ≡ s.tasks → t.activities ≡ s.activities →
-    ((v : Walk) → rebalance_cost (record r { stage = wrap v }) (wrap v) ≡ rebalance_cost r (wrap w)) → ((v : Walk) → rebalance_rank (wrap v) ≡ rebalance_rank (wrap w)) → ((v : Walk) → rebalance_left r.todo (wrap v) ≡ rebalance_left r.todo (wrap w)) →
-    first_node s.core.nodes r.todo ≡ Some node → w.waits ≡ false → has_ended w (length node.stack) ≡ false → Falls s t
-re_ask s t r wrap node w answer walk in_it now nodes world tasks acts cost rank left first waits ended =
-    let v = after w answer in
-    let q = record r { stage = wrap v } in
-    let cost_v = cost v in
-    let rank_v = rank v in
-    let left_v = left v in
-    falls_answers s t (re_coarse s t r q (wrap w) in_it now (births_same s.core.nodes t.core.nodes nodes) world tasks acts (omega arith))
-    (let a = ap rank_of now in let b = rank_in s r (wrap w) in_it in omega arith)
-    (let a = ap left_of now in let b = left_in s r (wrap w) in_it in omega arith)
-    (let less = asked_less w answer (length node.stack) waits ended in
-    let n : length (stack_of (first_node s.core.nodes r.todo)) ≡ length node.stack = ap (λ (o : Option Node). length (stack_of o)) first in
+pub falls_asking : (s : State) (o : Operation) (node : Node) (w : Walk) → s.operation ≡ Some o → Asks s o node w → Falls s (asking s o node w).state
+falls_asking s o node w runs asks =
+    let t = (asking s o node w).state in
+    let p = ev.completed (reply s.core node w) o in
+    let v = after w (reply s.core node w) in
+    let same = numbers_completed (reply s.core node w) o w asks.walk in
+    let less = asked_less w (reply s.core node w) (length node.stack) asks.waits asks.more in
     let old : answers_of s.core.nodes s.activities s.operation ≡ answers (Some w) (length node.stack) =
-    ap (λ (o : Option Operation). answers_of s.core.nodes s.activities o) in_it.runs ∙ ap (λ (x : RebalanceStage). answers (rebalance_walk x) (length (stack_of (first_node s.core.nodes r.todo)))) in_it.is
-    ∙ ap (λ (o : Option Walk). answers o (length (stack_of (first_node s.core.nodes r.todo)))) (walk w) ∙ ap (λ (m : ℕ). answers (Some w) m) n in
+    ap (λ (x : Option Operation). answers_of s.core.nodes s.activities x) runs ∙ ap (λ (x : Option Walk). answers x (length (stack_of (first_node s.core.nodes (todo_of o))))) asks.walk ∙ ap (λ (x : Option Node). answers (Some w) (length (stack_of x))) asks.first in
     let new : answers_of t.core.nodes t.activities t.operation ≡ answers (Some v) (length node.stack) =
-    ap (λ (o : Option Operation). answers_of t.core.nodes t.activities o) now ∙ ap (λ (o : Option Walk). answers o (length (stack_of (first_node t.core.nodes r.todo)))) (walk v)
-    ∙ ap (λ (x : List Node). answers (Some v) (length (stack_of (first_node x r.todo)))) nodes ∙ ap (λ (m : ℕ). answers (Some v) m) n in
-    omega arith)
+    ap (λ (x : Option Walk). answers x (length (stack_of (first_node s.core.nodes (todo_of p))))) same.walk ∙ ap (λ (x : List ℕ). answers (Some v) (length (stack_of (first_node s.core.nodes x)))) same.todo ∙ ap (λ (x : Option Node). answers (Some v) (length (stack_of x))) asks.first in
+    let a = same.cost (born_in s) in
+    let b = ap (operation_cost (born_in s)) runs in
+    let c = same.rank in
+    let d = ap rank_of runs in
+    let e = same.left in
+    let f = ap left_of runs in
+    falls_answers s t (coarse_on s t (births_same s.core.nodes s.core.nodes refl) refl refl refl (λ k. same.target k ∙ sym (ap (λ (x : Option Operation). is_target x k) runs)) (omega arith)) (omega arith) (omega arith) (omega arith)
 
--- The steps of a rebalance ---------------------------------------------------------------------------------
+-- A device leaves --------------------------------------------------------------------------------------
 
--- the device that is next
-record Front (s : State) (r : Rebalance) (node : Node) : Type 0 where
-  head : HeadIs node.serial r.todo
-  first : first_node s.core.nodes r.todo ≡ Some node
+-- the world only loses devices
+fewer_born : (gone : List ℕ) (world : List Device) (born : ℕ) → is_in_world (without_those gone world) born ≡ true → is_in_world world born ≡ true
+fewer_born gone [] born h = h
+fewer_born gone (d ∷ ds) born h = by_test (has gone d.born || has gone d.parent) h (fewer_born (d.born ∷ gone) ds born) (fewer_born gone ds born)
+  where
+    or_more : (x y z : Bool) → (y ≡ true → z ≡ true) → (x || y) ≡ true → (x || z) ≡ true
+    or_more true y z f g = refl
+    or_more false y z f g = f g
 
-falls_end_ask : (s : State) (r : Rebalance) (node : Node) (w : Walk) (bad : Bool) → InRebalance s r (RebalanceStage.Asking w) → Front s r node → Falls s (rebalance_lifted s (re.end_ask s.core r node bad)).state
-falls_end_ask s r node w false in_it front =
-    let q = record r { agreed = node.serial ∷ r.agreed } in
-    let most = ask_most q (rest r.todo) in
-    let l = rest_shorter node.serial r.todo front.head in
-    let a = most.cost in
-    let b = most.rank in
-    let c = most.left in
-    re_left s _ r (re.ask_on q (rest r.todo)) (RebalanceStage.Asking w) in_it refl (births_changed node.serial _ s.core.nodes _ refl (λ x. refl) (λ x. refl)) refl refl refl (omega arith) (omega arith) (omega arith)
-falls_end_ask s r node w true in_it front =
-    re_left s _ r (record r { refused = node.serial ∷ r.refused; stage = RebalanceStage.TakingBack (walk_of Minor.CancelStop) }) (RebalanceStage.Asking w) in_it refl (births_changed node.serial _ s.core.nodes _ refl (λ x. refl) (λ x. refl)) refl refl refl (omega arith) (omega arith) (omega arith)
+    or_right : (x z : Bool) → z ≡ true → (x || z) ≡ true
+    or_right true z g = refl
+    or_right false z g = g
 
-falls_ask : (s : State) (r : Rebalance) (node : Node) (w : Walk) (b : Bool) → has_ended w (length node.stack) ≡ b → w.waits ≡ false → InRebalance s r (RebalanceStage.Asking w) → Front s r node → Falls s (rebalance_lifted s (re.ask_step s.core r node w b)).state
-falls_ask s r node w true e waits in_it front = falls_end_ask s r node w (is_bad w) in_it front
-falls_ask s r node w false e waits in_it front = re_ask s _ r RebalanceStage.Asking node w _ (λ v. refl) in_it refl refl refl refl refl (λ v. refl) (λ v. refl) (λ v. refl) front.first waits e
+    by_test : (b : Bool) → is_in_world (cond b (without_those (d.born ∷ gone) ds) (d ∷ without_those gone ds)) born ≡ true →
+        (is_in_world (without_those (d.born ∷ gone) ds) born ≡ true → is_in_world ds born ≡ true) → (is_in_world (without_those gone ds) born ≡ true → is_in_world ds born ≡ true) → is_in_world (d ∷ ds) born ≡ true
+    by_test true g one two = or_right (d.born == born) (is_in_world ds born) (one g)
+    by_test false g one two = or_more (d.born == born) (is_in_world (without_those gone ds) born) (is_in_world ds born) two g
 
-falls_take_back : (s : State) (r : Rebalance) (node : Node) (w : Walk) (b : Bool) → has_ended w (length node.stack) ≡ b → w.waits ≡ false → InRebalance s r (RebalanceStage.TakingBack w) → Front s r node → Falls s (rebalance_lifted s (re.take_back s.core r node w b)).state
-falls_take_back s r node w true e waits in_it front =
-    let more = those (re.is_not_above s.core.nodes node.serial) (rest r.todo) in
-    let most = ask_most r more in
-    let l = rest_shorter node.serial r.todo front.head in
-    let m = those_shorter (re.is_not_above s.core.nodes node.serial) (rest r.todo) in
-    let a = most.cost in
-    let b = most.rank in
-    let c = most.left in
-    re_left s _ r (re.ask_on r more) (RebalanceStage.TakingBack w) in_it refl (births_changed node.serial _ s.core.nodes _ refl (λ x. refl) (λ x. refl)) refl refl refl (omega arith) (omega arith) (omega arith)
-falls_take_back s r node w false e waits in_it front = re_ask s _ r RebalanceStage.TakingBack node w _ (λ v. refl) in_it refl refl refl refl refl (λ v. refl) (λ v. refl) (λ v. refl) front.first waits e
+length_left : (j : ℕ) (nodes : List Node) (n : Node) → node_at j nodes ≡ Some n → length (serials_of (without_first (is_node j) nodes)) + 1 ≡ length (serials_of nodes)
+length_left j [] n at = absurd (cc)
+length_left j (x ∷ xs) n at =
+    elim (cases_eq x.serial j) [
+      | inl e ↦
+          let here : is_node j x ≡ true = grind (arith, nat_tests) in
+          let now : length (serials_of (without_first (is_node j) (x ∷ xs))) ≡ length (serials_of xs) = ap (λ (b : Bool). length (serials_of (cond b xs (x ∷ without_first (is_node j) xs)))) here in
+          omega arith
+      | inr d ↦
+          let there : is_node j x ≡ false = grind (arith, nat_tests) in
+          let more = length_left j xs n (grind (arith, nat_tests)) in
+          let now : length (serials_of (without_first (is_node j) (x ∷ xs))) ≡ suc (length (serials_of (without_first (is_node j) xs))) = ap (λ (b : Bool). length (serials_of (cond b xs (x ∷ without_first (is_node j) xs)))) there in
+          omega arith
+    ]
 
-falls_searched : (s : State) (r : Rebalance) (found : Found) → InRebalance s r RebalanceStage.Searching → Falls s (rebalance_lifted s (re.searched s.core r found)).state
-falls_searched s r (assignment plan) in_it =
-    let most = stop_most (record r { found = assignment plan }) (reverse r.agreed) in
-    let a = most.cost in
-    let b = most.rank in
-    re_rank s _ r (re.stop_on (record r { found = assignment plan }) (reverse r.agreed)) RebalanceStage.Searching in_it refl (births_same s.core.nodes s.core.nodes refl) refl refl refl (omega arith) (omega arith)
-falls_searched s r no_fit in_it =
-    let most = cancel_most (record r { found = no_fit }) r.agreed in
-    let a = most.cost in
-    let b = most.rank in
-    re_rank s _ r (re.cancel_on (record r { found = no_fit }) r.agreed) RebalanceStage.Searching in_it refl (births_same s.core.nodes s.core.nodes refl) refl refl refl (omega arith) (omega arith)
-falls_searched s r spent in_it =
-    let most = cancel_most (record r { found = spent }) r.agreed in
-    let a = most.cost in
-    let b = most.rank in
-    re_rank s _ r (re.cancel_on (record r { found = spent }) r.agreed) RebalanceStage.Searching in_it refl (births_same s.core.nodes s.core.nodes refl) refl refl refl (omega arith) (omega arith)
+count_left : (test : ℕ → Bool) (j : ℕ) (nodes : List Node) → count test (serials_of (without_first (is_node j) nodes)) ≤ count test (serials_of nodes)
+count_left test j [] = omega arith
+count_left test j (x ∷ xs) = by_test (is_node j x) (count_left test j xs)
+  where
+    by_test : (b : Bool) → count test (serials_of (without_first (is_node j) xs)) ≤ count test (serials_of xs) → count test (serials_of (cond b xs (x ∷ without_first (is_node j) xs))) ≤ cond (test x.serial) 1 0 + count test (serials_of xs)
+    by_test true h = omega arith
+    by_test false h = omega arith
 
-falls_cancel : (s : State) (r : Rebalance) (node : Node) (w : Walk) (b : Bool) → has_ended w (length node.stack) ≡ b → w.waits ≡ false → InRebalance s r (RebalanceStage.Cancelling w) → Front s r node → Falls s (rebalance_lifted s (re.cancel_step s.core r node w b)).state
-falls_cancel s r node w true e waits in_it front =
-    let most = cancel_most r (rest r.todo) in
-    let l = rest_shorter node.serial r.todo front.head in
-    let a = most.cost in
-    let b = most.rank in
-    let c = most.left in
-    re_left s _ r (re.cancel_on r (rest r.todo)) (RebalanceStage.Cancelling w) in_it refl (births_changed node.serial _ s.core.nodes _ refl (λ x. refl) (λ x. refl)) refl refl refl (omega arith) (omega arith) (omega arith)
-falls_cancel s r node w false e waits in_it front = re_ask s _ r RebalanceStage.Cancelling node w _ (λ v. refl) in_it refl refl refl refl refl (λ v. refl) (λ v. refl) (λ v. refl) front.first waits e
+born_left : (old : List Device) (new : List Device) (j k : ℕ) (nodes : List Node) → Ascending 0 nodes → ((o : Option Node) → is_born new o ≡ true → is_born old o ≡ true) → is_born new (node_at k (without_first (is_node j) nodes)) ≡ true → is_born old (node_at k nodes) ≡ true
+born_left old new j k nodes order world h = by_node (node_at k (without_first (is_node j) nodes)) refl (world (node_at k (without_first (is_node j) nodes)) h)
+  where
+    by_node : (o : Option Node) → node_at k (without_first (is_node j) nodes) ≡ o → is_born old (node_at k (without_first (is_node j) nodes)) ≡ true → is_born old (node_at k nodes) ≡ true
+    by_node None e g = absurd (let z = ap (is_born old) e in cc)
+    by_node (Some m) e g = ap (is_born old) (left_from j k nodes m order e).1 ∙ (sym (ap (is_born old) e) ∙ g)
 
-falls_stuck : (s : State) (r : Rebalance) → InRebalance s r RebalanceStage.Stuck → Falls s (rebalance_lifted s (re.stuck s.core r)).state
-falls_stuck s r in_it = re_rank s _ r (record r { stage = RebalanceStage.Ending }) RebalanceStage.Stuck in_it refl (births_changed r.target _ s.core.nodes _ refl (λ x. refl) (λ x. refl)) refl refl refl (omega arith) (omega arith)
+sum_less : (n m : ℕ) (acts : List Activity) → n ≤ m → sum (λ a. phase_cost n a.phase) acts ≤ sum (λ a. phase_cost m a.phase) acts
+sum_less n m [] l = omega arith
+sum_less n m (a ∷ acts) l = let here = phase_less n m a.phase l in let more = sum_less n m acts l in omega arith
 
-falls_stop : (s : State) (r : Rebalance) (node : Node) (w : Walk) (b : Bool) → has_ended w (length node.stack) ≡ b → w.waits ≡ false → InRebalance s r (RebalanceStage.Stopping w) → Front s r node → Falls s (rebalance_lifted s (re.stop_step s.core r node w b)).state
-falls_stop s r node w true e waits in_it front =
-    let most = stop_most r (rest r.todo) in
-    let l = rest_shorter node.serial r.todo front.head in
-    let a = most.cost in
-    let b = most.rank in
-    let c = most.left in
-    re_left s _ r (re.stop_on r (rest r.todo)) (RebalanceStage.Stopping w) in_it refl (births_changed node.serial _ s.core.nodes _ refl (λ x. refl) (λ x. refl)) refl refl refl (omega arith) (omega arith) (omega arith)
-falls_stop s r node w false e waits in_it front = re_ask s _ r RebalanceStage.Stopping node w _ (λ v. refl) in_it refl refl refl refl refl (λ v. refl) (λ v. refl) (λ v. refl) front.first waits e
+open_listed : (tasks more : List Task) (o p : Option Operation) (k : ℕ) → Listed tasks more → is_target p k ≡ is_target o k → is_open more p k ≡ true → is_open tasks o k ≡ true
+open_listed tasks more o p k (inl e) target h = open_same tasks more o p k e target h
+open_listed tasks more o p k (inr (j, e)) target h =
+    ap (λ (b : Bool). not (list_any (is_surprise_of k) tasks) && not b) (sym target)
+    ∙ (ap (λ (b : Bool). not b && not (is_target p k)) (sym (pushed tasks)) ∙ (ap (λ (ts : List Task). not (list_any (is_surprise_of k) ts) && not (is_target p k)) (sym e) ∙ h))
+  where
+    pushed : (ts : List Task) → list_any (is_surprise_of k) (ts ++ record { kind = Duty.Listing; serial = j } ∷ []) ≡ list_any (is_surprise_of k) ts
+    pushed [] = refl
+    pushed (t ∷ ts) = ap (λ (b : Bool). is_surprise_of k t || b) (pushed ts)
 
-falls_commit : (s : State) (r : Rebalance) → InRebalance s r RebalanceStage.Committing → Falls s (rebalance_lifted s (re.commit_step s.core r)).state
-falls_commit s r in_it =
-    let ks = re.startable s.core.nodes r.agreed in
-    let most = restart_most r ks in
-    let l = startable_shorter s.core.nodes r.agreed in
-    let a = most.cost in
-    let b = most.rank in
-    re_rank s _ r (re.restart_from r ks) RebalanceStage.Committing in_it refl (births_mapped _ s.core.nodes _ refl (λ x. refl) (λ x. refl)) refl refl refl (omega arith) (omega arith)
+listed_cost : (n : ℕ) (born : ℕ → Bool) (tasks more : List Task) → Listed tasks more → tasks_cost n born more ≤ tasks_cost n born tasks + 1
+listed_cost n born tasks more (inl e) = let z = ap (tasks_cost n born) e in omega arith
+listed_cost n born tasks more (inr (k, e)) =
+    let z = ap (tasks_cost n born) e in
+    let p = tasks_pushed n born tasks (record { kind = Duty.Listing; serial = k }) in
+    omega arith
 
-falls_end_restart : (s : State) (r : Rebalance) (node : Node) (w : Walk) (bad : Bool) → InRebalance s r (RebalanceStage.Restarting w) → Front s r node → Falls s (rebalance_lifted s (re.end_restart s.core r node bad)).state
-falls_end_restart s r node w true in_it front =
-    re_left s _ r (record r { stage = RebalanceStage.Failed }) (RebalanceStage.Restarting w) in_it refl (births_changed node.serial _ s.core.nodes _ refl (λ x. refl) (λ x. refl)) refl refl refl (omega arith) (omega arith) (omega arith)
-falls_end_restart s r node w false in_it front =
-    let t = (rebalance_lifted s (re.end_restart s.core r node false)).state in
-    let most = restart_most r (re.startable t.core.nodes (rest r.todo)) in
-    let l = rest_shorter node.serial r.todo front.head in
-    let m = startable_shorter t.core.nodes (rest r.todo) in
-    let a = most.cost in
-    let b = most.rank in
-    let c = most.left in
-    re_left s t r (re.restart_from r (re.startable t.core.nodes (rest r.todo))) (RebalanceStage.Restarting w) in_it refl (births_changed node.serial _ s.core.nodes _ refl (λ x. refl) (λ x. refl)) refl refl refl (omega arith) (omega arith) (omega arith)
+-- a device left, and its parent may be listed again
+coarse_left : (s t : State) (j : ℕ) (node : Node) → Ascending 0 s.core.nodes → node_at j s.core.nodes ≡ Some node → t.core.nodes ≡ without_first (is_node j) s.core.nodes → ((o : Option Node) → is_born t.world o ≡ true → is_born s.world o ≡ true) → Listed s.tasks t.tasks → t.activities ≡ s.activities →
+    ((k : ℕ) → is_target t.operation k ≡ is_target s.operation k) → operation_cost (born_in s) t.operation ≤ operation_cost (born_in s) s.operation → coarse t < coarse s
+coarse_left s t j node order at nodes world tasks acts target cost =
+    let n = length_left j s.core.nodes node at in
+    let m : length (serials_of t.core.nodes) ≡ length (serials_of (without_first (is_node j) s.core.nodes)) = ap (λ (x : List Node). length (serials_of x)) nodes in
+    let born : (k : ℕ) → born_in t k ≡ true → born_in s k ≡ true = λ k h. born_left s.world t.world j k s.core.nodes order world (sym (ap (λ (x : List Node). is_born t.world (node_at k x)) nodes) ∙ h) in
+    let a0 = count_less (is_open t.tasks t.operation) (is_open s.tasks s.operation) (serials_of (without_first (is_node j) s.core.nodes)) (λ k h. open_listed s.tasks t.tasks s.operation t.operation k tasks (target k) h) in
+    let a1 = count_left (is_open s.tasks s.operation) j s.core.nodes in
+    let a2 = ap (λ (x : List Node). count (is_open t.tasks t.operation) (serials_of x)) nodes in
+    let b0 = tasks_less (length (serials_of t.core.nodes)) (length (serials_of s.core.nodes)) (born_in t) (born_in s) t.tasks (omega arith) born in
+    let b1 = listed_cost (length (serials_of s.core.nodes)) (born_in s) s.tasks t.tasks tasks in
+    let c0 = sum_less (length (serials_of t.core.nodes)) (length (serials_of s.core.nodes)) t.activities (omega arith) in
+    let c1 = ap (λ (xs : List Activity). sum (λ a. phase_cost (length (serials_of s.core.nodes)) a.phase) xs) acts in
+    let d = operation_less (born_in t) (born_in s) t.operation born in
+    omega arith
 
-falls_restart : (s : State) (r : Rebalance) (node : Node) (w : Walk) (b : Bool) → has_ended w (length node.stack) ≡ b → w.waits ≡ false → InRebalance s r (RebalanceStage.Restarting w) → Front s r node → Falls s (rebalance_lifted s (re.restart_step s.core r node w b)).state
-falls_restart s r node w true e waits in_it front = falls_end_restart s r node w (is_bad w) in_it front
-falls_restart s r node w false e waits in_it front = re_ask s _ r RebalanceStage.Restarting node w _ (λ v. refl) in_it refl refl refl refl refl (λ v. refl) (λ v. refl) (λ v. refl) front.first waits e
+pub falls_leaves : (s t : State) (o p : Operation) (node : Node) → Ascending 0 s.core.nodes → first_node s.core.nodes (todo_of o) ≡ Some node → s.operation ≡ Some o → t.operation ≡ Some p → t.core.nodes ≡ without_first (is_node node.serial) s.core.nodes →
+    ((x : Option Node) → is_born t.world x ≡ true → is_born s.world x ≡ true) → Listed s.tasks t.tasks → t.activities ≡ s.activities → ((k : ℕ) → is_target (Some p) k ≡ is_target (Some o) k) → operation_cost (born_in s) (Some p) ≤ operation_cost (born_in s) (Some o) → Falls s t
+falls_leaves s t o p node order first runs now nodes world tasks acts target cost =
+    falls_coarse s t (coarse_left s t node.serial node order (head_found s.core.nodes (todo_of o) node first).1 nodes world tasks acts (λ k. ap (λ (x : Option Operation). is_target x k) now ∙ target k ∙ sym (ap (λ (x : Option Operation). is_target x k) runs))
+    (let a = ap (operation_cost (born_in s)) now in let b = ap (operation_cost (born_in s)) runs in omega arith))
 
-begin_most : (n : ℕ) (b : Bool) → duty_cost n b (Duty.Begins OpKind.Surprise) ≤ 6
-begin_most n true = omega arith
-begin_most n false = omega arith
+-- the world of a state after which the parent was listed again
+pub same_in : (s u : State) (path : Text) (born : ℕ) → ((x : Option Node) → is_born u.world x ≡ true → is_born s.world x ≡ true) → (x : Option Node) → is_born (relist path born u).world x ≡ true → is_born s.world x ≡ true
+same_in s u path born less x h = less x (sym (ap (λ (w : List Device). is_born w x) (relist_only path born u).world) ∙ h)
 
--- more tasks leave no more to be found gone
-open_first : (task : Task) (tasks : List Task) (o p : Option Operation) (k : ℕ) → is_target p k ≡ is_target o k → is_open (task ∷ tasks) p k ≡ true → is_open tasks o k ≡ true
-open_first task tasks o p k target h = grind (arith, nat_tests)
+pub fewer_in : (gone : List ℕ) (world : List Device) (x : Option Node) → is_born (without_those gone world) x ≡ true → is_born world x ≡ true
+fewer_in gone world None h = h
+fewer_in gone world (Some n) h = fewer_born gone world n.born h
 
-falls_failed : (s : State) (r : Rebalance) (node : Node) → InRebalance s r RebalanceStage.Failed → Front s r node → Falls s (rebalance_lifted s (re.failed s.core r node)).state
-falls_failed s r node in_it front =
-    let t = (rebalance_lifted s (re.failed s.core r node)).state in
-    let task : Task = record { kind = Duty.Begins OpKind.Surprise; serial = node.serial } in
-    let ks = re.startable s.core.nodes (rest r.todo) in
-    let most = restart_most r ks in
-    let a = most.cost in
-    let l = rest_shorter node.serial r.todo front.head in
-    let m = startable_shorter s.core.nodes (rest r.todo) in
-    let b = begin_most (length (serials_of s.core.nodes)) (born_in s node.serial) in
-    let c = cost_in s r RebalanceStage.Failed in_it (born_in s) in
-    falls_coarse s t (coarse_by s t (births_changed node.serial _ s.core.nodes _ refl (λ x. refl) (λ x. refl)) refl
-    (λ k h. open_first task s.tasks s.operation t.operation k (sym (no_target s r RebalanceStage.Failed in_it k)) h) (omega arith))
+-- An operation closes ------------------------------------------------------------------------------------
 
--- The end of a rebalance
-
-ends_with : (s t : State) (r : Rebalance) (phase : Phase) → InRebalance s r RebalanceStage.Ending → t.core.nodes ≡ s.core.nodes → t.world ≡ s.world → t.tasks ≡ s.tasks → t.operation ≡ None → sum (λ a. phase_cost (length (serials_of s.core.nodes)) a.phase) t.activities < sum (λ a. phase_cost (length (serials_of s.core.nodes)) a.phase) s.activities + 6 → Falls s t
-ends_with s t r phase in_it nodes world tasks none acts =
-    falls_coarse s t (coarse_by s t (births_same s.core.nodes t.core.nodes nodes) world
-    (λ k h. ap (λ (b : Bool). not (list_any (is_surprise_of k) s.tasks) && not b) (no_target s r RebalanceStage.Ending in_it k ∙ sym (ap (λ (o : Option Operation). is_target o k) none))
-    ∙ (ap (λ (ts : List Task). not (list_any (is_surprise_of k) ts) && not (is_target t.operation k)) (sym tasks) ∙ h))
-    (let a = ap (tasks_cost (length (serials_of s.core.nodes)) (born_in s)) tasks in
+-- nobody more can be found gone, and what begins costs less than the operation
+pub falls_close : (s t : State) (o : Operation) → s.operation ≡ Some o → ((k : ℕ) → is_target (Some o) k ≡ false) → t.core.nodes ≡ s.core.nodes → t.world ≡ s.world → t.tasks ≡ s.tasks → t.operation ≡ None →
+    sum (λ a. phase_cost (length (serials_of s.core.nodes)) a.phase) t.activities < sum (λ a. phase_cost (length (serials_of s.core.nodes)) a.phase) s.activities + operation_cost (born_in s) (Some o) → Falls s t
+falls_close s t o runs target nodes world tasks none less =
+    let a = ap (tasks_cost (length (serials_of s.core.nodes)) (born_in s)) tasks in
     let b = ap (operation_cost (born_in s)) none in
-    let c = cost_in s r RebalanceStage.Ending in_it (born_in s) in
-    omega arith))
+    let c = ap (operation_cost (born_in s)) runs in
+    falls_coarse s t (coarse_by s t (births_same s.core.nodes t.core.nodes nodes) world
+    (λ k h. open_same s.tasks t.tasks s.operation t.operation k tasks (ap (λ (x : Option Operation). is_target x k) none ∙ sym (target k) ∙ sym (ap (λ (x : Option Operation). is_target x k) runs)) h) (omega arith))
 
-falls_moved : (s : State) (r : Rebalance) (up : Bool) (label : Label) → InRebalance s r RebalanceStage.Ending → Falls s (rebalance_lifted s (record { label = label; core = s.core; frame = r; beside = re.moved_on up })).state
-falls_moved s r true label in_it =
-    let a : Activity = record { serial = r.target; phase = Phase.Starting (walk_of Minor.Start) } in
-    let e = sum_entered (λ x. phase_cost (length (serials_of s.core.nodes)) x.phase) a s.activities in
-    ends_with s _ r (Phase.Starting (walk_of Minor.Start)) in_it refl refl refl refl (omega arith)
-falls_moved s r false label in_it = ends_with s _ r Phase.Searching in_it refl refl refl refl (omega arith)
+pub count_none : (test was : ℕ → Bool) (j : ℕ) (nodes : List Node) → ((k : ℕ) → test k ≡ true → (was k ≡ true) ⊎ (k ≡ j)) → node_at j nodes ≡ None → count test (serials_of nodes) ≤ count was (serials_of nodes)
+count_none test was j [] h gone = omega arith
+count_none test was j (n ∷ ns) h gone =
+    let other : n.serial ≢ j = λ e. absurd (let here : node_at j (n ∷ ns) ≡ Some n = grind (arith, nat_tests) in cc) in
+    let more = count_none test was j ns h (grind (arith, nat_tests)) in
+    by_test (test n.serial) (was n.serial) (λ e. elim (h n.serial e) [ inl q ↦ q | inr q ↦ absurd (other q) ]) more
+  where
+    by_test : (a b : Bool) → (a ≡ true → b ≡ true) → count test (serials_of ns) ≤ count was (serials_of ns) → cond a 1 0 + count test (serials_of ns) ≤ cond b 1 0 + count was (serials_of ns)
+    by_test true b g l = subst (λ (x : Bool). 1 + count test (serials_of ns) ≤ cond x 1 0 + count was (serials_of ns)) (sym (g refl)) (omega arith)
+    by_test false true g l = omega arith
+    by_test false false g l = omega arith
 
-falls_over : (s : State) (r : Rebalance) (found : Found) (label : Label) → InRebalance s r RebalanceStage.Ending → Falls s (rebalance_lifted s (record { label = label; core = s.core; frame = r; beside = re.over s.core r found })).state
-falls_over s r (assignment plan) label in_it = falls_moved s r (stands_up s.core.nodes r.target) label in_it
-falls_over s r no_fit label in_it =
-    let a : Activity = record { serial = r.target; phase = Phase.Removing (walk_of Minor.Remove) } in
-    let e = sum_entered (λ x. phase_cost (length (serials_of s.core.nodes)) x.phase) a s.activities in
-    ends_with s _ r (Phase.Removing (walk_of Minor.Remove)) in_it refl refl refl refl (omega arith)
-falls_over s r spent label in_it =
-    let a : Activity = record { serial = r.target; phase = Phase.Removing (walk_of Minor.Remove) } in
-    let e = sum_entered (λ x. phase_cost (length (serials_of s.core.nodes)) x.phase) a s.activities in
-    ends_with s _ r (Phase.Removing (walk_of Minor.Remove)) in_it refl refl refl refl (omega arith)
+-- one more at most
+count_one : (lo : ℕ) (test was : ℕ → Bool) (j : ℕ) (nodes : List Node) → Ascending lo nodes → ((k : ℕ) → test k ≡ true → (was k ≡ true) ⊎ (k ≡ j)) → count test (serials_of nodes) ≤ count was (serials_of nodes) + 1
+count_one lo test was j [] order h = omega arith
+count_one lo test was j (n ∷ ns) order h =
+    elim (cases_eq n.serial j) [
+      | inl e ↦
+          let more = count_none test was j ns h (none_below (suc n.serial) j ns (omega arith) order.1) in
+          one (test n.serial) (was n.serial) more
+      | inr d ↦
+          let more = count_one (suc n.serial) test was j ns order.1 h in
+          two (test n.serial) (was n.serial) (λ e. elim (h n.serial e) [ inl q ↦ q | inr q ↦ absurd (d q) ]) more
+    ]
+  where
+    one : (a b : Bool) → count test (serials_of ns) ≤ count was (serials_of ns) → cond a 1 0 + count test (serials_of ns) ≤ cond b 1 0 + count was (serials_of ns) + 1
+    one true true l = omega arith
+    one true false l = omega arith
+    one false true l = omega arith
+    one false false l = omega arith
 
--- All steps of a rebalance ---------------------------------------------------------------------------------
+    two : (a b : Bool) → (a ≡ true → b ≡ true) → count test (serials_of ns) ≤ count was (serials_of ns) + 1 → cond a 1 0 + count test (serials_of ns) ≤ cond b 1 0 + count was (serials_of ns) + 1
+    two true b g l = subst (λ (x : Bool). 1 + count test (serials_of ns) ≤ cond x 1 0 + count was (serials_of ns) + 1) (sym (g refl)) (omega arith)
+    two false true g l = omega arith
+    two false false g l = omega arith
+
+-- only the target may be found gone again
+open_target : (s t : State) (o : Surprise) → s.operation ≡ Some (Operation.Surprising o) → t.operation ≡ None → t.tasks ≡ s.tasks → (k : ℕ) → is_open t.tasks t.operation k ≡ true → (is_open s.tasks s.operation k ≡ true) ⊎ (k ≡ o.target)
+open_target s t o runs none tasks k h =
+    elim (cases_eq o.target k) [
+      | inl e ↦ inr (sym e)
+      | inr d ↦ inl (let out : (o.target == k) ≡ false = grind (arith, nat_tests) in
+          let target : is_target t.operation k ≡ is_target s.operation k = ap (λ (x : Option Operation). is_target x k) none ∙ (sym out ∙ sym (ap (λ (x : Option Operation). is_target x k) runs)) in
+          ap (λ (b : Bool). not (list_any (is_surprise_of k) s.tasks) && not b) (sym target) ∙ (ap (λ (ts : List Task). not (list_any (is_surprise_of k) ts) && not (is_target t.operation k)) (sym tasks) ∙ h))
+    ]
+
+-- the target is in the world, or has left
+pub falls_over : (s t : State) (o : Surprise) → Ascending 0 s.core.nodes → s.operation ≡ Some (Operation.Surprising o) → (born_in s o.target ≡ true) ⊎ (node_at o.target s.core.nodes ≡ None) → t.operation ≡ None → t.core.nodes ≡ s.core.nodes → t.world ≡ s.world → t.tasks ≡ s.tasks → t.activities ≡ s.activities → Falls s t
+falls_over s t o order runs target none nodes world tasks acts =
+    let a = ap (tasks_cost (length (serials_of s.core.nodes)) (born_in s)) tasks in
+    let b = ap (operation_cost (born_in s)) none in
+    let c = ap (λ (xs : List Activity). sum (λ a. phase_cost (length (serials_of s.core.nodes)) a.phase) xs) acts in
+    let opens = open_target s t o runs none tasks in
+    elim target [
+      | inl born ↦
+          let l = coarse_most s t 1 (births_same s.core.nodes t.core.nodes nodes) world (count_one 0 (is_open t.tasks t.operation) (is_open s.tasks s.operation) o.target s.core.nodes order opens) in
+          let d : operation_cost (born_in s) s.operation ≡ 5 = ap (operation_cost (born_in s)) runs ∙ ap (λ (b : Bool). cond b 5 1) born in
+          falls_coarse s t (omega arith)
+      | inr gone ↦
+          let m = count_none (is_open t.tasks t.operation) (is_open s.tasks s.operation) o.target s.core.nodes opens gone in
+          let l = coarse_most s t 0 (births_same s.core.nodes t.core.nodes nodes) world (omega arith) in
+          let d : 1 ≤ operation_cost (born_in s) s.operation = subst (λ (x : Option Operation). 1 ≤ operation_cost (born_in s) x) (sym runs) (some (born_in s o.target)) in
+          falls_coarse s t (omega arith)
+    ]
+  where
+    some : (b : Bool) → 1 ≤ cond b 5 1
+    some true = omega arith
+    some false = omega arith
+
+-- Each step but a join ------------------------------------------------------------------------------------
 
 pub record Lowers (s : State) (step : Step) : Type 0 where
   pub lowers : IsNoJoin step.label → Falls s step.state
@@ -326,24 +354,3 @@ LowersDoing s (Searches problem by_answer) = (found : Found) → Lowers s (by_an
 abbrev pub LowersNext : State → Option (Doing Step) → Type 0
 LowersNext s None = Unit {0}
 LowersNext s (Some doing) = LowersDoing s doing
-
-in_front : (s : State) (r : Rebalance) (node : Node) → first_node s.core.nodes r.todo ≡ Some node → Front s r node
-in_front s r node first = record { head = (head_found s.core.nodes r.todo node first).0; first = first }
-
-pub lowers_rebalance : (s : State) (r : Rebalance) (stage : RebalanceStage) (o : Option Node) → first_node s.core.nodes r.todo ≡ o → InRebalance s r stage → is_waiting (rebalance_walk stage) ≡ false → LowersNext s (option_map (doing_map (rebalance_lifted s)) (re.rebalance_step s.core r stage o))
-lowers_rebalance s r RebalanceStage.Searching o first in_it waits = λ found. lower_so s _ (falls_searched s r found in_it)
-lowers_rebalance s r RebalanceStage.Stuck o first in_it waits = lower_so s _ (falls_stuck s r in_it)
-lowers_rebalance s r RebalanceStage.Committing o first in_it waits = lower_so s _ (falls_commit s r in_it)
-lowers_rebalance s r RebalanceStage.Ending o first in_it waits = lower_so s _ (falls_over s r r.found (Label.End OpKind.Rebalance r.path (re.end_of r.found)) in_it)
-lowers_rebalance s r (RebalanceStage.Asking w) (Some node) first in_it waits = lower_so s _ (falls_ask s r node w _ refl waits in_it (in_front s r node first))
-lowers_rebalance s r (RebalanceStage.TakingBack w) (Some node) first in_it waits = lower_so s _ (falls_take_back s r node w _ refl waits in_it (in_front s r node first))
-lowers_rebalance s r (RebalanceStage.Cancelling w) (Some node) first in_it waits = lower_so s _ (falls_cancel s r node w _ refl waits in_it (in_front s r node first))
-lowers_rebalance s r (RebalanceStage.Stopping w) (Some node) first in_it waits = lower_so s _ (falls_stop s r node w _ refl waits in_it (in_front s r node first))
-lowers_rebalance s r (RebalanceStage.Restarting w) (Some node) first in_it waits = lower_so s _ (falls_restart s r node w _ refl waits in_it (in_front s r node first))
-lowers_rebalance s r RebalanceStage.Failed (Some node) first in_it waits = lower_so s _ (falls_failed s r node in_it (in_front s r node first))
-lowers_rebalance s r (RebalanceStage.Asking w) None first in_it waits = tt
-lowers_rebalance s r (RebalanceStage.TakingBack w) None first in_it waits = tt
-lowers_rebalance s r (RebalanceStage.Cancelling w) None first in_it waits = tt
-lowers_rebalance s r (RebalanceStage.Stopping w) None first in_it waits = tt
-lowers_rebalance s r (RebalanceStage.Restarting w) None first in_it waits = tt
-lowers_rebalance s r RebalanceStage.Failed None first in_it waits = tt

@@ -18,14 +18,10 @@ use Rattle.pnp_labels.specs.declared.words.Answer.TheVariants.{Ok, Fail, Pend}
 use Rattle.pnp_labels.specs.declared.label.OpKind.{OpKind}
 use Rattle.pnp_labels.specs.declared.states.Problem.{Problem}
 use Rattle.pnp_laws.proofs.Lookups.{own_activity}
-use Rattle.pnp_laws.proofs.Measures.{Falls, falls_coarse, coarse_by, coarse_most, tasks_cost, tasks_pushed, duty_cost, sum, sum_changed, sum_without, phase_cost, is_open, is_target, born_in, operation_cost, rank_of, left_of, answers, answers_of, activity_answers, stack_at, SameBirths, births_same, births_changed}
+use Rattle.pnp_laws.proofs.Measures.{Falls, falls_coarse, coarse_by, coarse_no_more, open_same, tasks_cost, tasks_pushed, duty_cost, sum, sum_changed, sum_without, phase_cost, is_open, is_target, born_in, operation_cost, rank_of, left_of, answers, answers_of, activity_answers, stack_at, SameBirths, births_same, births_changed}
 use Rattle.pnp_laws.proofs.MeasureOps.{falls_answers, asked_less, lower_so, LowersDoing}
 
 -- What may be found gone ---------------------------------------------------------------------------------
-
-pub open_same : (tasks more : List Task) (o p : Option Operation) (k : ℕ) → more ≡ tasks → is_target p k ≡ is_target o k → is_open more p k ≡ true → is_open tasks o k ≡ true
-open_same tasks more o p k e target h =
-    ap (λ (b : Bool). not (list_any (is_surprise_of k) tasks) && not b) (sym target) ∙ (ap (λ (ts : List Task). not (list_any (is_surprise_of k) ts) && not (is_target p k)) (sym e) ∙ h)
 
 pub fewer_open : (a b c : Bool) → (b ≡ true → a ≡ true) → (not a && not c) ≡ true → (not b && not c) ≡ true
 fewer_open true b c f h = absurd (cc)
@@ -120,7 +116,7 @@ goes_asked s t node wrap w answer walk cost active nodes world tasks none acts w
     let b = ap (tasks_cost (length (serials_of s.core.nodes)) (born_in s)) tasks in
     let c = no_cost (born_in s) t.operation none in
     let d = no_cost (born_in s) s.operation active.none in
-    let most = coarse_most s t (births_same s.core.nodes t.core.nodes nodes) world (λ k h. open_same s.tasks t.tasks s.operation t.operation k tasks (same_none s.operation t.operation k active.none none) h) (omega arith) in
+    let most = coarse_no_more s t (births_same s.core.nodes t.core.nodes nodes) world (λ k h. open_same s.tasks t.tasks s.operation t.operation k tasks (same_none s.operation t.operation k active.none none) h) in
     let r0 = ap rank_of none in
     let l0 = ap left_of none in
     let r1 = ap rank_of active.none in
@@ -136,7 +132,7 @@ goes_asked s t node wrap w answer walk cost active nodes world tasks none acts w
     let old : answers_of s.core.nodes s.activities s.operation ≡ sum (activity_answers s.core.nodes) s.activities = ap (λ (o : Option Operation). answers_of s.core.nodes s.activities o) active.none in
     let new : answers_of t.core.nodes t.activities t.operation ≡ sum (activity_answers s.core.nodes) (changed_first (is_activity node.serial) (with_phase (wrap v)) s.activities) =
     ap (λ (o : Option Operation). answers_of t.core.nodes t.activities o) none ∙ ap (λ (x : List Node). sum (activity_answers x) t.activities) nodes ∙ ap (λ (xs : List Activity). sum (activity_answers s.core.nodes) xs) acts in
-    falls_answers s t most (omega arith) (omega arith) (omega arith)
+    falls_answers s t (omega arith) (omega arith) (omega arith) (omega arith)
 
 pub adding_cost : (n : ℕ) (ds : List ℕ) → phase_cost n (adding ds) ≤ 7 * n + 9 + length ds
 adding_cost n [] = omega arith

@@ -12,6 +12,7 @@ use Rattle.pnp_model.specs.Tasks.{is_surprise_of}
 use Rattle.pnp_model.specs.Frames.{first_node}
 use Rattle.pnp_model.specs.Machine.{phase_walk, operation_walk, is_born}
 use Rattle.pnp_labels.specs.declared.label.OpKind.{OpKind}
+use Rattle.pnp_laws.specs.Effects.{todo_of}
 use Rattle.pnp_laws.proofs.Lookups.{node_changed_same, node_changed_other, node_at-map}
 
 -- What is still to begin ----------------------------------------------------------------------------
@@ -66,10 +67,8 @@ operation_cost born (Some (Operation.Surprising o)) = cond (born o.target) 5 1
 
 -- the device of the surprise removal that runs
 abbrev pub is_target : Option Operation → ℕ → Bool
-is_target None k = false
-is_target (Some (Operation.Rebalancing r)) k = false
-is_target (Some (Operation.Removing o)) k = false
 is_target (Some (Operation.Surprising o)) k = o.target == k
+is_target _ k = false
 
 -- it may still be found gone
 abbrev pub is_open : List Task → Option Operation → ℕ → Bool
@@ -159,11 +158,6 @@ abbrev pub answers : Option Walk → ℕ → ℕ
 answers None n = 0
 answers (Some w) n = 2 * (n - w.asked) + cond w.waits 0 1
 
-abbrev pub operation_todo : Operation → List ℕ
-operation_todo (Operation.Rebalancing r) = r.todo
-operation_todo (Operation.Removing o) = o.todo
-operation_todo (Operation.Surprising o) = o.todo
-
 abbrev pub stack_at : List Node → ℕ → ℕ
 stack_at nodes k = length (stack_of (node_at k nodes))
 
@@ -172,7 +166,7 @@ activity_answers nodes a = answers (phase_walk a.phase) (stack_at nodes a.serial
 
 abbrev pub answers_of : List Node → List Activity → Option Operation → ℕ
 answers_of nodes activities None = sum (activity_answers nodes) activities
-answers_of nodes activities (Some o) = answers (operation_walk o) (length (stack_of (first_node nodes (operation_todo o))))
+answers_of nodes activities (Some o) = answers (operation_walk o) (length (stack_of (first_node nodes (todo_of o))))
 
 -- One is lower -----------------------------------------------------------------------------------------
 
@@ -193,31 +187,17 @@ rank_small (Some (Operation.Rebalancing r)) = by_stage r.stage
   where
     by_stage : (stage : RebalanceStage) → rebalance_rank stage ≤ 7
     by_stage (RebalanceStage.Asking w) = omega arith
-    by_stage (RebalanceStage.TakingBack w) = omega arith
-    by_stage RebalanceStage.Searching = omega arith
-    by_stage (RebalanceStage.Cancelling w) = omega arith
-    by_stage (RebalanceStage.Stopping w) = omega arith
-    by_stage RebalanceStage.Committing = omega arith
-    by_stage RebalanceStage.Stuck = omega arith
-    by_stage (RebalanceStage.Restarting w) = omega arith
-    by_stage RebalanceStage.Failed = omega arith
-    by_stage RebalanceStage.Ending = omega arith
+    by_stage _ = omega arith
 rank_small (Some (Operation.Removing o)) = by_stage o.stage
   where
     by_stage : (stage : RemovalStage) → removal_rank stage ≤ 7
     by_stage (RemovalStage.Asking w) = omega arith
-    by_stage (RemovalStage.TakingBack w) = omega arith
-    by_stage (RemovalStage.Cancelling w) = omega arith
-    by_stage (RemovalStage.Removing w) = omega arith
-    by_stage RemovalStage.Settling = omega arith
-    by_stage RemovalStage.Ending = omega arith
+    by_stage _ = omega arith
 rank_small (Some (Operation.Surprising o)) = by_stage o.stage
   where
     by_stage : (stage : SurpriseStage) → surprise_rank stage ≤ 7
     by_stage (SurpriseStage.Telling w) = omega arith
-    by_stage (SurpriseStage.Removing w) = omega arith
-    by_stage SurpriseStage.Settling = omega arith
-    by_stage SurpriseStage.Ending = omega arith
+    by_stage _ = omega arith
 
 -- less is to begin
 pub falls_coarse : (s t : State) → coarse t < coarse s → Falls s t
@@ -279,12 +259,10 @@ tasks_pushed n born [] task = omega arith
 tasks_pushed n born (t ∷ tasks) task = let more = tasks_pushed n born tasks task in omega arith
 
 begin_less : (n m : ℕ) (a b : Bool) (kind : OpKind) → n ≤ m → (a ≡ true → b ≡ true) → begin_cost n a kind ≤ begin_cost m b kind
-begin_less n m a b OpKind.Rebalance l h = omega arith
-begin_less n m a b OpKind.Disable l h = omega arith
-begin_less n m a b OpKind.Eject l h = omega arith
 begin_less n m true b OpKind.Surprise l h = subst (λ (x : Bool). 6 ≤ cond x 6 2) (sym (h refl)) (omega arith)
 begin_less n m false true OpKind.Surprise l h = omega arith
 begin_less n m false false OpKind.Surprise l h = omega arith
+begin_less n m a b _ l h = omega arith
 
 duty_less : (n m : ℕ) (a b : Bool) (duty : Duty) → n ≤ m → (a ≡ true → b ≡ true) → duty_cost n a duty ≤ duty_cost m b duty
 duty_less n m a b Duty.Listing l h = omega arith
@@ -300,10 +278,7 @@ tasks_less n m born was (t ∷ tasks) l h =
 
 pub phase_less : (n m : ℕ) (phase : Phase) → n ≤ m → phase_cost n phase ≤ phase_cost m phase
 phase_less n m (Phase.Adding drivers) l = omega arith
-phase_less n m Phase.Searching l = omega arith
-phase_less n m (Phase.Starting w) l = omega arith
-phase_less n m (Phase.Due problem) l = omega arith
-phase_less n m (Phase.Removing w) l = omega arith
+phase_less n m _ l = omega arith
 
 -- Counts -----------------------------------------------------------------------------------------------------
 
@@ -362,64 +337,49 @@ births_mapped f old new is keeps born =
 -- What is to begin is no more ----------------------------------------------------------------------------------
 
 pub operation_less : (born was : ℕ → Bool) (o : Option Operation) → ((k : ℕ) → born k ≡ true → was k ≡ true) → operation_cost born o ≤ operation_cost was o
-operation_less born was None h = omega arith
-operation_less born was (Some (Operation.Rebalancing r)) h = omega arith
-operation_less born was (Some (Operation.Removing o)) h = omega arith
 operation_less born was (Some (Operation.Surprising o)) h = by_test (born o.target) (was o.target) (h o.target)
   where
     by_test : (a b : Bool) → (a ≡ true → b ≡ true) → cond a 5 1 ≤ cond b 5 1
     by_test true b g = subst (λ (x : Bool). 5 ≤ cond x 5 1) (sym (g refl)) (omega arith)
     by_test false true g = omega arith
     by_test false false g = omega arith
+operation_less born was _ h = omega arith
+
+-- what tasks, activities and operation of a state cost by the births of another
+abbrev pub costs : State → State → ℕ
+costs s t = tasks_cost (length (serials_of s.core.nodes)) (born_in s) t.tasks + (sum (λ a. phase_cost (length (serials_of s.core.nodes)) a.phase) t.activities + operation_cost (born_in s) t.operation)
+
+-- births stay, and at most d more can be found gone
+pub coarse_most : (s t : State) (d : ℕ) → SameBirths s.core.nodes t.core.nodes → t.world ≡ s.world → count (is_open t.tasks t.operation) (serials_of s.core.nodes) ≤ count (is_open s.tasks s.operation) (serials_of s.core.nodes) + d
+    → coarse t + costs s s ≤ coarse s + costs s t + 3 * d
+coarse_most s t d same world opens =
+    let n : length (serials_of t.core.nodes) ≡ length (serials_of s.core.nodes) = ap (λ (ks : List ℕ). length ks) same.serials in
+    let born : (k : ℕ) → born_in t k ≡ true → born_in s k ≡ true = λ k h. sym (ap (λ (w : List Device). is_born w (node_at k t.core.nodes)) world ∙ same.births s.world k) ∙ h in
+    let a = ap (λ (ks : List ℕ). count (is_open t.tasks t.operation) ks) same.serials in
+    let b = tasks_less (length (serials_of t.core.nodes)) (length (serials_of s.core.nodes)) (born_in t) (born_in s) t.tasks (omega arith) born in
+    let c : sum (λ a. phase_cost (length (serials_of t.core.nodes)) a.phase) t.activities ≡ sum (λ a. phase_cost (length (serials_of s.core.nodes)) a.phase) t.activities =
+    ap (λ (m : ℕ). sum (λ a. phase_cost m a.phase) t.activities) n in
+    let e = operation_less (born_in t) (born_in s) t.operation born in
+    omega arith
+
+-- nobody more can be found gone
+pub coarse_no_more : (s t : State) → SameBirths s.core.nodes t.core.nodes → t.world ≡ s.world → ((k : ℕ) → is_open t.tasks t.operation k ≡ true → is_open s.tasks s.operation k ≡ true) → coarse t + costs s s ≤ coarse s + costs s t
+coarse_no_more s t same world opens =
+    let l = coarse_most s t 0 same world (let c = count_less (is_open t.tasks t.operation) (is_open s.tasks s.operation) (serials_of s.core.nodes) opens in omega arith) in omega arith
+
+pub coarse_by : (s t : State) → SameBirths s.core.nodes t.core.nodes → t.world ≡ s.world → ((k : ℕ) → is_open t.tasks t.operation k ≡ true → is_open s.tasks s.operation k ≡ true) → costs s t < costs s s → coarse t < coarse s
+coarse_by s t same world opens less = let l = coarse_no_more s t same world opens in omega arith
+
+-- tasks stay, and the target of a surprise removal
+pub open_same : (tasks more : List Task) (o p : Option Operation) (k : ℕ) → more ≡ tasks → is_target p k ≡ is_target o k → is_open more p k ≡ true → is_open tasks o k ≡ true
+open_same tasks more o p k e target h =
+    ap (λ (b : Bool). not (list_any (is_surprise_of k) tasks) && not b) (sym target) ∙ (ap (λ (ts : List Task). not (list_any (is_surprise_of k) ts) && not (is_target p k)) (sym e) ∙ h)
 
 -- in an operation: births, tasks and activities stay, and the operation costs no more
 pub coarse_on : (s t : State) → SameBirths s.core.nodes t.core.nodes → t.world ≡ s.world → t.tasks ≡ s.tasks → t.activities ≡ s.activities → ((k : ℕ) → is_target t.operation k ≡ is_target s.operation k) →
     operation_cost (born_in s) t.operation ≤ operation_cost (born_in s) s.operation → coarse t ≤ coarse s
 coarse_on s t same world tasks acts target cost =
-    let n : length (serials_of t.core.nodes) ≡ length (serials_of s.core.nodes) = ap (λ (ks : List ℕ). length ks) same.serials in
-    let born : (k : ℕ) → born_in t k ≡ true → born_in s k ≡ true = λ k h. sym (ap (λ (w : List Device). is_born w (node_at k t.core.nodes)) world ∙ same.births s.world k) ∙ h in
-    let a : count (is_open t.tasks t.operation) (serials_of t.core.nodes) ≤ count (is_open s.tasks s.operation) (serials_of s.core.nodes) =
-    subst (λ (ks : List ℕ). count (is_open t.tasks t.operation) ks ≤ count (is_open s.tasks s.operation) (serials_of s.core.nodes)) (sym same.serials)
-    (count_less (is_open t.tasks t.operation) (is_open s.tasks s.operation) (serials_of s.core.nodes)
-    (λ k h. ap (λ (b : Bool). not (list_any (is_surprise_of k) s.tasks) && not b) (sym (target k)) ∙ ap (λ (ts : List Task). not (list_any (is_surprise_of k) ts) && not (is_target t.operation k)) (sym tasks) ∙ h)) in
-    let b0 = tasks_less (length (serials_of t.core.nodes)) (length (serials_of s.core.nodes)) (born_in t) (born_in s) s.tasks (omega arith) born in
-    let b : tasks_cost (length (serials_of t.core.nodes)) (born_in t) t.tasks ≤ tasks_cost (length (serials_of s.core.nodes)) (born_in s) s.tasks =
-    subst (λ (ts : List Task). tasks_cost (length (serials_of t.core.nodes)) (born_in t) ts ≤ tasks_cost (length (serials_of s.core.nodes)) (born_in s) s.tasks) (sym tasks) b0 in
-    let c : sum (λ a. phase_cost (length (serials_of t.core.nodes)) a.phase) t.activities ≡ sum (λ a. phase_cost (length (serials_of s.core.nodes)) a.phase) s.activities =
-    ap (λ (m : ℕ). sum (λ a. phase_cost m a.phase) t.activities) n ∙ ap (λ (xs : List Activity). sum (λ a. phase_cost (length (serials_of s.core.nodes)) a.phase) xs) acts in
-    let d = operation_less (born_in t) (born_in s) t.operation born in
-    omega arith
-
--- births stay, nobody more can be found gone, and tasks, activities and operation together cost less
-pub coarse_by : (s t : State) → SameBirths s.core.nodes t.core.nodes → t.world ≡ s.world → ((k : ℕ) → is_open t.tasks t.operation k ≡ true → is_open s.tasks s.operation k ≡ true) →
-    tasks_cost (length (serials_of s.core.nodes)) (born_in s) t.tasks + (sum (λ a. phase_cost (length (serials_of s.core.nodes)) a.phase) t.activities + operation_cost (born_in s) t.operation)
-    < tasks_cost (length (serials_of s.core.nodes)) (born_in s) s.tasks + (sum (λ a. phase_cost (length (serials_of s.core.nodes)) a.phase) s.activities + operation_cost (born_in s) s.operation) →
-    coarse t < coarse s
-coarse_by s t same world opens less =
-    let n : length (serials_of t.core.nodes) ≡ length (serials_of s.core.nodes) = ap (λ (ks : List ℕ). length ks) same.serials in
-    let born : (k : ℕ) → born_in t k ≡ true → born_in s k ≡ true = λ k h. sym (ap (λ (w : List Device). is_born w (node_at k t.core.nodes)) world ∙ same.births s.world k) ∙ h in
-    let a : count (is_open t.tasks t.operation) (serials_of t.core.nodes) ≤ count (is_open s.tasks s.operation) (serials_of s.core.nodes) =
-    subst (λ (ks : List ℕ). count (is_open t.tasks t.operation) ks ≤ count (is_open s.tasks s.operation) (serials_of s.core.nodes)) (sym same.serials)
-    (count_less (is_open t.tasks t.operation) (is_open s.tasks s.operation) (serials_of s.core.nodes) opens) in
-    let b = tasks_less (length (serials_of t.core.nodes)) (length (serials_of s.core.nodes)) (born_in t) (born_in s) t.tasks (omega arith) born in
-    let c : sum (λ a. phase_cost (length (serials_of t.core.nodes)) a.phase) t.activities ≡ sum (λ a. phase_cost (length (serials_of s.core.nodes)) a.phase) t.activities =
-    ap (λ (m : ℕ). sum (λ a. phase_cost m a.phase) t.activities) n in
-    let d = operation_less (born_in t) (born_in s) t.operation born in
-    omega arith
-
--- the same, where they cost no more
-pub coarse_most : (s t : State) → SameBirths s.core.nodes t.core.nodes → t.world ≡ s.world → ((k : ℕ) → is_open t.tasks t.operation k ≡ true → is_open s.tasks s.operation k ≡ true) →
-    tasks_cost (length (serials_of s.core.nodes)) (born_in s) t.tasks + (sum (λ a. phase_cost (length (serials_of s.core.nodes)) a.phase) t.activities + operation_cost (born_in s) t.operation)
-    ≤ tasks_cost (length (serials_of s.core.nodes)) (born_in s) s.tasks + (sum (λ a. phase_cost (length (serials_of s.core.nodes)) a.phase) s.activities + operation_cost (born_in s) s.operation) →
-    coarse t ≤ coarse s
-coarse_most s t same world opens less =
-    let n : length (serials_of t.core.nodes) ≡ length (serials_of s.core.nodes) = ap (λ (ks : List ℕ). length ks) same.serials in
-    let born : (k : ℕ) → born_in t k ≡ true → born_in s k ≡ true = λ k h. sym (ap (λ (w : List Device). is_born w (node_at k t.core.nodes)) world ∙ same.births s.world k) ∙ h in
-    let a : count (is_open t.tasks t.operation) (serials_of t.core.nodes) ≤ count (is_open s.tasks s.operation) (serials_of s.core.nodes) =
-    subst (λ (ks : List ℕ). count (is_open t.tasks t.operation) ks ≤ count (is_open s.tasks s.operation) (serials_of s.core.nodes)) (sym same.serials)
-    (count_less (is_open t.tasks t.operation) (is_open s.tasks s.operation) (serials_of s.core.nodes) opens) in
-    let b = tasks_less (length (serials_of t.core.nodes)) (length (serials_of s.core.nodes)) (born_in t) (born_in s) t.tasks (omega arith) born in
-    let c : sum (λ a. phase_cost (length (serials_of t.core.nodes)) a.phase) t.activities ≡ sum (λ a. phase_cost (length (serials_of s.core.nodes)) a.phase) t.activities =
-    ap (λ (m : ℕ). sum (λ a. phase_cost m a.phase) t.activities) n in
-    let d = operation_less (born_in t) (born_in s) t.operation born in
+    let l = coarse_no_more s t same world (λ k h. open_same s.tasks t.tasks s.operation t.operation k tasks (target k) h) in
+    let a = ap (tasks_cost (length (serials_of s.core.nodes)) (born_in s)) tasks in
+    let b = ap (λ (xs : List Activity). sum (λ a. phase_cost (length (serials_of s.core.nodes)) a.phase) xs) acts in
     omega arith

@@ -209,12 +209,7 @@ module _ (s : State) (r : Rebalance) where
   planned budget (RebalanceStage.Stopping w) (Some node) h = stops node w _ h
   planned budget (RebalanceStage.Restarting w) (Some node) h = restarts node w _ h
   planned budget RebalanceStage.Failed (Some node) h = fails node h
-  planned budget (RebalanceStage.Asking w) None h = tt
-  planned budget (RebalanceStage.TakingBack w) None h = tt
-  planned budget (RebalanceStage.Cancelling w) None h = tt
-  planned budget (RebalanceStage.Stopping w) None h = tt
-  planned budget (RebalanceStage.Restarting w) None h = tt
-  planned budget RebalanceStage.Failed None h = tt
+  planned budget _ None h = tt
 
   planned_on : (budget : ℕ) (waits : Bool) → StagePlan r r.stage s.core.reserved s.core.nodes → AllNext (λ x. IsPlanned x.state) budget (operation_next s (Operation.Rebalancing r) waits)
   planned_on budget true h = tt
@@ -226,15 +221,7 @@ module _ (s : State) (r : Rebalance) where
 answered_stage : (answer : Answer) (r : Rebalance) (stage : RebalanceStage) (reserved : List Res) (nodes : List Node) → StagePlan r stage reserved nodes
     → StagePlan (record r { stage = ev.completed_rebalance answer stage }) (ev.completed_rebalance answer stage) reserved nodes
 answered_stage answer r (RebalanceStage.Asking w) reserved nodes h = tt
-answered_stage answer r (RebalanceStage.TakingBack w) reserved nodes h = tt
-answered_stage answer r RebalanceStage.Searching reserved nodes h = tt
-answered_stage answer r (RebalanceStage.Cancelling w) reserved nodes h = h
-answered_stage answer r RebalanceStage.Stuck reserved nodes h = h
-answered_stage answer r (RebalanceStage.Stopping w) reserved nodes h = h
-answered_stage answer r RebalanceStage.Committing reserved nodes h = h
-answered_stage answer r (RebalanceStage.Restarting w) reserved nodes h = h
-answered_stage answer r RebalanceStage.Failed reserved nodes h = h
-answered_stage answer r RebalanceStage.Ending reserved nodes h = h
+answered_stage answer r _ reserved nodes h = h
 
 answered_plan : (answer : Answer) (o : Operation) (reserved : List Res) (nodes : List Node) → PlanKept (Some o) reserved nodes → PlanKept (Some (ev.completed answer o)) reserved nodes
 answered_plan answer (Operation.Rebalancing r) reserved nodes h = answered_stage answer r r.stage reserved nodes h
@@ -245,9 +232,7 @@ answered_plan answer (Operation.Surprising o) reserved nodes h = tt
 begun_plan : (c : Core) (kind : OpKind) (node : Node) → PlanKept (Some (begun c kind node)) c.reserved c.nodes
 begun_plan c OpKind.Rebalance node =
     asks_on (record { target = node.serial; path = node.path; todo = []; agreed = []; refused = []; found = no_fit; stage = RebalanceStage.Searching }) c.reserved c.nodes (reverse (serials_of (those re.is_asked c.nodes)))
-begun_plan c OpKind.Disable node = tt
-begun_plan c OpKind.Eject node = tt
-begun_plan c OpKind.Surprise node = tt
+begun_plan c _ node = tt
 
 -- what goes on and is no rebalance becomes none
 abbrev IsOther : Operation → Type 0

@@ -337,9 +337,4 @@ rebalance_moves budget before c r (Cancelling w) (Some node) first placed keeps 
 rebalance_moves budget before c r (Stopping w) (Some node) first placed keeps undone asked = inl (on_stop before c r node w _ undone)
 rebalance_moves budget before c r (Restarting w) (Some node) first placed keeps undone asked = inl (on_restart before c r node w _ undone)
 rebalance_moves budget before c r Failed (Some node) first placed keeps undone asked = inl (on_failed before c r node undone)
-rebalance_moves budget before c r (Asking w) None first placed keeps undone asked = tt
-rebalance_moves budget before c r (TakingBack w) None first placed keeps undone asked = tt
-rebalance_moves budget before c r (Cancelling w) None first placed keeps undone asked = tt
-rebalance_moves budget before c r (Stopping w) None first placed keeps undone asked = tt
-rebalance_moves budget before c r (Restarting w) None first placed keeps undone asked = tt
-rebalance_moves budget before c r Failed None first placed keeps undone asked = tt
+rebalance_moves budget before c r _ None first placed keeps undone asked = tt

@@ -77,17 +77,12 @@ record Follows (path : List ℕ) (before : Core) (s : State) (r : Rebalance) (t 
 
 pub after_core : (r : Rebalance) (beside : re.RebalanceBeside) (c : Core) (s : State) → (ma.after_rebalance r beside (with_core c s)).core ≡ c
 after_core r re.RebalanceBeside.On c s = refl
-after_core r (re.RebalanceBeside.FailedRestart k) c s = refl
-after_core r re.RebalanceBeside.OverStart c s = refl
-after_core r re.RebalanceBeside.OverUndo c s = refl
-after_core r re.RebalanceBeside.OverDropped c s = refl
+after_core r _ c s = refl
 
 after_runs : (r : Rebalance) (beside : re.RebalanceBeside) (s : State) → GoesOn beside → (ma.after_rebalance r beside s).operation ≡ Some (Operation.Rebalancing r)
 after_runs r re.RebalanceBeside.On s on = refl
 after_runs r (re.RebalanceBeside.FailedRestart k) s on = refl
-after_runs r re.RebalanceBeside.OverStart s on = absurd on
-after_runs r re.RebalanceBeside.OverUndo s on = absurd on
-after_runs r re.RebalanceBeside.OverDropped s on = absurd on
+after_runs r _ s on = absurd on
 
 one_frame : (o : Option Operation) (r f : Rebalance) → o ≡ Some (Operation.Rebalancing r) → o ≡ Some (Operation.Rebalancing f) → r ≡ f
 one_frame o r f h g = cc
@@ -131,26 +126,15 @@ undone_still before c d r (TakingBack w) a b e h = paused_still before c d r.agr
 undone_still before c d r Searching a b e h = paused_still before c d r.agreed a b e h
 undone_still before c d r (Cancelling w) a b e h = (paused_still before c d r.todo a b e h.0, h.1)
 undone_still before c d r Stuck a b e h = (paused_still before c d [] a b e h.0, h.1)
-undone_still before c d r (Stopping w) a b e h = h
-undone_still before c d r Committing a b e h = h
-undone_still before c d r (Restarting w) a b e h = h
-undone_still before c d r Failed a b e h = h
 undone_still before c d r Ending a b e (inl h) = inl h
 undone_still before c d r Ending a b e (inr h) = inr (record { nodes = a ∙ h.nodes; relations = b ∙ h.relations; reserved = e ∙ h.reserved })
+undone_still before c d r _ a b e h = h
 
 answered_undone : (before c : Core) (ok : Bool) (r : Rebalance) (stage : RebalanceStage) → Undone before c r stage →
     Undone before c (record r { stage = ev.completed_rebalance (ev.answer_of ok) stage }) (ev.completed_rebalance (ev.answer_of ok) stage)
-answered_undone before c ok r (Asking w) h = h
-answered_undone before c ok r (TakingBack w) h = h
-answered_undone before c ok r Searching h = h
-answered_undone before c ok r (Cancelling w) h = h
-answered_undone before c ok r Stuck h = h
-answered_undone before c ok r (Stopping w) h = h
-answered_undone before c ok r Committing h = h
-answered_undone before c ok r (Restarting w) h = h
-answered_undone before c ok r Failed h = h
 answered_undone before c ok r Ending (inl h) = inl h
 answered_undone before c ok r Ending (inr h) = inr (record { nodes = h.nodes; relations = h.relations; reserved = h.reserved })
+answered_undone before c ok r _ h = h
 
 answer_ends : (ok : Bool) (w : Walk) → EndsBad (after w (ev.answer_of ok))
 answer_ends true w e = refl
@@ -159,15 +143,7 @@ answer_ends false w e = refl
 answered_asked : (before : Core) (ok : Bool) (r : Rebalance) (stage : RebalanceStage) → AskedSince before r stage →
     AskedSince before (record r { stage = ev.completed_rebalance (ev.answer_of ok) stage }) (ev.completed_rebalance (ev.answer_of ok) stage)
 answered_asked before ok r (Asking w) h = (h.0, answer_ends ok w)
-answered_asked before ok r (TakingBack w) h = h
-answered_asked before ok r Searching h = h
-answered_asked before ok r (Cancelling w) h = h
-answered_asked before ok r Stuck h = h
-answered_asked before ok r (Stopping w) h = tt
-answered_asked before ok r Committing h = tt
-answered_asked before ok r (Restarting w) h = tt
-answered_asked before ok r Failed h = tt
-answered_asked before ok r Ending h = tt
+answered_asked before ok r _ h = h
 
 -- a state in which a device has just refused is not quiet
 not_quiet : (settings : Settings) (s : State) (r : Rebalance) (k : ℕ) → s.operation ≡ Some (Operation.Rebalancing r) → ((w : Walk) → r.stage ≡ Asking w → EndsBad w) → Refusing s.core r r.stage k → ma.next settings s ≡ None → ⊥

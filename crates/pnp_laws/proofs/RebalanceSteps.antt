@@ -431,12 +431,7 @@ lawful_rebalance s r (Restarting w) (Some node) first alone runs keeps good =
     lawful_restart s r node w _ keeps (at_work s r node Stopped alone runs first keeps.rootless (λ h at. head_stopped r.todo node.serial node.state h (keeps.each node.serial node at)) good)
 lawful_rebalance s r Failed (Some node) first alone runs keeps good =
     lawful_failed s r node keeps (at_work s r node Stopped alone runs first keeps.rootless (λ h at. head_stopped r.todo node.serial node.state h (keeps.each node.serial node at)) good)
-lawful_rebalance s r (Asking w) None first alone runs keeps good = tt
-lawful_rebalance s r (TakingBack w) None first alone runs keeps good = tt
-lawful_rebalance s r (Cancelling w) None first alone runs keeps good = tt
-lawful_rebalance s r (Stopping w) None first alone runs keeps good = tt
-lawful_rebalance s r (Restarting w) None first alone runs keeps good = tt
-lawful_rebalance s r Failed None first alone runs keeps good = tt
+lawful_rebalance s r _ None first alone runs keeps good = tt
 
 -- The begin ---------------------------------------------------------------------------
 

@@ -52,12 +52,7 @@ fits_finish_on others o (k ∷ ks) nodes same a b c d within stacks each =
 -- all were asked: those of the set may lose their drivers
 queried_over : (agreed set : List ℕ) (k : ℕ) (x : DevState) → (has agreed k ≡ true → has set k ≡ true) → querying_state [] agreed set k x ≡ true → finishing_state set k x ≡ true
 queried_over agreed set k NoStack within h = grind (arith)
-queried_over agreed set k NotStarted within h = grind (arith)
-queried_over agreed set k Started within h = grind (arith)
-queried_over agreed set k StopPending within h = grind (arith)
-queried_over agreed set k Stopped within h = grind (arith)
-queried_over agreed set k RemovePending within h = grind (arith)
-queried_over agreed set k SurpriseRemoved within h = grind (arith)
+queried_over agreed set k _ within h = grind (arith)
 
 fits_ask_on : (others : List Node) (o : Removal) (ks : List ℕ) (nodes : List Node) → ((k : ℕ) → stack_of (node_at k nodes) ≡ stack_of (node_at k others)) → Distinct o.set → has o.set 0 ≡ false → Distinct ks → Distinct o.agreed → Apart ks o.agreed → Within o.agreed o.set → Within ks o.set →
     StacksFit nodes → Each (querying_state ks o.agreed o.set) nodes → OperationFits (Some (Operation.Removing (ask_on others o ks))) nodes
@@ -323,22 +318,14 @@ lawful_removal s o (TakingBack w) (Some node) first alone keeps good = lawful_ta
 lawful_removal s o (Cancelling w) (Some node) first alone keeps good = lawful_cancel s o node w _ keeps (at_work s o node alone first good)
 lawful_removal s o (Removing w) (Some node) first alone keeps good = lawful_remove s o node w _ keeps (at_work s o node alone first good)
 lawful_removal s o Settling (Some node) first alone keeps good = lawful_settle s o node _ keeps (at_work s o node alone first good)
-lawful_removal s o (Asking w) None first alone keeps good = tt
-lawful_removal s o (TakingBack w) None first alone keeps good = tt
-lawful_removal s o (Cancelling w) None first alone keeps good = tt
-lawful_removal s o (Removing w) None first alone keeps good = tt
-lawful_removal s o Settling None first alone keeps good = tt
+lawful_removal s o _ None first alone keeps good = tt
 
 -- The begin: no device of the set is Stopped -----------------------------------------------
 
 idle_or_up : (x : DevState) → is_calm x ≡ true → is_stopped x ≡ false → is_started x ≡ false → is_idle x ≡ true
 idle_or_up NoStack a b c = refl
 idle_or_up NotStarted a b c = refl
-idle_or_up Started a b c = cc
-idle_or_up StopPending a b c = cc
-idle_or_up Stopped a b c = cc
-idle_or_up RemovePending a b c = cc
-idle_or_up SurpriseRemoved a b c = cc
+idle_or_up _ a b c = cc
 
 -- what the begin of a removal needs of its set
 pub record SetFits (set : List ℕ) (nodes : List Node) : Type 0 where

@@ -5,7 +5,6 @@ use native.Mathlib.Decide.{dec_lt}
 use Rattle.pnp_model.specs.Records.{Node, Activity, Task, State, Step, Settings, Operation, Doing, Duty}
 use Rattle.pnp_model.specs.Records.Doing.{Does, Searches}
 use Rattle.pnp_model.specs.Cores.{node_at}
-use Rattle.pnp_model.specs.Frames.{first_node}
 use Rattle.pnp_model.specs.States.{activity_at}
 use Rattle.pnp_model.specs.Runs.{Entry, Run}
 use Rattle.pnp_model.specs.Runs.Entry.{Happens, Did}
@@ -14,14 +13,14 @@ use Rattle.pnp_labels.specs.declared.label.OpKind.{OpKind}
 use Rattle.pnp_laws.specs.Quiet.{Rests, RestsWith}
 use Rattle.pnp_laws.proofs.Lookups.{own_serial, found_self, ready_found}
 use Rattle.pnp_laws.proofs.SoundTasks.{find_passes}
+use Rattle.pnp_laws.proofs.Stages.{operation_step}
 use Rattle.pnp_laws.proofs.Standing.{StageKept}
 use Rattle.pnp_laws.proofs.Measures.{coarse, rank_of, left_of, answers_of}
 use Rattle.pnp_laws.specs.Ends.{AllSteps, Settles, SettlesLaw}
 use Rattle.pnp_laws.proofs.RunsStep.{rests_or, nothing_next, doing_one}
 use Rattle.pnp_model.proofs.Determined.{one_state}
-use Rattle.pnp_laws.proofs.MeasureOps.{Lowers, LowersNext, lowers_rebalance}
-use Rattle.pnp_laws.proofs.MeasureRemovals.{lowers_removal}
-use Rattle.pnp_laws.proofs.MeasureSurprises.{lowers_surprise}
+use Rattle.pnp_laws.proofs.MeasureOps.{Lowers, LowersNext, lower_so}
+use Rattle.pnp_laws.proofs.MeasureStages.{falls_operation}
 use Rattle.pnp_laws.proofs.MeasureTasks.{lowers_act}
 use Rattle.pnp_laws.proofs.MeasureBegins.{lowers_list, lowers_start, lowers_begin_step}
 use Rattle.pnp_laws.proofs.RunsStand.{Kept, kept_goes, reaches_kept}
@@ -63,24 +62,18 @@ lowers_idle_next settings s (Some a) e none kept =
     lowers_activity s a (node_at a.serial s.core.nodes) refl (ready_found ma.is_ready 0 s.activities a kept.good.order e).1 (find_passes ma.is_ready s.activities a e) none
 lowers_idle_next settings s None e none kept = lowers_task settings s (slice_get s.tasks 0) refl none kept
 
-lowers_operation : (s : State) (o : Operation) (b : Bool) → ma.is_waiting (ma.operation_walk o) ≡ b → s.operation ≡ Some o → Kept s → LowersNext s (ma.operation_next s o b)
-lowers_operation s o true e runs kept = tt
-lowers_operation s (Operation.Rebalancing r) false e runs kept = lowers_rebalance s r r.stage (first_node s.core.nodes r.todo) refl (record { runs = runs; is = refl }) e
-lowers_operation s (Operation.Removing o) false e runs kept = lowers_removal s o o.stage (first_node s.core.nodes o.todo) refl runs refl e kept.good.serials
-lowers_operation s (Operation.Surprising o) false e runs kept =
-    lowers_surprise s o o.stage (first_node s.core.nodes o.todo) refl runs refl e kept.good.serials (subst (λ (x : Option Operation). StageKept x s.core) runs kept.stands.stage).1
-
-lowers_next_of : (settings : Settings) (s : State) (o : Option Operation) → s.operation ≡ o → Kept s → LowersNext s (ma.next_of settings s o)
-lowers_next_of settings s (Some o) e kept = lowers_operation s o (ma.is_waiting (ma.operation_walk o)) refl e kept
-lowers_next_of settings s None e kept = lowers_idle_next settings s (find ma.is_ready s.activities) refl e kept
-
 lowers_doing : (settings : Settings) (s : State) (o : Option (Doing Step)) (step : Step) → LowersNext s o → ma.IsStep settings o step → Lowers s step
 lowers_doing settings s None step l is = absurd is
 lowers_doing settings s (Some (Does one)) step l is = subst (λ (x : Step). Lowers s x) (sym is) l
 lowers_doing settings s (Some (Searches problem by_answer)) step l is = subst (λ (x : Step). Lowers s x) (sym is.2) (l is.0)
 
 pub lowers_step : (settings : Settings) (s : State) (step : Step) → Kept s → ma.IsStep settings (ma.next settings s) step → Lowers s step
-lowers_step settings s step kept is = lowers_doing settings s (ma.next settings s) step (lowers_next_of settings s s.operation refl kept) is
+lowers_step settings s step kept is = by_operation s.operation refl
+  where
+    by_operation : (o : Option Operation) → s.operation ≡ o → Lowers s step
+    by_operation (Some o) runs = lower_so s step (falls_operation s o step runs kept.good.serials (subst (λ (x : Option Operation). StageKept x s.core) runs kept.stands.stage) (operation_step settings s o step runs is))
+    by_operation None none =
+        lowers_doing settings s (ma.next_of settings s None) step (lowers_idle_next settings s (find ma.is_ready s.activities) refl none kept) (subst (λ (x : Option Operation). ma.IsStep settings (ma.next_of settings s x) step) none is)
 
 -- Numbers that fall come to an end ----------------------------------------------------------------------
 

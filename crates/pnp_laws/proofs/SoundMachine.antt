@@ -1,26 +1,19 @@
 -- Each step and each event of the machine keeps the tree and what is due.
-use Rattle.std.proofs.Common.{ℕ, suc, ◌≡◌, ◌⊎◌, ◌∙◌, ◌≢◌, ◌==◌, inl, inr, Bool, true, false, ◌&&◌, cond, List, [], ◌∷◌, ◌++◌, Option, Some, None, refl, sym, ap, subst, arith}
+use Rattle.std.proofs.Common.{ℕ, suc, ◌≡◌, ◌⊎◌, ◌∙◌, ◌≢◌, ◌==◌, inl, inr, Bool, true, false, cond, List, [], ◌∷◌, ◌++◌, Option, Some, None, refl, sym, ap, subst, arith}
 use Rattle.std.specs.List.{find, slice_get}
 use Rattle.std.proofs.lemmas.Bool.Decides.{nat_tests}
 use Rattle.device_ids.specs.Folding.{same}
-use Rattle.resource_reqs.specs.Resources.{Res, Reqs}
-use Rattle.pnp_model.specs.Tests.{has, is_started}
-use Rattle.pnp_model.specs.Records.{Node, Core, Device, Driver, Relation, Activity, Task, State, Step, Settings, Operation, Rebalance, RebalanceStage, Removal, RemovalStage, Surprise, SurpriseStage, Doing, Duty}
+use Rattle.pnp_model.specs.Tests.{has}
+use Rattle.pnp_model.specs.Records.{Node, Core, Relation, Activity, Task, State, Step, Settings, Operation, Rebalance, RebalanceStage, Removal, RemovalStage, Surprise, SurpriseStage, Doing, Duty}
 use Rattle.pnp_model.specs.Records.Doing.{Does, Searches}
 use Rattle.pnp_model.specs.Cores.{node_at}
-use Rattle.pnp_model.specs.Books.{is_named, is_unnamed}
 use Rattle.pnp_model.specs.Frames.{first_node}
 use Rattle.pnp_model.specs.Trees.{dependents}
-use Rattle.pnp_model.specs.States.{activity_at, list_node, node_born, node_of, device_of, plug, unplug, enable_path, set_operation, with_core}
-use Rattle.pnp_labels.specs.Texts.{Text}
-use Rattle.pnp_labels.specs.declared.words.Minor.{Minor}
+use Rattle.pnp_model.specs.States.{activity_at, set_operation, with_core}
 use Rattle.pnp_labels.specs.declared.words.Answer.{Answer}
-use Rattle.pnp_labels.specs.declared.event.Rule.{Rule}
-use Rattle.pnp_labels.specs.declared.words.DriverKind.{DriverKind}
-use Rattle.pnp_labels.specs.declared.words.RelKind.{RelKind}
 use Rattle.pnp_labels.specs.declared.event.Event.{Event}
 use Rattle.pnp_labels.specs.declared.label.OpKind.{OpKind}
-use Rattle.pnp_laws.specs.Kept.{Ascending, Good, IsGood, BeginsWell, Fits, is_idle}
+use Rattle.pnp_laws.specs.Kept.{Ascending, Good, IsGood, BeginsWell, Fits, is_idle, RebalanceKeeps, RemovalKeeps, SurpriseKeeps}
 use Rattle.pnp_laws.specs.Due.{AllDue}
 use Rattle.pnp_labels.specs.declared.label.Label.{Label}
 use Rattle.pnp_laws.specs.Effects.{AnswerEffect, CommandEffect, NodeEffect, Related}
@@ -37,14 +30,70 @@ use Rattle.pnp_laws.proofs.TreeChanges.{same_still, tree_same}
 use Rattle.pnp_laws.proofs.TreeMoves.{tree_related}
 use Rattle.pnp_laws.proofs.Sounds.{leads_pushed, up_append, up_first, due_still}
 use Rattle.pnp_laws.proofs.Finishes.{fades_same, finishes_still}
-use Rattle.pnp_laws.proofs.SoundOps.{MoreTasks, more_same, more_pushed}
+use Rattle.pnp_laws.proofs.SoundOps.{MoreTasks, more_same, more_pushed, op_still}
 use Rattle.pnp_laws.proofs.SoundStarts.{SoundNext, sound_act, stage_none}
 use Rattle.pnp_laws.proofs.SoundRebalances.{sound_rebalance}
 use Rattle.pnp_laws.proofs.SoundRemovals.{sound_removal, sound_surprise}
+use Rattle.pnp_laws.proofs.Stages.{OperationStep, asking, operation_step, reply}
 use Rattle.pnp_laws.proofs.SoundTasks.{sound_list, sound_start, sound_begin_step}
-use Rattle.pnp_laws.proofs.Truths.{and_both}
 use Rattle.pnp_model.specs.Machine as ma
 use Rattle.pnp_model.specs.Events as ev
+
+-- What is kept of an operation -----------------------------------------------------------------------
+
+-- the operation's facts are of nodes and relations alone
+stage_same : (o : Option Operation) (c d : Core) → Ascending 0 c.nodes → d.nodes ≡ c.nodes → d.relations ≡ c.relations → StageKept o c → StageKept o d
+stage_same None c d order a b h = tt
+stage_same (Some (Operation.Rebalancing r)) c d order a b h = (h.0, subst (λ (x : List Node). RebalanceThere r r.stage x) (sym a) h.1)
+stage_same (Some (Operation.Removing o)) c d order a b h = (by_stage o.stage h.0, subst (λ (x : List Node). RemovalThere o o.stage x) (sym a) h.1)
+  where
+    moved : (todo : List ℕ) → Finishes c o.set todo → Finishes d o.set todo
+    moved todo f = finishes_still c d o.set todo (fades_same c d order (subst (λ (x : List Node). Ascending 0 x) (sym a) order) (same_still c d a b)) a f
+
+    by_stage : (stage : RemovalStage) → RemovalOrder c o stage → RemovalOrder d o stage
+    by_stage (RemovalStage.Asking w) h = moved o.set h
+    by_stage (RemovalStage.TakingBack w) h = tt
+    by_stage (RemovalStage.Cancelling w) h = tt
+    by_stage (RemovalStage.Removing w) h = moved o.todo h
+    by_stage RemovalStage.Settling h = moved o.todo h
+    by_stage RemovalStage.Ending h = tt
+stage_same (Some (Operation.Surprising o)) c d order a b h = (by_stage o.stage h.0, subst (λ (x : List Node). SurpriseThere o o.stage x) (sym a) h.1)
+  where
+    moved : (todo : List ℕ) → Finishes c o.set todo → Finishes d o.set todo
+    moved todo f = finishes_still c d o.set todo (fades_same c d order (subst (λ (x : List Node). Ascending 0 x) (sym a) order) (same_still c d a b)) a f
+
+    by_stage : (stage : SurpriseStage) → SurpriseOrder c o stage → SurpriseOrder d o stage
+    by_stage (SurpriseStage.Telling w) h = moved o.set h
+    by_stage (SurpriseStage.Removing w) h = moved o.todo h
+    by_stage SurpriseStage.Settling h = moved o.todo h
+    by_stage SurpriseStage.Ending h = moved [] h
+
+-- an answer leaves them as they are, and who waits
+completed_rebalance : (answer : Answer) (nodes : List Node) (r : Rebalance) (stage : RebalanceStage) → (OrderKept r stage × RebalanceThere r stage nodes →
+    OrderKept (record r { stage = ev.completed_rebalance answer stage }) (ev.completed_rebalance answer stage) × RebalanceThere (record r { stage = ev.completed_rebalance answer stage }) (ev.completed_rebalance answer stage) nodes)
+    × (rebalance_waiting (record r { stage = ev.completed_rebalance answer stage }) (ev.completed_rebalance answer stage) ≡ rebalance_waiting r stage)
+completed_rebalance answer nodes r (RebalanceStage.Asking w) = (λ h. h, refl)
+completed_rebalance answer nodes r _ = (λ h. h, refl)
+
+completed_removal : (answer : Answer) (c : Core) (o : Removal) (stage : RemovalStage) → RemovalOrder c o stage × RemovalThere o stage c.nodes →
+    RemovalOrder c (record o { stage = ev.completed_removal answer stage }) (ev.completed_removal answer stage) × RemovalThere (record o { stage = ev.completed_removal answer stage }) (ev.completed_removal answer stage) c.nodes
+completed_removal answer c o (RemovalStage.Asking w) h = h
+completed_removal answer c o _ h = h
+
+completed_surprise : (answer : Answer) (c : Core) (o : Surprise) (stage : SurpriseStage) → SurpriseOrder c o stage × SurpriseThere o stage c.nodes →
+    SurpriseOrder c (record o { stage = ev.completed_surprise answer stage }) (ev.completed_surprise answer stage) × SurpriseThere (record o { stage = ev.completed_surprise answer stage }) (ev.completed_surprise answer stage) c.nodes
+completed_surprise answer c o (SurpriseStage.Telling w) h = h
+completed_surprise answer c o _ h = h
+
+completed_stage : (answer : Answer) (o : Operation) (c : Core) → StageKept (Some o) c → StageKept (Some (ev.completed answer o)) c
+completed_stage answer (Operation.Rebalancing r) c h = (completed_rebalance answer c.nodes r r.stage).0 h
+completed_stage answer (Operation.Removing o) c h = completed_removal answer c o o.stage h
+completed_stage answer (Operation.Surprising o) c h = completed_surprise answer c o o.stage h
+
+completed_waiting : (answer : Answer) (nodes : List Node) (o : Operation) → waiting (Some (ev.completed answer o)) ≡ waiting (Some o)
+completed_waiting answer nodes (Operation.Rebalancing r) = (completed_rebalance answer nodes r r.stage).1
+completed_waiting answer nodes (Operation.Removing o) = refl
+completed_waiting answer nodes (Operation.Surprising o) = refl
 
 -- Steps --------------------------------------------------------------------------------------------
 
@@ -74,24 +123,22 @@ sound_idle_next : (settings : Settings) (s : State) (o : Option Activity) → fi
 sound_idle_next settings s (Some a) e none good h = sound_activity s a (node_at a.serial s.core.nodes) refl (ready_found ma.is_ready 0 s.activities a good.order e).1 none good h
 sound_idle_next settings s None e none good h = sound_task settings s (slice_get s.tasks 0) refl none good h
 
-sound_operation : (s : State) (o : Operation) (waits : Bool) → s.operation ≡ Some o → Good s.next_serial s.core.nodes s.activities (Some o) → Stands s → SoundNext s (ma.operation_next s o waits)
-sound_operation s o true runs good h = tt
-sound_operation s (Operation.Rebalancing r) false runs good h =
-    let g = subst (λ (x : List Activity). Good s.next_serial s.core.nodes x (Some (Operation.Rebalancing r))) good.alone good in
-    sound_rebalance s r r.stage (first_node s.core.nodes r.todo) refl good.fits (subst (λ (x : Option Operation). StageKept x s.core) runs h.stage)
-    (subst (λ (x : Option Operation). DueBut (waiting x) s.tasks s.core.nodes) runs h.due) g h
-sound_operation s (Operation.Removing o) false runs good h =
-    let g = subst (λ (x : List Activity). Good s.next_serial s.core.nodes x (Some (Operation.Removing o))) good.alone good in
-    sound_removal s o o.stage (first_node s.core.nodes o.todo) refl good.fits (subst (λ (x : Option Operation). StageKept x s.core) runs h.stage)
-    (subst (λ (x : Option Operation). DueBut (waiting x) s.tasks s.core.nodes) runs h.due) g h
-sound_operation s (Operation.Surprising o) false runs good h =
-    let g = subst (λ (x : List Activity). Good s.next_serial s.core.nodes x (Some (Operation.Surprising o))) good.alone good in
-    sound_surprise s o (ma.is_target_in_world s o) o.stage (first_node s.core.nodes o.todo) refl good.fits (subst (λ (x : Option Operation). StageKept x s.core) runs h.stage)
-    (subst (λ (x : Option Operation). DueBut (waiting x) s.tasks s.core.nodes) runs h.due) g h
-
-sound_next_of : (settings : Settings) (s : State) (o : Option Operation) → s.operation ≡ o → IsGood s → Stands s → SoundNext s (ma.next_of settings s o)
-sound_next_of settings s (Some o) e good h = sound_operation s o (ma.is_waiting (ma.operation_walk o)) e (subst (λ (x : Option Operation). Good s.next_serial s.core.nodes s.activities x) e good) h
-sound_next_of settings s None e good h = sound_idle_next settings s (find ma.is_ready s.activities) refl e (subst (λ (x : Option Operation). Good s.next_serial s.core.nodes s.activities x) e good) h
+sound_operation : (s : State) (o : Operation) (step : Step) → Good s.next_serial s.core.nodes s.activities (Some o) → StageKept (Some o) s.core → DueBut (waiting (Some o)) s.tasks s.core.nodes → Stands s → OperationStep s o step → Sound s step
+sound_operation s p step good kept due h (OperationStep.asks o node w asks) =
+    let answer = reply s.core node w in
+    let t = (asking s o node w).state in
+    op_still s t _ (waiting (Some o)) tt refl refl refl refl (λ same. stage_same (Some (ev.completed answer o)) s.core t.core good.serials refl refl (completed_stage answer o s.core kept)) (completed_waiting answer s.core.nodes o) due h
+sound_operation s p step good kept due h (OperationStep.rebalances r stage m is x) =
+    let g = subst (λ (acts : List Activity). Good s.next_serial s.core.nodes acts (Some (Operation.Rebalancing r))) good.alone good in
+    sound_rebalance s r g h stage m (subst (λ (y : RebalanceStage). RebalanceKeeps r y s.core.nodes) is good.fits) (subst (λ (y : RebalanceStage). OrderKept r y) is kept.0) (subst (λ (y : RebalanceStage). RebalanceThere r y s.core.nodes) is kept.1)
+    (subst (λ (y : RebalanceStage). DueBut (rebalance_waiting r y) s.tasks s.core.nodes) is due) x
+sound_operation s p step good kept due h (OperationStep.removes o stage m is x) =
+    let g = subst (λ (acts : List Activity). Good s.next_serial s.core.nodes acts (Some (Operation.Removing o))) good.alone good in
+    sound_removal s o g due h stage m (subst (λ (y : RemovalStage). RemovalKeeps o y s.core.nodes) is good.fits) (subst (λ (y : RemovalStage). RemovalOrder s.core o y) is kept.0) (subst (λ (y : RemovalStage). RemovalThere o y s.core.nodes) is kept.1) x
+sound_operation s p step good kept due h (OperationStep.surprises o stage m is x) =
+    let g = subst (λ (acts : List Activity). Good s.next_serial s.core.nodes acts (Some (Operation.Surprising o))) good.alone good in
+    sound_surprise s o g due h (ma.is_target_in_world s o) stage m (subst (λ (y : SurpriseStage). SurpriseKeeps o y s.core.nodes) is good.fits) (subst (λ (y : SurpriseStage). SurpriseOrder s.core o y) is kept.0)
+    (subst (λ (y : SurpriseStage). SurpriseThere o y s.core.nodes) is kept.1) x
 
 sound_doing : (settings : Settings) (s : State) (o : Option (Doing Step)) (step : Step) → SoundNext s o → ma.IsStep settings o step → Sound s step
 sound_doing settings s None step l is = absurd is
@@ -99,7 +146,15 @@ sound_doing settings s (Some (Does one)) step l is = subst (λ (x : Step). Sound
 sound_doing settings s (Some (Searches problem by_answer)) step l is = subst (λ (x : Step). Sound s x) (sym is.2) (l is.0)
 
 pub sound_step : (settings : Settings) (s : State) (step : Step) → IsGood s → Stands s → ma.IsStep settings (ma.next settings s) step → Sound s step
-sound_step settings s step good h is = sound_doing settings s (ma.next settings s) step (sound_next_of settings s s.operation refl good h) is
+sound_step settings s step good h is = by_operation s.operation refl
+  where
+    by_operation : (o : Option Operation) → s.operation ≡ o → Sound s step
+    by_operation (Some o) runs =
+        sound_operation s o step (subst (λ (x : Option Operation). Good s.next_serial s.core.nodes s.activities x) runs good) (subst (λ (x : Option Operation). StageKept x s.core) runs h.stage)
+        (subst (λ (x : Option Operation). DueBut (waiting x) s.tasks s.core.nodes) runs h.due) h (operation_step settings s o step runs is)
+    by_operation None none =
+        sound_doing settings s (ma.next_of settings s None) step (sound_idle_next settings s (find ma.is_ready s.activities) refl none (subst (λ (x : Option Operation). Good s.next_serial s.core.nodes s.activities x) none good) h)
+        (subst (λ (x : Option Operation). ma.IsStep settings (ma.next_of settings s x) step) none is)
 
 -- What the begin of an operation needs -------------------------------------------------------------
 
@@ -115,33 +170,6 @@ begins_well s none good h =
     }
 
 -- Events ---------------------------------------------------------------------------------------------
-
--- the operation's facts are of nodes and relations alone
-stage_same : (o : Option Operation) (c d : Core) → Ascending 0 c.nodes → d.nodes ≡ c.nodes → d.relations ≡ c.relations → StageKept o c → StageKept o d
-stage_same None c d order a b h = tt
-stage_same (Some (Operation.Rebalancing r)) c d order a b h = (h.0, subst (λ (x : List Node). RebalanceThere r r.stage x) (sym a) h.1)
-stage_same (Some (Operation.Removing o)) c d order a b h = (by_stage o.stage h.0, subst (λ (x : List Node). RemovalThere o o.stage x) (sym a) h.1)
-  where
-    moved : (todo : List ℕ) → Finishes c o.set todo → Finishes d o.set todo
-    moved todo f = finishes_still c d o.set todo (fades_same c d order (subst (λ (x : List Node). Ascending 0 x) (sym a) order) (same_still c d a b)) a f
-
-    by_stage : (stage : RemovalStage) → RemovalOrder c o stage → RemovalOrder d o stage
-    by_stage (RemovalStage.Asking w) h = moved o.set h
-    by_stage (RemovalStage.TakingBack w) h = tt
-    by_stage (RemovalStage.Cancelling w) h = tt
-    by_stage (RemovalStage.Removing w) h = moved o.todo h
-    by_stage RemovalStage.Settling h = moved o.todo h
-    by_stage RemovalStage.Ending h = tt
-stage_same (Some (Operation.Surprising o)) c d order a b h = (by_stage o.stage h.0, subst (λ (x : List Node). SurpriseThere o o.stage x) (sym a) h.1)
-  where
-    moved : (todo : List ℕ) → Finishes c o.set todo → Finishes d o.set todo
-    moved todo f = finishes_still c d o.set todo (fades_same c d order (subst (λ (x : List Node). Ascending 0 x) (sym a) order) (same_still c d a b)) a f
-
-    by_stage : (stage : SurpriseStage) → SurpriseOrder c o stage → SurpriseOrder d o stage
-    by_stage (SurpriseStage.Telling w) h = moved o.set h
-    by_stage (SurpriseStage.Removing w) h = moved o.todo h
-    by_stage SurpriseStage.Settling h = moved o.todo h
-    by_stage SurpriseStage.Ending h = moved [] h
 
 -- nodes, relations and operation stay, and tasks are added at the end
 outside : (s t : State) → Ascending 0 s.core.nodes → t.core.nodes ≡ s.core.nodes → t.core.relations ≡ s.core.relations → t.next_serial ≡ s.next_serial → t.operation ≡ s.operation → MoreTasks s.tasks t.tasks → Stands s → Stands t
@@ -198,57 +226,6 @@ related_stands s r rel good h =
 
 -- complete
 
-completed_rebalance : (answer : Answer) (nodes : List Node) (r : Rebalance) (stage : RebalanceStage) → OrderKept r stage × RebalanceThere r stage nodes →
-    OrderKept (record r { stage = ev.completed_rebalance answer stage }) (ev.completed_rebalance answer stage) × RebalanceThere (record r { stage = ev.completed_rebalance answer stage }) (ev.completed_rebalance answer stage) nodes
-completed_rebalance answer nodes r (RebalanceStage.Asking w) h = h
-completed_rebalance answer nodes r (RebalanceStage.TakingBack w) h = h
-completed_rebalance answer nodes r RebalanceStage.Searching h = h
-completed_rebalance answer nodes r (RebalanceStage.Cancelling w) h = h
-completed_rebalance answer nodes r RebalanceStage.Stuck h = h
-completed_rebalance answer nodes r (RebalanceStage.Stopping w) h = h
-completed_rebalance answer nodes r RebalanceStage.Committing h = h
-completed_rebalance answer nodes r (RebalanceStage.Restarting w) h = h
-completed_rebalance answer nodes r RebalanceStage.Failed h = h
-completed_rebalance answer nodes r RebalanceStage.Ending h = h
-
-completed_waits : (answer : Answer) (r : Rebalance) (stage : RebalanceStage) → rebalance_waiting (record r { stage = ev.completed_rebalance answer stage }) (ev.completed_rebalance answer stage) ≡ rebalance_waiting r stage
-completed_waits answer r (RebalanceStage.Asking w) = refl
-completed_waits answer r (RebalanceStage.TakingBack w) = refl
-completed_waits answer r RebalanceStage.Searching = refl
-completed_waits answer r (RebalanceStage.Cancelling w) = refl
-completed_waits answer r RebalanceStage.Stuck = refl
-completed_waits answer r (RebalanceStage.Stopping w) = refl
-completed_waits answer r RebalanceStage.Committing = refl
-completed_waits answer r (RebalanceStage.Restarting w) = refl
-completed_waits answer r RebalanceStage.Failed = refl
-completed_waits answer r RebalanceStage.Ending = refl
-
-completed_removal : (answer : Answer) (c : Core) (o : Removal) (stage : RemovalStage) → RemovalOrder c o stage × RemovalThere o stage c.nodes →
-    RemovalOrder c (record o { stage = ev.completed_removal answer stage }) (ev.completed_removal answer stage) × RemovalThere (record o { stage = ev.completed_removal answer stage }) (ev.completed_removal answer stage) c.nodes
-completed_removal answer c o (RemovalStage.Asking w) h = h
-completed_removal answer c o (RemovalStage.TakingBack w) h = h
-completed_removal answer c o (RemovalStage.Cancelling w) h = h
-completed_removal answer c o (RemovalStage.Removing w) h = h
-completed_removal answer c o RemovalStage.Settling h = h
-completed_removal answer c o RemovalStage.Ending h = h
-
-completed_surprise : (answer : Answer) (c : Core) (o : Surprise) (stage : SurpriseStage) → SurpriseOrder c o stage × SurpriseThere o stage c.nodes →
-    SurpriseOrder c (record o { stage = ev.completed_surprise answer stage }) (ev.completed_surprise answer stage) × SurpriseThere (record o { stage = ev.completed_surprise answer stage }) (ev.completed_surprise answer stage) c.nodes
-completed_surprise answer c o (SurpriseStage.Telling w) h = h
-completed_surprise answer c o (SurpriseStage.Removing w) h = h
-completed_surprise answer c o SurpriseStage.Settling h = h
-completed_surprise answer c o SurpriseStage.Ending h = h
-
-completed_stage : (answer : Answer) (o : Operation) (c : Core) → StageKept (Some o) c → StageKept (Some (ev.completed answer o)) c
-completed_stage answer (Operation.Rebalancing r) c h = completed_rebalance answer c.nodes r r.stage h
-completed_stage answer (Operation.Removing o) c h = completed_removal answer c o o.stage h
-completed_stage answer (Operation.Surprising o) c h = completed_surprise answer c o o.stage h
-
-completed_waiting : (answer : Answer) (o : Operation) → waiting (Some (ev.completed answer o)) ≡ waiting (Some o)
-completed_waiting answer (Operation.Rebalancing r) = completed_waits answer r r.stage
-completed_waiting answer (Operation.Removing o) = refl
-completed_waiting answer (Operation.Surprising o) = refl
-
 answered_stands : (s : State) (ok : Bool) (o : Operation) → s.operation ≡ Some o → Stands s → Stands (set_operation (Some (ev.completed (ev.answer_of ok) o)) s)
 answered_stands s ok o e h =
     record {
@@ -256,7 +233,7 @@ answered_stands s ok o e h =
       up = h.up;
       stage = completed_stage (ev.answer_of ok) o s.core (subst (λ (x : Option Operation). StageKept x s.core) e h.stage);
       due =
-          subst (λ (ks : List ℕ). DueBut ks s.tasks s.core.nodes) (sym (completed_waiting (ev.answer_of ok) o))
+          subst (λ (ks : List ℕ). DueBut ks s.tasks s.core.nodes) (sym (completed_waiting (ev.answer_of ok) s.core.nodes o))
           (subst (λ (x : Option Operation). DueBut (waiting x) s.tasks s.core.nodes) e h.due);
     }
 

@@ -1,12 +1,10 @@
 -- What the steps of all operations share: a walk that ended, an ask, a device that stays or leaves.
-use Rattle.std.proofs.Common.{ℕ, ◌≡◌, ◌≢◌, ◌==◌, ◌⊎◌, inl, inr, Bool, true, false, List, [], ◌∷◌, ◌++◌, Option, Some, None, refl, sym, ap, ◌∙◌, subst}
+use Rattle.std.proofs.Common.{ℕ, ◌≡◌, ◌≢◌, ◌⊎◌, inl, inr, Bool, true, false, List, [], ◌∷◌, ◌++◌, Option, Some, refl, sym, ap, ◌∙◌, subst}
 use Rattle.pnp_model.specs.Keyed.{changed_first}
 use Rattle.pnp_model.specs.Tests.{has}
-use Rattle.pnp_model.specs.Records.{Node, Core, Task, Device, State, Duty}
+use Rattle.pnp_model.specs.Records.{Node, Core, Task, State, Duty}
 use Rattle.pnp_model.specs.Cores.{is_node, node_at, with_state, with_problem, strip, drop_node}
-use Rattle.pnp_model.specs.States.{relist, relist_device, relist_other, list_node, device_of, node_born}
 use Rattle.pnp_model.specs.Diagram.{Row}
-use Rattle.pnp_labels.specs.Texts.{Text}
 use Rattle.pnp_labels.specs.declared.states.DevState.{DevState}
 use Rattle.pnp_labels.specs.declared.words.Minor.{Minor}
 use Rattle.pnp_labels.specs.declared.states.Problem.{Problem}
@@ -15,7 +13,7 @@ use Rattle.pnp_labels.specs.declared.states.DevState.TheVariants.{NoStack, Stopp
 use Rattle.pnp_laws.specs.Kept.{Ascending, is_idle}
 use Rattle.pnp_laws.proofs.Lookups.{node_from, Ascending-changed}
 use Rattle.pnp_laws.proofs.Lists.{HeadIs, head_has}
-use Rattle.pnp_laws.proofs.Finishing.{StacksFit}
+use Rattle.pnp_laws.proofs.Finishing.{Listed, StacksFit}
 use Rattle.pnp_laws.proofs.Standing.{IsNoLeave, TasksUp, DutyUp, DueBut, waiting, StageKept, Stands, Sound, Finishes}
 use Rattle.pnp_laws.proofs.TreeChanges.{Alike, SameTree, same_still, same_changed, nodes_same}
 use Rattle.pnp_laws.proofs.TreeMoves.{was_stripped}
@@ -115,20 +113,9 @@ more_pushed tasks task shared =
       leads = leads_pushed tasks task;
     }
 
-pub more_listed : (o : Option Node) (s : State) → MoreTasks s.tasks (list_node o s).tasks
-more_listed None s = more_same s.tasks
-more_listed (Some n) s = more_pushed s.tasks (record { kind = Duty.Listing; serial = n.serial }) (inl refl)
-
-pub more_relist : (path : Text) (born : ℕ) (s : State) → MoreTasks s.tasks (relist path born s).tasks
-more_relist path born s = by_device (device_of path s.world)
-  where
-    by_other : (d : Device) (b : Bool) → MoreTasks s.tasks (relist_other d b s).tasks
-    by_other d true = more_same s.tasks
-    by_other d false = more_listed (node_born d.parent s.core.nodes) s
-
-    by_device : (o : Option Device) → MoreTasks s.tasks (relist_device born o s).tasks
-    by_device None = more_same s.tasks
-    by_device (Some d) = by_other d (d.born == born)
+pub more_listed : (tasks more : List Task) → Listed tasks more → MoreTasks tasks more
+more_listed tasks more (inl e) = subst (λ (ts : List Task). MoreTasks tasks ts) (sym e) (more_same tasks)
+more_listed tasks more (inr (k, e)) = subst (λ (ts : List Task). MoreTasks tasks ts) (sym e) (more_pushed tasks (record { kind = Duty.Listing; serial = k }) (inl refl))
 
 -- the head left
 pub op_left : (s t : State) (node : Node) (todo set rest : List ℕ) (label : Label) → Work s node todo → IsPlain label → (IsNoLeave label → ⊥) → has set node.serial ≡ true → Finishes s.core set todo → t.core ≡ drop_node node.serial s.core → t.next_serial ≡ s.next_serial → MoreTasks s.tasks t.tasks →

@@ -6,13 +6,12 @@ use Rattle.std.proofs.lemmas.Bool.Decides.{nat_tests}
 use Rattle.resource_reqs.specs.Spelling.Answer.{assignment, no_fit, spent}
 use Rattle.pnp_model.specs.Keyed.{changed_first, those}
 use Rattle.pnp_model.specs.Tests.{has}
-use Rattle.pnp_model.specs.Records.{Node, Task, State, Operation, Rebalance, RebalanceStage, Walk, Found, Duty, doing_map}
+use Rattle.pnp_model.specs.Records.{Node, Task, State, Operation, Rebalance, RebalanceStage, Found, Duty}
 use Rattle.pnp_model.specs.Records.RebalanceStage.{Asking, TakingBack, Searching, Cancelling, Stuck, Stopping, Committing, Restarting, Failed, Ending}
 use Rattle.pnp_model.specs.Cores.{is_node, node_at, with_state, with_problem}
-use Rattle.pnp_model.specs.Walks.{is_bad}
 use Rattle.pnp_model.specs.Trees.{stands_up}
 use Rattle.pnp_model.specs.Frames.{first_node, rest}
-use Rattle.pnp_model.specs.Rebalances.{ask_on, cancel_on, stop_on, startable, restart_from, is_not_above, end_ask, ask_step, take_back, searched, cancel_step, trouble_of, stuck, stop_step, committed, movers, plan_of, commit_step, end_restart, restart_step, failed, over, moved_on, rebalance_step}
+use Rattle.pnp_model.specs.Rebalances.{RebalanceMove, ask_on, cancel_on, stop_on, startable, restart_from, is_not_above, searched, trouble_of, stuck, stop_step, committed, movers, plan_of, commit_step, end_restart, failed, end_of, over, moved_on}
 use Rattle.pnp_model.specs.Machine.{rebalance_lifted}
 use Rattle.pnp_model.specs.Diagram.{Row}
 use Rattle.pnp_model.specs.Diagram.Row.{query_stop, query_stop_bad, cancel_stop_refused, cancel_stop, stop, restart, restart_bad}
@@ -33,7 +32,7 @@ use Rattle.pnp_laws.proofs.Standing.{DueBut, waiting, rebalance_waiting, OrderKe
 use Rattle.pnp_laws.proofs.Theres.{goes_on, rest_there, those_there, reverse_there, startable_there, more_there, same_there, same_goes}
 use Rattle.pnp_laws.proofs.TreeChanges.{Alike, same_changed, same_mapped, nodes_same, tree_same}
 use Rattle.pnp_laws.proofs.Sounds.{IsPlain, LeadsMore, leads_same, leads_first, due_still, due_same, due_changed, sound_same, sound_walk}
-use Rattle.pnp_laws.proofs.SoundStarts.{SoundNext}
+use Rattle.pnp_laws.proofs.Stages.{RebalanceStep}
 use Rattle.pnp_laws.proofs.SoundOps.{Work, same_state, op_walk, op_still, problem_alike}
 use Rattle.pnp_laws.proofs.Restarts.{ordered_agreed, ordered_fewer, rising_weaker, rising_rest, rising_startable, due_restart}
 use Rattle.pnp_laws.proofs.SoundRemovals.{started_stays}
@@ -81,75 +80,10 @@ due_wider rest next tasks nodes wider due = due_still rest next tasks tasks node
 now_at : (j : ℕ) (f : Node → Node) (node : Node) (nodes : List Node) → ((x : Node) → (f x).serial ≡ x.serial) → node_at j nodes ≡ Some node → node_at j (changed_first (is_node j) f nodes) ≡ Some (f node)
 now_at j f node nodes keeps at = node_changed_same j f nodes keeps ∙ ap (option_map f) at
 
--- Asking -------------------------------------------------------------------------------------------
-
-sound_end_ask : (s : State) (r : Rebalance) (node : Node) (w : Walk) (bad : Bool) → RebalanceKeeps r (Asking w) s.core.nodes → OrderKept r (Asking w) × RebalanceThere r (Asking w) s.core.nodes → Work s node r.todo → DueBut [] s.tasks s.core.nodes → Stands s → Sound s (rebalance_lifted s (end_ask s.core r node bad))
-sound_end_ask s r node w false keeps order work due h =
-    let state = head_started r.todo r.agreed node.serial node.state (head_has node.serial r.todo work.head) (keeps.each node.serial node work.at) in
-    op_walk s _ node r.todo [] Minor.QueryStop false Started StopPending work state refl refl refl refl (λ q. absurd (cc)) (λ q. cc) (λ q. cc) query_stop
-    (λ same. order_ask_on (record r { agreed = node.serial ∷ r.agreed }) (rest r.todo) _ (ordered_agreed node.serial r.todo r.agreed work.head order.0)
-    (same_there (rest r.todo) s.core _ same (rest_there r.todo s.core.nodes order.1.0.there))
-    (more_there node.serial r.agreed (with_state StopPending node) _ (now_at node.serial (with_state StopPending) node s.core.nodes (λ x. refl) work.at) (same_there r.agreed s.core _ same order.1.1))) (waits_ask_on (record r { agreed = node.serial ∷ r.agreed }) (rest r.todo)) due h
-sound_end_ask s r node w true keeps order work due h =
-    let state = head_started r.todo r.agreed node.serial node.state (head_has node.serial r.todo work.head) (keeps.each node.serial node work.at) in
-    op_walk s _ node r.todo [] Minor.QueryStop true Started node.state work state refl refl refl refl (λ q. ap is_idle (sym state) ∙ q) (started_stays node.state state).0 (started_stays node.state state).1 (subst (λ (x : DevState). Row Started Minor.QueryStop true x) (sym state) query_stop_bad)
-    (λ same. (order.0, (same_goes r.todo s.core _ same order.1.0, same_there r.agreed s.core _ same order.1.1))) refl due h
-
-sound_ask : (s : State) (r : Rebalance) (node : Node) (w : Walk) (ends : Bool) → RebalanceKeeps r (Asking w) s.core.nodes → OrderKept r (Asking w) × RebalanceThere r (Asking w) s.core.nodes → Work s node r.todo → DueBut [] s.tasks s.core.nodes → Stands s → Sound s (rebalance_lifted s (ask_step s.core r node w ends))
-sound_ask s r node w true keeps order work due h = sound_end_ask s r node w (is_bad w) keeps order work due h
-sound_ask s r node w false keeps order work due h = op_still s _ _ [] tt refl refl refl refl (λ same. order) refl due h
-
-sound_take_back : (s : State) (r : Rebalance) (node : Node) (w : Walk) (ends : Bool) → RebalanceKeeps r (TakingBack w) s.core.nodes → OrderKept r (TakingBack w) × RebalanceThere r (TakingBack w) s.core.nodes → Work s node r.todo → DueBut [] s.tasks s.core.nodes → Stands s → Sound s (rebalance_lifted s (take_back s.core r node w ends))
-sound_take_back s r node w true keeps order work due h =
-    let state = head_started r.todo r.agreed node.serial node.state (head_has node.serial r.todo work.head) (keeps.each node.serial node work.at) in
-    let more = those (is_not_above s.core.nodes node.serial) (rest r.todo) in
-    op_walk s _ node r.todo [] Minor.CancelStop false Started Started work state refl refl refl refl (λ q. absurd (cc)) (λ q. cc) (λ q. cc) cancel_stop_refused
-    (λ same. order_ask_on r more _ (ordered_fewer (is_not_above s.core.nodes node.serial) node.serial r.todo r.agreed work.head order.0)
-    (same_there more s.core _ same (those_there (is_not_above s.core.nodes node.serial) (rest r.todo) s.core.nodes (rest_there r.todo s.core.nodes order.1.0.there)))
-    (same_there r.agreed s.core _ same order.1.1)) (waits_ask_on r more) due h
-sound_take_back s r node w false keeps order work due h = op_still s _ _ [] tt refl refl refl refl (λ same. order) refl due h
+-- The steps -----------------------------------------------------------------------------------------
 
 nothing_has : (agreed : List ℕ) (k : ℕ) → has [] k ≡ true → has agreed k ≡ true
 nothing_has agreed k h = absurd (cc)
-
-sound_searched : (s : State) (r : Rebalance) (found : Found) → OrderKept r Searching × RebalanceThere r Searching s.core.nodes → DueBut [] s.tasks s.core.nodes → Stands s → Sound s (rebalance_lifted s (searched s.core r found))
-sound_searched s r (assignment plan) order due h =
-    op_still s _ _ r.agreed tt refl refl refl refl (λ same. order_stop_on (record r { found = assignment plan }) (reverse r.agreed) _ order.0 (reverse_there r.agreed s.core.nodes order.1) order.1) (waits_stop_on (record r { found = assignment plan }) (reverse r.agreed))
-    (due_wider [] r.agreed s.tasks s.core.nodes (nothing_has r.agreed) due) h
-sound_searched s r no_fit order due h = op_still s _ _ [] tt refl refl refl refl (λ same. order_cancel_on (record r { found = no_fit }) r.agreed _ order.1) (waits_cancel_on (record r { found = no_fit }) r.agreed) due h
-sound_searched s r spent order due h = op_still s _ _ [] tt refl refl refl refl (λ same. order_cancel_on (record r { found = spent }) r.agreed _ order.1) (waits_cancel_on (record r { found = spent }) r.agreed) due h
-
--- Nothing fits ---------------------------------------------------------------------------------------
-
-sound_cancel : (s : State) (r : Rebalance) (node : Node) (w : Walk) (ends : Bool) → RebalanceKeeps r (Cancelling w) s.core.nodes → Goes r.todo s.core.nodes → Work s node r.todo → DueBut [] s.tasks s.core.nodes → Stands s → Sound s (rebalance_lifted s (cancel_step s.core r node w ends))
-sound_cancel s r node w true keeps there work due h =
-    let state = head_pending r.todo node.serial node.state (head_has node.serial r.todo work.head) (keeps.each node.serial node work.at) in
-    op_walk s _ node r.todo [] Minor.CancelStop false StopPending Started work state refl refl refl refl (λ q. absurd (cc)) (λ q. cc) (λ q. cc) cancel_stop (λ same. order_cancel_on r (rest r.todo) _ (same_there (rest r.todo) s.core _ same (rest_there r.todo s.core.nodes there.there))) (waits_cancel_on r (rest r.todo)) due h
-sound_cancel s r node w false keeps there work due h = op_still s _ _ [] tt refl refl refl refl (λ same. (tt, there)) refl due h
-
-sound_stuck : (s : State) (r : Rebalance) → RebalanceKeeps r Stuck s.core.nodes → DueBut [] s.tasks s.core.nodes → Stands s → Sound s (rebalance_lifted s (stuck s.core r))
-sound_stuck s r keeps due h =
-    let node = keeps.waits.0 in
-    let at = keeps.waits.1 in
-    let f = with_problem (Some (trouble_of r.found)) in
-    let t = (rebalance_lifted s (stuck s.core r)).state in
-    let same = same_changed s.core t.core r.target f node refl refl (λ x. refl) at (problem_alike node (Some (trouble_of r.found))) in
-    sound_same s t (Label.Trouble r.path (trouble_of r.found)) tt same refl h.up (tt, tt)
-    (due_changed [] [] s.tasks s.tasks s.core.nodes t.core.nodes r.target f node refl (λ x. refl) at (nodes_same s.core t.core same) (leads_same s.tasks) (λ q. inl q) (λ k q. inl q) due) h
-
--- It fits --------------------------------------------------------------------------------------------
-
-sound_stop : (s : State) (r : Rebalance) (node : Node) (w : Walk) (ends : Bool) → RebalanceKeeps r (Stopping w) s.core.nodes → OrderKept r (Stopping w) × RebalanceThere r (Stopping w) s.core.nodes → Work s node r.todo → DueBut r.agreed s.tasks s.core.nodes → Stands s → Sound s (rebalance_lifted s (stop_step s.core r node w ends))
-sound_stop s r node w true keeps order work due h =
-    let here = head_has node.serial r.todo work.head in
-    let state = head_stopping r.todo r.agreed node.serial node.state here (keeps.each node.serial node work.at) in
-    let t = (rebalance_lifted s (stop_step s.core r node w true)).state in
-    let same = same_state s t node r.todo Stopped work refl refl (λ q. absurd (cc)) in
-    sound_walk s t node Minor.Stop false Stopped refl same refl work.at (λ q. cc) (subst (λ (x : DevState). Row x Minor.Stop false Stopped) (sym state) stop) h.up (order_stop_on r (rest r.todo) t.core.nodes order.0 (same_there (rest r.todo) s.core t.core same (rest_there r.todo s.core.nodes order.1.0.there)) (same_there r.agreed s.core t.core same order.1.1))
-    (subst (λ (ks : List ℕ). DueBut ks s.tasks t.core.nodes) (sym (waits_stop_on r (rest r.todo)))
-    (due_changed r.agreed r.agreed s.tasks s.tasks s.core.nodes t.core.nodes node.serial (with_state Stopped) node refl (λ x. refl) work.at (nodes_same s.core t.core same) (leads_same s.tasks)
-    (λ q. inr (keeps.asks node.serial here)) (λ k q. inl q) due)) h
-sound_stop s r node w false keeps order work due h = op_still s _ _ r.agreed tt refl refl refl refl (λ same. order) refl due h
 
 -- all are calm while those that were stopped are started again
 all_calm : (todo : List ℕ) (nodes : List Node) → Each (stopped_state todo) nodes → Each (λ k x. is_calm x) nodes
@@ -165,22 +99,6 @@ not_root s next p good k n at e = λ z. let root = (good.stacks k n at).root z i
 commits_alike : (serials : List ℕ) (r : Rebalance) (n : Node) → Alike n (committed serials (plan_of r.found) n)
 commits_alike serials r n = record { serial = refl; parent = refl; path = refl; born = refl; idle = λ h. h }
 
-sound_commit : (s : State) (r : Rebalance) → RebalanceKeeps r Committing s.core.nodes → OrderKept r Committing × RebalanceThere r Committing s.core.nodes → DueBut r.agreed s.tasks s.core.nodes → Good s.next_serial s.core.nodes [] (Some (Operation.Rebalancing r)) → Stands s → Sound s (rebalance_lifted s (commit_step s.core r))
-sound_commit s r keeps order due good h =
-    let f = committed (movers r) (plan_of r.found) in
-    let t = (rebalance_lifted s (commit_step s.core r)).state in
-    let same = same_mapped s.core t.core f refl refl (commits_alike (movers r) r) in
-    let ks = startable s.core.nodes r.agreed in
-    let now = due_restart s.tasks s.core 0 r.agreed h.tree.root h.tree.rooted h.tree.idle (all_calm r.agreed s.core.nodes keeps.each) (not_root s s.next_serial _ good) order.0 due in
-    sound_same s t (Label.Commit (length (movers r))) tt same refl h.up (order_restart_from r ks t.core.nodes (rising_startable 0 s.core.nodes r.agreed order.0) (same_there ks s.core t.core same (startable_there s.core.nodes r.agreed s.core.nodes order.1)))
-    (subst (λ (x : List ℕ). DueBut x s.tasks t.core.nodes) (sym (waits_restart_from r ks))
-    (due_same ks ks s.tasks s.tasks s.core.nodes t.core.nodes (nodes_same s.core t.core same) (leads_same s.tasks)
-    (λ k n m was there stopped.
-    let old = map_from k f s.core.nodes m (λ x. refl) there in
-    let one : old.0 ≡ n = some_same (node_at k s.core.nodes) old.0 n old.1 was in
-    inl (ap (λ (x : Node). x.state) (sym one) ∙ sym (ap (λ (x : Node). x.state) old.2) ∙ stopped))
-    (λ k m there stopped q. inr q) now)) h
-
 -- the states of others as the head is started again
 rest_calm : (todo : List ℕ) (nodes : List Node) → Each (stopped_state todo) nodes → (j : ℕ) (f : Node → Node) (node : Node) → ((x : Node) → (f x).serial ≡ x.serial) → node_at j nodes ≡ Some node → is_calm (f node).state ≡ true → Each (λ k x. is_calm x) (changed_first (is_node j) f nodes)
 rest_calm todo nodes each j f node keeps at calm k m there =
@@ -192,40 +110,6 @@ rest_calm todo nodes each j f node keeps at calm k m there =
       | inr (d, q) ↦ all_calm todo nodes each k m q
     ]
 
-sound_end_restart : (s : State) (r : Rebalance) (node : Node) (w : Walk) (bad : Bool) → RebalanceKeeps r (Restarting w) s.core.nodes → OrderKept r (Restarting w) × RebalanceThere r (Restarting w) s.core.nodes → Work s node r.todo → DueBut r.todo s.tasks s.core.nodes → Good s.next_serial s.core.nodes [] (Some (Operation.Rebalancing r)) → Stands s →
-    Sound s (rebalance_lifted s (end_restart s.core r node bad))
-sound_end_restart s r node w true keeps order work due good h =
-    let here = head_has node.serial r.todo work.head in
-    let state = head_stopped r.todo node.serial node.state here (keeps.each node.serial node work.at) in
-    let t = (rebalance_lifted s (end_restart s.core r node true)).state in
-    let same = same_state s t node r.todo node.state work refl refl (λ q. q) in
-    sound_walk s t node Minor.Start true node.state refl same refl work.at (λ q. let z = state in cc) (subst (λ (x : DevState). Row x Minor.Start true x) (sym state) restart_bad) h.up (order.0, same_goes r.todo s.core t.core same order.1)
-    (due_changed r.todo r.todo s.tasks s.tasks s.core.nodes t.core.nodes node.serial (with_state node.state) node refl (λ x. refl) work.at (nodes_same s.core t.core same) (leads_same s.tasks) (λ q. inl q) (λ k q. inl q) due) h
-sound_end_restart s r node w false keeps order work due good h =
-    let here = head_has node.serial r.todo work.head in
-    let state = head_stopped r.todo node.serial node.state here (keeps.each node.serial node work.at) in
-    let t = (rebalance_lifted s (end_restart s.core r node false)).state in
-    let same = same_state s t node r.todo Started work refl refl (λ q. absurd (cc)) in
-    let tree = tree_same s.next_serial s.core t.core same h.tree in
-    let ks = rest r.todo in
-    let left : DueBut ks s.tasks t.core.nodes =
-    due_changed r.todo ks s.tasks s.tasks s.core.nodes t.core.nodes node.serial (with_state Started) node refl (λ x. refl) work.at (nodes_same s.core t.core same) (leads_same s.tasks) (λ q. absurd (cc))
-    (λ k q. elim (cases_eq node.serial k) [ inl e ↦ inr (e, λ z. absurd (cc)) | inr d ↦ inl (rest_has node.serial k r.todo work.head d ∙ q) ]) due in
-    let up : (k : ℕ) (n : Node) → node_at k t.core.nodes ≡ Some n → n.state ≡ Stopped → k ≢ 0 =
-    λ k n at e. elim (node_from node.serial k (with_state Started) s.core.nodes n (λ x. refl) at) [
-      | inl (q, (y, z, u)) ↦ absurd (let v = ap (λ (x : Node). x.state) u in cc)
-      | inr (d, q) ↦ not_root s s.next_serial _ good k n q e
-    ] in
-    let now = due_restart s.tasks t.core 0 ks tree.root tree.rooted tree.idle (rest_calm r.todo s.core.nodes keeps.each node.serial (with_state Started) node (λ x. refl) work.at refl) up (rising_rest 0 r.todo order.0) left in
-    sound_walk s t node Minor.Start false Started refl same refl work.at (λ q. cc) (subst (λ (x : DevState). Row x Minor.Start false Started) (sym state) restart) h.up
-    (order_restart_from r (startable t.core.nodes ks) t.core.nodes (rising_startable 0 t.core.nodes ks (rising_rest 0 r.todo order.0)) (startable_there t.core.nodes ks t.core.nodes (same_there ks s.core t.core same (rest_there r.todo s.core.nodes order.1.there))))
-    (subst (λ (x : List ℕ). DueBut x s.tasks t.core.nodes) (sym (waits_restart_from r (startable t.core.nodes ks))) now) h
-
-sound_restart : (s : State) (r : Rebalance) (node : Node) (w : Walk) (ends : Bool) → RebalanceKeeps r (Restarting w) s.core.nodes → OrderKept r (Restarting w) × RebalanceThere r (Restarting w) s.core.nodes → Work s node r.todo → DueBut r.todo s.tasks s.core.nodes → Good s.next_serial s.core.nodes [] (Some (Operation.Rebalancing r)) → Stands s →
-    Sound s (rebalance_lifted s (restart_step s.core r node w ends))
-sound_restart s r node w true keeps order work due good h = sound_end_restart s r node w (is_bad w) keeps order work due good h
-sound_restart s r node w false keeps order work due good h = op_still s _ _ r.todo tt refl refl refl refl (λ same. order) refl due h
-
 first_leads : (k : ℕ) (tasks : List Task) → has (leads (record { kind = Duty.Begins OpKind.Surprise; serial = k } ∷ tasks)) k ≡ true
 first_leads k tasks = grind (arith, nat_tests)
 
@@ -233,59 +117,133 @@ first_leads k tasks = grind (arith, nat_tests)
 own_due : (tasks : List Task) (nodes : List Node) (k : ℕ) → has (leads tasks) k ≡ true → is_due tasks nodes k ≡ true
 own_due tasks nodes k h = grind (arith, nat_tests)
 
-sound_failed : (s : State) (r : Rebalance) (node : Node) → RebalanceKeeps r Failed s.core.nodes → OrderKept r Failed × RebalanceThere r Failed s.core.nodes → Work s node r.todo → DueBut r.todo s.tasks s.core.nodes → Good s.next_serial s.core.nodes [] (Some (Operation.Rebalancing r)) → Stands s → Sound s (rebalance_lifted s (failed s.core r node))
-sound_failed s r node keeps order work due good h =
-    let t = (rebalance_lifted s (failed s.core r node)).state in
-    let f = with_problem (Some Problem.FailedStart) in
-    let same = same_changed s.core t.core node.serial f node refl refl (λ x. refl) work.at (problem_alike node (Some Problem.FailedStart)) in
-    let ks = rest r.todo in
-    let more : LeadsMore s.tasks t.tasks = leads_first s.tasks (record { kind = Duty.Begins OpKind.Surprise; serial = node.serial }) refl in
-    let left : DueBut ks t.tasks s.core.nodes =
-    λ k n at stopped.
-    elim (due k n at stopped) [
-      | inl q ↦ inl (due_more s.tasks t.tasks s.core.nodes s.core.nodes k more refl q)
-      | inr q ↦ elim (cases_eq node.serial k) [
-        | inl e ↦ inl (own_due t.tasks s.core.nodes k (subst (λ (i : ℕ). has (leads t.tasks) i ≡ true) e (first_leads node.serial s.tasks)))
-        | inr d ↦ inr (rest_has node.serial k r.todo work.head d ∙ q)
-      ]
-    ] in
-    let now = due_restart t.tasks s.core 0 ks h.tree.root h.tree.rooted h.tree.idle (all_calm r.todo s.core.nodes keeps.each) (not_root s s.next_serial _ good) (rising_rest 0 r.todo order.0) left in
-    let todo = startable s.core.nodes ks in
-    sound_same s t (Label.Trouble node.path Problem.FailedStart) tt same refl (work.up, h.up) (order_restart_from r todo t.core.nodes (rising_startable 0 s.core.nodes ks (rising_rest 0 r.todo order.0)) (same_there todo s.core t.core same (startable_there s.core.nodes ks s.core.nodes (rest_there r.todo s.core.nodes order.1.there))))
-    (subst (λ (x : List ℕ). DueBut x t.tasks t.core.nodes) (sym (waits_restart_from r todo))
-    (due_changed todo todo t.tasks t.tasks s.core.nodes t.core.nodes node.serial f node refl (λ x. refl) work.at (nodes_same s.core t.core same) (leads_same t.tasks) (λ q. inl q) (λ k q. inl q) now)) h
+module _ (s : State) (r : Rebalance) (good : Good s.next_serial s.core.nodes [] (Some (Operation.Rebalancing r))) (h : Stands s) where
+  re_work : (node : Node) → first_node s.core.nodes r.todo ≡ Some node → has r.todo 0 ≡ false → Work s node r.todo
+  re_work node first rootless =
+      let found = head_found s.core.nodes r.todo node first in
+      record { head = found.0; at = found.1; up = rootless_head node.serial r.todo found.0 rootless; order = good.serials; stacks = good.stacks }
 
--- The end ----------------------------------------------------------------------------------------------
+  re_searched : (found : Found) → OrderKept r Searching → RebalanceThere r Searching s.core.nodes → DueBut [] s.tasks s.core.nodes → Sound s (rebalance_lifted s (searched s.core r found))
+  re_searched (assignment plan) order there due =
+      op_still s _ _ r.agreed tt refl refl refl refl (λ same. order_stop_on (record r { found = assignment plan }) (reverse r.agreed) _ order (reverse_there r.agreed s.core.nodes there) there) (waits_stop_on (record r { found = assignment plan }) (reverse r.agreed))
+      (due_wider [] r.agreed s.tasks s.core.nodes (nothing_has r.agreed) due) h
+  re_searched no_fit order there due = op_still s _ _ [] tt refl refl refl refl (λ same. order_cancel_on (record r { found = no_fit }) r.agreed _ there) (waits_cancel_on (record r { found = no_fit }) r.agreed) due h
+  re_searched spent order there due = op_still s _ _ [] tt refl refl refl refl (λ same. order_cancel_on (record r { found = spent }) r.agreed _ there) (waits_cancel_on (record r { found = spent }) r.agreed) due h
 
-sound_moved : (s : State) (r : Rebalance) (up : Bool) (label : Label) → IsPlain label → DueBut [] s.tasks s.core.nodes → Stands s → Sound s (rebalance_lifted s (record { label = label; core = s.core; frame = r; beside = moved_on up }))
-sound_moved s r true label plain due h = op_still s _ label [] plain refl refl refl refl (λ same. tt) refl due h
-sound_moved s r false label plain due h = op_still s _ label [] plain refl refl refl refl (λ same. tt) refl due h
+  re_closes : (found : Found) (label : Label) → IsPlain label → DueBut [] s.tasks s.core.nodes → Sound s (rebalance_lifted s (record { label = label; core = s.core; frame = r; beside = over s.core r found }))
+  re_closes (assignment plan) label plain due = by_test (stands_up s.core.nodes r.target)
+    where
+      by_test : (up : Bool) → Sound s (rebalance_lifted s (record { label = label; core = s.core; frame = r; beside = moved_on up }))
+      by_test true = op_still s _ label [] plain refl refl refl refl (λ same. tt) refl due h
+      by_test false = op_still s _ label [] plain refl refl refl refl (λ same. tt) refl due h
+  re_closes no_fit label plain due = op_still s _ label [] plain refl refl refl refl (λ same. tt) refl due h
+  re_closes spent label plain due = op_still s _ label [] plain refl refl refl refl (λ same. tt) refl due h
 
-sound_over : (s : State) (r : Rebalance) (found : Found) (label : Label) → IsPlain label → DueBut [] s.tasks s.core.nodes → Stands s → Sound s (rebalance_lifted s (record { label = label; core = s.core; frame = r; beside = over s.core r found }))
-sound_over s r (assignment plan) label plain due h = sound_moved s r (stands_up s.core.nodes r.target) label plain due h
-sound_over s r no_fit label plain due h = op_still s _ label [] plain refl refl refl refl (λ same. tt) refl due h
-sound_over s r spent label plain due h = op_still s _ label [] plain refl refl refl refl (λ same. tt) refl due h
-
-work_on : (s : State) (node : Node) (r : Rebalance) (stage : RebalanceStage) (next : ℕ) (p : Option Operation) → first_node s.core.nodes r.todo ≡ Some node → RebalanceKeeps r stage s.core.nodes → Good next s.core.nodes [] p → Work s node r.todo
-work_on s node r stage next p first keeps good =
-    let h = head_found s.core.nodes r.todo node first in
-    record { head = h.0; at = h.1; up = rootless_head node.serial r.todo h.0 keeps.rootless; order = good.serials; stacks = good.stacks }
-
-pub sound_rebalance : (s : State) (r : Rebalance) (stage : RebalanceStage) (o : Option Node) → first_node s.core.nodes r.todo ≡ o → RebalanceKeeps r stage s.core.nodes → OrderKept r stage × RebalanceThere r stage s.core.nodes → DueBut (rebalance_waiting r stage) s.tasks s.core.nodes →
-    Good s.next_serial s.core.nodes [] (Some (Operation.Rebalancing r)) → Stands s → SoundNext s (option_map (doing_map (rebalance_lifted s)) (rebalance_step s.core r stage o))
-sound_rebalance s r Searching o first keeps order due good h = λ found. sound_searched s r found order due h
-sound_rebalance s r Stuck o first keeps order due good h = sound_stuck s r keeps due h
-sound_rebalance s r Committing o first keeps order due good h = sound_commit s r keeps order due good h
-sound_rebalance s r Ending o first keeps order due good h = sound_over s r r.found _ tt due h
-sound_rebalance s r (Asking w) (Some node) first keeps order due good h = sound_ask s r node w _ keeps order (work_on s node r (Asking w) s.next_serial _ first keeps good) due h
-sound_rebalance s r (TakingBack w) (Some node) first keeps order due good h = sound_take_back s r node w _ keeps order (work_on s node r (TakingBack w) s.next_serial _ first keeps good) due h
-sound_rebalance s r (Cancelling w) (Some node) first keeps order due good h = sound_cancel s r node w _ keeps order.1 (work_on s node r (Cancelling w) s.next_serial _ first keeps good) due h
-sound_rebalance s r (Stopping w) (Some node) first keeps order due good h = sound_stop s r node w _ keeps order (work_on s node r (Stopping w) s.next_serial _ first keeps good) due h
-sound_rebalance s r (Restarting w) (Some node) first keeps order due good h = sound_restart s r node w _ keeps order (work_on s node r (Restarting w) s.next_serial _ first keeps good) due good h
-sound_rebalance s r Failed (Some node) first keeps order due good h = sound_failed s r node keeps order (work_on s node r Failed s.next_serial _ first keeps good) due good h
-sound_rebalance s r (Asking w) None first keeps order due good h = tt
-sound_rebalance s r (TakingBack w) None first keeps order due good h = tt
-sound_rebalance s r (Cancelling w) None first keeps order due good h = tt
-sound_rebalance s r (Stopping w) None first keeps order due good h = tt
-sound_rebalance s r (Restarting w) None first keeps order due good h = tt
-sound_rebalance s r Failed None first keeps order due good h = tt
+  pub sound_rebalance : (stage : RebalanceStage) (m : RebalanceMove) → RebalanceKeeps r stage s.core.nodes → OrderKept r stage → RebalanceThere r stage s.core.nodes → DueBut (rebalance_waiting r stage) s.tasks s.core.nodes → RebalanceStep s.core r stage m → Sound s (rebalance_lifted s m)
+  sound_rebalance stage m keeps order there due (RebalanceStep.agrees node w e ok) =
+      let work = re_work node e.first keeps.rootless in
+      let state = head_started r.todo r.agreed node.serial node.state (head_has node.serial r.todo work.head) (keeps.each node.serial node work.at) in
+      op_walk s _ node r.todo [] Minor.QueryStop false Started StopPending work state refl refl refl refl (λ q. absurd (cc)) (λ q. cc) (λ q. cc) query_stop
+      (λ same. order_ask_on (record r { agreed = node.serial ∷ r.agreed }) (rest r.todo) _ (ordered_agreed node.serial r.todo r.agreed work.head order)
+      (same_there (rest r.todo) s.core _ same (rest_there r.todo s.core.nodes there.0.there))
+      (more_there node.serial r.agreed (with_state StopPending node) _ (now_at node.serial (with_state StopPending) node s.core.nodes (λ x. refl) work.at) (same_there r.agreed s.core _ same there.1))) (waits_ask_on (record r { agreed = node.serial ∷ r.agreed }) (rest r.todo)) due h
+  sound_rebalance stage m keeps order there due (RebalanceStep.refuses node w e bad) =
+      let work = re_work node e.first keeps.rootless in
+      let state = head_started r.todo r.agreed node.serial node.state (head_has node.serial r.todo work.head) (keeps.each node.serial node work.at) in
+      op_walk s _ node r.todo [] Minor.QueryStop true Started node.state work state refl refl refl refl (λ q. ap is_idle (sym state) ∙ q) (started_stays node.state state).0 (started_stays node.state state).1 (subst (λ (x : DevState). Row Started Minor.QueryStop true x) (sym state) query_stop_bad)
+      (λ same. (order, (same_goes r.todo s.core _ same there.0, same_there r.agreed s.core _ same there.1))) refl due h
+  sound_rebalance stage m keeps order there due (RebalanceStep.takes_back node w e) =
+      let work = re_work node e.first keeps.rootless in
+      let state = head_started r.todo r.agreed node.serial node.state (head_has node.serial r.todo work.head) (keeps.each node.serial node work.at) in
+      let more = those (is_not_above s.core.nodes node.serial) (rest r.todo) in
+      op_walk s _ node r.todo [] Minor.CancelStop false Started Started work state refl refl refl refl (λ q. absurd (cc)) (λ q. cc) (λ q. cc) cancel_stop_refused
+      (λ same. order_ask_on r more _ (ordered_fewer (is_not_above s.core.nodes node.serial) node.serial r.todo r.agreed work.head order)
+      (same_there more s.core _ same (those_there (is_not_above s.core.nodes node.serial) (rest r.todo) s.core.nodes (rest_there r.todo s.core.nodes there.0.there)))
+      (same_there r.agreed s.core _ same there.1)) (waits_ask_on r more) due h
+  sound_rebalance stage m keeps order there due (RebalanceStep.searches found budget answer) = re_searched found order there due
+  sound_rebalance stage m keeps order there due (RebalanceStep.cancels node w e) =
+      let work = re_work node e.first keeps.rootless in
+      let state = head_pending r.todo node.serial node.state (head_has node.serial r.todo work.head) (keeps.each node.serial node work.at) in
+      op_walk s _ node r.todo [] Minor.CancelStop false StopPending Started work state refl refl refl refl (λ q. absurd (cc)) (λ q. cc) (λ q. cc) cancel_stop
+      (λ same. order_cancel_on r (rest r.todo) _ (same_there (rest r.todo) s.core _ same (rest_there r.todo s.core.nodes there.there))) (waits_cancel_on r (rest r.todo)) due h
+  sound_rebalance stage m keeps order there due RebalanceStep.sticks =
+      let at = keeps.waits.1 in
+      let f = with_problem (Some (trouble_of r.found)) in
+      let t = (rebalance_lifted s (stuck s.core r)).state in
+      let same = same_changed s.core t.core r.target f keeps.waits.0 refl refl (λ x. refl) at (problem_alike keeps.waits.0 (Some (trouble_of r.found))) in
+      sound_same s t (Label.Trouble r.path (trouble_of r.found)) tt same refl h.up (tt, tt)
+      (due_changed [] [] s.tasks s.tasks s.core.nodes t.core.nodes r.target f keeps.waits.0 refl (λ x. refl) at (nodes_same s.core t.core same) (leads_same s.tasks) (λ q. inl q) (λ k q. inl q) due) h
+  sound_rebalance stage m keeps order there due (RebalanceStep.stops node w e) =
+      let work = re_work node e.first keeps.rootless in
+      let here = head_has node.serial r.todo work.head in
+      let state = head_stopping r.todo r.agreed node.serial node.state here (keeps.each node.serial node work.at) in
+      let t = (rebalance_lifted s (stop_step s.core r node w true)).state in
+      let same = same_state s t node r.todo Stopped work refl refl (λ q. absurd (cc)) in
+      sound_walk s t node Minor.Stop false Stopped refl same refl work.at (λ q. cc) (subst (λ (x : DevState). Row x Minor.Stop false Stopped) (sym state) stop) h.up
+      (order_stop_on r (rest r.todo) t.core.nodes order (same_there (rest r.todo) s.core t.core same (rest_there r.todo s.core.nodes there.0.there)) (same_there r.agreed s.core t.core same there.1))
+      (subst (λ (ks : List ℕ). DueBut ks s.tasks t.core.nodes) (sym (waits_stop_on r (rest r.todo)))
+      (due_changed r.agreed r.agreed s.tasks s.tasks s.core.nodes t.core.nodes node.serial (with_state Stopped) node refl (λ x. refl) work.at (nodes_same s.core t.core same) (leads_same s.tasks)
+      (λ q. inr (keeps.asks node.serial here)) (λ k q. inl q) due)) h
+  sound_rebalance stage m keeps order there due RebalanceStep.commits =
+      let f = committed (movers r) (plan_of r.found) in
+      let t = (rebalance_lifted s (commit_step s.core r)).state in
+      let same = same_mapped s.core t.core f refl refl (commits_alike (movers r) r) in
+      let ks = startable s.core.nodes r.agreed in
+      let now = due_restart s.tasks s.core 0 r.agreed h.tree.root h.tree.rooted h.tree.idle (all_calm r.agreed s.core.nodes keeps.each) (not_root s s.next_serial _ good) order due in
+      sound_same s t (Label.Commit (length (movers r))) tt same refl h.up (order_restart_from r ks t.core.nodes (rising_startable 0 s.core.nodes r.agreed order) (same_there ks s.core t.core same (startable_there s.core.nodes r.agreed s.core.nodes there)))
+      (subst (λ (x : List ℕ). DueBut x s.tasks t.core.nodes) (sym (waits_restart_from r ks))
+      (due_same ks ks s.tasks s.tasks s.core.nodes t.core.nodes (nodes_same s.core t.core same) (leads_same s.tasks)
+      (λ k n m was at stopped.
+      let old = map_from k f s.core.nodes m (λ x. refl) at in
+      let one : old.0 ≡ n = some_same (node_at k s.core.nodes) old.0 n old.1 was in
+      inl (ap (λ (x : Node). x.state) (sym one) ∙ sym (ap (λ (x : Node). x.state) old.2) ∙ stopped))
+      (λ k m at stopped q. inr q) now)) h
+  sound_rebalance stage m keeps order there due (RebalanceStep.fails node w e bad) =
+      let work = re_work node e.first keeps.rootless in
+      let state = head_stopped r.todo node.serial node.state (head_has node.serial r.todo work.head) (keeps.each node.serial node work.at) in
+      let t = (rebalance_lifted s (end_restart s.core r node true)).state in
+      let same = same_state s t node r.todo node.state work refl refl (λ q. q) in
+      sound_walk s t node Minor.Start true node.state refl same refl work.at (λ q. let z = state in cc) (subst (λ (x : DevState). Row x Minor.Start true x) (sym state) restart_bad) h.up (order, same_goes r.todo s.core t.core same there)
+      (due_changed r.todo r.todo s.tasks s.tasks s.core.nodes t.core.nodes node.serial (with_state node.state) node refl (λ x. refl) work.at (nodes_same s.core t.core same) (leads_same s.tasks) (λ q. inl q) (λ k q. inl q) due) h
+  sound_rebalance stage m keeps order there due (RebalanceStep.restarts node w e ok) =
+      let work = re_work node e.first keeps.rootless in
+      let state = head_stopped r.todo node.serial node.state (head_has node.serial r.todo work.head) (keeps.each node.serial node work.at) in
+      let t = (rebalance_lifted s (end_restart s.core r node false)).state in
+      let same = same_state s t node r.todo Started work refl refl (λ q. absurd (cc)) in
+      let tree = tree_same s.next_serial s.core t.core same h.tree in
+      let ks = rest r.todo in
+      let left : DueBut ks s.tasks t.core.nodes =
+      due_changed r.todo ks s.tasks s.tasks s.core.nodes t.core.nodes node.serial (with_state Started) node refl (λ x. refl) work.at (nodes_same s.core t.core same) (leads_same s.tasks) (λ q. absurd (cc))
+      (λ k q. elim (cases_eq node.serial k) [ inl e ↦ inr (e, λ z. absurd (cc)) | inr d ↦ inl (rest_has node.serial k r.todo work.head d ∙ q) ]) due in
+      let up : (k : ℕ) (n : Node) → node_at k t.core.nodes ≡ Some n → n.state ≡ Stopped → k ≢ 0 =
+      λ k n at e. elim (node_from node.serial k (with_state Started) s.core.nodes n (λ x. refl) at) [
+        | inl (q, (y, z, u)) ↦ absurd (let v = ap (λ (x : Node). x.state) u in cc)
+        | inr (d, q) ↦ not_root s s.next_serial _ good k n q e
+      ] in
+      let now = due_restart s.tasks t.core 0 ks tree.root tree.rooted tree.idle (rest_calm r.todo s.core.nodes keeps.each node.serial (with_state Started) node (λ x. refl) work.at refl) up (rising_rest 0 r.todo order) left in
+      sound_walk s t node Minor.Start false Started refl same refl work.at (λ q. cc) (subst (λ (x : DevState). Row x Minor.Start false Started) (sym state) restart) h.up
+      (order_restart_from r (startable t.core.nodes ks) t.core.nodes (rising_startable 0 t.core.nodes ks (rising_rest 0 r.todo order)) (startable_there t.core.nodes ks t.core.nodes (same_there ks s.core t.core same (rest_there r.todo s.core.nodes there.there))))
+      (subst (λ (x : List ℕ). DueBut x s.tasks t.core.nodes) (sym (waits_restart_from r (startable t.core.nodes ks))) now) h
+  sound_rebalance stage m keeps order there due (RebalanceStep.failed node first) =
+      let work = re_work node first keeps.rootless in
+      let t = (rebalance_lifted s (failed s.core r node)).state in
+      let f = with_problem (Some Problem.FailedStart) in
+      let same = same_changed s.core t.core node.serial f node refl refl (λ x. refl) work.at (problem_alike node (Some Problem.FailedStart)) in
+      let ks = rest r.todo in
+      let more : LeadsMore s.tasks t.tasks = leads_first s.tasks (record { kind = Duty.Begins OpKind.Surprise; serial = node.serial }) refl in
+      let left : DueBut ks t.tasks s.core.nodes =
+      λ k n at stopped.
+      elim (due k n at stopped) [
+        | inl q ↦ inl (due_more s.tasks t.tasks s.core.nodes s.core.nodes k more refl q)
+        | inr q ↦ elim (cases_eq node.serial k) [
+          | inl e ↦ inl (own_due t.tasks s.core.nodes k (subst (λ (i : ℕ). has (leads t.tasks) i ≡ true) e (first_leads node.serial s.tasks)))
+          | inr d ↦ inr (rest_has node.serial k r.todo work.head d ∙ q)
+        ]
+      ] in
+      let now = due_restart t.tasks s.core 0 ks h.tree.root h.tree.rooted h.tree.idle (all_calm r.todo s.core.nodes keeps.each) (not_root s s.next_serial _ good) (rising_rest 0 r.todo order) left in
+      let todo = startable s.core.nodes ks in
+      sound_same s t (Label.Trouble node.path Problem.FailedStart) tt same refl (work.up, h.up)
+      (order_restart_from r todo t.core.nodes (rising_startable 0 s.core.nodes ks (rising_rest 0 r.todo order)) (same_there todo s.core t.core same (startable_there s.core.nodes ks s.core.nodes (rest_there r.todo s.core.nodes there.there))))
+      (subst (λ (x : List ℕ). DueBut x t.tasks t.core.nodes) (sym (waits_restart_from r todo))
+      (due_changed todo todo t.tasks t.tasks s.core.nodes t.core.nodes node.serial f node refl (λ x. refl) work.at (nodes_same s.core t.core same) (leads_same t.tasks) (λ q. inl q) (λ k q. inl q) now)) h
+  sound_rebalance stage m keeps order there due RebalanceStep.closes = re_closes r.found (Label.End OpKind.Rebalance r.path (end_of r.found)) tt due

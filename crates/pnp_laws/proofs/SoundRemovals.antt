@@ -3,15 +3,12 @@ use Rattle.std.proofs.Common.{ℕ, ◌≡◌, ◌≢◌, ◌==◌, inl, inr, Boo
 use Rattle.std.specs.Option.{option_map}
 use Rattle.std.proofs.lemmas.Bool.{cases_eq}
 use Rattle.std.proofs.lemmas.Bool.Decides.{nat_tests}
-use Rattle.pnp_model.specs.Tests.{has, is_eject}
-use Rattle.pnp_model.specs.Records.{Node, Core, State, Operation, Removal, RemovalStage, Surprise, SurpriseStage, Walk}
-use Rattle.pnp_model.specs.Records.Doing.{Does}
+use Rattle.pnp_model.specs.Tests.{has}
+use Rattle.pnp_model.specs.Records.{Node, Core, State, Task, Operation, Removal, RemovalStage, Surprise, SurpriseStage}
 use Rattle.pnp_model.specs.Cores.{is_node, node_at, drop_node, with_state, with_problem, stack_of}
 use Rattle.pnp_model.specs.Keyed.{changed_first, without_first}
-use Rattle.pnp_model.specs.Walks.{is_bad}
 use Rattle.pnp_model.specs.Frames.{first_node, rest}
 use Rattle.pnp_model.specs.States.{relist, unplug, set_operation, with_core}
-use Rattle.pnp_model.specs.Removals.{RemoveBeside}
 use Rattle.pnp_model.specs.Machine.{removal_lifted, surprise_lifted}
 use Rattle.pnp_model.specs.Diagram.{Row}
 use Rattle.pnp_model.specs.Diagram.Row.{query_remove, query_remove_bad, cancel_remove, cancel_remove_refused}
@@ -20,18 +17,17 @@ use Rattle.pnp_labels.specs.declared.words.Minor.{Minor}
 use Rattle.pnp_labels.specs.declared.states.Problem.{Problem}
 use Rattle.pnp_labels.specs.declared.label.Label.{Label}
 use Rattle.pnp_labels.specs.declared.states.DevState.TheVariants.{NoStack, Started, Stopped, RemovePending, SurpriseRemoved}
-use Rattle.pnp_laws.specs.Kept.{Good, RemovalKeeps, SurpriseKeeps, is_idle}
+use Rattle.pnp_laws.specs.Kept.{Good, RemovalKeeps, SurpriseKeeps, Within, is_idle}
 use Rattle.pnp_laws.proofs.Lookups.{Ascending-changed, left_same}
 use Rattle.pnp_laws.proofs.Lists.{HeadIs, head_found, head_has, rest_has}
 use Rattle.pnp_laws.proofs.Finishing.{head_stripped, head_bare, strips, relist_only}
 use Rattle.pnp_laws.proofs.RemovalSteps.{head_querying, head_refusing, head_restoring, not_root}
 use Rattle.pnp_laws.proofs.SurpriseSteps.{head_told, told_or, last_alone}
-use Rattle.pnp_laws.proofs.Finishing.{relist_core}
 use Rattle.pnp_laws.proofs.Standing.{IsNoLeave, DueBut, waiting, StageKept, RemovalOrder, RemovalThere, SurpriseOrder, SurpriseThere, Stands, Sound, Finishes, AllThere, TargetLeft}
 use Rattle.pnp_laws.proofs.Theres.{goes_on, fewer_there, rest_there, same_there, same_goes, strip_goes, left_there}
 use Rattle.pnp_laws.proofs.Finishes.{fades_same, finishes_all, finishes_still, finishes_strip, finishes_stays, finishes_left}
-use Rattle.pnp_laws.proofs.SoundOps.{Work, op_walk, op_still, op_strip, op_trouble, op_left, was_troubled, now_ascending, MoreTasks, more_relist}
-use Rattle.pnp_laws.proofs.SoundStarts.{SoundNext}
+use Rattle.pnp_laws.proofs.SoundOps.{Work, op_walk, op_still, op_strip, op_trouble, op_left, was_troubled, now_ascending, MoreTasks, more_listed}
+use Rattle.pnp_laws.proofs.Stages.{RemovalStep, SurpriseStep}
 use Rattle.pnp_laws.proofs.Sounds.{IsPlain}
 use Rattle.pnp_model.specs.Removals as rm
 use Rattle.pnp_model.specs.Surprises as su
@@ -57,111 +53,80 @@ order_cancel_on o (k ∷ ks) c there = (tt, goes_on k ks c.nodes there)
 pub started_stays : (x : DevState) → x ≡ Started → (x ≢ NoStack) × (x ≢ Stopped)
 started_stays x e = (λ q. cc, λ q. cc)
 
-sound_end_ask : (s : State) (o : Removal) (node : Node) (w : Walk) (bad : Bool) → RemovalKeeps o (RemovalStage.Asking w) s.core.nodes → RemovalOrder s.core o (RemovalStage.Asking w) × RemovalThere o (RemovalStage.Asking w) s.core.nodes → Work s node o.todo → DueBut [] s.tasks s.core.nodes → Stands s → Sound s (removal_lifted s (rm.end_ask s.core o node bad))
-sound_end_ask s o node w false keeps order work due h =
-    let state = head_querying o.todo o.agreed o.set node.serial node.state (head_has node.serial o.todo work.head) (keeps.each node.serial node work.at) in
-    op_walk s _ node o.todo [] Minor.QueryRemove false Started RemovePending work state refl refl refl refl (λ q. absurd (cc)) (λ q. cc) (λ q. cc) query_remove
-    (λ same. order_ask_on s.core.nodes (record o { agreed = node.serial ∷ o.agreed }) (rest o.todo) _ (finishes_all s.core _ o.set (fades_same s.core _ work.order (Ascending-changed 0 node.serial (with_state RemovePending) s.core.nodes (λ x. refl) work.order) same) order.0)
-    (same_there (rest o.todo) s.core _ same (rest_there o.todo s.core.nodes order.1.0.there)) (same_there o.set s.core _ same order.1.1)) refl due h
-sound_end_ask s o node w true keeps order work due h =
-    let state = head_querying o.todo o.agreed o.set node.serial node.state (head_has node.serial o.todo work.head) (keeps.each node.serial node work.at) in
-    op_walk s _ node o.todo [] Minor.QueryRemove true Started node.state work state refl refl refl refl (λ q. ap is_idle (sym state) ∙ q) (started_stays node.state state).0 (started_stays node.state state).1 (subst (λ (x : DevState). Row Started Minor.QueryRemove true x) (sym state) query_remove_bad)
-    (λ same. (tt, (same_goes o.todo s.core _ same order.1.0, same_there o.set s.core _ same order.1.1))) refl due h
-
-sound_ask : (s : State) (o : Removal) (node : Node) (w : Walk) (ends : Bool) → RemovalKeeps o (RemovalStage.Asking w) s.core.nodes → RemovalOrder s.core o (RemovalStage.Asking w) × RemovalThere o (RemovalStage.Asking w) s.core.nodes → Work s node o.todo → DueBut [] s.tasks s.core.nodes → Stands s → Sound s (removal_lifted s (rm.ask_step s.core o node w ends))
-sound_ask s o node w true keeps order work due h = sound_end_ask s o node w (is_bad w) keeps order work due h
-sound_ask s o node w false keeps order work due h =
-    op_still s _ _ [] tt refl refl refl refl (λ same. (finishes_all s.core _ o.set (fades_same s.core _ work.order work.order same) order.0, order.1)) refl due h
-
-sound_take_back : (s : State) (o : Removal) (node : Node) (w : Walk) (ends : Bool) → RemovalKeeps o (RemovalStage.TakingBack w) s.core.nodes → RemovalThere o (RemovalStage.TakingBack w) s.core.nodes → Work s node o.todo → DueBut [] s.tasks s.core.nodes → Stands s → Sound s (removal_lifted s (rm.take_back s.core o node w ends))
-sound_take_back s o node w true keeps there work due h =
-    let state = head_refusing o.todo o.agreed node.serial node.state (head_has node.serial o.todo work.head) (keeps.each node.serial node work.at) in
-    op_walk s _ node o.todo [] Minor.CancelRemove false Started Started work state refl refl refl refl (λ q. absurd (cc)) (λ q. cc) (λ q. cc) cancel_remove_refused
-    (λ same. order_cancel_on o o.agreed _ (same_there o.agreed s.core _ same (fewer_there o.agreed o.set s.core.nodes keeps.asks.1 there.1))) refl due h
-sound_take_back s o node w false keeps there work due h = op_still s _ _ [] tt refl refl refl refl (λ same. (tt, there)) refl due h
-
-sound_cancel : (s : State) (o : Removal) (node : Node) (w : Walk) (ends : Bool) → RemovalKeeps o (RemovalStage.Cancelling w) s.core.nodes → RemovalThere o (RemovalStage.Cancelling w) s.core.nodes → Work s node o.todo → DueBut [] s.tasks s.core.nodes → Stands s → Sound s (removal_lifted s (rm.cancel_step s.core o node w ends))
-sound_cancel s o node w true keeps there work due h =
-    let state = head_restoring o.todo node.serial node.state (head_has node.serial o.todo work.head) (keeps.each node.serial node work.at) in
-    op_walk s _ node o.todo [] Minor.CancelRemove false RemovePending Started work state refl refl refl refl (λ q. absurd (cc)) (λ q. cc) (λ q. cc) cancel_remove
-    (λ same. order_cancel_on o (rest o.todo) _ (same_there (rest o.todo) s.core _ same (rest_there o.todo s.core.nodes there.there))) refl due h
-sound_cancel s o node w false keeps there work due h = op_still s _ _ [] tt refl refl refl refl (λ same. (tt, there)) refl due h
-
-sound_remove : (s : State) (o : Removal) (node : Node) (w : Walk) (ends : Bool) → RemovalKeeps o (RemovalStage.Removing w) s.core.nodes → RemovalOrder s.core o (RemovalStage.Removing w) × RemovalThere o (RemovalStage.Removing w) s.core.nodes → Work s node o.todo → DueBut [] s.tasks s.core.nodes → Stands s → Sound s (removal_lifted s (rm.remove_step s.core o node w ends))
-sound_remove s o node w true keeps order work due h =
-    let here = head_has node.serial o.todo work.head in
-    op_strip s _ node o.todo o.set [] work (keeps.asks node.serial here) order.0 refl refl refl (strips node.state (head_stripped o.todo node.serial node.state work.head (keeps.each node.serial node work.at)))
-    (finishes_strip s.core o.set o.todo node.serial work.order here order.0, strip_goes o.todo node.serial s.core order.1) refl due h
-sound_remove s o node w false keeps order work due h =
-    op_still s _ _ [] tt refl refl refl refl (λ same. (finishes_still s.core _ o.set o.todo (fades_same s.core _ work.order work.order same) refl order.0, order.1)) refl due h
-
--- the device stays
-sound_remains : (s t : State) (o : Removal) (node : Node) (problem : Problem) → t.core.nodes ≡ changed_first (is_node node.serial) (with_problem (Some problem)) s.core.nodes → t.core.relations ≡ s.core.relations → t.next_serial ≡ s.next_serial → t.tasks ≡ s.tasks →
-    t.operation ≡ Some (Operation.Removing (rm.finish_on s.core.nodes o (rest o.todo))) → has o.set node.parent ≡ false → RemovalKeeps o RemovalStage.Settling s.core.nodes → RemovalOrder s.core o RemovalStage.Settling × RemovalThere o RemovalStage.Settling s.core.nodes → Work s node o.todo → DueBut [] s.tasks s.core.nodes → Stands s →
-    Sound s (record { label = Label.Trouble node.path problem; state = t })
-sound_remains s t o node problem a b next tasks now over keeps order work due h =
-    let state = head_bare o.todo node.serial node.state work.head (keeps.each node.serial node work.at) in
-    op_trouble s t node o.todo [] (Label.Trouble node.path problem) (Some problem) work tt a b next tasks
-    (λ same. subst (λ (x : Option Operation). StageKept x t.core) (sym now)
-    (order_finish_on s.core.nodes o (rest o.todo) t.core
-    (finishes_stays s.core t.core o.set o.todo node.serial node (fades_same s.core t.core work.order (now_ascending s t node o.todo (with_problem (Some problem)) work a (λ x. refl)) same) work.head work.at over
-    (was_troubled node.serial (Some problem) s.core.nodes t.core.nodes a) state order.0)
-    (same_there (rest o.todo) s.core t.core same (rest_there o.todo s.core.nodes order.1.there))))
-    (ap waiting now) due h
-
--- the device leaves
-sound_leaves : (s t : State) (o : Removal) (node : Node) (label : Label) → IsPlain label → (IsNoLeave label → ⊥) → t.core ≡ drop_node node.serial s.core → t.next_serial ≡ s.next_serial → MoreTasks s.tasks t.tasks → t.operation ≡ Some (Operation.Removing (rm.finish_on s.core.nodes o (rest o.todo))) →
-    RemovalKeeps o RemovalStage.Settling s.core.nodes → RemovalOrder s.core o RemovalStage.Settling × RemovalThere o RemovalStage.Settling s.core.nodes → Work s node o.todo → DueBut [] s.tasks s.core.nodes → Stands s → Sound s (record { label = label; state = t })
-sound_leaves s t o node label plain leaves is next tasks now keeps order work due h =
-    op_left s t node o.todo o.set [] label work plain leaves (keeps.asks node.serial (head_has node.serial o.todo work.head)) order.0 is next tasks
-    (subst (λ (x : Option Operation). StageKept x t.core) (sym now)
-    (order_finish_on s.core.nodes o (rest o.todo) t.core
-    (subst (λ (c : Core). Finishes c o.set (rest o.todo)) (sym is) (finishes_left s.core o.set o.todo node.serial work.order work.head order.0))
-    (subst (λ (c : Core). AllThere (rest o.todo) c.nodes) (sym is) (left_there o.todo node.serial s.core.nodes work.head keeps.todo order.1.there))))
-    (ap waiting now) due h
-
-sound_related : (s : State) (o : Removal) (node : Node) (b : Bool) → has o.set node.parent ≡ false → RemovalKeeps o RemovalStage.Settling s.core.nodes → RemovalOrder s.core o RemovalStage.Settling × RemovalThere o RemovalStage.Settling s.core.nodes → Work s node o.todo → DueBut [] s.tasks s.core.nodes → Stands s → Sound s (removal_lifted s (rm.settle_related s.core o node b))
-sound_related s o node true over keeps order work due h = sound_remains s _ o node Problem.HeldForEject refl refl refl refl refl over keeps order work due h
-sound_related s o node false over keeps order work due h = sound_remains s _ o node Problem.Held refl refl refl refl refl over keeps order work due h
-
-sound_target : (s : State) (o : Removal) (node : Node) (b : Bool) → has o.set node.parent ≡ false → RemovalKeeps o RemovalStage.Settling s.core.nodes → RemovalOrder s.core o RemovalStage.Settling × RemovalThere o RemovalStage.Settling s.core.nodes → Work s node o.todo → DueBut [] s.tasks s.core.nodes → Stands s → Sound s (removal_lifted s (rm.settle_target s.core o node b))
-sound_target s o node true over keeps order work due h =
-    let m = rm.leaves s.core o node (Label.Ejected node.path) (RemoveBeside.Ejected node.path node.born) in
-    let u = unplug node.born (set_operation (Some (Operation.Removing m.frame)) (with_core m.core s)) in
-    let only = relist_only node.path node.born u in
-    sound_leaves s _ o node (Label.Ejected node.path) tt (λ h. h) (relist_core node.path node.born u) only.serial (more_relist node.path node.born u) only.operation keeps order work due h
-sound_target s o node false over keeps order work due h = sound_remains s _ o node Problem.Disabled refl refl refl refl refl over keeps order work due h
-
-sound_outer : (s : State) (o : Removal) (node : Node) (b : Bool) → has o.set node.parent ≡ false → RemovalKeeps o RemovalStage.Settling s.core.nodes → RemovalOrder s.core o RemovalStage.Settling × RemovalThere o RemovalStage.Settling s.core.nodes → Work s node o.todo → DueBut [] s.tasks s.core.nodes → Stands s → Sound s (removal_lifted s (rm.settle_outer s.core o node b))
-sound_outer s o node true over keeps order work due h = sound_target s o node (is_eject o.kind) over keeps order work due h
-sound_outer s o node false over keeps order work due h = sound_related s o node _ over keeps order work due h
-
-sound_settle : (s : State) (o : Removal) (node : Node) (b : Bool) → has o.set node.parent ≡ b → RemovalKeeps o RemovalStage.Settling s.core.nodes → RemovalOrder s.core o RemovalStage.Settling × RemovalThere o RemovalStage.Settling s.core.nodes → Work s node o.todo → DueBut [] s.tasks s.core.nodes → Stands s → Sound s (removal_lifted s (rm.settle s.core o node b))
-sound_settle s o node true over keeps order work due h =
-    let m = rm.leaves s.core o node (Label.Leave node.path) (RemoveBeside.Left node.path node.born) in
-    let u = set_operation (Some (Operation.Removing m.frame)) (with_core m.core s) in
-    let only = relist_only node.path node.born u in
-    sound_leaves s _ o node (Label.Leave node.path) tt (λ h. h) (relist_core node.path node.born u) only.serial (more_relist node.path node.born u) only.operation keeps order work due h
-sound_settle s o node false over keeps order work due h = sound_outer s o node _ over keeps order work due h
-
+-- the device of a step
 work_on : (s : State) (node : Node) (todo : List ℕ) (next : ℕ) (p : Option Operation) → first_node s.core.nodes todo ≡ Some node → (has todo node.serial ≡ true → node.serial ≢ 0) → Good next s.core.nodes [] p → Work s node todo
 work_on s node todo next p first up good =
     let h = head_found s.core.nodes todo node first in
     record { head = h.0; at = h.1; up = up (head_has node.serial todo h.0); order = good.serials; stacks = good.stacks }
 
-pub sound_removal : (s : State) (o : Removal) (stage : RemovalStage) (n : Option Node) → first_node s.core.nodes o.todo ≡ n → RemovalKeeps o stage s.core.nodes → RemovalOrder s.core o stage × RemovalThere o stage s.core.nodes → DueBut [] s.tasks s.core.nodes → Good s.next_serial s.core.nodes [] (Some (Operation.Removing o)) → Stands s →
-    SoundNext s (option_map (λ m. Does (removal_lifted s m)) (rm.removal_step s.core o stage n))
-sound_removal s o RemovalStage.Ending n first keeps order due good h = op_still s _ _ [] tt refl refl refl refl (λ same. tt) refl due h
-sound_removal s o (RemovalStage.Asking w) (Some node) first keeps order due good h = sound_ask s o node w _ keeps order (work_on s node o.todo s.next_serial _ first (not_root o.set o.todo node.serial keeps.rootless keeps.asks.2) good) due h
-sound_removal s o (RemovalStage.TakingBack w) (Some node) first keeps order due good h = sound_take_back s o node w _ keeps order.1 (work_on s node o.todo s.next_serial _ first (not_root o.set o.todo node.serial keeps.rootless keeps.asks.2) good) due h
-sound_removal s o (RemovalStage.Cancelling w) (Some node) first keeps order due good h = sound_cancel s o node w _ keeps order.1 (work_on s node o.todo s.next_serial _ first (not_root o.set o.todo node.serial keeps.rootless keeps.asks) good) due h
-sound_removal s o (RemovalStage.Removing w) (Some node) first keeps order due good h = sound_remove s o node w _ keeps order (work_on s node o.todo s.next_serial _ first (not_root o.set o.todo node.serial keeps.rootless keeps.asks) good) due h
-sound_removal s o RemovalStage.Settling (Some node) first keeps order due good h = sound_settle s o node _ refl keeps order (work_on s node o.todo s.next_serial _ first (not_root o.set o.todo node.serial keeps.rootless keeps.asks) good) due h
-sound_removal s o (RemovalStage.Asking w) None first keeps order due good h = tt
-sound_removal s o (RemovalStage.TakingBack w) None first keeps order due good h = tt
-sound_removal s o (RemovalStage.Cancelling w) None first keeps order due good h = tt
-sound_removal s o (RemovalStage.Removing w) None first keeps order due good h = tt
-sound_removal s o RemovalStage.Settling None first keeps order due good h = tt
+module _ (s : State) (o : Removal) (good : Good s.next_serial s.core.nodes [] (Some (Operation.Removing o))) (due : DueBut [] s.tasks s.core.nodes) (h : Stands s) where
+  rm_work : (node : Node) → first_node s.core.nodes o.todo ≡ Some node → has o.set 0 ≡ false → Within o.todo o.set → Work s node o.todo
+  rm_work node first rootless within = work_on s node o.todo s.next_serial _ first (not_root o.set o.todo node.serial rootless within) good
+
+  -- the device stays
+  rm_remains : (t : State) (node : Node) (problem : Problem) → first_node s.core.nodes o.todo ≡ Some node → has o.set node.parent ≡ false → t.core.nodes ≡ changed_first (is_node node.serial) (with_problem (Some problem)) s.core.nodes → t.core.relations ≡ s.core.relations → t.next_serial ≡ s.next_serial → t.tasks ≡ s.tasks →
+      t.operation ≡ Some (Operation.Removing (rm.finish_on s.core.nodes o (rest o.todo))) → RemovalKeeps o RemovalStage.Settling s.core.nodes → RemovalOrder s.core o RemovalStage.Settling → RemovalThere o RemovalStage.Settling s.core.nodes → Sound s (record { label = Label.Trouble node.path problem; state = t })
+  rm_remains t node problem first over a b next tasks now keeps order there =
+      let work = rm_work node first keeps.rootless keeps.asks in
+      let state = head_bare o.todo node.serial node.state work.head (keeps.each node.serial node work.at) in
+      op_trouble s t node o.todo [] (Label.Trouble node.path problem) (Some problem) work tt a b next tasks
+      (λ same. subst (λ (x : Option Operation). StageKept x t.core) (sym now)
+      (order_finish_on s.core.nodes o (rest o.todo) t.core
+      (finishes_stays s.core t.core o.set o.todo node.serial node (fades_same s.core t.core work.order (now_ascending s t node o.todo (with_problem (Some problem)) work a (λ x. refl)) same) work.head work.at over
+      (was_troubled node.serial (Some problem) s.core.nodes t.core.nodes a) state order)
+      (same_there (rest o.todo) s.core t.core same (rest_there o.todo s.core.nodes there.there))))
+      (ap waiting now) due h
+
+  -- the device leaves, and its parent is listed again
+  rm_leaves : (u : State) (node : Node) (label : Label) → first_node s.core.nodes o.todo ≡ Some node → IsPlain label → (IsNoLeave label → ⊥) → u.core ≡ drop_node node.serial s.core → u.next_serial ≡ s.next_serial → u.tasks ≡ s.tasks → u.operation ≡ Some (Operation.Removing (rm.finish_on s.core.nodes o (rest o.todo))) →
+      RemovalKeeps o RemovalStage.Settling s.core.nodes → RemovalOrder s.core o RemovalStage.Settling → RemovalThere o RemovalStage.Settling s.core.nodes → Sound s (record { label = label; state = relist node.path node.born u })
+  rm_leaves u node label first plain leaves core next tasks now keeps order there =
+      let work = rm_work node first keeps.rootless keeps.asks in
+      let t = relist node.path node.born u in
+      let only = relist_only node.path node.born u in
+      let is = only.core ∙ core in
+      let runs = only.operation ∙ now in
+      op_left s t node o.todo o.set [] label work plain leaves (keeps.asks node.serial (head_has node.serial o.todo work.head)) order is (only.serial ∙ next) (subst (λ (ts : List Task). MoreTasks ts t.tasks) tasks (more_listed u.tasks t.tasks only.tasks))
+      (subst (λ (x : Option Operation). StageKept x t.core) (sym runs)
+      (order_finish_on s.core.nodes o (rest o.todo) t.core
+      (subst (λ (c : Core). Finishes c o.set (rest o.todo)) (sym is) (finishes_left s.core o.set o.todo node.serial work.order work.head order))
+      (subst (λ (c : Core). AllThere (rest o.todo) c.nodes) (sym is) (left_there o.todo node.serial s.core.nodes work.head keeps.todo there.there))))
+      (ap waiting runs) due h
+
+  pub sound_removal : (stage : RemovalStage) (m : rm.RemovalMove) → RemovalKeeps o stage s.core.nodes → RemovalOrder s.core o stage → RemovalThere o stage s.core.nodes → RemovalStep s.core o stage m → Sound s (removal_lifted s m)
+  sound_removal stage m keeps order there (RemovalStep.agrees node w e ok) =
+      let work = rm_work node e.first keeps.rootless keeps.asks.2 in
+      let state = head_querying o.todo o.agreed o.set node.serial node.state (head_has node.serial o.todo work.head) (keeps.each node.serial node work.at) in
+      op_walk s _ node o.todo [] Minor.QueryRemove false Started RemovePending work state refl refl refl refl (λ q. absurd (cc)) (λ q. cc) (λ q. cc) query_remove
+      (λ same. order_ask_on s.core.nodes (record o { agreed = node.serial ∷ o.agreed }) (rest o.todo) _ (finishes_all s.core _ o.set (fades_same s.core _ work.order (Ascending-changed 0 node.serial (with_state RemovePending) s.core.nodes (λ x. refl) work.order) same) order)
+      (same_there (rest o.todo) s.core _ same (rest_there o.todo s.core.nodes there.0.there)) (same_there o.set s.core _ same there.1)) refl due h
+  sound_removal stage m keeps order there (RemovalStep.refuses node w e bad) =
+      let work = rm_work node e.first keeps.rootless keeps.asks.2 in
+      let state = head_querying o.todo o.agreed o.set node.serial node.state (head_has node.serial o.todo work.head) (keeps.each node.serial node work.at) in
+      op_walk s _ node o.todo [] Minor.QueryRemove true Started node.state work state refl refl refl refl (λ q. ap is_idle (sym state) ∙ q) (started_stays node.state state).0 (started_stays node.state state).1 (subst (λ (x : DevState). Row Started Minor.QueryRemove true x) (sym state) query_remove_bad)
+      (λ same. (tt, (same_goes o.todo s.core _ same there.0, same_there o.set s.core _ same there.1))) refl due h
+  sound_removal stage m keeps order there (RemovalStep.takes_back node w e) =
+      let work = rm_work node e.first keeps.rootless keeps.asks.2 in
+      let state = head_refusing o.todo o.agreed node.serial node.state (head_has node.serial o.todo work.head) (keeps.each node.serial node work.at) in
+      op_walk s _ node o.todo [] Minor.CancelRemove false Started Started work state refl refl refl refl (λ q. absurd (cc)) (λ q. cc) (λ q. cc) cancel_remove_refused
+      (λ same. order_cancel_on o o.agreed _ (same_there o.agreed s.core _ same (fewer_there o.agreed o.set s.core.nodes keeps.asks.1 there.1))) refl due h
+  sound_removal stage m keeps order there (RemovalStep.cancels node w e) =
+      let work = rm_work node e.first keeps.rootless keeps.asks in
+      let state = head_restoring o.todo node.serial node.state (head_has node.serial o.todo work.head) (keeps.each node.serial node work.at) in
+      op_walk s _ node o.todo [] Minor.CancelRemove false RemovePending Started work state refl refl refl refl (λ q. absurd (cc)) (λ q. cc) (λ q. cc) cancel_remove
+      (λ same. order_cancel_on o (rest o.todo) _ (same_there (rest o.todo) s.core _ same (rest_there o.todo s.core.nodes there.there))) refl due h
+  sound_removal stage m keeps order there (RemovalStep.removes node w e) =
+      let work = rm_work node e.first keeps.rootless keeps.asks in
+      let here = head_has node.serial o.todo work.head in
+      op_strip s _ node o.todo o.set [] work (keeps.asks node.serial here) order refl refl refl (strips node.state (head_stripped o.todo node.serial node.state work.head (keeps.each node.serial node work.at)))
+      (finishes_strip s.core o.set o.todo node.serial work.order here order, strip_goes o.todo node.serial s.core there) refl due h
+  sound_removal stage m keeps order there (RemovalStep.leaves node first) =
+      rm_leaves (set_operation (Some (Operation.Removing (rm.finish_on s.core.nodes o (rest o.todo)))) (with_core (drop_node node.serial s.core) s)) node (Label.Leave node.path) first tt (λ q. q) refl refl refl refl keeps order there
+  sound_removal stage m keeps order there (RemovalStep.ejects node first) =
+      rm_leaves (unplug node.born (set_operation (Some (Operation.Removing (rm.finish_on s.core.nodes o (rest o.todo)))) (with_core (drop_node node.serial s.core) s))) node (Label.Ejected node.path) first tt (λ q. q) refl refl refl refl keeps order there
+  sound_removal stage m keeps order there (RemovalStep.disables node first over) = rm_remains _ node Problem.Disabled first over refl refl refl refl refl keeps order there
+  sound_removal stage m keeps order there (RemovalStep.remains node problem first over other) = rm_remains _ node problem first over refl refl refl refl refl keeps order there
+  sound_removal stage m keeps order there RemovalStep.closes = op_still s _ _ [] tt refl refl refl refl (λ same. tt) refl due h
 
 -- Surprise ----------------------------------------------------------------------------------------
 
@@ -194,25 +159,6 @@ pub waits_tell_on : (nodes : List Node) (o : Surprise) (ks : List ℕ) → waiti
 waits_tell_on nodes o [] = waits_finish_on nodes o o.set
 waits_tell_on nodes o (k ∷ ks) = refl
 
-sound_tell : (s : State) (o : Surprise) (node : Node) (w : Walk) (ends : Bool) → SurpriseKeeps o (SurpriseStage.Telling w) s.core.nodes → SurpriseOrder s.core o (SurpriseStage.Telling w) × SurpriseThere o (SurpriseStage.Telling w) s.core.nodes → Work s node o.todo → DueBut o.set s.tasks s.core.nodes → Stands s → Sound s (surprise_lifted s (su.tell_step s.core o node w ends))
-sound_tell s o node w true keeps order work due h =
-    let here = head_has node.serial o.todo work.head in
-    let told = told_or node.state (head_told o.todo o.set node.serial node.state here (keeps.each node.serial node work.at)) in
-    op_walk s _ node o.todo o.set Minor.SurpriseRemoval false node.state SurpriseRemoved work refl refl refl refl refl (λ q. absurd (cc)) (λ q. cc) (λ q. cc) told.0
-    (λ same. order_tell_on s.core.nodes o (rest o.todo) _ (finishes_all s.core _ o.set (fades_same s.core _ work.order (Ascending-changed 0 node.serial (with_state SurpriseRemoved) s.core.nodes (λ x. refl) work.order) same) order.0)
-    (same_there (rest o.todo) s.core _ same (rest_there o.todo s.core.nodes order.1.0.there)) (same_there o.set s.core _ same order.1.1) order.1.2)
-    (waits_tell_on s.core.nodes o (rest o.todo)) due h
-sound_tell s o node w false keeps order work due h =
-    op_still s _ _ o.set tt refl refl refl refl (λ same. (finishes_all s.core _ o.set (fades_same s.core _ work.order work.order same) order.0, order.1)) refl due h
-
-sound_su_remove : (s : State) (o : Surprise) (node : Node) (w : Walk) (ends : Bool) → SurpriseKeeps o (SurpriseStage.Removing w) s.core.nodes → SurpriseOrder s.core o (SurpriseStage.Removing w) × SurpriseThere o (SurpriseStage.Removing w) s.core.nodes → Work s node o.todo → DueBut o.set s.tasks s.core.nodes → Stands s → Sound s (surprise_lifted s (su.remove_step s.core o node w ends))
-sound_su_remove s o node w true keeps order work due h =
-    let here = head_has node.serial o.todo work.head in
-    op_strip s _ node o.todo o.set o.set work (keeps.inside node.serial here) order.0 refl refl refl (strips node.state (head_stripped o.todo node.serial node.state work.head (keeps.each node.serial node work.at)))
-    (finishes_strip s.core o.set o.todo node.serial work.order here order.0, (strip_goes o.todo node.serial s.core order.1.0, order.1.1)) refl due h
-sound_su_remove s o node w false keeps order work due h =
-    op_still s _ _ o.set tt refl refl refl refl (λ same. (finishes_still s.core _ o.set o.todo (fades_same s.core _ work.order work.order same) refl order.0, order.1)) refl due h
-
 -- where the head left, it was the target, and the last one, or the target is still to do
 target_after : (s : State) (o : Surprise) (node : Node) → SurpriseKeeps o SurpriseStage.Settling s.core.nodes → has o.todo o.target ≡ true → Work s node o.todo → TargetLeft o.target (rest o.todo) (drop_node node.serial s.core).nodes
 target_after s o node keeps target work =
@@ -224,58 +170,59 @@ target_after s o node keeps target work =
       | inr d ↦ target_left o.target (rest o.todo) (without_first (is_node node.serial) s.core.nodes) (rest_has node.serial o.target o.todo work.head d ∙ target)
     ]
 
-sound_su_leaves : (s : State) (o : Surprise) (node : Node) → SurpriseKeeps o SurpriseStage.Settling s.core.nodes → SurpriseOrder s.core o SurpriseStage.Settling × SurpriseThere o SurpriseStage.Settling s.core.nodes → Work s node o.todo → DueBut o.set s.tasks s.core.nodes → Stands s → Sound s (surprise_lifted s (su.leaves s.core o node))
-sound_su_leaves s o node keeps order work due h =
-    let m = su.leaves s.core o node in
-    let u = set_operation (Some (Operation.Surprising m.frame)) (with_core m.core s) in
-    let only = relist_only node.path node.born u in
-    let is = relist_core node.path node.born u in
-    op_left s (relist node.path node.born u) node o.todo o.set o.set (Label.Leave node.path) work tt (λ h. h) (keeps.inside node.serial (head_has node.serial o.todo work.head)) order.0 is only.serial (more_relist node.path node.born u)
-    (subst (λ (x : Option Operation). StageKept x (relist node.path node.born u).core) (sym only.operation)
-    (order_su_finish_on s.core.nodes o (rest o.todo) (relist node.path node.born u).core
-    (subst (λ (c : Core). Finishes c o.set (rest o.todo)) (sym is) (finishes_left s.core o.set o.todo node.serial work.order work.head order.0))
-    (subst (λ (c : Core). AllThere (rest o.todo) c.nodes) (sym is) (left_there o.todo node.serial s.core.nodes work.head keeps.todo order.1.0.there))
-    (subst (λ (c : Core). TargetLeft o.target (rest o.todo) c.nodes) (sym is) (target_after s o node keeps order.1.1 work))))
-    (ap waiting only.operation ∙ waits_finish_on s.core.nodes o (rest o.todo)) due h
-
 -- where the set is finished, none of it is Stopped
 none_waits : (s : State) (set : List ℕ) → ((k : ℕ) (n : Node) → node_at k s.core.nodes ≡ Some n → has set k ≡ true → n.state ≡ NoStack) → DueBut set s.tasks s.core.nodes → DueBut [] s.tasks s.core.nodes
 none_waits s set bare due k n at stopped =
     elim (due k n at stopped) [ inl h ↦ inl h | inr h ↦ absurd (let z = bare k n at h in cc) ]
 
-sound_su_target : (s : State) (o : Surprise) (node : Node) (in_world : Bool) → node.serial ≡ o.target → SurpriseKeeps o SurpriseStage.Settling s.core.nodes → SurpriseOrder s.core o SurpriseStage.Settling × SurpriseThere o SurpriseStage.Settling s.core.nodes → Work s node o.todo → DueBut o.set s.tasks s.core.nodes → Stands s → Sound s (surprise_lifted s (su.settle_target s.core o node in_world))
-sound_su_target s o node true e keeps order work due h =
-    let over = last_alone o.target o.todo (subst (λ (i : ℕ). HeadIs i o.todo) e work.head) keeps.ends in
-    op_still s _ _ [] tt refl refl refl refl (λ same. tt) refl
-    (none_waits s o.set (λ k n at in_set.
-    elim (cases_eq node.serial k) [
-      | inl q ↦ head_bare o.todo k n.state (subst (λ (i : ℕ). HeadIs i o.todo) q work.head) (keeps.each k n at)
-      | inr d ↦ order.0.bare k n at in_set (sym (rest_has node.serial k o.todo work.head d) ∙ ap (λ (ks : List ℕ). has ks k) over)
-    ]) due) h
-sound_su_target s o node false e keeps order work due h = sound_su_leaves s o node keeps order work due h
+module _ (s : State) (o : Surprise) (good : Good s.next_serial s.core.nodes [] (Some (Operation.Surprising o))) (due : DueBut o.set s.tasks s.core.nodes) (h : Stands s) where
+  su_work : (node : Node) → first_node s.core.nodes o.todo ≡ Some node → has o.set 0 ≡ false → Within o.todo o.set → Work s node o.todo
+  su_work node first rootless within = work_on s node o.todo s.next_serial _ first (not_root o.set o.todo node.serial rootless within) good
 
-sound_su_other : (s : State) (o : Surprise) (node : Node) (b : Bool) → has o.set node.parent ≡ b → node.serial ≢ o.target → SurpriseKeeps o SurpriseStage.Settling s.core.nodes → SurpriseOrder s.core o SurpriseStage.Settling × SurpriseThere o SurpriseStage.Settling s.core.nodes → Work s node o.todo → DueBut o.set s.tasks s.core.nodes → Stands s → Sound s (surprise_lifted s (su.settle_other s.core o node b))
-sound_su_other s o node true over other keeps order work due h = sound_su_leaves s o node keeps order work due h
-sound_su_other s o node false over other keeps order work due h =
-    let state = head_bare o.todo node.serial node.state work.head (keeps.each node.serial node work.at) in
-    op_trouble s _ node o.todo o.set (Label.Trouble node.path Problem.Held) (Some Problem.Held) work tt refl refl refl refl
-    (λ same. order_su_finish_on s.core.nodes o (rest o.todo) _
-    (finishes_stays s.core _ o.set o.todo node.serial node (fades_same s.core _ work.order (Ascending-changed 0 node.serial (with_problem (Some Problem.Held)) s.core.nodes (λ x. refl) work.order) same) work.head work.at over
-    (was_troubled node.serial (Some Problem.Held) s.core.nodes _ refl) state order.0)
-    (same_there (rest o.todo) s.core _ same (rest_there o.todo s.core.nodes order.1.0.there)) (target_left o.target (rest o.todo) _ (rest_has node.serial o.target o.todo work.head other ∙ order.1.1)))
-    (waits_finish_on s.core.nodes o (rest o.todo)) due h
-
-sound_su_settle : (s : State) (o : Surprise) (node : Node) (in_world b : Bool) → (node.serial == o.target) ≡ b → SurpriseKeeps o SurpriseStage.Settling s.core.nodes → SurpriseOrder s.core o SurpriseStage.Settling × SurpriseThere o SurpriseStage.Settling s.core.nodes → Work s node o.todo → DueBut o.set s.tasks s.core.nodes → Stands s → Sound s (surprise_lifted s (su.settle s.core o node in_world b))
-sound_su_settle s o node in_world true e keeps order work due h = sound_su_target s o node in_world (grind (arith, nat_tests)) keeps order work due h
-sound_su_settle s o node in_world false e keeps order work due h = sound_su_other s o node _ refl (grind (arith, nat_tests)) keeps order work due h
-
-pub sound_surprise : (s : State) (o : Surprise) (in_world : Bool) (stage : SurpriseStage) (n : Option Node) → first_node s.core.nodes o.todo ≡ n → SurpriseKeeps o stage s.core.nodes → SurpriseOrder s.core o stage × SurpriseThere o stage s.core.nodes → DueBut o.set s.tasks s.core.nodes → Good s.next_serial s.core.nodes [] (Some (Operation.Surprising o)) → Stands s →
-    SoundNext s (option_map (λ m. Does (surprise_lifted s m)) (su.surprise_step s.core o in_world stage n))
-sound_surprise s o in_world SurpriseStage.Ending n first keeps order due good h =
-    op_still s _ _ [] tt refl refl refl refl (λ same. tt) refl (none_waits s o.set (λ k m at in_set. order.0.bare k m at in_set refl) due) h
-sound_surprise s o in_world (SurpriseStage.Telling w) (Some node) first keeps order due good h = sound_tell s o node w _ keeps order (work_on s node o.todo s.next_serial _ first (not_root o.set o.todo node.serial keeps.rootless keeps.inside) good) due h
-sound_surprise s o in_world (SurpriseStage.Removing w) (Some node) first keeps order due good h = sound_su_remove s o node w _ keeps order (work_on s node o.todo s.next_serial _ first (not_root o.set o.todo node.serial keeps.rootless keeps.inside) good) due h
-sound_surprise s o in_world SurpriseStage.Settling (Some node) first keeps order due good h = sound_su_settle s o node in_world _ refl keeps order (work_on s node o.todo s.next_serial _ first (not_root o.set o.todo node.serial keeps.rootless keeps.inside) good) due h
-sound_surprise s o in_world (SurpriseStage.Telling w) None first keeps order due good h = tt
-sound_surprise s o in_world (SurpriseStage.Removing w) None first keeps order due good h = tt
-sound_surprise s o in_world SurpriseStage.Settling None first keeps order due good h = tt
+  pub sound_surprise : (in_world : Bool) (stage : SurpriseStage) (m : su.SurpriseMove) → SurpriseKeeps o stage s.core.nodes → SurpriseOrder s.core o stage → SurpriseThere o stage s.core.nodes → SurpriseStep s.core o in_world stage m → Sound s (surprise_lifted s m)
+  sound_surprise in_world stage m keeps order there (SurpriseStep.tells node w e) =
+      let work = su_work node e.first keeps.rootless keeps.inside in
+      let told = told_or node.state (head_told o.todo o.set node.serial node.state (head_has node.serial o.todo work.head) (keeps.each node.serial node work.at)) in
+      op_walk s _ node o.todo o.set Minor.SurpriseRemoval false node.state SurpriseRemoved work refl refl refl refl refl (λ q. absurd (cc)) (λ q. cc) (λ q. cc) told.0
+      (λ same. order_tell_on s.core.nodes o (rest o.todo) _ (finishes_all s.core _ o.set (fades_same s.core _ work.order (Ascending-changed 0 node.serial (with_state SurpriseRemoved) s.core.nodes (λ x. refl) work.order) same) order)
+      (same_there (rest o.todo) s.core _ same (rest_there o.todo s.core.nodes there.0.there)) (same_there o.set s.core _ same there.1) there.2)
+      (waits_tell_on s.core.nodes o (rest o.todo)) due h
+  sound_surprise in_world stage m keeps order there (SurpriseStep.removes node w e) =
+      let work = su_work node e.first keeps.rootless keeps.inside in
+      let here = head_has node.serial o.todo work.head in
+      op_strip s _ node o.todo o.set o.set work (keeps.inside node.serial here) order refl refl refl (strips node.state (head_stripped o.todo node.serial node.state work.head (keeps.each node.serial node work.at)))
+      (finishes_strip s.core o.set o.todo node.serial work.order here order, (strip_goes o.todo node.serial s.core there.0, there.1)) refl due h
+  sound_surprise in_world stage m keeps order there (SurpriseStep.leaves node first) =
+      let work = su_work node first keeps.rootless keeps.inside in
+      let u = set_operation (Some (Operation.Surprising (su.finish_on s.core.nodes o (rest o.todo)))) (with_core (drop_node node.serial s.core) s) in
+      let t = relist node.path node.born u in
+      let only = relist_only node.path node.born u in
+      op_left s t node o.todo o.set o.set (Label.Leave node.path) work tt (λ q. q) (keeps.inside node.serial (head_has node.serial o.todo work.head)) order only.core only.serial (more_listed s.tasks t.tasks only.tasks)
+      (subst (λ (x : Option Operation). StageKept x t.core) (sym only.operation)
+      (order_su_finish_on s.core.nodes o (rest o.todo) t.core
+      (subst (λ (c : Core). Finishes c o.set (rest o.todo)) (sym only.core) (finishes_left s.core o.set o.todo node.serial work.order work.head order))
+      (subst (λ (c : Core). AllThere (rest o.todo) c.nodes) (sym only.core) (left_there o.todo node.serial s.core.nodes work.head keeps.todo there.0.there))
+      (subst (λ (c : Core). TargetLeft o.target (rest o.todo) c.nodes) (sym only.core) (target_after s o node keeps there.1 work))))
+      (ap waiting only.operation ∙ waits_finish_on s.core.nodes o (rest o.todo)) due h
+  sound_surprise in_world stage m keeps order there (SurpriseStep.remains node first other over) =
+      let work = su_work node first keeps.rootless keeps.inside in
+      let state = head_bare o.todo node.serial node.state work.head (keeps.each node.serial node work.at) in
+      let apart : node.serial ≢ o.target = grind (arith, nat_tests) in
+      op_trouble s _ node o.todo o.set (Label.Trouble node.path Problem.Held) (Some Problem.Held) work tt refl refl refl refl
+      (λ same. order_su_finish_on s.core.nodes o (rest o.todo) _
+      (finishes_stays s.core _ o.set o.todo node.serial node (fades_same s.core _ work.order (Ascending-changed 0 node.serial (with_problem (Some Problem.Held)) s.core.nodes (λ x. refl) work.order) same) work.head work.at over
+      (was_troubled node.serial (Some Problem.Held) s.core.nodes _ refl) state order)
+      (same_there (rest o.todo) s.core _ same (rest_there o.todo s.core.nodes there.0.there)) (target_left o.target (rest o.todo) _ (rest_has node.serial o.target o.todo work.head apart ∙ there.1)))
+      (waits_finish_on s.core.nodes o (rest o.todo)) due h
+  sound_surprise in_world stage m keeps order there (SurpriseStep.stays node first target back) =
+      let work = su_work node first keeps.rootless keeps.inside in
+      let is : node.serial ≡ o.target = grind (arith, nat_tests) in
+      let over = last_alone o.target o.todo (subst (λ (i : ℕ). HeadIs i o.todo) is work.head) keeps.ends in
+      op_still s _ _ [] tt refl refl refl refl (λ same. tt) refl
+      (none_waits s o.set (λ k n at in_set.
+      elim (cases_eq node.serial k) [
+        | inl q ↦ head_bare o.todo k n.state (subst (λ (i : ℕ). HeadIs i o.todo) q work.head) (keeps.each k n at)
+        | inr d ↦ order.bare k n at in_set (sym (rest_has node.serial k o.todo work.head d) ∙ ap (λ (ks : List ℕ). has ks k) over)
+      ]) due) h
+  sound_surprise in_world stage m keeps order there SurpriseStep.closes =
+      op_still s _ _ [] tt refl refl refl refl (λ same. tt) refl (none_waits s o.set (λ k n at in_set. order.bare k n at in_set refl) due) h

@@ -132,12 +132,7 @@ sound_join_or_on s node k (Some d) e at up first none good h = sound_join s node
 
 sound_list_up : (s : State) (node : Node) (k : ℕ) (x : DevState) → node.state ≡ x → node_at node.serial s.core.nodes ≡ Some node → Lists s k → s.operation ≡ None → Good s.next_serial s.core.nodes s.activities None → Stands s → Sound s (list_up s node x)
 sound_list_up s node k Started e at first none good h = sound_join_or_on s node k (joining node.born s.core.nodes s.world) refl at e first none good h
-sound_list_up s node k NoStack e at first none good h = sound_drop s _ _ tt first refl none h
-sound_list_up s node k NotStarted e at first none good h = sound_drop s _ _ tt first refl none h
-sound_list_up s node k StopPending e at first none good h = sound_drop s _ _ tt first refl none h
-sound_list_up s node k Stopped e at first none good h = sound_drop s _ _ tt first refl none h
-sound_list_up s node k RemovePending e at first none good h = sound_drop s _ _ tt first refl none h
-sound_list_up s node k SurpriseRemoved e at first none good h = sound_drop s _ _ tt first refl none h
+sound_list_up s node k _ e at first none good h = sound_drop s _ _ tt first refl none h
 
 pub sound_list : (s : State) (k : ℕ) (o : Option Node) → node_at k s.core.nodes ≡ o → Lists s k → s.operation ≡ None → Good s.next_serial s.core.nodes s.activities None → Stands s → Sound s (list_step s k o)
 sound_list s k None e first none good h = sound_drop s _ _ tt first refl none h
@@ -190,12 +185,7 @@ sound_idle settings s node None b h = sound_enabled settings s node (has_same no
 
 sound_bare : (settings : Settings) (s : State) (node : Node) (x : DevState) → Begins s node → Stands s → Sound s (start_bare settings s node x)
 sound_bare settings s node NoStack b h = sound_idle settings s node (activity_at node.serial s.activities) b h
-sound_bare settings s node NotStarted b h = sound_skip_start s node _ tt b h
-sound_bare settings s node Started b h = sound_skip_start s node _ tt b h
-sound_bare settings s node StopPending b h = sound_skip_start s node _ tt b h
-sound_bare settings s node Stopped b h = sound_skip_start s node _ tt b h
-sound_bare settings s node RemovePending b h = sound_skip_start s node _ tt b h
-sound_bare settings s node SurpriseRemoved b h = sound_skip_start s node _ tt b h
+sound_bare settings s node _ b h = sound_skip_start s node _ tt b h
 
 pub sound_start : (settings : Settings) (s : State) (k : ℕ) (o : Option Node) → node_at k s.core.nodes ≡ o → slice_get s.tasks 0 ≡ Some (record { kind = Duty.Starting; serial = k }) → s.operation ≡ None → Stands s → Sound s (start_step settings s k o)
 sound_start settings s k None e first none h = sound_drop s _ (record { kind = Duty.Starting; serial = k }) tt first refl none h
@@ -257,12 +247,7 @@ sound_rebalance_idle s node k None first none good h =
 
 sound_rebalance_task : (s : State) (node : Node) (k : ℕ) (x : DevState) → slice_get s.tasks 0 ≡ Some (record { kind = Duty.Begins OpKind.Rebalance; serial = k }) → s.operation ≡ None → Good s.next_serial s.core.nodes s.activities None → Stands s → Sound s (rebalance_task s node x)
 sound_rebalance_task s node k NotStarted first none good h = sound_rebalance_idle s node k (activity_at node.serial s.activities) first none good h
-sound_rebalance_task s node k NoStack first none good h = sound_drop s _ _ tt first refl none h
-sound_rebalance_task s node k Started first none good h = sound_drop s _ _ tt first refl none h
-sound_rebalance_task s node k StopPending first none good h = sound_drop s _ _ tt first refl none h
-sound_rebalance_task s node k Stopped first none good h = sound_drop s _ _ tt first refl none h
-sound_rebalance_task s node k RemovePending first none good h = sound_drop s _ _ tt first refl none h
-sound_rebalance_task s node k SurpriseRemoved first none good h = sound_drop s _ _ tt first refl none h
+sound_rebalance_task s node k _ first none good h = sound_drop s _ _ tt first refl none h
 
 sound_removal : (s : State) (kind : OpKind) (node : Node) (task : Task) → slice_get s.tasks 0 ≡ Some task → is_surprise_task task.kind ≡ false → node_at node.serial s.core.nodes ≡ Some node → s.operation ≡ None → Good s.next_serial s.core.nodes s.activities None → Stands s →
     Sound s (begin s kind node (Operation.Removing (rm.begun_removal s.core kind node)))
@@ -306,11 +291,9 @@ sound_surprise s node k first at none good h =
     (λ i n there stopped below. subst (λ (x : ℕ). has (leaving s.core x) i ≡ true) (sym own) (below_it s k node at good h i n there stopped below)) (calm_none s none h))) h
 
 pub sound_begin_step : (s : State) (kind : OpKind) (k : ℕ) (o : Option Node) → node_at k s.core.nodes ≡ o → slice_get s.tasks 0 ≡ Some (record { kind = Duty.Begins kind; serial = k }) → s.operation ≡ None → Good s.next_serial s.core.nodes s.activities None → Stands s → Sound s (begin_step s kind k o)
-sound_begin_step s OpKind.Rebalance k None e first none good h = sound_drop s _ _ tt first refl none h
-sound_begin_step s OpKind.Disable k None e first none good h = sound_drop s _ _ tt first refl none h
-sound_begin_step s OpKind.Eject k None e first none good h = sound_drop s _ _ tt first refl none h
 sound_begin_step s OpKind.Surprise k None e first none good h = sound_no_surprise s k _ tt e first none good h
 sound_begin_step s OpKind.Rebalance k (Some node) e first none good h = sound_rebalance_task s node k node.state first none good h
 sound_begin_step s OpKind.Disable k (Some node) e first none good h = sound_disable s node k (has_same node.path s.disabled) first (found_self k s.core.nodes node e) none good h
 sound_begin_step s OpKind.Eject k (Some node) e first none good h = sound_removal s OpKind.Eject node _ first refl (found_self k s.core.nodes node e) none good h
 sound_begin_step s OpKind.Surprise k (Some node) e first none good h = sound_surprise s node k first e none good h
+sound_begin_step s _ k None e first none good h = sound_drop s _ _ tt first refl none h

@@ -120,25 +120,7 @@ IsPlain _ = Unit {0}
 
 pub walked_plain : (label : Label) (old new : List Node) → IsPlain label → Walked label old new
 walked_plain (Label.State p x) old new h = absurd h
-walked_plain (Label.Add p d x) old new h = tt
-walked_plain (Label.Did w x) old new h = tt
-walked_plain (Label.Refused w r) old new h = tt
-walked_plain (Label.Skip t k) old new h = tt
-walked_plain (Label.Join k p) old new h = tt
-walked_plain (Label.Gone p) old new h = tt
-walked_plain (Label.Listed p) old new h = tt
-walked_plain (Label.Install p r d) old new h = tt
-walked_plain (Label.Trouble p q) old new h = tt
-walked_plain (Label.Assign p x) old new h = tt
-walked_plain (Label.Fits p) old new h = tt
-walked_plain (Label.NoFit p) old new h = tt
-walked_plain (Label.Spent p) old new h = tt
-walked_plain (Label.Asked m p d x) old new h = tt
-walked_plain (Label.Begin o p) old new h = tt
-walked_plain (Label.Commit n) old new h = tt
-walked_plain (Label.Leave p) old new h = tt
-walked_plain (Label.Ejected p) old new h = tt
-walked_plain (Label.End o p r) old new h = tt
+walked_plain _ old new h = tt
 
 not_state : (label : Label) (path : Text) (x : DevState) → IsPlain label → label ≡ Label.State path x → ⊥
 not_state label path x plain e = subst (λ (l : Label). IsPlain l) e plain

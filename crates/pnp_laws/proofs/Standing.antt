@@ -51,16 +51,12 @@ DueBut rest tasks nodes =
     (k : ℕ) (n : Node) → node_at k nodes ≡ Some n → n.state ≡ Stopped → (is_due tasks nodes k ≡ true) ⊎ (has rest k ≡ true)
 
 abbrev pub rebalance_waiting : Rebalance → RebalanceStage → List ℕ
-rebalance_waiting r (RebalanceStage.Asking w) = []
-rebalance_waiting r (RebalanceStage.TakingBack w) = []
-rebalance_waiting r RebalanceStage.Searching = []
-rebalance_waiting r (RebalanceStage.Cancelling w) = []
-rebalance_waiting r RebalanceStage.Stuck = []
 rebalance_waiting r (RebalanceStage.Stopping w) = r.agreed
 rebalance_waiting r RebalanceStage.Committing = r.agreed
 rebalance_waiting r (RebalanceStage.Restarting w) = r.todo
 rebalance_waiting r RebalanceStage.Failed = r.todo
 rebalance_waiting r RebalanceStage.Ending = []
+rebalance_waiting r _ = []
 
 abbrev pub waiting : Option Operation → List ℕ
 waiting None = []

@@ -82,13 +82,11 @@ last_alone k (j ∷ i ∷ ks) h l = absurd (l.0 h)
 
 alone_calm : (todo : List ℕ) (j k : ℕ) (x : DevState) → HeadIs j todo → rest todo ≡ [] → settling_state todo k x ≡ true → is_calm x ≡ true
 alone_calm [] j k x h e g = absurd h
-alone_calm (i ∷ is) j k NoStack h e g = refl
-alone_calm (i ∷ is) j k NotStarted h e g = refl
-alone_calm (i ∷ is) j k Started h e g = refl
 alone_calm (i ∷ is) j k StopPending h e g = grind (arith, nat_tests)
 alone_calm (i ∷ is) j k Stopped h e g = refl
 alone_calm (i ∷ is) j k RemovePending h e g = let f : has is k ≡ false = ap (λ (t : List ℕ). has t k) e in grind (arith, nat_tests)
 alone_calm (i ∷ is) j k SurpriseRemoved h e g = let f : has is k ≡ false = ap (λ (t : List ℕ). has t k) e in grind (arith, nat_tests)
+alone_calm (i ∷ is) j k _ h e g = refl
 
 record AtWork (s : State) (node : Node) (o : Surprise) : Type 0 where
   alone : s.activities ≡ []
@@ -200,20 +198,14 @@ lawful_surprise s o in_world Ending n first alone keeps good = lawful_close s _ 
 lawful_surprise s o in_world (Telling w) (Some node) first alone keeps good = lawful_tell s o node w _ keeps (at_work s o node alone first good)
 lawful_surprise s o in_world (Removing w) (Some node) first alone keeps good = lawful_remove s o node w _ keeps (at_work s o node alone first good)
 lawful_surprise s o in_world Settling (Some node) first alone keeps good = lawful_settle s o node in_world _ refl keeps (at_work s o node alone first good)
-lawful_surprise s o in_world (Telling w) None first alone keeps good = tt
-lawful_surprise s o in_world (Removing w) None first alone keeps good = tt
-lawful_surprise s o in_world Settling None first alone keeps good = tt
+lawful_surprise s o in_world _ None first alone keeps good = tt
 
 -- The begin
 
 untold : (x : DevState) → is_calm x ≡ true → is_told x ≡ false → is_removable x ≡ true
 untold NoStack a b = refl
 untold NotStarted a b = refl
-untold Started a b = cc
-untold StopPending a b = cc
-untold Stopped a b = cc
-untold RemovePending a b = cc
-untold SurpriseRemoved a b = cc
+untold _ a b = cc
 
 begun_one : (told : ℕ → Bool) (set : List ℕ) (k : ℕ) (x : DevState) → told k ≡ is_told x → is_calm x ≡ true → telling_state (those told set) set k x ≡ true
 begun_one told set k x e calm =

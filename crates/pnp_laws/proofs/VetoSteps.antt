@@ -19,7 +19,6 @@ use Rattle.pnp_labels.specs.declared.event.Event.{Event}
 use Rattle.pnp_laws.proofs.Vetoes.{IsOn, since_step}
 use Rattle.pnp_laws.proofs.EventChanges.{Answered, happens_outside}
 use Rattle.pnp_laws.proofs.Finishing.{relist_only}
-use Rattle.pnp_laws.proofs.Finishing.{relist_core}
 use Rattle.pnp_model.specs.Removals as rm
 use Rattle.pnp_model.specs.Events as ev
 
@@ -80,11 +79,7 @@ ends_or_on c o (TakingBack w) (Some node) m e = inr (same_on _ m e (on_take_back
 ends_or_on c o (Cancelling w) (Some node) m e = inr (same_on _ m e (on_cancel c o node w _))
 ends_or_on c o (Removing w) (Some node) m e = inr (same_on _ m e (on_remove c o node w _))
 ends_or_on c o Settling (Some node) m e = inr (same_on _ m e (on_settle c o node _))
-ends_or_on c o (Asking w) None m e = absurd (cc)
-ends_or_on c o (TakingBack w) None m e = absurd (cc)
-ends_or_on c o (Cancelling w) None m e = absurd (cc)
-ends_or_on c o (Removing w) None m e = absurd (cc)
-ends_or_on c o Settling None m e = absurd (cc)
+ends_or_on c o _ None m e = absurd (cc)
 
 -- A step ----------------------------------------------------------------------------------
 
@@ -94,11 +89,11 @@ gone_on : (before : Core) (s : State) (m : RemovalMove) (beside : RemoveBeside) 
 gone_on before s m RemoveBeside.On on h = record { op = m.frame; runs = refl; since = h }
 gone_on before s m (RemoveBeside.Left path born) on h =
     let u = set_operation (Some (Operation.Removing m.frame)) (with_core m.core s) in
-    record { op = m.frame; runs = (relist_only path born u).operation; since = subst (λ (c : Core). Since before c m.frame m.frame.stage) (sym (relist_core path born u)) h }
+    record { op = m.frame; runs = (relist_only path born u).operation; since = subst (λ (c : Core). Since before c m.frame m.frame.stage) (sym (relist_only path born u).core) h }
 gone_on before s m (RemoveBeside.Disabled path) on h = record { op = m.frame; runs = refl; since = h }
 gone_on before s m (RemoveBeside.Ejected path born) on h =
     let u = unplug born (set_operation (Some (Operation.Removing m.frame)) (with_core m.core s)) in
-    record { op = m.frame; runs = (relist_only path born u).operation; since = subst (λ (c : Core). Since before c m.frame m.frame.stage) (sym (relist_core path born u)) h }
+    record { op = m.frame; runs = (relist_only path born u).operation; since = subst (λ (c : Core). Since before c m.frame m.frame.stage) (sym (relist_only path born u).core) h }
 gone_on before s m RemoveBeside.Over on h = absurd on
 
 -- the operation closed, in a state that a veto restores
@@ -158,11 +153,7 @@ outside before s t a b c d h = record { op = h.op; runs = d ∙ h.runs; since = 
 
 completed_since : (before c : Core) (answer : Answer) (o : Removal) (stage : RemovalStage) → Since before c o stage → Since before c (record o { stage = ev.completed_removal answer stage }) (ev.completed_removal answer stage)
 completed_since before c answer o (Asking w) h = h
-completed_since before c answer o (TakingBack w) h = h
-completed_since before c answer o (Cancelling w) h = h
-completed_since before c answer o (Removing w) h = h
-completed_since before c answer o Settling h = h
-completed_since before c answer o Ending h = h
+completed_since before c answer o _ h = h
 
 -- the operation stays, or its walk gets an answer
 answered_since : (before : Core) (s t : State) → t.core.nodes ≡ s.core.nodes → t.core.relations ≡ s.core.relations → t.core.reserved ≡ s.core.reserved → Answered s.operation t.operation → VetoSince before s → VetoSince before t

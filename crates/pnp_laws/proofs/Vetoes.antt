@@ -170,11 +170,7 @@ since_step before c o (Removing w) (Some node) m first keeps since e on =
 since_step before c o Settling (Some node) m first keeps since e on =
     let same : settle c o node (has o.set node.parent) ≡ m = cc in
     subst (λ (x : RemovalMove). SinceMove before x) same (since_settle before c o node _ since)
-since_step before c o (Asking w) None m first keeps since e on = absurd (cc)
-since_step before c o (TakingBack w) None m first keeps since e on = absurd (cc)
-since_step before c o (Cancelling w) None m first keeps since e on = absurd (cc)
-since_step before c o (Removing w) None m first keeps since e on = absurd (cc)
-since_step before c o Settling None m first keeps since e on = absurd (cc)
+since_step before c o _ None m first keeps since e on = absurd (cc)
 
 -- the begin
 pub since_begun : (c : Core) (kind : OpKind) (node : Node) (set : List ℕ) → Since c c (begun_with c kind node set) (begun_with c kind node set).stage

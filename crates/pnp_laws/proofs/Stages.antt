@@ -1,0 +1,208 @@
+-- What a step of an operation is, stage by stage: the one list that laws over stages read.
+use Rattle.std.proofs.Common.{ℕ, ◌≡◌, ◌==◌, ◌∙◌, Bool, true, false, ◌&&◌, List, length, Option, Some, None, refl, sym, ap, subst}
+use Rattle.std.specs.Option.{option_map}
+use Rattle.resource_reqs.specs.Spelling.{IsAnswer}
+use Rattle.pnp_labels.specs.declared.words.AskWhat.{AskWhat}
+use Rattle.pnp_labels.specs.declared.words.Answer.{Answer}
+use Rattle.pnp_labels.specs.declared.states.Problem.{Problem}
+use Rattle.pnp_model.specs.Books.{rack_reply}
+use Rattle.pnp_model.specs.Frames.{asked, first_node, next_driver}
+use Rattle.pnp_model.specs.Records.{Core, Doing, Found, Node, Operation, Rebalance, RebalanceStage, Removal, RemovalStage, Settings, State, Step, Surprise, SurpriseStage, Walk, doing_map}
+use Rattle.pnp_model.specs.Records.Doing.{Does, Searches}
+use Rattle.pnp_model.specs.Removals.{RemoveBeside}
+use Rattle.pnp_model.specs.States.{set_operation, with_core}
+use Rattle.pnp_model.specs.Tests.{has, is_eject}
+use Rattle.pnp_model.specs.Walks.{has_ended, is_bad}
+use Rattle.pnp_laws.specs.Effects.{todo_of}
+use Rattle.pnp_laws.specs.Words.{NotTwelve}
+use Rattle.pnp_model.specs.Events as ev
+use Rattle.pnp_model.specs.Machine as ma
+use Rattle.pnp_model.specs.Rebalances as re
+use Rattle.pnp_model.specs.Removals as rm
+use Rattle.pnp_model.specs.Surprises as su
+
+-- the first device that is still to do, whose walk has ended
+pub record Ends (c : Core) (todo : List ℕ) (node : Node) (w : Walk) : Type 0 where
+  pub first : first_node c.nodes todo ≡ Some node
+  pub ended : has_ended w (length node.stack) ≡ true
+
+pub data RebalanceStep (c : Core) (r : Rebalance) : RebalanceStage → re.RebalanceMove → Type 0 where
+  agrees : (node : Node) (w : Walk) → Ends c r.todo node w → is_bad w ≡ false → RebalanceStep c r (RebalanceStage.Asking w) (re.end_ask c r node false)
+  refuses : (node : Node) (w : Walk) → Ends c r.todo node w → is_bad w ≡ true → RebalanceStep c r (RebalanceStage.Asking w) (re.end_ask c r node true)
+  takes_back : (node : Node) (w : Walk) → Ends c r.todo node w → RebalanceStep c r (RebalanceStage.TakingBack w) (re.take_back c r node w true)
+  searches : (found : Found) (budget : ℕ) → IsAnswer (re.group_problem c r).fixed (re.group_problem c r).movers budget found → RebalanceStep c r RebalanceStage.Searching (re.searched c r found)
+  cancels : (node : Node) (w : Walk) → Ends c r.todo node w → RebalanceStep c r (RebalanceStage.Cancelling w) (re.cancel_step c r node w true)
+  sticks : RebalanceStep c r RebalanceStage.Stuck (re.stuck c r)
+  stops : (node : Node) (w : Walk) → Ends c r.todo node w → RebalanceStep c r (RebalanceStage.Stopping w) (re.stop_step c r node w true)
+  commits : RebalanceStep c r RebalanceStage.Committing (re.commit_step c r)
+  restarts : (node : Node) (w : Walk) → Ends c r.todo node w → is_bad w ≡ false → RebalanceStep c r (RebalanceStage.Restarting w) (re.end_restart c r node false)
+  fails : (node : Node) (w : Walk) → Ends c r.todo node w → is_bad w ≡ true → RebalanceStep c r (RebalanceStage.Restarting w) (re.end_restart c r node true)
+  failed : (node : Node) → first_node c.nodes r.todo ≡ Some node → RebalanceStep c r RebalanceStage.Failed (re.failed c r node)
+  closes : RebalanceStep c r RebalanceStage.Ending (re.close c r)
+
+pub data RemovalStep (c : Core) (o : Removal) : RemovalStage → rm.RemovalMove → Type 0 where
+  agrees : (node : Node) (w : Walk) → Ends c o.todo node w → is_bad w ≡ false → RemovalStep c o (RemovalStage.Asking w) (rm.end_ask c o node false)
+  refuses : (node : Node) (w : Walk) → Ends c o.todo node w → is_bad w ≡ true → RemovalStep c o (RemovalStage.Asking w) (rm.end_ask c o node true)
+  takes_back : (node : Node) (w : Walk) → Ends c o.todo node w → RemovalStep c o (RemovalStage.TakingBack w) (rm.take_back c o node w true)
+  cancels : (node : Node) (w : Walk) → Ends c o.todo node w → RemovalStep c o (RemovalStage.Cancelling w) (rm.cancel_step c o node w true)
+  removes : (node : Node) (w : Walk) → Ends c o.todo node w → RemovalStep c o (RemovalStage.Removing w) (rm.remove_step c o node w true)
+  leaves : (node : Node) → first_node c.nodes o.todo ≡ Some node → RemovalStep c o RemovalStage.Settling (rm.settle c o node true)
+  ejects : (node : Node) → first_node c.nodes o.todo ≡ Some node → RemovalStep c o RemovalStage.Settling (rm.settle_target c o node true)
+  disables : (node : Node) → first_node c.nodes o.todo ≡ Some node → has o.set node.parent ≡ false → RemovalStep c o RemovalStage.Settling (rm.settle_target c o node false)
+  remains : (node : Node) (problem : Problem) → first_node c.nodes o.todo ≡ Some node → has o.set node.parent ≡ false → NotTwelve problem → RemovalStep c o RemovalStage.Settling (rm.remains c o node problem RemoveBeside.On)
+  closes : RemovalStep c o RemovalStage.Ending (rm.close c o)
+
+pub data SurpriseStep (c : Core) (o : Surprise) (in_world : Bool) : SurpriseStage → su.SurpriseMove → Type 0 where
+  tells : (node : Node) (w : Walk) → Ends c o.todo node w → SurpriseStep c o in_world (SurpriseStage.Telling w) (su.tell_step c o node w true)
+  removes : (node : Node) (w : Walk) → Ends c o.todo node w → SurpriseStep c o in_world (SurpriseStage.Removing w) (su.remove_step c o node w true)
+  leaves : (node : Node) → first_node c.nodes o.todo ≡ Some node → SurpriseStep c o in_world SurpriseStage.Settling (su.leaves c o node)
+  remains : (node : Node) → first_node c.nodes o.todo ≡ Some node → (node.serial == o.target) ≡ false → has o.set node.parent ≡ false → SurpriseStep c o in_world SurpriseStage.Settling (su.settle_other c o node false)
+  -- the device is in the world again
+  stays : (node : Node) → first_node c.nodes o.todo ≡ Some node → (node.serial == o.target) ≡ true → in_world ≡ true → SurpriseStep c o in_world SurpriseStage.Settling (su.close c o)
+  closes : SurpriseStep c o in_world SurpriseStage.Ending (su.close c o)
+
+abbrev pub reply : Core → Node → Walk → Answer
+reply c node w = rack_reply (AskWhat.Irp w.minor) node.path c.rack (next_driver node w)
+
+-- the next driver of a walk is asked: nodes and relations stay, and the walk of the operation goes on by the answer
+abbrev pub asking : State → Operation → Node → Walk → Step
+asking s o node w = record { label = (asked s.core node w).label; state = set_operation (Some (ev.completed (reply s.core node w) o)) (with_core (asked s.core node w).core s) }
+
+pub record Asks (s : State) (o : Operation) (node : Node) (w : Walk) : Type 0 where
+  pub first : first_node s.core.nodes (todo_of o) ≡ Some node
+  pub walk : ma.operation_walk o ≡ Some w
+  pub waits : w.waits ≡ false
+  pub more : has_ended w (length node.stack) ≡ false
+
+pub data OperationStep (s : State) : Operation → Step → Type 0 where
+  asks : (o : Operation) (node : Node) (w : Walk) → Asks s o node w → OperationStep s o (asking s o node w)
+  rebalances : (r : Rebalance) (stage : RebalanceStage) (m : re.RebalanceMove) → r.stage ≡ stage → RebalanceStep s.core r stage m → OperationStep s (Operation.Rebalancing r) (ma.rebalance_lifted s m)
+  removes : (o : Removal) (stage : RemovalStage) (m : rm.RemovalMove) → o.stage ≡ stage → RemovalStep s.core o stage m → OperationStep s (Operation.Removing o) (ma.removal_lifted s m)
+  surprises : (o : Surprise) (stage : SurpriseStage) (m : su.SurpriseMove) → o.stage ≡ stage → SurpriseStep s.core o (ma.is_target_in_world s o) stage m → OperationStep s (Operation.Surprising o) (ma.surprise_lifted s m)
+
+-- Each step is in the list -------------------------------------------------------------
+
+-- by the answer that a search has
+abbrev pub StepsBy : ℕ → State → Operation → Option (Doing Step) → Type 0
+StepsBy budget s o None = Unit {0}
+StepsBy budget s o (Some (Does step)) = OperationStep s o step
+StepsBy budget s o (Some (Searches problem by_answer)) = (found : Found) → IsAnswer problem.fixed problem.movers budget found → OperationStep s o (by_answer found)
+
+by_test : (P : Bool → Type 0) (b : Bool) → (b ≡ true → P true) → (b ≡ false → P false) → P b
+by_test P true f g = f refl
+by_test P false f g = g refl
+
+module _ (budget : ℕ) (s : State) (r : Rebalance) where
+  re_asks : (stage : RebalanceStage) (node : Node) (w : Walk) → r.stage ≡ stage → first_node s.core.nodes r.todo ≡ Some node → ma.rebalance_walk stage ≡ Some w → w.waits ≡ false → has_ended w (length node.stack) ≡ false
+      → OperationStep s (Operation.Rebalancing r) (ma.rebalance_lifted s (re.moves (asked s.core node w).label (asked s.core node w).core (record r { stage = ev.completed_rebalance (reply s.core node w) stage })))
+  re_asks stage node w is first walk waits more =
+      subst (λ (x : RebalanceStage). OperationStep s (Operation.Rebalancing r) (ma.rebalance_lifted s (re.moves (asked s.core node w).label (asked s.core node w).core (record r { stage = ev.completed_rebalance (reply s.core node w) x })))) is
+      (OperationStep.asks (Operation.Rebalancing r) node w (record { first = first; walk = ap ma.rebalance_walk is ∙ walk; waits = waits; more = more }))
+
+  rebalance_step : (stage : RebalanceStage) (n : Option Node) → r.stage ≡ stage → first_node s.core.nodes r.todo ≡ n → ma.is_waiting (ma.rebalance_walk stage) ≡ false
+      → StepsBy budget s (Operation.Rebalancing r) (option_map (doing_map (ma.rebalance_lifted s)) (re.rebalance_step s.core r stage n))
+  rebalance_step RebalanceStage.Searching n is first waits = λ found answer. OperationStep.rebalances r RebalanceStage.Searching (re.searched s.core r found) is (RebalanceStep.searches found budget answer)
+  rebalance_step RebalanceStage.Stuck n is first waits = OperationStep.rebalances r _ _ is RebalanceStep.sticks
+  rebalance_step RebalanceStage.Committing n is first waits = OperationStep.rebalances r _ _ is RebalanceStep.commits
+  rebalance_step RebalanceStage.Ending n is first waits = OperationStep.rebalances r _ _ is RebalanceStep.closes
+  rebalance_step (RebalanceStage.Asking w) (Some node) is first waits =
+      by_test (λ b. OperationStep s (Operation.Rebalancing r) (ma.rebalance_lifted s (re.ask_step s.core r node w b))) (has_ended w (length node.stack))
+      (λ ended. by_test (λ b. OperationStep s (Operation.Rebalancing r) (ma.rebalance_lifted s (re.end_ask s.core r node b))) (is_bad w)
+      (λ bad. OperationStep.rebalances r _ _ is (RebalanceStep.refuses node w (record { first = first; ended = ended }) bad))
+      (λ good. OperationStep.rebalances r _ _ is (RebalanceStep.agrees node w (record { first = first; ended = ended }) good)))
+      (re_asks (RebalanceStage.Asking w) node w is first refl waits)
+  rebalance_step (RebalanceStage.TakingBack w) (Some node) is first waits =
+      by_test (λ b. OperationStep s (Operation.Rebalancing r) (ma.rebalance_lifted s (re.take_back s.core r node w b))) (has_ended w (length node.stack))
+      (λ ended. OperationStep.rebalances r _ _ is (RebalanceStep.takes_back node w (record { first = first; ended = ended }))) (re_asks (RebalanceStage.TakingBack w) node w is first refl waits)
+  rebalance_step (RebalanceStage.Cancelling w) (Some node) is first waits =
+      by_test (λ b. OperationStep s (Operation.Rebalancing r) (ma.rebalance_lifted s (re.cancel_step s.core r node w b))) (has_ended w (length node.stack))
+      (λ ended. OperationStep.rebalances r _ _ is (RebalanceStep.cancels node w (record { first = first; ended = ended }))) (re_asks (RebalanceStage.Cancelling w) node w is first refl waits)
+  rebalance_step (RebalanceStage.Stopping w) (Some node) is first waits =
+      by_test (λ b. OperationStep s (Operation.Rebalancing r) (ma.rebalance_lifted s (re.stop_step s.core r node w b))) (has_ended w (length node.stack))
+      (λ ended. OperationStep.rebalances r _ _ is (RebalanceStep.stops node w (record { first = first; ended = ended }))) (re_asks (RebalanceStage.Stopping w) node w is first refl waits)
+  rebalance_step (RebalanceStage.Restarting w) (Some node) is first waits =
+      by_test (λ b. OperationStep s (Operation.Rebalancing r) (ma.rebalance_lifted s (re.restart_step s.core r node w b))) (has_ended w (length node.stack))
+      (λ ended. by_test (λ b. OperationStep s (Operation.Rebalancing r) (ma.rebalance_lifted s (re.end_restart s.core r node b))) (is_bad w)
+      (λ bad. OperationStep.rebalances r _ _ is (RebalanceStep.fails node w (record { first = first; ended = ended }) bad))
+      (λ good. OperationStep.rebalances r _ _ is (RebalanceStep.restarts node w (record { first = first; ended = ended }) good)))
+      (re_asks (RebalanceStage.Restarting w) node w is first refl waits)
+  rebalance_step RebalanceStage.Failed (Some node) is first waits = OperationStep.rebalances r _ _ is (RebalanceStep.failed node first)
+  rebalance_step _ None is first waits = tt
+
+module _ (budget : ℕ) (s : State) (o : Removal) where
+  rm_asks : (stage : RemovalStage) (node : Node) (w : Walk) → o.stage ≡ stage → first_node s.core.nodes o.todo ≡ Some node → ma.removal_walk stage ≡ Some w → w.waits ≡ false → has_ended w (length node.stack) ≡ false
+      → OperationStep s (Operation.Removing o) (ma.removal_lifted s (rm.moves (asked s.core node w).label (asked s.core node w).core (record o { stage = ev.completed_removal (reply s.core node w) stage })))
+  rm_asks stage node w is first walk waits more =
+      subst (λ (x : RemovalStage). OperationStep s (Operation.Removing o) (ma.removal_lifted s (rm.moves (asked s.core node w).label (asked s.core node w).core (record o { stage = ev.completed_removal (reply s.core node w) x })))) is
+      (OperationStep.asks (Operation.Removing o) node w (record { first = first; walk = ap ma.removal_walk is ∙ walk; waits = waits; more = more }))
+
+  rm_settles : (node : Node) → o.stage ≡ RemovalStage.Settling → first_node s.core.nodes o.todo ≡ Some node → has o.set node.parent ≡ false → OperationStep s (Operation.Removing o) (ma.removal_lifted s (rm.settle s.core o node false))
+  rm_settles node is first over =
+      by_test (λ b. OperationStep s (Operation.Removing o) (ma.removal_lifted s (rm.settle_outer s.core o node b))) (node.serial == o.target)
+      (λ target. by_test (λ b. OperationStep s (Operation.Removing o) (ma.removal_lifted s (rm.settle_target s.core o node b))) (is_eject o.kind)
+      (λ eject. OperationStep.removes o _ _ is (RemovalStep.ejects node first)) (λ disable. OperationStep.removes o _ _ is (RemovalStep.disables node first over)))
+      (λ other. by_test (λ b. OperationStep s (Operation.Removing o) (ma.removal_lifted s (rm.settle_related s.core o node b))) (is_eject o.kind && has o.ejecting node.serial)
+      (λ ejecting. OperationStep.removes o _ _ is (RemovalStep.remains node Problem.HeldForEject first over tt)) (λ held. OperationStep.removes o _ _ is (RemovalStep.remains node Problem.Held first over tt)))
+
+  removal_step : (stage : RemovalStage) (n : Option Node) → o.stage ≡ stage → first_node s.core.nodes o.todo ≡ n → ma.is_waiting (ma.removal_walk stage) ≡ false
+      → StepsBy budget s (Operation.Removing o) (option_map (λ m. Does (ma.removal_lifted s m)) (rm.removal_step s.core o stage n))
+  removal_step RemovalStage.Ending n is first waits = OperationStep.removes o _ _ is RemovalStep.closes
+  removal_step (RemovalStage.Asking w) (Some node) is first waits =
+      by_test (λ b. OperationStep s (Operation.Removing o) (ma.removal_lifted s (rm.ask_step s.core o node w b))) (has_ended w (length node.stack))
+      (λ ended. by_test (λ b. OperationStep s (Operation.Removing o) (ma.removal_lifted s (rm.end_ask s.core o node b))) (is_bad w)
+      (λ bad. OperationStep.removes o _ _ is (RemovalStep.refuses node w (record { first = first; ended = ended }) bad))
+      (λ good. OperationStep.removes o _ _ is (RemovalStep.agrees node w (record { first = first; ended = ended }) good)))
+      (rm_asks (RemovalStage.Asking w) node w is first refl waits)
+  removal_step (RemovalStage.TakingBack w) (Some node) is first waits =
+      by_test (λ b. OperationStep s (Operation.Removing o) (ma.removal_lifted s (rm.take_back s.core o node w b))) (has_ended w (length node.stack))
+      (λ ended. OperationStep.removes o _ _ is (RemovalStep.takes_back node w (record { first = first; ended = ended }))) (rm_asks (RemovalStage.TakingBack w) node w is first refl waits)
+  removal_step (RemovalStage.Cancelling w) (Some node) is first waits =
+      by_test (λ b. OperationStep s (Operation.Removing o) (ma.removal_lifted s (rm.cancel_step s.core o node w b))) (has_ended w (length node.stack))
+      (λ ended. OperationStep.removes o _ _ is (RemovalStep.cancels node w (record { first = first; ended = ended }))) (rm_asks (RemovalStage.Cancelling w) node w is first refl waits)
+  removal_step (RemovalStage.Removing w) (Some node) is first waits =
+      by_test (λ b. OperationStep s (Operation.Removing o) (ma.removal_lifted s (rm.remove_step s.core o node w b))) (has_ended w (length node.stack))
+      (λ ended. OperationStep.removes o _ _ is (RemovalStep.removes node w (record { first = first; ended = ended }))) (rm_asks (RemovalStage.Removing w) node w is first refl waits)
+  removal_step RemovalStage.Settling (Some node) is first waits =
+      by_test (λ b. OperationStep s (Operation.Removing o) (ma.removal_lifted s (rm.settle s.core o node b))) (has o.set node.parent)
+      (λ inside. OperationStep.removes o _ _ is (RemovalStep.leaves node first)) (rm_settles node is first)
+  removal_step _ None is first waits = tt
+
+module _ (budget : ℕ) (s : State) (o : Surprise) where
+  su_asks : (stage : SurpriseStage) (node : Node) (w : Walk) → o.stage ≡ stage → first_node s.core.nodes o.todo ≡ Some node → ma.surprise_walk stage ≡ Some w → w.waits ≡ false → has_ended w (length node.stack) ≡ false
+      → OperationStep s (Operation.Surprising o) (ma.surprise_lifted s (su.moves (asked s.core node w).label (asked s.core node w).core (record o { stage = ev.completed_surprise (reply s.core node w) stage })))
+  su_asks stage node w is first walk waits more =
+      subst (λ (x : SurpriseStage). OperationStep s (Operation.Surprising o) (ma.surprise_lifted s (su.moves (asked s.core node w).label (asked s.core node w).core (record o { stage = ev.completed_surprise (reply s.core node w) x })))) is
+      (OperationStep.asks (Operation.Surprising o) node w (record { first = first; walk = ap ma.surprise_walk is ∙ walk; waits = waits; more = more }))
+
+  surprise_step : (stage : SurpriseStage) (n : Option Node) → o.stage ≡ stage → first_node s.core.nodes o.todo ≡ n → ma.is_waiting (ma.surprise_walk stage) ≡ false
+      → StepsBy budget s (Operation.Surprising o) (option_map (λ m. Does (ma.surprise_lifted s m)) (su.surprise_step s.core o (ma.is_target_in_world s o) stage n))
+  surprise_step SurpriseStage.Ending n is first waits = OperationStep.surprises o _ _ is SurpriseStep.closes
+  surprise_step (SurpriseStage.Telling w) (Some node) is first waits =
+      by_test (λ b. OperationStep s (Operation.Surprising o) (ma.surprise_lifted s (su.tell_step s.core o node w b))) (has_ended w (length node.stack))
+      (λ ended. OperationStep.surprises o _ _ is (SurpriseStep.tells node w (record { first = first; ended = ended }))) (su_asks (SurpriseStage.Telling w) node w is first refl waits)
+  surprise_step (SurpriseStage.Removing w) (Some node) is first waits =
+      by_test (λ b. OperationStep s (Operation.Surprising o) (ma.surprise_lifted s (su.remove_step s.core o node w b))) (has_ended w (length node.stack))
+      (λ ended. OperationStep.surprises o _ _ is (SurpriseStep.removes node w (record { first = first; ended = ended }))) (su_asks (SurpriseStage.Removing w) node w is first refl waits)
+  surprise_step SurpriseStage.Settling (Some node) is first waits =
+      by_test (λ b. OperationStep s (Operation.Surprising o) (ma.surprise_lifted s (su.settle s.core o node (ma.is_target_in_world s o) b))) (node.serial == o.target)
+      (λ target. by_test (λ b. OperationStep s (Operation.Surprising o) (ma.surprise_lifted s (su.settle_target s.core o node b))) (ma.is_target_in_world s o)
+      (λ back. OperationStep.surprises o _ _ is (SurpriseStep.stays node first target back)) (λ gone. OperationStep.surprises o _ _ is (SurpriseStep.leaves node first)))
+      (λ other. by_test (λ b. OperationStep s (Operation.Surprising o) (ma.surprise_lifted s (su.settle_other s.core o node b))) (has o.set node.parent)
+      (λ inside. OperationStep.surprises o _ _ is (SurpriseStep.leaves node first)) (λ over. OperationStep.surprises o _ _ is (SurpriseStep.remains node first other over)))
+  surprise_step _ None is first waits = tt
+
+operation_next : (budget : ℕ) (s : State) (o : Operation) (waits : Bool) → ma.is_waiting (ma.operation_walk o) ≡ waits → StepsBy budget s o (ma.operation_next s o waits)
+operation_next budget s o true e = tt
+operation_next budget s (Operation.Rebalancing r) false e = rebalance_step budget s r r.stage (first_node s.core.nodes r.todo) refl refl e
+operation_next budget s (Operation.Removing o) false e = removal_step budget s o o.stage (first_node s.core.nodes o.todo) refl refl e
+operation_next budget s (Operation.Surprising o) false e = surprise_step budget s o o.stage (first_node s.core.nodes o.todo) refl refl e
+
+by_next : (settings : Settings) (s : State) (o : Operation) (next : Option (Doing Step)) (step : Step) → StepsBy settings.budget s o next → ma.IsStep settings next step → OperationStep s o step
+by_next settings s o None step h is = absurd is
+by_next settings s o (Some (Does one)) step h is = subst (λ (x : Step). OperationStep s o x) (sym is) h
+by_next settings s o (Some (Searches problem by_answer)) step h is = subst (λ (x : Step). OperationStep s o x) (sym is.2) (h is.0 is.1)
+
+pub operation_step : (settings : Settings) (s : State) (o : Operation) (step : Step) → s.operation ≡ Some o → ma.IsStep settings (ma.next settings s) step → OperationStep s o step
+operation_step settings s o step runs is =
+    by_next settings s o (ma.operation_next s o (ma.is_waiting (ma.operation_walk o))) step (operation_next settings.budget s o (ma.is_waiting (ma.operation_walk o)) refl)
+    (subst (λ (x : Option Operation). ma.IsStep settings (ma.next_of settings s x) step) runs is)
