@@ -43,8 +43,7 @@ way_step s label t dues (OpEffect.ends o result runs now prints by) = Way.ends o
 
 answered_work : (ok : Bool) (o : Operation) → SameWork o (ev.completed (ev.answer_of ok) o)
 answered_work ok (Operation.Rebalancing r) = record { sort = refl; kind = refl; path = refl }
-answered_work ok (Operation.Removing o) = record { sort = refl; kind = refl; path = refl }
-answered_work ok (Operation.Surprising o) = record { sort = refl; kind = refl; path = refl }
+answered_work ok _ = record { sort = refl; kind = refl; path = refl }
 
 way_still : (s : State) (label : Label) (t : State) (o : Option Operation) → s.operation ≡ o → t.operation ≡ s.operation → IsBeside label → Way s (record { label = label; state = t })
 way_still s label t None e now beside = Way.idles e (now ∙ e) beside
@@ -66,17 +65,15 @@ adding_fine [] = tt
 adding_fine (d ∷ ds) = tt
 
 entered_fine : (s : State) (k : ℕ) (t : State) (phase : Phase) → Enters s k t phase → DueFine phase
-entered_fine s k t phase (Enters.installs drivers chosen) = adding_fine drivers
+entered_fine s k t phase (Enters.installs drivers chosen drops) = adding_fine drivers
 entered_fine s k t phase (Enters.restarts r plan runs is target found nodes) = tt
 entered_fine s k t phase (Enters.undoes r runs target) = tt
 
 stepped_fine : (s : State) (k : ℕ) (t : State) (old new : Phase) → DuesFine s.activities → PhaseStep s k t old new → DueFine new
 stepped_fine s k t old new dues (PhaseStep.added d ds acts) = adding_fine ds
-stepped_fine s k t old new dues (PhaseStep.fits phase node plan acts search part own nodes) = tt
-stepped_fine s k t old new dues (PhaseStep.asked w v acts nodes) = tt
 stepped_fine s k t old new dues (PhaseStep.fails phase problem acts other) = other
-stepped_fine s k t old new dues (PhaseStep.undoes phase w acts) = tt
 stepped_fine s k t old new dues (PhaseStep.answered a ok at nodes) = answered_fine (ev.answer_of ok) a.phase (dues_found (is_activity k) s.activities a at dues)
+stepped_fine s k t old new dues _ = tt
 
 pub dues_effect : (s t : State) → ActivityEffect s t → DuesFine s.activities → DuesFine t.activities
 dues_effect s t (ActivityEffect.same e) dues = dues_as s.activities t.activities e dues

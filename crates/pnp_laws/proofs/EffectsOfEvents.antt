@@ -1,5 +1,5 @@
 -- What an event does.
-use Rattle.std.proofs.Common.{◌≡◌, inl, ◌==◌, ◌&&◌, Bool, true, false, List, [], ◌∷◌, ◌++◌, length, nat_le, Option, Some, None, refl, ap, arith}
+use Rattle.std.proofs.Common.{◌≡◌, ◌==◌, ◌&&◌, Bool, true, false, List, [], ◌∷◌, ◌++◌, length, nat_le, Option, Some, None, refl, ap, arith}
 use Rattle.std.specs.List.{find, list_any}
 use Rattle.resource_reqs.specs.Resources.{Res, Reqs, clashes}
 use Rattle.pnp_labels.specs.Texts.{Text}
@@ -20,7 +20,8 @@ use Rattle.pnp_model.specs.States.{activity_at, device_of, enable_path, list_nod
 use Rattle.pnp_model.specs.Tests.{has, is_started}
 use Rattle.pnp_model.specs.Trees.{dependents}
 use Rattle.pnp_laws.specs.Words.{IsWord, joined}
-use Rattle.pnp_laws.specs.Effects.{ActivityEffect, AnswerEffect, DriverEffect, Effect, NodeEffect, PathEffect, PhaseStep, RangeEffect, Related, CommandEffect, WorldEffect}
+use Rattle.pnp_laws.specs.Effects.{ActivityEffect, AnswerEffect, DriverEffect, Effect, JoinEffect, NodeEffect, PathEffect, PhaseStep, RangeEffect, Related, CommandEffect, WorldEffect}
+use Rattle.pnp_laws.proofs.EffectsOfStarts.{quiet_label}
 use Rattle.pnp_laws.proofs.Truths.{and_both}
 use Rattle.device_ids.specs.Folding as folding
 use Rattle.pnp_model.specs.Events as ev
@@ -42,6 +43,7 @@ module _ (s : State) (event : Event) where
         tasks = tasks;
         world = world;
         paths = paths;
+        joins = JoinEffect.none (quiet_label label quiet);
         serial = omega arith;
       }
 
@@ -70,7 +72,7 @@ module _ (s : State) (event : Event) where
   pull_device : (d : Device) (path : Text) (b : Bool) → device_of path s.world ≡ Some d → (d.born == 0) ≡ b → Happened s event (ev.pull_device s d b)
   pull_device d path true there e = nothing _ _
   pull_device d path false there e =
-      listed _ _ (unplug d.born s) (node_born d.parent s.core.nodes) refl refl refl refl refl refl (WorldEffect.unplugged d.born (inl (d, path, there, refl, e)) refl refl)
+      listed _ _ (unplug d.born s) (node_born d.parent s.core.nodes) refl refl refl refl refl refl (WorldEffect.unplugged d.born (d, path, there, refl, e) refl refl)
 
   pull_at : (path : Text) (o : Option Device) → device_of path s.world ≡ o → Happened s event (ev.pull_at s o)
   pull_at path None e = nothing _ _
@@ -122,7 +124,7 @@ module _ (s : State) (event : Event) where
   started : (path own : Text) (o : Option Node) → node_of path s.core.nodes ≡ o → Happened s event (ev.did EventWord.Enable own (ev.start_node o (enable_path path s)))
   started path own None e = outside _ _ tt refl refl refl refl refl (NodeEffect.same refl refl) (DriverEffect.same tt refl) (RangeEffect.same refl) (CommandEffect.same refl) (WorldEffect.same refl refl) (PathEffect.enables path refl)
   started path own (Some n) e =
-      outside _ _ tt refl refl refl refl refl (NodeEffect.same refl refl) (DriverEffect.same tt refl) (RangeEffect.same refl) (CommandEffect.starts path n e refl)
+      outside _ _ tt refl refl refl refl refl (NodeEffect.same refl refl) (DriverEffect.same tt refl) (RangeEffect.same refl) (CommandEffect.starts path n (record { at = e; stays = refl }) refl)
       (WorldEffect.same refl refl) (PathEffect.enables path refl)
 
   enable_at : (path : Text) (o : Option Text) → Happened s event (ev.enable_at s path o)
@@ -195,6 +197,7 @@ module _ (s : State) (event : Event) where
         tasks = CommandEffect.same refl;
         world = WorldEffect.same refl refl;
         paths = PathEffect.same refl;
+        joins = JoinEffect.none tt;
         serial = omega arith;
       }
 
@@ -213,6 +216,7 @@ module _ (s : State) (event : Event) where
         tasks = CommandEffect.same refl;
         world = WorldEffect.same refl refl;
         paths = PathEffect.same refl;
+        joins = JoinEffect.none tt;
         serial = omega arith;
       }
   complete_operation node minor ok o false runs = complete_active node minor ok (activity_at node.serial s.activities) refl

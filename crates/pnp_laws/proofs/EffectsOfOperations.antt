@@ -24,8 +24,8 @@ use Rattle.pnp_model.specs.Tests.{has, is_eject}
 use Rattle.pnp_model.specs.Trees.{is_up, leaving, stands_up}
 use Rattle.pnp_model.specs.Walks.{has_ended, is_bad, state_after, walk_of}
 use Rattle.pnp_laws.specs.Words.{IsBeside, NoVeto, EndsBy, SameWork, is_removal, joined, kind_of, path_of}
-use Rattle.pnp_laws.specs.Effects.{ActivityEffect, Alters, DriverEffect, Effect, Enters, IsUnasked, NodeEffect, OpEffect, Origin, PathEffect, RangeEffect, Request, TaskEffect, WorldEffect, todo_of, begun, ends_bad, operation_minor, rebalance_minor, removal_minor, surprise_minor}
-use Rattle.pnp_laws.proofs.EffectsOfStarts.{Changes, Steps, EffectNext, asks, inside, still, strips, walks}
+use Rattle.pnp_laws.specs.Effects.{ActivityEffect, Alters, DriverEffect, Effect, Enters, IsUnasked, JoinEffect, NodeEffect, OpEffect, Origin, PathEffect, RangeEffect, Request, TaskEffect, WorldEffect, to_leave, todo_of, begun, ends_bad, operation_minor, rebalance_minor, removal_minor, surprise_minor}
+use Rattle.pnp_laws.proofs.EffectsOfStarts.{Changes, Steps, EffectNext, asks, inside, quiet_label, still, strips, walks}
 use Rattle.pnp_laws.proofs.Lists.{head_found}
 use Rattle.pnp_model.specs.Machine as ma
 use Rattle.pnp_model.specs.Rebalances as re
@@ -126,7 +126,7 @@ stripped : (s : State) (o : Operation) (runs : s.operation ≡ Some o) (node : N
 stripped s o runs node first w walk minor_is = strips s node w (head_found s.core.nodes (todo_of o) node first).1 (asked s o runs node first Minor.Remove w walk minor_is)
 
 -- a device leaves, and the node above it may be listed again
-module _ (s u : State) (o p : Operation) (runs : s.operation ≡ Some o) (node : Node) (first : first_node s.core.nodes (todo_of o) ≡ Some node) (label : Label) (beside : IsBeside label) (unasked : IsUnasked label) (quiet : joined label ≡ 0)
+module _ (s u : State) (o p : Operation) (runs : s.operation ≡ Some o) (node : Node) (first : first_node s.core.nodes (to_leave o) ≡ Some node) (label : Label) (beside : IsBeside label) (unasked : IsUnasked label) (quiet : joined label ≡ 0)
     (work : SameWork o p) (now : u.operation ≡ Some p) (world : WorldEffect s (Did label) u) (paths : u.disabled ≡ s.disabled) (serial : u.next_serial ≡ s.next_serial)
     (activities : u.activities ≡ s.activities) (tasks : u.tasks ≡ s.tasks) (nodes : u.core.nodes ≡ without_first (is_node node.serial) s.core.nodes) (relations : u.core.relations ≡ s.core.relations) (ranges : u.core.reserved ≡ s.core.reserved) (rack : u.core.rack ≡ s.core.rack) where
   departs : Effect s (Did label) u
@@ -140,6 +140,7 @@ module _ (s u : State) (o p : Operation) (runs : s.operation ≡ Some o) (node :
         tasks = TaskEffect.same tasks;
         world = world;
         paths = PathEffect.same paths;
+        joins = JoinEffect.none (quiet_label label quiet);
         serial = omega arith;
       }
 
@@ -159,6 +160,7 @@ module _ (s u : State) (o p : Operation) (runs : s.operation ≡ Some o) (node :
         tasks = TaskEffect.appended (record { kind = Duty.Listing; serial = k }) (Origin.lists k) (ap (λ (ts : List Task). ts ++ record { kind = Duty.Listing; serial = k } ∷ []) tasks);
         world = by_world (append_task Duty.Listing k u) refl refl world;
         paths = PathEffect.same paths;
+        joins = JoinEffect.none (quiet_label label quiet);
         serial = omega arith;
       }
 
@@ -176,6 +178,12 @@ module _ (s u : State) (o p : Operation) (runs : s.operation ≡ Some o) (node :
       by_device : (d : Option Device) → Effect s (Did label) (relist_device born d u)
       by_device None = departs
       by_device (Some d) = by_other d _
+
+-- the first device of an operation is asked
+asks_first : (s : State) (todo : List ℕ) (node : Node) (w : Walk) → first_node s.core.nodes todo ≡ Some node → has_ended w (length node.stack) ≡ false → (label : Label) (shown : Shown) (t : State)
+    → label ≡ Label.Asked w.minor node.path (name_of s.core.rack (next_driver node w)) shown → t.core.rack ≡ rack_after (AskWhat.Irp w.minor) node.path s.core.rack (next_driver node w)
+    → t.core.nodes ≡ s.core.nodes → t.core.relations ≡ s.core.relations → Changes s label t
+asks_first s todo node w first = asks s node w (head_found s.core.nodes todo node first).1
 
 -- Rebalance -----------------------------------------------------------------------------
 
@@ -227,10 +235,6 @@ module _ (s : State) (r : Rebalance) (runs : s.operation ≡ Some (Operation.Reb
         → t.core.nodes ≡ changed_first (is_node node.serial) (with_state (state_after minor bad node.state)) s.core.nodes → t.core.relations ≡ s.core.relations → Changes s label t
     walked_by stage minor bad is walk minor_is = walked s (Operation.Rebalancing r) runs node first minor w (ap ma.rebalance_walk is ∙ walk) (ap rebalance_minor is ∙ minor_is) bad
 
-    on_its_way : has_ended w (length node.stack) ≡ false → (label : Label) (shown : Shown) (t : State) → label ≡ Label.Asked w.minor node.path (name_of s.core.rack (next_driver node w)) shown
-        → t.core.rack ≡ rack_after (AskWhat.Irp w.minor) node.path s.core.rack (next_driver node w) → t.core.nodes ≡ s.core.nodes → t.core.relations ≡ s.core.relations → Changes s label t
-    on_its_way = asks s node w (head_found s.core.nodes r.todo node first).1
-
     re_ends_ask : (bad : Bool) → r.stage ≡ RebalanceStage.Asking w → has_ended w (length node.stack) ≡ true → is_bad w ≡ bad → Steps s (ma.rebalance_lifted s (re.end_ask s.core r node bad))
     re_ends_ask false is ends verdict =
         re_on _ _ _ refl (re_ask_on (record r { agreed = node.serial ∷ r.agreed }) (rest r.todo)) tt refl (walked_by (RebalanceStage.Asking w) Minor.QueryStop false is refl refl (λ e. cc) ends verdict _ _ refl refl refl refl)
@@ -238,20 +242,20 @@ module _ (s : State) (r : Rebalance) (runs : s.operation ≡ Some (Operation.Reb
 
     re_asks : (ended : Bool) → r.stage ≡ RebalanceStage.Asking w → has_ended w (length node.stack) ≡ ended → Steps s (ma.rebalance_lifted s (re.ask_step s.core r node w ended))
     re_asks true is e = re_ends_ask (is_bad w) is e refl
-    re_asks false is e = re_on _ _ _ refl refl tt refl (on_its_way e _ _ _ refl refl refl refl)
+    re_asks false is e = re_on _ _ _ refl refl tt refl (asks_first s r.todo node w first e _ _ _ refl refl refl refl)
 
     re_takes_back : (ended : Bool) → r.stage ≡ RebalanceStage.TakingBack w → has_ended w (length node.stack) ≡ ended → Steps s (ma.rebalance_lifted s (re.take_back s.core r node w ended))
     re_takes_back true is e =
         re_on _ _ _ refl (re_ask_on r (those (re.is_not_above s.core.nodes node.serial) (rest r.todo))) tt refl (walked_by (RebalanceStage.TakingBack w) Minor.CancelStop false is refl refl (λ e. cc) e refl _ _ refl refl refl refl)
-    re_takes_back false is e = re_on _ _ _ refl refl tt refl (on_its_way e _ _ _ refl refl refl refl)
+    re_takes_back false is e = re_on _ _ _ refl refl tt refl (asks_first s r.todo node w first e _ _ _ refl refl refl refl)
 
     re_cancels : (ended : Bool) → r.stage ≡ RebalanceStage.Cancelling w → has_ended w (length node.stack) ≡ ended → Steps s (ma.rebalance_lifted s (re.cancel_step s.core r node w ended))
     re_cancels true is e = re_on _ _ _ refl (re_cancel_on r (rest r.todo)) tt refl (walked_by (RebalanceStage.Cancelling w) Minor.CancelStop false is refl refl (λ e. cc) e refl _ _ refl refl refl refl)
-    re_cancels false is e = re_on _ _ _ refl refl tt refl (on_its_way e _ _ _ refl refl refl refl)
+    re_cancels false is e = re_on _ _ _ refl refl tt refl (asks_first s r.todo node w first e _ _ _ refl refl refl refl)
 
     re_stops : (ended : Bool) → r.stage ≡ RebalanceStage.Stopping w → has_ended w (length node.stack) ≡ ended → Steps s (ma.rebalance_lifted s (re.stop_step s.core r node w ended))
     re_stops true is e = re_on _ _ _ refl (re_stop_on r (rest r.todo)) tt refl (walked_by (RebalanceStage.Stopping w) Minor.Stop false is refl refl (λ e. cc) e refl _ _ refl refl refl refl)
-    re_stops false is e = re_on _ _ _ refl refl tt refl (on_its_way e _ _ _ refl refl refl refl)
+    re_stops false is e = re_on _ _ _ refl refl tt refl (asks_first s r.todo node w first e _ _ _ refl refl refl refl)
 
     re_ends_restart : (bad : Bool) → r.stage ≡ RebalanceStage.Restarting w → has_ended w (length node.stack) ≡ true → is_bad w ≡ bad → Steps s (ma.rebalance_lifted s (re.end_restart s.core r node bad))
     re_ends_restart true is ends verdict = re_on _ _ _ refl refl tt refl (walked_by (RebalanceStage.Restarting w) Minor.Start true is refl refl (λ e. cc) ends verdict _ _ refl refl refl refl)
@@ -260,7 +264,7 @@ module _ (s : State) (r : Rebalance) (runs : s.operation ≡ Some (Operation.Reb
 
     re_restarts : (ended : Bool) → r.stage ≡ RebalanceStage.Restarting w → has_ended w (length node.stack) ≡ ended → Steps s (ma.rebalance_lifted s (re.restart_step s.core r node w ended))
     re_restarts true is e = re_ends_restart (is_bad w) is e refl
-    re_restarts false is e = re_on _ _ _ refl refl tt refl (on_its_way e _ _ _ refl refl refl refl)
+    re_restarts false is e = re_on _ _ _ refl refl tt refl (asks_first s r.todo node w first e _ _ _ refl refl refl refl)
 
   re_fails : (node : Node) → first_node s.core.nodes r.todo ≡ Some node → r.stage ≡ RebalanceStage.Failed → Steps s (ma.rebalance_lifted s (re.failed s.core r node))
   re_fails node first is =
@@ -280,12 +284,7 @@ module _ (s : State) (r : Rebalance) (runs : s.operation ≡ Some (Operation.Reb
   rebalance_effect budget (RebalanceStage.Stopping w) (Some node) is first = re_stops node first w _ is refl
   rebalance_effect budget (RebalanceStage.Restarting w) (Some node) is first = re_restarts node first w _ is refl
   rebalance_effect budget RebalanceStage.Failed (Some node) is first = re_fails node first is
-  rebalance_effect budget (RebalanceStage.Asking w) None is first = tt
-  rebalance_effect budget (RebalanceStage.TakingBack w) None is first = tt
-  rebalance_effect budget (RebalanceStage.Cancelling w) None is first = tt
-  rebalance_effect budget (RebalanceStage.Stopping w) None is first = tt
-  rebalance_effect budget (RebalanceStage.Restarting w) None is first = tt
-  rebalance_effect budget RebalanceStage.Failed None is first = tt
+  rebalance_effect budget _ None is first = tt
 
 -- Removal -------------------------------------------------------------------------------
 
@@ -304,12 +303,12 @@ module _ (s : State) (o : Removal) (runs : s.operation ≡ Some (Operation.Remov
     settles_related true = remains Problem.HeldForEject tt
     settles_related false = remains Problem.Held tt
 
-    settles_target : (b : Bool) → Steps s (ma.removal_lifted s (rm.settle_target s.core o node b))
-    settles_target true =
+    settles_target : (b : Bool) → o.stage ≡ RemovalStage.Settling → Steps s (ma.removal_lifted s (rm.settle_target s.core o node b))
+    settles_target true is =
         let m = rm.leaves s.core o node (Label.Ejected node.path) (rm.RemoveBeside.Ejected node.path node.born) in
         leaves s (unplug node.born (set_operation (Some (Operation.Removing m.frame)) (with_core m.core s))) (Operation.Removing o) (Operation.Removing m.frame) runs node first (Label.Ejected node.path) tt tt refl
-        (rm_finish_on s.core.nodes o (rest o.todo)) refl (WorldEffect.unplugged node.born (inr (node, Operation.Removing o, runs, first, refl)) refl refl) refl refl refl refl refl refl refl refl node.path node.born
-    settles_target false =
+        (rm_finish_on s.core.nodes o (rest o.todo)) refl (WorldEffect.unplugged node.born (node, o, runs, is, first, refl) refl refl) refl refl refl refl refl refl refl refl node.path node.born
+    settles_target false is =
         record {
           nodes = NodeEffect.changed node.serial _ (Alters.troubled node.serial (Some Problem.Disabled)) refl refl;
           drivers = DriverEffect.same tt refl;
@@ -319,29 +318,26 @@ module _ (s : State) (o : Removal) (runs : s.operation ≡ Some (Operation.Remov
           tasks = TaskEffect.same refl;
           world = WorldEffect.same refl refl;
           paths = PathEffect.disables o node runs first refl refl;
+          joins = JoinEffect.none tt;
           serial = omega arith;
         }
 
-    settles_outer : (b : Bool) → Steps s (ma.removal_lifted s (rm.settle_outer s.core o node b))
-    settles_outer true = settles_target (is_eject o.kind)
-    settles_outer false = settles_related _
+    settles_outer : (b : Bool) → o.stage ≡ RemovalStage.Settling → Steps s (ma.removal_lifted s (rm.settle_outer s.core o node b))
+    settles_outer true is = settles_target (is_eject o.kind) is
+    settles_outer false is = settles_related _
 
-    settles : (b : Bool) → Steps s (ma.removal_lifted s (rm.settle s.core o node b))
-    settles true =
+    settles : (b : Bool) → o.stage ≡ RemovalStage.Settling → Steps s (ma.removal_lifted s (rm.settle s.core o node b))
+    settles true is =
         let m = rm.leaves s.core o node (Label.Leave node.path) (rm.RemoveBeside.Left node.path node.born) in
         leaves s (set_operation (Some (Operation.Removing m.frame)) (with_core m.core s)) (Operation.Removing o) (Operation.Removing m.frame) runs node first (Label.Leave node.path) tt tt refl
         (rm_finish_on s.core.nodes o (rest o.todo)) refl (WorldEffect.same refl refl) refl refl refl refl refl refl refl refl node.path node.born
-    settles false = settles_outer _
+    settles false is = settles_outer _ is
 
     module _ (w : Walk) where
       asked_by : (stage : RemovalStage) (minor : Minor) (bad : Bool) → o.stage ≡ stage → ma.removal_walk stage ≡ Some w → removal_minor stage ≡ Some minor → minor ≢ Minor.Remove → has_ended w (length node.stack) ≡ true → ends_bad minor w ≡ bad
           → (label : Label) (t : State) → label ≡ Label.State node.path (state_after minor bad node.state) → t.core.rack ≡ s.core.rack
           → t.core.nodes ≡ changed_first (is_node node.serial) (with_state (state_after minor bad node.state)) s.core.nodes → t.core.relations ≡ s.core.relations → Changes s label t
       asked_by stage minor bad is walk minor_is = walked s (Operation.Removing o) runs node first minor w (ap ma.removal_walk is ∙ walk) (ap removal_minor is ∙ minor_is) bad
-
-      query_on : has_ended w (length node.stack) ≡ false → (label : Label) (shown : Shown) (t : State) → label ≡ Label.Asked w.minor node.path (name_of s.core.rack (next_driver node w)) shown
-          → t.core.rack ≡ rack_after (AskWhat.Irp w.minor) node.path s.core.rack (next_driver node w) → t.core.nodes ≡ s.core.nodes → t.core.relations ≡ s.core.relations → Changes s label t
-      query_on = asks s node w (head_found s.core.nodes o.todo node first).1
 
       ends_query : (bad : Bool) → o.stage ≡ RemovalStage.Asking w → has_ended w (length node.stack) ≡ true → is_bad w ≡ bad → Steps s (ma.removal_lifted s (rm.end_ask s.core o node bad))
       ends_query false is ends verdict =
@@ -352,21 +348,21 @@ module _ (s : State) (o : Removal) (runs : s.operation ≡ Some (Operation.Remov
 
       queries : (ended : Bool) → o.stage ≡ RemovalStage.Asking w → has_ended w (length node.stack) ≡ ended → Steps s (ma.removal_lifted s (rm.ask_step s.core o node w ended))
       queries true is e = ends_query (is_bad w) is e refl
-      queries false is e = rm_on _ _ _ refl (record { sort = refl; kind = refl; path = refl }) tt refl (query_on e _ _ _ refl refl refl refl)
+      queries false is e = rm_on _ _ _ refl (record { sort = refl; kind = refl; path = refl }) tt refl (asks_first s o.todo node w first e _ _ _ refl refl refl refl)
 
       takes_query_back : (ended : Bool) → o.stage ≡ RemovalStage.TakingBack w → has_ended w (length node.stack) ≡ ended → Steps s (ma.removal_lifted s (rm.take_back s.core o node w ended))
       takes_query_back true is e = rm_on _ _ _ refl (rm_cancel_on o o.agreed) tt refl (asked_by (RemovalStage.TakingBack w) Minor.CancelRemove false is refl refl (λ e. cc) e refl _ _ refl refl refl refl)
-      takes_query_back false is e = rm_on _ _ _ refl (record { sort = refl; kind = refl; path = refl }) tt refl (query_on e _ _ _ refl refl refl refl)
+      takes_query_back false is e = rm_on _ _ _ refl (record { sort = refl; kind = refl; path = refl }) tt refl (asks_first s o.todo node w first e _ _ _ refl refl refl refl)
 
       cancels_query : (ended : Bool) → o.stage ≡ RemovalStage.Cancelling w → has_ended w (length node.stack) ≡ ended → Steps s (ma.removal_lifted s (rm.cancel_step s.core o node w ended))
       cancels_query true is e = rm_on _ _ _ refl (rm_cancel_on o (rest o.todo)) tt refl (asked_by (RemovalStage.Cancelling w) Minor.CancelRemove false is refl refl (λ e. cc) e refl _ _ refl refl refl refl)
-      cancels_query false is e = rm_on _ _ _ refl (record { sort = refl; kind = refl; path = refl }) tt refl (query_on e _ _ _ refl refl refl refl)
+      cancels_query false is e = rm_on _ _ _ refl (record { sort = refl; kind = refl; path = refl }) tt refl (asks_first s o.todo node w first e _ _ _ refl refl refl refl)
 
       removes : (ended : Bool) → o.stage ≡ RemovalStage.Removing w → has_ended w (length node.stack) ≡ ended → Steps s (ma.removal_lifted s (rm.remove_step s.core o node w ended))
       removes true is e =
           rm_on _ _ _ refl (record { sort = refl; kind = refl; path = refl }) tt refl
           (stripped s (Operation.Removing o) runs node first w (ap ma.removal_walk is) (ap removal_minor is) e _ _ refl refl refl refl)
-      removes false is e = rm_on _ _ _ refl (record { sort = refl; kind = refl; path = refl }) tt refl (query_on e _ _ _ refl refl refl refl)
+      removes false is e = rm_on _ _ _ refl (record { sort = refl; kind = refl; path = refl }) tt refl (asks_first s o.todo node w first e _ _ _ refl refl refl refl)
 
   removal_effect : (budget : ℕ) (stage : RemovalStage) (n : Option Node) → o.stage ≡ stage → first_node s.core.nodes o.todo ≡ n → EffectNext budget s (option_map (λ m. Does (ma.removal_lifted s m)) (rm.removal_step s.core o stage n))
   removal_effect budget RemovalStage.Ending n is first = closes s (Operation.Removing o) runs _ _ (rm.end_of s.core o.refuser) refl refl refl refl refl refl refl refl tt tt refl (ActivityEffect.same refl)
@@ -374,12 +370,8 @@ module _ (s : State) (o : Removal) (runs : s.operation ≡ Some (Operation.Remov
   removal_effect budget (RemovalStage.TakingBack w) (Some node) is first = takes_query_back node first w _ is refl
   removal_effect budget (RemovalStage.Cancelling w) (Some node) is first = cancels_query node first w _ is refl
   removal_effect budget (RemovalStage.Removing w) (Some node) is first = removes node first w _ is refl
-  removal_effect budget RemovalStage.Settling (Some node) is first = settles node first (has o.set node.parent)
-  removal_effect budget (RemovalStage.Asking w) None is first = tt
-  removal_effect budget (RemovalStage.TakingBack w) None is first = tt
-  removal_effect budget (RemovalStage.Cancelling w) None is first = tt
-  removal_effect budget (RemovalStage.Removing w) None is first = tt
-  removal_effect budget RemovalStage.Settling None is first = tt
+  removal_effect budget RemovalStage.Settling (Some node) is first = settles node first (has o.set node.parent) is
+  removal_effect budget _ None is first = tt
 
 -- Surprise ------------------------------------------------------------------------------
 
@@ -416,13 +408,13 @@ module _ (s : State) (o : Surprise) (runs : s.operation ≡ Some (Operation.Surp
     tells w true is e =
         su_on _ _ _ refl (su_tell_on s.core.nodes o (rest o.todo)) tt refl
         (walked s (Operation.Surprising o) runs node first Minor.SurpriseRemoval w (ap ma.surprise_walk is) (ap surprise_minor is) false (λ q. cc) e refl _ _ refl refl refl refl)
-    tells w false is e = su_on _ _ _ refl (record { sort = refl; kind = refl; path = refl }) tt refl (asks s node w (head_found s.core.nodes o.todo node first).1 e _ _ _ refl refl refl refl)
+    tells w false is e = su_on _ _ _ refl (record { sort = refl; kind = refl; path = refl }) tt refl (asks_first s o.todo node w first e _ _ _ refl refl refl refl)
 
     gone_removes : (w : Walk) (ended : Bool) → o.stage ≡ SurpriseStage.Removing w → has_ended w (length node.stack) ≡ ended → Steps s (ma.surprise_lifted s (su.remove_step s.core o node w ended))
     gone_removes w true is e =
         su_on _ _ _ refl (record { sort = refl; kind = refl; path = refl }) tt refl
         (stripped s (Operation.Surprising o) runs node first w (ap ma.surprise_walk is) (ap surprise_minor is) e _ _ refl refl refl refl)
-    gone_removes w false is e = su_on _ _ _ refl (record { sort = refl; kind = refl; path = refl }) tt refl (asks s node w (head_found s.core.nodes o.todo node first).1 e _ _ _ refl refl refl refl)
+    gone_removes w false is e = su_on _ _ _ refl (record { sort = refl; kind = refl; path = refl }) tt refl (asks_first s o.todo node w first e _ _ _ refl refl refl refl)
 
   surprise_effect : (budget : ℕ) (in_world : Bool) (stage : SurpriseStage) (n : Option Node) → o.stage ≡ stage → first_node s.core.nodes o.todo ≡ n
       → EffectNext budget s (option_map (λ m. Does (ma.surprise_lifted s m)) (su.surprise_step s.core o in_world stage n))
@@ -430,9 +422,7 @@ module _ (s : State) (o : Surprise) (runs : s.operation ≡ Some (Operation.Surp
   surprise_effect budget in_world (SurpriseStage.Telling w) (Some node) is first = tells node first w _ is refl
   surprise_effect budget in_world (SurpriseStage.Removing w) (Some node) is first = gone_removes node first w _ is refl
   surprise_effect budget in_world SurpriseStage.Settling (Some node) is first = gone_settles node first in_world _
-  surprise_effect budget in_world (SurpriseStage.Telling w) None is first = tt
-  surprise_effect budget in_world (SurpriseStage.Removing w) None is first = tt
-  surprise_effect budget in_world SurpriseStage.Settling None is first = tt
+  surprise_effect budget in_world _ None is first = tt
 
 -- All operations ------------------------------------------------------------------------
 

@@ -1,11 +1,11 @@
 -- What a step does where no operation runs.
-use Rattle.std.proofs.Common.{ℕ, ◌+◌, ◌≡◌, ◌≢◌, ◌⊎◌, inl, inr, Bool, true, false, List, [], ◌∷◌, ◌++◌, length, nat_le, Option, Some, None, refl, ap, arith}
+use Rattle.std.proofs.Common.{ℕ, ◌+◌, ◌≡◌, ◌≢◌, ◌⊎◌, inl, inr, Bool, true, false, List, [], ◌∷◌, ◌++◌, length, nat_le, Option, Some, None, refl, sym, ap, subst, arith}
 use Rattle.std.specs.List.{find, slice_get}
 use Rattle.resource_reqs.specs.Spelling.{IsAnswer}
 use Rattle.resource_reqs.specs.Spelling.Answer.{assignment, no_fit, spent}
 use Rattle.pnp_labels.specs.Texts.{Text}
 use Rattle.pnp_labels.specs.declared.states.DevState.{DevState}
-use Rattle.pnp_labels.specs.declared.states.DevState.TheVariants.{NoStack, NotStarted, Started, StopPending, Stopped, RemovePending, SurpriseRemoved}
+use Rattle.pnp_labels.specs.declared.states.DevState.TheVariants.{NoStack, NotStarted, Started}
 use Rattle.pnp_labels.specs.declared.states.Problem.{Problem}
 use Rattle.pnp_labels.specs.declared.words.AskWhat.{AskWhat}
 use Rattle.pnp_labels.specs.declared.words.Minor.{Minor}
@@ -28,9 +28,9 @@ use Rattle.pnp_model.specs.States.{activity_at, drop_task, with_core}
 use Rattle.pnp_model.specs.Tasks.{begin, begin_step, begin_trouble, disable_task, gone_child, gone_or_listed, install, install_best, install_few, install_named, install_service, join_or_on, joining, list_step, list_up, numbered, rebalance_idle, rebalance_task, start_bare, start_enabled, start_idle, start_step}
 use Rattle.pnp_model.specs.Tests.{has_same}
 use Rattle.pnp_model.specs.Walks.{has_ended, is_bad, state_after, walk_of}
-use Rattle.pnp_laws.specs.Words.{IsBeside, joined}
-use Rattle.pnp_laws.specs.Effects.{ActivityEffect, Acting, Alters, Assigned, BeginsFor, Chosen, DriverEffect, Effect, Enters, IsSearch, IsUnasked, NodeEffect, OpEffect, Origin, Owes, PathEffect, PhaseStep, RangeEffect, Request, TaskEffect, WorldEffect, begun, ends_bad}
-use Rattle.pnp_laws.proofs.Lookups.{found_self}
+use Rattle.pnp_laws.specs.Words.{IsBeside, IsNoJoin, joined}
+use Rattle.pnp_laws.specs.Effects.{ActivityEffect, Acting, Alters, Assigned, BeginsFor, Chosen, DriverEffect, Effect, Enters, IsSearch, IsUnasked, JoinEffect, NodeEffect, OpEffect, Origin, Owes, PathEffect, PhaseStep, RangeEffect, Request, TaskEffect, WorldEffect, begun, ends_bad}
+use Rattle.pnp_laws.proofs.Lookups.{found_self, own_serial}
 
 abbrev pub Steps : State → Step → Type 0
 Steps s step = Effect s (Did step.label) step.state
@@ -71,6 +71,10 @@ pub strips : (s : State) (node : Node) (w : Walk) → node_at node.serial s.core
 strips s node w at request ends label t prints rack nodes relations =
     (NodeEffect.stripped node w at request ends prints nodes relations, DriverEffect.ended node Minor.Remove w false at request ends refl prints rack)
 
+pub quiet_label : (label : Label) → joined label ≡ 0 → IsNoJoin label
+quiet_label (Label.Join k path) e = absurd (cc)
+quiet_label _ e = tt
+
 -- world, ranges, paths and serials stay
 pub inside : (s : State) (label : Label) (t : State) → t.world ≡ s.world → t.next_born ≡ s.next_born → t.disabled ≡ s.disabled → t.core.reserved ≡ s.core.reserved → t.next_serial ≡ s.next_serial → joined label ≡ 0
     → Changes s label t → OpEffect s label t → ActivityEffect s t → TaskEffect s t → Effect s (Did label) t
@@ -84,6 +88,7 @@ inside s label t world born paths ranges serial quiet (nodes, drivers) operation
       tasks = tasks;
       world = WorldEffect.same world born;
       paths = PathEffect.same paths;
+      joins = JoinEffect.none (quiet_label label quiet);
       serial = omega arith;
     }
 
@@ -110,20 +115,16 @@ module _ (s : State) (none : s.operation ≡ None) (task : Task) (first : slice_
         ranges = RangeEffect.same refl;
         operation = OpEffect.idles none none (inl tt);
         activities = ActivityEffect.same refl;
-        tasks = TaskEffect.appended (record { kind = Duty.Starting; serial = s.next_serial }) Origin.joins refl;
+        tasks = TaskEffect.joins refl refl;
         world = WorldEffect.same refl refl;
         paths = PathEffect.same refl;
+        joins = JoinEffect.joins node d none at up e refl;
         serial = refl;
       }
 
   lists_up : (node : Node) (x : DevState) → node_at node.serial s.core.nodes ≡ Some node → node.state ≡ x → Steps s (list_up s node x)
   lists_up node Started at up = joins_or_on node at up (joining node.born s.core.nodes s.world) refl
-  lists_up node NoStack at up = dropped _ tt tt refl
-  lists_up node NotStarted at up = dropped _ tt tt refl
-  lists_up node StopPending at up = dropped _ tt tt refl
-  lists_up node Stopped at up = dropped _ tt tt refl
-  lists_up node RemovePending at up = dropped _ tt tt refl
-  lists_up node SurpriseRemoved at up = dropped _ tt tt refl
+  lists_up node _ at up = dropped _ tt tt refl
 
   lists : (k : ℕ) (o : Option Node) → node_at k s.core.nodes ≡ o → Steps s (list_step s k o)
   lists k None at = dropped _ tt tt refl
@@ -134,11 +135,11 @@ module _ (s : State) (none : s.operation ≡ None) (task : Task) (first : slice_
       inside s _ _ refl refl refl refl refl refl (still s _ _ tt refl (NodeEffect.changed node.serial _ (Alters.troubled node.serial (Some problem)) refl refl)) (OpEffect.idles none none (inl beside)) (ActivityEffect.same refl)
       (TaskEffect.dropped task none first refl)
 
-  module _ (node : Node) (at : node_at node.serial s.core.nodes ≡ Some node) (bare_state : node.state ≡ NoStack) (free : activity_at node.serial s.activities ≡ None) where
+  module _ (node : Node) (at : node_at node.serial s.core.nodes ≡ Some node) (bare_state : node.state ≡ NoStack) (free : activity_at node.serial s.activities ≡ None) (next : slice_get s.tasks 0 ≡ Some (record { kind = Duty.Starting; serial = node.serial })) where
     installs : (rank driver : ℕ) (drivers : List ℕ) → Chosen s node.serial drivers → Steps s (install s node rank driver drivers)
     installs rank driver drivers chosen =
         inside s _ _ refl refl refl refl refl refl (still s _ _ tt refl (NodeEffect.changed node.serial _ (Alters.troubled node.serial None) refl refl)) (OpEffect.idles none none (inl tt))
-        (ActivityEffect.enters node.serial (adding drivers) (Enters.installs drivers chosen) refl) (TaskEffect.dropped task none first refl)
+        (ActivityEffect.enters node.serial (adding drivers) (Enters.installs drivers chosen refl) refl) (TaskEffect.dropped task none first refl)
 
     installs_few : (choice : Choice) (service : Text) (few : Bool) → nat_le (length choice.lower + 1 + length choice.upper) 16 ≡ few → Steps s (install_few s node choice service few)
     installs_few choice service true few = by_drivers (numbered s.core.rack choice.lower) (driver_named service s.core.rack) (numbered s.core.rack choice.upper) refl refl refl
@@ -148,6 +149,7 @@ module _ (s : State) (none : s.operation ≡ None) (task : Task) (first : slice_
         by_drivers (Some lower) (Some driver) (Some upper) lower_are driver_is upper_are =
             installs choice.rank driver _
             (record {
+              first = next;
               free = free;
               node = node;
               at = at;
@@ -181,22 +183,21 @@ module _ (s : State) (none : s.operation ≡ None) (task : Task) (first : slice_
     starts_enabled settings true = troubles node Problem.Disabled tt
     starts_enabled settings false = installs_best (settings.best node.hw node.compat)
 
-  starts_idle : (settings : Settings) (node : Node) (o : Option Activity) → node_at node.serial s.core.nodes ≡ Some node → node.state ≡ NoStack → activity_at node.serial s.activities ≡ o → Steps s (start_idle settings s node o)
-  starts_idle settings node (Some a) at bare_state e = dropped _ tt tt refl
-  starts_idle settings node None at bare_state e = starts_enabled node at bare_state e settings (has_same node.path s.disabled)
+  starts_idle : (settings : Settings) (node : Node) (o : Option Activity) → node_at node.serial s.core.nodes ≡ Some node → node.state ≡ NoStack → activity_at node.serial s.activities ≡ o
+      → slice_get s.tasks 0 ≡ Some (record { kind = Duty.Starting; serial = node.serial }) → Steps s (start_idle settings s node o)
+  starts_idle settings node (Some a) at bare_state e next = dropped _ tt tt refl
+  starts_idle settings node None at bare_state e next = starts_enabled node at bare_state e next settings (has_same node.path s.disabled)
 
-  starts_bare : (settings : Settings) (node : Node) (x : DevState) → node_at node.serial s.core.nodes ≡ Some node → node.state ≡ x → Steps s (start_bare settings s node x)
-  starts_bare settings node NoStack at is = starts_idle settings node (activity_at node.serial s.activities) at is refl
-  starts_bare settings node NotStarted at is = dropped _ tt tt refl
-  starts_bare settings node Started at is = dropped _ tt tt refl
-  starts_bare settings node StopPending at is = dropped _ tt tt refl
-  starts_bare settings node Stopped at is = dropped _ tt tt refl
-  starts_bare settings node RemovePending at is = dropped _ tt tt refl
-  starts_bare settings node SurpriseRemoved at is = dropped _ tt tt refl
+  starts_bare : (settings : Settings) (node : Node) (x : DevState) → node_at node.serial s.core.nodes ≡ Some node → node.state ≡ x → slice_get s.tasks 0 ≡ Some (record { kind = Duty.Starting; serial = node.serial })
+      → Steps s (start_bare settings s node x)
+  starts_bare settings node NoStack at is next = starts_idle settings node (activity_at node.serial s.activities) at is refl next
+  starts_bare settings node _ at is next = dropped _ tt tt refl
 
-  starts : (settings : Settings) (k : ℕ) (o : Option Node) → node_at k s.core.nodes ≡ o → Steps s (start_step settings s k o)
-  starts settings k None at = dropped _ tt tt refl
-  starts settings k (Some node) at = starts_bare settings node node.state (found_self k s.core.nodes node at) refl
+  starts : (settings : Settings) (k : ℕ) (o : Option Node) → node_at k s.core.nodes ≡ o → slice_get s.tasks 0 ≡ Some (record { kind = Duty.Starting; serial = k }) → Steps s (start_step settings s k o)
+  starts settings k None at next = dropped _ tt tt refl
+  starts settings k (Some node) at next =
+      starts_bare settings node node.state (found_self k s.core.nodes node at) refl
+      (subst (λ (i : ℕ). slice_get s.tasks 0 ≡ Some (record { kind = Duty.Starting; serial = i })) (sym (own_serial k node s.core.nodes at)) next)
 
   module _ (alone : s.activities ≡ []) where
     begins : (kind : OpKind) (node : Node) → node_at node.serial s.core.nodes ≡ Some node → BeginsFor s kind node → Steps s (begin s kind node (begun s.core kind node))
@@ -209,12 +210,7 @@ module _ (s : State) (none : s.operation ≡ None) (task : Task) (first : slice_
 
     rebalances : (node : Node) (x : DevState) → node_at node.serial s.core.nodes ≡ Some node → node.state ≡ x → Steps s (rebalance_task s node x)
     rebalances node NotStarted at e = rebalances_idle node (activity_at node.serial s.activities) at e refl
-    rebalances node NoStack at e = dropped _ tt tt refl
-    rebalances node Started at e = dropped _ tt tt refl
-    rebalances node StopPending at e = dropped _ tt tt refl
-    rebalances node Stopped at e = dropped _ tt tt refl
-    rebalances node RemovePending at e = dropped _ tt tt refl
-    rebalances node SurpriseRemoved at e = dropped _ tt tt refl
+    rebalances node _ at e = dropped _ tt tt refl
 
     disables : (node : Node) (disabled : Bool) → node_at node.serial s.core.nodes ≡ Some node → has_same node.path s.disabled ≡ disabled → Steps s (disable_task s node disabled)
     disables node true at e = dropped _ tt tt refl
@@ -230,8 +226,8 @@ module _ (s : State) (none : s.operation ≡ None) (task : Task) (first : slice_
 pub lists_effect : (s : State) (task : Task) (k : ℕ) → s.operation ≡ None → slice_get s.tasks 0 ≡ Some task → Steps s (list_step s k (node_at k s.core.nodes))
 lists_effect s task k none first = lists s none task first k (node_at k s.core.nodes) refl
 
-pub starts_effect : (settings : Settings) (s : State) (task : Task) (k : ℕ) → s.operation ≡ None → slice_get s.tasks 0 ≡ Some task → Steps s (start_step settings s k (node_at k s.core.nodes))
-starts_effect settings s task k none first = starts s none task first settings k (node_at k s.core.nodes) refl
+pub starts_effect : (settings : Settings) (s : State) (k : ℕ) → s.operation ≡ None → slice_get s.tasks 0 ≡ Some (record { kind = Duty.Starting; serial = k }) → Steps s (start_step settings s k (node_at k s.core.nodes))
+starts_effect settings s k none first = starts s none _ first settings k (node_at k s.core.nodes) refl first
 
 pub begins_effect : (s : State) (task : Task) (kind : OpKind) (k : ℕ) → s.operation ≡ None → slice_get s.tasks 0 ≡ Some task → s.activities ≡ [] → Steps s (begin_step s kind k (node_at k s.core.nodes))
 begins_effect s task kind k none first alone = begins_step s none task first alone kind k (node_at k s.core.nodes) refl

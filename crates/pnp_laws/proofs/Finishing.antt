@@ -30,7 +30,6 @@ with_drivers SurpriseRemoved d h = refl
 with_drivers _ d h = cc
 
 pub strips : (x : DevState) → is_stripped_next x ≡ true → Row x Minor.Remove false NoStack
-strips NoStack h = absurd (cc)
 strips NotStarted h = remove
 strips RemovePending h = remove_pending
 strips SurpriseRemoved h = remove_surprised

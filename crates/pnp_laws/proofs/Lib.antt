@@ -69,7 +69,6 @@ pub mod RunsEnds
 pub mod Joins
 pub mod JoinSteps
 pub mod JoinRemovals
-pub mod JoinTasks
 pub mod JoinBirths
 pub mod JoinEvents
 pub mod JoinMachine

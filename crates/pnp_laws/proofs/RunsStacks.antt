@@ -16,10 +16,10 @@ use Rattle.pnp_model.specs.Keyed.{changed_first, without_first}
 use Rattle.pnp_model.specs.Laws.{Reaches}
 use Rattle.pnp_model.specs.Rebalances.{committed, movers, plan_of}
 use Rattle.pnp_model.specs.Records.{Activity, Device, Driver, Node, Phase, Settings, State, Step}
-use Rattle.pnp_model.specs.Records.Phase.{Adding, Searching, Starting, Removing, Due}
+use Rattle.pnp_model.specs.Records.Phase.{Adding}
 use Rattle.pnp_model.specs.Runs.{Entry, Goes, printed, opening}
 use Rattle.pnp_model.specs.Starts.{adding}
-use Rattle.pnp_model.specs.States.{activity_at, entered, is_activity, with_phase}
+use Rattle.pnp_model.specs.States.{activity_at, is_activity, with_phase}
 use Rattle.pnp_model.specs.Tasks.{has_path, joins}
 use Rattle.pnp_model.specs.Walks.{place_of}
 use Rattle.pnp_laws.specs.Effects.{ActivityEffect, Acting, Alters, Chosen, DriverEffect, Enters, IsUnasked, NodeEffect, PhaseStep}
@@ -29,10 +29,10 @@ use Rattle.pnp_laws.specs.Reached.{IsReached}
 use Rattle.pnp_laws.specs.Stacks.{AllNamed, HasName, IsNamed, NamesDriver, NamesLaw, StacksLaw}
 use Rattle.pnp_laws.proofs.DriverNames.{MoreNames, chosen_named, more_names, named_append, named_at, named_more, place_below}
 use Rattle.pnp_laws.proofs.EffectsOf.{effect_goes}
-use Rattle.pnp_laws.proofs.EffectViews.{acting_at, alters_keeps}
+use Rattle.pnp_laws.proofs.EffectViews.{acting_at, alters_keeps, entered_either}
 use Rattle.pnp_laws.proofs.JoinMachine.{reaches_born}
 use Rattle.pnp_laws.proofs.Joins.{any_from}
-use Rattle.pnp_laws.proofs.Lookups.{ended_other, ended_same, entered_other, joined_from, left_from, map_from, node_from, phase_set_other, phase_set_same, some_same}
+use Rattle.pnp_laws.proofs.Lookups.{ended_other, ended_same, joined_from, left_from, map_from, node_from, phase_set_other, phase_set_same, some_same}
 use Rattle.pnp_laws.proofs.Reaching.{kept}
 use Rattle.pnp_laws.proofs.Runs.{root_is}
 use Rattle.pnp_laws.proofs.RunsStand.{reaches_kept}
@@ -75,14 +75,7 @@ adding_all (d ∷ ds) = refl
 
 answered_adds : (answer : Answer) (phase : Phase) → phase_drivers (completed_phase answer phase) ≡ phase_drivers phase
 answered_adds answer (Adding drivers) = refl
-answered_adds answer Searching = refl
-answered_adds answer (Starting w) = refl
-answered_adds answer (Removing w) = refl
-answered_adds answer (Due problem) = refl
-
-entered_either : (new : Activity) (k : ℕ) (rest : List Activity) → (activity_at k (entered new rest) ≡ activity_at k rest) ⊎ ((new.serial ≡ k) × (activity_at k (entered new rest) ≡ Some new))
-entered_either new k [] = elim (cases_eq new.serial k) [ inl e ↦ inr (e, grind (arith, nat_tests)) | inr d ↦ inl (entered_other new k [] d) ]
-entered_either new k (b ∷ rest) = grind (arith, nat_tests, entered_either new k rest)
+answered_adds answer _ = refl
 
 acting_adds : (s : State) (k : ℕ) (phase : Phase) → InOrder 0 s.activities → Acting s k phase → to_add (activity_at k s.activities) ≡ phase_drivers phase
 acting_adds s k phase order acts = let here = acting_at s k phase order acts in ap to_add here.at ∙ ap phase_drivers here.is
@@ -92,17 +85,14 @@ module _ (s t : State) (order : InOrder 0 s.activities) where
   remains_is k xs ys e h = subst (λ (ds : List ℕ). Remains s k ds) e h
 
   entered_adds : (k : ℕ) (phase : Phase) → Enters s k t phase → Remains s k (phase_drivers phase)
-  entered_adds k phase (Enters.installs drivers chosen) = remains_is k drivers (phase_drivers (adding drivers)) (sym (adding_all drivers)) (Remains.installs drivers chosen)
+  entered_adds k phase (Enters.installs drivers chosen drops) = remains_is k drivers (phase_drivers (adding drivers)) (sym (adding_all drivers)) (Remains.installs drivers chosen)
   entered_adds k phase (Enters.restarts r plan runs is target found nodes) = Remains.nothing
   entered_adds k phase (Enters.undoes r runs target) = Remains.nothing
 
   gone_adds : (k : ℕ) (old new : Phase) → PhaseStep s k t old new → Remains s k (phase_drivers new)
   gone_adds k _ _ (PhaseStep.added d ds acts) = remains_is k ds (phase_drivers (adding ds)) (sym (adding_all ds)) (Remains.added d ds (acting_adds s k (Adding (d ∷ ds)) order acts))
-  gone_adds k _ _ (PhaseStep.fits phase node plan acts search part own nodes) = Remains.nothing
-  gone_adds k _ _ (PhaseStep.asked w v acts nodes) = Remains.nothing
-  gone_adds k _ _ (PhaseStep.fails phase problem acts other) = Remains.nothing
-  gone_adds k _ _ (PhaseStep.undoes phase w acts) = Remains.nothing
   gone_adds k _ _ (PhaseStep.answered a ok at nodes) = remains_is k _ _ (ap to_add at ∙ sym (answered_adds _ a.phase)) Remains.was
+  gone_adds k _ _ _ = Remains.nothing
 
   set_adds : (k : ℕ) (phase : Phase) (o : Option Activity) → Remains s k (phase_drivers phase) → Remains s k (to_add (option_map (with_phase phase) o))
   set_adds k phase None h = Remains.nothing
@@ -147,11 +137,9 @@ path_is_new born nodes d h = grind (arith, nat_tests)
 
 module _ (s : State) (label : Label) (order : Ascending 0 s.core.nodes) where
   altered : (j : ℕ) (f : Node → Node) → Alters s label j f → (n : Node) → node_at j s.core.nodes ≡ Some n → From s label j (f n)
-  altered j f (Alters.walked node minor w bad at request other ends verdict prints) n there = From.was n there refl (inl refl)
-  altered j f (Alters.troubled k problem) n there = From.was n there refl (inl refl)
   altered j f (Alters.stacks node d ds name at acts prints) n there =
       From.pushed n d ds node.path name there refl (ap (λ (z : Node). z.stack ++ d ∷ []) (some_same (node_at node.serial s.core.nodes) node n at there)) acts prints
-  altered j f (Alters.assigned node phase plan acts search part) n there = From.was n there refl (inl refl)
+  altered j f _ n there = From.was n there refl (inl refl)
 
   changed : (j : ℕ) (f : Node → Node) → ((n : Node) → (f n).serial ≡ n.serial) → ((n : Node) → node_at j s.core.nodes ≡ Some n → From s label j (f n))
       → (k : ℕ) (m : Node) → node_at k (changed_first (is_node j) f s.core.nodes) ≡ Some m → From s label k m

@@ -4,26 +4,25 @@ use Rattle.std.proofs.lemmas.Bool.Decides.{nat_tests}
 use Rattle.pnp_labels.specs.Texts.{Text}
 use Rattle.pnp_labels.specs.declared.label.Label.{Label}
 use Rattle.pnp_labels.specs.declared.states.DevState.{DevState}
-use Rattle.pnp_labels.specs.declared.states.DevState.TheVariants.{NoStack, NotStarted, Started, StopPending, Stopped, RemovePending, SurpriseRemoved}
+use Rattle.pnp_labels.specs.declared.states.DevState.TheVariants.{NotStarted, Started, StopPending, Stopped, RemovePending, SurpriseRemoved}
 use Rattle.pnp_labels.specs.declared.words.Minor.{Minor}
-use Rattle.pnp_model.specs.Cores.{is_node, node_at, bare, new_node}
+use Rattle.pnp_model.specs.Cores.{node_at}
 use Rattle.pnp_model.specs.Diagram.{Row}
 use Rattle.pnp_model.specs.Events.{front, operation_at}
 use Rattle.pnp_model.specs.Frames.{first_node}
-use Rattle.pnp_model.specs.Keyed.{changed_first}
 use Rattle.pnp_model.specs.Machine.{operation_walk, rebalance_walk, removal_walk, surprise_walk}
-use Rattle.pnp_model.specs.Rebalances.{committed, movers, plan_of}
-use Rattle.pnp_model.specs.Records.{Node, Operation, Phase, Rebalance, RebalanceStage, Removal, RemovalStage, State, Step, Surprise, SurpriseStage, Walk}
-use Rattle.pnp_model.specs.Records.Phase.{Adding, Searching, Starting, Removing, Due}
+use Rattle.pnp_model.specs.Records.{Node, Operation, Phase, Rebalance, RebalanceStage, Removal, RemovalStage, State, Surprise, SurpriseStage, Walk}
+use Rattle.pnp_model.specs.Records.Phase.{Starting, Removing}
 use Rattle.pnp_model.specs.Runs.{printed}
 use Rattle.pnp_model.specs.Tests.{has, is_told}
 use Rattle.pnp_model.specs.Walks.{has_ended, is_bad, may_fail, state_after}
 use Rattle.pnp_laws.specs.Effects.{Acting, Alters, DriverEffect, IsUnasked, NodeEffect, operation_minor, rebalance_minor, removal_minor, surprise_minor, todo_of}
-use Rattle.pnp_laws.specs.Kept.{Ascending, Fits, InOrder, IsGood, OperationFits, at_head, is_stripped_next, rebalance_state, removal_state, surprise_state}
+use Rattle.pnp_laws.specs.Kept.{Fits, InOrder, IsGood, OperationFits, at_head, rebalance_state, removal_state, surprise_state}
 use Rattle.pnp_laws.specs.Told.{ChangesAt, IsUnder, Request, StatesLaw, ends_bad, operation_request, phase_request, rebalance_request, removal_request, request, surprise_request}
 use Rattle.pnp_laws.proofs.EffectsOf.{effect_goes}
-use Rattle.pnp_laws.proofs.EffectViews.{acting_at, alters_keeps}
-use Rattle.pnp_laws.proofs.Lookups.{own_serial, some_same, node_from, joined_from, left_from, map_from}
+use Rattle.pnp_laws.proofs.EffectViews.{Turns, acting_at, state_from}
+use Rattle.pnp_laws.proofs.Finishing.{strips}
+use Rattle.pnp_laws.proofs.Lookups.{own_serial, some_same}
 use Rattle.pnp_laws.proofs.OpSteps.{is_Started, is_StopPending, is_Stopped, is_RemovePending}
 use Rattle.pnp_laws.proofs.RunsStand.{Kept, reaches_kept}
 use Rattle.pnp_laws.specs.Effects as Effects
@@ -64,31 +63,16 @@ sure : (minor : Minor) (w : Walk) (x : DevState) → (may_fail minor && is_bad w
 sure minor w x never row true e = absurd (cc)
 sure minor w x never row false e = row
 
-remove_row : (x : DevState) → is_stripped_next x ≡ true → Row x Minor.Remove false NoStack
-remove_row NotStarted h = Row.remove
-remove_row RemovePending h = Row.remove_pending
-remove_row SurpriseRemoved h = Row.remove_surprised
-remove_row NoStack h = absurd (cc)
-remove_row Started h = absurd (cc)
-remove_row StopPending h = absurd (cc)
-remove_row Stopped h = absurd (cc)
-
 tell_row : (x : DevState) → is_told x ≡ true → Row x Minor.SurpriseRemoval false SurpriseRemoved
 tell_row Started h = Row.surprise
 tell_row Stopped h = Row.surprise_stopped
-tell_row NoStack h = absurd (cc)
-tell_row NotStarted h = absurd (cc)
-tell_row StopPending h = absurd (cc)
-tell_row RemovePending h = absurd (cc)
-tell_row SurpriseRemoved h = absurd (cc)
+tell_row _ h = absurd (cc)
 
 -- by a start
 start_row : (phase : Phase) (r : Request) (x : DevState) → Fits phase x → phase_request phase ≡ Some r → RowsOf r x
 start_row (Starting w) r x fits is = of_request Minor.Start w r x is (subst (λ (z : DevState). Rows Minor.Start w z) (sym fits) (start_rows w))
 start_row (Removing w) r x fits is = of_request Minor.Remove w r x is (subst (λ (z : DevState). Rows Minor.Remove w z) (sym fits) (sure Minor.Remove w NotStarted refl Row.remove))
-start_row (Adding drivers) r x fits is = absurd (cc)
-start_row Searching r x fits is = absurd (cc)
-start_row (Due problem) r x fits is = absurd (cc)
+start_row _ r x fits is = absurd (cc)
 
 -- the first of a list
 front_has : (todo : List ℕ) (k : ℕ) → front todo ≡ Some k → (has todo k ≡ true) × (at_head todo k ≡ true)
@@ -107,11 +91,7 @@ rebalance_row o (RebalanceStage.Stopping w) k r x first h is =
     of_request Minor.Stop w r x is (subst (λ (z : DevState). Rows Minor.Stop w z) (sym (is_StopPending x (grind (arith)))) (sure Minor.Stop w StopPending refl Row.stop))
 rebalance_row o (RebalanceStage.Restarting w) k r x first h is =
     of_request Minor.Start w r x is (subst (λ (z : DevState). Rows Minor.Start w z) (sym (is_Stopped x (grind (arith)))) (restart_rows w))
-rebalance_row o RebalanceStage.Searching k r x first h is = absurd (cc)
-rebalance_row o RebalanceStage.Stuck k r x first h is = absurd (cc)
-rebalance_row o RebalanceStage.Committing k r x first h is = absurd (cc)
-rebalance_row o RebalanceStage.Failed k r x first h is = absurd (cc)
-rebalance_row o RebalanceStage.Ending k r x first h is = absurd (cc)
+rebalance_row o _ k r x first h is = absurd (cc)
 
 -- by a removal
 removal_row : (o : Removal) (stage : RemovalStage) (k : ℕ) (r : Request) (x : DevState) → has o.todo k ≡ true → at_head o.todo k ≡ true → removal_state o stage k x ≡ true → removal_request stage ≡ Some r → RowsOf r x
@@ -122,7 +102,7 @@ removal_row o (RemovalStage.TakingBack w) k r x first head h is =
 removal_row o (RemovalStage.Cancelling w) k r x first head h is =
     of_request Minor.CancelRemove w r x is (subst (λ (z : DevState). Rows Minor.CancelRemove w z) (sym (is_RemovePending x (grind (arith)))) (sure Minor.CancelRemove w RemovePending refl Row.cancel_remove))
 removal_row o (RemovalStage.Removing w) k r x first head h is =
-    of_request Minor.Remove w r x is (sure Minor.Remove w x refl (remove_row x (grind (arith))))
+    of_request Minor.Remove w r x is (sure Minor.Remove w x refl (strips x (grind (arith))))
 removal_row o RemovalStage.Settling k r x first head h is = absurd (cc)
 removal_row o RemovalStage.Ending k r x first head h is = absurd (cc)
 
@@ -131,7 +111,7 @@ surprise_row : (o : Surprise) (stage : SurpriseStage) (k : ℕ) (r : Request) (x
 surprise_row o (SurpriseStage.Telling w) k r x first head h is =
     of_request Minor.SurpriseRemoval w r x is (sure Minor.SurpriseRemoval w x refl (tell_row x (grind (arith))))
 surprise_row o (SurpriseStage.Removing w) k r x first head h is =
-    of_request Minor.Remove w r x is (sure Minor.Remove w x refl (remove_row x (grind (arith))))
+    of_request Minor.Remove w r x is (sure Minor.Remove w x refl (strips x (grind (arith))))
 surprise_row o SurpriseStage.Settling k r x first head h is = absurd (cc)
 surprise_row o SurpriseStage.Ending k r x first head h is = absurd (cc)
 
@@ -189,49 +169,13 @@ is_under s node minor w order (Effects.Request.operates _ _ asks) = operation_un
 
 -- Who changes --------------------------------------------------------------------------------------------
 
-module _ (s : State) (label : Label) (t : State) where
-  -- a device whose state is told keeps its path
-  altered_alone : (j : ℕ) (f : Node → Node) → Alters s label j f → (n : Node) → node_at j s.core.nodes ≡ Some n → ((f n).state ≡ n.state) ⊎ ChangesAt label n.path
-  altered_alone j f (Alters.walked node minor w bad at request other ends verdict prints) n there =
-      inr (subst (λ (l : Label). ChangesAt l n.path) (sym prints) (ap (λ (z : Node). z.path) (some_same (node_at j s.core.nodes) n node there at)))
-  altered_alone j f (Alters.troubled k problem) n there = inl refl
-  altered_alone j f (Alters.stacks node d ds name at acts prints) n there =
-      inr (subst (λ (l : Label). ChangesAt l n.path) (sym prints) (ap (λ (z : Node). z.path) (some_same (node_at j s.core.nodes) n node there at)))
-  altered_alone j f (Alters.assigned node phase plan acts search part) n there = inl refl
+changes_at : (s : State) (label : Label) (k : ℕ) (n : Node) → Turns s label k n → ChangesAt label n.path
+changes_at s label k n (Turns.told y prints) = subst (λ (l : Label). ChangesAt l n.path) (sym prints) refl
+changes_at s label k n (Turns.added d ds name acts prints) = subst (λ (l : Label). ChangesAt l n.path) (sym prints) refl
 
-  module _ (k : ℕ) (n m : Node) (at : node_at k s.core.nodes ≡ Some n) where
-    same_state : node_at k s.core.nodes ≡ Some m → (m.state ≡ n.state) ⊎ ChangesAt label n.path
-    same_state q = inl (ap (λ (z : Node). z.state) (some_same (node_at k s.core.nodes) m n q at))
-
-    changed_alone : (j : ℕ) (f : Node → Node) → ((x : Node) → (f x).serial ≡ x.serial) → ((x : Node) → node_at j s.core.nodes ≡ Some x → ((f x).state ≡ x.state) ⊎ ChangesAt label x.path)
-        → node_at k (changed_first (is_node j) f s.core.nodes) ≡ Some m → (m.state ≡ n.state) ⊎ ChangesAt label n.path
-    changed_alone j f serial own now =
-        elim (node_from j k f s.core.nodes m serial now) [
-          | inl (e, (x, q, r)) ↦
-              let same : x ≡ n = some_same (node_at k s.core.nodes) x n q at in
-              let at_j = subst (λ (i : ℕ). node_at i s.core.nodes ≡ Some n) (sym e) at in
-              subst (λ (z : Node). (z.state ≡ n.state) ⊎ ChangesAt label n.path) (ap f (sym same) ∙ sym r) (own n at_j)
-          | inr (d, q) ↦ same_state q
-        ]
-
-    alone : Ascending 0 s.core.nodes → NodeEffect s label t → node_at k t.core.nodes ≡ Some m → (m.state ≡ n.state) ⊎ ChangesAt label n.path
-    alone order (NodeEffect.same e rest) now = same_state (subst (λ (x : List Node). node_at k x ≡ Some m) e now)
-    alone order (NodeEffect.changed j f alters e rest) now =
-        changed_alone j f (alters_keeps s label j f alters).serial (altered_alone j f alters) (subst (λ (x : List Node). node_at k x ≡ Some m) e now)
-    alone order (NodeEffect.stripped node w there request ends prints e rest) now =
-        changed_alone node.serial bare (λ x. refl)
-        (λ x q. inr (subst (λ (l : Label). ChangesAt l x.path) (sym prints) (ap (λ (z : Node). z.path) (some_same (node_at node.serial s.core.nodes) x node q there))))
-        (subst (λ (x : List Node). node_at k x ≡ Some m) e now)
-    alone order (NodeEffect.commits r runs is e rest) now =
-        let old = map_from k (committed (movers r) (plan_of r.found)) s.core.nodes m (λ x. refl) (subst (λ (x : List Node). node_at k x ≡ Some m) e now) in
-        inl (ap (λ (z : Node). z.state) old.2 ∙ ap (λ (z : Node). z.state) (some_same (node_at k s.core.nodes) old.0 n old.1 at))
-    alone order (NodeEffect.joins node d none there up below is) now =
-        elim (joined_from k s.core.nodes (new_node s.next_serial node.serial d) m (subst (λ (x : Step). node_at k x.state.core.nodes ≡ Some m) is now)) [
-          | inl q ↦ same_state q
-          | inr (gone, new, own) ↦ absurd (let missing = gone in cc)
-        ]
-    alone order (NodeEffect.left node o runs first e rest) now = same_state (left_from node.serial k s.core.nodes m order (subst (λ (x : List Node). node_at k x ≡ Some m) e now)).1
-    alone order (NodeEffect.related r related e rest) now = same_state (subst (λ (x : List Node). node_at k x ≡ Some m) e now)
+alone : (s : State) (label : Label) (k : ℕ) (n m : Node) → (m.state ≡ n.state) ⊎ Turns s label k n → (m.state ≡ n.state) ⊎ ChangesAt label n.path
+alone s label k n m (inl e) = inl e
+alone s label k n m (inr turns) = inr (changes_at s label k n turns)
 
 -- Whose state is told --------------------------------------------------------------------------------------
 
@@ -255,17 +199,17 @@ module _ (s : State) (label : Label) (t : State) (all : Kept s) (path : Text) (s
         subst (λ (y : DevState). Row n.state minor (ends_bad r) y) after (row_of s k n r all.good at under (ends_bad r) refl),
       )
   told (DriverEffect.same unasked rack) = absurd (no_state label path state unasked is)
+  told (DriverEffect.named kind name unasked rack) = absurd (no_state label path state unasked is)
+  told (DriverEffect.taught name rule unasked rack) = absurd (no_state label path state unasked is)
   told (DriverEffect.asked node w shown there on prints rack) = absurd (cc)
   told (DriverEffect.added node d ds acts prints rack activities) = absurd (cc)
   told (DriverEffect.refused node d ds acts prints rack) = absurd (cc)
-  told (DriverEffect.named kind name unasked rack) = absurd (no_state label path state unasked is)
-  told (DriverEffect.taught name rule unasked rack) = absurd (no_state label path state unasked is)
 
 pub states_are_told : StatesLaw
 states_are_told settings rack entries old entry new run goes =
     let all = reaches_kept settings rack entries old run in
     let effect = effect_goes settings old entry new goes in
     record {
-      alone = λ k n m at now. alone old (printed entry) new k n m at all.good.serials effect.nodes now;
+      alone = λ k n m at now. alone old (printed entry) k n m (state_from old (printed entry) new all.good.serials k n m at effect.nodes now);
       walked = λ path state is k n at own. told old (printed entry) new all path state is k n at own effect.drivers;
     }

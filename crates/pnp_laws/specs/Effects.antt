@@ -34,7 +34,7 @@ use Rattle.pnp_model.specs.Events.{answer_of, completed, completed_phase, with_r
 use Rattle.pnp_model.specs.Runs.{Entry, Goes, printed}
 use Rattle.pnp_model.specs.Runs.Entry.{Happens, Did}
 use Rattle.pnp_model.specs.Records.{Node, Core, Device, Relation, Walk, Activity, Phase, Task, Duty, State, Operation, Rebalance, RebalanceStage, Removal, RemovalStage, Settings, SurpriseStage}
-use Rattle.pnp_laws.specs.Words.{IsBeside, IsWord, NotTwelve, SameWork, EndsBy, is_removal, kind_of, path_of, joined}
+use Rattle.pnp_laws.specs.Words.{IsBeside, IsNoJoin, IsWord, NotTwelve, SameWork, EndsBy, is_removal, kind_of, path_of, joined}
 use Rattle.device_ids.specs.Folding as folding
 
 -- Who does it ----------------------------------------------------------------------
@@ -52,6 +52,12 @@ abbrev pub todo_of : Operation → List ℕ
 todo_of (Operation.Rebalancing r) = r.todo
 todo_of (Operation.Removing o) = o.todo
 todo_of (Operation.Surprising o) = o.todo
+
+-- those of them that may leave: a rebalance lets none leave
+abbrev pub to_leave : Operation → List ℕ
+to_leave (Operation.Rebalancing r) = []
+to_leave (Operation.Removing o) = o.todo
+to_leave (Operation.Surprising o) = o.todo
 
 -- what is asked in a stage
 abbrev pub rebalance_minor : RebalanceStage → Option Minor
@@ -150,7 +156,7 @@ pub data NodeEffect (s : State) (label : Label) (t : State) : Type 0 where
       → t.core.nodes ≡ map (committed (movers r) (plan_of r.found)) s.core.nodes → t.core.relations ≡ s.core.relations → NodeEffect s label t
   joins : (node : Node) (d : Device) → s.operation ≡ None → node_at node.serial s.core.nodes ≡ Some node → node.state ≡ Started
       → joining node.born s.core.nodes s.world ≡ Some d → record { label = label; state = t } ≡ join_step s node d → NodeEffect s label t
-  left : (node : Node) (o : Operation) → s.operation ≡ Some o → first_node s.core.nodes (todo_of o) ≡ Some node
+  left : (node : Node) (o : Operation) → s.operation ≡ Some o → first_node s.core.nodes (to_leave o) ≡ Some node
       → t.core.nodes ≡ without_first (is_node node.serial) s.core.nodes → t.core.relations ≡ s.core.relations → NodeEffect s label t
   related : (r : Relation) → Related s r → t.core.nodes ≡ s.core.nodes → t.core.relations ≡ s.core.relations ++ r ∷ [] → NodeEffect s label t
 
@@ -183,6 +189,7 @@ pub data DriverEffect (s : State) (label : Label) (t : State) : Type 0 where
 
 -- the drivers that were chosen for a device without drivers: lower filters, its service, upper filters
 pub record Chosen (s : State) (k : ℕ) (drivers : List ℕ) : Type 0 where
+  pub first : slice_get s.tasks 0 ≡ Some (record { kind = Duty.Starting; serial = k })
   pub free : activity_at k s.activities ≡ None
   pub node : Node
   pub at : node_at k s.core.nodes ≡ Some node
@@ -215,16 +222,15 @@ pub record Plugged (s : State) (entry : Entry) (d : Device) : Type 0 where
   pub room : nat_le (length s.world) 4096 ≡ true
   pub event : entry ≡ Happens (Event.Plug parent d.path d.hw d.compat d.reqs) label
 
--- what leaves the world: a device that is not the root, or the device of a node that leaves
-abbrev pub Unplugs : State → ℕ → Type 0
-Unplugs s born =
-    ((d : Device) × (path : Text) × (device_of path s.world ≡ Some d) × (d.born ≡ born) × ((d.born == 0) ≡ false))
-    ⊎ ((node : Node) × (o : Operation) × (s.operation ≡ Some o) × (first_node s.core.nodes (todo_of o) ≡ Some node) × (node.born ≡ born))
+-- what leaves the world: in an event a device that is not the root, in a step the device of a node that leaves
+abbrev pub Unplugs : State → Entry → ℕ → Type 0
+Unplugs s (Happens event label) born = (d : Device) × (path : Text) × (device_of path s.world ≡ Some d) × (d.born ≡ born) × ((d.born == 0) ≡ false)
+Unplugs s (Did label) born = (node : Node) × (o : Removal) × (s.operation ≡ Some (Operation.Removing o)) × (o.stage ≡ RemovalStage.Settling) × (first_node s.core.nodes o.todo ≡ Some node) × (node.born ≡ born)
 
 pub data WorldEffect (s : State) (entry : Entry) (t : State) : Type 0 where
   same : t.world ≡ s.world → t.next_born ≡ s.next_born → WorldEffect s entry t
   plugged : (d : Device) → Plugged s entry d → t.world ≡ s.world ++ d ∷ [] → t.next_born ≡ s.next_born + 1 → WorldEffect s entry t
-  unplugged : (born : ℕ) → Unplugs s born → t.world ≡ without_those (born ∷ []) s.world → t.next_born ≡ s.next_born → WorldEffect s entry t
+  unplugged : (born : ℕ) → Unplugs s entry born → t.world ≡ without_those (born ∷ []) s.world → t.next_born ≡ s.next_born → WorldEffect s entry t
 
 pub data PathEffect (s : State) (label : Label) (t : State) : Type 0 where
   same : t.disabled ≡ s.disabled → PathEffect s label t
@@ -281,7 +287,7 @@ OperationEffect s (Did label) t = OpEffect s label t
 
 -- why the start of a device begins in a phase: its drivers were chosen; or the rebalance for it closes
 pub data Enters (s : State) (k : ℕ) (t : State) : Phase → Type 0 where
-  installs : (drivers : List ℕ) → Chosen s k drivers → Enters s k t (adding drivers)
+  installs : (drivers : List ℕ) → Chosen s k drivers → t.tasks ≡ drop 1 s.tasks → Enters s k t (adding drivers)
   restarts : (r : Rebalance) (plan : List (List Res)) → s.operation ≡ Some (Operation.Rebalancing r) → r.stage ≡ RebalanceStage.Ending → r.target ≡ k → r.found ≡ assignment plan → t.core.nodes ≡ s.core.nodes
       → Enters s k t (Phase.Starting (walk_of Minor.Start))
   undoes : (r : Rebalance) → s.operation ≡ Some (Operation.Rebalancing r) → r.target ≡ k → Enters s k t (Phase.Removing (walk_of Minor.Remove))
@@ -307,21 +313,27 @@ pub data ActivityEffect (s t : State) : Type 0 where
 -- why a step appends a task
 pub data Origin (s : State) : Duty → ℕ → Type 0 where
   lists : (k : ℕ) → Origin s Duty.Listing k
-  joins : Origin s Duty.Starting s.next_serial
   needs : (k : ℕ) (phase : Phase) → Acting s k phase → Origin s (Duty.Begins OpKind.Rebalance) k
   surprises : (over : ℕ) (child : Node) → find (is_gone s) (children over s.core.nodes) ≡ Some child → Origin s (Duty.Begins OpKind.Surprise) child.serial
+
+-- the device of a path may start again, and all but tasks and paths stays
+pub record Enabled (s t : State) (path : Text) (n : Node) : Type 0 where
+  pub at : node_of path s.core.nodes ≡ Some n
+  pub stays : t ≡ record s { tasks = t.tasks; disabled = t.disabled }
 
 -- an event appends one task at most
 pub data CommandEffect (s t : State) : Type 0 where
   same : t.tasks ≡ s.tasks → CommandEffect s t
   lists : (k : ℕ) → t.tasks ≡ s.tasks ++ record { kind = Duty.Listing; serial = k } ∷ [] → CommandEffect s t
-  starts : (path : Text) (n : Node) → node_of path s.core.nodes ≡ Some n → t.tasks ≡ s.tasks ++ record { kind = Duty.Starting; serial = n.serial } ∷ [] → CommandEffect s t
+  starts : (path : Text) (n : Node) → Enabled s t path n → t.tasks ≡ s.tasks ++ record { kind = Duty.Starting; serial = n.serial } ∷ [] → CommandEffect s t
   begins : (kind : OpKind) (n : Node) (path : Text) → node_of path s.core.nodes ≡ Some n → (n.serial == 0) ≡ false
       → t.tasks ≡ s.tasks ++ record { kind = Duty.Begins kind; serial = n.serial } ∷ [] → CommandEffect s t
 
 pub data TaskEffect (s t : State) : Type 0 where
   same : t.tasks ≡ s.tasks → TaskEffect s t
   appended : (task : Task) → Origin s task.kind task.serial → t.tasks ≡ s.tasks ++ task ∷ [] → TaskEffect s t
+  -- the start of a node that joins
+  joins : t.next_serial ≡ s.next_serial + 1 → t.tasks ≡ s.tasks ++ record { kind = Duty.Starting; serial = s.next_serial } ∷ [] → TaskEffect s t
   dropped : (task : Task) → s.operation ≡ None → slice_get s.tasks 0 ≡ Some task → t.tasks ≡ drop 1 s.tasks → TaskEffect s t
   -- the surprise removal of a device that failed its restart
   put_first : (node : Node) (r : Rebalance) → s.operation ≡ Some (Operation.Rebalancing r) → r.stage ≡ RebalanceStage.Failed → first_node s.core.nodes r.todo ≡ Some node
@@ -330,6 +342,13 @@ pub data TaskEffect (s t : State) : Type 0 where
 abbrev pub TasksEffect : State → Entry → State → Type 0
 TasksEffect s (Happens event label) t = CommandEffect s t
 TasksEffect s (Did label) t = TaskEffect s t
+
+-- Joins ------------------------------------------------------------------------------------
+
+pub data JoinEffect (s : State) (label : Label) (t : State) : Type 0 where
+  none : IsNoJoin label → JoinEffect s label t
+  joins : (node : Node) (d : Device) → s.operation ≡ None → node_at node.serial s.core.nodes ≡ Some node → node.state ≡ Started
+      → joining node.born s.core.nodes s.world ≡ Some d → record { label = label; state = t } ≡ join_step s node d → JoinEffect s label t
 
 -- All of it --------------------------------------------------------------------------------
 
@@ -342,6 +361,7 @@ pub record Effect (s : State) (entry : Entry) (t : State) : Type 0 where
   pub tasks : TasksEffect s entry t
   pub world : WorldEffect s entry t
   pub paths : PathEffect s (printed entry) t
+  pub joins : JoinEffect s (printed entry) t
   pub serial : t.next_serial ≡ s.next_serial + joined (printed entry)
 
 -- each step and each event has one
