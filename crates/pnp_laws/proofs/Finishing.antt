@@ -14,7 +14,7 @@ use Rattle.pnp_model.specs.Diagram.{Row}
 use Rattle.pnp_model.specs.Diagram.Row.{remove, remove_pending, remove_surprised}
 use Rattle.pnp_labels.specs.declared.states.DevState.{DevState}
 use Rattle.pnp_labels.specs.declared.words.Minor.{Minor}
-use Rattle.pnp_labels.specs.declared.states.DevState.TheVariants.{NoStack, NotStarted, Started, StopPending, Stopped, RemovePending, SurpriseRemoved}
+use Rattle.pnp_labels.specs.declared.states.DevState.TheVariants.{NoStack, NotStarted, RemovePending, SurpriseRemoved}
 use Rattle.pnp_laws.proofs.Lookups.{node_changed_same, node_changed_other, left_other}
 use Rattle.pnp_laws.proofs.Lists.{HeadIs}
 
