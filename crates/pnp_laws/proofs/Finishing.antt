@@ -150,6 +150,3 @@ relist_only path born s = by_device (device_of path s.world)
     by_device : (o : Option Device) → OnlyTasks s (relist_device born o s)
     by_device None = same_only s
     by_device (Some d) = by_other d (d.born == born)
-
-pub relist_core : (path : List ℕ) (born : ℕ) (s : State) → (relist path born s).core ≡ s.core
-relist_core path born s = (relist_only path born s).core

@@ -11,7 +11,7 @@ use Rattle.pnp_laws.proofs.Lookups.{some_same, joined_from, joined_keeps}
 use Rattle.pnp_laws.proofs.Standing.{Tree}
 use Rattle.pnp_laws.proofs.Joins.{below, joinable, joinable_less, starting_none, starts, start_cost, starts_less, unborn, below_node, start_costs, can_join, closed, is_bare, some_there, is_live, lives, In, Sub, sub_in, Grows, Born, Flows, any_from, any_at, parent_there}
 use Rattle.pnp_laws.proofs.JoinSteps.{Joined, live_is, starts_pushed}
-use Rattle.pnp_laws.proofs.Truths.{and_both, both_true, but_not}
+use Rattle.pnp_laws.proofs.Truths.{and_both, both_true, but_not, not_true}
 
 -- Worlds -------------------------------------------------------------------------------------------------
 
@@ -89,11 +89,7 @@ unknown s node d h =
     let two = and_both (d.parent == node.born && not (has_born d.born s.core.nodes)) (not (has_path d.path s.core.nodes)) h in
     let first = and_both (d.parent == node.born) (not (has_born d.born s.core.nodes)) two.0 in
     let e = first.0 in
-    (grind (arith, nat_tests), by_test (has_born d.born s.core.nodes) first.1)
-  where
-    by_test : (b : Bool) → not b ≡ true → b ≡ false
-    by_test true g = absurd (cc)
-    by_test false g = refl
+    (grind (arith, nat_tests), not_true (has_born d.born s.core.nodes) first.1)
 
 -- no node has the birth number
 pub no_node : (s : State) (b k : ℕ) (n : Node) → has_born b s.core.nodes ≡ false → node_at k s.core.nodes ≡ Some n → n.born ≡ b → ⊥

@@ -10,7 +10,7 @@ use Rattle.pnp_laws.specs.Kept.{Ascending, IsGood}
 use Rattle.pnp_laws.proofs.Lookups.{own_serial}
 use Rattle.pnp_laws.proofs.Standing.{Tree}
 use Rattle.pnp_laws.proofs.Joins.{starts, is_live, lives, In, Sub, any_from, any_at, Born, Flows, start_of, starts_with, one_born}
-use Rattle.pnp_laws.proofs.Truths.{and_both, both_true, but_not, or_left}
+use Rattle.pnp_laws.proofs.Truths.{and_both, both_true, but_not, not_true, or_left}
 
 -- Devices that may join ------------------------------------------------------------------------------------
 
@@ -236,10 +236,6 @@ spare_used false c d e l some = absurd (cc)
 spare_spent : (a b : Bool) (c d : ℕ) → b ≡ true → c + 1 ≤ d → spare a c < spare b d
 spare_spent a true c d e l = let m = spare_most a c in omega arith
 spare_spent a false c d e l = absurd (cc)
-
-pub not_true : (b : Bool) → not b ≡ true → b ≡ false
-not_true true h = absurd (cc)
-not_true false h = refl
 
 pub some_more : (c d : ℕ) → c ≤ d → nat_lt 0 c ≡ true → nat_lt 0 d ≡ true
 some_more c d l h = grind (arith, nat_tests)

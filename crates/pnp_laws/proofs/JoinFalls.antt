@@ -14,8 +14,8 @@ use Rattle.pnp_laws.proofs.Standing.{Tree}
 use Rattle.pnp_laws.proofs.Joins.{starts_less, unborn, closed, is_bare, is_live, lives, In, sub_same, Grows, Born, any_from, any_at, parent_there}
 use Rattle.pnp_laws.proofs.JoinSteps.{Joined, live_is, starts_pushed}
 use Rattle.pnp_laws.proofs.JoinBirths.{Joining, unknown, no_node, under, grows_in, new_there, new_dead, could_join, could_before, is_born_now}
-use Rattle.pnp_laws.proofs.JoinCounts.{is_counted, reach, counted_more, reach_less, is_alive, live_at, one_of, start_count, is_to_start, opens_at, is_outside, spare, total, spare_at, spares, join_price, total_less, spare_less, one_is, not_true}
-use Rattle.pnp_laws.proofs.Truths.{and_both, both_true, but_not, or_cases, or_right, or_left}
+use Rattle.pnp_laws.proofs.JoinCounts.{is_counted, reach, counted_more, reach_less, is_alive, live_at, one_of, start_count, is_to_start, opens_at, is_outside, spare, total, spare_at, spares, join_price, total_less, spare_less, one_is}
+use Rattle.pnp_laws.proofs.Truths.{and_both, both_true, but_not, not_true, or_cases, or_right, or_left}
 
 -- Counting ---------------------------------------------------------------------------------------------------
 

@@ -19,10 +19,10 @@ use Rattle.pnp_laws.proofs.RunsStand.{Kept, kept_goes, opening_kept}
 use Rattle.pnp_laws.proofs.Joins.{starts, start_cost, closed, some_there, sub_is, any_from, any_at, Born}
 use Rattle.pnp_laws.proofs.JoinSteps.{answer_closed, joined_none, live_is, live_from, some_is}
 use Rattle.pnp_laws.proofs.JoinMachine.{step_flows, born_goes, opening_born}
-use Rattle.pnp_laws.proofs.JoinCounts.{reach_room, reach_less, is_alive, live_at, one_of, start_count, is_to_start, opens_at, is_outside, may_join, spare, total, spare_at, spares, join_price, HasRoom, total_less, spare_most, spare_less, spares_less, flows_price, one_is, not_true}
+use Rattle.pnp_laws.proofs.JoinCounts.{reach_room, reach_less, is_alive, live_at, one_of, start_count, is_to_start, opens_at, is_outside, may_join, spare, total, spare_at, spares, join_price, HasRoom, total_less, spare_most, spare_less, spares_less, flows_price, one_is}
 use Rattle.pnp_laws.proofs.JoinFalls.{joined_price}
 use Rattle.pnp_laws.proofs.JoinRooms.{room_flows, Starts, event_room, event_starts}
-use Rattle.pnp_laws.proofs.Truths.{and_both, both_true}
+use Rattle.pnp_laws.proofs.Truths.{and_both, both_true, not_true}
 use Rattle.pnp_model.specs.Events as ev
 
 -- Who is live after an event -----------------------------------------------------------------------------------

@@ -26,3 +26,7 @@ pub but_not : (a b : Bool) → b ≡ true → (a && not b) ≡ false
 but_not true true e = refl
 but_not true false e = absurd (cc)
 but_not false b e = refl
+
+pub not_true : (b : Bool) → not b ≡ true → b ≡ false
+not_true true h = absurd (cc)
+not_true false h = refl
