@@ -2,3 +2,4 @@ pub mod Entries
 pub mod Trees
 pub mod Rows
 pub mod Identities
+pub mod Cores

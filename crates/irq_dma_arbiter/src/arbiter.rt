@@ -51,7 +51,7 @@ impl NumberArbiter {
 
     /// The least start at or above `from` whose resource may come from the want and clashes with nothing
     /// held; none exactly where there is none. It takes no memory. Cost: the logarithm of the number of
-    /// pairs, and one step for each pair from the first one that reaches `from` up to the place.
+    /// pairs, for each stretch of numbers held without a gap by what can stand in the way that is met up to the place.
     pub fn next_place(&self, want: &Want, from: u64) -> Option<u64>
         requires { want.now.kind ≡ self.now.kind }
         ensures found { IfSome result (λ s. (from ≤ s) × IsOpen (res_list self.now.pairs) want.now s) }

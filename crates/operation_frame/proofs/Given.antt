@@ -9,17 +9,23 @@ use Rattle.pnp_model.specs.Laws.{HoldsWhole}
 use Rattle.pnp_model.specs.Cores.{node_at}
 use Rattle.pnp_model.specs.Trees.{children, is_child}
 use Rattle.pnp_model.specs.Frames.{first_node}
-use Rattle.pnp_model.specs.Records.{Node, Core}
-use Rattle.pnp_laws.specs.Kept.{Ascending, Each, Within, is_calm, at_head, is_removable, settling_state}
+use Rattle.pnp_model.specs.Records.{Node, Core, State, Operation}
+use Rattle.pnp_laws.specs.Kept.{Ascending, Each, Within, OperationFits, is_calm, at_head, is_removable, settling_state}
 use Rattle.pnp_laws.proofs.Lists.{HeadIs, head_found}
 use Rattle.pnp_laws.proofs.Lookups.{none_below, found_self}
 use Rattle.pnp_laws.proofs.TreeMoves.{Childless}
 use Rattle.pnp_laws.proofs.Finishes.{head_childless}
-use Rattle.pnp_laws.proofs.Standing.{Tree, Finishes, Goes}
+use Rattle.pnp_laws.proofs.Standing.{Tree, Finishes, Goes, StageKept}
+use Rattle.pnp_laws.proofs.RunsStand.{Kept}
 use Rattle.operation_frame.specs.Nodes.{IsStripped}
 
 pub found_own : (nodes : List Node) (k : ℕ) (node : Node) → Some node ≡ node_at k nodes → is_some (node_at node.serial nodes) ≡ true
 found_own nodes k node at = ap is_some (found_self k nodes node (sym at))
+
+-- what a state of a run keeps of the operation that runs
+pub running : (s : State) (o : Operation) → Kept s → s.operation ≡ Some o → StageKept (Some o) s.core × OperationFits (Some o) s.core.nodes
+running s o kept is =
+    (subst (λ (x : Option Operation). StageKept x s.core) is kept.stands.stage, subst (λ (x : Option Operation). OperationFits x s.core.nodes) is kept.good.fits)
 
 -- what is next is there
 pub first_there : (todo : List ℕ) (nodes : List Node) → Goes todo nodes → IsSome (first_node nodes todo)

@@ -2,3 +2,4 @@ pub mod Mirroring
 pub mod Queues
 pub mod Given
 pub mod Requests
+pub mod Ends

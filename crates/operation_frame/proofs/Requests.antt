@@ -1,10 +1,9 @@
 -- What is known of the device that is next, and of its request, where a step of an operation is put together.
-use Rattle.std.proofs.Common.{◌≡◌, ℕ, Bool, List, Option, Some, None, IfSome, IfOk, Result, Ok, Err, OnErr, slice_get, refl, sym, ap, ◌∙◌, subst}
+use Rattle.std.proofs.Common.{◌≡◌, ℕ, Bool, List, [], Option, Some, None, IfSome, IfOk, Result, Ok, Err, OnErr, slice_get, refl, sym, ap, ◌∙◌, subst}
 use Rattle.pnp_labels.specs.Texts.{Text}
-use Rattle.pnp_labels.specs.declared.label.Label.{Label}
-use Rattle.pnp_model.specs.Cores.{node_at}
+use Rattle.pnp_model.specs.Cores.{core_of, node_at, set_rack}
 use Rattle.pnp_model.specs.Frames.{first_node}
-use Rattle.pnp_model.specs.Records.{Node, Core, Walk}
+use Rattle.pnp_model.specs.Records.{Node, Core, Driver, Walk}
 use Rattle.pnp_laws.proofs.Lookups.{own_serial}
 use Rattle.devnode_tree.specs.Trees.{CanLeave}
 use Rattle.operation_frame.specs.Nodes.{PathIs, HoldsNothing, IsStripped}
@@ -17,13 +16,24 @@ on_err P (Ok x) h = tt
 on_err P (Err e) h = h
 
 -- what stays where a request has ended
-pub ended_path : (x : Option Node) (c c' : Core) (w w' : Walk) (path : Text) (refused : Bool) → WalksFor x c w (Ended path refused) c' w' → PathIs x path
-ended_path None c c' w w' path refused h = h
-ended_path (Some node) c c' w w' path refused h = h.2
+module _ (x : Option Node) (rack rack' : List Driver) (w w' : Walk) (path : Text) (refused : Bool) (h : (around : Core) → WalksFor x (set_rack rack around) w (Ended path refused) (set_rack rack' around) w') where
+  -- with nothing else
+  alone : WalksFor x (core_of [] [] rack []) w (Ended path refused) (core_of [] [] rack' []) w'
+  alone = h (core_of [] [] [] [])
 
-pub ended_same : (x : Option Node) (c c' : Core) (w w' : Walk) (path : Text) (refused : Bool) → WalksFor x c w (Ended path refused) c' w' → (c' ≡ c) × (w' ≡ w)
-ended_same None c c' w w' path refused h = absurd h
-ended_same (Some node) c c' w w' path refused h = (h.3, h.4)
+  pub ended_path : PathIs x path
+  ended_path = by x alone
+    where
+      by : (x : Option Node) → WalksFor x (core_of [] [] rack []) w (Ended path refused) (core_of [] [] rack' []) w' → PathIs x path
+      by None h = h
+      by (Some node) h = h.2
+
+  pub ended_same : (rack' ≡ rack) × (w' ≡ w)
+  ended_same = by x alone
+    where
+      by : (x : Option Node) → WalksFor x (core_of [] [] rack []) w (Ended path refused) (core_of [] [] rack' []) w' → (rack' ≡ rack) × (w' ≡ w)
+      by None h = absurd h
+      by (Some node) h = (ap (λ (c : Core). c.rack) h.3, h.4)
 
 -- the device that is next may leave, and holds nothing
 pub stripped_at : (nodes : List Node) (todo : List ℕ) (k : ℕ) (node : Node) → Some k ≡ slice_get todo 0 → Some node ≡ node_at k nodes → IfSome (first_node nodes todo) (IsStripped nodes)
@@ -34,6 +44,6 @@ stripped_at nodes todo k node first at h =
     let found : node_at node.serial nodes ≡ Some node = ap (λ i. node_at i nodes) (own_serial k node nodes (sym at)) ∙ sym at in
     (two.0, subst (λ (o : Option Node). HoldsNothing o) (sym found) two.1)
 
-pub ok_moves : {E : Type 0} (P Q : Label → Type 0) → ((label : Label) → P label → Q label) → (r : Result Label E) → IfOk r P → IfOk r Q
-ok_moves P Q f (Ok label) h = f label h
-ok_moves P Q f (Err e) h = tt
+pub ok_then : {T E : Type 0} (P Q : T → Type 0) → ((x : T) → P x → Q x) → (r : Result T E) → IfOk r P → IfOk r Q
+ok_then P Q f (Ok x) h = f x h
+ok_then P Q f (Err e) h = tt

@@ -55,6 +55,20 @@ impl SerialQueue {
         Ok(queue)
     }
 
+    /// The devices of a set, where none is to do; else none. Cost: their number.
+    pub fn all_where_none(
+        &self,
+        alloc: Global,
+        set: &SerialSet,
+    ) -> Result<SerialQueue, WantOfMemory>
+        ensures { IfOk result (λ all. all ≡ all_after set.now self.now) }
+    {
+        match self.get(0) {
+            Some(_) => Ok(SerialQueue::new(alloc)),
+            None => SerialQueue::of(alloc, set),
+        }
+    }
+
     /// The devices of a set, where no other is to do after the next one; else none. Cost: their number.
     pub fn all_after_next(
         &self,

@@ -1,7 +1,6 @@
-ghost use Rattle.std.specs.Prelude.{◌≡◌, List, IfOk, OnErr, IsSome, false};
-ghost use Rattle.pnp_model.specs.Cores.{node_at, forget, bare, core_of};
-ghost use Rattle.pnp_model.specs.Records.{Node, Relation};
-ghost use Rattle.resource_reqs.specs.Resources.{Res};
+ghost use Rattle.std.specs.Prelude.{◌≡◌, IfOk, OnErr, IsSome, false};
+ghost use Rattle.pnp_model.specs.Cores.{node_at, forget, bare, set_rack};
+ghost use Rattle.pnp_model.specs.Records.{Core};
 ghost use Rattle.pnp_labels.specs.declared.states.DevState.TheVariants.{NoStack};
 ghost use Rattle.devnode_tree.specs.Trees.{changed};
 ghost use Rattle.trial_journal.specs.Four as Four;
@@ -40,7 +39,7 @@ pub fn pass_on<R: Drivers>(
 ) -> Result<Walked, WantOfMemory>
     requires there { IsSome (node_at serial tree.now.nodes) }
     requires goes { walk.old.walk.waits ≡ false }
-    ensures passed { IfOk result (λ went. (relations : List Relation) (reserved : List Res) → WalksFor (node_at serial tree.now.nodes) (core_of tree.now.nodes relations (R.rows rack.old) reserved) walk.old.walk went (core_of tree.now.nodes relations (R.rows rack.new) reserved) walk.new.walk) }
+    ensures passed { IfOk result (λ went. (around : Core) → WalksFor (node_at serial tree.now.nodes) (set_rack (R.rows rack.old) around) walk.old.walk went (set_rack (R.rows rack.new) around) walk.new.walk) }
     ensures walk { OnErr result (walk.new ≡ walk.old) }
     ensures rack { OnErr result (R.rows rack.new ≡ R.rows rack.old) }
 {

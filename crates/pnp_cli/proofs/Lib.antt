@@ -6,6 +6,7 @@ pub mod Settling
 pub mod Going
 pub mod Whole
 pub mod Ended
+pub mod OneOutput
 pub mod Lawfulness
 pub mod Refusals
 pub mod WordRows

@@ -81,6 +81,18 @@ Wrote output old new = (text : Text) × output text × Appends old new text
 abbrev pub WroteFront : (Text → Type 0) → Option Text → Option Text → Type 0
 WroteFront output old new = (text : Text) → output text → AppendsFront old new text
 
+-- it holds of this text, and of no other
+abbrev pub IsOnly : (Text → Type 0) → Text → Type 0
+IsOnly output text = output text × ((other : Text) → output other → other ≡ text)
+
+-- it holds of one text and of no other, and a front of that was written
+abbrev pub WroteOneFront : (Text → Type 0) → Option Text → Option Text → Type 0
+WroteOneFront output old new = (text : Text) × IsOnly output text × AppendsFront old new text
+
+-- whatever the settings and the rack, each script has one output and no other
+abbrev pub OutputLaw : Type 0
+OutputLaw = (settings : machines.Settings) (rack : List Driver) (script : List ℕ) → (text : Text) × IsOnly (Prints settings (opening rack) (events_of script)) text
+
 -- where no count rose, the answer is the one that is decided, if one is, or want of memory
 abbrev pub Answers : Option Status → Type 0 → Type 0 → Status → Type 0
 Answers decided read_rose write_rose status =

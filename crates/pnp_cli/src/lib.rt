@@ -6,6 +6,7 @@ mod ending;
 #[cfg(test)]
 mod fault_tests;
 mod infs;
+pub mod laws;
 mod parts;
 mod pieces;
 mod program;

@@ -2,7 +2,7 @@ ghost use Rattle.std.specs.Prelude.{◌≡◌, ◌⊎◌, ◌<◌, ◌≤◌, �
 ghost use Rattle.pnp_io.specs.Outside.{Rose, Appends, AppendsFront};
 ghost use Rattle.pnp_cli.specs.Words.{texts, settings_of};
 ghost use Rattle.pnp_cli.specs.Infs.{infs_in, refusal_line, SomeRose};
-ghost use Rattle.pnp_cli.specs.Runs.{named, IsPrintedFor, IsScriptOutput, IsOutput, IsOutputBy, machine, status_of, status_by, is_decided, is_whole, Wrote, Given, WroteFront, Answers, Untouched};
+ghost use Rattle.pnp_cli.specs.Runs.{named, IsPrintedFor, IsScriptOutput, IsOutput, IsOutputBy, machine, status_of, status_by, is_decided, is_whole, Wrote, Given, WroteFront, WroteOneFront, Answers, Untouched};
 ghost use Rattle.pnp_cli.specs.Contents.{script_status};
 ghost use Rattle.pnp_cli.specs.Pieces.{answer_by};
 ghost use Rattle.pnp_cli.specs.Turns.{Awaits};
@@ -219,7 +219,7 @@ pub fn run<F: Files, K: Sink>(
     ensures untouched { settings_of (texts words.now) ≡ None → Untouched F.contents F.faults K.taken K.faults files.old files.new sink.old sink.new }
     ensures decided { is_decided result ≡ true → Given (texts words.now) (F.contents files.old) (λ s told. status_of told s ≡ Some result) }
     ensures whole { is_whole result ≡ true → Given (texts words.now) (F.contents files.old) (λ s told. Wrote (IsOutput (map (λ b. unnamed (kind_of b) (book b)) rack.items) told s) (K.taken sink.old) (K.taken sink.new)) }
-    ensures front { Given (texts words.now) (F.contents files.old) (λ s told. WroteFront (IsOutput (map (λ b. unnamed (kind_of b) (book b)) rack.items) told s) (K.taken sink.old) (K.taken sink.new)) }
+    ensures front { Given (texts words.now) (F.contents files.old) (λ s told. WroteOneFront (IsOutput (map (λ b. unnamed (kind_of b) (book b)) rack.items) told s) (K.taken sink.old) (K.taken sink.new)) }
     ensures read_fault { result ≡ Status.ReadFault → IfSome (settings_of (texts words.now)) (λ s. SomeRose (F.faults files.old) (F.faults files.new) (named s)) }
     ensures write_fault { result ≡ Status.WriteFault → Rose (K.faults sink.old) (K.faults sink.new) }
     ensures answered { Given (texts words.now) (F.contents files.old) (λ s told. Answers (status_of told s) (SomeRose (F.faults files.old) (F.faults files.new) (named s)) (Rose (K.faults sink.old) (K.faults sink.new)) result) }

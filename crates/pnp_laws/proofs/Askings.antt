@@ -1,5 +1,5 @@
 -- Who is asked to stop, in which order, and who stays out: by each answer.
-use Rattle.std.proofs.Common.{ℕ, suc, ◌<◌, ◌≤◌, ◌≡◌, ◌≢◌, ◌⊎◌, inl, inr, Bool, true, false, not, cond, List, [], ◌∷◌, ◌++◌, refl, sym, ap, ◌∙◌, subst, arith, reverse}
+use Rattle.std.proofs.Common.{ℕ, suc, ◌<◌, ◌≤◌, ◌≡◌, ◌≢◌, ◌⊎◌, inl, inr, Bool, true, false, not, cond, List, [], ◌∷◌, ◌++◌, sym, ap, ◌∙◌, subst, arith, reverse}
 use Rattle.std.proofs.lemmas.Bool.{cases_eq}
 use Rattle.std.proofs.lemmas.Bool.Decides.{nat_tests}
 use Rattle.std.proofs.lemmas.List.{reverse-append}
@@ -12,16 +12,9 @@ use Rattle.pnp_model.specs.Rebalances.{is_asked, is_not_above}
 use Rattle.pnp_laws.specs.Kept.{Ascending}
 use Rattle.pnp_laws.specs.Rebalanced.{Placed, IsAskedAt, Falling, Rising, StaysOut, Asks}
 use Rattle.pnp_laws.proofs.Closures.{those_serial}
-use Rattle.pnp_laws.proofs.Lists.{has-append, those_has, those_not, those_keeps, those_found, below_serial}
+use Rattle.pnp_laws.proofs.Lists.{has-append, member, those_has, those_not, those_keeps, those_found, below_serial}
 use Rattle.pnp_laws.proofs.OpSteps.{has-reverse}
 use Rattle.pnp_laws.proofs.Pauses.{above_low}
-
-has_or : (ks : List ℕ) (k : ℕ) (b : Bool) → has ks k ≡ b → (has ks k ≡ true) ⊎ (has ks k ≡ false)
-has_or ks k true h = inl h
-has_or ks k false h = inr h
-
-pub member : (ks : List ℕ) (k : ℕ) → (has ks k ≡ true) ⊎ (has ks k ≡ false)
-member ks k = has_or ks k (has ks k) refl
 
 not_has : (ks : List ℕ) (k : ℕ) → (has ks k ≡ true → ⊥) → has ks k ≡ false
 not_has ks k h = elim (member ks k) [ inl e ↦ absurd (h e) | inr e ↦ e ]

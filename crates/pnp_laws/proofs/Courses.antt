@@ -1,5 +1,5 @@
 -- What a step or an event does to the operation and prints of it, where no activity owes problem 12.
-use Rattle.std.proofs.Common.{ℕ, ◌≡◌, ◌⊎◌, inl, inr, Bool, List, [], ◌∷◌, Option, Some, None, refl, sym, ◌∙◌, subst}
+use Rattle.std.proofs.Common.{ℕ, ◌≡◌, ◌⊎◌, inl, inr, List, [], ◌∷◌, Option, Some, None, refl, sym, ◌∙◌, subst}
 use Rattle.pnp_labels.specs.declared.states.Problem.{Problem}
 use Rattle.pnp_labels.specs.declared.label.Label.{Label}
 use Rattle.pnp_labels.specs.declared.label.OpKind.{OpKind}
@@ -17,6 +17,7 @@ use Rattle.pnp_laws.specs.Effects.{ActivityEffect, AnswerEffect, Enters, OpEffec
 use Rattle.pnp_laws.specs.Words.{IsBeside, DueFine, DuesFine, EndsBy, SameWork, is_removal, kind_of, path_of}
 use Rattle.pnp_laws.proofs.Dues.{dues_as, dues_changed, dues_entered, dues_found, dues_without}
 use Rattle.pnp_laws.proofs.EffectsOf.{effect_goes}
+use Rattle.pnp_laws.proofs.EffectsOfOperations.{completed_work}
 use Rattle.pnp_laws.proofs.EventChanges.{answered_fine, beside_word}
 use Rattle.pnp_model.specs.Events as ev
 
@@ -41,11 +42,6 @@ way_step s label t dues (OpEffect.begins kind node none alone at fits is) = Way.
 way_step s label t dues (OpEffect.goes o p runs now work prints) = Way.goes o p runs now work prints
 way_step s label t dues (OpEffect.ends o result runs now prints by) = Way.ends o result runs now prints by
 
-answered_work : (ok : Bool) (o : Operation) → SameWork o (ev.completed (ev.answer_of ok) o)
-answered_work ok (Operation.Rebalancing r) = record { sort = refl; kind = refl; path = refl }
-answered_work ok (Operation.Removing o) = record { sort = refl; kind = refl; path = refl }
-answered_work ok (Operation.Surprising o) = record { sort = refl; kind = refl; path = refl }
-
 way_still : (s : State) (label : Label) (t : State) (o : Option Operation) → s.operation ≡ o → t.operation ≡ s.operation → IsBeside label → Way s (record { label = label; state = t })
 way_still s label t None e now beside = Way.idles e (now ∙ e) beside
 way_still s label t (Some o) e now beside = Way.goes o o e (now ∙ e) (record { sort = refl; kind = refl; path = refl }) (inl beside)
@@ -53,7 +49,7 @@ way_still s label t (Some o) e now beside = Way.goes o o e (now ∙ e) (record {
 way_event : (s : State) (label : Label) (t : State) → AnswerEffect s label t → Way s (record { label = label; state = t })
 way_event s label t (AnswerEffect.stays word nodes acts now) = way_still s label t s.operation refl now (beside_word label word)
 way_event s label t (AnswerEffect.answers word nodes k a ok at acts now) = way_still s label t s.operation refl now (beside_word label word)
-way_event s label t (AnswerEffect.answered word nodes acts ok o runs now) = Way.goes o (ev.completed (ev.answer_of ok) o) runs now (answered_work ok o) (inl (beside_word label word))
+way_event s label t (AnswerEffect.answered word nodes acts ok o runs now) = Way.goes o (ev.completed (ev.answer_of ok) o) runs now (completed_work (ev.answer_of ok) o) (inl (beside_word label word))
 
 way_goes : (settings : Settings) (s : State) (entry : Entry) (t : State) → DuesFine s.activities → Goes settings s entry t → Way s (record { label = printed entry; state = t })
 way_goes settings s (Happens event label) t dues h = way_event s label t (effect_goes settings s (Happens event label) t h).operation
@@ -66,17 +62,15 @@ adding_fine [] = tt
 adding_fine (d ∷ ds) = tt
 
 entered_fine : (s : State) (k : ℕ) (t : State) (phase : Phase) → Enters s k t phase → DueFine phase
-entered_fine s k t phase (Enters.installs drivers free) = adding_fine drivers
+entered_fine s k t phase (Enters.installs drivers chosen drops) = adding_fine drivers
 entered_fine s k t phase (Enters.restarts r plan runs is target found nodes) = tt
 entered_fine s k t phase (Enters.undoes r runs target) = tt
 
 stepped_fine : (s : State) (k : ℕ) (t : State) (old new : Phase) → DuesFine s.activities → PhaseStep s k t old new → DueFine new
 stepped_fine s k t old new dues (PhaseStep.added d ds acts) = adding_fine ds
-stepped_fine s k t old new dues (PhaseStep.fits phase node plan acts search part own nodes) = tt
-stepped_fine s k t old new dues (PhaseStep.asked w v acts nodes) = tt
 stepped_fine s k t old new dues (PhaseStep.fails phase problem acts other) = other
-stepped_fine s k t old new dues (PhaseStep.undoes phase w acts) = tt
 stepped_fine s k t old new dues (PhaseStep.answered a ok at nodes) = answered_fine (ev.answer_of ok) a.phase (dues_found (is_activity k) s.activities a at dues)
+stepped_fine s k t old new dues _ = tt
 
 pub dues_effect : (s t : State) → ActivityEffect s t → DuesFine s.activities → DuesFine t.activities
 dues_effect s t (ActivityEffect.same e) dues = dues_as s.activities t.activities e dues

@@ -1,5 +1,5 @@
 -- How nodes may change, by the state diagram.
-use Rattle.std.proofs.Common.{ℕ, ◌≡◌, ◌≢◌, inl, inr, Bool, true, false, List, [], ◌∷◌, ◌++◌, map, Option, Some, None, refl, sym, ap, ◌∙◌, subst, arith}
+use Rattle.std.proofs.Common.{ℕ, ◌≡◌, ◌≢◌, inl, inr, Bool, true, List, [], ◌∷◌, ◌++◌, map, Option, Some, None, refl, sym, ap, ◌∙◌, subst, arith}
 use Rattle.pnp_model.specs.Keyed.{changed_first, without_first}
 use Rattle.pnp_model.specs.Records.{Node}
 use Rattle.pnp_model.specs.Cores.{is_node, node_at}
@@ -12,26 +12,8 @@ use Rattle.pnp_laws.proofs.Lookups.{some_same, node_from, node_missing, joined_f
 
 pub Change-same : (label : Label) (a : DevState) → Change label a a
 Change-same (Label.Add p d true) a = inl refl
-Change-same (Label.Add p d false) a = refl
 Change-same (Label.State p x) a = inl refl
-Change-same (Label.Did w x) a = refl
-Change-same (Label.Refused w r) a = refl
-Change-same (Label.Skip t k) a = refl
-Change-same (Label.Join k p) a = refl
-Change-same (Label.Gone p) a = refl
-Change-same (Label.Listed p) a = refl
-Change-same (Label.Install p r d) a = refl
-Change-same (Label.Trouble p q) a = refl
-Change-same (Label.Assign p h) a = refl
-Change-same (Label.Fits p) a = refl
-Change-same (Label.NoFit p) a = refl
-Change-same (Label.Spent p) a = refl
-Change-same (Label.Asked m p d x) a = refl
-Change-same (Label.Begin o p) a = refl
-Change-same (Label.Commit n) a = refl
-Change-same (Label.Leave p) a = refl
-Change-same (Label.Ejected p) a = refl
-Change-same (Label.End o p r) a = refl
+Change-same _ a = refl
 
 same_state : (label : Label) (o : Option Node) (n m : Node) → o ≡ Some n → o ≡ Some m → Change label n.state m.state
 same_state label o n m h g = subst (λ (x : Node). Change label n.state x.state) (some_same o n m h g) (Change-same label n.state)

@@ -1,16 +1,38 @@
 -- What all changes of a device have in common.
-use Rattle.std.proofs.Common.{ℕ, ◌≡◌, ◌≢◌, Bool, true, false, Some, refl, subst}
+use Rattle.std.proofs.Common.{ℕ, ◌≡◌, ◌≢◌, ◌⊎◌, inl, inr, Bool, true, false, List, [], ◌∷◌, Some, refl, sym, ap, ◌∙◌, subst, arith}
+use Rattle.std.proofs.lemmas.Bool.{cases_eq}
+use Rattle.std.proofs.lemmas.Bool.Decides.{nat_tests}
+use Rattle.pnp_labels.specs.Texts.{Text}
 use Rattle.pnp_labels.specs.declared.label.Label.{Label}
 use Rattle.pnp_labels.specs.declared.states.DevState.{DevState}
-use Rattle.pnp_labels.specs.declared.states.DevState.TheVariants.{NoStack, NotStarted, Started, StopPending, Stopped, RemovePending, SurpriseRemoved}
+use Rattle.pnp_labels.specs.declared.states.DevState.TheVariants.{NoStack}
 use Rattle.pnp_labels.specs.declared.words.Minor.{Minor}
-use Rattle.pnp_labels.specs.declared.words.Minor.TheVariants.{Start, QueryRemove, Remove, CancelRemove, Stop, QueryStop, CancelStop, SurpriseRemoval}
-use Rattle.pnp_model.specs.Cores.{node_at, stacked}
-use Rattle.pnp_model.specs.Records.{Node, State}
+use Rattle.pnp_labels.specs.declared.words.Minor.TheVariants.{Start, QueryRemove, Remove, QueryStop}
+use Rattle.pnp_model.specs.Cores.{bare, is_node, new_node, node_at, stacked}
+use Rattle.pnp_model.specs.Keyed.{changed_first}
+use Rattle.pnp_model.specs.Machine.{is_ready}
+use Rattle.pnp_model.specs.Rebalances.{committed, movers, plan_of}
+use Rattle.pnp_model.specs.Records.{Activity, Node, Phase, State, Step}
+use Rattle.pnp_model.specs.States.{activity_at, entered}
 use Rattle.pnp_model.specs.Walks.{state_after}
-use Rattle.pnp_laws.specs.Effects.{Alters}
-use Rattle.pnp_laws.specs.Kept.{is_idle}
-use Rattle.pnp_laws.proofs.Lookups.{some_same}
+use Rattle.pnp_laws.specs.Effects.{Acting, Alters, NodeEffect}
+use Rattle.pnp_laws.specs.Kept.{Ascending, InOrder, is_idle}
+use Rattle.pnp_laws.proofs.Lookups.{entered_other, joined_from, left_from, map_from, node_from, ready_found, some_same}
+
+-- the start that acts, by its device
+pub record ActsAt (s : State) (k : ℕ) (phase : Phase) : Type 0 where
+  pub activity : Activity
+  pub at : activity_at k s.activities ≡ Some activity
+  pub is : activity.phase ≡ phase
+
+pub acting_at : (s : State) (k : ℕ) (phase : Phase) → InOrder 0 s.activities → Acting s k phase → ActsAt s k phase
+acting_at s k phase order acts =
+    let at = (ready_found is_ready 0 s.activities acts.activity order acts.ready).1 in
+    record { activity = acts.activity; at = subst (λ (i : ℕ). activity_at i s.activities ≡ Some acts.activity) acts.own at; is = acts.is }
+
+pub entered_either : (new : Activity) (k : ℕ) (rest : List Activity) → (activity_at k (entered new rest) ≡ activity_at k rest) ⊎ ((new.serial ≡ k) × (activity_at k (entered new rest) ≡ Some new))
+entered_either new k [] = elim (cases_eq new.serial k) [ inl e ↦ inr (e, grind (arith, nat_tests)) | inr d ↦ inl (entered_other new k [] d) ]
+entered_either new k (b ∷ rest) = grind (arith, nat_tests, entered_either new k rest)
 
 -- a change of a node that keeps its serial, its IDs and its requirements
 pub record KeepsIds (f : Node → Node) : Type 0 where
@@ -21,9 +43,7 @@ pub record KeepsIds (f : Node → Node) : Type 0 where
 
 pub alters_keeps : (s : State) (label : Label) (j : ℕ) (f : Node → Node) → Alters s label j f → KeepsIds f
 alters_keeps s label j f (Alters.walked node minor w bad at request other ends verdict prints) = record { serial = λ n. refl; hw = λ n. refl; compat = λ n. refl; reqs = λ n. refl }
-alters_keeps s label j f (Alters.troubled k problem) = record { serial = λ n. refl; hw = λ n. refl; compat = λ n. refl; reqs = λ n. refl }
-alters_keeps s label j f (Alters.stacks node d ds at acts) = record { serial = λ n. refl; hw = λ n. refl; compat = λ n. refl; reqs = λ n. refl }
-alters_keeps s label j f (Alters.assigned node phase plan acts search part) = record { serial = λ n. refl; hw = λ n. refl; compat = λ n. refl; reqs = λ n. refl }
+alters_keeps s label j f _ = record { serial = λ n. refl; hw = λ n. refl; compat = λ n. refl; reqs = λ n. refl }
 
 -- a device that was up does not become one that never was
 abbrev pub StaysUp : DevState → DevState → Type 0
@@ -35,26 +55,68 @@ walk_up Start false x other up = refl
 walk_up QueryRemove true x other up = up
 walk_up QueryRemove false x other up = refl
 walk_up Remove bad x other up = absurd (other refl)
-walk_up CancelRemove bad x other up = refl
-walk_up Stop bad x other up = refl
 walk_up QueryStop true x other up = up
 walk_up QueryStop false x other up = refl
-walk_up CancelStop bad x other up = refl
-walk_up SurpriseRemoval bad x other up = refl
+walk_up _ bad x other up = refl
 
 stacked_up : (x : DevState) → StaysUp x (stacked x)
 stacked_up NoStack h = absurd (cc)
-stacked_up NotStarted h = h
-stacked_up Started h = h
-stacked_up StopPending h = h
-stacked_up Stopped h = h
-stacked_up RemovePending h = h
-stacked_up SurpriseRemoved h = h
+stacked_up _ h = h
 
 pub alters_up : (s : State) (label : Label) (j : ℕ) (f : Node → Node) → Alters s label j f → (n : Node) → node_at j s.core.nodes ≡ Some n → StaysUp n.state (f n).state
 alters_up s label j f (Alters.walked node minor w bad at request other ends verdict prints) n there =
     subst (λ (m : Node). StaysUp m.state (state_after minor bad node.state)) (some_same (node_at node.serial s.core.nodes) node n at there) (walk_up minor bad node.state other)
 alters_up s label j f (Alters.troubled k problem) n there = λ up. up
-alters_up s label j f (Alters.stacks node d ds at acts) n there =
+alters_up s label j f (Alters.stacks node d ds name at acts prints) n there =
     subst (λ (m : Node). StaysUp m.state (stacked node.state)) (some_same (node_at node.serial s.core.nodes) node n at there) (stacked_up node.state)
 alters_up s label j f (Alters.assigned node phase plan acts search part) n there = λ up. up
+
+-- Why a device is in another state: a request has ended, or a driver was added ----------------------
+
+pub data Turns (s : State) (label : Label) (k : ℕ) (n : Node) : Type 0 where
+  told : (y : DevState) → label ≡ Label.State n.path y → Turns s label k n
+  added : (d : ℕ) (ds : List ℕ) (name : Text) → Acting s k (Phase.Adding (d ∷ ds)) → label ≡ Label.Add n.path name true → Turns s label k n
+
+module _ (s : State) (label : Label) where
+  altered_turns : (j : ℕ) (f : Node → Node) → Alters s label j f → (n : Node) → node_at j s.core.nodes ≡ Some n → ((f n).state ≡ n.state) ⊎ Turns s label j n
+  altered_turns j f (Alters.walked node minor w bad at request other ends verdict prints) n there =
+      inr (subst (λ (x : Node). Turns s label j x) (some_same (node_at j s.core.nodes) node n at there) (Turns.told (state_after minor bad node.state) prints))
+  altered_turns j f (Alters.troubled k problem) n there = inl refl
+  altered_turns j f (Alters.stacks node d ds name at acts prints) n there =
+      inr (subst (λ (x : Node). Turns s label j x) (some_same (node_at j s.core.nodes) node n at there) (Turns.added d ds name acts prints))
+  altered_turns j f (Alters.assigned node phase plan acts search part) n there = inl refl
+
+  module _ (t : State) (order : Ascending 0 s.core.nodes) (k : ℕ) (n m : Node) (at : node_at k s.core.nodes ≡ Some n) where
+    same_state : node_at k s.core.nodes ≡ Some m → (m.state ≡ n.state) ⊎ Turns s label k n
+    same_state q = inl (ap (λ (z : Node). z.state) (some_same (node_at k s.core.nodes) m n q at))
+
+    changed_turns : (j : ℕ) (f : Node → Node) → ((x : Node) → (f x).serial ≡ x.serial) → ((x : Node) → node_at j s.core.nodes ≡ Some x → ((f x).state ≡ x.state) ⊎ Turns s label j x)
+        → node_at k (changed_first (is_node j) f s.core.nodes) ≡ Some m → (m.state ≡ n.state) ⊎ Turns s label k n
+    changed_turns j f serial own now =
+        elim (node_from j k f s.core.nodes m serial now) [
+          | inl (e, (x, q, r)) ↦
+              let same : x ≡ n = some_same (node_at k s.core.nodes) x n q at in
+              let at_j = subst (λ (i : ℕ). node_at i s.core.nodes ≡ Some n) (sym e) at in
+              subst (λ (i : ℕ). (m.state ≡ n.state) ⊎ Turns s label i n) e
+              (subst (λ (z : Node). (z.state ≡ n.state) ⊎ Turns s label j n) (ap f (sym same) ∙ sym r) (own n at_j))
+          | inr (d, q) ↦ same_state q
+        ]
+
+    pub state_from : NodeEffect s label t → node_at k t.core.nodes ≡ Some m → (m.state ≡ n.state) ⊎ Turns s label k n
+    state_from (NodeEffect.same e rest) now = same_state (subst (λ (x : List Node). node_at k x ≡ Some m) e now)
+    state_from (NodeEffect.changed j f alters e rest) now =
+        changed_turns j f (alters_keeps s label j f alters).serial (altered_turns j f alters) (subst (λ (x : List Node). node_at k x ≡ Some m) e now)
+    state_from (NodeEffect.stripped node w there request ends prints e rest) now =
+        changed_turns node.serial bare (λ x. refl)
+        (λ x q. inr (subst (λ (y : Node). Turns s label node.serial y) (some_same (node_at node.serial s.core.nodes) node x there q) (Turns.told NoStack prints)))
+        (subst (λ (x : List Node). node_at k x ≡ Some m) e now)
+    state_from (NodeEffect.commits r runs is e rest) now =
+        let old = map_from k (committed (movers r) (plan_of r.found)) s.core.nodes m (λ x. refl) (subst (λ (x : List Node). node_at k x ≡ Some m) e now) in
+        inl (ap (λ (z : Node). z.state) old.2 ∙ ap (λ (z : Node). z.state) (some_same (node_at k s.core.nodes) old.0 n old.1 at))
+    state_from (NodeEffect.joins node d none there up below is) now =
+        elim (joined_from k s.core.nodes (new_node s.next_serial node.serial d) m (subst (λ (x : Step). node_at k x.state.core.nodes ≡ Some m) is now)) [
+          | inl q ↦ same_state q
+          | inr (gone, new, own) ↦ absurd (let missing = gone in cc)
+        ]
+    state_from (NodeEffect.left node o runs first e rest) now = same_state (left_from node.serial k s.core.nodes m order (subst (λ (x : List Node). node_at k x ≡ Some m) e now)).1
+    state_from (NodeEffect.related r related e rest) now = same_state (subst (λ (x : List Node). node_at k x ≡ Some m) e now)

@@ -12,6 +12,7 @@ use Rattle.pnp_laws.proofs.EffectsOfEvents.{Happened, event_effect}
 use Rattle.pnp_laws.proofs.EffectsOfOperations.{operation_effect}
 use Rattle.pnp_laws.proofs.EffectsOfStarts.{Steps, EffectNext, acts_effect, begins_effect, lists_effect, starts_effect}
 use Rattle.pnp_laws.proofs.Lookups.{found_self, own_serial}
+use Rattle.pnp_laws.proofs.Stages.{operation_step}
 use Rattle.pnp_model.specs.Machine as ma
 
 module _ (settings : Settings) (s : State) (none : s.operation ≡ None) where
@@ -21,7 +22,7 @@ module _ (settings : Settings) (s : State) (none : s.operation ≡ None) where
 
   does_task : (kind : Duty) (k : ℕ) → slice_get s.tasks 0 ≡ Some (record { kind = kind; serial = k }) → EffectNext settings.budget s (ma.task_of settings s kind k)
   does_task Duty.Listing k first = lists_effect s _ k none first
-  does_task Duty.Starting k first = starts_effect settings s _ k none first
+  does_task Duty.Starting k first = starts_effect settings s k none first
   does_task (Duty.Begins kind) k first = begins_alone kind k s.activities refl first
 
   task_effect : (o : Option Task) → slice_get s.tasks 0 ≡ o → EffectNext settings.budget s (ma.task_next settings s o)
@@ -36,18 +37,19 @@ module _ (settings : Settings) (s : State) (none : s.operation ≡ None) where
   idle_effect (Some a) ready = activity_effect a (node_at a.serial s.core.nodes) ready refl
   idle_effect None ready = task_effect (slice_get s.tasks 0) refl
 
-next_effect : (settings : Settings) (s : State) (o : Option Operation) → s.operation ≡ o → EffectNext settings.budget s (ma.next_of settings s o)
-next_effect settings s (Some o) runs = operation_effect settings.budget s o (ma.is_waiting (ma.operation_walk o)) runs
-next_effect settings s None none = idle_effect settings s none (find ma.is_ready s.activities) refl
-
 doing_effect : (settings : Settings) (s : State) (o : Option (Doing Step)) (step : Step) → EffectNext settings.budget s o → ma.IsStep settings o step → Steps s step
 doing_effect settings s None step h is = absurd is
 doing_effect settings s (Some (Does one)) step h is = subst (λ (x : Step). Steps s x) (sym is) h
 doing_effect settings s (Some (Searches problem by_answer)) step h is = subst (λ (x : Step). Steps s x) (sym is.2) (h is.0 is.1)
 
+step_effect : (settings : Settings) (s : State) (o : Option Operation) (step : Step) → s.operation ≡ o → ma.IsStep settings (ma.next settings s) step → Steps s step
+step_effect settings s (Some o) step runs is = operation_effect s o step runs (operation_step settings s o step runs is)
+step_effect settings s None step none is =
+    doing_effect settings s (ma.next_of settings s None) step (idle_effect settings s none (find ma.is_ready s.activities) refl) (subst (λ (x : Option Operation). ma.IsStep settings (ma.next_of settings s x) step) none is)
+
 -- each step has an effect
 pub effect_of : (settings : Settings) (s : State) (label : Label) (t : State) → ma.Steps settings s label t → Effect s (Did label) t
-effect_of settings s label t steps = doing_effect settings s (ma.next settings s) (record { label = label; state = t }) (next_effect settings s s.operation refl) steps
+effect_of settings s label t steps = step_effect settings s s.operation (record { label = label; state = t }) refl steps
 
 -- and so has each event
 pub effect_goes : EffectLaw

@@ -1,5 +1,5 @@
 -- What an event does.
-use Rattle.std.proofs.Common.{◌≡◌, inl, ◌==◌, ◌&&◌, Bool, true, false, List, [], ◌∷◌, ◌++◌, length, nat_le, Option, Some, None, refl, ap, arith}
+use Rattle.std.proofs.Common.{◌≡◌, ◌==◌, ◌&&◌, Bool, true, false, List, [], ◌∷◌, ◌++◌, length, nat_le, Option, Some, None, refl, ap, arith}
 use Rattle.std.specs.List.{find, list_any}
 use Rattle.resource_reqs.specs.Resources.{Res, Reqs, clashes}
 use Rattle.pnp_labels.specs.Texts.{Text}
@@ -20,7 +20,8 @@ use Rattle.pnp_model.specs.States.{activity_at, device_of, enable_path, list_nod
 use Rattle.pnp_model.specs.Tests.{has, is_started}
 use Rattle.pnp_model.specs.Trees.{dependents}
 use Rattle.pnp_laws.specs.Words.{IsWord, joined}
-use Rattle.pnp_laws.specs.Effects.{ActivityEffect, AnswerEffect, Effect, NodeEffect, PathEffect, PhaseStep, RangeEffect, Related, CommandEffect, WorldEffect}
+use Rattle.pnp_laws.specs.Effects.{ActivityEffect, AnswerEffect, DriverEffect, Effect, JoinEffect, NodeEffect, PathEffect, PhaseStep, RangeEffect, Related, CommandEffect, WorldEffect}
+use Rattle.pnp_laws.proofs.EffectsOfStarts.{quiet_label}
 use Rattle.pnp_laws.proofs.Truths.{and_both}
 use Rattle.device_ids.specs.Folding as folding
 use Rattle.pnp_model.specs.Events as ev
@@ -30,35 +31,37 @@ Happened s event step = Effect s (Happens event step.label) step.state
 
 module _ (s : State) (event : Event) where
   -- nodes, serials and activities stay
-  outside : (label : Label) (t : State) → IsWord label → joined label ≡ 0 → t.next_serial ≡ s.next_serial → t.operation ≡ s.operation → t.activities ≡ s.activities → t.core.nodes ≡ s.core.nodes → NodeEffect s label t → RangeEffect s t → CommandEffect s t
+  outside : (label : Label) (t : State) → IsWord label → joined label ≡ 0 → t.next_serial ≡ s.next_serial → t.operation ≡ s.operation → t.activities ≡ s.activities → t.core.nodes ≡ s.core.nodes → NodeEffect s label t → DriverEffect s (Happens event label) t → RangeEffect s t → CommandEffect s t
       → WorldEffect s (Happens event label) t → PathEffect s label t → Happened s event (record { label = label; state = t })
-  outside label t word quiet serial operation activities same nodes ranges tasks world paths =
+  outside label t word quiet serial operation activities same nodes drivers ranges tasks world paths =
       record {
         nodes = nodes;
+        drivers = drivers;
         ranges = ranges;
         operation = AnswerEffect.stays word same activities operation;
         activities = ActivityEffect.same activities;
         tasks = tasks;
         world = world;
         paths = paths;
+        joins = JoinEffect.none (quiet_label label quiet);
         serial = omega arith;
       }
 
   -- so does all but drivers and tasks
   kept : (label : Label) (t : State) → IsWord label → joined label ≡ 0 → t.next_serial ≡ s.next_serial → t.operation ≡ s.operation → t.activities ≡ s.activities → t.core.nodes ≡ s.core.nodes → t.core.relations ≡ s.core.relations
-      → t.core.reserved ≡ s.core.reserved → t.world ≡ s.world → t.next_born ≡ s.next_born → t.disabled ≡ s.disabled → CommandEffect s t → Happened s event (record { label = label; state = t })
-  kept label t word quiet serial operation activities nodes relations ranges world born paths tasks =
-      outside label t word quiet serial operation activities nodes (NodeEffect.same nodes relations) (RangeEffect.same ranges) tasks (WorldEffect.same world born) (PathEffect.same paths)
+      → t.core.reserved ≡ s.core.reserved → t.world ≡ s.world → t.next_born ≡ s.next_born → t.disabled ≡ s.disabled → DriverEffect s (Happens event label) t → CommandEffect s t → Happened s event (record { label = label; state = t })
+  kept label t word quiet serial operation activities nodes relations ranges world born paths drivers tasks =
+      outside label t word quiet serial operation activities nodes (NodeEffect.same nodes relations) drivers (RangeEffect.same ranges) tasks (WorldEffect.same world born) (PathEffect.same paths)
 
   nothing : (word : EventWord) (reason : Reason) → Happened s event (ev.refused word reason s)
-  nothing word reason = kept _ s tt refl refl refl refl refl refl refl refl refl refl (CommandEffect.same refl)
+  nothing word reason = kept _ s tt refl refl refl refl refl refl refl refl refl refl (DriverEffect.same tt refl) (CommandEffect.same refl)
 
   listed : (word : EventWord) (what : Text) (u : State) (o : Option Node) → u.next_serial ≡ s.next_serial → u.operation ≡ s.operation → u.activities ≡ s.activities → u.core ≡ s.core → u.tasks ≡ s.tasks → u.disabled ≡ s.disabled
       → WorldEffect s (Happens event (Label.Did word what)) u → Happened s event (ev.did word what (list_node o u))
   listed word what u None serial operation activities core tasks paths world =
-      outside _ u tt refl serial operation activities (ap (λ (c : Core). c.nodes) core) (NodeEffect.same (ap (λ (c : Core). c.nodes) core) (ap (λ (c : Core). c.relations) core)) (RangeEffect.same (ap (λ (c : Core). c.reserved) core)) (CommandEffect.same tasks) world (PathEffect.same paths)
+      outside _ u tt refl serial operation activities (ap (λ (c : Core). c.nodes) core) (NodeEffect.same (ap (λ (c : Core). c.nodes) core) (ap (λ (c : Core). c.relations) core)) (DriverEffect.same tt (ap (λ (c : Core). c.rack) core)) (RangeEffect.same (ap (λ (c : Core). c.reserved) core)) (CommandEffect.same tasks) world (PathEffect.same paths)
   listed word what u (Some n) serial operation activities core tasks paths world =
-      outside _ (list_node (Some n) u) tt refl serial operation activities (ap (λ (c : Core). c.nodes) core) (NodeEffect.same (ap (λ (c : Core). c.nodes) core) (ap (λ (c : Core). c.relations) core)) (RangeEffect.same (ap (λ (c : Core). c.reserved) core))
+      outside _ (list_node (Some n) u) tt refl serial operation activities (ap (λ (c : Core). c.nodes) core) (NodeEffect.same (ap (λ (c : Core). c.nodes) core) (ap (λ (c : Core). c.relations) core)) (DriverEffect.same tt (ap (λ (c : Core). c.rack) core)) (RangeEffect.same (ap (λ (c : Core). c.reserved) core))
       (CommandEffect.lists n.serial (ap (λ (ts : List Task). ts ++ record { kind = Duty.Listing; serial = n.serial } ∷ []) tasks)) (by_world world) (PathEffect.same paths)
     where
       by_world : WorldEffect s (Happens event (Label.Did word what)) u → WorldEffect s (Happens event (Label.Did word what)) (list_node (Some n) u)
@@ -69,23 +72,23 @@ module _ (s : State) (event : Event) where
   pull_device : (d : Device) (path : Text) (b : Bool) → device_of path s.world ≡ Some d → (d.born == 0) ≡ b → Happened s event (ev.pull_device s d b)
   pull_device d path true there e = nothing _ _
   pull_device d path false there e =
-      listed _ _ (unplug d.born s) (node_born d.parent s.core.nodes) refl refl refl refl refl refl (WorldEffect.unplugged d.born (inl (d, path, there, refl, e)) refl refl)
+      listed _ _ (unplug d.born s) (node_born d.parent s.core.nodes) refl refl refl refl refl refl (WorldEffect.unplugged d.born (d, path, there, refl, e) refl refl)
 
   pull_at : (path : Text) (o : Option Device) → device_of path s.world ≡ o → Happened s event (ev.pull_at s o)
   pull_at path None e = nothing _ _
   pull_at path (Some d) e = pull_device d path _ e refl
 
-  name_free : (name : Text) (kind : DriverKind) (o : Option Driver) → Happened s event (ev.name_free s name kind o)
-  name_free name kind None = nothing _ _
-  name_free name kind (Some driver) = kept _ _ tt refl refl refl refl refl refl refl refl refl refl (CommandEffect.same refl)
+  name_free : (name : Text) (kind : DriverKind) (o : Option Driver) → event ≡ Event.Name name kind → Happened s event (ev.name_free s name kind o)
+  name_free name kind None is = nothing _ _
+  name_free name kind (Some driver) is = kept _ _ tt refl refl refl refl refl refl refl refl refl refl (DriverEffect.named kind name _ (ap (λ (e : Event). Happens e (Label.Did EventWord.Name name)) is) tt refl) (CommandEffect.same refl)
 
-  name_at : (name : Text) (kind : DriverKind) (o : Option Driver) → Happened s event (ev.name_at s name kind o)
-  name_at name kind (Some driver) = nothing _ _
-  name_at name kind None = name_free name kind (find (is_unnamed kind) s.core.rack)
+  name_at : (name : Text) (kind : DriverKind) (o : Option Driver) → event ≡ Event.Name name kind → Happened s event (ev.name_at s name kind o)
+  name_at name kind (Some driver) is = nothing _ _
+  name_at name kind None is = name_free name kind (find (is_unnamed kind) s.core.rack) is
 
   teach_room : (driver : Driver) (name : Text) (rule : Rule) (b : Bool) → Happened s event (ev.teach_room s driver name rule b)
   teach_room driver name rule false = nothing _ _
-  teach_room driver name rule true = kept _ _ tt refl refl refl refl refl refl refl refl refl refl (CommandEffect.same refl)
+  teach_room driver name rule true = kept _ _ tt refl refl refl refl refl refl refl refl refl refl (DriverEffect.taught name rule tt refl) (CommandEffect.same refl)
 
   teach_kind : (driver : Driver) (name : Text) (rule : Rule) (b : Bool) → Happened s event (ev.teach_kind s driver name rule b)
   teach_kind driver name rule false = nothing _ _
@@ -99,7 +102,7 @@ module _ (s : State) (event : Event) where
     disable_enabled : (b : Bool) → (node.serial == 0) ≡ false → Happened s event (ev.disable_enabled s node b)
     disable_enabled true up = nothing _ _
     disable_enabled false up =
-        kept _ _ tt refl refl refl refl refl refl refl refl refl refl (CommandEffect.begins OpKind.Disable node path at up refl)
+        kept _ _ tt refl refl refl refl refl refl refl refl refl refl (DriverEffect.same tt refl) (CommandEffect.begins OpKind.Disable node path at up refl)
 
     disable_below : (b : Bool) → (node.serial == 0) ≡ b → Happened s event (ev.disable_below s path node b)
     disable_below true e = nothing _ _
@@ -108,7 +111,7 @@ module _ (s : State) (event : Event) where
     eject_below : (b : Bool) → (node.serial == 0) ≡ b → Happened s event (ev.eject_below s node b)
     eject_below true e = nothing _ _
     eject_below false e =
-        kept _ _ tt refl refl refl refl refl refl refl refl refl refl (CommandEffect.begins OpKind.Eject node path at e refl)
+        kept _ _ tt refl refl refl refl refl refl refl refl refl refl (DriverEffect.same tt refl) (CommandEffect.begins OpKind.Eject node path at e refl)
 
   disable_at : (path : Text) (o : Option Node) → node_of path s.core.nodes ≡ o → Happened s event (ev.disable_at s path o)
   disable_at path None e = nothing _ _
@@ -119,9 +122,9 @@ module _ (s : State) (event : Event) where
   eject_at path (Some node) e = eject_below path node e _ refl
 
   started : (path own : Text) (o : Option Node) → node_of path s.core.nodes ≡ o → Happened s event (ev.did EventWord.Enable own (ev.start_node o (enable_path path s)))
-  started path own None e = outside _ _ tt refl refl refl refl refl (NodeEffect.same refl refl) (RangeEffect.same refl) (CommandEffect.same refl) (WorldEffect.same refl refl) (PathEffect.enables path refl)
+  started path own None e = outside _ _ tt refl refl refl refl refl (NodeEffect.same refl refl) (DriverEffect.same tt refl) (RangeEffect.same refl) (CommandEffect.same refl) (WorldEffect.same refl refl) (PathEffect.enables path refl)
   started path own (Some n) e =
-      outside _ _ tt refl refl refl refl refl (NodeEffect.same refl refl) (RangeEffect.same refl) (CommandEffect.starts path n e refl)
+      outside _ _ tt refl refl refl refl refl (NodeEffect.same refl refl) (DriverEffect.same tt refl) (RangeEffect.same refl) (CommandEffect.starts path n (record { at = e; stays = refl }) refl)
       (WorldEffect.same refl refl) (PathEffect.enables path refl)
 
   enable_at : (path : Text) (o : Option Text) → Happened s event (ev.enable_at s path o)
@@ -150,7 +153,7 @@ module _ (s : State) (event : Event) where
           apart = apart;
           free = free;
         } in
-        outside _ _ tt refl refl refl refl refl (NodeEffect.related (record { kind = kind; owner = a.serial; member = b.serial }) related refl refl) (RangeEffect.same refl) (CommandEffect.same refl) (WorldEffect.same refl refl) (PathEffect.same refl)
+        outside _ _ tt refl refl refl refl refl (NodeEffect.related (record { kind = kind; owner = a.serial; member = b.serial }) related refl refl) (DriverEffect.same tt refl) (RangeEffect.same refl) (CommandEffect.same refl) (WorldEffect.same refl refl) (PathEffect.same refl)
 
     relate_free : (x : Bool) → (a.serial == b.serial) ≡ false → has (dependents s.core b.serial) a.serial ≡ x → Happened s event (ev.relate_free s kind a b x)
     relate_free true apart e = nothing _ _
@@ -176,7 +179,7 @@ module _ (s : State) (event : Event) where
   reserve_free : (res : Res) (b : Bool) → s.operation ≡ None → list_any (clashes res) (s.core.reserved ++ held_by s.core.nodes) ≡ b → Happened s event (ev.reserve_free s res b)
   reserve_free res true none e = nothing _ _
   reserve_free res false none e =
-      outside _ _ tt refl refl refl refl refl (NodeEffect.same refl refl) (RangeEffect.reserves res none e refl refl) (CommandEffect.same refl) (WorldEffect.same refl refl) (PathEffect.same refl)
+      outside _ _ tt refl refl refl refl refl (NodeEffect.same refl refl) (DriverEffect.same tt refl) (RangeEffect.reserves res none e refl refl) (CommandEffect.same refl) (WorldEffect.same refl refl) (PathEffect.same refl)
 
   reserve_idle : (res : Res) (o : Option Operation) → s.operation ≡ o → Happened s event (ev.reserve_idle s res o)
   reserve_idle res (Some o) e = nothing _ _
@@ -187,12 +190,14 @@ module _ (s : State) (event : Event) where
   complete_activity node minor ok a true at =
       record {
         nodes = NodeEffect.same refl refl;
+        drivers = DriverEffect.same tt refl;
         ranges = RangeEffect.same refl;
         operation = AnswerEffect.answers tt refl node.serial a ok at refl refl;
         activities = ActivityEffect.goes node.serial a.phase (ev.completed_phase (ev.answer_of ok) a.phase) (PhaseStep.answered a ok at refl) refl;
         tasks = CommandEffect.same refl;
         world = WorldEffect.same refl refl;
         paths = PathEffect.same refl;
+        joins = JoinEffect.none tt;
         serial = omega arith;
       }
 
@@ -204,12 +209,14 @@ module _ (s : State) (event : Event) where
   complete_operation node minor ok o true runs =
       record {
         nodes = NodeEffect.same refl refl;
+        drivers = DriverEffect.same tt refl;
         ranges = RangeEffect.same refl;
         operation = AnswerEffect.answered tt refl refl ok o runs refl;
         activities = ActivityEffect.same refl;
         tasks = CommandEffect.same refl;
         world = WorldEffect.same refl refl;
         paths = PathEffect.same refl;
+        joins = JoinEffect.none tt;
         serial = omega arith;
       }
   complete_operation node minor ok o false runs = complete_active node minor ok (activity_at node.serial s.activities) refl
@@ -242,7 +249,7 @@ module _ (s : State) (parent path : Text) (hw compat : List Text) (reqs : Reqs) 
 pub event_effect : (s : State) (event : Event) → Happened s event (ev.happens s event)
 event_effect s (Event.Plug parent path hw compat reqs) = plug_below s parent path hw compat reqs (device_of parent s.world) refl
 event_effect s (Event.Pull path) = pull_at s (Event.Pull path) path (device_of path s.world) refl
-event_effect s (Event.Name name kind) = name_at s (Event.Name name kind) name kind (find (is_named name) s.core.rack)
+event_effect s (Event.Name name kind) = name_at s (Event.Name name kind) name kind (find (is_named name) s.core.rack) refl
 event_effect s (Event.Teach name rule) = teach_at s (Event.Teach name rule) name rule (find (is_named name) s.core.rack)
 event_effect s (Event.Disable path) = disable_at s (Event.Disable path) path (node_of path s.core.nodes) refl
 event_effect s (Event.Enable path) = enable_at s (Event.Enable path) path (find (folding.same path) s.disabled)

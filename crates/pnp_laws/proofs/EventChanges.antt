@@ -5,7 +5,7 @@ use Rattle.pnp_labels.specs.declared.event.Event.{Event}
 use Rattle.pnp_labels.specs.declared.label.Label.{Label}
 use Rattle.pnp_model.specs.Keyed.{changed_first}
 use Rattle.pnp_model.specs.Records.{Activity, Phase, State, Step, Operation}
-use Rattle.pnp_model.specs.Records.Phase.{Adding, Searching, Starting, Removing, Due}
+use Rattle.pnp_model.specs.Records.Phase.{Adding, Due}
 use Rattle.pnp_model.specs.States.{activity_at, is_activity, with_phase}
 use Rattle.pnp_laws.specs.Effects.{AnswerEffect, NodeEffect, RangeEffect}
 use Rattle.pnp_laws.specs.Holdings.{is_starting}
@@ -36,17 +36,11 @@ pub record Outside (s : State) (step : Step) : Type 0 where
 -- an answer starts no START and ends none
 pub starting_still : (answer : Answer) (phase : Phase) → is_starting (ev.completed_phase answer phase) ≡ is_starting phase
 starting_still answer (Adding drivers) = refl
-starting_still answer Searching = refl
-starting_still answer (Starting w) = refl
-starting_still answer (Removing w) = refl
-starting_still answer (Due problem) = refl
+starting_still answer _ = refl
 
 pub answered_fine : (answer : Answer) (phase : Phase) → DueFine phase → DueFine (ev.completed_phase answer phase)
-answered_fine answer (Adding drivers) h = tt
-answered_fine answer Searching h = tt
-answered_fine answer (Starting w) h = tt
-answered_fine answer (Removing w) h = tt
 answered_fine answer (Due problem) h = h
+answered_fine answer _ h = tt
 
 -- j is where the activity was found
 answered_activities : (answer : Answer) (j : ℕ) (a : Activity) (activities : List Activity) → activity_at j activities ≡ Some a →

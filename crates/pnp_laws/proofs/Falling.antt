@@ -1,12 +1,12 @@
 -- The four numbers that fall with each step come to an end, and how far they have fallen can be told.
-use Rattle.std.proofs.Common.{ℕ, ◌≤◌, ◌<◌, ◌≡◌, ◌⊎◌, refl, subst}
+use Rattle.std.proofs.Common.{ℕ, ◌≤◌, ◌<◌, ◌≡◌, ◌⊎◌, refl}
 use mathlib.Core.WellFounded.{Acc, WellFounded}
 use native.Mathlib.Decide.{dec_lt, dec_le}
 use Rattle.pnp_model.specs.Records.{State}
 use Rattle.pnp_laws.proofs.Decides.{dec_both, dec_or}
 use Rattle.pnp_laws.proofs.Measures.{left_of}
 use Rattle.pnp_laws.proofs.Joins.{can_join}
-use Rattle.pnp_laws.proofs.RunsEnd.{Lower, Lowest, first_of, last_of, by_four}
+use Rattle.pnp_laws.proofs.RunsEnd.{Lowest, at_numbers, first_of, last_of, by_four}
 
 dec_less : (a x : ℕ) {A : Type 0} → Dec A → Dec ((a < x) ⊎ ((a ≤ x) × A))
 dec_less a x more = dec_or (dec_lt a x) (dec_both (dec_le a x) more)
@@ -24,14 +24,6 @@ all_end =
     by_four AllEnd
     (λ w x y z lower s e a b c. Acc.intro s
     (λ t l. lower (can_join t) (first_of t) (left_of t.operation) (last_of t) (at_numbers t s w x y z e a b c l) t refl refl refl refl))
-  where
-    at_numbers : (t s : State) (w x y z : ℕ) → can_join s ≡ w → first_of s ≡ x → left_of s.operation ≡ y → last_of s ≡ z → Lowest t s
-        → (can_join t < w) ⊎ ((can_join t ≤ w) × Lower (first_of t) (left_of t.operation) (last_of t) x y z)
-    at_numbers t s w x y z e a b c l =
-        subst (λ (i : ℕ). (can_join t < i) ⊎ ((can_join t ≤ i) × Lower (first_of t) (left_of t.operation) (last_of t) x y z)) e
-        (subst (λ (i : ℕ). (can_join t < can_join s) ⊎ ((can_join t ≤ can_join s) × Lower (first_of t) (left_of t.operation) (last_of t) i y z)) a
-        (subst (λ (i : ℕ). (can_join t < can_join s) ⊎ ((can_join t ≤ can_join s) × Lower (first_of t) (left_of t.operation) (last_of t) (first_of s) i z)) b
-        (subst (λ (i : ℕ). (can_join t < can_join s) ⊎ ((can_join t ≤ can_join s) × Lower (first_of t) (left_of t.operation) (last_of t) (first_of s) (left_of s.operation) i)) c l)))
 
 -- from no state on can they fall for ever
 pub falls_end : WellFounded Lowest

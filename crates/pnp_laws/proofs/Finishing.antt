@@ -14,7 +14,7 @@ use Rattle.pnp_model.specs.Diagram.{Row}
 use Rattle.pnp_model.specs.Diagram.Row.{remove, remove_pending, remove_surprised}
 use Rattle.pnp_labels.specs.declared.states.DevState.{DevState}
 use Rattle.pnp_labels.specs.declared.words.Minor.{Minor}
-use Rattle.pnp_labels.specs.declared.states.DevState.TheVariants.{NoStack, NotStarted, Started, StopPending, Stopped, RemovePending, SurpriseRemoved}
+use Rattle.pnp_labels.specs.declared.states.DevState.TheVariants.{NoStack, NotStarted, RemovePending, SurpriseRemoved}
 use Rattle.pnp_laws.proofs.Lookups.{node_changed_same, node_changed_other, left_other}
 use Rattle.pnp_laws.proofs.Lists.{HeadIs}
 
@@ -30,7 +30,6 @@ with_drivers SurpriseRemoved d h = refl
 with_drivers _ d h = cc
 
 pub strips : (x : DevState) → is_stripped_next x ≡ true → Row x Minor.Remove false NoStack
-strips NoStack h = absurd (cc)
 strips NotStarted h = remove
 strips RemovePending h = remove_pending
 strips SurpriseRemoved h = remove_surprised
@@ -151,6 +150,3 @@ relist_only path born s = by_device (device_of path s.world)
     by_device : (o : Option Device) → OnlyTasks s (relist_device born o s)
     by_device None = same_only s
     by_device (Some d) = by_other d (d.born == born)
-
-pub relist_core : (path : List ℕ) (born : ℕ) (s : State) → (relist path born s).core ≡ s.core
-relist_core path born s = (relist_only path born s).core

@@ -1,5 +1,5 @@
 -- Devices that are up hold one whole alternative, and devices without drivers nothing: by what a step does to nodes and activities.
-use Rattle.std.proofs.Common.{ℕ, ◌≡◌, ◌≢◌, ◌⊎◌, inl, inr, Bool, true, false, List, [], ◌∷◌, ◌++◌, map, Option, Some, None, refl, sym, ap, ◌∙◌, subst, arith}
+use Rattle.std.proofs.Common.{ℕ, ◌≡◌, ◌≢◌, inl, inr, Bool, true, false, List, [], ◌∷◌, ◌++◌, map, Option, Some, None, refl, sym, ap, ◌∙◌, subst, arith}
 use Rattle.std.specs.List.{AllZip}
 use Rattle.std.proofs.lemmas.Bool.{cases_eq}
 use Rattle.std.proofs.lemmas.Bool.Decides.{nat_tests}
@@ -8,15 +8,14 @@ use Rattle.resource_reqs.specs.Spelling.Answer.{assignment}
 use Rattle.resource_reqs.proofs.Answering.{plan_is}
 use Rattle.pnp_labels.specs.declared.label.Label.{Label}
 use Rattle.pnp_labels.specs.declared.states.DevState.{DevState}
-use Rattle.pnp_labels.specs.declared.states.DevState.TheVariants.{NoStack, NotStarted, Started, StopPending, Stopped, RemovePending, SurpriseRemoved}
+use Rattle.pnp_labels.specs.declared.states.DevState.TheVariants.{NoStack, NotStarted, Started, Stopped}
 use Rattle.pnp_labels.specs.declared.words.Minor.{Minor}
-use Rattle.pnp_labels.specs.declared.words.Minor.TheVariants.{Start, QueryRemove, Remove, CancelRemove, Stop, QueryStop, CancelStop, SurpriseRemoval}
+use Rattle.pnp_labels.specs.declared.words.Minor.TheVariants.{Start, QueryRemove, Remove, QueryStop}
 use Rattle.pnp_model.specs.Cores.{bare, is_node, new_node, node_at, stacked, with_holds, with_stack, with_state}
 use Rattle.pnp_model.specs.Frames.{fixed_beside}
 use Rattle.pnp_model.specs.Keyed.{changed_first, without_first}
 use Rattle.pnp_model.specs.Laws.{is_up_to_now, HoldsWhole}
-use Rattle.pnp_model.specs.Machine.{is_ready}
-use Rattle.pnp_model.specs.Rebalances.{committed, movers, part_for, plan_of}
+use Rattle.pnp_model.specs.Rebalances.{committed, movers, plan_of}
 use Rattle.pnp_model.specs.Records.{Activity, Node, Operation, Phase, Rebalance, RebalanceStage, Removal, RemovalStage, State, Step, Surprise, SurpriseStage, Walk}
 use Rattle.pnp_model.specs.Starts.{adding, own_part}
 use Rattle.pnp_model.specs.States.{activity_at, entered, is_activity}
@@ -24,15 +23,16 @@ use Rattle.pnp_model.specs.Tests.{has, is_told}
 use Rattle.pnp_model.specs.Walks.{state_after}
 use Rattle.pnp_laws.specs.Effects.{ActivityEffect, Acting, Alters, Assigned, Enters, IsSearch, NodeEffect, PhaseStep, Request, operation_minor, rebalance_minor, removal_minor, surprise_minor, todo_of}
 use Rattle.pnp_laws.specs.Holdings.{HeldWell, IsWhole, StartsWhole, WholeAt, has_plan, is_starting}
-use Rattle.pnp_laws.specs.Kept.{Alone, Fits, InOrder, IsGood, OperationFits, RebalanceKeeps, RemovalKeeps, SurpriseKeeps, asking_state, pending_state, restoring_state, stopped_state, stopping_state, telling_state}
+use Rattle.pnp_laws.specs.Kept.{Alone, Fits, IsGood, OperationFits, RebalanceKeeps, RemovalKeeps, SurpriseKeeps, asking_state, pending_state, restoring_state, stopped_state, stopping_state, telling_state}
 use Rattle.pnp_laws.specs.Plans.{IsPlanned, PlanFits, PlanKept, StagePlan}
-use Rattle.pnp_laws.proofs.EffectViews.{alters_keeps}
+use Rattle.pnp_laws.proofs.EffectViews.{acting_at, alters_keeps}
 use Rattle.pnp_laws.proofs.EventChanges.{starting_still}
-use Rattle.pnp_laws.proofs.Lists.{head_found, head_has}
-use Rattle.pnp_laws.proofs.Lookups.{ended_other, ended_same, entered_other, entered_same, joined_from, left_from, map_from, node_from, own_serial, phase_from, ready_found, some_same}
+use Rattle.pnp_laws.proofs.Lists.{head_found, head_has, member}
+use Rattle.pnp_laws.proofs.Lookups.{ended_other, ended_same, entered_other, entered_same, joined_from, left_from, map_from, node_from, own_serial, phase_from, some_same}
 use Rattle.pnp_laws.proofs.OpSteps.{is_RemovePending, is_Started, is_StopPending, is_Stopped}
 use Rattle.pnp_laws.proofs.PlansKept.{mover_whole, whole_changed}
 use Rattle.pnp_laws.proofs.RemovalSteps.{head_querying, head_refusing}
+use Rattle.pnp_laws.proofs.Sharing.{part_not}
 use Rattle.pnp_laws.proofs.StartSteps.{stacked_idle}
 use Rattle.pnp_model.specs.Events as ev
 
@@ -50,11 +50,7 @@ to_holds nodes h = record { up = λ k n at e. (h k n at).up e; bare = λ k n at 
 told_up : (x : DevState) → is_told x ≡ true → is_up_to_now x ≡ true
 told_up Started h = refl
 told_up Stopped h = refl
-told_up NoStack h = absurd (cc)
-told_up NotStarted h = absurd (cc)
-told_up StopPending h = absurd (cc)
-told_up RemovePending h = absurd (cc)
-told_up SurpriseRemoved h = absurd (cc)
+told_up _ h = absurd (cc)
 
 up_asking : (todo agreed : List ℕ) (j : ℕ) (x : DevState) → has todo j ≡ true → asking_state todo agreed j x ≡ true → is_up_to_now x ≡ true
 up_asking todo agreed j x h g = ap is_up_to_now (is_Started x (grind (arith)))
@@ -81,11 +77,7 @@ module _ (nodes : List Node) (node : Node) (minor : Minor) (other : minor ≢ Mi
   re_up r (RebalanceStage.Cancelling w) keeps here is = up_pending r.todo node.serial node.state here (keeps.each node.serial node at)
   re_up r (RebalanceStage.Stopping w) keeps here is = up_stopping r.todo r.agreed node.serial node.state here (keeps.each node.serial node at)
   re_up r (RebalanceStage.Restarting w) keeps here is = up_stopped r.todo node.serial node.state here (keeps.each node.serial node at)
-  re_up r RebalanceStage.Searching keeps here is = absurd (cc)
-  re_up r RebalanceStage.Stuck keeps here is = absurd (cc)
-  re_up r RebalanceStage.Committing keeps here is = absurd (cc)
-  re_up r RebalanceStage.Failed keeps here is = absurd (cc)
-  re_up r RebalanceStage.Ending keeps here is = absurd (cc)
+  re_up r _ keeps here is = absurd (cc)
 
   rm_up : (o : Removal) (stage : RemovalStage) → RemovalKeeps o stage nodes → has o.todo node.serial ≡ true → removal_minor stage ≡ Some minor → is_up_to_now node.state ≡ true
   rm_up o (RemovalStage.Asking w) keeps here is = ap is_up_to_now (head_querying o.todo o.agreed o.set node.serial node.state here (keeps.each node.serial node at))
@@ -108,17 +100,6 @@ module _ (nodes : List Node) (node : Node) (minor : Minor) (other : minor ≢ Mi
 
 -- Starts ------------------------------------------------------------------------------------
 
--- a device whose start is under way
-record Started_at (s : State) (k : ℕ) (phase : Phase) : Type 0 where
-  activity : Activity
-  at : activity_at k s.activities ≡ Some activity
-  is : activity.phase ≡ phase
-
-acting_at : (s : State) (k : ℕ) (phase : Phase) → InOrder 0 s.activities → Acting s k phase → Started_at s k phase
-acting_at s k phase order acts =
-    let at = (ready_found is_ready 0 s.activities acts.activity order acts.ready).1 in
-    record { activity = acts.activity; at = subst (λ (i : ℕ). activity_at i s.activities ≡ Some acts.activity) acts.own at; is = acts.is }
-
 adding_quiet : (ds : List ℕ) → is_starting (adding ds) ≡ false
 adding_quiet [] = refl
 adding_quiet (d ∷ ds) = refl
@@ -127,16 +108,11 @@ search_waits : (phase : Phase) (x : DevState) → IsSearch phase → Fits phase 
 search_waits (Phase.Adding []) x search fits = fits
 search_waits (Phase.Adding (d ∷ ds)) x search fits = absurd search
 search_waits Phase.Searching x search fits = fits
-search_waits (Phase.Starting w) x search fits = absurd search
-search_waits (Phase.Removing w) x search fits = absurd search
-search_waits (Phase.Due problem) x search fits = absurd search
+search_waits _ x search fits = absurd search
 
 search_quiet : (phase : Phase) → IsSearch phase → is_starting phase ≡ false
-search_quiet (Phase.Adding ds) search = refl
-search_quiet Phase.Searching search = refl
 search_quiet (Phase.Starting w) search = absurd search
-search_quiet (Phase.Removing w) search = refl
-search_quiet (Phase.Due problem) search = refl
+search_quiet _ search = refl
 
 own_whole : (reqs : Reqs) (plan : List (List Res)) → AllZip Whole (reqs ∷ []) plan → Whole reqs (own_part plan)
 own_whole reqs [] h = absurd h
@@ -149,23 +125,15 @@ stays_bare Start false x other e = absurd (cc)
 stays_bare QueryRemove true x other e = e
 stays_bare QueryRemove false x other e = absurd (cc)
 stays_bare Remove bad x other e = absurd (other refl)
-stays_bare CancelRemove bad x other e = absurd (cc)
-stays_bare Stop bad x other e = absurd (cc)
 stays_bare QueryStop true x other e = e
 stays_bare QueryStop false x other e = absurd (cc)
-stays_bare CancelStop bad x other e = absurd (cc)
-stays_bare SurpriseRemoval bad x other e = absurd (cc)
+stays_bare _ bad x other e = absurd (cc)
 
 -- a device that waits for its start may hold what it likes
 waiting_well : (n : Node) → n.state ≡ NotStarted → HeldWell n
 waiting_well n e = record { up = λ h. absurd (let z = ap is_up_to_now e in cc); bare = λ h. absurd (cc) }
 
 -- The parts of a plan ---------------------------------------------------------------------------
-
-part_other : (k : ℕ) (js : List ℕ) (plan : List (List Res)) (held : List Res) → has js k ≡ false → part_for k js plan held ≡ held
-part_other k [] plan held h = refl
-part_other k (j ∷ js) [] held h = refl
-part_other k (j ∷ js) (holds ∷ plan) held h = grind (arith, nat_tests, part_other k js plan held)
 
 -- a device without drivers does not move
 mover_up : (r : Rebalance) (nodes : List Node) (k : ℕ) (n : Node) → RebalanceKeeps r RebalanceStage.Committing nodes → node_at k nodes ≡ Some n → has (movers r) k ≡ true → n.state ≢ NoStack
@@ -183,17 +151,13 @@ mover_up r nodes k n keeps at h e =
           cc
     ]
 
-mover_or : (js : List ℕ) (k : ℕ) (b : Bool) → has js k ≡ b → (has js k ≡ true) ⊎ (has js k ≡ false)
-mover_or js k true h = inl h
-mover_or js k false h = inr h
-
 committed_well : (r : Rebalance) (reserved : List Res) (nodes : List Node) (k : ℕ) (n : Node) → RebalanceKeeps r RebalanceStage.Committing nodes → PlanFits r reserved nodes → node_at k nodes ≡ Some n → HeldWell n → HeldWell (committed (movers r) (plan_of r.found) n)
 committed_well r reserved nodes k n keeps fits at well =
-    elim (mover_or (movers r) k (has (movers r) k) refl) [
+    elim (member (movers r) k) [
       | inl h ↦ record { up = λ e. mover_whole r reserved nodes k n fits at h; bare = λ e. absurd (mover_up r nodes k n keeps at h e) }
       | inr h ↦
           let own = own_serial k n nodes at in
-          let same : (committed (movers r) (plan_of r.found) n).holds ≡ n.holds = part_other n.serial (movers r) (plan_of r.found) n.holds (subst (λ (i : ℕ). has (movers r) i ≡ false) (sym own) h) in
+          let same : (committed (movers r) (plan_of r.found) n).holds ≡ n.holds = part_not n.serial (movers r) (plan_of r.found) n.holds (subst (λ (i : ℕ). has (movers r) i ≡ false) (sym own) h) in
           record { up = λ e. subst (λ (x : List Res). Whole n.reqs x) (sym same) (well.up e); bare = λ e. same ∙ well.bare e }
     ]
 
@@ -233,7 +197,7 @@ module _ (s : State) (label : Label) (good : IsGood s) (planned : IsPlanned s) (
       subst (λ (x : Node). HeldWell (with_state (state_after minor bad node.state) x)) same
       (record { up = λ e. asked_whole node minor w other at request; bare = λ e. (well node.serial node at).bare (stays_bare minor bad node.state other e) })
   altered_well j f (Alters.troubled k problem) n there = let h = well k n there in record { up = h.up; bare = h.bare }
-  altered_well j f (Alters.stacks node d ds at acts) n there =
+  altered_well j f (Alters.stacks node d ds name at acts prints) n there =
       waiting_well (with_stack (node.stack ++ d ∷ []) (stacked node.state) n) (stacked_idle node.state (fits_at node.serial (Phase.Adding (d ∷ ds)) node acts at))
   altered_well j f (Alters.assigned node phase plan acts search part) n there =
       waiting_well (with_holds (own_part plan) n) (search_waits phase n.state search (fits_at node.serial phase n acts there))
@@ -288,7 +252,7 @@ module _ (s : State) (label : Label) (good : IsGood s) (planned : IsPlanned s) (
     altered_starts j f (Alters.walked node minor w bad at request other ends verdict prints) =
         whole_changed k node.serial _ s.core.nodes (record { reqs = record { serial = λ n. refl; reqs = λ n. refl }; holds = λ n. refl }) before
     altered_starts j f (Alters.troubled i problem) = whole_changed k i _ s.core.nodes (record { reqs = record { serial = λ n. refl; reqs = λ n. refl }; holds = λ n. refl }) before
-    altered_starts j f (Alters.stacks node d ds at acts) = whole_changed k node.serial _ s.core.nodes (record { reqs = record { serial = λ n. refl; reqs = λ n. refl }; holds = λ n. refl }) before
+    altered_starts j f (Alters.stacks node d ds name at acts prints) = whole_changed k node.serial _ s.core.nodes (record { reqs = record { serial = λ n. refl; reqs = λ n. refl }; holds = λ n. refl }) before
     altered_starts j f (Alters.assigned node phase plan acts search part) = λ m g.
         elim (node_from node.serial k (with_holds (own_part plan)) s.core.nodes m (λ n. refl) g) [
           | inl (e, more) ↦ absurd (not_acting phase (subst (λ (i : ℕ). Acting s i phase) e acts) (search_quiet phase search))
@@ -330,12 +294,12 @@ module _ (s : State) (label : Label) (good : IsGood s) (planned : IsPlanned s) (
       subst (WholeAt r.target) (sym nodes) (kept (ap has_plan found))
 
   entered_starts : (t : State) (k : ℕ) (phase : Phase) → Enters s k t phase → is_starting phase ≡ true → WholeAt k t.core.nodes
-  entered_starts t k phase (Enters.installs drivers free) starts = absurd (let quiet = adding_quiet drivers in cc)
+  entered_starts t k phase (Enters.installs drivers chosen drops) starts = absurd (let quiet = adding_quiet drivers in cc)
   entered_starts t k phase (Enters.restarts r plan runs is target found nodes) starts = subst (λ (i : ℕ). WholeAt i t.core.nodes) target (restarted t r plan runs is found nodes)
   entered_starts t k phase (Enters.undoes r runs target) starts = absurd (cc)
 
   entered_free : (t : State) (k : ℕ) (phase : Phase) → Enters s k t phase → activity_at k s.activities ≡ None
-  entered_free t k phase (Enters.installs drivers free) = free
+  entered_free t k phase (Enters.installs drivers chosen drops) = chosen.free
   entered_free t k phase (Enters.restarts r plan runs is target found nodes) = ap (activity_at k) (alone (Operation.Rebalancing r) runs)
   entered_free t k phase (Enters.undoes r runs target) = ap (activity_at k) (alone (Operation.Rebalancing r) runs)
 

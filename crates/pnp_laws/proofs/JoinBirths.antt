@@ -11,7 +11,7 @@ use Rattle.pnp_laws.proofs.Lookups.{some_same, joined_from, joined_keeps}
 use Rattle.pnp_laws.proofs.Standing.{Tree}
 use Rattle.pnp_laws.proofs.Joins.{below, joinable, joinable_less, starting_none, starts, start_cost, starts_less, unborn, below_node, start_costs, can_join, closed, is_bare, some_there, is_live, lives, In, Sub, sub_in, Grows, Born, Flows, any_from, any_at, parent_there}
 use Rattle.pnp_laws.proofs.JoinSteps.{Joined, live_is, starts_pushed}
-use Rattle.pnp_laws.proofs.Truths.{and_both, both_true}
+use Rattle.pnp_laws.proofs.Truths.{and_both, both_true, but_not, not_true}
 
 -- Worlds -------------------------------------------------------------------------------------------------
 
@@ -89,11 +89,7 @@ unknown s node d h =
     let two = and_both (d.parent == node.born && not (has_born d.born s.core.nodes)) (not (has_path d.path s.core.nodes)) h in
     let first = and_both (d.parent == node.born) (not (has_born d.born s.core.nodes)) two.0 in
     let e = first.0 in
-    (grind (arith, nat_tests), by_test (has_born d.born s.core.nodes) first.1)
-  where
-    by_test : (b : Bool) → not b ≡ true → b ≡ false
-    by_test true g = absurd (cc)
-    by_test false g = refl
+    (grind (arith, nat_tests), not_true (has_born d.born s.core.nodes) first.1)
 
 -- no node has the birth number
 pub no_node : (s : State) (b k : ℕ) (n : Node) → has_born b s.core.nodes ≡ false → node_at k s.core.nodes ≡ Some n → n.born ≡ b → ⊥
@@ -170,17 +166,12 @@ join_less lives there was_live was_there lo [] d grows in_it each could now apar
 join_less lives there was_live was_there lo (x ∷ ds) d grows (inl e) each could now apart =
     let a = joinable_less lives there was_live was_there (λ p. false) ds (λ y i g. inl (each y (inr i) g)) in
     let z = starting_none ds in
-    let gone : (lives x.parent && not (there x.born)) ≡ false = by_there (lives x.parent) (there x.born) (ap (λ (y : Device). there y.born) e ∙ now) in
+    let gone : (lives x.parent && not (there x.born)) ≡ false = but_not (lives x.parent) (there x.born) (ap (λ (y : Device). there y.born) e ∙ now) in
     let was : (was_live x.parent && not (was_there x.born)) ≡ true = ap (λ (y : Device). was_live y.parent && not (was_there y.born)) e ∙ could in
     let own : (x.parent == d.born) ≡ false = let f = ap (λ (y : Device). y.parent) e in grind (arith, nat_tests) in
     let born : below x.born ds ≡ below d.born ds = ap (λ (y : Device). below y.born ds) e in
     by_tests (lives x.parent && not (there x.born)) (was_live x.parent && not (was_there x.born)) (x.parent == d.born) gone was own born (omega arith)
   where
-    by_there : (a b : Bool) → b ≡ true → (a && not b) ≡ false
-    by_there true true e = refl
-    by_there true false e = absurd (cc)
-    by_there false b e = refl
-
     by_tests : (a b c : Bool) → a ≡ false → b ≡ true → c ≡ false → below x.born ds ≡ below d.born ds → joinable lives there ds ≤ joinable was_live was_there ds →
         cond a (1 + below x.born ds) 0 + joinable lives there ds + (1 + (cond c (1 + below x.born ds) 0 + below d.born ds)) ≤ cond b (1 + below x.born ds) 0 + joinable was_live was_there ds
     by_tests true b c e f g h l = absurd (cc)

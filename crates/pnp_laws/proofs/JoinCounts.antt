@@ -10,7 +10,7 @@ use Rattle.pnp_laws.specs.Kept.{Ascending, IsGood}
 use Rattle.pnp_laws.proofs.Lookups.{own_serial}
 use Rattle.pnp_laws.proofs.Standing.{Tree}
 use Rattle.pnp_laws.proofs.Joins.{starts, is_live, lives, In, Sub, any_from, any_at, Born, Flows, start_of, starts_with, one_born}
-use Rattle.pnp_laws.proofs.Truths.{and_both, both_true, or_left}
+use Rattle.pnp_laws.proofs.Truths.{and_both, both_true, but_not, not_true, or_left}
 
 -- Devices that may join ------------------------------------------------------------------------------------
 
@@ -90,13 +90,8 @@ reach_most opens test (d ∷ ds) = by_test (is_counted opens test d) (reach_most
 
 pub reach_room : (opens : ℕ → Bool) (test : Device → Bool) (ds : List Device) → HasRoom ds → reach opens test ds ≤ 4096
 reach_room opens test [] room = absurd room
-reach_room opens test (d ∷ ds) (root, few) = by_test (is_counted opens test d) (out (opens d.parent || test d) (d.born == 0) (grind (arith, nat_tests))) (reach_most opens test ds)
+reach_room opens test (d ∷ ds) (root, few) = by_test (is_counted opens test d) (but_not (opens d.parent || test d) (d.born == 0) (grind (arith, nat_tests))) (reach_most opens test ds)
   where
-    out : (a b : Bool) → b ≡ true → (a && not b) ≡ false
-    out true true e = refl
-    out false true e = refl
-    out a false e = absurd (cc)
-
     by_test : (a : Bool) → a ≡ false → reach opens test ds ≤ length ds → cond a (1 + reach (λ b. opens b || d.born == b) test ds) (reach opens test ds) ≤ 4096
     by_test true e h = absurd (cc)
     by_test false e h = omega arith
@@ -241,10 +236,6 @@ spare_used false c d e l some = absurd (cc)
 spare_spent : (a b : Bool) (c d : ℕ) → b ≡ true → c + 1 ≤ d → spare a c < spare b d
 spare_spent a true c d e l = let m = spare_most a c in omega arith
 spare_spent a false c d e l = absurd (cc)
-
-pub not_true : (b : Bool) → not b ≡ true → b ≡ false
-not_true true h = absurd (cc)
-not_true false h = refl
 
 pub some_more : (c d : ℕ) → c ≤ d → nat_lt 0 c ≡ true → nat_lt 0 d ≡ true
 some_more c d l h = grind (arith, nat_tests)

@@ -1,5 +1,5 @@
 -- What is kept of births, by an event.
-use Rattle.std.proofs.Common.{ℕ, suc, ◌+◌, ◌<◌, ◌≤◌, ◌≡◌, ◌⊎◌, inl, inr, Bool, true, false, cond, List, [], ◌∷◌, ◌++◌, Option, Some, None, refl, sym, ap, ◌∙◌, subst, arith, nat_lt}
+use Rattle.std.proofs.Common.{ℕ, suc, ◌<◌, ◌≤◌, ◌≡◌, ◌⊎◌, inl, inr, Bool, true, false, cond, List, [], ◌∷◌, ◌++◌, Some, refl, sym, ap, ◌∙◌, subst, arith, nat_lt}
 use Rattle.std.proofs.lemmas.Bool.Decides.{nat_tests}
 use Rattle.std.specs.List.{find}
 use Rattle.device_ids.specs.Folding.{same}
@@ -16,7 +16,7 @@ use Rattle.pnp_laws.proofs.EffectsOfEvents.{event_effect}
 use Rattle.pnp_laws.proofs.EventChanges.{happens_outside, still_serial}
 use Rattle.pnp_laws.proofs.Joins.{In, Sub, sub_same, sub_in, sub_without, Grows, Born, starts, unborn}
 use Rattle.pnp_laws.proofs.JoinBirths.{grows_sub}
-use Rattle.pnp_laws.proofs.JoinSteps.{starts_pushed}
+use Rattle.pnp_laws.proofs.JoinSteps.{in_find, starts_pushed}
 use Rattle.pnp_model.specs.Events as ev
 
 born_calm : (s t : State) → Sub t.world s.world → t.next_born ≡ s.next_born → t.core.nodes ≡ s.core.nodes → t.next_serial ≡ s.next_serial → starts (unborn s.next_serial) t.tasks ≡ 0 → Born s → Born t
@@ -71,20 +71,12 @@ born_plug s d own under b =
       ];
     }
 
-find_in : (p : Device → Bool) (ds : List Device) (d : Device) → find p ds ≡ Some d → In d ds
-find_in p [] d h = absurd (cc)
-find_in p (x ∷ xs) d h = by_test (p x) h (λ g. find_in p xs d g)
-  where
-    by_test : (b : Bool) → cond b (Some x) (find p xs) ≡ Some d → (find p xs ≡ Some d → In d xs) → In d (x ∷ xs)
-    by_test true g more = let same : x ≡ d = cc in inl same
-    by_test false g more = inr (more g)
-
 -- an event adds a start only for a node that is there
 soon_tasks : (s t : State) → IsGood s → CommandEffect s t → starts (unborn s.next_serial) s.tasks ≡ 0 → starts (unborn s.next_serial) t.tasks ≡ 0
 soon_tasks s t good (CommandEffect.same e) soon = ap (starts (unborn s.next_serial)) e ∙ soon
 soon_tasks s t good (CommandEffect.lists k e) soon = ap (starts (unborn s.next_serial)) e ∙ (let p = starts_pushed (unborn s.next_serial) s.tasks (record { kind = Duty.Listing; serial = k }) in omega arith)
-soon_tasks s t good (CommandEffect.starts path n found e) soon =
-    let given = good.below n.serial n (find_at (λ m. same m.path path) 0 s.core.nodes n good.serials found) in
+soon_tasks s t good (CommandEffect.starts path n enabled e) soon =
+    let given = good.below n.serial n (find_at (λ m. same m.path path) 0 s.core.nodes n good.serials enabled.at) in
     let none : unborn s.next_serial n.serial ≡ 0 = ap (λ (b : Bool). cond b 0 1) (below n.serial s.next_serial given) in
     ap (starts (unborn s.next_serial)) e ∙ (let p = starts_pushed (unborn s.next_serial) s.tasks (record { kind = Duty.Starting; serial = n.serial }) in omega arith)
   where
@@ -96,7 +88,7 @@ soon_tasks s t good (CommandEffect.begins kind n path found up e) soon =
 born_world : (s : State) (entry : Entry) (t : State) → WorldEffect s entry t → t.core.nodes ≡ s.core.nodes → t.next_serial ≡ s.next_serial → starts (unborn s.next_serial) t.tasks ≡ 0 → Born s → Born t
 born_world s entry t (WorldEffect.same world next) nodes serial soon born = born_calm s t (subst (λ (w : List Device). Sub w s.world) (sym world) (sub_same s.world)) next nodes serial soon born
 born_world s entry t (WorldEffect.plugged d why world next) nodes serial soon born =
-    let over = born.fresh why.over (find_in (λ x. same x.path why.parent) s.world why.over why.there) in
+    let over = born.fresh why.over (in_find (λ x. same x.path why.parent) s.world why.over why.there).1 in
     let own = why.born in
     let under = why.under in
     born_calm (plug d s) t (subst (λ (w : List Device). Sub w (s.world ++ d ∷ [])) (sym world) (sub_same (s.world ++ d ∷ []))) next nodes serial soon (born_plug s d why.born (omega arith) born)

@@ -6,7 +6,7 @@ use Rattle.pnp_model.specs.Records.{Node, Device, State, Step, Operation, Duty}
 use Rattle.pnp_model.specs.Cores.{node_at, new_node}
 use Rattle.pnp_model.specs.Tasks.{join_step, has_born}
 use Rattle.pnp_labels.specs.declared.states.DevState.{DevState}
-use Rattle.pnp_labels.specs.declared.states.DevState.TheVariants.{NoStack, NotStarted, Started, StopPending, Stopped, RemovePending, SurpriseRemoved}
+use Rattle.pnp_labels.specs.declared.states.DevState.TheVariants.{NoStack}
 use Rattle.pnp_laws.specs.Kept.{IsGood, is_idle}
 use Rattle.pnp_laws.proofs.Lookups.{some_same, found_self, joined_from, joined_keeps}
 use Rattle.pnp_laws.proofs.SoundStarts.{child_hangs}
@@ -14,8 +14,8 @@ use Rattle.pnp_laws.proofs.Standing.{Tree}
 use Rattle.pnp_laws.proofs.Joins.{starts_less, unborn, closed, is_bare, is_live, lives, In, sub_same, Grows, Born, any_from, any_at, parent_there}
 use Rattle.pnp_laws.proofs.JoinSteps.{Joined, live_is, starts_pushed}
 use Rattle.pnp_laws.proofs.JoinBirths.{Joining, unknown, no_node, under, grows_in, new_there, new_dead, could_join, could_before, is_born_now}
-use Rattle.pnp_laws.proofs.JoinCounts.{is_counted, reach, counted_more, reach_less, is_alive, live_at, one_of, start_count, is_to_start, opens_at, is_outside, spare, total, spare_at, spares, join_price, total_less, spare_less, one_is, not_true}
-use Rattle.pnp_laws.proofs.Truths.{and_both, both_true, or_cases, or_right, or_left}
+use Rattle.pnp_laws.proofs.JoinCounts.{is_counted, reach, counted_more, reach_less, is_alive, live_at, one_of, start_count, is_to_start, opens_at, is_outside, spare, total, spare_at, spares, join_price, total_less, spare_less, one_is}
+use Rattle.pnp_laws.proofs.Truths.{and_both, both_true, but_not, not_true, or_cases, or_right, or_left}
 
 -- Counting ---------------------------------------------------------------------------------------------------
 
@@ -149,12 +149,7 @@ IsUp s b = (n : Node) × (node_at n.serial s.core.nodes ≡ Some n) × (n.born �
 
 bare_less : (x : DevState) → is_idle x ≡ false → is_bare x ≡ false
 bare_less NoStack h = absurd (cc)
-bare_less NotStarted h = refl
-bare_less Started h = refl
-bare_less StopPending h = refl
-bare_less Stopped h = refl
-bare_less RemovePending h = refl
-bare_less SurpriseRemoved h = refl
+bare_less _ h = refl
 
 up_above : (s : State) (node : Node) (d x : Device) → Joining s node d → In x s.world → IsUp s x.born → IsUp s x.parent
 up_above s node d x h there (n, at, born, up) =
@@ -176,12 +171,7 @@ inside_out s node d x (n, at, born, up) =
     let t = (join_step s node d).state in
     let kept = joined_keeps n.serial s.core.nodes (new_node s.next_serial node.serial d) n at in
     let there : has_born x.born t.core.nodes ≡ true = any_from (λ n. n.born == x.born) t.core.nodes n.serial n kept (grind (arith, nat_tests)) in
-    by_there (lives t x.parent) (has_born x.born t.core.nodes) there
-  where
-    by_there : (a b : Bool) → b ≡ true → (a && not b) ≡ false
-    by_there true true e = refl
-    by_there true false e = absurd (cc)
-    by_there false b e = refl
+    but_not (lives t x.parent) (has_born x.born t.core.nodes) there
 
 -- none of those that are up is to start
 up_shut : (s : State) (node : Node) (d : Device) → IsGood (join_step s node d).state → Joining s node d → (b : ℕ) → IsUp s b → opens_at (join_step s node d).state b ≡ false
@@ -231,16 +221,11 @@ join_price_falls s node d good_t h =
     let u = unknown s node d h.join in
     let parent_up : IsUp s d.parent = (node, h.at, sym u.0, ap is_idle h.up) in
     let not_root : d.born ≢ 0 = λ e. no_node s d.born node.serial node u.1 h.at (let low = under 0 s.world d h.born.grows h.there in let p = u.0 in omega arith) in
-    let out : is_outside t d ≡ false = no_more (lives t d.parent) (has_born d.born t.core.nodes) (is_born_now s node d h) in
+    let out : is_outside t d ≡ false = but_not (lives t d.parent) (has_born d.born t.core.nodes) (is_born_now s node d h) in
     let a = spares_joined s node d h in
     let b = reach_falls (IsUp s) (opens_at t) (opens_at s) (is_outside t) (is_outside s) 0 s.world d h.born.grows h.there not_root (could_join s node d h) out parent_up
     (to_start_before s node d good_t h) (λ x i g. could_before s node d x good_t h g) (up_shut s node d good_t h) (λ x i g. (up_above s node d x h i g, inside_out s node d x g)) in
     omega arith
-  where
-    no_more : (a b : Bool) → b ≡ true → (a && not b) ≡ false
-    no_more true true e = refl
-    no_more true false e = absurd (cc)
-    no_more false b e = refl
 
 pub joined_price : (s : State) (step : Step) → IsGood s → IsGood step.state → Tree s.next_serial s.core → Born s → Joined s step → join_price step.state < join_price s
 joined_price s step good good_t tree born j =

@@ -3,51 +3,29 @@ use Rattle.std.proofs.Common.{ℕ, zero, suc, ◌+◌, ◌*◌, ◌≤◌, ◌�
 use Rattle.std.specs.List.{list_any}
 use Rattle.std.proofs.lemmas.Bool.{cases_eq}
 use Rattle.std.proofs.lemmas.Bool.Decides.{nat_tests}
-use Rattle.pnp_model.specs.Tests.{has}
-use Rattle.pnp_model.specs.Records.{Node, Driver, Task, State, Step, Settings, Operation, Removal, RemovalStage, Duty}
+use Rattle.pnp_model.specs.Records.{Node, Driver, Task, State, Step, Settings, Operation, Duty}
 use Rattle.pnp_model.specs.Cores.{node_at}
 use Rattle.pnp_model.specs.States.{activity_at}
 use Rattle.pnp_model.specs.Runs.{Entry, Goes, Run, printed, opening}
 use Rattle.pnp_model.specs.Runs.Entry.{Happens, Did}
-use Rattle.pnp_labels.specs.declared.words.Answer.{Answer}
 use Rattle.pnp_labels.specs.declared.event.Event.{Event}
 use Rattle.pnp_labels.specs.declared.label.Label.{Label}
-use Rattle.pnp_laws.specs.Words.{IsWord, IsNoJoin, joined}
+use Rattle.pnp_laws.specs.Words.{IsWord, joined}
 use Rattle.pnp_laws.specs.Ends.{AllSteps, events, joins, starts_one, waiting_starts, JoinsLaw, FewJoinLaw}
 use Rattle.pnp_laws.specs.Kept.{IsGood}
-use Rattle.pnp_laws.proofs.EventChanges.{Answered, Outside, happens_outside}
+use Rattle.pnp_laws.proofs.EventChanges.{Answered, Outside, happens_outside, still_serial}
+use Rattle.pnp_laws.proofs.EffectsOfEvents.{event_effect}
 use Rattle.pnp_laws.proofs.RunsStand.{Kept, kept_goes, opening_kept}
-use Rattle.pnp_laws.proofs.Joins.{starts, start_cost, closed, removal_closed, some_there, sub_is, any_from, any_at, Born}
-use Rattle.pnp_laws.proofs.JoinSteps.{live_is, live_from, some_is}
+use Rattle.pnp_laws.proofs.Joins.{starts, start_cost, closed, some_there, sub_is, any_from, any_at, Born}
+use Rattle.pnp_laws.proofs.JoinSteps.{answer_closed, joined_none, live_is, live_from, some_is}
 use Rattle.pnp_laws.proofs.JoinMachine.{step_flows, born_goes, opening_born}
-use Rattle.pnp_laws.proofs.JoinCounts.{reach_room, reach_less, is_alive, live_at, one_of, start_count, is_to_start, opens_at, is_outside, may_join, spare, total, spare_at, spares, join_price, HasRoom, total_less, spare_most, spare_less, spares_less, flows_price, one_is, not_true}
+use Rattle.pnp_laws.proofs.JoinCounts.{reach_room, reach_less, is_alive, live_at, one_of, start_count, is_to_start, opens_at, is_outside, may_join, spare, total, spare_at, spares, join_price, HasRoom, total_less, spare_most, spare_less, spares_less, flows_price, one_is}
 use Rattle.pnp_laws.proofs.JoinFalls.{joined_price}
-use Rattle.pnp_laws.proofs.JoinRooms.{room_flows, Starts, outer_happens}
-use Rattle.pnp_laws.proofs.Truths.{and_both, both_true}
+use Rattle.pnp_laws.proofs.JoinRooms.{room_flows, Starts, event_room, event_starts}
+use Rattle.pnp_laws.proofs.Truths.{and_both, both_true, not_true}
 use Rattle.pnp_model.specs.Events as ev
 
 -- Who is live after an event -----------------------------------------------------------------------------------
-
-stage_closed : (answer : Answer) (o : Removal) (stage : RemovalStage) (k : ℕ) → removal_closed o (ev.completed_removal answer stage) k ≡ removal_closed o stage k
-stage_closed answer o (RemovalStage.Asking w) k = refl
-stage_closed answer o (RemovalStage.TakingBack w) k = refl
-stage_closed answer o (RemovalStage.Cancelling w) k = refl
-stage_closed answer o (RemovalStage.Removing w) k = refl
-stage_closed answer o RemovalStage.Settling k = refl
-stage_closed answer o RemovalStage.Ending k = refl
-
-with_closed : (o p : Removal) (stage : RemovalStage) (k : ℕ) → p.set ≡ o.set → removal_closed p stage k ≡ removal_closed o stage k
-with_closed o p (RemovalStage.Asking w) k e = refl
-with_closed o p (RemovalStage.TakingBack w) k e = refl
-with_closed o p (RemovalStage.Cancelling w) k e = refl
-with_closed o p (RemovalStage.Removing w) k e = ap (λ (ks : List ℕ). has ks k) e
-with_closed o p RemovalStage.Settling k e = ap (λ (ks : List ℕ). has ks k) e
-with_closed o p RemovalStage.Ending k e = refl
-
-answer_closed : (answer : Answer) (o : Operation) (k : ℕ) → closed (Some (ev.completed answer o)) k ≡ closed (Some o) k
-answer_closed answer (Operation.Rebalancing r) k = refl
-answer_closed answer (Operation.Removing o) k = with_closed o (record o { stage = ev.completed_removal answer o.stage }) (ev.completed_removal answer o.stage) k refl ∙ stage_closed answer o o.stage k
-answer_closed answer (Operation.Surprising o) k = refl
 
 answered_closed : (old new : Option Operation) (k : ℕ) → Answered old new → closed new k ≡ closed old k
 answered_closed old new k (inl e) = ap (λ (o : Option Operation). closed o k) e
@@ -178,19 +156,23 @@ more_price s t m room =
 
 -- Events -----------------------------------------------------------------------------------------------------------
 
-event_price : (s : State) (event : Event) → IsGood s → Born s → HasRoom s.world → join_price (ev.happens s event).state ≤ join_price s + 4096
+event_price : (s : State) (event : Event) → IsGood s → Born s → HasRoom s.world → HasRoom (ev.happens s event).state.world × (join_price (ev.happens s event).state ≤ join_price s + 4096)
 event_price s event good born room =
-    let t = (ev.happens s event).state in
-    let outer = outer_happens s event in
+    let step = ev.happens s event in
+    let t = step.state in
+    let effect = event_effect s event in
     let out = happens_outside s event in
-    let room_t = outer.room born room in
-    elim outer.tasks [
-      | inl cheaper ↦
-          let a = spares_less s t outer.serial (λ k. (cheaper (one_of k), λ h. inl (live_outside s (ev.happens s event) out k h))) in
-          let b = reach_room (opens_at t) (is_outside t) t.world room_t in
-          omega arith
-      | inr starts ↦ more_price s t (record { good = good; nodes = out.nodes; serial = outer.serial; starts = starts }) room_t
-    ]
+    let serial = still_serial s.next_serial t.next_serial step.label out.word effect.serial in
+    let room_t = event_room s event step.label t effect.world born room in (
+      room_t,
+      elim (event_starts s t effect.tasks) [
+        | inl cheaper ↦
+            let a = spares_less s t serial (λ k. (cheaper (one_of k), λ h. inl (live_outside s step out k h))) in
+            let b = reach_room (opens_at t) (is_outside t) t.world room_t in
+            omega arith
+        | inr starts ↦ more_price s t (record { good = good; nodes = out.nodes; serial = serial; starts = starts }) room_t
+      ],
+    )
 
 -- Runs ---------------------------------------------------------------------------------------------------------------
 
@@ -198,10 +180,6 @@ pub word_no_join : (label : Label) → IsWord label → joined label ≡ 0
 word_no_join (Label.Did word what) h = refl
 word_no_join (Label.Refused word reason) h = refl
 word_no_join _ h = absurd h
-
-pub joined_none : (label : Label) → IsNoJoin label → joined label ≡ 0
-joined_none (Label.Join k path) h = absurd h
-joined_none _ h = refl
 
 joined_one : (label : Label) → joined label ≤ 1
 joined_one (Label.Join k path) = omega arith
@@ -217,8 +195,8 @@ entry_price : (settings : Settings) (old : State) (entry : Entry) (new : State) 
 entry_price settings old (Happens event label) new l goes =
     let word = subst (λ (t : Step). Outside old t) goes.1 (happens_outside old event) in
     let none = word_no_join label word.word in
-    let price = subst (λ (t : Step). join_price t.state ≤ join_price old + 4096) goes.1 (event_price old event l.kept.good l.born l.room) in
-    (subst (λ (t : Step). HasRoom t.state.world) goes.1 ((outer_happens old event).room l.born l.room), omega arith)
+    let price = subst (λ (t : Step). HasRoom t.state.world × (join_price t.state ≤ join_price old + 4096)) goes.1 (event_price old event l.kept.good l.born l.room) in
+    (price.0, let h = price.1 in omega arith)
 entry_price settings old (Did label) new l goes =
     let flows = step_flows settings old (record { label = label; state = new }) l.kept goes in
     elim flows.1 [

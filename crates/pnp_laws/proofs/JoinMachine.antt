@@ -1,83 +1,77 @@
 -- Each step of a run lets no more devices join, and each join leaves fewer.
-use Rattle.std.proofs.Common.{ℕ, ◌<◌, ◌≤◌, ◌≡◌, ◌⊎◌, inl, inr, Bool, true, false, List, [], ◌∷◌, Option, Some, None, refl, sym, ap, ◌∙◌, subst, arith}
-use Rattle.std.specs.List.{find, slice_get}
-use Rattle.pnp_model.specs.Records.{Node, Device, Driver, Activity, Task, State, Step, Settings, Operation, Doing, Duty}
-use Rattle.pnp_model.specs.Records.Doing.{Does, Searches}
-use Rattle.pnp_model.specs.Cores.{node_at}
+use Rattle.std.proofs.Common.{ℕ, ◌<◌, ◌≤◌, ◌≡◌, ◌⊎◌, inl, inr, false, List, [], ◌∷◌, Option, Some, None, refl, sym, ap, ◌∙◌, subst, arith}
+use Rattle.std.specs.Option.{option_map}
+use Rattle.pnp_model.specs.Records.{Node, Device, Driver, State, Step, Settings, Operation, RemovalStage, SurpriseStage}
+use Rattle.pnp_model.specs.Cores.{bare, new_node, node_at}
 use Rattle.pnp_model.specs.Frames.{first_node}
-use Rattle.pnp_model.specs.States.{activity_at}
+use Rattle.pnp_model.specs.Rebalances.{committed, movers, plan_of}
 use Rattle.pnp_model.specs.Laws.{Reaches}
 use Rattle.pnp_model.specs.Runs.{Entry, Goes, Run, opening}
 use Rattle.pnp_model.specs.Runs.Entry.{Happens, Did}
-use Rattle.pnp_labels.specs.declared.label.OpKind.{OpKind}
+use Rattle.pnp_labels.specs.declared.label.Label.{Label}
 use Rattle.pnp_laws.specs.Words.{IsNoJoin}
-use Rattle.pnp_laws.specs.Kept.{IsGood, OperationFits, Alone}
-use Rattle.pnp_laws.proofs.Lookups.{own_serial, ready_found}
-use Rattle.pnp_laws.proofs.Standing.{StageKept}
+use Rattle.pnp_laws.specs.Kept.{Alone, IsGood, OperationFits, RemovalKeeps, SurpriseKeeps}
+use Rattle.pnp_laws.specs.Effects.{NodeEffect, to_leave}
+use Rattle.pnp_laws.proofs.EffectsOf.{effect_of}
+use Rattle.pnp_laws.proofs.EffectViews.{alters_keeps}
+use Rattle.pnp_laws.proofs.Lookups.{joined_keeps, node_at-map, node_missing}
+use Rattle.pnp_laws.proofs.Standing.{RemovalOrder, StageKept, SurpriseOrder}
 use Rattle.pnp_laws.proofs.Runs.{lawful_goes, root_is}
 use Rattle.pnp_laws.proofs.SoundMachine.{sound_step}
 use Rattle.pnp_laws.proofs.RunsStand.{Kept, may_begin, kept_goes, opening_kept}
-use Rattle.pnp_laws.proofs.Joins.{closed, some_there, can_join, Born, Flows, flows_less}
-use Rattle.pnp_laws.proofs.JoinSteps.{Knows, Joined, FlowsStep, FlowsNext, flows_act, flows_rebalance}
-use Rattle.pnp_laws.proofs.JoinRemovals.{flows_removal, flows_surprise}
-use Rattle.pnp_laws.proofs.JoinTasks.{flows_list, flows_start, flows_begin_step}
+use Rattle.pnp_laws.proofs.Joins.{closed, can_join, Born, Flows, flows_less}
+use Rattle.pnp_laws.proofs.JoinSteps.{Closing, Joined, Knows, flows_step}
+use Rattle.pnp_laws.proofs.JoinRemovals.{ClosesStep, asks_closing, removal_closing, surprise_closing}
+use Rattle.pnp_laws.proofs.Stages.{OperationStep, operation_step}
 use Rattle.pnp_laws.proofs.JoinBirths.{born_flows, join_goes}
 use Rattle.pnp_laws.proofs.JoinEvents.{born_happens}
 use Rattle.pnp_model.specs.Machine as ma
-
-flows_alone : (s : State) (kind : OpKind) (k : ℕ) (acts : List Activity) → s.operation ≡ None → FlowsNext s (ma.begin_alone s kind k acts)
-flows_alone s kind k [] none = flows_begin_step s kind k (node_at k s.core.nodes) none
-flows_alone s kind k (a ∷ acts) none = tt
-
-flows_task_of : (settings : Settings) (s : State) (kind : Duty) (k : ℕ) → slice_get s.tasks 0 ≡ Some (record { kind = kind; serial = k }) → s.operation ≡ None → FlowsNext s (ma.task_of settings s kind k)
-flows_task_of settings s Duty.Listing k first none = flows_list s k (node_at k s.core.nodes) refl none
-flows_task_of settings s Duty.Starting k first none = flows_start settings s k (node_at k s.core.nodes) refl none first
-flows_task_of settings s (Duty.Begins kind) k first none = flows_alone s kind k s.activities none
-
-flows_task : (settings : Settings) (s : State) (o : Option Task) → slice_get s.tasks 0 ≡ o → s.operation ≡ None → FlowsNext s (ma.task_next settings s o)
-flows_task settings s None first none = tt
-flows_task settings s (Some task) first none = flows_task_of settings s task.kind task.serial first none
-
-flows_activity : (s : State) (a : Activity) (o : Option Node) → node_at a.serial s.core.nodes ≡ o → activity_at a.serial s.activities ≡ Some a → s.operation ≡ None → Kept s → FlowsNext s (ma.activity_next s a o)
-flows_activity s a None e at none kept = tt
-flows_activity s a (Some node) e at none kept =
-    let own = own_serial a.serial node s.core.nodes e in
-    flows_act s node a.phase none kept.good.order (ap (λ (i : ℕ). some_there (activity_at i s.activities)) own ∙ ap some_there at)
-
-flows_idle_next : (settings : Settings) (s : State) (o : Option Activity) → find ma.is_ready s.activities ≡ o → s.operation ≡ None → Kept s → FlowsNext s (ma.idle_next settings s o)
-flows_idle_next settings s (Some a) e none kept = flows_activity s a (node_at a.serial s.core.nodes) refl (ready_found ma.is_ready 0 s.activities a kept.good.order e).1 none kept
-flows_idle_next settings s None e none kept = flows_task settings s (slice_get s.tasks 0) refl none
 
 -- while an operation runs, no activity is there
 alone_then : (s : State) (o : Operation) → s.operation ≡ Some o → Kept s → s.activities ≡ []
 alone_then s o e kept = subst (λ (x : Option Operation). Alone x s.activities) e kept.good.alone
 
-flows_operation : (s : State) (o : Operation) (waits : Bool) → s.operation ≡ Some o → Kept s → FlowsNext s (ma.operation_next s o waits)
-flows_operation s o true e kept = tt
-flows_operation s (Operation.Rebalancing r) false e kept =
-    flows_rebalance s r r.stage (first_node s.core.nodes r.todo) (record { free = λ k. ap (λ (x : Option Operation). closed x k) e; empty = alone_then s (Operation.Rebalancing r) e kept })
-flows_operation s (Operation.Removing o) false e kept =
-    flows_removal s o o.stage (first_node s.core.nodes o.todo) refl e refl (alone_then s (Operation.Removing o) e kept)
-    (subst (λ (x : Option Operation). OperationFits x s.core.nodes) e kept.good.fits) (subst (λ (x : Option Operation). StageKept x s.core) e kept.stands.stage).0
-flows_operation s (Operation.Surprising o) false e kept =
-    flows_surprise s o o.stage (first_node s.core.nodes o.todo) refl e (alone_then s (Operation.Surprising o) e kept)
-    (subst (λ (x : Option Operation). OperationFits x s.core.nodes) e kept.good.fits) (subst (λ (x : Option Operation). StageKept x s.core) e kept.stands.stage).0
+-- nobody leaves but in a removal or a surprise removal
+node_stays : (s : State) (label : Label) (t : State) → ((o : Operation) → s.operation ≡ Some o → to_leave o ≡ []) → NodeEffect s label t → (k : ℕ) (n : Node) → node_at k s.core.nodes ≡ Some n → node_at k t.core.nodes ≡ None → ⊥
+node_stays s label t none (NodeEffect.same e rest) k n at gone = let now = ap (node_at k) e in cc
+node_stays s label t none (NodeEffect.changed j f alters e rest) k n at gone = let was = node_missing j k f s.core.nodes (alters_keeps s label j f alters).serial (sym (ap (node_at k) e) ∙ gone) in cc
+node_stays s label t none (NodeEffect.stripped node w there request ends prints e rest) k n at gone = let was = node_missing node.serial k bare s.core.nodes (λ x. refl) (sym (ap (node_at k) e) ∙ gone) in cc
+node_stays s label t none (NodeEffect.commits r runs is e rest) k n at gone =
+    let now = sym gone ∙ ap (node_at k) e ∙ node_at-map k (committed (movers r) (plan_of r.found)) s.core.nodes (λ x. refl) ∙ ap (option_map (committed (movers r) (plan_of r.found))) at in
+    cc
+node_stays s label t none (NodeEffect.joins node d idle there up below is) k n at gone =
+    let now = sym gone ∙ ap (λ (x : Step). node_at k x.state.core.nodes) is ∙ joined_keeps k s.core.nodes (new_node s.next_serial node.serial d) n at in
+    cc
+node_stays s label t none (NodeEffect.left node o runs first e rest) k n at gone = absurd (let h = subst (λ (ks : List ℕ). first_node s.core.nodes ks ≡ Some node) (none o runs) first in cc)
+node_stays s label t none (NodeEffect.related r related e rest) k n at gone = let now = ap (node_at k) e in cc
 
-flows_next_of : (settings : Settings) (s : State) (o : Option Operation) → s.operation ≡ o → Kept s → FlowsNext s (ma.next_of settings s o)
-flows_next_of settings s (Some o) e kept = flows_operation s o (ma.is_waiting (ma.operation_walk o)) e kept
-flows_next_of settings s None e kept = flows_idle_next settings s (find ma.is_ready s.activities) refl e kept
+open_closing : (s : State) (label : Label) (t : State) → ((k : ℕ) → closed s.operation k ≡ false) → ((o : Operation) → s.operation ≡ Some o → to_leave o ≡ []) → NodeEffect s label t → Closing s t
+open_closing s label t free none nodes = record { closes = λ k m at now. inl (free k); gone = λ k n at gone. absurd (node_stays s label t none nodes k n at gone) }
 
-flows_doing : (settings : Settings) (s : State) (o : Option (Doing Step)) (step : Step) → FlowsNext s o → ma.IsStep settings o step → FlowsStep s step
-flows_doing settings s None step l is = absurd is
-flows_doing settings s (Some (Does one)) step l is = subst (λ (x : Step). FlowsStep s x) (sym is) l
-flows_doing settings s (Some (Searches problem by_answer)) step l is = subst (λ (x : Step). FlowsStep s x) (sym is.2) (l is.0)
+closing_of : (s : State) (o : Operation) (step : Step) → Kept s → NodeEffect s step.label step.state → s.operation ≡ Some o → OperationStep s o step → ClosesStep s step
+closing_of s p step kept nodes runs (OperationStep.asks o node w a) knows = asks_closing s o node w runs knows
+closing_of s p step kept nodes runs (OperationStep.rebalances r stage m is x) knows =
+    open_closing s step.label step.state (λ k. ap (λ (x : Option Operation). closed x k) runs) (λ o own. let same : o ≡ Operation.Rebalancing r = cc in ap to_leave same) nodes
+closing_of s p step kept nodes runs (OperationStep.removes o stage m is x) knows =
+    removal_closing s o stage m (record { runs = runs; is = is; empty = alone_then s (Operation.Removing o) runs kept })
+    (subst (λ (y : RemovalStage). RemovalKeeps o y s.core.nodes) is (subst (λ (x : Option Operation). OperationFits x s.core.nodes) runs kept.good.fits))
+    (subst (λ (y : RemovalStage). RemovalOrder s.core o y) is (subst (λ (x : Option Operation). StageKept x s.core) runs kept.stands.stage).0) x knows
+closing_of s p step kept nodes runs (OperationStep.surprises o stage m is x) knows =
+    surprise_closing s o stage m (record { runs = runs; empty = alone_then s (Operation.Surprising o) runs kept })
+    (subst (λ (y : SurpriseStage). SurpriseKeeps o y s.core.nodes) is (subst (λ (x : Option Operation). OperationFits x s.core.nodes) runs kept.good.fits))
+    (subst (λ (y : SurpriseStage). SurpriseOrder s.core o y) is (subst (λ (x : Option Operation). StageKept x s.core) runs kept.stands.stage).0) x knows
+
+closing_step : (settings : Settings) (s : State) (step : Step) → Kept s → NodeEffect s step.label step.state → (o : Option Operation) → s.operation ≡ o → ma.IsStep settings (ma.next settings s) step → ClosesStep s step
+closing_step settings s step kept nodes None e is knows = open_closing s step.label step.state (λ k. ap (λ (x : Option Operation). closed x k) e) (λ o runs. absurd (cc)) nodes
+closing_step settings s step kept nodes (Some o) e is knows = closing_of s o step kept nodes e (operation_step settings s o step e is) knows
 
 -- a step is a join, or lets no more devices join
 pub step_flows : (settings : Settings) (s : State) (step : Step) → Kept s → ma.IsStep settings (ma.next settings s) step → IsGood step.state × ((IsNoJoin step.label × Flows s step.state) ⊎ Joined s step)
 step_flows settings s step kept is =
     let lawful = lawful_goes settings s (Did step.label) step.state (may_begin s kept) kept.good is in
     let knows : Knows s step = record { sound = sound_step settings s step kept.good kept.stands is; diagram = lawful.diagram; good = lawful.good } in
-    (lawful.good, flows_doing settings s (ma.next settings s) step (flows_next_of settings s s.operation refl kept) is knows)
+    let effect = effect_of settings s step.label step.state is in
+    (lawful.good, flows_step s step.label step.state kept knows effect (closing_step settings s step kept effect.nodes s.operation refl is knows))
 
 -- births stay in order, and fewer can join, or no more, and no device joined
 pub step_goes : (settings : Settings) (s : State) (step : Step) → Kept s → Born s → ma.IsStep settings (ma.next settings s) step → Born step.state × ((can_join step.state < can_join s) ⊎ ((can_join step.state ≤ can_join s) × IsNoJoin step.label))

@@ -1,160 +1,36 @@
--- A step of an activity or of a rebalance lets no more devices join.
-use Rattle.std.proofs.Common.{ℕ, drop, ◌+◌, ◌≤◌, ◌≡◌, ◌⊎◌, inl, inr, Bool, true, false, not, ◌&&◌, ◌||◌, List, [], ◌∷◌, ◌++◌, Option, Some, None, refl, sym, ap, ◌∙◌, subst, arith}
-use Rattle.std.specs.Option.{option_map}
+-- A step but a join lets no more devices join.
+use Rattle.std.proofs.Common.{ℕ, drop, ◌+◌, ◌≤◌, ◌≡◌, ◌≢◌, ◌⊎◌, inl, inr, Bool, true, false, not, ◌&&◌, ◌||◌, cond, List, [], ◌∷◌, ◌++◌, Option, Some, None, refl, sym, ap, ◌∙◌, subst, arith}
+use Rattle.std.specs.List.{find, slice_get}
 use Rattle.std.proofs.lemmas.Bool.{cases_eq}
-use Rattle.resource_reqs.specs.Spelling.Answer.{assignment, no_fit, spent}
 use Rattle.pnp_model.specs.Keyed.{changed_first, without_first}
-use Rattle.pnp_model.specs.Records.{Node, Core, Device, Task, Activity, Phase, Walk, State, Step, Found, Operation, Rebalance, RebalanceStage, Doing, doing_map}
-use Rattle.pnp_model.specs.Records.Doing.{Does, Searches}
-use Rattle.pnp_model.specs.Records.Phase.{Adding, Searching, Starting, Removing, Due}
-use Rattle.pnp_model.specs.Cores.{node_at, is_node, with_stack, stacked}
+use Rattle.pnp_model.specs.Records.{Activity, Device, Duty, Node, Operation, Phase, Removal, RemovalStage, State, Step, Task}
+use Rattle.pnp_model.specs.Records.Phase.{Adding}
+use Rattle.pnp_model.specs.Cores.{node_at}
 use Rattle.pnp_model.specs.Diagram.{Change, FollowsDiagram, Row}
-use Rattle.pnp_model.specs.States.{is_activity, activity_at, with_phase, entered, with_core}
-use Rattle.pnp_model.specs.Starts.{StartBeside, StartMove, add_driver, searched, end_start, start_on, remove_on, undo, act, adding}
-use Rattle.pnp_model.specs.Walks.{is_bad, walk_of}
+use Rattle.pnp_model.specs.Frames.{first_node}
+use Rattle.pnp_model.specs.Runs.Entry.{Did}
+use Rattle.pnp_model.specs.States.{is_activity, activity_at, with_phase, entered, without_those}
 use Rattle.pnp_model.specs.Tasks.{joins, join_step}
-use Rattle.pnp_model.specs.Rebalances.{RebalanceBeside, RebalanceMove}
-use Rattle.pnp_model.specs.Machine.{start_lifted, after_start, rebalance_lifted, after_rebalance}
+use Rattle.pnp_model.specs.Tests.{has}
 use Rattle.pnp_labels.specs.declared.states.DevState.{DevState}
-use Rattle.pnp_labels.specs.declared.states.DevState.TheVariants.{NoStack, NotStarted, Started, StopPending, Stopped, RemovePending, SurpriseRemoved}
-use Rattle.pnp_labels.specs.declared.states.Problem.{Problem}
-use Rattle.pnp_labels.specs.declared.words.Minor.{Minor}
+use Rattle.pnp_labels.specs.declared.states.DevState.TheVariants.{Started}
 use Rattle.pnp_labels.specs.declared.words.Answer.{Answer}
-use Rattle.pnp_labels.specs.declared.words.Answer.TheVariants.{Ok, Fail, Pend}
+use Rattle.pnp_labels.specs.declared.words.Minor.{Minor}
 use Rattle.pnp_labels.specs.declared.label.Label.{Label}
-use Rattle.pnp_laws.specs.Words.{IsNoJoin}
-use Rattle.pnp_laws.specs.Kept.{IsGood, Fits, InOrder}
-use Rattle.pnp_laws.proofs.Lookups.{some_same, own_serial, node_from, entered_same, entered_other, phase_from, ended_same, ended_other}
-use Rattle.pnp_laws.proofs.Standing.{Sound, IsNoLeave}
-use Rattle.pnp_laws.proofs.Joins.{starts, start_cost, closed, is_bare, some_there, is_live, In, sub_same, Gone, Stays, sub_stays, Flows, Counts}
-use Rattle.pnp_model.specs.Rebalances as re
+use Rattle.pnp_laws.specs.Effects.{ActivityEffect, Chosen, Effect, Enters, JoinEffect, Origin, TaskEffect, WorldEffect}
+use Rattle.pnp_laws.specs.Words.{IsNoJoin, joined}
+use Rattle.pnp_laws.specs.Kept.{Fits, InOrder, IsGood, OperationFits, RemovalKeeps}
+use Rattle.pnp_laws.proofs.EffectViews.{Turns, acting_at, entered_either, state_from}
+use Rattle.pnp_laws.proofs.Lists.{head_found, head_has}
+use Rattle.pnp_laws.proofs.Lookups.{some_same, own_serial, found_self, phase_from, ended_same, ended_other}
+use Rattle.pnp_laws.proofs.RunsStand.{Kept}
+use Rattle.pnp_laws.proofs.Standing.{Sound}
+use Rattle.pnp_laws.proofs.Joins.{starts, start_cost, start_of, closed, removal_closed, is_bare, some_there, is_live, In, Gone, Stays, sub_stays, Flows}
+use Rattle.pnp_model.specs.Events as ev
 
--- Labels ----------------------------------------------------------------------------------------------
-
--- no driver is added, and no device joins
-abbrev pub IsNoAdd : Label → Type 0
-IsNoAdd (Label.Add path driver true) = ⊥
-IsNoAdd (Label.Join k path) = ⊥
-IsNoAdd _ = Unit {0}
-
--- no driver is added, and no device joins or leaves
-abbrev pub IsStill : Label → Type 0
-IsStill (Label.Add path driver true) = ⊥
-IsStill (Label.Join k path) = ⊥
-IsStill (Label.Leave path) = ⊥
-IsStill (Label.Ejected path) = ⊥
-IsStill _ = Unit {0}
-
-no_add_of : (label : Label) → IsStill label → IsNoAdd label
-no_add_of (Label.State p x) h = tt
-no_add_of (Label.Add p d true) h = h
-no_add_of (Label.Add p d false) h = tt
-no_add_of (Label.Did w x) h = tt
-no_add_of (Label.Refused w r) h = tt
-no_add_of (Label.Skip t k) h = tt
-no_add_of (Label.Join k p) h = h
-no_add_of (Label.Gone p) h = tt
-no_add_of (Label.Listed p) h = tt
-no_add_of (Label.Install p r d) h = tt
-no_add_of (Label.Trouble p q) h = tt
-no_add_of (Label.Assign p x) h = tt
-no_add_of (Label.Fits p) h = tt
-no_add_of (Label.NoFit p) h = tt
-no_add_of (Label.Spent p) h = tt
-no_add_of (Label.Asked m p d x) h = tt
-no_add_of (Label.Begin o p) h = tt
-no_add_of (Label.Commit n) h = tt
-no_add_of (Label.Leave p) h = tt
-no_add_of (Label.Ejected p) h = tt
-no_add_of (Label.End o p r) h = tt
-
-no_leave_of : (label : Label) → IsStill label → IsNoLeave label
-no_leave_of (Label.State p x) h = tt
-no_leave_of (Label.Add p d x) h = tt
-no_leave_of (Label.Did w x) h = tt
-no_leave_of (Label.Refused w r) h = tt
-no_leave_of (Label.Skip t k) h = tt
-no_leave_of (Label.Join k p) h = tt
-no_leave_of (Label.Gone p) h = tt
-no_leave_of (Label.Listed p) h = tt
-no_leave_of (Label.Install p r d) h = tt
-no_leave_of (Label.Trouble p q) h = tt
-no_leave_of (Label.Assign p x) h = tt
-no_leave_of (Label.Fits p) h = tt
-no_leave_of (Label.NoFit p) h = tt
-no_leave_of (Label.Spent p) h = tt
-no_leave_of (Label.Asked m p d x) h = tt
-no_leave_of (Label.Begin o p) h = tt
-no_leave_of (Label.Commit n) h = tt
-no_leave_of (Label.Leave p) h = h
-no_leave_of (Label.Ejected p) h = h
-no_leave_of (Label.End o p r) h = tt
-
-no_join_of : (label : Label) → IsNoAdd label → IsNoJoin label
-no_join_of (Label.State p x) h = tt
-no_join_of (Label.Add p d x) h = tt
-no_join_of (Label.Did w x) h = tt
-no_join_of (Label.Refused w r) h = tt
-no_join_of (Label.Skip t k) h = tt
-no_join_of (Label.Join k p) h = h
-no_join_of (Label.Gone p) h = tt
-no_join_of (Label.Listed p) h = tt
-no_join_of (Label.Install p r d) h = tt
-no_join_of (Label.Trouble p q) h = tt
-no_join_of (Label.Assign p x) h = tt
-no_join_of (Label.Fits p) h = tt
-no_join_of (Label.NoFit p) h = tt
-no_join_of (Label.Spent p) h = tt
-no_join_of (Label.Asked m p d x) h = tt
-no_join_of (Label.Begin o p) h = tt
-no_join_of (Label.Commit n) h = tt
-no_join_of (Label.Leave p) h = tt
-no_join_of (Label.Ejected p) h = tt
-no_join_of (Label.End o p r) h = tt
-
-not_from_bare : (minor : Minor) (bad : Bool) (a b : DevState) → Row a minor bad b → a ≡ NoStack → ⊥
-not_from_bare _ _ _ _ Row.start e = cc
-not_from_bare _ _ _ _ Row.start_bad e = cc
-not_from_bare _ _ _ _ Row.remove e = cc
-not_from_bare _ _ _ _ Row.query_stop e = cc
-not_from_bare _ _ _ _ Row.query_stop_bad e = cc
-not_from_bare _ _ _ _ Row.cancel_stop_refused e = cc
-not_from_bare _ _ _ _ Row.cancel_stop e = cc
-not_from_bare _ _ _ _ Row.stop e = cc
-not_from_bare _ _ _ _ Row.restart e = cc
-not_from_bare _ _ _ _ Row.restart_bad e = cc
-not_from_bare _ _ _ _ Row.surprise_stopped e = cc
-not_from_bare _ _ _ _ Row.query_remove e = cc
-not_from_bare _ _ _ _ Row.query_remove_bad e = cc
-not_from_bare _ _ _ _ Row.cancel_remove_refused e = cc
-not_from_bare _ _ _ _ Row.cancel_remove e = cc
-not_from_bare _ _ _ _ Row.remove_pending e = cc
-not_from_bare _ _ _ _ Row.surprise e = cc
-not_from_bare _ _ _ _ Row.remove_surprised e = cc
-
-pub bare_stays : (label : Label) → IsNoAdd label → (a b : DevState) → Change label a b → a ≡ NoStack → b ≡ NoStack
-bare_stays (Label.State p x) h a b (inl e) g = e ∙ g
-bare_stays (Label.State p x) h a b (inr (e, row)) g = absurd (not_from_bare row.0 row.1 a b row.2 g)
-bare_stays (Label.Add p d true) h a b c g = absurd h
-bare_stays (Label.Add p d false) h a b c g = c ∙ g
-bare_stays (Label.Did w x) h a b c g = c ∙ g
-bare_stays (Label.Refused w r) h a b c g = c ∙ g
-bare_stays (Label.Skip t k) h a b c g = c ∙ g
-bare_stays (Label.Join k p) h a b c g = absurd h
-bare_stays (Label.Gone p) h a b c g = c ∙ g
-bare_stays (Label.Listed p) h a b c g = c ∙ g
-bare_stays (Label.Install p r d) h a b c g = c ∙ g
-bare_stays (Label.Trouble p q) h a b c g = c ∙ g
-bare_stays (Label.Assign p x) h a b c g = c ∙ g
-bare_stays (Label.Fits p) h a b c g = c ∙ g
-bare_stays (Label.NoFit p) h a b c g = c ∙ g
-bare_stays (Label.Spent p) h a b c g = c ∙ g
-bare_stays (Label.Asked m p d x) h a b c g = c ∙ g
-bare_stays (Label.Begin o p) h a b c g = c ∙ g
-bare_stays (Label.Commit n) h a b c g = c ∙ g
-bare_stays (Label.Leave p) h a b c g = c ∙ g
-bare_stays (Label.Ejected p) h a b c g = c ∙ g
-bare_stays (Label.End o p r) h a b c g = c ∙ g
+pub joined_none : (label : Label) → IsNoJoin label → joined label ≡ 0
+joined_none (Label.Join k path) h = absurd h
+joined_none _ h = refl
 
 -- Whoever lives -----------------------------------------------------------------------------------------
 
@@ -176,18 +52,28 @@ live_from s n h = by_tests (closed s.operation n.serial) (is_bare n.state) (some
     by_tests false true c h = (refl, inr h)
     by_tests false false c h = (refl, inl refl)
 
-pub bare_is : (x : DevState) → is_bare x ≡ true → x ≡ NoStack
-bare_is NoStack h = refl
-bare_is NotStarted h = absurd (cc)
-bare_is Started h = absurd (cc)
-bare_is StopPending h = absurd (cc)
-bare_is Stopped h = absurd (cc)
-bare_is RemovePending h = absurd (cc)
-bare_is SurpriseRemoved h = absurd (cc)
+-- a device without drivers gets none by a request
+row_up : (minor : Minor) (bad : Bool) (a b : DevState) → Row a minor bad b → is_bare a ≡ false
+row_up _ _ _ _ Row.start = refl
+row_up _ _ _ _ _ = refl
 
--- Steps that add no driver ------------------------------------------------------------------------------
+-- an answer closes nothing and opens nothing
+stage_closed : (answer : Answer) (o : Removal) (stage : RemovalStage) (k : ℕ) → removal_closed o (ev.completed_removal answer stage) k ≡ removal_closed o stage k
+stage_closed answer o (RemovalStage.Asking w) k = refl
+stage_closed answer o _ k = refl
 
--- what is known of a step
+with_closed : (o p : Removal) (stage : RemovalStage) (k : ℕ) → p.set ≡ o.set → removal_closed p stage k ≡ removal_closed o stage k
+with_closed o p (RemovalStage.Removing w) k e = ap (λ (ks : List ℕ). has ks k) e
+with_closed o p RemovalStage.Settling k e = ap (λ (ks : List ℕ). has ks k) e
+with_closed o p _ k e = refl
+
+pub answer_closed : (answer : Answer) (o : Operation) (k : ℕ) → closed (Some (ev.completed answer o)) k ≡ closed (Some o) k
+answer_closed answer (Operation.Rebalancing r) k = refl
+answer_closed answer (Operation.Removing o) k = with_closed o (record o { stage = ev.completed_removal answer o.stage }) (ev.completed_removal answer o.stage) k refl ∙ stage_closed answer o o.stage k
+answer_closed answer (Operation.Surprising o) k = refl
+
+-- What is known of a step --------------------------------------------------------------------------------
+
 pub record Knows (s : State) (step : Step) : Type 0 where
   pub sound : Sound s step
   pub diagram : FollowsDiagram step.label s.core.nodes step.state.core.nodes
@@ -204,78 +90,27 @@ pub record Joined (s : State) (step : Step) : Type 0 where
   pub up : node.state ≡ Started
   pub none : s.operation ≡ None
 
-abbrev pub FlowsStep : State → Step → Type 0
-FlowsStep s step = Knows s step → (IsNoJoin step.label × Flows s step.state) ⊎ Joined s step
-
-abbrev pub FlowsDoing : State → Doing Step → Type 0
-FlowsDoing s (Does step) = FlowsStep s step
-FlowsDoing s (Searches problem by_answer) = (found : Found) → FlowsStep s (by_answer found)
-
-abbrev pub FlowsNext : State → Option (Doing Step) → Type 0
-FlowsNext s None = Unit {0}
-FlowsNext s (Some doing) = FlowsDoing s doing
+pub in_find : (p : Device → Bool) (ds : List Device) (d : Device) → find p ds ≡ Some d → (p d ≡ true) × In d ds
+in_find p [] d h = absurd (cc)
+in_find p (x ∷ xs) d h = by_test (p x) refl h (λ g. in_find p xs d g)
+  where
+    by_test : (b : Bool) → p x ≡ b → cond b (Some x) (find p xs) ≡ Some d → (find p xs ≡ Some d → (p d ≡ true) × In d xs) → (p d ≡ true) × In d (x ∷ xs)
+    by_test true e g more = let same : x ≡ d = cc in (subst (λ (z : Device). p z ≡ true) same e, inl same)
+    by_test false e g more = let m = more g in (m.0, inr m.1)
 
 -- who is no more to lose its drivers was not to lose them, or is dead
 abbrev pub Closes : State → State → Type 0
 Closes s t = (k : ℕ) (m : Node) → node_at k t.core.nodes ≡ Some m → closed t.operation k ≡ false → (closed s.operation k ≡ false) ⊎ (is_live t m ≡ false)
 
-abbrev pub Active : State → State → Type 0
-Active s t = (k : ℕ) (m : Node) → node_at k t.core.nodes ≡ Some m → some_there (activity_at k t.activities) ≡ true → (some_there (activity_at k s.activities) ≡ true) ⊎ (is_bare m.state ≡ false)
-
-abbrev pub Cheaper : List Task → List Task → Type 0
-Cheaper tasks more = (cost : ℕ → ℕ) → starts cost more ≤ starts cost tasks
-
-pub live_back : (s t : State) (label : Label) → IsNoAdd label → FollowsDiagram label s.core.nodes t.core.nodes → Closes s t → (k : ℕ) (n m : Node) → (some_there (activity_at k t.activities) ≡ true → (some_there (activity_at k s.activities) ≡ true) ⊎ (is_bare m.state ≡ false)) → node_at k s.core.nodes ≡ Some n → node_at k t.core.nodes ≡ Some m → is_live t m ≡ true → is_live s n ≡ true
-live_back s t label no_add diagram closes k n m active was at live =
-    let own : m.serial ≡ k = own_serial k m t.core.nodes at in
-    let old : n.serial ≡ k = own_serial k n s.core.nodes was in
-    let l = live_from t m live in
-    elim (closes k m at (ap (closed t.operation) (sym own) ∙ l.0)) [
-      | inl free ↦ live_is s n (ap (closed s.operation) old ∙ free) (by_bare old (is_bare n.state) refl (by_live own l.1))
-      | inr dead ↦ absurd (cc)
-    ]
-  where
-    by_live : m.serial ≡ k → (is_bare m.state ≡ false) ⊎ (some_there (activity_at m.serial t.activities) ≡ true) → (is_bare m.state ≡ false) ⊎ (some_there (activity_at k s.activities) ≡ true)
-    by_live own (inl e) = inl e
-    by_live own (inr e) =
-        elim (active (ap (λ (i : ℕ). some_there (activity_at i t.activities)) (sym own) ∙ e)) [
-          | inl g ↦ inr g
-          | inr g ↦ inl g
-        ]
-
-    by_bare : n.serial ≡ k → (b : Bool) → is_bare n.state ≡ b → (is_bare m.state ≡ false) ⊎ (some_there (activity_at k s.activities) ≡ true) → (is_bare n.state ≡ false) ⊎ (some_there (activity_at n.serial s.activities) ≡ true)
-    by_bare old false e h = inl e
-    by_bare old true e (inl h) = absurd (let now = bare_stays label no_add n.state m.state (diagram.stays k n m was at) (bare_is n.state e) in let g = ap is_bare now in cc)
-    by_bare old true e (inr h) = inr (ap (λ (i : ℕ). some_there (activity_at i s.activities)) old ∙ h)
-
-pub flows_on : (s : State) (step : Step) → IsNoAdd step.label → Counts s step.state → Stays s step.state → Cheaper s.tasks step.state.tasks → (Knows s step → Closes s step.state) → (Knows s step → Active s step.state) →
-    (Knows s step → (k : ℕ) (n : Node) → node_at k s.core.nodes ≡ Some n → node_at k step.state.core.nodes ≡ None → Gone s step.state n) → FlowsStep s step
-flows_on s step no_add counts world tasks closes active gone knows =
-    inl (
-      no_join_of step.label no_add,
-      record {
-        counts = counts;
-        world = sub_stays s step.state world;
-        stays = world;
-        from = knows.sound.births (no_join_of step.label no_add);
-        start = None;
-        started = λ n e. absurd (cc);
-        tasks = λ cost. let h = tasks cost in omega arith;
-        live = λ k n m was at live. inl (live_back s step.state step.label no_add knows.diagram (closes knows) k n m (active knows k m at) was at live);
-        gone = gone knows;
-      },
-    )
-
--- nobody leaves
-pub flows_still : (s : State) (step : Step) → IsStill step.label → Counts s step.state → Stays s step.state → Cheaper s.tasks step.state.tasks → (Knows s step → Closes s step.state) → (Knows s step → Active s step.state) → FlowsStep s step
-flows_still s step still counts world tasks closes active =
-    flows_on s step (no_add_of step.label still) counts world tasks closes active
-    (λ knows k n at gone. absurd (knows.sound.stays (no_leave_of step.label still) k n at gone))
+-- and what left does not join again
+pub record Closing (s t : State) : Type 0 where
+  pub closes : Closes s t
+  pub gone : (k : ℕ) (n : Node) → node_at k s.core.nodes ≡ Some n → node_at k t.core.nodes ≡ None → Gone s t n
 
 -- Tasks -------------------------------------------------------------------------------------------------
 
-pub cheaper_same : (tasks : List Task) → Cheaper tasks tasks
-cheaper_same tasks cost = omega arith
+abbrev pub Cheaper : List Task → List Task → Type 0
+Cheaper tasks more = (cost : ℕ → ℕ) → starts cost more ≤ starts cost tasks
 
 pub starts_pushed : (cost : ℕ → ℕ) (tasks : List Task) (task : Task) → starts cost (tasks ++ task ∷ []) ≡ starts cost tasks + start_cost cost task.kind task.serial
 starts_pushed cost [] task = omega arith
@@ -284,9 +119,24 @@ starts_pushed cost (t ∷ tasks) task = let more = starts_pushed cost tasks task
 pub cheaper_pushed : (tasks : List Task) (task : Task) → ((cost : ℕ → ℕ) → start_cost cost task.kind task.serial ≡ 0) → Cheaper tasks (tasks ++ task ∷ [])
 cheaper_pushed tasks task free cost = let a = starts_pushed cost tasks task in let b = free cost in omega arith
 
-pub cheaper_dropped : (tasks : List Task) → Cheaper tasks (drop 1 tasks)
-cheaper_dropped [] cost = omega arith
-cheaper_dropped (t ∷ tasks) cost = omega arith
+dropped_cheaper : (tasks : List Task) → Cheaper tasks (drop 1 tasks)
+dropped_cheaper [] cost = omega arith
+dropped_cheaper (t ∷ tasks) cost = omega arith
+
+starts_first : (cost : ℕ → ℕ) (tasks : List Task) (task : Task) → slice_get tasks 0 ≡ Some task → starts cost (drop 1 tasks) + start_cost cost task.kind task.serial ≡ starts cost tasks
+starts_first cost [] task first = absurd (cc)
+starts_first cost (t ∷ tasks) task first = let same : t ≡ task = cc in let e = ap (λ (x : Task). start_cost cost x.kind x.serial) same in omega arith
+
+origin_free : (s : State) (kind : Duty) (k : ℕ) → Origin s kind k → (cost : ℕ → ℕ) → start_cost cost kind k ≡ 0
+origin_free s _ _ (Origin.lists k) cost = refl
+origin_free s _ _ _ cost = refl
+
+tasks_cheaper : (s t : State) → t.next_serial ≡ s.next_serial → TaskEffect s t → Cheaper s.tasks t.tasks
+tasks_cheaper s t serial (TaskEffect.same e) cost = let h = ap (starts cost) e in omega arith
+tasks_cheaper s t serial (TaskEffect.appended task origin e) cost = let h = ap (starts cost) e in let g = cheaper_pushed s.tasks task (origin_free s task.kind task.serial origin) cost in omega arith
+tasks_cheaper s t serial (TaskEffect.joins next e) cost = absurd (omega arith)
+tasks_cheaper s t serial (TaskEffect.dropped task none first e) cost = let h = ap (starts cost) e in let g = dropped_cheaper s.tasks cost in omega arith
+tasks_cheaper s t serial (TaskEffect.put_first node r runs is first e) cost = let h = ap (starts cost) e in omega arith
 
 -- Activities --------------------------------------------------------------------------------------------
 
@@ -309,182 +159,141 @@ active_ended j k acts order h =
       | inr d ↦ ap some_there (sym (ended_other j k acts d)) ∙ h
     ]
 
-pub active_same : (s t : State) → t.activities ≡ s.activities → Active s t
-active_same s t e k m at h = inl (ap (λ (acts : List Activity). some_there (activity_at k acts)) (sym e) ∙ h)
+-- the start that begins, if one does, and who is being started now
+record Entering (s t : State) : Type 0 where
+  start : Option Node
+  started : (n : Node) → start ≡ Some n → node_at n.serial s.core.nodes ≡ Some n
+  tasks : (cost : ℕ → ℕ) → starts cost t.tasks + start_of cost start ≤ starts cost s.tasks
+  active : (k : ℕ) (n m : Node) → node_at k s.core.nodes ≡ Some n → node_at k t.core.nodes ≡ Some m → some_there (activity_at k t.activities) ≡ true
+      → ((some_there (activity_at k s.activities) ≡ true) ⊎ (is_bare m.state ≡ false)) ⊎ (start ≡ Some n)
 
-pub closes_same : (s t : State) → t.operation ≡ s.operation → Closes s t
-closes_same s t e k m at h = inl (ap (λ (o : Option Operation). closed o k) (sym e) ∙ h)
+-- A step that is no join -----------------------------------------------------------------------------------
 
-pub closes_open : (s t : State) → ((k : ℕ) → closed s.operation k ≡ false) → Closes s t
-closes_open s t free k m at h = inl (free k)
+module _ (s : State) (label : Label) (t : State) (kept : Kept s) (knows : Knows s (record { label = label; state = t })) (effect : Effect s (Did label) t) (closing : Closing s t) (no_join : IsNoJoin label) where
+  serial_same : t.next_serial ≡ s.next_serial
+  serial_same = let a = effect.serial in let b = joined_none label no_join in omega arith
 
--- Activities that go on -----------------------------------------------------------------------------------
+  -- a device that leaves the world is not the root
+  not_root : (node : Node) (o : Removal) → s.operation ≡ Some (Operation.Removing o) → o.stage ≡ RemovalStage.Settling → first_node s.core.nodes o.todo ≡ Some node → node.serial ≢ 0
+  not_root node o runs is first e =
+      let fits : RemovalKeeps o o.stage s.core.nodes = subst (λ (x : Option Operation). OperationFits x s.core.nodes) runs kept.good.fits in
+      let keeps : RemovalKeeps o RemovalStage.Settling s.core.nodes = subst (λ (x : RemovalStage). RemovalKeeps o x s.core.nodes) is fits in
+      let there = keeps.asks node.serial (head_has node.serial o.todo (head_found s.core.nodes o.todo node first).0) in
+      let here = subst (λ (i : ℕ). has o.set i ≡ true) e there in
+      let rootless = keeps.rootless in
+      cc
 
-moved_with : (s : State) (k : ℕ) (m : StartMove) (beside : StartBeside) → InOrder 0 s.activities → IsStill m.label → FlowsStep s (record { label = m.label; state = after_start k m.frame beside (with_core m.core s) })
-moved_with s k m StartBeside.On order still = flows_still s _ still (refl, refl) (inl refl) (cheaper_same s.tasks) (λ knows. closes_same s (after_start k m.frame StartBeside.On (with_core m.core s)) refl) (λ knows i n at h. inl (active_changed k i m.frame s.activities h))
-moved_with s k m StartBeside.Needs order still = flows_still s _ still (refl, refl) (inl refl) (cheaper_pushed s.tasks _ (λ cost. refl)) (λ knows. closes_same s (after_start k m.frame StartBeside.Needs (with_core m.core s)) refl) (λ knows i n at h. inl (active_ended k i s.activities order h))
-moved_with s k m StartBeside.Up order still = flows_still s _ still (refl, refl) (inl refl) (cheaper_pushed s.tasks _ (λ cost. refl)) (λ knows. closes_same s (after_start k m.frame StartBeside.Up (with_core m.core s)) refl) (λ knows i n at h. inl (active_ended k i s.activities order h))
-moved_with s k m StartBeside.Over order still = flows_still s _ still (refl, refl) (inl refl) (cheaper_same s.tasks) (λ knows. closes_same s (after_start k m.frame StartBeside.Over (with_core m.core s)) refl) (λ knows i n at h. inl (active_ended k i s.activities order h))
+  world_stays : WorldEffect s (Did label) t → Stays s t × (t.next_born ≡ s.next_born)
+  world_stays (WorldEffect.same world next) = (inl world, next)
+  world_stays (WorldEffect.plugged d plug world next) = absurd (let e = plug.event in cc)
+  world_stays (WorldEffect.unplugged born (node, o, runs, is, first, own) world next) =
+      let there = (head_found s.core.nodes o.todo node first).1 in
+      (inr (node, there, not_root node o runs is first, subst (λ (b : ℕ). t.world ≡ without_those (b ∷ []) s.world) (sym own) world), next)
 
-moved : (s : State) (k : ℕ) (m : StartMove) → InOrder 0 s.activities → IsStill m.label → FlowsStep s (start_lifted s k m)
-moved s k m order still = moved_with s k m m.beside order still
+  -- who has drivers now had them, or was being started
+  had_drivers : (k : ℕ) (n m : Node) → node_at k s.core.nodes ≡ Some n → node_at k t.core.nodes ≡ Some m → is_bare m.state ≡ false → (is_bare n.state ≡ false) ⊎ (some_there (activity_at k s.activities) ≡ true)
+  had_drivers k n m was at up = by_turn (state_from s label t kept.good.serials k n m was effect.nodes at)
+    where
+      by_change : (y : DevState) → Change (Label.State n.path y) n.state m.state → is_bare n.state ≡ false
+      by_change y (inl same) = ap is_bare (sym same) ∙ up
+      by_change y (inr (own, (minor, bad, row))) = row_up minor bad n.state m.state row
 
--- a driver was added: the device has an activity
-flows_added : (s : State) (c : Core) (node : Node) (d : ℕ) (ds : List ℕ) → c.nodes ≡ s.core.nodes → s.operation ≡ None → some_there (activity_at node.serial s.activities) ≡ true → FlowsStep s (start_lifted s node.serial (add_driver c node d ds Ok))
-flows_added s c node d ds same none there knows =
-    let step = start_lifted s node.serial (add_driver c node d ds Ok) in
-    let t = step.state in
-    inl (
-      tt,
+      by_turn : (m.state ≡ n.state) ⊎ Turns s label k n → (is_bare n.state ≡ false) ⊎ (some_there (activity_at k s.activities) ≡ true)
+      by_turn (inl same) = inl (ap is_bare (sym same) ∙ up)
+      by_turn (inr (Turns.told y prints)) = inl (by_change y (subst (λ (l : Label). Change l n.state m.state) prints (knows.diagram.stays k n m was at)))
+      by_turn (inr (Turns.added d ds name acts prints)) = inr (ap some_there (acting_at s k (Adding (d ∷ ds)) kept.good.order acts).at)
+
+  none_begins : ((k : ℕ) (m : Node) → node_at k t.core.nodes ≡ Some m → some_there (activity_at k t.activities) ≡ true → (some_there (activity_at k s.activities) ≡ true) ⊎ (is_bare m.state ≡ false)) → Entering s t
+  none_begins active =
       record {
-        counts = (refl, refl);
-        world = sub_same s.world;
-        stays = inl refl;
-        from = knows.sound.births tt;
         start = None;
         started = λ n e. absurd (cc);
-        tasks = λ cost. omega arith;
-        live = λ k n m was at live. inl (by_live k n m was at (live_from t m live).1);
-        gone = λ k n at gone. absurd (knows.sound.stays tt k n at gone);
-      },
-    )
+        tasks = λ cost. let h = tasks_cheaper s t serial_same effect.tasks cost in omega arith;
+        active = λ k n m was at h. inl (active k m at h);
+      }
+
+  -- the start at the end of a rebalance is that of a device with drivers
+  reentered : (j : ℕ) (phase : Phase) → t.activities ≡ entered (record { serial = j; phase = phase }) s.activities → ((x : DevState) → Fits phase x → is_bare x ≡ false) → Entering s t
+  reentered j phase e fits = none_begins (λ k m at h. by_entered k m at h (entered_either (record { serial = j; phase = phase }) k s.activities))
+    where
+      by_entered : (k : ℕ) (m : Node) → node_at k t.core.nodes ≡ Some m → some_there (activity_at k t.activities) ≡ true
+          → (activity_at k (entered (record { serial = j; phase = phase }) s.activities) ≡ activity_at k s.activities) ⊎ ((j ≡ k) × (activity_at k (entered (record { serial = j; phase = phase }) s.activities) ≡ Some (record { serial = j; phase = phase })))
+          → (some_there (activity_at k s.activities) ≡ true) ⊎ (is_bare m.state ≡ false)
+      by_entered k m at h (inl q) = inl (ap some_there (sym (ap (activity_at k) e ∙ q)) ∙ h)
+      by_entered k m at h (inr (own, q)) =
+          let there = knows.good.phases k (record { serial = j; phase = phase }) (ap (activity_at k) e ∙ q) in
+          let same : there.0 ≡ m = some_same (node_at k t.core.nodes) there.0 m there.1 at in
+          inr (ap (λ (z : Node). is_bare z.state) (sym same) ∙ fits there.0.state there.3)
+
+  -- the start of a device without drivers uses up its task
+  installed : (j : ℕ) (phase : Phase) (drivers : List ℕ) → Chosen s j drivers → t.tasks ≡ drop 1 s.tasks → t.activities ≡ entered (record { serial = j; phase = phase }) s.activities → Entering s t
+  installed j phase drivers chosen drops e =
+      record {
+        start = Some chosen.node;
+        started = λ n is. let same : chosen.node ≡ n = cc in subst (λ (x : Node). node_at x.serial s.core.nodes ≡ Some x) same (found_self j s.core.nodes chosen.node chosen.at);
+        tasks = λ cost.
+            let first = starts_first cost s.tasks (record { kind = Duty.Starting; serial = j }) chosen.first in
+            let own : cost chosen.node.serial ≡ cost j = ap cost (own_serial j chosen.node s.core.nodes chosen.at) in
+            let now = ap (starts cost) drops in
+            omega arith;
+        active = λ k n m was at h. elim (entered_either (record { serial = j; phase = phase }) k s.activities) [
+          | inl q ↦ inl (inl (ap some_there (sym (ap (activity_at k) e ∙ q)) ∙ h))
+          | inr (own, q) ↦ inr (ap Some (some_same (node_at k s.core.nodes) chosen.node n (subst (λ (i : ℕ). node_at i s.core.nodes ≡ Some chosen.node) own chosen.at) was))
+        ];
+      }
+
+  entering : ActivityEffect s t → Entering s t
+  entering (ActivityEffect.same e) = none_begins (λ k m at h. inl (ap (λ (x : List Activity). some_there (activity_at k x)) (sym e) ∙ h))
+  entering (ActivityEffect.goes j old new step e) =
+      none_begins (λ k m at h. inl (active_changed j k new s.activities (ap (λ (x : List Activity). some_there (activity_at k x)) (sym e) ∙ h)))
+  entering (ActivityEffect.ends j phase acts e) =
+      none_begins (λ k m at h. inl (active_ended j k s.activities kept.good.order (ap (λ (x : List Activity). some_there (activity_at k x)) (sym e) ∙ h)))
+  entering (ActivityEffect.enters j _ (Enters.installs drivers chosen drops) e) = installed j _ drivers chosen drops e
+  entering (ActivityEffect.enters j _ (Enters.restarts r plan runs is target found nodes) e) = reentered j _ e (λ x fits. ap is_bare fits)
+  entering (ActivityEffect.enters j _ (Enters.undoes r runs target) e) = reentered j _ e (λ x fits. ap is_bare fits)
+
+  lives_on : (b : Entering s t) (k : ℕ) (n m : Node) → node_at k s.core.nodes ≡ Some n → node_at k t.core.nodes ≡ Some m → is_live t m ≡ true → (is_live s n ≡ true) ⊎ (b.start ≡ Some n)
+  lives_on b k n m was at live =
+      let own : m.serial ≡ k = own_serial k m t.core.nodes at in
+      let l = live_from t m live in
+      elim (closing.closes k m at (ap (closed t.operation) (sym own) ∙ l.0)) [
+        | inl free ↦ by_live free (subst (λ (i : ℕ). (is_bare m.state ≡ false) ⊎ (some_there (activity_at i t.activities) ≡ true)) own l.1)
+        | inr dead ↦ absurd (cc)
+      ]
+    where
+      free_now : closed s.operation k ≡ false → (is_bare n.state ≡ false) ⊎ (some_there (activity_at k s.activities) ≡ true) → is_live s n ≡ true
+      free_now free h =
+          let old : k ≡ n.serial = sym (own_serial k n s.core.nodes was) in
+          live_is s n (subst (λ (i : ℕ). closed s.operation i ≡ false) old free) (subst (λ (i : ℕ). (is_bare n.state ≡ false) ⊎ (some_there (activity_at i s.activities) ≡ true)) old h)
+
+      by_live : closed s.operation k ≡ false → (is_bare m.state ≡ false) ⊎ (some_there (activity_at k t.activities) ≡ true) → (is_live s n ≡ true) ⊎ (b.start ≡ Some n)
+      by_live free (inl up) = inl (free_now free (had_drivers k n m was at up))
+      by_live free (inr there) = elim (b.active k n m was at there) [
+        | inl h ↦ inl (free_now free (elim h [ inl there ↦ inr there | inr up ↦ had_drivers k n m was at up ]))
+        | inr e ↦ inr e
+      ]
+
+  flows : Flows s t
+  flows =
+      let world = world_stays effect.world in
+      let b = entering effect.activities in
+      record {
+        counts = (serial_same, world.1);
+        world = sub_stays s t world.0;
+        stays = world.0;
+        from = knows.sound.births no_join;
+        start = b.start;
+        started = b.started;
+        tasks = b.tasks;
+        live = lives_on b;
+        gone = closing.gone;
+      }
+
+pub flows_step : (s : State) (label : Label) (t : State) → Kept s → Knows s (record { label = label; state = t }) → Effect s (Did label) t → Closing s t → (IsNoJoin label × Flows s t) ⊎ Joined s (record { label = label; state = t })
+flows_step s label t kept knows effect closing = by_join effect.joins
   where
-    t_nodes : List Node
-    t_nodes = changed_first (is_node node.serial) (with_stack (node.stack ++ d ∷ []) (stacked node.state)) c.nodes
-
-    by_live : (k : ℕ) (n m : Node) → node_at k s.core.nodes ≡ Some n → node_at k t_nodes ≡ Some m → (is_bare m.state ≡ false) ⊎ (some_there (activity_at m.serial (changed_first (is_activity node.serial) (with_phase (adding ds)) s.activities)) ≡ true) → is_live s n ≡ true
-    by_live k n m was at h =
-        let old : n.serial ≡ k = own_serial k n s.core.nodes was in
-        let own : m.serial ≡ k = own_serial k m t_nodes at in
-        live_is s n (ap (λ (o : Option Operation). closed o n.serial) none) (elim h [
-          | inr e ↦ inr (ap (λ (i : ℕ). some_there (activity_at i s.activities)) (old ∙ sym own) ∙ active_changed node.serial m.serial (adding ds) s.activities e)
-          | inl e ↦ elim (cases_eq node.serial k) [
-            | inl q ↦ inr (ap (λ (i : ℕ). some_there (activity_at i s.activities)) (old ∙ sym q) ∙ there)
-            | inr q ↦
-                elim (node_from node.serial k (with_stack (node.stack ++ d ∷ []) (stacked node.state)) c.nodes m (λ x. refl) at) [
-                  | inl (f, r) ↦ absurd (q f)
-                  | inr (f, r) ↦
-                      let there_s : node_at k s.core.nodes ≡ Some m = subst (λ (x : List Node). node_at k x ≡ Some m) same r in
-                      let is : n ≡ m = some_same (node_at k s.core.nodes) n m was there_s in
-                      inl (ap (λ (z : Node). is_bare z.state) is ∙ e)
-                ]
-          ]
-        ])
-
-flows_add : (s : State) (c : Core) (node : Node) (d : ℕ) (ds : List ℕ) (answer : Answer) → c.nodes ≡ s.core.nodes → s.operation ≡ None → InOrder 0 s.activities → some_there (activity_at node.serial s.activities) ≡ true → FlowsStep s (start_lifted s node.serial (add_driver c node d ds answer))
-flows_add s c node d ds Ok same none order there = flows_added s c node d ds same none there
-flows_add s c node d ds Fail same none order there = moved s node.serial (add_driver c node d ds Fail) order tt
-flows_add s c node d ds Pend same none order there = moved s node.serial (add_driver c node d ds Pend) order tt
-
-flows_searched : (s : State) (node : Node) (found : Found) → InOrder 0 s.activities → FlowsStep s (start_lifted s node.serial (searched s.core node found))
-flows_searched s node (assignment plan) order = moved s node.serial (searched s.core node (assignment plan)) order tt
-flows_searched s node no_fit order = moved s node.serial (searched s.core node no_fit) order tt
-flows_searched s node spent order = moved s node.serial (searched s.core node spent) order tt
-
-flows_end_start : (s : State) (node : Node) (bad : Bool) → InOrder 0 s.activities → FlowsStep s (start_lifted s node.serial (end_start s.core node bad))
-flows_end_start s node true order = moved s node.serial (end_start s.core node true) order tt
-flows_end_start s node false order = moved s node.serial (end_start s.core node false) order tt
-
-flows_start_on : (s : State) (node : Node) (w : Walk) (b : Bool) → InOrder 0 s.activities → FlowsStep s (start_lifted s node.serial (start_on s.core node w b))
-flows_start_on s node w true order = flows_end_start s node (is_bad w) order
-flows_start_on s node w false order = moved s node.serial (start_on s.core node w false) order tt
-
-flows_remove_on : (s : State) (node : Node) (w : Walk) (b : Bool) → InOrder 0 s.activities → FlowsStep s (start_lifted s node.serial (remove_on s.core node w b))
-flows_remove_on s node w true order = moved s node.serial (remove_on s.core node w true) order tt
-flows_remove_on s node w false order = moved s node.serial (remove_on s.core node w false) order tt
-
-flows_undo : (s : State) (c : Core) (node : Node) (problem : Problem) (stack : List ℕ) → InOrder 0 s.activities → FlowsStep s (start_lifted s node.serial (undo c node problem stack))
-flows_undo s c node problem [] order = moved s node.serial (undo c node problem []) order tt
-flows_undo s c node problem (d ∷ ds) order = moved s node.serial (undo c node problem (d ∷ ds)) order tt
-
-pub flows_act : (s : State) (node : Node) (phase : Phase) → s.operation ≡ None → InOrder 0 s.activities → some_there (activity_at node.serial s.activities) ≡ true → FlowsDoing s (doing_map (start_lifted s node.serial) (act s.core node phase))
-flows_act s node (Adding []) none order there = λ found. flows_searched s node found order
-flows_act s node (Adding (d ∷ ds)) none order there = flows_add s _ node d ds _ refl none order there
-flows_act s node Searching none order there = λ found. flows_searched s node found order
-flows_act s node (Starting w) none order there = flows_start_on s node w _ order
-flows_act s node (Removing w) none order there = flows_remove_on s node w _ order
-flows_act s node (Due problem) none order there = flows_undo s _ node problem node.stack order
-
--- A rebalance ---------------------------------------------------------------------------------------------
-
--- the activity that begins at the end of a rebalance is that of a device with drivers
-active_begun : (s t : State) (phase : Phase) (k : ℕ) → ((x : DevState) → Fits phase x → x ≡ NotStarted) → s.activities ≡ [] → t.activities ≡ entered (record { serial = k; phase = phase }) s.activities → IsGood t → Active s t
-active_begun s t phase k fits empty is good i m at h =
-    let a : Activity = record { serial = k; phase = phase } in
-    let alone : activity_at k s.activities ≡ None = ap (activity_at k) empty in
-    elim (cases_eq k i) [
-      | inl e ↦
-          let found : activity_at k t.activities ≡ Some a = ap (activity_at k) is ∙ entered_same a s.activities alone in
-          let there = good.phases k a found in
-          let at_k : node_at k t.core.nodes ≡ Some m = subst (λ (i : ℕ). node_at i t.core.nodes ≡ Some m) (sym e) at in
-          let same : there.0 ≡ m = some_same (node_at k t.core.nodes) there.0 m there.1 at_k in
-          let state : m.state ≡ NotStarted = ap (λ (z : Node). z.state) (sym same) ∙ fits there.0.state there.3 in
-          inr (ap is_bare state)
-      | inr d ↦ inl (ap some_there (sym (ap (activity_at i) is ∙ entered_other a i s.activities d)) ∙ h)
-    ]
-
-re_moved_with : (s : State) (m : RebalanceMove) (beside : RebalanceBeside) → ((k : ℕ) → closed s.operation k ≡ false) → s.activities ≡ [] → IsStill m.label → FlowsStep s (record { label = m.label; state = after_rebalance m.frame beside (with_core m.core s) })
-re_moved_with s m RebalanceBeside.On free empty still = flows_still s _ still (refl, refl) (inl refl) (cheaper_same s.tasks) (λ knows. closes_open s (after_rebalance m.frame RebalanceBeside.On (with_core m.core s)) free) (λ knows. active_same s (after_rebalance m.frame RebalanceBeside.On (with_core m.core s)) refl)
-re_moved_with s m (RebalanceBeside.FailedRestart k) free empty still = flows_still s _ still (refl, refl) (inl refl) (λ cost. omega arith) (λ knows. closes_open s (after_rebalance m.frame (RebalanceBeside.FailedRestart k) (with_core m.core s)) free) (λ knows. active_same s (after_rebalance m.frame (RebalanceBeside.FailedRestart k) (with_core m.core s)) refl)
-re_moved_with s m RebalanceBeside.OverStart free empty still = flows_still s _ still (refl, refl) (inl refl) (cheaper_same s.tasks) (λ knows. closes_open s (after_rebalance m.frame RebalanceBeside.OverStart (with_core m.core s)) free) (λ knows. active_begun s (after_rebalance m.frame RebalanceBeside.OverStart (with_core m.core s)) (Starting (walk_of Minor.Start)) m.frame.target (λ x h. h) empty refl knows.good)
-re_moved_with s m RebalanceBeside.OverUndo free empty still = flows_still s _ still (refl, refl) (inl refl) (cheaper_same s.tasks) (λ knows. closes_open s (after_rebalance m.frame RebalanceBeside.OverUndo (with_core m.core s)) free) (λ knows. active_begun s (after_rebalance m.frame RebalanceBeside.OverUndo (with_core m.core s)) (Removing (walk_of Minor.Remove)) m.frame.target (λ x h. h) empty refl knows.good)
-re_moved_with s m RebalanceBeside.OverDropped free empty still = flows_still s _ still (refl, refl) (inl refl) (cheaper_same s.tasks) (λ knows. closes_open s (after_rebalance m.frame RebalanceBeside.OverDropped (with_core m.core s)) free) (λ knows. active_same s (after_rebalance m.frame RebalanceBeside.OverDropped (with_core m.core s)) refl)
-
--- a rebalance runs
-pub record InRebalance (s : State) : Type 0 where
-  pub free : (k : ℕ) → closed s.operation k ≡ false
-  pub empty : s.activities ≡ []
-
-re_moved : (s : State) (m : RebalanceMove) → InRebalance s → IsStill m.label → FlowsStep s (rebalance_lifted s m)
-re_moved s m r still = re_moved_with s m m.beside r.free r.empty still
-
-flows_re_end_ask : (s : State) (r : Rebalance) (node : Node) (bad : Bool) → InRebalance s → FlowsStep s (rebalance_lifted s (re.end_ask s.core r node bad))
-flows_re_end_ask s r node false h = re_moved s (re.end_ask s.core r node false) h tt
-flows_re_end_ask s r node true h = re_moved s (re.end_ask s.core r node true) h tt
-
-flows_re_ask : (s : State) (r : Rebalance) (node : Node) (w : Walk) (b : Bool) → InRebalance s → FlowsStep s (rebalance_lifted s (re.ask_step s.core r node w b))
-flows_re_ask s r node w true h = flows_re_end_ask s r node (is_bad w) h
-flows_re_ask s r node w false h = re_moved s (re.ask_step s.core r node w false) h tt
-
-flows_re_take_back : (s : State) (r : Rebalance) (node : Node) (w : Walk) (b : Bool) → InRebalance s → FlowsStep s (rebalance_lifted s (re.take_back s.core r node w b))
-flows_re_take_back s r node w true h = re_moved s (re.take_back s.core r node w true) h tt
-flows_re_take_back s r node w false h = re_moved s (re.take_back s.core r node w false) h tt
-
-flows_re_searched : (s : State) (r : Rebalance) (found : Found) → InRebalance s → FlowsStep s (rebalance_lifted s (re.searched s.core r found))
-flows_re_searched s r (assignment plan) h = re_moved s (re.searched s.core r (assignment plan)) h tt
-flows_re_searched s r no_fit h = re_moved s (re.searched s.core r no_fit) h tt
-flows_re_searched s r spent h = re_moved s (re.searched s.core r spent) h tt
-
-flows_re_cancel : (s : State) (r : Rebalance) (node : Node) (w : Walk) (b : Bool) → InRebalance s → FlowsStep s (rebalance_lifted s (re.cancel_step s.core r node w b))
-flows_re_cancel s r node w true h = re_moved s (re.cancel_step s.core r node w true) h tt
-flows_re_cancel s r node w false h = re_moved s (re.cancel_step s.core r node w false) h tt
-
-flows_re_stop : (s : State) (r : Rebalance) (node : Node) (w : Walk) (b : Bool) → InRebalance s → FlowsStep s (rebalance_lifted s (re.stop_step s.core r node w b))
-flows_re_stop s r node w true h = re_moved s (re.stop_step s.core r node w true) h tt
-flows_re_stop s r node w false h = re_moved s (re.stop_step s.core r node w false) h tt
-
-flows_re_end_restart : (s : State) (r : Rebalance) (node : Node) (bad : Bool) → InRebalance s → FlowsStep s (rebalance_lifted s (re.end_restart s.core r node bad))
-flows_re_end_restart s r node false h = re_moved s (re.end_restart s.core r node false) h tt
-flows_re_end_restart s r node true h = re_moved s (re.end_restart s.core r node true) h tt
-
-flows_re_restart : (s : State) (r : Rebalance) (node : Node) (w : Walk) (b : Bool) → InRebalance s → FlowsStep s (rebalance_lifted s (re.restart_step s.core r node w b))
-flows_re_restart s r node w true h = flows_re_end_restart s r node (is_bad w) h
-flows_re_restart s r node w false h = re_moved s (re.restart_step s.core r node w false) h tt
-
-pub flows_rebalance : (s : State) (r : Rebalance) (stage : RebalanceStage) (n : Option Node) → InRebalance s → FlowsNext s (option_map (doing_map (rebalance_lifted s)) (re.rebalance_step s.core r stage n))
-flows_rebalance s r RebalanceStage.Searching n h = λ found. flows_re_searched s r found h
-flows_rebalance s r RebalanceStage.Stuck n h = re_moved s (re.stuck s.core r) h tt
-flows_rebalance s r RebalanceStage.Committing n h = re_moved s (re.commit_step s.core r) h tt
-flows_rebalance s r RebalanceStage.Ending n h = re_moved s (re.close s.core r) h tt
-flows_rebalance s r (RebalanceStage.Asking w) (Some node) h = flows_re_ask s r node w _ h
-flows_rebalance s r (RebalanceStage.TakingBack w) (Some node) h = flows_re_take_back s r node w _ h
-flows_rebalance s r (RebalanceStage.Cancelling w) (Some node) h = flows_re_cancel s r node w _ h
-flows_rebalance s r (RebalanceStage.Stopping w) (Some node) h = flows_re_stop s r node w _ h
-flows_rebalance s r (RebalanceStage.Restarting w) (Some node) h = flows_re_restart s r node w _ h
-flows_rebalance s r RebalanceStage.Failed (Some node) h = re_moved s (re.failed s.core r node) h tt
-flows_rebalance s r (RebalanceStage.Asking w) None h = tt
-flows_rebalance s r (RebalanceStage.TakingBack w) None h = tt
-flows_rebalance s r (RebalanceStage.Cancelling w) None h = tt
-flows_rebalance s r (RebalanceStage.Stopping w) None h = tt
-flows_rebalance s r (RebalanceStage.Restarting w) None h = tt
-flows_rebalance s r RebalanceStage.Failed None h = tt
+    by_join : JoinEffect s label t → (IsNoJoin label × Flows s t) ⊎ Joined s (record { label = label; state = t })
+    by_join (JoinEffect.none no_join) = inl (no_join, flows s label t kept knows effect closing no_join)
+    by_join (JoinEffect.joins node d none at up below is) =
+        let found = in_find (joins node.born s.core.nodes) s.world d below in
+        inr (record { node = node; device = d; is = is; join = found.0; there = found.1; at = at; up = up; none = none })

@@ -14,7 +14,7 @@ use Rattle.pnp_laws.specs.Kept.{Ascending}
 use Rattle.pnp_laws.proofs.Lookups.{some_same}
 use Rattle.pnp_laws.proofs.Closures.{tail_at}
 use Rattle.pnp_laws.proofs.Standing.{Tree, FromThose}
-use Rattle.pnp_laws.proofs.Truths.{and_both}
+use Rattle.pnp_laws.proofs.Truths.{and_both, both_true, or_right}
 
 -- how many devices of the world stand below a birth number
 abbrev pub below : ℕ → List Device → ℕ
@@ -182,10 +182,6 @@ any_from p (x ∷ xs) k n at h =
       | inl e ↦ let same : x ≡ n = grind (arith, nat_tests) in ap (λ (b : Bool). b || list_any p xs) (ap p same ∙ h)
       | inr d ↦ or_right (p x) (list_any p xs) (any_from p xs k n (grind (arith, nat_tests)) h)
     ]
-  where
-    or_right : (a b : Bool) → b ≡ true → (a || b) ≡ true
-    or_right true b h = refl
-    or_right false b h = h
 
 pub any_at : (p : Node → Bool) (lo : ℕ) (nodes : List Node) → Ascending lo nodes → list_any p nodes ≡ true → (n : Node) × (node_at n.serial nodes ≡ Some n) × (p n ≡ true)
 any_at p lo [] order h = absurd (cc)
@@ -288,20 +284,17 @@ one_born s t next order order_t tree born f d there both =
     let born_is : was.0.born ≡ d.parent = let e = own.0 in let g = was.2 in grind (arith, nat_tests) in
     elim (f.live m.serial was.0 m was.1 at.1 own.1) [
       | inl live ↦ inl (by_there m was.0 at.1 was.1 own.1 born_is two.1
-          (any_from (λ n. n.born == d.parent && is_live s n) s.core.nodes m.serial was.0 was.1 (pair (was.0.born == d.parent) (is_live s was.0) (grind (arith, nat_tests)) live))
+          (any_from (λ n. n.born == d.parent && is_live s n) s.core.nodes m.serial was.0 was.1 (both_true (was.0.born == d.parent) (is_live s was.0) (grind (arith, nat_tests)) live))
           (has_born d.born s.core.nodes) refl)
       | inr e ↦ inr (ap (λ (o : Option Node). starts_with o d.parent) e ∙ (let q = born_is in grind (arith, nat_tests)))
     ]
   where
-    pair : (a b : Bool) → a ≡ true → b ≡ true → (a && b) ≡ true
-    pair a b e g = subst (λ (x : Bool). (x && b) ≡ true) (sym e) g
-
     not_true : (b : Bool) → not b ≡ true → b ≡ true → ⊥
     not_true true h e = cc
     not_true false h e = cc
 
     by_there : (m n : Node) → node_at m.serial t.core.nodes ≡ Some m → node_at m.serial s.core.nodes ≡ Some n → is_live t m ≡ true → n.born ≡ d.parent → not (has_born d.born t.core.nodes) ≡ true → lives s d.parent ≡ true → (b : Bool) → has_born d.born s.core.nodes ≡ b → (lives s d.parent && not (has_born d.born s.core.nodes)) ≡ true
-    by_there m n at was live own out up false e = pair (lives s d.parent) (not (has_born d.born s.core.nodes)) up (ap not e)
+    by_there m n at was live own out up false e = both_true (lives s d.parent) (not (has_born d.born s.core.nodes)) up (ap not e)
     by_there m n at was live own out up true e =
         let x = any_at (λ n. n.born == d.born) 0 s.core.nodes order e in
         let x_born : d.born ≡ x.0.born = let q = x.2 in grind (arith, nat_tests) in

@@ -8,6 +8,7 @@ pub mod EffectsOfOperations
 pub mod EffectsOfEvents
 pub mod EffectsOf
 pub mod EffectViews
+pub mod Minors
 pub mod Diagrams
 pub mod Kept
 pub mod Closures
@@ -69,7 +70,6 @@ pub mod RunsEnds
 pub mod Joins
 pub mod JoinSteps
 pub mod JoinRemovals
-pub mod JoinTasks
 pub mod JoinBirths
 pub mod JoinEvents
 pub mod JoinMachine
@@ -88,8 +88,9 @@ pub mod Falling
 pub mod StepsLeft
 pub mod RunsSerials
 pub mod RunsKeys
-pub mod StackMoves
-pub mod StackSteps
-pub mod StackEvents
+pub mod DriverNames
 pub mod RunsStacks
+pub mod Requests
 pub mod RunsTold
+pub mod TreePrints
+pub mod NamesGiven

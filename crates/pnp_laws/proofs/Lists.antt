@@ -1,5 +1,5 @@
 -- Lists of serials: what stands first, what follows.
-use Rattle.std.proofs.Common.{ℕ, suc, ◌<◌, ◌≤◌, ◌≡◌, ◌≢◌, inl, inr, Bool, true, false, cond, List, [], ◌∷◌, ◌++◌, Some, refl, sym, subst, arith}
+use Rattle.std.proofs.Common.{ℕ, suc, ◌<◌, ◌≤◌, ◌≡◌, ◌≢◌, ◌⊎◌, inl, inr, Bool, true, false, cond, List, [], ◌∷◌, ◌++◌, Some, refl, sym, subst, arith}
 use Rattle.std.proofs.lemmas.Bool.{cases_eq}
 use Rattle.std.proofs.lemmas.Bool.Decides.{nat_tests}
 use Rattle.pnp_model.specs.Keyed.{those}
@@ -123,3 +123,11 @@ serials_distinct lo test (n ∷ ns) g =
       | false ↦ serials_distinct (suc n.serial) test ns g.1
     ] in
     by_test (test n)
+
+-- a number is in a list or not
+pub member : (ks : List ℕ) (k : ℕ) → (has ks k ≡ true) ⊎ (has ks k ≡ false)
+member ks k = by_test (has ks k) refl
+  where
+    by_test : (b : Bool) → has ks k ≡ b → (has ks k ≡ true) ⊎ (has ks k ≡ false)
+    by_test true h = inl h
+    by_test false h = inr h

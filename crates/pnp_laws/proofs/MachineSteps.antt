@@ -16,7 +16,7 @@ use Rattle.pnp_laws.specs.RunsWell.{MayBegin}
 use Rattle.pnp_labels.specs.declared.states.DevState.{DevState}
 use Rattle.pnp_labels.specs.declared.label.Label.{Label}
 use Rattle.pnp_labels.specs.declared.label.OpKind.{OpKind}
-use Rattle.pnp_labels.specs.declared.states.DevState.TheVariants.{NoStack, NotStarted, Started, StopPending, Stopped, RemovePending, SurpriseRemoved}
+use Rattle.pnp_labels.specs.declared.states.DevState.TheVariants.{NotStarted}
 use Rattle.pnp_laws.proofs.Lookups.{own_serial, found_self, ready_found}
 use Rattle.pnp_laws.proofs.Diagrams.{diagram_same}
 use Rattle.pnp_laws.proofs.Kept.{lawful_by, Good_nodes, LawfulNext}
@@ -42,12 +42,7 @@ lawful_rebalance_idle s node None alone at e good g = lawful_begin s OpKind.Reba
 
 lawful_rebalance_task : (s : State) (node : Node) (x : DevState) → node.state ≡ x → s.activities ≡ [] → node_at node.serial s.core.nodes ≡ Some node → IsGood s → Good s.next_serial s.core.nodes s.activities None → Lawful s (rebalance_task s node x)
 lawful_rebalance_task s node NotStarted e alone at good g = lawful_rebalance_idle s node (activity_at node.serial s.activities) alone at e good g
-lawful_rebalance_task s node NoStack e alone at good g = lawful_skip s _ good
-lawful_rebalance_task s node Started e alone at good g = lawful_skip s _ good
-lawful_rebalance_task s node StopPending e alone at good g = lawful_skip s _ good
-lawful_rebalance_task s node Stopped e alone at good g = lawful_skip s _ good
-lawful_rebalance_task s node RemovePending e alone at good g = lawful_skip s _ good
-lawful_rebalance_task s node SurpriseRemoved e alone at good g = lawful_skip s _ good
+lawful_rebalance_task s node _ e alone at good g = lawful_skip s _ good
 
 lawful_remove_begin : (s : State) (kind : OpKind) (node : Node) → s.activities ≡ [] → OrderFits node.serial (leaving s.core node.serial) → ((j : ℕ) (n : Node) → node_at j s.core.nodes ≡ Some n → is_stopped n.state ≡ false) →
     Good s.next_serial s.core.nodes s.activities None → Lawful s (begin s kind node (Operation.Removing (begun_removal s.core kind node)))

@@ -11,7 +11,7 @@ use Rattle.pnp_laws.specs.Kept.{Good, Lawful, Each, HasStackOf, OperationFits, D
 use Rattle.pnp_model.specs.Diagram.{Change}
 use Rattle.pnp_labels.specs.declared.states.DevState.{DevState}
 use Rattle.pnp_labels.specs.declared.label.Label.{Label}
-use Rattle.pnp_labels.specs.declared.states.DevState.TheVariants.{NoStack, NotStarted, Started, StopPending, Stopped, RemovePending, SurpriseRemoved}
+use Rattle.pnp_labels.specs.declared.states.DevState.TheVariants.{NoStack, NotStarted, Started, StopPending, Stopped, RemovePending}
 use Rattle.pnp_laws.proofs.Lookups.{node_changed_other, node_at-map}
 use Rattle.pnp_laws.proofs.Diagrams.{diagram_same, diagram_changed}
 use Rattle.pnp_laws.proofs.Kept.{lawful_by, Good_changed, Good_nodes}
@@ -70,40 +70,20 @@ waits_mapped k f nodes keeps state w =
 -- states
 
 pub is_Started : (x : DevState) → is_started x ≡ true → x ≡ Started
-is_Started NoStack h = cc
-is_Started NotStarted h = cc
 is_Started Started h = refl
-is_Started StopPending h = cc
-is_Started Stopped h = cc
-is_Started RemovePending h = cc
-is_Started SurpriseRemoved h = cc
+is_Started _ h = cc
 
 pub is_StopPending : (x : DevState) → is_stop_pending x ≡ true → x ≡ StopPending
-is_StopPending NoStack h = cc
-is_StopPending NotStarted h = cc
-is_StopPending Started h = cc
 is_StopPending StopPending h = refl
-is_StopPending Stopped h = cc
-is_StopPending RemovePending h = cc
-is_StopPending SurpriseRemoved h = cc
+is_StopPending _ h = cc
 
 pub is_Stopped : (x : DevState) → is_stopped x ≡ true → x ≡ Stopped
-is_Stopped NoStack h = cc
-is_Stopped NotStarted h = cc
-is_Stopped Started h = cc
-is_Stopped StopPending h = cc
 is_Stopped Stopped h = refl
-is_Stopped RemovePending h = cc
-is_Stopped SurpriseRemoved h = cc
+is_Stopped _ h = cc
 
 pub is_RemovePending : (x : DevState) → is_remove_pending x ≡ true → x ≡ RemovePending
-is_RemovePending NoStack h = cc
-is_RemovePending NotStarted h = cc
-is_RemovePending Started h = cc
-is_RemovePending StopPending h = cc
-is_RemovePending Stopped h = cc
 is_RemovePending RemovePending h = refl
-is_RemovePending SurpriseRemoved h = cc
+is_RemovePending _ h = cc
 
 pub started_calm : (x : DevState) → is_started x ≡ true → is_calm x ≡ true
 started_calm x h = ap is_calm (is_Started x h)

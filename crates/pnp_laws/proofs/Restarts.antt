@@ -11,7 +11,7 @@ use Rattle.pnp_model.specs.Trees.{above, is_up, stands_up}
 use Rattle.pnp_model.specs.Frames.{rest}
 use Rattle.pnp_model.specs.Rebalances.{startable}
 use Rattle.pnp_labels.specs.declared.states.DevState.{DevState}
-use Rattle.pnp_labels.specs.declared.states.DevState.TheVariants.{NoStack, NotStarted, Started, StopPending, Stopped, RemovePending, SurpriseRemoved}
+use Rattle.pnp_labels.specs.declared.states.DevState.TheVariants.{Stopped}
 use Rattle.pnp_laws.specs.Kept.{Ascending, Each, is_calm, is_idle}
 use Rattle.pnp_laws.proofs.Lists.{HeadIs}
 use Rattle.pnp_laws.proofs.OpSteps.{has-reverse}
@@ -111,13 +111,8 @@ all_or test (k ∷ ks) h =
     by_test (test k) refl
 
 calm_or : (x : DevState) → is_calm x ≡ true → is_idle x ≡ false → is_started x ≡ false → x ≡ Stopped
-calm_or NoStack a b c = cc
-calm_or NotStarted a b c = cc
-calm_or Started a b c = cc
-calm_or StopPending a b c = cc
 calm_or Stopped a b c = refl
-calm_or RemovePending a b c = cc
-calm_or SurpriseRemoved a b c = cc
+calm_or _ a b c = cc
 
 not_idle : (x : DevState) (b : Bool) → is_idle x ≡ b → (b ≡ true → ⊥) → is_idle x ≡ false
 not_idle x true e never = absurd (never refl)

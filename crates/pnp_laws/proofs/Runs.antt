@@ -40,12 +40,3 @@ opening_is_good rack =
       alone = tt;
       fits = λ k n h. subst (λ (x : Node). is_calm x.state ≡ true) (root_is k n h).0 refl;
     }
-
-pub run_follows_diagram : (settings : Settings) (rack : List Driver) (entries : List Entry) (mid : State) (entry : Entry) (new : State) →
-    RunWell settings (opening rack) entries mid → MayBegin mid → Goes settings mid entry new → FollowsDiagram (printed entry) mid.core.nodes new.core.nodes
-run_follows_diagram settings rack entries mid entry new run begins goes =
-    (lawful_goes settings mid entry new begins (run_is_good settings (opening rack) entries mid run (opening_is_good rack)) goes).diagram
-
-pub run_has_stacks : (settings : Settings) (rack : List Driver) (entries : List Entry) (mid : State) (k : ℕ) (n : Node) →
-    RunWell settings (opening rack) entries mid → node_at k mid.core.nodes ≡ Some n → HasStackOf k n.state n.stack
-run_has_stacks settings rack entries mid k n run at = (run_is_good settings (opening rack) entries mid run (opening_is_good rack)).stacks k n at

@@ -176,19 +176,20 @@ settled_by settings s kept born below_s =
           (below_s o.next (kept_goes settings s (Did o.label) o.next kept o.steps) (step_goes settings s (record { label = o.label; state = o.next }) kept born o.steps).0 (lowest_step settings s o.next o.label kept born o.steps))
     ]
 
+-- below a state with these numbers
+pub at_numbers : (t s : State) (w x y z : ℕ) → can_join s ≡ w → first_of s ≡ x → left_of s.operation ≡ y → last_of s ≡ z → Lowest t s
+    → (can_join t < w) ⊎ ((can_join t ≤ w) × Lower (first_of t) (left_of t.operation) (last_of t) x y z)
+at_numbers t s w x y z e a b c l =
+    subst (λ (i : ℕ). (can_join t < i) ⊎ ((can_join t ≤ i) × Lower (first_of t) (left_of t.operation) (last_of t) x y z)) e
+    (subst (λ (i : ℕ). (can_join t < can_join s) ⊎ ((can_join t ≤ can_join s) × Lower (first_of t) (left_of t.operation) (last_of t) i y z)) a
+    (subst (λ (i : ℕ). (can_join t < can_join s) ⊎ ((can_join t ≤ can_join s) × Lower (first_of t) (left_of t.operation) (last_of t) (first_of s) i z)) b
+    (subst (λ (i : ℕ). (can_join t < can_join s) ⊎ ((can_join t ≤ can_join s) × Lower (first_of t) (left_of t.operation) (last_of t) (first_of s) (left_of s.operation) i)) c l)))
+
 all_settle : (settings : Settings) (w x y z : ℕ) → AllSettle settings w x y z
 all_settle settings =
     by_four (AllSettle settings)
     (λ w x y z lower s kept born e a b c. settled_by settings s kept born
     (λ t kept_t born_t l. lower (can_join t) (first_of t) (left_of t.operation) (last_of t) (at_numbers t s w x y z e a b c l) t kept_t born_t refl refl refl refl))
-  where
-    at_numbers : (t s : State) (w x y z : ℕ) → can_join s ≡ w → first_of s ≡ x → left_of s.operation ≡ y → last_of s ≡ z → Lowest t s
-        → (can_join t < w) ⊎ ((can_join t ≤ w) × Lower (first_of t) (left_of t.operation) (last_of t) x y z)
-    at_numbers t s w x y z e a b c l =
-        subst (λ (i : ℕ). (can_join t < i) ⊎ ((can_join t ≤ i) × Lower (first_of t) (left_of t.operation) (last_of t) x y z)) e
-        (subst (λ (i : ℕ). (can_join t < can_join s) ⊎ ((can_join t ≤ can_join s) × Lower (first_of t) (left_of t.operation) (last_of t) i y z)) a
-        (subst (λ (i : ℕ). (can_join t < can_join s) ⊎ ((can_join t ≤ can_join s) × Lower (first_of t) (left_of t.operation) (last_of t) (first_of s) i z)) b
-        (subst (λ (i : ℕ). (can_join t < can_join s) ⊎ ((can_join t ≤ can_join s) × Lower (first_of t) (left_of t.operation) (last_of t) (first_of s) (left_of s.operation) i)) c l)))
 
 pub every_run_settles : SettlesLaw
 every_run_settles settings rack entries s run =

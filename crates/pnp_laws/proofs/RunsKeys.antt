@@ -1,10 +1,8 @@
 -- In each state of a run nodes are told apart, nothing depends on itself, and no two of the printed resources clash.
-use Rattle.std.proofs.Common.{ℕ, suc, ◌<◌, ◌≤◌, ◌≡◌, ◌≢◌, inl, inr, Bool, true, false, List, [], ◌∷◌, ◌++◌, length, Option, Some, None, refl, sym, ap, ◌∙◌, subst, arith}
+use Rattle.std.proofs.Common.{ℕ, suc, ◌≡◌, ◌≢◌, inl, inr, List, [], ◌∷◌, ◌++◌, Some, None, refl, subst, arith}
 use Rattle.std.specs.Prelude.{Contains}
-use Rattle.std.specs.List.{AllByRecursion}
-use Rattle.std.proofs.lemmas.Bool.{cases_eq}
-use Rattle.std.proofs.lemmas.List.Elements.{All-contains, All-from_recursion, Contains-append_cases, Contains-append_right}
-use Rattle.resource_reqs.specs.Resources.{Res, Clash, Free, NoClash}
+use Rattle.std.proofs.lemmas.List.Elements.{Contains-append_cases, Contains-append_right}
+use Rattle.resource_reqs.specs.Resources.{Res, NoClash}
 use Rattle.pnp_model.specs.Cores.{node_at}
 use Rattle.pnp_model.specs.Frames.{held_by}
 use Rattle.pnp_model.specs.Records.{Node}
@@ -17,6 +15,7 @@ use Rattle.pnp_laws.proofs.Closures.{head_at, tail_at}
 use Rattle.pnp_laws.proofs.Lists.{not_in}
 use Rattle.pnp_laws.proofs.Lookups.{none_below}
 use Rattle.pnp_laws.proofs.Orders.{dependents_rank}
+use Rattle.pnp_laws.proofs.Sharing.{here, free_at, free_from, clash_sym}
 use Rattle.pnp_laws.proofs.RunsShare.{nothing_clashes}
 use Rattle.pnp_laws.proofs.RunsStand.{reaches_kept}
 
@@ -32,31 +31,13 @@ no_cycle settings rack entries s run k =
 
 -- The printed list ----------------------------------------------------------------------------
 
-front_there : (x : Res) (xs : List Res) → Contains (x ∷ xs) x
-front_there x xs = (0, omega arith, refl)
-
-free_at : (xs : List Res) (r a : Res) → Free xs r → Contains xs a → Clash a r → ⊥
-free_at xs r a h c = All-contains (λ other. Clash other r → ⊥) xs a h c
-
-by_recursion : (r : Res) (xs : List Res) → ((a : Res) → Contains xs a → Clash a r → ⊥) → AllByRecursion (λ other. Clash other r → ⊥) xs
-by_recursion r [] h = tt
-by_recursion r (x ∷ xs) h = (h x (front_there x xs), by_recursion r xs (λ a c. h a (Contains-append_right (x ∷ []) xs a c)))
-
-free_from : (xs : List Res) (r : Res) → ((a : Res) → Contains xs a → Clash a r → ⊥) → Free xs r
-free_from xs r h = All-from_recursion (λ other. Clash other r → ⊥) xs (by_recursion r xs h)
-
-clash_turned : (a b : Res) → Clash a b → Clash b a
-clash_turned a b (kind, number, both) =
-    let n = number.0 in
-    (sym kind, (n, number.3, number.4, number.1, number.2), λ h. both (h.1, h.0))
-
 -- two lists without a clash, and none between them
 no_clash_both : (xs ys : List Res) → NoClash xs → NoClash ys → Foreign xs ys → NoClash (xs ++ ys)
 no_clash_both [] ys a b h = b
 no_clash_both (x ∷ xs) ys a b h = (
   free_from (xs ++ ys) x (λ r c clash. elim (Contains-append_cases xs ys r c) [
     | inl q ↦ free_at xs x r a.0 q clash
-    | inr q ↦ h x r (front_there x xs) q (clash_turned r x clash)
+    | inr q ↦ h x r (here x xs) q (clash_sym r x clash)
   ]),
   no_clash_both xs ys a.1 b (λ p q cp cq. h p q (Contains-append_right (x ∷ []) xs p cp) cq),
 )

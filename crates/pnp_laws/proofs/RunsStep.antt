@@ -33,16 +33,13 @@ mapped f o h = (f h.0, ap (option_map f) h.1)
 -- An operation whose walk does not wait goes on
 
 rebalance_goes : (s : State) (r : Rebalance) (stage : RebalanceStage) → RebalanceThere r stage s.core.nodes → IsSome (re.rebalance_step s.core r stage (first_node s.core.nodes r.todo))
-rebalance_goes s r RebalanceStage.Searching there = (_, refl)
-rebalance_goes s r RebalanceStage.Stuck there = (_, refl)
-rebalance_goes s r RebalanceStage.Committing there = (_, refl)
-rebalance_goes s r RebalanceStage.Ending there = (_, refl)
 rebalance_goes s r (RebalanceStage.Asking w) there = let n = first_there r.todo s.core.nodes there.0 in (_, ap (re.rebalance_step s.core r (RebalanceStage.Asking w)) n.1)
 rebalance_goes s r (RebalanceStage.TakingBack w) there = let n = first_there r.todo s.core.nodes there.0 in (_, ap (re.rebalance_step s.core r (RebalanceStage.TakingBack w)) n.1)
 rebalance_goes s r (RebalanceStage.Cancelling w) there = let n = first_there r.todo s.core.nodes there in (_, ap (re.rebalance_step s.core r (RebalanceStage.Cancelling w)) n.1)
 rebalance_goes s r (RebalanceStage.Stopping w) there = let n = first_there r.todo s.core.nodes there.0 in (_, ap (re.rebalance_step s.core r (RebalanceStage.Stopping w)) n.1)
 rebalance_goes s r (RebalanceStage.Restarting w) there = let n = first_there r.todo s.core.nodes there in (_, ap (re.rebalance_step s.core r (RebalanceStage.Restarting w)) n.1)
 rebalance_goes s r RebalanceStage.Failed there = let n = first_there r.todo s.core.nodes there in (_, ap (re.rebalance_step s.core r RebalanceStage.Failed) n.1)
+rebalance_goes s r _ there = (_, refl)
 
 removal_goes : (s : State) (o : Removal) (stage : RemovalStage) → RemovalThere o stage s.core.nodes → IsSome (rm.removal_step s.core o stage (first_node s.core.nodes o.todo))
 removal_goes s o RemovalStage.Ending there = (_, refl)

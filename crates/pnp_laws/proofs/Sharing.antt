@@ -17,10 +17,11 @@ use Rattle.pnp_model.specs.Frames.{held_by, is_beside, fixed_beside}
 use Rattle.pnp_model.specs.Rebalances.{part_for, committed}
 use Rattle.resource_reqs.specs.Resources.{clashes, same_kind}
 use Rattle.pnp_model.specs.Sharing.{Foreign, Clear}
+use Rattle.pnp_laws.proofs.Lists.{member}
 use Rattle.pnp_laws.proofs.Lookups.{own_serial, node_from, map_from}
 use Rattle.resource_reqs.specs.declared.kind.Kind.TheVariants as kinds
 
-clash_sym : (a b : Res) → Clash a b → Clash b a
+pub clash_sym : (a b : Res) → Clash a b → Clash b a
 clash_sym a b (kind, number, both) =
     let n = number.0 in
     (sym kind, (n, number.3, number.4, number.1, number.2), λ h. both (h.1, h.0))
@@ -30,10 +31,10 @@ foreign_sym xs ys h a b ca cb clash = h b a cb ca (clash_sym a b clash)
 
 -- lists without a clash
 
-here : (x : Res) (xs : List Res) → Contains (x ∷ xs) x
+pub here : (x : Res) (xs : List Res) → Contains (x ∷ xs) x
 here x xs = (0, omega arith, refl)
 
-there : (x : Res) (xs : List Res) (a : Res) → Contains xs a → Contains (x ∷ xs) a
+pub there : (x : Res) (xs : List Res) (a : Res) → Contains xs a → Contains (x ∷ xs) a
 there x xs a c = Contains-append_right (x ∷ []) xs a c
 
 by_recursion : (r : Res) (xs : List Res) → ((a : Res) → Contains xs a → Clash a r → ⊥) → AllByRecursion (λ other. Clash other r → ⊥) xs
@@ -41,10 +42,10 @@ by_recursion r [] h = tt
 by_recursion r (x ∷ xs) h = (h x (here x xs), by_recursion r xs (λ a c. h a (there x xs a c)))
 
 -- free of a list, by its members
-free_from : (xs : List Res) (r : Res) → ((a : Res) → Contains xs a → Clash a r → ⊥) → Free xs r
+pub free_from : (xs : List Res) (r : Res) → ((a : Res) → Contains xs a → Clash a r → ⊥) → Free xs r
 free_from xs r h = All-from_recursion (λ other. Clash other r → ⊥) xs (by_recursion r xs h)
 
-free_at : (xs : List Res) (r a : Res) → Free xs r → Contains xs a → Clash a r → ⊥
+pub free_at : (xs : List Res) (r a : Res) → Free xs r → Contains xs a → Clash a r → ⊥
 free_at xs r a h c = All-contains (λ other. Clash other r → ⊥) xs a h c
 
 no_clash_front : (xs ys : List Res) → NoClash (xs ++ ys) → NoClash xs
@@ -167,7 +168,7 @@ part_is k (j ∷ js) (holds ∷ plan) held l h =
           inr (d, subst (λ (p : List Res). PartAt k js plan p) (sym same) more)
     ]
 
-part_not : (k : ℕ) (js : List ℕ) (plan : List (List Res)) (held : List Res) → has js k ≡ false → part_for k js plan held ≡ held
+pub part_not : (k : ℕ) (js : List ℕ) (plan : List (List Res)) (held : List Res) → has js k ≡ false → part_for k js plan held ≡ held
 part_not k [] plan held h = refl
 part_not k (j ∷ js) [] held h = refl
 part_not k (j ∷ js) (holds ∷ plan) held h = grind (arith, nat_tests, part_not k js plan held)
@@ -195,10 +196,6 @@ part_two i k (j ∷ js) (holds ∷ plan) p q d (inr (d1, h)) (inl (e2, s2)) all 
     λ a b ca cb clash. no_clash_across holds (flat plan) all a b (part_flat i js plan p a h ca) (subst (λ (x : List Res). Contains x b) s2 cb) clash
 part_two i k (j ∷ js) (holds ∷ plan) p q d (inr (d1, h)) (inr (d2, g)) all = part_two i k js plan p q d h g (no_clash_back holds (flat plan) all)
 
-is_mover : (serials : List ℕ) (k : ℕ) (b : Bool) → has serials k ≡ b → (has serials k ≡ true) ⊎ (has serials k ≡ false)
-is_mover serials k true h = inl h
-is_mover serials k false h = inr h
-
 pub Clear_committed : (c : Core) (serials : List ℕ) (reqs : List Reqs) (plan : List (List Res)) → IsAssignment (fixed_beside c serials) reqs plan → length reqs ≡ length serials → Clear c.reserved c.nodes →
     Clear c.reserved (map (committed serials plan) c.nodes)
 Clear_committed c serials reqs plan found l old =
@@ -220,7 +217,7 @@ Clear_committed c serials reqs plan found l old =
       own =
           λ k m g.
           let f = map_from k (committed serials plan) c.nodes m (λ x. refl) g in
-          elim (is_mover serials k (has serials k) refl) [
+          elim (member serials k) [
             | inl h ↦ part_own k serials plan m.holds (mine k f.0 m f.1 f.2 h) found.apart
             | inr h ↦ subst (λ (x : List Res). NoClash x) (sym (kept k f.0 m f.1 f.2 h)) (old.own k f.0 f.1)
           ];
@@ -228,15 +225,15 @@ Clear_committed c serials reqs plan found l old =
           λ i k n m d g h.
           let f = map_from i (committed serials plan) c.nodes n (λ x. refl) g in
           let e = map_from k (committed serials plan) c.nodes m (λ x. refl) h in
-          elim (is_mover serials i (has serials i) refl) [
+          elim (member serials i) [
             | inl a ↦
-                elim (is_mover serials k (has serials k) refl) [
+                elim (member serials k) [
                   | inl b ↦ part_two i k serials plan n.holds m.holds d (mine i f.0 n f.1 f.2 a) (mine k e.0 m e.1 e.2 b) found.apart
                   | inr b ↦
                       foreign_sym m.holds n.holds (subst (λ (x : List Res). Foreign x n.holds) (sym (kept k e.0 m e.1 e.2 b)) (stays_moves k i e.0 n.holds e.1 b (mine i f.0 n f.1 f.2 a)))
                 ]
             | inr a ↦
-                elim (is_mover serials k (has serials k) refl) [
+                elim (member serials k) [
                   | inl b ↦ subst (λ (x : List Res). Foreign x m.holds) (sym (kept i f.0 n f.1 f.2 a)) (stays_moves i k f.0 m.holds f.1 a (mine k e.0 m e.1 e.2 b))
                   | inr b ↦
                       subst (λ (x : List Res). Foreign x m.holds) (sym (kept i f.0 n f.1 f.2 a))
@@ -247,7 +244,7 @@ Clear_committed c serials reqs plan found l old =
       beside =
           λ k m g.
           let f = map_from k (committed serials plan) c.nodes m (λ x. refl) g in
-          elim (is_mover serials k (has serials k) refl) [
+          elim (member serials k) [
             | inl h ↦
                 let part = mine k f.0 m f.1 f.2 h in
                 λ a b ca cb clash. foreign_fixed c serials reqs plan a b found (Contains-append_left c.reserved (held_by (those (is_beside serials) c.nodes)) a ca) (part_flat k serials plan m.holds b part cb) clash

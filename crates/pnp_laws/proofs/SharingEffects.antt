@@ -52,7 +52,7 @@ module _ (s : State) (label : Label) (order : Ascending 0 s.core.nodes) (planned
   clear_altered : (j : ℕ) (f : Node → Node) → Alters s label j f → Clear s.core.reserved (changed_first (is_node j) f s.core.nodes)
   clear_altered j f (Alters.walked node minor w bad at request other ends verdict prints) = less _ (no_more_changed node.serial f s.core.nodes (λ x. refl) (λ x. refl))
   clear_altered j f (Alters.troubled k problem) = less _ (no_more_changed k f s.core.nodes (λ x. refl) (λ x. refl))
-  clear_altered j f (Alters.stacks node d ds at acts) = less _ (no_more_changed node.serial f s.core.nodes (λ x. refl) (λ x. refl))
+  clear_altered j f (Alters.stacks node d ds name at acts prints) = less _ (no_more_changed node.serial f s.core.nodes (λ x. refl) (λ x. refl))
   clear_altered j f (Alters.assigned node phase plan acts search part) =
       let fixed = fixed_beside s.core (node.serial ∷ []) in
       let is = plan_is fixed (node.reqs ∷ []) part.budget plan part.answer in

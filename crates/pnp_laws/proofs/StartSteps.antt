@@ -19,7 +19,7 @@ use Rattle.pnp_labels.specs.declared.words.Minor.{Minor}
 use Rattle.pnp_labels.specs.declared.words.Answer.{Answer}
 use Rattle.pnp_labels.specs.declared.label.Label.{Label}
 use Rattle.pnp_labels.specs.declared.states.Problem.{Problem}
-use Rattle.pnp_labels.specs.declared.states.DevState.TheVariants.{NoStack, NotStarted, Started, StopPending, Stopped, RemovePending, SurpriseRemoved}
+use Rattle.pnp_labels.specs.declared.states.DevState.TheVariants.{NoStack, NotStarted, Started}
 use Rattle.pnp_labels.specs.declared.words.Answer.TheVariants.{Ok, Fail, Pend}
 use Rattle.pnp_laws.proofs.Lookups.{phase_from, phase_set_other, ended_same, ended_other, InOrder-set_phase, InOrder-ended}
 use Rattle.pnp_laws.proofs.Diagrams.{diagram_same, diagram_changed, Each_changed}
@@ -97,29 +97,17 @@ lawful_stop s t label j a b c d good =
 pub idle_calm : (x : DevState) → is_idle x ≡ true → is_calm x ≡ true
 idle_calm NoStack h = refl
 idle_calm NotStarted h = refl
-idle_calm Started h = cc
-idle_calm StopPending h = cc
-idle_calm Stopped h = cc
-idle_calm RemovePending h = cc
-idle_calm SurpriseRemoved h = cc
+idle_calm _ h = cc
 
 pub stacked_idle : (x : DevState) → is_idle x ≡ true → stacked x ≡ NotStarted
 stacked_idle NoStack h = refl
 stacked_idle NotStarted h = refl
-stacked_idle Started h = cc
-stacked_idle StopPending h = cc
-stacked_idle Stopped h = cc
-stacked_idle RemovePending h = cc
-stacked_idle SurpriseRemoved h = cc
+stacked_idle _ h = cc
 
 idle_or : (x : DevState) → is_idle x ≡ true → (x ≡ NoStack) ⊎ (x ≡ NotStarted)
 idle_or NoStack h = inl refl
 idle_or NotStarted h = inr refl
-idle_or Started h = cc
-idle_or StopPending h = cc
-idle_or Stopped h = cc
-idle_or RemovePending h = cc
-idle_or SurpriseRemoved h = cc
+idle_or _ h = cc
 
 pub pushed : (xs : List ℕ) (x : ℕ) → xs ++ x ∷ [] ≢ []
 pushed [] x h = cc

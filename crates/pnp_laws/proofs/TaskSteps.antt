@@ -12,7 +12,7 @@ use Rattle.pnp_laws.specs.Kept.{Good, IsGood, Lawful, Fits, is_calm}
 use Rattle.pnp_labels.specs.declared.states.DevState.{DevState}
 use Rattle.pnp_labels.specs.declared.label.Label.{Label}
 use Rattle.pnp_labels.specs.declared.states.Problem.{Problem}
-use Rattle.pnp_labels.specs.declared.states.DevState.TheVariants.{NoStack, NotStarted, Started, StopPending, Stopped, RemovePending, SurpriseRemoved}
+use Rattle.pnp_labels.specs.declared.states.DevState.TheVariants.{NoStack, Started}
 use Rattle.pnp_laws.proofs.Lookups.{found_self, entered_same, entered_other, InOrder-entered}
 use Rattle.pnp_laws.proofs.Diagrams.{diagram_same, diagram_changed, diagram_joined, Each_changed, Each_joined}
 use Rattle.pnp_laws.proofs.Kept.{lawful_by, Good_changed, Good_joined}
@@ -45,12 +45,7 @@ lawful_join_or_on s node (Some d) none good g = lawful_join s node d none g
 
 lawful_list_up : (s : State) (node : Node) (x : DevState) → s.operation ≡ None → IsGood s → Good s.next_serial s.core.nodes s.activities None → Lawful s (list_up s node x)
 lawful_list_up s node Started none good g = lawful_join_or_on s node (joining node.born s.core.nodes s.world) none good g
-lawful_list_up s node NoStack none good g = lawful_skip s _ good
-lawful_list_up s node NotStarted none good g = lawful_skip s _ good
-lawful_list_up s node StopPending none good g = lawful_skip s _ good
-lawful_list_up s node Stopped none good g = lawful_skip s _ good
-lawful_list_up s node RemovePending none good g = lawful_skip s _ good
-lawful_list_up s node SurpriseRemoved none good g = lawful_skip s _ good
+lawful_list_up s node _ none good g = lawful_skip s _ good
 
 pub lawful_list : (s : State) (k : ℕ) (o : Option Node) → s.operation ≡ None → IsGood s → Good s.next_serial s.core.nodes s.activities None → Lawful s (list_step s k o)
 lawful_list s k None none good g = lawful_skip s _ good
@@ -128,12 +123,7 @@ lawful_idle settings s node None h none at e up good g =
 lawful_bare : (settings : Settings) (s : State) (node : Node) (x : DevState) → node.state ≡ x → s.operation ≡ None → node_at node.serial s.core.nodes ≡ Some node → (x ≡ NoStack → node.serial ≢ 0) →
     IsGood s → Good s.next_serial s.core.nodes s.activities None → Lawful s (start_bare settings s node x)
 lawful_bare settings s node NoStack e none at up good g = lawful_idle settings s node (activity_at node.serial s.activities) refl none at e (up refl) good g
-lawful_bare settings s node NotStarted e none at up good g = lawful_skip s _ good
-lawful_bare settings s node Started e none at up good g = lawful_skip s _ good
-lawful_bare settings s node StopPending e none at up good g = lawful_skip s _ good
-lawful_bare settings s node Stopped e none at up good g = lawful_skip s _ good
-lawful_bare settings s node RemovePending e none at up good g = lawful_skip s _ good
-lawful_bare settings s node SurpriseRemoved e none at up good g = lawful_skip s _ good
+lawful_bare settings s node _ e none at up good g = lawful_skip s _ good
 
 not_root : (s : State) (node : Node) → node_at node.serial s.core.nodes ≡ Some node → Good s.next_serial s.core.nodes s.activities None → node.state ≡ NoStack → node.serial ≢ 0
 not_root s node at good e = λ z. let h = (good.stacks node.serial node at).root z in cc

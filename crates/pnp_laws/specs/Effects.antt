@@ -5,31 +5,36 @@ use Rattle.resource_reqs.specs.Resources.{Res, clashes}
 use Rattle.resource_reqs.specs.Spelling.{IsAnswer}
 use Rattle.resource_reqs.specs.Spelling.Answer.{assignment}
 use Rattle.pnp_labels.specs.Texts.{Text}
-use Rattle.pnp_labels.specs.declared.states.DevState.TheVariants.{NotStarted, Started}
+use Rattle.pnp_labels.specs.declared.states.DevState.TheVariants.{NoStack, NotStarted, Started}
 use Rattle.pnp_labels.specs.declared.states.Problem.{Problem}
+use Rattle.pnp_labels.specs.declared.words.AskWhat.{AskWhat}
+use Rattle.pnp_labels.specs.declared.words.DriverKind.{DriverKind}
 use Rattle.pnp_labels.specs.declared.words.Minor.{Minor}
 use Rattle.pnp_labels.specs.declared.event.Event.{Event}
+use Rattle.pnp_labels.specs.declared.event.Rule.{Rule}
 use Rattle.pnp_labels.specs.declared.label.OpKind.{OpKind}
 use Rattle.pnp_labels.specs.declared.label.OpEnd.{OpEnd}
 use Rattle.pnp_labels.specs.declared.label.Label.{Label}
+use Rattle.pnp_labels.specs.declared.label.Shown.{Shown}
+use Rattle.pnp_model.specs.Books.{driver_named, is_named, is_unnamed, name_of, rack_after, with_name}
 use Rattle.pnp_model.specs.Keyed.{changed_first, without_first}
 use Rattle.pnp_model.specs.Tests.{has, has_same, is_started}
 use Rattle.pnp_model.specs.Trees.{children, dependents}
 use Rattle.pnp_model.specs.Walks.{walk_of, may_fail, is_bad, has_ended, state_after}
 use Rattle.pnp_model.specs.Cores.{is_node, node_at, forget, bare, stacked, with_state, with_problem, with_stack, with_holds}
-use Rattle.pnp_model.specs.Frames.{first_node, fixed_beside, held_by}
+use Rattle.pnp_model.specs.Frames.{first_node, fixed_beside, held_by, next_driver}
 use Rattle.pnp_model.specs.States.{is_activity, activity_at, device_of, entered, node_of, with_phase, without_those}
 use Rattle.pnp_model.specs.Starts.{adding, own_part}
 use Rattle.pnp_model.specs.Rebalances.{begun_rebalance, committed, movers, plan_of}
 use Rattle.pnp_model.specs.Removals.{begun_removal}
 use Rattle.pnp_model.specs.Surprises.{begun_surprise}
-use Rattle.pnp_model.specs.Tasks.{begin, is_gone, join_step, joining}
+use Rattle.pnp_model.specs.Tasks.{begin, is_gone, join_step, joining, numbered}
 use Rattle.pnp_model.specs.Machine.{is_ready, operation_walk}
-use Rattle.pnp_model.specs.Events.{answer_of, completed, completed_phase}
+use Rattle.pnp_model.specs.Events.{answer_of, completed, completed_phase, with_rule}
 use Rattle.pnp_model.specs.Runs.{Entry, Goes, printed}
 use Rattle.pnp_model.specs.Runs.Entry.{Happens, Did}
 use Rattle.pnp_model.specs.Records.{Node, Core, Device, Relation, Walk, Activity, Phase, Task, Duty, State, Operation, Rebalance, RebalanceStage, Removal, RemovalStage, Settings, SurpriseStage}
-use Rattle.pnp_laws.specs.Words.{IsBeside, IsWord, NotTwelve, SameWork, EndsBy, is_removal, kind_of, path_of, joined}
+use Rattle.pnp_laws.specs.Words.{IsBeside, IsNoJoin, IsWord, NotTwelve, SameWork, EndsBy, is_removal, kind_of, path_of, joined}
 use Rattle.device_ids.specs.Folding as folding
 
 -- Who does it ----------------------------------------------------------------------
@@ -47,6 +52,12 @@ abbrev pub todo_of : Operation → List ℕ
 todo_of (Operation.Rebalancing r) = r.todo
 todo_of (Operation.Removing o) = o.todo
 todo_of (Operation.Surprising o) = o.todo
+
+-- those of them that may leave: a rebalance lets none leave
+abbrev pub to_leave : Operation → List ℕ
+to_leave (Operation.Rebalancing r) = []
+to_leave (Operation.Removing o) = o.todo
+to_leave (Operation.Surprising o) = o.todo
 
 -- what is asked in a stage
 abbrev pub rebalance_minor : RebalanceStage → Option Minor
@@ -113,7 +124,7 @@ pub data Alters (s : State) (label : Label) : ℕ → (Node → Node) → Type 0
       → has_ended w (length node.stack) ≡ true → ends_bad minor w ≡ bad → label ≡ Label.State node.path (state_after minor bad node.state)
       → Alters s label node.serial (with_state (state_after minor bad node.state))
   troubled : (j : ℕ) (problem : Option Problem) → Alters s label j (with_problem problem)
-  stacks : (node : Node) (d : ℕ) (ds : List ℕ) → node_at node.serial s.core.nodes ≡ Some node → Acting s node.serial (Phase.Adding (d ∷ ds))
+  stacks : (node : Node) (d : ℕ) (ds : List ℕ) (name : Text) → node_at node.serial s.core.nodes ≡ Some node → Acting s node.serial (Phase.Adding (d ∷ ds)) → label ≡ Label.Add node.path name true
       → Alters s label node.serial (with_stack (node.stack ++ d ∷ []) (stacked node.state))
   assigned : (node : Node) (phase : Phase) (plan : List (List Res)) → Acting s node.serial phase → IsSearch phase → Assigned s node plan
       → Alters s label node.serial (with_holds (own_part plan))
@@ -145,9 +156,55 @@ pub data NodeEffect (s : State) (label : Label) (t : State) : Type 0 where
       → t.core.nodes ≡ map (committed (movers r) (plan_of r.found)) s.core.nodes → t.core.relations ≡ s.core.relations → NodeEffect s label t
   joins : (node : Node) (d : Device) → s.operation ≡ None → node_at node.serial s.core.nodes ≡ Some node → node.state ≡ Started
       → joining node.born s.core.nodes s.world ≡ Some d → record { label = label; state = t } ≡ join_step s node d → NodeEffect s label t
-  left : (node : Node) (o : Operation) → s.operation ≡ Some o → first_node s.core.nodes (todo_of o) ≡ Some node
+  left : (node : Node) (o : Operation) → s.operation ≡ Some o → first_node s.core.nodes (to_leave o) ≡ Some node
       → t.core.nodes ≡ without_first (is_node node.serial) s.core.nodes → t.core.relations ≡ s.core.relations → NodeEffect s label t
   related : (r : Relation) → Related s r → t.core.nodes ≡ s.core.nodes → t.core.relations ≡ s.core.relations ++ r ∷ [] → NodeEffect s label t
+
+-- Drivers ------------------------------------------------------------------------------
+
+-- no driver is asked or added, and no state is told
+abbrev pub IsUnasked : Label → Type 0
+IsUnasked (Label.Asked minor path name shown) = ⊥
+IsUnasked (Label.Add path name ok) = ⊥
+IsUnasked (Label.State path state) = ⊥
+IsUnasked _ = Unit {0}
+
+-- which driver answers, and how the rack is then; where a state is told, whose request has ended
+pub data DriverEffect (s : State) (entry : Entry) (t : State) : Type 0 where
+  same : IsUnasked (printed entry) → t.core.rack ≡ s.core.rack → DriverEffect s entry t
+  ended : (node : Node) (minor : Minor) (w : Walk) (bad : Bool) → node_at node.serial s.core.nodes ≡ Some node → Request s node minor w
+      → has_ended w (length node.stack) ≡ true → ends_bad minor w ≡ bad → printed entry ≡ Label.State node.path (state_after minor bad node.state)
+      → t.core.rack ≡ s.core.rack → DriverEffect s entry t
+  asked : (node : Node) (w : Walk) (shown : Shown) → node_at node.serial s.core.nodes ≡ Some node → has_ended w (length node.stack) ≡ false
+      → printed entry ≡ Label.Asked w.minor node.path (name_of s.core.rack (next_driver node w)) shown
+      → t.core.rack ≡ rack_after (AskWhat.Irp w.minor) node.path s.core.rack (next_driver node w) → DriverEffect s entry t
+  added : (node : Node) (d : ℕ) (ds : List ℕ) → Acting s node.serial (Phase.Adding (d ∷ ds)) → printed entry ≡ Label.Add node.path (name_of t.core.rack d) true
+      → t.core.rack ≡ rack_after AskWhat.Add node.path s.core.rack d
+      → t.activities ≡ changed_first (is_activity node.serial) (with_phase (adding ds)) s.activities → DriverEffect s entry t
+  refused : (node : Node) (d : ℕ) (ds : List ℕ) → Acting s node.serial (Phase.Adding (d ∷ ds)) → printed entry ≡ Label.Add node.path (name_of t.core.rack d) false
+      → t.core.rack ≡ rack_after AskWhat.Add node.path s.core.rack d → DriverEffect s entry t
+  -- a driver that had no name gets one; a driver learns an answer
+  named : (kind : DriverKind) (name : Text) (label : Label) → entry ≡ Happens (Event.Name name kind) label → IsUnasked (printed entry) → t.core.rack ≡ changed_first (is_unnamed kind) (with_name name) s.core.rack → DriverEffect s entry t
+  taught : (name : Text) (rule : Rule) → IsUnasked (printed entry) → t.core.rack ≡ changed_first (is_named name) (with_rule rule) s.core.rack → DriverEffect s entry t
+
+-- the drivers that were chosen for a device without drivers: lower filters, its service, upper filters
+pub record Chosen (s : State) (k : ℕ) (drivers : List ℕ) : Type 0 where
+  pub first : slice_get s.tasks 0 ≡ Some (record { kind = Duty.Starting; serial = k })
+  pub free : activity_at k s.activities ≡ None
+  pub node : Node
+  pub at : node_at k s.core.nodes ≡ Some node
+  pub bare : node.state ≡ NoStack
+  pub lower_names : List Text
+  pub service : Text
+  pub upper_names : List Text
+  pub few : nat_le (length lower_names + 1 + length upper_names) 16 ≡ true
+  pub lower : List ℕ
+  pub driver : ℕ
+  pub upper : List ℕ
+  pub lower_are : numbered s.core.rack lower_names ≡ Some lower
+  pub driver_is : driver_named service s.core.rack ≡ Some driver
+  pub upper_are : numbered s.core.rack upper_names ≡ Some upper
+  pub all : drivers ≡ lower ++ driver ∷ upper
 
 -- Ranges, world, disabled paths --------------------------------------------------------
 
@@ -165,16 +222,15 @@ pub record Plugged (s : State) (entry : Entry) (d : Device) : Type 0 where
   pub room : nat_le (length s.world) 4096 ≡ true
   pub event : entry ≡ Happens (Event.Plug parent d.path d.hw d.compat d.reqs) label
 
--- what leaves the world: a device that is not the root, or the device of a node that leaves
-abbrev pub Unplugs : State → ℕ → Type 0
-Unplugs s born =
-    ((d : Device) × (path : Text) × (device_of path s.world ≡ Some d) × (d.born ≡ born) × ((d.born == 0) ≡ false))
-    ⊎ ((node : Node) × (o : Operation) × (s.operation ≡ Some o) × (first_node s.core.nodes (todo_of o) ≡ Some node) × (node.born ≡ born))
+-- what leaves the world: in an event a device that is not the root, in a step the device of a node that leaves
+abbrev pub Unplugs : State → Entry → ℕ → Type 0
+Unplugs s (Happens event label) born = (d : Device) × (path : Text) × (device_of path s.world ≡ Some d) × (d.born ≡ born) × ((d.born == 0) ≡ false)
+Unplugs s (Did label) born = (node : Node) × (o : Removal) × (s.operation ≡ Some (Operation.Removing o)) × (o.stage ≡ RemovalStage.Settling) × (first_node s.core.nodes o.todo ≡ Some node) × (node.born ≡ born)
 
 pub data WorldEffect (s : State) (entry : Entry) (t : State) : Type 0 where
   same : t.world ≡ s.world → t.next_born ≡ s.next_born → WorldEffect s entry t
   plugged : (d : Device) → Plugged s entry d → t.world ≡ s.world ++ d ∷ [] → t.next_born ≡ s.next_born + 1 → WorldEffect s entry t
-  unplugged : (born : ℕ) → Unplugs s born → t.world ≡ without_those (born ∷ []) s.world → t.next_born ≡ s.next_born → WorldEffect s entry t
+  unplugged : (born : ℕ) → Unplugs s entry born → t.world ≡ without_those (born ∷ []) s.world → t.next_born ≡ s.next_born → WorldEffect s entry t
 
 pub data PathEffect (s : State) (label : Label) (t : State) : Type 0 where
   same : t.disabled ≡ s.disabled → PathEffect s label t
@@ -231,7 +287,7 @@ OperationEffect s (Did label) t = OpEffect s label t
 
 -- why the start of a device begins in a phase: its drivers were chosen; or the rebalance for it closes
 pub data Enters (s : State) (k : ℕ) (t : State) : Phase → Type 0 where
-  installs : (drivers : List ℕ) → activity_at k s.activities ≡ None → Enters s k t (adding drivers)
+  installs : (drivers : List ℕ) → Chosen s k drivers → t.tasks ≡ drop 1 s.tasks → Enters s k t (adding drivers)
   restarts : (r : Rebalance) (plan : List (List Res)) → s.operation ≡ Some (Operation.Rebalancing r) → r.stage ≡ RebalanceStage.Ending → r.target ≡ k → r.found ≡ assignment plan → t.core.nodes ≡ s.core.nodes
       → Enters s k t (Phase.Starting (walk_of Minor.Start))
   undoes : (r : Rebalance) → s.operation ≡ Some (Operation.Rebalancing r) → r.target ≡ k → Enters s k t (Phase.Removing (walk_of Minor.Remove))
@@ -257,21 +313,27 @@ pub data ActivityEffect (s t : State) : Type 0 where
 -- why a step appends a task
 pub data Origin (s : State) : Duty → ℕ → Type 0 where
   lists : (k : ℕ) → Origin s Duty.Listing k
-  joins : Origin s Duty.Starting s.next_serial
   needs : (k : ℕ) (phase : Phase) → Acting s k phase → Origin s (Duty.Begins OpKind.Rebalance) k
   surprises : (over : ℕ) (child : Node) → find (is_gone s) (children over s.core.nodes) ≡ Some child → Origin s (Duty.Begins OpKind.Surprise) child.serial
+
+-- the device of a path may start again, and all but tasks and paths stays
+pub record Enabled (s t : State) (path : Text) (n : Node) : Type 0 where
+  pub at : node_of path s.core.nodes ≡ Some n
+  pub stays : t ≡ record s { tasks = t.tasks; disabled = t.disabled }
 
 -- an event appends one task at most
 pub data CommandEffect (s t : State) : Type 0 where
   same : t.tasks ≡ s.tasks → CommandEffect s t
   lists : (k : ℕ) → t.tasks ≡ s.tasks ++ record { kind = Duty.Listing; serial = k } ∷ [] → CommandEffect s t
-  starts : (path : Text) (n : Node) → node_of path s.core.nodes ≡ Some n → t.tasks ≡ s.tasks ++ record { kind = Duty.Starting; serial = n.serial } ∷ [] → CommandEffect s t
+  starts : (path : Text) (n : Node) → Enabled s t path n → t.tasks ≡ s.tasks ++ record { kind = Duty.Starting; serial = n.serial } ∷ [] → CommandEffect s t
   begins : (kind : OpKind) (n : Node) (path : Text) → node_of path s.core.nodes ≡ Some n → (n.serial == 0) ≡ false
       → t.tasks ≡ s.tasks ++ record { kind = Duty.Begins kind; serial = n.serial } ∷ [] → CommandEffect s t
 
 pub data TaskEffect (s t : State) : Type 0 where
   same : t.tasks ≡ s.tasks → TaskEffect s t
   appended : (task : Task) → Origin s task.kind task.serial → t.tasks ≡ s.tasks ++ task ∷ [] → TaskEffect s t
+  -- the start of a node that joins
+  joins : t.next_serial ≡ s.next_serial + 1 → t.tasks ≡ s.tasks ++ record { kind = Duty.Starting; serial = s.next_serial } ∷ [] → TaskEffect s t
   dropped : (task : Task) → s.operation ≡ None → slice_get s.tasks 0 ≡ Some task → t.tasks ≡ drop 1 s.tasks → TaskEffect s t
   -- the surprise removal of a device that failed its restart
   put_first : (node : Node) (r : Rebalance) → s.operation ≡ Some (Operation.Rebalancing r) → r.stage ≡ RebalanceStage.Failed → first_node s.core.nodes r.todo ≡ Some node
@@ -281,16 +343,25 @@ abbrev pub TasksEffect : State → Entry → State → Type 0
 TasksEffect s (Happens event label) t = CommandEffect s t
 TasksEffect s (Did label) t = TaskEffect s t
 
+-- Joins ------------------------------------------------------------------------------------
+
+pub data JoinEffect (s : State) (label : Label) (t : State) : Type 0 where
+  none : IsNoJoin label → JoinEffect s label t
+  joins : (node : Node) (d : Device) → s.operation ≡ None → node_at node.serial s.core.nodes ≡ Some node → node.state ≡ Started
+      → joining node.born s.core.nodes s.world ≡ Some d → record { label = label; state = t } ≡ join_step s node d → JoinEffect s label t
+
 -- All of it --------------------------------------------------------------------------------
 
 pub record Effect (s : State) (entry : Entry) (t : State) : Type 0 where
   pub nodes : NodeEffect s (printed entry) t
+  pub drivers : DriverEffect s entry t
   pub ranges : RangeEffect s t
   pub operation : OperationEffect s entry t
   pub activities : ActivityEffect s t
   pub tasks : TasksEffect s entry t
   pub world : WorldEffect s entry t
   pub paths : PathEffect s (printed entry) t
+  pub joins : JoinEffect s (printed entry) t
   pub serial : t.next_serial ≡ s.next_serial + joined (printed entry)
 
 -- each step and each event has one

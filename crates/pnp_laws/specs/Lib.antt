@@ -15,4 +15,5 @@ pub mod Serials
 pub mod Effects
 pub mod Keys
 pub mod Stacks
+pub mod Printed
 pub mod Told

@@ -4,6 +4,7 @@ ghost use Rattle.pnp_laws.specs.Begun.{BegunLaw, EachConflictLaw, EachEndLaw};
 ghost use Rattle.pnp_laws.specs.Effects.{EffectLaw};
 ghost use Rattle.pnp_laws.specs.Ends.{SettlesLaw, JoinsLaw, FewJoinLaw};
 ghost use Rattle.pnp_laws.specs.Keys.{KeysLaw, MapLaw, NoCycleLaw};
+ghost use Rattle.pnp_laws.specs.Printed.{GivenLaw, TreeLaw};
 ghost use Rattle.pnp_laws.specs.Quiet.{QuietLaw, StepLaw};
 ghost use Rattle.pnp_laws.specs.Serials.{SerialsLaw, FewSerialsLaw, FewBirthsLaw};
 ghost use Rattle.pnp_laws.specs.Stacks.{NamesLaw, StacksLaw};
@@ -134,8 +135,8 @@ pub fn few_births()
     ensures { FewBirthsLaw }
 {}
 
-/// Each step and each event has an effect: what it does to nodes, relations, ranges, operation, activities, tasks,
-/// world and disabled paths, with the evidence that the other laws read.
+/// Each step and each event has an effect: what it does to nodes, relations, drivers, ranges, operation, activities,
+/// tasks, world and disabled paths, with the evidence that the other laws read.
 pub fn each_step_has_an_effect()
     ensures { EffectLaw }
 {}
@@ -178,4 +179,16 @@ pub fn names_are_known()
 #[tactic(auto, using(crate::proofs::RunsTold::states_are_told))]
 pub fn states_are_told()
     ensures { StatesLaw }
+{}
+
+/// In each state of each run each node has one line under `tree`, and each line there is of a node.
+#[tactic(auto, using(crate::proofs::TreePrints::each_node_is_printed_once))]
+pub fn each_node_is_printed_once()
+    ensures { TreeLaw }
+{}
+
+/// In each state of each run a driver has the name that it had at the opening, or one that an event of the run gave.
+#[tactic(auto, using(crate::proofs::NamesGiven::names_are_given))]
+pub fn names_are_given()
+    ensures { GivenLaw }
 {}

@@ -4,9 +4,9 @@ use Rattle.pnp_labels.specs.Texts.{Text}
 use Rattle.pnp_labels.specs.declared.label.Label.{Label}
 use Rattle.pnp_labels.specs.declared.label.OpKind.{OpKind}
 use Rattle.inf_reader.specs.declared.parts.Inf.{Inf}
-use Rattle.pnp_model.specs.Cores.{node_at, forget, core_of}
+use Rattle.pnp_model.specs.Cores.{node_at, forget}
 use Rattle.pnp_model.specs.Machine.{Steps, IsStep, idle_next, activity_next, start_lifted, is_ready}
-use Rattle.pnp_model.specs.Records.{Node, Core, Driver, Activity, Phase, State, Settings, Operation, Task, Doing, doing_map, Duty}
+use Rattle.pnp_model.specs.Records.{Node, Core, Driver, Relation, Activity, Phase, State, Settings, Operation, Task, Doing, doing_map, Duty}
 use Rattle.pnp_model.specs.Records.Doing.{Does, Searches}
 use Rattle.pnp_model.specs.Starts.{StartMove, StartBeside, act}
 use Rattle.pnp_model.specs.States.{activity_at}
@@ -15,8 +15,10 @@ use Rattle.start_sequence.specs.Begins.{settings_of}
 use Rattle.start_sequence.specs.Steps.{Moved, Done, DoneFor}
 use Rattle.start_sequence.specs.declared.next.StartStep.{StartStep}
 use Rattle.start_sequence.specs.declared.next.StartStep.TheVariants as steps
+use Rattle.devnode_tree.specs.Cores.{at_nodes}
+use Rattle.devnode_tree.specs.Trees.{Tree}
 use Rattle.pnp_machine.specs.Devices.{Devices}
-use Rattle.pnp_machine.specs.Doings.{core_with}
+use Rattle.pnp_machine.specs.Doings.{core_with, StaysBeside}
 use Rattle.pnp_machine.specs.Machines.{state_of, IsTurn}
 use Rattle.pnp_machine.specs.Managers.{IsOfRun}
 use Rattle.pnp_machine.specs.Starts.{works_after, ActsFor}
@@ -51,6 +53,13 @@ move_is m label c phase beside l e p b =
 abbrev pub with_nodes : Devices → List Node → Devices
 with_nodes ds nodes = record ds { tree = record ds.tree { nodes = nodes } }
 
+-- a step leaves the number of the next node
+pub nodes_alone : (ds : Devices) (t : Tree) → t.next ≡ ds.tree.next → record ds { tree = t } ≡ with_nodes ds t.nodes
+nodes_alone ds t e = let put : ℕ → Devices = λ i. record ds { tree = record t { next = i } } in ap put e
+
+pub beside_stays : (ds : Devices) (t : Tree) (rs : List Relation) → t.next ≡ ds.tree.next → StaysBeside ds (record ds { tree = t; relations = rs })
+beside_stays ds t rs e = let put : ℕ → Devices = λ i. record ds { tree = record t { next = i }; relations = rs } in ap put e
+
 module _ (ds ds' : Devices) (rack rack' : List Driver) (disabled : List Text) (works works' : List Activity) (operation : Option Operation) (tasks tasks' : List Task)
     (stays : ds' ≡ with_nodes ds ds'.tree.nodes) where
   abbrev s : State
@@ -60,7 +69,7 @@ module _ (ds ds' : Devices) (rack rack' : List Driver) (disabled : List Text) (w
   s' = state_of ds' rack' disabled works' operation tasks'
 
   abbrev c' : Core
-  c' = core_of ds'.tree.nodes ds.relations rack' ds.reserved
+  c' = at_nodes ds'.tree.nodes (core_with ds rack')
 
   after_is : (w : List Activity) (t : List Task) → works' ≡ w → tasks' ≡ t → s' ≡ state_of (with_nodes ds ds'.tree.nodes) rack' disabled w operation t
   after_is w t e f =

@@ -7,15 +7,17 @@ use Rattle.pnp_labels.specs.declared.states.DevState.TheVariants.{NoStack, NotSt
 use Rattle.pnp_model.specs.Cores.{node_at}
 use Rattle.pnp_model.specs.Rebalances.{begun_rebalance}
 use Rattle.pnp_model.specs.Records as machines
-use Rattle.pnp_model.specs.Records.{Node, Rebalance, Removal, State}
+use Rattle.pnp_model.specs.Records.{Node, Rebalance, Removal, Surprise, State}
 use Rattle.pnp_model.specs.Records.Duty.{Begins}
 use Rattle.pnp_model.specs.Removals.{begun_removal}
+use Rattle.pnp_model.specs.Surprises.{begun_surprise}
 use Rattle.pnp_model.specs.States.{set_operation, drop_task}
 use Rattle.pnp_model.specs.Tasks.{begin, begin_step, skip, rebalance_task, disable_task}
 use Rattle.pnp_model.specs.Tests.{is_not_started}
 use Rattle.pnp_laws.proofs.Lookups.{own_serial}
 use Rattle.rebalance.specs.Begins as rebalances
 use Rattle.query_remove.specs.Begins as removals
+use Rattle.surprise_remove.specs.Begins as surprises
 use Rattle.pnp_machine.specs.Machines.{IsDone, DoneFor, begun_with, can_rebalance, is_disabled, is_disabled_node}
 use Rattle.pnp_machine.specs.declared.operation.Operation.TheVariants as declared
 
@@ -24,13 +26,19 @@ module _ (s t : State) (label line : Label) (own : label ≡ line) where
       → DoneFor o (λ n. begin s OpKind.Rebalance n (machines.Operation.Rebalancing (begun_rebalance s.core n))) label t
   rebalance_begun r None h is = absurd h
   rebalance_begun r (Some n) (e, f) is =
-      (own ∙ e, is ∙ ap (λ x. set_operation (Some (machines.Operation.Rebalancing x)) (drop_task s)) (f s.core.relations s.core.rack s.core.reserved))
+      (own ∙ e, is ∙ ap (λ x. set_operation (Some (machines.Operation.Rebalancing x)) (drop_task s)) (f s.core))
 
   pub removal_begun : (kind : OpKind) (r : Removal) (o : Option Node) → removals.BegunFor o s.core.nodes s.core.relations kind line r → t ≡ begun_with (declared.Removing r) s
       → DoneFor o (λ n. begin s kind n (machines.Operation.Removing (begun_removal s.core kind n))) label t
   removal_begun kind r None h is = absurd h
   removal_begun kind r (Some n) (e, f) is =
-      (own ∙ e, is ∙ ap (λ x. set_operation (Some (machines.Operation.Removing x)) (drop_task s)) (f s.core.rack s.core.reserved))
+      (own ∙ e, is ∙ ap (λ x. set_operation (Some (machines.Operation.Removing x)) (drop_task s)) (f s.core))
+
+  pub surprise_begun : (o : Surprise) (x : Option Node) → surprises.BegunFor x s.core.nodes s.core.relations line o → t ≡ begun_with (declared.Surprising o) s
+      → DoneFor x (λ n. begin s OpKind.Surprise n (machines.Operation.Surprising (begun_surprise s.core n))) label t
+  surprise_begun o None h is = absurd h
+  surprise_begun o (Some n) (e, f) is =
+      (own ∙ e, is ∙ ap (λ x. set_operation (Some (machines.Operation.Surprising x)) (drop_task s)) (f s.core))
 
 module _ (s : State) (k : ℕ) (label : Label) (t : State) where
   -- a device that is not there or not NotStarted needs none

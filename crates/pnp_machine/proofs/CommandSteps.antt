@@ -107,7 +107,7 @@ module _ (ds : Devices) (rack : List Driver) (paths : List Text) (works : List A
         let own = subst (λ o. RelatesFor o (node_at j ds.tree.nodes) ds.tree.nodes kind ds.relations result ds'.relations) a.at h in
         let both : RelatesFor (Some a.node) (Some b.node) ds.tree.nodes kind ds.relations result ds'.relations =
         subst (λ o. RelatesFor (Some a.node) o ds.tree.nodes kind ds.relations result ds'.relations) b.at own in
-        both s rack ds.reserved refl
+        both s s.core refl
 
     after_is : after ≡ state_of (record ds { relations = ds'.relations }) rack paths works operation tasks
     after_is = ap (λ d. state_of d rack paths works operation tasks) stays

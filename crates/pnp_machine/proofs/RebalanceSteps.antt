@@ -9,7 +9,6 @@ use Rattle.pnp_model.specs.Machine.{IsStep, operation_next, after_rebalance, reb
 use Rattle.pnp_model.specs.Records.{Core, Driver, Activity, Operation, Rebalance, State, Step, Task, Doing, doing_map, Duty}
 use Rattle.pnp_model.specs.Records.Doing.{Does, Searches}
 use Rattle.pnp_model.specs.Records.Phase.{Starting, Removing}
-use Rattle.pnp_model.specs.Cores.{core_of}
 use Rattle.pnp_model.specs.Rebalances.{RebalanceBeside, RebalanceMove, rebalanced}
 use Rattle.pnp_model.specs.States.{with_core, entered}
 use Rattle.pnp_model.specs.Walks.{walk_of}
@@ -17,6 +16,7 @@ use Rattle.start_sequence.specs.Begins.{settings_of}
 use Rattle.rebalance.specs.Steps as rebalances
 use Rattle.rebalance.specs.declared.next.RebalanceStep.{RebalanceStep}
 use Rattle.rebalance.specs.declared.next.RebalanceStep.TheVariants as steps
+use Rattle.devnode_tree.specs.Cores.{at_nodes}
 use Rattle.pnp_machine.specs.Devices.{Devices}
 use Rattle.pnp_machine.specs.Doings.{core_with}
 use Rattle.pnp_machine.specs.Machines.{state_of}
@@ -57,7 +57,7 @@ module _ (ds ds' : Devices) (rack rack' : List Driver) (disabled : List Text) (w
   s = state_of ds rack disabled works (Some (Operation.Rebalancing r)) tasks
 
   abbrev c' : Core
-  c' = core_of ds'.tree.nodes ds.relations rack' ds.reserved
+  c' = at_nodes ds'.tree.nodes (core_with ds rack')
 
   -- the state after it
   abbrev pub after : RebalanceStep → State

@@ -10,7 +10,7 @@ use Rattle.pnp_model.specs.Machine.{IsStep, operation_next, after_remove, remova
 use Rattle.pnp_model.specs.Records as machines
 use Rattle.pnp_model.specs.Records.{Node, Core, Driver, Activity, Relation, Removal, RemovalStage, Surprise, State, Step, Settings, Task, Doing, Walk}
 use Rattle.pnp_model.specs.Records.Doing.{Does}
-use Rattle.pnp_model.specs.Removals.{RemoveBeside, RemovalMove, removed, removal_step, ask_step, end_ask, take_back, cancel_step, remove_step, settle, settle_outer, settle_target, settle_related}
+use Rattle.pnp_model.specs.Removals.{RemoveBeside, RemovalMove, removed, removal_step, ask_step, end_ask, take_back, cancel_step, remove_step, close, settle, settle_outer, settle_target, settle_related}
 use Rattle.pnp_model.specs.Surprises.{SurpriseMove, surprised}
 use Rattle.pnp_model.specs.States.{with_core, set_operation, disable_path, relist, unplug}
 use Rattle.pnp_model.specs.Tests.{has, is_eject}
@@ -83,34 +83,21 @@ module _ (c : Core) (o : Removal) where
   Kinds : RemoveBeside → Type 0
   Kinds b = (IsPlain b → ⊥) → Settles c o b
 
-  plain_kinds : (b : RemoveBeside) → IsPlain b → Kinds b
+  of_plain : (x m : RemovalMove) → Some x ≡ Some m → IsPlain x.beside → Kinds m.beside
   unfolding Kinds
-  plain_kinds b plain busy = absurd (busy plain)
+  of_plain x m e plain busy = absurd (busy (subst (λ (y : Option RemovalMove). IfSome y (λ z. IsPlain z.beside)) e plain))
 
   kinds_of : (stage : RemovalStage) (n : Option Node) (m : RemovalMove) → o.stage ≡ stage → first_node c.nodes o.todo ≡ n → removal_step c o stage n ≡ Some m → Kinds m.beside
   unfolding Kinds
-  kinds_of RemovalStage.Ending n m s f e = let P : Option RemovalMove → Type 0 = λ x. IfSome x (λ y. Kinds y.beside) in subst P e (plain_kinds RemoveBeside.Over IsPlain.over)
-  kinds_of (RemovalStage.Asking w) None m s f e = absurd (cc)
-  kinds_of (RemovalStage.TakingBack w) None m s f e = absurd (cc)
-  kinds_of (RemovalStage.Cancelling w) None m s f e = absurd (cc)
-  kinds_of (RemovalStage.Removing w) None m s f e = absurd (cc)
-  kinds_of RemovalStage.Settling None m s f e = absurd (cc)
-  kinds_of (RemovalStage.Asking w) (Some node) m s f e =
-      let P : Option RemovalMove → Type 0 = λ x. IfSome x (λ y. Kinds y.beside) in
-      subst P e (plain_kinds _ (ask_plain node w (has_ended w (length node.stack))))
-  kinds_of (RemovalStage.TakingBack w) (Some node) m s f e =
-      let P : Option RemovalMove → Type 0 = λ x. IfSome x (λ y. Kinds y.beside) in
-      subst P e (plain_kinds _ (back_plain node w (has_ended w (length node.stack))))
-  kinds_of (RemovalStage.Cancelling w) (Some node) m s f e =
-      let P : Option RemovalMove → Type 0 = λ x. IfSome x (λ y. Kinds y.beside) in
-      subst P e (plain_kinds _ (cancel_plain node w (has_ended w (length node.stack))))
-  kinds_of (RemovalStage.Removing w) (Some node) m s f e =
-      let P : Option RemovalMove → Type 0 = λ x. IfSome x (λ y. Kinds y.beside) in
-      subst P e (plain_kinds _ (remove_plain node w (has_ended w (length node.stack))))
+  kinds_of RemovalStage.Ending n m s f e = of_plain (close c o) m e IsPlain.over
+  kinds_of (RemovalStage.Asking w) (Some node) m s f e = of_plain _ m e (ask_plain node w (has_ended w (length node.stack)))
+  kinds_of (RemovalStage.TakingBack w) (Some node) m s f e = of_plain _ m e (back_plain node w (has_ended w (length node.stack)))
+  kinds_of (RemovalStage.Cancelling w) (Some node) m s f e = of_plain _ m e (cancel_plain node w (has_ended w (length node.stack)))
+  kinds_of (RemovalStage.Removing w) (Some node) m s f e = of_plain _ m e (remove_plain node w (has_ended w (length node.stack)))
   kinds_of RemovalStage.Settling (Some node) m s f e =
-      let P : Option RemovalMove → Type 0 = λ x. IfSome x (λ y. Settled node y.beside) in
-      let h : Settled node m.beside = subst P e (settle_settled node (has o.set node.parent)) in
+      let h : Settled node m.beside = subst (λ (x : Option RemovalMove). IfSome x (λ y. Settled node y.beside)) e (settle_settled node (has o.set node.parent)) in
       λ busy. record { node = node; first = f; stage = s; disables = h.disables; ejects = h.ejects }
+  kinds_of _ None m s f e = absurd (cc)
 
   not_plain_disabled : (path : Text) (b : RemoveBeside) → b ≡ RemoveBeside.Disabled path → IsPlain b → ⊥
   not_plain_disabled path _ e IsPlain.on = cc

@@ -6,6 +6,7 @@ use Rattle.pnp_model.specs.Rebalances.{rebalanced}
 use Rattle.pnp_model.specs.Removals.{removed}
 use Rattle.pnp_model.specs.Surprises.{surprised}
 use Rattle.pnp_labels.specs.declared.label.RemoveStep.{RemoveStep}
+use Rattle.devnode_tree.specs.Cores.{at_nodes}
 use Rattle.start_sequence.specs.Steps.{DoneFor}
 use Rattle.start_sequence.specs.declared.next.StartStep.{StartStep}
 use Rattle.rebalance.specs.Steps as rebalances
@@ -20,13 +21,13 @@ core_with ds rack = core_of ds.tree.nodes ds.relations rack ds.reserved
 -- the step of the start of device k, for this budget; all but the nodes stay
 abbrev pub Acts : ℕ → Devices → ℕ → List Driver → Phase → StartStep → Devices → List Driver → Phase → Type 0
 Acts budget ds k rack phase step ds' rack' phase' =
-    DoneFor budget (node_at k ds.tree.nodes) (core_with ds rack) phase step (core_of ds'.tree.nodes ds.relations rack' ds.reserved) phase'
+    DoneFor budget (node_at k ds.tree.nodes) (core_with ds rack) phase step (at_nodes ds'.tree.nodes (core_with ds rack')) phase'
     × (ds' ≡ record ds { tree = record ds.tree { nodes = ds'.tree.nodes } })
 
 -- the step of a rebalance, for this budget; all but the nodes stay
 abbrev pub Rebalances : ℕ → Devices → List Driver → Rebalance → RebalanceStep → Devices → List Driver → Rebalance → Type 0
 Rebalances budget ds rack r step ds' rack' r' =
-    rebalances.MovedBy budget (rebalanced (core_with ds rack) r) step (core_of ds'.tree.nodes ds.relations rack' ds.reserved) r'
+    rebalances.MovedBy budget (rebalanced (core_with ds rack) r) step (at_nodes ds'.tree.nodes (core_with ds rack')) r'
     × (ds' ≡ record ds { tree = record ds.tree { nodes = ds'.tree.nodes } })
 
 -- all but nodes and relations stay

@@ -121,9 +121,7 @@ impl Devices {
         requires { IsSome (node_at serial self.now.tree.nodes) }
         ensures { result ≡ joins_next (node_at serial self.now.tree.nodes) self.now }
     {
-        let Some(node) = self.tree.node(serial) else {
-            unreachable!()
-        };
+        let node = self.tree.at(serial);
         let from = from_at(node.born, self.over, self.from);
         next_join(&self.world, &self.tree, serial, from)
     }

@@ -82,10 +82,8 @@ impl<R: Drivers> Machine<R> {
         ensures path { IfOk result (λ path. path ≡ path_of (node_at serial self.now.core.nodes)) }
         ensures order { Ascends 0 (serials_of self.now.core.nodes) }
     {
-        match self.devices.tree().node(serial) {
-            Some(node) => Text::make(self.alloc, node.path.bytes()),
-            None => unreachable!(),
-        }
+        let node = self.devices.tree().at(serial);
+        Text::make(self.alloc, node.path.bytes())
     }
 
     /// The paths of two nodes.

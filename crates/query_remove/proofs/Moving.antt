@@ -1,6 +1,5 @@
 -- The parts of a step of a removal are moves of the machine.
-use Rattle.std.proofs.Common.{◌≡◌, ℕ, ◌==◌, Bool, true, false, ◌&&◌, List, [], ◌∷◌, drop, Option, Some, None, IfSome, IfOk, Result, Ok, Err, slice_get, refl, sym, ap, ◌∙◌, subst}
-use Rattle.resource_reqs.specs.Resources.{Res}
+use Rattle.std.proofs.Common.{◌≡◌, ℕ, ◌==◌, Bool, true, false, ◌&&◌, List, [], ◌∷◌, drop, Option, Some, None, refl, sym, ap, ◌∙◌, subst}
 use Rattle.pnp_labels.specs.Texts.{Text}
 use Rattle.pnp_labels.specs.declared.label.Label.{Label}
 use Rattle.pnp_labels.specs.declared.label.RemoveStep.{RemoveStep}
@@ -10,35 +9,33 @@ use Rattle.pnp_labels.specs.declared.states.Problem.{Problem}
 use Rattle.pnp_model.specs.Keyed.{changed_first, without_first}
 use Rattle.pnp_model.specs.Tests.{has, is_eject}
 use Rattle.pnp_model.specs.Walks.{walk_of, state_after}
-use Rattle.pnp_model.specs.Cores.{is_node, node_at, with_problem, stack_of, bare, forget, core_of}
-use Rattle.pnp_model.specs.Frames.{first_node, rest}
+use Rattle.pnp_model.specs.Cores.{is_node, node_at, with_problem, set_state, stack_of}
+use Rattle.pnp_model.specs.Frames.{state_label, ended, first_node, rest}
 use Rattle.pnp_model.specs.Records as Records
-use Rattle.pnp_model.specs.Records.{Node, Core, Driver, Relation, Walk, Removal}
-use Rattle.pnp_model.specs.Removals.{finish_with, finish_on, ask_on, cancel_on, end_ask, take_back, cancel_step, settle, settle_outer, settle_related, settle_target, remove_step, RemovalMove, RemoveBeside}
+use Rattle.pnp_model.specs.Records.{Node, Core, Walk, Removal}
+use Rattle.pnp_model.specs.Removals.{moves, finish_with, finish_on, ask_on, cancel_on, end_ask, take_back, cancel_step, settle, settle_outer, settle_related, settle_target, RemovalMove, RemoveBeside}
 use Rattle.pnp_laws.proofs.Lookups.{own_serial}
 use Rattle.operation_frame.specs.Nodes.{PathIs}
 use Rattle.operation_frame.specs.Walks.{EndsFor}
-use Rattle.devnode_tree.specs.Trees.{CanLeave}
+use Rattle.devnode_tree.specs.Cores.{at_nodes}
+use Rattle.operation_frame.specs.Steps.{MovesFor}
+use Rattle.operation_frame.proofs.Ends.{ended_is}
 use Rattle.query_remove.specs.Steps.{Moved}
 use Rattle.operation_frame.proofs.Queues.{rest_is}
-use Rattle.query_remove.specs.Parts.{MovesFor, problem_if, SettlesFor, end_move, is_walking}
+use Rattle.query_remove.specs.Parts.{problem_if, SettlesFor, is_walking}
 use Rattle.query_remove.specs.Stages.{stage_of}
 use Rattle.query_remove.specs.declared.frame.Stage.{Stage}
 use Rattle.query_remove.specs.declared.frame.Stage.TheVariants.{Asking, TakingBack, Cancelling, Removing, Settling, Ending}
-use Rattle.pnp_labels.specs.declared.states.DevState.TheVariants.{NoStack}
 
--- What comes next does not read what was to do ---------------------------------------------
+-- What comes next does not read what was done before ----------------------------------------
 
-finish_with_same : (o : Removal) (t todo : List ℕ) (stack : List ℕ) → finish_with (record o { todo = t }) todo stack ≡ finish_with o todo stack
-finish_with_same o t todo [] = refl
-finish_with_same o t todo (d ∷ ds) = refl
-
-pub finish_same : (nodes : List Node) (o : Removal) (t todo : List ℕ) → finish_on nodes (record o { todo = t }) todo ≡ finish_on nodes o todo
-finish_same nodes o t [] = refl
-finish_same nodes o t (k ∷ ks) = finish_with_same o t (k ∷ ks) (stack_of (node_at k nodes))
+pub finish_same : (nodes : List Node) (o : Removal) (t : List ℕ) (s : Records.RemovalStage) (todo : List ℕ) → finish_on nodes (record o { todo = t; stage = s }) todo ≡ finish_on nodes o todo
+finish_same nodes o t s [] = refl
+finish_same nodes o t s (k ∷ ks) =
+    elim (stack_of (node_at k nodes)) as (λ stack. finish_with (record o { todo = t; stage = s }) (k ∷ ks) stack ≡ finish_with o (k ∷ ks) stack) [ [] ↦ refl | d ∷ ds ↦ refl ]
 
 pub ask_same : (nodes : List Node) (o : Removal) (t todo : List ℕ) → ask_on nodes (record o { todo = t }) todo ≡ ask_on nodes o todo
-ask_same nodes o t [] = finish_same nodes o t o.set
+ask_same nodes o t [] = finish_same nodes o t o.stage o.set
 ask_same nodes o t (k ∷ ks) = refl
 
 pub cancel_same : (o : Removal) (t todo : List ℕ) → cancel_on (record o { todo = t }) todo ≡ cancel_on o todo
@@ -47,52 +44,35 @@ cancel_same o t (k ∷ ks) = refl
 
 -- A request ends -----------------------------------------------------------------------------
 
-module _ (nodes nodes' : List Node) (k : ℕ) (path : Text) (label : Label) (o o' : Removal) (relations : List Relation) where
-  pub agreed_is : PathIs (node_at k nodes) path → EndsFor (node_at k nodes) Minor.QueryRemove false path nodes label nodes'
-      → o' ≡ ask_on nodes (record o { agreed = k ∷ o.agreed }) (rest o.todo)
-      → MovesFor (node_at k nodes) (λ c n. end_ask c o n false) nodes relations label nodes' relations o'
-  agreed_is p e f = by (node_at k nodes) refl p e
-    where
-      by : (x : Option Node) → node_at k nodes ≡ x → PathIs x path → EndsFor x Minor.QueryRemove false path nodes label nodes' → MovesFor x (λ c n. end_ask c o n false) nodes relations label nodes' relations o'
-      by None at p e = absurd p
-      by (Some node) at p e = λ rack reserved. (
-        refl,
-        e.0 ∙ ap (λ t. Label.State t (state_after Minor.QueryRemove false node.state)) p,
-        ap (λ n. core_of n relations rack reserved) e.1,
-        f ∙ ap (λ i. ask_on nodes (record o { agreed = i ∷ o.agreed }) (rest o.todo)) (sym (own_serial k node nodes at)),
-      )
+module _ (nodes nodes' : List Node) (k : ℕ) (path : Text) (label : Label) (o o' : Removal) where
+  -- `frame` is where the removal stands then, by the device
+  ends : (minor : Minor) (bad : Bool) (move : Core → Node → RemovalMove) (frame : Node → Removal) → PathIs (node_at k nodes) path → EndsFor (node_at k nodes) minor bad path nodes label nodes'
+      → ((c : Core) (n : Node) → ended c n minor bad ≡ set_state n.serial (state_after minor bad n.state) c)
+      → ((around : Core) (n : Node) → move (at_nodes nodes around) n ≡ moves (state_label n minor bad) (ended (at_nodes nodes around) n minor bad) (frame n))
+      → ((n : Node) → node_at k nodes ≡ Some n → o' ≡ frame n) → MovesFor Moved (node_at k nodes) move nodes (steps.Did label) nodes' o'
+  ends minor bad move frame p e keeps shape f =
+      ended_is Moved RemoveBeside.On (steps.Did label) label (λ m core frame h. h) nodes nodes' k path o' minor bad move frame p e keeps shape (λ n at is. f n at)
+
+  pub agreed_is : PathIs (node_at k nodes) path → EndsFor (node_at k nodes) Minor.QueryRemove false path nodes label nodes' → o' ≡ ask_on nodes (record o { agreed = k ∷ o.agreed }) (rest o.todo)
+      → MovesFor Moved (node_at k nodes) (λ c n. end_ask c o n false) nodes (steps.Did label) nodes' o'
+  agreed_is p e f =
+      ends Minor.QueryRemove false (λ c n. end_ask c o n false) (λ n. ask_on nodes (record o { agreed = n.serial ∷ o.agreed }) (rest o.todo)) p e (λ c n. refl) (λ around n. refl)
+      (λ n at. f ∙ ap (λ i. ask_on nodes (record o { agreed = i ∷ o.agreed }) (rest o.todo)) (sym (own_serial k n nodes at)))
 
   pub refused_is : PathIs (node_at k nodes) path → EndsFor (node_at k nodes) Minor.QueryRemove true path nodes label nodes'
       → o' ≡ record o { refuser = Some k; stage = Records.RemovalStage.TakingBack (walk_of Minor.CancelRemove) }
-      → MovesFor (node_at k nodes) (λ c n. end_ask c o n true) nodes relations label nodes' relations o'
-  refused_is p e f = by (node_at k nodes) refl p e
-    where
-      by : (x : Option Node) → node_at k nodes ≡ x → PathIs x path → EndsFor x Minor.QueryRemove true path nodes label nodes' → MovesFor x (λ c n. end_ask c o n true) nodes relations label nodes' relations o'
-      by None at p e = absurd p
-      by (Some node) at p e = λ rack reserved. (
-        refl,
-        e.0 ∙ ap (λ t. Label.State t (state_after Minor.QueryRemove true node.state)) p,
-        ap (λ n. core_of n relations rack reserved) e.1,
-        f ∙ ap (λ i. record o { refuser = Some i; stage = Records.RemovalStage.TakingBack (walk_of Minor.CancelRemove) }) (sym (own_serial k node nodes at)),
-      )
+      → MovesFor Moved (node_at k nodes) (λ c n. end_ask c o n true) nodes (steps.Did label) nodes' o'
+  refused_is p e f =
+      ends Minor.QueryRemove true (λ c n. end_ask c o n true) (λ n. record o { refuser = Some n.serial; stage = Records.RemovalStage.TakingBack (walk_of Minor.CancelRemove) }) p e (λ c n. refl) (λ around n. refl)
+      (λ n at. f ∙ ap (λ i. record o { refuser = Some i; stage = Records.RemovalStage.TakingBack (walk_of Minor.CancelRemove) }) (sym (own_serial k n nodes at)))
 
-  pub taken_is : (w : Walk) → PathIs (node_at k nodes) path → EndsFor (node_at k nodes) Minor.CancelRemove false path nodes label nodes'
-      → o' ≡ cancel_on o o.agreed
-      → MovesFor (node_at k nodes) (λ c n. take_back c o n w true) nodes relations label nodes' relations o'
-  taken_is w p e f = by (node_at k nodes) p e
-    where
-      by : (x : Option Node) → PathIs x path → EndsFor x Minor.CancelRemove false path nodes label nodes' → MovesFor x (λ c n. take_back c o n w true) nodes relations label nodes' relations o'
-      by None p e = absurd p
-      by (Some node) p e = λ rack reserved. (refl, e.0 ∙ ap (λ t. Label.State t (state_after Minor.CancelRemove false node.state)) p, ap (λ n. core_of n relations rack reserved) e.1, f)
+  pub taken_is : (w : Walk) → PathIs (node_at k nodes) path → EndsFor (node_at k nodes) Minor.CancelRemove false path nodes label nodes' → o' ≡ cancel_on o o.agreed
+      → MovesFor Moved (node_at k nodes) (λ c n. take_back c o n w true) nodes (steps.Did label) nodes' o'
+  taken_is w p e f = ends Minor.CancelRemove false (λ c n. take_back c o n w true) (λ n. cancel_on o o.agreed) p e (λ c n. refl) (λ around n. refl) (λ n at. f)
 
-  pub cancelled_is : (w : Walk) → PathIs (node_at k nodes) path → EndsFor (node_at k nodes) Minor.CancelRemove false path nodes label nodes'
-      → o' ≡ cancel_on o (rest o.todo)
-      → MovesFor (node_at k nodes) (λ c n. cancel_step c o n w true) nodes relations label nodes' relations o'
-  cancelled_is w p e f = by (node_at k nodes) p e
-    where
-      by : (x : Option Node) → PathIs x path → EndsFor x Minor.CancelRemove false path nodes label nodes' → MovesFor x (λ c n. cancel_step c o n w true) nodes relations label nodes' relations o'
-      by None p e = absurd p
-      by (Some node) p e = λ rack reserved. (refl, e.0 ∙ ap (λ t. Label.State t (state_after Minor.CancelRemove false node.state)) p, ap (λ n. core_of n relations rack reserved) e.1, f)
+  pub cancelled_is : (w : Walk) → PathIs (node_at k nodes) path → EndsFor (node_at k nodes) Minor.CancelRemove false path nodes label nodes' → o' ≡ cancel_on o (rest o.todo)
+      → MovesFor Moved (node_at k nodes) (λ c n. cancel_step c o n w true) nodes (steps.Did label) nodes' o'
+  cancelled_is w p e f = ends Minor.CancelRemove false (λ c n. cancel_step c o n w true) (λ n. cancel_on o (rest o.todo)) p e (λ c n. refl) (λ around n. refl) (λ n at. f)
 
 -- A device is settled ---------------------------------------------------------------------------
 
@@ -101,40 +81,40 @@ module _ (nodes nodes' : List Node) (o o' : Removal) (node : Node) (at : first_n
       → SettlesFor (first_node nodes o.todo) nodes o (steps.Left (Label.Leave line) path born) nodes' o'
   settled_left inside path born p b e =
       subst (λ (x : Option Node). SettlesFor x nodes o (steps.Left (Label.Leave line) path born) nodes' o') (sym at)
-      (λ relations rack reserved.
-      subst (λ t. Moved (settle (core_of nodes relations rack reserved) o node t) (steps.Left (Label.Leave line) path born) (core_of nodes' relations rack reserved) o') (sym inside)
-      (ap (λ t. RemoveBeside.Left t node.born) (sym p) ∙ ap (λ b. RemoveBeside.Left path b) (sym b), ap Label.Leave named, ap (λ n. core_of n relations rack reserved) e, goes))
+      (λ around.
+      subst (λ t. Moved (settle (at_nodes nodes around) o node t) (steps.Left (Label.Leave line) path born) (at_nodes nodes' around) o') (sym inside)
+      (ap (λ t. RemoveBeside.Left t node.born) (sym p) ∙ ap (λ b. RemoveBeside.Left path b) (sym b), ap Label.Leave named, ap (λ n. at_nodes n around) e, goes))
 
   module _ (outside : has o.set node.parent ≡ false) where
     -- by whether it is the target
     outer : (b : Bool) → (node.serial == o.target) ≡ b → (step : RemoveStep)
-        → ((relations : List Relation) (rack : List Driver) (reserved : List Res) → Moved (settle_outer (core_of nodes relations rack reserved) o node b) step (core_of nodes' relations rack reserved) o')
+        → ((around : Core) → Moved (settle_outer (at_nodes nodes around) o node b) step (at_nodes nodes' around) o')
         → SettlesFor (first_node nodes o.todo) nodes o step nodes' o'
     outer b e step h =
         subst (λ (x : Option Node). SettlesFor x nodes o step nodes' o') (sym at)
-        (λ relations rack reserved.
-        subst (λ t. Moved (settle (core_of nodes relations rack reserved) o node t) step (core_of nodes' relations rack reserved) o') (sym outside)
-        (subst (λ t. Moved (settle_outer (core_of nodes relations rack reserved) o node t) step (core_of nodes' relations rack reserved) o') (sym e) (h relations rack reserved)))
+        (λ around.
+        subst (λ t. Moved (settle (at_nodes nodes around) o node t) step (at_nodes nodes' around) o') (sym outside)
+        (subst (λ t. Moved (settle_outer (at_nodes nodes around) o node t) step (at_nodes nodes' around) o') (sym e) (h around)))
 
     pub settled_related : (node.serial == o.target) ≡ false → (problem : Problem) → problem ≡ problem_if (is_eject o.kind && has o.ejecting node.serial)
         → nodes' ≡ changed_first (is_node node.serial) (with_problem (Some problem)) nodes
         → SettlesFor (first_node nodes o.todo) nodes o (steps.Did (Label.Trouble line problem)) nodes' o'
     settled_related other problem p e =
         outer false other (steps.Did (Label.Trouble line problem))
-        (λ relations rack reserved. by relations rack reserved (is_eject o.kind && has o.ejecting node.serial) p)
+        (λ around. by around (is_eject o.kind && has o.ejecting node.serial) p)
       where
-        by : (relations : List Relation) (rack : List Driver) (reserved : List Res) (b : Bool) → problem ≡ problem_if b
-            → Moved (settle_related (core_of nodes relations rack reserved) o node b) (steps.Did (Label.Trouble line problem)) (core_of nodes' relations rack reserved) o'
-        by relations rack reserved true q = (
+        by : (around : Core) (b : Bool) → problem ≡ problem_if b
+            → Moved (settle_related (at_nodes nodes around) o node b) (steps.Did (Label.Trouble line problem)) (at_nodes nodes' around) o'
+        by around true q = (
           refl,
           ap (λ t. Label.Trouble t problem) named ∙ ap (λ x. Label.Trouble node.path x) q,
-          ap (λ n. core_of n relations rack reserved) (e ∙ ap (λ x. changed_first (is_node node.serial) (with_problem (Some x)) nodes) q),
+          ap (λ n. at_nodes n around) (e ∙ ap (λ x. changed_first (is_node node.serial) (with_problem (Some x)) nodes) q),
           goes,
         )
-        by relations rack reserved false q = (
+        by around false q = (
           refl,
           ap (λ t. Label.Trouble t problem) named ∙ ap (λ x. Label.Trouble node.path x) q,
-          ap (λ n. core_of n relations rack reserved) (e ∙ ap (λ x. changed_first (is_node node.serial) (with_problem (Some x)) nodes) q),
+          ap (λ n. at_nodes n around) (e ∙ ap (λ x. changed_first (is_node node.serial) (with_problem (Some x)) nodes) q),
           goes,
         )
 
@@ -143,17 +123,17 @@ module _ (nodes nodes' : List Node) (o o' : Removal) (node : Node) (at : first_n
           → SettlesFor (first_node nodes o.todo) nodes o (steps.Ejected (Label.Ejected line) path born) nodes' o'
       settled_ejected eject path born p b e =
           outer true target (steps.Ejected (Label.Ejected line) path born)
-          (λ relations rack reserved.
-          subst (λ t. Moved (settle_target (core_of nodes relations rack reserved) o node t) (steps.Ejected (Label.Ejected line) path born) (core_of nodes' relations rack reserved) o') (sym eject)
-          (ap (λ t. RemoveBeside.Ejected t node.born) (sym p) ∙ ap (λ b. RemoveBeside.Ejected path b) (sym b), ap Label.Ejected named, ap (λ n. core_of n relations rack reserved) e, goes))
+          (λ around.
+          subst (λ t. Moved (settle_target (at_nodes nodes around) o node t) (steps.Ejected (Label.Ejected line) path born) (at_nodes nodes' around) o') (sym eject)
+          (ap (λ t. RemoveBeside.Ejected t node.born) (sym p) ∙ ap (λ b. RemoveBeside.Ejected path b) (sym b), ap Label.Ejected named, ap (λ n. at_nodes n around) e, goes))
 
       pub settled_disabled : is_eject o.kind ≡ false → nodes' ≡ changed_first (is_node node.serial) (with_problem (Some Problem.Disabled)) nodes
           → SettlesFor (first_node nodes o.todo) nodes o (steps.Disabled (Label.Trouble line Problem.Disabled)) nodes' o'
       settled_disabled disable e =
           outer true target (steps.Disabled (Label.Trouble line Problem.Disabled))
-          (λ relations rack reserved.
-          subst (λ t. Moved (settle_target (core_of nodes relations rack reserved) o node t) (steps.Disabled (Label.Trouble line Problem.Disabled)) (core_of nodes' relations rack reserved) o') (sym disable)
-          (node.path, refl, ap (λ t. Label.Trouble t Problem.Disabled) named, ap (λ t. Label.Trouble t Problem.Disabled) named, ap (λ n. core_of n relations rack reserved) e, goes))
+          (λ around.
+          subst (λ t. Moved (settle_target (at_nodes nodes around) o node t) (steps.Disabled (Label.Trouble line Problem.Disabled)) (at_nodes nodes' around) o') (sym disable)
+          (node.path, refl, ap (λ t. Label.Trouble t Problem.Disabled) named, ap (λ t. Label.Trouble t Problem.Disabled) named, ap (λ n. at_nodes n around) e, goes))
 
 -- The frames --------------------------------------------------------------------------------------
 
@@ -171,39 +151,6 @@ pub cancel_frame : (o : Removal) (t : List ℕ) → t ≡ drop 1 o.todo → canc
 cancel_frame o t e = ap (λ (t : List ℕ). cancel_on (record o { todo = t }) t) (e ∙ rest_is o.todo) ∙ cancel_same o (rest o.todo) (rest o.todo)
 
 -- The request of a stage ends ---------------------------------------------------------------------
-
--- another name of the move
-pub moves_as : (x : Option Node) (move move' : Core → Node → RemovalMove) (nodes : List Node) (relations : List Relation) (label : Label) (nodes' : List Node) (relations' : List Relation) (o' : Removal)
-    → move ≡ move' → MovesFor x move nodes relations label nodes' relations' o' → MovesFor x move' nodes relations label nodes' relations' o'
-moves_as x move move' nodes relations label nodes' relations' o' e h = subst (λ (m : Core → Node → RemovalMove). MovesFor x m nodes relations label nodes' relations' o') e h
-
-module _ (o : Removal) (refused : Bool) (w : Walk) where
-  pub as_asked : o.stage ≡ Records.RemovalStage.Asking w → (b : Bool) → refused ≡ b → (λ c n. end_ask c o n b) ≡ end_move o o.stage refused
-  as_asked e b f = sym (ap (λ s. end_move o s refused) e ∙ ap (λ x. end_move o (Records.RemovalStage.Asking w) x) f)
-
-  pub as_taken : o.stage ≡ Records.RemovalStage.TakingBack w → (λ c n. take_back c o n w true) ≡ end_move o o.stage refused
-  as_taken e = sym (ap (λ s. end_move o s refused) e)
-
-  pub as_cancelled : o.stage ≡ Records.RemovalStage.Cancelling w → (λ c n. cancel_step c o n w true) ≡ end_move o o.stage refused
-  as_cancelled e = sym (ap (λ s. end_move o s refused) e)
-
-  pub as_removed : o.stage ≡ Records.RemovalStage.Removing w → (λ c n. remove_step c o n w true) ≡ end_move o o.stage refused
-  as_removed e = sym (ap (λ s. end_move o s refused) e)
-
-pub stripped_is : (nodes : List Node) (relations : List Relation) (k : ℕ) (path : Text) (label : Label) (o o' : Removal) (w : Walk) (nodes' : List Node) (relations' : List Relation)
-    → PathIs (node_at k nodes) path → label ≡ Label.State path NoStack → nodes' ≡ changed_first (is_node k) bare nodes → relations' ≡ forget k relations → o' ≡ record o { stage = Records.RemovalStage.Settling }
-    → MovesFor (node_at k nodes) (λ c n. remove_step c o n w true) nodes relations label nodes' relations' o'
-stripped_is nodes relations k path label o o' w nodes' relations' p l e f g = by (node_at k nodes) refl p
-  where
-    by : (x : Option Node) → node_at k nodes ≡ x → PathIs x path → MovesFor x (λ c n. remove_step c o n w true) nodes relations label nodes' relations' o'
-    by None at p = absurd p
-    by (Some node) at p = λ rack reserved. (
-      refl,
-      l ∙ ap (λ t. Label.State t NoStack) p,
-      ap (λ n. core_of n relations' rack reserved) e ∙ (ap (λ r. core_of (changed_first (is_node k) bare nodes) r rack reserved) f
-          ∙ ap (λ i. core_of (changed_first (is_node i) bare nodes) (forget i relations) rack reserved) (sym (own_serial k node nodes at))),
-      g,
-    )
 
 pub only_removing : (s : Stage) (w : Walk) → (s ≡ Asking → ⊥) → (s ≡ TakingBack → ⊥) → (s ≡ Cancelling → ⊥) → is_walking (stage_of s w) ≡ true → s ≡ Removing
 only_removing Asking w a b c h = absurd (a refl)

@@ -1,15 +1,14 @@
 -- The begin of a removal, as the machine has it.
 use Rattle.std.specs.Prelude.{◌≡◌, List, Option, Some, None}
-use Rattle.resource_reqs.specs.Resources.{Res}
 use Rattle.pnp_labels.specs.declared.label.Label.{Label}
 use Rattle.pnp_labels.specs.declared.label.OpKind.{OpKind}
-use Rattle.pnp_model.specs.Records.{Node, Driver, Relation, Removal}
-use Rattle.pnp_model.specs.Cores.{core_of}
+use Rattle.pnp_model.specs.Records.{Node, Core, Relation, Removal}
 use Rattle.pnp_model.specs.Removals.{begun_removal}
+use Rattle.devnode_tree.specs.Cores.{at_related}
 
--- its line, and where it stands then, whatever drivers there are and whatever is reserved
+-- its line, and where it stands then, whatever else there is
 abbrev pub BegunFor : Option Node → List Node → List Relation → OpKind → Label → Removal → Type 0
 BegunFor None nodes relations kind label frame = ⊥
 BegunFor (Some node) nodes relations kind label frame =
     (label ≡ Label.Begin kind node.path)
-    × ((rack : List Driver) (reserved : List Res) → frame ≡ begun_removal (core_of nodes relations rack reserved) kind node)
+    × ((around : Core) → frame ≡ begun_removal (at_related nodes relations around) kind node)

@@ -1,8 +1,7 @@
 -- A removal in the words of the machine.
-use Rattle.std.specs.Prelude.{ℕ, Bool, true, false, List, [], ◌∷◌, Option, Result}
+use Rattle.std.specs.Prelude.{Bool, true, false, Option, Result}
 use Rattle.pnp_labels.specs.declared.words.Minor.{Minor}
-use Rattle.pnp_model.specs.Records.{Node, Removal, RemovalStage}
-use Rattle.pnp_model.specs.Removals.{finish_on}
+use Rattle.pnp_model.specs.Records.{Removal, RemovalStage}
 use Rattle.pnp_model.specs.Machine.{removal_walk, is_waiting}
 use Rattle.pnp_model.specs.Events.{answer_of, completed_removal}
 use Rattle.device_stack.specs.declared.walk.NoSuchRequest.{NoSuchRequest}
@@ -21,8 +20,3 @@ is_settling _ = false
 -- a removal that waits goes on with the answer; any other refuses, and stays
 abbrev pub Completed : Result (Unit {0}) NoSuchRequest → Removal → Bool → Removal → Type 0
 Completed result old ok new = Completes (is_waiting (removal_walk old.stage)) result old (record old { stage = completed_removal (answer_of ok) old.stage }) new
-
--- where there is none to ask, all of the set are finished
-abbrev pub finish_if_none : List Node → Removal → List ℕ → Removal
-finish_if_none nodes o [] = finish_on nodes o o.set
-finish_if_none nodes o (k ∷ ks) = o

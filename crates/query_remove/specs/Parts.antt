@@ -1,24 +1,16 @@
 -- The parts of a step of a removal.
 use Rattle.std.specs.Prelude.{Bool, true, false, ℕ, List, Option, Some, None, is_some}
-use Rattle.resource_reqs.specs.Resources.{Res}
-use Rattle.pnp_labels.specs.declared.label.Label.{Label}
 use Rattle.pnp_labels.specs.declared.label.RemoveStep.{RemoveStep}
 use Rattle.pnp_labels.specs.declared.label.OpEnd.{OpEnd}
 use Rattle.pnp_model.specs.Tests.{has}
-use Rattle.pnp_model.specs.Cores.{node_at, path_of, core_of}
-use Rattle.pnp_labels.specs.declared.label.RemoveStep.TheVariants as steps
+use Rattle.pnp_model.specs.Cores.{node_at, path_of}
 use Rattle.pnp_labels.specs.declared.states.Problem.{Problem}
 use Rattle.pnp_model.specs.Machine.{removal_walk}
-use Rattle.pnp_model.specs.Records.{Node, Core, Driver, Relation, Removal, RemovalStage}
+use Rattle.pnp_model.specs.Records.{Node, Core, Removal, RemovalStage}
 use Rattle.pnp_model.specs.Records.RemovalStage.{Asking, TakingBack, Cancelling, Removing, Settling, Ending}
 use Rattle.pnp_model.specs.Removals.{RemovalMove, end_ask, take_back, cancel_step, remove_step, close, settle}
+use Rattle.operation_frame.specs.Steps.{MovesFor}
 use Rattle.query_remove.specs.Steps.{Moved}
-
--- the move of this node, whatever drivers there are and whatever is reserved
-abbrev pub MovesFor : Option Node → (Core → Node → RemovalMove) → List Node → List Relation → Label → List Node → List Relation → Removal → Type 0
-MovesFor None move nodes relations label nodes' relations' o' = ⊥
-MovesFor (Some node) move nodes relations label nodes' relations' o' =
-    (rack : List Driver) (reserved : List Res) → Moved (move (core_of nodes relations rack reserved) node) (steps.Did label) (core_of nodes' relations' rack reserved) o'
 
 -- the end of the request of a stage
 abbrev pub end_move : Removal → RemovalStage → Bool → Core → Node → RemovalMove
@@ -40,11 +32,9 @@ problem_if false = Problem.Held
 
 -- a device that is settled leaves or remains
 abbrev pub SettlesFor : Option Node → List Node → Removal → RemoveStep → List Node → Removal → Type 0
-SettlesFor None nodes o step nodes' o' = ⊥
-SettlesFor (Some node) nodes o step nodes' o' =
-    (relations : List Relation) (rack : List Driver) (reserved : List Res)
-    → Moved (settle (core_of nodes relations rack reserved) o node (has o.set node.parent)) step (core_of nodes' relations rack reserved) o'
+SettlesFor first nodes o step nodes' o' = MovesFor Moved first (λ c n. settle c o n (has o.set n.parent)) nodes step nodes' o'
 
+-- how the removal ended
 abbrev pub end_in : List Node → Option ℕ → OpEnd
 end_in nodes None = OpEnd.Done
 end_in nodes (Some q) = OpEnd.Veto (path_of (node_at q nodes))

@@ -1,6 +1,5 @@
 -- One step of a removal, as the machine has it.
 use Rattle.std.specs.Prelude.{◌≡◌, List, Option, IsSome, IfSome}
-use Rattle.resource_reqs.specs.Resources.{Res}
 use Rattle.pnp_labels.specs.Texts.{Text}
 use Rattle.pnp_labels.specs.declared.label.Label.{Label}
 use Rattle.pnp_labels.specs.declared.label.RemoveStep.{RemoveStep}
@@ -8,8 +7,9 @@ use Rattle.pnp_labels.specs.declared.label.RemoveStep.TheVariants as steps
 use Rattle.pnp_labels.specs.declared.states.Problem.{Problem}
 use Rattle.pnp_model.specs.Frames.{first_node}
 use Rattle.pnp_model.specs.Records.{Node, Core, Driver, Relation, Removal, RemovalStage}
-use Rattle.pnp_model.specs.Cores.{core_of}
+use Rattle.pnp_model.specs.Cores.{set_rack}
 use Rattle.pnp_model.specs.Removals.{RemovalMove, RemoveBeside, removed}
+use Rattle.devnode_tree.specs.Cores.{at_related}
 use Rattle.operation_frame.specs.Nodes.{IsStripped}
 use Rattle.operation_frame.specs.Steps as frames
 use Rattle.operation_frame.specs.Steps.{StepIs}
@@ -27,10 +27,10 @@ Moved m (steps.Over label) core o = StepIs m RemoveBeside.Over label core o
 abbrev pub MovedBy : Option RemovalMove → RemoveStep → Core → Removal → Type 0
 MovedBy m step core o = frames.MovedBy Moved m step core o
 
--- the step of the removal, whatever is reserved
+-- the step of the removal, whatever else there is
 abbrev pub Removes : List Node → List Relation → List Driver → Removal → RemoveStep → List Node → List Relation → List Driver → Removal → Type 0
 Removes nodes relations rack o step nodes' relations' rack' o' =
-    (reserved : List Res) → MovedBy (removed (core_of nodes relations rack reserved) o) step (core_of nodes' relations' rack' reserved) o'
+    (around : Core) → MovedBy (removed (at_related nodes relations (set_rack rack around)) o) step (at_related nodes' relations' (set_rack rack' around)) o'
 
 -- but for the end, the device that is next is there
 abbrev pub HasNext : List Node → Removal → RemovalStage → Type 0

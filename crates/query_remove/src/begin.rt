@@ -1,8 +1,7 @@
-ghost use Rattle.std.specs.Prelude.{◌≡◌, IfOk, OnOk, IsSome};
+ghost use Rattle.std.specs.Prelude.{◌≡◌, IfOk, IsSome};
 ghost use Rattle.pnp_model.specs.Cores.{node_at};
 ghost use Rattle.pnp_model.specs.Keyed.{those};
 ghost use Rattle.pnp_model.specs.Trees.{is_up};
-ghost use Rattle.query_remove.specs.Frames.{finish_if_none};
 ghost use Rattle.query_remove.specs.Begins.{BegunFor};
 
 use crate::frame::{Removal, Stage};
@@ -49,6 +48,7 @@ impl Removal {
         let set = SerialSet::of(alloc, &order)?;
         let ejecting = relations.ejected(alloc, &set)?;
         let todo = started(alloc, tree, &set)?;
+        let all = todo.all_where_none(alloc, &set)?;
         let mut removal = Removal {
             kind,
             target,
@@ -58,10 +58,10 @@ impl Removal {
             todo,
             agreed: SerialQueue::new(alloc),
             refuser: None,
-            stage: Stage::Asking,
+            stage: Stage::Ending,
             walk: Walk::begin(Minor::QueryRemove),
         };
-        removal.finish_where_none_is_up(alloc, tree)?;
+        removal.ask_next(tree, all);
         Ok((
             Label::Begin {
                 op: kind,
@@ -69,16 +69,5 @@ impl Removal {
             },
             removal,
         ))
-    }
-
-    /// Where no device is to be asked, all are finished.
-    fn finish_where_none_is_up(&mut self, alloc: Global, tree: &Tree) -> Result<(), WantOfMemory>
-        ensures { OnOk result (self.new ≡ finish_if_none tree.now.nodes self.old self.old.todo) }
-    {
-        if self.todo.get(0).is_none() {
-            self.todo = SerialQueue::of(alloc, &self.set)?;
-            self.finish_next(tree);
-        }
-        Ok(())
     }
 }

@@ -1,16 +1,17 @@
-ghost use Rattle.std.specs.Prelude.{◌≡◌, List, IfOk, OnErr, IsSome, true, false};
+ghost use Rattle.std.specs.Prelude.{◌≡◌, IfOk, OnErr, IsSome, true, false};
 ghost use Rattle.pnp_model.specs.Cores.{node_at};
 ghost use Rattle.pnp_model.specs.Machine.{removal_walk, is_waiting};
 ghost use Rattle.pnp_model.specs.Removals.{ask_on, end_ask, take_back, cancel_step};
 ghost use Rattle.pnp_model.specs.Frames.{first_node};
 ghost use Rattle.pnp_model.specs.Records as Records;
-ghost use Rattle.pnp_model.specs.Records.{Relation};
 ghost use Rattle.trial_journal.specs.Four as Four;
 ghost use Rattle.device_holdings.specs.Mirrors.{IsMirrored, KeepsMirror};
-ghost use Rattle.query_remove.specs.Steps.{Removes, HasNext, SettlesStripped};
-ghost use Rattle.query_remove.specs.Parts.{MovesFor, end_move, is_walking};
+ghost use Rattle.pnp_labels.specs.declared.label.RemoveStep.TheVariants as steps;
+ghost use Rattle.query_remove.specs.Steps.{Moved, Removes, HasNext, SettlesStripped};
+ghost use Rattle.query_remove.specs.Parts.{end_move, is_walking};
 ghost use Rattle.operation_frame.specs.Nodes.{PathIs};
 ghost use Rattle.operation_frame.specs.Queues.{all_after};
+ghost use Rattle.operation_frame.specs.Steps.{MovesFor, MovesRelated};
 
 use crate::frame::{Removal, Stage};
 use device_ids::{Text, WantOfMemory};
@@ -25,7 +26,7 @@ use trial_journal::Arbiters;
 
 impl Removal {
     /// The device that is next is asked, and where none is next all are finished.
-    fn ask_next(&mut self, tree: &Tree, all: SerialQueue)
+    pub(crate) fn ask_next(&mut self, tree: &Tree, all: SerialQueue)
         requires { all ≡ all_after self.old.set self.old.todo }
         ensures { self.new ≡ ask_on tree.now.nodes self.old self.old.todo }
     {
@@ -47,7 +48,7 @@ impl Removal {
         tree: &mut Tree,
     ) -> Result<Label, WantOfMemory>
         requires path { PathIs (node_at serial tree.old.nodes) path }
-        ensures agreed { IfOk result (λ label. (relations : List Relation) → MovesFor (node_at serial tree.old.nodes) (λ c n. end_ask c self.old n false) tree.old.nodes relations label tree.new.nodes relations self.new) }
+        ensures agreed { IfOk result (λ label. MovesFor Moved (node_at serial tree.old.nodes) (λ c n. end_ask c self.old n false) tree.old.nodes (steps.Did label) tree.new.nodes self.new) }
         ensures next { tree.new.next ≡ tree.old.next }
         ensures mirrors { (arbiters : Four.Arbiters) → KeepsMirror tree.old.nodes arbiters tree.new.nodes arbiters }
         ensures removal { OnErr result (self.new ≡ self.old) }
@@ -63,7 +64,7 @@ impl Removal {
     /// The device that is next refused: it is told that it stays.
     fn refuse(&mut self, serial: u64, path: Text, tree: &mut Tree) -> Label
         requires path { PathIs (node_at serial tree.old.nodes) path }
-        ensures refused { (relations : List Relation) → MovesFor (node_at serial tree.old.nodes) (λ c n. end_ask c self.old n true) tree.old.nodes relations result tree.new.nodes relations self.new }
+        ensures refused { MovesFor Moved (node_at serial tree.old.nodes) (λ c n. end_ask c self.old n true) tree.old.nodes (steps.Did result) tree.new.nodes self.new }
         ensures next { tree.new.next ≡ tree.old.next }
         ensures mirrors { (arbiters : Four.Arbiters) → KeepsMirror tree.old.nodes arbiters tree.new.nodes arbiters }
     {
@@ -82,7 +83,7 @@ impl Removal {
         tree: &mut Tree,
     ) -> Result<Label, WantOfMemory>
         requires path { PathIs (node_at serial tree.old.nodes) path }
-        ensures taken { IfOk result (λ label. (relations : List Relation) (w : Records.Walk) → MovesFor (node_at serial tree.old.nodes) (λ c n. take_back c self.old n w true) tree.old.nodes relations label tree.new.nodes relations self.new) }
+        ensures taken { IfOk result (λ label. (w : Records.Walk) → MovesFor Moved (node_at serial tree.old.nodes) (λ c n. take_back c self.old n w true) tree.old.nodes (steps.Did label) tree.new.nodes self.new) }
         ensures next { tree.new.next ≡ tree.old.next }
         ensures mirrors { (arbiters : Four.Arbiters) → KeepsMirror tree.old.nodes arbiters tree.new.nodes arbiters }
         ensures removal { OnErr result (self.new ≡ self.old) }
@@ -96,7 +97,7 @@ impl Removal {
     /// A device that agreed was told that it stays.
     fn cancel(&mut self, serial: u64, path: Text, tree: &mut Tree) -> Label
         requires path { PathIs (node_at serial tree.old.nodes) path }
-        ensures cancelled { (relations : List Relation) (w : Records.Walk) → MovesFor (node_at serial tree.old.nodes) (λ c n. cancel_step c self.old n w true) tree.old.nodes relations result tree.new.nodes relations self.new }
+        ensures cancelled { (w : Records.Walk) → MovesFor Moved (node_at serial tree.old.nodes) (λ c n. cancel_step c self.old n w true) tree.old.nodes (steps.Did result) tree.new.nodes self.new }
         ensures next { tree.new.next ≡ tree.old.next }
         ensures mirrors { (arbiters : Four.Arbiters) → KeepsMirror tree.old.nodes arbiters tree.new.nodes arbiters }
     {
@@ -119,7 +120,7 @@ impl Removal {
         requires path { PathIs (node_at serial tree.old.nodes) path }
         requires walking { is_walking self.old.stage ≡ true }
         requires mirrored { IsMirrored tree.old.nodes arbiters.old }
-        ensures ended { IfOk result (λ label. MovesFor (node_at serial tree.old.nodes) (end_move self.old self.old.stage refused) tree.old.nodes relations.old label tree.new.nodes relations.new self.new) }
+        ensures ended { IfOk result (λ label. MovesRelated Moved (node_at serial tree.old.nodes) (end_move self.old self.old.stage refused) tree.old.nodes relations.old (steps.Did label) tree.new.nodes relations.new self.new) }
         ensures next { tree.new.next ≡ tree.old.next }
         ensures mirrors { KeepsMirror tree.old.nodes arbiters.old tree.new.nodes arbiters.new }
         ensures removal { OnErr result (self.new ≡ self.old) }

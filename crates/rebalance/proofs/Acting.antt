@@ -8,30 +8,28 @@ use Rattle.pnp_labels.specs.declared.label.Label.{Label}
 use Rattle.pnp_labels.specs.declared.label.OpKind.{OpKind}
 use Rattle.pnp_labels.specs.declared.states.Problem.{Problem}
 use Rattle.pnp_model.specs.Keyed.{changed_first}
-use Rattle.pnp_model.specs.Cores.{is_node, node_at, with_problem, core_of}
+use Rattle.pnp_model.specs.Cores.{is_node, node_at, with_problem, set_rack}
 use Rattle.pnp_model.specs.Frames.{first_node, rest}
 use Rattle.pnp_model.specs.Trees.{stands_up}
 use Rattle.pnp_model.specs.Records as Records
-use Rattle.pnp_model.specs.Records.{Node, Core, Driver, Relation, Doing, Found, Rebalance}
+use Rattle.pnp_model.specs.Records.{Node, Core, Driver, Doing, Found, Rebalance}
 use Rattle.pnp_model.specs.Records.Doing.{Does, Searches}
 use Rattle.pnp_model.specs.Rebalances.{RebalanceMove, RebalanceBeside, moves, rebalance_step, rebalanced, movers, plan_of, committed, startable, restart_from, restart_on, stuck, trouble_of, commit_step, failed, close, end_of, over, moved_on, searched, group_problem, stop_on, cancel_on}
 use Rattle.pnp_laws.proofs.Lookups.{own_serial}
+use Rattle.devnode_tree.specs.Cores.{at_nodes}
 use Rattle.trial_journal.specs.Four.{Arbiters}
 use Rattle.assign_search.specs.Fixed.{answer_of}
 use Rattle.assign_search.specs.declared.plan.Found.{Found as Answer}
 use Rattle.assign_search.specs.declared.plan.Found.TheVariants.{Assignment, NoFit, Spent}
 use Rattle.device_holdings.specs.Mirrors.{Mirrors}
 use Rattle.device_holdings.specs.Answers.{Answers}
+use Rattle.operation_frame.specs.Steps.{MovesFor}
 use Rattle.operation_frame.proofs.Queues.{first_is}
 use Rattle.rebalance.specs.Steps.{Moved, MovedBy, Rebalances}
-use Rattle.rebalance.specs.Parts.{Moves, MovesFor, Searched, found_label, found_frame}
+use Rattle.rebalance.specs.Parts.{Moves, Searched, found_label, found_frame}
 use Rattle.rebalance.specs.declared.next.RebalanceStep.{RebalanceStep}
 use Rattle.rebalance.specs.declared.next.RebalanceStep.TheVariants as steps
 use Rattle.rebalance.proofs.Moving.{stop_same, cancel_same, restart_same}
-
-pub ok_then : {T E : Type 0} (P Q : T → Type 0) → ((x : T) → P x → Q x) → (res : Result T E) → IfOk res P → IfOk res Q
-ok_then P Q f (Ok x) h = f x h
-ok_then P Q f (Err e) h = tt
 
 pub ok_both : {T E : Type 0} (P Q R : T → Type 0) → ((x : T) → P x → Q x → R x) → (res : Result T E) → IfOk res P → IfOk res Q → IfOk res R
 ok_both P Q R f (Ok x) h g = f x h g
@@ -41,8 +39,9 @@ ok_both P Q R f (Err e) h g = tt
 
 module _ (nodes : List Node) (a : Arbiters) (rack : List Driver) (r : Rebalance) (budget : ℕ) (step : RebalanceStep) (nodes' : List Node) (r' : Rebalance) where
   does : (move : Core → RebalanceMove) → ((c : Core) (o : Option Node) → rebalance_step c r r.stage o ≡ Some (Does (move c))) → Moves move nodes step nodes' r' → Rebalances nodes a rack r budget step nodes' rack r'
-  does move shape h = λ relations reserved m.
-      subst (λ (x : Option (Doing RebalanceMove)). MovedBy budget x step (core_of nodes' relations rack reserved) r') (sym (shape (core_of nodes relations rack reserved) (first_node nodes r.todo))) (h relations rack reserved)
+  does move shape h = λ around m.
+      let c = set_rack rack around in
+      subst (λ (x : Option (Doing RebalanceMove)). MovedBy budget x step (at_nodes nodes' c) r') (sym (shape (at_nodes nodes c) (first_node nodes r.todo))) (h c)
 
   pub sticks : r.stage ≡ Records.RebalanceStage.Stuck → Moves (λ c. stuck c r) nodes step nodes' r' → Rebalances nodes a rack r budget step nodes' rack r'
   sticks e h = does (λ c. stuck c r) (λ c o. ap (λ s. rebalance_step c r s o) e) h
@@ -53,19 +52,19 @@ module _ (nodes : List Node) (a : Arbiters) (rack : List Driver) (r : Rebalance)
   pub closes : r.stage ≡ Records.RebalanceStage.Ending → Moves (λ c. close c r) nodes step nodes' r' → Rebalances nodes a rack r budget step nodes' rack r'
   closes e h = does (λ c. close c r) (λ c o. ap (λ s. rebalance_step c r s o) e) h
 
-  pub fails : r.stage ≡ Records.RebalanceStage.Failed → MovesFor (first_node nodes r.todo) (λ c n. failed c r n) nodes step nodes' r' → Rebalances nodes a rack r budget step nodes' rack r'
-  fails e h = λ relations reserved m.
-      subst (λ s. MovedBy budget (rebalance_step (core_of nodes relations rack reserved) r s (first_node nodes r.todo)) step (core_of nodes' relations rack reserved) r') (sym e) (by (first_node nodes r.todo) h relations reserved)
+  pub fails : r.stage ≡ Records.RebalanceStage.Failed → MovesFor Moved (first_node nodes r.todo) (λ c n. failed c r n) nodes step nodes' r' → Rebalances nodes a rack r budget step nodes' rack r'
+  fails e h = λ around m.
+      let c = set_rack rack around in
+      subst (λ s. MovedBy budget (rebalance_step (at_nodes nodes c) r s (first_node nodes r.todo)) step (at_nodes nodes' c) r') (sym e) (by (first_node nodes r.todo) h c)
     where
-      by : (x : Option Node) → MovesFor x (λ c n. failed c r n) nodes step nodes' r' → (relations : List Relation) (reserved : List Res)
-          → MovedBy budget (rebalance_step (core_of nodes relations rack reserved) r Records.RebalanceStage.Failed x) step (core_of nodes' relations rack reserved) r'
-      by None h relations reserved = absurd h
-      by (Some n) h relations reserved = h relations rack reserved
+      by : (x : Option Node) → MovesFor Moved x (λ c n. failed c r n) nodes step nodes' r' → (c : Core) → MovedBy budget (rebalance_step (at_nodes nodes c) r Records.RebalanceStage.Failed x) step (at_nodes nodes' c) r'
+      by None h c = absurd h
+      by (Some n) h c = h c
 
 pub looks : (nodes : List Node) (a : Arbiters) (rack : List Driver) (r : Rebalance) (budget : ℕ) (label : Label) (r' : Rebalance)
     → r.stage ≡ Records.RebalanceStage.Searching → Searched nodes a r budget label r' → Rebalances nodes a rack r budget (steps.Did label) nodes rack r'
-looks nodes a rack r budget label r' e h = λ relations reserved m.
-    subst (λ s. MovedBy budget (rebalance_step (core_of nodes relations rack reserved) r s (first_node nodes r.todo)) (steps.Did label) (core_of nodes relations rack reserved) r') (sym e) (h relations rack reserved m)
+looks nodes a rack r budget label r' e h = λ around m.
+    let c = at_nodes nodes (set_rack rack around) in subst (λ s. MovedBy budget (rebalance_step c r s (first_node nodes r.todo)) (steps.Did label) c r') (sym e) (h (set_rack rack around) m)
 
 -- The search ------------------------------------------------------------------------------------
 
@@ -77,11 +76,11 @@ searched_is c r spent = refl
 pub found_is : (nodes : List Node) (a : Arbiters) (r : Rebalance) (budget : ℕ) (all : List ℕ) (path : Text) (found : Answer) (label : Label) (r' : Rebalance)
     → all ≡ movers r → path ≡ r.path → Answers nodes a all budget found → label ≡ found_label path (answer_of found) → r' ≡ found_frame r (answer_of found)
     → Searched nodes a r budget label r'
-found_is nodes a r budget all path found label r' e p answers l f = λ relations rack reserved m.
+found_is nodes a r budget all path found label r' e p answers l f = λ around m.
     let right = subst (λ ks. Answers nodes a ks budget found) e answers in (
       answer_of found,
-      right reserved m,
-      subst (λ (x : RebalanceMove). Moved x (steps.Did label) (core_of nodes relations rack reserved) r') (sym (searched_is (core_of nodes relations rack reserved) r (answer_of found)))
+      right around.reserved m,
+      subst (λ (x : RebalanceMove). Moved x (steps.Did label) (at_nodes nodes around) r') (sym (searched_is (at_nodes nodes around) r (answer_of found)))
           (refl, l ∙ ap (λ t. found_label t (answer_of found)) p, refl, f),
     )
 
@@ -97,43 +96,43 @@ cancels_all r t found e = cancel_same (record r { found = found }) t t ∙ ap (c
 pub stuck_is : (nodes nodes' : List Node) (r r' : Rebalance) (k : ℕ) (path : Text) (problem : Problem) → path ≡ r.path → k ≡ r.target → problem ≡ trouble_of r.found
     → nodes' ≡ changed_first (is_node k) (with_problem (Some problem)) nodes → r' ≡ record r { stage = Records.RebalanceStage.Ending }
     → Moves (λ c. stuck c r) nodes (steps.Did (Label.Trouble path problem)) nodes' r'
-stuck_is nodes nodes' r r' k path problem p t q e f = λ relations rack reserved. (
+stuck_is nodes nodes' r r' k path problem p t q e f = λ around. (
   refl,
   ap (λ x. Label.Trouble x problem) p ∙ ap (λ x. Label.Trouble r.path x) q,
-  ap (λ ns. core_of ns relations rack reserved) (e ∙ (ap (λ i. changed_first (is_node i) (with_problem (Some problem)) nodes) t ∙ ap (λ x. changed_first (is_node r.target) (with_problem (Some x)) nodes) q)),
+  ap (λ ns. at_nodes ns around) (e ∙ (ap (λ i. changed_first (is_node i) (with_problem (Some problem)) nodes) t ∙ ap (λ x. changed_first (is_node r.target) (with_problem (Some x)) nodes) q)),
   f,
 )
 
 pub failed_is : (nodes nodes' : List Node) (r r' : Rebalance) (k : ℕ) (node : Node) (serial : ℕ) (path : Text) → slice_get r.todo 0 ≡ Some k → node_at k nodes ≡ Some node → serial ≡ node.serial → path ≡ node.path
     → nodes' ≡ changed_first (is_node serial) (with_problem (Some Problem.FailedStart)) nodes → r' ≡ restart_on nodes r (rest r.todo)
-    → MovesFor (first_node nodes r.todo) (λ c n. failed c r n) nodes (steps.FailedRestart (Label.Trouble path Problem.FailedStart) serial) nodes' r'
+    → MovesFor Moved (first_node nodes r.todo) (λ c n. failed c r n) nodes (steps.FailedRestart (Label.Trouble path Problem.FailedStart) serial) nodes' r'
 failed_is nodes nodes' r r' k node serial path first at s p e f =
-    subst (λ x. MovesFor x (λ c n. failed c r n) nodes (steps.FailedRestart (Label.Trouble path Problem.FailedStart) serial) nodes' r') (sym (first_is nodes r.todo k first ∙ at))
-    (λ relations rack reserved. (
+    subst (λ x. MovesFor Moved x (λ c n. failed c r n) nodes (steps.FailedRestart (Label.Trouble path Problem.FailedStart) serial) nodes' r') (sym (first_is nodes r.todo k first ∙ at))
+    (λ around. (
       ap RebalanceBeside.FailedRestart (sym s),
       ap (λ x. Label.Trouble x Problem.FailedStart) p,
-      ap (λ ns. core_of ns relations rack reserved) (e ∙ ap (λ i. changed_first (is_node i) (with_problem (Some Problem.FailedStart)) nodes) s),
+      ap (λ ns. at_nodes ns around) (e ∙ ap (λ i. changed_first (is_node i) (with_problem (Some Problem.FailedStart)) nodes) s),
       f,
     ))
 
 module _ (nodes : List Node) (r : Rebalance) (label : Label) (line : label ≡ Label.End OpKind.Rebalance r.path (end_of r.found)) where
-  closed : (step : RebalanceStep) → ((relations : List Relation) (rack : List Driver) (reserved : List Res) → Moved (record { label = Label.End OpKind.Rebalance r.path (end_of r.found); core = core_of nodes relations rack reserved; frame = r; beside = over (core_of nodes relations rack reserved) r r.found }) step (core_of nodes relations rack reserved) r)
+  closed : (step : RebalanceStep) → ((around : Core) → Moved (record { label = Label.End OpKind.Rebalance r.path (end_of r.found); core = at_nodes nodes around; frame = r; beside = over (at_nodes nodes around) r r.found }) step (at_nodes nodes around) r)
       → Moves (λ c. close c r) nodes step nodes r
   closed step h = h
 
   pub over_start : (plan : List (List Res)) → r.found ≡ assignment plan → stands_up nodes r.target ≡ true → Moves (λ c. close c r) nodes (steps.OverStart label) nodes r
-  over_start plan e up = λ relations rack reserved. (ap (λ x. over (core_of nodes relations rack reserved) r x) e ∙ ap moved_on up, line, refl, refl)
+  over_start plan e up = λ around. (ap (λ x. over (at_nodes nodes around) r x) e ∙ ap moved_on up, line, refl, refl)
 
   pub over_dropped : (plan : List (List Res)) → r.found ≡ assignment plan → stands_up nodes r.target ≡ false → Moves (λ c. close c r) nodes (steps.OverDropped label) nodes r
-  over_dropped plan e up = λ relations rack reserved. (ap (λ x. over (core_of nodes relations rack reserved) r x) e ∙ ap moved_on up, line, refl, refl)
+  over_dropped plan e up = λ around. (ap (λ x. over (at_nodes nodes around) r x) e ∙ ap moved_on up, line, refl, refl)
 
   pub over_undo : (found : Found) → r.found ≡ found → ((plan : List (List Res)) → found ≡ assignment plan → ⊥) → Moves (λ c. close c r) nodes (steps.OverUndo label) nodes r
-  over_undo found e other = λ relations rack reserved. (ap (λ x. over (core_of nodes relations rack reserved) r x) e ∙ by relations rack reserved found other, line, refl, refl)
+  over_undo found e other = λ around. (ap (λ x. over (at_nodes nodes around) r x) e ∙ by around found other, line, refl, refl)
     where
-      by : (relations : List Relation) (rack : List Driver) (reserved : List Res) (x : Found) → ((plan : List (List Res)) → x ≡ assignment plan → ⊥) → over (core_of nodes relations rack reserved) r x ≡ RebalanceBeside.OverUndo
-      by relations rack reserved (assignment plan) h = absurd (h plan refl)
-      by relations rack reserved no_fit h = refl
-      by relations rack reserved spent h = refl
+      by : (around : Core) (x : Found) → ((plan : List (List Res)) → x ≡ assignment plan → ⊥) → over (at_nodes nodes around) r x ≡ RebalanceBeside.OverUndo
+      by around (assignment plan) h = absurd (h plan refl)
+      by around no_fit h = refl
+      by around spent h = refl
 
 -- what was found, where it is no assignment
 pub no_plan : (found : Answer) → ((plan : List (List Res)) → found ≡ Assignment plan → ⊥) → plan_of (answer_of found) ≡ []
@@ -145,9 +144,9 @@ no_plan Spent other = refl
 
 pub commit_is : (nodes nodes' : List Node) (r r' : Rebalance) (count : ℕ) (t : List ℕ) → count ≡ length (movers r) → nodes' ≡ map (committed (movers r) (plan_of r.found)) nodes → t ≡ startable nodes r.agreed
     → r' ≡ restart_from (record r { todo = t }) t → Moves (λ c. commit_step c r) nodes (steps.Did (Label.Commit count)) nodes' r'
-commit_is nodes nodes' r r' count t n e s f = λ relations rack reserved. (
+commit_is nodes nodes' r r' count t n e s f = λ around. (
   refl,
   ap Label.Commit n,
-  ap (λ ns. core_of ns relations rack reserved) e,
+  ap (λ ns. at_nodes ns around) e,
   f ∙ (restart_same r t t ∙ ap (restart_from r) s),
 )

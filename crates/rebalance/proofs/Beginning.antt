@@ -22,7 +22,7 @@ pub begun_is : (nodes : List Node) (k : ℕ) (node : Node) (line path : Text) (t
 begun_is nodes k node line path target todo agreed refused new at l p t d a f n =
     subst (λ (o : Option Node). BegunFor o nodes (Label.Begin OpKind.Rebalance line) new) at (
       ap (λ x. Label.Begin OpKind.Rebalance x) l,
-      (λ relations rack reserved.
+      (λ around.
           n
           ∙ (ap (λ x. ask_on (before x path todo agreed refused) todo) t
           ∙ (ap (λ x. ask_on (before node.serial x todo agreed refused) todo) p

@@ -1,9 +1,9 @@
 -- What each state of a run keeps gives a step of a rebalance what it needs.
-use Rattle.std.proofs.Common.{◌≡◌, List, Option, Some, subst}
+use Rattle.std.proofs.Common.{◌≡◌, List, Some}
 use Rattle.pnp_model.specs.Records.{Node, State, Operation, Rebalance, RebalanceStage}
-use Rattle.pnp_laws.proofs.Standing.{StageKept, RebalanceThere}
+use Rattle.pnp_laws.proofs.Standing.{RebalanceThere}
 use Rattle.pnp_laws.proofs.RunsStand.{Kept}
-use Rattle.operation_frame.proofs.Given.{first_there}
+use Rattle.operation_frame.proofs.Given.{running, first_there}
 use Rattle.rebalance.specs.Steps.{HasNext}
 
 rebalance_there : (nodes : List Node) (r : Rebalance) (stage : RebalanceStage) → RebalanceThere r stage nodes → HasNext nodes r stage
@@ -21,5 +21,4 @@ rebalance_there nodes r RebalanceStage.Ending there = tt
 -- a rebalance under way in a state of a run can take its step, where no request waits
 pub rebalance_ready : (s : State) (r : Rebalance) → Kept s → s.operation ≡ Some (Operation.Rebalancing r) → HasNext s.core.nodes r r.stage
 rebalance_ready s r kept is =
-    let stage = subst (λ (x : Option Operation). StageKept x s.core) is kept.stands.stage in
-    rebalance_there s.core.nodes r r.stage stage.1
+    rebalance_there s.core.nodes r r.stage (running s (Operation.Rebalancing r) kept is).0.1

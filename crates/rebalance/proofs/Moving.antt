@@ -1,27 +1,29 @@
 -- The ends of requests are moves of the machine.
 use Rattle.std.proofs.Common.{◌≡◌, ℕ, Bool, true, false, List, [], ◌∷◌, drop, Option, Some, None, IfOk, Result, Ok, Err, refl, sym, ap, ◌∙◌, subst}
-use Rattle.resource_reqs.specs.Resources.{Res}
 use Rattle.pnp_labels.specs.Texts.{Text}
 use Rattle.pnp_labels.specs.declared.label.Label.{Label}
 use Rattle.pnp_labels.specs.declared.words.Minor.{Minor}
 use Rattle.pnp_labels.specs.declared.states.DevState.TheVariants.{Started}
 use Rattle.pnp_model.specs.Keyed.{changed_first, those}
 use Rattle.pnp_model.specs.Walks.{walk_of, state_after}
-use Rattle.pnp_model.specs.Cores.{is_node, node_at, with_state, set_state, core_of}
+use Rattle.pnp_model.specs.Cores.{is_node, node_at, with_state, set_state}
 use Rattle.pnp_model.specs.Frames.{rest, state_label, ended}
 use Rattle.pnp_model.specs.Records as Records
-use Rattle.pnp_model.specs.Records.{Node, Core, Driver, Relation, Walk, Rebalance}
+use Rattle.pnp_model.specs.Records.{Node, Core, Walk, Rebalance}
 use Rattle.pnp_model.specs.Rebalances.{RebalanceMove, RebalanceBeside, moves, ask_on, cancel_on, stop_on, startable, restart_from, restart_on, is_not_above, end_ask, take_back, cancel_step, stop_step, end_restart, close}
 use Rattle.pnp_laws.proofs.Lookups.{own_serial}
+use Rattle.devnode_tree.specs.Cores.{at_nodes}
+use Rattle.operation_frame.specs.Steps.{MovesFor}
 use Rattle.operation_frame.specs.Walks.{EndsFor}
 use Rattle.operation_frame.specs.Nodes.{PathIs}
 use Rattle.rebalance.specs.Stages.{stage_of}
 use Rattle.rebalance.specs.Steps.{Moved}
-use Rattle.rebalance.specs.Parts.{Moves, MovesFor, end_move, is_walking}
+use Rattle.rebalance.specs.Parts.{end_move, is_walking}
 use Rattle.rebalance.specs.declared.next.RebalanceStep.{RebalanceStep}
 use Rattle.rebalance.specs.declared.next.RebalanceStep.TheVariants as steps
 use Rattle.rebalance.specs.declared.frame.Stage.{Stage}
 use Rattle.rebalance.specs.declared.frame.Stage.TheVariants.{Asking, TakingBack, Searching, Cancelling, Stuck, Stopping, Committing, Restarting, Failed, Ending}
+use Rattle.operation_frame.proofs.Ends.{ended_is}
 use Rattle.rebalance.proofs.Taking.{drop_first}
 
 -- What comes next does not read what was to do ---------------------------------------------
@@ -58,68 +60,56 @@ restarts_rest nodes r t e = restart_same r t (startable nodes t) ∙ ap (λ ks. 
 -- A request ends -----------------------------------------------------------------------------
 
 module _ (nodes nodes' : List Node) (k : ℕ) (path : Text) (label : Label) (r r' : Rebalance) where
-  ended_is : (minor : Minor) (bad : Bool) (move : Core → Node → RebalanceMove) (frame : Node → Rebalance) → PathIs (node_at k nodes) path → EndsFor (node_at k nodes) minor bad path nodes label nodes'
-      → ((c : Core) (n : Node) → ended c n minor bad ≡ set_state n.serial (state_after minor bad n.state) c)
-      → ((relations : List Relation) (rack : List Driver) (reserved : List Res) (n : Node) → move (core_of nodes relations rack reserved) n ≡ moves (state_label n minor bad) (ended (core_of nodes relations rack reserved) n minor bad) (frame n))
-      → ((n : Node) → node_at k nodes ≡ Some n → nodes' ≡ changed_first (is_node n.serial) (with_state (state_after minor bad n.state)) nodes → r' ≡ frame n)
-      → MovesFor (node_at k nodes) move nodes (steps.Did label) nodes' r'
-  ended_is minor bad move frame p e keeps shape f = by (node_at k nodes) refl p e
-    where
-      by : (x : Option Node) → node_at k nodes ≡ x → PathIs x path → EndsFor x minor bad path nodes label nodes' → MovesFor x move nodes (steps.Did label) nodes' r'
-      by None at p e = absurd p
-      by (Some n) at p e = λ relations rack reserved.
-          subst (λ (m : RebalanceMove). Moved m (steps.Did label) (core_of nodes' relations rack reserved) r') (sym (shape relations rack reserved n)) (
-            refl,
-            e.0 ∙ ap (λ t. Label.State t (state_after minor bad n.state)) p,
-            ap (λ ns. core_of ns relations rack reserved) e.1 ∙ sym (keeps (core_of nodes relations rack reserved) n),
-            f n at e.1,
-          )
+  ends : (minor : Minor) (bad : Bool) (move : Core → Node → RebalanceMove) (frame : Node → Rebalance) → PathIs (node_at k nodes) path → EndsFor (node_at k nodes) minor bad path nodes label nodes' → ((c : Core) (n : Node) → ended c n minor bad ≡ set_state n.serial (state_after minor bad n.state) c)
+      → ((around : Core) (n : Node) → move (at_nodes nodes around) n ≡ moves (state_label n minor bad) (ended (at_nodes nodes around) n minor bad) (frame n))
+      → ((n : Node) → node_at k nodes ≡ Some n → nodes' ≡ changed_first (is_node n.serial) (with_state (state_after minor bad n.state)) nodes → r' ≡ frame n) → MovesFor Moved (node_at k nodes) move nodes (steps.Did label) nodes' r'
+  ends = ended_is Moved RebalanceBeside.On (steps.Did label) label (λ m core frame h. h) nodes nodes' k path r'
 
   pub agreed_is : PathIs (node_at k nodes) path → EndsFor (node_at k nodes) Minor.QueryStop false path nodes label nodes' → r' ≡ ask_on (record r { agreed = k ∷ r.agreed }) (rest r.todo)
-      → MovesFor (node_at k nodes) (λ c n. end_ask c r n false) nodes (steps.Did label) nodes' r'
+      → MovesFor Moved (node_at k nodes) (λ c n. end_ask c r n false) nodes (steps.Did label) nodes' r'
   agreed_is p e f =
-      ended_is Minor.QueryStop false (λ c n. end_ask c r n false) (λ n. ask_on (record r { agreed = n.serial ∷ r.agreed }) (rest r.todo)) p e (λ c n. refl) (λ relations rack reserved n. refl)
+      ends Minor.QueryStop false (λ c n. end_ask c r n false) (λ n. ask_on (record r { agreed = n.serial ∷ r.agreed }) (rest r.todo)) p e (λ c n. refl) (λ around n. refl)
       (λ n at is. f ∙ ap (λ i. ask_on (record r { agreed = i ∷ r.agreed }) (rest r.todo)) (sym (own_serial k n nodes at)))
 
   pub refused_is : PathIs (node_at k nodes) path → EndsFor (node_at k nodes) Minor.QueryStop true path nodes label nodes' → r' ≡ record r { refused = k ∷ r.refused; stage = Records.RebalanceStage.TakingBack (walk_of Minor.CancelStop) }
-      → MovesFor (node_at k nodes) (λ c n. end_ask c r n true) nodes (steps.Did label) nodes' r'
+      → MovesFor Moved (node_at k nodes) (λ c n. end_ask c r n true) nodes (steps.Did label) nodes' r'
   refused_is p e f =
-      ended_is Minor.QueryStop true (λ c n. end_ask c r n true) (λ n. record r { refused = n.serial ∷ r.refused; stage = Records.RebalanceStage.TakingBack (walk_of Minor.CancelStop) }) p e (λ c n. refl) (λ relations rack reserved n. refl)
+      ends Minor.QueryStop true (λ c n. end_ask c r n true) (λ n. record r { refused = n.serial ∷ r.refused; stage = Records.RebalanceStage.TakingBack (walk_of Minor.CancelStop) }) p e (λ c n. refl) (λ around n. refl)
       (λ n at is. f ∙ ap (λ i. record r { refused = i ∷ r.refused; stage = Records.RebalanceStage.TakingBack (walk_of Minor.CancelStop) }) (sym (own_serial k n nodes at)))
 
   pub taken_is : (w : Walk) → PathIs (node_at k nodes) path → EndsFor (node_at k nodes) Minor.CancelStop false path nodes label nodes' → r' ≡ ask_on r (those (is_not_above nodes k) (rest r.todo))
-      → MovesFor (node_at k nodes) (λ c n. take_back c r n w true) nodes (steps.Did label) nodes' r'
+      → MovesFor Moved (node_at k nodes) (λ c n. take_back c r n w true) nodes (steps.Did label) nodes' r'
   taken_is w p e f =
-      ended_is Minor.CancelStop false (λ c n. take_back c r n w true) (λ n. ask_on r (those (is_not_above nodes n.serial) (rest r.todo))) p e (λ c n. refl) (λ relations rack reserved n. refl)
+      ends Minor.CancelStop false (λ c n. take_back c r n w true) (λ n. ask_on r (those (is_not_above nodes n.serial) (rest r.todo))) p e (λ c n. refl) (λ around n. refl)
       (λ n at is. f ∙ ap (λ i. ask_on r (those (is_not_above nodes i) (rest r.todo))) (sym (own_serial k n nodes at)))
 
   pub cancelled_is : (w : Walk) → PathIs (node_at k nodes) path → EndsFor (node_at k nodes) Minor.CancelStop false path nodes label nodes' → r' ≡ cancel_on r (rest r.todo)
-      → MovesFor (node_at k nodes) (λ c n. cancel_step c r n w true) nodes (steps.Did label) nodes' r'
+      → MovesFor Moved (node_at k nodes) (λ c n. cancel_step c r n w true) nodes (steps.Did label) nodes' r'
   cancelled_is w p e f =
-      ended_is Minor.CancelStop false (λ c n. cancel_step c r n w true) (λ n. cancel_on r (rest r.todo)) p e (λ c n. refl) (λ relations rack reserved n. refl) (λ n at is. f)
+      ends Minor.CancelStop false (λ c n. cancel_step c r n w true) (λ n. cancel_on r (rest r.todo)) p e (λ c n. refl) (λ around n. refl) (λ n at is. f)
 
   pub stopped_is : (w : Walk) → PathIs (node_at k nodes) path → EndsFor (node_at k nodes) Minor.Stop false path nodes label nodes' → r' ≡ stop_on r (rest r.todo)
-      → MovesFor (node_at k nodes) (λ c n. stop_step c r n w true) nodes (steps.Did label) nodes' r'
+      → MovesFor Moved (node_at k nodes) (λ c n. stop_step c r n w true) nodes (steps.Did label) nodes' r'
   stopped_is w p e f =
-      ended_is Minor.Stop false (λ c n. stop_step c r n w true) (λ n. stop_on r (rest r.todo)) p e (λ c n. refl) (λ relations rack reserved n. refl) (λ n at is. f)
+      ends Minor.Stop false (λ c n. stop_step c r n w true) (λ n. stop_on r (rest r.todo)) p e (λ c n. refl) (λ around n. refl) (λ n at is. f)
 
   pub restarted_is : PathIs (node_at k nodes) path → EndsFor (node_at k nodes) Minor.Start false path nodes label nodes' → r' ≡ restart_on nodes' r (rest r.todo)
-      → MovesFor (node_at k nodes) (λ c n. end_restart c r n false) nodes (steps.Did label) nodes' r'
+      → MovesFor Moved (node_at k nodes) (λ c n. end_restart c r n false) nodes (steps.Did label) nodes' r'
   restarted_is p e f =
-      ended_is Minor.Start false (λ c n. end_restart c r n false) (λ n. restart_on (changed_first (is_node n.serial) (with_state Started) nodes) r (rest r.todo)) p e (λ c n. refl) (λ relations rack reserved n. refl)
+      ends Minor.Start false (λ c n. end_restart c r n false) (λ n. restart_on (changed_first (is_node n.serial) (with_state Started) nodes) r (rest r.todo)) p e (λ c n. refl) (λ around n. refl)
       (λ n at is. f ∙ ap (λ ns. restart_on ns r (rest r.todo)) is)
 
   pub failed_is : PathIs (node_at k nodes) path → EndsFor (node_at k nodes) Minor.Start true path nodes label nodes' → r' ≡ record r { stage = Records.RebalanceStage.Failed }
-      → MovesFor (node_at k nodes) (λ c n. end_restart c r n true) nodes (steps.Did label) nodes' r'
+      → MovesFor Moved (node_at k nodes) (λ c n. end_restart c r n true) nodes (steps.Did label) nodes' r'
   failed_is p e f =
-      ended_is Minor.Start true (λ c n. end_restart c r n true) (λ n. record r { stage = Records.RebalanceStage.Failed }) p e (λ c n. refl) (λ relations rack reserved n. refl) (λ n at is. f)
+      ends Minor.Start true (λ c n. end_restart c r n true) (λ n. record r { stage = Records.RebalanceStage.Failed }) p e (λ c n. refl) (λ around n. refl) (λ n at is. f)
 
 -- The request of a stage ends ---------------------------------------------------------------------
 
 -- another name of the move
 pub moves_as : (x : Option Node) (move move' : Core → Node → RebalanceMove) (nodes : List Node) (step : RebalanceStep) (nodes' : List Node) (r' : Rebalance)
-    → move ≡ move' → MovesFor x move nodes step nodes' r' → MovesFor x move' nodes step nodes' r'
-moves_as x move move' nodes step nodes' r' e h = subst (λ (m : Core → Node → RebalanceMove). MovesFor x m nodes step nodes' r') e h
+    → move ≡ move' → MovesFor Moved x move nodes step nodes' r' → MovesFor Moved x move' nodes step nodes' r'
+moves_as x move move' nodes step nodes' r' e h = subst (λ (m : Core → Node → RebalanceMove). MovesFor Moved x m nodes step nodes' r') e h
 
 module _ (r : Rebalance) (refused : Bool) (w : Walk) where
   pub as_asked : r.stage ≡ Records.RebalanceStage.Asking w → (b : Bool) → refused ≡ b → (λ c n. end_ask c r n b) ≡ end_move r r.stage refused

@@ -1,15 +1,14 @@
 -- The parts of a step of a rebalance.
-use Rattle.std.specs.Prelude.{◌≡◌, ℕ, Bool, true, List, Option, Some, None, is_some, reverse}
-use Rattle.resource_reqs.specs.Resources.{Res}
+use Rattle.std.specs.Prelude.{◌≡◌, ℕ, Bool, true, List, is_some, reverse}
 use Rattle.resource_reqs.specs.Spelling.{IsAnswer}
 use Rattle.resource_reqs.specs.Spelling.Answer.{assignment, no_fit, spent}
 use Rattle.pnp_labels.specs.Texts.{Text}
 use Rattle.pnp_labels.specs.declared.label.Label.{Label}
 use Rattle.pnp_model.specs.Machine.{rebalance_walk}
-use Rattle.pnp_model.specs.Records.{Node, Core, Driver, Relation, Found, Rebalance, RebalanceStage}
+use Rattle.pnp_model.specs.Records.{Node, Core, Found, Rebalance, RebalanceStage}
 use Rattle.pnp_model.specs.Records.RebalanceStage.{Asking, TakingBack, Searching, Cancelling, Stuck, Stopping, Committing, Restarting, Failed, Ending}
-use Rattle.pnp_model.specs.Cores.{core_of}
 use Rattle.pnp_model.specs.Rebalances.{RebalanceMove, end_ask, take_back, cancel_step, stop_step, end_restart, close, stop_on, cancel_on, group_problem, searched}
+use Rattle.devnode_tree.specs.Cores.{at_nodes}
 use Rattle.devnode_tree.specs.Trees.{Tree}
 use Rattle.devnode_tree.specs.Identities.{identities}
 use Rattle.trial_journal.specs.Four.{Arbiters}
@@ -18,16 +17,9 @@ use Rattle.rebalance.specs.declared.next.RebalanceStep.{RebalanceStep}
 use Rattle.rebalance.specs.declared.next.RebalanceStep.TheVariants as steps
 use Rattle.rebalance.specs.Steps.{Moved}
 
--- the move, whatever is related, whatever drivers there are and whatever is reserved
+-- the move, where nodes change alone
 abbrev pub Moves : (Core → RebalanceMove) → List Node → RebalanceStep → List Node → Rebalance → Type 0
-Moves move nodes step nodes' r' =
-    (relations : List Relation) (rack : List Driver) (reserved : List Res)
-    → Moved (move (core_of nodes relations rack reserved)) step (core_of nodes' relations rack reserved) r'
-
--- likewise of this node
-abbrev pub MovesFor : Option Node → (Core → Node → RebalanceMove) → List Node → RebalanceStep → List Node → Rebalance → Type 0
-MovesFor None move nodes step nodes' r' = ⊥
-MovesFor (Some node) move nodes step nodes' r' = Moves (λ c. move c node) nodes step nodes' r'
+Moves move nodes step nodes' r' = (around : Core) → Moved (move (at_nodes nodes around)) step (at_nodes nodes' around) r'
 
 -- the end of the request of a stage
 abbrev pub end_move : Rebalance → RebalanceStage → Bool → Core → Node → RebalanceMove
@@ -62,6 +54,6 @@ found_frame r spent = cancel_on (record r { found = spent }) r.agreed
 -- the move is by an answer to the problem of all movers
 abbrev pub Searched : List Node → Arbiters → Rebalance → ℕ → Label → Rebalance → Type 0
 Searched nodes arbiters r budget label r' =
-    (relations : List Relation) (rack : List Driver) (reserved : List Res) → Mirrors reserved nodes arbiters
-    → (found : Found) × IsAnswer (group_problem (core_of nodes relations rack reserved) r).fixed (group_problem (core_of nodes relations rack reserved) r).movers budget found
-    × Moved (searched (core_of nodes relations rack reserved) r found) (steps.Did label) (core_of nodes relations rack reserved) r'
+    (around : Core) → Mirrors around.reserved nodes arbiters
+    → (found : Found) × IsAnswer (group_problem (at_nodes nodes around) r).fixed (group_problem (at_nodes nodes around) r).movers budget found
+    × Moved (searched (at_nodes nodes around) r found) (steps.Did label) (at_nodes nodes around) r'

@@ -1,12 +1,12 @@
 -- One step of a rebalance, as the machine has it.
 use Rattle.std.specs.Prelude.{ℕ, List, Option, Some, None, IsSome}
-use Rattle.resource_reqs.specs.Resources.{Res}
 use Rattle.resource_reqs.specs.Spelling.{IsAnswer}
 use Rattle.pnp_model.specs.Frames.{first_node}
-use Rattle.pnp_model.specs.Records.{Node, Core, Driver, Relation, Doing, Found, Rebalance, RebalanceStage}
+use Rattle.pnp_model.specs.Records.{Node, Core, Driver, Doing, Found, Rebalance, RebalanceStage}
 use Rattle.pnp_model.specs.Records.Doing.{Does, Searches}
-use Rattle.pnp_model.specs.Cores.{core_of}
+use Rattle.pnp_model.specs.Cores.{set_rack}
 use Rattle.pnp_model.specs.Rebalances.{RebalanceMove, RebalanceBeside, rebalanced}
+use Rattle.devnode_tree.specs.Cores.{at_nodes}
 use Rattle.trial_journal.specs.Four.{Arbiters}
 use Rattle.device_holdings.specs.Mirrors.{Mirrors}
 use Rattle.operation_frame.specs.Steps.{StepIs}
@@ -29,11 +29,11 @@ MovedBy budget (Some (Does m)) step core r = Moved m step core r
 MovedBy budget (Some (Searches problem by_answer)) step core r =
     (found : Found) × IsAnswer problem.fixed problem.movers budget found × Moved (by_answer found) step core r
 
--- the step of the rebalance, whatever is related, and whatever is reserved that the arbiters mirror
+-- the step of the rebalance, whatever else there is, where the arbiters mirror what is reserved
 abbrev pub Rebalances : List Node → Arbiters → List Driver → Rebalance → ℕ → RebalanceStep → List Node → List Driver → Rebalance → Type 0
 Rebalances nodes arbiters rack r budget step nodes' rack' r' =
-    (relations : List Relation) (reserved : List Res) → Mirrors reserved nodes arbiters
-    → MovedBy budget (rebalanced (core_of nodes relations rack reserved) r) step (core_of nodes' relations rack' reserved) r'
+    (around : Core) → Mirrors around.reserved nodes arbiters
+    → MovedBy budget (rebalanced (at_nodes nodes (set_rack rack around)) r) step (at_nodes nodes' (set_rack rack' around)) r'
 
 -- where the step is one for a device, the device that is next is there
 abbrev pub HasNext : List Node → Rebalance → RebalanceStage → Type 0

@@ -1,10 +1,10 @@
-ghost use Rattle.std.specs.Prelude.{◌≡◌, ◌≤◌, ℕ, List, IfOk, OnErr, IsSome, true, false};
-ghost use Rattle.resource_reqs.specs.Resources.{Res};
+ghost use Rattle.std.specs.Prelude.{◌≡◌, ◌≤◌, ℕ, IfOk, OnErr, IsSome, true, false};
 ghost use Rattle.pnp_model.specs.Frames.{first_node};
-ghost use Rattle.pnp_model.specs.Records.{Relation};
-ghost use Rattle.pnp_model.specs.Cores.{core_of};
+ghost use Rattle.pnp_model.specs.Records.{Core};
+ghost use Rattle.pnp_model.specs.Cores.{set_rack};
 ghost use Rattle.pnp_model.specs.Rebalances.{rebalanced};
 ghost use Rattle.pnp_model.specs.Machine.{rebalance_walk, is_waiting};
+ghost use Rattle.devnode_tree.specs.Cores.{at_nodes};
 ghost use Rattle.devnode_tree.specs.Identities.{identities};
 ghost use Rattle.device_holdings.specs.Mirrors.{IsMirrored, KeepsMirror};
 ghost use Rattle.rebalance.specs.Steps.{MovedBy, Rebalances, HasNext};
@@ -45,7 +45,7 @@ impl Rebalance {
         requires there { IsSome (first_node tree.old.nodes self.old.todo) }
         requires walking { is_walking self.old.stage ≡ true }
         requires goes { is_waiting (rebalance_walk self.old.stage) ≡ false }
-        ensures rebalances { IfOk result (λ step. (budget : ℕ) (relations : List Relation) (reserved : List Res) → MovedBy budget (rebalanced (core_of tree.old.nodes relations (R.rows rack.old) reserved) self.old) step (core_of tree.new.nodes relations (R.rows rack.new) reserved) self.new) }
+        ensures rebalances { IfOk result (λ step. (budget : ℕ) (around : Core) → MovedBy budget (rebalanced (at_nodes tree.old.nodes (set_rack (R.rows rack.old) around)) self.old) step (at_nodes tree.new.nodes (set_rack (R.rows rack.new) around)) self.new) }
         ensures whole { StaysWhole tree.old tree.new }
         ensures rebalance { OnErr result (self.new ≡ self.old) }
         ensures tree { OnErr result (tree.new ≡ tree.old) }

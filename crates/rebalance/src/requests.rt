@@ -5,7 +5,9 @@ ghost use Rattle.pnp_model.specs.Rebalances.{end_ask, take_back, cancel_step, st
 ghost use Rattle.operation_frame.specs.Nodes.{PathIs};
 ghost use Rattle.operation_frame.specs.Walks.{EndsFor};
 ghost use Rattle.rebalance.specs.declared.next.RebalanceStep.TheVariants as steps;
-ghost use Rattle.rebalance.specs.Parts.{MovesFor, StaysWhole, end_move, is_walking};
+ghost use Rattle.operation_frame.specs.Steps.{MovesFor};
+ghost use Rattle.rebalance.specs.Steps.{Moved};
+ghost use Rattle.rebalance.specs.Parts.{StaysWhole, end_move, is_walking};
 
 use crate::above::left_to_ask;
 use crate::frame::{Rebalance, Stage};
@@ -29,7 +31,7 @@ impl Rebalance {
     /// The device that is next agreed.
     fn agree(&mut self, serial: u64, path: Text, tree: &mut Tree) -> Result<Label, WantOfMemory>
         requires path { PathIs (node_at serial tree.old.nodes) path }
-        ensures agreed { IfOk result (λ label. MovesFor (node_at serial tree.old.nodes) (λ c n. end_ask c self.old n false) tree.old.nodes (steps.Did label) tree.new.nodes self.new) }
+        ensures agreed { IfOk result (λ label. MovesFor Moved (node_at serial tree.old.nodes) (λ c n. end_ask c self.old n false) tree.old.nodes (steps.Did label) tree.new.nodes self.new) }
         ensures whole { StaysWhole tree.old tree.new }
         ensures rebalance { OnErr result (self.new ≡ self.old) }
         ensures tree { OnErr result (tree.new ≡ tree.old) }
@@ -43,7 +45,7 @@ impl Rebalance {
     /// The device that is next refused: it is told that it goes on.
     fn refuse(&mut self, serial: u64, path: Text, tree: &mut Tree) -> Result<Label, WantOfMemory>
         requires path { PathIs (node_at serial tree.old.nodes) path }
-        ensures refused { IfOk result (λ label. MovesFor (node_at serial tree.old.nodes) (λ c n. end_ask c self.old n true) tree.old.nodes (steps.Did label) tree.new.nodes self.new) }
+        ensures refused { IfOk result (λ label. MovesFor Moved (node_at serial tree.old.nodes) (λ c n. end_ask c self.old n true) tree.old.nodes (steps.Did label) tree.new.nodes self.new) }
         ensures whole { StaysWhole tree.old tree.new }
         ensures rebalance { OnErr result (self.new ≡ self.old) }
         ensures tree { OnErr result (tree.new ≡ tree.old) }
@@ -63,7 +65,7 @@ impl Rebalance {
         tree: &mut Tree,
     ) -> Result<Label, WantOfMemory>
         requires path { PathIs (node_at serial tree.old.nodes) path }
-        ensures taken { IfOk result (λ label. (w : Records.Walk) → MovesFor (node_at serial tree.old.nodes) (λ c n. take_back c self.old n w true) tree.old.nodes (steps.Did label) tree.new.nodes self.new) }
+        ensures taken { IfOk result (λ label. (w : Records.Walk) → MovesFor Moved (node_at serial tree.old.nodes) (λ c n. take_back c self.old n w true) tree.old.nodes (steps.Did label) tree.new.nodes self.new) }
         ensures whole { StaysWhole tree.old tree.new }
         ensures rebalance { OnErr result (self.new ≡ self.old) }
         ensures tree { OnErr result (tree.new ≡ tree.old) }
@@ -76,7 +78,7 @@ impl Rebalance {
     /// A device that agreed was told that it goes on.
     fn cancel(&mut self, serial: u64, path: Text, tree: &mut Tree) -> Label
         requires path { PathIs (node_at serial tree.old.nodes) path }
-        ensures cancelled { (w : Records.Walk) → MovesFor (node_at serial tree.old.nodes) (λ c n. cancel_step c self.old n w true) tree.old.nodes (steps.Did result) tree.new.nodes self.new }
+        ensures cancelled { (w : Records.Walk) → MovesFor Moved (node_at serial tree.old.nodes) (λ c n. cancel_step c self.old n w true) tree.old.nodes (steps.Did result) tree.new.nodes self.new }
         ensures whole { StaysWhole tree.old tree.new }
     {
         self.todo.drop_first();
@@ -87,7 +89,7 @@ impl Rebalance {
     /// A device has stopped.
     fn stop(&mut self, serial: u64, path: Text, tree: &mut Tree) -> Label
         requires path { PathIs (node_at serial tree.old.nodes) path }
-        ensures stopped { (w : Records.Walk) → MovesFor (node_at serial tree.old.nodes) (λ c n. stop_step c self.old n w true) tree.old.nodes (steps.Did result) tree.new.nodes self.new }
+        ensures stopped { (w : Records.Walk) → MovesFor Moved (node_at serial tree.old.nodes) (λ c n. stop_step c self.old n w true) tree.old.nodes (steps.Did result) tree.new.nodes self.new }
         ensures whole { StaysWhole tree.old tree.new }
     {
         self.todo.drop_first();
@@ -98,7 +100,7 @@ impl Rebalance {
     /// A device is started again.
     fn restart(&mut self, serial: u64, path: Text, tree: &mut Tree) -> Label
         requires path { PathIs (node_at serial tree.old.nodes) path }
-        ensures restarted { MovesFor (node_at serial tree.old.nodes) (λ c n. end_restart c self.old n false) tree.old.nodes (steps.Did result) tree.new.nodes self.new }
+        ensures restarted { MovesFor Moved (node_at serial tree.old.nodes) (λ c n. end_restart c self.old n false) tree.old.nodes (steps.Did result) tree.new.nodes self.new }
         ensures whole { StaysWhole tree.old tree.new }
     {
         let label = end(Minor::Start, false, path, serial, tree);
@@ -110,7 +112,7 @@ impl Rebalance {
     /// A device was not started again.
     fn refuse_restart(&mut self, serial: u64, path: Text, tree: &mut Tree) -> Label
         requires path { PathIs (node_at serial tree.old.nodes) path }
-        ensures refused { MovesFor (node_at serial tree.old.nodes) (λ c n. end_restart c self.old n true) tree.old.nodes (steps.Did result) tree.new.nodes self.new }
+        ensures refused { MovesFor Moved (node_at serial tree.old.nodes) (λ c n. end_restart c self.old n true) tree.old.nodes (steps.Did result) tree.new.nodes self.new }
         ensures whole { StaysWhole tree.old tree.new }
     {
         self.stage = Stage::Failed;
@@ -128,7 +130,7 @@ impl Rebalance {
     ) -> Result<Label, WantOfMemory>
         requires path { PathIs (node_at serial tree.old.nodes) path }
         requires walking { is_walking self.old.stage ≡ true }
-        ensures ended { IfOk result (λ label. MovesFor (node_at serial tree.old.nodes) (end_move self.old self.old.stage refused) tree.old.nodes (steps.Did label) tree.new.nodes self.new) }
+        ensures ended { IfOk result (λ label. MovesFor Moved (node_at serial tree.old.nodes) (end_move self.old self.old.stage refused) tree.old.nodes (steps.Did label) tree.new.nodes self.new) }
         ensures whole { StaysWhole tree.old tree.new }
         ensures rebalance { OnErr result (self.new ≡ self.old) }
         ensures tree { OnErr result (tree.new ≡ tree.old) }

@@ -5,7 +5,9 @@ ghost use Rattle.pnp_model.specs.Rebalances.{trouble_of, end_of, movers, plan_of
 ghost use Rattle.devnode_tree.specs.Identities.{identities};
 ghost use Rattle.device_holdings.specs.Mirrors.{IsMirrored, KeepsMirror};
 ghost use Rattle.rebalance.specs.declared.next.RebalanceStep.TheVariants as steps;
-ghost use Rattle.rebalance.specs.Parts.{Moves, MovesFor, StaysWhole};
+ghost use Rattle.operation_frame.specs.Steps.{MovesFor};
+ghost use Rattle.rebalance.specs.Steps.{Moved};
+ghost use Rattle.rebalance.specs.Parts.{Moves, StaysWhole};
 
 use crate::above::{pass_over, stands_up};
 use crate::frame::{Rebalance, Stage};
@@ -106,7 +108,7 @@ impl Rebalance {
         tree: &mut Tree,
     ) -> Result<RebalanceStep, WantOfMemory>
         requires { IsSome (first_node tree.old.nodes self.old.todo) }
-        ensures failed { IfOk result (λ step. MovesFor (first_node tree.old.nodes self.old.todo) (λ c n. failed c self.old n) tree.old.nodes step tree.new.nodes self.new) }
+        ensures failed { IfOk result (λ step. MovesFor Moved (first_node tree.old.nodes self.old.todo) (λ c n. failed c self.old n) tree.old.nodes step tree.new.nodes self.new) }
         ensures whole { StaysWhole tree.old tree.new }
         ensures rebalance { OnErr result (self.new ≡ self.old) }
         ensures tree { OnErr result (tree.new ≡ tree.old) }

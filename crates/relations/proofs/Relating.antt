@@ -2,10 +2,9 @@
 use Rattle.std.proofs.Common.{◌≡◌, ◌≢◌, ℕ, ◌==◌, Bool, true, false, ◌&&◌, List, [], ◌∷◌, ◌++◌, Option, Some, None, is_some, Result, Ok, Err, refl, sym, ap, ◌∙◌, subst, arith}
 use Rattle.std.specs.List.{list_any}
 use Rattle.std.proofs.lemmas.Bool.Decides.{nat_tests}
-use Rattle.resource_reqs.specs.Resources.{Res}
 use Rattle.pnp_model.specs.Tests.{has, is_started}
-use Rattle.pnp_model.specs.Cores.{node_at, core_of}
-use Rattle.pnp_model.specs.Records.{Node, Core, Driver, Relation, State}
+use Rattle.pnp_model.specs.Cores.{node_at}
+use Rattle.pnp_model.specs.Records.{Node, Core, Relation, State}
 use Rattle.pnp_model.specs.Trees.{dependents, is_up}
 use Rattle.pnp_model.specs.States.{with_core}
 use Rattle.pnp_labels.specs.Texts.{spaced}
@@ -13,6 +12,7 @@ use Rattle.pnp_labels.specs.declared.label.EventWord.{EventWord}
 use Rattle.pnp_model.specs.Events.{did, is_relation, relate_two, relate_new, relate_free, relate_up}
 use Rattle.pnp_labels.specs.declared.words.RelKind.{RelKind}
 use Rattle.pnp_laws.proofs.Lookups.{own_serial}
+use Rattle.devnode_tree.specs.Cores.{at_related}
 use Rattle.relations.specs.Leaving.{base}
 use Rattle.relations.specs.Relating.{Relates, RelatesFor, RelatesFree, are_up}
 use Rattle.relations.specs.declared.error.RelateError.{RelateError}
@@ -23,7 +23,7 @@ use Rattle.relations.proofs.Bases.{dependents_same}
 pub for_nodes : (nodes : List Node) (owner member : ℕ) (kind : RelKind) (old new : List Relation) (result : Result (Unit {0}) RelateError)
     → is_some (node_at owner nodes) ≡ true → is_some (node_at member nodes) ≡ true
     → ((o m : Node) → node_at owner nodes ≡ Some o → node_at member nodes ≡ Some m → o.serial ≡ owner → m.serial ≡ member →
-    (s : State) (rack : List Driver) (reserved : List Res) → s.core ≡ core_of nodes old rack reserved → Relates s kind o m old result new)
+    (s : State) (around : Core) → s.core ≡ at_related nodes old around → Relates s kind o m old result new)
     → RelatesFor (node_at owner nodes) (node_at member nodes) nodes kind old result new
 for_nodes nodes owner member kind old new result there_o there_m h = by (node_at owner nodes) (node_at member nodes) refl refl there_o there_m
   where
@@ -36,7 +36,7 @@ module _ (nodes : List Node) (owner member : ℕ) (kind : RelKind) (old : List R
   self_related : owner ≡ member → RelatesFor (node_at owner nodes) (node_at member nodes) nodes kind old (Err SelfRelation) old
   self_related e =
       for_nodes nodes owner member kind old old (Err SelfRelation) there_o there_m
-      (λ o m a b p q s rack reserved c.
+      (λ o m a b p q s around c.
       let one : (o.serial == m.serial) ≡ true = grind (arith, nat_tests) in
       (refl, ap (λ x. relate_two s kind o m x) one))
 
@@ -44,53 +44,53 @@ module _ (nodes : List Node) (owner member : ℕ) (kind : RelKind) (old : List R
     not_one : (o m : Node) → o.serial ≡ owner → m.serial ≡ member → (o.serial == m.serial) ≡ false
     not_one o m p q = grind (arith, nat_tests)
 
-    same_at : (o m : Node) (s : State) (rack : List Driver) (reserved : List Res) → o.serial ≡ owner → m.serial ≡ member → s.core ≡ core_of nodes old rack reserved
+    same_at : (o m : Node) (s : State) (around : Core) → o.serial ≡ owner → m.serial ≡ member → s.core ≡ at_related nodes old around
         → list_any (is_relation kind o.serial m.serial) s.core.relations ≡ list_any (is_relation kind owner member) old
-    same_at o m s rack reserved p q c =
+    same_at o m s around p q c =
         ap (λ (x : Core). list_any (is_relation kind o.serial m.serial) x.relations) c
         ∙ (ap (λ i. list_any (is_relation kind i m.serial) old) p ∙ ap (λ i. list_any (is_relation kind owner i) old) q)
 
     pub same_related : list_any (is_relation kind owner member) old ≡ true → RelatesFor (node_at owner nodes) (node_at member nodes) nodes kind old (Err SameRelation) old
     same_related same =
         for_nodes nodes owner member kind old old (Err SameRelation) there_o there_m
-        (λ o m a b p q s rack reserved c.
-        (refl, ap (λ x. relate_two s kind o m x) (not_one o m p q) ∙ ap (λ x. relate_new s kind o m x) (same_at o m s rack reserved p q c ∙ same)))
+        (λ o m a b p q s around c.
+        (refl, ap (λ x. relate_two s kind o m x) (not_one o m p q) ∙ ap (λ x. relate_new s kind o m x) (same_at o m s around p q c ∙ same)))
 
     module _ (fresh : list_any (is_relation kind owner member) old ≡ false) where
-      depends_at : (o m : Node) (s : State) (rack : List Driver) (reserved : List Res) → o.serial ≡ owner → m.serial ≡ member → s.core ≡ core_of nodes old rack reserved
+      depends_at : (o m : Node) (s : State) (around : Core) → o.serial ≡ owner → m.serial ≡ member → s.core ≡ at_related nodes old around
           → has (dependents s.core m.serial) o.serial ≡ has (dependents (base nodes old) member) owner
-      depends_at o m s rack reserved p q c =
+      depends_at o m s around p q c =
           ap (λ (x : Core). has (dependents x m.serial) o.serial) c
-          ∙ (ap (λ i. has (dependents (core_of nodes old rack reserved) i) o.serial) q
-          ∙ (ap (λ i. has (dependents (core_of nodes old rack reserved) member) i) p ∙ ap (λ l. has l owner) (dependents_same nodes old rack reserved member)))
+          ∙ (ap (λ i. has (dependents (at_related nodes old around) i) o.serial) q
+          ∙ (ap (λ i. has (dependents (at_related nodes old around) member) i) p ∙ ap (λ l. has l owner) (dependents_same nodes old around member)))
 
-      to_free : (o m : Node) (s : State) (rack : List Driver) (reserved : List Res) → o.serial ≡ owner → m.serial ≡ member → s.core ≡ core_of nodes old rack reserved
+      to_free : (o m : Node) (s : State) (around : Core) → o.serial ≡ owner → m.serial ≡ member → s.core ≡ at_related nodes old around
           → (b : Bool) → has (dependents (base nodes old) member) owner ≡ b → relate_two s kind o m (o.serial == m.serial) ≡ relate_free s kind o m b
-      to_free o m s rack reserved p q c b e =
+      to_free o m s around p q c b e =
           ap (λ x. relate_two s kind o m x) (not_one o m p q)
-          ∙ (ap (λ x. relate_new s kind o m x) (same_at o m s rack reserved p q c ∙ fresh)
-          ∙ ap (λ x. relate_free s kind o m x) (depends_at o m s rack reserved p q c ∙ e))
+          ∙ (ap (λ x. relate_new s kind o m x) (same_at o m s around p q c ∙ fresh)
+          ∙ ap (λ x. relate_free s kind o m x) (depends_at o m s around p q c ∙ e))
 
       pub cycle_related : has (dependents (base nodes old) member) owner ≡ true → RelatesFor (node_at owner nodes) (node_at member nodes) nodes kind old (Err RelationCycle) old
       cycle_related h =
           for_nodes nodes owner member kind old old (Err RelationCycle) there_o there_m
-          (λ o m a b p q s rack reserved c. (refl, to_free o m s rack reserved p q c true h))
+          (λ o m a b p q s around c. (refl, to_free o m s around p q c true h))
 
       pub free_related : has (dependents (base nodes old) member) owner ≡ false → (result : Result (Unit {0}) RelateError) (new : List Relation)
           → RelatesFree (are_up (node_at owner nodes) (node_at member nodes)) (record { kind = kind; owner = owner; member = member }) old result new
           → RelatesFor (node_at owner nodes) (node_at member nodes) nodes kind old result new
       free_related h result new free =
           for_nodes nodes owner member kind old new result there_o there_m
-          (λ o m a b p q s rack reserved c.
+          (λ o m a b p q s around c.
           let ups : are_up (node_at owner nodes) (node_at member nodes) ≡ (is_started o.state && is_started m.state) = ap (λ (x : Option Node). is_up x && is_up (node_at member nodes)) a ∙ ap (λ (x : Option Node). is_started o.state && is_up x) b in
-          let step = to_free o m s rack reserved p q c false h in
-          by_up o m s rack reserved p q c step (is_started o.state && is_started m.state) refl result (subst (λ x. RelatesFree x (record { kind = kind; owner = owner; member = member }) old result new) ups free))
+          let step = to_free o m s around p q c false h in
+          by_up o m s around p q c step (is_started o.state && is_started m.state) refl result (subst (λ x. RelatesFree x (record { kind = kind; owner = owner; member = member }) old result new) ups free))
         where
-          by_up : (o m : Node) (s : State) (rack : List Driver) (reserved : List Res) → o.serial ≡ owner → m.serial ≡ member → s.core ≡ core_of nodes old rack reserved
+          by_up : (o m : Node) (s : State) (around : Core) → o.serial ≡ owner → m.serial ≡ member → s.core ≡ at_related nodes old around
               → relate_two s kind o m (o.serial == m.serial) ≡ relate_free s kind o m false
               → (up : Bool) → (is_started o.state && is_started m.state) ≡ up → (result : Result (Unit {0}) RelateError)
               → RelatesFree (is_started o.state && is_started m.state) (record { kind = kind; owner = owner; member = member }) old result new → Relates s kind o m old result new
-          by_up o m s rack reserved p q c step up e result free = by up result (subst (λ x. RelatesFree x (record { kind = kind; owner = owner; member = member }) old result new) e free) (step ∙ ap (λ x. relate_up s kind o m x) e)
+          by_up o m s around p q c step up e result free = by up result (subst (λ x. RelatesFree x (record { kind = kind; owner = owner; member = member }) old result new) e free) (step ∙ ap (λ x. relate_up s kind o m x) e)
             where
               pushed : List Relation
               pushed = old ++ record { kind = kind; owner = owner; member = member } ∷ []

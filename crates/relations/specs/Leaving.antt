@@ -1,16 +1,16 @@
 -- The order in which devices leave, and what depends on what, by nodes and relations alone.
 use Rattle.std.specs.Prelude.{◌≡◌, ℕ, ◌==◌, Bool, List, [], ◌∷◌, ◌++◌, Option, Some, None, map, is_some, if◌then◌else◌}
-use Rattle.resource_reqs.specs.Resources.{Res}
 use Rattle.pnp_model.specs.Keyed.{those}
-use Rattle.pnp_model.specs.Records.{Node, Core, Driver, Relation}
+use Rattle.pnp_model.specs.Records.{Node, Core, Relation}
 use Rattle.pnp_model.specs.Cores.{core_of, node_at}
 use Rattle.pnp_model.specs.Trees.{leaving}
+use Rattle.devnode_tree.specs.Cores.{at_related}
 use Rattle.devnode_tree.specs.Entries.{child_serials}
 
--- the leaving order of the device, whatever drivers there are and whatever is reserved
+-- the leaving order of the device, whatever else there is
 abbrev pub IsLeaving : List Node → List Relation → ℕ → List ℕ → Type 0
 IsLeaving nodes relations target order =
-    (rack : List Driver) (reserved : List Res) → order ≡ leaving (core_of nodes relations rack reserved) target
+    (around : Core) → order ≡ leaving (at_related nodes relations around) target
 
 -- direct dependents, one for each edge: the children, and the related members that are there
 abbrev pub members_of : List Relation → ℕ → List ℕ
@@ -33,6 +33,6 @@ parents_of (Some n) = if n.serial == 0 then [] else n.parent ∷ []
 abbrev pub over : List Node → List Relation → ℕ → List ℕ
 over nodes relations k = parents_of (node_at k nodes) ++ owners_of relations k
 
--- where neither drivers nor what is reserved matter
+-- where nothing else matters
 abbrev pub base : List Node → List Relation → Core
 base nodes relations = core_of nodes relations [] []

@@ -1,9 +1,7 @@
 -- Two devices are related, as the machine has it.
 use Rattle.std.specs.Prelude.{◌≡◌, ℕ, ◌==◌, Bool, true, false, ◌&&◌, List, [], ◌∷◌, ◌++◌, Option, Some, None, Result, Ok, Err, map}
-use Rattle.resource_reqs.specs.Resources.{Res}
 use Rattle.pnp_model.specs.Keyed.{those}
-use Rattle.pnp_model.specs.Records.{Node, Driver, Relation, State}
-use Rattle.pnp_model.specs.Cores.{core_of}
+use Rattle.pnp_model.specs.Records.{Node, Core, Relation, State}
 use Rattle.pnp_model.specs.Removals.{is_ejecting}
 use Rattle.pnp_model.specs.States.{with_core}
 use Rattle.pnp_model.specs.Events.{refused, did, relate_two}
@@ -12,6 +10,7 @@ use Rattle.pnp_labels.specs.Texts.{spaced}
 use Rattle.pnp_labels.specs.declared.words.RelKind.{RelKind}
 use Rattle.pnp_labels.specs.declared.label.EventWord.{EventWord}
 use Rattle.pnp_labels.specs.declared.label.Reason.{Reason}
+use Rattle.devnode_tree.specs.Cores.{at_related}
 use Rattle.relations.specs.declared.error.RelateError.{RelateError}
 use Rattle.relations.specs.declared.error.RelateError.TheVariants.{SelfRelation, SameRelation, RelationCycle, NotStarted, WantOfMemory}
 
@@ -35,7 +34,7 @@ abbrev pub RelatesFor : Option Node → Option Node → List Node → RelKind �
 RelatesFor None member nodes kind old result new = ⊥
 RelatesFor (Some owner) None nodes kind old result new = ⊥
 RelatesFor (Some owner) (Some member) nodes kind old result new =
-    (s : State) (rack : List Driver) (reserved : List Res) → s.core ≡ core_of nodes old rack reserved → Relates s kind owner member old result new
+    (s : State) (around : Core) → s.core ≡ at_related nodes old around → Relates s kind owner member old result new
 
 -- of two that are neither one, nor related, nor in a cycle: by whether both are Started
 abbrev pub RelatesFree : Bool → Relation → List Relation → Result (Unit {0}) RelateError → List Relation → Type 0

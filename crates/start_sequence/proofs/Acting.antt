@@ -1,6 +1,5 @@
 -- The parts of a step of a start, as the step that the machine has.
 use Rattle.std.proofs.Common.{◌≡◌, ℕ, zero, suc, Bool, true, false, List, [], ◌∷◌, Option, Some, None, refl, sym, ap, arith, slice_get, slice_set}
-use Rattle.resource_reqs.specs.Resources.{Res}
 use Rattle.pnp_labels.specs.Texts.{Text}
 use Rattle.pnp_labels.specs.declared.label.Label.{Label}
 use Rattle.pnp_labels.specs.declared.states.Problem.{Problem}
@@ -8,10 +7,10 @@ use Rattle.pnp_labels.specs.declared.words.Answer.{Answer}
 use Rattle.pnp_labels.specs.declared.words.Answer.TheVariants.{Ok, Fail, Pend}
 use Rattle.pnp_labels.specs.declared.words.AskWhat.{AskWhat}
 use Rattle.pnp_labels.specs.declared.words.Minor.{Minor}
-use Rattle.pnp_model.specs.Records.{Node, Core, Driver, Relation, Walk, Phase}
+use Rattle.pnp_model.specs.Records.{Node, Core, Driver, Walk, Phase}
 use Rattle.pnp_model.specs.Records.Phase.{Adding, Searching, Starting, Removing, Due}
 use Rattle.pnp_model.specs.Books.{name_of, name_or_none, printed_name, rack_reply, rack_after, with_later, later}
-use Rattle.pnp_model.specs.Cores.{is_node, forget, bare, strip, set_problem, core_of}
+use Rattle.pnp_model.specs.Cores.{is_node, forget, bare, strip, set_problem}
 use Rattle.pnp_model.specs.Keyed.{changed_first}
 use Rattle.pnp_model.specs.Frames.{core_after}
 use Rattle.pnp_model.specs.Starts.{add_driver, act, undo}
@@ -24,9 +23,8 @@ use Rattle.start_sequence.specs.declared.next.Started.TheVariants as starts
 use Rattle.start_sequence.specs.declared.next.Removed.TheVariants as removes
 
 -- without relations there is nothing to forget
-pub stripped : (k : ℕ) (nodes : List Node) (rack : List Driver) (relations : List Relation) (reserved : List Res) → forget k relations ≡ relations
-    → core_of (changed_first (is_node k) bare nodes) relations rack reserved ≡ strip k (core_of nodes relations rack reserved)
-stripped k nodes rack relations reserved none = ap (λ r. core_of (changed_first (is_node k) bare nodes) r rack reserved) (sym none)
+pub stripped : (k : ℕ) (c : Core) → forget k c.relations ≡ c.relations → record c { nodes = changed_first (is_node k) bare c.nodes } ≡ strip k c
+stripped k c none = ap (λ r. record c { nodes = changed_first (is_node k) bare c.nodes; relations = r }) (sym none)
 
 -- a driver that is asked keeps its name
 named_in : (what : AskWhat) (path : Text) (rack : List Driver) (k : ℕ) (d : Driver) → slice_get rack k ≡ Some d
@@ -43,35 +41,39 @@ name_by what path rack k (Some d) at = ap printed_name (named_in what path rack 
 name_after : (what : AskWhat) (path : Text) (rack : List Driver) (k : ℕ) → name_of (rack_after what path rack k) k ≡ name_of rack k
 name_after what path rack k = name_by what path rack k (slice_get rack k) refl
 
-module _ (nodes : List Node) (rack : List Driver) (relations : List Relation) (reserved : List Res) (node : Node) where
+-- with these nodes and drivers
+abbrev left : Core → List Node → List Driver → Core
+left c nodes rack = record c { nodes = nodes; rack = rack }
+
+module _ (c : Core) (node : Node) where
   added_by : (d : ℕ) (ds : List ℕ) (a : Answer)
-      → Moved (add_driver (core_after (core_of nodes relations rack reserved) AskWhat.Add node.path d) node d ds a)
-      (steps.Did (Label.Add node.path (name_of rack d) (is_ok a)))
-      (core_of (nodes_added node d (is_ok a) nodes) relations (rack_after AskWhat.Add node.path rack d) reserved) (phase_added (Adding (d ∷ ds)) (is_ok a))
-  added_by d ds Ok = (refl, ap (λ name. Label.Add node.path name true) (sym (name_after AskWhat.Add node.path rack d)), refl, refl)
-  added_by d ds Fail = (refl, ap (λ name. Label.Add node.path name false) (sym (name_after AskWhat.Add node.path rack d)), refl, refl)
-  added_by d ds Pend = (refl, ap (λ name. Label.Add node.path name false) (sym (name_after AskWhat.Add node.path rack d)), refl, refl)
+      → Moved (add_driver (core_after c AskWhat.Add node.path d) node d ds a)
+      (steps.Did (Label.Add node.path (name_of c.rack d) (is_ok a)))
+      (left c (nodes_added node d (is_ok a) c.nodes) (rack_after AskWhat.Add node.path c.rack d)) (phase_added (Adding (d ∷ ds)) (is_ok a))
+  added_by d ds Ok = (refl, ap (λ name. Label.Add node.path name true) (sym (name_after AskWhat.Add node.path c.rack d)), refl, refl)
+  added_by d ds Fail = (refl, ap (λ name. Label.Add node.path name false) (sym (name_after AskWhat.Add node.path c.rack d)), refl, refl)
+  added_by d ds Pend = (refl, ap (λ name. Label.Add node.path name false) (sym (name_after AskWhat.Add node.path c.rack d)), refl, refl)
 
   added_first : (budget : ℕ) (drivers : List ℕ) (d : ℕ) → slice_get drivers 0 ≡ Some d
-      → Done budget (act (core_of nodes relations rack reserved) node (Adding drivers))
-      (steps.Did (Label.Add node.path (name_of rack d) (is_ok (rack_reply AskWhat.Add node.path rack d))))
-      (core_of (nodes_added node d (is_ok (rack_reply AskWhat.Add node.path rack d)) nodes) relations (rack_after AskWhat.Add node.path rack d) reserved)
-      (phase_added (Adding drivers) (is_ok (rack_reply AskWhat.Add node.path rack d)))
+      → Done budget (act c node (Adding drivers))
+      (steps.Did (Label.Add node.path (name_of c.rack d) (is_ok (rack_reply AskWhat.Add node.path c.rack d))))
+      (left c (nodes_added node d (is_ok (rack_reply AskWhat.Add node.path c.rack d)) c.nodes) (rack_after AskWhat.Add node.path c.rack d))
+      (phase_added (Adding drivers) (is_ok (rack_reply AskWhat.Add node.path c.rack d)))
   added_first budget [] d at = absurd (cc)
   added_first budget (e ∷ ds) d at =
       let same : e ≡ d = grind arith in
-      rw same (added_by d ds (rack_reply AskWhat.Add node.path rack d))
+      rw same (added_by d ds (rack_reply AskWhat.Add node.path c.rack d))
 
-pub added : (budget : ℕ) (o : Option Node) (nodes nodes' : List Node) (rack rack' : List Driver) (relations : List Relation) (reserved : List Res) (phase : Phase) (d : ℕ) (label : Label) (ok : Bool)
-    → first_pending phase ≡ Some d → AddedFor o d nodes rack label ok nodes' rack'
-    → DoneFor budget o (core_of nodes relations rack reserved) phase (steps.Did label) (core_of nodes' relations rack' reserved) (phase_added phase ok)
-added budget None nodes nodes' rack rack' relations reserved phase d label ok at h = h
-added budget (Some node) nodes nodes' rack rack' relations reserved (Adding drivers) d label ok at h =
-    λ none. rw (h.1, h.2, h.3, h.0) (added_first nodes rack relations reserved node budget drivers d at)
-added budget (Some node) nodes nodes' rack rack' relations reserved Searching d label ok at h = absurd (cc)
-added budget (Some node) nodes nodes' rack rack' relations reserved (Starting w) d label ok at h = absurd (cc)
-added budget (Some node) nodes nodes' rack rack' relations reserved (Removing w) d label ok at h = absurd (cc)
-added budget (Some node) nodes nodes' rack rack' relations reserved (Due problem) d label ok at h = absurd (cc)
+pub added : (budget : ℕ) (o : Option Node) (c : Core) (nodes' : List Node) (rack' : List Driver) (phase : Phase) (d : ℕ) (label : Label) (ok : Bool)
+    → first_pending phase ≡ Some d → AddedFor o d c.nodes c.rack label ok nodes' rack'
+    → DoneFor budget o c phase (steps.Did label) (record c { nodes = nodes'; rack = rack' }) (phase_added phase ok)
+added budget None c nodes' rack' phase d label ok at h = h
+added budget (Some node) c nodes' rack' (Adding drivers) d label ok at h =
+    λ none. rw (h.1, h.2, h.3, h.0) (added_first c node budget drivers d at)
+added budget (Some node) c nodes' rack' Searching d label ok at h = absurd (cc)
+added budget (Some node) c nodes' rack' (Starting w) d label ok at h = absurd (cc)
+added budget (Some node) c nodes' rack' (Removing w) d label ok at h = absurd (cc)
+added budget (Some node) c nodes' rack' (Due problem) d label ok at h = absurd (cc)
 
 module _ (budget : ℕ) (o : Option Node) (c c' : Core) (w w' : Walk) (label : Label) where
   pub start_goes : StartsFor o c w (starts.On label) c' w' → DoneFor budget o c (Starting w) (steps.Did label) c' (Starting w')
@@ -120,25 +122,23 @@ searched_at_once budget o c c' step (d ∷ ds) phase at h = absurd (cc)
 searched_at_once budget None c c' step [] phase at h = h
 searched_at_once budget (Some node) c c' step [] phase at h = λ none. h
 
-module _ (budget : ℕ) (nodes nodes' : List Node) (rack : List Driver) (relations : List Relation) (reserved : List Res) (label : Label) where
-  pub troubled : (o : Option Node) (problem : Problem) → TroubledFor o problem nodes label true nodes'
-      → DoneFor budget o (core_of nodes relations rack reserved) (Due problem) (steps.Did label) (core_of nodes' relations rack reserved) (Removing (walk_of Minor.Remove))
+module _ (budget : ℕ) (c : Core) (nodes' : List Node) (label : Label) where
+  pub troubled : (o : Option Node) (problem : Problem) → TroubledFor o problem c.nodes label true nodes'
+      → DoneFor budget o c (Due problem) (steps.Did label) (record c { nodes = nodes' }) (Removing (walk_of Minor.Remove))
   troubled None problem h = h
   troubled (Some node) problem h = λ none. by_stack node.stack refl
     where
       by_stack : (stack : List ℕ) → node.stack ≡ stack
-          → Moved (undo (set_problem node.serial (Some problem) (core_of nodes relations rack reserved)) node problem stack) (steps.Did label)
-          (core_of nodes' relations rack reserved) (Removing (walk_of Minor.Remove))
+          → Moved (undo (set_problem node.serial (Some problem) c) node problem stack) (steps.Did label) (record c { nodes = nodes' }) (Removing (walk_of Minor.Remove))
       by_stack [] is = absurd (let full = rw is at h.1 in cc)
-      by_stack (d ∷ ds) is = (refl, h.0, ap (λ nodes. core_of nodes relations rack reserved) h.2, refl)
+      by_stack (d ∷ ds) is = (refl, h.0, ap (λ nodes. record c { nodes = nodes }) h.2, refl)
 
-  pub dropped : (o : Option Node) (problem : Problem) (phase : Phase) → TroubledFor o problem nodes label false nodes'
-      → DoneFor budget o (core_of nodes relations rack reserved) (Due problem) (steps.Over label) (core_of nodes' relations rack reserved) phase
+  pub dropped : (o : Option Node) (problem : Problem) (phase : Phase) → TroubledFor o problem c.nodes label false nodes'
+      → DoneFor budget o c (Due problem) (steps.Over label) (record c { nodes = nodes' }) phase
   dropped None problem phase h = h
   dropped (Some node) problem phase h = λ none. by_stack node.stack refl
     where
       by_stack : (stack : List ℕ) → node.stack ≡ stack
-          → Moved (undo (set_problem node.serial (Some problem) (core_of nodes relations rack reserved)) node problem stack) (steps.Over label)
-          (core_of nodes' relations rack reserved) phase
-      by_stack [] is = (refl, h.0, ap (λ nodes. core_of nodes relations rack reserved) h.2)
+          → Moved (undo (set_problem node.serial (Some problem) c) node problem stack) (steps.Over label) (record c { nodes = nodes' }) phase
+      by_stack [] is = (refl, h.0, ap (λ nodes. record c { nodes = nodes }) h.2)
       by_stack (d ∷ ds) is = absurd (let full = rw is at h.1 in cc)

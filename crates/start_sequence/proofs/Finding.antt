@@ -8,13 +8,14 @@ use Rattle.pnp_labels.specs.declared.label.Label.{Label}
 use Rattle.pnp_labels.specs.declared.states.Problem.{Problem}
 use Rattle.pnp_labels.specs.declared.words.Minor.{Minor}
 use Rattle.pnp_model.specs.Keyed.{changed_first}
-use Rattle.pnp_model.specs.Records.{Node, Core, Driver, Relation, Phase}
+use Rattle.pnp_model.specs.Records.{Node, Core, Phase}
 use Rattle.pnp_model.specs.Records.Phase.{Starting, Due}
 use Rattle.pnp_model.specs.Records.Doing.{Searches}
 use Rattle.pnp_model.specs.Rebalances.{reqs_of}
-use Rattle.pnp_model.specs.Cores.{is_node, node_at, with_holds, core_of}
+use Rattle.pnp_model.specs.Cores.{is_node, node_at, with_holds}
 use Rattle.pnp_model.specs.Starts.{own_part, own_problem, searched}
 use Rattle.pnp_model.specs.Walks.{walk_of}
+use Rattle.devnode_tree.specs.Cores.{at_nodes}
 use Rattle.trial_journal.specs.Four.{Arbiters}
 use Rattle.assign_search.specs.Fixed.{answer_of}
 use Rattle.assign_search.specs.declared.plan.Found.{Found}
@@ -31,25 +32,25 @@ own_serial k n [] h = cc
 own_serial k n (x ∷ xs) h = grind (arith, nat_tests, own_serial k n xs)
 
 module _ (budget k : ℕ) (nodes : List Node) (a : Arbiters) (node : Node) (at : node_at k nodes ≡ Some node) (path : Text) (named : path ≡ node.path)
-    (rack : List Driver) (relations : List Relation) (reserved : List Res) (mirrors : Mirrors reserved nodes a) where
+    (around : Core) (mirrors : Mirrors around.reserved nodes a) where
   abbrev before : Core
-  before = core_of nodes relations rack reserved
+  before = at_nodes nodes around
 
   -- the answer of the problem of the machine
   own_answer : (found : Found) → Answers nodes a (k ∷ []) budget found → IsAnswer (own_problem before node).fixed (own_problem before node).movers budget (answer_of found)
   own_answer found answers =
-      subst (λ (i : ℕ). IsAnswer (held_beside reserved nodes (i ∷ [])) (node.reqs ∷ []) budget (answer_of found)) (sym (own_serial k node nodes at))
-      (subst (λ (o : Option Node). IsAnswer (held_beside reserved nodes (k ∷ [])) (reqs_of o ∷ []) budget (answer_of found)) at (answers reserved mirrors))
+      subst (λ (i : ℕ). IsAnswer (held_beside around.reserved nodes (i ∷ [])) (node.reqs ∷ []) budget (answer_of found)) (sym (own_serial k node nodes at))
+      (subst (λ (o : Option Node). IsAnswer (held_beside around.reserved nodes (k ∷ [])) (reqs_of o ∷ []) budget (answer_of found)) at (answers around.reserved mirrors))
 
   -- the step for the device that was found
   for_node : (step : StartStep) (nodes' : List Node) (phase : Phase)
-      → Done budget (Searches (own_problem before node) (searched before node)) step (core_of nodes' relations rack reserved) phase
-      → SearchedFor budget (node_at k nodes) before step (core_of nodes' relations rack reserved) phase
-  for_node step nodes' phase h = subst (λ (o : Option Node). SearchedFor budget o before step (core_of nodes' relations rack reserved) phase) (sym at) h
+      → Done budget (Searches (own_problem before node) (searched before node)) step (at_nodes nodes' around) phase
+      → SearchedFor budget (node_at k nodes) before step (at_nodes nodes' around) phase
+  for_node step nodes' phase h = subst (λ (o : Option Node). SearchedFor budget o before step (at_nodes nodes' around) phase) (sym at) h
 
   pub found_assignment : (plan : List (List Res)) (holds held : List Res) (nodes' : List Node) (phase : Phase) → Answers nodes a (k ∷ []) budget (Assignment plan)
       → holds ≡ own_part plan → held ≡ holds → nodes' ≡ changed_first (is_node k) (with_holds holds) nodes → phase ≡ Starting (walk_of Minor.Start)
-      → SearchedFor budget (node_at k nodes) before (steps.Did (Label.Assign path held)) (core_of nodes' relations rack reserved) phase
+      → SearchedFor budget (node_at k nodes) before (steps.Did (Label.Assign path held)) (at_nodes nodes' around) phase
   found_assignment plan holds held nodes' phase answers part same changed starts =
       for_node (steps.Did (Label.Assign path held)) nodes' phase (
         answer_of (Assignment plan),
@@ -57,7 +58,7 @@ module _ (budget k : ℕ) (nodes : List Node) (a : Arbiters) (node : Node) (at :
         (
           refl,
           ap (λ t. Label.Assign t held) named ∙ ap (λ l. Label.Assign node.path l) (same ∙ part),
-          ap (λ ns. core_of ns relations rack reserved)
+          ap (λ ns. at_nodes ns around)
               (changed ∙ (ap (λ l. changed_first (is_node k) (with_holds l) nodes) part ∙ ap (λ i. changed_first (is_node i) (with_holds (own_part plan)) nodes) (sym (own_serial k node nodes at)))),
           starts,
         ),

@@ -1,15 +1,15 @@
 -- One step of a start, as the machine has it.
 use Rattle.std.specs.Prelude.{◌≡◌, ℕ, Bool, true, false, List, Option, Some, None, drop, slice_get}
-use Rattle.resource_reqs.specs.Resources.{Res}
 use Rattle.resource_reqs.specs.Spelling.{IsAnswer}
 use Rattle.pnp_labels.specs.declared.states.Problem.{Problem}
 use Rattle.pnp_labels.specs.declared.words.Answer.{Answer}
 use Rattle.pnp_labels.specs.declared.words.Answer.TheVariants.{Ok}
-use Rattle.pnp_model.specs.Records.{Node, Core, Driver, Relation, Phase, Found, Doing}
+use Rattle.pnp_model.specs.Records.{Node, Core, Driver, Phase, Found, Doing}
 use Rattle.pnp_model.specs.Records.Phase.{Adding, Due}
 use Rattle.pnp_model.specs.Records.Doing.{Does, Searches}
-use Rattle.pnp_model.specs.Cores.{core_of, node_at, forget}
+use Rattle.pnp_model.specs.Cores.{node_at, set_rack, forget}
 use Rattle.pnp_model.specs.Starts.{StartMove, StartBeside, act, adding}
+use Rattle.devnode_tree.specs.Cores.{at_nodes}
 use Rattle.trial_journal.specs.Four.{Arbiters}
 use Rattle.device_holdings.specs.Mirrors.{Mirrors}
 use Rattle.start_sequence.specs.declared.next.StartStep.{StartStep}
@@ -36,12 +36,11 @@ DoneFor budget None c phase step c' phase' = ⊥
 DoneFor budget (Some node) c phase step c' phase' =
     forget node.serial c.relations ≡ c.relations → Done budget (act c node phase) step c' phase'
 
--- the step of the start of device k, for this budget and whatever is reserved as these arbiters mirror it; what is related and
--- what is reserved stay
+-- the step of the start of device k, for this budget and whatever else there is, where these arbiters mirror what is reserved
 abbrev pub Acts : ℕ → Arbiters → ℕ → List Node → List Driver → Phase → StartStep → List Node → List Driver → Phase → Type 0
 Acts budget arbiters k nodes rack phase step nodes' rack' phase' =
-    (relations : List Relation) (reserved : List Res) → Mirrors reserved nodes arbiters
-    → DoneFor budget (node_at k nodes) (core_of nodes relations rack reserved) phase step (core_of nodes' relations rack' reserved) phase'
+    (around : Core) → Mirrors around.reserved nodes arbiters
+    → DoneFor budget (node_at k nodes) (at_nodes nodes (set_rack rack around)) phase step (at_nodes nodes' (set_rack rack' around)) phase'
 
 -- the driver that is to be asked next to add the device
 abbrev pub first_pending : Phase → Option ℕ

@@ -1,8 +1,8 @@
-ghost use Rattle.std.specs.Prelude.{◌≡◌, ◌≤◌, List, [], ◌++◌, ◌∷◌, IfOk, OnErr, IsSome, false};
-ghost use Rattle.pnp_model.specs.Cores.{node_at, stacked, core_of};
+ghost use Rattle.std.specs.Prelude.{◌≡◌, ◌≤◌, [], ◌++◌, ◌∷◌, IfOk, OnErr, IsSome, false};
+ghost use Rattle.pnp_model.specs.Cores.{node_at, set_rack, stacked};
 ghost use Rattle.pnp_model.specs.Machine.{phase_walk, is_waiting};
-ghost use Rattle.pnp_model.specs.Records.{Relation};
-ghost use Rattle.resource_reqs.specs.Resources.{Res};
+ghost use Rattle.pnp_model.specs.Records.{Core};
+ghost use Rattle.devnode_tree.specs.Cores.{at_nodes};
 ghost use Rattle.devnode_tree.specs.Identities.{identities};
 ghost use Rattle.trial_journal.specs.Four as Four;
 ghost use Rattle.device_holdings.specs.Mirrors.{IsMirrored, KeepsMirror};
@@ -120,7 +120,7 @@ fn start<R: Drivers>(
 ) -> Result<Started, WantOfMemory>
     requires there { IsSome (node_at serial tree.old.nodes) }
     requires goes { walk.old.walk.waits ≡ false }
-    ensures started { IfOk result (λ went. (relations : List Relation) (reserved : List Res) → StartsFor (node_at serial tree.old.nodes) (core_of tree.old.nodes relations (R.rows rack.old) reserved) walk.old.walk went (core_of tree.new.nodes relations (R.rows rack.new) reserved) walk.new.walk) }
+    ensures started { IfOk result (λ went. (around : Core) → StartsFor (node_at serial tree.old.nodes) (at_nodes tree.old.nodes (set_rack (R.rows rack.old) around)) walk.old.walk went (at_nodes tree.new.nodes (set_rack (R.rows rack.new) around)) walk.new.walk) }
     ensures next { tree.new.next ≡ tree.old.next }
     ensures keeps { identities tree.new.nodes ≡ identities tree.old.nodes }
     ensures mirrors { (arbiters : Four.Arbiters) → KeepsMirror tree.old.nodes arbiters tree.new.nodes arbiters }
@@ -161,7 +161,7 @@ fn remove<R: Drivers>(
     requires there { IsSome (node_at serial tree.old.nodes) }
     requires goes { walk.old.walk.waits ≡ false }
     requires mirrored { IsMirrored tree.old.nodes arbiters.old }
-    ensures removed { IfOk result (λ went. (relations : List Relation) (reserved : List Res) → RemovesFor (node_at serial tree.old.nodes) (core_of tree.old.nodes relations (R.rows rack.old) reserved) walk.old.walk went (core_of tree.new.nodes relations (R.rows rack.new) reserved) walk.new.walk) }
+    ensures removed { IfOk result (λ went. (around : Core) → RemovesFor (node_at serial tree.old.nodes) (at_nodes tree.old.nodes (set_rack (R.rows rack.old) around)) walk.old.walk went (at_nodes tree.new.nodes (set_rack (R.rows rack.new) around)) walk.new.walk) }
     ensures next { tree.new.next ≡ tree.old.next }
     ensures keeps { identities tree.new.nodes ≡ identities tree.old.nodes }
     ensures mirrors { KeepsMirror tree.old.nodes arbiters.old tree.new.nodes arbiters.new }

@@ -1,8 +1,8 @@
 ghost use Rattle.std.specs.Prelude.{◌≡◌, ◌≤◌, List, IfOk, OnErr, IsSome};
-ghost use Rattle.resource_reqs.specs.Resources.{Res};
-ghost use Rattle.pnp_model.specs.Cores.{node_at, core_of};
-ghost use Rattle.pnp_model.specs.Records.{Driver, Relation};
+ghost use Rattle.pnp_model.specs.Cores.{node_at, set_rack};
+ghost use Rattle.pnp_model.specs.Records.{Core, Driver};
 ghost use Rattle.pnp_model.specs.Starts.{own_part};
+ghost use Rattle.devnode_tree.specs.Cores.{at_nodes};
 ghost use Rattle.devnode_tree.specs.Identities.{identities};
 ghost use Rattle.device_holdings.specs.Mirrors.{Mirrors, IsMirrored, KeepsMirror};
 ghost use Rattle.start_sequence.specs.Parts.{SearchedFor};
@@ -45,7 +45,7 @@ impl StartWork {
         requires there { IsSome (node_at self.old.serial tree.old.nodes) }
         requires mirrored { IsMirrored tree.old.nodes arbiters.old }
         requires budget { budget ≤ 1000000 }
-        ensures searched { IfOk result (λ step. (rack : List Driver) (relations : List Relation) (reserved : List Res) → Mirrors reserved tree.old.nodes arbiters.old → SearchedFor budget (node_at self.old.serial tree.old.nodes) (core_of tree.old.nodes relations rack reserved) step (core_of tree.new.nodes relations rack reserved) self.new.phase) }
+        ensures searched { IfOk result (λ step. (rack : List Driver) (around : Core) → Mirrors around.reserved tree.old.nodes arbiters.old → SearchedFor budget (node_at self.old.serial tree.old.nodes) (at_nodes tree.old.nodes (set_rack rack around)) step (at_nodes tree.new.nodes (set_rack rack around)) self.new.phase) }
         ensures serial { self.new.serial ≡ self.old.serial }
         ensures next { tree.new.next ≡ tree.old.next }
         ensures keeps { identities tree.new.nodes ≡ identities tree.old.nodes }

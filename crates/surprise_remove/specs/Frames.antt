@@ -1,8 +1,7 @@
 -- A surprise removal in the words of the machine.
-use Rattle.std.specs.Prelude.{ℕ, Bool, List, [], ◌∷◌, Option, Result}
+use Rattle.std.specs.Prelude.{Bool, Option, Result}
 use Rattle.pnp_labels.specs.declared.words.Minor.{Minor}
-use Rattle.pnp_model.specs.Records.{Node, Surprise, SurpriseStage}
-use Rattle.pnp_model.specs.Surprises.{finish_on}
+use Rattle.pnp_model.specs.Records.{Surprise, SurpriseStage}
 use Rattle.pnp_model.specs.Machine.{surprise_walk, is_waiting}
 use Rattle.pnp_model.specs.Events.{answer_of, completed_surprise}
 use Rattle.device_stack.specs.declared.walk.NoSuchRequest.{NoSuchRequest}
@@ -16,8 +15,3 @@ minor_that_waits stage = minor_of (surprise_walk stage)
 -- a surprise removal that waits goes on with the answer; any other refuses, and stays
 abbrev pub Completed : Result (Unit {0}) NoSuchRequest → Surprise → Bool → Surprise → Type 0
 Completed result old ok new = Completes (is_waiting (surprise_walk old.stage)) result old (record old { stage = completed_surprise (answer_of ok) old.stage }) new
-
--- where there is none to tell, all of the set are finished
-abbrev pub finish_if_none : List Node → Surprise → List ℕ → Surprise
-finish_if_none nodes o [] = finish_on nodes o o.set
-finish_if_none nodes o (k ∷ ks) = o

@@ -1,13 +1,13 @@
 -- One step of a surprise removal, as the machine has it.
 use Rattle.std.specs.Prelude.{Bool, List, Option, IsSome, IfSome}
-use Rattle.resource_reqs.specs.Resources.{Res}
 use Rattle.pnp_labels.specs.declared.label.RemoveStep.{RemoveStep}
 use Rattle.pnp_labels.specs.declared.label.RemoveStep.TheVariants as steps
 use Rattle.pnp_model.specs.Frames.{first_node}
 use Rattle.pnp_model.specs.Records.{Node, Core, Driver, Relation, Surprise, SurpriseStage}
-use Rattle.pnp_model.specs.Cores.{core_of}
+use Rattle.pnp_model.specs.Cores.{set_rack}
 use Rattle.pnp_model.specs.Removals.{RemoveBeside}
 use Rattle.pnp_model.specs.Surprises.{SurpriseMove, surprised}
+use Rattle.devnode_tree.specs.Cores.{at_related}
 use Rattle.operation_frame.specs.Nodes.{IsStripped}
 use Rattle.operation_frame.specs.Steps as frames
 use Rattle.operation_frame.specs.Steps.{StepIs}
@@ -24,10 +24,10 @@ Moved m (steps.Over label) core o = StepIs m RemoveBeside.Over label core o
 abbrev pub MovedBy : Option SurpriseMove → RemoveStep → Core → Surprise → Type 0
 MovedBy m step core o = frames.MovedBy Moved m step core o
 
--- the step of the surprise removal, whatever is reserved
+-- the step of the surprise removal, whatever else there is
 abbrev pub Surprises : List Node → List Relation → List Driver → Surprise → Bool → RemoveStep → List Node → List Relation → List Driver → Surprise → Type 0
 Surprises nodes relations rack o in_world step nodes' relations' rack' o' =
-    (reserved : List Res) → MovedBy (surprised (core_of nodes relations rack reserved) o in_world) step (core_of nodes' relations' rack' reserved) o'
+    (around : Core) → MovedBy (surprised (at_related nodes relations (set_rack rack around)) o in_world) step (at_related nodes' relations' (set_rack rack' around)) o'
 
 -- but for the end, the device that is next is there
 abbrev pub HasNext : List Node → Surprise → SurpriseStage → Type 0

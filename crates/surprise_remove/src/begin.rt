@@ -1,8 +1,7 @@
-ghost use Rattle.std.specs.Prelude.{◌≡◌, IfOk, OnOk, IsSome};
+ghost use Rattle.std.specs.Prelude.{◌≡◌, IfOk, IsSome};
 ghost use Rattle.pnp_model.specs.Cores.{node_at};
 ghost use Rattle.pnp_model.specs.Keyed.{those};
 ghost use Rattle.pnp_model.specs.Surprises.{is_told_node};
-ghost use Rattle.surprise_remove.specs.Frames.{finish_if_none};
 ghost use Rattle.surprise_remove.specs.Begins.{BegunFor};
 
 use crate::frame::{Stage, Surprise};
@@ -57,15 +56,16 @@ impl Surprise {
         let order = relations.leaving(alloc, tree, target)?;
         let set = SerialSet::of(alloc, &order)?;
         let todo = told(alloc, tree, &set)?;
+        let all = todo.all_where_none(alloc, &set)?;
         let mut surprise = Surprise {
             target,
             path,
             set,
             todo,
-            stage: Stage::Telling,
+            stage: Stage::Ending,
             walk: Walk::begin(Minor::SurpriseRemoval),
         };
-        surprise.finish_where_none_is_told(alloc, tree)?;
+        surprise.tell_next(tree, all);
         Ok((
             Label::Begin {
                 op: OpKind::Surprise,
@@ -73,16 +73,5 @@ impl Surprise {
             },
             surprise,
         ))
-    }
-
-    /// Where no device is to be told, all are finished.
-    fn finish_where_none_is_told(&mut self, alloc: Global, tree: &Tree) -> Result<(), WantOfMemory>
-        ensures { OnOk result (self.new ≡ finish_if_none tree.now.nodes self.old self.old.todo) }
-    {
-        if self.todo.get(0).is_none() {
-            self.todo = SerialQueue::of(alloc, &self.set)?;
-            self.finish_next(tree);
-        }
-        Ok(())
     }
 }

@@ -1,16 +1,17 @@
-ghost use Rattle.std.specs.Prelude.{◌≡◌, List, IfOk, OnErr, IsSome, true, false};
+ghost use Rattle.std.specs.Prelude.{◌≡◌, IfOk, OnErr, IsSome, true, false};
 ghost use Rattle.pnp_model.specs.Cores.{node_at};
 ghost use Rattle.pnp_model.specs.Machine.{surprise_walk, is_waiting};
 ghost use Rattle.pnp_model.specs.Surprises.{tell_on, tell_step};
 ghost use Rattle.pnp_model.specs.Frames.{first_node};
 ghost use Rattle.pnp_model.specs.Records as Records;
-ghost use Rattle.pnp_model.specs.Records.{Relation};
 ghost use Rattle.trial_journal.specs.Four as Four;
 ghost use Rattle.device_holdings.specs.Mirrors.{IsMirrored, KeepsMirror};
 ghost use Rattle.operation_frame.specs.Nodes.{PathIs};
 ghost use Rattle.operation_frame.specs.Queues.{all_after};
-ghost use Rattle.surprise_remove.specs.Steps.{Surprises, HasNext, SettlesStripped};
-ghost use Rattle.surprise_remove.specs.Parts.{MovesFor, end_move, is_walking};
+ghost use Rattle.operation_frame.specs.Steps.{MovesFor, MovesRelated};
+ghost use Rattle.pnp_labels.specs.declared.label.RemoveStep.TheVariants as steps;
+ghost use Rattle.surprise_remove.specs.Steps.{Moved, Surprises, HasNext, SettlesStripped};
+ghost use Rattle.surprise_remove.specs.Parts.{end_move, is_walking};
 
 use crate::frame::{Stage, Surprise};
 use device_ids::{Text, WantOfMemory};
@@ -25,7 +26,7 @@ use trial_journal::Arbiters;
 
 impl Surprise {
     /// The device that is next is told, and where none is next all are finished.
-    fn tell_next(&mut self, tree: &Tree, all: SerialQueue)
+    pub(crate) fn tell_next(&mut self, tree: &Tree, all: SerialQueue)
         requires { all ≡ all_after self.old.set self.old.todo }
         ensures { self.new ≡ tell_on tree.now.nodes self.old self.old.todo }
     {
@@ -47,7 +48,7 @@ impl Surprise {
         tree: &mut Tree,
     ) -> Result<Label, WantOfMemory>
         requires path { PathIs (node_at serial tree.old.nodes) path }
-        ensures told { IfOk result (λ label. (relations : List Relation) (w : Records.Walk) → MovesFor (node_at serial tree.old.nodes) (λ c n. tell_step c self.old n w true) tree.old.nodes relations label tree.new.nodes relations self.new) }
+        ensures told { IfOk result (λ label. (w : Records.Walk) → MovesFor Moved (node_at serial tree.old.nodes) (λ c n. tell_step c self.old n w true) tree.old.nodes (steps.Did label) tree.new.nodes self.new) }
         ensures next { tree.new.next ≡ tree.old.next }
         ensures mirrors { (arbiters : Four.Arbiters) → KeepsMirror tree.old.nodes arbiters tree.new.nodes arbiters }
         ensures surprise { OnErr result (self.new ≡ self.old) }
@@ -72,7 +73,7 @@ impl Surprise {
         requires path { PathIs (node_at serial tree.old.nodes) path }
         requires walking { is_walking self.old.stage ≡ true }
         requires mirrored { IsMirrored tree.old.nodes arbiters.old }
-        ensures ended { IfOk result (λ label. MovesFor (node_at serial tree.old.nodes) (end_move self.old self.old.stage) tree.old.nodes relations.old label tree.new.nodes relations.new self.new) }
+        ensures ended { IfOk result (λ label. MovesRelated Moved (node_at serial tree.old.nodes) (end_move self.old self.old.stage) tree.old.nodes relations.old (steps.Did label) tree.new.nodes relations.new self.new) }
         ensures next { tree.new.next ≡ tree.old.next }
         ensures mirrors { KeepsMirror tree.old.nodes arbiters.old tree.new.nodes arbiters.new }
         ensures surprise { OnErr result (self.new ≡ self.old) }

@@ -1,6 +1,10 @@
-use Rattle.pnp_cli.specs.Words.{texts}
+use Rattle.pnp_cli.specs.Words.{texts, settings_of}
 use Rattle.pnp_cli.proofs.Lawfulness.{output_tells, output_by_diagram, output_shares, output_holds_whole, output_restores, output_dependents, output_conflicts, output_begins, output_joins, output_told, output_keyed, output_acyclic, output_map_clear, output_stacks, output_names}
+use Rattle.pnp_cli.proofs.OneOutput.{one_front}
 use Rattle.pnp_cli.proofs.program.run.Goals as goal
+
+pub returns-clause-front : goal.returns-clause-front
+returns-clause-front g c = one_front (settings_of (texts c.args.words.now)) (g.F.Files.contents c.args.files.now) _ (g.K.Sink.taken c.args.sink.now) (g.K.Sink.taken c.run_over.new.sink) c.run_over.ensures.front
 
 pub returns-clause-tells : goal.returns-clause-tells
 returns-clause-tells g c = output_tells (texts c.args.words.now) (g.F.Files.contents c.args.files.now) _

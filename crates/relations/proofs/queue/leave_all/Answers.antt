@@ -51,7 +51,7 @@ loop-serial-preserved c =
     })
 
 pub returns : goal.returns
-returns c rack reserved =
+returns c around =
     let nodes = c.args.tree.now.nodes in
     let g = ascending 0 nodes c.in_ok-found.ensures.tree.ascends in
     let m = there_found nodes c.args.target c.requires in
@@ -59,4 +59,4 @@ returns c rack reserved =
     let none : heap_items c.loop-serial.queue.free ≡ [] = empty_of (heap_items c.loop-serial.queue.free) (omega arith) in
     running_end nodes c.args.relations.now c.args.target g m.0 m.1 c.loop-serial.order c.loop-serial.queue.counts
     (subst (λ (hs : List ℕ). Running nodes c.args.relations.now c.args.target c.loop-serial.order c.loop-serial.queue.counts hs) none c.loop-serial.invariant.running)
-    ∙ sym (leaving_same nodes c.args.relations.now rack reserved c.args.target)
+    ∙ sym (leaving_same nodes c.args.relations.now around c.args.target)

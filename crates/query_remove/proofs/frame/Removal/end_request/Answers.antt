@@ -1,13 +1,17 @@
-use Rattle.std.proofs.Common.{◌∙◌, List, true, false, ap, sym}
+use Rattle.std.proofs.Common.{◌∙◌, Bool, true, false, ap, refl, sym, subst}
+use Rattle.pnp_labels.specs.declared.label.RemoveStep.TheVariants as steps
 use Rattle.pnp_model.specs.Records as Records
 use Rattle.pnp_model.specs.Records.{Removal}
 use Rattle.pnp_model.specs.Cores.{node_at}
-use Rattle.pnp_model.specs.Removals.{end_ask, take_back, cancel_step, remove_step}
+use Rattle.pnp_model.specs.Removals.{RemoveBeside, end_ask, take_back, remove_step}
 use Rattle.devnode_tree.specs.Trees.{Tree}
+use Rattle.operation_frame.specs.Steps.{MovesFor, MovesRelated}
+use Rattle.operation_frame.proofs.Ends.{at_stage, ends_at, stripped_is}
+use Rattle.operation_frame.proofs.Requests.{ok_then}
 use Rattle.query_remove.specs.Stages.{stage_of}
-use Rattle.query_remove.specs.Parts.{MovesFor, end_move, is_walking}
-use Rattle.operation_frame.proofs.Requests.{ok_moves}
-use Rattle.query_remove.proofs.Moving.{moves_as, as_asked, as_taken, as_cancelled, as_removed, stripped_is, only_removing}
+use Rattle.query_remove.specs.Steps.{Moved}
+use Rattle.query_remove.specs.Parts.{end_move, is_walking}
+use Rattle.query_remove.proofs.Moving.{only_removing}
 use Rattle.query_remove.proofs.frame.Removal.end_request.Goals as goal
 
 pub returns-then-refused-clause-mirrors : goal.returns-then-refused-clause-mirrors
@@ -22,46 +26,58 @@ returns-in-TakingBack-clause-mirrors c = c.take_back.ensures.mirrors c.args.arbi
 pub returns-in-Cancelling-clause-mirrors : goal.returns-in-Cancelling-clause-mirrors
 returns-in-Cancelling-clause-mirrors c = c.cancel.ensures.mirrors c.args.arbiters.now
 
+pub returns-then-refused-clause-ended : goal.returns-then-refused-clause-ended
+returns-then-refused-clause-ended c =
+    let o = c.args.self.now in
+    let w = c.self.inside.walk.walk in
+    let nodes = c.args.tree.now.nodes in
+    let x = node_at c.args.serial nodes in
+    let stage = ap (λ (r : Removal). r.stage) (sym c.self.view_is) ∙ ap (λ s. stage_of s w) c.in-Asking.is in
+    ends_at Moved (λ t. end_move o t c.args.refused) o.stage (Records.RemovalStage.Asking w) stage x nodes c.args.relations.now (steps.Did c.refuse.result) c.refuse.new.tree.nodes c.refuse.new.self
+    (subst (λ (b : Bool). MovesFor Moved x (λ d n. end_ask d o n b) nodes (steps.Did c.refuse.result) c.refuse.new.tree.nodes c.refuse.new.self) (sym c.if-refused.true) c.refuse.ensures.refused)
+
 pub returns-else-refused-clause-ended : goal.returns-else-refused-clause-ended
 returns-else-refused-clause-ended c =
     let o = c.args.self.now in
     let w = c.self.inside.walk.walk in
-    let x = node_at c.args.serial c.args.tree.now.nodes in
-    let rs = c.args.relations.now in
+    let nodes = c.args.tree.now.nodes in
+    let x = node_at c.args.serial nodes in
     let stage = ap (λ (r : Removal). r.stage) (sym c.self.view_is) ∙ ap (λ s. stage_of s w) c.in-Asking.is in
-    ok_moves (λ label. (relations : List Records.Relation) → MovesFor x (λ c n. end_ask c o n false) c.args.tree.now.nodes relations label c.agree.new.tree.nodes relations c.agree.new.self) _
-    (λ label h. moves_as x _ _ c.args.tree.now.nodes rs label c.agree.new.tree.nodes rs c.agree.new.self (as_asked o c.args.refused w stage false c.if-refused.false) (h rs)) c.agree.result c.agree.ensures.agreed
+    ok_then (λ label. MovesFor Moved x (λ d n. end_ask d o n false) nodes (steps.Did label) c.agree.new.tree.nodes c.agree.new.self) _
+    (λ label h. ends_at Moved (λ t. end_move o t c.args.refused) o.stage (Records.RemovalStage.Asking w) stage x nodes c.args.relations.now (steps.Did label) c.agree.new.tree.nodes c.agree.new.self
+    (subst (λ (b : Bool). MovesFor Moved x (λ d n. end_ask d o n b) nodes (steps.Did label) c.agree.new.tree.nodes c.agree.new.self) (sym c.if-refused.false) h)) c.agree.result c.agree.ensures.agreed
 
 pub returns-in-TakingBack-clause-ended : goal.returns-in-TakingBack-clause-ended
 returns-in-TakingBack-clause-ended c =
     let o = c.args.self.now in
     let w = c.self.inside.walk.walk in
-    let x = node_at c.args.serial c.args.tree.now.nodes in
-    let rs = c.args.relations.now in
+    let nodes = c.args.tree.now.nodes in
+    let x = node_at c.args.serial nodes in
     let stage = ap (λ (r : Removal). r.stage) (sym c.self.view_is) ∙ ap (λ s. stage_of s w) c.in-TakingBack.is in
-    ok_moves (λ label. (relations : List Records.Relation) (v : Records.Walk) → MovesFor x (λ c n. take_back c o n v true) c.args.tree.now.nodes relations label c.take_back.new.tree.nodes relations c.take_back.new.self) _
-    (λ label h. moves_as x _ _ c.args.tree.now.nodes rs label c.take_back.new.tree.nodes rs c.take_back.new.self (as_taken o c.args.refused w stage) (h rs w)) c.take_back.result c.take_back.ensures.taken
+    ok_then (λ label. (v : Records.Walk) → MovesFor Moved x (λ d n. take_back d o n v true) nodes (steps.Did label) c.take_back.new.tree.nodes c.take_back.new.self) _
+    (λ label h. ends_at Moved (λ t. end_move o t c.args.refused) o.stage (Records.RemovalStage.TakingBack w) stage x nodes c.args.relations.now (steps.Did label) c.take_back.new.tree.nodes c.take_back.new.self (h w))
+    c.take_back.result c.take_back.ensures.taken
 
 pub returns-in-Cancelling-clause-ended : goal.returns-in-Cancelling-clause-ended
 returns-in-Cancelling-clause-ended c =
     let o = c.args.self.now in
     let w = c.self.inside.walk.walk in
-    let x = node_at c.args.serial c.args.tree.now.nodes in
-    let rs = c.args.relations.now in
+    let nodes = c.args.tree.now.nodes in
     let stage = ap (λ (r : Removal). r.stage) (sym c.self.view_is) ∙ ap (λ s. stage_of s w) c.in-Cancelling.is in
-    moves_as x (λ c n. cancel_step c o n w true) (end_move o o.stage c.args.refused) c.args.tree.now.nodes rs c.cancel.result c.cancel.new.tree.nodes rs c.cancel.new.self
-    (as_cancelled o c.args.refused w stage) (c.cancel.ensures.cancelled rs w)
+    ends_at Moved (λ t. end_move o t c.args.refused) o.stage (Records.RemovalStage.Cancelling w) stage (node_at c.args.serial nodes) nodes c.args.relations.now (steps.Did c.cancel.result) c.cancel.new.tree.nodes c.cancel.new.self
+    (c.cancel.ensures.cancelled w)
 
 pub returns-in_default-clause-ended : goal.returns-in_default-clause-ended
 returns-in_default-clause-ended c =
     let o = c.args.self.now in
     let w = c.self.inside.walk.walk in
-    let x = node_at c.args.serial c.args.tree.now.nodes in
+    let nodes = c.args.tree.now.nodes in
     let rs = c.args.relations.now in
     let seen = ap (λ (r : Removal). r.stage) c.self.view_is in
     let only = only_removing c.self.inside.stage w c.in_default.not-Asking c.in_default.not-TakingBack c.in_default.not-Cancelling (ap is_walking seen ∙ c.requires.walking) in
     let stage = sym seen ∙ ap (λ s. stage_of s w) only in
-    moves_as x (λ c n. remove_step c o n w true) (end_move o o.stage c.args.refused) c.args.tree.now.nodes rs c.strip.result c.strip.new.tree.nodes c.strip.new.relations _
-    (as_removed o c.args.refused w stage)
-    (stripped_is c.args.tree.now.nodes rs c.args.serial c.args.path c.strip.result o _ w c.strip.new.tree.nodes c.strip.new.relations c.requires.path c.strip.ensures.label
-    (ap (λ (t : Tree). t.nodes) c.strip.ensures.bare) c.strip.ensures.relations (ap (λ (r : Removal). record r { stage = Records.RemovalStage.Settling }) c.self.view_is))
+    let settles = ap (λ (r : Removal). record r { stage = Records.RemovalStage.Settling }) c.self.view_is in
+    at_stage Moved (λ t. end_move o t c.args.refused) o.stage (Records.RemovalStage.Removing w) stage (node_at c.args.serial nodes) nodes rs (steps.Did c.strip.result) c.strip.new.tree.nodes _ c.strip.new.relations
+    (subst (λ (f : Removal). MovesRelated Moved (node_at c.args.serial nodes) (end_move o (Records.RemovalStage.Removing w) c.args.refused) nodes rs (steps.Did c.strip.result) c.strip.new.tree.nodes c.strip.new.relations f) (sym settles)
+    (stripped_is Moved RemoveBeside.On (steps.Did c.strip.result) c.strip.result (λ m core frame h. h) nodes c.strip.new.tree.nodes c.args.serial c.args.path (record o { stage = Records.RemovalStage.Settling }) rs c.strip.new.relations
+    (λ d n. remove_step d o n w true) c.requires.path c.strip.ensures.label (ap (λ (t : Tree). t.nodes) c.strip.ensures.bare) c.strip.ensures.relations (λ around n. refl)))

@@ -9,7 +9,7 @@ use Rattle.query_remove.proofs.Moving.{refused_is}
 use Rattle.query_remove.proofs.frame.Removal.refuse.Goals as goal
 
 pub returns-clause-refused : goal.returns-clause-refused
-returns-clause-refused c relations =
-    refused_is c.args.tree.now.nodes c.end_walk.new.tree.nodes c.args.serial c.args.path c.end_walk.result c.args.self.now _ relations c.requires.path c.end_walk.ensures.ended
+returns-clause-refused c =
+    refused_is c.args.tree.now.nodes c.end_walk.new.tree.nodes c.args.serial c.args.path c.end_walk.result c.args.self.now _ c.requires.path c.end_walk.ensures.ended
     (ap (λ (s : Standing). record (the_view c.self.inside) { refuser = Some c.args.serial; stage = Records.RemovalStage.TakingBack s.walk }) c.begin-self-inside.ensures
     ∙ ap (λ (o : Removal). record o { refuser = Some c.args.serial; stage = Records.RemovalStage.TakingBack (walk_of Minor.CancelRemove) }) c.self.view_is)

@@ -1,7 +1,6 @@
 use Rattle.std.proofs.Common.{ℕ, ◌≡◌, ◌∙◌, ap, sym, subst, is_some, true}
 use Rattle.pnp_model.specs.Cores.{node_at}
 use Rattle.pnp_model.specs.Records.{Node}
-use Rattle.device_stack.specs.Standing.{Standing}
 use Rattle.operation_frame.proofs.Given.{found_own}
 use Rattle.surprise_remove.proofs.Beginning.{begun_is}
 use Rattle.surprise_remove.proofs.frame.Surprise.begin.Goals as goal
@@ -15,6 +14,6 @@ pub returns : goal.returns
 returns c =
     let nodes = c.args.tree.now.nodes in
     let seen = c.node.view_is in
-    begun_is nodes c.args.relations.now c.args.serial c.at-node.result.now c.at-node.ensures.node c.in_ok-line.line c.in_ok-path.path c.in_ok-order.order c.in_ok-set.set c.in_ok-todo.todo c.node.inside.serial c.begin.result.walk c.finish_where_none_is_told.new.self
+    begun_is nodes c.args.relations.now c.args.serial c.at-node.result.now c.at-node.ensures.node c.in_ok-line.line c.in_ok-path.path c.in_ok-order.order c.in_ok-set.set c.in_ok-todo.todo c.node.inside.serial c.tell_next.new.self
     (c.in_ok-line.ensures ∙ (c.bytes.ensures.bytes ∙ ap (λ (n : Node). n.path) seen)) (c.in_ok-path.ensures ∙ (c.bytes-2.ensures.bytes ∙ ap (λ (n : Node). n.path) seen)) (ap (λ (n : Node). n.serial) seen)
-    c.in_ok-order.ensures c.in_ok-set.ensures c.in_ok-todo.ensures (ap (λ (s : Standing). s.walk) c.begin.ensures) c.in_ok-finish_where_none_is_told.ensures
+    c.in_ok-order.ensures c.in_ok-set.ensures c.in_ok-todo.ensures c.tell_next.ensures

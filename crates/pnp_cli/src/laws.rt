@@ -1,0 +1,9 @@
+//! What holds of every output.
+
+ghost use Rattle.pnp_cli.specs.Runs.{OutputLaw};
+
+/// Whatever the settings and the rack of drivers, each script has one output and no other. So what is said of the output
+/// of a script is said of a text that there is.
+pub fn exactly_one_output()
+    ensures { OutputLaw }
+{}
