@@ -283,7 +283,7 @@ module _ (s : State) (o : Removal) (runs : s.operation ≡ Some (Operation.Remov
       let m = rm.leaves s.core o node (Label.Ejected node.path) (rm.RemoveBeside.Ejected node.path node.born) in
       leaves s (unplug node.born (set_operation (Some (Operation.Removing m.frame)) (with_core m.core s))) (Operation.Removing o) (Operation.Removing m.frame) runs node first (Label.Ejected node.path) tt tt refl
       (rm_finish_on s.core.nodes o (rest o.todo)) refl (WorldEffect.unplugged node.born (node, o, runs, is, first, refl) refl refl) refl refl refl refl refl refl refl refl node.path node.born
-  removal_effect stage m is (RemovalStep.disables node first over) =
+  removal_effect stage m is (RemovalStep.disables node first over target) =
       record {
         nodes = NodeEffect.changed node.serial _ (Alters.troubled node.serial (Some Problem.Disabled)) refl refl;
         drivers = DriverEffect.same tt refl;

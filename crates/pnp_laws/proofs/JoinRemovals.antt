@@ -169,7 +169,7 @@ removal_closing s o stage m h keeps order (RemovalStep.ejects node first) =
     one_leaves s t (Label.Ejected node.path) node settles.at only.nodes
     (settled_closes s t o node (Label.Ejected node.path) settles (record { op = only.operation; acts = only.activities }) (λ a b c. c) tt)
     (λ knows. inl (λ d there. unplugged (node.born ∷ []) node.born s.world (grind (arith, nat_tests)) d (subst (λ (w : List Device). In d w) world there)))
-removal_closing s o stage m h keeps order (RemovalStep.disables node first over) =
+removal_closing s o stage m h keeps order (RemovalStep.disables node first over target) =
     all_stay s (removal_lifted s m) tt (settled_closes s (removal_lifted s m).state o node m.label (at_head s o node h keeps order first) (record { op = refl; acts = refl }) (λ a b c. c) tt)
 removal_closing s o stage m h keeps order (RemovalStep.remains node problem first over other) =
     all_stay s (removal_lifted s m) tt (settled_closes s (removal_lifted s m).state o node m.label (at_head s o node h keeps order first) (record { op = refl; acts = refl }) (λ a b c. c) tt)

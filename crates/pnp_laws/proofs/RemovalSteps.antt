@@ -270,7 +270,7 @@ module _ (s : State) (o : Removal) (alone : s.activities ≡ []) (good : Good s.
       })
       (inr (refl, (Minor.Remove, false, strips node.state (head_stripped o.todo j node.state work.head (keeps.each j node work.at)))))
       work.good
-  lawful_removal stage m keeps (RemovalStep.leaves node first) =
+  lawful_removal stage m keeps (RemovalStep.leaves node first inside) =
       let only = relist_only node.path node.born (set_operation (Some (Operation.Removing (finish_on s.core.nodes o (rest o.todo)))) (with_core (drop_node node.serial s.core) s)) in
       rm_leaves _ node (Label.Leave node.path) only.serial only.nodes only.activities only.operation keeps (at_work s o node alone first good)
   lawful_removal stage m keeps (RemovalStep.ejects node first) =

@@ -137,7 +137,7 @@ module _ (s : State) (o : Surprise) (alone : s.activities ≡ []) (good : Good s
       })
       (inr (refl, (Minor.Remove, false, strips node.state (head_stripped o.todo j node.state work.head (keeps.each j node work.at)))))
       work.good
-  lawful_surprise in_world stage m keeps (SurpriseStep.leaves node first) =
+  lawful_surprise in_world stage m keeps (SurpriseStep.leaves node first inside) =
       let work = at_work s o node alone first good in
       let j = node.serial in
       let nodes = without_first (is_node j) s.core.nodes in

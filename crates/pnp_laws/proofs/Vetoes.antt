@@ -133,7 +133,7 @@ module _ (before c : Core) (o : Removal) where
       inl (record { within = tt; on = tt; since = since_cancel_on before _ o o.agreed (held_same before c node.serial Started o.agreed node h.1 state since) })
   since_step stage m keeps since (RemovalStep.cancels node w e) = inl (record { within = tt; on = tt; since = since_cancel_head before c o o.todo node e.first since })
   since_step stage m keeps since (RemovalStep.removes node w e) = inl (record { within = tt; on = tt; since = since })
-  since_step stage m keeps since (RemovalStep.leaves node first) = inl (finishes _ tt tt refl since)
+  since_step stage m keeps since (RemovalStep.leaves node first inside) = inl (finishes _ tt tt refl since)
   since_step stage m keeps since (RemovalStep.ejects node first) = inl (finishes _ tt tt refl since)
   since_step stage m keeps since (RemovalStep.disables node first over target) = inl (finishes _ tt tt refl since)
   since_step stage m keeps since (RemovalStep.remains node problem first over other) = inl (finishes _ tt tt refl since)
