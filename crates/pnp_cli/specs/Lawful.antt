@@ -16,6 +16,7 @@ use Rattle.pnp_laws.specs.Begun.{Belongs, Restoring, Conflicts}
 use Rattle.pnp_laws.specs.Ends.{events, joins}
 use Rattle.pnp_laws.specs.Keys.{Keyed, IsAcyclic, NothingHeldClashes}
 use Rattle.pnp_laws.specs.Stacks.{NamesDriver, StacksFit}
+use Rattle.pnp_laws.specs.Strays.{NobodyForgotten}
 use Rattle.pnp_laws.specs.Told.{StatesTold}
 use Rattle.script_reader.specs.Script.{Trace, gives, waits, ends, stops}
 use Rattle.inf_reader.specs.declared.parts.Inf.{Inf}
@@ -159,3 +160,7 @@ AllStacksFit s = StacksFit s
 -- a driver that is asked or added is printed by its name
 abbrev pub NamesAreKnown : machines.Settings → List Driver → List Entry → State → Entry → State → Type 0
 NamesAreKnown settings rack earlier old entry new = NamesDriver (printed entry) new.core.rack
+
+-- where no operation runs, a device that was stopped, or that holds something and is not up, is being started or is due to go
+abbrev pub NobodyIsForgotten : State → Type 0
+NobodyIsForgotten s = s.operation ≡ None → NobodyForgotten s

@@ -19,11 +19,11 @@ pub record KeepsIds (f : Node → Node) : Type 0 where
   pub compat : (n : Node) → (f n).compat ≡ n.compat
   pub reqs : (n : Node) → (f n).reqs ≡ n.reqs
 
-pub alters_keeps : (s : State) (label : Label) (j : ℕ) (f : Node → Node) → Alters s label j f → KeepsIds f
-alters_keeps s label j f (Alters.walked node minor w bad at request other ends verdict prints) = record { serial = λ n. refl; hw = λ n. refl; compat = λ n. refl; reqs = λ n. refl }
-alters_keeps s label j f (Alters.troubled k problem) = record { serial = λ n. refl; hw = λ n. refl; compat = λ n. refl; reqs = λ n. refl }
-alters_keeps s label j f (Alters.stacks node d ds at acts) = record { serial = λ n. refl; hw = λ n. refl; compat = λ n. refl; reqs = λ n. refl }
-alters_keeps s label j f (Alters.assigned node phase plan acts search part) = record { serial = λ n. refl; hw = λ n. refl; compat = λ n. refl; reqs = λ n. refl }
+pub alters_keeps : (s : State) (label : Label) (t : State) (j : ℕ) (f : Node → Node) → Alters s label t j f → KeepsIds f
+alters_keeps s label t j f (Alters.walked node minor w bad at request other ends verdict prints) = record { serial = λ n. refl; hw = λ n. refl; compat = λ n. refl; reqs = λ n. refl }
+alters_keeps s label t j f (Alters.troubled k problem) = record { serial = λ n. refl; hw = λ n. refl; compat = λ n. refl; reqs = λ n. refl }
+alters_keeps s label t j f (Alters.stacks node d ds at acts) = record { serial = λ n. refl; hw = λ n. refl; compat = λ n. refl; reqs = λ n. refl }
+alters_keeps s label t j f (Alters.assigned node phase plan acts search part now) = record { serial = λ n. refl; hw = λ n. refl; compat = λ n. refl; reqs = λ n. refl }
 
 -- a device that was up does not become one that never was
 abbrev pub StaysUp : DevState → DevState → Type 0
@@ -51,10 +51,10 @@ stacked_up Stopped h = h
 stacked_up RemovePending h = h
 stacked_up SurpriseRemoved h = h
 
-pub alters_up : (s : State) (label : Label) (j : ℕ) (f : Node → Node) → Alters s label j f → (n : Node) → node_at j s.core.nodes ≡ Some n → StaysUp n.state (f n).state
-alters_up s label j f (Alters.walked node minor w bad at request other ends verdict prints) n there =
+pub alters_up : (s : State) (label : Label) (t : State) (j : ℕ) (f : Node → Node) → Alters s label t j f → (n : Node) → node_at j s.core.nodes ≡ Some n → StaysUp n.state (f n).state
+alters_up s label t j f (Alters.walked node minor w bad at request other ends verdict prints) n there =
     subst (λ (m : Node). StaysUp m.state (state_after minor bad node.state)) (some_same (node_at node.serial s.core.nodes) node n at there) (walk_up minor bad node.state other)
-alters_up s label j f (Alters.troubled k problem) n there = λ up. up
-alters_up s label j f (Alters.stacks node d ds at acts) n there =
+alters_up s label t j f (Alters.troubled k problem) n there = λ up. up
+alters_up s label t j f (Alters.stacks node d ds at acts) n there =
     subst (λ (m : Node). StaysUp m.state (stacked node.state)) (some_same (node_at node.serial s.core.nodes) node n at there) (stacked_up node.state)
-alters_up s label j f (Alters.assigned node phase plan acts search part) n there = λ up. up
+alters_up s label t j f (Alters.assigned node phase plan acts search part now) n there = λ up. up

@@ -1,5 +1,6 @@
 -- What a step of an operation does.
-use Rattle.std.proofs.Common.{ℕ, ◌≡◌, ◌≢◌, ◌⊎◌, inl, inr, Bool, true, false, List, [], ◌∷◌, ◌++◌, length, reverse, Option, Some, None, refl, ap, ◌∙◌, arith}
+use Rattle.std.proofs.Common.{ℕ, ◌≡◌, ◌≢◌, ◌==◌, ◌⊎◌, inl, inr, Bool, true, false, List, [], ◌∷◌, ◌++◌, length, reverse, Option, Some, None, refl, ap, ◌∙◌, arith}
+use Rattle.std.proofs.lemmas.Bool.Decides.{nat_tests}
 use Rattle.std.specs.Option.{option_map}
 use Rattle.resource_reqs.specs.Resources.{Res}
 use Rattle.resource_reqs.specs.Spelling.{IsAnswer}
@@ -20,8 +21,8 @@ use Rattle.pnp_model.specs.States.{append_task, device_of, list_node, node_born,
 use Rattle.pnp_model.specs.Tests.{has, is_eject}
 use Rattle.pnp_model.specs.Trees.{is_up, leaving, stands_up}
 use Rattle.pnp_model.specs.Walks.{has_ended, is_bad, state_after, walk_of}
-use Rattle.pnp_laws.specs.Words.{IsBeside, NoVeto, EndsBy, SameWork, is_removal, joined, kind_of, path_of}
-use Rattle.pnp_laws.specs.Effects.{ActivityEffect, Alters, Effect, Enters, NodeEffect, OpEffect, Origin, PathEffect, RangeEffect, Request, TaskEffect, WorldEffect, todo_of, begun, ends_bad, operation_minor, rebalance_minor, removal_minor, surprise_minor}
+use Rattle.pnp_laws.specs.Words.{IsBeside, NoVeto, EndsBy, SameWork, is_removal, joined, kind_of, path_of, spared}
+use Rattle.pnp_laws.specs.Effects.{ActivityEffect, Alters, Closes, Effect, Enters, NodeEffect, OpEffect, Origin, PathEffect, RangeEffect, Request, TaskEffect, WorldEffect, todo_of, begun, ends_bad, operation_minor, rebalance_minor, removal_minor, surprise_minor}
 use Rattle.pnp_laws.proofs.EffectsOfStarts.{Steps, EffectNext, inside}
 use Rattle.pnp_laws.proofs.Lists.{head_found}
 use Rattle.pnp_model.specs.Machine as ma
@@ -31,49 +32,53 @@ use Rattle.pnp_model.specs.Surprises as su
 
 -- Kind and path stay ------------------------------------------------------------------
 
-re_ask_on : (r : Rebalance) (ks : List ℕ) → (re.ask_on r ks).path ≡ r.path
-re_ask_on r [] = refl
-re_ask_on r (k ∷ ks) = refl
+-- the same device, by the same path
+abbrev SameFrame : Rebalance → Rebalance → Type 0
+SameFrame r p = (p.path ≡ r.path) × (p.target ≡ r.target)
 
-re_cancel_on : (r : Rebalance) (ks : List ℕ) → (re.cancel_on r ks).path ≡ r.path
-re_cancel_on r [] = refl
-re_cancel_on r (k ∷ ks) = refl
+re_ask_on : (r : Rebalance) (ks : List ℕ) → SameFrame r (re.ask_on r ks)
+re_ask_on r [] = (refl, refl)
+re_ask_on r (k ∷ ks) = (refl, refl)
 
-re_stop_on : (r : Rebalance) (ks : List ℕ) → (re.stop_on r ks).path ≡ r.path
-re_stop_on r [] = refl
-re_stop_on r (k ∷ ks) = refl
+re_cancel_on : (r : Rebalance) (ks : List ℕ) → SameFrame r (re.cancel_on r ks)
+re_cancel_on r [] = (refl, refl)
+re_cancel_on r (k ∷ ks) = (refl, refl)
 
-re_restart : (r : Rebalance) (ks : List ℕ) → (re.restart_from r ks).path ≡ r.path
-re_restart r [] = refl
-re_restart r (k ∷ ks) = refl
+re_stop_on : (r : Rebalance) (ks : List ℕ) → SameFrame r (re.stop_on r ks)
+re_stop_on r [] = (refl, refl)
+re_stop_on r (k ∷ ks) = (refl, refl)
+
+re_restart : (r : Rebalance) (ks : List ℕ) → SameFrame r (re.restart_from r ks)
+re_restart r [] = (refl, refl)
+re_restart r (k ∷ ks) = (refl, refl)
 
 rm_finish_with : (o : Removal) (todo stack : List ℕ) → SameWork (Operation.Removing o) (Operation.Removing (rm.finish_with o todo stack))
-rm_finish_with o todo [] = record { sort = refl; kind = refl; path = refl }
-rm_finish_with o todo (d ∷ ds) = record { sort = refl; kind = refl; path = refl }
+rm_finish_with o todo [] = record { sort = refl; kind = refl; path = refl; spared = refl }
+rm_finish_with o todo (d ∷ ds) = record { sort = refl; kind = refl; path = refl; spared = refl }
 
 rm_finish_on : (nodes : List Node) (o : Removal) (ks : List ℕ) → SameWork (Operation.Removing o) (Operation.Removing (rm.finish_on nodes o ks))
-rm_finish_on nodes o [] = record { sort = refl; kind = refl; path = refl }
+rm_finish_on nodes o [] = record { sort = refl; kind = refl; path = refl; spared = refl }
 rm_finish_on nodes o (k ∷ ks) = rm_finish_with o (k ∷ ks) (stack_of (node_at k nodes))
 
 rm_ask_on : (nodes : List Node) (o : Removal) (ks : List ℕ) → SameWork (Operation.Removing o) (Operation.Removing (rm.ask_on nodes o ks))
 rm_ask_on nodes o [] = rm_finish_on nodes o o.set
-rm_ask_on nodes o (k ∷ ks) = record { sort = refl; kind = refl; path = refl }
+rm_ask_on nodes o (k ∷ ks) = record { sort = refl; kind = refl; path = refl; spared = refl }
 
 rm_cancel_on : (o : Removal) (ks : List ℕ) → SameWork (Operation.Removing o) (Operation.Removing (rm.cancel_on o ks))
-rm_cancel_on o [] = record { sort = refl; kind = refl; path = refl }
-rm_cancel_on o (k ∷ ks) = record { sort = refl; kind = refl; path = refl }
+rm_cancel_on o [] = record { sort = refl; kind = refl; path = refl; spared = refl }
+rm_cancel_on o (k ∷ ks) = record { sort = refl; kind = refl; path = refl; spared = refl }
 
 su_finish_with : (o : Surprise) (todo stack : List ℕ) → SameWork (Operation.Surprising o) (Operation.Surprising (su.finish_with o todo stack))
-su_finish_with o todo [] = record { sort = refl; kind = refl; path = refl }
-su_finish_with o todo (d ∷ ds) = record { sort = refl; kind = refl; path = refl }
+su_finish_with o todo [] = record { sort = refl; kind = refl; path = refl; spared = refl }
+su_finish_with o todo (d ∷ ds) = record { sort = refl; kind = refl; path = refl; spared = refl }
 
 su_finish_on : (nodes : List Node) (o : Surprise) (ks : List ℕ) → SameWork (Operation.Surprising o) (Operation.Surprising (su.finish_on nodes o ks))
-su_finish_on nodes o [] = record { sort = refl; kind = refl; path = refl }
+su_finish_on nodes o [] = record { sort = refl; kind = refl; path = refl; spared = refl }
 su_finish_on nodes o (k ∷ ks) = su_finish_with o (k ∷ ks) (stack_of (node_at k nodes))
 
 su_tell_on : (nodes : List Node) (o : Surprise) (ks : List ℕ) → SameWork (Operation.Surprising o) (Operation.Surprising (su.tell_on nodes o ks))
 su_tell_on nodes o [] = su_finish_on nodes o o.set
-su_tell_on nodes o (k ∷ ks) = record { sort = refl; kind = refl; path = refl }
+su_tell_on nodes o (k ∷ ks) = record { sort = refl; kind = refl; path = refl; spared = refl }
 
 removal_work : (c : Core) (kind : OpKind) (node : Node) (set : List ℕ) → (kind_of (Operation.Removing (rm.begun_with c kind node set)) ≡ kind) × (path_of (Operation.Removing (rm.begun_with c kind node set)) ≡ node.path)
 removal_work c kind node set =
@@ -84,7 +89,7 @@ removal_work c kind node set =
 -- The operation that begins is of its kind, for its device
 pub begun_work : (c : Core) (kind : OpKind) (node : Node) → (kind_of (begun c kind node) ≡ kind) × (path_of (begun c kind node) ≡ node.path)
 begun_work c OpKind.Rebalance node =
-    (refl, re_ask_on (record { target = node.serial; path = node.path; todo = []; agreed = []; refused = []; found = no_fit; stage = RebalanceStage.Searching }) (reverse (serials_of (those re.is_asked c.nodes))))
+    (refl, (re_ask_on (record { target = node.serial; path = node.path; todo = []; agreed = []; refused = []; found = no_fit; stage = RebalanceStage.Searching }) (reverse (serials_of (those re.is_asked c.nodes)))).0)
 begun_work c OpKind.Disable node = removal_work c OpKind.Disable node (leaving c node.serial)
 begun_work c OpKind.Eject node = removal_work c OpKind.Eject node (leaving c node.serial)
 begun_work c OpKind.Surprise node = (
@@ -92,6 +97,12 @@ begun_work c OpKind.Surprise node = (
   (su_tell_on c.nodes (record { target = node.serial; path = node.path; set = leaving c node.serial; todo = []; stage = SurpriseStage.Ending })
       (those (λ k. su.is_told_node (node_at k c.nodes)) (leaving c node.serial))).path,
 )
+
+-- A surprise removal begins for the device with all that depends on it
+pub begun_spared : (c : Core) (node : Node) → spared (Operation.Surprising (su.begun_surprise c node)) ≡ leaving c node.serial
+begun_spared c node =
+    (su_tell_on c.nodes (record { target = node.serial; path = node.path; set = leaving c node.serial; todo = []; stage = SurpriseStage.Ending })
+    (those (λ k. su.is_told_node (node_at k c.nodes)) (leaving c node.serial))).spared
 
 -- An operation that runs ---------------------------------------------------------------
 
@@ -103,9 +114,9 @@ module _ (s : State) (o : Operation) (runs : s.operation ≡ Some o) where
       inside s label t world born paths ranges serial quiet nodes (OpEffect.goes o p runs now work (inl beside)) (ActivityEffect.same activities) tasks
 
   closes : (label : Label) (t : State) (result : OpEnd) → t.world ≡ s.world → t.next_born ≡ s.next_born → t.disabled ≡ s.disabled → t.core ≡ s.core → t.next_serial ≡ s.next_serial → t.tasks ≡ s.tasks → t.operation ≡ None
-      → label ≡ Label.End (kind_of o) (path_of o) result → EndsBy (is_removal o) result → joined label ≡ 0 → ActivityEffect s t → Steps s (record { label = label; state = t })
-  closes label t result world born paths core serial tasks now is by quiet activities =
-      inside s label t world born paths (ap (λ (c : Core). c.reserved) core) serial quiet (NodeEffect.same (ap (λ (c : Core). c.nodes) core) (ap (λ (c : Core). c.relations) core)) (OpEffect.ends o result runs now is by) activities (TaskEffect.same tasks)
+      → label ≡ Label.End (kind_of o) (path_of o) result → EndsBy (is_removal o) result → joined label ≡ 0 → Closes s o t → ActivityEffect s t → Steps s (record { label = label; state = t })
+  closes label t result world born paths core serial tasks now is by quiet over activities =
+      inside s label t world born paths (ap (λ (c : Core). c.reserved) core) serial quiet (NodeEffect.same (ap (λ (c : Core). c.nodes) core) (ap (λ (c : Core). c.relations) core)) (OpEffect.ends o result runs now is by over) activities (TaskEffect.same tasks)
 
   module _ (node : Node) (first : first_node s.core.nodes (todo_of o) ≡ Some node) (minor : Minor) (w : Walk) (walk : ma.operation_walk o ≡ Some w) (minor_is : operation_minor o ≡ Some minor) where
     asked : Request s node minor w
@@ -177,10 +188,10 @@ module _ (s u : State) (o p : Operation) (runs : s.operation ≡ Some o) (node :
 -- Rebalance -----------------------------------------------------------------------------
 
 module _ (s : State) (r : Rebalance) (runs : s.operation ≡ Some (Operation.Rebalancing r)) where
-  re_on : (label : Label) (c : Core) (p : Rebalance) → c.reserved ≡ s.core.reserved → p.path ≡ r.path → IsBeside label → joined label ≡ 0 → NodeEffect s label (ma.after_rebalance p re.RebalanceBeside.On (with_core c s))
+  re_on : (label : Label) (c : Core) (p : Rebalance) → c.reserved ≡ s.core.reserved → SameFrame r p → IsBeside label → joined label ≡ 0 → NodeEffect s label (ma.after_rebalance p re.RebalanceBeside.On (with_core c s))
       → Steps s (ma.rebalance_lifted s (record { label = label; core = c; frame = p; beside = re.RebalanceBeside.On }))
-  re_on label c p ranges path beside quiet nodes =
-      on s (Operation.Rebalancing r) runs label _ (Operation.Rebalancing p) refl refl refl ranges refl refl refl (record { sort = refl; kind = refl; path = path }) beside quiet nodes (TaskEffect.same refl)
+  re_on label c p ranges frame beside quiet nodes =
+      on s (Operation.Rebalancing r) runs label _ (Operation.Rebalancing p) refl refl refl ranges refl refl refl (record { sort = refl; kind = refl; path = frame.0; spared = ap (λ (k : ℕ). k ∷ []) frame.1 }) beside quiet nodes (TaskEffect.same refl)
 
   re_searches : (budget : ℕ) (found : Found) → IsAnswer (re.group_problem s.core r).fixed (re.group_problem s.core r).movers budget found → Steps s (ma.rebalance_lifted s (re.searched s.core r found))
   re_searches budget (assignment plan) answer = re_on _ _ _ refl (re_stop_on (record r { found = assignment plan }) (reverse r.agreed)) tt refl (NodeEffect.same refl refl)
@@ -196,22 +207,22 @@ module _ (s : State) (r : Rebalance) (runs : s.operation ≡ Some (Operation.Reb
   sticks : Steps s (ma.rebalance_lifted s (re.stuck s.core r))
   sticks =
       inside s _ _ refl refl refl refl refl refl (NodeEffect.changed r.target _ (Alters.troubled r.target (Some (re.trouble_of r.found))) refl refl)
-      (OpEffect.goes (Operation.Rebalancing r) (Operation.Rebalancing (record r { stage = RebalanceStage.Ending })) runs refl (record { sort = refl; kind = refl; path = refl }) (stuck_label r.found))
+      (OpEffect.goes (Operation.Rebalancing r) (Operation.Rebalancing (record r { stage = RebalanceStage.Ending })) runs refl (record { sort = refl; kind = refl; path = refl; spared = refl }) (stuck_label r.found))
       (ActivityEffect.same refl) (TaskEffect.same refl)
 
   module _ (is : r.stage ≡ RebalanceStage.Ending) where
-    closes_moved : (plan : List (List Res)) (result : OpEnd) (up : Bool) → r.found ≡ assignment plan → NoVeto result
+    closes_moved : (plan : List (List Res)) (result : OpEnd) (up : Bool) → stands_up s.core.nodes r.target ≡ up → r.found ≡ assignment plan → NoVeto result
         → Steps s (ma.rebalance_lifted s (record { label = Label.End OpKind.Rebalance r.path result; core = s.core; frame = r; beside = re.moved_on up }))
-    closes_moved plan result true found by =
-        closes s (Operation.Rebalancing r) runs _ _ result refl refl refl refl refl refl refl refl by refl (ActivityEffect.enters r.target (Phase.Starting (walk_of Minor.Start)) (Enters.restarts r plan runs is refl found refl) refl)
-    closes_moved plan result false found by = closes s (Operation.Rebalancing r) runs _ _ result refl refl refl refl refl refl refl refl by refl (ActivityEffect.same refl)
+    closes_moved plan result true up found by =
+        closes s (Operation.Rebalancing r) runs _ _ result refl refl refl refl refl refl refl refl by refl (inl (_, refl)) (ActivityEffect.enters r.target (Phase.Starting (walk_of Minor.Start)) (Enters.restarts r plan runs is refl found refl) refl)
+    closes_moved plan result false down found by = closes s (Operation.Rebalancing r) runs _ _ result refl refl refl refl refl refl refl refl by refl (inr down) (ActivityEffect.same refl)
 
     re_closes : (found : Found) (result : OpEnd) → r.found ≡ found → NoVeto result → Steps s (ma.rebalance_lifted s (record { label = Label.End OpKind.Rebalance r.path result; core = s.core; frame = r; beside = re.over s.core r found }))
-    re_closes (assignment plan) result e by = closes_moved plan result (stands_up s.core.nodes r.target) e by
+    re_closes (assignment plan) result e by = closes_moved plan result (stands_up s.core.nodes r.target) refl e by
     re_closes no_fit result e by =
-        closes s (Operation.Rebalancing r) runs _ _ result refl refl refl refl refl refl refl refl by refl (ActivityEffect.enters r.target (Phase.Removing (walk_of Minor.Remove)) (Enters.undoes r runs refl) refl)
+        closes s (Operation.Rebalancing r) runs _ _ result refl refl refl refl refl refl refl refl by refl (inl (_, refl)) (ActivityEffect.enters r.target (Phase.Removing (walk_of Minor.Remove)) (Enters.undoes r runs refl) refl)
     re_closes spent result e by =
-        closes s (Operation.Rebalancing r) runs _ _ result refl refl refl refl refl refl refl refl by refl (ActivityEffect.enters r.target (Phase.Removing (walk_of Minor.Remove)) (Enters.undoes r runs refl) refl)
+        closes s (Operation.Rebalancing r) runs _ _ result refl refl refl refl refl refl refl refl by refl (inl (_, refl)) (ActivityEffect.enters r.target (Phase.Removing (walk_of Minor.Remove)) (Enters.undoes r runs refl) refl)
 
   found_end : (found : Found) → NoVeto (re.end_of found)
   found_end (assignment plan) = tt
@@ -228,38 +239,39 @@ module _ (s : State) (r : Rebalance) (runs : s.operation ≡ Some (Operation.Reb
     re_ends_ask : (bad : Bool) → r.stage ≡ RebalanceStage.Asking w → has_ended w (length node.stack) ≡ true → is_bad w ≡ bad → Steps s (ma.rebalance_lifted s (re.end_ask s.core r node bad))
     re_ends_ask false is ends verdict =
         re_on _ _ _ refl (re_ask_on (record r { agreed = node.serial ∷ r.agreed }) (rest r.todo)) tt refl (walked_by (RebalanceStage.Asking w) Minor.QueryStop false is refl refl (λ e. cc) ends verdict _ _ refl refl refl)
-    re_ends_ask true is ends verdict = re_on _ _ _ refl refl tt refl (walked_by (RebalanceStage.Asking w) Minor.QueryStop true is refl refl (λ e. cc) ends verdict _ _ refl refl refl)
+    re_ends_ask true is ends verdict = re_on _ _ _ refl (refl, refl) tt refl (walked_by (RebalanceStage.Asking w) Minor.QueryStop true is refl refl (λ e. cc) ends verdict _ _ refl refl refl)
 
     re_asks : (ended : Bool) → r.stage ≡ RebalanceStage.Asking w → has_ended w (length node.stack) ≡ ended → Steps s (ma.rebalance_lifted s (re.ask_step s.core r node w ended))
     re_asks true is e = re_ends_ask (is_bad w) is e refl
-    re_asks false is e = re_on _ _ _ refl refl tt refl (NodeEffect.same refl refl)
+    re_asks false is e = re_on _ _ _ refl (refl, refl) tt refl (NodeEffect.same refl refl)
 
     re_takes_back : (ended : Bool) → r.stage ≡ RebalanceStage.TakingBack w → has_ended w (length node.stack) ≡ ended → Steps s (ma.rebalance_lifted s (re.take_back s.core r node w ended))
     re_takes_back true is e =
         re_on _ _ _ refl (re_ask_on r (those (re.is_not_above s.core.nodes node.serial) (rest r.todo))) tt refl (walked_by (RebalanceStage.TakingBack w) Minor.CancelStop false is refl refl (λ e. cc) e refl _ _ refl refl refl)
-    re_takes_back false is e = re_on _ _ _ refl refl tt refl (NodeEffect.same refl refl)
+    re_takes_back false is e = re_on _ _ _ refl (refl, refl) tt refl (NodeEffect.same refl refl)
 
     re_cancels : (ended : Bool) → r.stage ≡ RebalanceStage.Cancelling w → has_ended w (length node.stack) ≡ ended → Steps s (ma.rebalance_lifted s (re.cancel_step s.core r node w ended))
     re_cancels true is e = re_on _ _ _ refl (re_cancel_on r (rest r.todo)) tt refl (walked_by (RebalanceStage.Cancelling w) Minor.CancelStop false is refl refl (λ e. cc) e refl _ _ refl refl refl)
-    re_cancels false is e = re_on _ _ _ refl refl tt refl (NodeEffect.same refl refl)
+    re_cancels false is e = re_on _ _ _ refl (refl, refl) tt refl (NodeEffect.same refl refl)
 
     re_stops : (ended : Bool) → r.stage ≡ RebalanceStage.Stopping w → has_ended w (length node.stack) ≡ ended → Steps s (ma.rebalance_lifted s (re.stop_step s.core r node w ended))
     re_stops true is e = re_on _ _ _ refl (re_stop_on r (rest r.todo)) tt refl (walked_by (RebalanceStage.Stopping w) Minor.Stop false is refl refl (λ e. cc) e refl _ _ refl refl refl)
-    re_stops false is e = re_on _ _ _ refl refl tt refl (NodeEffect.same refl refl)
+    re_stops false is e = re_on _ _ _ refl (refl, refl) tt refl (NodeEffect.same refl refl)
 
     re_ends_restart : (bad : Bool) → r.stage ≡ RebalanceStage.Restarting w → has_ended w (length node.stack) ≡ true → is_bad w ≡ bad → Steps s (ma.rebalance_lifted s (re.end_restart s.core r node bad))
-    re_ends_restart true is ends verdict = re_on _ _ _ refl refl tt refl (walked_by (RebalanceStage.Restarting w) Minor.Start true is refl refl (λ e. cc) ends verdict _ _ refl refl refl)
+    re_ends_restart true is ends verdict = re_on _ _ _ refl (refl, refl) tt refl (walked_by (RebalanceStage.Restarting w) Minor.Start true is refl refl (λ e. cc) ends verdict _ _ refl refl refl)
     re_ends_restart false is ends verdict =
         re_on _ _ _ refl (re_restart r (re.startable (ended s.core node Minor.Start false).nodes (rest r.todo))) tt refl (walked_by (RebalanceStage.Restarting w) Minor.Start false is refl refl (λ e. cc) ends verdict _ _ refl refl refl)
 
     re_restarts : (ended : Bool) → r.stage ≡ RebalanceStage.Restarting w → has_ended w (length node.stack) ≡ ended → Steps s (ma.rebalance_lifted s (re.restart_step s.core r node w ended))
     re_restarts true is e = re_ends_restart (is_bad w) is e refl
-    re_restarts false is e = re_on _ _ _ refl refl tt refl (NodeEffect.same refl refl)
+    re_restarts false is e = re_on _ _ _ refl (refl, refl) tt refl (NodeEffect.same refl refl)
 
   re_fails : (node : Node) → first_node s.core.nodes r.todo ≡ Some node → r.stage ≡ RebalanceStage.Failed → Steps s (ma.rebalance_lifted s (re.failed s.core r node))
   re_fails node first is =
       let p = re.restart_on s.core.nodes r (rest r.todo) in
-      on s (Operation.Rebalancing r) runs _ _ (Operation.Rebalancing p) refl refl refl refl refl refl refl (record { sort = refl; kind = refl; path = re_restart r (re.startable s.core.nodes (rest r.todo)) }) tt refl
+      let frame = re_restart r (re.startable s.core.nodes (rest r.todo)) in
+      on s (Operation.Rebalancing r) runs _ _ (Operation.Rebalancing p) refl refl refl refl refl refl refl (record { sort = refl; kind = refl; path = frame.0; spared = ap (λ (k : ℕ). k ∷ []) frame.1 }) tt refl
       (NodeEffect.changed node.serial _ (Alters.troubled node.serial (Some Problem.FailedStart)) refl refl) (TaskEffect.put_first node r runs is first refl)
 
   rebalance_effect : (budget : ℕ) (stage : RebalanceStage) (n : Option Node) → r.stage ≡ stage → first_node s.core.nodes r.todo ≡ n → EffectNext budget s (option_map (doing_map (ma.rebalance_lifted s)) (re.rebalance_step s.core r stage n))
@@ -336,30 +348,30 @@ module _ (s : State) (o : Removal) (runs : s.operation ≡ Some (Operation.Remov
       ends_query : (bad : Bool) → o.stage ≡ RemovalStage.Asking w → has_ended w (length node.stack) ≡ true → is_bad w ≡ bad → Steps s (ma.removal_lifted s (rm.end_ask s.core o node bad))
       ends_query false is ends verdict =
           let work = rm_ask_on s.core.nodes (record o { agreed = node.serial ∷ o.agreed }) (rest o.todo) in
-          rm_on _ _ _ refl (record { sort = work.sort; kind = work.kind; path = work.path }) tt refl (asked_by (RemovalStage.Asking w) Minor.QueryRemove false is refl refl (λ e. cc) ends verdict _ _ refl refl refl)
+          rm_on _ _ _ refl (record { sort = work.sort; kind = work.kind; path = work.path; spared = work.spared }) tt refl (asked_by (RemovalStage.Asking w) Minor.QueryRemove false is refl refl (λ e. cc) ends verdict _ _ refl refl refl)
       ends_query true is ends verdict =
-          rm_on _ _ _ refl (record { sort = refl; kind = refl; path = refl }) tt refl (asked_by (RemovalStage.Asking w) Minor.QueryRemove true is refl refl (λ e. cc) ends verdict _ _ refl refl refl)
+          rm_on _ _ _ refl (record { sort = refl; kind = refl; path = refl; spared = refl }) tt refl (asked_by (RemovalStage.Asking w) Minor.QueryRemove true is refl refl (λ e. cc) ends verdict _ _ refl refl refl)
 
       queries : (ended : Bool) → o.stage ≡ RemovalStage.Asking w → has_ended w (length node.stack) ≡ ended → Steps s (ma.removal_lifted s (rm.ask_step s.core o node w ended))
       queries true is e = ends_query (is_bad w) is e refl
-      queries false is e = rm_on _ _ _ refl (record { sort = refl; kind = refl; path = refl }) tt refl (NodeEffect.same refl refl)
+      queries false is e = rm_on _ _ _ refl (record { sort = refl; kind = refl; path = refl; spared = refl }) tt refl (NodeEffect.same refl refl)
 
       takes_query_back : (ended : Bool) → o.stage ≡ RemovalStage.TakingBack w → has_ended w (length node.stack) ≡ ended → Steps s (ma.removal_lifted s (rm.take_back s.core o node w ended))
       takes_query_back true is e = rm_on _ _ _ refl (rm_cancel_on o o.agreed) tt refl (asked_by (RemovalStage.TakingBack w) Minor.CancelRemove false is refl refl (λ e. cc) e refl _ _ refl refl refl)
-      takes_query_back false is e = rm_on _ _ _ refl (record { sort = refl; kind = refl; path = refl }) tt refl (NodeEffect.same refl refl)
+      takes_query_back false is e = rm_on _ _ _ refl (record { sort = refl; kind = refl; path = refl; spared = refl }) tt refl (NodeEffect.same refl refl)
 
       cancels_query : (ended : Bool) → o.stage ≡ RemovalStage.Cancelling w → has_ended w (length node.stack) ≡ ended → Steps s (ma.removal_lifted s (rm.cancel_step s.core o node w ended))
       cancels_query true is e = rm_on _ _ _ refl (rm_cancel_on o (rest o.todo)) tt refl (asked_by (RemovalStage.Cancelling w) Minor.CancelRemove false is refl refl (λ e. cc) e refl _ _ refl refl refl)
-      cancels_query false is e = rm_on _ _ _ refl (record { sort = refl; kind = refl; path = refl }) tt refl (NodeEffect.same refl refl)
+      cancels_query false is e = rm_on _ _ _ refl (record { sort = refl; kind = refl; path = refl; spared = refl }) tt refl (NodeEffect.same refl refl)
 
       removes : (ended : Bool) → o.stage ≡ RemovalStage.Removing w → has_ended w (length node.stack) ≡ ended → Steps s (ma.removal_lifted s (rm.remove_step s.core o node w ended))
       removes true is e =
-          rm_on _ _ _ refl (record { sort = refl; kind = refl; path = refl }) tt refl
+          rm_on _ _ _ refl (record { sort = refl; kind = refl; path = refl; spared = refl }) tt refl
           (stripped s (Operation.Removing o) runs node first w (ap ma.removal_walk is) (ap removal_minor is) e _ _ refl refl refl)
-      removes false is e = rm_on _ _ _ refl (record { sort = refl; kind = refl; path = refl }) tt refl (NodeEffect.same refl refl)
+      removes false is e = rm_on _ _ _ refl (record { sort = refl; kind = refl; path = refl; spared = refl }) tt refl (NodeEffect.same refl refl)
 
   removal_effect : (budget : ℕ) (stage : RemovalStage) (n : Option Node) → o.stage ≡ stage → first_node s.core.nodes o.todo ≡ n → EffectNext budget s (option_map (λ m. Does (ma.removal_lifted s m)) (rm.removal_step s.core o stage n))
-  removal_effect budget RemovalStage.Ending n is first = closes s (Operation.Removing o) runs _ _ (rm.end_of s.core o.refuser) refl refl refl refl refl refl refl refl tt refl (ActivityEffect.same refl)
+  removal_effect budget RemovalStage.Ending n is first = closes s (Operation.Removing o) runs _ _ (rm.end_of s.core o.refuser) refl refl refl refl refl refl refl refl tt refl tt (ActivityEffect.same refl)
   removal_effect budget (RemovalStage.Asking w) (Some node) is first = queries node first w _ is refl
   removal_effect budget (RemovalStage.TakingBack w) (Some node) is first = takes_query_back node first w _ is refl
   removal_effect budget (RemovalStage.Cancelling w) (Some node) is first = cancels_query node first w _ is refl
@@ -379,8 +391,8 @@ module _ (s : State) (o : Surprise) (runs : s.operation ≡ Some (Operation.Surp
   su_on label c p ranges work beside quiet nodes =
       on s (Operation.Surprising o) runs label _ (Operation.Surprising p) refl refl refl ranges refl refl refl work beside quiet nodes (TaskEffect.same refl)
 
-  su_closes : Steps s (ma.surprise_lifted s (su.close s.core o))
-  su_closes = closes s (Operation.Surprising o) runs _ _ OpEnd.Done refl refl refl refl refl refl refl refl tt refl (ActivityEffect.same refl)
+  su_closes : Closes s (Operation.Surprising o) (ma.surprise_lifted s (su.close s.core o)).state → Steps s (ma.surprise_lifted s (su.close s.core o))
+  su_closes over = closes s (Operation.Surprising o) runs _ _ OpEnd.Done refl refl refl refl refl refl refl refl tt refl over (ActivityEffect.same refl)
 
   module _ (node : Node) (first : first_node s.core.nodes o.todo ≡ Some node) where
     gone_leaves : Steps s (ma.surprise_lifted s (su.leaves s.core o node))
@@ -389,37 +401,37 @@ module _ (s : State) (o : Surprise) (runs : s.operation ≡ Some (Operation.Surp
         leaves s (set_operation (Some (Operation.Surprising m.frame)) (with_core m.core s)) (Operation.Surprising o) (Operation.Surprising m.frame) runs node first (Label.Leave node.path) tt refl
         (su_finish_on s.core.nodes o (rest o.todo)) refl (WorldEffect.same refl refl) refl refl refl refl refl refl refl node.path node.born
 
-    gone_target : (in_world : Bool) → Steps s (ma.surprise_lifted s (su.settle_target s.core o node in_world))
-    gone_target true = su_closes
-    gone_target false = gone_leaves
+    gone_target : (in_world : Bool) → o.stage ≡ SurpriseStage.Settling → node.serial ≡ o.target → Steps s (ma.surprise_lifted s (su.settle_target s.core o node in_world))
+    gone_target true is last = su_closes (inr (is, node, first, last))
+    gone_target false is last = gone_leaves
 
     gone_other : (b : Bool) → Steps s (ma.surprise_lifted s (su.settle_other s.core o node b))
     gone_other true = gone_leaves
     gone_other false =
         su_on _ _ _ refl (su_finish_on s.core.nodes o (rest o.todo)) tt refl (NodeEffect.changed node.serial _ (Alters.troubled node.serial (Some Problem.Held)) refl refl)
 
-    gone_settles : (in_world b : Bool) → Steps s (ma.surprise_lifted s (su.settle s.core o node in_world b))
-    gone_settles in_world true = gone_target in_world
-    gone_settles in_world false = gone_other (has o.set node.parent)
+    gone_settles : (in_world b : Bool) → o.stage ≡ SurpriseStage.Settling → (node.serial == o.target) ≡ b → Steps s (ma.surprise_lifted s (su.settle s.core o node in_world b))
+    gone_settles in_world true is e = gone_target in_world is (grind (arith, nat_tests))
+    gone_settles in_world false is e = gone_other (has o.set node.parent)
 
     tells : (w : Walk) (ended : Bool) → o.stage ≡ SurpriseStage.Telling w → has_ended w (length node.stack) ≡ ended → Steps s (ma.surprise_lifted s (su.tell_step s.core o node w ended))
     tells w true is e =
         su_on _ _ _ refl (su_tell_on s.core.nodes o (rest o.todo)) tt refl
         (walked s (Operation.Surprising o) runs node first Minor.SurpriseRemoval w (ap ma.surprise_walk is) (ap surprise_minor is) false (λ q. cc) e refl _ _ refl refl refl)
-    tells w false is e = su_on _ _ _ refl (record { sort = refl; kind = refl; path = refl }) tt refl (NodeEffect.same refl refl)
+    tells w false is e = su_on _ _ _ refl (record { sort = refl; kind = refl; path = refl; spared = refl }) tt refl (NodeEffect.same refl refl)
 
     gone_removes : (w : Walk) (ended : Bool) → o.stage ≡ SurpriseStage.Removing w → has_ended w (length node.stack) ≡ ended → Steps s (ma.surprise_lifted s (su.remove_step s.core o node w ended))
     gone_removes w true is e =
-        su_on _ _ _ refl (record { sort = refl; kind = refl; path = refl }) tt refl
+        su_on _ _ _ refl (record { sort = refl; kind = refl; path = refl; spared = refl }) tt refl
         (stripped s (Operation.Surprising o) runs node first w (ap ma.surprise_walk is) (ap surprise_minor is) e _ _ refl refl refl)
-    gone_removes w false is e = su_on _ _ _ refl (record { sort = refl; kind = refl; path = refl }) tt refl (NodeEffect.same refl refl)
+    gone_removes w false is e = su_on _ _ _ refl (record { sort = refl; kind = refl; path = refl; spared = refl }) tt refl (NodeEffect.same refl refl)
 
   surprise_effect : (budget : ℕ) (in_world : Bool) (stage : SurpriseStage) (n : Option Node) → o.stage ≡ stage → first_node s.core.nodes o.todo ≡ n
       → EffectNext budget s (option_map (λ m. Does (ma.surprise_lifted s m)) (su.surprise_step s.core o in_world stage n))
-  surprise_effect budget in_world SurpriseStage.Ending n is first = su_closes
+  surprise_effect budget in_world SurpriseStage.Ending n is first = su_closes (inl is)
   surprise_effect budget in_world (SurpriseStage.Telling w) (Some node) is first = tells node first w _ is refl
   surprise_effect budget in_world (SurpriseStage.Removing w) (Some node) is first = gone_removes node first w _ is refl
-  surprise_effect budget in_world SurpriseStage.Settling (Some node) is first = gone_settles node first in_world _
+  surprise_effect budget in_world SurpriseStage.Settling (Some node) is first = gone_settles node first in_world _ is refl
   surprise_effect budget in_world (SurpriseStage.Telling w) None is first = tt
   surprise_effect budget in_world (SurpriseStage.Removing w) None is first = tt
   surprise_effect budget in_world SurpriseStage.Settling None is first = tt

@@ -93,3 +93,5 @@ pub mod StackSteps
 pub mod StackEvents
 pub mod RunsStacks
 pub mod RunsTold
+pub mod StrayMoves
+pub mod RunsStrays

@@ -293,7 +293,7 @@ step_plan settings s label t (OpEffect.idles none now prints) goes h = planned_a
 step_plan settings s label t (OpEffect.begins kind node none alone at fits is) goes h =
     subst (λ (x : Step). IsPlanned x.state) (sym is) (begun_plan s.core kind node)
 step_plan settings s label t (OpEffect.goes o p runs now work prints) goes h = goes_plan settings s label t o p runs now work goes h
-step_plan settings s label t (OpEffect.ends o result runs now prints by) goes h = planned_as t None t.core.reserved t.core.nodes now refl refl tt
+step_plan settings s label t (OpEffect.ends o result runs now prints by over) goes h = planned_as t None t.core.reserved t.core.nodes now refl refl tt
 
 planned_goes : (settings : Settings) (s : State) (entry : Entry) (t : State) → IsPlanned s → Goes settings s entry t → IsPlanned t
 planned_goes settings s (Happens event label) t h goes = let effect = effect_goes settings s (Happens event label) t goes in event_plan s label t effect.ranges effect.operation h

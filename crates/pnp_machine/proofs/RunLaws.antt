@@ -21,6 +21,7 @@ use Rattle.pnp_laws.proofs.RunsSerials.{few_serials, few_births}
 use Rattle.pnp_laws.proofs.RunsShare.{nothing_clashes}
 use Rattle.pnp_laws.proofs.RunsStacks.{keyed, names_are_known, stacks_fit}
 use Rattle.pnp_laws.proofs.RunsStand.{dependents_go_first, every_run_follows}
+use Rattle.pnp_laws.proofs.RunsStrays.{nobody_is_forgotten}
 use Rattle.pnp_laws.proofs.RunsTold.{states_are_told}
 use Rattle.pnp_laws.proofs.RunsWhole.{all_hold_whole}
 use Rattle.pnp_machine.specs.Machines.{IsDone, Moves}
@@ -61,6 +62,7 @@ module _ (told : Settings) (s t : State) where
         apart = nothing_printed_clashes told h.rack (h.entries ++ entry ∷ []) t more;
         stacks = stacks_fit told h.rack (h.entries ++ entry ∷ []) t more;
         names = names_are_known told h.rack h.entries s entry t h.reaches goes;
+        remembered = nobody_is_forgotten told h.rack (h.entries ++ entry ∷ []) t more;
         begun = λ rack entries reaches. operations_begin told rack entries s entry t reaches goes;
         restores = λ rack entries reaches. each_end_restores told rack entries s entry t reaches goes;
         conflicts = λ rack entries path reaches is. each_conflict_is_real told rack entries s entry t path reaches goes is;
