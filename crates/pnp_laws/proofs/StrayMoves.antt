@@ -1,64 +1,33 @@
 -- What a step does to those who hold something and are not up: a device that is being started holds nothing until its
 -- resources are found, and whoever is a stray after a step was one before, or is the device of a rebalance.
-use Rattle.std.proofs.Common.{ℕ, suc, ◌≡◌, ◌≢◌, ◌==◌, ◌⊎◌, inl, inr, Bool, true, false, cond, List, [], ◌∷◌, ◌++◌, drop, map, Option, Some, None, refl, sym, ap, ◌∙◌, subst, arith}
-use Rattle.std.specs.List.{slice_get}
+use Rattle.std.proofs.Common.{ℕ, ◌≡◌, ◌≢◌, ◌⊎◌, inl, inr, Bool, true, false, List, [], ◌∷◌, Option, Some, None, refl, sym, ap, ◌∙◌, subst, arith}
 use Rattle.std.specs.Option.{option_map}
 use Rattle.std.proofs.lemmas.Bool.{cases_eq}
 use Rattle.std.proofs.lemmas.Bool.Decides.{nat_tests}
-use Rattle.resource_reqs.specs.Resources.{Res}
 use Rattle.pnp_labels.specs.declared.label.Label.{Label}
-use Rattle.pnp_labels.specs.declared.label.OpKind.{OpKind}
 use Rattle.pnp_labels.specs.declared.states.DevState.{DevState}
 use Rattle.pnp_labels.specs.declared.states.DevState.TheVariants.{NoStack, NotStarted, Started, StopPending, Stopped, RemovePending, SurpriseRemoved}
 use Rattle.pnp_labels.specs.declared.words.Answer.{Answer}
 use Rattle.pnp_labels.specs.declared.words.Minor.{Minor}
 use Rattle.pnp_labels.specs.declared.words.Minor.TheVariants.{Start, QueryRemove, Remove, CancelRemove, Stop, QueryStop, CancelStop, SurpriseRemoval}
-use Rattle.pnp_model.specs.Cores.{bare, is_node, new_node, node_at, serials_of, stacked, with_holds, with_problem, with_stack, with_state}
-use Rattle.pnp_model.specs.Diagram.{FollowsDiagram}
-use Rattle.pnp_model.specs.Events.{answer_of, completed, completed_phase}
-use Rattle.pnp_model.specs.Frames.{first_node}
+use Rattle.pnp_model.specs.Cores.{bare, is_node, new_node, node_at, stacked, with_problem, with_state}
+use Rattle.pnp_model.specs.Events.{answer_of, completed_phase}
 use Rattle.pnp_model.specs.Keyed.{changed_first, without_first}
-use Rattle.pnp_model.specs.Laws.{DependentsFirst}
 use Rattle.pnp_model.specs.Rebalances.{committed, movers, plan_of}
-use Rattle.pnp_model.specs.Records.{Activity, Core, Driver, Duty, Node, Operation, Phase, Rebalance, RebalanceStage, Removal, Settings, State, Step, Surprise, SurpriseStage, Task}
+use Rattle.pnp_model.specs.Records.{Activity, Node, Operation, Phase, Rebalance, RebalanceStage, State, Step}
 use Rattle.pnp_model.specs.Records.Phase.{Adding, Searching, Starting, Removing, Due}
-use Rattle.pnp_model.specs.Runs.{Entry, Goes, opening, printed, root_node}
-use Rattle.pnp_model.specs.Runs.Entry.{Happens, Did}
-use Rattle.pnp_model.specs.Starts.{adding, own_part}
 use Rattle.pnp_model.specs.States.{activity_at, entered, is_activity, with_phase}
-use Rattle.pnp_model.specs.Tests.{has, is_surprise_task}
-use Rattle.pnp_model.specs.Trees.{above, children, is_child, leaving, set_of, stands_up}
+use Rattle.pnp_model.specs.Tests.{has}
 use Rattle.pnp_model.specs.Walks.{state_after, walk_of}
-use Rattle.pnp_laws.specs.Due.{is_due, leads}
-use Rattle.pnp_laws.specs.Effects.{Acting, ActivityEffect, Alters, AnswerEffect, Closes, CommandEffect, Effect, Enters, IsSearch, NodeEffect, OpEffect, OperationEffect, Over, PhaseStep, TaskEffect, TasksEffect, todo_of}
+use Rattle.pnp_laws.specs.Due.{is_due}
+use Rattle.pnp_laws.specs.Effects.{Acting, ActivityEffect, Alters, Enters, IsSearch, NodeEffect, Over, PhaseStep}
 use Rattle.pnp_laws.specs.Holdings.{IsWhole}
-use Rattle.pnp_laws.specs.Kept.{Alone, Ascending, Each, IsGood, OperationFits, RebalanceKeeps, SurpriseKeeps, is_calm, rebalance_state, stopped_state}
-use Rattle.pnp_laws.specs.Reached.{IsReached}
-use Rattle.pnp_laws.specs.Strays.{IsStray, NobodyForgotten, StraysLaw}
+use Rattle.pnp_laws.specs.Kept.{Alone, IsGood, OperationFits, RebalanceKeeps, stopped_state}
+use Rattle.pnp_laws.specs.Strays.{IsStray}
 use Rattle.pnp_laws.specs.Words.{spared}
-use Rattle.pnp_laws.proofs.Aboves.{any_from, due_below, due_more, has_cases, is_above_in}
-use Rattle.pnp_laws.proofs.Closures.{closed_keeps, those_serial}
-use Rattle.pnp_laws.proofs.Courses.{answered_work}
-use Rattle.pnp_laws.proofs.Due.{below_in_set}
 use Rattle.pnp_laws.proofs.EffectViews.{alters_keeps}
-use Rattle.pnp_laws.proofs.EffectsOf.{effect_goes}
-use Rattle.pnp_laws.proofs.EffectsOfOperations.{begun_spared}
-use Rattle.pnp_laws.proofs.Finishes.{leaving_all, set_is_closed}
-use Rattle.pnp_laws.proofs.Finishing.{head_bare}
 use Rattle.pnp_laws.proofs.HoldingsKept.{part_other}
-use Rattle.pnp_laws.proofs.Lists.{HeadIs, head_found, rest_has}
-use Rattle.pnp_laws.proofs.Lookups.{ended_other, ended_same, entered_other, entered_same, joined_from, left_from, left_same, map_from, node_at-map, node_changed_other, node_changed_same, node_from, own_serial, phase_from, phase_set_other, phase_set_same, ready_found, some_same}
-use Rattle.pnp_laws.proofs.Orders.{any_some}
-use Rattle.pnp_laws.proofs.Reaching.{kept, reached_on}
-use Rattle.pnp_laws.proofs.Restarts.{over_stopped}
-use Rattle.pnp_laws.proofs.Runs.{root_is}
-use Rattle.pnp_laws.proofs.RunsStand.{Kept, dependents_go_first, every_run_follows, reaches_kept}
-use Rattle.pnp_laws.proofs.RunsWhole.{reached_is_whole}
-use Rattle.pnp_laws.proofs.Sounds.{LeadsMore, leads_first, leads_pushed, leads_same}
-use Rattle.pnp_laws.proofs.Standing.{DueBut, Stands, StageKept, SurpriseOrder, waiting}
-use Rattle.pnp_laws.proofs.SurpriseSteps.{last_alone}
-use Rattle.pnp_laws.proofs.TreeChanges.{SameNodes, above_same}
-use Rattle.pnp_laws.proofs.TreeMoves.{Childless, above_joined, above_left}
+use Rattle.pnp_laws.proofs.Lookups.{ended_other, ended_same, entered_other, entered_same, joined_from, left_from, map_from, node_from, own_serial, phase_from, phase_set_other, phase_set_same, ready_found, some_same}
 
 -- What is kept ---------------------------------------------------------------------------------
 
