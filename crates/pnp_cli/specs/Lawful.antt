@@ -133,7 +133,7 @@ abbrev pub ConflictsAreReal : machines.Settings → List Driver → List Entry �
 ConflictsAreReal settings rack earlier old entry new =
     (path : Text) → printed entry ≡ Label.Trouble path Problem.NormalConflict → Conflicts settings rack earlier old path
 
--- at most 4,096 nodes join for each event
+-- at most 4,096 times as many nodes join as events happened
 abbrev pub FewJoin : List Entry → Type 0
 FewJoin entries = joins entries ≤ 4096 * events entries
 
