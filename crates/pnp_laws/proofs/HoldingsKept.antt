@@ -138,7 +138,7 @@ search_quiet (Phase.Starting w) search = absurd search
 search_quiet (Phase.Removing w) search = refl
 search_quiet (Phase.Due problem) search = refl
 
-own_whole : (reqs : Reqs) (plan : List (List Res)) → AllZip Whole (reqs ∷ []) plan → Whole reqs (own_part plan)
+pub own_whole : (reqs : Reqs) (plan : List (List Res)) → AllZip Whole (reqs ∷ []) plan → Whole reqs (own_part plan)
 own_whole reqs [] h = absurd h
 own_whole reqs (holds ∷ plan) h = h.0
 
@@ -183,7 +183,7 @@ mover_up r nodes k n keeps at h e =
           cc
     ]
 
-mover_or : (js : List ℕ) (k : ℕ) (b : Bool) → has js k ≡ b → (has js k ≡ true) ⊎ (has js k ≡ false)
+pub mover_or : (js : List ℕ) (k : ℕ) (b : Bool) → has js k ≡ b → (has js k ≡ true) ⊎ (has js k ≡ false)
 mover_or js k true h = inl h
 mover_or js k false h = inr h
 

@@ -95,3 +95,4 @@ pub mod RunsStacks
 pub mod RunsTold
 pub mod StrayMoves
 pub mod RunsStrays
+pub mod RunsHeld

@@ -10,6 +10,7 @@ use Rattle.pnp_model.specs.Frames.{fixed_beside}
 use Rattle.pnp_model.specs.Keyed.{changed_first}
 use Rattle.pnp_model.specs.Rebalances.{movers, plan_of, reqs_of}
 use Rattle.pnp_model.specs.Records.{Node, Operation, RebalanceStage, State, Step}
+use Rattle.pnp_model.specs.Runs.{Entry}
 use Rattle.pnp_model.specs.Sharing.{Clear}
 use Rattle.pnp_model.specs.Starts.{own_part}
 use Rattle.pnp_laws.specs.Effects.{Alters, NodeEffect, RangeEffect}
@@ -75,7 +76,7 @@ module _ (s : State) (label : Label) (order : Ascending 0 s.core.nodes) (planned
       subst (λ (x : List Node). Clear s.core.reserved x) (sym e) (less _ (λ k m at. inr (m, (left_from node.serial k s.core.nodes m order at).1, refl)))
   clear_nodes t (NodeEffect.related r related e relations) = subst (λ (x : List Node). Clear s.core.reserved x) (sym e) clear
 
-  pub clear_ranges : (t : State) → RangeEffect s t → NodeEffect s label t → Clear t.core.reserved t.core.nodes
+  pub clear_ranges : (t : State) {entry : Entry} → RangeEffect s entry t → NodeEffect s label t → Clear t.core.reserved t.core.nodes
   clear_ranges t (RangeEffect.same e) nodes = subst (λ (x : List Res). Clear x t.core.nodes) (sym e) (clear_nodes t nodes)
-  clear_ranges t (RangeEffect.reserves res none free same e) nodes =
+  clear_ranges t (RangeEffect.reserves res none free same e event own is) nodes =
       subst (λ (x : List Res). Clear x t.core.nodes) (sym e) (subst (λ (x : List Node). Clear (s.core.reserved ++ res ∷ []) x) (sym same) (Clear_reserved res s.core.reserved s.core.nodes free clear))

@@ -151,9 +151,10 @@ pub data NodeEffect (s : State) (label : Label) (t : State) : Type 0 where
 
 -- Ranges, world, disabled paths --------------------------------------------------------
 
-pub data RangeEffect (s t : State) : Type 0 where
-  same : t.core.reserved ≡ s.core.reserved → RangeEffect s t
-  reserves : (res : Res) → s.operation ≡ None → list_any (clashes res) (s.core.reserved ++ held_by s.core.nodes) ≡ false → t.core.nodes ≡ s.core.nodes → t.core.reserved ≡ s.core.reserved ++ res ∷ [] → RangeEffect s t
+pub data RangeEffect (s : State) (entry : Entry) (t : State) : Type 0 where
+  same : t.core.reserved ≡ s.core.reserved → RangeEffect s entry t
+  reserves : (res : Res) → s.operation ≡ None → list_any (clashes res) (s.core.reserved ++ held_by s.core.nodes) ≡ false → t.core.nodes ≡ s.core.nodes → t.core.reserved ≡ s.core.reserved ++ res ∷ []
+      → (event : Event) (label : Label) → entry ≡ Happens event label → RangeEffect s entry t
 
 pub record Plugged (s : State) (entry : Entry) (d : Device) : Type 0 where
   pub over : Device
@@ -312,7 +313,7 @@ TasksEffect s (Did label) t = TaskEffect s t
 
 pub record Effect (s : State) (entry : Entry) (t : State) : Type 0 where
   pub nodes : NodeEffect s (printed entry) t
-  pub ranges : RangeEffect s t
+  pub ranges : RangeEffect s entry t
   pub operation : OperationEffect s entry t
   pub activities : ActivityEffect s t
   pub tasks : TasksEffect s entry t

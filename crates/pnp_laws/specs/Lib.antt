@@ -17,3 +17,4 @@ pub mod Keys
 pub mod Stacks
 pub mod Told
 pub mod Strays
+pub mod Held

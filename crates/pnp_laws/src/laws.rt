@@ -3,6 +3,7 @@
 ghost use Rattle.pnp_laws.specs.Begun.{BegunLaw, EachConflictLaw, EachEndLaw};
 ghost use Rattle.pnp_laws.specs.Effects.{EffectLaw};
 ghost use Rattle.pnp_laws.specs.Ends.{SettlesLaw, JoinsLaw, FewJoinLaw};
+ghost use Rattle.pnp_laws.specs.Held.{FewHeldLaw, PartsLaw};
 ghost use Rattle.pnp_laws.specs.Keys.{KeysLaw, MapLaw, NoCycleLaw};
 ghost use Rattle.pnp_laws.specs.Quiet.{QuietLaw, StepLaw};
 ghost use Rattle.pnp_laws.specs.Serials.{SerialsLaw, FewSerialsLaw, FewBirthsLaw};
@@ -187,4 +188,16 @@ pub fn states_are_told()
 #[tactic(auto, using(crate::proofs::RunsStrays::nobody_is_forgotten))]
 pub fn nobody_is_forgotten()
     ensures { StraysLaw }
+{}
+
+/// In each state of each run each device holds one whole alternative of its requirements, or nothing, whatever its state.
+#[tactic(auto, using(crate::proofs::RunsHeld::each_holds_a_part))]
+pub fn each_holds_a_part()
+    ensures { PartsLaw }
+{}
+
+/// So where no alternative has more than some number of groups, at most one more than that number is held or reserved
+/// for each event, and for the root.
+pub fn few_held()
+    ensures { FewHeldLaw }
 {}
