@@ -90,3 +90,6 @@ pub mod RunsKeys
 pub mod DriverNames
 pub mod RunsStacks
 pub mod RunsTold
+pub mod StrayMoves
+pub mod RunsStrays
+pub mod RunsHeld

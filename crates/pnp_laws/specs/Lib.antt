@@ -16,3 +16,5 @@ pub mod Effects
 pub mod Keys
 pub mod Stacks
 pub mod Told
+pub mod Strays
+pub mod Held

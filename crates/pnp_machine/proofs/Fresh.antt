@@ -249,7 +249,7 @@ step_fresh settings s label t good (OpEffect.goes (Operation.Removing o) p runs 
     all_step (λ x. IsTargetFresh x.state) settings (next settings s) (record { label = label; state = t })
     (subst (λ (x : Option Operation). FreshNext settings.budget (next_of settings s x)) (sym runs)
     (removing_fresh s o settings.budget (is_waiting (operation_walk (Operation.Removing o))) good.serials keeps.todo fresh)) goes
-step_fresh settings s label t good (OpEffect.ends o result runs now prints by) goes h = none_fresh t now
+step_fresh settings s label t good (OpEffect.ends o result runs now prints by over) goes h = none_fresh t now
 
 -- Events -------------------------------------------------------------------------------------------
 

@@ -1,4 +1,4 @@
-ghost use Rattle.std.specs.Prelude.{◌≡◌, ◌<◌, ◌++◌, [], ◌∷◌, length, slice_get, Some, IfOk, OnOk};
+ghost use Rattle.std.specs.Prelude.{◌≡◌, ◌<◌, ◌++◌, [], ◌∷◌, length, slice_get, Some, IfOk, OnOk, OnErr};
 ghost use Rattle.pnp_model.specs.Tests.{has};
 
 use device_ids::WantOfMemory;
@@ -48,9 +48,11 @@ impl SerialSet {
         Ok(set)
     }
 
-    /// Appends a serial. The cost is constant on average, since the room grows by doubling.
+    /// Appends a serial. After want of memory the set is as before. The cost is constant on average, since the room grows
+    /// by doubling.
     pub fn push(&mut self, serial: u64) -> Result<(), WantOfMemory>
-        ensures { OnOk result (self.new ≡ self.old ++ serial ∷ []) }
+        ensures pushed { OnOk result (self.new ≡ self.old ++ serial ∷ []) }
+        ensures err { OnErr result (self.new ≡ self.old) }
     {
         self.serials.reserve(1)?;
         self.index.insert(serial)?;

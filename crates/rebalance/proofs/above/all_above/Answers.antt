@@ -22,5 +22,5 @@ levels-preserved c = λ k.
     let parent = ap (λ (n : Node). n.parent) c.node-in-levels.view_is in
     let level : has (above nodes c.levels.at) k ≡ has (p ∷ above nodes p) k =
     has_from c.args.tree.now c.node.ensures.tree k c.levels.at c.in-Some.node.now (sym c.in-Some.ensures.node) c.levels-test.true ∙ ap (λ (i : ℕ). has (i ∷ above nodes i) k) (sym parent) in
-    ap (λ (ks : List ℕ). has ks k || has (above nodes p) k) c.in_ok-push.ensures
+    ap (λ (ks : List ℕ). has ks k || has (above nodes p) k) c.in_ok-push.ensures.pushed
     ∙ (has_one_more c.levels.set (above nodes p) p k ∙ (ap (λ b. has c.levels.set k || b) (sym level) ∙ c.levels.invariant k))
