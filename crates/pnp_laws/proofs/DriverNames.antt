@@ -1,5 +1,5 @@
 -- Which drivers have names, that each keeps its name, and whose turn it is in a walk.
-use Rattle.std.proofs.Common.{ℕ, zero, suc, ◌+◌, ◌-◌, ◌<◌, ◌≤◌, ◌≡◌, ◌||◌, Bool, true, false, cond, List, [], ◌∷◌, ◌++◌, length, get_or, Option, Some, None, refl, sym, ap, ◌∙◌, subst, arith, nat_le, length-append}
+use Rattle.std.proofs.Common.{ℕ, zero, suc, ◌+◌, ◌-◌, ◌<◌, ◌≤◌, ◌≡◌, ◌||◌, ◌⊎◌, inl, Bool, true, false, cond, List, [], ◌∷◌, ◌++◌, length, get_or, Option, Some, None, refl, sym, ap, ◌∙◌, subst, arith, nat_le, length-append}
 use Rattle.std.specs.List.{slice_get, slice_set}
 use Rattle.std.specs.Prelude.{is_none, slice_index}
 use Rattle.std.proofs.lemmas.Bool.Decides.{nat_tests}
@@ -8,12 +8,12 @@ use Rattle.std.proofs.lemmas.Option.{slice_get-get_or}
 use Rattle.pnp_labels.specs.Texts.{Text}
 use Rattle.pnp_labels.specs.declared.words.AskWhat.{AskWhat}
 use Rattle.pnp_labels.specs.declared.words.DriverKind.{DriverKind}
-use Rattle.pnp_labels.specs.declared.label.Label.{Label}
 use Rattle.pnp_model.specs.Books.{driver_named, is_named, is_unnamed, name_is, name_or_none, rack_after, with_later, with_name}
 use Rattle.pnp_model.specs.Events.{with_rule}
 use Rattle.pnp_model.specs.Frames.{next_driver}
 use Rattle.pnp_model.specs.Keyed.{changed_first}
 use Rattle.pnp_model.specs.Records.{Driver, State, Walk}
+use Rattle.pnp_model.specs.Runs.{Entry}
 use Rattle.pnp_model.specs.Tasks.{numbered, numbered_more}
 use Rattle.pnp_model.specs.Tests.{same_kind}
 use Rattle.pnp_model.specs.Walks.{has_ended, is_bad, is_from_bottom, place_of}
@@ -103,6 +103,18 @@ changed_names test f keeps (x ∷ xs) d name h = by_test (test x) refl (λ e g. 
     by_test false e more zero h = h
     by_test false e more (suc d) h = more d h
 
+-- a driver that changes has the name that it had, or one of these
+pub changed_given : (Names : Text → Type 0) (test : Driver → Bool) (f : Driver → Driver) → ((x : Driver) (name : Text) → (f x).name ≡ Some name → (x.name ≡ Some name) ⊎ Names name) → (rack : List Driver)
+    → (d : ℕ) (name : Text) → HasName (changed_first test f rack) d name → HasName rack d name ⊎ Names name
+changed_given Names test f gives [] d name h = inl h
+changed_given Names test f gives (x ∷ xs) d name h = by_test (test x) (λ e g. changed_given Names test f gives xs e name g) d h
+  where
+    by_test : (b : Bool) → ((e : ℕ) → HasName (changed_first test f xs) e name → HasName xs e name ⊎ Names name) → (d : ℕ) → HasName (cond b (f x ∷ xs) (x ∷ changed_first test f xs)) d name → HasName (x ∷ xs) d name ⊎ Names name
+    by_test true more zero h = gives x name h
+    by_test true more (suc d) h = inl h
+    by_test false more zero h = inl h
+    by_test false more (suc d) h = more d h
+
 -- who has no name is given one
 given_name : (kind : DriverKind) (own : Text) (x : Driver) (name : Text) → is_unnamed kind x ≡ true → x.name ≡ Some name → (with_name own x).name ≡ Some name
 given_name kind own x name h e = absurd (unnamed x.name e (and_both (same_kind x.kind kind) _ h).1)
@@ -127,15 +139,15 @@ place_below w n h = by_test (is_bad w) (is_from_bottom w.minor) h
 -- What a step or an event does ---------------------------------------------------------------------
 
 -- each driver that has a name keeps it
-pub more_names : (s : State) (label : Label) (t : State) → DriverEffect s label t → MoreNames s.core.rack t.core.rack
-more_names s label t (DriverEffect.same unasked rack) = same_more s.core.rack s.core.rack t.core.rack rack (λ d. refl)
-more_names s label t (DriverEffect.ended node minor w bad at request ends verdict prints rack) = same_more s.core.rack s.core.rack t.core.rack rack (λ d. refl)
-more_names s label t (DriverEffect.asked node w shown at on prints rack) = same_more s.core.rack _ t.core.rack rack (names_after (AskWhat.Irp w.minor) node.path s.core.rack (next_driver node w))
-more_names s label t (DriverEffect.added node d ds acts prints rack activities) = same_more s.core.rack _ t.core.rack rack (names_after AskWhat.Add node.path s.core.rack d)
-more_names s label t (DriverEffect.refused node d ds acts prints rack) = same_more s.core.rack _ t.core.rack rack (names_after AskWhat.Add node.path s.core.rack d)
-more_names s label t (DriverEffect.named kind name unasked rack) =
+pub more_names : (s : State) (entry : Entry) (t : State) → DriverEffect s entry t → MoreNames s.core.rack t.core.rack
+more_names s entry t (DriverEffect.same unasked rack) = same_more s.core.rack s.core.rack t.core.rack rack (λ d. refl)
+more_names s entry t (DriverEffect.ended node minor w bad at request ends verdict prints rack) = same_more s.core.rack s.core.rack t.core.rack rack (λ d. refl)
+more_names s entry t (DriverEffect.asked node w shown at on prints rack) = same_more s.core.rack _ t.core.rack rack (names_after (AskWhat.Irp w.minor) node.path s.core.rack (next_driver node w))
+more_names s entry t (DriverEffect.added node d ds acts prints rack activities) = same_more s.core.rack _ t.core.rack rack (names_after AskWhat.Add node.path s.core.rack d)
+more_names s entry t (DriverEffect.refused node d ds acts prints rack) = same_more s.core.rack _ t.core.rack rack (names_after AskWhat.Add node.path s.core.rack d)
+more_names s entry t (DriverEffect.named kind name label is unasked rack) =
     λ d own h. subst (λ (r : List Driver). HasName r d own) (sym rack) (changed_names (is_unnamed kind) (with_name name) (given_name kind name) s.core.rack d own h)
-more_names s label t (DriverEffect.taught name rule unasked rack) =
+more_names s entry t (DriverEffect.taught name rule unasked rack) =
     λ d own h. subst (λ (r : List Driver). HasName r d own) (sym rack) (changed_names (is_named name) (with_rule rule) (λ x text is e. e) s.core.rack d own h)
 
 -- the drivers that were chosen are few, and have names

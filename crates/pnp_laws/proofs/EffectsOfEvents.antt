@@ -31,7 +31,7 @@ Happened s event step = Effect s (Happens event step.label) step.state
 
 module _ (s : State) (event : Event) where
   -- nodes, serials and activities stay
-  outside : (label : Label) (t : State) → IsWord label → joined label ≡ 0 → t.next_serial ≡ s.next_serial → t.operation ≡ s.operation → t.activities ≡ s.activities → t.core.nodes ≡ s.core.nodes → NodeEffect s label t → DriverEffect s label t → RangeEffect s (Happens event label) t → CommandEffect s t
+  outside : (label : Label) (t : State) → IsWord label → joined label ≡ 0 → t.next_serial ≡ s.next_serial → t.operation ≡ s.operation → t.activities ≡ s.activities → t.core.nodes ≡ s.core.nodes → NodeEffect s label t → DriverEffect s (Happens event label) t → RangeEffect s (Happens event label) t → CommandEffect s t
       → WorldEffect s (Happens event label) t → PathEffect s label t → Happened s event (record { label = label; state = t })
   outside label t word quiet serial operation activities same nodes drivers ranges tasks world paths =
       record {
@@ -49,7 +49,7 @@ module _ (s : State) (event : Event) where
 
   -- so does all but drivers and tasks
   kept : (label : Label) (t : State) → IsWord label → joined label ≡ 0 → t.next_serial ≡ s.next_serial → t.operation ≡ s.operation → t.activities ≡ s.activities → t.core.nodes ≡ s.core.nodes → t.core.relations ≡ s.core.relations
-      → t.core.reserved ≡ s.core.reserved → t.world ≡ s.world → t.next_born ≡ s.next_born → t.disabled ≡ s.disabled → DriverEffect s label t → CommandEffect s t → Happened s event (record { label = label; state = t })
+      → t.core.reserved ≡ s.core.reserved → t.world ≡ s.world → t.next_born ≡ s.next_born → t.disabled ≡ s.disabled → DriverEffect s (Happens event label) t → CommandEffect s t → Happened s event (record { label = label; state = t })
   kept label t word quiet serial operation activities nodes relations ranges world born paths drivers tasks =
       outside label t word quiet serial operation activities nodes (NodeEffect.same nodes relations) drivers (RangeEffect.same ranges) tasks (WorldEffect.same world born) (PathEffect.same paths)
 
@@ -78,13 +78,13 @@ module _ (s : State) (event : Event) where
   pull_at path None e = nothing _ _
   pull_at path (Some d) e = pull_device d path _ e refl
 
-  name_free : (name : Text) (kind : DriverKind) (o : Option Driver) → Happened s event (ev.name_free s name kind o)
-  name_free name kind None = nothing _ _
-  name_free name kind (Some driver) = kept _ _ tt refl refl refl refl refl refl refl refl refl refl (DriverEffect.named kind name tt refl) (CommandEffect.same refl)
+  name_free : (name : Text) (kind : DriverKind) (o : Option Driver) → event ≡ Event.Name name kind → Happened s event (ev.name_free s name kind o)
+  name_free name kind None is = nothing _ _
+  name_free name kind (Some driver) is = kept _ _ tt refl refl refl refl refl refl refl refl refl refl (DriverEffect.named kind name _ (ap (λ (e : Event). Happens e (Label.Did EventWord.Name name)) is) tt refl) (CommandEffect.same refl)
 
-  name_at : (name : Text) (kind : DriverKind) (o : Option Driver) → Happened s event (ev.name_at s name kind o)
-  name_at name kind (Some driver) = nothing _ _
-  name_at name kind None = name_free name kind (find (is_unnamed kind) s.core.rack)
+  name_at : (name : Text) (kind : DriverKind) (o : Option Driver) → event ≡ Event.Name name kind → Happened s event (ev.name_at s name kind o)
+  name_at name kind (Some driver) is = nothing _ _
+  name_at name kind None is = name_free name kind (find (is_unnamed kind) s.core.rack) is
 
   teach_room : (driver : Driver) (name : Text) (rule : Rule) (b : Bool) → Happened s event (ev.teach_room s driver name rule b)
   teach_room driver name rule false = nothing _ _
@@ -249,7 +249,7 @@ module _ (s : State) (parent path : Text) (hw compat : List Text) (reqs : Reqs) 
 pub event_effect : (s : State) (event : Event) → Happened s event (ev.happens s event)
 event_effect s (Event.Plug parent path hw compat reqs) = plug_below s parent path hw compat reqs (device_of parent s.world) refl
 event_effect s (Event.Pull path) = pull_at s (Event.Pull path) path (device_of path s.world) refl
-event_effect s (Event.Name name kind) = name_at s (Event.Name name kind) name kind (find (is_named name) s.core.rack)
+event_effect s (Event.Name name kind) = name_at s (Event.Name name kind) name kind (find (is_named name) s.core.rack) refl
 event_effect s (Event.Teach name rule) = teach_at s (Event.Teach name rule) name rule (find (is_named name) s.core.rack)
 event_effect s (Event.Disable path) = disable_at s (Event.Disable path) path (node_of path s.core.nodes) refl
 event_effect s (Event.Enable path) = enable_at s (Event.Enable path) path (find (folding.same path) s.disabled)

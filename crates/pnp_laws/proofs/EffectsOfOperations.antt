@@ -290,7 +290,7 @@ module _ (s : State) (o : Removal) (runs : s.operation ≡ Some (Operation.Remov
   removal_effect stage m is (RemovalStep.removes node w e) =
       rm_on _ _ _ refl (record { sort = refl; kind = refl; path = refl; spared = refl }) tt refl
       (stripped s (Operation.Removing o) runs node e.first w (ap ma.removal_walk is) (ap removal_minor is) e.ended _ _ refl refl refl refl)
-  removal_effect stage m is (RemovalStep.leaves node first) =
+  removal_effect stage m is (RemovalStep.leaves node first inside) =
       let m = rm.leaves s.core o node (Label.Leave node.path) (rm.RemoveBeside.Left node.path node.born) in
       leaves s (set_operation (Some (Operation.Removing m.frame)) (with_core m.core s)) (Operation.Removing o) (Operation.Removing m.frame) runs node first (Label.Leave node.path) tt tt refl
       (rm_finish_on s.core.nodes o (rest o.todo)) refl (WorldEffect.same refl refl) refl refl refl refl refl refl refl refl node.path node.born
@@ -333,7 +333,7 @@ module _ (s : State) (o : Surprise) (runs : s.operation ≡ Some (Operation.Surp
   surprise_effect in_world stage m is (SurpriseStep.removes node w e) =
       su_on _ _ _ refl (record { sort = refl; kind = refl; path = refl; spared = refl }) tt refl
       (stripped s (Operation.Surprising o) runs node e.first w (ap ma.surprise_walk is) (ap surprise_minor is) e.ended _ _ refl refl refl refl)
-  surprise_effect in_world stage m is (SurpriseStep.leaves node first) =
+  surprise_effect in_world stage m is (SurpriseStep.leaves node first why) =
       let m = su.leaves s.core o node in
       leaves s (set_operation (Some (Operation.Surprising m.frame)) (with_core m.core s)) (Operation.Surprising o) (Operation.Surprising m.frame) runs node first (Label.Leave node.path) tt tt refl
       (su_finish_on s.core.nodes o (rest o.todo)) refl (WorldEffect.same refl refl) refl refl refl refl refl refl refl refl node.path node.born

@@ -46,7 +46,7 @@ EffectNext budget s (Some doing) = EffectBy budget s doing
 
 -- nodes, relations and rack
 abbrev pub Changes : State → Label → State → Type 0
-Changes s label t = NodeEffect s label t × DriverEffect s label t
+Changes s label t = NodeEffect s label t × DriverEffect s (Did label) t
 
 pub still : (s : State) (label : Label) (t : State) → IsUnasked label → t.core.rack ≡ s.core.rack → NodeEffect s label t → Changes s label t
 still s label t unasked rack nodes = (nodes, DriverEffect.same unasked rack)

@@ -3,13 +3,11 @@ use Rattle.std.proofs.Common.{ℕ, zero, suc, ◌+◌, ◌*◌, ◌≤◌, ◌�
 use Rattle.std.specs.List.{list_any}
 use Rattle.std.proofs.lemmas.Bool.{cases_eq}
 use Rattle.std.proofs.lemmas.Bool.Decides.{nat_tests}
-use Rattle.pnp_model.specs.Tests.{has}
-use Rattle.pnp_model.specs.Records.{Node, Driver, Task, State, Step, Settings, Operation, Removal, RemovalStage, Duty}
+use Rattle.pnp_model.specs.Records.{Node, Driver, Task, State, Step, Settings, Operation, Duty}
 use Rattle.pnp_model.specs.Cores.{node_at}
 use Rattle.pnp_model.specs.States.{activity_at}
 use Rattle.pnp_model.specs.Runs.{Entry, Goes, Run, printed, opening}
 use Rattle.pnp_model.specs.Runs.Entry.{Happens, Did}
-use Rattle.pnp_labels.specs.declared.words.Answer.{Answer}
 use Rattle.pnp_labels.specs.declared.event.Event.{Event}
 use Rattle.pnp_labels.specs.declared.label.Label.{Label}
 use Rattle.pnp_laws.specs.Words.{IsWord, joined}
@@ -18,8 +16,8 @@ use Rattle.pnp_laws.specs.Kept.{IsGood}
 use Rattle.pnp_laws.proofs.EventChanges.{Answered, Outside, happens_outside, still_serial}
 use Rattle.pnp_laws.proofs.EffectsOfEvents.{event_effect}
 use Rattle.pnp_laws.proofs.RunsStand.{Kept, kept_goes, opening_kept}
-use Rattle.pnp_laws.proofs.Joins.{starts, start_cost, closed, removal_closed, some_there, sub_is, any_from, any_at, Born}
-use Rattle.pnp_laws.proofs.JoinSteps.{joined_none, live_is, live_from, some_is}
+use Rattle.pnp_laws.proofs.Joins.{starts, start_cost, closed, some_there, sub_is, any_from, any_at, Born}
+use Rattle.pnp_laws.proofs.JoinSteps.{answer_closed, joined_none, live_is, live_from, some_is}
 use Rattle.pnp_laws.proofs.JoinMachine.{step_flows, born_goes, opening_born}
 use Rattle.pnp_laws.proofs.JoinCounts.{reach_room, reach_less, is_alive, live_at, one_of, start_count, is_to_start, opens_at, is_outside, may_join, spare, total, spare_at, spares, join_price, HasRoom, total_less, spare_most, spare_less, spares_less, flows_price, one_is, not_true}
 use Rattle.pnp_laws.proofs.JoinFalls.{joined_price}
@@ -28,20 +26,6 @@ use Rattle.pnp_laws.proofs.Truths.{and_both, both_true}
 use Rattle.pnp_model.specs.Events as ev
 
 -- Who is live after an event -----------------------------------------------------------------------------------
-
-stage_closed : (answer : Answer) (o : Removal) (stage : RemovalStage) (k : ℕ) → removal_closed o (ev.completed_removal answer stage) k ≡ removal_closed o stage k
-stage_closed answer o (RemovalStage.Asking w) k = refl
-stage_closed answer o _ k = refl
-
-with_closed : (o p : Removal) (stage : RemovalStage) (k : ℕ) → p.set ≡ o.set → removal_closed p stage k ≡ removal_closed o stage k
-with_closed o p (RemovalStage.Removing w) k e = ap (λ (ks : List ℕ). has ks k) e
-with_closed o p RemovalStage.Settling k e = ap (λ (ks : List ℕ). has ks k) e
-with_closed o p _ k e = refl
-
-answer_closed : (answer : Answer) (o : Operation) (k : ℕ) → closed (Some (ev.completed answer o)) k ≡ closed (Some o) k
-answer_closed answer (Operation.Rebalancing r) k = refl
-answer_closed answer (Operation.Removing o) k = with_closed o (record o { stage = ev.completed_removal answer o.stage }) (ev.completed_removal answer o.stage) k refl ∙ stage_closed answer o o.stage k
-answer_closed answer (Operation.Surprising o) k = refl
 
 answered_closed : (old new : Option Operation) (k : ℕ) → Answered old new → closed new k ≡ closed old k
 answered_closed old new k (inl e) = ap (λ (o : Option Operation). closed o k) e

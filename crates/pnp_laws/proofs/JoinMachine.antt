@@ -1,8 +1,7 @@
 -- Each step of a run lets no more devices join, and each join leaves fewer.
-use Rattle.std.proofs.Common.{ℕ, ◌<◌, ◌≤◌, ◌≡◌, ◌⊎◌, inl, inr, Bool, true, false, List, [], ◌∷◌, Option, Some, None, refl, sym, ap, ◌∙◌, subst, arith}
+use Rattle.std.proofs.Common.{ℕ, ◌<◌, ◌≤◌, ◌≡◌, ◌⊎◌, inl, inr, false, List, [], ◌∷◌, Option, Some, None, refl, sym, ap, ◌∙◌, subst, arith}
 use Rattle.std.specs.Option.{option_map}
-use Rattle.pnp_model.specs.Records.{Node, Device, Driver, State, Step, Settings, Operation, Removal, Surprise, Doing}
-use Rattle.pnp_model.specs.Records.Doing.{Does, Searches}
+use Rattle.pnp_model.specs.Records.{Node, Device, Driver, State, Step, Settings, Operation, RemovalStage, SurpriseStage}
 use Rattle.pnp_model.specs.Cores.{bare, new_node, node_at}
 use Rattle.pnp_model.specs.Frames.{first_node}
 use Rattle.pnp_model.specs.Rebalances.{committed, movers, plan_of}
@@ -11,18 +10,19 @@ use Rattle.pnp_model.specs.Runs.{Entry, Goes, Run, opening}
 use Rattle.pnp_model.specs.Runs.Entry.{Happens, Did}
 use Rattle.pnp_labels.specs.declared.label.Label.{Label}
 use Rattle.pnp_laws.specs.Words.{IsNoJoin}
-use Rattle.pnp_laws.specs.Kept.{IsGood, OperationFits, Alone}
+use Rattle.pnp_laws.specs.Kept.{Alone, IsGood, OperationFits, RemovalKeeps, SurpriseKeeps}
 use Rattle.pnp_laws.specs.Effects.{NodeEffect, to_leave}
 use Rattle.pnp_laws.proofs.EffectsOf.{effect_of}
 use Rattle.pnp_laws.proofs.EffectViews.{alters_keeps}
 use Rattle.pnp_laws.proofs.Lookups.{joined_keeps, node_at-map, node_missing}
-use Rattle.pnp_laws.proofs.Standing.{StageKept}
+use Rattle.pnp_laws.proofs.Standing.{RemovalOrder, StageKept, SurpriseOrder}
 use Rattle.pnp_laws.proofs.Runs.{lawful_goes, root_is}
 use Rattle.pnp_laws.proofs.SoundMachine.{sound_step}
 use Rattle.pnp_laws.proofs.RunsStand.{Kept, may_begin, kept_goes, opening_kept}
 use Rattle.pnp_laws.proofs.Joins.{closed, can_join, Born, Flows, flows_less}
 use Rattle.pnp_laws.proofs.JoinSteps.{Closing, Joined, Knows, flows_step}
-use Rattle.pnp_laws.proofs.JoinRemovals.{ClosesNext, ClosesStep, closes_removal, closes_surprise}
+use Rattle.pnp_laws.proofs.JoinRemovals.{ClosesStep, asks_closing, removal_closing, surprise_closing}
+use Rattle.pnp_laws.proofs.Stages.{OperationStep, operation_step}
 use Rattle.pnp_laws.proofs.JoinBirths.{born_flows, join_goes}
 use Rattle.pnp_laws.proofs.JoinEvents.{born_happens}
 use Rattle.pnp_model.specs.Machine as ma
@@ -48,32 +48,22 @@ node_stays s label t none (NodeEffect.related r related e rest) k n at gone = le
 open_closing : (s : State) (label : Label) (t : State) → ((k : ℕ) → closed s.operation k ≡ false) → ((o : Operation) → s.operation ≡ Some o → to_leave o ≡ []) → NodeEffect s label t → Closing s t
 open_closing s label t free none nodes = record { closes = λ k m at now. inl (free k); gone = λ k n at gone. absurd (node_stays s label t none nodes k n at gone) }
 
-closing_doing : (settings : Settings) (s : State) (o : Option (Doing Step)) (step : Step) → ClosesNext s o → ma.IsStep settings o step → ClosesStep s step
-closing_doing settings s None step l is = absurd is
-closing_doing settings s (Some (Does one)) step l is = subst (λ (x : Step). ClosesStep s x) (sym is) l
-closing_doing settings s (Some (Searches problem by_answer)) step l is = subst (λ (x : Step). ClosesStep s x) (sym is.2) (l is.0)
+closing_of : (s : State) (o : Operation) (step : Step) → Kept s → NodeEffect s step.label step.state → s.operation ≡ Some o → OperationStep s o step → ClosesStep s step
+closing_of s p step kept nodes runs (OperationStep.asks o node w a) knows = asks_closing s o node w runs knows
+closing_of s p step kept nodes runs (OperationStep.rebalances r stage m is x) knows =
+    open_closing s step.label step.state (λ k. ap (λ (x : Option Operation). closed x k) runs) (λ o own. let same : o ≡ Operation.Rebalancing r = cc in ap to_leave same) nodes
+closing_of s p step kept nodes runs (OperationStep.removes o stage m is x) knows =
+    removal_closing s o stage m (record { runs = runs; is = is; empty = alone_then s (Operation.Removing o) runs kept })
+    (subst (λ (y : RemovalStage). RemovalKeeps o y s.core.nodes) is (subst (λ (x : Option Operation). OperationFits x s.core.nodes) runs kept.good.fits))
+    (subst (λ (y : RemovalStage). RemovalOrder s.core o y) is (subst (λ (x : Option Operation). StageKept x s.core) runs kept.stands.stage).0) x knows
+closing_of s p step kept nodes runs (OperationStep.surprises o stage m is x) knows =
+    surprise_closing s o stage m (record { runs = runs; empty = alone_then s (Operation.Surprising o) runs kept })
+    (subst (λ (y : SurpriseStage). SurpriseKeeps o y s.core.nodes) is (subst (λ (x : Option Operation). OperationFits x s.core.nodes) runs kept.good.fits))
+    (subst (λ (y : SurpriseStage). SurpriseOrder s.core o y) is (subst (λ (x : Option Operation). StageKept x s.core) runs kept.stands.stage).0) x knows
 
-removal_closes : (s : State) (o : Removal) (waits : Bool) → s.operation ≡ Some (Operation.Removing o) → Kept s → ClosesNext s (ma.operation_next s (Operation.Removing o) waits)
-removal_closes s o true e kept = tt
-removal_closes s o false e kept =
-    closes_removal s o o.stage (first_node s.core.nodes o.todo) refl e refl (alone_then s (Operation.Removing o) e kept)
-    (subst (λ (x : Option Operation). OperationFits x s.core.nodes) e kept.good.fits) (subst (λ (x : Option Operation). StageKept x s.core) e kept.stands.stage).0
-
-surprise_closes : (s : State) (o : Surprise) (waits : Bool) → s.operation ≡ Some (Operation.Surprising o) → Kept s → ClosesNext s (ma.operation_next s (Operation.Surprising o) waits)
-surprise_closes s o true e kept = tt
-surprise_closes s o false e kept =
-    closes_surprise s o o.stage (first_node s.core.nodes o.todo) refl e (alone_then s (Operation.Surprising o) e kept)
-    (subst (λ (x : Option Operation). OperationFits x s.core.nodes) e kept.good.fits) (subst (λ (x : Option Operation). StageKept x s.core) e kept.stands.stage).0
-
-closing_step : (settings : Settings) (s : State) (label : Label) (t : State) → Kept s → NodeEffect s label t → Knows s (record { label = label; state = t }) → (o : Option Operation) → s.operation ≡ o
-    → ma.IsStep settings (ma.next_of settings s o) (record { label = label; state = t }) → Closing s t
-closing_step settings s label t kept nodes knows None e is = open_closing s label t (λ k. ap (λ (x : Option Operation). closed x k) e) (λ o runs. absurd (cc)) nodes
-closing_step settings s label t kept nodes knows (Some (Operation.Rebalancing r)) e is =
-    open_closing s label t (λ k. ap (λ (x : Option Operation). closed x k) e) (λ o runs. let same : o ≡ Operation.Rebalancing r = cc in ap to_leave same) nodes
-closing_step settings s label t kept nodes knows (Some (Operation.Removing o)) e is =
-    closing_doing settings s (ma.operation_next s (Operation.Removing o) (ma.is_waiting (ma.operation_walk (Operation.Removing o)))) (record { label = label; state = t }) (removal_closes s o _ e kept) is knows
-closing_step settings s label t kept nodes knows (Some (Operation.Surprising o)) e is =
-    closing_doing settings s (ma.operation_next s (Operation.Surprising o) (ma.is_waiting (ma.operation_walk (Operation.Surprising o)))) (record { label = label; state = t }) (surprise_closes s o _ e kept) is knows
+closing_step : (settings : Settings) (s : State) (step : Step) → Kept s → NodeEffect s step.label step.state → (o : Option Operation) → s.operation ≡ o → ma.IsStep settings (ma.next settings s) step → ClosesStep s step
+closing_step settings s step kept nodes None e is knows = open_closing s step.label step.state (λ k. ap (λ (x : Option Operation). closed x k) e) (λ o runs. absurd (cc)) nodes
+closing_step settings s step kept nodes (Some o) e is knows = closing_of s o step kept nodes e (operation_step settings s o step e is) knows
 
 -- a step is a join, or lets no more devices join
 pub step_flows : (settings : Settings) (s : State) (step : Step) → Kept s → ma.IsStep settings (ma.next settings s) step → IsGood step.state × ((IsNoJoin step.label × Flows s step.state) ⊎ Joined s step)
@@ -81,7 +71,7 @@ step_flows settings s step kept is =
     let lawful = lawful_goes settings s (Did step.label) step.state (may_begin s kept) kept.good is in
     let knows : Knows s step = record { sound = sound_step settings s step kept.good kept.stands is; diagram = lawful.diagram; good = lawful.good } in
     let effect = effect_of settings s step.label step.state is in
-    (lawful.good, flows_step s step.label step.state kept knows effect (closing_step settings s step.label step.state kept effect.nodes knows s.operation refl is))
+    (lawful.good, flows_step s step.label step.state kept knows effect (closing_step settings s step kept effect.nodes s.operation refl is knows))
 
 -- births stay in order, and fewer can join, or no more, and no device joined
 pub step_goes : (settings : Settings) (s : State) (step : Step) → Kept s → Born s → ma.IsStep settings (ma.next settings s) step → Born step.state × ((can_join step.state < can_join s) ⊎ ((can_join step.state ≤ can_join s) × IsNoJoin step.label))

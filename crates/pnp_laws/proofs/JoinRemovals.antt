@@ -1,23 +1,19 @@
 -- In a removal and a surprise removal who was to lose its drivers still is, or is dead, and what left does not join again.
 use Rattle.std.proofs.Common.{ℕ, ◌≡◌, ◌≢◌, ◌==◌, ◌⊎◌, inl, inr, Bool, true, false, not, ◌&&◌, ◌||◌, cond, List, [], ◌∷◌, Option, Some, None, refl, sym, ap, ◌∙◌, subst, arith}
-use Rattle.std.specs.Option.{option_map}
 use Rattle.std.proofs.lemmas.Bool.{cases_eq}
 use Rattle.std.proofs.lemmas.Bool.Decides.{nat_tests}
 use Rattle.pnp_model.specs.Keyed.{without_first}
-use Rattle.pnp_model.specs.Tests.{has, is_eject}
-use Rattle.pnp_model.specs.Records.{Node, Device, Activity, Doing, Found, Walk, State, Step, Operation, Removal, RemovalStage, Surprise, SurpriseStage}
-use Rattle.pnp_model.specs.Records.Doing.{Does, Searches}
+use Rattle.pnp_model.specs.Tests.{has}
+use Rattle.pnp_model.specs.Records.{Node, Device, Activity, Walk, State, Step, Operation, Removal, RemovalStage, Surprise, SurpriseStage}
 use Rattle.pnp_model.specs.Diagram.{Change}
 use Rattle.pnp_labels.specs.declared.states.DevState.{DevState}
 use Rattle.pnp_model.specs.Cores.{node_at, is_node, stack_of}
 use Rattle.pnp_model.specs.Frames.{first_node, rest}
 use Rattle.pnp_model.specs.States.{activity_at, with_core, set_operation, relist, unplug, without_those, is_in_world}
-use Rattle.pnp_model.specs.Walks.{is_bad}
 use Rattle.pnp_model.specs.Removals.{RemoveBeside}
 use Rattle.pnp_model.specs.Machine.{after_remove, removal_lifted, surprise_lifted, is_target_in_world, is_born}
 use Rattle.pnp_labels.specs.declared.states.DevState.TheVariants.{NoStack}
 use Rattle.pnp_labels.specs.declared.label.Label.{Label}
-use Rattle.pnp_labels.specs.declared.states.Problem.{Problem}
 use Rattle.pnp_laws.specs.Words.{IsNoJoin}
 use Rattle.pnp_laws.specs.Kept.{RemovalKeeps, SurpriseKeeps, settling_state, Each}
 use Rattle.pnp_laws.proofs.Lookups.{some_same, own_serial, left_missing}
@@ -27,7 +23,8 @@ use Rattle.pnp_laws.proofs.SurpriseSteps.{last_alone}
 use Rattle.pnp_laws.proofs.Standing.{Finishes, IsNoLeave, RemovalOrder, SurpriseOrder}
 use Rattle.pnp_laws.proofs.SoundRemovals.{waits_finish_on, waits_tell_on}
 use Rattle.pnp_laws.proofs.Joins.{closed, removal_closed, is_bare, some_there, is_live, In, Gone}
-use Rattle.pnp_laws.proofs.JoinSteps.{Closes, Closing, Knows}
+use Rattle.pnp_laws.proofs.JoinSteps.{Closes, Closing, Knows, answer_closed}
+use Rattle.pnp_laws.proofs.Stages.{RemovalStep, SurpriseStep, asking, reply}
 use Rattle.pnp_laws.proofs.Truths.{or_right}
 use Rattle.pnp_model.specs.Removals as rm
 use Rattle.pnp_model.specs.Surprises as su
@@ -52,14 +49,8 @@ dead_bare t m e empty = by_tests (closed t.operation m.serial) (is_bare m.state)
 
 -- Steps of an operation ------------------------------------------------------------------------------------
 
--- by the answer that a search has
 abbrev pub ClosesStep : State → Step → Type 0
 ClosesStep s step = Knows s step → Closing s step.state
-
-abbrev pub ClosesNext : State → Option (Doing Step) → Type 0
-ClosesNext s None = Unit {0}
-ClosesNext s (Some (Does step)) = ClosesStep s step
-ClosesNext s (Some (Searches problem by_answer)) = (found : Found) → ClosesStep s (by_answer found)
 
 -- nobody leaves
 all_stay : (s : State) (step : Step) → IsNoLeave step.label → (Knows s step → Closes s step.state) → ClosesStep s step
@@ -78,12 +69,16 @@ one_leaves s t label node at nodes closes gone knows =
           subst (λ (x : Node). Gone s t x) same (gone knows);
     }
 
+pub asks_closing : (s : State) (o : Operation) (node : Node) (w : Walk) → s.operation ≡ Some o → ClosesStep s (asking s o node w)
+asks_closing s o node w runs =
+    all_stay s (asking s o node w) tt (λ knows k n at free. inl (ap (λ (x : Option Operation). closed x k) runs ∙ sym (answer_closed (reply s.core node w) o k) ∙ free))
+
 -- Removals ---------------------------------------------------------------------------------------------------
 
-record InRemoval (s : State) (o : Removal) (stage : RemovalStage) : Type 0 where
-  runs : s.operation ≡ Some (Operation.Removing o)
-  is : o.stage ≡ stage
-  empty : s.activities ≡ []
+pub record InRemoval (s : State) (o : Removal) (stage : RemovalStage) : Type 0 where
+  pub runs : s.operation ≡ Some (Operation.Removing o)
+  pub is : o.stage ≡ stage
+  pub empty : s.activities ≡ []
 
 rm_closed : (s : State) (o : Removal) (stage : RemovalStage) → InRemoval s o stage → (k : ℕ) → closed s.operation k ≡ removal_closed o stage k
 rm_closed s o stage h k = ap (λ (x : Option Operation). closed x k) h.runs ∙ ap (λ (x : RemovalStage). removal_closed o x k) h.is
@@ -104,6 +99,11 @@ record Settles (s : State) (o : Removal) (node : Node) : Type 0 where
   at : node_at node.serial s.core.nodes ≡ Some node
   each : Each (λ k x. settling_state o.todo k x) s.core.nodes
   order : Finishes s.core o.set o.todo
+
+at_head : (s : State) (o : Removal) (node : Node) → InRemoval s o RemovalStage.Settling → RemovalKeeps o RemovalStage.Settling s.core.nodes → RemovalOrder s.core o RemovalStage.Settling → first_node s.core.nodes o.todo ≡ Some node → Settles s o node
+at_head s o node h keeps order first =
+    let found = head_found s.core.nodes o.todo node first in
+    record { in_it = h; head = found.0; at = found.1; each = keeps.each; order = order }
 
 -- the state after it
 record Settled (s t : State) (o : Removal) : Type 0 where
@@ -134,15 +134,6 @@ settled_closes s t o node label h u same no_join knows k m at free = by_set (has
     by_set true e = inr (settled_dead s t o node label h u same no_join knows k m e at)
     by_set false e = inl (rm_closed s o RemovalStage.Settling h.in_it k ∙ e)
 
-closes_remains : (s : State) (o : Removal) (node : Node) (problem : Problem) → Settles s o node → ClosesStep s (removal_lifted s (rm.remains s.core o node problem RemoveBeside.On))
-closes_remains s o node problem h =
-    let m = rm.remains s.core o node problem RemoveBeside.On in
-    all_stay s (removal_lifted s m) tt (settled_closes s (removal_lifted s m).state o node m.label h (record { op = refl; acts = refl }) (λ a b c. c) tt)
-
-closes_related : (s : State) (o : Removal) (node : Node) (b : Bool) → Settles s o node → ClosesStep s (removal_lifted s (rm.settle_related s.core o node b))
-closes_related s o node true h = closes_remains s o node Problem.HeldForEject h
-closes_related s o node false h = closes_remains s o node Problem.Held h
-
 -- who is not in the world cannot join
 unplugged : (gone : List ℕ) (b : ℕ) (ds : List Device) → has gone b ≡ true → (d : Device) → In d (without_those gone ds) → d.born ≢ b
 unplugged gone b [] own d there = absurd there
@@ -157,76 +148,38 @@ unplugged gone b (x ∷ ds) own d there = by_test (has gone x.born) (has gone x.
     by_test false false e more same (inr there) = same there
     by_test false false e more same (inl is) = λ f. absurd (let g : x.born ≡ b = ap (λ (z : Device). z.born) is ∙ f in let h = subst (λ (i : ℕ). has gone i ≡ false) g e in cc)
 
-closes_target : (s : State) (o : Removal) (node : Node) (b : Bool) → Settles s o node → ClosesStep s (removal_lifted s (rm.settle_target s.core o node b))
-closes_target s o node true h =
-    let m = rm.leaves s.core o node (Label.Ejected node.path) (RemoveBeside.Ejected node.path node.born) in
-    let u = unplug node.born (set_operation (Some (Operation.Removing m.frame)) (with_core m.core s)) in
-    let t = relist node.path node.born u in
-    let only = relist_only node.path node.born u in
-    let world : t.world ≡ without_those (node.born ∷ []) s.world = only.world in
-    one_leaves s t (Label.Ejected node.path) node h.at only.nodes
-    (settled_closes s t o node (Label.Ejected node.path) h (record { op = only.operation; acts = only.activities }) (λ a b c. c) tt)
-    (λ knows. inl (λ d there. unplugged (node.born ∷ []) node.born s.world (grind (arith, nat_tests)) d (subst (λ (w : List Device). In d w) world there)))
-closes_target s o node false h =
-    let m = rm.remains s.core o node Problem.Disabled (RemoveBeside.Disabled node.path) in
-    all_stay s (removal_lifted s m) tt (settled_closes s (removal_lifted s m).state o node m.label h (record { op = refl; acts = refl }) (λ a b c. c) tt)
-
-closes_outer : (s : State) (o : Removal) (node : Node) (b : Bool) → Settles s o node → ClosesStep s (removal_lifted s (rm.settle_outer s.core o node b))
-closes_outer s o node true h = closes_target s o node (is_eject o.kind) h
-closes_outer s o node false h = closes_related s o node _ h
-
-closes_settle : (s : State) (o : Removal) (node : Node) (b : Bool) → has o.set node.parent ≡ b → Settles s o node → ClosesStep s (removal_lifted s (rm.settle s.core o node b))
-closes_settle s o node true inside h =
-    let m = rm.leaves s.core o node (Label.Leave node.path) (RemoveBeside.Left node.path node.born) in
-    let u = set_operation (Some (Operation.Removing m.frame)) (with_core m.core s) in
+pub removal_closing : (s : State) (o : Removal) (stage : RemovalStage) (m : rm.RemovalMove) → InRemoval s o stage → RemovalKeeps o stage s.core.nodes → RemovalOrder s.core o stage → RemovalStep s.core o stage m → ClosesStep s (removal_lifted s m)
+removal_closing s o stage m h keeps order (RemovalStep.removes node w e) = all_stay s (removal_lifted s m) tt (λ knows k n at shut. inl (rm_closed s o stage h k ∙ shut))
+removal_closing s o stage m h keeps order (RemovalStep.leaves node first inside) =
+    let settles = at_head s o node h keeps order first in
+    let move = rm.leaves s.core o node (Label.Leave node.path) (RemoveBeside.Left node.path node.born) in
+    let u = set_operation (Some (Operation.Removing move.frame)) (with_core move.core s) in
     let t = relist node.path node.born u in
     let only = relist_only node.path node.born u in
     let now : Settled s t o = record { op = only.operation; acts = only.activities } in
-    one_leaves s t (Label.Leave node.path) node h.at only.nodes (settled_closes s t o node (Label.Leave node.path) h now (λ a b c. c) tt)
-    (λ knows. inr (λ m at. settled_dead s t o node (Label.Leave node.path) h now (λ a b c. c) tt knows node.parent m inside at))
-closes_settle s o node false inside h = closes_outer s o node _ h
-
-rm_free : (s : State) (m : rm.RemovalMove) → IsNoLeave m.label → ((k : ℕ) → closed s.operation k ≡ false) → ClosesStep s (removal_lifted s m)
-rm_free s m no_leave free = all_stay s (removal_lifted s m) no_leave (λ knows k n at now. inl (free k))
-
-closes_end_ask : (s : State) (o : Removal) (node : Node) (bad : Bool) → ((k : ℕ) → closed s.operation k ≡ false) → ClosesStep s (removal_lifted s (rm.end_ask s.core o node bad))
-closes_end_ask s o node false free = rm_free s (rm.end_ask s.core o node false) tt free
-closes_end_ask s o node true free = rm_free s (rm.end_ask s.core o node true) tt free
-
-closes_ask : (s : State) (o : Removal) (node : Node) (w : Walk) (b : Bool) → ((k : ℕ) → closed s.operation k ≡ false) → ClosesStep s (removal_lifted s (rm.ask_step s.core o node w b))
-closes_ask s o node w true free = closes_end_ask s o node (is_bad w) free
-closes_ask s o node w false free = rm_free s (rm.ask_step s.core o node w false) tt free
-
-closes_take_back : (s : State) (o : Removal) (node : Node) (w : Walk) (b : Bool) → ((k : ℕ) → closed s.operation k ≡ false) → ClosesStep s (removal_lifted s (rm.take_back s.core o node w b))
-closes_take_back s o node w true free = rm_free s (rm.take_back s.core o node w true) tt free
-closes_take_back s o node w false free = rm_free s (rm.take_back s.core o node w false) tt free
-
-closes_cancel : (s : State) (o : Removal) (node : Node) (w : Walk) (b : Bool) → ((k : ℕ) → closed s.operation k ≡ false) → ClosesStep s (removal_lifted s (rm.cancel_step s.core o node w b))
-closes_cancel s o node w true free = rm_free s (rm.cancel_step s.core o node w true) tt free
-closes_cancel s o node w false free = rm_free s (rm.cancel_step s.core o node w false) tt free
-
--- the set is the same
-closes_remove : (s : State) (o : Removal) (node : Node) (w : Walk) (b : Bool) → InRemoval s o (RemovalStage.Removing w) → ClosesStep s (removal_lifted s (rm.remove_step s.core o node w b))
-closes_remove s o node w true h = all_stay s (removal_lifted s (rm.remove_step s.core o node w true)) tt (λ knows k n at shut. inl (rm_closed s o (RemovalStage.Removing w) h k ∙ shut))
-closes_remove s o node w false h = all_stay s (removal_lifted s (rm.remove_step s.core o node w false)) tt (λ knows k n at shut. inl (rm_closed s o (RemovalStage.Removing w) h k ∙ shut))
-
-pub closes_removal : (s : State) (o : Removal) (stage : RemovalStage) (n : Option Node) → first_node s.core.nodes o.todo ≡ n → s.operation ≡ Some (Operation.Removing o) → o.stage ≡ stage → s.activities ≡ [] → RemovalKeeps o stage s.core.nodes → RemovalOrder s.core o stage →
-    ClosesNext s (option_map (λ m. Does (removal_lifted s m)) (rm.removal_step s.core o stage n))
-closes_removal s o RemovalStage.Ending n first runs is empty keeps order = rm_free s (rm.close s.core o) tt (rm_closed s o RemovalStage.Ending (record { runs = runs; is = is; empty = empty }))
-closes_removal s o (RemovalStage.Asking w) (Some node) first runs is empty keeps order = closes_ask s o node w _ (rm_closed s o (RemovalStage.Asking w) (record { runs = runs; is = is; empty = empty }))
-closes_removal s o (RemovalStage.TakingBack w) (Some node) first runs is empty keeps order = closes_take_back s o node w _ (rm_closed s o (RemovalStage.TakingBack w) (record { runs = runs; is = is; empty = empty }))
-closes_removal s o (RemovalStage.Cancelling w) (Some node) first runs is empty keeps order = closes_cancel s o node w _ (rm_closed s o (RemovalStage.Cancelling w) (record { runs = runs; is = is; empty = empty }))
-closes_removal s o (RemovalStage.Removing w) (Some node) first runs is empty keeps order = closes_remove s o node w _ (record { runs = runs; is = is; empty = empty })
-closes_removal s o RemovalStage.Settling (Some node) first runs is empty keeps order =
-    let h = head_found s.core.nodes o.todo node first in
-    closes_settle s o node _ refl (record { in_it = record { runs = runs; is = is; empty = empty }; head = h.0; at = h.1; each = keeps.each; order = order })
-closes_removal s o _ None first runs is empty keeps order = tt
+    one_leaves s t (Label.Leave node.path) node settles.at only.nodes (settled_closes s t o node (Label.Leave node.path) settles now (λ a b c. c) tt)
+    (λ knows. inr (λ m at. settled_dead s t o node (Label.Leave node.path) settles now (λ a b c. c) tt knows node.parent m inside at))
+removal_closing s o stage m h keeps order (RemovalStep.ejects node first) =
+    let settles = at_head s o node h keeps order first in
+    let move = rm.leaves s.core o node (Label.Ejected node.path) (RemoveBeside.Ejected node.path node.born) in
+    let u = unplug node.born (set_operation (Some (Operation.Removing move.frame)) (with_core move.core s)) in
+    let t = relist node.path node.born u in
+    let only = relist_only node.path node.born u in
+    let world : t.world ≡ without_those (node.born ∷ []) s.world = only.world in
+    one_leaves s t (Label.Ejected node.path) node settles.at only.nodes
+    (settled_closes s t o node (Label.Ejected node.path) settles (record { op = only.operation; acts = only.activities }) (λ a b c. c) tt)
+    (λ knows. inl (λ d there. unplugged (node.born ∷ []) node.born s.world (grind (arith, nat_tests)) d (subst (λ (w : List Device). In d w) world there)))
+removal_closing s o stage m h keeps order (RemovalStep.disables node first over) =
+    all_stay s (removal_lifted s m) tt (settled_closes s (removal_lifted s m).state o node m.label (at_head s o node h keeps order first) (record { op = refl; acts = refl }) (λ a b c. c) tt)
+removal_closing s o stage m h keeps order (RemovalStep.remains node problem first over other) =
+    all_stay s (removal_lifted s m) tt (settled_closes s (removal_lifted s m).state o node m.label (at_head s o node h keeps order first) (record { op = refl; acts = refl }) (λ a b c. c) tt)
+removal_closing s o stage m h keeps order _ = all_stay s (removal_lifted s m) tt (λ knows k n at free. inl (rm_closed s o stage h k))
 
 -- Surprises ---------------------------------------------------------------------------------------------------
 
-record InSurprise (s : State) (o : Surprise) : Type 0 where
-  runs : s.operation ≡ Some (Operation.Surprising o)
-  empty : s.activities ≡ []
+pub record InSurprise (s : State) (o : Surprise) : Type 0 where
+  pub runs : s.operation ≡ Some (Operation.Surprising o)
+  pub empty : s.activities ≡ []
 
 su_closed : (s : State) (o : Surprise) → InSurprise s o → (k : ℕ) → closed s.operation k ≡ has o.set k
 su_closed s o h k = ap (λ (x : Option Operation). closed x k) h.runs
@@ -247,8 +200,8 @@ su_over s o h bare =
     by_set k n at true e = inr (dead_bare (after_remove (Operation.Surprising o) RemoveBeside.Over (with_core s.core s)) n (bare k n at e) h.empty)
     by_set k n at false e = inl (su_closed s o h k ∙ e)
 
-closes_su_leaves : (s : State) (o : Surprise) (node : Node) → InSurprise s o → node_at node.serial s.core.nodes ≡ Some node → (has o.set node.parent ≡ true) ⊎ (is_in_world s.world node.born ≡ false) → ClosesStep s (surprise_lifted s (su.leaves s.core o node))
-closes_su_leaves s o node h at why =
+closes_leaves : (s : State) (o : Surprise) (node : Node) → InSurprise s o → node_at node.serial s.core.nodes ≡ Some node → (has o.set node.parent ≡ true) ⊎ (is_in_world s.world node.born ≡ false) → ClosesStep s (surprise_lifted s (su.leaves s.core o node))
+closes_leaves s o node h at why =
     let m = su.leaves s.core o node in
     let u = set_operation (Some (Operation.Surprising m.frame)) (with_core m.core s) in
     let t = relist node.path node.born u in
@@ -268,42 +221,24 @@ closes_su_leaves s o node h at why =
     in_world (x ∷ xs) d b (inl is) e = let f = ap (λ (z : Device). z.born) is in grind (arith, nat_tests)
     in_world (x ∷ xs) d b (inr there) e = or_right (x.born == b) (is_in_world xs b) (in_world xs d b there e)
 
-closes_tell : (s : State) (o : Surprise) (node : Node) (w : Walk) (b : Bool) → InSurprise s o → ClosesStep s (surprise_lifted s (su.tell_step s.core o node w b))
-closes_tell s o node w true h = su_on s o (su.tell_step s.core o node w true) h (waits_tell_on s.core.nodes o (rest o.todo)) tt refl
-closes_tell s o node w false h = su_on s o (su.tell_step s.core o node w false) h refl tt refl
-
-closes_su_remove : (s : State) (o : Surprise) (node : Node) (w : Walk) (b : Bool) → InSurprise s o → ClosesStep s (surprise_lifted s (su.remove_step s.core o node w b))
-closes_su_remove s o node w true h = su_on s o (su.remove_step s.core o node w true) h refl tt refl
-closes_su_remove s o node w false h = su_on s o (su.remove_step s.core o node w false) h refl tt refl
-
-closes_su_target : (s : State) (o : Surprise) (node : Node) (b : Bool) → is_target_in_world s o ≡ b → node.serial ≡ o.target → HeadIs node.serial o.todo → node_at node.serial s.core.nodes ≡ Some node → InSurprise s o → SurpriseKeeps o SurpriseStage.Settling s.core.nodes → SurpriseOrder s.core o SurpriseStage.Settling →
-    ClosesStep s (surprise_lifted s (su.settle_target s.core o node b))
-closes_su_target s o node true world e head at h keeps order =
-    let over = last_alone o.target o.todo (subst (λ (i : ℕ). HeadIs i o.todo) e head) keeps.ends in
+pub surprise_closing : (s : State) (o : Surprise) (stage : SurpriseStage) (m : su.SurpriseMove) → InSurprise s o → SurpriseKeeps o stage s.core.nodes → SurpriseOrder s.core o stage → SurpriseStep s.core o (is_target_in_world s o) stage m
+    → ClosesStep s (surprise_lifted s m)
+surprise_closing s o stage m h keeps order (SurpriseStep.tells node w e) = su_on s o m h (waits_tell_on s.core.nodes o (rest o.todo)) tt refl
+surprise_closing s o stage m h keeps order (SurpriseStep.removes node w e) = su_on s o m h refl tt refl
+surprise_closing s o stage m h keeps order (SurpriseStep.leaves node first (inl inside)) = closes_leaves s o node h (head_found s.core.nodes o.todo node first).1 (inl inside)
+surprise_closing s o stage m h keeps order (SurpriseStep.leaves node first (inr (target, gone))) =
+    let at = (head_found s.core.nodes o.todo node first).1 in
+    let own : node.serial ≡ o.target = grind (arith, nat_tests) in
+    closes_leaves s o node h at (inr (ap (is_born s.world) (sym (subst (λ (i : ℕ). node_at i s.core.nodes ≡ Some node) own at)) ∙ gone))
+surprise_closing s o stage m h keeps order (SurpriseStep.remains node first other over) = su_on s o m h (waits_finish_on s.core.nodes o (rest o.todo)) tt refl
+surprise_closing s o stage m h keeps order (SurpriseStep.stays node first target back) =
+    let head = (head_found s.core.nodes o.todo node first).0 in
+    let own : node.serial ≡ o.target = grind (arith, nat_tests) in
+    let over = last_alone o.target o.todo (subst (λ (i : ℕ). HeadIs i o.todo) own head) keeps.ends in
     su_over s o h
     (λ k n there in_set.
     elim (cases_eq node.serial k) [
       | inl q ↦ head_bare o.todo k n.state (subst (λ (i : ℕ). HeadIs i o.todo) q head) (keeps.each k n there)
       | inr d ↦ order.bare k n there in_set (sym (rest_has node.serial k o.todo head d) ∙ ap (λ (ks : List ℕ). has ks k) over)
     ])
-closes_su_target s o node false world e head at h keeps order =
-    closes_su_leaves s o node h at (inr (ap (is_born s.world) (sym (subst (λ (i : ℕ). node_at i s.core.nodes ≡ Some node) e at)) ∙ world))
-
-closes_su_other : (s : State) (o : Surprise) (node : Node) (b : Bool) → has o.set node.parent ≡ b → node_at node.serial s.core.nodes ≡ Some node → InSurprise s o → ClosesStep s (surprise_lifted s (su.settle_other s.core o node b))
-closes_su_other s o node true inside at h = closes_su_leaves s o node h at (inl inside)
-closes_su_other s o node false inside at h = su_on s o (su.settle_other s.core o node false) h (waits_finish_on s.core.nodes o (rest o.todo)) tt refl
-
-closes_su_settle : (s : State) (o : Surprise) (node : Node) (b : Bool) → (node.serial == o.target) ≡ b → HeadIs node.serial o.todo → node_at node.serial s.core.nodes ≡ Some node → InSurprise s o → SurpriseKeeps o SurpriseStage.Settling s.core.nodes → SurpriseOrder s.core o SurpriseStage.Settling →
-    ClosesStep s (surprise_lifted s (su.settle s.core o node (is_target_in_world s o) b))
-closes_su_settle s o node true e head at h keeps order = closes_su_target s o node (is_target_in_world s o) refl (grind (arith, nat_tests)) head at h keeps order
-closes_su_settle s o node false e head at h keeps order = closes_su_other s o node _ refl at h
-
-pub closes_surprise : (s : State) (o : Surprise) (stage : SurpriseStage) (n : Option Node) → first_node s.core.nodes o.todo ≡ n → s.operation ≡ Some (Operation.Surprising o) → s.activities ≡ [] → SurpriseKeeps o stage s.core.nodes → SurpriseOrder s.core o stage →
-    ClosesNext s (option_map (λ m. Does (surprise_lifted s m)) (su.surprise_step s.core o (is_target_in_world s o) stage n))
-closes_surprise s o SurpriseStage.Ending n first runs empty keeps order = su_over s o (record { runs = runs; empty = empty }) (λ k m at in_set. order.bare k m at in_set refl)
-closes_surprise s o (SurpriseStage.Telling w) (Some node) first runs empty keeps order = closes_tell s o node w _ (record { runs = runs; empty = empty })
-closes_surprise s o (SurpriseStage.Removing w) (Some node) first runs empty keeps order = closes_su_remove s o node w _ (record { runs = runs; empty = empty })
-closes_surprise s o SurpriseStage.Settling (Some node) first runs empty keeps order =
-    let h = head_found s.core.nodes o.todo node first in
-    closes_su_settle s o node _ refl h.0 h.1 (record { runs = runs; empty = empty }) keeps order
-closes_surprise s o _ None first runs empty keeps order = tt
+surprise_closing s o stage m h keeps order SurpriseStep.closes = su_over s o h (λ k m at in_set. order.bare k m at in_set refl)

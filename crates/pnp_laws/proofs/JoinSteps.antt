@@ -14,6 +14,7 @@ use Rattle.pnp_model.specs.Tasks.{joins, join_step}
 use Rattle.pnp_model.specs.Tests.{has}
 use Rattle.pnp_labels.specs.declared.states.DevState.{DevState}
 use Rattle.pnp_labels.specs.declared.states.DevState.TheVariants.{Started}
+use Rattle.pnp_labels.specs.declared.words.Answer.{Answer}
 use Rattle.pnp_labels.specs.declared.words.Minor.{Minor}
 use Rattle.pnp_labels.specs.declared.label.Label.{Label}
 use Rattle.pnp_laws.specs.Effects.{ActivityEffect, Chosen, Effect, Enters, JoinEffect, Origin, TaskEffect, WorldEffect}
@@ -24,7 +25,8 @@ use Rattle.pnp_laws.proofs.Lists.{head_found, head_has}
 use Rattle.pnp_laws.proofs.Lookups.{some_same, own_serial, found_self, phase_from, ended_same, ended_other}
 use Rattle.pnp_laws.proofs.RunsStand.{Kept}
 use Rattle.pnp_laws.proofs.Standing.{Sound}
-use Rattle.pnp_laws.proofs.Joins.{starts, start_cost, start_of, closed, is_bare, some_there, is_live, In, Gone, Stays, sub_stays, Flows}
+use Rattle.pnp_laws.proofs.Joins.{starts, start_cost, start_of, closed, removal_closed, is_bare, some_there, is_live, In, Gone, Stays, sub_stays, Flows}
+use Rattle.pnp_model.specs.Events as ev
 
 pub joined_none : (label : Label) → IsNoJoin label → joined label ≡ 0
 joined_none (Label.Join k path) h = absurd h
@@ -54,6 +56,21 @@ live_from s n h = by_tests (closed s.operation n.serial) (is_bare n.state) (some
 row_up : (minor : Minor) (bad : Bool) (a b : DevState) → Row a minor bad b → is_bare a ≡ false
 row_up _ _ _ _ Row.start = refl
 row_up _ _ _ _ _ = refl
+
+-- an answer closes nothing and opens nothing
+stage_closed : (answer : Answer) (o : Removal) (stage : RemovalStage) (k : ℕ) → removal_closed o (ev.completed_removal answer stage) k ≡ removal_closed o stage k
+stage_closed answer o (RemovalStage.Asking w) k = refl
+stage_closed answer o _ k = refl
+
+with_closed : (o p : Removal) (stage : RemovalStage) (k : ℕ) → p.set ≡ o.set → removal_closed p stage k ≡ removal_closed o stage k
+with_closed o p (RemovalStage.Removing w) k e = ap (λ (ks : List ℕ). has ks k) e
+with_closed o p RemovalStage.Settling k e = ap (λ (ks : List ℕ). has ks k) e
+with_closed o p _ k e = refl
+
+pub answer_closed : (answer : Answer) (o : Operation) (k : ℕ) → closed (Some (ev.completed answer o)) k ≡ closed (Some o) k
+answer_closed answer (Operation.Rebalancing r) k = refl
+answer_closed answer (Operation.Removing o) k = with_closed o (record o { stage = ev.completed_removal answer o.stage }) (ev.completed_removal answer o.stage) k refl ∙ stage_closed answer o o.stage k
+answer_closed answer (Operation.Surprising o) k = refl
 
 -- What is known of a step --------------------------------------------------------------------------------
 

@@ -8,6 +8,7 @@ pub mod EffectsOfOperations
 pub mod EffectsOfEvents
 pub mod EffectsOf
 pub mod EffectViews
+pub mod Minors
 pub mod Diagrams
 pub mod Kept
 pub mod Closures
@@ -89,7 +90,10 @@ pub mod RunsSerials
 pub mod RunsKeys
 pub mod DriverNames
 pub mod RunsStacks
+pub mod Requests
 pub mod RunsTold
 pub mod StrayMoves
 pub mod RunsStrays
 pub mod RunsHeld
+pub mod TreePrints
+pub mod NamesGiven

@@ -192,7 +192,7 @@ falls_removal s o stage m runs is order (RemovalStep.cancels node w e) =
     rm_falls s _ o _ (RemovalStage.Cancelling w) runs is refl (births_changed node.serial _ s.core.nodes _ refl (λ x. refl) (λ x. refl)) refl refl refl (inr (omega arith, omega arith))
 falls_removal s o stage m runs is order (RemovalStep.removes node w e) =
     rm_falls s _ o _ (RemovalStage.Removing w) runs is refl (births_changed node.serial _ s.core.nodes _ refl (λ x. refl) (λ x. refl)) refl refl refl (inr (omega arith, omega arith))
-falls_removal s o stage m runs is order (RemovalStep.leaves node first) =
+falls_removal s o stage m runs is order (RemovalStep.leaves node first inside) =
     let u = set_operation (Some (Operation.Removing (rm.finish_on s.core.nodes o (rest o.todo)))) (with_core (drop_node node.serial s.core) s) in
     let only = relist_only node.path node.born u in
     falls_leaves s (relist node.path node.born u) (Operation.Removing o) _ node order first runs only.operation only.nodes (same_in s u node.path node.born (λ x h. h)) only.tasks only.activities (λ k. refl) (omega arith)
@@ -237,7 +237,7 @@ falls_surprise s o stage m runs is order there (SurpriseStep.tells node w e) =
     su_falls s _ o _ (SurpriseStage.Telling w) runs is refl (tell_target s.core.nodes o (rest o.todo)) (births_changed node.serial _ s.core.nodes _ refl (λ x. refl) (λ x. refl)) refl refl refl (tell_down s.core.nodes o (rest o.todo) (length o.todo) (omega arith))
 falls_surprise s o stage m runs is order there (SurpriseStep.removes node w e) =
     su_falls s _ o _ (SurpriseStage.Removing w) runs is refl refl (births_changed node.serial _ s.core.nodes _ refl (λ x. refl) (λ x. refl)) refl refl refl (inr (omega arith, omega arith))
-falls_surprise s o stage m runs is order there (SurpriseStep.leaves node first) =
+falls_surprise s o stage m runs is order there (SurpriseStep.leaves node first why) =
     let q = su.finish_on s.core.nodes o (rest o.todo) in
     let u = set_operation (Some (Operation.Surprising q)) (with_core (drop_node node.serial s.core) s) in
     let only = relist_only node.path node.born u in

@@ -174,9 +174,9 @@ module _ (s : State) (label : Label) (order : Ascending 0 s.core.nodes) where
 abbrev PathOf : State → ℕ → Text → Type 0
 PathOf s k path = ((x : Node) × (node_at k s.core.nodes ≡ Some x) × (path ≡ x.path)) ⊎ ((s.next_serial ≡ k) × (has_path path s.core.nodes ≡ false))
 
-module _ (s : State) (label : Label) (t : State) (good : IsGood s) (old : Stacked s) (drivers : DriverEffect s label t) where
+module _ (s : State) (entry : Entry) (t : State) (good : IsGood s) (old : Stacked s) (drivers : DriverEffect s entry t) where
   more : MoreNames s.core.rack t.core.rack
-  more = more_names s label t drivers
+  more = more_names s entry t drivers
 
   -- a device that was there, with the stack that it had, or none
   fits_still : (k : ℕ) (n : Node) (stack ds : List ℕ) → node_at k s.core.nodes ≡ Some n → (stack ≡ n.stack) ⊎ (stack ≡ []) → Remains s k ds → Fits s.core.rack stack ds
@@ -212,10 +212,10 @@ module _ (s : State) (label : Label) (t : State) (good : IsGood s) (old : Stacke
       of_rest es (Remains.installs _ chosen) = absurd (let at = chosen.at in cc)
 
   -- where a driver is added, the others remain
-  others_remain : (k d : ℕ) (ds : List ℕ) (path name : Text) → Acting s k (Adding (d ∷ ds)) → label ≡ Label.Add path name true → to_add (activity_at k t.activities) ≡ ds
+  others_remain : (k d : ℕ) (ds : List ℕ) (path name : Text) → Acting s k (Adding (d ∷ ds)) → printed entry ≡ Label.Add path name true → to_add (activity_at k t.activities) ≡ ds
   others_remain k d ds path name acts adds = of_effect drivers
     where
-      of_effect : DriverEffect s label t → to_add (activity_at k t.activities) ≡ ds
+      of_effect : DriverEffect s entry t → to_add (activity_at k t.activities) ≡ ds
       of_effect (DriverEffect.same unasked rack) = absurd (subst (λ (l : Label). IsUnasked l) adds unasked)
       of_effect (DriverEffect.ended node minor w bad at request ends verdict prints rack) = absurd (cc)
       of_effect (DriverEffect.asked node w shown at on prints rack) = absurd (cc)
@@ -230,14 +230,14 @@ module _ (s : State) (label : Label) (t : State) (good : IsGood s) (old : Stacke
           ap (λ (x : List Activity). to_add (activity_at k x)) set ∙ ap to_add (phase_set_same k (adding es) s.activities)
           ∙ ap (λ (o : Option Activity). to_add (option_map (with_phase (adding es)) o)) here.at ∙ adding_all es ∙ rest
       of_effect (DriverEffect.refused node e es now prints rack) = absurd (cc)
-      of_effect (DriverEffect.named kind own unasked rack) = absurd (subst (λ (l : Label). IsUnasked l) adds unasked)
+      of_effect (DriverEffect.named kind own label is unasked rack) = absurd (subst (λ (l : Label). IsUnasked l) adds unasked)
       of_effect (DriverEffect.taught own rule unasked rack) = absurd (subst (λ (l : Label). IsUnasked l) adds unasked)
 
   module _ (activities : ActivityEffect s t) (k : ℕ) (m : Node) where
     rest : Remains s k (to_add (activity_at k t.activities))
     rest = remains s t good.order activities k
 
-    fits_from : From s label k m → Fits s.core.rack m.stack (to_add (activity_at k t.activities))
+    fits_from : From s (printed entry) k m → Fits s.core.rack m.stack (to_add (activity_at k t.activities))
     fits_from (From.was n at path stack) = fits_still k n m.stack _ at stack rest
     fits_from (From.pushed n d ds path name at own stack acts adds) =
         let h = subst (λ (x : List ℕ). Fits s.core.rack n.stack x) (acting_adds s k (Adding (d ∷ ds)) good.order acts) (old.fits k n at) in
@@ -248,7 +248,7 @@ module _ (s : State) (label : Label) (t : State) (good : IsGood s) (old : Stacke
     fits_from (From.joined gone own fresh stack) =
         subst (λ (x : List ℕ). Fits s.core.rack m.stack x) (sym (none_new k _ gone rest)) (subst (λ (x : List ℕ). Fits s.core.rack x []) (sym stack) (omega arith, tt, tt))
 
-    path_from : From s label k m → PathOf s k m.path
+    path_from : From s (printed entry) k m → PathOf s k m.path
     path_from (From.was n at path stack) = inl (n, at, path)
     path_from (From.pushed n d ds path name at own stack acts adds) = inl (n, at, own)
     path_from (From.joined gone own fresh stack) = inr (own, fresh)
@@ -266,9 +266,9 @@ module _ (s : State) (label : Label) (t : State) (good : IsGood s) (old : Stacke
   paths_of j k a b h (inr (own, fresh)) (inl (y, there, q)) = absurd (path_there a k y fresh there (subst (λ (z : Text). same z a ≡ true) q (same_turned a b h)))
   paths_of j k a b h (inr (own, fresh)) (inr (own2, fresh2)) = sym own ∙ own2
 
-  stacked_then : NodeEffect s label t → ActivityEffect s t → Stacked t
+  stacked_then : NodeEffect s (printed entry) t → ActivityEffect s t → Stacked t
   stacked_then nodes activities =
-      let from_at : (k : ℕ) (m : Node) → node_at k t.core.nodes ≡ Some m → From s label k m = from s label good.serials t nodes in
+      let from_at : (k : ℕ) (m : Node) → node_at k t.core.nodes ≡ Some m → From s (printed entry) k m = from s (printed entry) good.serials t nodes in
       record {
         fits = λ k m at. fits_more s.core.rack t.core.rack m.stack _ more (fits_from activities k m (from_at k m at));
         paths = λ j k n m at there h. paths_of j k n.path m.path h (path_from activities j n (from_at j n at)) (path_from activities k m (from_at k m there));
@@ -292,8 +292,8 @@ module _ (s : State) (label : Label) (t : State) (good : IsGood s) (old : Stacke
       let named = fits.2.0 in
       name_printed t.core.rack d (named.0, more d named.0 named.1)
 
-  names_printed : DriverEffect s label t → NamesDriver label t.core.rack
-  names_printed (DriverEffect.same unasked rack) = unasked_names label unasked
+  names_printed : DriverEffect s entry t → NamesDriver (printed entry) t.core.rack
+  names_printed (DriverEffect.same unasked rack) = unasked_names (printed entry) unasked
   names_printed (DriverEffect.ended node minor w bad at request ends verdict prints rack) = subst (λ (l : Label). NamesDriver l t.core.rack) (sym prints) tt
   names_printed (DriverEffect.asked node w shown at on prints rack) =
       let d = next_driver node w in
@@ -301,15 +301,15 @@ module _ (s : State) (label : Label) (t : State) (good : IsGood s) (old : Stacke
       subst (λ (l : Label). NamesDriver l t.core.rack) (sym prints) (d, more d (name_of s.core.rack d) (name_printed s.core.rack d named))
   names_printed (DriverEffect.added node d ds acts prints rack activities) = subst (λ (l : Label). NamesDriver l t.core.rack) (sym prints) (d, added_name node.serial d ds acts)
   names_printed (DriverEffect.refused node d ds acts prints rack) = subst (λ (l : Label). NamesDriver l t.core.rack) (sym prints) (d, added_name node.serial d ds acts)
-  names_printed (DriverEffect.named kind name unasked rack) = unasked_names label unasked
-  names_printed (DriverEffect.taught name rule unasked rack) = unasked_names label unasked
+  names_printed (DriverEffect.named kind name label is unasked rack) = unasked_names (printed entry) unasked
+  names_printed (DriverEffect.taught name rule unasked rack) = unasked_names (printed entry) unasked
 
 -- Runs ------------------------------------------------------------------------------------------------
 
 stacked_goes : (settings : Settings) (rack : List Driver) (old : State) (entry : Entry) (new : State) → IsReached settings rack old → Stacked old → Goes settings old entry new → Stacked new
 stacked_goes settings rack old entry new (entries, run) h goes =
     let effect = effect_goes settings old entry new goes in
-    stacked_then old (printed entry) new (reaches_kept settings rack entries old run).good h effect.drivers effect.nodes effect.activities
+    stacked_then old entry new (reaches_kept settings rack entries old run).good h effect.drivers effect.nodes effect.activities
 
 opening_stacked : (rack : List Driver) → Stacked (opening rack)
 opening_stacked rack =
@@ -346,4 +346,4 @@ keyed settings rack entries s run =
 pub names_are_known : NamesLaw
 names_are_known settings rack entries old entry new run goes =
     let effect = effect_goes settings old entry new goes in
-    names_printed old (printed entry) new (reaches_kept settings rack entries old run).good (stacked_at settings rack entries old run) effect.drivers effect.drivers
+    names_printed old entry new (reaches_kept settings rack entries old run).good (stacked_at settings rack entries old run) effect.drivers effect.drivers

@@ -10,20 +10,22 @@ use Rattle.pnp_model.specs.Cores.{node_at}
 use Rattle.pnp_model.specs.Diagram.{Row}
 use Rattle.pnp_model.specs.Events.{front, operation_at}
 use Rattle.pnp_model.specs.Frames.{first_node}
-use Rattle.pnp_model.specs.Machine.{operation_walk, rebalance_walk, removal_walk, surprise_walk}
+use Rattle.pnp_model.specs.Machine.{operation_walk, phase_walk, rebalance_walk, removal_walk, surprise_walk}
 use Rattle.pnp_model.specs.Records.{Node, Operation, Phase, Rebalance, RebalanceStage, Removal, RemovalStage, State, Surprise, SurpriseStage, Walk}
 use Rattle.pnp_model.specs.Records.Phase.{Starting, Removing}
-use Rattle.pnp_model.specs.Runs.{printed}
+use Rattle.pnp_model.specs.Runs.{Entry, printed}
 use Rattle.pnp_model.specs.Tests.{has, is_told}
 use Rattle.pnp_model.specs.Walks.{has_ended, is_bad, may_fail, state_after}
 use Rattle.pnp_laws.specs.Effects.{Acting, Alters, DriverEffect, IsUnasked, NodeEffect, operation_minor, rebalance_minor, removal_minor, surprise_minor, todo_of}
 use Rattle.pnp_laws.specs.Kept.{Fits, InOrder, IsGood, OperationFits, at_head, rebalance_state, removal_state, surprise_state}
-use Rattle.pnp_laws.specs.Told.{ChangesAt, IsUnder, Request, StatesLaw, ends_bad, operation_request, phase_request, rebalance_request, removal_request, request, surprise_request}
+use Rattle.pnp_laws.specs.Told.{ChangesAt, IsWalkOf, StatesLaw}
 use Rattle.pnp_laws.proofs.EffectsOf.{effect_goes}
 use Rattle.pnp_laws.proofs.EffectViews.{Turns, acting_at, state_from}
 use Rattle.pnp_laws.proofs.Finishing.{strips}
 use Rattle.pnp_laws.proofs.Lookups.{own_serial, some_same}
+use Rattle.pnp_laws.proofs.Minors.{HasOwn, OperationOwn, PhaseOwn, RebalanceOwn, RemovalOwn, SurpriseOwn, phase_own, reaches_own}
 use Rattle.pnp_laws.proofs.OpSteps.{is_Started, is_StopPending, is_Stopped, is_RemovePending}
+use Rattle.pnp_laws.proofs.Requests.{IsUnder, Request, ends_bad, operation_request, phase_request, rebalance_request, removal_request, request, surprise_request}
 use Rattle.pnp_laws.proofs.RunsStand.{Kept, reaches_kept}
 use Rattle.pnp_laws.specs.Effects as Effects
 
@@ -167,6 +169,60 @@ is_under s node _ w order (Effects.Request.starts _ acts) = start_under s node.s
 is_under s node _ w order (Effects.Request.undoes _ acts) = start_under s node.serial (Removing w) _ order acts refl
 is_under s node minor w order (Effects.Request.operates _ _ asks) = operation_under s node minor w asks.operation asks.runs asks.first asks.walk asks.minor_is
 
+-- The walk of a request ------------------------------------------------------------------------------
+
+asked_walk : (minor : Minor) (w : Walk) (r : Request) → w.minor ≡ minor → request minor w ≡ Some r → (Some w ≡ Some r.walk) × (r.walk.minor ≡ r.minor)
+asked_walk minor w r own is =
+    let made : Request = record { minor = minor; walk = w } in
+    let same : made ≡ r = cc in
+    subst (λ (z : Request). (Some w ≡ Some z.walk) × (z.walk.minor ≡ z.minor)) same (refl, own)
+
+rebalance_own_walk : (stage : RebalanceStage) (r : Request) → RebalanceOwn stage → rebalance_request stage ≡ Some r → (rebalance_walk stage ≡ Some r.walk) × (r.walk.minor ≡ r.minor)
+rebalance_own_walk (RebalanceStage.Asking w) r own is = asked_walk Minor.QueryStop w r own is
+rebalance_own_walk (RebalanceStage.TakingBack w) r own is = asked_walk Minor.CancelStop w r own is
+rebalance_own_walk (RebalanceStage.Cancelling w) r own is = asked_walk Minor.CancelStop w r own is
+rebalance_own_walk (RebalanceStage.Stopping w) r own is = asked_walk Minor.Stop w r own is
+rebalance_own_walk (RebalanceStage.Restarting w) r own is = asked_walk Minor.Start w r own is
+rebalance_own_walk _ r own is = absurd (cc)
+
+removal_own_walk : (stage : RemovalStage) (r : Request) → RemovalOwn stage → removal_request stage ≡ Some r → (removal_walk stage ≡ Some r.walk) × (r.walk.minor ≡ r.minor)
+removal_own_walk (RemovalStage.Asking w) r own is = asked_walk Minor.QueryRemove w r own is
+removal_own_walk (RemovalStage.TakingBack w) r own is = asked_walk Minor.CancelRemove w r own is
+removal_own_walk (RemovalStage.Cancelling w) r own is = asked_walk Minor.CancelRemove w r own is
+removal_own_walk (RemovalStage.Removing w) r own is = asked_walk Minor.Remove w r own is
+removal_own_walk _ r own is = absurd (cc)
+
+surprise_own_walk : (stage : SurpriseStage) (r : Request) → SurpriseOwn stage → surprise_request stage ≡ Some r → (surprise_walk stage ≡ Some r.walk) × (r.walk.minor ≡ r.minor)
+surprise_own_walk (SurpriseStage.Telling w) r own is = asked_walk Minor.SurpriseRemoval w r own is
+surprise_own_walk (SurpriseStage.Removing w) r own is = asked_walk Minor.Remove w r own is
+surprise_own_walk _ r own is = absurd (cc)
+
+operation_own_walk : (o : Operation) (r : Request) → OperationOwn (Some o) → operation_request o ≡ Some r → (operation_walk o ≡ Some r.walk) × (r.walk.minor ≡ r.minor)
+operation_own_walk (Operation.Rebalancing o) r own is = rebalance_own_walk o.stage r own is
+operation_own_walk (Operation.Removing o) r own is = removal_own_walk o.stage r own is
+operation_own_walk (Operation.Surprising o) r own is = surprise_own_walk o.stage r own is
+
+phase_own_walk : (phase : Phase) (r : Request) → PhaseOwn phase → phase_request phase ≡ Some r → (phase_walk phase ≡ Some r.walk) × (r.walk.minor ≡ r.minor)
+phase_own_walk (Starting w) r own is = asked_walk Minor.Start w r own is
+phase_own_walk (Removing w) r own is = asked_walk Minor.Remove w r own is
+phase_own_walk _ r own is = absurd (cc)
+
+own_walk : (s : State) (k : ℕ) (r : Request) → HasOwn s → IsUnder s k r → IsWalkOf s k r.walk × (r.walk.minor ≡ r.minor)
+own_walk s k r own (IsUnder.operates o runs first is) =
+    let h = operation_own_walk o r (subst (λ (x : Option Operation). OperationOwn x) runs own.operation) is in
+    (IsWalkOf.operates o runs first h.0, h.1)
+own_walk s k r own (IsUnder.starts a none there is) =
+    let h = phase_own_walk a.phase r (phase_own k s.activities a own.starts there) is in
+    (IsWalkOf.starts a none there h.0, h.1)
+
+-- how a request ended is how its walk did
+twice : (a b : Bool) → (a && (a && b)) ≡ (a && b)
+twice true b = refl
+twice false b = refl
+
+ends_by_walk : (r : Request) → r.walk.minor ≡ r.minor → ends_bad r ≡ is_bad r.walk
+ends_by_walk r own = ap (λ (m : Minor). may_fail m && is_bad r.walk) (sym own) ∙ twice (may_fail r.walk.minor) r.walk.failed
+
 -- Who changes --------------------------------------------------------------------------------------------
 
 changes_at : (s : State) (label : Label) (k : ℕ) (n : Node) → Turns s label k n → ChangesAt label n.path
@@ -182,8 +238,8 @@ alone s label k n m (inr turns) = inr (changes_at s label k n turns)
 no_state : (label : Label) (path : Text) (state : DevState) → IsUnasked label → label ≡ Label.State path state → ⊥
 no_state label path state unasked e = subst (λ (l : Label). IsUnasked l) e unasked
 
-module _ (s : State) (label : Label) (t : State) (all : Kept s) (path : Text) (state : DevState) (is : label ≡ Label.State path state) (k : ℕ) (n : Node) (at : node_at k s.core.nodes ≡ Some n) (own : n.path ≡ path) where
-  told : DriverEffect s label t → (r : Request) × IsUnder s k r × (has_ended r.walk (length n.stack) ≡ true) × Row n.state r.minor (ends_bad r) state
+module _ (s : State) (entry : Entry) (t : State) (all : Kept s) (path : Text) (state : DevState) (is : printed entry ≡ Label.State path state) (k : ℕ) (n : Node) (at : node_at k s.core.nodes ≡ Some n) (own : n.path ≡ path) where
+  told : DriverEffect s entry t → (r : Request) × IsUnder s k r × (has_ended r.walk (length n.stack) ≡ true) × Row n.state r.minor (ends_bad r) state
   told (DriverEffect.ended node minor w bad there request ends verdict prints rack) =
       let r : Request = record { minor = minor; walk = w } in
       let same_label : Label.State path state ≡ Label.State node.path (state_after minor bad node.state) = sym is ∙ prints in
@@ -198,12 +254,23 @@ module _ (s : State) (label : Label) (t : State) (all : Kept s) (path : Text) (s
         subst (λ (x : Node). has_ended w (length x.stack) ≡ true) one ends,
         subst (λ (y : DevState). Row n.state minor (ends_bad r) y) after (row_of s k n r all.good at under (ends_bad r) refl),
       )
-  told (DriverEffect.same unasked rack) = absurd (no_state label path state unasked is)
-  told (DriverEffect.named kind name unasked rack) = absurd (no_state label path state unasked is)
-  told (DriverEffect.taught name rule unasked rack) = absurd (no_state label path state unasked is)
+  told (DriverEffect.same unasked rack) = absurd (no_state (printed entry) path state unasked is)
   told (DriverEffect.asked node w shown there on prints rack) = absurd (cc)
   told (DriverEffect.added node d ds acts prints rack activities) = absurd (cc)
   told (DriverEffect.refused node d ds acts prints rack) = absurd (cc)
+  told (DriverEffect.named kind name label gives unasked rack) = absurd (no_state (printed entry) path state unasked is)
+  told (DriverEffect.taught name rule unasked rack) = absurd (no_state (printed entry) path state unasked is)
+
+-- the same of the walk itself
+by_walk : (s : State) (k : ℕ) (n : Node) (state : DevState) → HasOwn s → (r : Request) × IsUnder s k r × (has_ended r.walk (length n.stack) ≡ true) × Row n.state r.minor (ends_bad r) state
+    → (w : Walk) × IsWalkOf s k w × (has_ended w (length n.stack) ≡ true) × Row n.state w.minor (is_bad w) state
+by_walk s k n state own (r, under, ended, row) =
+    let h = own_walk s k r own under in (
+      r.walk,
+      h.0,
+      ended,
+      subst (λ (m : Minor). Row n.state m (is_bad r.walk) state) (sym h.1) (subst (λ (b : Bool). Row n.state r.minor b state) (ends_by_walk r h.1) row),
+    )
 
 pub states_are_told : StatesLaw
 states_are_told settings rack entries old entry new run goes =
@@ -211,5 +278,5 @@ states_are_told settings rack entries old entry new run goes =
     let effect = effect_goes settings old entry new goes in
     record {
       alone = λ k n m at now. alone old (printed entry) k n m (state_from old (printed entry) new all.good.serials k n m at effect.nodes now);
-      walked = λ path state is k n at own. told old (printed entry) new all path state is k n at own effect.drivers;
+      walked = λ path state is k n at own. by_walk old k n state (reaches_own settings rack entries old run) (told old entry new all path state is k n at own effect.drivers);
     }

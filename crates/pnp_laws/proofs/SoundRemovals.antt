@@ -120,7 +120,7 @@ module _ (s : State) (o : Removal) (good : Good s.next_serial s.core.nodes [] (S
       let here = head_has node.serial o.todo work.head in
       op_strip s _ node o.todo o.set [] work (keeps.asks node.serial here) order refl refl refl (strips node.state (head_stripped o.todo node.serial node.state work.head (keeps.each node.serial node work.at)))
       (finishes_strip s.core o.set o.todo node.serial work.order here order, strip_goes o.todo node.serial s.core there) refl due h
-  sound_removal stage m keeps order there (RemovalStep.leaves node first) =
+  sound_removal stage m keeps order there (RemovalStep.leaves node first inside) =
       rm_leaves (set_operation (Some (Operation.Removing (rm.finish_on s.core.nodes o (rest o.todo)))) (with_core (drop_node node.serial s.core) s)) node (Label.Leave node.path) first tt (λ q. q) refl refl refl refl keeps order there
   sound_removal stage m keeps order there (RemovalStep.ejects node first) =
       rm_leaves (unplug node.born (set_operation (Some (Operation.Removing (rm.finish_on s.core.nodes o (rest o.todo)))) (with_core (drop_node node.serial s.core) s))) node (Label.Ejected node.path) first tt (λ q. q) refl refl refl refl keeps order there
@@ -192,7 +192,7 @@ module _ (s : State) (o : Surprise) (good : Good s.next_serial s.core.nodes [] (
       let here = head_has node.serial o.todo work.head in
       op_strip s _ node o.todo o.set o.set work (keeps.inside node.serial here) order refl refl refl (strips node.state (head_stripped o.todo node.serial node.state work.head (keeps.each node.serial node work.at)))
       (finishes_strip s.core o.set o.todo node.serial work.order here order, (strip_goes o.todo node.serial s.core there.0, there.1)) refl due h
-  sound_surprise in_world stage m keeps order there (SurpriseStep.leaves node first) =
+  sound_surprise in_world stage m keeps order there (SurpriseStep.leaves node first why) =
       let work = su_work node first keeps.rootless keeps.inside in
       let u = set_operation (Some (Operation.Surprising (su.finish_on s.core.nodes o (rest o.todo)))) (with_core (drop_node node.serial s.core) s) in
       let t = relist node.path node.born u in

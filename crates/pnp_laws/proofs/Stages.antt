@@ -1,5 +1,5 @@
 -- What a step of an operation is, stage by stage: the one list that laws over stages read.
-use Rattle.std.proofs.Common.{ℕ, ◌≡◌, ◌==◌, ◌∙◌, Bool, true, false, ◌&&◌, List, length, Option, Some, None, refl, sym, ap, subst}
+use Rattle.std.proofs.Common.{ℕ, ◌≡◌, ◌==◌, ◌⊎◌, ◌∙◌, inl, inr, Bool, true, false, ◌&&◌, List, length, Option, Some, None, refl, sym, ap, subst}
 use Rattle.std.specs.Option.{option_map}
 use Rattle.resource_reqs.specs.Spelling.{IsAnswer}
 use Rattle.pnp_labels.specs.declared.words.AskWhat.{AskWhat}
@@ -46,7 +46,7 @@ pub data RemovalStep (c : Core) (o : Removal) : RemovalStage → rm.RemovalMove 
   takes_back : (node : Node) (w : Walk) → Ends c o.todo node w → RemovalStep c o (RemovalStage.TakingBack w) (rm.take_back c o node w true)
   cancels : (node : Node) (w : Walk) → Ends c o.todo node w → RemovalStep c o (RemovalStage.Cancelling w) (rm.cancel_step c o node w true)
   removes : (node : Node) (w : Walk) → Ends c o.todo node w → RemovalStep c o (RemovalStage.Removing w) (rm.remove_step c o node w true)
-  leaves : (node : Node) → first_node c.nodes o.todo ≡ Some node → RemovalStep c o RemovalStage.Settling (rm.settle c o node true)
+  leaves : (node : Node) → first_node c.nodes o.todo ≡ Some node → has o.set node.parent ≡ true → RemovalStep c o RemovalStage.Settling (rm.settle c o node true)
   ejects : (node : Node) → first_node c.nodes o.todo ≡ Some node → RemovalStep c o RemovalStage.Settling (rm.settle_target c o node true)
   disables : (node : Node) → first_node c.nodes o.todo ≡ Some node → has o.set node.parent ≡ false → RemovalStep c o RemovalStage.Settling (rm.settle_target c o node false)
   remains : (node : Node) (problem : Problem) → first_node c.nodes o.todo ≡ Some node → has o.set node.parent ≡ false → NotTwelve problem → RemovalStep c o RemovalStage.Settling (rm.remains c o node problem RemoveBeside.On)
@@ -55,7 +55,8 @@ pub data RemovalStep (c : Core) (o : Removal) : RemovalStage → rm.RemovalMove 
 pub data SurpriseStep (c : Core) (o : Surprise) (in_world : Bool) : SurpriseStage → su.SurpriseMove → Type 0 where
   tells : (node : Node) (w : Walk) → Ends c o.todo node w → SurpriseStep c o in_world (SurpriseStage.Telling w) (su.tell_step c o node w true)
   removes : (node : Node) (w : Walk) → Ends c o.todo node w → SurpriseStep c o in_world (SurpriseStage.Removing w) (su.remove_step c o node w true)
-  leaves : (node : Node) → first_node c.nodes o.todo ≡ Some node → SurpriseStep c o in_world SurpriseStage.Settling (su.leaves c o node)
+  -- it is below another of the set, or the device that is gone
+  leaves : (node : Node) → first_node c.nodes o.todo ≡ Some node → (has o.set node.parent ≡ true) ⊎ (((node.serial == o.target) ≡ true) × (in_world ≡ false)) → SurpriseStep c o in_world SurpriseStage.Settling (su.leaves c o node)
   remains : (node : Node) → first_node c.nodes o.todo ≡ Some node → (node.serial == o.target) ≡ false → has o.set node.parent ≡ false → SurpriseStep c o in_world SurpriseStage.Settling (su.settle_other c o node false)
   -- the device is in the world again
   stays : (node : Node) → first_node c.nodes o.todo ≡ Some node → (node.serial == o.target) ≡ true → in_world ≡ true → SurpriseStep c o in_world SurpriseStage.Settling (su.close c o)
@@ -164,7 +165,7 @@ module _ (budget : ℕ) (s : State) (o : Removal) where
       (λ ended. OperationStep.removes o _ _ is (RemovalStep.removes node w (record { first = first; ended = ended }))) (rm_asks (RemovalStage.Removing w) node w is first refl waits)
   removal_step RemovalStage.Settling (Some node) is first waits =
       by_test (λ b. OperationStep s (Operation.Removing o) (ma.removal_lifted s (rm.settle s.core o node b))) (has o.set node.parent)
-      (λ inside. OperationStep.removes o _ _ is (RemovalStep.leaves node first)) (rm_settles node is first)
+      (λ inside. OperationStep.removes o _ _ is (RemovalStep.leaves node first inside)) (rm_settles node is first)
   removal_step _ None is first waits = tt
 
 module _ (budget : ℕ) (s : State) (o : Surprise) where
@@ -186,9 +187,9 @@ module _ (budget : ℕ) (s : State) (o : Surprise) where
   surprise_step SurpriseStage.Settling (Some node) is first waits =
       by_test (λ b. OperationStep s (Operation.Surprising o) (ma.surprise_lifted s (su.settle s.core o node (ma.is_target_in_world s o) b))) (node.serial == o.target)
       (λ target. by_test (λ b. OperationStep s (Operation.Surprising o) (ma.surprise_lifted s (su.settle_target s.core o node b))) (ma.is_target_in_world s o)
-      (λ back. OperationStep.surprises o _ _ is (SurpriseStep.stays node first target back)) (λ gone. OperationStep.surprises o _ _ is (SurpriseStep.leaves node first)))
+      (λ back. OperationStep.surprises o _ _ is (SurpriseStep.stays node first target back)) (λ gone. OperationStep.surprises o _ _ is (SurpriseStep.leaves node first (inr (target, gone)))))
       (λ other. by_test (λ b. OperationStep s (Operation.Surprising o) (ma.surprise_lifted s (su.settle_other s.core o node b))) (has o.set node.parent)
-      (λ inside. OperationStep.surprises o _ _ is (SurpriseStep.leaves node first)) (λ over. OperationStep.surprises o _ _ is (SurpriseStep.remains node first other over)))
+      (λ inside. OperationStep.surprises o _ _ is (SurpriseStep.leaves node first (inl inside))) (λ over. OperationStep.surprises o _ _ is (SurpriseStep.remains node first other over)))
   surprise_step _ None is first waits = tt
 
 operation_next : (budget : ℕ) (s : State) (o : Operation) (waits : Bool) → ma.is_waiting (ma.operation_walk o) ≡ waits → StepsBy budget s o (ma.operation_next s o waits)

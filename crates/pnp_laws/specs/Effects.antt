@@ -170,22 +170,22 @@ IsUnasked (Label.State path state) = ⊥
 IsUnasked _ = Unit {0}
 
 -- which driver answers, and how the rack is then; where a state is told, whose request has ended
-pub data DriverEffect (s : State) (label : Label) (t : State) : Type 0 where
-  same : IsUnasked label → t.core.rack ≡ s.core.rack → DriverEffect s label t
+pub data DriverEffect (s : State) (entry : Entry) (t : State) : Type 0 where
+  same : IsUnasked (printed entry) → t.core.rack ≡ s.core.rack → DriverEffect s entry t
   ended : (node : Node) (minor : Minor) (w : Walk) (bad : Bool) → node_at node.serial s.core.nodes ≡ Some node → Request s node minor w
-      → has_ended w (length node.stack) ≡ true → ends_bad minor w ≡ bad → label ≡ Label.State node.path (state_after minor bad node.state)
-      → t.core.rack ≡ s.core.rack → DriverEffect s label t
+      → has_ended w (length node.stack) ≡ true → ends_bad minor w ≡ bad → printed entry ≡ Label.State node.path (state_after minor bad node.state)
+      → t.core.rack ≡ s.core.rack → DriverEffect s entry t
   asked : (node : Node) (w : Walk) (shown : Shown) → node_at node.serial s.core.nodes ≡ Some node → has_ended w (length node.stack) ≡ false
-      → label ≡ Label.Asked w.minor node.path (name_of s.core.rack (next_driver node w)) shown
-      → t.core.rack ≡ rack_after (AskWhat.Irp w.minor) node.path s.core.rack (next_driver node w) → DriverEffect s label t
-  added : (node : Node) (d : ℕ) (ds : List ℕ) → Acting s node.serial (Phase.Adding (d ∷ ds)) → label ≡ Label.Add node.path (name_of t.core.rack d) true
+      → printed entry ≡ Label.Asked w.minor node.path (name_of s.core.rack (next_driver node w)) shown
+      → t.core.rack ≡ rack_after (AskWhat.Irp w.minor) node.path s.core.rack (next_driver node w) → DriverEffect s entry t
+  added : (node : Node) (d : ℕ) (ds : List ℕ) → Acting s node.serial (Phase.Adding (d ∷ ds)) → printed entry ≡ Label.Add node.path (name_of t.core.rack d) true
       → t.core.rack ≡ rack_after AskWhat.Add node.path s.core.rack d
-      → t.activities ≡ changed_first (is_activity node.serial) (with_phase (adding ds)) s.activities → DriverEffect s label t
-  refused : (node : Node) (d : ℕ) (ds : List ℕ) → Acting s node.serial (Phase.Adding (d ∷ ds)) → label ≡ Label.Add node.path (name_of t.core.rack d) false
-      → t.core.rack ≡ rack_after AskWhat.Add node.path s.core.rack d → DriverEffect s label t
+      → t.activities ≡ changed_first (is_activity node.serial) (with_phase (adding ds)) s.activities → DriverEffect s entry t
+  refused : (node : Node) (d : ℕ) (ds : List ℕ) → Acting s node.serial (Phase.Adding (d ∷ ds)) → printed entry ≡ Label.Add node.path (name_of t.core.rack d) false
+      → t.core.rack ≡ rack_after AskWhat.Add node.path s.core.rack d → DriverEffect s entry t
   -- a driver that had no name gets one; a driver learns an answer
-  named : (kind : DriverKind) (name : Text) → IsUnasked label → t.core.rack ≡ changed_first (is_unnamed kind) (with_name name) s.core.rack → DriverEffect s label t
-  taught : (name : Text) (rule : Rule) → IsUnasked label → t.core.rack ≡ changed_first (is_named name) (with_rule rule) s.core.rack → DriverEffect s label t
+  named : (kind : DriverKind) (name : Text) (label : Label) → entry ≡ Happens (Event.Name name kind) label → IsUnasked (printed entry) → t.core.rack ≡ changed_first (is_unnamed kind) (with_name name) s.core.rack → DriverEffect s entry t
+  taught : (name : Text) (rule : Rule) → IsUnasked (printed entry) → t.core.rack ≡ changed_first (is_named name) (with_rule rule) s.core.rack → DriverEffect s entry t
 
 -- the drivers that were chosen for a device without drivers: lower filters, its service, upper filters
 pub record Chosen (s : State) (k : ℕ) (drivers : List ℕ) : Type 0 where
@@ -381,7 +381,7 @@ pub data JoinEffect (s : State) (label : Label) (t : State) : Type 0 where
 
 pub record Effect (s : State) (entry : Entry) (t : State) : Type 0 where
   pub nodes : NodeEffect s (printed entry) t
-  pub drivers : DriverEffect s (printed entry) t
+  pub drivers : DriverEffect s entry t
   pub ranges : RangeEffect s entry t
   pub operation : OperationEffect s entry t
   pub activities : ActivityEffect s t

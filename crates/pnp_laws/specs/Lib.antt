@@ -15,6 +15,7 @@ pub mod Serials
 pub mod Effects
 pub mod Keys
 pub mod Stacks
+pub mod Printed
 pub mod Told
 pub mod Strays
 pub mod Held

@@ -5,6 +5,7 @@ ghost use Rattle.pnp_laws.specs.Effects.{EffectLaw};
 ghost use Rattle.pnp_laws.specs.Ends.{SettlesLaw, JoinsLaw, FewJoinLaw};
 ghost use Rattle.pnp_laws.specs.Held.{FewHeldLaw, PartsLaw};
 ghost use Rattle.pnp_laws.specs.Keys.{KeysLaw, MapLaw, NoCycleLaw};
+ghost use Rattle.pnp_laws.specs.Printed.{GivenLaw, TreeLaw};
 ghost use Rattle.pnp_laws.specs.Quiet.{QuietLaw, StepLaw};
 ghost use Rattle.pnp_laws.specs.Serials.{SerialsLaw, FewSerialsLaw, FewBirthsLaw};
 ghost use Rattle.pnp_laws.specs.Stacks.{NamesLaw, StacksLaw};
@@ -200,4 +201,16 @@ pub fn each_holds_a_part()
 /// for each event, and for the root.
 pub fn few_held()
     ensures { FewHeldLaw }
+{}
+
+/// In each state of each run each node has one line under `tree`, and each line there is of a node.
+#[tactic(auto, using(crate::proofs::TreePrints::each_node_is_printed_once))]
+pub fn each_node_is_printed_once()
+    ensures { TreeLaw }
+{}
+
+/// In each state of each run a driver has the name that it had at the opening, or one that an event of the run gave.
+#[tactic(auto, using(crate::proofs::NamesGiven::names_are_given))]
+pub fn names_are_given()
+    ensures { GivenLaw }
 {}
