@@ -10,11 +10,13 @@ use Rattle.pnp_model.specs.Runs.{Entry, Run, printed, opening}
 use Rattle.pnp_model.specs.Runs.Entry.{Happens, Did}
 use Rattle.pnp_laws.proofs.Reaching.{run_on}
 use Rattle.pnp_laws.proofs.RunsShare.{nothing_clashes}
+use Rattle.pnp_laws.proofs.RunsHeld.{each_holds_a_part, few_held}
 use Rattle.pnp_laws.proofs.RunsKeys.{no_cycle, nothing_printed_clashes}
 use Rattle.pnp_laws.proofs.RunsStacks.{keyed, names_are_known, stacks_fit}
 use Rattle.pnp_laws.proofs.RunsTold.{states_are_told}
 use Rattle.pnp_laws.proofs.RunsWhole.{all_hold_whole}
 use Rattle.pnp_laws.proofs.RunsStand.{every_run_follows, dependents_go_first}
+use Rattle.pnp_laws.proofs.RunsStrays.{nobody_is_forgotten}
 use Rattle.pnp_laws.proofs.RunsBegun.{operations_begin}
 use Rattle.pnp_laws.proofs.RunsEnds.{each_end_restores}
 use Rattle.pnp_laws.proofs.RunsConflict.{each_conflict_is_real}
@@ -26,7 +28,7 @@ use Rattle.pnp_cli.specs.Infs.{infs_in}
 use Rattle.pnp_cli.specs.Runs.{IsOutput, IsOutputBy, IsScriptOutput, machine}
 use Rattle.pnp_cli.specs.Contents.{events_of}
 use Rattle.pnp_cli.specs.Words.{settings_of}
-use Rattle.pnp_cli.specs.Lawful.{happened, events_in, SomeRun, OfRun, EachState, EachStep, OfScript, OfInfs, OfOutput, ByDiagram, NothingClashes, AllHoldWhole, OperationsBegan, EndsRestore, DependentsGoFirst, ConflictsAreReal, FewJoin, AllStatesTold, NodesAreKeyed, NothingOnItself, MapIsClear, AllStacksFit, NamesAreKnown}
+use Rattle.pnp_cli.specs.Lawful.{happened, events_in, SomeRun, OfRun, EachPassed, EachState, EachStep, OfScript, OfInfs, OfOutput, ByDiagram, NothingClashes, AllHoldWhole, OperationsBegan, EndsRestore, DependentsGoFirst, ConflictsAreReal, FewJoin, AllStatesTold, NodesAreKeyed, NothingOnItself, MapIsClear, AllStacksFit, NamesAreKnown, NobodyIsForgotten, EachHoldsPart, FewAreHeld}
 use Rattle.pnp_cli.specs.declared.infs.InfsError.{InfsError}
 use Rattle.pnp_cli.specs.declared.parts.Settings.{Settings}
 
@@ -198,3 +200,18 @@ pub output_names : (words : List Text) (contents : Option (Text → Option (List
 unfolding Holds
 output_names words contents rack =
     of_output (EachStep NamesAreKnown) (λ settings rack t text prints entries last told earlier old entry new step. names_are_known settings rack earlier old entry new step.before step.goes) words contents rack
+
+pub output_remembers : (words : List Text) (contents : Option (Text → Option (List ℕ))) (rack : List Driver) → OfOutput (EachState NobodyIsForgotten) words contents rack
+unfolding Holds
+output_remembers words contents rack =
+    of_output (EachState NobodyIsForgotten) (λ settings rack t text prints entries last told s state. nobody_is_forgotten settings rack state.earlier s state.before) words contents rack
+
+pub output_holds_parts : (words : List Text) (contents : Option (Text → Option (List ℕ))) (rack : List Driver) → OfOutput (EachState EachHoldsPart) words contents rack
+unfolding Holds
+output_holds_parts words contents rack =
+    of_output (EachState EachHoldsPart) (λ settings rack t text prints entries last told s state. each_holds_a_part settings rack state.earlier s state.before) words contents rack
+
+pub output_holds_few : (words : List Text) (contents : Option (Text → Option (List ℕ))) (rack : List Driver) → OfOutput (EachPassed FewAreHeld) words contents rack
+unfolding Holds
+output_holds_few words contents rack =
+    of_output (EachPassed FewAreHeld) (λ settings rack t text prints entries last told s state. few_held settings rack state.earlier s state.before) words contents rack

@@ -1,5 +1,5 @@
 -- That an output tells a run of the machine, and what is kept by each state and each step of that run.
-use Rattle.std.specs.Prelude.{ℕ, ◌*◌, ◌≤◌, ◌≡◌, List, [], ◌∷◌, ◌++◌, Option, Some, None, Result, Ok, Err, map}
+use Rattle.std.specs.Prelude.{ℕ, ◌+◌, ◌*◌, ◌≤◌, ◌≡◌, List, [], ◌∷◌, ◌++◌, Option, Some, None, Result, Ok, Err, map}
 use Rattle.pnp_labels.specs.Texts.{Text}
 use Rattle.pnp_labels.specs.declared.event.Event.{Event}
 use Rattle.pnp_labels.specs.declared.states.Problem.{Problem}
@@ -14,8 +14,10 @@ use Rattle.pnp_model.specs.Sharing.{Clear}
 use Rattle.pnp_model.specs.Laws.{Reaches, HoldsWhole, DependentsFirst}
 use Rattle.pnp_laws.specs.Begun.{Belongs, Restoring, Conflicts}
 use Rattle.pnp_laws.specs.Ends.{events, joins}
+use Rattle.pnp_laws.specs.Held.{AllHoldParts, NodesWithin, how_many}
 use Rattle.pnp_laws.specs.Keys.{Keyed, IsAcyclic, NothingHeldClashes}
 use Rattle.pnp_laws.specs.Stacks.{NamesDriver, StacksFit}
+use Rattle.pnp_laws.specs.Strays.{NobodyForgotten}
 use Rattle.pnp_laws.specs.Told.{StatesTold}
 use Rattle.script_reader.specs.Script.{Trace, gives, waits, ends, stops}
 use Rattle.inf_reader.specs.declared.parts.Inf.{Inf}
@@ -79,6 +81,12 @@ EachState Law settings rack t text =
     (entries : List Entry) (last : State) → IsTold settings rack t text entries last
     → (s : State) → IsState settings rack entries last s → Law s
 
+-- each state of it does, with the entries before it
+abbrev pub EachPassed : (List Entry → State → Type 0) → machines.Settings → List Driver → Trace → Text → Type 0
+EachPassed Law settings rack t text =
+    (entries : List Entry) (last : State) → IsTold settings rack t text entries last
+    → (s : State) (state : IsState settings rack entries last s) → Law state.earlier s
+
 -- each step of it does
 abbrev pub EachStep : (machines.Settings → List Driver → List Entry → State → Entry → State → Type 0) → machines.Settings → List Driver → Trace → Text → Type 0
 EachStep Law settings rack t text =
@@ -132,7 +140,7 @@ abbrev pub ConflictsAreReal : machines.Settings → List Driver → List Entry �
 ConflictsAreReal settings rack earlier old entry new =
     (path : Text) → printed entry ≡ Label.Trouble path Problem.NormalConflict → Conflicts settings rack earlier old path
 
--- at most 4,096 nodes join for each event
+-- at most 4,096 times as many nodes join as events happened
 abbrev pub FewJoin : List Entry → Type 0
 FewJoin entries = joins entries ≤ 4096 * events entries
 
@@ -159,3 +167,16 @@ AllStacksFit s = StacksFit s
 -- a driver that is asked or added is printed by its name
 abbrev pub NamesAreKnown : machines.Settings → List Driver → List Entry → State → Entry → State → Type 0
 NamesAreKnown settings rack earlier old entry new = NamesDriver (printed entry) new.core.rack
+
+-- where no operation runs, a device that was stopped, or that holds something and is not up, is being started or is due to go
+abbrev pub NobodyIsForgotten : State → Type 0
+NobodyIsForgotten s = s.operation ≡ None → NobodyForgotten s
+
+-- each device holds one whole alternative, or nothing
+abbrev pub EachHoldsPart : State → Type 0
+EachHoldsPart s = AllHoldParts s.core.nodes
+
+-- where no alternative has more than some number of groups, at most one more than that number is held or reserved for each
+-- event, and for the root
+abbrev pub FewAreHeld : List Entry → State → Type 0
+FewAreHeld earlier s = (most : ℕ) → NodesWithin most s.core.nodes → how_many s.core ≤ (most + 1) * (events earlier + 1)

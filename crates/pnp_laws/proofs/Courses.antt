@@ -40,11 +40,11 @@ way_step s label t dues (OpEffect.idles none now (inr owes)) =
     Way.idles none now (subst (λ (x : Label). IsBeside x) (sym owes.prints) fine)
 way_step s label t dues (OpEffect.begins kind node none alone at fits is) = Way.begins kind node none at is
 way_step s label t dues (OpEffect.goes o p runs now work prints) = Way.goes o p runs now work prints
-way_step s label t dues (OpEffect.ends o result runs now prints by) = Way.ends o result runs now prints by
+way_step s label t dues (OpEffect.ends o result runs now prints by over) = Way.ends o result runs now prints by
 
 way_still : (s : State) (label : Label) (t : State) (o : Option Operation) → s.operation ≡ o → t.operation ≡ s.operation → IsBeside label → Way s (record { label = label; state = t })
 way_still s label t None e now beside = Way.idles e (now ∙ e) beside
-way_still s label t (Some o) e now beside = Way.goes o o e (now ∙ e) (record { sort = refl; kind = refl; path = refl }) (inl beside)
+way_still s label t (Some o) e now beside = Way.goes o o e (now ∙ e) (record { sort = refl; kind = refl; path = refl; spared = refl }) (inl beside)
 
 way_event : (s : State) (label : Label) (t : State) → AnswerEffect s label t → Way s (record { label = label; state = t })
 way_event s label t (AnswerEffect.stays word nodes acts now) = way_still s label t s.operation refl now (beside_word label word)
@@ -62,7 +62,7 @@ adding_fine [] = tt
 adding_fine (d ∷ ds) = tt
 
 entered_fine : (s : State) (k : ℕ) (t : State) (phase : Phase) → Enters s k t phase → DueFine phase
-entered_fine s k t phase (Enters.installs drivers chosen drops) = adding_fine drivers
+entered_fine s k t phase (Enters.installs drivers chosen drops clears) = adding_fine drivers
 entered_fine s k t phase (Enters.restarts r plan runs is target found nodes) = tt
 entered_fine s k t phase (Enters.undoes r runs target) = tt
 
@@ -79,7 +79,7 @@ dues_effect s t (ActivityEffect.enters k phase why e) dues =
     dues_as (entered new s.activities) t.activities e (dues_entered new s.activities (entered_fine s k t phase why) dues)
 dues_effect s t (ActivityEffect.goes k old new step e) dues =
     dues_as (changed_first (is_activity k) (with_phase new) s.activities) t.activities e (dues_changed k new s.activities (stepped_fine s k t old new dues step) dues)
-dues_effect s t (ActivityEffect.ends k phase acts e) dues = dues_as (without_first (is_activity k) s.activities) t.activities e (dues_without k s.activities dues)
+dues_effect s t (ActivityEffect.ends k phase acts over e) dues = dues_as (without_first (is_activity k) s.activities) t.activities e (dues_without k s.activities dues)
 
 pub course_goes : (settings : Settings) (s : State) (entry : Entry) (t : State) → DuesFine s.activities → Goes settings s entry t → Course s (record { label = printed entry; state = t })
 course_goes settings s entry t dues h = record { way = way_goes settings s entry t dues h; dues = dues_effect s t (effect_goes settings s entry t h).activities }

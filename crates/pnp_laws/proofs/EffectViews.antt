@@ -41,9 +41,9 @@ pub record KeepsIds (f : Node → Node) : Type 0 where
   pub compat : (n : Node) → (f n).compat ≡ n.compat
   pub reqs : (n : Node) → (f n).reqs ≡ n.reqs
 
-pub alters_keeps : (s : State) (label : Label) (j : ℕ) (f : Node → Node) → Alters s label j f → KeepsIds f
-alters_keeps s label j f (Alters.walked node minor w bad at request other ends verdict prints) = record { serial = λ n. refl; hw = λ n. refl; compat = λ n. refl; reqs = λ n. refl }
-alters_keeps s label j f _ = record { serial = λ n. refl; hw = λ n. refl; compat = λ n. refl; reqs = λ n. refl }
+pub alters_keeps : (s : State) (label : Label) (t : State) (j : ℕ) (f : Node → Node) → Alters s label t j f → KeepsIds f
+alters_keeps s label t j f (Alters.walked node minor w bad at request other ends verdict prints) = record { serial = λ n. refl; hw = λ n. refl; compat = λ n. refl; reqs = λ n. refl }
+alters_keeps s label t j f _ = record { serial = λ n. refl; hw = λ n. refl; compat = λ n. refl; reqs = λ n. refl }
 
 -- a device that was up does not become one that never was
 abbrev pub StaysUp : DevState → DevState → Type 0
@@ -63,13 +63,13 @@ stacked_up : (x : DevState) → StaysUp x (stacked x)
 stacked_up NoStack h = absurd (cc)
 stacked_up _ h = h
 
-pub alters_up : (s : State) (label : Label) (j : ℕ) (f : Node → Node) → Alters s label j f → (n : Node) → node_at j s.core.nodes ≡ Some n → StaysUp n.state (f n).state
-alters_up s label j f (Alters.walked node minor w bad at request other ends verdict prints) n there =
+pub alters_up : (s : State) (label : Label) (t : State) (j : ℕ) (f : Node → Node) → Alters s label t j f → (n : Node) → node_at j s.core.nodes ≡ Some n → StaysUp n.state (f n).state
+alters_up s label t j f (Alters.walked node minor w bad at request other ends verdict prints) n there =
     subst (λ (m : Node). StaysUp m.state (state_after minor bad node.state)) (some_same (node_at node.serial s.core.nodes) node n at there) (walk_up minor bad node.state other)
-alters_up s label j f (Alters.troubled k problem) n there = λ up. up
-alters_up s label j f (Alters.stacks node d ds name at acts prints) n there =
+alters_up s label t j f (Alters.troubled k problem) n there = λ up. up
+alters_up s label t j f (Alters.stacks node d ds name at acts prints) n there =
     subst (λ (m : Node). StaysUp m.state (stacked node.state)) (some_same (node_at node.serial s.core.nodes) node n at there) (stacked_up node.state)
-alters_up s label j f (Alters.assigned node phase plan acts search part) n there = λ up. up
+alters_up s label t j f (Alters.assigned node phase plan acts search part now) n there = λ up. up
 
 -- Why a device is in another state: a request has ended, or a driver was added ----------------------
 
@@ -78,13 +78,13 @@ pub data Turns (s : State) (label : Label) (k : ℕ) (n : Node) : Type 0 where
   added : (d : ℕ) (ds : List ℕ) (name : Text) → Acting s k (Phase.Adding (d ∷ ds)) → label ≡ Label.Add n.path name true → Turns s label k n
 
 module _ (s : State) (label : Label) where
-  altered_turns : (j : ℕ) (f : Node → Node) → Alters s label j f → (n : Node) → node_at j s.core.nodes ≡ Some n → ((f n).state ≡ n.state) ⊎ Turns s label j n
-  altered_turns j f (Alters.walked node minor w bad at request other ends verdict prints) n there =
+  altered_turns : (t : State) (j : ℕ) (f : Node → Node) → Alters s label t j f → (n : Node) → node_at j s.core.nodes ≡ Some n → ((f n).state ≡ n.state) ⊎ Turns s label j n
+  altered_turns t j f (Alters.walked node minor w bad at request other ends verdict prints) n there =
       inr (subst (λ (x : Node). Turns s label j x) (some_same (node_at j s.core.nodes) node n at there) (Turns.told (state_after minor bad node.state) prints))
-  altered_turns j f (Alters.troubled k problem) n there = inl refl
-  altered_turns j f (Alters.stacks node d ds name at acts prints) n there =
+  altered_turns t j f (Alters.troubled k problem) n there = inl refl
+  altered_turns t j f (Alters.stacks node d ds name at acts prints) n there =
       inr (subst (λ (x : Node). Turns s label j x) (some_same (node_at j s.core.nodes) node n at there) (Turns.added d ds name acts prints))
-  altered_turns j f (Alters.assigned node phase plan acts search part) n there = inl refl
+  altered_turns t j f (Alters.assigned node phase plan acts search part now) n there = inl refl
 
   module _ (t : State) (order : Ascending 0 s.core.nodes) (k : ℕ) (n m : Node) (at : node_at k s.core.nodes ≡ Some n) where
     same_state : node_at k s.core.nodes ≡ Some m → (m.state ≡ n.state) ⊎ Turns s label k n
@@ -105,7 +105,7 @@ module _ (s : State) (label : Label) where
     pub state_from : NodeEffect s label t → node_at k t.core.nodes ≡ Some m → (m.state ≡ n.state) ⊎ Turns s label k n
     state_from (NodeEffect.same e rest) now = same_state (subst (λ (x : List Node). node_at k x ≡ Some m) e now)
     state_from (NodeEffect.changed j f alters e rest) now =
-        changed_turns j f (alters_keeps s label j f alters).serial (altered_turns j f alters) (subst (λ (x : List Node). node_at k x ≡ Some m) e now)
+        changed_turns j f (alters_keeps s label t j f alters).serial (altered_turns t j f alters) (subst (λ (x : List Node). node_at k x ≡ Some m) e now)
     state_from (NodeEffect.stripped node w there request ends prints e rest) now =
         changed_turns node.serial bare (λ x. refl)
         (λ x q. inr (subst (λ (y : Node). Turns s label node.serial y) (some_same (node_at node.serial s.core.nodes) node x there q) (Turns.told NoStack prints)))

@@ -17,11 +17,11 @@ use Rattle.pnp_model.specs.Machine as ma
 
 module _ (settings : Settings) (s : State) (none : s.operation ≡ None) where
   begins_alone : (kind : OpKind) (k : ℕ) (activities : List Activity) → s.activities ≡ activities → slice_get s.tasks 0 ≡ Some (record { kind = Duty.Begins kind; serial = k }) → EffectNext settings.budget s (ma.begin_alone s kind k activities)
-  begins_alone kind k [] e first = begins_effect s _ kind k none first e
+  begins_alone kind k [] e first = begins_effect s kind k none first e
   begins_alone kind k (a ∷ activities) e first = tt
 
   does_task : (kind : Duty) (k : ℕ) → slice_get s.tasks 0 ≡ Some (record { kind = kind; serial = k }) → EffectNext settings.budget s (ma.task_of settings s kind k)
-  does_task Duty.Listing k first = lists_effect s _ k none first
+  does_task Duty.Listing k first = lists_effect s k none first
   does_task Duty.Starting k first = starts_effect settings s k none first
   does_task (Duty.Begins kind) k first = begins_alone kind k s.activities refl first
 

@@ -31,7 +31,7 @@ Happened s event step = Effect s (Happens event step.label) step.state
 
 module _ (s : State) (event : Event) where
   -- nodes, serials and activities stay
-  outside : (label : Label) (t : State) → IsWord label → joined label ≡ 0 → t.next_serial ≡ s.next_serial → t.operation ≡ s.operation → t.activities ≡ s.activities → t.core.nodes ≡ s.core.nodes → NodeEffect s label t → DriverEffect s (Happens event label) t → RangeEffect s t → CommandEffect s t
+  outside : (label : Label) (t : State) → IsWord label → joined label ≡ 0 → t.next_serial ≡ s.next_serial → t.operation ≡ s.operation → t.activities ≡ s.activities → t.core.nodes ≡ s.core.nodes → NodeEffect s label t → DriverEffect s (Happens event label) t → RangeEffect s (Happens event label) t → CommandEffect s t
       → WorldEffect s (Happens event label) t → PathEffect s label t → Happened s event (record { label = label; state = t })
   outside label t word quiet serial operation activities same nodes drivers ranges tasks world paths =
       record {
@@ -179,7 +179,7 @@ module _ (s : State) (event : Event) where
   reserve_free : (res : Res) (b : Bool) → s.operation ≡ None → list_any (clashes res) (s.core.reserved ++ held_by s.core.nodes) ≡ b → Happened s event (ev.reserve_free s res b)
   reserve_free res true none e = nothing _ _
   reserve_free res false none e =
-      outside _ _ tt refl refl refl refl refl (NodeEffect.same refl refl) (DriverEffect.same tt refl) (RangeEffect.reserves res none e refl refl) (CommandEffect.same refl) (WorldEffect.same refl refl) (PathEffect.same refl)
+      outside _ _ tt refl refl refl refl refl (NodeEffect.same refl refl) (DriverEffect.same tt refl) (RangeEffect.reserves res none e refl refl event _ refl) (CommandEffect.same refl) (WorldEffect.same refl refl) (PathEffect.same refl)
 
   reserve_idle : (res : Res) (o : Option Operation) → s.operation ≡ o → Happened s event (ev.reserve_idle s res o)
   reserve_idle res (Some o) e = nothing _ _

@@ -1,5 +1,6 @@
 -- What a step of an operation does.
-use Rattle.std.proofs.Common.{ℕ, ◌≡◌, ◌≢◌, ◌⊎◌, inl, inr, Bool, true, false, List, [], ◌∷◌, ◌++◌, length, reverse, Option, Some, None, refl, ap, ◌∙◌, arith}
+use Rattle.std.proofs.lemmas.Bool.Decides.{nat_tests}
+use Rattle.std.proofs.Common.{ℕ, ◌≡◌, ◌≢◌, ◌⊎◌, inl, inr, Bool, true, false, List, [], ◌∷◌, ◌++◌, length, reverse, Option, Some, None, refl, ap, ◌∙◌, arith, ◌==◌}
 use Rattle.resource_reqs.specs.Resources.{Res}
 use Rattle.resource_reqs.specs.Spelling.Answer.{assignment, no_fit, spent}
 use Rattle.pnp_labels.specs.Texts.{Text}
@@ -17,8 +18,8 @@ use Rattle.pnp_model.specs.Runs.Entry.{Did}
 use Rattle.pnp_model.specs.States.{append_task, device_of, list_node, node_born, relist, relist_device, relist_other, set_operation, unplug, with_core}
 use Rattle.pnp_model.specs.Trees.{is_up, leaving, stands_up}
 use Rattle.pnp_model.specs.Walks.{has_ended, state_after, walk_of}
-use Rattle.pnp_laws.specs.Words.{IsBeside, NoVeto, EndsBy, SameWork, is_removal, joined, kind_of, path_of}
-use Rattle.pnp_laws.specs.Effects.{ActivityEffect, Alters, DriverEffect, Effect, Enters, IsUnasked, JoinEffect, NodeEffect, OpEffect, Origin, PathEffect, RangeEffect, Request, TaskEffect, WorldEffect, to_leave, todo_of, begun, ends_bad, operation_minor, rebalance_minor, removal_minor, surprise_minor}
+use Rattle.pnp_laws.specs.Words.{IsBeside, NoVeto, EndsBy, SameWork, is_removal, joined, kind_of, path_of, spared}
+use Rattle.pnp_laws.specs.Effects.{ActivityEffect, Alters, DriverEffect, Effect, Enters, IsUnasked, JoinEffect, NodeEffect, OpEffect, Origin, PathEffect, RangeEffect, Request, TaskEffect, WorldEffect, to_leave, todo_of, begun, ends_bad, operation_minor, rebalance_minor, removal_minor, surprise_minor, Closes}
 use Rattle.pnp_laws.proofs.EffectsOfStarts.{Changes, Steps, asks, inside, quiet_label, still, strips, walks}
 use Rattle.pnp_laws.proofs.Lists.{head_found}
 use Rattle.pnp_laws.proofs.Stages.{Ends, OperationStep, RebalanceStep, RemovalStep, SurpriseStep, reply}
@@ -30,49 +31,53 @@ use Rattle.pnp_model.specs.Surprises as su
 
 -- Kind and path stay ------------------------------------------------------------------
 
-re_ask_on : (r : Rebalance) (ks : List ℕ) → (re.ask_on r ks).path ≡ r.path
-re_ask_on r [] = refl
-re_ask_on r (k ∷ ks) = refl
+-- the same device, by the same path
+abbrev SameFrame : Rebalance → Rebalance → Type 0
+SameFrame r p = (p.path ≡ r.path) × (p.target ≡ r.target)
 
-re_cancel_on : (r : Rebalance) (ks : List ℕ) → (re.cancel_on r ks).path ≡ r.path
-re_cancel_on r [] = refl
-re_cancel_on r (k ∷ ks) = refl
+re_ask_on : (r : Rebalance) (ks : List ℕ) → SameFrame r (re.ask_on r ks)
+re_ask_on r [] = (refl, refl)
+re_ask_on r (k ∷ ks) = (refl, refl)
 
-re_stop_on : (r : Rebalance) (ks : List ℕ) → (re.stop_on r ks).path ≡ r.path
-re_stop_on r [] = refl
-re_stop_on r (k ∷ ks) = refl
+re_cancel_on : (r : Rebalance) (ks : List ℕ) → SameFrame r (re.cancel_on r ks)
+re_cancel_on r [] = (refl, refl)
+re_cancel_on r (k ∷ ks) = (refl, refl)
 
-re_restart : (r : Rebalance) (ks : List ℕ) → (re.restart_from r ks).path ≡ r.path
-re_restart r [] = refl
-re_restart r (k ∷ ks) = refl
+re_stop_on : (r : Rebalance) (ks : List ℕ) → SameFrame r (re.stop_on r ks)
+re_stop_on r [] = (refl, refl)
+re_stop_on r (k ∷ ks) = (refl, refl)
+
+re_restart : (r : Rebalance) (ks : List ℕ) → SameFrame r (re.restart_from r ks)
+re_restart r [] = (refl, refl)
+re_restart r (k ∷ ks) = (refl, refl)
 
 rm_finish_with : (o : Removal) (todo stack : List ℕ) → SameWork (Operation.Removing o) (Operation.Removing (rm.finish_with o todo stack))
-rm_finish_with o todo [] = record { sort = refl; kind = refl; path = refl }
-rm_finish_with o todo (d ∷ ds) = record { sort = refl; kind = refl; path = refl }
+rm_finish_with o todo [] = record { sort = refl; kind = refl; path = refl; spared = refl }
+rm_finish_with o todo (d ∷ ds) = record { sort = refl; kind = refl; path = refl; spared = refl }
 
 rm_finish_on : (nodes : List Node) (o : Removal) (ks : List ℕ) → SameWork (Operation.Removing o) (Operation.Removing (rm.finish_on nodes o ks))
-rm_finish_on nodes o [] = record { sort = refl; kind = refl; path = refl }
+rm_finish_on nodes o [] = record { sort = refl; kind = refl; path = refl; spared = refl }
 rm_finish_on nodes o (k ∷ ks) = rm_finish_with o (k ∷ ks) (stack_of (node_at k nodes))
 
 rm_ask_on : (nodes : List Node) (o : Removal) (ks : List ℕ) → SameWork (Operation.Removing o) (Operation.Removing (rm.ask_on nodes o ks))
 rm_ask_on nodes o [] = rm_finish_on nodes o o.set
-rm_ask_on nodes o (k ∷ ks) = record { sort = refl; kind = refl; path = refl }
+rm_ask_on nodes o (k ∷ ks) = record { sort = refl; kind = refl; path = refl; spared = refl }
 
 rm_cancel_on : (o : Removal) (ks : List ℕ) → SameWork (Operation.Removing o) (Operation.Removing (rm.cancel_on o ks))
-rm_cancel_on o [] = record { sort = refl; kind = refl; path = refl }
-rm_cancel_on o (k ∷ ks) = record { sort = refl; kind = refl; path = refl }
+rm_cancel_on o [] = record { sort = refl; kind = refl; path = refl; spared = refl }
+rm_cancel_on o (k ∷ ks) = record { sort = refl; kind = refl; path = refl; spared = refl }
 
 su_finish_with : (o : Surprise) (todo stack : List ℕ) → SameWork (Operation.Surprising o) (Operation.Surprising (su.finish_with o todo stack))
-su_finish_with o todo [] = record { sort = refl; kind = refl; path = refl }
-su_finish_with o todo (d ∷ ds) = record { sort = refl; kind = refl; path = refl }
+su_finish_with o todo [] = record { sort = refl; kind = refl; path = refl; spared = refl }
+su_finish_with o todo (d ∷ ds) = record { sort = refl; kind = refl; path = refl; spared = refl }
 
 su_finish_on : (nodes : List Node) (o : Surprise) (ks : List ℕ) → SameWork (Operation.Surprising o) (Operation.Surprising (su.finish_on nodes o ks))
-su_finish_on nodes o [] = record { sort = refl; kind = refl; path = refl }
+su_finish_on nodes o [] = record { sort = refl; kind = refl; path = refl; spared = refl }
 su_finish_on nodes o (k ∷ ks) = su_finish_with o (k ∷ ks) (stack_of (node_at k nodes))
 
 su_tell_on : (nodes : List Node) (o : Surprise) (ks : List ℕ) → SameWork (Operation.Surprising o) (Operation.Surprising (su.tell_on nodes o ks))
 su_tell_on nodes o [] = su_finish_on nodes o o.set
-su_tell_on nodes o (k ∷ ks) = record { sort = refl; kind = refl; path = refl }
+su_tell_on nodes o (k ∷ ks) = record { sort = refl; kind = refl; path = refl; spared = refl }
 
 removal_work : (c : Core) (kind : OpKind) (node : Node) (set : List ℕ) → (kind_of (Operation.Removing (rm.begun_with c kind node set)) ≡ kind) × (path_of (Operation.Removing (rm.begun_with c kind node set)) ≡ node.path)
 removal_work c kind node set =
@@ -83,7 +88,7 @@ removal_work c kind node set =
 -- The operation that begins is of its kind, for its device
 pub begun_work : (c : Core) (kind : OpKind) (node : Node) → (kind_of (begun c kind node) ≡ kind) × (path_of (begun c kind node) ≡ node.path)
 begun_work c OpKind.Rebalance node =
-    (refl, re_ask_on (record { target = node.serial; path = node.path; todo = []; agreed = []; refused = []; found = no_fit; stage = RebalanceStage.Searching }) (reverse (serials_of (those re.is_asked c.nodes))))
+    (refl, (re_ask_on (record { target = node.serial; path = node.path; todo = []; agreed = []; refused = []; found = no_fit; stage = RebalanceStage.Searching }) (reverse (serials_of (those re.is_asked c.nodes)))).0)
 begun_work c OpKind.Disable node = removal_work c OpKind.Disable node (leaving c node.serial)
 begun_work c OpKind.Eject node = removal_work c OpKind.Eject node (leaving c node.serial)
 begun_work c OpKind.Surprise node = (
@@ -91,6 +96,15 @@ begun_work c OpKind.Surprise node = (
   (su_tell_on c.nodes (record { target = node.serial; path = node.path; set = leaving c node.serial; todo = []; stage = SurpriseStage.Ending })
       (those (λ k. su.is_told_node (node_at k c.nodes)) (leaving c node.serial))).path,
 )
+
+-- A surprise removal begins for the device with all that depends on it
+pub begun_spared : (c : Core) (node : Node) → spared (Operation.Surprising (su.begun_surprise c node)) ≡ leaving c node.serial
+begun_spared c node =
+    (su_tell_on c.nodes (record { target = node.serial; path = node.path; set = leaving c node.serial; todo = []; stage = SurpriseStage.Ending })
+    (those (λ k. su.is_told_node (node_at k c.nodes)) (leaving c node.serial))).spared
+
+own_number : (j k : ℕ) → (j == k) ≡ true → j ≡ k
+own_number j k h = grind (arith, nat_tests)
 
 -- An operation that runs ---------------------------------------------------------------
 
@@ -102,9 +116,9 @@ module _ (s : State) (o : Operation) (runs : s.operation ≡ Some o) where
       inside s label t world born paths ranges serial quiet nodes (OpEffect.goes o p runs now work (inl beside)) (ActivityEffect.same activities) tasks
 
   closes : (label : Label) (t : State) (result : OpEnd) → t.world ≡ s.world → t.next_born ≡ s.next_born → t.disabled ≡ s.disabled → t.core ≡ s.core → t.next_serial ≡ s.next_serial → t.tasks ≡ s.tasks → t.operation ≡ None
-      → label ≡ Label.End (kind_of o) (path_of o) result → EndsBy (is_removal o) result → IsUnasked label → joined label ≡ 0 → ActivityEffect s t → Steps s (record { label = label; state = t })
-  closes label t result world born paths core serial tasks now is by unasked quiet activities =
-      inside s label t world born paths (ap (λ (c : Core). c.reserved) core) serial quiet (still s label t unasked (ap (λ (c : Core). c.rack) core) (NodeEffect.same (ap (λ (c : Core). c.nodes) core) (ap (λ (c : Core). c.relations) core))) (OpEffect.ends o result runs now is by) activities (TaskEffect.same tasks)
+      → label ≡ Label.End (kind_of o) (path_of o) result → EndsBy (is_removal o) result → IsUnasked label → joined label ≡ 0 → Closes s o t → ActivityEffect s t → Steps s (record { label = label; state = t })
+  closes label t result world born paths core serial tasks now is by unasked quiet over activities =
+      inside s label t world born paths (ap (λ (c : Core). c.reserved) core) serial quiet (still s label t unasked (ap (λ (c : Core). c.rack) core) (NodeEffect.same (ap (λ (c : Core). c.nodes) core) (ap (λ (c : Core). c.relations) core))) (OpEffect.ends o result runs now is by over) activities (TaskEffect.same tasks)
 
   module _ (node : Node) (first : first_node s.core.nodes (todo_of o) ≡ Some node) (minor : Minor) (w : Walk) (walk : ma.operation_walk o ≡ Some w) (minor_is : operation_minor o ≡ Some minor) where
     asked : Request s node minor w
@@ -178,17 +192,17 @@ module _ (s u : State) (o p : Operation) (runs : s.operation ≡ Some o) (node :
 -- An ask leaves all but the walk -----------------------------------------------------------
 
 pub completed_work : (answer : Answer) (o : Operation) → SameWork o (ev.completed answer o)
-completed_work answer (Operation.Rebalancing r) = record { sort = refl; kind = refl; path = refl }
-completed_work answer (Operation.Removing o) = record { sort = refl; kind = refl; path = refl }
-completed_work answer (Operation.Surprising o) = record { sort = refl; kind = refl; path = refl }
+completed_work answer (Operation.Rebalancing r) = record { sort = refl; kind = refl; path = refl; spared = refl }
+completed_work answer (Operation.Removing o) = record { sort = refl; kind = refl; path = refl; spared = refl }
+completed_work answer (Operation.Surprising o) = record { sort = refl; kind = refl; path = refl; spared = refl }
 
 -- Rebalance -----------------------------------------------------------------------------
 
 module _ (s : State) (r : Rebalance) (runs : s.operation ≡ Some (Operation.Rebalancing r)) where
-  re_on : (label : Label) (c : Core) (p : Rebalance) → c.reserved ≡ s.core.reserved → p.path ≡ r.path → IsBeside label → joined label ≡ 0 → Changes s label (ma.after_rebalance p re.RebalanceBeside.On (with_core c s))
+  re_on : (label : Label) (c : Core) (p : Rebalance) → c.reserved ≡ s.core.reserved → SameFrame r p → IsBeside label → joined label ≡ 0 → Changes s label (ma.after_rebalance p re.RebalanceBeside.On (with_core c s))
       → Steps s (ma.rebalance_lifted s (record { label = label; core = c; frame = p; beside = re.RebalanceBeside.On }))
-  re_on label c p ranges path beside quiet nodes =
-      on s (Operation.Rebalancing r) runs label _ (Operation.Rebalancing p) refl refl refl ranges refl refl refl (record { sort = refl; kind = refl; path = path }) beside quiet nodes (TaskEffect.same refl)
+  re_on label c p ranges frame beside quiet nodes =
+      on s (Operation.Rebalancing r) runs label _ (Operation.Rebalancing p) refl refl refl ranges refl refl refl (record { sort = refl; kind = refl; path = frame.0; spared = ap (λ (k : ℕ). k ∷ []) frame.1 }) beside quiet nodes (TaskEffect.same refl)
 
   re_searches : (found : Found) → Steps s (ma.rebalance_lifted s (re.searched s.core r found))
   re_searches (assignment plan) = re_on _ _ _ refl (re_stop_on (record r { found = assignment plan }) (reverse r.agreed)) tt refl (still s _ _ tt refl (NodeEffect.same refl refl))
@@ -202,18 +216,18 @@ module _ (s : State) (r : Rebalance) (runs : s.operation ≡ Some (Operation.Reb
   stuck_label spent = inl tt
 
   module _ (is : r.stage ≡ RebalanceStage.Ending) where
-    closes_moved : (plan : List (List Res)) (result : OpEnd) (up : Bool) → r.found ≡ assignment plan → NoVeto result
+    closes_moved : (plan : List (List Res)) (result : OpEnd) (up : Bool) → stands_up s.core.nodes r.target ≡ up → r.found ≡ assignment plan → NoVeto result
         → Steps s (ma.rebalance_lifted s (record { label = Label.End OpKind.Rebalance r.path result; core = s.core; frame = r; beside = re.moved_on up }))
-    closes_moved plan result true found by =
-        closes s (Operation.Rebalancing r) runs _ _ result refl refl refl refl refl refl refl refl by tt refl (ActivityEffect.enters r.target (Phase.Starting (walk_of Minor.Start)) (Enters.restarts r plan runs is refl found refl) refl)
-    closes_moved plan result false found by = closes s (Operation.Rebalancing r) runs _ _ result refl refl refl refl refl refl refl refl by tt refl (ActivityEffect.same refl)
+    closes_moved plan result true up found by =
+        closes s (Operation.Rebalancing r) runs _ _ result refl refl refl refl refl refl refl refl by tt refl (inl (_, refl)) (ActivityEffect.enters r.target (Phase.Starting (walk_of Minor.Start)) (Enters.restarts r plan runs is refl found refl) refl)
+    closes_moved plan result false down found by = closes s (Operation.Rebalancing r) runs _ _ result refl refl refl refl refl refl refl refl by tt refl (inr down) (ActivityEffect.same refl)
 
     re_closes : (found : Found) (result : OpEnd) → r.found ≡ found → NoVeto result → Steps s (ma.rebalance_lifted s (record { label = Label.End OpKind.Rebalance r.path result; core = s.core; frame = r; beside = re.over s.core r found }))
-    re_closes (assignment plan) result e by = closes_moved plan result (stands_up s.core.nodes r.target) e by
+    re_closes (assignment plan) result e by = closes_moved plan result (stands_up s.core.nodes r.target) refl e by
     re_closes no_fit result e by =
-        closes s (Operation.Rebalancing r) runs _ _ result refl refl refl refl refl refl refl refl by tt refl (ActivityEffect.enters r.target (Phase.Removing (walk_of Minor.Remove)) (Enters.undoes r runs refl) refl)
+        closes s (Operation.Rebalancing r) runs _ _ result refl refl refl refl refl refl refl refl by tt refl (inl (_, refl)) (ActivityEffect.enters r.target (Phase.Removing (walk_of Minor.Remove)) (Enters.undoes r runs refl) refl)
     re_closes spent result e by =
-        closes s (Operation.Rebalancing r) runs _ _ result refl refl refl refl refl refl refl refl by tt refl (ActivityEffect.enters r.target (Phase.Removing (walk_of Minor.Remove)) (Enters.undoes r runs refl) refl)
+        closes s (Operation.Rebalancing r) runs _ _ result refl refl refl refl refl refl refl refl by tt refl (inl (_, refl)) (ActivityEffect.enters r.target (Phase.Removing (walk_of Minor.Remove)) (Enters.undoes r runs refl) refl)
 
   found_end : (found : Found) → NoVeto (re.end_of found)
   found_end (assignment plan) = tt
@@ -230,23 +244,24 @@ module _ (s : State) (r : Rebalance) (runs : s.operation ≡ Some (Operation.Reb
   rebalance_effect : (stage : RebalanceStage) (m : re.RebalanceMove) → r.stage ≡ stage → RebalanceStep s.core r stage m → Steps s (ma.rebalance_lifted s m)
   rebalance_effect stage m is (RebalanceStep.agrees node w e good) =
       re_on _ _ _ refl (re_ask_on (record r { agreed = node.serial ∷ r.agreed }) (rest r.todo)) tt refl (walked_by (RebalanceStage.Asking w) Minor.QueryStop false node w is e refl refl (λ q. cc) good _ _ refl refl refl refl)
-  rebalance_effect stage m is (RebalanceStep.refuses node w e bad) = re_on _ _ _ refl refl tt refl (walked_by (RebalanceStage.Asking w) Minor.QueryStop true node w is e refl refl (λ q. cc) bad _ _ refl refl refl refl)
+  rebalance_effect stage m is (RebalanceStep.refuses node w e bad) = re_on _ _ _ refl (refl, refl) tt refl (walked_by (RebalanceStage.Asking w) Minor.QueryStop true node w is e refl refl (λ q. cc) bad _ _ refl refl refl refl)
   rebalance_effect stage m is (RebalanceStep.takes_back node w e) =
       re_on _ _ _ refl (re_ask_on r (those (re.is_not_above s.core.nodes node.serial) (rest r.todo))) tt refl (walked_by (RebalanceStage.TakingBack w) Minor.CancelStop false node w is e refl refl (λ q. cc) refl _ _ refl refl refl refl)
   rebalance_effect stage m is (RebalanceStep.searches found budget answer) = re_searches found
   rebalance_effect stage m is (RebalanceStep.cancels node w e) = re_on _ _ _ refl (re_cancel_on r (rest r.todo)) tt refl (walked_by (RebalanceStage.Cancelling w) Minor.CancelStop false node w is e refl refl (λ q. cc) refl _ _ refl refl refl refl)
   rebalance_effect stage m is RebalanceStep.sticks =
       inside s _ _ refl refl refl refl refl refl (still s _ _ tt refl (NodeEffect.changed r.target _ (Alters.troubled r.target (Some (re.trouble_of r.found))) refl refl))
-      (OpEffect.goes (Operation.Rebalancing r) (Operation.Rebalancing (record r { stage = RebalanceStage.Ending })) runs refl (record { sort = refl; kind = refl; path = refl }) (stuck_label r.found))
+      (OpEffect.goes (Operation.Rebalancing r) (Operation.Rebalancing (record r { stage = RebalanceStage.Ending })) runs refl (record { sort = refl; kind = refl; path = refl; spared = refl }) (stuck_label r.found))
       (ActivityEffect.same refl) (TaskEffect.same refl)
   rebalance_effect stage m is (RebalanceStep.stops node w e) = re_on _ _ _ refl (re_stop_on r (rest r.todo)) tt refl (walked_by (RebalanceStage.Stopping w) Minor.Stop false node w is e refl refl (λ q. cc) refl _ _ refl refl refl refl)
   rebalance_effect stage m is RebalanceStep.commits = re_on _ _ _ refl (re_restart r (re.startable s.core.nodes r.agreed)) tt refl (still s _ _ tt refl (NodeEffect.commits r runs is refl refl))
   rebalance_effect stage m is (RebalanceStep.restarts node w e good) =
       re_on _ _ _ refl (re_restart r (re.startable (ended s.core node Minor.Start false).nodes (rest r.todo))) tt refl (walked_by (RebalanceStage.Restarting w) Minor.Start false node w is e refl refl (λ q. cc) good _ _ refl refl refl refl)
-  rebalance_effect stage m is (RebalanceStep.fails node w e bad) = re_on _ _ _ refl refl tt refl (walked_by (RebalanceStage.Restarting w) Minor.Start true node w is e refl refl (λ q. cc) bad _ _ refl refl refl refl)
+  rebalance_effect stage m is (RebalanceStep.fails node w e bad) = re_on _ _ _ refl (refl, refl) tt refl (walked_by (RebalanceStage.Restarting w) Minor.Start true node w is e refl refl (λ q. cc) bad _ _ refl refl refl refl)
   rebalance_effect stage m is (RebalanceStep.failed node first) =
       let p = re.restart_on s.core.nodes r (rest r.todo) in
-      on s (Operation.Rebalancing r) runs _ _ (Operation.Rebalancing p) refl refl refl refl refl refl refl (record { sort = refl; kind = refl; path = re_restart r (re.startable s.core.nodes (rest r.todo)) }) tt refl
+      let frame = re_restart r (re.startable s.core.nodes (rest r.todo)) in
+      on s (Operation.Rebalancing r) runs _ _ (Operation.Rebalancing p) refl refl refl refl refl refl refl (record { sort = refl; kind = refl; path = frame.0; spared = ap (λ (k : ℕ). k ∷ []) frame.1 }) tt refl
       (still s _ _ tt refl (NodeEffect.changed node.serial _ (Alters.troubled node.serial (Some Problem.FailedStart)) refl refl)) (TaskEffect.put_first node r runs is first refl)
   rebalance_effect stage m is RebalanceStep.closes = re_closes is r.found (re.end_of r.found) refl (found_end r.found)
 
@@ -267,13 +282,13 @@ module _ (s : State) (o : Removal) (runs : s.operation ≡ Some (Operation.Remov
   removal_effect : (stage : RemovalStage) (m : rm.RemovalMove) → o.stage ≡ stage → RemovalStep s.core o stage m → Steps s (ma.removal_lifted s m)
   removal_effect stage m is (RemovalStep.agrees node w e good) =
       let work = rm_ask_on s.core.nodes (record o { agreed = node.serial ∷ o.agreed }) (rest o.todo) in
-      rm_on _ _ _ refl (record { sort = work.sort; kind = work.kind; path = work.path }) tt refl (asked_by (RemovalStage.Asking w) Minor.QueryRemove false node w is e refl refl (λ q. cc) good _ _ refl refl refl refl)
+      rm_on _ _ _ refl (record { sort = work.sort; kind = work.kind; path = work.path; spared = work.spared }) tt refl (asked_by (RemovalStage.Asking w) Minor.QueryRemove false node w is e refl refl (λ q. cc) good _ _ refl refl refl refl)
   removal_effect stage m is (RemovalStep.refuses node w e bad) =
-      rm_on _ _ _ refl (record { sort = refl; kind = refl; path = refl }) tt refl (asked_by (RemovalStage.Asking w) Minor.QueryRemove true node w is e refl refl (λ q. cc) bad _ _ refl refl refl refl)
+      rm_on _ _ _ refl (record { sort = refl; kind = refl; path = refl; spared = refl }) tt refl (asked_by (RemovalStage.Asking w) Minor.QueryRemove true node w is e refl refl (λ q. cc) bad _ _ refl refl refl refl)
   removal_effect stage m is (RemovalStep.takes_back node w e) = rm_on _ _ _ refl (rm_cancel_on o o.agreed) tt refl (asked_by (RemovalStage.TakingBack w) Minor.CancelRemove false node w is e refl refl (λ q. cc) refl _ _ refl refl refl refl)
   removal_effect stage m is (RemovalStep.cancels node w e) = rm_on _ _ _ refl (rm_cancel_on o (rest o.todo)) tt refl (asked_by (RemovalStage.Cancelling w) Minor.CancelRemove false node w is e refl refl (λ q. cc) refl _ _ refl refl refl refl)
   removal_effect stage m is (RemovalStep.removes node w e) =
-      rm_on _ _ _ refl (record { sort = refl; kind = refl; path = refl }) tt refl
+      rm_on _ _ _ refl (record { sort = refl; kind = refl; path = refl; spared = refl }) tt refl
       (stripped s (Operation.Removing o) runs node e.first w (ap ma.removal_walk is) (ap removal_minor is) e.ended _ _ refl refl refl refl)
   removal_effect stage m is (RemovalStep.leaves node first inside) =
       let m = rm.leaves s.core o node (Label.Leave node.path) (rm.RemoveBeside.Left node.path node.born) in
@@ -298,7 +313,7 @@ module _ (s : State) (o : Removal) (runs : s.operation ≡ Some (Operation.Remov
       }
   removal_effect stage m is (RemovalStep.remains node problem first over other) =
       rm_on _ _ _ refl (rm_finish_on s.core.nodes o (rest o.todo)) other refl (still s _ _ tt refl (NodeEffect.changed node.serial _ (Alters.troubled node.serial (Some problem)) refl refl))
-  removal_effect stage m is RemovalStep.closes = closes s (Operation.Removing o) runs _ _ (rm.end_of s.core o.refuser) refl refl refl refl refl refl refl refl tt tt refl (ActivityEffect.same refl)
+  removal_effect stage m is RemovalStep.closes = closes s (Operation.Removing o) runs _ _ (rm.end_of s.core o.refuser) refl refl refl refl refl refl refl refl tt tt refl tt (ActivityEffect.same refl)
 
 -- Surprise ------------------------------------------------------------------------------
 
@@ -308,15 +323,15 @@ module _ (s : State) (o : Surprise) (runs : s.operation ≡ Some (Operation.Surp
   su_on label c p ranges work beside quiet nodes =
       on s (Operation.Surprising o) runs label _ (Operation.Surprising p) refl refl refl ranges refl refl refl work beside quiet nodes (TaskEffect.same refl)
 
-  su_closes : Steps s (ma.surprise_lifted s (su.close s.core o))
-  su_closes = closes s (Operation.Surprising o) runs _ _ OpEnd.Done refl refl refl refl refl refl refl refl tt tt refl (ActivityEffect.same refl)
+  su_closes : Closes s (Operation.Surprising o) (ma.surprise_lifted s (su.close s.core o)).state → Steps s (ma.surprise_lifted s (su.close s.core o))
+  su_closes over = closes s (Operation.Surprising o) runs _ _ OpEnd.Done refl refl refl refl refl refl refl refl tt tt refl over (ActivityEffect.same refl)
 
   surprise_effect : (in_world : Bool) (stage : SurpriseStage) (m : su.SurpriseMove) → o.stage ≡ stage → SurpriseStep s.core o in_world stage m → Steps s (ma.surprise_lifted s m)
   surprise_effect in_world stage m is (SurpriseStep.tells node w e) =
       su_on _ _ _ refl (su_tell_on s.core.nodes o (rest o.todo)) tt refl
       (walked s (Operation.Surprising o) runs node e.first Minor.SurpriseRemoval w (ap ma.surprise_walk is) (ap surprise_minor is) false (λ q. cc) e.ended refl _ _ refl refl refl refl)
   surprise_effect in_world stage m is (SurpriseStep.removes node w e) =
-      su_on _ _ _ refl (record { sort = refl; kind = refl; path = refl }) tt refl
+      su_on _ _ _ refl (record { sort = refl; kind = refl; path = refl; spared = refl }) tt refl
       (stripped s (Operation.Surprising o) runs node e.first w (ap ma.surprise_walk is) (ap surprise_minor is) e.ended _ _ refl refl refl refl)
   surprise_effect in_world stage m is (SurpriseStep.leaves node first why) =
       let m = su.leaves s.core o node in
@@ -324,8 +339,8 @@ module _ (s : State) (o : Surprise) (runs : s.operation ≡ Some (Operation.Surp
       (su_finish_on s.core.nodes o (rest o.todo)) refl (WorldEffect.same refl refl) refl refl refl refl refl refl refl refl node.path node.born
   surprise_effect in_world stage m is (SurpriseStep.remains node first other over) =
       su_on _ _ _ refl (su_finish_on s.core.nodes o (rest o.todo)) tt refl (still s _ _ tt refl (NodeEffect.changed node.serial _ (Alters.troubled node.serial (Some Problem.Held)) refl refl))
-  surprise_effect in_world stage m is (SurpriseStep.stays node first target back) = su_closes
-  surprise_effect in_world stage m is SurpriseStep.closes = su_closes
+  surprise_effect in_world stage m is (SurpriseStep.stays node first target back) = su_closes (inr (is, node, first, own_number node.serial o.target target))
+  surprise_effect in_world stage m is SurpriseStep.closes = su_closes (inl is)
 
 -- All operations ------------------------------------------------------------------------
 

@@ -29,7 +29,7 @@ use Rattle.pnp_model.specs.Tasks.{begin, begin_step, begin_trouble, disable_task
 use Rattle.pnp_model.specs.Tests.{has_same}
 use Rattle.pnp_model.specs.Walks.{has_ended, is_bad, state_after, walk_of}
 use Rattle.pnp_laws.specs.Words.{IsBeside, IsNoJoin, joined}
-use Rattle.pnp_laws.specs.Effects.{ActivityEffect, Acting, Alters, Assigned, BeginsFor, Chosen, DriverEffect, Effect, Enters, IsSearch, IsUnasked, JoinEffect, NodeEffect, OpEffect, Origin, Owes, PathEffect, PhaseStep, RangeEffect, Request, TaskEffect, WorldEffect, begun, ends_bad}
+use Rattle.pnp_laws.specs.Effects.{ActivityEffect, Acting, Alters, Assigned, BeginsFor, Chosen, DriverEffect, Effect, Enters, IsSearch, IsUnasked, JoinEffect, NodeEffect, OpEffect, Origin, Owes, PathEffect, PhaseStep, RangeEffect, Request, TaskEffect, WorldEffect, begun, ends_bad, Over, Surprises}
 use Rattle.pnp_laws.proofs.Lookups.{found_self, own_serial}
 
 abbrev pub Steps : State → Step → Type 0
@@ -96,9 +96,20 @@ inside s label t world born paths ranges serial quiet (nodes, drivers) operation
 
 module _ (s : State) (none : s.operation ≡ None) (task : Task) (first : slice_get s.tasks 0 ≡ Some task) where
   -- nodes and activities stay
+  drops : (label : Label) → IsBeside label → IsUnasked label → joined label ≡ 0 → Surprises s task (drop_task s) → Steps s (record { label = label; state = drop_task s })
+  drops label beside unasked quiet surprises =
+      inside s label (drop_task s) refl refl refl refl refl quiet (still s _ _ unasked refl (NodeEffect.same refl refl)) (OpEffect.idles none none (inl beside)) (ActivityEffect.same refl) (TaskEffect.dropped task none first surprises refl)
+
+  -- and an operation begins
+  starts_work : (kind : OpKind) (node : Node) → s.activities ≡ [] → node_at node.serial s.core.nodes ≡ Some node → BeginsFor s kind node
+      → Surprises s task (begin s kind node (begun s.core kind node)).state → Steps s (begin s kind node (begun s.core kind node))
+  starts_work kind node alone at fits surprises =
+      inside s _ _ refl refl refl refl refl refl (still s _ _ tt refl (NodeEffect.same refl refl)) (OpEffect.begins kind node none alone at fits refl) (ActivityEffect.same refl) (TaskEffect.dropped task none first surprises refl)
+
+-- the task is that of no surprise removal
+module _ (s : State) (none : s.operation ≡ None) (task : Task) (first : slice_get s.tasks 0 ≡ Some task) (calm : (t : State) → Surprises s task t) where
   dropped : (label : Label) → IsBeside label → IsUnasked label → joined label ≡ 0 → Steps s (record { label = label; state = drop_task s })
-  dropped label beside unasked quiet =
-      inside s label (drop_task s) refl refl refl refl refl quiet (still s _ _ unasked refl (NodeEffect.same refl refl)) (OpEffect.idles none none (inl beside)) (ActivityEffect.same refl) (TaskEffect.dropped task none first refl)
+  dropped label beside unasked quiet = drops s none task first label beside unasked quiet (calm (drop_task s))
 
   listed : (node : Node) (o : Option Node) → gone_child s node.serial ≡ o → Steps s (gone_or_listed s node o)
   listed node None e = dropped (Label.Listed node.path) tt tt refl
@@ -133,13 +144,13 @@ module _ (s : State) (none : s.operation ≡ None) (task : Task) (first : slice_
   troubles : (node : Node) (problem : Problem) → IsBeside (Label.Trouble node.path problem) → Steps s (begin_trouble s node problem)
   troubles node problem beside =
       inside s _ _ refl refl refl refl refl refl (still s _ _ tt refl (NodeEffect.changed node.serial _ (Alters.troubled node.serial (Some problem)) refl refl)) (OpEffect.idles none none (inl beside)) (ActivityEffect.same refl)
-      (TaskEffect.dropped task none first refl)
+      (TaskEffect.dropped task none first (calm (begin_trouble s node problem).state) refl)
 
   module _ (node : Node) (at : node_at node.serial s.core.nodes ≡ Some node) (bare_state : node.state ≡ NoStack) (free : activity_at node.serial s.activities ≡ None) (next : slice_get s.tasks 0 ≡ Some (record { kind = Duty.Starting; serial = node.serial })) where
     installs : (rank driver : ℕ) (drivers : List ℕ) → Chosen s node.serial drivers → Steps s (install s node rank driver drivers)
     installs rank driver drivers chosen =
         inside s _ _ refl refl refl refl refl refl (still s _ _ tt refl (NodeEffect.changed node.serial _ (Alters.troubled node.serial None) refl refl)) (OpEffect.idles none none (inl tt))
-        (ActivityEffect.enters node.serial (adding drivers) (Enters.installs drivers chosen refl) refl) (TaskEffect.dropped task none first refl)
+        (ActivityEffect.enters node.serial (adding drivers) (Enters.installs drivers chosen refl refl) refl) (TaskEffect.dropped task none first (calm (install s node rank driver drivers).state) refl)
 
     installs_few : (choice : Choice) (service : Text) (few : Bool) → nat_le (length choice.lower + 1 + length choice.upper) 16 ≡ few → Steps s (install_few s node choice service few)
     installs_few choice service true few = by_drivers (numbered s.core.rack choice.lower) (driver_named service s.core.rack) (numbered s.core.rack choice.upper) refl refl refl
@@ -201,8 +212,7 @@ module _ (s : State) (none : s.operation ≡ None) (task : Task) (first : slice_
 
   module _ (alone : s.activities ≡ []) where
     begins : (kind : OpKind) (node : Node) → node_at node.serial s.core.nodes ≡ Some node → BeginsFor s kind node → Steps s (begin s kind node (begun s.core kind node))
-    begins kind node at fits =
-        inside s _ _ refl refl refl refl refl refl (still s _ _ tt refl (NodeEffect.same refl refl)) (OpEffect.begins kind node none alone at fits refl) (ActivityEffect.same refl) (TaskEffect.dropped task none first refl)
+    begins kind node at fits = starts_work s none task first kind node alone at fits (calm (begin s kind node (begun s.core kind node)).state)
 
     rebalances_idle : (node : Node) (o : Option Activity) → node_at node.serial s.core.nodes ≡ Some node → node.state ≡ NotStarted → activity_at node.serial s.activities ≡ o → Steps s (rebalance_idle s node o)
     rebalances_idle node (Some a) at waits e = dropped _ tt tt refl
@@ -216,21 +226,24 @@ module _ (s : State) (none : s.operation ≡ None) (task : Task) (first : slice_
     disables node true at e = dropped _ tt tt refl
     disables node false at e = begins OpKind.Disable node at e
 
-    begins_step : (kind : OpKind) (k : ℕ) (o : Option Node) → node_at k s.core.nodes ≡ o → Steps s (begin_step s kind k o)
-    begins_step kind k None e = dropped _ tt tt refl
-    begins_step OpKind.Rebalance k (Some node) e = rebalances node node.state (found_self k s.core.nodes node e) refl
-    begins_step OpKind.Disable k (Some node) e = disables node _ (found_self k s.core.nodes node e) refl
-    begins_step OpKind.Eject k (Some node) e = begins OpKind.Eject node (found_self k s.core.nodes node e) tt
-    begins_step OpKind.Surprise k (Some node) e = begins OpKind.Surprise node (found_self k s.core.nodes node e) tt
-
-pub lists_effect : (s : State) (task : Task) (k : ℕ) → s.operation ≡ None → slice_get s.tasks 0 ≡ Some task → Steps s (list_step s k (node_at k s.core.nodes))
-lists_effect s task k none first = lists s none task first k (node_at k s.core.nodes) refl
+pub lists_effect : (s : State) (k : ℕ) → s.operation ≡ None → slice_get s.tasks 0 ≡ Some (record { kind = Duty.Listing; serial = k }) → Steps s (list_step s k (node_at k s.core.nodes))
+lists_effect s k none first = lists s none _ first (λ t is. absurd (cc)) k (node_at k s.core.nodes) refl
 
 pub starts_effect : (settings : Settings) (s : State) (k : ℕ) → s.operation ≡ None → slice_get s.tasks 0 ≡ Some (record { kind = Duty.Starting; serial = k }) → Steps s (start_step settings s k (node_at k s.core.nodes))
-starts_effect settings s k none first = starts s none _ first settings k (node_at k s.core.nodes) refl first
+starts_effect settings s k none first = starts s none _ first (λ t is. absurd (cc)) settings k (node_at k s.core.nodes) refl first
 
-pub begins_effect : (s : State) (task : Task) (kind : OpKind) (k : ℕ) → s.operation ≡ None → slice_get s.tasks 0 ≡ Some task → s.activities ≡ [] → Steps s (begin_step s kind k (node_at k s.core.nodes))
-begins_effect s task kind k none first alone = begins_step s none task first alone kind k (node_at k s.core.nodes) refl
+begins_for : (s : State) (kind : OpKind) (k : ℕ) (o : Option Node) → node_at k s.core.nodes ≡ o → s.operation ≡ None → slice_get s.tasks 0 ≡ Some (record { kind = Duty.Begins kind; serial = k }) → s.activities ≡ [] → Steps s (begin_step s kind k o)
+begins_for s OpKind.Rebalance k None e none first alone = dropped s none _ first (λ t is. absurd (cc)) _ tt tt refl
+begins_for s OpKind.Disable k None e none first alone = dropped s none _ first (λ t is. absurd (cc)) _ tt tt refl
+begins_for s OpKind.Eject k None e none first alone = dropped s none _ first (λ t is. absurd (cc)) _ tt tt refl
+begins_for s OpKind.Surprise k None e none first alone = drops s none _ first _ tt tt refl (λ is. inl e)
+begins_for s OpKind.Rebalance k (Some node) e none first alone = rebalances s none _ first (λ t is. absurd (cc)) alone node node.state (found_self k s.core.nodes node e) refl
+begins_for s OpKind.Disable k (Some node) e none first alone = disables s none _ first (λ t is. absurd (cc)) alone node _ (found_self k s.core.nodes node e) refl
+begins_for s OpKind.Eject k (Some node) e none first alone = begins s none _ first (λ t is. absurd (cc)) alone OpKind.Eject node (found_self k s.core.nodes node e) tt
+begins_for s OpKind.Surprise k (Some node) e none first alone = starts_work s none _ first OpKind.Surprise node alone (found_self k s.core.nodes node e) tt (λ is. inr (node, e, refl))
+
+pub begins_effect : (s : State) (kind : OpKind) (k : ℕ) → s.operation ≡ None → slice_get s.tasks 0 ≡ Some (record { kind = Duty.Begins kind; serial = k }) → s.activities ≡ [] → Steps s (begin_step s kind k (node_at k s.core.nodes))
+begins_effect s kind k none first alone = begins_for s kind k (node_at k s.core.nodes) refl none first alone
 
 -- Activities -----------------------------------------------------------------------------
 
@@ -246,9 +259,9 @@ module _ (s : State) (none : s.operation ≡ None) (node : Node) (at : node_at n
 
   -- it ends
   ends : (label : Label) (c : Core) (old new : Phase) → c.reserved ≡ s.core.reserved → IsBeside label ⊎ Owes s label → joined label ≡ 0 → Acting s node.serial old
-      → Changes s label (after_start node.serial new StartBeside.Over (with_core c s)) → Steps s (start_lifted s node.serial (record { label = label; core = c; frame = new; beside = StartBeside.Over }))
-  ends label c old new ranges prints quiet acts nodes =
-      inside s label _ refl refl refl ranges refl quiet nodes (OpEffect.idles none none prints) (ActivityEffect.ends node.serial old acts refl) (TaskEffect.same refl)
+      → Changes s label (after_start node.serial new StartBeside.Over (with_core c s)) → Over s node.serial (after_start node.serial new StartBeside.Over (with_core c s)) old → Steps s (start_lifted s node.serial (record { label = label; core = c; frame = new; beside = StartBeside.Over }))
+  ends label c old new ranges prints quiet acts nodes over =
+      inside s label _ refl refl refl ranges refl quiet nodes (OpEffect.idles none none prints) (ActivityEffect.ends node.serial old acts over refl) (TaskEffect.same refl)
 
   adds : (c : Core) (d : ℕ) (ds : List ℕ) (answer : Answer) → a.phase ≡ Adding (d ∷ ds) → c.nodes ≡ s.core.nodes → c.relations ≡ s.core.relations → c.reserved ≡ s.core.reserved → c.rack ≡ rack_after AskWhat.Add node.path s.core.rack d
       → Steps s (start_lifted s node.serial (add_driver c node d ds answer))
@@ -270,10 +283,10 @@ module _ (s : State) (none : s.operation ≡ None) (node : Node) (at : node_at n
       → Steps s (start_lifted s node.serial (searched s.core node found))
   searches budget phase (assignment plan) is search answer =
       let part : Assigned s node plan = record { at = at; budget = budget; answer = answer } in
-      goes _ _ phase (Starting (walk_of Minor.Start)) refl (inl tt) refl (still s _ _ tt refl (NodeEffect.changed node.serial _ (Alters.assigned node phase plan (acting phase is) search part) refl refl))
+      goes _ _ phase (Starting (walk_of Minor.Start)) refl (inl tt) refl (still s _ _ tt refl (NodeEffect.changed node.serial _ (Alters.assigned node phase plan (acting phase is) search part refl) refl refl))
       (PhaseStep.fits phase node plan (acting phase is) search part refl refl)
   searches budget phase no_fit is search answer =
-      inside s _ _ refl refl refl refl refl refl (still s _ _ tt refl (NodeEffect.same refl refl)) (OpEffect.idles none none (inl tt)) (ActivityEffect.ends node.serial phase (acting phase is) refl)
+      inside s _ _ refl refl refl refl refl refl (still s _ _ tt refl (NodeEffect.same refl refl)) (OpEffect.idles none none (inl tt)) (ActivityEffect.ends node.serial phase (acting phase is) (Over.unplaced phase search refl) refl)
       (TaskEffect.appended (record { kind = Duty.Begins OpKind.Rebalance; serial = node.serial }) (Origin.needs node.serial phase (acting phase is)) refl)
   searches budget phase spent is search answer =
       goes _ _ phase (Due Problem.Budget) refl (inl tt) refl (still s _ _ tt refl (NodeEffect.same refl refl)) (PhaseStep.fails phase Problem.Budget (acting phase is) tt)
@@ -286,7 +299,7 @@ module _ (s : State) (none : s.operation ≡ None) (node : Node) (at : node_at n
   ends_start w false is ended verdict =
       inside s _ _ refl refl refl refl refl refl
       (walks s node Minor.Start w false at (Request.starts w (acting (Starting w) is)) (λ e. cc) ended verdict _ _ refl refl refl refl)
-      (OpEffect.idles none none (inl tt)) (ActivityEffect.ends node.serial (Starting w) (acting (Starting w) is) refl)
+      (OpEffect.idles none none (inl tt)) (ActivityEffect.ends node.serial (Starting w) (acting (Starting w) is) (Over.up w refl) refl)
       (TaskEffect.appended (record { kind = Duty.Listing; serial = node.serial }) (Origin.lists node.serial) refl)
 
   starts_on : (w : Walk) (ended : Bool) → a.phase ≡ Starting w → has_ended w (length node.stack) ≡ ended → Steps s (start_lifted s node.serial (start_on s.core node w ended))
@@ -295,15 +308,15 @@ module _ (s : State) (none : s.operation ≡ None) (node : Node) (at : node_at n
 
   removes_on : (w : Walk) (ended : Bool) → a.phase ≡ Removing w → has_ended w (length node.stack) ≡ ended → Steps s (start_lifted s node.serial (remove_on s.core node w ended))
   removes_on w true is e =
-      ends _ _ (Removing w) Searching refl (inl tt) refl (acting (Removing w) is) (strips s node w at (Request.undoes w (acting (Removing w) is)) e _ _ refl refl refl refl)
+      ends _ _ (Removing w) Searching refl (inl tt) refl (acting (Removing w) is) (strips s node w at (Request.undoes w (acting (Removing w) is)) e _ _ refl refl refl refl) (Over.stripped w refl)
   removes_on w false is e = goes _ _ (Removing w) (Removing _) refl (inl tt) refl (asks s node w at e _ _ _ refl refl refl refl) (PhaseStep.undoes (Removing w) _ (acting (Removing w) is))
 
-  undoes : (c : Core) (problem : Problem) (stack : List ℕ) → a.phase ≡ Due problem → c.nodes ≡ changed_first (is_node node.serial) (with_problem (Some problem)) s.core.nodes → c.relations ≡ s.core.relations → c.reserved ≡ s.core.reserved → c.rack ≡ s.core.rack
+  undoes : (c : Core) (problem : Problem) (stack : List ℕ) → node.stack ≡ stack → a.phase ≡ Due problem → c.nodes ≡ changed_first (is_node node.serial) (with_problem (Some problem)) s.core.nodes → c.relations ≡ s.core.relations → c.reserved ≡ s.core.reserved → c.rack ≡ s.core.rack
       → Steps s (start_lifted s node.serial (undo c node problem stack))
-  undoes c problem [] is e f g rack =
+  undoes c problem [] none_left is e f g rack =
       ends _ _ (Due problem) Searching g (inr (record { activity = a; ready = ready; problem = problem; is = is; path = node.path; prints = refl })) refl (acting (Due problem) is)
-      (still s _ _ tt rack (NodeEffect.changed node.serial _ (Alters.troubled node.serial (Some problem)) e f))
-  undoes c problem (d ∷ ds) is e f g rack =
+      (still s _ _ tt rack (NodeEffect.changed node.serial _ (Alters.troubled node.serial (Some problem)) e f)) (Over.empty problem node at none_left e)
+  undoes c problem (d ∷ ds) some_left is e f g rack =
       goes _ _ (Due problem) (Removing (walk_of Minor.Remove)) g (inr (record { activity = a; ready = ready; problem = problem; is = is; path = node.path; prints = refl })) refl
       (still s _ _ tt rack (NodeEffect.changed node.serial _ (Alters.troubled node.serial (Some problem)) e f)) (PhaseStep.undoes (Due problem) _ (acting (Due problem) is))
 
@@ -313,7 +326,7 @@ module _ (s : State) (none : s.operation ≡ None) (node : Node) (at : node_at n
   acts budget Searching is = λ found answer. searches budget Searching found is tt answer
   acts budget (Starting w) is = starts_on w _ is refl
   acts budget (Removing w) is = removes_on w _ is refl
-  acts budget (Due problem) is = undoes _ problem node.stack is refl refl refl refl
+  acts budget (Due problem) is = undoes _ problem node.stack refl is refl refl refl refl
 
 pub acts_effect : (budget : ℕ) (s : State) (node : Node) (a : Activity) → s.operation ≡ None → node_at node.serial s.core.nodes ≡ Some node → find is_ready s.activities ≡ Some a → a.serial ≡ node.serial
     → EffectBy budget s (doing_map (start_lifted s node.serial) (act s.core node a.phase))

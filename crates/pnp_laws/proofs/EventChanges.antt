@@ -6,6 +6,7 @@ use Rattle.pnp_labels.specs.declared.label.Label.{Label}
 use Rattle.pnp_model.specs.Keyed.{changed_first}
 use Rattle.pnp_model.specs.Records.{Activity, Phase, State, Step, Operation}
 use Rattle.pnp_model.specs.Records.Phase.{Adding, Due}
+use Rattle.pnp_model.specs.Runs.{Entry}
 use Rattle.pnp_model.specs.States.{activity_at, is_activity, with_phase}
 use Rattle.pnp_laws.specs.Effects.{AnswerEffect, NodeEffect, RangeEffect}
 use Rattle.pnp_laws.specs.Holdings.{is_starting}
@@ -61,9 +62,9 @@ still_serial old new (Label.Refused word reason) w e = omega arith
 still_serial old new _ w e = absurd w
 
 -- ranges stay while an operation runs
-pub ranges_stay : (s t : State) (o : Operation) → s.operation ≡ Some o → RangeEffect s t → t.core.reserved ≡ s.core.reserved
+pub ranges_stay : (s t : State) {entry : Entry} (o : Operation) → s.operation ≡ Some o → RangeEffect s entry t → t.core.reserved ≡ s.core.reserved
 ranges_stay s t o runs (RangeEffect.same e) = e
-ranges_stay s t o runs (RangeEffect.reserves res none free nodes e) = absurd (cc)
+ranges_stay s t o runs (RangeEffect.reserves res none free nodes e event label is) = absurd (cc)
 
 -- and so do relations in an event
 pub relations_stay : (s : State) (label : Label) (t : State) (o : Operation) → IsWord label → s.operation ≡ Some o → NodeEffect s label t → t.core.relations ≡ s.core.relations
@@ -75,7 +76,7 @@ relations_stay s label t o word runs (NodeEffect.joins node d none at up there i
 relations_stay s label t o word runs (NodeEffect.left node p own first nodes e) = e
 relations_stay s label t o word runs (NodeEffect.related r related nodes e) = absurd (let none = related.none in cc)
 
-outside_by : (s : State) (label : Label) (t : State) → NodeEffect s label t → RangeEffect s t → AnswerEffect s label t → Outside s (record { label = label; state = t })
+outside_by : (s : State) (label : Label) (t : State) {entry : Entry} → NodeEffect s label t → RangeEffect s entry t → AnswerEffect s label t → Outside s (record { label = label; state = t })
 outside_by s label t nodes ranges (AnswerEffect.stays word same acts now) =
     record {
       word = word;

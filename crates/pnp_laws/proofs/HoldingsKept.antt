@@ -114,7 +114,7 @@ search_quiet : (phase : Phase) → IsSearch phase → is_starting phase ≡ fals
 search_quiet (Phase.Starting w) search = absurd search
 search_quiet _ search = refl
 
-own_whole : (reqs : Reqs) (plan : List (List Res)) → AllZip Whole (reqs ∷ []) plan → Whole reqs (own_part plan)
+pub own_whole : (reqs : Reqs) (plan : List (List Res)) → AllZip Whole (reqs ∷ []) plan → Whole reqs (own_part plan)
 own_whole reqs [] h = absurd h
 own_whole reqs (holds ∷ plan) h = h.0
 
@@ -191,15 +191,15 @@ module _ (s : State) (label : Label) (good : IsGood s) (planned : IsPlanned s) (
       let here = head_has node.serial (todo_of asks.operation) (head_found s.core.nodes (todo_of asks.operation) node asks.first).0 in
       (well node.serial node at).up (asked_up s.core.nodes node minor other at asks.operation fits here asks.minor_is)
 
-  altered_well : (j : ℕ) (f : Node → Node) → Alters s label j f → (n : Node) → node_at j s.core.nodes ≡ Some n → HeldWell (f n)
-  altered_well j f (Alters.walked node minor w bad at request other ends verdict prints) n there =
+  altered_well : (t : State) (j : ℕ) (f : Node → Node) → Alters s label t j f → (n : Node) → node_at j s.core.nodes ≡ Some n → HeldWell (f n)
+  altered_well t j f (Alters.walked node minor w bad at request other ends verdict prints) n there =
       let same = some_same (node_at node.serial s.core.nodes) node n at there in
       subst (λ (x : Node). HeldWell (with_state (state_after minor bad node.state) x)) same
       (record { up = λ e. asked_whole node minor w other at request; bare = λ e. (well node.serial node at).bare (stays_bare minor bad node.state other e) })
-  altered_well j f (Alters.troubled k problem) n there = let h = well k n there in record { up = h.up; bare = h.bare }
-  altered_well j f (Alters.stacks node d ds name at acts prints) n there =
+  altered_well t j f (Alters.troubled k problem) n there = let h = well k n there in record { up = h.up; bare = h.bare }
+  altered_well t j f (Alters.stacks node d ds name at acts prints) n there =
       waiting_well (with_stack (node.stack ++ d ∷ []) (stacked node.state) n) (stacked_idle node.state (fits_at node.serial (Phase.Adding (d ∷ ds)) node acts at))
-  altered_well j f (Alters.assigned node phase plan acts search part) n there =
+  altered_well t j f (Alters.assigned node phase plan acts search part now) n there =
       waiting_well (with_holds (own_part plan) n) (search_waits phase n.state search (fits_at node.serial phase n acts there))
 
   changed_well : (j : ℕ) (f : Node → Node) → ((n : Node) → (f n).serial ≡ n.serial) → ((n : Node) → node_at j s.core.nodes ≡ Some n → HeldWell (f n)) → AllHeldWell (changed_first (is_node j) f s.core.nodes)
@@ -225,7 +225,7 @@ module _ (s : State) (label : Label) (good : IsGood s) (planned : IsPlanned s) (
 
   nodes_well : (t : State) → NodeEffect s label t → AllHeldWell t.core.nodes
   nodes_well t (NodeEffect.same a b) = subst AllHeldWell (sym a) well
-  nodes_well t (NodeEffect.changed j f alters a b) = subst AllHeldWell (sym a) (changed_well j f (alters_keeps s label j f alters).serial (altered_well j f alters))
+  nodes_well t (NodeEffect.changed j f alters a b) = subst AllHeldWell (sym a) (changed_well j f (alters_keeps s label t j f alters).serial (altered_well t j f alters))
   nodes_well t (NodeEffect.stripped node w at request ends prints a b) =
       subst AllHeldWell (sym a) (changed_well node.serial bare (λ n. refl) (λ n there. record { up = λ h. absurd (cc); bare = λ h. refl }))
   nodes_well t (NodeEffect.commits r runs is a b) = subst AllHeldWell (sym a) (mapped_well r runs is)
@@ -248,12 +248,12 @@ module _ (s : State) (label : Label) (good : IsGood s) (planned : IsPlanned s) (
         let is : is_starting a.phase ≡ is_starting phase = ap (λ (x : Activity). is_starting x.phase) (sym same) ∙ ap is_starting here.is in
         cc
 
-    altered_starts : (j : ℕ) (f : Node → Node) → Alters s label j f → WholeAt k (changed_first (is_node j) f s.core.nodes)
-    altered_starts j f (Alters.walked node minor w bad at request other ends verdict prints) =
+    altered_starts : (t : State) (j : ℕ) (f : Node → Node) → Alters s label t j f → WholeAt k (changed_first (is_node j) f s.core.nodes)
+    altered_starts t j f (Alters.walked node minor w bad at request other ends verdict prints) =
         whole_changed k node.serial _ s.core.nodes (record { reqs = record { serial = λ n. refl; reqs = λ n. refl }; holds = λ n. refl }) before
-    altered_starts j f (Alters.troubled i problem) = whole_changed k i _ s.core.nodes (record { reqs = record { serial = λ n. refl; reqs = λ n. refl }; holds = λ n. refl }) before
-    altered_starts j f (Alters.stacks node d ds name at acts prints) = whole_changed k node.serial _ s.core.nodes (record { reqs = record { serial = λ n. refl; reqs = λ n. refl }; holds = λ n. refl }) before
-    altered_starts j f (Alters.assigned node phase plan acts search part) = λ m g.
+    altered_starts t j f (Alters.troubled i problem) = whole_changed k i _ s.core.nodes (record { reqs = record { serial = λ n. refl; reqs = λ n. refl }; holds = λ n. refl }) before
+    altered_starts t j f (Alters.stacks node d ds name at acts prints) = whole_changed k node.serial _ s.core.nodes (record { reqs = record { serial = λ n. refl; reqs = λ n. refl }; holds = λ n. refl }) before
+    altered_starts t j f (Alters.assigned node phase plan acts search part now) = λ m g.
         elim (node_from node.serial k (with_holds (own_part plan)) s.core.nodes m (λ n. refl) g) [
           | inl (e, more) ↦ absurd (not_acting phase (subst (λ (i : ℕ). Acting s i phase) e acts) (search_quiet phase search))
           | inr (d, q) ↦ before m q
@@ -278,7 +278,7 @@ module _ (s : State) (label : Label) (good : IsGood s) (planned : IsPlanned s) (
 
     kept_starts : (t : State) → NodeEffect s label t → WholeAt k t.core.nodes
     kept_starts t (NodeEffect.same e b) = subst (WholeAt k) (sym e) before
-    kept_starts t (NodeEffect.changed j f alters e b) = subst (WholeAt k) (sym e) (altered_starts j f alters)
+    kept_starts t (NodeEffect.changed j f alters e b) = subst (WholeAt k) (sym e) (altered_starts t j f alters)
     kept_starts t (NodeEffect.stripped node w at request ends prints e b) = subst (WholeAt k) (sym e) (stripped_starts node Minor.Remove w refl request)
     kept_starts t (NodeEffect.commits r runs is e b) = absurd (none_starts (Operation.Rebalancing r) k a runs under)
     kept_starts t (NodeEffect.joins node d none at up there is) =
@@ -294,12 +294,12 @@ module _ (s : State) (label : Label) (good : IsGood s) (planned : IsPlanned s) (
       subst (WholeAt r.target) (sym nodes) (kept (ap has_plan found))
 
   entered_starts : (t : State) (k : ℕ) (phase : Phase) → Enters s k t phase → is_starting phase ≡ true → WholeAt k t.core.nodes
-  entered_starts t k phase (Enters.installs drivers chosen drops) starts = absurd (let quiet = adding_quiet drivers in cc)
+  entered_starts t k phase (Enters.installs drivers chosen drops clears) starts = absurd (let quiet = adding_quiet drivers in cc)
   entered_starts t k phase (Enters.restarts r plan runs is target found nodes) starts = subst (λ (i : ℕ). WholeAt i t.core.nodes) target (restarted t r plan runs is found nodes)
   entered_starts t k phase (Enters.undoes r runs target) starts = absurd (cc)
 
   entered_free : (t : State) (k : ℕ) (phase : Phase) → Enters s k t phase → activity_at k s.activities ≡ None
-  entered_free t k phase (Enters.installs drivers chosen drops) = chosen.free
+  entered_free t k phase (Enters.installs drivers chosen drops clears) = chosen.free
   entered_free t k phase (Enters.restarts r plan runs is target found nodes) = ap (activity_at k) (alone (Operation.Rebalancing r) runs)
   entered_free t k phase (Enters.undoes r runs target) = ap (activity_at k) (alone (Operation.Rebalancing r) runs)
 
@@ -341,7 +341,7 @@ module _ (s : State) (label : Label) (good : IsGood s) (planned : IsPlanned s) (
         | inl (q, (b, there, is)) ↦ subst (λ (i : ℕ). WholeAt i t.core.nodes) q (went_starts t j was now nodes step (sym (ap (λ (x : Activity). is_starting x.phase) is) ∙ starts))
         | inr (d, there) ↦ kept_starts k a there starts t nodes
       ]
-  starts_whole t nodes (ActivityEffect.ends j phase acts e) k a at starts =
+  starts_whole t nodes (ActivityEffect.ends j phase acts over e) k a at starts =
       let there = subst (λ (x : List Activity). activity_at k x ≡ Some a) e at in
       elim (cases_eq j k) [
         | inl q ↦

@@ -34,7 +34,7 @@ alone_then s o e kept = subst (λ (x : Option Operation). Alone x s.activities) 
 -- nobody leaves but in a removal or a surprise removal
 node_stays : (s : State) (label : Label) (t : State) → ((o : Operation) → s.operation ≡ Some o → to_leave o ≡ []) → NodeEffect s label t → (k : ℕ) (n : Node) → node_at k s.core.nodes ≡ Some n → node_at k t.core.nodes ≡ None → ⊥
 node_stays s label t none (NodeEffect.same e rest) k n at gone = let now = ap (node_at k) e in cc
-node_stays s label t none (NodeEffect.changed j f alters e rest) k n at gone = let was = node_missing j k f s.core.nodes (alters_keeps s label j f alters).serial (sym (ap (node_at k) e) ∙ gone) in cc
+node_stays s label t none (NodeEffect.changed j f alters e rest) k n at gone = let was = node_missing j k f s.core.nodes (alters_keeps s label t j f alters).serial (sym (ap (node_at k) e) ∙ gone) in cc
 node_stays s label t none (NodeEffect.stripped node w there request ends prints e rest) k n at gone = let was = node_missing node.serial k bare s.core.nodes (λ x. refl) (sym (ap (node_at k) e) ∙ gone) in cc
 node_stays s label t none (NodeEffect.commits r runs is e rest) k n at gone =
     let now = sym gone ∙ ap (node_at k) e ∙ node_at-map k (committed (movers r) (plan_of r.found)) s.core.nodes (λ x. refl) ∙ ap (option_map (committed (movers r) (plan_of r.found))) at in

@@ -135,7 +135,7 @@ tasks_cheaper : (s t : State) → t.next_serial ≡ s.next_serial → TaskEffect
 tasks_cheaper s t serial (TaskEffect.same e) cost = let h = ap (starts cost) e in omega arith
 tasks_cheaper s t serial (TaskEffect.appended task origin e) cost = let h = ap (starts cost) e in let g = cheaper_pushed s.tasks task (origin_free s task.kind task.serial origin) cost in omega arith
 tasks_cheaper s t serial (TaskEffect.joins next e) cost = absurd (omega arith)
-tasks_cheaper s t serial (TaskEffect.dropped task none first e) cost = let h = ap (starts cost) e in let g = dropped_cheaper s.tasks cost in omega arith
+tasks_cheaper s t serial (TaskEffect.dropped task none first surprises e) cost = let h = ap (starts cost) e in let g = dropped_cheaper s.tasks cost in omega arith
 tasks_cheaper s t serial (TaskEffect.put_first node r runs is first e) cost = let h = ap (starts cost) e in omega arith
 
 -- Activities --------------------------------------------------------------------------------------------
@@ -246,9 +246,9 @@ module _ (s : State) (label : Label) (t : State) (kept : Kept s) (knows : Knows 
   entering (ActivityEffect.same e) = none_begins (λ k m at h. inl (ap (λ (x : List Activity). some_there (activity_at k x)) (sym e) ∙ h))
   entering (ActivityEffect.goes j old new step e) =
       none_begins (λ k m at h. inl (active_changed j k new s.activities (ap (λ (x : List Activity). some_there (activity_at k x)) (sym e) ∙ h)))
-  entering (ActivityEffect.ends j phase acts e) =
+  entering (ActivityEffect.ends j phase acts over e) =
       none_begins (λ k m at h. inl (active_ended j k s.activities kept.good.order (ap (λ (x : List Activity). some_there (activity_at k x)) (sym e) ∙ h)))
-  entering (ActivityEffect.enters j _ (Enters.installs drivers chosen drops) e) = installed j _ drivers chosen drops e
+  entering (ActivityEffect.enters j _ (Enters.installs drivers chosen drops clears) e) = installed j _ drivers chosen drops e
   entering (ActivityEffect.enters j _ (Enters.restarts r plan runs is target found nodes) e) = reentered j _ e (λ x fits. ap is_bare fits)
   entering (ActivityEffect.enters j _ (Enters.undoes r runs target) e) = reentered j _ e (λ x fits. ap is_bare fits)
 

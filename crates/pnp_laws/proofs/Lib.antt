@@ -92,5 +92,8 @@ pub mod DriverNames
 pub mod RunsStacks
 pub mod Requests
 pub mod RunsTold
+pub mod StrayMoves
+pub mod RunsStrays
+pub mod RunsHeld
 pub mod TreePrints
 pub mod NamesGiven

@@ -497,10 +497,10 @@ op_owns : (s : State) (label : Label) (t : State) → s.operation ≡ None → O
 op_owns s label t none (OpEffect.idles a b c) = subst (λ (x : Option Operation). OperationOwn x) (sym b) tt
 op_owns s label t none (OpEffect.begins kind node a b c d is) = subst (λ (x : Step). OperationOwn x.state.operation) (sym is) (begun_own s.core kind node)
 op_owns s label t none (OpEffect.goes o p runs a b c) = absurd (cc)
-op_owns s label t none (OpEffect.ends o result runs a b c) = absurd (cc)
+op_owns s label t none (OpEffect.ends o result runs a b c closing) = absurd (cc)
 
 entered_own : (s : State) (k : ℕ) (t : State) (phase : Phase) → Enters s k t phase → PhaseOwn phase
-entered_own s k t _ (Enters.installs drivers chosen tasks) = adding_own drivers
+entered_own s k t _ (Enters.installs drivers chosen tasks clears) = adding_own drivers
 entered_own s k t _ (Enters.restarts r plan a b c d e) = refl
 entered_own s k t _ (Enters.undoes r a b) = refl
 
@@ -519,7 +519,7 @@ starts_own s t idle own (ActivityEffect.enters k phase why a) =
     subst (λ (x : List Activity). AllOwn x) (sym a) (put_own (is_above k) (record { serial = k; phase = phase }) s.activities (entered_own s k t phase why) own)
 starts_own s t idle own (ActivityEffect.goes k old new goes a) =
     subst (λ (x : List Activity). AllOwn x) (sym a) (changed_own (is_activity k) new s.activities (step_own s t idle own k old new goes) own)
-starts_own s t idle own (ActivityEffect.ends k phase acting a) = absurd (idle k phase acting)
+starts_own s t idle own (ActivityEffect.ends k phase acting finish a) = absurd (idle k phase acting)
 
 step_owns : (settings : Settings) (s : State) (label : Label) (t : State) → HasOwn s → ma.Steps settings s label t → HasOwn t
 step_owns settings s label t own steps = by_operation s.operation refl steps

@@ -227,7 +227,7 @@ planned_as t o reserved nodes a b c h =
     subst (λ (x : Option Operation). PlanKept x t.core.reserved t.core.nodes) (sym a)
     (subst (λ (x : List Res). PlanKept o x t.core.nodes) (sym b) (subst (λ (x : List Node). PlanKept o reserved x) (sym c) h))
 
-stays_plan : (s t : State) (o : Option Operation) → s.operation ≡ o → t.operation ≡ s.operation → t.core.nodes ≡ s.core.nodes → RangeEffect s t → IsPlanned s → IsPlanned t
+stays_plan : (s t : State) {entry : Entry} (o : Option Operation) → s.operation ≡ o → t.operation ≡ s.operation → t.core.nodes ≡ s.core.nodes → RangeEffect s entry t → IsPlanned s → IsPlanned t
 stays_plan s t None none now nodes ranges h = planned_as t None t.core.reserved t.core.nodes (now ∙ none) refl refl tt
 stays_plan s t (Some o) runs now nodes ranges h = planned_as t s.operation s.core.reserved s.core.nodes now (ranges_stay s t o runs ranges) nodes h
 
@@ -240,7 +240,7 @@ goes_plan settings s label t (Operation.Rebalancing r) p runs now work goes h =
     planned_operation s (Operation.Rebalancing r) (record { label = label; state = t }) (subst (λ (x : Option Operation). PlanKept x s.core.reserved s.core.nodes) runs h)
     (operation_step settings s (Operation.Rebalancing r) (record { label = label; state = t }) runs goes)
 
-event_plan : (s : State) (label : Label) (t : State) → RangeEffect s t → AnswerEffect s label t → IsPlanned s → IsPlanned t
+event_plan : (s : State) (label : Label) (t : State) {entry : Entry} → RangeEffect s entry t → AnswerEffect s label t → IsPlanned s → IsPlanned t
 event_plan s label t ranges (AnswerEffect.stays word nodes acts now) h = stays_plan s t s.operation refl now nodes ranges h
 event_plan s label t ranges (AnswerEffect.answers word nodes k a ok at acts now) h = stays_plan s t s.operation refl now nodes ranges h
 event_plan s label t ranges (AnswerEffect.answered word nodes acts ok o runs now) h =
@@ -252,7 +252,7 @@ step_plan settings s label t (OpEffect.idles none now prints) goes h = planned_a
 step_plan settings s label t (OpEffect.begins kind node none alone at fits is) goes h =
     subst (λ (x : Step). IsPlanned x.state) (sym is) (begun_plan s.core kind node)
 step_plan settings s label t (OpEffect.goes o p runs now work prints) goes h = goes_plan settings s label t o p runs now work goes h
-step_plan settings s label t (OpEffect.ends o result runs now prints by) goes h = planned_as t None t.core.reserved t.core.nodes now refl refl tt
+step_plan settings s label t (OpEffect.ends o result runs now prints by over) goes h = planned_as t None t.core.reserved t.core.nodes now refl refl tt
 
 planned_goes : (settings : Settings) (s : State) (entry : Entry) (t : State) → IsPlanned s → Goes settings s entry t → IsPlanned t
 planned_goes settings s (Happens event label) t h goes = let effect = effect_goes settings s (Happens event label) t goes in event_plan s label t effect.ranges effect.operation h

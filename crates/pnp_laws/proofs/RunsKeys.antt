@@ -52,7 +52,7 @@ holder_of lo (n ∷ ns) r order c =
     ]
 
 -- a node of the tail has another serial
-other_serial : (n : Node) (ns : List Node) (k : ℕ) (m : Node) → Ascending (suc n.serial) ns → node_at k ns ≡ Some m → n.serial ≢ k
+pub other_serial : (n : Node) (ns : List Node) (k : ℕ) (m : Node) → Ascending (suc n.serial) ns → node_at k ns ≡ Some m → n.serial ≢ k
 other_serial n ns k m order at e =
     let none = subst (λ (i : ℕ). node_at i ns ≡ None) e (none_below (suc n.serial) n.serial ns (omega arith) order) in
     cc

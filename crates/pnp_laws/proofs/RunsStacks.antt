@@ -85,7 +85,7 @@ module _ (s t : State) (order : InOrder 0 s.activities) where
   remains_is k xs ys e h = subst (λ (ds : List ℕ). Remains s k ds) e h
 
   entered_adds : (k : ℕ) (phase : Phase) → Enters s k t phase → Remains s k (phase_drivers phase)
-  entered_adds k phase (Enters.installs drivers chosen drops) = remains_is k drivers (phase_drivers (adding drivers)) (sym (adding_all drivers)) (Remains.installs drivers chosen)
+  entered_adds k phase (Enters.installs drivers chosen drops clears) = remains_is k drivers (phase_drivers (adding drivers)) (sym (adding_all drivers)) (Remains.installs drivers chosen)
   entered_adds k phase (Enters.restarts r plan runs is target found nodes) = Remains.nothing
   entered_adds k phase (Enters.undoes r runs target) = Remains.nothing
 
@@ -114,7 +114,7 @@ module _ (s t : State) (order : InOrder 0 s.activities) where
             (remains_is k _ _ (ap to_add (sym (phase_set_same k new s.activities))) (set_adds k new (activity_at k s.activities) (gone_adds k old new (subst (λ (i : ℕ). PhaseStep s i t old new) own step))))
         | inr d ↦ remains_is k _ _ (ap to_add (sym (phase_set_other j k new s.activities d))) Remains.was
       ])
-  remains (ActivityEffect.ends j phase acts e) k =
+  remains (ActivityEffect.ends j phase acts over e) k =
       remains_is k _ _ (ap (λ (x : List Activity). to_add (activity_at k x)) (sym e))
       (elim (cases_eq j k) [
         | inl own ↦
@@ -136,10 +136,10 @@ path_is_new : (born : ℕ) (nodes : List Node) (d : Device) → joins born nodes
 path_is_new born nodes d h = grind (arith, nat_tests)
 
 module _ (s : State) (label : Label) (order : Ascending 0 s.core.nodes) where
-  altered : (j : ℕ) (f : Node → Node) → Alters s label j f → (n : Node) → node_at j s.core.nodes ≡ Some n → From s label j (f n)
-  altered j f (Alters.stacks node d ds name at acts prints) n there =
+  altered : (t : State) (j : ℕ) (f : Node → Node) → Alters s label t j f → (n : Node) → node_at j s.core.nodes ≡ Some n → From s label j (f n)
+  altered t j f (Alters.stacks node d ds name at acts prints) n there =
       From.pushed n d ds node.path name there refl (ap (λ (z : Node). z.stack ++ d ∷ []) (some_same (node_at node.serial s.core.nodes) node n at there)) acts prints
-  altered j f _ n there = From.was n there refl (inl refl)
+  altered t j f _ n there = From.was n there refl (inl refl)
 
   changed : (j : ℕ) (f : Node → Node) → ((n : Node) → (f n).serial ≡ n.serial) → ((n : Node) → node_at j s.core.nodes ≡ Some n → From s label j (f n))
       → (k : ℕ) (m : Node) → node_at k (changed_first (is_node j) f s.core.nodes) ≡ Some m → From s label k m
@@ -152,7 +152,7 @@ module _ (s : State) (label : Label) (order : Ascending 0 s.core.nodes) where
 
   from : (t : State) → NodeEffect s label t → (k : ℕ) (m : Node) → node_at k t.core.nodes ≡ Some m → From s label k m
   from t (NodeEffect.same e rest) k m at = From.was m (subst (λ (x : List Node). node_at k x ≡ Some m) e at) refl (inl refl)
-  from t (NodeEffect.changed j f alters e rest) k m at = changed j f (alters_keeps s label j f alters).serial (altered j f alters) k m (subst (λ (x : List Node). node_at k x ≡ Some m) e at)
+  from t (NodeEffect.changed j f alters e rest) k m at = changed j f (alters_keeps s label t j f alters).serial (altered t j f alters) k m (subst (λ (x : List Node). node_at k x ≡ Some m) e at)
   from t (NodeEffect.stripped node w there request ends prints e rest) k m at =
       changed node.serial bare (λ n. refl) (λ n q. From.was n q refl (inr refl)) k m (subst (λ (x : List Node). node_at k x ≡ Some m) e at)
   from t (NodeEffect.commits r runs is e rest) k m at =

@@ -10,6 +10,7 @@ use Rattle.pnp_model.specs.Frames.{fixed_beside}
 use Rattle.pnp_model.specs.Keyed.{changed_first}
 use Rattle.pnp_model.specs.Rebalances.{movers, plan_of, reqs_of}
 use Rattle.pnp_model.specs.Records.{Node, Operation, RebalanceStage, State, Step}
+use Rattle.pnp_model.specs.Runs.{Entry}
 use Rattle.pnp_model.specs.Sharing.{Clear}
 use Rattle.pnp_model.specs.Starts.{own_part}
 use Rattle.pnp_laws.specs.Effects.{Alters, NodeEffect, RangeEffect}
@@ -49,11 +50,11 @@ module _ (s : State) (label : Label) (order : Ascending 0 s.core.nodes) (planned
   less : (nodes : List Node) → NoMore s.core.nodes nodes → Clear s.core.reserved nodes
   less nodes none = Clear_no_more s.core.reserved s.core.nodes nodes none clear
 
-  clear_altered : (j : ℕ) (f : Node → Node) → Alters s label j f → Clear s.core.reserved (changed_first (is_node j) f s.core.nodes)
-  clear_altered j f (Alters.walked node minor w bad at request other ends verdict prints) = less _ (no_more_changed node.serial f s.core.nodes (λ x. refl) (λ x. refl))
-  clear_altered j f (Alters.troubled k problem) = less _ (no_more_changed k f s.core.nodes (λ x. refl) (λ x. refl))
-  clear_altered j f (Alters.stacks node d ds name at acts prints) = less _ (no_more_changed node.serial f s.core.nodes (λ x. refl) (λ x. refl))
-  clear_altered j f (Alters.assigned node phase plan acts search part) =
+  clear_altered : (t : State) (j : ℕ) (f : Node → Node) → Alters s label t j f → Clear s.core.reserved (changed_first (is_node j) f s.core.nodes)
+  clear_altered t j f (Alters.walked node minor w bad at request other ends verdict prints) = less _ (no_more_changed node.serial f s.core.nodes (λ x. refl) (λ x. refl))
+  clear_altered t j f (Alters.troubled k problem) = less _ (no_more_changed k f s.core.nodes (λ x. refl) (λ x. refl))
+  clear_altered t j f (Alters.stacks node d ds name at acts prints) = less _ (no_more_changed node.serial f s.core.nodes (λ x. refl) (λ x. refl))
+  clear_altered t j f (Alters.assigned node phase plan acts search part now) =
       let fixed = fixed_beside s.core (node.serial ∷ []) in
       let is = plan_is fixed (node.reqs ∷ []) part.budget plan part.answer in
       let own = subst (λ (x : List (List Res)). IsAssignment fixed (node.reqs ∷ []) x) (one_part fixed node.reqs plan is) is in
@@ -61,7 +62,7 @@ module _ (s : State) (label : Label) (order : Ascending 0 s.core.nodes) (planned
 
   clear_nodes : (t : State) → NodeEffect s label t → Clear s.core.reserved t.core.nodes
   clear_nodes t (NodeEffect.same e relations) = subst (λ (x : List Node). Clear s.core.reserved x) (sym e) clear
-  clear_nodes t (NodeEffect.changed j f alters e relations) = subst (λ (x : List Node). Clear s.core.reserved x) (sym e) (clear_altered j f alters)
+  clear_nodes t (NodeEffect.changed j f alters e relations) = subst (λ (x : List Node). Clear s.core.reserved x) (sym e) (clear_altered t j f alters)
   clear_nodes t (NodeEffect.stripped node w at request ends prints e relations) = subst (λ (x : List Node). Clear s.core.reserved x) (sym e) (less _ (no_more_bare node.serial s.core.nodes))
   clear_nodes t (NodeEffect.commits r runs is e relations) =
       let plan = subst (λ (x : RebalanceStage). StagePlan r x s.core.reserved s.core.nodes) is (subst (λ (x : Option Operation). PlanKept x s.core.reserved s.core.nodes) runs planned) in
@@ -75,7 +76,7 @@ module _ (s : State) (label : Label) (order : Ascending 0 s.core.nodes) (planned
       subst (λ (x : List Node). Clear s.core.reserved x) (sym e) (less _ (λ k m at. inr (m, (left_from node.serial k s.core.nodes m order at).1, refl)))
   clear_nodes t (NodeEffect.related r related e relations) = subst (λ (x : List Node). Clear s.core.reserved x) (sym e) clear
 
-  pub clear_ranges : (t : State) → RangeEffect s t → NodeEffect s label t → Clear t.core.reserved t.core.nodes
+  pub clear_ranges : (t : State) {entry : Entry} → RangeEffect s entry t → NodeEffect s label t → Clear t.core.reserved t.core.nodes
   clear_ranges t (RangeEffect.same e) nodes = subst (λ (x : List Res). Clear x t.core.nodes) (sym e) (clear_nodes t nodes)
-  clear_ranges t (RangeEffect.reserves res none free same e) nodes =
+  clear_ranges t (RangeEffect.reserves res none free same e event own is) nodes =
       subst (λ (x : List Res). Clear x t.core.nodes) (sym e) (subst (λ (x : List Node). Clear (s.core.reserved ++ res ∷ []) x) (sym same) (Clear_reserved res s.core.reserved s.core.nodes free clear))

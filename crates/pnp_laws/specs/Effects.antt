@@ -18,8 +18,8 @@ use Rattle.pnp_labels.specs.declared.label.Label.{Label}
 use Rattle.pnp_labels.specs.declared.label.Shown.{Shown}
 use Rattle.pnp_model.specs.Books.{driver_named, is_named, is_unnamed, name_of, rack_after, with_name}
 use Rattle.pnp_model.specs.Keyed.{changed_first, without_first}
-use Rattle.pnp_model.specs.Tests.{has, has_same, is_started}
-use Rattle.pnp_model.specs.Trees.{children, dependents}
+use Rattle.pnp_model.specs.Tests.{has, has_same, is_started, is_surprise_task}
+use Rattle.pnp_model.specs.Trees.{children, dependents, stands_up}
 use Rattle.pnp_model.specs.Walks.{walk_of, may_fail, is_bad, has_ended, state_after}
 use Rattle.pnp_model.specs.Cores.{is_node, node_at, forget, bare, stacked, with_state, with_problem, with_stack, with_holds}
 use Rattle.pnp_model.specs.Frames.{first_node, fixed_beside, held_by, next_driver}
@@ -119,15 +119,15 @@ IsSearch _ = ⊥
 
 -- how a device changes that keeps its drivers: by the end of a walk, by a problem that is set or cleared, by one driver
 -- more, or by resources that were found for it
-pub data Alters (s : State) (label : Label) : ℕ → (Node → Node) → Type 0 where
+pub data Alters (s : State) (label : Label) (t : State) : ℕ → (Node → Node) → Type 0 where
   walked : (node : Node) (minor : Minor) (w : Walk) (bad : Bool) → node_at node.serial s.core.nodes ≡ Some node → Request s node minor w → minor ≢ Minor.Remove
       → has_ended w (length node.stack) ≡ true → ends_bad minor w ≡ bad → label ≡ Label.State node.path (state_after minor bad node.state)
-      → Alters s label node.serial (with_state (state_after minor bad node.state))
-  troubled : (j : ℕ) (problem : Option Problem) → Alters s label j (with_problem problem)
+      → Alters s label t node.serial (with_state (state_after minor bad node.state))
+  troubled : (j : ℕ) (problem : Option Problem) → Alters s label t j (with_problem problem)
   stacks : (node : Node) (d : ℕ) (ds : List ℕ) (name : Text) → node_at node.serial s.core.nodes ≡ Some node → Acting s node.serial (Phase.Adding (d ∷ ds)) → label ≡ Label.Add node.path name true
-      → Alters s label node.serial (with_stack (node.stack ++ d ∷ []) (stacked node.state))
+      → Alters s label t node.serial (with_stack (node.stack ++ d ∷ []) (stacked node.state))
   assigned : (node : Node) (phase : Phase) (plan : List (List Res)) → Acting s node.serial phase → IsSearch phase → Assigned s node plan
-      → Alters s label node.serial (with_holds (own_part plan))
+      → t.activities ≡ changed_first (is_activity node.serial) (with_phase (Phase.Starting (walk_of Minor.Start))) s.activities → Alters s label t node.serial (with_holds (own_part plan))
 
 pub record Related (s : State) (r : Relation) : Type 0 where
   pub none : s.operation ≡ None
@@ -146,7 +146,7 @@ pub record Related (s : State) (r : Relation) : Type 0 where
 
 pub data NodeEffect (s : State) (label : Label) (t : State) : Type 0 where
   same : t.core.nodes ≡ s.core.nodes → t.core.relations ≡ s.core.relations → NodeEffect s label t
-  changed : (j : ℕ) (f : Node → Node) → Alters s label j f → t.core.nodes ≡ changed_first (is_node j) f s.core.nodes → t.core.relations ≡ s.core.relations → NodeEffect s label t
+  changed : (j : ℕ) (f : Node → Node) → Alters s label t j f → t.core.nodes ≡ changed_first (is_node j) f s.core.nodes → t.core.relations ≡ s.core.relations → NodeEffect s label t
   -- a REMOVE walk ended: the device loses drivers, holdings and relations
   stripped : (node : Node) (w : Walk) → node_at node.serial s.core.nodes ≡ Some node → Request s node Minor.Remove w → has_ended w (length node.stack) ≡ true
       → label ≡ Label.State node.path (state_after Minor.Remove false node.state)
@@ -208,9 +208,10 @@ pub record Chosen (s : State) (k : ℕ) (drivers : List ℕ) : Type 0 where
 
 -- Ranges, world, disabled paths --------------------------------------------------------
 
-pub data RangeEffect (s t : State) : Type 0 where
-  same : t.core.reserved ≡ s.core.reserved → RangeEffect s t
-  reserves : (res : Res) → s.operation ≡ None → list_any (clashes res) (s.core.reserved ++ held_by s.core.nodes) ≡ false → t.core.nodes ≡ s.core.nodes → t.core.reserved ≡ s.core.reserved ++ res ∷ [] → RangeEffect s t
+pub data RangeEffect (s : State) (entry : Entry) (t : State) : Type 0 where
+  same : t.core.reserved ≡ s.core.reserved → RangeEffect s entry t
+  reserves : (res : Res) → s.operation ≡ None → list_any (clashes res) (s.core.reserved ++ held_by s.core.nodes) ≡ false → t.core.nodes ≡ s.core.nodes → t.core.reserved ≡ s.core.reserved ++ res ∷ []
+      → (event : Event) (label : Label) → entry ≡ Happens event label → RangeEffect s entry t
 
 pub record Plugged (s : State) (entry : Entry) (d : Device) : Type 0 where
   pub over : Device
@@ -270,6 +271,15 @@ pub data AnswerEffect (s : State) (label : Label) (t : State) : Type 0 where
       → t.activities ≡ changed_first (is_activity k) (with_phase (completed_phase (answer_of ok) a.phase)) s.activities → t.operation ≡ s.operation → AnswerEffect s label t
   answered : IsWord label → t.core.nodes ≡ s.core.nodes → t.activities ≡ s.activities → (ok : Bool) (o : Operation) → s.operation ≡ Some o → t.operation ≡ Some (completed (answer_of ok) o) → AnswerEffect s label t
 
+-- with the end of a rebalance its device has an activity again, or a device above it is not up; a surprise removal ends
+-- where all have left, or at its target, which comes last
+abbrev pub Closes : State → Operation → State → Type 0
+Closes s (Operation.Rebalancing r) t =
+    ((phase : Phase) × (t.activities ≡ entered (record { serial = r.target; phase = phase }) s.activities)) ⊎ (stands_up t.core.nodes r.target ≡ false)
+Closes s (Operation.Removing o) t = Unit {0}
+Closes s (Operation.Surprising o) t =
+    (o.stage ≡ SurpriseStage.Ending) ⊎ ((o.stage ≡ SurpriseStage.Settling) × (node : Node) × (first_node s.core.nodes o.todo ≡ Some node) × (node.serial ≡ o.target))
+
 -- in a step none runs; or one begins, goes on, or ends
 pub data OpEffect (s : State) (label : Label) (t : State) : Type 0 where
   idles : s.operation ≡ None → t.operation ≡ None → IsBeside label ⊎ Owes s label → OpEffect s label t
@@ -277,7 +287,8 @@ pub data OpEffect (s : State) (label : Label) (t : State) : Type 0 where
       → record { label = label; state = t } ≡ begin s kind node (begun s.core kind node) → OpEffect s label t
   goes : (o p : Operation) → s.operation ≡ Some o → t.operation ≡ Some p → SameWork o p
       → IsBeside label ⊎ ((kind_of o ≡ OpKind.Rebalance) × (label ≡ Label.Trouble (path_of o) Problem.NormalConflict)) → OpEffect s label t
-  ends : (o : Operation) (result : OpEnd) → s.operation ≡ Some o → t.operation ≡ None → label ≡ Label.End (kind_of o) (path_of o) result → EndsBy (is_removal o) result → OpEffect s label t
+  ends : (o : Operation) (result : OpEnd) → s.operation ≡ Some o → t.operation ≡ None → label ≡ Label.End (kind_of o) (path_of o) result → EndsBy (is_removal o) result → Closes s o t
+      → OpEffect s label t
 
 abbrev pub OperationEffect : State → Entry → State → Type 0
 OperationEffect s (Happens event label) t = AnswerEffect s label t
@@ -287,7 +298,7 @@ OperationEffect s (Did label) t = OpEffect s label t
 
 -- why the start of a device begins in a phase: its drivers were chosen; or the rebalance for it closes
 pub data Enters (s : State) (k : ℕ) (t : State) : Phase → Type 0 where
-  installs : (drivers : List ℕ) → Chosen s k drivers → t.tasks ≡ drop 1 s.tasks → Enters s k t (adding drivers)
+  installs : (drivers : List ℕ) → Chosen s k drivers → t.tasks ≡ drop 1 s.tasks → t.core.nodes ≡ changed_first (is_node k) (with_problem None) s.core.nodes → Enters s k t (adding drivers)
   restarts : (r : Rebalance) (plan : List (List Res)) → s.operation ≡ Some (Operation.Rebalancing r) → r.stage ≡ RebalanceStage.Ending → r.target ≡ k → r.found ≡ assignment plan → t.core.nodes ≡ s.core.nodes
       → Enters s k t (Phase.Starting (walk_of Minor.Start))
   undoes : (r : Rebalance) → s.operation ≡ Some (Operation.Rebalancing r) → r.target ≡ k → Enters s k t (Phase.Removing (walk_of Minor.Remove))
@@ -302,11 +313,20 @@ pub data PhaseStep (s : State) (k : ℕ) (t : State) : Phase → Phase → Type 
   undoes : (phase : Phase) (w : Walk) → Acting s k phase → PhaseStep s k t phase (Phase.Removing w)
   answered : (a : Activity) (ok : Bool) → activity_at k s.activities ≡ Some a → t.core.nodes ≡ s.core.nodes → PhaseStep s k t a.phase (completed_phase (answer_of ok) a.phase)
 
+-- what has become of device k where its start ends in a phase: nothing was found for it, it is up, its drivers are removed,
+-- or it has none
+pub data Over (s : State) (k : ℕ) (t : State) : Phase → Type 0 where
+  unplaced : (phase : Phase) → IsSearch phase → t.core.nodes ≡ s.core.nodes → Over s k t phase
+  up : (w : Walk) → t.core.nodes ≡ changed_first (is_node k) (with_state Started) s.core.nodes → Over s k t (Phase.Starting w)
+  stripped : (w : Walk) → t.core.nodes ≡ changed_first (is_node k) bare s.core.nodes → Over s k t (Phase.Removing w)
+  empty : (problem : Problem) (node : Node) → node_at k s.core.nodes ≡ Some node → node.stack ≡ []
+      → t.core.nodes ≡ changed_first (is_node k) (with_problem (Some problem)) s.core.nodes → Over s k t (Phase.Due problem)
+
 pub data ActivityEffect (s t : State) : Type 0 where
   same : t.activities ≡ s.activities → ActivityEffect s t
   enters : (k : ℕ) (phase : Phase) → Enters s k t phase → t.activities ≡ entered (record { serial = k; phase = phase }) s.activities → ActivityEffect s t
   goes : (k : ℕ) (old new : Phase) → PhaseStep s k t old new → t.activities ≡ changed_first (is_activity k) (with_phase new) s.activities → ActivityEffect s t
-  ends : (k : ℕ) (phase : Phase) → Acting s k phase → t.activities ≡ without_first (is_activity k) s.activities → ActivityEffect s t
+  ends : (k : ℕ) (phase : Phase) → Acting s k phase → Over s k t phase → t.activities ≡ without_first (is_activity k) s.activities → ActivityEffect s t
 
 -- Tasks ------------------------------------------------------------------------------------
 
@@ -329,12 +349,19 @@ pub data CommandEffect (s t : State) : Type 0 where
   begins : (kind : OpKind) (n : Node) (path : Text) → node_of path s.core.nodes ≡ Some n → (n.serial == 0) ≡ false
       → t.tasks ≡ s.tasks ++ record { kind = Duty.Begins kind; serial = n.serial } ∷ [] → CommandEffect s t
 
+-- where the task of a surprise removal is dropped, its device is gone, or its removal begins
+abbrev pub Surprises : State → Task → State → Type 0
+Surprises s task t =
+    is_surprise_task task.kind ≡ true
+    → (node_at task.serial s.core.nodes ≡ None)
+    ⊎ ((node : Node) × (node_at task.serial s.core.nodes ≡ Some node) × (t.operation ≡ Some (Operation.Surprising (begun_surprise s.core node))))
+
 pub data TaskEffect (s t : State) : Type 0 where
   same : t.tasks ≡ s.tasks → TaskEffect s t
   appended : (task : Task) → Origin s task.kind task.serial → t.tasks ≡ s.tasks ++ task ∷ [] → TaskEffect s t
   -- the start of a node that joins
   joins : t.next_serial ≡ s.next_serial + 1 → t.tasks ≡ s.tasks ++ record { kind = Duty.Starting; serial = s.next_serial } ∷ [] → TaskEffect s t
-  dropped : (task : Task) → s.operation ≡ None → slice_get s.tasks 0 ≡ Some task → t.tasks ≡ drop 1 s.tasks → TaskEffect s t
+  dropped : (task : Task) → s.operation ≡ None → slice_get s.tasks 0 ≡ Some task → Surprises s task t → t.tasks ≡ drop 1 s.tasks → TaskEffect s t
   -- the surprise removal of a device that failed its restart
   put_first : (node : Node) (r : Rebalance) → s.operation ≡ Some (Operation.Rebalancing r) → r.stage ≡ RebalanceStage.Failed → first_node s.core.nodes r.todo ≡ Some node
       → t.tasks ≡ record { kind = Duty.Begins OpKind.Surprise; serial = node.serial } ∷ s.tasks → TaskEffect s t
@@ -355,7 +382,7 @@ pub data JoinEffect (s : State) (label : Label) (t : State) : Type 0 where
 pub record Effect (s : State) (entry : Entry) (t : State) : Type 0 where
   pub nodes : NodeEffect s (printed entry) t
   pub drivers : DriverEffect s entry t
-  pub ranges : RangeEffect s t
+  pub ranges : RangeEffect s entry t
   pub operation : OperationEffect s entry t
   pub activities : ActivityEffect s t
   pub tasks : TasksEffect s entry t

@@ -17,3 +17,5 @@ pub mod Keys
 pub mod Stacks
 pub mod Printed
 pub mod Told
+pub mod Strays
+pub mod Held

@@ -36,10 +36,18 @@ is_removal (Operation.Removing o) = true
 is_removal (Operation.Rebalancing r) = false
 is_removal (Operation.Surprising o) = false
 
+-- who may hold something as long as the operation runs, though nothing else is to come of it: the device of a rebalance,
+-- and those that a surprise removal takes
+abbrev pub spared : Operation → List ℕ
+spared (Operation.Rebalancing r) = r.target ∷ []
+spared (Operation.Removing o) = []
+spared (Operation.Surprising o) = o.set
+
 pub record SameWork (o p : Operation) : Type 0 where
   pub sort : is_removal p ≡ is_removal o
   pub kind : kind_of p ≡ kind_of o
   pub path : path_of p ≡ path_of o
+  pub spared : spared p ≡ spared o
 
 -- it is not problem 12
 abbrev pub NotTwelve : Problem → Type 0

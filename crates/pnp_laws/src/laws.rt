@@ -3,12 +3,14 @@
 ghost use Rattle.pnp_laws.specs.Begun.{BegunLaw, EachConflictLaw, EachEndLaw};
 ghost use Rattle.pnp_laws.specs.Effects.{EffectLaw};
 ghost use Rattle.pnp_laws.specs.Ends.{SettlesLaw, JoinsLaw, FewJoinLaw};
+ghost use Rattle.pnp_laws.specs.Held.{FewHeldLaw, PartsLaw};
 ghost use Rattle.pnp_laws.specs.Keys.{KeysLaw, MapLaw, NoCycleLaw};
 ghost use Rattle.pnp_laws.specs.Printed.{GivenLaw, TreeLaw};
 ghost use Rattle.pnp_laws.specs.Quiet.{QuietLaw, StepLaw};
 ghost use Rattle.pnp_laws.specs.Serials.{SerialsLaw, FewSerialsLaw, FewBirthsLaw};
 ghost use Rattle.pnp_laws.specs.Stacks.{NamesLaw, StacksLaw};
 ghost use Rattle.pnp_laws.specs.StepsLeft.{StepsLeftLaw};
+ghost use Rattle.pnp_laws.specs.Strays.{StraysLaw};
 ghost use Rattle.pnp_laws.specs.Told.{StatesLaw};
 ghost use Rattle.pnp_model.specs.Laws.{DiagramLaw, SharingLaw, WholeLaw, VetoLaw, FutileLaw, DependentsLaw, ConflictLaw};
 
@@ -179,6 +181,26 @@ pub fn names_are_known()
 #[tactic(auto, using(crate::proofs::RunsTold::states_are_told))]
 pub fn states_are_told()
     ensures { StatesLaw }
+{}
+
+/// In each state of each run in which no operation runs, a device that is Stopped is due to go: the first tasks have a
+/// surprise removal of it or of a device above it. So is one that is NotStarted and holds something but is not being
+/// started. So no device keeps what it holds for good without being up.
+#[tactic(auto, using(crate::proofs::RunsStrays::nobody_is_forgotten))]
+pub fn nobody_is_forgotten()
+    ensures { StraysLaw }
+{}
+
+/// In each state of each run each device holds one whole alternative of its requirements, or nothing, whatever its state.
+#[tactic(auto, using(crate::proofs::RunsHeld::each_holds_a_part))]
+pub fn each_holds_a_part()
+    ensures { PartsLaw }
+{}
+
+/// So where no alternative has more than some number of groups, at most one more than that number is held or reserved
+/// for each event, and for the root.
+pub fn few_held()
+    ensures { FewHeldLaw }
 {}
 
 /// In each state of each run each node has one line under `tree`, and each line there is of a node.

@@ -226,7 +226,7 @@ step_fresh settings s label t good (OpEffect.goes (Operation.Removing o) p runs 
     let keeps = subst (λ (x : Option Operation). OperationFits x s.core.nodes) runs good.fits in
     let fresh = subst (λ (x : Option Operation). FreshWhile x s.core.nodes s.disabled) runs h in
     operation_fresh s (Operation.Removing o) (record { label = label; state = t }) good.serials (keeps.todo, fresh) (operation_step settings s (Operation.Removing o) (record { label = label; state = t }) runs goes)
-step_fresh settings s label t good (OpEffect.ends o result runs now prints by) goes h = none_fresh t now
+step_fresh settings s label t good (OpEffect.ends o result runs now prints by over) goes h = none_fresh t now
 
 -- Events -------------------------------------------------------------------------------------------
 

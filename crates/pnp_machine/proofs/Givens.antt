@@ -64,7 +64,7 @@ mapped_needs movers plan nodes h m at =
 effect_needs : (s : State) (label : Label) (t : State) → NodeEffect s label t → Ascending 0 s.core.nodes → 0 < s.next_serial → RootNeedsNothing s.core.nodes → RootNeedsNothing t.core.nodes
 effect_needs s label t (NodeEffect.same a b) order begun h = subst RootNeedsNothing (sym a) h
 effect_needs s label t (NodeEffect.changed j f alters a b) order begun h =
-    let keeps = alters_keeps s label j f alters in
+    let keeps = alters_keeps s label t j f alters in
     subst RootNeedsNothing (sym a) (changed_needs j f s.core.nodes keeps.serial keeps.reqs h)
 effect_needs s label t (NodeEffect.stripped node w at request ends prints a b) order begun h = subst RootNeedsNothing (sym a) (changed_needs node.serial bare s.core.nodes (λ n. refl) (λ n. refl) h)
 effect_needs s label t (NodeEffect.commits r runs is a b) order begun h = subst RootNeedsNothing (sym a) (mapped_needs (movers r) (plan_of r.found) s.core.nodes h)

@@ -75,7 +75,7 @@ from_nodes c nodes e h = subst (AllByRecursion IsFewNode) (sym e) h
 few_nodes : (s : State) (label : Label) (t : State) → NodeEffect s label t → AreFewIds s → AllByRecursion IsFewNode t.core.nodes
 few_nodes s label t (NodeEffect.same a b) h = from_nodes t.core s.core.nodes a h.0
 few_nodes s label t (NodeEffect.changed j f alters a b) h =
-    from_nodes t.core _ a (changed_have IsFewNode (is_node j) f (keeps_few f (alters_keeps s label j f alters)) s.core.nodes h.0)
+    from_nodes t.core _ a (changed_have IsFewNode (is_node j) f (keeps_few f (alters_keeps s label t j f alters)) s.core.nodes h.0)
 few_nodes s label t (NodeEffect.stripped node w at request ends prints a b) h =
     from_nodes t.core _ a (changed_have IsFewNode (is_node node.serial) bare (λ n few. record { hw = few.hw; compat = few.compat }) s.core.nodes h.0)
 few_nodes s label t (NodeEffect.commits r runs is a b) h =

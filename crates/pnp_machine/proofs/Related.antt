@@ -123,7 +123,7 @@ effect_up : (s : State) (label : Label) (t : State) → NodeEffect s label t →
 effect_up s label t (NodeEffect.same a b) order follows h = from_parts t.core s.core.nodes s.core.relations a b h
 effect_up s label t (NodeEffect.changed j f alters a b) order follows h =
     from_parts t.core (changed_first (is_node j) f s.core.nodes) s.core.relations a b
-    (all_up s.core.nodes _ (changed_up j f s.core.nodes (alters_keeps s label j f alters) (alters_up s label j f alters)) s.core.relations h)
+    (all_up s.core.nodes _ (changed_up j f s.core.nodes (alters_keeps s label t j f alters) (alters_up s label t j f alters)) s.core.relations h)
 effect_up s label t (NodeEffect.stripped node w at request ends prints a b) order follows h =
     from_parts t.core (changed_first (is_node node.serial) bare s.core.nodes) (forget node.serial s.core.relations) a b (others_up s.core.nodes _ node.serial (bare_up node.serial s.core.nodes) s.core.relations h)
 effect_up s label t (NodeEffect.commits r runs is a b) order follows h =

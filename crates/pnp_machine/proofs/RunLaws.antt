@@ -16,11 +16,13 @@ use Rattle.pnp_laws.proofs.Reaching.{run_on}
 use Rattle.pnp_laws.proofs.RunsBegun.{operations_begin}
 use Rattle.pnp_laws.proofs.RunsConflict.{each_conflict_is_real}
 use Rattle.pnp_laws.proofs.RunsEnds.{each_end_restores}
+use Rattle.pnp_laws.proofs.RunsHeld.{each_holds_a_part, few_held}
 use Rattle.pnp_laws.proofs.RunsKeys.{no_cycle, nothing_printed_clashes}
 use Rattle.pnp_laws.proofs.RunsSerials.{few_serials, few_births}
 use Rattle.pnp_laws.proofs.RunsShare.{nothing_clashes}
 use Rattle.pnp_laws.proofs.RunsStacks.{keyed, names_are_known, stacks_fit}
 use Rattle.pnp_laws.proofs.RunsStand.{dependents_go_first, every_run_follows}
+use Rattle.pnp_laws.proofs.RunsStrays.{nobody_is_forgotten}
 use Rattle.pnp_laws.proofs.RunsTold.{states_are_told}
 use Rattle.pnp_laws.proofs.RunsWhole.{all_hold_whole}
 use Rattle.pnp_machine.specs.Machines.{IsDone, Moves}
@@ -41,12 +43,16 @@ events_same [] label = refl
 events_same (Happens e l ∷ xs) label = ap (λ n. 1 + n) (events_same xs label)
 events_same (Did l ∷ xs) label = events_same xs label
 
+events_on : (xs : List Entry) (entry : Entry) → events (xs ++ entry ∷ []) ≡ events xs + events (entry ∷ [])
+events_on xs (Happens event label) = events_more xs event label
+events_on xs (Did label) = let same = events_same xs label in omega arith
+
 module _ (told : Settings) (s t : State) where
   more_entries : (rack : List Driver) (xs : List Entry) (entry : Entry) → Reaches told rack xs s → Goes told s entry t → Reaches told rack (xs ++ entry ∷ []) t
   more_entries rack xs entry run goes = run_on told (opening rack) s t xs (entry ∷ []) run (t, goes, refl)
 
-  laws_of : (n : ℕ) → IsRunOf told n s → (entry : Entry) → Goes told s entry t → KeepsLaws told (printed entry) s t
-  laws_of n h entry goes =
+  laws_of : (n : ℕ) → IsRunOf told n s → (entry : Entry) → n + events (entry ∷ []) ≤ 2 ^ 24 → Goes told s entry t → KeepsLaws told (printed entry) s t
+  laws_of n h entry most goes =
       let follows = every_run_follows told h.rack h.entries s entry t h.reaches goes in
       let more = more_entries h.rack h.entries entry h.reaches goes in
       record {
@@ -54,6 +60,12 @@ module _ (told : Settings) (s t : State) where
         walked = follows.1;
         clear = nothing_clashes told h.rack (h.entries ++ entry ∷ []) t more;
         whole = all_hold_whole told h.rack (h.entries ++ entry ∷ []) t more;
+        parts = each_holds_a_part told h.rack (h.entries ++ entry ∷ []) t more;
+        few = λ within.
+            let all = few_held told h.rack (h.entries ++ entry ∷ []) t more 16 within in
+            let on = events_on h.entries entry in
+            let count : events h.entries ≡ n = h.count in
+            omega arith;
         states = states_are_told told h.rack h.entries s entry t h.reaches goes;
         first = dependents_go_first told h.rack h.entries s entry t h.reaches goes;
         keyed = keyed told h.rack (h.entries ++ entry ∷ []) t more;
@@ -61,6 +73,7 @@ module _ (told : Settings) (s t : State) where
         apart = nothing_printed_clashes told h.rack (h.entries ++ entry ∷ []) t more;
         stacks = stacks_fit told h.rack (h.entries ++ entry ∷ []) t more;
         names = names_are_known told h.rack h.entries s entry t h.reaches goes;
+        remembered = nobody_is_forgotten told h.rack (h.entries ++ entry ∷ []) t more;
         begun = λ rack entries reaches. operations_begin told rack entries s entry t reaches goes;
         restores = λ rack entries reaches. each_end_restores told rack entries s entry t reaches goes;
         conflicts = λ rack entries path reaches is. each_conflict_is_real told rack entries s entry t path reaches goes is;
@@ -84,8 +97,8 @@ module _ (told : Settings) (s t : State) where
         count = events_more h.entries event label ∙ ap (λ k. k + 1) h.count;
       }
 
-  pub laws_applied : (n : ℕ) (event : Event) (label : Label) → IsRunOf told n s → IsQuiet told s → IsDone (happens s event) label t → KeepsLaws told label s t
-  laws_applied n event label h quiet is = laws_of n h (Happens event label) (event_goes event label quiet is)
+  pub laws_applied : (n : ℕ) (event : Event) (label : Label) → IsRunOf told n s → n < 2 ^ 24 → IsQuiet told s → IsDone (happens s event) label t → KeepsLaws told label s t
+  laws_applied n event label h most quiet is = laws_of n h (Happens event label) (omega arith) (event_goes event label quiet is)
 
   pub run_stepped : (n : ℕ) (moved : Moved) → IsRunOf told n s → Moves told s moved t → IsRunOf told n t
   run_stepped n (Printed label) h steps =
@@ -97,9 +110,9 @@ module _ (told : Settings) (s t : State) where
       }
   run_stepped n Quiet h (quiet, same) = subst (IsRunOf told n) (sym same) h
 
-  pub laws_stepped : (n : ℕ) (moved : Moved) → IsRunOf told n s → Moves told s moved t → LawsOf told moved s t
-  laws_stepped n (Printed label) h steps = laws_of n h (Did label) steps
-  laws_stepped n Quiet h steps = tt
+  pub laws_stepped : (n : ℕ) (moved : Moved) → IsRunOf told n s → n ≤ 2 ^ 24 → Moves told s moved t → LawsOf told moved s t
+  laws_stepped n (Printed label) h most steps = laws_of n h (Did label) (omega arith) steps
+  laws_stepped n Quiet h most steps = tt
 
 pub of_run : (told : Settings) (n : ℕ) (s : State) → IsRunOf told n s → IsOfRun s
 of_run told n s h = record { told = told; rack = h.rack; entries = h.entries; reaches = h.reaches }
@@ -125,9 +138,9 @@ module _ (told : Settings) (n : ℕ) (s t : State) (h : IsRunOf told n s) where
   run_after (Ok moved) moves same = run_stepped told s t n moved h moves
   run_after (Err refused) moves same = subst (IsRunOf told n) (sym same) h
 
-  pub laws_after : (r : Result Moved AllocError) → IfOk r (λ moved. Moves told s moved t) → IfOk r (λ moved. LawsOf told moved s t)
-  laws_after (Ok moved) moves = laws_stepped told s t n moved h moves
-  laws_after (Err refused) moves = tt
+  pub laws_after : n ≤ 2 ^ 24 → (r : Result Moved AllocError) → IfOk r (λ moved. Moves told s moved t) → IfOk r (λ moved. LawsOf told moved s t)
+  laws_after most (Ok moved) moves = laws_stepped told s t n moved h most moves
+  laws_after most (Err refused) moves = tt
 
 -- IDs stay few
 module _ (told : Settings) (s t : State) (few : AreFewIds s) where

@@ -1,5 +1,5 @@
 -- The manager as contracts see it, and what holds of its state and of each of its steps.
-use Rattle.std.specs.Prelude.{◌≡◌, ℕ, ◌≤◌, ◌^◌, Bool, true, false, List, length}
+use Rattle.std.specs.Prelude.{◌≡◌, ℕ, ◌<◌, ◌≤◌, ◌^◌, Bool, true, false, List, None, length}
 use Rattle.inf_reader.specs.declared.parts.Inf.{Inf}
 use Rattle.pnp_labels.specs.Texts.{Text}
 use Rattle.pnp_labels.specs.declared.label.Label.{Label}
@@ -10,8 +10,10 @@ use Rattle.pnp_model.specs.Records.{Driver, Settings, State}
 use Rattle.pnp_model.specs.Runs.{Entry}
 use Rattle.pnp_model.specs.Sharing.{Clear}
 use Rattle.pnp_laws.specs.Begun.{Belongs, Restoring, Conflicts}
+use Rattle.pnp_laws.specs.Held.{AllHoldParts, NodesWithin, how_many}
 use Rattle.pnp_laws.specs.Keys.{Keyed, IsAcyclic, NothingHeldClashes}
 use Rattle.pnp_laws.specs.Stacks.{NamesDriver, StacksFit}
+use Rattle.pnp_laws.specs.Strays.{NobodyForgotten}
 use Rattle.pnp_laws.specs.Told.{StatesTold}
 use Rattle.pnp_laws.specs.Ends as ends
 use Rattle.start_sequence.specs.Begins.{settings_of}
@@ -54,15 +56,19 @@ pub record IsManager (infs : List Inf) (budget events : ℕ) (s : State) : Type 
   pub run : IsRunOf (settings_of infs budget) events s
 
 -- what holds of each step and each event: states change by rows of the diagram, at the printed path alone and by the
--- request that has just ended there; nothing clashes, devices that are up hold one whole alternative, and dependents go
+-- request that has just ended there; nothing clashes, devices that are up hold one whole alternative and all others one or
+-- nothing, so that fewer than 2^29 resources are held or reserved where alternatives have at most 16 groups; dependents go
 -- first; nodes are told apart, nothing depends on itself, no two of the printed resources clash, stacks are short and of
--- drivers with names, and such a name is printed where a driver is asked; and whatever run leads to it, what ends has
--- begun in it, a veto and a futile rebalance restore, and problem 12 is real
+-- drivers with names, and such a name is printed where a driver is asked; where no operation runs, who was stopped, or
+-- holds something and is not up, is being started or is due to go; and whatever run leads to it, what ends has begun in it,
+-- a veto and a futile rebalance restore, and problem 12 is real
 pub record KeepsLaws (told : Settings) (label : Label) (old new : State) : Type 0 where
   pub diagram : FollowsDiagram label old.core.nodes new.core.nodes
   pub walked : Walked label old.core.nodes new.core.nodes
   pub clear : Clear new.core.reserved new.core.nodes
   pub whole : HoldsWhole new.core.nodes
+  pub parts : AllHoldParts new.core.nodes
+  pub few : NodesWithin 16 new.core.nodes → how_many new.core < 2 ^ 29
   pub states : StatesTold label old new
   pub first : DependentsFirst label old.core new.core
   pub keyed : Keyed new
@@ -70,6 +76,7 @@ pub record KeepsLaws (told : Settings) (label : Label) (old new : State) : Type 
   pub apart : NothingHeldClashes new.core
   pub stacks : StacksFit new
   pub names : NamesDriver label new.core.rack
+  pub remembered : new.operation ≡ None → NobodyForgotten new
   pub begun : (rack : List Driver) (entries : List Entry) → Reaches told rack entries old → Belongs told rack entries old label
   pub restores : (rack : List Driver) (entries : List Entry) → Reaches told rack entries old → Restoring told rack entries old new label
   pub conflicts : (rack : List Driver) (entries : List Entry) (path : Text) → Reaches told rack entries old → label ≡ Label.Trouble path NormalConflict

@@ -25,7 +25,9 @@ invariant_of-self-2 g c =
 pub returns-clause-laws : goal.returns-clause-laws
 returns-clause-laws g c =
     let quiet = subst (λ (m : Manager). IsQuiet (settings m) m.state) (sym c.self.view_is) c.requires.quiet in
-    rw (← c.self.view_is) (laws_applied _ _ _ _ c.args.event c.in_ok-label.label c.self.invariant.run quiet c.in_ok-label.ensures.done)
+    let e = ap (λ (m : Manager). m.events) c.self.view_is in
+    let most = c.requires.events in
+    rw (← c.self.view_is) (laws_applied _ _ _ _ c.args.event c.in_ok-label.label c.self.invariant.run (omega arith) quiet c.in_ok-label.ensures.done)
 
 pub returns-clause-run : goal.returns-clause-run
 returns-clause-run g c =

@@ -19,7 +19,7 @@ invariant_of-self g c =
 pub returns-clause-laws : goal.returns-clause-laws
 returns-clause-laws g c =
     let moves = rw c.deref.ensures.value at c.step.ensures.moves in
-    rw (← c.self.view_is) (laws_after _ _ _ _ c.self.invariant.run c.step.result moves)
+    rw (← c.self.view_is) (laws_after _ _ _ _ c.self.invariant.run c.self.invariant.happened c.step.result moves)
 
 pub returns-clause-run : goal.returns-clause-run
 returns-clause-run g c =
