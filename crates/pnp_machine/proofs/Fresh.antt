@@ -152,7 +152,7 @@ module _ (s : State) (o : Removal) where
   removal_fresh stage m order distinct h (RemovalStep.takes_back node w e) = cancels s.core.nodes _ s.disabled o o.agreed
   removal_fresh stage m order distinct h (RemovalStep.cancels node w e) = cancels s.core.nodes _ s.disabled o (rest o.todo)
   removal_fresh stage m order distinct h (RemovalStep.removes node w e) = λ e there. changed_fresh o.target node.serial bare s.core.nodes s.disabled (λ n. refl) (λ n. refl) (h e there)
-  removal_fresh stage m order distinct h (RemovalStep.leaves node first) =
+  removal_fresh stage m order distinct h (RemovalStep.leaves node first inside) =
       relist_fresh node.path node.born (set_operation (Some (Operation.Removing (finish_on s.core.nodes o (rest o.todo)))) (with_core (drop_node node.serial s.core) s)) (leaves_fresh node order h)
   removal_fresh stage m order distinct h (RemovalStep.ejects node first) =
       relist_fresh node.path node.born (unplug node.born (set_operation (Some (Operation.Removing (finish_on s.core.nodes o (rest o.todo)))) (with_core (drop_node node.serial s.core) s))) (leaves_fresh node order h)
