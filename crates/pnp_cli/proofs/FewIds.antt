@@ -1,7 +1,7 @@
--- The events of a script plug devices with at most 64 identifiers of each kind.
-use Rattle.std.proofs.Common.{ℕ, ◌+◌, ◌≤◌, ◌≡◌, Bool, true, false, cond, List, [], ◌∷◌, length, Option, Some, None, refl, subst, arith, nat_le}
+-- The events of a script plug devices with at most 64 identifiers of each kind, and name drivers by words.
+use Rattle.std.proofs.Common.{ℕ, ◌+◌, ◌≤◌, ◌≡◌, ◌≢◌, Bool, true, false, cond, List, [], ◌∷◌, length, Option, Some, None, refl, subst, arith, nat_le}
 use Rattle.std.proofs.lemmas.Bool.Decides.{nat_tests}
-use Rattle.std.specs.List.{list_all}
+use Rattle.std.specs.List.{AllByRecursion, list_all}
 use Rattle.device_ids.specs.Ids.{joined}
 use Rattle.device_ids.specs.Cuts.{parts}
 use Rattle.std.specs.Str.Lines.{strip_carriage_return}
@@ -12,21 +12,31 @@ use Rattle.pnp_labels.specs.declared.label.EventWord.TheVariants as words
 use Rattle.script_reader.specs.Numbers.{◌>>=◌, only_if}
 use Rattle.script_reader.specs.Tables.{keyword_of, driver_kind_of, rel_kind_of, minor_of, ok_of}
 use Rattle.script_reader.specs.Wants.{at_most, all_of, id_of, ids_of}
-use Rattle.script_reader.specs.Words.{words_of}
+use Rattle.script_reader.specs.Words.{is_name, words_of}
 use Rattle.script_reader.specs.Lines.{event_of, event_by, plug_of, plugged, path_of, name_of, once, hw_of, compat_of, reqs_of, values, is_attribute, uses_by, rule_of, res_of}
 use Rattle.script_reader.specs.Script.{Meaning, nothing, means, bad, event_or_bad, is_comment, meaning_of, whole_line, last_line, Trace, gives, waits, ends, stops, onward, at_end, of_lines, trace}
 use Rattle.pnp_machine.specs.Machines.{HasFewIds}
+use Rattle.pnp_cli.specs.Contents.{events_of}
+use Rattle.pnp_cli.specs.Lawful.{events_in}
 use Rattle.std.specs.Prelude.{codes}
+
+-- a driver gets a name that is not empty
+abbrev pub NamesByWord : Event → Type 0
+NamesByWord (events.Name name kind) = name ≢ []
+NamesByWord _ = Unit {0}
+
+abbrev Fine : Event → Type 0
+Fine event = HasFewIds event × NamesByWord event
 
 abbrev Few : Option Event → Type 0
 Few None = Unit {0}
-Few (Some event) = HasFewIds event
+Few (Some event) = Fine event
 
 few_bind : {A : Type 0} (o : Option A) (f : A → Option Event) → ((x : A) → Few (f x)) → Few (o >>= f)
 few_bind None f h = tt
 few_bind (Some x) f h = h x
 
-few_if : (b : Bool) (event : Event) → HasFewIds event → Few (only_if b event)
+few_if : (b : Bool) (event : Event) → Fine event → Few (only_if b event)
 few_if true event h = h
 few_if false event h = tt
 
@@ -53,6 +63,23 @@ few_short : (o : Option (List (List ℕ))) (f : List (List ℕ) → Option Event
 few_short None f short h = tt
 few_short (Some ids) f short h = h ids short
 
+-- Names ---------------------------------------------------------------------------
+
+abbrev NotEmpty : Option (List ℕ) → Type 0
+NotEmpty None = Unit {0}
+NotEmpty (Some word) = word ≢ []
+
+word_of : (word : List ℕ) → NotEmpty (name_of word)
+word_of word = by_test (is_name word) refl
+  where
+    by_test : (b : Bool) → is_name word ≡ b → NotEmpty (only_if b word)
+    by_test true e = λ none. let h : is_name [] ≡ true = subst (λ (w : List ℕ). is_name w ≡ true) none e in cc
+    by_test false e = tt
+
+few_word : (o : Option (List ℕ)) (f : List ℕ → Option Event) → NotEmpty o → ((word : List ℕ) → word ≢ [] → Few (f word)) → Few (o >>= f)
+few_word None f some h = tt
+few_word (Some word) f some h = h word some
+
 -- Events --------------------------------------------------------------------------
 
 few_plugged : (parent device path : List ℕ) (attributes : List (List ℕ)) → Few (plugged parent device path attributes)
@@ -62,7 +89,7 @@ few_plugged parent device path attributes =
     (λ hw few_hw. few_short (compat_of attributes) (λ compat. reqs_of attributes >>= (λ reqs. only_if (list_all is_attribute attributes) (events.Plug parent path hw compat reqs)))
     (short_once [] (omega arith) (values (codes "compat=") attributes))
     (λ compat few_compat. few_bind (reqs_of attributes) (λ reqs. only_if (list_all is_attribute attributes) (events.Plug parent path hw compat reqs))
-    (λ reqs. few_if (list_all is_attribute attributes) (events.Plug parent path hw compat reqs) (few_hw, few_compat))))
+    (λ reqs. few_if (list_all is_attribute attributes) (events.Plug parent path hw compat reqs) ((few_hw, few_compat), tt))))
 
 few_plug : (ws : List (List ℕ)) → Few (plug_of ws)
 few_plug (parent ∷ device ∷ instance ∷ attributes) =
@@ -76,25 +103,26 @@ few_plug (a ∷ b ∷ []) = tt
 
 few_by : (word : EventWord) (ws : List (List ℕ)) → Few (event_by word ws)
 few_by words.Plug ws = few_plug ws
-few_by words.Pull (path ∷ []) = few_bind (path_of path) (λ path. Some (events.Pull path)) (λ path. tt)
-few_by words.Disable (path ∷ []) = few_bind (path_of path) (λ path. Some (events.Disable path)) (λ path. tt)
-few_by words.Enable (path ∷ []) = few_bind (path_of path) (λ path. Some (events.Enable path)) (λ path. tt)
-few_by words.Eject (path ∷ []) = few_bind (path_of path) (λ path. Some (events.Eject path)) (λ path. tt)
+few_by words.Pull (path ∷ []) = few_bind (path_of path) (λ path. Some (events.Pull path)) (λ path. (tt, tt))
+few_by words.Disable (path ∷ []) = few_bind (path_of path) (λ path. Some (events.Disable path)) (λ path. (tt, tt))
+few_by words.Enable (path ∷ []) = few_bind (path_of path) (λ path. Some (events.Enable path)) (λ path. (tt, tt))
+few_by words.Eject (path ∷ []) = few_bind (path_of path) (λ path. Some (events.Eject path)) (λ path. (tt, tt))
 few_by words.Name (name ∷ kind ∷ []) =
-    few_bind (name_of name) (λ name. driver_kind_of kind >>= (λ kind. Some (events.Name name kind))) (λ name. few_bind (driver_kind_of kind) (λ kind. Some (events.Name name kind)) (λ kind. tt))
+    few_word (name_of name) (λ name. driver_kind_of kind >>= (λ kind. Some (events.Name name kind))) (word_of name)
+    (λ name some. few_bind (driver_kind_of kind) (λ kind. Some (events.Name name kind)) (λ kind. (tt, some)))
 few_by words.Teach (name ∷ ask ∷ path ∷ answer ∷ uses) =
     few_bind (name_of name) (λ name. uses_by uses >>= (λ uses. rule_of ask path answer uses >>= (λ rule. Some (events.Teach name rule))))
     (λ name. few_bind (uses_by uses) (λ uses. rule_of ask path answer uses >>= (λ rule. Some (events.Teach name rule)))
-    (λ uses. few_bind (rule_of ask path answer uses) (λ rule. Some (events.Teach name rule)) (λ rule. tt)))
+    (λ uses. few_bind (rule_of ask path answer uses) (λ rule. Some (events.Teach name rule)) (λ rule. (tt, tt))))
 few_by words.Relate (kind ∷ owner ∷ member ∷ []) =
     few_bind (rel_kind_of kind) (λ kind. path_of owner >>= (λ owner. path_of member >>= (λ member. Some (events.Relate kind owner member))))
     (λ kind. few_bind (path_of owner) (λ owner. path_of member >>= (λ member. Some (events.Relate kind owner member)))
-    (λ owner. few_bind (path_of member) (λ member. Some (events.Relate kind owner member)) (λ member. tt)))
-few_by words.Reserve (res ∷ []) = few_bind (res_of res) (λ res. Some (events.Reserve res)) (λ res. tt)
+    (λ owner. few_bind (path_of member) (λ member. Some (events.Relate kind owner member)) (λ member. (tt, tt))))
+few_by words.Reserve (res ∷ []) = few_bind (res_of res) (λ res. Some (events.Reserve res)) (λ res. (tt, tt))
 few_by words.Complete (path ∷ minor ∷ ok ∷ []) =
     few_bind (path_of path) (λ path. minor_of minor >>= (λ minor. ok_of ok >>= (λ ok. Some (events.Complete path minor ok))))
     (λ path. few_bind (minor_of minor) (λ minor. ok_of ok >>= (λ ok. Some (events.Complete path minor ok)))
-    (λ minor. few_bind (ok_of ok) (λ ok. Some (events.Complete path minor ok)) (λ ok. tt)))
+    (λ minor. few_bind (ok_of ok) (λ ok. Some (events.Complete path minor ok)) (λ ok. (tt, tt))))
 few_by _ _ = tt
 
 few_event : (ws : List (List ℕ)) → Few (event_of ws)
@@ -105,7 +133,7 @@ few_event (word ∷ ws) = few_bind (keyword_of word) (λ keyword. event_by keywo
 
 abbrev FewMeant : Meaning → Type 0
 FewMeant nothing = Unit {0}
-FewMeant (means event) = HasFewIds event
+FewMeant (means event) = Fine event
 FewMeant bad = Unit {0}
 
 few_or_bad : (o : Option Event) → Few o → FewMeant (event_or_bad o)
@@ -136,31 +164,40 @@ few_last line = by_test (nat_le (length line) 4096)
 
 -- Scripts -------------------------------------------------------------------------
 
--- the first event, if there is one
-abbrev FewFirst : Trace → Type 0
-FewFirst (gives number event rest) = HasFewIds event
-FewFirst waits = Unit {0}
-FewFirst ends = Unit {0}
-FewFirst (stops number) = Unit {0}
+-- all of its events
+abbrev AllFine : Trace → Type 0
+AllFine (gives number event rest) = Fine event × AllFine rest
+AllFine waits = Unit {0}
+AllFine ends = Unit {0}
+AllFine (stops number) = Unit {0}
 
-few_onward : (number : ℕ) (m : Meaning) (rest : Trace) → FewMeant m → FewFirst rest → FewFirst (onward number m rest)
+few_onward : (number : ℕ) (m : Meaning) (rest : Trace) → FewMeant m → AllFine rest → AllFine (onward number m rest)
 few_onward number nothing rest h more = more
-few_onward number (means event) rest h more = h
+few_onward number (means event) rest h more = (h, more)
 few_onward number bad rest h more = tt
 
-few_end : (finished : Bool) (passed : ℕ) (rest : List ℕ) → FewFirst (at_end finished passed rest)
+few_end : (finished : Bool) (passed : ℕ) (rest : List ℕ) → AllFine (at_end finished passed rest)
 few_end true passed [] = tt
 few_end true passed (byte ∷ rest) = few_onward (passed + 1) (last_line (byte ∷ rest)) ends (few_last (byte ∷ rest)) tt
 few_end false passed rest = by_test (nat_le (length rest) 4096)
   where
-    by_test : (b : Bool) → FewFirst (cond b waits (stops (passed + 1)))
+    by_test : (b : Bool) → AllFine (cond b waits (stops (passed + 1)))
     by_test true = tt
     by_test false = tt
 
-few_lines : (finished : Bool) (passed : ℕ) (lines : List (List ℕ)) → FewFirst (of_lines finished passed lines)
+few_lines : (finished : Bool) (passed : ℕ) (lines : List (List ℕ)) → AllFine (of_lines finished passed lines)
 few_lines finished passed [] = tt
 few_lines finished passed (rest ∷ []) = few_end finished passed rest
 few_lines finished passed (line ∷ next ∷ lines) = few_onward (passed + 1) (whole_line line) (of_lines finished (passed + 1) (next ∷ lines)) (few_whole line) (few_lines finished (passed + 1) (next ∷ lines))
 
 pub few_ids : (finished : Bool) (passed : ℕ) (bytes : List ℕ) (number : ℕ) (event : Event) (rest : Trace) → trace finished passed bytes ≡ gives number event rest → HasFewIds event
-few_ids finished passed bytes number event rest is = subst FewFirst is (few_lines finished passed (parts 0x0A bytes))
+few_ids finished passed bytes number event rest is = (subst AllFine is (few_lines finished passed (parts 0x0A bytes))).0.0
+
+named_by_words : (t : Trace) → AllFine t → AllByRecursion NamesByWord (events_in t)
+named_by_words (gives number event rest) h = (h.0.1, named_by_words rest h.1)
+named_by_words waits h = tt
+named_by_words ends h = tt
+named_by_words (stops number) h = tt
+
+pub names_by_words : (script : List ℕ) → AllByRecursion NamesByWord (events_in (events_of script))
+names_by_words script = named_by_words (events_of script) (few_lines true 0 (parts 0x0A script))

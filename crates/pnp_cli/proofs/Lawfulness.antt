@@ -1,13 +1,21 @@
 -- What is printed for a script tells a run, and that run keeps the laws.
-use Rattle.std.proofs.Common.{◌≡◌, ℕ, List, [], ◌∷◌, ◌++◌, Option, Some, None, IfSome, Result, Ok, Err, map, refl, sym, ◌∙◌, ap, subst}
+use Rattle.std.proofs.Common.{◌≡◌, ◌≢◌, ℕ, zero, suc, inl, inr, List, [], ◌∷◌, ◌++◌, Option, Some, None, IfSome, Result, Ok, Err, map, refl, sym, ◌∙◌, ap, subst, append_assoc}
+use Rattle.std.specs.List.{AllByRecursion}
+use Rattle.std.specs.Prelude.{Contains}
+use Rattle.std.proofs.lemmas.List.Elements.{All-contains, All-from_recursion, Contains-append_left}
+use Rattle.driver_rack.specs.Rows.{unnamed}
 use Rattle.pnp_labels.specs.Texts.{Text}
 use Rattle.pnp_labels.specs.declared.event.Event.{Event}
+use Rattle.pnp_labels.specs.declared.event.Rule.{Rule}
+use Rattle.pnp_labels.specs.declared.words.DriverKind.{DriverKind}
 use Rattle.pnp_labels.specs.declared.label.Label.{Label}
 use Rattle.pnp_model.specs.Records as machines
 use Rattle.pnp_model.specs.Records.{Driver, State}
 use Rattle.pnp_model.specs.Machine.{IsQuiet}
 use Rattle.pnp_model.specs.Runs.{Entry, Run, printed, opening}
 use Rattle.pnp_model.specs.Runs.Entry.{Happens, Did}
+use Rattle.pnp_laws.specs.Stacks.{HasName, NamesDriver}
+use Rattle.pnp_laws.proofs.NamesGiven.{names_are_given}
 use Rattle.pnp_laws.proofs.Reaching.{run_on}
 use Rattle.pnp_laws.proofs.RunsShare.{nothing_clashes}
 use Rattle.pnp_laws.proofs.RunsHeld.{each_holds_a_part, few_held}
@@ -21,6 +29,7 @@ use Rattle.pnp_laws.proofs.RunsBegun.{operations_begin}
 use Rattle.pnp_laws.proofs.RunsEnds.{each_end_restores}
 use Rattle.pnp_laws.proofs.RunsConflict.{each_conflict_is_real}
 use Rattle.pnp_laws.proofs.JoinLimits.{joins_are_limited}
+use Rattle.pnp_laws.proofs.TreePrints.{each_node_is_printed_once}
 use Rattle.script_reader.specs.Script.{Trace, gives, waits, ends, stops}
 use Rattle.inf_reader.specs.declared.parts.Inf.{Inf}
 use Rattle.pnp_cli.specs.Outputs.{Settles, Follows, Plays, Prints, written}
@@ -28,8 +37,9 @@ use Rattle.pnp_cli.specs.Infs.{infs_in}
 use Rattle.pnp_cli.specs.Runs.{IsOutput, IsOutputBy, IsScriptOutput, machine}
 use Rattle.pnp_cli.specs.Contents.{events_of}
 use Rattle.pnp_cli.specs.Words.{settings_of}
-use Rattle.pnp_cli.specs.Lawful.{happened, events_in, SomeRun, OfRun, EachPassed, EachState, EachStep, OfScript, OfInfs, OfOutput, ByDiagram, NothingClashes, AllHoldWhole, OperationsBegan, EndsRestore, DependentsGoFirst, ConflictsAreReal, FewJoin, AllStatesTold, NodesAreKeyed, NothingOnItself, MapIsClear, AllStacksFit, NamesAreKnown, NobodyIsForgotten, EachHoldsPart, FewAreHeld}
+use Rattle.pnp_cli.specs.Lawful.{happened, events_in, IsStep, IsTold, SomeRun, OfRun, EachPassed, EachState, EachStep, OfScript, OfInfs, OfOutput, ByDiagram, NothingClashes, AllHoldWhole, OperationsBegan, EndsRestore, DependentsGoFirst, ConflictsAreReal, FewJoin, AllStatesTold, NodesAreKeyed, NothingOnItself, MapIsClear, AllStacksFit, NamesAreKnown, NobodyIsForgotten, EachHoldsPart, FewAreHeld, NamesAreShown, ShowsName, TreeIsWhole}
 use Rattle.pnp_cli.specs.declared.infs.InfsError.{InfsError}
+use Rattle.pnp_cli.proofs.FewIds.{NamesByWord, names_by_words}
 use Rattle.pnp_cli.specs.declared.parts.Settings.{Settings}
 
 -- What is printed is told by a run ---------------------------------------------------
@@ -99,119 +109,177 @@ some_run settings rack t text (labels, last, plays, is) =
 
 -- What is said of outputs ----------------------------------------------------------------
 
--- what holds of each text that is printed for a script
-Holds : (machines.Settings → List Driver → Trace → Text → Type 0) → Type 0
-Holds Says = (settings : machines.Settings) (rack : List Driver) (t : Trace) (text : Text) → Prints settings (opening rack) t text → Says settings rack t text
+-- what holds of each text that is printed for a script, over this rack
+Holds : (machines.Settings → List Driver → Trace → Text → Type 0) → List Driver → Type 0
+Holds Says rack = (settings : machines.Settings) (script : List ℕ) (text : Text) → Prints settings (opening rack) (events_of script) text → Says settings rack (events_of script) text
 
-of_script : (Says : machines.Settings → List Driver → Trace → Text → Type 0) → Holds Says
-    → (settings : machines.Settings) (rack : List Driver) (script : Option (List ℕ)) (text : Text) → IsScriptOutput settings rack script text → OfScript Says settings rack script text
+of_script : (Says : machines.Settings → List Driver → Trace → Text → Type 0) (rack : List Driver) → Holds Says rack
+    → (settings : machines.Settings) (script : Option (List ℕ)) (text : Text) → IsScriptOutput settings rack script text → OfScript Says settings rack script text
 unfolding Holds
-of_script Says holds settings rack None text is = tt
-of_script Says holds settings rack (Some script) text is = holds settings rack (events_of script) text is
+of_script Says rack holds settings None text is = tt
+of_script Says rack holds settings (Some script) text is = holds settings script text is
 
-of_infs : (Says : machines.Settings → List Driver → Trace → Text → Type 0) → Holds Says
-    → (rack : List Driver) (budget : ℕ) (infs : Result (List Inf) InfsError) (script : Option (List ℕ)) (text : Text) → IsOutputBy rack budget infs script text → OfInfs Says rack budget infs script text
-of_infs Says holds rack budget (Ok infs) script text is = of_script Says holds (machine infs budget) rack script text is
-of_infs Says holds rack budget (Err error) script text is = tt
+of_infs : (Says : machines.Settings → List Driver → Trace → Text → Type 0) (rack : List Driver) → Holds Says rack
+    → (budget : ℕ) (infs : Result (List Inf) InfsError) (script : Option (List ℕ)) (text : Text) → IsOutputBy rack budget infs script text → OfInfs Says rack budget infs script text
+of_infs Says rack holds budget (Ok infs) script text is = of_script Says rack holds (machine infs budget) script text is
+of_infs Says rack holds budget (Err error) script text is = tt
 
-of_settings : (Says : machines.Settings → List Driver → Trace → Text → Type 0) → Holds Says
-    → (s : Option Settings) (contents : Option (Text → Option (List ℕ))) (rack : List Driver)
+of_settings : (Says : machines.Settings → List Driver → Trace → Text → Type 0) (rack : List Driver) → Holds Says rack
+    → (s : Option Settings) (contents : Option (Text → Option (List ℕ)))
     → IfSome s (λ s. IfSome contents (λ told. (text : Text) → IsOutput rack told s text → OfInfs Says rack s.budget (infs_in told s.infs) (told s.script) text))
-of_settings Says holds None contents rack = tt
-of_settings Says holds (Some s) None rack = tt
-of_settings Says holds (Some s) (Some told) rack = λ text is. of_infs Says holds rack s.budget (infs_in told s.infs) (told s.script) text is
+of_settings Says rack holds None contents = tt
+of_settings Says rack holds (Some s) None = tt
+of_settings Says rack holds (Some s) (Some told) = λ text is. of_infs Says rack holds s.budget (infs_in told s.infs) (told s.script) text is
 
-of_output : (Says : machines.Settings → List Driver → Trace → Text → Type 0) → Holds Says
-    → (words : List Text) (contents : Option (Text → Option (List ℕ))) (rack : List Driver) → OfOutput Says words contents rack
-of_output Says holds words contents rack = of_settings Says holds (settings_of words) contents rack
+of_output : (Says : machines.Settings → List Driver → Trace → Text → Type 0) (rack : List Driver) → Holds Says rack
+    → (words : List Text) (contents : Option (Text → Option (List ℕ))) → OfOutput Says words contents rack
+of_output Says rack holds words contents = of_settings Says rack holds (settings_of words) contents
 
 -- The output of a command ------------------------------------------------------------------
 
 pub output_tells : (words : List Text) (contents : Option (Text → Option (List ℕ))) (rack : List Driver) → OfOutput SomeRun words contents rack
 unfolding Holds
-output_tells words contents rack = of_output SomeRun some_run words contents rack
+output_tells words contents rack = of_output SomeRun rack (λ settings script text prints. some_run settings rack (events_of script) text prints) words contents
 
 pub output_by_diagram : (words : List Text) (contents : Option (Text → Option (List ℕ))) (rack : List Driver) → OfOutput (EachStep ByDiagram) words contents rack
 unfolding Holds
 output_by_diagram words contents rack =
-    of_output (EachStep ByDiagram) (λ settings rack t text prints entries last told earlier old entry new step. every_run_follows settings rack earlier old entry new step.before step.goes) words contents rack
+    of_output (EachStep ByDiagram) rack (λ settings script text prints entries last told earlier old entry new step. every_run_follows settings rack earlier old entry new step.before step.goes) words contents
 
 pub output_shares : (words : List Text) (contents : Option (Text → Option (List ℕ))) (rack : List Driver) → OfOutput (EachState NothingClashes) words contents rack
 unfolding Holds
 output_shares words contents rack =
-    of_output (EachState NothingClashes) (λ settings rack t text prints entries last told s state. nothing_clashes settings rack state.earlier s state.before) words contents rack
+    of_output (EachState NothingClashes) rack (λ settings script text prints entries last told s state. nothing_clashes settings rack state.earlier s state.before) words contents
 
 pub output_holds_whole : (words : List Text) (contents : Option (Text → Option (List ℕ))) (rack : List Driver) → OfOutput (EachState AllHoldWhole) words contents rack
 unfolding Holds
 output_holds_whole words contents rack =
-    of_output (EachState AllHoldWhole) (λ settings rack t text prints entries last told s state. all_hold_whole settings rack state.earlier s state.before) words contents rack
+    of_output (EachState AllHoldWhole) rack (λ settings script text prints entries last told s state. all_hold_whole settings rack state.earlier s state.before) words contents
 
 pub output_begins : (words : List Text) (contents : Option (Text → Option (List ℕ))) (rack : List Driver) → OfOutput (EachStep OperationsBegan) words contents rack
 unfolding Holds
 output_begins words contents rack =
-    of_output (EachStep OperationsBegan) (λ settings rack t text prints entries last told earlier old entry new step. operations_begin settings rack earlier old entry new step.before step.goes) words contents rack
+    of_output (EachStep OperationsBegan) rack (λ settings script text prints entries last told earlier old entry new step. operations_begin settings rack earlier old entry new step.before step.goes) words contents
 
 pub output_restores : (words : List Text) (contents : Option (Text → Option (List ℕ))) (rack : List Driver) → OfOutput (EachStep EndsRestore) words contents rack
 unfolding Holds
 output_restores words contents rack =
-    of_output (EachStep EndsRestore) (λ settings rack t text prints entries last told earlier old entry new step. each_end_restores settings rack earlier old entry new step.before step.goes) words contents rack
+    of_output (EachStep EndsRestore) rack (λ settings script text prints entries last told earlier old entry new step. each_end_restores settings rack earlier old entry new step.before step.goes) words contents
 
 pub output_dependents : (words : List Text) (contents : Option (Text → Option (List ℕ))) (rack : List Driver) → OfOutput (EachStep DependentsGoFirst) words contents rack
 unfolding Holds
 output_dependents words contents rack =
-    of_output (EachStep DependentsGoFirst) (λ settings rack t text prints entries last told earlier old entry new step. dependents_go_first settings rack earlier old entry new step.before step.goes) words contents rack
+    of_output (EachStep DependentsGoFirst) rack (λ settings script text prints entries last told earlier old entry new step. dependents_go_first settings rack earlier old entry new step.before step.goes) words contents
 
 pub output_conflicts : (words : List Text) (contents : Option (Text → Option (List ℕ))) (rack : List Driver) → OfOutput (EachStep ConflictsAreReal) words contents rack
 unfolding Holds
 output_conflicts words contents rack =
-    of_output (EachStep ConflictsAreReal) (λ settings rack t text prints entries last told earlier old entry new step path is. each_conflict_is_real settings rack earlier old entry new path step.before step.goes is) words contents rack
+    of_output (EachStep ConflictsAreReal) rack (λ settings script text prints entries last told earlier old entry new step path is. each_conflict_is_real settings rack earlier old entry new path step.before step.goes is) words contents
 
 pub output_joins : (words : List Text) (contents : Option (Text → Option (List ℕ))) (rack : List Driver) → OfOutput (OfRun FewJoin) words contents rack
 unfolding Holds
 output_joins words contents rack =
-    of_output (OfRun FewJoin) (λ settings rack t text prints entries last told. joins_are_limited settings rack entries last told.run) words contents rack
+    of_output (OfRun FewJoin) rack (λ settings script text prints entries last told. joins_are_limited settings rack entries last told.run) words contents
 
 pub output_told : (words : List Text) (contents : Option (Text → Option (List ℕ))) (rack : List Driver) → OfOutput (EachStep AllStatesTold) words contents rack
 unfolding Holds
 output_told words contents rack =
-    of_output (EachStep AllStatesTold) (λ settings rack t text prints entries last told earlier old entry new step. states_are_told settings rack earlier old entry new step.before step.goes) words contents rack
+    of_output (EachStep AllStatesTold) rack (λ settings script text prints entries last told earlier old entry new step. states_are_told settings rack earlier old entry new step.before step.goes) words contents
 
 pub output_keyed : (words : List Text) (contents : Option (Text → Option (List ℕ))) (rack : List Driver) → OfOutput (EachState NodesAreKeyed) words contents rack
 unfolding Holds
 output_keyed words contents rack =
-    of_output (EachState NodesAreKeyed) (λ settings rack t text prints entries last told s state. keyed settings rack state.earlier s state.before) words contents rack
+    of_output (EachState NodesAreKeyed) rack (λ settings script text prints entries last told s state. keyed settings rack state.earlier s state.before) words contents
 
 pub output_acyclic : (words : List Text) (contents : Option (Text → Option (List ℕ))) (rack : List Driver) → OfOutput (EachState NothingOnItself) words contents rack
 unfolding Holds
 output_acyclic words contents rack =
-    of_output (EachState NothingOnItself) (λ settings rack t text prints entries last told s state. no_cycle settings rack state.earlier s state.before) words contents rack
+    of_output (EachState NothingOnItself) rack (λ settings script text prints entries last told s state. no_cycle settings rack state.earlier s state.before) words contents
 
 pub output_map_clear : (words : List Text) (contents : Option (Text → Option (List ℕ))) (rack : List Driver) → OfOutput (EachState MapIsClear) words contents rack
 unfolding Holds
 output_map_clear words contents rack =
-    of_output (EachState MapIsClear) (λ settings rack t text prints entries last told s state. nothing_printed_clashes settings rack state.earlier s state.before) words contents rack
+    of_output (EachState MapIsClear) rack (λ settings script text prints entries last told s state. nothing_printed_clashes settings rack state.earlier s state.before) words contents
 
 pub output_stacks : (words : List Text) (contents : Option (Text → Option (List ℕ))) (rack : List Driver) → OfOutput (EachState AllStacksFit) words contents rack
 unfolding Holds
 output_stacks words contents rack =
-    of_output (EachState AllStacksFit) (λ settings rack t text prints entries last told s state. stacks_fit settings rack state.earlier s state.before) words contents rack
+    of_output (EachState AllStacksFit) rack (λ settings script text prints entries last told s state. stacks_fit settings rack state.earlier s state.before) words contents
 
 pub output_names : (words : List Text) (contents : Option (Text → Option (List ℕ))) (rack : List Driver) → OfOutput (EachStep NamesAreKnown) words contents rack
 unfolding Holds
 output_names words contents rack =
-    of_output (EachStep NamesAreKnown) (λ settings rack t text prints entries last told earlier old entry new step. names_are_known settings rack earlier old entry new step.before step.goes) words contents rack
+    of_output (EachStep NamesAreKnown) rack (λ settings script text prints entries last told earlier old entry new step. names_are_known settings rack earlier old entry new step.before step.goes) words contents
 
 pub output_remembers : (words : List Text) (contents : Option (Text → Option (List ℕ))) (rack : List Driver) → OfOutput (EachState NobodyIsForgotten) words contents rack
 unfolding Holds
 output_remembers words contents rack =
-    of_output (EachState NobodyIsForgotten) (λ settings rack t text prints entries last told s state. nobody_is_forgotten settings rack state.earlier s state.before) words contents rack
+    of_output (EachState NobodyIsForgotten) rack (λ settings script text prints entries last told s state. nobody_is_forgotten settings rack state.earlier s state.before) words contents
 
 pub output_holds_parts : (words : List Text) (contents : Option (Text → Option (List ℕ))) (rack : List Driver) → OfOutput (EachState EachHoldsPart) words contents rack
 unfolding Holds
 output_holds_parts words contents rack =
-    of_output (EachState EachHoldsPart) (λ settings rack t text prints entries last told s state. each_holds_a_part settings rack state.earlier s state.before) words contents rack
+    of_output (EachState EachHoldsPart) rack (λ settings script text prints entries last told s state. each_holds_a_part settings rack state.earlier s state.before) words contents
 
 pub output_holds_few : (words : List Text) (contents : Option (Text → Option (List ℕ))) (rack : List Driver) → OfOutput (EachPassed FewAreHeld) words contents rack
 unfolding Holds
 output_holds_few words contents rack =
-    of_output (EachPassed FewAreHeld) (λ settings rack t text prints entries last told s state. few_held settings rack state.earlier s state.before) words contents rack
+    of_output (EachPassed FewAreHeld) rack (λ settings script text prints entries last told s state. few_held settings rack state.earlier s state.before) words contents
+
+pub output_tree : (words : List Text) (contents : Option (Text → Option (List ℕ))) (rack : List Driver) → OfOutput (EachState TreeIsWhole) words contents rack
+unfolding Holds
+output_tree words contents rack =
+    of_output (EachState TreeIsWhole) rack (λ settings script text prints entries last told s state. each_node_is_printed_once settings rack state.earlier s state.before) words contents
+
+-- Names that are not empty -----------------------------------------------------------------
+
+-- no driver has a name yet
+abbrev Nameless : List Driver → Type 0
+Nameless rack = (d : ℕ) (name : Text) → HasName rack d name → ⊥
+
+nameless : {A : Type 0} (kind : A → DriverKind) (book : A → List Rule) (items : List A) → Nameless (map (λ x. unnamed (kind x) (book x)) items)
+nameless kind book [] d name h = cc
+nameless kind book (x ∷ xs) zero name h = cc
+nameless kind book (x ∷ xs) (suc d) name h = nameless kind book xs d name h
+
+abbrev EntryByWord : Entry → Type 0
+EntryByWord (Happens event label) = NamesByWord event
+EntryByWord (Did label) = Unit {0}
+
+entries_by_words : (entries : List Entry) → AllByRecursion NamesByWord (happened entries) → AllByRecursion EntryByWord entries
+entries_by_words [] h = tt
+entries_by_words (Happens event label ∷ rest) h = (h.0, entries_by_words rest h.1)
+entries_by_words (Did label ∷ rest) h = (tt, entries_by_words rest h)
+
+-- a name of the rack in a run of a script
+name_shown : (settings : machines.Settings) (rack : List Driver) (script : List ℕ) (text : Text) (entries : List Entry) (last : State) (earlier : List Entry) (old : State) (entry : Entry) (new : State)
+    → Nameless rack → IsTold settings rack (events_of script) text entries last → IsStep settings rack entries last earlier old entry new
+    → (d : ℕ) (name : Text) → HasName new.core.rack d name → name ≢ []
+name_shown settings rack script text entries last earlier old entry new none told step d name h =
+    let run = run_on settings (opening rack) old new earlier (entry ∷ []) step.before (new, step.goes, refl) in
+    elim (names_are_given settings rack (earlier ++ entry ∷ []) new run d name h) [
+      | inl own ↦ absurd (none d name own)
+      | inr (kind, label, there) ↦
+          let all : AllByRecursion EntryByWord entries =
+          entries_by_words entries (subst (λ (es : List Event). AllByRecursion NamesByWord es) (sym told.events) (names_by_words script)) in
+          let same : entries ≡ (earlier ++ entry ∷ []) ++ step.later = step.all ∙ sym (append_assoc earlier (entry ∷ []) step.later) in
+          All-contains EntryByWord entries (Happens (Event.Name name kind) label) (All-from_recursion EntryByWord entries all)
+          (subst (λ (es : List Entry). Contains es (Happens (Event.Name name kind) label)) (sym same)
+          (Contains-append_left (earlier ++ entry ∷ []) step.later (Happens (Event.Name name kind) label) there))
+    ]
+
+label_shown : (label : Label) (rack : List Driver) → ((d : ℕ) (name : Text) → HasName rack d name → name ≢ []) → NamesDriver label rack → ShowsName label
+label_shown (Label.Asked minor path name shown) rack some h = some h.0 name h.1
+label_shown (Label.Add path name ok) rack some h = some h.0 name h.1
+label_shown _ rack some h = tt
+
+pub output_shown : {A : Type 0} (kind : A → DriverKind) (book : A → List Rule) (items : List A) (words : List Text) (contents : Option (Text → Option (List ℕ)))
+    → OfOutput (EachStep NamesAreShown) words contents (map (λ x. unnamed (kind x) (book x)) items)
+unfolding Holds
+output_shown kind book items words contents =
+    let rack = map (λ x. unnamed (kind x) (book x)) items in
+    of_output (EachStep NamesAreShown) rack
+    (λ settings script text prints entries last told earlier old entry new step.
+    label_shown (printed entry) new.core.rack
+    (name_shown settings rack script text entries last earlier old entry new (nameless kind book items) told step)
+    (names_are_known settings rack earlier old entry new step.before step.goes)) words contents

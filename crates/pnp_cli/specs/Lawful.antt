@@ -1,5 +1,5 @@
 -- That an output tells a run of the machine, and what is kept by each state and each step of that run.
-use Rattle.std.specs.Prelude.{ℕ, ◌+◌, ◌*◌, ◌≤◌, ◌≡◌, List, [], ◌∷◌, ◌++◌, Option, Some, None, Result, Ok, Err, map}
+use Rattle.std.specs.Prelude.{ℕ, ◌+◌, ◌*◌, ◌≤◌, ◌≡◌, ◌≢◌, List, [], ◌∷◌, ◌++◌, Option, Some, None, Result, Ok, Err, map}
 use Rattle.pnp_labels.specs.Texts.{Text}
 use Rattle.pnp_labels.specs.declared.event.Event.{Event}
 use Rattle.pnp_labels.specs.declared.states.Problem.{Problem}
@@ -16,6 +16,7 @@ use Rattle.pnp_laws.specs.Begun.{Belongs, Restoring, Conflicts}
 use Rattle.pnp_laws.specs.Ends.{events, joins}
 use Rattle.pnp_laws.specs.Held.{AllHoldParts, NodesWithin, how_many}
 use Rattle.pnp_laws.specs.Keys.{Keyed, IsAcyclic, NothingHeldClashes}
+use Rattle.pnp_laws.specs.Printed.{TreeIsPrinted}
 use Rattle.pnp_laws.specs.Stacks.{NamesDriver, StacksFit}
 use Rattle.pnp_laws.specs.Strays.{NobodyForgotten}
 use Rattle.pnp_laws.specs.Told.{StatesTold}
@@ -180,3 +181,16 @@ EachHoldsPart s = AllHoldParts s.core.nodes
 -- event, and for the root
 abbrev pub FewAreHeld : List Entry → State → Type 0
 FewAreHeld earlier s = (most : ℕ) → NodesWithin most s.core.nodes → how_many s.core ≤ (most + 1) * (events earlier + 1)
+
+-- the name that is printed for it is not empty
+abbrev pub ShowsName : Label → Type 0
+ShowsName (Label.Asked minor path name shown) = name ≢ []
+ShowsName (Label.Add path name ok) = name ≢ []
+ShowsName _ = Unit {0}
+
+abbrev pub NamesAreShown : machines.Settings → List Driver → List Entry → State → Entry → State → Type 0
+NamesAreShown settings rack earlier old entry new = ShowsName (printed entry)
+
+-- under `tree` each node has one line, and each line is of a node
+abbrev pub TreeIsWhole : State → Type 0
+TreeIsWhole s = TreeIsPrinted s.core.nodes
