@@ -122,6 +122,65 @@ def sizes(d):
     print("    most memory of any run so far: %d KB" % resource.getrusage(resource.RUSAGE_CHILDREN).ru_maxrss, flush=True)
 
 
+OWN_INF = rb'''[Version]
+Signature="$Windows NT$"
+[Manufacturer]
+Own=M
+[M]
+Device=I,OWN\DEV
+[I.Services]
+AddService=dev,2,S
+'''
+
+
+def extremes(d):
+    """The greatest worlds, books, lines and searches, and one more of each."""
+    at = lambda name: os.path.join(d, name)
+    with open(at("own.inf"), "wb") as out:
+        out.write(OWN_INF)
+
+    def ran(lines, words=()):
+        with open(at("extreme"), "wb") as out:
+            out.write("".join(line + "\n" for line in lines).encode())
+        began = time.time()
+        status, text, error = run(list(words) + [at("extreme"), at("own.inf")])
+        return status, text, error, time.time() - began
+
+    def told(name, got, *facts):
+        fine = got[0] == DONE and got[2] == b"" and all(facts)
+        print("%-60s status %s, %.2f s%s" % (name, got[0], got[3], "" if fine else "   WRONG"), flush=True)
+        if not fine:
+            wrong.append(name)
+
+    def parts(text):
+        """The lines of the labels, and of the tree."""
+        trace, _, end = text.partition(b"tree\n")
+        return trace.splitlines(), end.partition(b"map\n")[0].splitlines()
+
+    root = r"HTREE\ROOT\0"
+    device = lambda k: r"OWN\DEV\%d" % k
+    plugs = [r"plug %s OWN\DEV %d" % (device(k - 1) if k > 1 else root, k) for k in range(1, 4097)]
+    deep = ran(["driver dev steady"] + plugs)
+    labels, tree = parts(deep[1])
+    told("4,096 devices, each under the one before", deep, len(labels) == 36865, len(tree) == 4097, all(line.endswith(b" Started") for line in tree))
+    more = ran(["driver dev steady"] + plugs + [r"plug %s OWN\DEV 4097" % root])
+    told("one device more", more, parts(more[1])[0] == labels + [b"refused plug WorldFull"])
+    gone = ran(["driver dev steady"] + plugs + ["disable " + device(1)])
+    after, left = parts(gone[1])
+    told("the first of them is disabled", gone, after[:36865] == labels, len(after) == 36865 + 20483,
+         left == [b"0 HTREE\\ROOT\\0 Started", b" 1 OWN\\DEV\\1 NoStack problem 22"])
+    taught = ran(["driver dev scripted"] + ["teach dev START_DEVICE * fail"] * 65)
+    told("65 rules for a driver", taught, parts(taught[1])[0] == [b"event driver dev"] + [b"event teach dev"] * 64 + [b"refused teach BookFull"])
+    nine = ["driver dev steady"] + [r"plug %s OWN\DEV %d need=irq:1-8" % (root, k) for k in range(1, 10)]
+    for budget, problem in ((178880, b"budget"), (178881, b"12")):
+        spent = ran(nine, ["--budget", str(budget)])
+        told("nine devices for eight interrupts, budget %d" % budget, spent, b"problem OWN\\DEV\\9 " + problem in parts(spent[1])[0])
+    for length, status, text in ((4096, DONE, END), (4097, BAD_SCRIPT, b"script error line 1\n" + END)):
+        with open(at("extreme"), "wb") as out:
+            out.write(b"#" * length + b"\n")
+        expect("a comment of %d bytes" % length, run([at("extreme")]), status, text)
+
+
 def live(d):
     """The lines of each event are there while the producer still waits."""
     fifo = os.path.join(d, "fifo")
@@ -149,6 +208,7 @@ def main():
     with tempfile.TemporaryDirectory() as d:
         words_and_files(d)
         sizes(d)
+        extremes(d)
         live(d)
         failing_calls(d)
     print("%d wrong" % len(wrong))
