@@ -84,7 +84,7 @@ those_serial lo q (x ∷ xs) j m g at e =
 pub grown_has : (c : Core) (set : List ℕ) (j : ℕ) (m : Node) → Ascending 0 c.nodes → node_at j c.nodes ≡ Some m → is_in_or_on c set m ≡ true → has (grown c set) j ≡ true
 grown_has c set j m g at e = those_serial 0 (is_in_or_on c set) c.nodes j m g at e
 
-length_serials : (ns : List Node) → length (serials_of ns) ≡ length ns
+pub length_serials : (ns : List Node) → length (serials_of ns) ≡ length ns
 length_serials [] = refl
 length_serials (n ∷ ns) = ap suc (length_serials ns)
 

@@ -4,14 +4,15 @@ use Rattle.std.proofs.lemmas.Bool.Decides.{nat_tests}
 use Rattle.pnp_model.specs.Records.{Node, Device, Task, Activity, State, Step, Operation, Duty}
 use Rattle.pnp_model.specs.Cores.{node_at, new_node}
 use Rattle.pnp_model.specs.States.{activity_at}
-use Rattle.pnp_model.specs.Tasks.{joins, join_step, has_born, has_path}
+use Rattle.pnp_model.specs.Tasks.{joins, join_step, has_born}
 use Rattle.pnp_labels.specs.declared.states.DevState.TheVariants.{Started}
 use Rattle.pnp_laws.specs.Kept.{IsGood}
+use Rattle.pnp_laws.proofs.IdleSteps.{joins_is}
 use Rattle.pnp_laws.proofs.Lookups.{some_same, joined_from, joined_keeps}
 use Rattle.pnp_laws.proofs.Standing.{Tree}
 use Rattle.pnp_laws.proofs.Joins.{below, joinable, joinable_less, starting_none, starts, start_cost, starts_less, unborn, below_node, start_costs, can_join, closed, is_bare, some_there, is_live, lives, In, Sub, sub_in, Grows, Born, Flows, any_from, any_at, parent_there}
 use Rattle.pnp_laws.proofs.JoinSteps.{Joined, live_is, starts_pushed}
-use Rattle.pnp_laws.proofs.Truths.{and_both, both_true, but_not, not_true}
+use Rattle.pnp_laws.proofs.Truths.{and_both, both_true, but_not}
 
 -- Worlds -------------------------------------------------------------------------------------------------
 
@@ -84,13 +85,6 @@ pub record Joining (s : State) (node : Node) (d : Device) : Type 0 where
   pub tree : Tree s.next_serial s.core
   pub born : Born s
 
-pub unknown : (s : State) (node : Node) (d : Device) → joins node.born s.core.nodes d ≡ true → (d.parent ≡ node.born) × (has_born d.born s.core.nodes ≡ false)
-unknown s node d h =
-    let two = and_both (d.parent == node.born && not (has_born d.born s.core.nodes)) (not (has_path d.path s.core.nodes)) h in
-    let first = and_both (d.parent == node.born) (not (has_born d.born s.core.nodes)) two.0 in
-    let e = first.0 in
-    (grind (arith, nat_tests), not_true (has_born d.born s.core.nodes) first.1)
-
 -- no node has the birth number
 pub no_node : (s : State) (b k : ℕ) (n : Node) → has_born b s.core.nodes ≡ false → node_at k s.core.nodes ≡ Some n → n.born ≡ b → ⊥
 no_node s b k n none at e = let h = any_from (λ n. n.born == b) s.core.nodes k n at (grind (arith, nat_tests)) in cc
@@ -106,7 +100,7 @@ unborn_less n k = by_test (nat_lt k n) (nat_lt k (n + 1)) (λ h. grind (arith, n
 pub born_joins : (s : State) (node : Node) (d : Device) → Joining s node d → Born (join_step s node d).state
 born_joins s node d h =
     let b = h.born in
-    let u = unknown s node d h.join in
+    let u = joins_is node.born s.core.nodes d h.join in
     let new = new_node s.next_serial node.serial d in
     record {
       grows = b.grows;
@@ -253,7 +247,7 @@ pair false b e f = absurd (cc)
 
 pub could_join : (s : State) (node : Node) (d : Device) → Joining s node d → (lives s d.parent && not (has_born d.born s.core.nodes)) ≡ true
 could_join s node d h =
-    let u = unknown s node d h.join in
+    let u = joins_is node.born s.core.nodes d h.join in
     let live_node : is_live s node ≡ true = live_is s node (ap (λ (o : Option Operation). closed o node.serial) h.none) (inl (ap is_bare h.up)) in
     pair (lives s d.parent) (has_born d.born s.core.nodes)
     (any_from (λ n. n.born == d.parent && is_live s n) s.core.nodes node.serial node h.at (both_true (node.born == d.parent) (is_live s node) (let e = u.0 in grind (arith, nat_tests)) live_node)) u.1
@@ -289,7 +283,7 @@ could_before s node d x good_t h g =
 less_joins : (s : State) (node : Node) (d : Device) → IsGood (join_step s node d).state → Joining s node d → can_join (join_step s node d).state < can_join s
 less_joins s node d good_t h =
     let t = (join_step s node d).state in
-    let u = unknown s node d h.join in
+    let u = joins_is node.born s.core.nodes d h.join in
     let apart : d.parent ≢ d.born = λ e. no_node s d.born node.serial node u.1 h.at (sym u.0 ∙ e) in
     let a = join_less (lives t) (λ b. has_born b t.core.nodes) (lives s) (λ b. has_born b s.core.nodes) 0 s.world d h.born.grows h.there (λ x i g. could_before s node d x good_t h g) (could_join s node d h) (is_born_now s node d h) apart in
     let p = starts_pushed (start_costs t) s.tasks (record { kind = Duty.Starting; serial = s.next_serial }) in

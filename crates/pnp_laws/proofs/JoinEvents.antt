@@ -1,7 +1,6 @@
 -- What is kept of births, by an event.
-use Rattle.std.proofs.Common.{ℕ, suc, ◌<◌, ◌≤◌, ◌≡◌, ◌⊎◌, inl, inr, Bool, true, false, cond, List, [], ◌∷◌, ◌++◌, Some, refl, sym, ap, ◌∙◌, subst, arith, nat_lt}
+use Rattle.std.proofs.Common.{ℕ, suc, ◌<◌, ◌≤◌, ◌≡◌, ◌⊎◌, inl, inr, Bool, true, cond, List, [], ◌∷◌, ◌++◌, Some, refl, sym, ap, ◌∙◌, subst, arith, nat_lt}
 use Rattle.std.proofs.lemmas.Bool.Decides.{nat_tests}
-use Rattle.std.specs.List.{find}
 use Rattle.device_ids.specs.Folding.{same}
 use Rattle.pnp_model.specs.Records.{Node, Device, State, Duty}
 use Rattle.pnp_model.specs.Cores.{node_at}
@@ -10,10 +9,10 @@ use Rattle.pnp_model.specs.Runs.Entry.{Happens}
 use Rattle.pnp_model.specs.States.{plug}
 use Rattle.pnp_labels.specs.declared.event.Event.{Event}
 use Rattle.pnp_laws.specs.Effects.{CommandEffect, WorldEffect}
-use Rattle.pnp_laws.specs.Kept.{IsGood, Ascending}
-use Rattle.pnp_laws.proofs.Closures.{tail_at}
+use Rattle.pnp_laws.specs.Kept.{IsGood}
 use Rattle.pnp_laws.proofs.EffectsOfEvents.{event_effect}
 use Rattle.pnp_laws.proofs.EventChanges.{happens_outside, still_serial}
+use Rattle.pnp_laws.proofs.Lookups.{node_found}
 use Rattle.pnp_laws.proofs.Joins.{In, Sub, sub_same, sub_in, sub_without, Grows, Born, starts, unborn}
 use Rattle.pnp_laws.proofs.JoinBirths.{grows_sub}
 use Rattle.pnp_laws.proofs.JoinSteps.{in_find, starts_pushed}
@@ -33,14 +32,6 @@ born_calm s t world next nodes serial soon b =
   where
     was : (k : ℕ) (n : Node) → node_at k t.core.nodes ≡ Some n → node_at k s.core.nodes ≡ Some n
     was k n at = subst (λ (x : List Node). node_at k x ≡ Some n) nodes at
-
-find_at : (p : Node → Bool) (lo : ℕ) (nodes : List Node) (n : Node) → Ascending lo nodes → find p nodes ≡ Some n → node_at n.serial nodes ≡ Some n
-find_at p lo [] n order h = absurd (cc)
-find_at p lo (x ∷ xs) n order h = by_test (p x) h (λ g. find_at p (suc x.serial) xs n order.1 g)
-  where
-    by_test : (b : Bool) → cond b (Some x) (find p xs) ≡ Some n → (find p xs ≡ Some n → node_at n.serial xs ≡ Some n) → node_at n.serial (x ∷ xs) ≡ Some n
-    by_test true g more = let same : x ≡ n = cc in subst (λ (z : Node). node_at z.serial (x ∷ xs) ≡ Some z) same (grind (arith, nat_tests))
-    by_test false g more = tail_at lo x xs n.serial n order (more g)
 
 -- a device is plugged in
 grows_more : (lo hi : ℕ) (ds : List Device) (d : Device) → Grows lo ds → ((x : Device) → In x ds → x.born < d.born) → lo ≤ d.born → d.parent ≤ d.born → Grows lo (ds ++ d ∷ [])
@@ -76,7 +67,7 @@ soon_tasks : (s t : State) → IsGood s → CommandEffect s t → starts (unborn
 soon_tasks s t good (CommandEffect.same e) soon = ap (starts (unborn s.next_serial)) e ∙ soon
 soon_tasks s t good (CommandEffect.lists k e) soon = ap (starts (unborn s.next_serial)) e ∙ (let p = starts_pushed (unborn s.next_serial) s.tasks (record { kind = Duty.Listing; serial = k }) in omega arith)
 soon_tasks s t good (CommandEffect.starts path n enabled e) soon =
-    let given = good.below n.serial n (find_at (λ m. same m.path path) 0 s.core.nodes n good.serials enabled.at) in
+    let given = good.below n.serial n ((node_found (λ m. same m.path path) 0 s.core.nodes n good.serials enabled.at)).1 in
     let none : unborn s.next_serial n.serial ≡ 0 = ap (λ (b : Bool). cond b 0 1) (below n.serial s.next_serial given) in
     ap (starts (unborn s.next_serial)) e ∙ (let p = starts_pushed (unborn s.next_serial) s.tasks (record { kind = Duty.Starting; serial = n.serial }) in omega arith)
   where

@@ -13,7 +13,8 @@ use Rattle.pnp_laws.proofs.SoundStarts.{child_hangs}
 use Rattle.pnp_laws.proofs.Standing.{Tree}
 use Rattle.pnp_laws.proofs.Joins.{starts_less, unborn, closed, is_bare, is_live, lives, In, sub_same, Grows, Born, any_from, any_at, parent_there}
 use Rattle.pnp_laws.proofs.JoinSteps.{Joined, live_is, starts_pushed}
-use Rattle.pnp_laws.proofs.JoinBirths.{Joining, unknown, no_node, under, grows_in, new_there, new_dead, could_join, could_before, is_born_now}
+use Rattle.pnp_laws.proofs.IdleSteps.{joins_is}
+use Rattle.pnp_laws.proofs.JoinBirths.{Joining, no_node, under, grows_in, new_there, new_dead, could_join, could_before, is_born_now}
 use Rattle.pnp_laws.proofs.JoinCounts.{is_counted, reach, counted_more, reach_less, is_alive, live_at, one_of, start_count, is_to_start, opens_at, is_outside, spare, total, spare_at, spares, join_price, total_less, spare_less, one_is}
 use Rattle.pnp_laws.proofs.Truths.{and_both, both_true, but_not, not_true, or_cases, or_right, or_left}
 
@@ -192,7 +193,7 @@ up_shut s node d good_t h b (n, at, born, up) =
           let now : live_at t m.0.serial ≡ true = ap (is_alive t) m.1 ∙ ap (λ (z : Node). is_live s z) same ∙ live in
           let dead = not_true (live_at t m.0.serial) start.0 in
           cc
-      | inr (q, r, z) ↦ no_node s d.born n.serial n (unknown s node d h.join).1 at (sym same_born ∙ ap (λ (z : Node). z.born) r)
+      | inr (q, r, z) ↦ no_node s d.born n.serial n (joins_is node.born s.core.nodes d h.join).1 at (sym same_born ∙ ap (λ (z : Node). z.born) r)
     ])
 
 -- who is to start was to start, or is the new device
@@ -218,7 +219,7 @@ to_start_before s node d good_t h b g =
 join_price_falls : (s : State) (node : Node) (d : Device) → IsGood (join_step s node d).state → Joining s node d → join_price (join_step s node d).state < join_price s
 join_price_falls s node d good_t h =
     let t = (join_step s node d).state in
-    let u = unknown s node d h.join in
+    let u = joins_is node.born s.core.nodes d h.join in
     let parent_up : IsUp s d.parent = (node, h.at, sym u.0, ap is_idle h.up) in
     let not_root : d.born ≢ 0 = λ e. no_node s d.born node.serial node u.1 h.at (let low = under 0 s.world d h.born.grows h.there in let p = u.0 in omega arith) in
     let out : is_outside t d ≡ false = but_not (lives t d.parent) (has_born d.born t.core.nodes) (is_born_now s node d h) in

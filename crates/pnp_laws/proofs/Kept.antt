@@ -1,10 +1,9 @@
 -- What the changes of a state keep.
-use Rattle.std.proofs.Common.{ℕ, ◌+◌, ◌≡◌, ◌≢◌, inl, inr, List, [], ◌∷◌, ◌++◌, map, Option, Some, None, sym, ap, ◌∙◌, subst, arith}
+use Rattle.std.proofs.Common.{ℕ, ◌+◌, ◌≡◌, ◌≢◌, inl, inr, List, [], ◌∷◌, ◌++◌, map, Option, Some, sym, ap, ◌∙◌, subst, arith}
 use Rattle.std.proofs.lemmas.Bool.{cases_eq}
 use Rattle.std.specs.Option.{option_map}
 use Rattle.pnp_model.specs.Keyed.{changed_first, without_first}
-use Rattle.pnp_model.specs.Records.{Node, Activity, State, Step, Operation, Doing, Found}
-use Rattle.pnp_model.specs.Records.Doing.{Does, Searches}
+use Rattle.pnp_model.specs.Records.{Node, Activity, State, Operation}
 use Rattle.pnp_model.specs.Cores.{is_node, node_at}
 use Rattle.pnp_model.specs.States.{activity_at}
 use Rattle.pnp_laws.specs.Kept.{Good, Lawful, HasStackOf, Fits, InOrder, Alone, OperationFits}
@@ -129,12 +128,3 @@ Good_mapped next f nodes o p keeps state stack fits alone good =
       alone = alone;
       fits = fits;
     }
-
--- whatever a search answers
-abbrev pub LawfulDoing : State → Doing Step → Type 0
-LawfulDoing s (Does step) = Lawful s step
-LawfulDoing s (Searches problem by_answer) = (found : Found) → Lawful s (by_answer found)
-
-abbrev pub LawfulNext : State → Option (Doing Step) → Type 0
-LawfulNext s None = Unit {0}
-LawfulNext s (Some doing) = LawfulDoing s doing

@@ -4,6 +4,7 @@ pub mod Lookups
 pub mod Lists
 pub mod EffectsOfStarts
 pub mod Stages
+pub mod IdleSteps
 pub mod EffectsOfOperations
 pub mod EffectsOfEvents
 pub mod EffectsOf

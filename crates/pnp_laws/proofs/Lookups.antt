@@ -1,10 +1,10 @@
 -- What is found after a change of a list.
-use Rattle.std.proofs.Common.{ℕ, suc, ◌<◌, ◌≤◌, ◌≡◌, ◌≢◌, ◌==◌, ◌⊎◌, inl, inr, Bool, true, false, List, [], ◌∷◌, ◌++◌, map, Option, Some, None, refl, sym, ◌∙◌, subst, arith}
+use Rattle.std.proofs.Common.{ℕ, suc, ◌<◌, ◌≤◌, ◌≡◌, ◌≢◌, ◌==◌, ◌⊎◌, inl, inr, Bool, true, false, ◌&&◌, cond, List, [], ◌∷◌, ◌++◌, map, Option, Some, None, refl, sym, ap, ◌∙◌, subst, arith}
 use Rattle.std.specs.List.{find}
 use Rattle.std.specs.Option.{option_map}
 use Rattle.std.proofs.lemmas.Bool.{cases_eq}
 use Rattle.std.proofs.lemmas.Bool.Decides.{nat_tests}
-use Rattle.pnp_model.specs.Keyed.{changed_first, without_first}
+use Rattle.pnp_model.specs.Keyed.{changed_first, those, without_first}
 use Rattle.pnp_model.specs.Records.{Node, Activity, Phase}
 use Rattle.pnp_model.specs.Cores.{is_node, node_at}
 use Rattle.pnp_model.specs.States.{is_activity, activity_at, with_phase, entered}
@@ -201,3 +201,34 @@ InOrder-entered lo a (b ∷ rest) l g h = grind (arith, nat_tests, InOrder-enter
 pub ready_found : (test : Activity → Bool) (lo : ℕ) (xs : List Activity) (a : Activity) → InOrder lo xs → find test xs ≡ Some a → (lo ≤ a.serial) × (activity_at a.serial xs ≡ Some a)
 ready_found test lo [] a g h = absurd (cc)
 ready_found test lo (b ∷ xs) a g h = grind (arith, nat_tests, ready_found test (suc b.serial) xs a)
+
+-- what is found passes the test
+pub find_passes : {A : Type 0} (p : A → Bool) (xs : List A) (x : A) → find p xs ≡ Some x → p x ≡ true
+find_passes p [] x h = absurd (cc)
+find_passes p (y ∷ ys) x h =
+    let more = find_passes p ys x in
+    let by_test : (b : Bool) → p y ≡ b → cond b (Some y) (find p ys) ≡ Some x → p x ≡ true =
+    λ b. elim b as (λ b. p y ≡ b → cond b (Some y) (find p ys) ≡ Some x → p x ≡ true) [
+      | true ↦ λ e g. let same : y ≡ x = cc in subst (λ z. p z ≡ true) same e
+      | false ↦ λ e g. more g
+    ] in
+    by_test (p y) refl h
+
+-- among those that pass a test
+pub find_those : {A : Type 0} (p q : A → Bool) (xs : List A) → find p (those q xs) ≡ find (λ x. q x && p x) xs
+find_those p q [] = refl
+find_those p q (y ∷ ys) = by_test (q y) (find_those p q ys)
+  where
+    by_test : (b : Bool) → find p (those q ys) ≡ find (λ x. q x && p x) ys → find p (cond b (y ∷ those q ys) (those q ys)) ≡ cond (b && p y) (Some y) (find (λ x. q x && p x) ys)
+    by_test true h = ap (λ o. cond (p y) (Some y) o) h
+    by_test false h = h
+
+-- a node that is found by another test is found by its serial
+pub node_found : (test : Node → Bool) (lo : ℕ) (xs : List Node) (n : Node) → Ascending lo xs → find test xs ≡ Some n → (lo ≤ n.serial) × (node_at n.serial xs ≡ Some n)
+node_found test lo [] n g h = absurd (cc)
+node_found test lo (x ∷ xs) n g h = grind (arith, nat_tests, node_found test (suc x.serial) xs n)
+
+-- what stays as it is
+pub changed_none : {A : Type 0} (p : A → Bool) (xs : List A) → changed_first p (λ x. x) xs ≡ xs
+changed_none p [] = refl
+changed_none p (x ∷ xs) = grind (arith, changed_none p xs)

@@ -1,35 +1,31 @@
 -- Each task but a join lowers what is still to begin, to do, or to answer.
-use Rattle.std.proofs.Common.{ℕ, suc, drop, ◌+◌, ◌<◌, ◌≤◌, ◌≡◌, ◌==◌, ◌⊎◌, inl, inr, Bool, true, false, not, ◌&&◌, ◌||◌, cond, List, [], ◌∷◌, ◌++◌, length, Option, Some, None, refl, sym, ap, ◌∙◌, subst, arith, reverse, nat_le, length-append}
-use Rattle.std.specs.List.{list_any, find, slice_get}
+use Rattle.std.proofs.Common.{ℕ, drop, ◌+◌, ◌<◌, ◌≤◌, ◌≡◌, ◌==◌, ◌⊎◌, inl, inr, Bool, true, false, not, ◌&&◌, ◌||◌, cond, List, [], ◌∷◌, ◌++◌, length, Option, Some, None, refl, sym, ap, ◌∙◌, subst, arith, reverse}
+use Rattle.std.specs.List.{list_any, slice_get}
 use Rattle.std.proofs.lemmas.Bool.{cases_eq}
 use Rattle.std.proofs.lemmas.Bool.Decides.{nat_tests}
 use Rattle.std.proofs.lemmas.List.{length-reverse}
 use Rattle.resource_reqs.specs.Spelling.Answer.{no_fit}
 use Rattle.pnp_model.specs.Keyed.{those}
-use Rattle.pnp_model.specs.Tests.{has, has_same, is_surprise_task}
-use Rattle.pnp_model.specs.Records.{Node, Device, Driver, Task, Activity, State, Settings, Choice, Operation, Rebalance, RebalanceStage, Surprise, SurpriseStage, Duty}
+use Rattle.pnp_model.specs.Tests.{has, is_surprise_task}
+use Rattle.pnp_model.specs.Records.{Node, Task, Activity, State, Step, Operation, Rebalance, RebalanceStage, Surprise, SurpriseStage, Duty}
 use Rattle.pnp_model.specs.Cores.{node_at, with_problem, serials_of}
-use Rattle.pnp_model.specs.Books.{driver_named}
-use Rattle.pnp_model.specs.Trees.{children, is_child, leaving}
-use Rattle.pnp_model.specs.States.{drop_task, activity_at, is_in_world}
+use Rattle.pnp_model.specs.Trees.{leaving}
+use Rattle.pnp_model.specs.States.{drop_task, is_in_world}
 use Rattle.pnp_model.specs.Starts.{adding}
-use Rattle.pnp_model.specs.Tasks.{is_surprise_of, is_gone, joining, gone_child, gone_or_listed, join_or_on, list_up, list_step, begin_trouble, install, numbered, numbered_more, install_named, install_few, install_service, install_best, start_enabled, start_idle, start_bare, start_step, begin, rebalance_idle, rebalance_task, disable_task, begin_step}
+use Rattle.pnp_model.specs.Tasks.{is_surprise_of, is_gone, gone_or_listed, install, begin}
 use Rattle.pnp_model.specs.Machine.{is_born}
-use Rattle.pnp_labels.specs.Texts.{Text}
-use Rattle.pnp_labels.specs.declared.states.DevState.{DevState}
-use Rattle.pnp_labels.specs.declared.states.DevState.TheVariants.{NoStack, NotStarted, Started, StopPending, Stopped, RemovePending, SurpriseRemoved}
 use Rattle.pnp_labels.specs.declared.label.Label.{Label}
 use Rattle.pnp_labels.specs.declared.label.OpKind.{OpKind}
-use Rattle.pnp_labels.specs.declared.states.Problem.{Problem}
 use Rattle.pnp_laws.specs.Kept.{Ascending}
 use Rattle.pnp_laws.proofs.Lookups.{own_serial}
-use Rattle.pnp_laws.proofs.Closures.{head_at, tail_at}
-use Rattle.pnp_laws.proofs.SoundTasks.{find_passes}
+use Rattle.pnp_laws.proofs.Closures.{length_serials}
+use Rattle.pnp_laws.proofs.DriverNames.{chosen_named}
+use Rattle.pnp_laws.proofs.IdleSteps.{First, TaskStep, gone_is}
 use Rattle.pnp_laws.proofs.Measures.{Falls, falls_coarse, coarse_by, count, count_less, tasks_cost, tasks_pushed, duty_cost, sum, sum_entered, phase_cost, is_open, is_target, born_in, operation_cost, SameBirths, births_same, births_changed}
 use Rattle.pnp_laws.proofs.MeasureOps.{count_none, those_shorter, Lowers, lower_so}
 use Rattle.pnp_laws.proofs.MeasureStages.{ask_most, tell_target}
 use Rattle.pnp_laws.proofs.MeasureTasks.{open_dropped, dropped_cost, open_pushed, no_cost, adding_cost}
-use Rattle.pnp_laws.proofs.Truths.{and_both}
+use Rattle.pnp_laws.proofs.Truths.{and_both, both_true, not_true, or_right}
 use Rattle.pnp_model.specs.Rebalances as re
 use Rattle.pnp_model.specs.Surprises as su
 
@@ -102,10 +98,10 @@ gone_falls s node child none gone at =
     let t = (gone_or_listed s node (Some child)).state in
     let task : Task = record { kind = Duty.Begins OpKind.Surprise; serial = child.serial } in
     let two = and_both (not (is_in_world s.world child.born)) (not (list_any (is_surprise_of child.serial) s.tasks)) gone in
-    let outside : is_in_world s.world child.born ≡ false = negated (is_in_world s.world child.born) two.0 in
+    let outside : is_in_world s.world child.born ≡ false = not_true (is_in_world s.world child.born) two.0 in
     let light : born_in s child.serial ≡ false = ap (is_born s.world) at ∙ outside in
     let target : is_target s.operation child.serial ≡ false = ap (λ (o : Option Operation). is_target o child.serial) none in
-    let was : is_open s.tasks s.operation child.serial ≡ true = ap (λ (b : Bool). not (list_any (is_surprise_of child.serial) s.tasks) && not b) target ∙ both (list_any (is_surprise_of child.serial) s.tasks) two.1 in
+    let was : is_open s.tasks s.operation child.serial ≡ true = ap (λ (b : Bool). not (list_any (is_surprise_of child.serial) s.tasks) && not b) target ∙ both_true (not (list_any (is_surprise_of child.serial) s.tasks)) true two.1 refl in
     let now : is_open t.tasks t.operation child.serial ≡ false = ap (λ (b : Bool). not b && not (is_target s.operation child.serial)) (own s.tasks) in
     let opens : (k : ℕ) → is_open t.tasks t.operation k ≡ true → is_open s.tasks s.operation k ≡ true = λ k h. open_pushed s.tasks task s.operation k h in
     let a = count_drop (is_open t.tasks t.operation) (is_open s.tasks s.operation) child.serial (serials_of s.core.nodes) opens (serial_in s.core.nodes child.serial child at) now was in
@@ -113,117 +109,20 @@ gone_falls s node child none gone at =
     let c : duty_cost (length (serials_of s.core.nodes)) (born_in s child.serial) (Duty.Begins OpKind.Surprise) ≡ 2 = ap (λ (x : Bool). duty_cost (length (serials_of s.core.nodes)) x (Duty.Begins OpKind.Surprise)) light in
     falls_coarse s t (omega arith)
   where
-    negated : (b : Bool) → not b ≡ true → b ≡ false
-    negated true h = absurd (cc)
-    negated false h = refl
-
-    both : (b : Bool) → not b ≡ true → (not b && true) ≡ true
-    both true h = absurd (cc)
-    both false h = refl
-
     own : (tasks : List Task) → list_any (is_surprise_of child.serial) (tasks ++ record { kind = Duty.Begins OpKind.Surprise; serial = child.serial } ∷ []) ≡ true
     own [] = grind (arith, nat_tests)
-    own (t ∷ tasks) = or_right (is_surprise_of child.serial t) (own tasks)
-      where
-        or_right : (a : Bool) {b : Bool} → b ≡ true → (a || b) ≡ true
-        or_right true h = refl
-        or_right false h = h
-
--- the first task is this one
-abbrev First : State → Duty → ℕ → Type 0
-First s duty k = slice_get s.tasks 0 ≡ Some (record { kind = duty; serial = k })
-
-find_member : (p q : Node → Bool) (lo : ℕ) (nodes : List Node) (n : Node) → Ascending lo nodes → find p (those q nodes) ≡ Some n → node_at n.serial nodes ≡ Some n
-find_member p q lo [] n order h = absurd (cc)
-find_member p q lo (x ∷ xs) n order h =
-    let more = find_member p q (suc x.serial) xs n order.1 in
-    let by_test : (b : Bool) → find p (cond b (x ∷ those q xs) (those q xs)) ≡ Some n → node_at n.serial (x ∷ xs) ≡ Some n =
-    λ b. elim b as (λ b. find p (cond b (x ∷ those q xs) (those q xs)) ≡ Some n → node_at n.serial (x ∷ xs) ≡ Some n) [
-      | true ↦ (let two : (c : Bool) → cond c (Some x) (find p (those q xs)) ≡ Some n → node_at n.serial (x ∷ xs) ≡ Some n =
-          λ c. elim c as (λ c. cond c (Some x) (find p (those q xs)) ≡ Some n → node_at n.serial (x ∷ xs) ≡ Some n) [
-            | true ↦ λ g. let same : x ≡ n = cc in subst (λ (z : Node). node_at z.serial (x ∷ xs) ≡ Some z) same (head_at x xs)
-            | false ↦ λ g. tail_at lo x xs n.serial n order (more g)
-          ] in two (p x))
-      | false ↦ λ g. tail_at lo x xs n.serial n order (more g)
-    ] in
-    by_test (q x) h
-
-lowers_gone : (s : State) (node : Node) (k : ℕ) (o : Option Node) → gone_child s node.serial ≡ o → First s Duty.Listing k → s.operation ≡ None → Ascending 0 s.core.nodes → Lowers s (gone_or_listed s node o)
-lowers_gone s node k None e first none order = lowers_drop s _ _ first refl
-lowers_gone s node k (Some child) e first none order =
-    lower_so s _ (gone_falls s node child none (find_passes (is_gone s) (children node.serial s.core.nodes) child e) (find_member (is_gone s) (is_child node.serial) 0 s.core.nodes child order e))
-
-lowers_join_or_on : (s : State) (node : Node) (k : ℕ) (o : Option Device) → First s Duty.Listing k → s.operation ≡ None → Ascending 0 s.core.nodes → Lowers s (join_or_on s node o)
-lowers_join_or_on s node k None first none order = lowers_gone s node k (gone_child s node.serial) refl first none order
-lowers_join_or_on s node k (Some d) first none order = record { lowers = λ n. absurd n }
-
-lowers_list_up : (s : State) (node : Node) (k : ℕ) (x : DevState) → First s Duty.Listing k → s.operation ≡ None → Ascending 0 s.core.nodes → Lowers s (list_up s node x)
-lowers_list_up s node k Started first none order = lowers_join_or_on s node k (joining node.born s.core.nodes s.world) first none order
-lowers_list_up s node k _ first none order = lowers_drop s _ _ first refl
-
-pub lowers_list : (s : State) (k : ℕ) (o : Option Node) → First s Duty.Listing k → s.operation ≡ None → Ascending 0 s.core.nodes → Lowers s (list_step s k o)
-lowers_list s k None first none order = lowers_drop s _ _ first refl
-lowers_list s k (Some node) first none order = lowers_list_up s node k node.state first none order
+    own (t ∷ tasks) = or_right (is_surprise_of child.serial t) _ (own tasks)
 
 -- Starting -------------------------------------------------------------------------------------------------
 
-lowers_trouble : (s : State) (node : Node) (problem : Problem) (k : ℕ) → First s Duty.Starting k → Lowers s (begin_trouble s node problem)
-lowers_trouble s node problem k first = lower_so s _ (drops s _ _ first refl (births_changed node.serial (with_problem (Some problem)) s.core.nodes _ refl (λ x. refl) (λ x. refl)) refl refl refl refl)
-
-numbered_length : (rack : List Driver) (names : List Text) (ks : List ℕ) → numbered rack names ≡ Some ks → length ks ≡ length names
-numbered_length rack [] ks h = let e : [] ≡ ks = cc in ap (λ (xs : List ℕ). length xs) (sym e)
-numbered_length rack (name ∷ names) ks h = by_two (driver_named name rack) (numbered rack names) (λ more e. numbered_length rack names more e) h
-  where
-    by_two : (a : Option ℕ) (b : Option (List ℕ)) → ((more : List ℕ) → b ≡ Some more → length more ≡ length names) → numbered_more a b ≡ Some ks → length ks ≡ suc (length names)
-    by_two None b again g = absurd (cc)
-    by_two (Some k) None again g = absurd (cc)
-    by_two (Some k) (Some more) again g = let is : k ∷ more ≡ ks = cc in ap (λ (xs : List ℕ). length xs) (sym is) ∙ ap suc (again more refl)
-
-lowers_install : (s : State) (node : Node) (rank driver : ℕ) (drivers : List ℕ) (k : ℕ) → First s Duty.Starting k → s.operation ≡ None → length drivers ≤ 16 → Lowers s (install s node rank driver drivers)
-lowers_install s node rank driver drivers k first none few =
+lowers_install : (s : State) (node : Node) (rank driver : ℕ) (drivers : List ℕ) → First s Duty.Starting node.serial → s.operation ≡ None → length drivers ≤ 16 → Lowers s (install s node rank driver drivers)
+lowers_install s node rank driver drivers first none few =
     let a : Activity = record { serial = node.serial; phase = adding drivers } in
     let e = sum_entered (λ x. phase_cost (length (serials_of s.core.nodes)) x.phase) a s.activities in
     let l = adding_cost (length (serials_of s.core.nodes)) drivers in
     let t = (install s node rank driver drivers).state in
     lower_so s _ (task_falls s t _ first (births_changed node.serial (with_problem None) s.core.nodes _ refl (λ x. refl) (λ x. refl)) refl refl
     (λ i h. open_dropped s.tasks _ s.operation s.operation i first refl refl h) (omega arith))
-
-lowers_named : (s : State) (node : Node) (rank : ℕ) (lower : Option (List ℕ)) (driver : Option ℕ) (upper : Option (List ℕ)) (k : ℕ) → First s Duty.Starting k → s.operation ≡ None → ((ks js : List ℕ) → lower ≡ Some ks → upper ≡ Some js → length ks + 1 + length js ≤ 16) → Lowers s (install_named s node rank lower driver upper)
-lowers_named s node rank (Some lower) (Some driver) (Some upper) k first none few =
-    lowers_install s node rank driver (lower ++ driver ∷ upper) k first none (let f = few lower upper refl refl in let l = length-append lower (driver ∷ upper) in omega arith)
-lowers_named s node rank (Some lower) (Some driver) None k first none few = lowers_trouble s node _ k first
-lowers_named s node rank (Some lower) None upper k first none few = lowers_trouble s node _ k first
-lowers_named s node rank None driver upper k first none few = lowers_trouble s node _ k first
-
-lowers_few : (s : State) (node : Node) (choice : Choice) (service : Text) (few : Bool) (k : ℕ) → nat_le (length choice.lower + 1 + length choice.upper) 16 ≡ few → First s Duty.Starting k → s.operation ≡ None → Lowers s (install_few s node choice service few)
-lowers_few s node choice service true k e first none =
-    lowers_named s node choice.rank (numbered s.core.rack choice.lower) (driver_named service s.core.rack) (numbered s.core.rack choice.upper) k first none
-    (λ ks js a b. let l = numbered_length s.core.rack choice.lower ks a in let u = numbered_length s.core.rack choice.upper js b in let most : length choice.lower + 1 + length choice.upper ≤ 16 = grind (arith, nat_tests) in omega arith)
-lowers_few s node choice service false k e first none = lowers_trouble s node _ k first
-
-lowers_service : (s : State) (node : Node) (choice : Choice) (o : Option Text) (k : ℕ) → First s Duty.Starting k → s.operation ≡ None → Lowers s (install_service s node choice o)
-lowers_service s node choice None k first none = lowers_trouble s node _ k first
-lowers_service s node choice (Some service) k first none = lowers_few s node choice service _ k refl first none
-
-lowers_best : (s : State) (node : Node) (o : Option Choice) (k : ℕ) → First s Duty.Starting k → s.operation ≡ None → Lowers s (install_best s node o)
-lowers_best s node None k first none = lowers_trouble s node _ k first
-lowers_best s node (Some choice) k first none = lowers_service s node choice choice.service k first none
-
-lowers_enabled : (settings : Settings) (s : State) (node : Node) (b : Bool) (k : ℕ) → First s Duty.Starting k → s.operation ≡ None → Lowers s (start_enabled settings s node b)
-lowers_enabled settings s node true k first none = lowers_trouble s node _ k first
-lowers_enabled settings s node false k first none = lowers_best s node (settings.best node.hw node.compat) k first none
-
-lowers_idle : (settings : Settings) (s : State) (node : Node) (o : Option Activity) (k : ℕ) → First s Duty.Starting k → s.operation ≡ None → Lowers s (start_idle settings s node o)
-lowers_idle settings s node (Some a) k first none = lowers_drop s _ _ first refl
-lowers_idle settings s node None k first none = lowers_enabled settings s node (has_same node.path s.disabled) k first none
-
-lowers_bare : (settings : Settings) (s : State) (node : Node) (x : DevState) (k : ℕ) → First s Duty.Starting k → s.operation ≡ None → Lowers s (start_bare settings s node x)
-lowers_bare settings s node NoStack k first none = lowers_idle settings s node (activity_at node.serial s.activities) k first none
-lowers_bare settings s node _ k first none = lowers_drop s _ _ first refl
-
-pub lowers_start : (settings : Settings) (s : State) (k : ℕ) (o : Option Node) → First s Duty.Starting k → s.operation ≡ None → Lowers s (start_step settings s k o)
-lowers_start settings s k None first none = lowers_drop s _ _ first refl
-lowers_start settings s k (Some node) first none = lowers_bare settings s node node.state k first none
 
 -- Beginning an operation -------------------------------------------------------------------------------------
 
@@ -234,29 +133,16 @@ begins s kind node o task first surprise target none less =
     lower_so s _ (task_falls s (begin s kind node o).state task first (births_same s.core.nodes s.core.nodes refl) refl refl
     (λ k h. open_dropped s.tasks task s.operation (Some o) k first surprise (target k ∙ sym (ap (λ (x : Option Operation). is_target x k) none)) h) (omega arith))
 
-serials_length : (nodes : List Node) → length (serials_of nodes) ≡ length nodes
-serials_length [] = refl
-serials_length (n ∷ ns) = ap suc (serials_length ns)
-
-lowers_rebalance_idle : (s : State) (node : Node) (o : Option Activity) (k : ℕ) → First s (Duty.Begins OpKind.Rebalance) k → s.operation ≡ None → Lowers s (rebalance_idle s node o)
-lowers_rebalance_idle s node (Some a) k first none = lowers_drop s _ _ first refl
-lowers_rebalance_idle s node None k first none =
+lowers_rebalance : (s : State) (node : Node) → First s (Duty.Begins OpKind.Rebalance) node.serial → s.operation ≡ None → Lowers s (begin s OpKind.Rebalance node (Operation.Rebalancing (re.begun_rebalance s.core node)))
+lowers_rebalance s node first none =
     let r : Rebalance = record { target = node.serial; path = node.path; todo = []; agreed = []; refused = []; found = no_fit; stage = RebalanceStage.Searching } in
     let asked = those re.is_asked s.core.nodes in
     let most = (ask_most r (reverse (serials_of asked))).cost in
     let a = length-reverse (serials_of asked) in
-    let b = serials_length asked in
+    let b = length_serials asked in
     let c = those_shorter re.is_asked s.core.nodes in
-    let d = serials_length s.core.nodes in
+    let d = length_serials s.core.nodes in
     begins s OpKind.Rebalance node _ _ first refl (λ i. refl) none (omega arith)
-
-lowers_rebalance : (s : State) (node : Node) (x : DevState) (k : ℕ) → First s (Duty.Begins OpKind.Rebalance) k → s.operation ≡ None → Lowers s (rebalance_task s node x)
-lowers_rebalance s node NotStarted k first none = lowers_rebalance_idle s node (activity_at node.serial s.activities) k first none
-lowers_rebalance s node _ k first none = lowers_drop s _ _ first refl
-
-lowers_disable : (s : State) (node : Node) (b : Bool) (k : ℕ) → First s (Duty.Begins OpKind.Disable) k → s.operation ≡ None → Lowers s (disable_task s node b)
-lowers_disable s node true k first none = lowers_drop s _ _ first refl
-lowers_disable s node false k first none = begins s OpKind.Disable node _ _ first refl (λ i. refl) none (omega arith)
 
 -- a surprise begins: its device is the target, so no more can be found gone
 open_surprise : (tasks : List Task) (o q : Option Operation) (k i : ℕ) → slice_get tasks 0 ≡ Some (record { kind = Duty.Begins OpKind.Surprise; serial = k }) → o ≡ None → is_target q i ≡ (k == i) → is_open (drop 1 tasks) q i ≡ true → is_open tasks o i ≡ true
@@ -308,10 +194,17 @@ lowers_none s label k gone first =
               ap (λ (b : Bool). not (b || list_any (is_surprise_of i) tasks) && not (is_target s.operation i)) own ∙ h)
         ]
 
-pub lowers_begin_step : (s : State) (kind : OpKind) (k : ℕ) (o : Option Node) → node_at k s.core.nodes ≡ o → First s (Duty.Begins kind) k → s.operation ≡ None → Lowers s (begin_step s kind k o)
-lowers_begin_step s OpKind.Surprise k None e first none = lowers_none s _ k e first
-lowers_begin_step s OpKind.Rebalance k (Some node) e first none = lowers_rebalance s node node.state k first none
-lowers_begin_step s OpKind.Disable k (Some node) e first none = lowers_disable s node (has_same node.path s.disabled) k first none
-lowers_begin_step s OpKind.Eject k (Some node) e first none = begins s OpKind.Eject node _ _ first refl (λ i. refl) none (omega arith)
-lowers_begin_step s OpKind.Surprise k (Some node) e first none = lowers_surprise s node k e first none
-lowers_begin_step s _ k None e first none = lowers_drop s _ _ first refl
+-- The cases ------------------------------------------------------------------------------------------------
+
+pub lowers_task : (s : State) (step : Step) → s.operation ≡ None → Ascending 0 s.core.nodes → TaskStep s step → Lowers s step
+lowers_task s _ none order (TaskStep.skips kind k j first calm) = lowers_drop s _ _ first calm
+lowers_task s _ none order (TaskStep.misses k first gone) = lowers_none s _ k gone first
+lowers_task s _ none order (TaskStep.lists k node first) = lowers_drop s _ _ first refl
+lowers_task s _ none order (TaskStep.finds_gone node child gone) = let is = gone_is s node.serial child order gone in lower_so s _ (gone_falls s node child none is.2 is.0)
+lowers_task s _ none order (TaskStep.joins node d at up below) = record { lowers = λ n. absurd n }
+lowers_task s _ none order (TaskStep.troubles node problem b fine) = lower_so s _ (drops s _ _ b.first refl (births_changed node.serial (with_problem (Some problem)) s.core.nodes _ refl (λ x. refl) (λ x. refl)) refl refl refl refl)
+lowers_task s _ none order (TaskStep.installs node rank driver drivers b chosen) = lowers_install s node rank driver drivers b.first none (chosen_named s node.serial drivers chosen).0
+lowers_task s _ none order (TaskStep.begins OpKind.Rebalance node first alone at fits) = lowers_rebalance s node first none
+lowers_task s _ none order (TaskStep.begins OpKind.Disable node first alone at fits) = begins s OpKind.Disable node _ _ first refl (λ i. refl) none (omega arith)
+lowers_task s _ none order (TaskStep.begins OpKind.Eject node first alone at fits) = begins s OpKind.Eject node _ _ first refl (λ i. refl) none (omega arith)
+lowers_task s _ none order (TaskStep.begins OpKind.Surprise node first alone at fits) = lowers_surprise s node node.serial at first none

@@ -1,26 +1,26 @@
 -- Each step of an activity, and each task but a join, lowers what is still to begin, to do, or to answer.
 use Rattle.std.proofs.Common.{ℕ, drop, ◌+◌, ◌*◌, ◌<◌, ◌≤◌, ◌≡◌, ◌==◌, Bool, true, false, not, ◌&&◌, ◌||◌, List, [], ◌∷◌, ◌++◌, length, Option, Some, None, refl, sym, ap, ◌∙◌, arith}
 use Rattle.std.specs.List.{list_any, slice_get}
-use Rattle.resource_reqs.specs.Spelling.Answer.{assignment, no_fit, spent}
-use Rattle.pnp_model.specs.Keyed.{changed_first, without_first}
+use Rattle.pnp_model.specs.Keyed.{changed_first}
 use Rattle.pnp_model.specs.Tests.{is_surprise_task}
-use Rattle.pnp_model.specs.Records.{Node, Core, Task, Activity, Phase, Walk, State, Found, Operation, Duty, doing_map}
+use Rattle.pnp_model.specs.Records.{Node, Core, Task, Activity, Phase, Walk, State, Operation, Duty}
 use Rattle.pnp_model.specs.Records.Phase.{Adding, Searching, Starting, Removing, Due}
-use Rattle.pnp_model.specs.Cores.{is_node, node_at, with_problem, with_stack, with_holds, stacked, serials_of, stack_of}
-use Rattle.pnp_model.specs.Walks.{after, is_bad, has_ended, walk_of}
-use Rattle.pnp_model.specs.States.{activity_at, is_activity, with_phase}
-use Rattle.pnp_model.specs.Starts.{adding, add_driver, searched, own_part, end_start, start_on, remove_on, undo, act}
+use Rattle.pnp_model.specs.Cores.{bare, is_node, node_at, with_problem, with_stack, with_state, with_holds, stacked, serials_of, stack_of}
+use Rattle.pnp_model.specs.Walks.{after, has_ended, walk_of}
+use Rattle.pnp_model.specs.States.{activity_at, append_task, end_activity, is_activity, set_phase, with_core, with_phase}
+use Rattle.pnp_model.specs.Starts.{StartMove, adding, own_part}
 use Rattle.pnp_model.specs.Tasks.{is_surprise_of}
-use Rattle.pnp_model.specs.Machine.{start_lifted, phase_walk, is_waiting}
+use Rattle.pnp_model.specs.Machine.{start_lifted, phase_walk}
 use Rattle.pnp_labels.specs.declared.words.Answer.{Answer}
 use Rattle.pnp_labels.specs.declared.words.Minor.{Minor}
-use Rattle.pnp_labels.specs.declared.words.Answer.TheVariants.{Ok, Fail, Pend}
+use Rattle.pnp_labels.specs.declared.states.DevState.TheVariants.{Started}
 use Rattle.pnp_labels.specs.declared.label.OpKind.{OpKind}
 use Rattle.pnp_labels.specs.declared.states.Problem.{Problem}
+use Rattle.pnp_laws.specs.Effects.{IsSearch}
+use Rattle.pnp_laws.proofs.IdleSteps.{ActivityStep}
 use Rattle.pnp_laws.proofs.Lookups.{own_activity}
-use Rattle.pnp_laws.proofs.Passing.{AllBy}
-use Rattle.pnp_laws.proofs.Measures.{Falls, falls_coarse, coarse_by, coarse_no_more, open_same, tasks_cost, tasks_pushed, duty_cost, sum, sum_changed, sum_without, phase_cost, is_open, is_target, born_in, operation_cost, rank_of, left_of, answers, answers_of, activity_answers, stack_at, SameBirths, births_same, births_changed}
-use Rattle.pnp_laws.proofs.MeasureOps.{Lowers, falls_answers, asked_less, lower_so}
+use Rattle.pnp_laws.proofs.Measures.{Falls, falls_coarse, coarse_by, coarse_no_more, tasks_cost, tasks_pushed, duty_cost, sum, sum_changed, sum_without, phase_cost, is_open, is_target, born_in, operation_cost, answers, answers_of, activity_answers, stack_at, SameBirths, births_same, births_changed}
+use Rattle.pnp_laws.proofs.MeasureOps.{falls_answers, asked_less}
 
 -- What may be found gone ---------------------------------------------------------------------------------
 
@@ -65,63 +65,43 @@ pub record Active (s : State) (node : Node) (phase : Phase) : Type 0 where
 pub no_cost : (born : ℕ → Bool) (o : Option Operation) → o ≡ None → operation_cost born o ≡ 0
 no_cost born o e = ap (operation_cost born) e
 
-pub same_none : (o p : Option Operation) (k : ℕ) → o ≡ None → p ≡ None → is_target p k ≡ is_target o k
-same_none o p k e f = ap (λ (x : Option Operation). is_target x k) f ∙ sym (ap (λ (x : Option Operation). is_target x k) e)
-
 -- the activity goes on in a phase that costs less
-goes_cheaper : (s t : State) (node : Node) (phase next : Phase) → Active s node phase → SameBirths s.core.nodes t.core.nodes → t.world ≡ s.world → t.tasks ≡ s.tasks → t.operation ≡ None → t.activities ≡ changed_first (is_activity node.serial) (with_phase next) s.activities →
-    phase_cost (length (serials_of s.core.nodes)) next < phase_cost (length (serials_of s.core.nodes)) phase → Falls s t
-goes_cheaper s t node phase next active same world tasks none acts less =
-    let n = length (serials_of s.core.nodes) in
-    let f : Activity → ℕ = λ a. phase_cost (length (serials_of s.core.nodes)) a.phase in
+goes_cheaper : (s : State) (node : Node) (c : Core) (phase next : Phase) → Active s node phase → SameBirths s.core.nodes c.nodes →
+    phase_cost (length (serials_of s.core.nodes)) next < phase_cost (length (serials_of s.core.nodes)) phase → Falls s (set_phase node.serial next (with_core c s))
+goes_cheaper s node c phase next active same less =
+    let t = set_phase node.serial next (with_core c s) in
     let e = sum_changed (λ a. phase_cost (length (serials_of s.core.nodes)) a.phase) node.serial next s.activities active.activity active.there in
     let p = ap (phase_cost (length (serials_of s.core.nodes))) active.is in
-    let a = ap (λ (xs : List Activity). sum (λ a. phase_cost (length (serials_of s.core.nodes)) a.phase) xs) acts in
-    let b = ap (tasks_cost (length (serials_of s.core.nodes)) (born_in s)) tasks in
-    let c = no_cost (born_in s) t.operation none in
-    let d = no_cost (born_in s) s.operation active.none in
-    falls_coarse s t (coarse_by s t same world (λ k h. open_same s.tasks t.tasks s.operation t.operation k tasks (same_none s.operation t.operation k active.none none) h) (omega arith))
+    falls_coarse s t (coarse_by s t same refl (λ k h. h) (omega arith))
 
 -- the activity ends, and at most a cheaper task is appended
-ends_cheaper : (s t : State) (node : Node) (phase : Phase) (cost : ℕ) → Active s node phase → SameBirths s.core.nodes t.core.nodes → t.world ≡ s.world → ((k : ℕ) → is_open t.tasks t.operation k ≡ true → is_open s.tasks s.operation k ≡ true) → tasks_cost (length (serials_of s.core.nodes)) (born_in s) t.tasks ≡ tasks_cost (length (serials_of s.core.nodes)) (born_in s) s.tasks + cost →
-    t.operation ≡ None → t.activities ≡ without_first (is_activity node.serial) s.activities → cost < phase_cost (length (serials_of s.core.nodes)) phase → Falls s t
-ends_cheaper s t node phase cost active same world opens tasks none acts less =
+ends_cheaper : (s : State) (node : Node) (c : Core) (tasks : List Task) (phase : Phase) (cost : ℕ) → Active s node phase → SameBirths s.core.nodes c.nodes → ((k : ℕ) → is_open tasks s.operation k ≡ true → is_open s.tasks s.operation k ≡ true) →
+    tasks_cost (length (serials_of s.core.nodes)) (born_in s) tasks ≡ tasks_cost (length (serials_of s.core.nodes)) (born_in s) s.tasks + cost → cost < phase_cost (length (serials_of s.core.nodes)) phase → Falls s (record (end_activity node.serial (with_core c s)) { tasks = tasks })
+ends_cheaper s node c tasks phase cost active same opens is less =
+    let t = record (end_activity node.serial (with_core c s)) { tasks = tasks } in
     let e = sum_without (λ a. phase_cost (length (serials_of s.core.nodes)) a.phase) node.serial s.activities active.activity active.there in
     let p = ap (phase_cost (length (serials_of s.core.nodes))) active.is in
-    let a = ap (λ (xs : List Activity). sum (λ a. phase_cost (length (serials_of s.core.nodes)) a.phase) xs) acts in
-    let c = no_cost (born_in s) t.operation none in
-    let d = no_cost (born_in s) s.operation active.none in
-    falls_coarse s t (coarse_by s t same world opens (omega arith))
+    falls_coarse s t (coarse_by s t same refl opens (omega arith))
 
-ends_alone : (s t : State) (node : Node) (phase : Phase) → Active s node phase → SameBirths s.core.nodes t.core.nodes → t.world ≡ s.world → t.tasks ≡ s.tasks → t.operation ≡ None → t.activities ≡ without_first (is_activity node.serial) s.activities → 0 < phase_cost (length (serials_of s.core.nodes)) phase → Falls s t
-ends_alone s t node phase active same world tasks none acts less =
-    ends_cheaper s t node phase 0 active same world (λ k h. open_same s.tasks t.tasks s.operation t.operation k tasks (same_none s.operation t.operation k active.none none) h)
-    (let b = ap (tasks_cost (length (serials_of s.core.nodes)) (born_in s)) tasks in omega arith) none acts less
+ends_alone : (s : State) (node : Node) (c : Core) (phase : Phase) → Active s node phase → SameBirths s.core.nodes c.nodes → 0 < phase_cost (length (serials_of s.core.nodes)) phase → Falls s (end_activity node.serial (with_core c s))
+ends_alone s node c phase active same less = ends_cheaper s node c s.tasks phase 0 active same (λ k h. h) (omega arith) less
 
-ends_then : (s t : State) (node : Node) (phase : Phase) (task : Task) → Active s node phase → SameBirths s.core.nodes t.core.nodes → t.world ≡ s.world → t.tasks ≡ s.tasks ++ task ∷ [] → t.operation ≡ None → t.activities ≡ without_first (is_activity node.serial) s.activities →
-    duty_cost (length (serials_of s.core.nodes)) (born_in s task.serial) task.kind < phase_cost (length (serials_of s.core.nodes)) phase → Falls s t
-ends_then s t node phase task active same world tasks none acts less =
-    ends_cheaper s t node phase (duty_cost (length (serials_of s.core.nodes)) (born_in s task.serial) task.kind) active same world
-    (λ k h. open_pushed s.tasks task s.operation k (open_same (s.tasks ++ task ∷ []) t.tasks s.operation t.operation k tasks (same_none s.operation t.operation k active.none none) h))
-    (ap (tasks_cost (length (serials_of s.core.nodes)) (born_in s)) tasks ∙ tasks_pushed (length (serials_of s.core.nodes)) (born_in s) s.tasks task) none acts less
+ends_then : (s : State) (node : Node) (c : Core) (phase : Phase) (kind : Duty) → Active s node phase → SameBirths s.core.nodes c.nodes → duty_cost (length (serials_of s.core.nodes)) (born_in s node.serial) kind < phase_cost (length (serials_of s.core.nodes)) phase →
+    Falls s (append_task kind node.serial (end_activity node.serial (with_core c s)))
+ends_then s node c phase kind active same less =
+    let task : Task = record { kind = kind; serial = node.serial } in
+    ends_cheaper s node c (s.tasks ++ task ∷ []) phase _ active same (λ k h. open_pushed s.tasks task s.operation k h) (tasks_pushed (length (serials_of s.core.nodes)) (born_in s) s.tasks task) less
 
 -- the walk of the activity goes on
-goes_asked : (s t : State) (node : Node) (wrap : Walk → Phase) (w : Walk) (answer : Answer) → ((v : Walk) → phase_walk (wrap v) ≡ Some v) → ((n : ℕ) (v : Walk) → phase_cost n (wrap v) ≡ phase_cost n (wrap w)) → Active s node (wrap w) → t.core.nodes ≡ s.core.nodes → t.world ≡ s.world → t.tasks ≡ s.tasks → t.operation ≡ None →
-    t.activities ≡ changed_first (is_activity node.serial) (with_phase (wrap (after w answer))) s.activities → w.waits ≡ false → has_ended w (length node.stack) ≡ false → Falls s t
-goes_asked s t node wrap w answer walk cost active nodes world tasks none acts waits ended =
+goes_asked : (s : State) (node : Node) (c : Core) (wrap : Walk → Phase) (w : Walk) (answer : Answer) → ((v : Walk) → phase_walk (wrap v) ≡ Some v) → ((n : ℕ) (v : Walk) → phase_cost n (wrap v) ≡ phase_cost n (wrap w)) → Active s node (wrap w) → c.nodes ≡ s.core.nodes →
+    w.waits ≡ false → has_ended w (length node.stack) ≡ false → Falls s (set_phase node.serial (wrap (after w answer)) (with_core c s))
+goes_asked s node c wrap w answer walk cost active nodes waits ended =
     let v = after w answer in
+    let t = set_phase node.serial (wrap v) (with_core c s) in
     let e = sum_changed (λ a. phase_cost (length (serials_of s.core.nodes)) a.phase) node.serial (wrap v) s.activities active.activity active.there in
     let p = ap (phase_cost (length (serials_of s.core.nodes))) active.is in
     let q = cost (length (serials_of s.core.nodes)) v in
-    let a = ap (λ (xs : List Activity). sum (λ a. phase_cost (length (serials_of s.core.nodes)) a.phase) xs) acts in
-    let b = ap (tasks_cost (length (serials_of s.core.nodes)) (born_in s)) tasks in
-    let c = no_cost (born_in s) t.operation none in
-    let d = no_cost (born_in s) s.operation active.none in
-    let most = coarse_no_more s t (births_same s.core.nodes t.core.nodes nodes) world (λ k h. open_same s.tasks t.tasks s.operation t.operation k tasks (same_none s.operation t.operation k active.none none) h) in
-    let r0 = ap rank_of none in
-    let l0 = ap left_of none in
-    let r1 = ap rank_of active.none in
-    let l1 = ap left_of active.none in
+    let most = coarse_no_more s t (births_same s.core.nodes c.nodes nodes) refl (λ k h. h) in
     let own : active.activity.serial ≡ node.serial = own_activity node.serial active.activity s.activities active.there in
     let less = asked_less w answer (length node.stack) waits ended in
     let stack : stack_at s.core.nodes active.activity.serial ≡ length node.stack = ap (stack_at s.core.nodes) own ∙ ap (λ (o : Option Node). length (stack_of o)) active.at in
@@ -132,50 +112,42 @@ goes_asked s t node wrap w answer walk cost active nodes world tasks none acts w
     let f = sum_changed (activity_answers s.core.nodes) node.serial (wrap v) s.activities active.activity active.there in
     let old : answers_of s.core.nodes s.activities s.operation ≡ sum (activity_answers s.core.nodes) s.activities = ap (λ (o : Option Operation). answers_of s.core.nodes s.activities o) active.none in
     let new : answers_of t.core.nodes t.activities t.operation ≡ sum (activity_answers s.core.nodes) (changed_first (is_activity node.serial) (with_phase (wrap v)) s.activities) =
-    ap (λ (o : Option Operation). answers_of t.core.nodes t.activities o) none ∙ ap (λ (x : List Node). sum (activity_answers x) t.activities) nodes ∙ ap (λ (xs : List Activity). sum (activity_answers s.core.nodes) xs) acts in
+    ap (λ (o : Option Operation). answers_of t.core.nodes t.activities o) active.none ∙ ap (λ (x : List Node). sum (activity_answers x) t.activities) nodes in
     falls_answers s t (omega arith) (omega arith) (omega arith) (omega arith)
 
 pub adding_cost : (n : ℕ) (ds : List ℕ) → phase_cost n (adding ds) ≤ 7 * n + 9 + length ds
 adding_cost n [] = omega arith
 adding_cost n (d ∷ ds) = omega arith
 
-falls_add : (s : State) (c : Core) (node : Node) (d : ℕ) (ds : List ℕ) (answer : Answer) → c.nodes ≡ s.core.nodes → Active s node (Adding (d ∷ ds)) → Falls s (start_lifted s node.serial (add_driver c node d ds answer)).state
-falls_add s c node d ds Ok same active =
-    let f = with_stack (node.stack ++ d ∷ []) (stacked node.state) in
+search_cost : (n : ℕ) (phase : Phase) → IsSearch phase → 7 * n + 8 ≤ phase_cost n phase
+search_cost n (Adding []) h = omega arith
+search_cost n Searching h = omega arith
+search_cost n _ h = absurd h
+
+-- a change of a field that no number reads
+same_births : (s : State) (node : Node) (f : Node → Node) → ((x : Node) → (f x).serial ≡ x.serial) → ((x : Node) → (f x).born ≡ x.born) → SameBirths s.core.nodes (changed_first (is_node node.serial) f s.core.nodes)
+same_births s node f serial born = births_changed node.serial f s.core.nodes (changed_first (is_node node.serial) f s.core.nodes) refl serial born
+
+pub falls_act : (s : State) (node : Node) (phase : Phase) (m : StartMove) → Active s node phase → ActivityStep s.core node phase m → Falls s (start_lifted s node.serial m).state
+falls_act s node _ _ active (ActivityStep.adds d ds) =
     let l = adding_cost (length (serials_of s.core.nodes)) ds in
-    goes_cheaper s _ node (Adding (d ∷ ds)) (adding ds) active (births_changed node.serial f s.core.nodes _ (ap (λ (ns : List Node). changed_first (is_node node.serial) f ns) same) (λ x. refl) (λ x. refl)) refl refl active.none refl (omega arith)
-falls_add s c node d ds Fail same active = goes_cheaper s _ node (Adding (d ∷ ds)) (Due Problem.FailedAdd) active (births_same s.core.nodes _ same) refl refl active.none refl (omega arith)
-falls_add s c node d ds Pend same active = goes_cheaper s _ node (Adding (d ∷ ds)) (Due Problem.FailedAdd) active (births_same s.core.nodes _ same) refl refl active.none refl (omega arith)
-
-falls_searched : (s : State) (node : Node) (phase : Phase) (found : Found) → 7 * length (serials_of s.core.nodes) + 8 ≤ phase_cost (length (serials_of s.core.nodes)) phase → Active s node phase → Falls s (start_lifted s node.serial (searched s.core node found)).state
-falls_searched s node phase (assignment plan) big active =
-    goes_cheaper s _ node phase (Starting (walk_of Minor.Start)) active (births_changed node.serial (with_holds (own_part plan)) s.core.nodes _ refl (λ x. refl) (λ x. refl)) refl refl active.none refl (omega arith)
-falls_searched s node phase no_fit big active =
-    ends_then s _ node phase (record { kind = Duty.Begins OpKind.Rebalance; serial = node.serial }) active (births_same s.core.nodes _ refl) refl refl active.none refl (omega arith)
-falls_searched s node phase spent big active = goes_cheaper s _ node phase (Due Problem.Budget) active (births_same s.core.nodes _ refl) refl refl active.none refl (omega arith)
-
-falls_end_start : (s : State) (node : Node) (w : Walk) (bad : Bool) → Active s node (Starting w) → Falls s (start_lifted s node.serial (end_start s.core node bad)).state
-falls_end_start s node w true active = goes_cheaper s _ node (Starting w) (Due Problem.FailedStart) active (births_changed node.serial _ s.core.nodes _ refl (λ x. refl) (λ x. refl)) refl refl active.none refl (omega arith)
-falls_end_start s node w false active =
-    ends_then s _ node (Starting w) (record { kind = Duty.Listing; serial = node.serial }) active (births_changed node.serial _ s.core.nodes _ refl (λ x. refl) (λ x. refl)) refl refl active.none refl (omega arith)
-
-falls_start_on : (s : State) (node : Node) (w : Walk) (b : Bool) → has_ended w (length node.stack) ≡ b → w.waits ≡ false → Active s node (Starting w) → Falls s (start_lifted s node.serial (start_on s.core node w b)).state
-falls_start_on s node w true e waits active = falls_end_start s node w (is_bad w) active
-falls_start_on s node w false e waits active = goes_asked s _ node Starting w _ (λ v. refl) (λ n v. refl) active refl refl refl active.none refl waits e
-
-falls_remove_on : (s : State) (node : Node) (w : Walk) (b : Bool) → has_ended w (length node.stack) ≡ b → w.waits ≡ false → Active s node (Removing w) → Falls s (start_lifted s node.serial (remove_on s.core node w b)).state
-falls_remove_on s node w true e waits active = ends_alone s _ node (Removing w) active (births_changed node.serial _ s.core.nodes _ refl (λ x. refl) (λ x. refl)) refl refl active.none refl (omega arith)
-falls_remove_on s node w false e waits active = goes_asked s _ node Removing w _ (λ v. refl) (λ n v. refl) active refl refl refl active.none refl waits e
-
-falls_undo : (s : State) (node : Node) (problem : Problem) (stack : List ℕ) → Active s node (Due problem) →
-    Falls s (start_lifted s node.serial (undo (record s.core { nodes = changed_first (is_node node.serial) (with_problem (Some problem)) s.core.nodes }) node problem stack)).state
-falls_undo s node problem [] active = ends_alone s _ node (Due problem) active (births_changed node.serial (with_problem (Some problem)) s.core.nodes _ refl (λ x. refl) (λ x. refl)) refl refl active.none refl (omega arith)
-falls_undo s node problem (d ∷ ds) active = goes_cheaper s _ node (Due problem) (Removing (walk_of Minor.Remove)) active (births_changed node.serial (with_problem (Some problem)) s.core.nodes _ refl (λ x. refl) (λ x. refl)) refl refl active.none refl (omega arith)
-
-pub lowers_act : (s : State) (node : Node) (phase : Phase) → is_waiting (phase_walk phase) ≡ false → Active s node phase → AllBy (Lowers s) (doing_map (start_lifted s node.serial) (act s.core node phase))
-lowers_act s node (Adding []) waits active = λ found. lower_so s _ (falls_searched s node (Adding []) found (omega arith) active)
-lowers_act s node (Adding (d ∷ ds)) waits active = lower_so s _ (falls_add s _ node d ds _ refl active)
-lowers_act s node Searching waits active = λ found. lower_so s _ (falls_searched s node Searching found (omega arith) active)
-lowers_act s node (Starting w) waits active = lower_so s _ (falls_start_on s node w _ refl waits active)
-lowers_act s node (Removing w) waits active = lower_so s _ (falls_remove_on s node w _ refl waits active)
-lowers_act s node (Due problem) waits active = lower_so s _ (falls_undo s node problem node.stack active)
+    goes_cheaper s node _ (Adding (d ∷ ds)) (adding ds) active (same_births s node (with_stack (node.stack ++ d ∷ []) (stacked node.state)) (λ x. refl) (λ x. refl)) (omega arith)
+falls_act s node _ _ active (ActivityStep.refused d ds) = goes_cheaper s node _ (Adding (d ∷ ds)) (Due Problem.FailedAdd) active (births_same s.core.nodes _ refl) (omega arith)
+falls_act s node phase _ active (ActivityStep.fits _ plan budget search answer) =
+    let l = search_cost (length (serials_of s.core.nodes)) phase search in
+    goes_cheaper s node _ phase (Starting (walk_of Minor.Start)) active (same_births s node (with_holds (own_part plan)) (λ x. refl) (λ x. refl)) (omega arith)
+falls_act s node phase _ active (ActivityStep.unplaced _ search) =
+    let l = search_cost (length (serials_of s.core.nodes)) phase search in
+    ends_then s node _ phase (Duty.Begins OpKind.Rebalance) active (births_same s.core.nodes _ refl) (omega arith)
+falls_act s node phase _ active (ActivityStep.tires _ search) =
+    let l = search_cost (length (serials_of s.core.nodes)) phase search in
+    goes_cheaper s node _ phase (Due Problem.Budget) active (births_same s.core.nodes _ refl) (omega arith)
+falls_act s node _ _ active (ActivityStep.asks_start w waits more) = goes_asked s node _ Starting w _ (λ v. refl) (λ n v. refl) active refl waits more
+falls_act s node _ _ active (ActivityStep.fails w ended bad) = goes_cheaper s node _ (Starting w) (Due Problem.FailedStart) active (same_births s node (with_state node.state) (λ x. refl) (λ x. refl)) (omega arith)
+falls_act s node _ _ active (ActivityStep.starts w ended well) =
+    ends_then s node _ (Starting w) Duty.Listing active (same_births s node (with_state Started) (λ x. refl) (λ x. refl)) (omega arith)
+falls_act s node _ _ active (ActivityStep.asks_remove w waits more) = goes_asked s node _ Removing w _ (λ v. refl) (λ n v. refl) active refl waits more
+falls_act s node _ _ active (ActivityStep.strips w ended) = ends_alone s node _ (Removing w) active (same_births s node bare (λ x. refl) (λ x. refl)) (omega arith)
+falls_act s node _ _ active (ActivityStep.empty problem none) = ends_alone s node _ (Due problem) active (same_births s node (with_problem (Some problem)) (λ x. refl) (λ x. refl)) (omega arith)
+falls_act s node _ _ active (ActivityStep.undoes problem d ds stack) =
+    goes_cheaper s node _ (Due problem) (Removing (walk_of Minor.Remove)) active (same_births s node (with_problem (Some problem)) (λ x. refl) (λ x. refl)) (omega arith)

@@ -1,18 +1,19 @@
 -- What holds of all that a search may answer holds of the step.
-use Rattle.std.proofs.Common.{Option, Some, None, sym, subst}
+use Rattle.std.proofs.Common.{ℕ, Option, Some, None, sym, subst}
+use Rattle.resource_reqs.specs.Spelling.{IsAnswer}
 use Rattle.pnp_model.specs.Machine.{IsStep}
 use Rattle.pnp_model.specs.Records.{Doing, Found, Settings, Step}
 use Rattle.pnp_model.specs.Records.Doing.{Does, Searches}
 
-abbrev pub AllBy : (P : Step → Type 0) → Doing Step → Type 0
-AllBy P (Does step) = P step
-AllBy P (Searches problem by_answer) = (found : Found) → P (by_answer found)
+abbrev pub AllBy : ℕ → (P : Step → Type 0) → Doing Step → Type 0
+AllBy budget P (Does step) = P step
+AllBy budget P (Searches problem by_answer) = (found : Found) → IsAnswer problem.fixed problem.movers budget found → P (by_answer found)
 
-abbrev pub AllNext : (P : Step → Type 0) → Option (Doing Step) → Type 0
-AllNext P None = Unit {0}
-AllNext P (Some doing) = AllBy P doing
+abbrev pub AllNext : ℕ → (P : Step → Type 0) → Option (Doing Step) → Type 0
+AllNext budget P None = Unit {0}
+AllNext budget P (Some doing) = AllBy budget P doing
 
-pub all_step : (P : Step → Type 0) (settings : Settings) (o : Option (Doing Step)) (step : Step) → AllNext P o → IsStep settings o step → P step
+pub all_step : (P : Step → Type 0) (settings : Settings) (o : Option (Doing Step)) (step : Step) → AllNext settings.budget P o → IsStep settings o step → P step
 all_step P settings None step h is = absurd is
 all_step P settings (Some (Does one)) step h is = subst P (sym is) h
-all_step P settings (Some (Searches problem by_answer)) step h is = subst P (sym is.2) (h is.0)
+all_step P settings (Some (Searches problem by_answer)) step h is = subst P (sym is.2) (h is.0 is.1)

@@ -4,7 +4,6 @@ use Rattle.std.proofs.lemmas.Bool.Decides.{nat_tests}
 use Rattle.pnp_model.specs.Records.{Node, Driver, State, Step, Settings}
 use Rattle.pnp_model.specs.Cores.{node_at}
 use Rattle.pnp_laws.specs.Kept.{IsGood, Lawful, HasStackOf, is_calm}
-use Rattle.pnp_model.specs.Diagram.{FollowsDiagram}
 use Rattle.pnp_model.specs.Runs.{Entry, Goes, printed, opening, root_node}
 use Rattle.pnp_laws.specs.RunsWell.{MayBegin, RunWell}
 use Rattle.pnp_model.specs.Runs.Entry.{Happens, Did}

@@ -1,29 +1,22 @@
 -- Each step of a run lowers the numbers, so a machine that is left alone comes to rest.
-use Rattle.std.proofs.Common.{ℕ, zero, suc, ◌+◌, ◌*◌, ◌<◌, ◌≤◌, ◌≡◌, ◌⊎◌, inl, inr, Bool, true, false, not, List, [], ◌∷◌, length, Option, Some, None, refl, sym, subst, arith}
-use Rattle.std.specs.List.{find, slice_get}
+use Rattle.std.proofs.Common.{ℕ, zero, suc, ◌+◌, ◌*◌, ◌<◌, ◌≤◌, ◌≡◌, ◌⊎◌, inl, inr, List, [], ◌∷◌, length, Option, refl, sym, subst, arith}
 use native.Mathlib.Decide.{dec_lt}
-use Rattle.pnp_model.specs.Records.{Node, Activity, Task, State, Step, Settings, Operation, Doing, Duty}
-use Rattle.pnp_model.specs.Records.Doing.{Does, Searches}
-use Rattle.pnp_model.specs.Cores.{node_at}
-use Rattle.pnp_model.specs.States.{activity_at}
+use Rattle.pnp_model.specs.Records.{State, Step, Settings, Operation, Doing}
 use Rattle.pnp_model.specs.Runs.{Entry, Run}
 use Rattle.pnp_model.specs.Runs.Entry.{Happens, Did}
 use Rattle.pnp_labels.specs.declared.label.Label.{Label}
-use Rattle.pnp_labels.specs.declared.label.OpKind.{OpKind}
 use Rattle.pnp_laws.specs.Quiet.{Rests, RestsWith}
-use Rattle.pnp_laws.proofs.Lookups.{own_serial, found_self, ready_found}
-use Rattle.pnp_laws.proofs.SoundTasks.{find_passes}
-use Rattle.pnp_laws.proofs.Stages.{operation_step}
+use Rattle.pnp_laws.proofs.EffectViews.{acting_at}
+use Rattle.pnp_laws.proofs.IdleSteps.{MachineStep, machine_step}
 use Rattle.pnp_laws.proofs.Standing.{StageKept}
 use Rattle.pnp_laws.proofs.Measures.{coarse, rank_of, left_of, answers_of}
 use Rattle.pnp_laws.specs.Ends.{AllSteps, Settles, SettlesLaw}
 use Rattle.pnp_laws.proofs.RunsStep.{rests_or, nothing_next, doing_one}
 use Rattle.pnp_model.proofs.Determined.{one_state}
 use Rattle.pnp_laws.proofs.MeasureOps.{Lowers, lower_so}
-use Rattle.pnp_laws.proofs.Passing.{AllNext, all_step}
 use Rattle.pnp_laws.proofs.MeasureStages.{falls_operation}
-use Rattle.pnp_laws.proofs.MeasureTasks.{lowers_act}
-use Rattle.pnp_laws.proofs.MeasureBegins.{lowers_list, lowers_start, lowers_begin_step}
+use Rattle.pnp_laws.proofs.MeasureTasks.{falls_act}
+use Rattle.pnp_laws.proofs.MeasureBegins.{lowers_task}
 use Rattle.pnp_laws.proofs.RunsStand.{Kept, kept_goes, reaches_kept}
 use Rattle.pnp_laws.proofs.Joins.{Born, can_join}
 use Rattle.pnp_laws.proofs.JoinMachine.{step_goes, reaches_born}
@@ -31,45 +24,15 @@ use Rattle.pnp_model.specs.Machine as ma
 
 -- Each step but a join ---------------------------------------------------------------------------------
 
-lowers_alone : (s : State) (kind : OpKind) (k : ℕ) (acts : List Activity) → slice_get s.tasks 0 ≡ Some (record { kind = Duty.Begins kind; serial = k }) → s.operation ≡ None → AllNext (Lowers s) (ma.begin_alone s kind k acts)
-lowers_alone s kind k [] first none = lowers_begin_step s kind k (node_at k s.core.nodes) refl first none
-lowers_alone s kind k (a ∷ acts) first none = tt
-
-lowers_task_of : (settings : Settings) (s : State) (kind : Duty) (k : ℕ) → slice_get s.tasks 0 ≡ Some (record { kind = kind; serial = k }) → s.operation ≡ None → Kept s → AllNext (Lowers s) (ma.task_of settings s kind k)
-lowers_task_of settings s Duty.Listing k first none kept = lowers_list s k (node_at k s.core.nodes) first none kept.good.serials
-lowers_task_of settings s Duty.Starting k first none kept = lowers_start settings s k (node_at k s.core.nodes) first none
-lowers_task_of settings s (Duty.Begins kind) k first none kept = lowers_alone s kind k s.activities first none
-
-lowers_task : (settings : Settings) (s : State) (o : Option Task) → slice_get s.tasks 0 ≡ o → s.operation ≡ None → Kept s → AllNext (Lowers s) (ma.task_next settings s o)
-lowers_task settings s None first none kept = tt
-lowers_task settings s (Some task) first none kept = lowers_task_of settings s task.kind task.serial first none kept
-
-ready_waits : (a : Activity) → ma.is_ready a ≡ true → ma.is_waiting (ma.phase_walk a.phase) ≡ false
-ready_waits a h = turn (ma.is_waiting (ma.phase_walk a.phase)) h
-  where
-    turn : (b : Bool) → not b ≡ true → b ≡ false
-    turn true g = absurd (cc)
-    turn false g = refl
-
-lowers_activity : (s : State) (a : Activity) (o : Option Node) → node_at a.serial s.core.nodes ≡ o → activity_at a.serial s.activities ≡ Some a → ma.is_ready a ≡ true → s.operation ≡ None → AllNext (Lowers s) (ma.activity_next s a o)
-lowers_activity s a None e at ready none = tt
-lowers_activity s a (Some node) e at ready none =
-    let own = own_serial a.serial node s.core.nodes e in
-    lowers_act s node a.phase (ready_waits a ready)
-    (record { none = none; activity = a; there = subst (λ (i : ℕ). activity_at i s.activities ≡ Some a) (sym own) at; is = refl; at = found_self a.serial s.core.nodes node e })
-
-lowers_idle_next : (settings : Settings) (s : State) (o : Option Activity) → find ma.is_ready s.activities ≡ o → s.operation ≡ None → Kept s → AllNext (Lowers s) (ma.idle_next settings s o)
-lowers_idle_next settings s (Some a) e none kept =
-    lowers_activity s a (node_at a.serial s.core.nodes) refl (ready_found ma.is_ready 0 s.activities a kept.good.order e).1 (find_passes ma.is_ready s.activities a e) none
-lowers_idle_next settings s None e none kept = lowers_task settings s (slice_get s.tasks 0) refl none kept
-
 pub lowers_step : (settings : Settings) (s : State) (step : Step) → Kept s → ma.IsStep settings (ma.next settings s) step → Lowers s step
-lowers_step settings s step kept is = by_operation s.operation refl
+lowers_step settings s step kept is = by_step step (machine_step settings s step is)
   where
-    by_operation : (o : Option Operation) → s.operation ≡ o → Lowers s step
-    by_operation (Some o) runs = lower_so s step (falls_operation s o step runs kept.good.serials (subst (λ (x : Option Operation). StageKept x s.core) runs kept.stands.stage) (operation_step settings s o step runs is))
-    by_operation None none =
-        all_step (Lowers s) settings (ma.next_of settings s None) step (lowers_idle_next settings s (find ma.is_ready s.activities) refl none kept) (subst (λ (x : Option Operation). ma.IsStep settings (ma.next_of settings s x) step) none is)
+    by_step : (x : Step) → MachineStep s x → Lowers s x
+    by_step _ (MachineStep.operates o x runs is) = lower_so s x (falls_operation s o x runs kept.good.serials (subst (λ (y : Option Operation). StageKept y s.core) runs kept.stands.stage) is)
+    by_step _ (MachineStep.starts node phase m at acting is) =
+        let here = acting_at s node.serial phase kept.good.order acting in
+        lower_so s _ (falls_act s node phase m (record { none = acting.none; activity = here.activity; there = here.at; is = here.is; at = at }) is)
+    by_step _ (MachineStep.does x none is) = lowers_task s x none kept.good.serials is
 
 -- Numbers that fall come to an end ----------------------------------------------------------------------
 

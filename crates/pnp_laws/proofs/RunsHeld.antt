@@ -1,5 +1,5 @@
 -- In each state of a run each device holds a whole alternative or nothing, and not more is held than events can bring.
-use Rattle.std.proofs.Common.{ℕ, zero, suc, ◌+◌, ◌*◌, ◌≤◌, ◌<◌, ◌≡◌, ◌≢◌, ◌⊎◌, inl, inr, Bool, true, false, not, List, [], ◌∷◌, ◌++◌, length, map, Option, Some, None, refl, sym, ap, ◌∙◌, subst, arith}
+use Rattle.std.proofs.Common.{ℕ, zero, suc, ◌+◌, ◌*◌, ◌≤◌, ◌<◌, ◌≡◌, ◌≢◌, inl, inr, true, false, List, [], ◌∷◌, length, map, Option, Some, refl, sym, ap, ◌∙◌, subst, arith}
 use Rattle.std.specs.List.{AllByRecursion, AllZip, IsDistinct, list_any}
 use Rattle.std.specs.Prelude.{eqb}
 use Rattle.std.proofs.lemmas.Bool.{cases_eq}
@@ -10,18 +10,18 @@ use Rattle.std.proofs.lemmas.Map.Steps.{length-le_from_distinct_below}
 use Rattle.resource_reqs.specs.Resources.{AltList, MayFrom, Reqs, Res, Whole}
 use Rattle.resource_reqs.proofs.Answering.{plan_is}
 use Rattle.pnp_labels.specs.declared.label.Label.{Label}
-use Rattle.pnp_model.specs.Cores.{bare, is_node, new_node, node_at, with_holds}
+use Rattle.pnp_model.specs.Cores.{bare, is_node, new_node, node_at}
 use Rattle.pnp_model.specs.Frames.{fixed_beside, held_by}
 use Rattle.pnp_model.specs.Keyed.{changed_first}
 use Rattle.pnp_model.specs.Rebalances.{committed, movers, plan_of}
 use Rattle.pnp_model.specs.Records.{Driver, Node, Operation, RebalanceStage, Settings, State, Step}
-use Rattle.pnp_model.specs.Runs.{Entry, Goes, Run, opening, printed, root_node}
+use Rattle.pnp_model.specs.Runs.{Entry, Goes, Run, opening, printed}
 use Rattle.pnp_model.specs.Runs.Entry.{Happens, Did}
 use Rattle.pnp_model.specs.Starts.{own_part}
 use Rattle.pnp_model.specs.Tests.{has}
 use Rattle.pnp_laws.specs.Effects.{Alters, NodeEffect, RangeEffect}
 use Rattle.pnp_laws.specs.Ends.{events}
-use Rattle.pnp_laws.specs.Held.{AllHoldParts, AreWithin, FewHeldLaw, HoldsPart, NodesWithin, PartsLaw}
+use Rattle.pnp_laws.specs.Held.{AllHoldParts, AreWithin, FewHeldLaw, HoldsPart, PartsLaw}
 use Rattle.pnp_laws.specs.Kept.{Ascending}
 use Rattle.pnp_laws.specs.Keys.{BirthsApart}
 use Rattle.pnp_laws.specs.Plans.{IsPlanned, PlanKept, StagePlan}

@@ -2,7 +2,6 @@
 use Rattle.std.proofs.Common.{ℕ, ◌+◌, ◌≤◌, ◌≡◌, ◌⊎◌, inl, inr, true, false, List, [], ◌∷◌, ◌++◌, length, Option, Some, None, refl, sym, ap, ◌∙◌, subst, arith, length-append}
 use Rattle.std.specs.Option.{option_map}
 use Rattle.std.proofs.lemmas.Bool.{cases_eq}
-use Rattle.std.proofs.lemmas.Bool.Decides.{nat_tests}
 use Rattle.std.proofs.lemmas.Slice.Eq.{bytes_eq-Decides}
 use Rattle.device_ids.specs.Folding.{folded, same}
 use Rattle.pnp_labels.specs.Texts.{Text}
@@ -15,7 +14,7 @@ use Rattle.pnp_model.specs.Frames.{next_driver}
 use Rattle.pnp_model.specs.Keyed.{changed_first, without_first}
 use Rattle.pnp_model.specs.Laws.{Reaches}
 use Rattle.pnp_model.specs.Rebalances.{committed, movers, plan_of}
-use Rattle.pnp_model.specs.Records.{Activity, Device, Driver, Node, Phase, Settings, State, Step}
+use Rattle.pnp_model.specs.Records.{Activity, Driver, Node, Phase, Settings, State, Step}
 use Rattle.pnp_model.specs.Records.Phase.{Adding}
 use Rattle.pnp_model.specs.Runs.{Entry, Goes, printed, opening}
 use Rattle.pnp_model.specs.Starts.{adding}
@@ -31,12 +30,12 @@ use Rattle.pnp_laws.proofs.DriverNames.{MoreNames, chosen_named, more_names, nam
 use Rattle.pnp_laws.proofs.EffectsOf.{effect_goes}
 use Rattle.pnp_laws.proofs.EffectViews.{acting_at, alters_keeps, entered_either}
 use Rattle.pnp_laws.proofs.JoinMachine.{reaches_born}
+use Rattle.pnp_laws.proofs.IdleSteps.{joins_is}
 use Rattle.pnp_laws.proofs.Joins.{any_from}
-use Rattle.pnp_laws.proofs.Lookups.{ended_other, ended_same, joined_from, left_from, map_from, node_from, phase_set_other, phase_set_same, some_same}
+use Rattle.pnp_laws.proofs.Lookups.{ended_other, ended_same, find_passes, joined_from, left_from, map_from, node_from, phase_set_other, phase_set_same, some_same}
 use Rattle.pnp_laws.proofs.Reaching.{kept}
 use Rattle.pnp_laws.proofs.Runs.{root_is}
 use Rattle.pnp_laws.proofs.RunsStand.{reaches_kept}
-use Rattle.pnp_laws.proofs.SoundTasks.{find_passes}
 
 -- What is kept -----------------------------------------------------------------------------------------
 
@@ -131,10 +130,6 @@ data From (s : State) (label : Label) (k : ℕ) (m : Node) : Type 0 where
       → Acting s k (Adding (d ∷ ds)) → label ≡ Label.Add path name true → From s label k m
   joined : node_at k s.core.nodes ≡ None → s.next_serial ≡ k → has_path m.path s.core.nodes ≡ false → m.stack ≡ [] → From s label k m
 
--- what joins has a path of its own
-path_is_new : (born : ℕ) (nodes : List Node) (d : Device) → joins born nodes d ≡ true → has_path d.path nodes ≡ false
-path_is_new born nodes d h = grind (arith, nat_tests)
-
 module _ (s : State) (label : Label) (order : Ascending 0 s.core.nodes) where
   altered : (t : State) (j : ℕ) (f : Node → Node) → Alters s label t j f → (n : Node) → node_at j s.core.nodes ≡ Some n → From s label j (f n)
   altered t j f (Alters.stacks node d ds name at acts prints) n there =
@@ -162,7 +157,7 @@ module _ (s : State) (label : Label) (order : Ascending 0 s.core.nodes) where
       elim (joined_from k s.core.nodes (new_node s.next_serial node.serial d) m (subst (λ (x : Step). node_at k x.state.core.nodes ≡ Some m) is at)) [
         | inl q ↦ From.was m q refl (inl refl)
         | inr (gone, new, own) ↦
-            let fresh = path_is_new node.born s.core.nodes d (find_passes (joins node.born s.core.nodes) s.world d below) in
+            let fresh = (joins_is node.born s.core.nodes d (find_passes (joins node.born s.core.nodes) s.world d below)).2 in
             From.joined gone own (subst (λ (z : Node). has_path z.path s.core.nodes ≡ false) (sym new) fresh) (ap (λ (z : Node). z.stack) new)
       ]
   from t (NodeEffect.left node o runs first e rest) k m at = From.was m (left_from node.serial k s.core.nodes m order (subst (λ (x : List Node). node_at k x ≡ Some m) e at)).1 refl (inl refl)

@@ -1,29 +1,25 @@
 -- Each step and each event of the machine keeps the tree and what is due.
-use Rattle.std.proofs.Common.{ℕ, suc, ◌≡◌, ◌⊎◌, ◌∙◌, ◌≢◌, ◌==◌, inl, inr, Bool, true, false, cond, List, [], ◌∷◌, ◌++◌, Option, Some, None, refl, sym, ap, subst, arith}
-use Rattle.std.specs.List.{find, slice_get}
+use Rattle.std.proofs.Common.{ℕ, ◌≡◌, ◌⊎◌, ◌∙◌, ◌≢◌, ◌==◌, inl, inr, Bool, false, List, [], ◌∷◌, ◌++◌, Option, Some, None, refl, sym, ap, subst, arith}
 use Rattle.std.proofs.lemmas.Bool.Decides.{nat_tests}
 use Rattle.device_ids.specs.Folding.{same}
 use Rattle.pnp_model.specs.Tests.{has}
-use Rattle.pnp_model.specs.Records.{Node, Core, Relation, Activity, Task, State, Step, Settings, Operation, Rebalance, RebalanceStage, Removal, RemovalStage, Surprise, SurpriseStage, Doing, Duty}
-use Rattle.pnp_model.specs.Records.Doing.{Does, Searches}
+use Rattle.pnp_model.specs.Records.{Node, Core, Relation, Activity, Task, State, Step, Settings, Operation, Rebalance, RebalanceStage, Removal, RemovalStage, Surprise, SurpriseStage, Duty}
 use Rattle.pnp_model.specs.Cores.{node_at}
-use Rattle.pnp_model.specs.Frames.{first_node}
 use Rattle.pnp_model.specs.Trees.{dependents}
-use Rattle.pnp_model.specs.States.{activity_at, set_operation, with_core}
+use Rattle.pnp_model.specs.States.{set_operation, with_core}
 use Rattle.pnp_labels.specs.declared.words.Answer.{Answer}
 use Rattle.pnp_labels.specs.declared.event.Event.{Event}
 use Rattle.pnp_labels.specs.declared.label.OpKind.{OpKind}
-use Rattle.pnp_laws.specs.Kept.{Ascending, Good, IsGood, BeginsWell, Fits, is_idle, RebalanceKeeps, RemovalKeeps, SurpriseKeeps}
+use Rattle.pnp_laws.specs.Kept.{Ascending, Good, IsGood, BeginsWell, is_idle, RebalanceKeeps, RemovalKeeps, SurpriseKeeps}
 use Rattle.pnp_laws.specs.Due.{AllDue}
 use Rattle.pnp_labels.specs.declared.label.Label.{Label}
 use Rattle.pnp_laws.specs.Effects.{AnswerEffect, CommandEffect, NodeEffect, Related}
 use Rattle.pnp_laws.specs.Words.{IsWord}
 use Rattle.pnp_laws.proofs.EffectsOfEvents.{event_effect}
 use Rattle.pnp_laws.proofs.EventChanges.{happens_outside, relations_stay, still_serial}
-use Rattle.pnp_laws.proofs.Lookups.{own_serial, found_self, ready_found, some_same}
+use Rattle.pnp_laws.proofs.Lookups.{node_found}
 use Rattle.pnp_laws.proofs.OpSteps.{is_Started}
 use Rattle.pnp_laws.proofs.Orders.{leaving_fits}
-use Rattle.pnp_laws.proofs.Closures.{head_at, tail_at}
 use Rattle.pnp_laws.proofs.Due.{settled_from_due}
 use Rattle.pnp_laws.proofs.Standing.{Tree, DueBut, waiting, rebalance_waiting, StageKept, OrderKept, RemovalOrder, SurpriseOrder, Stands, Sound, Finishes, RebalanceThere, RemovalThere, SurpriseThere}
 use Rattle.pnp_laws.proofs.TreeChanges.{same_still, tree_same}
@@ -31,12 +27,13 @@ use Rattle.pnp_laws.proofs.TreeMoves.{tree_related}
 use Rattle.pnp_laws.proofs.Sounds.{leads_pushed, up_append, up_first, due_still}
 use Rattle.pnp_laws.proofs.Finishes.{fades_same, finishes_still}
 use Rattle.pnp_laws.proofs.SoundOps.{MoreTasks, more_same, more_pushed, op_still}
-use Rattle.pnp_laws.proofs.Passing.{AllNext, all_step}
+use Rattle.pnp_laws.proofs.IdleSteps.{MachineStep, machine_step}
+use Rattle.pnp_laws.proofs.MachineSteps.{acting_fits}
 use Rattle.pnp_laws.proofs.SoundStarts.{sound_act, stage_none}
 use Rattle.pnp_laws.proofs.SoundRebalances.{sound_rebalance}
 use Rattle.pnp_laws.proofs.SoundRemovals.{sound_removal, sound_surprise}
-use Rattle.pnp_laws.proofs.Stages.{OperationStep, asking, operation_step, reply}
-use Rattle.pnp_laws.proofs.SoundTasks.{sound_list, sound_start, sound_begin_step}
+use Rattle.pnp_laws.proofs.Stages.{OperationStep, asking, reply}
+use Rattle.pnp_laws.proofs.SoundTasks.{sound_task}
 use Rattle.pnp_model.specs.Machine as ma
 use Rattle.pnp_model.specs.Events as ev
 
@@ -98,32 +95,6 @@ completed_waiting answer nodes (Operation.Surprising o) = refl
 
 -- Steps --------------------------------------------------------------------------------------------
 
-sound_alone : (s : State) (kind : OpKind) (k : ℕ) (acts : List Activity) → slice_get s.tasks 0 ≡ Some (record { kind = Duty.Begins kind; serial = k }) → s.operation ≡ None → Good s.next_serial s.core.nodes s.activities None → Stands s → AllNext (Sound s) (ma.begin_alone s kind k acts)
-sound_alone s kind k [] first none good h = sound_begin_step s kind k (node_at k s.core.nodes) refl first none good h
-sound_alone s kind k (a ∷ acts) first none good h = tt
-
-sound_task_of : (settings : Settings) (s : State) (kind : Duty) (k : ℕ) → slice_get s.tasks 0 ≡ Some (record { kind = kind; serial = k }) → s.operation ≡ None → Good s.next_serial s.core.nodes s.activities None → Stands s → AllNext (Sound s) (ma.task_of settings s kind k)
-sound_task_of settings s Duty.Listing k first none good h = sound_list s k (node_at k s.core.nodes) refl first none good h
-sound_task_of settings s Duty.Starting k first none good h = sound_start settings s k (node_at k s.core.nodes) refl first none h
-sound_task_of settings s (Duty.Begins kind) k first none good h = sound_alone s kind k s.activities first none good h
-
-sound_task : (settings : Settings) (s : State) (o : Option Task) → slice_get s.tasks 0 ≡ o → s.operation ≡ None → Good s.next_serial s.core.nodes s.activities None → Stands s → AllNext (Sound s) (ma.task_next settings s o)
-sound_task settings s None first none good h = tt
-sound_task settings s (Some task) first none good h = sound_task_of settings s task.kind task.serial first none good h
-
-sound_activity : (s : State) (a : Activity) (o : Option Node) → node_at a.serial s.core.nodes ≡ o → activity_at a.serial s.activities ≡ Some a → s.operation ≡ None → Good s.next_serial s.core.nodes s.activities None → Stands s → AllNext (Sound s) (ma.activity_next s a o)
-sound_activity s a None e at none good h = tt
-sound_activity s a (Some node) e at none good h =
-    let old = good.phases a.serial a at in
-    let same : old.0 ≡ node = some_same (node_at a.serial s.core.nodes) old.0 node old.1 e in
-    let own = own_serial a.serial node s.core.nodes e in
-    let fit = subst (λ (x : Node). Fits a.phase x.state) same old.3 in
-    sound_act s node a.phase none (found_self a.serial s.core.nodes node e) (subst (λ (i : ℕ). i ≢ 0) (sym own) old.2) fit good.serials h
-
-sound_idle_next : (settings : Settings) (s : State) (o : Option Activity) → find ma.is_ready s.activities ≡ o → s.operation ≡ None → Good s.next_serial s.core.nodes s.activities None → Stands s → AllNext (Sound s) (ma.idle_next settings s o)
-sound_idle_next settings s (Some a) e none good h = sound_activity s a (node_at a.serial s.core.nodes) refl (ready_found ma.is_ready 0 s.activities a good.order e).1 none good h
-sound_idle_next settings s None e none good h = sound_task settings s (slice_get s.tasks 0) refl none good h
-
 sound_operation : (s : State) (o : Operation) (step : Step) → Good s.next_serial s.core.nodes s.activities (Some o) → StageKept (Some o) s.core → DueBut (waiting (Some o)) s.tasks s.core.nodes → Stands s → OperationStep s o step → Sound s step
 sound_operation s p step good kept due h (OperationStep.asks o node w asks) =
     let answer = reply s.core node w in
@@ -142,15 +113,19 @@ sound_operation s p step good kept due h (OperationStep.surprises o stage m is x
     (subst (λ (y : SurpriseStage). SurpriseThere o y s.core.nodes) is kept.1) x
 
 pub sound_step : (settings : Settings) (s : State) (step : Step) → IsGood s → Stands s → ma.IsStep settings (ma.next settings s) step → Sound s step
-sound_step settings s step good h is = by_operation s.operation refl
+sound_step settings s step good h is = by_step step (machine_step settings s step is)
   where
-    by_operation : (o : Option Operation) → s.operation ≡ o → Sound s step
-    by_operation (Some o) runs =
-        sound_operation s o step (subst (λ (x : Option Operation). Good s.next_serial s.core.nodes s.activities x) runs good) (subst (λ (x : Option Operation). StageKept x s.core) runs h.stage)
-        (subst (λ (x : Option Operation). DueBut (waiting x) s.tasks s.core.nodes) runs h.due) h (operation_step settings s o step runs is)
-    by_operation None none =
-        all_step (Sound s) settings (ma.next_of settings s None) step (sound_idle_next settings s (find ma.is_ready s.activities) refl none (subst (λ (x : Option Operation). Good s.next_serial s.core.nodes s.activities x) none good) h)
-        (subst (λ (x : Option Operation). ma.IsStep settings (ma.next_of settings s x) step) none is)
+    calm : s.operation ≡ None → Good s.next_serial s.core.nodes s.activities None
+    calm none = subst (λ (x : Option Operation). Good s.next_serial s.core.nodes s.activities x) none good
+
+    by_step : (x : Step) → MachineStep s x → Sound s x
+    by_step _ (MachineStep.operates o x runs is) =
+        sound_operation s o x (subst (λ (y : Option Operation). Good s.next_serial s.core.nodes s.activities y) runs good) (subst (λ (y : Option Operation). StageKept y s.core) runs h.stage)
+        (subst (λ (y : Option Operation). DueBut (waiting y) s.tasks s.core.nodes) runs h.due) h is
+    by_step _ (MachineStep.starts node phase m at acting is) =
+        let fit = acting_fits s node phase at acting (calm acting.none) in
+        sound_act s node acting.none at fit.0 h phase m fit.1 good.serials is
+    by_step _ (MachineStep.does x none is) = sound_task s x none (calm none) h is
 
 -- What the begin of an operation needs -------------------------------------------------------------
 
@@ -189,24 +164,12 @@ event_tasks s t (CommandEffect.lists k e) = subst (λ (ts : List Task). MoreTask
 event_tasks s t (CommandEffect.starts path n found e) = subst (λ (ts : List Task). MoreTasks s.tasks ts) (sym e) (more_pushed s.tasks (record { kind = Duty.Starting; serial = n.serial }) (inr refl))
 event_tasks s t (CommandEffect.begins kind n path found up e) = subst (λ (ts : List Task). MoreTasks s.tasks ts) (sym e) (more_begins s.tasks kind n.serial (grind (arith, nat_tests)))
 
--- a node that is found by another test is found by its serial
-by_serial : (test : Node → Bool) (lo : ℕ) (nodes : List Node) (n : Node) → Ascending lo nodes → find test nodes ≡ Some n → node_at n.serial nodes ≡ Some n
-by_serial test lo [] n order h = absurd (cc)
-by_serial test lo (x ∷ xs) n order h =
-    let more = by_serial test (suc x.serial) xs n order.1 in
-    let by_test : (b : Bool) → cond b (Some x) (find test xs) ≡ Some n → node_at n.serial (x ∷ xs) ≡ Some n =
-    λ b. elim b as (λ b. cond b (Some x) (find test xs) ≡ Some n → node_at n.serial (x ∷ xs) ≡ Some n) [
-      | true ↦ λ e. let same : x ≡ n = cc in subst (λ (z : Node). node_at z.serial (x ∷ xs) ≡ Some z) same (head_at x xs)
-      | false ↦ λ e. tail_at lo x xs n.serial n order (more e)
-    ] in
-    by_test (test x) h
-
 -- two devices are related
 related_stands : (s : State) (r : Relation) → Related s r → IsGood s → Stands s → Stands (with_core (ev.add_relation r s.core) s)
 related_stands s r rel good h =
     let up = is_Started rel.owner.state rel.owner_up in
-    let owner = by_serial (λ n. same n.path rel.owner_path) 0 s.core.nodes rel.owner good.serials rel.owner_at in
-    let member = by_serial (λ n. same n.path rel.member_path) 0 s.core.nodes rel.member good.serials rel.member_at in
+    let owner = (node_found (λ n. same n.path rel.owner_path) 0 s.core.nodes rel.owner good.serials rel.owner_at).1 in
+    let member = (node_found (λ n. same n.path rel.member_path) 0 s.core.nodes rel.member good.serials rel.member_at).1 in
     let apart : rel.owner.serial ≢ rel.member.serial = differ rel.owner.serial rel.member.serial rel.apart in
     let free = subst (λ (i : ℕ). has (dependents s.core i) r.owner ≡ false) (sym rel.member_is) (subst (λ (i : ℕ). has (dependents s.core rel.member.serial) i ≡ false) (sym rel.owner_is) rel.free) in
     record {

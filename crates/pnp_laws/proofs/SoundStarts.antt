@@ -1,37 +1,33 @@
--- Each step of an activity keeps the tree and what is due, and dependents go first.
+-- Each step of a start keeps the tree and what is due, and dependents go first.
 use Rattle.std.proofs.Common.{ℕ, ◌≡◌, ◌≢◌, ◌==◌, inl, Bool, true, false, not, ◌&&◌, List, [], ◌∷◌, ◌++◌, Option, Some, None, refl, sym, ap, ◌∙◌, subst, arith}
 use Rattle.std.specs.List.{list_any}
 use Rattle.std.proofs.lemmas.Bool.Decides.{nat_tests}
-use Rattle.resource_reqs.specs.Spelling.Answer.{assignment, no_fit, spent}
 use Rattle.pnp_model.specs.Keyed.{changed_first}
 use Rattle.pnp_model.specs.Tests.{has}
-use Rattle.pnp_model.specs.Records.{Node, Core, Phase, State, Step, Found, Walk, Operation, Duty, doing_map}
-use Rattle.pnp_model.specs.Records.Phase.{Adding, Searching, Starting, Removing, Due}
-use Rattle.pnp_model.specs.Cores.{is_node, node_at, with_state, with_problem, with_stack, with_holds, stacked}
+use Rattle.pnp_model.specs.Records.{Node, Core, Phase, State, Task, Operation, Duty}
+use Rattle.pnp_model.specs.Cores.{is_node, node_at, with_state, with_problem, with_stack, with_holds, stacked, strip}
 use Rattle.pnp_model.specs.Trees.{dependents, direct, hangs_on}
-use Rattle.pnp_model.specs.Walks.{is_bad}
-use Rattle.pnp_model.specs.Starts.{searched, own_part, add_driver, end_start, start_on, remove_on, undo, act}
+use Rattle.pnp_model.specs.Starts.{StartMove, own_part}
+use Rattle.pnp_model.specs.States.{end_activity, with_core}
 use Rattle.pnp_model.specs.Machine.{start_lifted}
 use Rattle.pnp_model.specs.Diagram.{Row}
 use Rattle.pnp_model.specs.Diagram.Row.{start, start_bad, remove}
 use Rattle.pnp_labels.specs.declared.states.DevState.{DevState}
 use Rattle.pnp_labels.specs.declared.words.Minor.{Minor}
-use Rattle.pnp_labels.specs.declared.words.Answer.{Answer}
 use Rattle.pnp_labels.specs.declared.label.Label.{Label}
 use Rattle.pnp_labels.specs.declared.label.OpKind.{OpKind}
-use Rattle.pnp_labels.specs.declared.states.Problem.{Problem}
-use Rattle.pnp_labels.specs.declared.states.DevState.TheVariants.{NoStack, NotStarted, Started, Stopped}
-use Rattle.pnp_labels.specs.declared.words.Answer.TheVariants.{Ok, Fail, Pend}
+use Rattle.pnp_labels.specs.declared.states.DevState.TheVariants.{NoStack, Started, Stopped}
 use Rattle.pnp_laws.specs.Kept.{Ascending, Fits, is_idle}
+use Rattle.pnp_laws.proofs.IdleSteps.{ActivityStep}
 use Rattle.pnp_laws.proofs.Lists.{those_found}
 use Rattle.pnp_laws.proofs.Lookups.{own_serial}
-use Rattle.pnp_laws.proofs.Passing.{AllBy}
 use Rattle.pnp_laws.proofs.StartSteps.{stacked_idle}
 use Rattle.pnp_laws.proofs.Closures.{closed_within, hangs_some}
 use Rattle.pnp_laws.proofs.Standing.{TasksUp, waiting, StageKept, Stands, Sound}
 use Rattle.pnp_laws.proofs.TreeChanges.{Alike, same_changed, nodes_same}
 use Rattle.pnp_laws.proofs.Sounds.{IsPlain, LeadsMore, leads_same, leads_pushed, up_append, due_still, due_changed, due_stripped, sound_still, sound_same, sound_walk, sound_strip}
 use Rattle.pnp_laws.proofs.Truths.{or_left}
+use Rattle.pnp_model.specs.Starts as st
 
 -- no operation runs
 
@@ -89,51 +85,41 @@ no_dependents c k order none j h =
 pub plain_alike : (f : Node → Node) (node : Node) → (f node).serial ≡ node.serial → (f node).parent ≡ node.parent → (f node).path ≡ node.path → (f node).state ≡ node.state → (f node).born ≡ node.born → Alike node (f node)
 plain_alike f node a b c d e = record { serial = a; parent = b; path = c; born = e; idle = λ h. ap is_idle (sym d) ∙ h }
 
-sound_add : (s : State) (c : Core) (node : Node) (d : ℕ) (ds : List ℕ) (answer : Answer) → c.nodes ≡ s.core.nodes → c.relations ≡ s.core.relations → s.operation ≡ None → node_at node.serial s.core.nodes ≡ Some node → is_idle node.state ≡ true → Stands s →
-    Sound s (start_lifted s node.serial (add_driver c node d ds answer))
-sound_add s c node d ds Ok same rel none at idle h =
-    let f = with_stack (node.stack ++ d ∷ []) (stacked node.state) in
-    calm_changed s _ _ f node tt (ap (λ (ns : List Node). changed_first (is_node node.serial) f ns) same) rel refl none none (λ x. refl) at (record { serial = refl; parent = refl; path = refl; born = refl; idle = λ q. idle }) (λ e. absurd (let q = stacked_idle node.state idle in cc)) h.up (leads_same s.tasks) h
-sound_add s c node d ds Fail same rel none at idle h = calm_still s _ _ tt same rel refl none none h.up (leads_same s.tasks) h
-sound_add s c node d ds Pend same rel none at idle h = calm_still s _ _ tt same rel refl none none h.up (leads_same s.tasks) h
+module _ (s : State) (node : Node) (none : s.operation ≡ None) (at : node_at node.serial s.core.nodes ≡ Some node) (up : node.serial ≢ 0) (h : Stands s) where
+  -- the start goes on
+  goes : (label : Label) (c : Core) (phase : Phase) → IsPlain label → c.nodes ≡ s.core.nodes → c.relations ≡ s.core.relations → Sound s (start_lifted s node.serial (st.goes label c phase))
+  goes label c phase plain nodes relations = calm_still s _ label plain nodes relations refl none none h.up (leads_same s.tasks) h
 
-sound_searched : (s : State) (node : Node) (found : Found) → s.operation ≡ None → node_at node.serial s.core.nodes ≡ Some node → node.serial ≢ 0 → Stands s → Sound s (start_lifted s node.serial (searched s.core node found))
-sound_searched s node (assignment plan) none at up h =
-    calm_changed s _ (Label.Assign node.path (own_part plan)) (with_holds (own_part plan)) node tt refl refl refl none none (λ x. refl) at (plain_alike (with_holds (own_part plan)) node refl refl refl refl refl) (λ e. e) h.up (leads_same s.tasks) h
-sound_searched s node no_fit none at up h = calm_still s _ _ tt refl refl refl none none (up_append s.tasks (record { kind = Duty.Begins OpKind.Rebalance; serial = node.serial }) up h.up) (leads_pushed s.tasks _) h
-sound_searched s node spent none at up h = calm_still s _ _ tt refl refl refl none none h.up (leads_same s.tasks) h
+  -- a field changes that nothing here speaks of
+  sets : (t : State) (label : Label) (f : Node → Node) → IsPlain label → t.core.nodes ≡ changed_first (is_node node.serial) f s.core.nodes → t.core.relations ≡ s.core.relations → t.next_serial ≡ s.next_serial → t.operation ≡ s.operation → t.tasks ≡ s.tasks
+      → ((x : Node) → (f x).serial ≡ x.serial) → (f node).parent ≡ node.parent → (f node).path ≡ node.path → (f node).state ≡ node.state → (f node).born ≡ node.born → Sound s (record { label = label; state = t })
+  sets t label f plain a b next op tasks keeps parent path state born =
+      calm_changed s t label f node plain a b next (op ∙ none) none keeps at (plain_alike f node (keeps node) parent path state born) (λ e. sym state ∙ e)
+      (subst (λ (ts : List Task). TasksUp ts) (sym tasks) h.up) (subst (λ (ts : List Task). LeadsMore s.tasks ts) (sym tasks) (leads_same s.tasks)) h
 
-sound_end_start : (s : State) (node : Node) (bad : Bool) → s.operation ≡ None → node_at node.serial s.core.nodes ≡ Some node → node.state ≡ NotStarted → Stands s → Sound s (start_lifted s node.serial (end_start s.core node bad))
-sound_end_start s node true none at e h =
-    calm_walk s _ node Minor.Start true node.state refl refl refl none none at (λ q. q) (λ q. cc) (λ q. cc) (subst (λ (x : DevState). Row x Minor.Start true x) (sym e) start_bad) h.up (leads_same s.tasks) h
-sound_end_start s node false none at e h =
-    calm_walk s _ node Minor.Start false Started refl refl refl none none at (λ q. absurd (cc)) (λ q. cc) (λ q. cc) (subst (λ (x : DevState). Row x Minor.Start false Started) (sym e) start)
-    (up_append s.tasks (record { kind = Duty.Listing; serial = node.serial }) tt h.up) (leads_pushed s.tasks _) h
-
-sound_start_on : (s : State) (node : Node) (w : Walk) (ends : Bool) → s.operation ≡ None → node_at node.serial s.core.nodes ≡ Some node → node.state ≡ NotStarted → Stands s → Sound s (start_lifted s node.serial (start_on s.core node w ends))
-sound_start_on s node w true none at e h = sound_end_start s node (is_bad w) none at e h
-sound_start_on s node w false none at e h = calm_still s _ _ tt refl refl refl none none h.up (leads_same s.tasks) h
-
-sound_remove_on : (s : State) (node : Node) (w : Walk) (ends : Bool) → s.operation ≡ None → node_at node.serial s.core.nodes ≡ Some node → node.state ≡ NotStarted → Ascending 0 s.core.nodes → Stands s → Sound s (start_lifted s node.serial (remove_on s.core node w ends))
-sound_remove_on s node w true none at e order h =
-    let t = (start_lifted s node.serial (remove_on s.core node w true)).state in
-    let free : (j : ℕ) (m : Node) → node_at j s.core.nodes ≡ Some m → hangs_on s.core (node.serial ∷ []) m ≡ true → ⊥ = h.tree.idle node.serial node at (ap is_idle e) in
-    sound_strip s t node refl refl at (subst (λ (x : DevState). Row x Minor.Remove false NoStack) (sym e) remove)
-    (λ i m there d p. free i m there (child_hangs s.core node.serial i m there d p))
-    (λ j m dep there. absurd (no_dependents s.core node.serial order free j dep))
-    h.up (stage_none s.operation t.core none)
-    (due_stripped (waiting s.operation) s.tasks s.tasks s.core t.core node.serial node refl at (leads_same s.tasks) h.due) h
-sound_remove_on s node w false none at e order h = calm_still s _ _ tt refl refl refl none none h.up (leads_same s.tasks) h
-
-sound_undo : (s : State) (node : Node) (problem : Problem) (stack : List ℕ) → s.operation ≡ None → node_at node.serial s.core.nodes ≡ Some node → Stands s →
-    Sound s (start_lifted s node.serial (undo (record s.core { nodes = changed_first (is_node node.serial) (with_problem (Some problem)) s.core.nodes }) node problem stack))
-sound_undo s node problem [] none at h = calm_changed s _ _ (with_problem (Some problem)) node tt refl refl refl none none (λ x. refl) at (plain_alike (with_problem (Some problem)) node refl refl refl refl refl) (λ e. e) h.up (leads_same s.tasks) h
-sound_undo s node problem (d ∷ ds) none at h = calm_changed s _ _ (with_problem (Some problem)) node tt refl refl refl none none (λ x. refl) at (plain_alike (with_problem (Some problem)) node refl refl refl refl refl) (λ e. e) h.up (leads_same s.tasks) h
-
-pub sound_act : (s : State) (node : Node) (phase : Phase) → s.operation ≡ None → node_at node.serial s.core.nodes ≡ Some node → node.serial ≢ 0 → Fits phase node.state → Ascending 0 s.core.nodes → Stands s → AllBy (Sound s) (doing_map (start_lifted s node.serial) (act s.core node phase))
-sound_act s node (Adding []) none at up fit order h = λ found. sound_searched s node found none at up h
-sound_act s node (Adding (d ∷ ds)) none at up fit order h = sound_add s _ node d ds _ refl refl none at fit h
-sound_act s node Searching none at up fit order h = λ found. sound_searched s node found none at up h
-sound_act s node (Starting w) none at up fit order h = sound_start_on s node w _ none at fit h
-sound_act s node (Removing w) none at up fit order h = sound_remove_on s node w _ none at fit order h
-sound_act s node (Due problem) none at up fit order h = sound_undo s node problem node.stack none at h
+  pub sound_act : (phase : Phase) (m : StartMove) → Fits phase node.state → Ascending 0 s.core.nodes → ActivityStep s.core node phase m → Sound s (start_lifted s node.serial m)
+  sound_act _ _ idle order (ActivityStep.adds d ds) =
+      calm_changed s _ _ (with_stack (node.stack ++ d ∷ []) (stacked node.state)) node tt refl refl refl none none (λ x. refl) at (record { serial = refl; parent = refl; path = refl; born = refl; idle = λ q. idle })
+      (λ e. absurd (let q = stacked_idle node.state idle in cc)) h.up (leads_same s.tasks) h
+  sound_act _ _ idle order (ActivityStep.refused d ds) = goes _ _ _ tt refl refl
+  sound_act _ _ fit order (ActivityStep.fits phase plan budget search answer) = sets _ (Label.Assign node.path (own_part plan)) (with_holds (own_part plan)) tt refl refl refl refl refl (λ x. refl) refl refl refl refl
+  sound_act _ _ fit order (ActivityStep.unplaced phase search) =
+      calm_still s _ _ tt refl refl refl none none (up_append s.tasks (record { kind = Duty.Begins OpKind.Rebalance; serial = node.serial }) up h.up) (leads_pushed s.tasks _) h
+  sound_act _ _ fit order (ActivityStep.tires phase search) = goes _ _ _ tt refl refl
+  sound_act _ _ fit order (ActivityStep.asks_start w waits more) = goes _ _ _ tt refl refl
+  sound_act _ _ fit order (ActivityStep.fails w ended bad) =
+      calm_walk s _ node Minor.Start true node.state refl refl refl none none at (λ q. q) (λ q. cc) (λ q. cc) (subst (λ (x : DevState). Row x Minor.Start true x) (sym fit) start_bad) h.up (leads_same s.tasks) h
+  sound_act _ _ fit order (ActivityStep.starts w ended well) =
+      calm_walk s _ node Minor.Start false Started refl refl refl none none at (λ q. absurd (cc)) (λ q. cc) (λ q. cc) (subst (λ (x : DevState). Row x Minor.Start false Started) (sym fit) start)
+      (up_append s.tasks (record { kind = Duty.Listing; serial = node.serial }) tt h.up) (leads_pushed s.tasks _) h
+  sound_act _ _ fit order (ActivityStep.asks_remove w waits more) = goes _ _ _ tt refl refl
+  sound_act _ _ fit order (ActivityStep.strips w ended) =
+      let t = end_activity node.serial (with_core (strip node.serial s.core) s) in
+      let free : (j : ℕ) (m : Node) → node_at j s.core.nodes ≡ Some m → hangs_on s.core (node.serial ∷ []) m ≡ true → ⊥ = h.tree.idle node.serial node at (ap is_idle fit) in
+      sound_strip s t node refl refl at (subst (λ (x : DevState). Row x Minor.Remove false NoStack) (sym fit) remove)
+      (λ i m there d p. free i m there (child_hangs s.core node.serial i m there d p))
+      (λ j m dep there. absurd (no_dependents s.core node.serial order free j dep))
+      h.up (stage_none s.operation t.core none)
+      (due_stripped (waiting s.operation) s.tasks s.tasks s.core t.core node.serial node refl at (leads_same s.tasks) h.due) h
+  sound_act _ _ idle order (ActivityStep.empty problem bare) = sets _ (Label.Trouble node.path problem) (with_problem (Some problem)) tt refl refl refl refl refl (λ x. refl) refl refl refl refl
+  sound_act _ _ idle order (ActivityStep.undoes problem d ds stack) = sets _ (Label.Trouble node.path problem) (with_problem (Some problem)) tt refl refl refl refl refl (λ x. refl) refl refl refl refl

@@ -1,5 +1,5 @@
 -- What a step of an operation is, stage by stage: the one list that laws over stages read.
-use Rattle.std.proofs.Common.{ℕ, ◌≡◌, ◌==◌, ◌⊎◌, ◌∙◌, inl, inr, Bool, true, false, ◌&&◌, List, length, Option, Some, None, refl, sym, ap, subst}
+use Rattle.std.proofs.Common.{ℕ, ◌≡◌, ◌==◌, ◌⊎◌, ◌∙◌, inl, inr, Bool, true, false, ◌&&◌, List, length, Option, Some, None, refl, ap, subst}
 use Rattle.std.specs.Option.{option_map}
 use Rattle.resource_reqs.specs.Spelling.{IsAnswer}
 use Rattle.pnp_labels.specs.declared.words.AskWhat.{AskWhat}
@@ -8,13 +8,15 @@ use Rattle.pnp_labels.specs.declared.states.Problem.{Problem}
 use Rattle.pnp_model.specs.Books.{rack_reply}
 use Rattle.pnp_model.specs.Frames.{asked, first_node, next_driver}
 use Rattle.pnp_model.specs.Records.{Core, Doing, Found, Node, Operation, Rebalance, RebalanceStage, Removal, RemovalStage, Settings, State, Step, Surprise, SurpriseStage, Walk, doing_map}
-use Rattle.pnp_model.specs.Records.Doing.{Does, Searches}
+use Rattle.pnp_model.specs.Records.Doing.{Does}
 use Rattle.pnp_model.specs.Removals.{RemoveBeside}
 use Rattle.pnp_model.specs.States.{set_operation, with_core}
 use Rattle.pnp_model.specs.Tests.{has, is_eject}
 use Rattle.pnp_model.specs.Walks.{has_ended, is_bad}
 use Rattle.pnp_laws.specs.Effects.{todo_of}
 use Rattle.pnp_laws.specs.Words.{NotTwelve}
+use Rattle.pnp_laws.proofs.Passing.{AllNext, all_step}
+use Rattle.pnp_laws.proofs.Truths.{by_test}
 use Rattle.pnp_model.specs.Events as ev
 use Rattle.pnp_model.specs.Machine as ma
 use Rattle.pnp_model.specs.Rebalances as re
@@ -83,15 +85,8 @@ pub data OperationStep (s : State) : Operation → Step → Type 0 where
 
 -- Each step is in the list -------------------------------------------------------------
 
--- by the answer that a search has
-abbrev pub StepsBy : ℕ → State → Operation → Option (Doing Step) → Type 0
-StepsBy budget s o None = Unit {0}
-StepsBy budget s o (Some (Does step)) = OperationStep s o step
-StepsBy budget s o (Some (Searches problem by_answer)) = (found : Found) → IsAnswer problem.fixed problem.movers budget found → OperationStep s o (by_answer found)
-
-by_test : (P : Bool → Type 0) (b : Bool) → (b ≡ true → P true) → (b ≡ false → P false) → P b
-by_test P true f g = f refl
-by_test P false f g = g refl
+abbrev StepsBy : ℕ → State → Operation → Option (Doing Step) → Type 0
+StepsBy budget s o next = AllNext budget (OperationStep s o) next
 
 module _ (budget : ℕ) (s : State) (r : Rebalance) where
   re_asks : (stage : RebalanceStage) (node : Node) (w : Walk) → r.stage ≡ stage → first_node s.core.nodes r.todo ≡ Some node → ma.rebalance_walk stage ≡ Some w → w.waits ≡ false → has_ended w (length node.stack) ≡ false
@@ -198,12 +193,7 @@ operation_next budget s (Operation.Rebalancing r) false e = rebalance_step budge
 operation_next budget s (Operation.Removing o) false e = removal_step budget s o o.stage (first_node s.core.nodes o.todo) refl refl e
 operation_next budget s (Operation.Surprising o) false e = surprise_step budget s o o.stage (first_node s.core.nodes o.todo) refl refl e
 
-by_next : (settings : Settings) (s : State) (o : Operation) (next : Option (Doing Step)) (step : Step) → StepsBy settings.budget s o next → ma.IsStep settings next step → OperationStep s o step
-by_next settings s o None step h is = absurd is
-by_next settings s o (Some (Does one)) step h is = subst (λ (x : Step). OperationStep s o x) (sym is) h
-by_next settings s o (Some (Searches problem by_answer)) step h is = subst (λ (x : Step). OperationStep s o x) (sym is.2) (h is.0 is.1)
-
 pub operation_step : (settings : Settings) (s : State) (o : Operation) (step : Step) → s.operation ≡ Some o → ma.IsStep settings (ma.next settings s) step → OperationStep s o step
 operation_step settings s o step runs is =
-    by_next settings s o (ma.operation_next s o (ma.is_waiting (ma.operation_walk o))) step (operation_next settings.budget s o (ma.is_waiting (ma.operation_walk o)) refl)
+    all_step (OperationStep s o) settings (ma.operation_next s o (ma.is_waiting (ma.operation_walk o))) step (operation_next settings.budget s o (ma.is_waiting (ma.operation_walk o)) refl)
     (subst (λ (x : Option Operation). ma.IsStep settings (ma.next_of settings s x) step) runs is)

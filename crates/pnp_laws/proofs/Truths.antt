@@ -30,3 +30,8 @@ but_not false b e = refl
 pub not_true : (b : Bool) → not b ≡ true → b ≡ false
 not_true true h = absurd (cc)
 not_true false h = refl
+
+-- what holds of both answers of a test
+pub by_test : (P : Bool → Type 0) (b : Bool) → (b ≡ true → P true) → (b ≡ false → P false) → P b
+by_test P true f g = f refl
+by_test P false f g = g refl
