@@ -1,5 +1,5 @@
 -- How many devices may join before something happens, and how many `start` tasks are to spare.
-use Rattle.std.proofs.Common.{ℕ, zero, suc, ◌+◌, ◌*◌, ◌<◌, ◌≤◌, ◌≡◌, ◌==◌, ◌⊎◌, inl, inr, Bool, true, false, not, ◌&&◌, ◌||◌, cond, List, [], ◌∷◌, length, Option, Some, None, refl, sym, ap, ◌∙◌, subst, arith, nat_lt}
+use Rattle.std.proofs.Common.{ℕ, zero, suc, ◌+◌, ◌*◌, ◌<◌, ◌≤◌, ◌≡◌, ◌≢◌, ◌==◌, ◌⊎◌, inl, inr, Bool, true, false, not, ◌&&◌, ◌||◌, cond, List, [], ◌∷◌, length, Option, Some, None, refl, sym, ap, ◌∙◌, subst, arith, nat_lt}
 use Rattle.std.specs.List.{list_any}
 use Rattle.std.proofs.lemmas.Bool.Decides.{nat_tests}
 use native.Mathlib.Decide.{dec_lt}
@@ -9,8 +9,8 @@ use Rattle.pnp_model.specs.Tasks.{has_born}
 use Rattle.pnp_laws.specs.Kept.{Ascending, IsGood}
 use Rattle.pnp_laws.proofs.Lookups.{own_serial}
 use Rattle.pnp_laws.proofs.Standing.{Tree}
-use Rattle.pnp_laws.proofs.Joins.{starts, is_live, lives, In, Sub, any_from, any_at, Born, Flows, start_of, starts_with, one_born}
-use Rattle.pnp_laws.proofs.Truths.{and_both, both_true, but_not, not_true, or_left}
+use Rattle.pnp_laws.proofs.Joins.{starts, is_live, lives, In, Sub, any_from, any_at, Born, Flows, HasRoom, start_of, starts_with, one_born}
+use Rattle.pnp_laws.proofs.Truths.{and_both, both_true, but_not, not_true, or_left, untrue}
 
 -- Devices that may join ------------------------------------------------------------------------------------
 
@@ -30,8 +30,11 @@ is_alive s (Some n) = is_live s n
 abbrev pub live_at : State → ℕ → Bool
 live_at s k = is_alive s (node_at k s.core.nodes)
 
+abbrev as_one : Bool → ℕ
+as_one b = cond b 1 0
+
 abbrev pub one_of : ℕ → ℕ → ℕ
-one_of k j = cond (k == j) 1 0
+one_of k j = as_one (k == j)
 
 -- the `start` tasks of a serial
 abbrev pub start_count : State → ℕ → ℕ
@@ -73,11 +76,6 @@ spares s = total (spare_at s) s.next_serial
 abbrev pub join_price : State → ℕ
 join_price s = may_join s + 4096 * spares s
 
--- the root, and at most 4,096 more
-abbrev pub HasRoom : List Device → Type 0
-HasRoom [] = ⊥
-HasRoom (d ∷ ds) = (d.born ≡ 0) × (length ds ≤ 4096)
-
 -- Counting -------------------------------------------------------------------------------------------------
 
 reach_most : (opens : ℕ → Bool) (test : Device → Bool) (ds : List Device) → reach opens test ds ≤ length ds
@@ -117,19 +115,20 @@ counted_more opens was_open test was d more each h = by_tests (opens d.parent) (
     by_tests false false true false false f g h = absurd (elim (g refl) [ inl q ↦ cc | inr q ↦ cc ])
     by_tests false false false false false f g h = h
 
+-- more are open below a device
+wider : (was_open : ℕ → Bool) (was : Device → Bool) (d x : Device) → (was x ≡ true) ⊎ (was_open x.parent ≡ true) → (was x ≡ true) ⊎ ((was_open x.parent || d.born == x.parent) ≡ true)
+wider was_open was d x (inl h) = inl h
+wider was_open was d x (inr h) = inr (or_left (was_open x.parent) (d.born == x.parent) h)
+
 pub reach_less : (opens was_open : ℕ → Bool) (test was : Device → Bool) (xs ys : List Device) → Sub xs ys → ((b : ℕ) → opens b ≡ true → was_open b ≡ true) → ((d : Device) → In d xs → test d ≡ true → (was d ≡ true) ⊎ (was_open d.parent ≡ true)) →
     reach opens test xs ≤ reach was_open was ys
 reach_less opens was_open test was _ _ Sub.none more each = omega arith
 reach_less opens was_open test was _ _ (Sub.keep d xs ys sub) more each =
     by_test (is_counted opens test d) (is_counted was_open was d) (counted_more opens was_open test was d (more d.parent) (each d (inl refl)))
-    (reach_less (λ b. opens b || d.born == b) (λ b. was_open b || d.born == b) test was xs ys sub (λ b h. or_more (opens b) (was_open b) (d.born == b) (more b) h) (λ x i h. wider x (each x (inr i) h)))
-    (reach_less opens (λ b. was_open b || d.born == b) test was xs ys sub (λ b h. or_left (was_open b) (d.born == b) (more b h)) (λ x i h. wider x (each x (inr i) h)))
+    (reach_less (λ b. opens b || d.born == b) (λ b. was_open b || d.born == b) test was xs ys sub (λ b h. or_more (opens b) (was_open b) (d.born == b) (more b) h) (λ x i h. wider was_open was d x (each x (inr i) h)))
+    (reach_less opens (λ b. was_open b || d.born == b) test was xs ys sub (λ b h. or_left (was_open b) (d.born == b) (more b h)) (λ x i h. wider was_open was d x (each x (inr i) h)))
     (reach_less opens was_open test was xs ys sub more (λ x i h. each x (inr i) h))
   where
-    wider : (x : Device) → (was x ≡ true) ⊎ (was_open x.parent ≡ true) → (was x ≡ true) ⊎ ((was_open x.parent || d.born == x.parent) ≡ true)
-    wider x (inl h) = inl h
-    wider x (inr h) = inr (or_left (was_open x.parent) (d.born == x.parent) h)
-
     by_test : (a c : Bool) → (a ≡ true → c ≡ true) → reach (λ b. opens b || d.born == b) test xs ≤ reach (λ b. was_open b || d.born == b) was ys → reach opens test xs ≤ reach (λ b. was_open b || d.born == b) was ys → reach opens test xs ≤ reach was_open was ys →
         cond a (1 + reach (λ b. opens b || d.born == b) test xs) (reach opens test xs) ≤ cond c (1 + reach (λ b. was_open b || d.born == b) was ys) (reach was_open was ys)
     by_test true true f l m n = omega arith
@@ -138,13 +137,9 @@ reach_less opens was_open test was _ _ (Sub.keep d xs ys sub) more each =
     by_test false false f l m n = omega arith
 reach_less opens was_open test was _ _ (Sub.skip d xs ys sub) more each =
     by_test (is_counted was_open was d)
-    (reach_less opens (λ b. was_open b || d.born == b) test was xs ys sub (λ b h. or_left (was_open b) (d.born == b) (more b h)) (λ x i h. wider x (each x i h)))
+    (reach_less opens (λ b. was_open b || d.born == b) test was xs ys sub (λ b h. or_left (was_open b) (d.born == b) (more b h)) (λ x i h. wider was_open was d x (each x i h)))
     (reach_less opens was_open test was xs ys sub more each)
   where
-    wider : (x : Device) → (was x ≡ true) ⊎ (was_open x.parent ≡ true) → (was x ≡ true) ⊎ ((was_open x.parent || d.born == x.parent) ≡ true)
-    wider x (inl h) = inl h
-    wider x (inr h) = inr (or_left (was_open x.parent) (d.born == x.parent) h)
-
     by_test : (c : Bool) → reach opens test xs ≤ reach (λ b. was_open b || d.born == b) was ys → reach opens test xs ≤ reach was_open was ys → reach opens test xs ≤ cond c (1 + reach (λ b. was_open b || d.born == b) was ys) (reach was_open was ys)
     by_test true m n = omega arith
     by_test false m n = n
@@ -197,13 +192,16 @@ spares_fewer s t j same pays low less = subst (λ (n : ℕ). total (spare_at t) 
 -- Each step but a join ---------------------------------------------------------------------------------------
 
 pub one_is : (k j : ℕ) → k ≡ j → one_of k j ≡ 1
-one_is k j e = ap as_number (same_is k j e)
+one_is k j e = ap as_one (same_is k j e)
   where
-    as_number : Bool → ℕ
-    as_number b = cond b 1 0
-
     same_is : (k j : ℕ) → k ≡ j → (k == j) ≡ true
     same_is k j e = grind (arith, nat_tests)
+
+pub other_is : (k j : ℕ) → k ≢ j → one_of k j ≡ 0
+other_is k j d = ap as_one (apart k j d)
+  where
+    apart : (k j : ℕ) → k ≢ j → (k == j) ≡ false
+    apart k j d = grind (arith, nat_tests)
 
 flows_pay : (s t : State) → Flows s t → (k : ℕ) → Pays s t k
 flows_pay s t f k = (let h = f.tasks (one_of k) in omega arith, by_node (node_at k t.core.nodes) refl)
@@ -222,10 +220,6 @@ flows_pay s t f k = (let h = f.tasks (one_of k) in omega arith, by_node (node_at
               omega arith
               )
         ]
-
-pub not_live : (b : Bool) → (b ≡ true → ⊥) → not b ≡ true
-not_live true h = absurd (h refl)
-not_live false h = refl
 
 -- where a device that is to start now was live, a task is no more to spare
 spare_used : (b : Bool) (c d : ℕ) → b ≡ true → c ≤ d → nat_lt 0 c ≡ true → spare false c < spare b d
@@ -254,7 +248,7 @@ opens_before s t good order same pays from all b h =
     let dead : live_at t m.serial ≡ false = not_true (live_at t m.serial) start.0 in
     let never : live_at s m.serial ≡ true → ⊥ =
     λ e. all (spares_fewer s t m.serial same pays (good.below m.serial n was.1) (subst (λ (x : Bool). spare x (start_count t m.serial) < spare_at s m.serial) (sym dead) (spare_used (live_at s m.serial) (start_count t m.serial) (start_count s m.serial) e (pays m.serial).0 start.1))) in
-    let now : is_to_start s m.serial ≡ true = both_true (not (live_at s m.serial)) (nat_lt 0 (start_count s m.serial)) (not_live (live_at s m.serial) never) (some_more (start_count t m.serial) (start_count s m.serial) (pays m.serial).0 start.1) in
+    let now : is_to_start s m.serial ≡ true = both_true (not (live_at s m.serial)) (nat_lt 0 (start_count s m.serial)) (ap not (untrue (live_at s m.serial) never)) (some_more (start_count t m.serial) (start_count s m.serial) (pays m.serial).0 start.1) in
     let born : (n.born == b) ≡ true = let e = two.0 in let g = was.2 in grind (arith, nat_tests) in
     any_from (λ n. n.born == b && is_to_start s n.serial) s.core.nodes m.serial n was.1 (both_true (n.born == b) (is_to_start s n.serial) born (ap (is_to_start s) own ∙ now))
 
@@ -269,7 +263,7 @@ started_before s t f good all (Some n) e b h =
     let fewer : start_count t n.serial + 1 ≤ start_count s n.serial = omega arith in
     let never : live_at s n.serial ≡ true → ⊥ =
     λ q. all (spares_fewer s t n.serial f.counts.0 (flows_pay s t f) (good.below n.serial n at) (spare_spent (live_at t n.serial) (live_at s n.serial) (start_count t n.serial) (start_count s n.serial) q fewer)) in
-    let now : is_to_start s n.serial ≡ true = both_true (not (live_at s n.serial)) (nat_lt 0 (start_count s n.serial)) (not_live (live_at s n.serial) never) (grind (arith, nat_tests)) in
+    let now : is_to_start s n.serial ≡ true = both_true (not (live_at s n.serial)) (nat_lt 0 (start_count s n.serial)) (ap not (untrue (live_at s n.serial) never)) (grind (arith, nat_tests)) in
     any_from (λ n. n.born == b && is_to_start s n.serial) s.core.nodes n.serial n at (both_true (n.born == b) (is_to_start s n.serial) (grind (arith, nat_tests)) now)
 
 pub flows_price : (s t : State) → IsGood s → IsGood t → Tree s.next_serial s.core → Born s → Flows s t → HasRoom t.world → join_price t ≤ join_price s

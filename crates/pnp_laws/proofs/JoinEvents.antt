@@ -13,14 +13,16 @@ use Rattle.pnp_laws.specs.Kept.{IsGood}
 use Rattle.pnp_laws.proofs.EffectsOfEvents.{event_effect}
 use Rattle.pnp_laws.proofs.EventChanges.{happens_outside, still_serial}
 use Rattle.pnp_laws.proofs.Lookups.{node_found}
-use Rattle.pnp_laws.proofs.Joins.{In, Sub, sub_same, sub_in, sub_without, Grows, Born, starts, unborn}
+use Rattle.pnp_laws.proofs.Joins.{In, Sub, sub_same, sub_in, sub_without, Grows, Born, HasRoom, starts, unborn}
 use Rattle.pnp_laws.proofs.JoinBirths.{grows_sub}
+use Rattle.pnp_laws.proofs.JoinRooms.{event_room}
 use Rattle.pnp_laws.proofs.JoinSteps.{in_find, starts_pushed}
 use Rattle.pnp_model.specs.Events as ev
 
-born_calm : (s t : State) → Sub t.world s.world → t.next_born ≡ s.next_born → t.core.nodes ≡ s.core.nodes → t.next_serial ≡ s.next_serial → starts (unborn s.next_serial) t.tasks ≡ 0 → Born s → Born t
-born_calm s t world next nodes serial soon b =
+born_calm : (s t : State) → Sub t.world s.world → t.next_born ≡ s.next_born → t.core.nodes ≡ s.core.nodes → t.next_serial ≡ s.next_serial → starts (unborn s.next_serial) t.tasks ≡ 0 → HasRoom t.world → Born s → Born t
+born_calm s t world next nodes serial soon room b =
     record {
+      room = room;
       grows = grows_sub 0 t.world s.world world b.grows;
       fresh = λ d there. subst (λ (i : ℕ). d.born < i) (sym next) (b.fresh d (sub_in t.world s.world world d there));
       apart = λ j k n m at there e. b.apart j k n m (was j n at) (was k m there) e;
@@ -44,9 +46,10 @@ in_more [] d x (inr h) = absurd h
 in_more (y ∷ ys) d x (inl e) = inl (inl e)
 in_more (y ∷ ys) d x (inr h) = elim (in_more ys d x h) [ inl g ↦ inl (inr g) | inr g ↦ inr g ]
 
-born_plug : (s : State) (d : Device) → d.born ≡ s.next_born → d.parent ≤ d.born → Born s → Born (plug d s)
-born_plug s d own under b =
+born_plug : (s : State) (d : Device) → d.born ≡ s.next_born → d.parent ≤ d.born → HasRoom (s.world ++ d ∷ []) → Born s → Born (plug d s)
+born_plug s d own under room b =
     record {
+      room = room;
       grows = grows_more 0 0 s.world d b.grows (λ x i. subst (λ (n : ℕ). x.born < n) (sym own) (b.fresh x i)) (omega arith) under;
       fresh = λ x i. elim (in_more s.world d x i) [
         | inl h ↦ let l = b.fresh x h in omega arith
@@ -67,7 +70,7 @@ soon_tasks : (s t : State) → IsGood s → CommandEffect s t → starts (unborn
 soon_tasks s t good (CommandEffect.same e) soon = ap (starts (unborn s.next_serial)) e ∙ soon
 soon_tasks s t good (CommandEffect.lists k e) soon = ap (starts (unborn s.next_serial)) e ∙ (let p = starts_pushed (unborn s.next_serial) s.tasks (record { kind = Duty.Listing; serial = k }) in omega arith)
 soon_tasks s t good (CommandEffect.starts path n enabled e) soon =
-    let given = good.below n.serial n ((node_found (λ m. same m.path path) 0 s.core.nodes n good.serials enabled.at)).1 in
+    let given = good.below n.serial n (node_found (λ m. same m.path path) 0 s.core.nodes n good.serials enabled.at).1 in
     let none : unborn s.next_serial n.serial ≡ 0 = ap (λ (b : Bool). cond b 0 1) (below n.serial s.next_serial given) in
     ap (starts (unborn s.next_serial)) e ∙ (let p = starts_pushed (unborn s.next_serial) s.tasks (record { kind = Duty.Starting; serial = n.serial }) in omega arith)
   where
@@ -76,15 +79,15 @@ soon_tasks s t good (CommandEffect.starts path n enabled e) soon =
 soon_tasks s t good (CommandEffect.begins kind n path found up e) soon =
     ap (starts (unborn s.next_serial)) e ∙ (let p = starts_pushed (unborn s.next_serial) s.tasks (record { kind = Duty.Begins kind; serial = n.serial }) in omega arith)
 
-born_world : (s : State) (entry : Entry) (t : State) → WorldEffect s entry t → t.core.nodes ≡ s.core.nodes → t.next_serial ≡ s.next_serial → starts (unborn s.next_serial) t.tasks ≡ 0 → Born s → Born t
-born_world s entry t (WorldEffect.same world next) nodes serial soon born = born_calm s t (subst (λ (w : List Device). Sub w s.world) (sym world) (sub_same s.world)) next nodes serial soon born
-born_world s entry t (WorldEffect.plugged d why world next) nodes serial soon born =
+born_world : (s : State) (entry : Entry) (t : State) → WorldEffect s entry t → t.core.nodes ≡ s.core.nodes → t.next_serial ≡ s.next_serial → starts (unborn s.next_serial) t.tasks ≡ 0 → HasRoom t.world → Born s → Born t
+born_world s entry t (WorldEffect.same world next) nodes serial soon room born = born_calm s t (subst (λ (w : List Device). Sub w s.world) (sym world) (sub_same s.world)) next nodes serial soon room born
+born_world s entry t (WorldEffect.plugged d why world next) nodes serial soon room born =
     let over = born.fresh why.over (in_find (λ x. same x.path why.parent) s.world why.over why.there).1 in
     let own = why.born in
     let under = why.under in
-    born_calm (plug d s) t (subst (λ (w : List Device). Sub w (s.world ++ d ∷ [])) (sym world) (sub_same (s.world ++ d ∷ []))) next nodes serial soon (born_plug s d why.born (omega arith) born)
-born_world s entry t (WorldEffect.unplugged gone why world next) nodes serial soon born =
-    born_calm s t (subst (λ (w : List Device). Sub w s.world) (sym world) (sub_without (gone ∷ []) s.world)) next nodes serial soon born
+    born_calm (plug d s) t (subst (λ (w : List Device). Sub w (s.world ++ d ∷ [])) (sym world) (sub_same (s.world ++ d ∷ []))) next nodes serial soon room (born_plug s d why.born (omega arith) (subst HasRoom world room) born)
+born_world s entry t (WorldEffect.unplugged gone why world next) nodes serial soon room born =
+    born_calm s t (subst (λ (w : List Device). Sub w s.world) (sym world) (sub_without (gone ∷ []) s.world)) next nodes serial soon room born
 
 pub born_happens : (s : State) (event : Event) → IsGood s → Born s → Born (ev.happens s event).state
 born_happens s event good born =
@@ -92,4 +95,4 @@ born_happens s event good born =
     let t = (ev.happens s event).state in
     let out = happens_outside s event in
     let serial = still_serial s.next_serial t.next_serial (ev.happens s event).label out.word effect.serial in
-    born_world s (Happens event (ev.happens s event).label) t effect.world out.nodes serial (soon_tasks s t good effect.tasks born.soon) born
+    born_world s (Happens event (ev.happens s event).label) t effect.world out.nodes serial (soon_tasks s t good effect.tasks born.soon) (event_room s event (ev.happens s event).label t effect.world born) born

@@ -14,20 +14,11 @@ use Rattle.pnp_laws.proofs.Standing.{Tree}
 use Rattle.pnp_laws.proofs.Joins.{starts_less, unborn, closed, is_bare, is_live, lives, In, sub_same, Grows, Born, any_from, any_at, parent_there}
 use Rattle.pnp_laws.proofs.JoinSteps.{Joined, live_is, starts_pushed}
 use Rattle.pnp_laws.proofs.IdleSteps.{joins_is}
-use Rattle.pnp_laws.proofs.JoinBirths.{Joining, no_node, under, grows_in, new_there, new_dead, could_join, could_before, is_born_now}
-use Rattle.pnp_laws.proofs.JoinCounts.{is_counted, reach, counted_more, reach_less, is_alive, live_at, one_of, start_count, is_to_start, opens_at, is_outside, spare, total, spare_at, spares, join_price, total_less, spare_less, one_is}
-use Rattle.pnp_laws.proofs.Truths.{and_both, both_true, but_not, not_true, or_cases, or_right, or_left}
+use Rattle.pnp_laws.proofs.JoinBirths.{Joining, born_joins, no_node, under, grows_in, new_there, new_dead, could_join, could_before, is_born_now}
+use Rattle.pnp_laws.proofs.JoinCounts.{is_counted, reach, counted_more, reach_less, is_alive, live_at, one_of, start_count, is_to_start, opens_at, is_outside, spare, total, spare_at, spares, join_price, total_less, spare_less, one_is, other_is}
+use Rattle.pnp_laws.proofs.Truths.{and_both, both_true, but_not, neither, not_true, or_cases, or_right, or_left, untrue}
 
 -- Counting ---------------------------------------------------------------------------------------------------
-
-neither : (a b c : Bool) → a ≡ false → b ≡ false → ((a || b) && c) ≡ false
-neither true b c e f = absurd (cc)
-neither false true c e f = absurd (cc)
-neither false false c e f = refl
-
-other : (a : Bool) → (a ≡ true → ⊥) → a ≡ false
-other true h = absurd (h refl)
-other false h = refl
 
 -- one that was counted is counted no more; none of those that are up is
 pub reach_falls : (Up : ℕ → Type 0) (opens was_open : ℕ → Bool) (test was : Device → Bool) (lo : ℕ) (ds : List Device) (d : Device) → Grows lo ds → In d ds → d.born ≢ 0 → was d ≡ true → test d ≡ false → Up d.parent →
@@ -36,7 +27,7 @@ pub reach_falls : (Up : ℕ → Type 0) (opens was_open : ℕ → Bool) (test wa
 reach_falls Up opens was_open test was lo [] d grows there not_root could now up more each shut above = absurd there
 reach_falls Up opens was_open test was lo (x ∷ ds) d grows (inl e) not_root could now up more each shut above =
     by_tests (is_counted opens test x) (is_counted was_open was x)
-    (subst (λ (y : Device). is_counted opens test y ≡ false) (sym e) (neither (opens d.parent) (test d) (not (d.born == 0)) (shut d.parent up) now))
+    (subst (λ (y : Device). is_counted opens test y ≡ false) (sym e) (ap (λ (z : Bool). z && not (d.born == 0)) (neither (opens d.parent) (test d) (shut d.parent up) now)))
     (subst (λ (y : Device). is_counted was_open was y ≡ true) (sym e) (both_true (was_open d.parent || was d) (not (d.born == 0)) (or_right (was_open d.parent) (was d) could) (grind (arith, nat_tests))))
     (reach_less opens (λ b. was_open b || x.born == b) test was ds ds (sub_same ds)
     (λ b h. elim (more b h) [
@@ -75,13 +66,13 @@ reach_falls Up opens was_open test was lo (x ∷ ds) d grows (inr there) not_roo
 
     shut_more : (b : ℕ) → Up b → is_counted opens test x ≡ true → (opens b || x.born == b) ≡ false
     shut_more b q a =
-        other (opens b || x.born == b)
+        untrue (opens b || x.born == b)
         (λ h. elim (or_cases (opens b) (x.born == b) h) [
           | inl g ↦ let e = shut b q in cc
           | inr g ↦
               let same : b ≡ x.born = grind (arith, nat_tests) in
               let over = above x (inl refl) (subst Up same q) in
-              let e = neither (opens x.parent) (test x) (not (x.born == 0)) (shut x.parent over.0) over.1 in
+              let e = ap (λ (z : Bool). z && not (x.born == 0)) (neither (opens x.parent) (test x) (shut x.parent over.0) over.1) in
               cc
         ])
 
@@ -94,20 +85,11 @@ reach_falls Up opens was_open test was lo (x ∷ ds) d grows (inr there) not_roo
 
 -- Tasks to spare ----------------------------------------------------------------------------------------------
 
-other_than : (k n : ℕ) → k < n → one_of k n ≡ 0
-other_than k n l = ap as_number (apart k n l)
-  where
-    as_number : Bool → ℕ
-    as_number b = cond b 1 0
-
-    apart : (k n : ℕ) → k < n → (k == n) ≡ false
-    apart k n l = grind (arith, nat_tests)
-
 counts_joined : (s : State) (node : Node) (d : Device) (k : ℕ) → start_count (join_step s node d).state k ≡ start_count s k + one_of k s.next_serial
 counts_joined s node d k = starts_pushed (one_of k) s.tasks (record { kind = Duty.Starting; serial = s.next_serial })
 
 counts_same : (s : State) (node : Node) (d : Device) (k : ℕ) → k < s.next_serial → start_count (join_step s node d).state k ≡ start_count s k
-counts_same s node d k l = let a = counts_joined s node d k in let b = other_than k s.next_serial l in omega arith
+counts_same s node d k l = let a = counts_joined s node d k in let b = other_is k s.next_serial (λ e. absurd (omega arith)) in omega arith
 
 one_unborn : (n k : ℕ) → one_of n k ≤ unborn n k
 one_unborn n k = by_tests (n == k) (nat_lt k n) (λ h. grind (arith, nat_tests))
@@ -165,7 +147,7 @@ up_above s node d x h there (n, at, born, up) =
         let same : n ≡ p = some_same (node_at 0 s.core.nodes) n p at0 (subst (λ (i : ℕ). node_at i s.core.nodes ≡ Some p) own at_p) in
         subst (λ (z : Node). is_idle z.state ≡ false) same up
     by_root (inr not_zero) p at_p =
-        other (is_idle p.state) (λ idle. h.tree.idle n.parent p at_p idle n.serial n at (child_hangs s.core n.parent n.serial n at not_zero refl))
+        untrue (is_idle p.state) (λ idle. h.tree.idle n.parent p at_p idle n.serial n at (child_hangs s.core n.parent n.serial n at not_zero refl))
 
 inside_out : (s : State) (node : Node) (d x : Device) → IsUp s x.born → is_outside (join_step s node d).state x ≡ false
 inside_out s node d x (n, at, born, up) =
@@ -177,7 +159,7 @@ inside_out s node d x (n, at, born, up) =
 -- none of those that are up is to start
 up_shut : (s : State) (node : Node) (d : Device) → IsGood (join_step s node d).state → Joining s node d → (b : ℕ) → IsUp s b → opens_at (join_step s node d).state b ≡ false
 up_shut s node d good_t h b (n, at, born, up) =
-    other (opens_at (join_step s node d).state b)
+    untrue (opens_at (join_step s node d).state b)
     (λ g.
     let t = (join_step s node d).state in
     let new = new_node s.next_serial node.serial d in
@@ -228,9 +210,9 @@ join_price_falls s node d good_t h =
     (to_start_before s node d good_t h) (λ x i g. could_before s node d x good_t h g) (up_shut s node d good_t h) (λ x i g. (up_above s node d x h i g, inside_out s node d x g)) in
     omega arith
 
-pub joined_price : (s : State) (step : Step) → IsGood s → IsGood step.state → Tree s.next_serial s.core → Born s → Joined s step → join_price step.state < join_price s
-joined_price s step good good_t tree born j =
+pub join_goes : (s : State) (step : Step) → IsGood s → IsGood step.state → Tree s.next_serial s.core → Born s → Joined s step → Born step.state × (join_price step.state < join_price s)
+join_goes s step good good_t tree born j =
     let t = join_step s j.node j.device in
     let good_j : IsGood t.state = subst (λ (x : Step). IsGood x.state) j.is good_t in
-    subst (λ (x : Step). join_price x.state < join_price s) (sym j.is)
-    (join_price_falls s j.node j.device good_j (record { join = j.join; there = j.there; at = j.at; up = j.up; none = j.none; good = good; tree = tree; born = born }))
+    let h : Joining s j.node j.device = record { join = j.join; there = j.there; at = j.at; up = j.up; none = j.none; good = good; tree = tree; born = born } in
+    (subst (λ (x : Step). Born x.state) (sym j.is) (born_joins s j.node j.device h), subst (λ (x : Step). join_price x.state < join_price s) (sym j.is) (join_price_falls s j.node j.device good_j h))

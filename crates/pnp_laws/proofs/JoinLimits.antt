@@ -1,9 +1,9 @@
 -- In a run at most 4,096 nodes join for each event, and without an event no more than the waiting starts allow.
-use Rattle.std.proofs.Common.{ℕ, zero, suc, ◌+◌, ◌*◌, ◌≤◌, ◌≡◌, ◌≢◌, ◌==◌, ◌⊎◌, inl, inr, Bool, true, false, not, ◌&&◌, cond, List, [], ◌∷◌, Option, Some, None, refl, sym, ap, ◌∙◌, subst, arith, nat_lt}
+use Rattle.std.proofs.Common.{ℕ, zero, suc, ◌+◌, ◌*◌, ◌≤◌, ◌≡◌, ◌≢◌, ◌==◌, ◌⊎◌, inl, inr, Bool, true, false, not, ◌&&◌, List, [], ◌∷◌, Option, Some, None, refl, sym, ap, ◌∙◌, subst, arith, nat_lt}
 use Rattle.std.specs.List.{list_any}
 use Rattle.std.proofs.lemmas.Bool.{cases_eq}
 use Rattle.std.proofs.lemmas.Bool.Decides.{nat_tests}
-use Rattle.pnp_model.specs.Records.{Node, Driver, Task, State, Step, Settings, Operation, Duty}
+use Rattle.pnp_model.specs.Records.{Device, Node, Driver, Task, State, Step, Settings, Operation, Duty}
 use Rattle.pnp_model.specs.Cores.{node_at}
 use Rattle.pnp_model.specs.States.{activity_at}
 use Rattle.pnp_model.specs.Runs.{Entry, Goes, Run, printed, opening}
@@ -12,16 +12,16 @@ use Rattle.pnp_labels.specs.declared.event.Event.{Event}
 use Rattle.pnp_labels.specs.declared.label.Label.{Label}
 use Rattle.pnp_laws.specs.Words.{IsWord, joined}
 use Rattle.pnp_laws.specs.Ends.{AllSteps, events, joins, starts_one, waiting_starts, JoinsLaw, FewJoinLaw}
+use Rattle.pnp_laws.specs.Effects.{CommandEffect}
 use Rattle.pnp_laws.specs.Kept.{IsGood}
 use Rattle.pnp_laws.proofs.EventChanges.{Answered, Outside, happens_outside, still_serial}
 use Rattle.pnp_laws.proofs.EffectsOfEvents.{event_effect}
 use Rattle.pnp_laws.proofs.RunsStand.{Kept, kept_goes, opening_kept}
-use Rattle.pnp_laws.proofs.Joins.{starts, start_cost, closed, some_there, sub_is, any_from, any_at, Born}
-use Rattle.pnp_laws.proofs.JoinSteps.{answer_closed, joined_none, live_is, live_from, some_is}
-use Rattle.pnp_laws.proofs.JoinMachine.{step_flows, born_goes, opening_born}
-use Rattle.pnp_laws.proofs.JoinCounts.{reach_room, reach_less, is_alive, live_at, one_of, start_count, is_to_start, opens_at, is_outside, may_join, spare, total, spare_at, spares, join_price, HasRoom, total_less, spare_most, spare_less, spares_less, flows_price, one_is}
-use Rattle.pnp_laws.proofs.JoinFalls.{joined_price}
-use Rattle.pnp_laws.proofs.JoinRooms.{room_flows, Starts, event_room, event_starts}
+use Rattle.pnp_laws.proofs.Joins.{starts, start_cost, closed, some_there, sub_is, any_from, any_at, Born, HasRoom}
+use Rattle.pnp_laws.proofs.JoinSteps.{answer_closed, cheaper_pushed, joined_none, live_is, live_from, some_is, starts_pushed}
+use Rattle.pnp_laws.proofs.JoinMachine.{born_goes, opening_born, step_goes}
+use Rattle.pnp_laws.proofs.JoinCounts.{reach_room, reach_less, is_alive, live_at, one_of, start_count, is_to_start, opens_at, is_outside, may_join, spare, total, spare_at, spares, join_price, total_less, spare_most, spare_less, spares_less, one_is, other_is}
+use Rattle.pnp_laws.proofs.JoinRooms.{event_room}
 use Rattle.pnp_laws.proofs.Truths.{and_both, both_true, not_true}
 use Rattle.pnp_model.specs.Events as ev
 
@@ -72,14 +72,24 @@ spare_one false false c f = by_count c (c + 1) refl
     by_count zero (suc d) e = omega arith
     by_count (suc c) (suc d) e = omega arith
 
-none_other : (k j : ℕ) → k ≢ j → one_of k j ≡ 0
-none_other k j d = ap as_number (apart k j d)
-  where
-    as_number : Bool → ℕ
-    as_number b = cond b 1 0
+-- one more `start` task, and all else as it was
+abbrev Starts : State → State → Type 0
+Starts s t =
+    (j : ℕ) × ((cost : ℕ → ℕ) → starts cost t.tasks ≡ starts cost s.tasks + cost j) × (t.world ≡ s.world) × ((k : ℕ) → live_at t k ≡ live_at s k) × ((d : Device) → is_outside t d ≡ is_outside s d)
 
-    apart : (k j : ℕ) → k ≢ j → (k == j) ≡ false
-    apart k j d = grind (arith, nat_tests)
+-- at most one `start` task more
+event_starts : (s t : State) → CommandEffect s t → ((cost : ℕ → ℕ) → starts cost t.tasks ≤ starts cost s.tasks) ⊎ Starts s t
+event_starts s t (CommandEffect.same e) = inl (λ cost. let h = ap (starts cost) e in omega arith)
+event_starts s t (CommandEffect.lists k e) = inl (λ cost. let h = ap (starts cost) e in let g = cheaper_pushed s.tasks (record { kind = Duty.Listing; serial = k }) (λ cost. refl) cost in omega arith)
+event_starts s t (CommandEffect.starts path n enabled e) =
+    inr (
+      n.serial,
+      λ cost. ap (starts cost) e ∙ starts_pushed cost s.tasks (record { kind = Duty.Starting; serial = n.serial }),
+      subst (λ (x : State). x.world ≡ s.world) (sym enabled.stays) refl,
+      λ k. subst (λ (x : State). live_at x k ≡ live_at s k) (sym enabled.stays) refl,
+      λ d. subst (λ (x : State). is_outside x d ≡ is_outside s d) (sym enabled.stays) refl,
+    )
+event_starts s t (CommandEffect.begins kind n path found up e) = inl (λ cost. let h = ap (starts cost) e in let g = cheaper_pushed s.tasks (record { kind = Duty.Begins kind; serial = n.serial }) (λ cost. refl) cost in omega arith)
 
 record More (s t : State) : Type 0 where
   good : IsGood s
@@ -88,7 +98,7 @@ record More (s t : State) : Type 0 where
   starts : Starts s t
 
 other_count : (s t : State) (m : More s t) (k : ℕ) → k ≢ m.starts.0 → start_count t k ≡ start_count s k
-other_count s t m k d = let a = m.starts.1 (one_of k) in let b = none_other k m.starts.0 d in omega arith
+other_count s t m k d = let a = m.starts.1 (one_of k) in let b = other_is k m.starts.0 d in omega arith
 
 own_count : (s t : State) (m : More s t) → start_count t m.starts.0 ≡ start_count s m.starts.0 + 1
 own_count s t m = let a = m.starts.1 (one_of m.starts.0) in let b = one_is m.starts.0 m.starts.0 refl in omega arith
@@ -156,23 +166,21 @@ more_price s t m room =
 
 -- Events -----------------------------------------------------------------------------------------------------------
 
-event_price : (s : State) (event : Event) → IsGood s → Born s → HasRoom s.world → HasRoom (ev.happens s event).state.world × (join_price (ev.happens s event).state ≤ join_price s + 4096)
-event_price s event good born room =
+event_price : (s : State) (event : Event) → IsGood s → Born s → join_price (ev.happens s event).state ≤ join_price s + 4096
+event_price s event good born =
     let step = ev.happens s event in
     let t = step.state in
     let effect = event_effect s event in
     let out = happens_outside s event in
     let serial = still_serial s.next_serial t.next_serial step.label out.word effect.serial in
-    let room_t = event_room s event step.label t effect.world born room in (
-      room_t,
-      elim (event_starts s t effect.tasks) [
-        | inl cheaper ↦
-            let a = spares_less s t serial (λ k. (cheaper (one_of k), λ h. inl (live_outside s step out k h))) in
-            let b = reach_room (opens_at t) (is_outside t) t.world room_t in
-            omega arith
-        | inr starts ↦ more_price s t (record { good = good; nodes = out.nodes; serial = serial; starts = starts }) room_t
-      ],
-    )
+    let room = event_room s event step.label t effect.world born in
+    elim (event_starts s t effect.tasks) [
+      | inl cheaper ↦
+          let a = spares_less s t serial (λ k. (cheaper (one_of k), λ h. inl (live_outside s step out k h))) in
+          let b = reach_room (opens_at t) (is_outside t) t.world room in
+          omega arith
+      | inr starts ↦ more_price s t (record { good = good; nodes = out.nodes; serial = serial; starts = starts }) room
+    ]
 
 -- Runs ---------------------------------------------------------------------------------------------------------------
 
@@ -189,26 +197,20 @@ joined_one _ = omega arith
 record Limited (s : State) : Type 0 where
   kept : Kept s
   born : Born s
-  room : HasRoom s.world
 
-entry_price : (settings : Settings) (old : State) (entry : Entry) (new : State) → Limited old → Goes settings old entry new → HasRoom new.world × (joined (printed entry) + join_price new ≤ 4096 * events (entry ∷ []) + join_price old)
+limited_goes : (settings : Settings) (old : State) (entry : Entry) (new : State) → Limited old → Goes settings old entry new → Limited new
+limited_goes settings old entry new l goes = record { kept = kept_goes settings old entry new l.kept goes; born = born_goes settings old entry new l.kept l.born goes }
+
+entry_price : (settings : Settings) (old : State) (entry : Entry) (new : State) → Limited old → Goes settings old entry new → joined (printed entry) + join_price new ≤ 4096 * events (entry ∷ []) + join_price old
 entry_price settings old (Happens event label) new l goes =
     let word = subst (λ (t : Step). Outside old t) goes.1 (happens_outside old event) in
     let none = word_no_join label word.word in
-    let price = subst (λ (t : Step). HasRoom t.state.world × (join_price t.state ≤ join_price old + 4096)) goes.1 (event_price old event l.kept.good l.born l.room) in
-    (price.0, let h = price.1 in omega arith)
+    let price = subst (λ (t : Step). join_price t.state ≤ join_price old + 4096) goes.1 (event_price old event l.kept.good l.born) in
+    omega arith
 entry_price settings old (Did label) new l goes =
-    let flows = step_flows settings old (record { label = label; state = new }) l.kept goes in
-    elim flows.1 [
-      | inl (no_join, f) ↦
-          let room = room_flows old new l.born f l.room in
-          let none = joined_none label no_join in
-          let price = flows_price old new l.kept.good flows.0 l.kept.stands.tree l.born f room in
-          (room, omega arith)
-      | inr joined_so ↦
-          let one = joined_one label in
-          let price = joined_price old (record { label = label; state = new }) l.kept.good flows.0 l.kept.stands.tree l.born joined_so in
-          (subst (λ (t : Step). HasRoom t.state.world) (sym joined_so.is) l.room, omega arith)
+    elim (step_goes settings old (record { label = label; state = new }) l.kept l.born goes).1 [
+      | inl fewer ↦ let one = joined_one label in omega arith
+      | inr (price, no_join) ↦ let none = joined_none label no_join in omega arith
     ]
 
 events_first : (entry : Entry) (rest : List Entry) → events (entry ∷ rest) ≡ events (entry ∷ []) + events rest
@@ -219,8 +221,7 @@ run_price : (settings : Settings) (old : State) (entries : List Entry) (new : St
 run_price settings old [] new l run = subst (λ (s : State). 0 + join_price s ≤ 4096 * 0 + join_price old) (sym run) (omega arith)
 run_price settings old (entry ∷ rest) new l (mid, goes, run) =
     let first = entry_price settings old entry mid l goes in
-    let more = run_price settings mid rest new (record { kept = kept_goes settings old entry mid l.kept goes; born = born_goes settings old entry mid l.kept l.born goes; room = first.0 }) run in
-    let a = first.1 in
+    let more = run_price settings mid rest new (limited_goes settings old entry mid l goes) run in
     let e = events_first entry rest in
     omega arith
 
@@ -228,7 +229,7 @@ opening_price : (rack : List Driver) → join_price (opening rack) ≡ 0
 opening_price rack = refl
 
 limited_opening : (rack : List Driver) → Limited (opening rack)
-limited_opening rack = record { kept = opening_kept rack; born = opening_born rack; room = (refl, omega arith) }
+limited_opening rack = record { kept = opening_kept rack; born = opening_born rack }
 
 pub joins_are_limited : JoinsLaw
 joins_are_limited settings rack entries s run =
@@ -250,7 +251,7 @@ counts_total (task ∷ tasks) n = by_kind task.kind task.serial (counts_total ta
     by_kind : (kind : Duty) (j : ℕ) → total (λ k. starts (one_of k) tasks) n ≤ waiting_starts tasks → total (λ k. start_cost (one_of k) kind j + starts (one_of k) tasks) n ≤ starts_one kind + waiting_starts tasks
     by_kind Duty.Listing j h = let a = total_less (λ k. 0 + starts (one_of k) tasks) (λ k. starts (one_of k) tasks) n (λ k l. omega arith) in omega arith
     by_kind Duty.Starting j h =
-        let a = total_more (λ k. one_of k j + starts (one_of k) tasks) (λ k. starts (one_of k) tasks) n j (λ k d. let e = none_other k j d in omega arith) (let e = one_is j j refl in omega arith) in
+        let a = total_more (λ k. one_of k j + starts (one_of k) tasks) (λ k. starts (one_of k) tasks) n j (λ k d. let e = other_is k j d in omega arith) (let e = one_is j j refl in omega arith) in
         omega arith
     by_kind (Duty.Begins kind) j h = let a = total_less (λ k. 0 + starts (one_of k) tasks) (λ k. starts (one_of k) tasks) n (λ k l. omega arith) in omega arith
 
@@ -267,14 +268,13 @@ no_events (Did label ∷ rest) all = no_events rest all
 
 limited_run : (settings : Settings) (old : State) (entries : List Entry) (new : State) → Limited old → Run settings old entries new → Limited new
 limited_run settings old [] new l run = subst Limited (sym run) l
-limited_run settings old (entry ∷ rest) new l (mid, goes, run) =
-    limited_run settings mid rest new (record { kept = kept_goes settings old entry mid l.kept goes; born = born_goes settings old entry mid l.kept l.born goes; room = (entry_price settings old entry mid l goes).0 }) run
+limited_run settings old (entry ∷ rest) new l (mid, goes, run) = limited_run settings mid rest new (limited_goes settings old entry mid l goes) run
 
 pub few_join : FewJoinLaw
 few_join settings rack entries s run more last all steps =
     let l = limited_run settings (opening rack) entries s (limited_opening rack) run in
     let h = run_price settings s more last l steps in
     let none = no_events more all in
-    let few = reach_room (opens_at s) (is_outside s) s.world l.room in
+    let few = reach_room (opens_at s) (is_outside s) s.world l.born.room in
     let spare = spares_waiting s in
     omega arith

@@ -1,4 +1,4 @@
--- Each step of a run lets no more devices join, and each join leaves fewer.
+-- Each step of a run keeps births in order, and makes the joins to come cost no more.
 use Rattle.std.proofs.Common.{ℕ, ◌<◌, ◌≤◌, ◌≡◌, ◌⊎◌, inl, inr, false, List, [], ◌∷◌, Option, Some, None, refl, sym, ap, ◌∙◌, subst, arith}
 use Rattle.std.specs.Option.{option_map}
 use Rattle.pnp_model.specs.Records.{Node, Device, Driver, State, Step, Settings, Operation, RemovalStage, SurpriseStage}
@@ -19,11 +19,13 @@ use Rattle.pnp_laws.proofs.Standing.{RemovalOrder, StageKept, SurpriseOrder}
 use Rattle.pnp_laws.proofs.Runs.{lawful_goes, root_is}
 use Rattle.pnp_laws.proofs.SoundMachine.{sound_step}
 use Rattle.pnp_laws.proofs.RunsStand.{Kept, may_begin, kept_goes, opening_kept}
-use Rattle.pnp_laws.proofs.Joins.{closed, can_join, Born, Flows, flows_less}
+use Rattle.pnp_laws.proofs.Joins.{closed, Born, Flows}
 use Rattle.pnp_laws.proofs.JoinSteps.{Closing, Joined, Knows, flows_step}
 use Rattle.pnp_laws.proofs.JoinRemovals.{ClosesStep, asks_closing, removal_closing, surprise_closing}
 use Rattle.pnp_laws.proofs.Stages.{OperationStep, operation_step}
-use Rattle.pnp_laws.proofs.JoinBirths.{born_flows, join_goes}
+use Rattle.pnp_laws.proofs.JoinBirths.{born_flows}
+use Rattle.pnp_laws.proofs.JoinCounts.{flows_price, join_price}
+use Rattle.pnp_laws.proofs.JoinFalls.{join_goes}
 use Rattle.pnp_laws.proofs.JoinEvents.{born_happens}
 use Rattle.pnp_model.specs.Machine as ma
 
@@ -66,19 +68,20 @@ closing_step settings s step kept nodes None e is knows = open_closing s step.la
 closing_step settings s step kept nodes (Some o) e is knows = closing_of s o step kept nodes e (operation_step settings s o step e is) knows
 
 -- a step is a join, or lets no more devices join
-pub step_flows : (settings : Settings) (s : State) (step : Step) → Kept s → ma.IsStep settings (ma.next settings s) step → IsGood step.state × ((IsNoJoin step.label × Flows s step.state) ⊎ Joined s step)
+step_flows : (settings : Settings) (s : State) (step : Step) → Kept s → ma.IsStep settings (ma.next settings s) step → IsGood step.state × ((IsNoJoin step.label × Flows s step.state) ⊎ Joined s step)
 step_flows settings s step kept is =
     let lawful = lawful_goes settings s (Did step.label) step.state (may_begin s kept) kept.good is in
     let knows : Knows s step = record { sound = sound_step settings s step kept.good kept.stands is; diagram = lawful.diagram; good = lawful.good } in
     let effect = effect_of settings s step.label step.state is in
     (lawful.good, flows_step s step.label step.state kept knows effect (closing_step settings s step kept effect.nodes s.operation refl is knows))
 
--- births stay in order, and fewer can join, or no more, and no device joined
-pub step_goes : (settings : Settings) (s : State) (step : Step) → Kept s → Born s → ma.IsStep settings (ma.next settings s) step → Born step.state × ((can_join step.state < can_join s) ⊎ ((can_join step.state ≤ can_join s) × IsNoJoin step.label))
+-- births stay in order, and the price of the joins to come falls, or is no more, and no device joined
+pub step_goes : (settings : Settings) (s : State) (step : Step) → Kept s → Born s → ma.IsStep settings (ma.next settings s) step
+    → Born step.state × ((join_price step.state < join_price s) ⊎ ((join_price step.state ≤ join_price s) × IsNoJoin step.label))
 step_goes settings s step kept born is =
     let flows = step_flows settings s step kept is in
     elim flows.1 [
-      | inl (no_join, f) ↦ (born_flows s step.state born f, inr (flows_less s step.state s.next_serial kept.good.serials flows.0.serials kept.stands.tree born f, no_join))
+      | inl (no_join, f) ↦ let b = born_flows s step.state born f in (b, inr (flows_price s step.state kept.good flows.0 kept.stands.tree born f b.room, no_join))
       | inr joined ↦ let g = join_goes s step kept.good flows.0 kept.stands.tree born joined in (g.0, inl g.1)
     ]
 
@@ -93,6 +96,7 @@ born_run settings old (entry ∷ rest) new (mid, goes, run) kept born = born_run
 pub opening_born : (rack : List Driver) → Born (opening rack)
 opening_born rack =
     record {
+      room = (refl, omega arith);
       grows = (omega arith, omega arith, tt);
       fresh = λ d there. elim there [ inl e ↦ let f = ap (λ (z : Device). z.born) e in omega arith | inr h ↦ absurd h ];
       apart = λ j k n m at there e. (root_is j n at).1 ∙ sym (root_is k m there).1;

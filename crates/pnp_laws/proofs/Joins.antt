@@ -1,5 +1,5 @@
--- How many devices can still join, and that a step but a join makes these no more.
-use Rattle.std.proofs.Common.{ℕ, suc, ◌+◌, ◌<◌, ◌≤◌, ◌≡◌, ◌≢◌, ◌==◌, ◌⊎◌, inl, inr, Bool, true, false, not, ◌&&◌, ◌||◌, cond, List, [], ◌∷◌, Option, Some, None, refl, sym, ap, ◌∙◌, subst, arith, nat_lt}
+-- Who is live, what is kept of births, and what a step but a join does to them.
+use Rattle.std.proofs.Common.{ℕ, suc, ◌+◌, ◌<◌, ◌≤◌, ◌≡◌, ◌≢◌, ◌==◌, ◌⊎◌, inl, inr, Bool, true, false, not, ◌&&◌, ◌||◌, cond, List, [], ◌∷◌, length, Option, Some, None, refl, sym, ap, ◌∙◌, subst, arith, nat_lt}
 use Rattle.std.specs.List.{list_any}
 use Rattle.std.proofs.lemmas.Bool.{cases_eq}
 use Rattle.std.proofs.lemmas.Bool.Decides.{nat_tests}
@@ -14,17 +14,7 @@ use Rattle.pnp_laws.specs.Kept.{Ascending}
 use Rattle.pnp_laws.proofs.Lookups.{some_same}
 use Rattle.pnp_laws.proofs.Closures.{tail_at}
 use Rattle.pnp_laws.proofs.Standing.{Tree, FromThose}
-use Rattle.pnp_laws.proofs.Truths.{and_both, both_true, or_right}
-
--- how many devices of the world stand below a birth number
-abbrev pub below : ℕ → List Device → ℕ
-below b [] = 0
-below b (d ∷ ds) = cond (d.parent == b) (1 + below d.born ds) 0 + below b ds
-
--- each device that can join, with all below it
-abbrev pub joinable : (ℕ → Bool) → (ℕ → Bool) → List Device → ℕ
-joinable lives there [] = 0
-joinable lives there (d ∷ ds) = cond (lives d.parent && not (there d.born)) (1 + below d.born ds) 0 + joinable lives there ds
+use Rattle.pnp_laws.proofs.Truths.{and_both, both_true, not_true, or_right}
 
 abbrev pub start_cost : (ℕ → ℕ) → Duty → ℕ → ℕ
 start_cost cost Duty.Listing k = 0
@@ -38,10 +28,6 @@ starts cost (task ∷ tasks) = start_cost cost task.kind task.serial + starts co
 -- such a serial is not given yet
 abbrev pub unborn : ℕ → ℕ → ℕ
 unborn next k = cond (nat_lt k next) 0 1
-
-abbrev pub below_node : List Device → Option Node → ℕ
-below_node world None = 0
-below_node world (Some n) = below n.born world
 
 -- the operation takes the drivers of these devices
 abbrev pub removal_closed : Removal → RemovalStage → ℕ → Bool
@@ -78,12 +64,6 @@ is_live s n = not (closed s.operation n.serial) && (not (is_bare n.state) || som
 abbrev pub lives : State → ℕ → Bool
 lives s b = list_any (λ n. n.born == b && is_live s n) s.core.nodes
 
-abbrev pub start_costs : State → ℕ → ℕ
-start_costs s k = below_node s.world (node_at k s.core.nodes)
-
-abbrev pub can_join : State → ℕ
-can_join s = joinable (lives s) (λ b. has_born b s.core.nodes) s.world + starts (start_costs s) s.tasks
-
 -- Worlds ----------------------------------------------------------------------------------------------
 
 abbrev pub In : Device → List Device → Type 0
@@ -116,53 +96,6 @@ sub_in _ _ none d h = h
 sub_in _ _ (keep x xs ys sub) d (inl e) = inl e
 sub_in _ _ (keep x xs ys sub) d (inr h) = inr (sub_in xs ys sub d h)
 sub_in _ _ (skip x xs ys sub) d h = inr (sub_in xs ys sub d h)
-
-pub below_sub : (xs ys : List Device) → Sub xs ys → (b : ℕ) → below b xs ≤ below b ys
-below_sub _ _ none b = omega arith
-below_sub _ _ (keep d xs ys sub) b = by_test (d.parent == b) (below_sub xs ys sub b) (below_sub xs ys sub d.born)
-  where
-    by_test : (t : Bool) → below b xs ≤ below b ys → below d.born xs ≤ below d.born ys → cond t (1 + below d.born xs) 0 + below b xs ≤ cond t (1 + below d.born ys) 0 + below b ys
-    by_test true h g = omega arith
-    by_test false h g = omega arith
-below_sub _ _ (skip d xs ys sub) b = let h = below_sub xs ys sub b in omega arith
-
-pub joinable_sub : (lives there : ℕ → Bool) (xs ys : List Device) → Sub xs ys → joinable lives there xs ≤ joinable lives there ys
-joinable_sub lives there _ _ none = omega arith
-joinable_sub lives there _ _ (keep d xs ys sub) = by_test (lives d.parent && not (there d.born)) (joinable_sub lives there xs ys sub) (below_sub xs ys sub d.born)
-  where
-    by_test : (t : Bool) → joinable lives there xs ≤ joinable lives there ys → below d.born xs ≤ below d.born ys → cond t (1 + below d.born xs) 0 + joinable lives there xs ≤ cond t (1 + below d.born ys) 0 + joinable lives there ys
-    by_test true h g = omega arith
-    by_test false h g = omega arith
-joinable_sub lives there _ _ (skip d xs ys sub) = let h = joinable_sub lives there xs ys sub in omega arith
-
--- what joins below those that are to start
-abbrev pub starting : (ℕ → Bool) → List Device → ℕ
-starting start [] = 0
-starting start (d ∷ ds) = cond (start d.parent) (1 + below d.born ds) 0 + starting start ds
-
-starting_is : (b : ℕ) (ds : List Device) → starting (λ p. p == b) ds ≡ below b ds
-starting_is b [] = refl
-starting_is b (d ∷ ds) = ap (λ (n : ℕ). cond (d.parent == b) (1 + below d.born ds) 0 + n) (starting_is b ds)
-
-pub starting_none : (ds : List Device) → starting (λ p. false) ds ≡ 0
-starting_none [] = refl
-starting_none (d ∷ ds) = let h = starting_none ds in omega arith
-
--- where each device that can join could before, or starts are paid for
-pub joinable_less : (lives there was_live was_there start : ℕ → Bool) (ds : List Device) →
-    ((d : Device) → In d ds → (lives d.parent && not (there d.born)) ≡ true → ((was_live d.parent && not (was_there d.born)) ≡ true) ⊎ (start d.parent ≡ true)) →
-    joinable lives there ds ≤ joinable was_live was_there ds + starting start ds
-joinable_less lives there was_live was_there start [] h = omega arith
-joinable_less lives there was_live was_there start (d ∷ ds) h =
-    by_test (lives d.parent && not (there d.born)) (was_live d.parent && not (was_there d.born)) (start d.parent) (h d (inl refl))
-    (joinable_less lives there was_live was_there start ds (λ x i. h x (inr i)))
-  where
-    by_test : (a b c : Bool) → (a ≡ true → (b ≡ true) ⊎ (c ≡ true)) → joinable lives there ds ≤ joinable was_live was_there ds + starting start ds →
-        cond a (1 + below d.born ds) 0 + joinable lives there ds ≤ cond b (1 + below d.born ds) 0 + joinable was_live was_there ds + (cond c (1 + below d.born ds) 0 + starting start ds)
-    by_test false b c f l = omega arith
-    by_test true true c f l = omega arith
-    by_test true false true f l = omega arith
-    by_test true false false f l = absurd (elim (f refl) [ inl e ↦ cc | inr e ↦ cc ])
 
 pub starts_less : (cost was : ℕ → ℕ) (tasks : List Task) → ((k : ℕ) → cost k ≤ was k) → starts cost tasks ≤ starts was tasks
 starts_less cost was [] h = omega arith
@@ -198,7 +131,13 @@ abbrev pub Grows : ℕ → List Device → Type 0
 Grows lo [] = Unit {0}
 Grows lo (d ∷ ds) = (lo ≤ d.born) × (d.parent ≤ d.born) × Grows (suc d.born) ds
 
+-- the root, and at most 4,096 more
+abbrev pub HasRoom : List Device → Type 0
+HasRoom [] = ⊥
+HasRoom (d ∷ ds) = (d.born ≡ 0) × (length ds ≤ 4096)
+
 pub record Born (s : State) : Type 0 where
+  pub room : HasRoom s.world
   pub grows : Grows 0 s.world
   pub fresh : (d : Device) → In d s.world → d.born < s.next_born
   pub apart : (j k : ℕ) (n m : Node) → node_at j s.core.nodes ≡ Some n → node_at k s.core.nodes ≡ Some m → n.born ≡ m.born → j ≡ k
@@ -253,26 +192,6 @@ abbrev pub starts_with : Option Node → ℕ → Bool
 starts_with None p = false
 starts_with (Some n) p = p == n.born
 
-costs_less : (s t : State) → Sub t.world s.world → FromThose s.core.nodes t.core.nodes → (k : ℕ) → start_costs t k ≤ start_costs s k
-costs_less s t sub from k = by_node (node_at k t.core.nodes) refl
-  where
-    by_node : (o : Option Node) → node_at k t.core.nodes ≡ o → below_node t.world o ≤ start_costs s k
-    by_node None e = omega arith
-    by_node (Some m) e =
-        let was = from k m e in
-        let a = below_sub t.world s.world sub m.born in
-        let b : start_costs s k ≡ below was.0.born s.world = ap (below_node s.world) was.1 in
-        let c : below m.born s.world ≡ below was.0.born s.world = ap (λ (i : ℕ). below i s.world) was.2 in
-        omega arith
-
-start_paid : (s t : State) (start : Option Node) → Sub t.world s.world → ((n : Node) → start ≡ Some n → node_at n.serial s.core.nodes ≡ Some n) → starting (starts_with start) t.world ≤ start_of (start_costs s) start
-start_paid s t None sub started = let e = starting_none t.world in omega arith
-start_paid s t (Some n) sub started =
-    let a = starting_is n.born t.world in
-    let b = below_sub t.world s.world sub n.born in
-    let c : start_costs s n.serial ≡ below n.born s.world = ap (below_node s.world) (started n refl) in
-    omega arith
-
 pub one_born : (s t : State) (next : ℕ) → Ascending 0 s.core.nodes → Ascending 0 t.core.nodes → Tree next s.core → Born s → (f : Flows s t) → (d : Device) → In d t.world → (lives t d.parent && not (has_born d.born t.core.nodes)) ≡ true →
     ((lives s d.parent && not (has_born d.born s.core.nodes)) ≡ true) ⊎ (starts_with f.start d.parent ≡ true)
 one_born s t next order order_t tree born f d there both =
@@ -289,10 +208,6 @@ one_born s t next order order_t tree born f d there both =
       | inr e ↦ inr (ap (λ (o : Option Node). starts_with o d.parent) e ∙ (let q = born_is in grind (arith, nat_tests)))
     ]
   where
-    not_true : (b : Bool) → not b ≡ true → b ≡ true → ⊥
-    not_true true h e = cc
-    not_true false h e = cc
-
     by_there : (m n : Node) → node_at m.serial t.core.nodes ≡ Some m → node_at m.serial s.core.nodes ≡ Some n → is_live t m ≡ true → n.born ≡ d.parent → not (has_born d.born t.core.nodes) ≡ true → lives s d.parent ≡ true → (b : Bool) → has_born d.born s.core.nodes ≡ b → (lives s d.parent && not (has_born d.born s.core.nodes)) ≡ true
     by_there m n at was live own out up false e = both_true (lives s d.parent) (not (has_born d.born s.core.nodes)) up (ap not e)
     by_there m n at was live own out up true e =
@@ -305,7 +220,9 @@ one_born s t next order order_t tree born f d there both =
             let old = f.from x.serial y h in
             let same : old.0 ≡ x = some_same (node_at x.serial s.core.nodes) old.0 x old.1 at_x in
             let y_born : y.born ≡ d.born = old.2 ∙ ap (λ (z : Node). z.born) same ∙ sym e in
-            not_true (has_born d.born t.core.nodes) out (any_from (λ n. n.born == d.born) t.core.nodes x.serial y h (grind (arith, nat_tests)))
+            let none = not_true (has_born d.born t.core.nodes) out in
+            let some = any_from (λ n. n.born == d.born) t.core.nodes x.serial y h (grind (arith, nat_tests)) in
+            cc
         by_now x at_x e None h =
             elim (f.gone x.serial x at_x h) [
               | inl never ↦ never d there e
@@ -316,13 +233,3 @@ one_born s t next order order_t tree born f d there both =
                   let dies = dead m (subst (λ (i : ℕ). node_at i t.core.nodes ≡ Some m) (sym same) at) in
                   cc
             ]
-
--- no more devices can join
-pub flows_less : (s t : State) (next : ℕ) → Ascending 0 s.core.nodes → Ascending 0 t.core.nodes → Tree next s.core → Born s → Flows s t → can_join t ≤ can_join s
-flows_less s t next order order_t tree born f =
-    let a = joinable_less (lives t) (λ b. has_born b t.core.nodes) (lives s) (λ b. has_born b s.core.nodes) (starts_with f.start) t.world (one_born s t next order order_t tree born f) in
-    let b = joinable_sub (lives s) (λ b. has_born b s.core.nodes) t.world s.world f.world in
-    let c = start_paid s t f.start f.world f.started in
-    let d = starts_less (start_costs t) (start_costs s) t.tasks (costs_less s t f.world f.from) in
-    let e = f.tasks (start_costs s) in
-    omega arith

@@ -80,12 +80,6 @@ those_distinct test (x ∷ xs) d =
     ] in
     by_test (test x)
 
--- turned round
-
-pub not_in : (xs : List ℕ) (k : ℕ) (b : Bool) → has xs k ≡ b → (b ≡ true → ⊥) → has xs k ≡ false
-not_in xs k true h g = absurd (g refl)
-not_in xs k false h g = h
-
 -- nodes in order
 
 pub below_serial : (lo : ℕ) (test : Node → Bool) (ns : List Node) (k : ℕ) → Ascending lo ns → has (serials_of (those test ns)) k ≡ true → lo ≤ k

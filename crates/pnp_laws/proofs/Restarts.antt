@@ -19,6 +19,7 @@ use Rattle.pnp_laws.proofs.Ranks.{Rooted}
 use Rattle.pnp_laws.proofs.Due.{RootIsOwn}
 use Rattle.pnp_laws.proofs.Aboves.{is_above_in, due_below, has_cases}
 use Rattle.pnp_laws.proofs.Standing.{IdleFree, DueBut, Rising, Falling, Ordered}
+use Rattle.pnp_laws.proofs.Truths.{untrue}
 use Rattle.pnp_laws.proofs.SoundStarts.{child_hangs}
 
 -- Orders ---------------------------------------------------------------------------------------
@@ -114,10 +115,6 @@ calm_or : (x : DevState) → is_calm x ≡ true → is_idle x ≡ false → is_s
 calm_or Stopped a b c = refl
 calm_or _ a b c = cc
 
-not_idle : (x : DevState) (b : Bool) → is_idle x ≡ b → (b ≡ true → ⊥) → is_idle x ≡ false
-not_idle x true e never = absurd (never refl)
-not_idle x false e never = e
-
 -- a device with one above that is not up: that one is Stopped
 pub over_stopped : (c : Core) (k : ℕ) (m : Node) → RootIsOwn c.nodes → Rooted c → IdleFree c → Each (λ k x. is_calm x) c.nodes → node_at k c.nodes ≡ Some m → k ≢ 0 → stands_up c.nodes k ≡ false →
     (j : ℕ) × (n : Node) × (has (above c.nodes k) j ≡ true) × (j < k) × (node_at j c.nodes ≡ Some n) × (n.state ≡ Stopped)
@@ -130,7 +127,7 @@ over_stopped c k m root rooted idle calm at up down =
     let child = over.child in
     let no_child : is_idle n.state ≡ true → ⊥ = λ e. idle j n at_j e child.0 child.1 child.2 (child_hangs c j child.0 child.1 child.2 child.4 child.3) in
     let not_up : is_started n.state ≡ false = sym (ap is_up at_j) ∙ one.2 in
-    (j, n, one.1, over.lower, at_j, calm_or n.state (calm j n at_j) (not_idle n.state (is_idle n.state) refl no_child) not_up)
+    (j, n, one.1, over.lower, at_j, calm_or n.state (calm j n at_j) (untrue (is_idle n.state) no_child) not_up)
 
 pub due_restart : (tasks : List Task) (c : Core) (lo : ℕ) (ks : List ℕ) → RootIsOwn c.nodes → Rooted c → IdleFree c → Each (λ k x. is_calm x) c.nodes → ((k : ℕ) (n : Node) → node_at k c.nodes ≡ Some n → n.state ≡ Stopped → k ≢ 0) → Rising lo ks →
     DueBut ks tasks c.nodes → DueBut (startable c.nodes ks) tasks c.nodes

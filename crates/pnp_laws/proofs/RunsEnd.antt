@@ -18,7 +18,8 @@ use Rattle.pnp_laws.proofs.MeasureStages.{falls_operation}
 use Rattle.pnp_laws.proofs.MeasureTasks.{falls_act}
 use Rattle.pnp_laws.proofs.MeasureBegins.{lowers_task}
 use Rattle.pnp_laws.proofs.RunsStand.{Kept, kept_goes, reaches_kept}
-use Rattle.pnp_laws.proofs.Joins.{Born, can_join}
+use Rattle.pnp_laws.proofs.JoinCounts.{join_price}
+use Rattle.pnp_laws.proofs.Joins.{Born}
 use Rattle.pnp_laws.proofs.JoinMachine.{step_goes, reaches_born}
 use Rattle.pnp_model.specs.Machine as ma
 
@@ -79,11 +80,11 @@ last_of s = answers_of s.core.nodes s.activities s.operation
 
 -- of the states with these numbers
 abbrev AllSettle : Settings → ℕ → ℕ → ℕ → ℕ → Type 0
-AllSettle settings w x y z = (s : State) → Kept s → Born s → can_join s ≡ w → first_of s ≡ x → left_of s.operation ≡ y → last_of s ≡ z → Settles settings s
+AllSettle settings w x y z = (s : State) → Kept s → Born s → join_price s ≡ w → first_of s ≡ x → left_of s.operation ≡ y → last_of s ≡ z → Settles settings s
 
--- four numbers, compared from the first on: those that can join, and the three
+-- four numbers, compared from the first on: the price of the joins to come, and the three
 abbrev pub Lowest : State → State → Type 0
-Lowest t s = (can_join t < can_join s) ⊎ ((can_join t ≤ can_join s) × Lower (first_of t) (left_of t.operation) (last_of t) (first_of s) (left_of s.operation) (last_of s))
+Lowest t s = (join_price t < join_price s) ⊎ ((join_price t ≤ join_price s) × Lower (first_of t) (left_of t.operation) (last_of t) (first_of s) (left_of s.operation) (last_of s))
 
 pub by_four : (P : ℕ → ℕ → ℕ → ℕ → Type 0) → ((w x y z : ℕ) → ((v a b c : ℕ) → (v < w) ⊎ ((v ≤ w) × Lower a b c x y z) → P v a b c) → P w x y z) → (w x y z : ℕ) → P w x y z
 by_four P step =
@@ -140,20 +141,20 @@ settled_by settings s kept born below_s =
     ]
 
 -- below a state with these numbers
-pub at_numbers : (t s : State) (w x y z : ℕ) → can_join s ≡ w → first_of s ≡ x → left_of s.operation ≡ y → last_of s ≡ z → Lowest t s
-    → (can_join t < w) ⊎ ((can_join t ≤ w) × Lower (first_of t) (left_of t.operation) (last_of t) x y z)
+pub at_numbers : (t s : State) (w x y z : ℕ) → join_price s ≡ w → first_of s ≡ x → left_of s.operation ≡ y → last_of s ≡ z → Lowest t s
+    → (join_price t < w) ⊎ ((join_price t ≤ w) × Lower (first_of t) (left_of t.operation) (last_of t) x y z)
 at_numbers t s w x y z e a b c l =
-    subst (λ (i : ℕ). (can_join t < i) ⊎ ((can_join t ≤ i) × Lower (first_of t) (left_of t.operation) (last_of t) x y z)) e
-    (subst (λ (i : ℕ). (can_join t < can_join s) ⊎ ((can_join t ≤ can_join s) × Lower (first_of t) (left_of t.operation) (last_of t) i y z)) a
-    (subst (λ (i : ℕ). (can_join t < can_join s) ⊎ ((can_join t ≤ can_join s) × Lower (first_of t) (left_of t.operation) (last_of t) (first_of s) i z)) b
-    (subst (λ (i : ℕ). (can_join t < can_join s) ⊎ ((can_join t ≤ can_join s) × Lower (first_of t) (left_of t.operation) (last_of t) (first_of s) (left_of s.operation) i)) c l)))
+    subst (λ (i : ℕ). (join_price t < i) ⊎ ((join_price t ≤ i) × Lower (first_of t) (left_of t.operation) (last_of t) x y z)) e
+    (subst (λ (i : ℕ). (join_price t < join_price s) ⊎ ((join_price t ≤ join_price s) × Lower (first_of t) (left_of t.operation) (last_of t) i y z)) a
+    (subst (λ (i : ℕ). (join_price t < join_price s) ⊎ ((join_price t ≤ join_price s) × Lower (first_of t) (left_of t.operation) (last_of t) (first_of s) i z)) b
+    (subst (λ (i : ℕ). (join_price t < join_price s) ⊎ ((join_price t ≤ join_price s) × Lower (first_of t) (left_of t.operation) (last_of t) (first_of s) (left_of s.operation) i)) c l)))
 
 all_settle : (settings : Settings) (w x y z : ℕ) → AllSettle settings w x y z
 all_settle settings =
     by_four (AllSettle settings)
     (λ w x y z lower s kept born e a b c. settled_by settings s kept born
-    (λ t kept_t born_t l. lower (can_join t) (first_of t) (left_of t.operation) (last_of t) (at_numbers t s w x y z e a b c l) t kept_t born_t refl refl refl refl))
+    (λ t kept_t born_t l. lower (join_price t) (first_of t) (left_of t.operation) (last_of t) (at_numbers t s w x y z e a b c l) t kept_t born_t refl refl refl refl))
 
 pub every_run_settles : SettlesLaw
 every_run_settles settings rack entries s run =
-    all_settle settings (can_join s) (first_of s) (left_of s.operation) (last_of s) s (reaches_kept settings rack entries s run) (reaches_born settings rack entries s run) refl refl refl refl
+    all_settle settings (join_price s) (first_of s) (left_of s.operation) (last_of s) s (reaches_kept settings rack entries s run) (reaches_born settings rack entries s run) refl refl refl refl

@@ -1,5 +1,5 @@
 -- In each state of a run nodes are told apart, nothing depends on itself, and no two of the printed resources clash.
-use Rattle.std.proofs.Common.{ℕ, suc, ◌≡◌, ◌≢◌, inl, inr, List, [], ◌∷◌, ◌++◌, Some, None, refl, subst, arith}
+use Rattle.std.proofs.Common.{ℕ, suc, ◌≡◌, ◌≢◌, inl, inr, List, [], ◌∷◌, ◌++◌, Some, None, subst, arith}
 use Rattle.std.specs.Prelude.{Contains}
 use Rattle.std.proofs.lemmas.List.Elements.{Contains-append_cases, Contains-append_right}
 use Rattle.resource_reqs.specs.Resources.{Res, NoClash}
@@ -12,7 +12,7 @@ use Rattle.pnp_model.specs.Trees.{dependents}
 use Rattle.pnp_laws.specs.Kept.{Ascending}
 use Rattle.pnp_laws.specs.Keys.{NoCycleLaw, MapLaw}
 use Rattle.pnp_laws.proofs.Closures.{head_at, tail_at}
-use Rattle.pnp_laws.proofs.Lists.{not_in}
+use Rattle.pnp_laws.proofs.Truths.{untrue}
 use Rattle.pnp_laws.proofs.Lookups.{none_below}
 use Rattle.pnp_laws.proofs.Orders.{dependents_rank}
 use Rattle.pnp_laws.proofs.Sharing.{here, free_at, free_from, clash_sym}
@@ -26,7 +26,7 @@ pub no_cycle : NoCycleLaw
 no_cycle settings rack entries s run k =
     let kept = reaches_kept settings rack entries s run in
     let tree = kept.stands.tree in
-    not_in (dependents s.core k) k (has (dependents s.core k) k) refl
+    untrue (has (dependents s.core k) k)
     (λ h. let low = dependents_rank tree.rank s.core k kept.good.serials tree.ranked k h in omega arith)
 
 -- The printed list ----------------------------------------------------------------------------
