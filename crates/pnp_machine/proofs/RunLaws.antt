@@ -11,6 +11,7 @@ use Rattle.pnp_model.specs.Laws.{Reaches}
 use Rattle.pnp_model.specs.Runs.Entry.{Happens, Did}
 use Rattle.pnp_laws.specs.Ends.{events}
 use Rattle.pnp_laws.specs.Kept.{IsGood}
+use Rattle.pnp_laws.specs.Printed.{TreeIsPrinted}
 use Rattle.pnp_laws.proofs.Reached.{reached_is_good}
 use Rattle.pnp_laws.proofs.Reaching.{run_on}
 use Rattle.pnp_laws.proofs.RunsBegun.{operations_begin}
@@ -25,6 +26,7 @@ use Rattle.pnp_laws.proofs.RunsStand.{dependents_go_first, every_run_follows}
 use Rattle.pnp_laws.proofs.RunsStrays.{nobody_is_forgotten}
 use Rattle.pnp_laws.proofs.RunsTold.{states_are_told}
 use Rattle.pnp_laws.proofs.RunsWhole.{all_hold_whole}
+use Rattle.pnp_laws.proofs.TreePrints.{each_node_is_printed_once}
 use Rattle.pnp_machine.specs.Machines.{IsDone, Moves}
 use Rattle.pnp_machine.specs.Ids.{AreFewIds}
 use Rattle.pnp_machine.specs.Machines.{HasFewIds}
@@ -119,6 +121,9 @@ of_run told n s h = record { told = told; rack = h.rack; entries = h.entries; re
 
 pub of_run_good : (s : State) → IsOfRun s → IsGood s
 of_run_good s run = reached_is_good run.told run.rack s (run.entries, run.reaches)
+
+pub of_run_printed : (told : Settings) (n : ℕ) (s : State) → IsRunOf told n s → TreeIsPrinted s.core.nodes
+of_run_printed told n s h = each_node_is_printed_once told h.rack h.entries s h.reaches
 
 pub run_serials : (told : Settings) (n : ℕ) (s : State) → IsRunOf told n s → n ≤ 2 ^ 24 → s.next_serial < 2 ^ 63
 run_serials told n s h few =

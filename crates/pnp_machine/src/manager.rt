@@ -3,6 +3,7 @@ ghost use Rattle.pnp_model.specs.Endings.{ending, joined};
 ghost use Rattle.pnp_model.specs.Events.{happens};
 ghost use Rattle.pnp_model.specs.Machine.{IsQuiet};
 ghost use Rattle.pnp_model.specs.Runs.{opening};
+ghost use Rattle.pnp_laws.specs.Printed.{TreeIsPrinted};
 ghost use Rattle.devnode_tree.specs.Trees.{Tree};
 ghost use Rattle.pnp_machine.specs.Machines.{IsDone, Moves, HasFewIds};
 ghost use Rattle.pnp_machine.specs.Managers.{settings, IsRunOf, KeepsLaws, LawsOf, IfQuiet};
@@ -115,10 +116,12 @@ impl<R: Drivers> Manager<R> {
         self.machine.devices.tree()
     }
 
-    /// The end of the output: the tree, what is held, and the requests that are outstanding. Cost: the number of nodes
-    /// times its logarithm, and the number of pairs that are held or reserved.
+    /// The end of the output: the tree, what is held, and the requests that are outstanding. Under the tree each node has
+    /// one line, and each line is of a node. Cost: the number of nodes times its logarithm, and the number of pairs that are
+    /// held or reserved.
     pub fn ending(&self, alloc: Global) -> Result<Vec<u8>, WantOfMemory>
-        ensures { IfOk result (λ text. text.items ≡ joined (ending self.now.state)) }
+        ensures text { IfOk result (λ text. text.items ≡ joined (ending self.now.state)) }
+        ensures tree { TreeIsPrinted self.now.state.core.nodes }
     {
         self.machine.ending(alloc)
     }
