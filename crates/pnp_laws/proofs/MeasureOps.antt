@@ -6,8 +6,7 @@ use Rattle.std.proofs.lemmas.Bool.{cases_eq}
 use Rattle.std.proofs.lemmas.Bool.Decides.{nat_tests}
 use Rattle.pnp_model.specs.Keyed.{those, without_first}
 use Rattle.pnp_model.specs.Tests.{has}
-use Rattle.pnp_model.specs.Records.{Node, Device, Task, Activity, Walk, State, Step, Found, Operation, RebalanceStage, RemovalStage, Surprise, SurpriseStage, Doing, Duty}
-use Rattle.pnp_model.specs.Records.Doing.{Does, Searches}
+use Rattle.pnp_model.specs.Records.{Node, Device, Task, Activity, Walk, State, Step, Operation, RebalanceStage, RemovalStage, Surprise, SurpriseStage, Duty}
 use Rattle.pnp_model.specs.Cores.{is_node, node_at, serials_of, stack_of}
 use Rattle.pnp_model.specs.Walks.{after, is_bad, has_ended}
 use Rattle.pnp_model.specs.Trees.{stands_up}

@@ -23,11 +23,10 @@ use Rattle.pnp_model.specs.Runs.{Entry, Goes}
 use Rattle.pnp_model.specs.Runs.Entry.{Happens, Did}
 use Rattle.pnp_model.specs.Tests.{has}
 use Rattle.pnp_model.specs.Trees.{stands_up}
-use Rattle.pnp_laws.specs.Effects.{AnswerEffect, OpEffect, RangeEffect, begun}
+use Rattle.pnp_laws.specs.Effects.{AnswerEffect, OpEffect, RangeEffect, SameWork, begun}
 use Rattle.pnp_laws.specs.Holdings.{KeepsReqs, has_plan, WholeAt}
 use Rattle.pnp_laws.specs.Plans.{IsPlanned, PlanFits, PlanKept, StagePlan}
 use Rattle.pnp_laws.specs.Reached.{IsReached}
-use Rattle.pnp_laws.specs.Words.{SameWork}
 use Rattle.pnp_laws.proofs.EffectsOf.{effect_goes}
 use Rattle.pnp_laws.proofs.EventChanges.{ranges_stay}
 use Rattle.pnp_laws.proofs.Lookups.{map_from, node_changed_other, node_changed_same, node_from, own_serial}

@@ -212,11 +212,3 @@ module _ (infs : List Inf) (budget : ℕ) (ds ds' : Devices) (rack rack' : List 
   rebalanced_moves (Operation.Rebalancing r) (Operation.Surprising r') s works' operation' tasks' is turn h target w o t = absurd h
   rebalanced_moves (Operation.Removing r) r' s works' operation' tasks' is turn h target w o t = absurd h
   rebalanced_moves (Operation.Surprising r) r' s works' operation' tasks' is turn h target w o t = absurd h
-
--- the rebalance runs on as one
-pub stays_rebalance : (budget : ℕ) (ds ds' : Devices) (rack rack' : List Driver) (step : RebalanceStep) (o o' : Operation) → RebalancesBy budget ds rack o step ds' rack' o' → IsRebalance o'
-stays_rebalance budget ds ds' rack rack' step (Operation.Rebalancing r) (Operation.Rebalancing r') h = tt
-stays_rebalance budget ds ds' rack rack' step (Operation.Rebalancing r) (Operation.Removing r') h = absurd h
-stays_rebalance budget ds ds' rack rack' step (Operation.Rebalancing r) (Operation.Surprising r') h = absurd h
-stays_rebalance budget ds ds' rack rack' step (Operation.Removing r) r' h = absurd h
-stays_rebalance budget ds ds' rack rack' step (Operation.Surprising r) r' h = absurd h
