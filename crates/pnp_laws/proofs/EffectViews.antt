@@ -1,5 +1,5 @@
 -- What all changes of a device have in common.
-use Rattle.std.proofs.Common.{ℕ, ◌≡◌, ◌≢◌, ◌⊎◌, inl, inr, Bool, true, false, List, [], ◌∷◌, Some, refl, sym, ap, ◌∙◌, subst, arith}
+use Rattle.std.proofs.Common.{ℕ, ◌≡◌, ◌≢◌, ◌⊎◌, inl, inr, Bool, true, false, List, [], ◌∷◌, Some, None, refl, sym, ap, subst, arith}
 use Rattle.std.proofs.lemmas.Bool.{cases_eq}
 use Rattle.std.proofs.lemmas.Bool.Decides.{nat_tests}
 use Rattle.pnp_labels.specs.Texts.{Text}
@@ -12,10 +12,11 @@ use Rattle.pnp_model.specs.Cores.{bare, is_node, new_node, node_at, stacked}
 use Rattle.pnp_model.specs.Keyed.{changed_first}
 use Rattle.pnp_model.specs.Machine.{is_ready}
 use Rattle.pnp_model.specs.Rebalances.{committed, movers, plan_of}
-use Rattle.pnp_model.specs.Records.{Activity, Node, Phase, State, Step}
+use Rattle.pnp_model.specs.Records.{Activity, Device, Node, Operation, Phase, Rebalance, RebalanceStage, State, Step, Walk}
+use Rattle.pnp_model.specs.Tasks.{joining}
 use Rattle.pnp_model.specs.States.{activity_at, entered}
 use Rattle.pnp_model.specs.Walks.{state_after}
-use Rattle.pnp_laws.specs.Effects.{Acting, Alters, NodeEffect}
+use Rattle.pnp_laws.specs.Effects.{Acting, Alters, NodeEffect, Request}
 use Rattle.pnp_laws.specs.Kept.{Ascending, InOrder, is_idle}
 use Rattle.pnp_laws.proofs.Lookups.{entered_other, joined_from, left_from, map_from, node_from, ready_found, some_same}
 
@@ -44,6 +45,44 @@ pub record KeepsIds (f : Node → Node) : Type 0 where
 pub alters_keeps : (s : State) (label : Label) (t : State) (j : ℕ) (f : Node → Node) → Alters s label t j f → KeepsIds f
 alters_keeps s label t j f (Alters.walked node minor w bad at request other ends verdict prints) = record { serial = λ n. refl; hw = λ n. refl; compat = λ n. refl; reqs = λ n. refl }
 alters_keeps s label t j f _ = record { serial = λ n. refl; hw = λ n. refl; compat = λ n. refl; reqs = λ n. refl }
+
+-- where a device comes from, by what a step or an event does to nodes
+pub data CameFrom (s : State) (label : Label) (t : State) (k : ℕ) : Node → Type 0 where
+  was : (m : Node) → node_at k s.core.nodes ≡ Some m → CameFrom s label t k m
+  altered : (n : Node) (f : Node → Node) → node_at k s.core.nodes ≡ Some n → Alters s label t k f → CameFrom s label t k (f n)
+  stripped : (n : Node) (w : Walk) → node_at k s.core.nodes ≡ Some n → Request s n Minor.Remove w → label ≡ Label.State n.path (state_after Minor.Remove false n.state) → CameFrom s label t k (bare n)
+  moved : (n : Node) (r : Rebalance) → node_at k s.core.nodes ≡ Some n → s.operation ≡ Some (Operation.Rebalancing r) → r.stage ≡ RebalanceStage.Committing → CameFrom s label t k (committed (movers r) (plan_of r.found) n)
+  joined : (node : Node) (d : Device) → node_at k s.core.nodes ≡ None → s.next_serial ≡ k → joining node.born s.core.nodes s.world ≡ Some d → CameFrom s label t k (new_node s.next_serial node.serial d)
+
+module _ (s : State) (label : Label) (t : State) (order : Ascending 0 s.core.nodes) (k : ℕ) (m : Node) where
+  changed_from : (j : ℕ) (f : Node → Node) → ((n : Node) → (f n).serial ≡ n.serial) → ((n : Node) → node_at j s.core.nodes ≡ Some n → CameFrom s label t j (f n)) → node_at k (changed_first (is_node j) f s.core.nodes) ≡ Some m
+      → CameFrom s label t k m
+  changed_from j f serial own now =
+      elim (node_from j k f s.core.nodes m serial now) [
+        | inl (e, (n, q, r)) ↦
+            subst (λ (z : Node). CameFrom s label t k z) (sym r)
+            (subst (λ (i : ℕ). CameFrom s label t i (f n)) e (own n (subst (λ (i : ℕ). node_at i s.core.nodes ≡ Some n) (sym e) q)))
+        | inr (d, q) ↦ CameFrom.was m q
+      ]
+
+  pub came_from : NodeEffect s label t → node_at k t.core.nodes ≡ Some m → CameFrom s label t k m
+  came_from (NodeEffect.same e rest) now = CameFrom.was m (subst (λ (x : List Node). node_at k x ≡ Some m) e now)
+  came_from (NodeEffect.changed j f alters e rest) now =
+      changed_from j f (alters_keeps s label t j f alters).serial (λ n q. CameFrom.altered n f q alters) (subst (λ (x : List Node). node_at k x ≡ Some m) e now)
+  came_from (NodeEffect.stripped node w there request ends prints e rest) now =
+      changed_from node.serial bare (λ n. refl)
+      (λ n q. subst (λ (x : Node). CameFrom s label t node.serial (bare x)) (some_same (node_at node.serial s.core.nodes) node n there q) (CameFrom.stripped node w there request prints))
+      (subst (λ (x : List Node). node_at k x ≡ Some m) e now)
+  came_from (NodeEffect.commits r runs is e rest) now =
+      let old = map_from k (committed (movers r) (plan_of r.found)) s.core.nodes m (λ n. refl) (subst (λ (x : List Node). node_at k x ≡ Some m) e now) in
+      subst (λ (z : Node). CameFrom s label t k z) (sym old.2) (CameFrom.moved old.0 r old.1 runs is)
+  came_from (NodeEffect.joins node d none at up below is) now =
+      elim (joined_from k s.core.nodes (new_node s.next_serial node.serial d) m (subst (λ (x : Step). node_at k x.state.core.nodes ≡ Some m) is now)) [
+        | inl q ↦ CameFrom.was m q
+        | inr (gone, new, own) ↦ subst (λ (z : Node). CameFrom s label t k z) (sym new) (CameFrom.joined node d gone own below)
+      ]
+  came_from (NodeEffect.left node o runs first e rest) now = CameFrom.was m (left_from node.serial k s.core.nodes m order (subst (λ (x : List Node). node_at k x ≡ Some m) e now)).1
+  came_from (NodeEffect.related r related e rest) now = CameFrom.was m (subst (λ (x : List Node). node_at k x ≡ Some m) e now)
 
 -- a device that was up does not become one that never was
 abbrev pub StaysUp : DevState → DevState → Type 0
@@ -86,37 +125,12 @@ module _ (s : State) (label : Label) where
       inr (subst (λ (x : Node). Turns s label j x) (some_same (node_at j s.core.nodes) node n at there) (Turns.added d ds name acts prints))
   altered_turns t j f (Alters.assigned node phase plan acts search part now) n there = inl refl
 
-  module _ (t : State) (order : Ascending 0 s.core.nodes) (k : ℕ) (n m : Node) (at : node_at k s.core.nodes ≡ Some n) where
-    same_state : node_at k s.core.nodes ≡ Some m → (m.state ≡ n.state) ⊎ Turns s label k n
-    same_state q = inl (ap (λ (z : Node). z.state) (some_same (node_at k s.core.nodes) m n q at))
-
-    changed_turns : (j : ℕ) (f : Node → Node) → ((x : Node) → (f x).serial ≡ x.serial) → ((x : Node) → node_at j s.core.nodes ≡ Some x → ((f x).state ≡ x.state) ⊎ Turns s label j x)
-        → node_at k (changed_first (is_node j) f s.core.nodes) ≡ Some m → (m.state ≡ n.state) ⊎ Turns s label k n
-    changed_turns j f serial own now =
-        elim (node_from j k f s.core.nodes m serial now) [
-          | inl (e, (x, q, r)) ↦
-              let same : x ≡ n = some_same (node_at k s.core.nodes) x n q at in
-              let at_j = subst (λ (i : ℕ). node_at i s.core.nodes ≡ Some n) (sym e) at in
-              subst (λ (i : ℕ). (m.state ≡ n.state) ⊎ Turns s label i n) e
-              (subst (λ (z : Node). (z.state ≡ n.state) ⊎ Turns s label j n) (ap f (sym same) ∙ sym r) (own n at_j))
-          | inr (d, q) ↦ same_state q
-        ]
-
-    pub state_from : NodeEffect s label t → node_at k t.core.nodes ≡ Some m → (m.state ≡ n.state) ⊎ Turns s label k n
-    state_from (NodeEffect.same e rest) now = same_state (subst (λ (x : List Node). node_at k x ≡ Some m) e now)
-    state_from (NodeEffect.changed j f alters e rest) now =
-        changed_turns j f (alters_keeps s label t j f alters).serial (altered_turns t j f alters) (subst (λ (x : List Node). node_at k x ≡ Some m) e now)
-    state_from (NodeEffect.stripped node w there request ends prints e rest) now =
-        changed_turns node.serial bare (λ x. refl)
-        (λ x q. inr (subst (λ (y : Node). Turns s label node.serial y) (some_same (node_at node.serial s.core.nodes) node x there q) (Turns.told NoStack prints)))
-        (subst (λ (x : List Node). node_at k x ≡ Some m) e now)
-    state_from (NodeEffect.commits r runs is e rest) now =
-        let old = map_from k (committed (movers r) (plan_of r.found)) s.core.nodes m (λ x. refl) (subst (λ (x : List Node). node_at k x ≡ Some m) e now) in
-        inl (ap (λ (z : Node). z.state) old.2 ∙ ap (λ (z : Node). z.state) (some_same (node_at k s.core.nodes) old.0 n old.1 at))
-    state_from (NodeEffect.joins node d none there up below is) now =
-        elim (joined_from k s.core.nodes (new_node s.next_serial node.serial d) m (subst (λ (x : Step). node_at k x.state.core.nodes ≡ Some m) is now)) [
-          | inl q ↦ same_state q
-          | inr (gone, new, own) ↦ absurd (let missing = gone in cc)
-        ]
-    state_from (NodeEffect.left node o runs first e rest) now = same_state (left_from node.serial k s.core.nodes m order (subst (λ (x : List Node). node_at k x ≡ Some m) e now)).1
-    state_from (NodeEffect.related r related e rest) now = same_state (subst (λ (x : List Node). node_at k x ≡ Some m) e now)
+  pub state_from : (t : State) → Ascending 0 s.core.nodes → (k : ℕ) (n m : Node) → node_at k s.core.nodes ≡ Some n → NodeEffect s label t → node_at k t.core.nodes ≡ Some m → (m.state ≡ n.state) ⊎ Turns s label k n
+  state_from t order k n m at effect now = by_from m (came_from s label t order k m effect now)
+    where
+      by_from : (m : Node) → CameFrom s label t k m → (m.state ≡ n.state) ⊎ Turns s label k n
+      by_from m (CameFrom.was _ q) = inl (ap (λ (z : Node). z.state) (some_same (node_at k s.core.nodes) m n q at))
+      by_from _ (CameFrom.altered x f q alters) = subst (λ (z : Node). ((f x).state ≡ z.state) ⊎ Turns s label k z) (some_same (node_at k s.core.nodes) x n q at) (altered_turns t k f alters x q)
+      by_from _ (CameFrom.stripped x w q request prints) = inr (subst (λ (z : Node). Turns s label k z) (some_same (node_at k s.core.nodes) x n q at) (Turns.told NoStack prints))
+      by_from _ (CameFrom.moved x r q runs is) = inl (ap (λ (z : Node). z.state) (some_same (node_at k s.core.nodes) x n q at))
+      by_from _ (CameFrom.joined node d gone own below) = absurd (cc)

@@ -1,5 +1,5 @@
 -- Devices that are up hold one whole alternative, and devices without drivers nothing: by what a step does to nodes and activities.
-use Rattle.std.proofs.Common.{ℕ, ◌≡◌, ◌≢◌, inl, inr, Bool, true, false, List, [], ◌∷◌, ◌++◌, map, Option, Some, None, refl, sym, ap, ◌∙◌, subst, arith}
+use Rattle.std.proofs.Common.{ℕ, ◌≡◌, ◌≢◌, inl, inr, Bool, true, false, List, [], ◌∷◌, ◌++◌, Option, Some, None, refl, sym, ap, ◌∙◌, subst, arith}
 use Rattle.std.specs.List.{AllZip}
 use Rattle.std.proofs.lemmas.Bool.{cases_eq}
 use Rattle.std.proofs.lemmas.Bool.Decides.{nat_tests}
@@ -11,12 +11,12 @@ use Rattle.pnp_labels.specs.declared.states.DevState.{DevState}
 use Rattle.pnp_labels.specs.declared.states.DevState.TheVariants.{NoStack, NotStarted, Started, Stopped}
 use Rattle.pnp_labels.specs.declared.words.Minor.{Minor}
 use Rattle.pnp_labels.specs.declared.words.Minor.TheVariants.{Start, QueryRemove, Remove, QueryStop}
-use Rattle.pnp_model.specs.Cores.{bare, is_node, new_node, node_at, stacked, with_holds, with_stack, with_state}
+use Rattle.pnp_model.specs.Cores.{is_node, node_at, stacked, with_holds, with_stack, with_state}
 use Rattle.pnp_model.specs.Frames.{fixed_beside}
 use Rattle.pnp_model.specs.Keyed.{changed_first, without_first}
 use Rattle.pnp_model.specs.Laws.{is_up_to_now, HoldsWhole}
 use Rattle.pnp_model.specs.Rebalances.{committed, movers, plan_of}
-use Rattle.pnp_model.specs.Records.{Activity, Node, Operation, Phase, Rebalance, RebalanceStage, Removal, RemovalStage, State, Step, Surprise, SurpriseStage, Walk}
+use Rattle.pnp_model.specs.Records.{Activity, Node, Operation, Phase, Rebalance, RebalanceStage, Removal, RemovalStage, State, Surprise, SurpriseStage, Walk}
 use Rattle.pnp_model.specs.Starts.{adding, own_part}
 use Rattle.pnp_model.specs.States.{activity_at, entered, is_activity}
 use Rattle.pnp_model.specs.Tests.{has, is_told}
@@ -25,15 +25,15 @@ use Rattle.pnp_laws.specs.Effects.{ActivityEffect, Acting, Alters, Assigned, Ent
 use Rattle.pnp_laws.specs.Holdings.{HeldWell, IsWhole, StartsWhole, WholeAt, has_plan, is_starting}
 use Rattle.pnp_laws.specs.Kept.{Alone, Fits, IsGood, OperationFits, RebalanceKeeps, RemovalKeeps, SurpriseKeeps, asking_state, pending_state, restoring_state, stopped_state, stopping_state, telling_state}
 use Rattle.pnp_laws.specs.Plans.{IsPlanned, PlanFits, PlanKept, StagePlan}
-use Rattle.pnp_laws.proofs.EffectViews.{acting_at, alters_keeps}
+use Rattle.pnp_laws.proofs.EffectViews.{CameFrom, acting_at, came_from}
 use Rattle.pnp_laws.proofs.EventChanges.{starting_still}
 use Rattle.pnp_laws.proofs.Lists.{head_found, head_has, member}
-use Rattle.pnp_laws.proofs.Lookups.{ended_other, ended_same, entered_other, entered_same, joined_from, left_from, map_from, node_from, own_serial, phase_from, some_same}
+use Rattle.pnp_laws.proofs.Lookups.{ended_other, ended_same, entered_other, entered_same, node_from, own_serial, phase_from, some_same}
 use Rattle.pnp_laws.proofs.OpSteps.{is_RemovePending, is_Started, is_StopPending, is_Stopped}
-use Rattle.pnp_laws.proofs.PlansKept.{mover_whole, whole_changed}
+use Rattle.pnp_laws.proofs.PlansKept.{mover_whole}
 use Rattle.pnp_laws.proofs.RemovalSteps.{head_querying, head_refusing}
 use Rattle.pnp_laws.proofs.Sharing.{part_not}
-use Rattle.pnp_laws.proofs.StartSteps.{stacked_idle}
+use Rattle.pnp_laws.proofs.StartSteps.{search_fits, stacked_idle}
 use Rattle.pnp_model.specs.Events as ev
 
 abbrev AllHeldWell : List Node → Type 0
@@ -103,12 +103,6 @@ module _ (nodes : List Node) (node : Node) (minor : Minor) (other : minor ≢ Mi
 adding_quiet : (ds : List ℕ) → is_starting (adding ds) ≡ false
 adding_quiet [] = refl
 adding_quiet (d ∷ ds) = refl
-
-search_waits : (phase : Phase) (x : DevState) → IsSearch phase → Fits phase x → x ≡ NotStarted
-search_waits (Phase.Adding []) x search fits = fits
-search_waits (Phase.Adding (d ∷ ds)) x search fits = absurd search
-search_waits Phase.Searching x search fits = fits
-search_waits _ x search fits = absurd search
 
 search_quiet : (phase : Phase) → IsSearch phase → is_starting phase ≡ false
 search_quiet (Phase.Starting w) search = absurd search
@@ -200,39 +194,23 @@ module _ (s : State) (label : Label) (good : IsGood s) (planned : IsPlanned s) (
   altered_well t j f (Alters.stacks node d ds name at acts prints) n there =
       waiting_well (with_stack (node.stack ++ d ∷ []) (stacked node.state) n) (stacked_idle node.state (fits_at node.serial (Phase.Adding (d ∷ ds)) node acts at))
   altered_well t j f (Alters.assigned node phase plan acts search part now) n there =
-      waiting_well (with_holds (own_part plan) n) (search_waits phase n.state search (fits_at node.serial phase n acts there))
+      waiting_well (with_holds (own_part plan) n) (search_fits phase n.state search (fits_at node.serial phase n acts there))
 
-  changed_well : (j : ℕ) (f : Node → Node) → ((n : Node) → (f n).serial ≡ n.serial) → ((n : Node) → node_at j s.core.nodes ≡ Some n → HeldWell (f n)) → AllHeldWell (changed_first (is_node j) f s.core.nodes)
-  changed_well j f serial own k m at =
-      elim (node_from j k f s.core.nodes m serial at) [
-        | inl (e, (y, q, r)) ↦ subst (λ (z : Node). HeldWell z) (sym r) (own y (subst (λ (i : ℕ). node_at i s.core.nodes ≡ Some y) (sym e) q))
-        | inr (d, q) ↦ well k m q
-      ]
-
-  joined_well : (new : Node) → HeldWell new → AllHeldWell (s.core.nodes ++ new ∷ [])
-  joined_well new own k m at =
-      elim (joined_from k s.core.nodes new m at) [
-        | inl q ↦ well k m q
-        | inr (q, r, u) ↦ subst (λ (z : Node). HeldWell z) (sym r) own
-      ]
-
-  mapped_well : (r : Rebalance) → s.operation ≡ Some (Operation.Rebalancing r) → r.stage ≡ RebalanceStage.Committing → AllHeldWell (map (committed (movers r) (plan_of r.found)) s.core.nodes)
-  mapped_well r runs is k m at =
+  moved_well : (r : Rebalance) → s.operation ≡ Some (Operation.Rebalancing r) → r.stage ≡ RebalanceStage.Committing → (k : ℕ) (n : Node) → node_at k s.core.nodes ≡ Some n → HeldWell (committed (movers r) (plan_of r.found) n)
+  moved_well r runs is k n at =
       let keeps = subst (λ (x : RebalanceStage). RebalanceKeeps r x s.core.nodes) is (subst (λ (x : Option Operation). OperationFits x s.core.nodes) runs good.fits) in
       let fits = subst (λ (x : RebalanceStage). StagePlan r x s.core.reserved s.core.nodes) is (subst (λ (x : Option Operation). PlanKept x s.core.reserved s.core.nodes) runs planned) in
-      let from = map_from k (committed (movers r) (plan_of r.found)) s.core.nodes m (λ n. refl) at in
-      subst (λ (z : Node). HeldWell z) (sym from.2) (committed_well r s.core.reserved s.core.nodes k from.0 keeps fits from.1 (well k from.0 from.1))
+      committed_well r s.core.reserved s.core.nodes k n keeps fits at (well k n at)
 
   nodes_well : (t : State) → NodeEffect s label t → AllHeldWell t.core.nodes
-  nodes_well t (NodeEffect.same a b) = subst AllHeldWell (sym a) well
-  nodes_well t (NodeEffect.changed j f alters a b) = subst AllHeldWell (sym a) (changed_well j f (alters_keeps s label t j f alters).serial (altered_well t j f alters))
-  nodes_well t (NodeEffect.stripped node w at request ends prints a b) =
-      subst AllHeldWell (sym a) (changed_well node.serial bare (λ n. refl) (λ n there. record { up = λ h. absurd (cc); bare = λ h. refl }))
-  nodes_well t (NodeEffect.commits r runs is a b) = subst AllHeldWell (sym a) (mapped_well r runs is)
-  nodes_well t (NodeEffect.joins node d none at up there is) =
-      subst (λ (x : Step). AllHeldWell x.state.core.nodes) (sym is) (joined_well (new_node s.next_serial node.serial d) (record { up = λ h. absurd (cc); bare = λ h. refl }))
-  nodes_well t (NodeEffect.left node o runs first a b) = subst AllHeldWell (sym a) (λ k m at. well k m (left_from node.serial k s.core.nodes m good.serials at).1)
-  nodes_well t (NodeEffect.related r related a b) = subst AllHeldWell (sym a) well
+  nodes_well t effect k m at = by_from m (came_from s label t good.serials k m effect at)
+    where
+      by_from : (m : Node) → CameFrom s label t k m → HeldWell m
+      by_from m (CameFrom.was _ q) = well k m q
+      by_from _ (CameFrom.altered n f q alters) = altered_well t k f alters n q
+      by_from _ (CameFrom.stripped n w q request prints) = record { up = λ h. absurd (cc); bare = λ h. refl }
+      by_from _ (CameFrom.moved n r q runs is) = moved_well r runs is k n q
+      by_from _ (CameFrom.joined node d gone own below) = record { up = λ h. absurd (cc); bare = λ h. refl }
 
   -- Starts that were under way ---------------------------------------------------------
 
@@ -248,43 +226,26 @@ module _ (s : State) (label : Label) (good : IsGood s) (planned : IsPlanned s) (
         let is : is_starting a.phase ≡ is_starting phase = ap (λ (x : Activity). is_starting x.phase) (sym same) ∙ ap is_starting here.is in
         cc
 
-    altered_starts : (t : State) (j : ℕ) (f : Node → Node) → Alters s label t j f → WholeAt k (changed_first (is_node j) f s.core.nodes)
-    altered_starts t j f (Alters.walked node minor w bad at request other ends verdict prints) =
-        whole_changed k node.serial _ s.core.nodes (record { reqs = record { serial = λ n. refl; reqs = λ n. refl }; holds = λ n. refl }) before
-    altered_starts t j f (Alters.troubled i problem) = whole_changed k i _ s.core.nodes (record { reqs = record { serial = λ n. refl; reqs = λ n. refl }; holds = λ n. refl }) before
-    altered_starts t j f (Alters.stacks node d ds name at acts prints) = whole_changed k node.serial _ s.core.nodes (record { reqs = record { serial = λ n. refl; reqs = λ n. refl }; holds = λ n. refl }) before
-    altered_starts t j f (Alters.assigned node phase plan acts search part now) = λ m g.
-        elim (node_from node.serial k (with_holds (own_part plan)) s.core.nodes m (λ n. refl) g) [
-          | inl (e, more) ↦ absurd (not_acting phase (subst (λ (i : ℕ). Acting s i phase) e acts) (search_quiet phase search))
-          | inr (d, q) ↦ before m q
-        ]
+    altered_starts : (t : State) (j : ℕ) (f : Node → Node) → Alters s label t j f → (n : Node) → j ≡ k → node_at k s.core.nodes ≡ Some n → Whole (f n).reqs (f n).holds
+    altered_starts t j f (Alters.walked node minor w bad at request other ends verdict prints) n e q = before n q
+    altered_starts t j f (Alters.troubled i problem) n e q = before n q
+    altered_starts t j f (Alters.stacks node d ds name at acts prints) n e q = before n q
+    altered_starts t j f (Alters.assigned node phase plan acts search part now) n e q = absurd (not_acting phase (subst (λ (i : ℕ). Acting s i phase) e acts) (search_quiet phase search))
 
-    stripped_starts : (node : Node) (minor : Minor) (w : Walk) → minor ≡ Minor.Remove → Request s node minor w → WholeAt k (changed_first (is_node node.serial) bare s.core.nodes)
-    stripped_starts node _ w is (Request.starts v acts) m g = absurd (cc)
-    stripped_starts node _ w is (Request.undoes v acts) m g =
-        elim (node_from node.serial k bare s.core.nodes m (λ n. refl) g) [
-          | inl (e, more) ↦ absurd (not_acting (Phase.Removing v) (subst (λ (i : ℕ). Acting s i (Phase.Removing v)) e acts) refl)
-          | inr (d, q) ↦ before m q
-        ]
-    stripped_starts node minor w is (Request.operates i v asks) m g = absurd (none_starts asks.operation k a asks.runs under)
-
-    -- no activity waits for a device that has not joined yet
-    joined_starts : (new : Node) → new.serial ≡ s.next_serial → WholeAt k (s.core.nodes ++ new ∷ [])
-    joined_starts new e m g =
-        elim (joined_from k s.core.nodes new m g) [
-          | inl q ↦ before m q
-          | inr (q, r, u) ↦ absurd (let phase = good.phases k a under in let below = good.below k phase.0 phase.1 in let same : k ≡ s.next_serial = sym u ∙ e in omega arith)
-        ]
+    not_stripped : (node : Node) (minor : Minor) (w : Walk) → minor ≡ Minor.Remove → Request s node minor w → node.serial ≡ k → ⊥
+    not_stripped node _ w is (Request.starts v acts) e = cc
+    not_stripped node _ w is (Request.undoes v acts) e = not_acting (Phase.Removing v) (subst (λ (i : ℕ). Acting s i (Phase.Removing v)) e acts) refl
+    not_stripped node minor w is (Request.operates i v asks) e = none_starts asks.operation k a asks.runs under
 
     kept_starts : (t : State) → NodeEffect s label t → WholeAt k t.core.nodes
-    kept_starts t (NodeEffect.same e b) = subst (WholeAt k) (sym e) before
-    kept_starts t (NodeEffect.changed j f alters e b) = subst (WholeAt k) (sym e) (altered_starts t j f alters)
-    kept_starts t (NodeEffect.stripped node w at request ends prints e b) = subst (WholeAt k) (sym e) (stripped_starts node Minor.Remove w refl request)
-    kept_starts t (NodeEffect.commits r runs is e b) = absurd (none_starts (Operation.Rebalancing r) k a runs under)
-    kept_starts t (NodeEffect.joins node d none at up there is) =
-        subst (λ (x : Step). WholeAt k x.state.core.nodes) (sym is) (joined_starts (new_node s.next_serial node.serial d) refl)
-    kept_starts t (NodeEffect.left node o runs first e b) = absurd (none_starts o k a runs under)
-    kept_starts t (NodeEffect.related r related e b) = subst (WholeAt k) (sym e) before
+    kept_starts t effect m at = by_from m (came_from s label t good.serials k m effect at)
+      where
+        by_from : (m : Node) → CameFrom s label t k m → Whole m.reqs m.holds
+        by_from m (CameFrom.was _ q) = before m q
+        by_from _ (CameFrom.altered n f q alters) = altered_starts t k f alters n refl q
+        by_from _ (CameFrom.stripped n w q request prints) = absurd (not_stripped n Minor.Remove w refl request (own_serial k n s.core.nodes q))
+        by_from _ (CameFrom.moved n r q runs is) = absurd (none_starts (Operation.Rebalancing r) k a runs under)
+        by_from _ (CameFrom.joined node d gone own below) = absurd (let phase = good.phases k a under in let there = phase.1 in cc)
 
   -- Starts after it ---------------------------------------------------------------------
 

@@ -10,11 +10,10 @@ use Rattle.std.proofs.lemmas.Map.Steps.{length-le_from_distinct_below}
 use Rattle.resource_reqs.specs.Resources.{AltList, MayFrom, Reqs, Res, Whole}
 use Rattle.resource_reqs.proofs.Answering.{plan_is}
 use Rattle.pnp_labels.specs.declared.label.Label.{Label}
-use Rattle.pnp_model.specs.Cores.{bare, is_node, new_node, node_at}
+use Rattle.pnp_model.specs.Cores.{node_at}
 use Rattle.pnp_model.specs.Frames.{fixed_beside, held_by}
-use Rattle.pnp_model.specs.Keyed.{changed_first}
 use Rattle.pnp_model.specs.Rebalances.{committed, movers, plan_of}
-use Rattle.pnp_model.specs.Records.{Driver, Node, Operation, RebalanceStage, Settings, State, Step}
+use Rattle.pnp_model.specs.Records.{Driver, Node, Operation, Rebalance, RebalanceStage, Settings, State}
 use Rattle.pnp_model.specs.Runs.{Entry, Goes, Run, opening, printed}
 use Rattle.pnp_model.specs.Runs.Entry.{Happens, Did}
 use Rattle.pnp_model.specs.Starts.{own_part}
@@ -27,13 +26,13 @@ use Rattle.pnp_laws.specs.Keys.{BirthsApart}
 use Rattle.pnp_laws.specs.Plans.{IsPlanned, PlanKept, StagePlan}
 use Rattle.pnp_laws.specs.Reached.{IsReached}
 use Rattle.pnp_laws.proofs.Closures.{head_at, tail_at}
-use Rattle.pnp_laws.proofs.EffectViews.{alters_keeps}
+use Rattle.pnp_laws.proofs.EffectViews.{CameFrom, came_from}
 use Rattle.pnp_laws.proofs.EffectsOf.{effect_goes}
 use Rattle.pnp_laws.proofs.HoldingsKept.{own_whole}
 use Rattle.pnp_laws.proofs.JoinMachine.{reaches_born}
 use Rattle.pnp_laws.proofs.Joins.{Born}
 use Rattle.pnp_laws.proofs.Lists.{member}
-use Rattle.pnp_laws.proofs.Lookups.{joined_from, left_from, map_from, node_from, own_serial, some_same}
+use Rattle.pnp_laws.proofs.Lookups.{own_serial, some_same}
 use Rattle.pnp_laws.proofs.PlansKept.{mover_whole, reached_is_planned}
 use Rattle.pnp_laws.proofs.Reached.{reached_is_good}
 use Rattle.pnp_laws.proofs.Reaching.{kept}
@@ -59,38 +58,24 @@ module _ (s : State) (label : Label) (t : State) (order : Ascending 0 s.core.nod
       let one : node ≡ n = some_same (node_at node.serial s.core.nodes) node n part.at there in
       inr (subst (λ (x : Node). Whole x.reqs (own_part plan)) one (own_whole node.reqs plan is.whole))
 
-  changed_parts : (j : ℕ) (f : Node → Node) → ((n : Node) → (f n).serial ≡ n.serial) → ((n : Node) → node_at j s.core.nodes ≡ Some n → HoldsPart (f n)) → AllHoldParts (changed_first (is_node j) f s.core.nodes)
-  changed_parts j f serial own k m at =
-      elim (node_from j k f s.core.nodes m serial at) [
-        | inl (e, (n, q, r)) ↦ subst HoldsPart (sym r) (own n (subst (λ (i : ℕ). node_at i s.core.nodes ≡ Some n) (sym e) q))
-        | inr (d, q) ↦ old k m q
+  moved_part : (r : Rebalance) → s.operation ≡ Some (Operation.Rebalancing r) → r.stage ≡ RebalanceStage.Committing → (k : ℕ) (n : Node) → node_at k s.core.nodes ≡ Some n → HoldsPart (committed (movers r) (plan_of r.found) n)
+  moved_part r runs is k n at =
+      let fits = subst (λ (x : RebalanceStage). StagePlan r x s.core.reserved s.core.nodes) is (subst (λ (x : Option Operation). PlanKept x s.core.reserved s.core.nodes) runs planned) in
+      let own = own_serial k n s.core.nodes at in
+      elim (member (movers r) k) [
+        | inl h ↦ inr (mover_whole r s.core.reserved s.core.nodes k n fits at h)
+        | inr h ↦ part_same n (committed (movers r) (plan_of r.found) n) refl (part_not n.serial (movers r) (plan_of r.found) n.holds (subst (λ (i : ℕ). has (movers r) i ≡ false) (sym own) h)) (old k n at)
       ]
 
   parts_after : NodeEffect s label t → AllHoldParts t.core.nodes
-  parts_after (NodeEffect.same a b) = subst AllHoldParts (sym a) old
-  parts_after (NodeEffect.changed j f alters a b) = subst AllHoldParts (sym a) (changed_parts j f (alters_keeps s label t j f alters).serial (altered_part j f alters))
-  parts_after (NodeEffect.stripped node w at request ends prints a b) = subst AllHoldParts (sym a) (changed_parts node.serial bare (λ n. refl) (λ n there. inl refl))
-  parts_after (NodeEffect.commits r runs is a b) = subst AllHoldParts (sym a) moved
+  parts_after effect k m at = by_from m (came_from s label t order k m effect at)
     where
-      moved : AllHoldParts (map (committed (movers r) (plan_of r.found)) s.core.nodes)
-      moved k m at =
-          let fits = subst (λ (x : RebalanceStage). StagePlan r x s.core.reserved s.core.nodes) is (subst (λ (x : Option Operation). PlanKept x s.core.reserved s.core.nodes) runs planned) in
-          let from = map_from k (committed (movers r) (plan_of r.found)) s.core.nodes m (λ n. refl) at in
-          let n = from.0 in
-          let own = own_serial k n s.core.nodes from.1 in
-          subst HoldsPart (sym from.2)
-          (elim (member (movers r) k) [
-            | inl h ↦ inr (mover_whole r s.core.reserved s.core.nodes k n fits from.1 h)
-            | inr h ↦ part_same n (committed (movers r) (plan_of r.found) n) refl (part_not n.serial (movers r) (plan_of r.found) n.holds (subst (λ (i : ℕ). has (movers r) i ≡ false) (sym own) h)) (old k n from.1)
-          ])
-  parts_after (NodeEffect.joins node d none at up there is) =
-      subst (λ (x : Step). AllHoldParts x.state.core.nodes) (sym is)
-      (λ k m now. elim (joined_from k s.core.nodes (new_node s.next_serial node.serial d) m now) [
-        | inl q ↦ old k m q
-        | inr (q, r, u) ↦ subst HoldsPart (sym r) (inl refl)
-      ])
-  parts_after (NodeEffect.left node o runs first a b) = subst AllHoldParts (sym a) (λ k m at. old k m (left_from node.serial k s.core.nodes m order at).1)
-  parts_after (NodeEffect.related r related a b) = subst AllHoldParts (sym a) old
+      by_from : (m : Node) → CameFrom s label t k m → HoldsPart m
+      by_from m (CameFrom.was _ q) = old k m q
+      by_from _ (CameFrom.altered n f q alters) = altered_part k f alters n q
+      by_from _ (CameFrom.stripped n w q request prints) = inl refl
+      by_from _ (CameFrom.moved n r q runs is) = moved_part r runs is k n q
+      by_from _ (CameFrom.joined node d gone own below) = inl refl
 
 parts_goes : (settings : Settings) (rack : List Driver) (s : State) (entry : Entry) (t : State) → IsReached settings rack s → AllHoldParts s.core.nodes → Goes settings s entry t → AllHoldParts t.core.nodes
 parts_goes settings rack s entry t reached old goes =

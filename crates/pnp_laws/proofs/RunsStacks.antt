@@ -8,13 +8,12 @@ use Rattle.pnp_labels.specs.Texts.{Text}
 use Rattle.pnp_labels.specs.declared.label.Label.{Label}
 use Rattle.pnp_labels.specs.declared.words.Answer.{Answer}
 use Rattle.pnp_model.specs.Books.{name_of, printed_name}
-use Rattle.pnp_model.specs.Cores.{is_node, node_at, bare, new_node}
+use Rattle.pnp_model.specs.Cores.{node_at}
 use Rattle.pnp_model.specs.Events.{completed_phase}
 use Rattle.pnp_model.specs.Frames.{next_driver}
 use Rattle.pnp_model.specs.Keyed.{changed_first, without_first}
 use Rattle.pnp_model.specs.Laws.{Reaches}
-use Rattle.pnp_model.specs.Rebalances.{committed, movers, plan_of}
-use Rattle.pnp_model.specs.Records.{Activity, Driver, Node, Phase, Settings, State, Step}
+use Rattle.pnp_model.specs.Records.{Activity, Driver, Node, Phase, Settings, State}
 use Rattle.pnp_model.specs.Records.Phase.{Adding}
 use Rattle.pnp_model.specs.Runs.{Entry, Goes, printed, opening}
 use Rattle.pnp_model.specs.Starts.{adding}
@@ -28,11 +27,11 @@ use Rattle.pnp_laws.specs.Reached.{IsReached}
 use Rattle.pnp_laws.specs.Stacks.{AllNamed, HasName, IsNamed, NamesDriver, NamesLaw, StacksLaw}
 use Rattle.pnp_laws.proofs.DriverNames.{MoreNames, chosen_named, more_names, named_append, named_at, named_more, place_below}
 use Rattle.pnp_laws.proofs.EffectsOf.{effect_goes}
-use Rattle.pnp_laws.proofs.EffectViews.{acting_at, alters_keeps, entered_either}
+use Rattle.pnp_laws.proofs.EffectViews.{CameFrom, acting_at, came_from, entered_either}
 use Rattle.pnp_laws.proofs.JoinMachine.{reaches_born}
 use Rattle.pnp_laws.proofs.IdleSteps.{joins_is}
 use Rattle.pnp_laws.proofs.Joins.{any_from}
-use Rattle.pnp_laws.proofs.Lookups.{ended_other, ended_same, find_passes, joined_from, left_from, map_from, node_from, phase_set_other, phase_set_same, some_same}
+use Rattle.pnp_laws.proofs.Lookups.{ended_other, ended_same, find_passes, phase_set_other, phase_set_same, some_same}
 use Rattle.pnp_laws.proofs.Reaching.{kept}
 use Rattle.pnp_laws.proofs.Runs.{root_is}
 use Rattle.pnp_laws.proofs.RunsStand.{reaches_kept}
@@ -136,32 +135,15 @@ module _ (s : State) (label : Label) (order : Ascending 0 s.core.nodes) where
       From.pushed n d ds node.path name there refl (ap (λ (z : Node). z.stack ++ d ∷ []) (some_same (node_at node.serial s.core.nodes) node n at there)) acts prints
   altered t j f _ n there = From.was n there refl (inl refl)
 
-  changed : (j : ℕ) (f : Node → Node) → ((n : Node) → (f n).serial ≡ n.serial) → ((n : Node) → node_at j s.core.nodes ≡ Some n → From s label j (f n))
-      → (k : ℕ) (m : Node) → node_at k (changed_first (is_node j) f s.core.nodes) ≡ Some m → From s label k m
-  changed j f serial own k m at =
-      elim (node_from j k f s.core.nodes m serial at) [
-        | inl (e, (n, q, r)) ↦
-            subst (λ (i : ℕ). From s label i m) e (subst (λ (z : Node). From s label j z) (sym r) (own n (subst (λ (i : ℕ). node_at i s.core.nodes ≡ Some n) (sym e) q)))
-        | inr (d, q) ↦ From.was m q refl (inl refl)
-      ]
-
   from : (t : State) → NodeEffect s label t → (k : ℕ) (m : Node) → node_at k t.core.nodes ≡ Some m → From s label k m
-  from t (NodeEffect.same e rest) k m at = From.was m (subst (λ (x : List Node). node_at k x ≡ Some m) e at) refl (inl refl)
-  from t (NodeEffect.changed j f alters e rest) k m at = changed j f (alters_keeps s label t j f alters).serial (altered t j f alters) k m (subst (λ (x : List Node). node_at k x ≡ Some m) e at)
-  from t (NodeEffect.stripped node w there request ends prints e rest) k m at =
-      changed node.serial bare (λ n. refl) (λ n q. From.was n q refl (inr refl)) k m (subst (λ (x : List Node). node_at k x ≡ Some m) e at)
-  from t (NodeEffect.commits r runs is e rest) k m at =
-      let old = map_from k (committed (movers r) (plan_of r.found)) s.core.nodes m (λ n. refl) (subst (λ (x : List Node). node_at k x ≡ Some m) e at) in
-      From.was old.0 old.1 (ap (λ (z : Node). z.path) old.2) (inl (ap (λ (z : Node). z.stack) old.2))
-  from t (NodeEffect.joins node d none there up below is) k m at =
-      elim (joined_from k s.core.nodes (new_node s.next_serial node.serial d) m (subst (λ (x : Step). node_at k x.state.core.nodes ≡ Some m) is at)) [
-        | inl q ↦ From.was m q refl (inl refl)
-        | inr (gone, new, own) ↦
-            let fresh = (joins_is node.born s.core.nodes d (find_passes (joins node.born s.core.nodes) s.world d below)).2 in
-            From.joined gone own (subst (λ (z : Node). has_path z.path s.core.nodes ≡ false) (sym new) fresh) (ap (λ (z : Node). z.stack) new)
-      ]
-  from t (NodeEffect.left node o runs first e rest) k m at = From.was m (left_from node.serial k s.core.nodes m order (subst (λ (x : List Node). node_at k x ≡ Some m) e at)).1 refl (inl refl)
-  from t (NodeEffect.related r related e rest) k m at = From.was m (subst (λ (x : List Node). node_at k x ≡ Some m) e at) refl (inl refl)
+  from t effect k m at = by_from m (came_from s label t order k m effect at)
+    where
+      by_from : (m : Node) → CameFrom s label t k m → From s label k m
+      by_from m (CameFrom.was _ q) = From.was m q refl (inl refl)
+      by_from _ (CameFrom.altered n f q alters) = altered t k f alters n q
+      by_from _ (CameFrom.stripped n w q request prints) = From.was n q refl (inr refl)
+      by_from _ (CameFrom.moved n r q runs is) = From.was n q refl (inl refl)
+      by_from _ (CameFrom.joined node d gone own below) = From.joined gone own (joins_is node.born s.core.nodes d (find_passes (joins node.born s.core.nodes) s.world d below)).2 refl
 
 -- A step or an event --------------------------------------------------------------------------------
 

@@ -10,11 +10,11 @@ use Rattle.pnp_labels.specs.declared.states.DevState.TheVariants.{NoStack, NotSt
 use Rattle.pnp_labels.specs.declared.words.Answer.{Answer}
 use Rattle.pnp_labels.specs.declared.words.Minor.{Minor}
 use Rattle.pnp_labels.specs.declared.words.Minor.TheVariants.{Start, QueryRemove, Remove, CancelRemove, Stop, QueryStop, CancelStop, SurpriseRemoval}
-use Rattle.pnp_model.specs.Cores.{bare, is_node, new_node, node_at, stacked, with_problem, with_state}
+use Rattle.pnp_model.specs.Cores.{bare, is_node, node_at, stacked, with_problem, with_state}
 use Rattle.pnp_model.specs.Events.{answer_of, completed_phase}
 use Rattle.pnp_model.specs.Keyed.{changed_first, without_first}
 use Rattle.pnp_model.specs.Rebalances.{committed, movers, plan_of}
-use Rattle.pnp_model.specs.Records.{Activity, Node, Operation, Phase, Rebalance, RebalanceStage, State, Step}
+use Rattle.pnp_model.specs.Records.{Activity, Node, Operation, Phase, Rebalance, RebalanceStage, State}
 use Rattle.pnp_model.specs.Records.Phase.{Adding, Searching, Starting, Removing, Due}
 use Rattle.pnp_model.specs.States.{activity_at, entered, is_activity, with_phase}
 use Rattle.pnp_model.specs.Tests.{has}
@@ -25,8 +25,8 @@ use Rattle.pnp_laws.specs.Holdings.{IsWhole}
 use Rattle.pnp_laws.specs.Kept.{Alone, IsGood, OperationFits, RebalanceKeeps, stopped_state}
 use Rattle.pnp_laws.specs.Strays.{IsStray}
 use Rattle.pnp_laws.specs.Words.{spared}
-use Rattle.pnp_laws.proofs.EffectViews.{alters_keeps}
-use Rattle.pnp_laws.proofs.Lookups.{ended_other, ended_same, entered_other, entered_same, joined_from, left_from, map_from, node_from, own_serial, phase_from, phase_set_other, phase_set_same, ready_found, some_same}
+use Rattle.pnp_laws.proofs.EffectViews.{CameFrom, acting_at, came_from}
+use Rattle.pnp_laws.proofs.Lookups.{ended_other, ended_same, entered_other, entered_same, node_from, own_serial, phase_from, phase_set_other, phase_set_same, some_same}
 use Rattle.pnp_laws.proofs.Sharing.{part_not}
 
 -- What is kept ---------------------------------------------------------------------------------
@@ -106,12 +106,6 @@ pub data From (s t : State) (k : ℕ) (m : Node) : Type 0 where
   placed : (a : Activity) → activity_at k t.activities ≡ Some a → is_unplaced a.phase ≡ false → From s t k m
   moved : (o : Operation) (n : Node) → s.operation ≡ Some o → node_at k s.core.nodes ≡ Some n → (m.state ≡ NotStarted → (n.state ≡ NotStarted) × (has (spared o) k ≡ true)) → From s t k m
 
--- the device with its start, where an activity acts
-acts_at : (s : State) (k : ℕ) (phase : Phase) → IsGood s → Acting s k phase → (a : Activity) × (activity_at k s.activities ≡ Some a) × (a.phase ≡ phase)
-acts_at s k phase good acts =
-    let at = (ready_found _ 0 s.activities acts.activity good.order acts.ready).1 in
-    (acts.activity, subst (λ (i : ℕ). activity_at i s.activities ≡ Some acts.activity) acts.own at, acts.is)
-
 -- A step or an event -------------------------------------------------------------------------------
 
 module _ (s : State) (label : Label) (t : State) (good : IsGood s) (whole : IsWhole s) where
@@ -131,24 +125,22 @@ module _ (s : State) (label : Label) (t : State) (good : IsGood s) (whole : IsWh
   other : (k : ℕ) (m : Node) → node_at k s.core.nodes ≡ Some m → From s t k m
   other k m at = From.unchanged m at (λ e. e) refl
 
-  altered_from : (j : ℕ) (f : Node → Node) → Alters s label t j f → (k : ℕ) (n m : Node) → j ≡ k → node_at k s.core.nodes ≡ Some n → m ≡ f n → From s t k m
-  altered_from j f (Alters.walked node minor w bad there request not_remove ends verdict prints) k n m e at is =
-      let one : node ≡ n = some_same (node_at k s.core.nodes) node n (subst (λ (i : ℕ). node_at i s.core.nodes ≡ Some node) e there) at in
-      From.unchanged n at
-      (λ q. ap (λ (x : Node). x.state) (sym one) ∙ not_started_before minor bad node.state (sym (ap (λ (x : Node). x.state) is) ∙ q)) (ap (λ (x : Node). x.holds) is)
-  altered_from j f (Alters.troubled i problem) k n m e at is = From.unchanged n at (λ q. sym (ap (λ (x : Node). x.state) is) ∙ q) (ap (λ (x : Node). x.holds) is)
-  altered_from j f (Alters.stacks node d ds name there acts prints) k n m e at is =
-      let one : node ≡ n = some_same (node_at k s.core.nodes) node n (subst (λ (i : ℕ). node_at i s.core.nodes ≡ Some node) e there) at in
+  altered_from : (k : ℕ) (f : Node → Node) → Alters s label t k f → (n : Node) → node_at k s.core.nodes ≡ Some n → From s t k (f n)
+  altered_from k f (Alters.walked node minor w bad there request not_remove ends verdict prints) n at =
+      let one : node ≡ n = some_same (node_at node.serial s.core.nodes) node n there at in
+      From.unchanged n at (λ q. ap (λ (x : Node). x.state) (sym one) ∙ not_started_before minor bad node.state q) refl
+  altered_from k f (Alters.troubled i problem) n at = From.unchanged n at (λ q. q) refl
+  altered_from k f (Alters.stacks node d ds name there acts prints) n at =
+      let one : node ≡ n = some_same (node_at node.serial s.core.nodes) node n there at in
       elim (stacked_cases node.state) [
-        | inl none ↦ From.emptied (ap (λ (x : Node). x.holds) is ∙ bare_holds k n at (ap (λ (x : Node). x.state) (sym one) ∙ none))
-        | inr stays ↦ From.unchanged n at (λ q. ap (λ (x : Node). x.state) (sym one) ∙ sym stays ∙ sym (ap (λ (x : Node). x.state) is) ∙ q) (ap (λ (x : Node). x.holds) is)
+        | inl none ↦ From.emptied (bare_holds node.serial n at (ap (λ (x : Node). x.state) (sym one) ∙ none))
+        | inr stays ↦ From.unchanged n at (λ q. ap (λ (x : Node). x.state) (sym one) ∙ sym stays ∙ q) refl
       ]
-  altered_from j f (Alters.assigned node phase plan acts search part now) k n m e at is =
-      let here = acts_at s node.serial phase good acts in
-      let a = with_phase (Starting (walk_of Minor.Start)) here.0 in
-      let there : activity_at node.serial t.activities ≡ Some a =
-      ap (activity_at node.serial) now ∙ phase_set_same node.serial (Starting (walk_of Minor.Start)) s.activities ∙ ap (option_map (with_phase (Starting (walk_of Minor.Start)))) here.1 in
-      From.placed a (subst (λ (i : ℕ). activity_at i t.activities ≡ Some a) e there) refl
+  altered_from k f (Alters.assigned node phase plan acts search part now) n at =
+      let here = acting_at s node.serial phase good.order acts in
+      let there : activity_at node.serial t.activities ≡ Some (with_phase (Starting (walk_of Minor.Start)) here.activity) =
+      ap (activity_at node.serial) now ∙ phase_set_same node.serial (Starting (walk_of Minor.Start)) s.activities ∙ ap (option_map (with_phase (Starting (walk_of Minor.Start)))) here.at in
+      From.placed _ there refl
 
   -- only the device of a rebalance is NotStarted among those that move
   mover_is : (r : Rebalance) (k : ℕ) (n : Node) → s.operation ≡ Some (Operation.Rebalancing r) → r.stage ≡ RebalanceStage.Committing → node_at k s.core.nodes ≡ Some n → has r.agreed k ≡ true → n.state ≡ NotStarted → ⊥
@@ -158,38 +150,23 @@ module _ (s : State) (label : Label) (t : State) (good : IsGood s) (whole : IsWh
       let state2 = subst (λ (x : DevState). stopped_state r.agreed k x ≡ true) waits state in
       grind (arith)
 
-  committed_from : (r : Rebalance) → s.operation ≡ Some (Operation.Rebalancing r) → r.stage ≡ RebalanceStage.Committing → (k : ℕ) (n m : Node) → node_at k s.core.nodes ≡ Some n
-      → m ≡ committed (movers r) (plan_of r.found) n → From s t k m
-  committed_from r runs is k n m at e =
-      by_test (has (r.target ∷ []) k) (has r.agreed k) refl refl
+  committed_from : (r : Rebalance) → s.operation ≡ Some (Operation.Rebalancing r) → r.stage ≡ RebalanceStage.Committing → (k : ℕ) (n : Node) → node_at k s.core.nodes ≡ Some n → From s t k (committed (movers r) (plan_of r.found) n)
+  committed_from r runs is k n at = by_test (has (r.target ∷ []) k) (has r.agreed k) refl refl
     where
-      by_test : (a b : Bool) → has (r.target ∷ []) k ≡ a → has r.agreed k ≡ b → From s t k m
-      by_test true b h g = From.moved (Operation.Rebalancing r) n runs at (λ q. (sym (ap (λ (x : Node). x.state) e) ∙ q, h))
-      by_test false true h g = From.moved (Operation.Rebalancing r) n runs at (λ q. absurd (mover_is r k n runs is at g (sym (ap (λ (x : Node). x.state) e) ∙ q)))
-      by_test false false h g = From.unchanged n at (λ q. sym (ap (λ (x : Node). x.state) e) ∙ q) (ap (λ (x : Node). x.holds) e ∙ part_not n.serial (movers r) (plan_of r.found) n.holds (subst (λ (i : ℕ). has (movers r) i ≡ false) (sym (own_serial k n s.core.nodes at)) (not_mover r.target r.agreed k h g)))
+      by_test : (a b : Bool) → has (r.target ∷ []) k ≡ a → has r.agreed k ≡ b → From s t k (committed (movers r) (plan_of r.found) n)
+      by_test true b h g = From.moved (Operation.Rebalancing r) n runs at (λ q. (q, h))
+      by_test false true h g = From.moved (Operation.Rebalancing r) n runs at (λ q. absurd (mover_is r k n runs is at g q))
+      by_test false false h g = From.unchanged n at (λ q. q) (part_not n.serial (movers r) (plan_of r.found) n.holds (subst (λ (i : ℕ). has (movers r) i ≡ false) (sym (own_serial k n s.core.nodes at)) (not_mover r.target r.agreed k h g)))
 
   pub from : NodeEffect s label t → (k : ℕ) (m : Node) → node_at k t.core.nodes ≡ Some m → From s t k m
-  from (NodeEffect.same a b) k m at = other k m (subst (λ (x : List Node). node_at k x ≡ Some m) a at)
-  from (NodeEffect.changed j f alters a b) k m at =
-      elim (node_from j k f s.core.nodes m (alters_keeps s label t j f alters).serial (subst (λ (x : List Node). node_at k x ≡ Some m) a at)) [
-        | inl (e, (n, q, r)) ↦ altered_from j f alters k n m e q r
-        | inr (d, q) ↦ other k m q
-      ]
-  from (NodeEffect.stripped node w there request ends prints a b) k m at =
-      elim (node_from node.serial k bare s.core.nodes m (λ x. refl) (subst (λ (x : List Node). node_at k x ≡ Some m) a at)) [
-        | inl (e, (n, q, r)) ↦ From.emptied (ap (λ (x : Node). x.holds) r)
-        | inr (d, q) ↦ other k m q
-      ]
-  from (NodeEffect.commits r runs is a b) k m at =
-      let old = map_from k (committed (movers r) (plan_of r.found)) s.core.nodes m (λ x. refl) (subst (λ (x : List Node). node_at k x ≡ Some m) a at) in
-      committed_from r runs is k old.0 m old.1 old.2
-  from (NodeEffect.joins node d none there up joining is) k m at =
-      elim (joined_from k s.core.nodes (new_node s.next_serial node.serial d) m (subst (λ (x : Step). node_at k x.state.core.nodes ≡ Some m) is at)) [
-        | inl q ↦ other k m q
-        | inr (none, e, own) ↦ From.emptied (ap (λ (x : Node). x.holds) e)
-      ]
-  from (NodeEffect.left node o runs first a b) k m at = other k m (left_from node.serial k s.core.nodes m good.serials (subst (λ (x : List Node). node_at k x ≡ Some m) a at)).1
-  from (NodeEffect.related r related a b) k m at = other k m (subst (λ (x : List Node). node_at k x ≡ Some m) a at)
+  from effect k m at = by_from m (came_from s label t good.serials k m effect at)
+    where
+      by_from : (m : Node) → CameFrom s label t k m → From s t k m
+      by_from m (CameFrom.was _ q) = other k m q
+      by_from _ (CameFrom.altered n f q alters) = altered_from k f alters n q
+      by_from _ (CameFrom.stripped n w q request prints) = From.emptied refl
+      by_from _ (CameFrom.moved n r q runs is) = committed_from r runs is k n q
+      by_from _ (CameFrom.joined node d gone own below) = From.emptied refl
 
   -- Activities -------------------------------------------------------------------------------------
 
@@ -238,7 +215,7 @@ module _ (s : State) (label : Label) (t : State) (good : IsGood s) (whole : IsWh
   entered_begun k phase (Enters.undoes r runs target) h = absurd (cc)
 
   went_begun : (k : ℕ) (was now : Phase) → PhaseStep s k t was now → is_unplaced now ≡ true → Begun k
-  went_begun k was now (PhaseStep.added d ds acts) h = let here = acts_at s k (Adding (d ∷ ds)) good acts in Begun.before here.0 here.1 (ap is_unplaced here.2)
+  went_begun k was now (PhaseStep.added d ds acts) h = let here = acting_at s k (Adding (d ∷ ds)) good.order acts in Begun.before here.activity here.at (ap is_unplaced here.is)
   went_begun k was now (PhaseStep.fits phase node plan acts search part own nodes) h = absurd (cc)
   went_begun k was now (PhaseStep.asked w v acts nodes) h = absurd (cc)
   went_begun k was now (PhaseStep.fails phase problem acts fine) h = absurd (cc)
@@ -297,8 +274,8 @@ module _ (s : State) (label : Label) (t : State) (good : IsGood s) (whole : IsWh
     -- a device whose start ended is no stray
     pub over_none : (k : ℕ) (m : Node) (phase : Phase) → node_at k t.core.nodes ≡ Some m → m.state ≡ NotStarted → m.holds ≢ [] → Acting s k phase → Over s k t phase → ⊥
     over_none k m phase at waits holds active (Over.unplaced p search nodes) =
-        let here = acts_at s k phase good active in
-        holds (old.unplaced k here.0 m here.1 (ap is_unplaced here.2 ∙ search_unplaced phase search) (subst (λ (x : List Node). node_at k x ≡ Some m) nodes at))
+        let here = acting_at s k phase good.order active in
+        holds (old.unplaced k here.activity m here.at (ap is_unplaced here.is ∙ search_unplaced phase search) (subst (λ (x : List Node). node_at k x ≡ Some m) nodes at))
     over_none k m _ at waits holds active (Over.up w nodes) =
         elim (node_from k k (with_state Started) s.core.nodes m (λ x. refl) (subst (λ (x : List Node). node_at k x ≡ Some m) nodes at)) [
           | inl (e, (n, q, r)) ↦ let up = ap (λ (z : Node). z.state) r in cc
