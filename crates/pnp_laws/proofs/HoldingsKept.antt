@@ -33,7 +33,7 @@ use Rattle.pnp_laws.proofs.Lookups.{found_self, node_from, own_serial, some_same
 use Rattle.pnp_laws.proofs.OpSteps.{is_Stopped}
 use Rattle.pnp_laws.proofs.PlansKept.{mover_whole}
 use Rattle.pnp_laws.proofs.Sharing.{part_not}
-use Rattle.pnp_laws.proofs.StartSteps.{stacked_idle}
+use Rattle.pnp_laws.proofs.StartSteps.{search_fits, stacked_idle}
 use Rattle.pnp_model.specs.Events as ev
 
 abbrev AllHeldWell : List Node → Type 0
@@ -50,12 +50,6 @@ to_holds nodes h = record { up = λ k n at e. (h k n at).up e; bare = λ k n at 
 adding_quiet : (ds : List ℕ) → is_starting (adding ds) ≡ false
 adding_quiet [] = refl
 adding_quiet (d ∷ ds) = refl
-
-search_waits : (phase : Phase) (x : DevState) → IsSearch phase → Fits phase x → x ≡ NotStarted
-search_waits (Phase.Adding []) x search fits = fits
-search_waits (Phase.Adding (d ∷ ds)) x search fits = absurd search
-search_waits Phase.Searching x search fits = fits
-search_waits _ x search fits = absurd search
 
 search_quiet : (phase : Phase) → IsSearch phase → is_starting phase ≡ false
 search_quiet (Phase.Starting w) search = absurd search
@@ -143,7 +137,7 @@ module _ (s : State) (label : Label) (good : IsGood s) (planned : IsPlanned s) (
       record { up = λ e. asked_whole n minor w other (found_self k s.core.nodes n at) request; bare = λ e. (well k n at).bare (stays_bare minor bad n.state other e) }
   well_from t k _ (Origin.troubled n problem at) = let h = well k n at in record { up = h.up; bare = h.bare }
   well_from t k _ (Origin.stacks n d ds name at acts prints) = waiting_well (with_stack (n.stack ++ d ∷ []) (stacked n.state) n) (stacked_idle n.state (fits_at k (Phase.Adding (d ∷ ds)) n acts at))
-  well_from t k _ (Origin.assigned n phase plan at acts search part now) = waiting_well (with_holds (own_part plan) n) (search_waits phase n.state search (fits_at k phase n acts at))
+  well_from t k _ (Origin.assigned n phase plan at acts search part now) = waiting_well (with_holds (own_part plan) n) (search_fits phase n.state search (fits_at k phase n acts at))
   well_from t k _ (Origin.stripped n w at request prints) = record { up = λ h. absurd (cc); bare = λ h. refl }
   well_from t k _ (Origin.commits r n runs is at) =
       let keeps = subst (λ (x : RebalanceStage). RebalanceKeeps r x s.core.nodes) is (subst (λ (x : Option Operation). OperationFits x s.core.nodes) runs good.fits) in

@@ -66,7 +66,7 @@ add_changes x h =
       | inr e ↦ inl (stacked_idle x h ∙ sym e)
     ]
 
-search_fits : (phase : Phase) (x : DevState) → IsSearch phase → Fits phase x → x ≡ NotStarted
+pub search_fits : (phase : Phase) (x : DevState) → IsSearch phase → Fits phase x → x ≡ NotStarted
 search_fits (Adding []) x h fit = fit
 search_fits Searching x h fit = fit
 search_fits _ x h fit = absurd h
