@@ -66,21 +66,17 @@ pub rest_shorter : (nodes : List Node) (todo : List ℕ) (node : Node) → first
 rest_shorter nodes [] node first = absurd (cc)
 rest_shorter nodes (k ∷ ks) node first = omega arith
 
+either_shorter : {A : Type 0} (b : Bool) (xs ys : List A) (n : ℕ) → length xs ≤ n → length ys ≤ n → length (cond b xs ys) ≤ n
+either_shorter true xs ys n h g = h
+either_shorter false xs ys n h g = g
+
 pub those_shorter : {A : Type 0} (test : A → Bool) (xs : List A) → length (those test xs) ≤ length xs
 those_shorter test [] = omega arith
-those_shorter test (x ∷ xs) = by_test (test x) (those_shorter test xs)
-  where
-    by_test : (b : Bool) → length (those test xs) ≤ length xs → length (cond b (x ∷ those test xs) (those test xs)) ≤ suc (length xs)
-    by_test true h = omega arith
-    by_test false h = omega arith
+those_shorter test (x ∷ xs) = let more = those_shorter test xs in either_shorter (test x) (x ∷ those test xs) (those test xs) (length (x ∷ xs)) (omega arith) (omega arith)
 
 pub startable_shorter : (nodes : List Node) (ks : List ℕ) → length (re.startable nodes ks) ≤ length ks
 startable_shorter nodes [] = omega arith
-startable_shorter nodes (k ∷ ks) = by_test (stands_up nodes k) (startable_shorter nodes ks)
-  where
-    by_test : (b : Bool) → length (re.startable nodes ks) ≤ length ks → length (cond b (k ∷ ks) (re.startable nodes ks)) ≤ suc (length ks)
-    by_test true h = omega arith
-    by_test false h = omega arith
+startable_shorter nodes (k ∷ ks) = let more = startable_shorter nodes ks in either_shorter (stands_up nodes k) (k ∷ ks) (re.startable nodes ks) (length (k ∷ ks)) (omega arith) (omega arith)
 
 -- An operation that goes on ----------------------------------------------------------------------------
 

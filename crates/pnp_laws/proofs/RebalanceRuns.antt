@@ -54,16 +54,13 @@ StepOf before s _ step = ⊥
 by_step : (next : ℕ) (before : Core) (s : State) (o : Operation) (step : Step) → Tree next before → Holds before s o → OperationStep s o step → StepOf before s o step
 by_step next before s p step tree h (OperationStep.asks (Operation.Rebalancing r) node w asks) =
     inl (record { move = re.moves (asked s.core node w).label (asked s.core node w).core (record r { stage = ev.completed_rebalance (reply s.core node w) r.stage }); is = refl; moves = on_asks before s.core r r.stage node w asks.walk asks.more asks.first h.1 h.2 })
-by_step next before s p step tree h (OperationStep.asks (Operation.Removing o) node w asks) = h
-by_step next before s p step tree h (OperationStep.asks (Operation.Surprising o) node w asks) = h
-by_step next before s p step tree h (OperationStep.removes o stage m is x) = h
-by_step next before s p step tree h (OperationStep.surprises o stage m is x) = h
 by_step next before s p step tree h (OperationStep.rebalances r stage m is x) =
     let all = rebalance_moves next before s.core r r.stage m tree h.0 h.1 h.2 (subst (λ (y : RebalanceStage). RebalanceStep s.core r y m) (sym is) x) in
     elim all [
       | inl on ↦ inl (record { move = m; is = refl; moves = on })
       | inr (ending, close) ↦ inr (record { ending = ending; is = ap (ma.rebalance_lifted s) close })
     ]
+by_step next before s _ step tree h _ = h
 
 pub rebalance_stepped : (path : List ℕ) (next : ℕ) (before : Core) (settings : Settings) (s : State) (step : Step) (u : Underway path before s) → Tree next before → IsGood s → ma.IsStep settings (ma.next settings s) step →
     Stepped before s u.frame step ⊎ IsOver s u.frame step

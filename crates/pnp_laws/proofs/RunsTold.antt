@@ -34,8 +34,7 @@ front_is nodes (k ∷ ks) node e = ap Some (sym (own_serial k node nodes e))
 
 operation_front : (o : Operation) → operation_at o ≡ front (todo_of o)
 operation_front (Operation.Rebalancing o) = refl
-operation_front (Operation.Removing o) = refl
-operation_front (Operation.Surprising o) = refl
+operation_front _ = refl
 
 -- a request is on its way to its device, and the device has the state for it
 record UnderWay (s : State) (node : Node) (minor : Minor) (w : Walk) : Type 0 where

@@ -73,13 +73,10 @@ asked_since before s (Operation.Removing o) node w h =
     let since = completed_since before s.core answer o o.stage h.1 in
     let p = record o { stage = ev.completed_removal answer o.stage } in
     record { op = p; runs = refl; since = moved before s.core (asking s (Operation.Removing o) node w).state.core p p.stage refl refl refl since }
-asked_since before s (Operation.Rebalancing r) node w h = absurd h
-asked_since before s (Operation.Surprising o) node w h = absurd h
+asked_since before s _ node w h = absurd h
 
 by_step : (before : Core) (s : State) (o : Operation) (step : Step) → Holds before s.core o → OperationStep s o step → (IsWithin step.label × VetoSince before step.state) ⊎ Closed before s step
 by_step before s p step h (OperationStep.asks o node w asks) = inl (tt, asked_since before s o node w h)
-by_step before s p step h (OperationStep.rebalances r stage m is x) = absurd h
-by_step before s p step h (OperationStep.surprises o stage m is x) = absurd h
 by_step before s p step h (OperationStep.removes o stage m is x) =
     let keeps = subst (λ (y : RemovalStage). RemovalKeeps o y s.core.nodes) is h.0 in
     let since = subst (λ (y : RemovalStage). Since before s.core o y) is h.1 in
@@ -92,6 +89,7 @@ by_step before s p step h (OperationStep.removes o stage m is x) =
         core = ap (λ (y : RemovalMove). (removal_lifted s y).state.core) closed;
       })
     ]
+by_step before s _ step h _ = absurd h
 
 pub veto_step : (before : Core) (settings : Settings) (s : State) (step : Step) → IsGood s → VetoSince before s → IsStep settings (next settings s) step → (IsWithin step.label × VetoSince before step.state) ⊎ Closed before s step
 veto_step before settings s step good h is =
