@@ -1,5 +1,5 @@
 -- The devices above a device: each is there, with a lower serial and a child, and what stands above it stands above all below.
-use Rattle.std.proofs.Common.{ℕ, zero, suc, ◌<◌, ◌≤◌, ◌≡◌, ◌≢◌, ◌⊎◌, inl, inr, Bool, true, false, List, [], ◌∷◌, Option, Some, None, refl, sym, ap, ◌∙◌, subst, arith}
+use Rattle.std.proofs.Common.{ℕ, zero, suc, ◌<◌, ◌≤◌, ◌≡◌, ◌≢◌, inl, inr, Bool, true, false, List, [], ◌∷◌, Option, Some, None, refl, sym, ap, ◌∙◌, subst, arith}
 use Rattle.std.specs.List.{list_any}
 use Rattle.std.proofs.lemmas.Bool.{cases_eq}
 use Rattle.std.proofs.lemmas.Bool.Decides.{nat_tests}
@@ -8,6 +8,7 @@ use Rattle.pnp_model.specs.Records.{Node, Core, Task}
 use Rattle.pnp_model.specs.Cores.{node_at}
 use Rattle.pnp_model.specs.Trees.{above, above_in}
 use Rattle.pnp_laws.specs.Due.{leads, is_due}
+use Rattle.pnp_laws.proofs.Lists.{cons_there, has_cases}
 use Rattle.pnp_laws.proofs.Orders.{any_some}
 use Rattle.pnp_laws.proofs.Ranks.{Rooted}
 use Rattle.pnp_laws.proofs.Due.{RootIsOwn, above_zero}
@@ -22,12 +23,6 @@ above_none (suc n) nodes k at = ap (λ (o : Option Node). elim o as (λ _. List 
 
 has_head : (i j : ℕ) (ks : List ℕ) → i ≡ j → has (i ∷ ks) j ≡ true
 has_head i j ks e = grind (arith, nat_tests)
-
-has_later : (i j : ℕ) (ks : List ℕ) → has ks j ≡ true → has (i ∷ ks) j ≡ true
-has_later i j ks h = grind (arith, nat_tests)
-
-pub has_cases : (i j : ℕ) (ks : List ℕ) → has (i ∷ ks) j ≡ true → (i ≡ j) ⊎ (has ks j ≡ true)
-has_cases i j ks h = elim (cases_eq i j) [ inl e ↦ inl e | inr d ↦ inr (grind (arith, nat_tests)) ]
 
 -- a fact of a device and its devices above
 pub record IsAbove (c : Core) (k j : ℕ) : Type 0 where
@@ -69,7 +64,7 @@ above_any (suc n) (suc l) c k j m root rooted at up le h =
       | inl e ↦ has_head m.parent j (above_in l c.nodes m.parent) e
       | inr more ↦ elim (cases_eq m.parent 0) [
         | inl z ↦ has_head m.parent j (above_in l c.nodes m.parent) (z ∙ above_zero n c.nodes j root (subst (λ (i : ℕ). has (above_in n c.nodes i) j ≡ true) z more))
-        | inr d ↦ has_later m.parent j (above_in l c.nodes m.parent) (above_any n l c m.parent j parent.1.0 root rooted parent.1.1 d (omega arith) more)
+        | inr d ↦ cons_there m.parent (above_in l c.nodes m.parent) j (above_any n l c m.parent j parent.1.0 root rooted parent.1.1 d (omega arith) more)
       ]
     ])
 
@@ -86,7 +81,7 @@ above_over (suc n) c k j i m root rooted at up le h g =
         | inl z ↦ absurd (let none = subst (λ (x : ℕ). has (above_in x c.nodes x) i ≡ true) (sym e ∙ z) over in cc)
         | inr d ↦
             let over_p = subst (λ (x : ℕ). has (above_in x c.nodes x) i ≡ true) (sym e) over in
-            has_later m.parent i (above_in n c.nodes m.parent) (above_any m.parent n c m.parent i parent.1.0 root rooted parent.1.1 d (omega arith) over_p)
+            cons_there m.parent (above_in n c.nodes m.parent) i (above_any m.parent n c m.parent i parent.1.0 root rooted parent.1.1 d (omega arith) over_p)
       ]
     ] in
     subst (λ (ks : List ℕ). has ks i ≡ true) (sym (above_step n c.nodes k m at))
@@ -94,7 +89,7 @@ above_over (suc n) c k j i m root rooted at up le h g =
       | inl e ↦ direct e
       | inr more ↦ elim (cases_eq m.parent 0) [
         | inl z ↦ direct (z ∙ above_zero n c.nodes j root (subst (λ (x : ℕ). has (above_in n c.nodes x) j ≡ true) z more))
-        | inr d ↦ has_later m.parent i (above_in n c.nodes m.parent) (above_over n c m.parent j i parent.1.0 root rooted parent.1.1 d (omega arith) more g)
+        | inr d ↦ cons_there m.parent (above_in n c.nodes m.parent) i (above_over n c m.parent j i parent.1.0 root rooted parent.1.1 d (omega arith) more g)
       ]
     ])
 
@@ -106,7 +101,7 @@ any_from left (d ∷ ds) h =
     let by_test : (b : Bool) → has left d ≡ b → (j : ℕ) × (has (d ∷ ds) j ≡ true) × (has left j ≡ true) =
     λ b. elim b as (λ b. has left d ≡ b → (j : ℕ) × (has (d ∷ ds) j ≡ true) × (has left j ≡ true)) [
       | true ↦ λ e. (d, has_head d d ds refl, e)
-      | false ↦ λ e. let more = any_from left ds (grind (arith)) in (more.0, has_later d more.0 ds more.1, more.2)
+      | false ↦ λ e. let more = any_from left ds (grind (arith)) in (more.0, cons_there d ds more.0 more.1, more.2)
     ] in
     by_test (has left d) refl
 
@@ -115,7 +110,7 @@ pub due_below : (tasks : List Task) (c : Core) (k j : ℕ) (m : Node) → RootIs
 due_below tasks c k j m root rooted at up over due =
     let from = any_from (leads tasks) (j ∷ above c.nodes j) due in
     any_some (leads tasks) (k ∷ above c.nodes k) from.0
-    (has_later k from.0 (above c.nodes k) (above_over k c k j from.0 m root rooted at up (omega arith) over from.1)) from.2
+    (cons_there k (above c.nodes k) from.0 (above_over k c k j from.0 m root rooted at up (omega arith) over from.1)) from.2
 
 -- more leads, and the same above
 pub due_more : (tasks more : List Task) (old new : List Node) (k : ℕ) → ((j : ℕ) → has (leads tasks) j ≡ true → has (leads more) j ≡ true) → above new k ≡ above old k → is_due tasks old k ≡ true → is_due more new k ≡ true

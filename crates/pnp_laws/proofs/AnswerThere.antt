@@ -9,7 +9,7 @@ use Rattle.resource_reqs.proofs.Points.{after-append, and_then_some, after_parts
 use Rattle.resource_reqs.proofs.Counts.{contains_cons, contains_nil, all_at, numbers_le}
 use Rattle.resource_reqs.proofs.Law.{Extends, Rising, Extensions, family, nothing_grows, grows_in_order}
 use Rattle.resource_reqs.proofs.Fitting.{plan_of}
-use Rattle.pnp_laws.proofs.Decides.{dec_live, dec_complete, Child, dec_child, kept, kept_rising, kept_each, kept_every, coords_of, coords_rising, coords_every, size, child_less}
+use Rattle.pnp_laws.proofs.Decides.{contains_here, contains_later, dec_live, dec_complete, Child, dec_child, kept, kept_all, kept_rising, kept_each, kept_every, coords_of, coords_rising, coords_every, size, child_less}
 
 -- at p, or below it
 abbrev From : List Coord → List Coord → Type 0
@@ -83,12 +83,6 @@ module _ (fixed : List Res) (movers : List Reqs) where
   rest_of p c b (inl e) = ([], e)
   rest_of p c b (inr (x, r, e)) = (x ∷ r, e ∙ append_assoc p (c ∷ []) (x ∷ r))
 
-  here : (c : Coord) (cs : List Coord) → Contains (c ∷ cs) c
-  here c cs = (0, omega arith, refl)
-
-  later : (c : Coord) (cs : List Coord) (d : Coord) → Contains cs d → Contains (c ∷ cs) d
-  later c cs d (k, within, is) = (suc k, omega arith, is)
-
   first_by : (p : List Coord) (c : Coord) (cs : List Coord) → AllByRecursion (Less c) cs → First (p ++ c ∷ []) → FirstBy p cs → FirstBy p (c ∷ cs)
   first_by p c cs up (inl (a, f)) more =
       let own = rest_of p c a f.from in
@@ -98,7 +92,7 @@ module _ (fixed : List Res) (movers : List Reqs) where
           complete = f.complete;
           coord = c;
           rest = own.0;
-          inside = here c cs;
+          inside = contains_here c cs;
           is = own.1;
           least = λ b d r whole inside e. elim (contains_cons c cs d inside) [
             | inl q ↦ f.least b whole (from_of p c b r (e ∙ ap (λ (x : Coord). p ++ x ∷ r) q))
@@ -113,7 +107,7 @@ module _ (fixed : List Res) (movers : List Reqs) where
           complete = f.complete;
           coord = f.coord;
           rest = f.rest;
-          inside = later c cs f.coord f.inside;
+          inside = contains_later c cs f.coord f.inside;
           is = f.is;
           least = λ b d r whole inside e. elim (contains_cons c cs d inside) [
             | inl q ↦ absurd (none b whole (from_of p c b r (e ∙ ap (λ (x : Coord). p ++ x ∷ r) q)))
@@ -130,6 +124,16 @@ module _ (fixed : List Res) (movers : List Reqs) where
   scan : (p : List Coord) (at : Point) (cs : List Coord) → Rising cs → AllByRecursion (Child fixed at) cs → ((c : Coord) → Child fixed at c → Explored (p ++ c ∷ [])) → FirstBy p cs
   scan p at [] up each deeper = inr (λ b d r whole inside e. contains_nil d inside)
   scan p at (c ∷ cs) up each deeper = first_by p c cs up.0 (deeper c each.0).first (scan p at cs up.1 each.1 deeper)
+
+  not_here : (p : List Coord) (at : Point) → after p (root movers) ≡ Some at → (CompleteAt fixed at → ⊥) → (b : List Coord) → b ≡ p → Complete fixed movers b → ⊥
+  not_here p at leads part b e (to, goes, whole) =
+      let goes2 = subst (λ (x : List Coord). after x (root movers) ≡ Some to) e goes in
+      let same : to ≡ at = cc in
+      part (subst (λ (x : Point). CompleteAt fixed x) same whole)
+
+  goes_by : (p b : List Coord) (c : Coord) (r : List Coord) → Complete fixed movers b → b ≡ p ++ c ∷ r → Clean fixed movers (p ++ c ∷ [])
+  goes_by p b c r (to, way, whole) is =
+      clean_prefix fixed movers (p ++ c ∷ []) r (subst (λ (x : List Coord). Clean fixed movers x) (is ∙ sym (append_assoc p (c ∷ []) r)) (to, way, whole.clean))
 
   first_at : (p : List Coord) (at : Point) → after p (root movers) ≡ Some at → (cs : List Coord) → Extensions fixed movers p cs → Dec (CompleteAt fixed at) → FirstBy p cs → First p
   first_at p at leads cs made (yes whole) by =
@@ -148,36 +152,16 @@ module _ (fixed : List Res) (movers : List Reqs) where
           complete = f.complete;
           from = inr (f.coord, f.rest, f.is);
           least = λ b w from. elim from [
-            | inl e ↦ absurd (not_here b e w)
-            | inr (c, r, is) ↦ f.least b c r w (made.every c (goes b c r w is)) is
+            | inl e ↦ absurd (not_here p at leads part b e w)
+            | inr (c, r, is) ↦ f.least b c r w (made.every c (goes_by p b c r w is)) is
           ];
         },
       )
-    where
-      not_here : (b : List Coord) → b ≡ p → Complete fixed movers b → ⊥
-      not_here b e (to, goes, whole) =
-          let goes2 = subst (λ (x : List Coord). after x (root movers) ≡ Some to) e goes in
-          let same : to ≡ at = cc in
-          part (subst (λ (x : Point). CompleteAt fixed x) same whole)
-
-      goes : (b : List Coord) (c : Coord) (r : List Coord) → Complete fixed movers b → b ≡ p ++ c ∷ r → Clean fixed movers (p ++ c ∷ [])
-      goes b c r (to, way, whole) is =
-          clean_prefix fixed movers (p ++ c ∷ []) r (subst (λ (x : List Coord). Clean fixed movers x) (is ∙ sym (append_assoc p (c ∷ []) r)) (to, way, whole.clean))
   first_at p at leads cs made (no part) (inr never) =
       inr (λ b w from. elim from [
-        | inl e ↦ not_here b e w
-        | inr (c, r, is) ↦ never b c r w (made.every c (goes b c r w is)) is
+        | inl e ↦ not_here p at leads part b e w
+        | inr (c, r, is) ↦ never b c r w (made.every c (goes_by p b c r w is)) is
       ])
-    where
-      not_here : (b : List Coord) → b ≡ p → Complete fixed movers b → ⊥
-      not_here b e (to, goes, whole) =
-          let goes2 = subst (λ (x : List Coord). after x (root movers) ≡ Some to) e goes in
-          let same : to ≡ at = cc in
-          part (subst (λ (x : Point). CompleteAt fixed x) same whole)
-
-      goes : (b : List Coord) (c : Coord) (r : List Coord) → Complete fixed movers b → b ≡ p ++ c ∷ r → Clean fixed movers (p ++ c ∷ [])
-      goes b c r (to, way, whole) is =
-          clean_prefix fixed movers (p ++ c ∷ []) r (subst (λ (x : List Coord). Clean fixed movers x) (is ∙ sym (append_assoc p (c ∷ []) r)) (to, way, whole.clean))
 
   extensions_at : (p : List Coord) (at : Point) → after p (root movers) ≡ Some at → Extensions fixed movers p (kept (Child fixed at) (dec_child fixed at) (coords_of at.groups at.movers))
   extensions_at p at leads =
@@ -232,47 +216,17 @@ module _ (fixed : List Res) (movers : List Reqs) where
         | inr same ↦ (let heads : c ≡ d = cc in before_irrefl (d ∷ []) (inl (subst (λ (x : Coord). Less d x) heads g)))
       ])
 
-  chosen : (a : List Coord) → List (List Coord) → List (List Coord)
-  chosen a [] = []
-  chosen a (q ∷ qs) = elim (dec_before q a) as (λ _. List (List Coord)) [ yes h ↦ q ∷ chosen a qs | no h ↦ chosen a qs ]
-
-  chosen_all : (P : List Coord → Type 0) (a : List Coord) (qs : List (List Coord)) → AllByRecursion P qs → AllByRecursion P (chosen a qs)
-  unfolding chosen
-  chosen_all P a [] h = tt
-  chosen_all P a (q ∷ qs) h = by_test (dec_before q a) (chosen_all P a qs h.1)
-    where
-      by_test : (d : Dec (AtOrBefore q a)) → AllByRecursion P (chosen a qs) → AllByRecursion P (elim d as (λ _. List (List Coord)) [ yes g ↦ q ∷ chosen a qs | no g ↦ chosen a qs ])
-      by_test (yes g) more = (h.0, more)
-      by_test (no g) more = more
+  abbrev chosen : List Coord → List (List Coord) → List (List Coord)
+  chosen a qs = kept (λ q. AtOrBefore q a) (λ q. dec_before q a) qs
 
   chosen_ascending : (a : List Coord) (qs : List (List Coord)) → Ascending qs → Ascending (chosen a qs)
-  unfolding chosen
+  unfolding kept
   chosen_ascending a [] h = tt
   chosen_ascending a (q ∷ qs) h = by_test (dec_before q a) (chosen_ascending a qs h.1)
     where
       by_test : (d : Dec (AtOrBefore q a)) → Ascending (chosen a qs) → Ascending (elim d as (λ _. List (List Coord)) [ yes g ↦ q ∷ chosen a qs | no g ↦ chosen a qs ])
-      by_test (yes g) more = (chosen_all (Before q) a qs h.0, more)
+      by_test (yes g) more = (kept_all (λ q. AtOrBefore q a) (λ q. dec_before q a) (Before q) qs h.0, more)
       by_test (no g) more = more
-
-  chosen_each : (P : List Coord → Type 0) (a : List Coord) (qs : List (List Coord)) → AllByRecursion P qs → AllByRecursion (λ q. P q × AtOrBefore q a) (chosen a qs)
-  unfolding chosen
-  chosen_each P a [] h = tt
-  chosen_each P a (q ∷ qs) h = by_test (dec_before q a) (chosen_each P a qs h.1)
-    where
-      by_test : (d : Dec (AtOrBefore q a)) → AllByRecursion (λ q. P q × AtOrBefore q a) (chosen a qs) → AllByRecursion (λ q. P q × AtOrBefore q a) (elim d as (λ _. List (List Coord)) [ yes g ↦ q ∷ chosen a qs | no g ↦ chosen a qs ])
-      by_test (yes g) more = ((h.0, g), more)
-      by_test (no g) more = more
-
-  chosen_every : (a : List Coord) (qs : List (List Coord)) (x : List Coord) → Contains qs x → AtOrBefore x a → Contains (chosen a qs) x
-  unfolding chosen
-  chosen_every a [] x inside h = absurd (contains_nil x inside)
-  chosen_every a (q ∷ qs) x inside h = by_test (dec_before q a) (contains_cons q qs x inside) (λ g. chosen_every a qs x g h)
-    where
-      by_test : (d : Dec (AtOrBefore q a)) → (x ≡ q) ⊎ Contains qs x → (Contains qs x → Contains (chosen a qs) x) → Contains (elim d as (λ _. List (List Coord)) [ yes g ↦ q ∷ chosen a qs | no g ↦ chosen a qs ]) x
-      by_test (yes g) (inl e) more = (0, omega arith, sym e)
-      by_test (yes g) (inr i) more = let m = more i in (suc m.0, (let l = m.1 in omega arith), m.2)
-      by_test (no g) (inl e) more = absurd (g (subst (λ (z : List Coord). AtOrBefore z a) e h))
-      by_test (no g) (inr i) more = more i
 
   -- all that is tried
   tried_all : (ps : List (List Coord)) → Lists (λ q. Tried fixed movers q × Extends [] q) ps → Lists (Tried fixed movers) ps
@@ -290,13 +244,17 @@ module _ (fixed : List Res) (movers : List Reqs) where
       begun : (q : List Coord) → Tried fixed movers q → Extends [] q
       begun q tried = by_front q tried.0 tried.1 tried.2
 
+  both_all : (P Q : List Coord → Type 0) (qs : List (List Coord)) → AllByRecursion P qs → AllByRecursion Q qs → AllByRecursion (λ q. P q × Q q) qs
+  both_all P Q [] h g = tt
+  both_all P Q (q ∷ qs) h g = ((h.0, g.0), both_all P Q qs h.1 g.1)
+
   counted : (a : List Coord) (ps : List (List Coord)) → Lists (Tried fixed movers) ps → TriedUpTo fixed movers a (length (chosen a ps))
   counted a ps lists = (
     chosen a ps,
     record {
       ascending = chosen_ascending a ps lists.ascending;
-      each = chosen_each (Tried fixed movers) a ps lists.each;
-      every = λ q h. chosen_every a ps q (lists.every q h.0) h.1;
+      each = both_all (Tried fixed movers) (λ q. AtOrBefore q a) (chosen a ps) (kept_all (λ q. AtOrBefore q a) (λ q. dec_before q a) (Tried fixed movers) ps lists.each) (kept_each (λ q. AtOrBefore q a) (λ q. dec_before q a) ps);
+      every = λ q h. kept_every (λ q. AtOrBefore q a) (λ q. dec_before q a) ps q (lists.every q h.0) h.1;
     },
     refl,
   )

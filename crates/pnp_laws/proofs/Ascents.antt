@@ -6,7 +6,7 @@ use Rattle.std.proofs.lemmas.List.Elements.{Contains-append_right}
 use Rattle.resource_reqs.proofs.Counts.{contains_cons, contains_nil}
 use Rattle.pnp_model.specs.Tests.{has}
 use Rattle.pnp_laws.specs.Rebalanced.{Rising}
-use Rattle.pnp_laws.proofs.Askings.{cons_cases, cons_here, cons_there}
+use Rattle.pnp_laws.proofs.Lists.{cons_here, cons_there, has_cases}
 
 pub has_from_contains : (ks : List ℕ) (k : ℕ) → Contains ks k → has ks k ≡ true
 has_from_contains [] k c = absurd (contains_nil k c)
@@ -19,7 +19,7 @@ has_from_contains (j ∷ ks) k c =
 pub contains_from_has : (ks : List ℕ) (k : ℕ) → has ks k ≡ true → Contains ks k
 contains_from_has [] k h = absurd (cc)
 contains_from_has (j ∷ ks) k h =
-    elim (cons_cases j ks k h) [
+    elim (has_cases j k ks h) [
       | inl e ↦ subst (λ (i : ℕ). Contains (j ∷ ks) i) e (0, omega arith, refl)
       | inr q ↦ Contains-append_right (j ∷ []) ks k (contains_from_has ks k q)
     ]
@@ -36,7 +36,7 @@ rising_from_increasing (x ∷ []) h = (λ j e. absurd (cc), tt)
 rising_from_increasing (x ∷ y ∷ ys) h =
     let more = rising_from_increasing (y ∷ ys) (increasing_tail x (y ∷ ys) h) in
     let low : x < y = h 0 (omega arith) in (
-      (λ j e. elim (cons_cases y ys j e) [
+      (λ j e. elim (has_cases y j ys e) [
         | inl q ↦ subst (λ (i : ℕ). x < i) q low
         | inr q ↦ let up = more.0 j q in omega arith
       ]),
@@ -55,11 +55,11 @@ increasing_from_rising (x ∷ y ∷ ys) h (suc k) within =
 -- the same members, and so the same list
 
 head_low : (x : ℕ) (xs : List ℕ) (y : ℕ) (ys : List ℕ) → Rising (y ∷ ys) → has (y ∷ ys) x ≡ true → y ≤ x
-head_low x xs y ys r h = elim (cons_cases y ys x h) [ inl e ↦ omega arith | inr q ↦ let up = r.0 x q in omega arith ]
+head_low x xs y ys r h = elim (has_cases y x ys h) [ inl e ↦ omega arith | inr q ↦ let up = r.0 x q in omega arith ]
 
 tail_has : (x : ℕ) (xs : List ℕ) (y : ℕ) (ys : List ℕ) → x ≡ y → Rising (x ∷ xs) → ((k : ℕ) → has (x ∷ xs) k ≡ true → has (y ∷ ys) k ≡ true) → (k : ℕ) → has xs k ≡ true → has ys k ≡ true
 tail_has x xs y ys e r into k h =
-    elim (cons_cases y ys k (into k (cons_there x xs k h))) [
+    elim (has_cases y k ys (into k (cons_there x xs k h))) [
       | inl q ↦ let up = r.0 k h in absurd (omega arith)
       | inr q ↦ q
     ]

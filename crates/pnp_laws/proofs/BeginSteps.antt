@@ -12,14 +12,15 @@ use Rattle.pnp_labels.specs.declared.label.OpKind.{OpKind}
 use Rattle.pnp_laws.specs.Words.{IsBeside, IsWord, DuesFine}
 use Rattle.pnp_laws.specs.Effects.{begun}
 use Rattle.pnp_laws.specs.Reached.{IsReached}
+use Rattle.pnp_laws.proofs.EffectsOf.{effect_goes}
 use Rattle.pnp_laws.proofs.Reaching.{kept}
 use Rattle.pnp_laws.proofs.EventChanges.{beside_word, happens_outside}
-use Rattle.pnp_laws.proofs.Courses.{Way, course_goes}
+use Rattle.pnp_laws.proofs.Courses.{Way, dues_effect, way_goes}
 
 -- in no reached state an activity owes problem 12
 pub reached_dues : (settings : Settings) (rack : List Driver) (s : State) → IsReached settings rack s → DuesFine s.activities
 reached_dues settings rack s reached =
-    kept (λ (x : State). DuesFine x.activities) settings rack (λ old entry new before dues goes. (course_goes settings old entry new dues goes).dues dues) tt s reached
+    kept (λ (x : State). DuesFine x.activities) settings rack (λ old entry new before dues goes. dues_effect old new (effect_goes settings old entry new goes).activities dues) tt s reached
 
 pub record Begun (s : State) (kind : OpKind) (path : Text) (t : State) : Type 0 where
   pub node : Node
@@ -40,7 +41,7 @@ begun_way s t kind path (Way.goes o p runs after work (inr (kinds, label))) = ab
 begun_way s t kind path (Way.ends o result runs after label by) = absurd (cc)
 
 pub begins_right : (settings : Settings) (s t : State) (kind : OpKind) (path : Text) → DuesFine s.activities → Steps settings s (Label.Begin kind path) t → Begun s kind path t
-begins_right settings s t kind path dues h = begun_way s t kind path (course_goes settings s (Did (Label.Begin kind path)) t dues h).way
+begins_right settings s t kind path dues h = begun_way s t kind path (way_goes settings s (Did (Label.Begin kind path)) t dues h)
 
 -- what is no word of an event was printed by a step
 pub step_did : (settings : Settings) (s : State) (entry : Entry) (t : State) → Goes settings s entry t → (IsBeside (printed entry) → ⊥) → Goes settings s (Did (printed entry)) t

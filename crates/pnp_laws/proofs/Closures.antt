@@ -10,7 +10,7 @@ use Rattle.pnp_model.specs.Cores.{node_at, serials_of}
 use Rattle.pnp_model.specs.Trees.{hangs_on, is_in_or_on, grown, closed_in, closed, direct, dependents, set_of}
 use Rattle.pnp_laws.specs.Kept.{Ascending, Within, Distinct}
 use Rattle.pnp_laws.proofs.Lookups.{own_serial, none_below}
-use Rattle.pnp_laws.proofs.Lists.{those_found, serials_distinct}
+use Rattle.pnp_laws.proofs.Lists.{has_cases, those_found, serials_distinct}
 use Rattle.pnp_laws.proofs.Truths.{or_cases, and_both, or_right, or_left}
 
 -- a node of the tail is found in the whole
@@ -234,16 +234,13 @@ closed_within c set all g done within =
 pub dependents_closed : (c : Core) (k : ℕ) → Ascending 0 c.nodes → Closed c (dependents c k)
 dependents_closed c k g = closed_in_closed (length c.nodes) c (direct c k) g (of_nodes (hangs_on c (k ∷ [])) c.nodes g) (omega arith)
 
-has_cons : (k j : ℕ) (set : List ℕ) → has (k ∷ set) j ≡ true → (k ≡ j) ⊎ (has set j ≡ true)
-has_cons k j set h = elim (cases_eq k j) [ inl e ↦ inl e | inr d ↦ inr (grind (arith, nat_tests)) ]
-
 -- all of the set but the device itself are dependents of it
 pub set_within : (c : Core) (k : ℕ) → Ascending 0 c.nodes → Within (set_of c k) (k ∷ dependents c k)
 set_within c k g =
     closed_within c (k ∷ []) (k ∷ dependents c k) g
     (λ j m at h.
     let some = hangs_some c (k ∷ dependents c k) m h in
-    elim (has_cons k some.0 (dependents c k) some.1) [
+    elim (has_cases k some.0 (dependents c k) some.1) [
       | inl e ↦
           let on_k = subst (λ (i : ℕ). hangs_on c (i ∷ []) m ≡ true) (sym e) some.2 in
           let near = those_serial 0 (hangs_on c (k ∷ [])) c.nodes j m g at on_k in

@@ -5,17 +5,15 @@ use Rattle.pnp_labels.specs.declared.label.Label.{Label}
 use Rattle.pnp_labels.specs.declared.label.OpKind.{OpKind}
 use Rattle.pnp_labels.specs.declared.label.OpEnd.{OpEnd}
 use Rattle.pnp_model.specs.Cores.{node_at}
-use Rattle.pnp_model.specs.Keyed.{changed_first, without_first}
 use Rattle.pnp_model.specs.Machine.{is_ready}
-use Rattle.pnp_model.specs.Records.{Activity, Node, Operation, Phase, Settings, State, Step}
+use Rattle.pnp_model.specs.Records.{Node, Operation, Phase, Settings, State, Step}
 use Rattle.pnp_model.specs.Runs.{Entry, Goes, printed}
 use Rattle.pnp_model.specs.Runs.Entry.{Happens, Did}
 use Rattle.pnp_model.specs.Starts.{adding}
-use Rattle.pnp_model.specs.States.{is_activity, entered, with_phase}
 use Rattle.pnp_model.specs.Tasks.{begin}
-use Rattle.pnp_laws.specs.Effects.{ActivityEffect, AnswerEffect, Enters, OpEffect, PhaseStep, begun}
-use Rattle.pnp_laws.specs.Words.{IsBeside, DueFine, DuesFine, EndsBy, SameWork, is_removal, kind_of, path_of}
-use Rattle.pnp_laws.proofs.Dues.{dues_as, dues_changed, dues_entered, dues_found, dues_without}
+use Rattle.pnp_laws.specs.Effects.{ActivityEffect, AnswerEffect, Enters, OpEffect, PhaseStep, SameWork, begun}
+use Rattle.pnp_laws.specs.Words.{IsBeside, DueFine, DuesFine, EndsBy, is_removal, kind_of, path_of}
+use Rattle.pnp_laws.proofs.Phases.{phase_found, phases_after}
 use Rattle.pnp_laws.proofs.EffectsOf.{effect_goes}
 use Rattle.pnp_laws.proofs.EffectsOfOperations.{completed_work}
 use Rattle.pnp_laws.proofs.EventChanges.{answered_fine, beside_word}
@@ -29,14 +27,10 @@ pub data Way (s : State) (step : Step) : Type 0 where
       IsBeside step.label ⊎ ((kind_of o ≡ OpKind.Rebalance) × (step.label ≡ Label.Trouble (path_of o) Problem.NormalConflict)) → Way s step
   ends : (o : Operation) (result : OpEnd) → s.operation ≡ Some o → step.state.operation ≡ None → step.label ≡ Label.End (kind_of o) (path_of o) result → EndsBy (is_removal o) result → Way s step
 
-pub record Course (s : State) (step : Step) : Type 0 where
-  pub way : Way s step
-  pub dues : DuesFine s.activities → DuesFine step.state.activities
-
 way_step : (s : State) (label : Label) (t : State) → DuesFine s.activities → OpEffect s label t → Way s (record { label = label; state = t })
 way_step s label t dues (OpEffect.idles none now (inl beside)) = Way.idles none now beside
 way_step s label t dues (OpEffect.idles none now (inr owes)) =
-    let fine = subst (λ (x : Phase). DueFine x) owes.is (dues_found is_ready s.activities owes.activity owes.ready dues) in
+    let fine = subst (λ (x : Phase). DueFine x) owes.is (phase_found DueFine is_ready s.activities owes.activity owes.ready dues) in
     Way.idles none now (subst (λ (x : Label). IsBeside x) (sym owes.prints) fine)
 way_step s label t dues (OpEffect.begins kind node none alone at fits is) = Way.begins kind node none at is
 way_step s label t dues (OpEffect.goes o p runs now work prints) = Way.goes o p runs now work prints
@@ -44,14 +38,14 @@ way_step s label t dues (OpEffect.ends o result runs now prints by over) = Way.e
 
 way_still : (s : State) (label : Label) (t : State) (o : Option Operation) → s.operation ≡ o → t.operation ≡ s.operation → IsBeside label → Way s (record { label = label; state = t })
 way_still s label t None e now beside = Way.idles e (now ∙ e) beside
-way_still s label t (Some o) e now beside = Way.goes o o e (now ∙ e) (record { sort = refl; kind = refl; path = refl; spared = refl }) (inl beside)
+way_still s label t (Some o) e now beside = Way.goes o o e (now ∙ e) (record { sort = refl; kind = refl; path = refl; spared = refl; own = λ own. own }) (inl beside)
 
 way_event : (s : State) (label : Label) (t : State) → AnswerEffect s label t → Way s (record { label = label; state = t })
 way_event s label t (AnswerEffect.stays word nodes acts now) = way_still s label t s.operation refl now (beside_word label word)
 way_event s label t (AnswerEffect.answers word nodes k a ok at acts now) = way_still s label t s.operation refl now (beside_word label word)
 way_event s label t (AnswerEffect.answered word nodes acts ok o runs now) = Way.goes o (ev.completed (ev.answer_of ok) o) runs now (completed_work (ev.answer_of ok) o) (inl (beside_word label word))
 
-way_goes : (settings : Settings) (s : State) (entry : Entry) (t : State) → DuesFine s.activities → Goes settings s entry t → Way s (record { label = printed entry; state = t })
+pub way_goes : (settings : Settings) (s : State) (entry : Entry) (t : State) → DuesFine s.activities → Goes settings s entry t → Way s (record { label = printed entry; state = t })
 way_goes settings s (Happens event label) t dues h = way_event s label t (effect_goes settings s (Happens event label) t h).operation
 way_goes settings s (Did label) t dues h = way_step s label t dues (effect_goes settings s (Did label) t h).operation
 
@@ -66,20 +60,11 @@ entered_fine s k t phase (Enters.installs drivers chosen drops clears) = adding_
 entered_fine s k t phase (Enters.restarts r plan runs is target found nodes) = tt
 entered_fine s k t phase (Enters.undoes r runs target) = tt
 
-stepped_fine : (s : State) (k : ℕ) (t : State) (old new : Phase) → DuesFine s.activities → PhaseStep s k t old new → DueFine new
-stepped_fine s k t old new dues (PhaseStep.added d ds acts) = adding_fine ds
-stepped_fine s k t old new dues (PhaseStep.fails phase problem acts other) = other
-stepped_fine s k t old new dues (PhaseStep.answered a ok at nodes) = answered_fine (ev.answer_of ok) a.phase (dues_found (is_activity k) s.activities a at dues)
-stepped_fine s k t old new dues _ = tt
+stepped_fine : (s : State) (k : ℕ) (t : State) (old new : Phase) → DueFine old → PhaseStep s k t old new → DueFine new
+stepped_fine s k t old new fine (PhaseStep.added d ds acts) = adding_fine ds
+stepped_fine s k t old new fine (PhaseStep.fails phase problem acts other) = other
+stepped_fine s k t old new fine (PhaseStep.answered a ok at nodes) = answered_fine (ev.answer_of ok) a.phase fine
+stepped_fine s k t old new fine _ = tt
 
 pub dues_effect : (s t : State) → ActivityEffect s t → DuesFine s.activities → DuesFine t.activities
-dues_effect s t (ActivityEffect.same e) dues = dues_as s.activities t.activities e dues
-dues_effect s t (ActivityEffect.enters k phase why e) dues =
-    let new : Activity = record { serial = k; phase = phase } in
-    dues_as (entered new s.activities) t.activities e (dues_entered new s.activities (entered_fine s k t phase why) dues)
-dues_effect s t (ActivityEffect.goes k old new step e) dues =
-    dues_as (changed_first (is_activity k) (with_phase new) s.activities) t.activities e (dues_changed k new s.activities (stepped_fine s k t old new dues step) dues)
-dues_effect s t (ActivityEffect.ends k phase acts over e) dues = dues_as (without_first (is_activity k) s.activities) t.activities e (dues_without k s.activities dues)
-
-pub course_goes : (settings : Settings) (s : State) (entry : Entry) (t : State) → DuesFine s.activities → Goes settings s entry t → Course s (record { label = printed entry; state = t })
-course_goes settings s entry t dues h = record { way = way_goes settings s entry t dues h; dues = dues_effect s t (effect_goes settings s entry t h).activities }
+dues_effect s t effect dues = phases_after DueFine s t (λ k phase why. entered_fine s k t phase why) (λ k old new fine step. stepped_fine s k t old new fine step) effect dues

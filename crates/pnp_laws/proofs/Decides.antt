@@ -14,10 +14,10 @@ use Rattle.resource_reqs.proofs.Counts.{contains_cons, contains_nil}
 use Rattle.resource_reqs.proofs.Fitting.{listed_read}
 use Rattle.resource_reqs.proofs.Law.{Rising}
 
-contains_here : {X : Type 0} (x : X) (xs : List X) → Contains (x ∷ xs) x
+pub contains_here : {X : Type 0} (x : X) (xs : List X) → Contains (x ∷ xs) x
 contains_here x xs = (0, omega arith, refl)
 
-contains_later : {X : Type 0} (x : X) (xs : List X) (y : X) → Contains xs y → Contains (x ∷ xs) y
+pub contains_later : {X : Type 0} (x : X) (xs : List X) (y : X) → Contains xs y → Contains (x ∷ xs) y
 contains_later x xs y (k, within, is) = (suc k, omega arith, is)
 
 all_append : {X : Type 0} (P : X → Type 0) (xs ys : List X) → AllByRecursion P xs → AllByRecursion P ys → AllByRecursion P (xs ++ ys)
@@ -214,19 +214,40 @@ rows_has w (suc n) top v s a b c =
 
 -- Those that go on -----------------------------------------------------------------------------------
 
-pub kept : (P : Coord → Type 0) → ((c : Coord) → Dec (P c)) → List Coord → List Coord
-kept P dec [] = []
-kept P dec (c ∷ cs) = elim (dec c) as (λ _. List Coord) [ yes h ↦ c ∷ kept P dec cs | no h ↦ kept P dec cs ]
+module _ {X : Type 0} (P : X → Type 0) (dec : (x : X) → Dec (P x)) where
+  unfoldable pub kept : List X → List X
+  kept [] = []
+  kept (x ∷ xs) = elim (dec x) as (λ _. List X) [ yes h ↦ x ∷ kept xs | no h ↦ kept xs ]
 
-kept_all : (P Q : Coord → Type 0) (dec : (c : Coord) → Dec (P c)) (cs : List Coord) → AllByRecursion Q cs → AllByRecursion Q (kept P dec cs)
-unfolding kept
-kept_all P Q dec [] h = tt
-kept_all P Q dec (c ∷ cs) h = by_test (dec c)
-    (kept_all P Q dec cs h.1)
-  where
-    by_test : (d : Dec (P c)) → AllByRecursion Q (kept P dec cs) → AllByRecursion Q (elim d as (λ _. List Coord) [ yes g ↦ c ∷ kept P dec cs | no g ↦ kept P dec cs ])
-    by_test (yes g) more = (h.0, more)
-    by_test (no g) more = more
+  -- what holds of all holds of those, and what joins each to those that follow
+  pub kept_all : (Q : X → Type 0) (xs : List X) → AllByRecursion Q xs → AllByRecursion Q (kept xs)
+  unfolding kept
+  kept_all Q [] h = tt
+  kept_all Q (x ∷ xs) h = by_test (dec x) (kept_all Q xs h.1)
+    where
+      by_test : (d : Dec (P x)) → AllByRecursion Q (kept xs) → AllByRecursion Q (elim d as (λ _. List X) [ yes g ↦ x ∷ kept xs | no g ↦ kept xs ])
+      by_test (yes g) more = (h.0, more)
+      by_test (no g) more = more
+
+  pub kept_each : (xs : List X) → AllByRecursion P (kept xs)
+  unfolding kept
+  kept_each [] = tt
+  kept_each (x ∷ xs) = by_test (dec x) (kept_each xs)
+    where
+      by_test : (d : Dec (P x)) → AllByRecursion P (kept xs) → AllByRecursion P (elim d as (λ _. List X) [ yes g ↦ x ∷ kept xs | no g ↦ kept xs ])
+      by_test (yes g) more = (g, more)
+      by_test (no g) more = more
+
+  pub kept_every : (xs : List X) (y : X) → Contains xs y → P y → Contains (kept xs) y
+  unfolding kept
+  kept_every [] y inside h = absurd (contains_nil y inside)
+  kept_every (x ∷ xs) y inside h = by_test (dec x) (contains_cons x xs y inside) (λ g. kept_every xs y g h)
+    where
+      by_test : (d : Dec (P x)) → (y ≡ x) ⊎ Contains xs y → (Contains xs y → Contains (kept xs) y) → Contains (elim d as (λ _. List X) [ yes g ↦ x ∷ kept xs | no g ↦ kept xs ]) y
+      by_test (yes g) (inl e) more = subst (Contains (x ∷ kept xs)) (sym e) (contains_here x (kept xs))
+      by_test (yes g) (inr q) more = contains_later x (kept xs) y (more q)
+      by_test (no g) (inl e) more = absurd (g (subst P e h))
+      by_test (no g) (inr q) more = more q
 
 pub kept_rising : (P : Coord → Type 0) (dec : (c : Coord) → Dec (P c)) (cs : List Coord) → Rising cs → Rising (kept P dec cs)
 unfolding kept
@@ -234,28 +255,8 @@ kept_rising P dec [] h = tt
 kept_rising P dec (c ∷ cs) h = by_test (dec c) (kept_rising P dec cs h.1)
   where
     by_test : (d : Dec (P c)) → Rising (kept P dec cs) → Rising (elim d as (λ _. List Coord) [ yes g ↦ c ∷ kept P dec cs | no g ↦ kept P dec cs ])
-    by_test (yes g) more = (kept_all P (Less c) dec cs h.0, more)
+    by_test (yes g) more = (kept_all P dec (Less c) cs h.0, more)
     by_test (no g) more = more
-
-pub kept_each : (P : Coord → Type 0) (dec : (c : Coord) → Dec (P c)) (cs : List Coord) → AllByRecursion P (kept P dec cs)
-unfolding kept
-kept_each P dec [] = tt
-kept_each P dec (c ∷ cs) = by_test (dec c) (kept_each P dec cs)
-  where
-    by_test : (d : Dec (P c)) → AllByRecursion P (kept P dec cs) → AllByRecursion P (elim d as (λ _. List Coord) [ yes g ↦ c ∷ kept P dec cs | no g ↦ kept P dec cs ])
-    by_test (yes g) more = (g, more)
-    by_test (no g) more = more
-
-pub kept_every : (P : Coord → Type 0) (dec : (c : Coord) → Dec (P c)) (cs : List Coord) (x : Coord) → Contains cs x → P x → Contains (kept P dec cs) x
-unfolding kept
-kept_every P dec [] x inside h = absurd (contains_nil x inside)
-kept_every P dec (c ∷ cs) x inside h = by_test (dec c) (contains_cons c cs x inside) (λ g. kept_every P dec cs x g h)
-  where
-    by_test : (d : Dec (P c)) → (x ≡ c) ⊎ Contains cs x → (Contains cs x → Contains (kept P dec cs) x) → Contains (elim d as (λ _. List Coord) [ yes g ↦ c ∷ kept P dec cs | no g ↦ kept P dec cs ]) x
-    by_test (yes g) (inl e) more = subst (Contains (c ∷ kept P dec cs)) (sym e) (contains_here c (kept P dec cs))
-    by_test (yes g) (inr q) more = contains_later c (kept P dec cs) x (more q)
-    by_test (no g) (inl e) more = absurd (g (subst P e h))
-    by_test (no g) (inr q) more = more q
 
 -- a coordinate leads on, cleanly
 abbrev pub Child : List Res → Point → Coord → Type 0

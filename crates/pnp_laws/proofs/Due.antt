@@ -33,8 +33,7 @@ no_due (k ∷ ks) = no_due ks
 not_surprise : (kind : OpKind) → removes kind ≡ true → is_surprise_task (Duty.Begins kind) ≡ false
 not_surprise OpKind.Disable h = refl
 not_surprise OpKind.Eject h = refl
-not_surprise OpKind.Rebalance h = absurd (cc)
-not_surprise OpKind.Surprise h = absurd (cc)
+not_surprise _ h = absurd (cc)
 
 stopped_or : (x : DevState) (b : Bool) → is_stopped x ≡ b → (x ≡ Stopped → ⊥) → is_stopped x ≡ false
 stopped_or x true h g = absurd (g (is_Stopped x h))

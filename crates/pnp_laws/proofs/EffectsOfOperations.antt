@@ -1,6 +1,6 @@
 -- What a step of an operation does.
 use Rattle.std.proofs.lemmas.Bool.Decides.{nat_tests}
-use Rattle.std.proofs.Common.{ℕ, ◌≡◌, ◌≢◌, ◌⊎◌, inl, inr, Bool, true, false, List, [], ◌∷◌, ◌++◌, length, reverse, Option, Some, None, refl, ap, ◌∙◌, arith, ◌==◌}
+use Rattle.std.proofs.Common.{ℕ, ◌≡◌, ◌≢◌, ◌⊎◌, inl, inr, Bool, true, false, List, [], ◌∷◌, ◌++◌, length, reverse, Some, None, refl, ap, ◌∙◌, arith, ◌==◌}
 use Rattle.resource_reqs.specs.Resources.{Res}
 use Rattle.resource_reqs.specs.Spelling.Answer.{assignment, no_fit, spent}
 use Rattle.pnp_labels.specs.Texts.{Text}
@@ -13,16 +13,17 @@ use Rattle.pnp_labels.specs.declared.label.Label.{Label}
 use Rattle.pnp_model.specs.Cores.{bare, forget, is_node, node_at, serials_of, stack_of, with_state}
 use Rattle.pnp_model.specs.Frames.{ended, first_node, rest}
 use Rattle.pnp_model.specs.Keyed.{changed_first, those, without_first}
-use Rattle.pnp_model.specs.Records.{Core, Device, Duty, Found, Node, Operation, Phase, Rebalance, RebalanceStage, Removal, RemovalStage, State, Step, Surprise, SurpriseStage, Task, Walk}
+use Rattle.pnp_model.specs.Records.{Core, Duty, Found, Node, Operation, Phase, Rebalance, RebalanceStage, Removal, RemovalStage, State, Step, Surprise, SurpriseStage, Task, Walk}
 use Rattle.pnp_model.specs.Runs.Entry.{Did}
-use Rattle.pnp_model.specs.States.{append_task, device_of, list_node, node_born, relist, relist_device, relist_other, set_operation, unplug, with_core}
+use Rattle.pnp_model.specs.States.{relist, set_operation, unplug, with_core}
 use Rattle.pnp_model.specs.Trees.{is_up, leaving, stands_up}
 use Rattle.pnp_model.specs.Walks.{has_ended, state_after, walk_of}
-use Rattle.pnp_laws.specs.Words.{IsBeside, NoVeto, EndsBy, SameWork, is_removal, joined, kind_of, path_of, spared}
-use Rattle.pnp_laws.specs.Effects.{ActivityEffect, Alters, DriverEffect, Effect, Enters, IsUnasked, JoinEffect, NodeEffect, OpEffect, Origin, PathEffect, RangeEffect, Request, TaskEffect, WorldEffect, to_leave, todo_of, begun, ends_bad, operation_minor, rebalance_minor, removal_minor, surprise_minor, Closes}
+use Rattle.pnp_laws.specs.Words.{IsBeside, NoVeto, EndsBy, is_removal, joined, kind_of, path_of, spared}
+use Rattle.pnp_laws.specs.Effects.{ActivityEffect, Alters, DriverEffect, Effect, Enters, IsUnasked, JoinEffect, NodeEffect, OpEffect, Origin, PathEffect, RangeEffect, Request, TaskEffect, WorldEffect, to_leave, todo_of, begun, ends_bad, operation_minor, rebalance_minor, removal_minor, surprise_minor, Closes, IsOwn, OperationOwn, SameWork}
 use Rattle.pnp_laws.proofs.EffectsOfStarts.{Changes, Steps, asks, inside, quiet_label, still, strips, walks}
+use Rattle.pnp_laws.proofs.Finishing.{Listed, relist_only}
 use Rattle.pnp_laws.proofs.Lists.{head_found}
-use Rattle.pnp_laws.proofs.Stages.{Ends, OperationStep, RebalanceStep, RemovalStep, SurpriseStep, reply}
+use Rattle.pnp_laws.proofs.Stages.{Ends, OperationStep, RebalanceStep, RemovalStep, SurpriseStep, answered_own, reply}
 use Rattle.pnp_model.specs.Events as ev
 use Rattle.pnp_model.specs.Machine as ma
 use Rattle.pnp_model.specs.Rebalances as re
@@ -31,77 +32,85 @@ use Rattle.pnp_model.specs.Surprises as su
 
 -- Kind and path stay ------------------------------------------------------------------
 
--- the same device, by the same path
-abbrev SameFrame : Rebalance → Rebalance → Type 0
-SameFrame r p = (p.path ≡ r.path) × (p.target ≡ r.target)
+-- the same device, by the same path, and a walk of its own request
+abbrev pub SameFrame : Rebalance → Rebalance → Type 0
+SameFrame r p = (p.path ≡ r.path) × (p.target ≡ r.target) × OperationOwn (Operation.Rebalancing p)
 
-re_ask_on : (r : Rebalance) (ks : List ℕ) → SameFrame r (re.ask_on r ks)
-re_ask_on r [] = (refl, refl)
-re_ask_on r (k ∷ ks) = (refl, refl)
+-- and the same devices refused
+abbrev pub SameRefused : Rebalance → Rebalance → Type 0
+SameRefused r p = SameFrame r p × (p.refused ≡ r.refused)
 
-re_cancel_on : (r : Rebalance) (ks : List ℕ) → SameFrame r (re.cancel_on r ks)
-re_cancel_on r [] = (refl, refl)
-re_cancel_on r (k ∷ ks) = (refl, refl)
+pub re_ask_on : (r : Rebalance) (ks : List ℕ) → SameRefused r (re.ask_on r ks)
+re_ask_on r [] = ((refl, refl, refl), refl)
+re_ask_on r (k ∷ ks) = ((refl, refl, refl), refl)
 
-re_stop_on : (r : Rebalance) (ks : List ℕ) → SameFrame r (re.stop_on r ks)
-re_stop_on r [] = (refl, refl)
-re_stop_on r (k ∷ ks) = (refl, refl)
+pub re_cancel_on : (r : Rebalance) (ks : List ℕ) → SameRefused r (re.cancel_on r ks)
+re_cancel_on r [] = ((refl, refl, refl), refl)
+re_cancel_on r (k ∷ ks) = ((refl, refl, refl), refl)
 
-re_restart : (r : Rebalance) (ks : List ℕ) → SameFrame r (re.restart_from r ks)
-re_restart r [] = (refl, refl)
-re_restart r (k ∷ ks) = (refl, refl)
+pub re_stop_on : (r : Rebalance) (ks : List ℕ) → SameRefused r (re.stop_on r ks)
+re_stop_on r [] = ((refl, refl, refl), refl)
+re_stop_on r (k ∷ ks) = ((refl, refl, refl), refl)
+
+pub re_restart : (r : Rebalance) (ks : List ℕ) → SameRefused r (re.restart_from r ks)
+re_restart r [] = ((refl, refl, refl), refl)
+re_restart r (k ∷ ks) = ((refl, refl, refl), refl)
 
 rm_finish_with : (o : Removal) (todo stack : List ℕ) → SameWork (Operation.Removing o) (Operation.Removing (rm.finish_with o todo stack))
-rm_finish_with o todo [] = record { sort = refl; kind = refl; path = refl; spared = refl }
-rm_finish_with o todo (d ∷ ds) = record { sort = refl; kind = refl; path = refl; spared = refl }
+rm_finish_with o todo [] = record { sort = refl; kind = refl; path = refl; spared = refl; own = λ own. refl }
+rm_finish_with o todo (d ∷ ds) = record { sort = refl; kind = refl; path = refl; spared = refl; own = λ own. refl }
 
 rm_finish_on : (nodes : List Node) (o : Removal) (ks : List ℕ) → SameWork (Operation.Removing o) (Operation.Removing (rm.finish_on nodes o ks))
-rm_finish_on nodes o [] = record { sort = refl; kind = refl; path = refl; spared = refl }
+rm_finish_on nodes o [] = record { sort = refl; kind = refl; path = refl; spared = refl; own = λ own. refl }
 rm_finish_on nodes o (k ∷ ks) = rm_finish_with o (k ∷ ks) (stack_of (node_at k nodes))
 
 rm_ask_on : (nodes : List Node) (o : Removal) (ks : List ℕ) → SameWork (Operation.Removing o) (Operation.Removing (rm.ask_on nodes o ks))
 rm_ask_on nodes o [] = rm_finish_on nodes o o.set
-rm_ask_on nodes o (k ∷ ks) = record { sort = refl; kind = refl; path = refl; spared = refl }
+rm_ask_on nodes o (k ∷ ks) = record { sort = refl; kind = refl; path = refl; spared = refl; own = λ own. refl }
 
 rm_cancel_on : (o : Removal) (ks : List ℕ) → SameWork (Operation.Removing o) (Operation.Removing (rm.cancel_on o ks))
-rm_cancel_on o [] = record { sort = refl; kind = refl; path = refl; spared = refl }
-rm_cancel_on o (k ∷ ks) = record { sort = refl; kind = refl; path = refl; spared = refl }
+rm_cancel_on o [] = record { sort = refl; kind = refl; path = refl; spared = refl; own = λ own. refl }
+rm_cancel_on o (k ∷ ks) = record { sort = refl; kind = refl; path = refl; spared = refl; own = λ own. refl }
 
 su_finish_with : (o : Surprise) (todo stack : List ℕ) → SameWork (Operation.Surprising o) (Operation.Surprising (su.finish_with o todo stack))
-su_finish_with o todo [] = record { sort = refl; kind = refl; path = refl; spared = refl }
-su_finish_with o todo (d ∷ ds) = record { sort = refl; kind = refl; path = refl; spared = refl }
+su_finish_with o todo [] = record { sort = refl; kind = refl; path = refl; spared = refl; own = λ own. refl }
+su_finish_with o todo (d ∷ ds) = record { sort = refl; kind = refl; path = refl; spared = refl; own = λ own. refl }
 
 su_finish_on : (nodes : List Node) (o : Surprise) (ks : List ℕ) → SameWork (Operation.Surprising o) (Operation.Surprising (su.finish_on nodes o ks))
-su_finish_on nodes o [] = record { sort = refl; kind = refl; path = refl; spared = refl }
+su_finish_on nodes o [] = record { sort = refl; kind = refl; path = refl; spared = refl; own = λ own. refl }
 su_finish_on nodes o (k ∷ ks) = su_finish_with o (k ∷ ks) (stack_of (node_at k nodes))
 
 su_tell_on : (nodes : List Node) (o : Surprise) (ks : List ℕ) → SameWork (Operation.Surprising o) (Operation.Surprising (su.tell_on nodes o ks))
 su_tell_on nodes o [] = su_finish_on nodes o o.set
-su_tell_on nodes o (k ∷ ks) = record { sort = refl; kind = refl; path = refl; spared = refl }
+su_tell_on nodes o (k ∷ ks) = record { sort = refl; kind = refl; path = refl; spared = refl; own = λ own. refl }
 
-removal_work : (c : Core) (kind : OpKind) (node : Node) (set : List ℕ) → (kind_of (Operation.Removing (rm.begun_with c kind node set)) ≡ kind) × (path_of (Operation.Removing (rm.begun_with c kind node set)) ≡ node.path)
+abbrev BegunFor : OpKind → Node → Operation → Type 0
+BegunFor kind node o = (kind_of o ≡ kind) × (path_of o ≡ node.path) × OperationOwn o
+
+removal_work : (c : Core) (kind : OpKind) (node : Node) (set : List ℕ) → BegunFor kind node (Operation.Removing (rm.begun_with c kind node set))
 removal_work c kind node set =
     let o : Removal = record { kind = kind; target = node.serial; path = node.path; set = set; ejecting = rm.ejecting c set; todo = []; agreed = []; refuser = None; stage = RemovalStage.Ending } in
     let work = rm_ask_on c.nodes o (those (λ k. is_up (node_at k c.nodes)) set) in
-    (work.kind, work.path)
+    (work.kind, work.path, work.own refl)
 
--- The operation that begins is of its kind, for its device
-pub begun_work : (c : Core) (kind : OpKind) (node : Node) → (kind_of (begun c kind node) ≡ kind) × (path_of (begun c kind node) ≡ node.path)
+abbrev surprise_begins : Core → Node → Surprise
+surprise_begins c node = record { target = node.serial; path = node.path; set = leaving c node.serial; todo = []; stage = SurpriseStage.Ending }
+
+surprise_work : (c : Core) (node : Node) → SameWork (Operation.Surprising (surprise_begins c node)) (Operation.Surprising (su.begun_surprise c node))
+surprise_work c node = su_tell_on c.nodes (surprise_begins c node) (those (λ k. su.is_told_node (node_at k c.nodes)) (leaving c node.serial))
+
+-- The operation that begins is of its kind, for its device, and asks the request of its stage
+pub begun_work : (c : Core) (kind : OpKind) (node : Node) → BegunFor kind node (begun c kind node)
 begun_work c OpKind.Rebalance node =
-    (refl, (re_ask_on (record { target = node.serial; path = node.path; todo = []; agreed = []; refused = []; found = no_fit; stage = RebalanceStage.Searching }) (reverse (serials_of (those re.is_asked c.nodes)))).0)
+    let frame = (re_ask_on (record { target = node.serial; path = node.path; todo = []; agreed = []; refused = []; found = no_fit; stage = RebalanceStage.Searching }) (reverse (serials_of (those re.is_asked c.nodes)))).0 in
+    (refl, frame.0, frame.2)
 begun_work c OpKind.Disable node = removal_work c OpKind.Disable node (leaving c node.serial)
 begun_work c OpKind.Eject node = removal_work c OpKind.Eject node (leaving c node.serial)
-begun_work c OpKind.Surprise node = (
-  refl,
-  (su_tell_on c.nodes (record { target = node.serial; path = node.path; set = leaving c node.serial; todo = []; stage = SurpriseStage.Ending })
-      (those (λ k. su.is_told_node (node_at k c.nodes)) (leaving c node.serial))).path,
-)
+begun_work c OpKind.Surprise node = let work = surprise_work c node in (refl, work.path, work.own refl)
 
 -- A surprise removal begins for the device with all that depends on it
 pub begun_spared : (c : Core) (node : Node) → spared (Operation.Surprising (su.begun_surprise c node)) ≡ leaving c node.serial
-begun_spared c node =
-    (su_tell_on c.nodes (record { target = node.serial; path = node.path; set = leaving c node.serial; todo = []; stage = SurpriseStage.Ending })
-    (those (λ k. su.is_told_node (node_at k c.nodes)) (leaving c node.serial))).spared
+begun_spared c node = (surprise_work c node).spared
 
 own_number : (j k : ℕ) → (j == k) ≡ true → j ≡ k
 own_number j k h = grind (arith, nat_tests)
@@ -139,62 +148,57 @@ stripped s o runs node first w walk minor_is = strips s node w (head_found s.cor
 module _ (s u : State) (o p : Operation) (runs : s.operation ≡ Some o) (node : Node) (first : first_node s.core.nodes (to_leave o) ≡ Some node) (label : Label) (beside : IsBeside label) (unasked : IsUnasked label) (quiet : joined label ≡ 0)
     (work : SameWork o p) (now : u.operation ≡ Some p) (world : WorldEffect s (Did label) u) (paths : u.disabled ≡ s.disabled) (serial : u.next_serial ≡ s.next_serial)
     (activities : u.activities ≡ s.activities) (tasks : u.tasks ≡ s.tasks) (nodes : u.core.nodes ≡ without_first (is_node node.serial) s.core.nodes) (relations : u.core.relations ≡ s.core.relations) (ranges : u.core.reserved ≡ s.core.reserved) (rack : u.core.rack ≡ s.core.rack) where
-  departs : Effect s (Did label) u
-  departs =
-      record {
-        nodes = NodeEffect.left node o runs first nodes relations;
-        drivers = DriverEffect.same unasked rack;
-        ranges = RangeEffect.same ranges;
-        operation = OpEffect.goes o p runs now work (inl beside);
-        activities = ActivityEffect.same activities;
-        tasks = TaskEffect.same tasks;
-        world = world;
-        paths = PathEffect.same paths;
-        joins = JoinEffect.none (quiet_label label quiet);
-        serial = omega arith;
-      }
-
   by_world : (t : State) → t.world ≡ u.world → t.next_born ≡ u.next_born → WorldEffect s (Did label) u → WorldEffect s (Did label) t
   by_world t a b (WorldEffect.same c d) = WorldEffect.same (a ∙ c) (b ∙ d)
   by_world t a b (WorldEffect.plugged d plug c e) = WorldEffect.plugged d plug (a ∙ c) (b ∙ e)
   by_world t a b (WorldEffect.unplugged born unplug c d) = WorldEffect.unplugged born unplug (a ∙ c) (b ∙ d)
 
-  departs_listed : (k : ℕ) → Effect s (Did label) (append_task Duty.Listing k u)
-  departs_listed k =
-      record {
-        nodes = NodeEffect.left node o runs first nodes relations;
-        drivers = DriverEffect.same unasked rack;
-        ranges = RangeEffect.same ranges;
-        operation = OpEffect.goes o p runs now work (inl beside);
-        activities = ActivityEffect.same activities;
-        tasks = TaskEffect.appended (record { kind = Duty.Listing; serial = k }) (Origin.lists k) (ap (λ (ts : List Task). ts ++ record { kind = Duty.Listing; serial = k } ∷ []) tasks);
-        world = by_world (append_task Duty.Listing k u) refl refl world;
-        paths = PathEffect.same paths;
-        joins = JoinEffect.none (quiet_label label quiet);
-        serial = omega arith;
-      }
+  listed : (t : State) → Listed u.tasks t.tasks → TaskEffect s t
+  listed t (inl e) = TaskEffect.same (e ∙ tasks)
+  listed t (inr (k, e)) = TaskEffect.appended (record { kind = Duty.Listing; serial = k }) (Origin.lists k) (e ∙ ap (λ (ts : List Task). ts ++ record { kind = Duty.Listing; serial = k } ∷ []) tasks)
 
   leaves : (path : Text) (born : ℕ) → Effect s (Did label) (relist path born u)
-  leaves path born = by_device (device_of path u.world)
-    where
-      by_node : (n : Option Node) → Effect s (Did label) (list_node n u)
-      by_node None = departs
-      by_node (Some n) = departs_listed n.serial
-
-      by_other : (d : Device) (b : Bool) → Effect s (Did label) (relist_other d b u)
-      by_other d true = departs
-      by_other d false = by_node (node_born d.parent u.core.nodes)
-
-      by_device : (d : Option Device) → Effect s (Did label) (relist_device born d u)
-      by_device None = departs
-      by_device (Some d) = by_other d _
+  leaves path born =
+      let only = relist_only path born u in
+      record {
+        nodes = NodeEffect.left node o runs first (ap (λ (c : Core). c.nodes) only.core ∙ nodes) (ap (λ (c : Core). c.relations) only.core ∙ relations);
+        drivers = DriverEffect.same unasked (ap (λ (c : Core). c.rack) only.core ∙ rack);
+        ranges = RangeEffect.same (ap (λ (c : Core). c.reserved) only.core ∙ ranges);
+        operation = OpEffect.goes o p runs (only.operation ∙ now) work (inl beside);
+        activities = ActivityEffect.same (only.activities ∙ activities);
+        tasks = listed (relist path born u) only.tasks;
+        world = by_world (relist path born u) only.world only.births world;
+        paths = PathEffect.same (only.paths ∙ paths);
+        joins = JoinEffect.none (quiet_label label quiet);
+        serial = let e = only.serial in omega arith;
+      }
 
 -- An ask leaves all but the walk -----------------------------------------------------------
 
+rebalance_completed : (answer : Answer) (stage : RebalanceStage) → IsOwn (ma.rebalance_walk stage) (rebalance_minor stage) → IsOwn (ma.rebalance_walk (ev.completed_rebalance answer stage)) (rebalance_minor (ev.completed_rebalance answer stage))
+rebalance_completed answer (RebalanceStage.Asking w) own = answered_own w answer Minor.QueryStop own
+rebalance_completed answer (RebalanceStage.TakingBack w) own = answered_own w answer Minor.CancelStop own
+rebalance_completed answer (RebalanceStage.Cancelling w) own = answered_own w answer Minor.CancelStop own
+rebalance_completed answer (RebalanceStage.Stopping w) own = answered_own w answer Minor.Stop own
+rebalance_completed answer (RebalanceStage.Restarting w) own = answered_own w answer Minor.Start own
+rebalance_completed answer _ own = refl
+
+removal_completed : (answer : Answer) (stage : RemovalStage) → IsOwn (ma.removal_walk stage) (removal_minor stage) → IsOwn (ma.removal_walk (ev.completed_removal answer stage)) (removal_minor (ev.completed_removal answer stage))
+removal_completed answer (RemovalStage.Asking w) own = answered_own w answer Minor.QueryRemove own
+removal_completed answer (RemovalStage.TakingBack w) own = answered_own w answer Minor.CancelRemove own
+removal_completed answer (RemovalStage.Cancelling w) own = answered_own w answer Minor.CancelRemove own
+removal_completed answer (RemovalStage.Removing w) own = answered_own w answer Minor.Remove own
+removal_completed answer _ own = refl
+
+surprise_completed : (answer : Answer) (stage : SurpriseStage) → IsOwn (ma.surprise_walk stage) (surprise_minor stage) → IsOwn (ma.surprise_walk (ev.completed_surprise answer stage)) (surprise_minor (ev.completed_surprise answer stage))
+surprise_completed answer (SurpriseStage.Telling w) own = answered_own w answer Minor.SurpriseRemoval own
+surprise_completed answer (SurpriseStage.Removing w) own = answered_own w answer Minor.Remove own
+surprise_completed answer _ own = refl
+
 pub completed_work : (answer : Answer) (o : Operation) → SameWork o (ev.completed answer o)
-completed_work answer (Operation.Rebalancing r) = record { sort = refl; kind = refl; path = refl; spared = refl }
-completed_work answer (Operation.Removing o) = record { sort = refl; kind = refl; path = refl; spared = refl }
-completed_work answer (Operation.Surprising o) = record { sort = refl; kind = refl; path = refl; spared = refl }
+completed_work answer (Operation.Rebalancing r) = record { sort = refl; kind = refl; path = refl; spared = refl; own = rebalance_completed answer r.stage }
+completed_work answer (Operation.Removing o) = record { sort = refl; kind = refl; path = refl; spared = refl; own = removal_completed answer o.stage }
+completed_work answer (Operation.Surprising o) = record { sort = refl; kind = refl; path = refl; spared = refl; own = surprise_completed answer o.stage }
 
 -- Rebalance -----------------------------------------------------------------------------
 
@@ -202,12 +206,12 @@ module _ (s : State) (r : Rebalance) (runs : s.operation ≡ Some (Operation.Reb
   re_on : (label : Label) (c : Core) (p : Rebalance) → c.reserved ≡ s.core.reserved → SameFrame r p → IsBeside label → joined label ≡ 0 → Changes s label (ma.after_rebalance p re.RebalanceBeside.On (with_core c s))
       → Steps s (ma.rebalance_lifted s (record { label = label; core = c; frame = p; beside = re.RebalanceBeside.On }))
   re_on label c p ranges frame beside quiet nodes =
-      on s (Operation.Rebalancing r) runs label _ (Operation.Rebalancing p) refl refl refl ranges refl refl refl (record { sort = refl; kind = refl; path = frame.0; spared = ap (λ (k : ℕ). k ∷ []) frame.1 }) beside quiet nodes (TaskEffect.same refl)
+      on s (Operation.Rebalancing r) runs label _ (Operation.Rebalancing p) refl refl refl ranges refl refl refl (record { sort = refl; kind = refl; path = frame.0; spared = ap (λ (k : ℕ). k ∷ []) frame.1; own = λ own. frame.2 }) beside quiet nodes (TaskEffect.same refl)
 
   re_searches : (found : Found) → Steps s (ma.rebalance_lifted s (re.searched s.core r found))
-  re_searches (assignment plan) = re_on _ _ _ refl (re_stop_on (record r { found = assignment plan }) (reverse r.agreed)) tt refl (still s _ _ tt refl (NodeEffect.same refl refl))
-  re_searches no_fit = re_on _ _ _ refl (re_cancel_on (record r { found = no_fit }) r.agreed) tt refl (still s _ _ tt refl (NodeEffect.same refl refl))
-  re_searches spent = re_on _ _ _ refl (re_cancel_on (record r { found = spent }) r.agreed) tt refl (still s _ _ tt refl (NodeEffect.same refl refl))
+  re_searches (assignment plan) = re_on _ _ _ refl (re_stop_on (record r { found = assignment plan }) (reverse r.agreed)).0 tt refl (still s _ _ tt refl (NodeEffect.same refl refl))
+  re_searches no_fit = re_on _ _ _ refl (re_cancel_on (record r { found = no_fit }) r.agreed).0 tt refl (still s _ _ tt refl (NodeEffect.same refl refl))
+  re_searches spent = re_on _ _ _ refl (re_cancel_on (record r { found = spent }) r.agreed).0 tt refl (still s _ _ tt refl (NodeEffect.same refl refl))
 
   -- problem 12 is printed for the device of a rebalance, or its budget is spent
   stuck_label : (found : Found) → IsBeside (Label.Trouble r.path (re.trouble_of found)) ⊎ ((OpKind.Rebalance ≡ OpKind.Rebalance) × (Label.Trouble r.path (re.trouble_of found) ≡ Label.Trouble r.path Problem.NormalConflict))
@@ -243,25 +247,25 @@ module _ (s : State) (r : Rebalance) (runs : s.operation ≡ Some (Operation.Reb
 
   rebalance_effect : (stage : RebalanceStage) (m : re.RebalanceMove) → r.stage ≡ stage → RebalanceStep s.core r stage m → Steps s (ma.rebalance_lifted s m)
   rebalance_effect stage m is (RebalanceStep.agrees node w e good) =
-      re_on _ _ _ refl (re_ask_on (record r { agreed = node.serial ∷ r.agreed }) (rest r.todo)) tt refl (walked_by (RebalanceStage.Asking w) Minor.QueryStop false node w is e refl refl (λ q. cc) good _ _ refl refl refl refl)
-  rebalance_effect stage m is (RebalanceStep.refuses node w e bad) = re_on _ _ _ refl (refl, refl) tt refl (walked_by (RebalanceStage.Asking w) Minor.QueryStop true node w is e refl refl (λ q. cc) bad _ _ refl refl refl refl)
+      re_on _ _ _ refl (re_ask_on (record r { agreed = node.serial ∷ r.agreed }) (rest r.todo)).0 tt refl (walked_by (RebalanceStage.Asking w) Minor.QueryStop false node w is e refl refl (λ q. cc) good _ _ refl refl refl refl)
+  rebalance_effect stage m is (RebalanceStep.refuses node w e bad) = re_on _ _ _ refl (refl, refl, refl) tt refl (walked_by (RebalanceStage.Asking w) Minor.QueryStop true node w is e refl refl (λ q. cc) bad _ _ refl refl refl refl)
   rebalance_effect stage m is (RebalanceStep.takes_back node w e) =
-      re_on _ _ _ refl (re_ask_on r (those (re.is_not_above s.core.nodes node.serial) (rest r.todo))) tt refl (walked_by (RebalanceStage.TakingBack w) Minor.CancelStop false node w is e refl refl (λ q. cc) refl _ _ refl refl refl refl)
+      re_on _ _ _ refl (re_ask_on r (those (re.is_not_above s.core.nodes node.serial) (rest r.todo))).0 tt refl (walked_by (RebalanceStage.TakingBack w) Minor.CancelStop false node w is e refl refl (λ q. cc) refl _ _ refl refl refl refl)
   rebalance_effect stage m is (RebalanceStep.searches found budget answer) = re_searches found
-  rebalance_effect stage m is (RebalanceStep.cancels node w e) = re_on _ _ _ refl (re_cancel_on r (rest r.todo)) tt refl (walked_by (RebalanceStage.Cancelling w) Minor.CancelStop false node w is e refl refl (λ q. cc) refl _ _ refl refl refl refl)
+  rebalance_effect stage m is (RebalanceStep.cancels node w e) = re_on _ _ _ refl (re_cancel_on r (rest r.todo)).0 tt refl (walked_by (RebalanceStage.Cancelling w) Minor.CancelStop false node w is e refl refl (λ q. cc) refl _ _ refl refl refl refl)
   rebalance_effect stage m is RebalanceStep.sticks =
       inside s _ _ refl refl refl refl refl refl (still s _ _ tt refl (NodeEffect.changed r.target _ (Alters.troubled r.target (Some (re.trouble_of r.found))) refl refl))
-      (OpEffect.goes (Operation.Rebalancing r) (Operation.Rebalancing (record r { stage = RebalanceStage.Ending })) runs refl (record { sort = refl; kind = refl; path = refl; spared = refl }) (stuck_label r.found))
+      (OpEffect.goes (Operation.Rebalancing r) (Operation.Rebalancing (record r { stage = RebalanceStage.Ending })) runs refl (record { sort = refl; kind = refl; path = refl; spared = refl; own = λ own. refl }) (stuck_label r.found))
       (ActivityEffect.same refl) (TaskEffect.same refl)
-  rebalance_effect stage m is (RebalanceStep.stops node w e) = re_on _ _ _ refl (re_stop_on r (rest r.todo)) tt refl (walked_by (RebalanceStage.Stopping w) Minor.Stop false node w is e refl refl (λ q. cc) refl _ _ refl refl refl refl)
-  rebalance_effect stage m is RebalanceStep.commits = re_on _ _ _ refl (re_restart r (re.startable s.core.nodes r.agreed)) tt refl (still s _ _ tt refl (NodeEffect.commits r runs is refl refl))
+  rebalance_effect stage m is (RebalanceStep.stops node w e) = re_on _ _ _ refl (re_stop_on r (rest r.todo)).0 tt refl (walked_by (RebalanceStage.Stopping w) Minor.Stop false node w is e refl refl (λ q. cc) refl _ _ refl refl refl refl)
+  rebalance_effect stage m is RebalanceStep.commits = re_on _ _ _ refl (re_restart r (re.startable s.core.nodes r.agreed)).0 tt refl (still s _ _ tt refl (NodeEffect.commits r runs is refl refl))
   rebalance_effect stage m is (RebalanceStep.restarts node w e good) =
-      re_on _ _ _ refl (re_restart r (re.startable (ended s.core node Minor.Start false).nodes (rest r.todo))) tt refl (walked_by (RebalanceStage.Restarting w) Minor.Start false node w is e refl refl (λ q. cc) good _ _ refl refl refl refl)
-  rebalance_effect stage m is (RebalanceStep.fails node w e bad) = re_on _ _ _ refl (refl, refl) tt refl (walked_by (RebalanceStage.Restarting w) Minor.Start true node w is e refl refl (λ q. cc) bad _ _ refl refl refl refl)
+      re_on _ _ _ refl (re_restart r (re.startable (ended s.core node Minor.Start false).nodes (rest r.todo))).0 tt refl (walked_by (RebalanceStage.Restarting w) Minor.Start false node w is e refl refl (λ q. cc) good _ _ refl refl refl refl)
+  rebalance_effect stage m is (RebalanceStep.fails node w e bad) = re_on _ _ _ refl (refl, refl, refl) tt refl (walked_by (RebalanceStage.Restarting w) Minor.Start true node w is e refl refl (λ q. cc) bad _ _ refl refl refl refl)
   rebalance_effect stage m is (RebalanceStep.failed node first) =
       let p = re.restart_on s.core.nodes r (rest r.todo) in
-      let frame = re_restart r (re.startable s.core.nodes (rest r.todo)) in
-      on s (Operation.Rebalancing r) runs _ _ (Operation.Rebalancing p) refl refl refl refl refl refl refl (record { sort = refl; kind = refl; path = frame.0; spared = ap (λ (k : ℕ). k ∷ []) frame.1 }) tt refl
+      let frame = (re_restart r (re.startable s.core.nodes (rest r.todo))).0 in
+      on s (Operation.Rebalancing r) runs _ _ (Operation.Rebalancing p) refl refl refl refl refl refl refl (record { sort = refl; kind = refl; path = frame.0; spared = ap (λ (k : ℕ). k ∷ []) frame.1; own = λ own. frame.2 }) tt refl
       (still s _ _ tt refl (NodeEffect.changed node.serial _ (Alters.troubled node.serial (Some Problem.FailedStart)) refl refl)) (TaskEffect.put_first node r runs is first refl)
   rebalance_effect stage m is RebalanceStep.closes = re_closes is r.found (re.end_of r.found) refl (found_end r.found)
 
@@ -282,13 +286,13 @@ module _ (s : State) (o : Removal) (runs : s.operation ≡ Some (Operation.Remov
   removal_effect : (stage : RemovalStage) (m : rm.RemovalMove) → o.stage ≡ stage → RemovalStep s.core o stage m → Steps s (ma.removal_lifted s m)
   removal_effect stage m is (RemovalStep.agrees node w e good) =
       let work = rm_ask_on s.core.nodes (record o { agreed = node.serial ∷ o.agreed }) (rest o.todo) in
-      rm_on _ _ _ refl (record { sort = work.sort; kind = work.kind; path = work.path; spared = work.spared }) tt refl (asked_by (RemovalStage.Asking w) Minor.QueryRemove false node w is e refl refl (λ q. cc) good _ _ refl refl refl refl)
+      rm_on _ _ _ refl (record { sort = work.sort; kind = work.kind; path = work.path; spared = work.spared; own = work.own }) tt refl (asked_by (RemovalStage.Asking w) Minor.QueryRemove false node w is e refl refl (λ q. cc) good _ _ refl refl refl refl)
   removal_effect stage m is (RemovalStep.refuses node w e bad) =
-      rm_on _ _ _ refl (record { sort = refl; kind = refl; path = refl; spared = refl }) tt refl (asked_by (RemovalStage.Asking w) Minor.QueryRemove true node w is e refl refl (λ q. cc) bad _ _ refl refl refl refl)
+      rm_on _ _ _ refl (record { sort = refl; kind = refl; path = refl; spared = refl; own = λ own. refl }) tt refl (asked_by (RemovalStage.Asking w) Minor.QueryRemove true node w is e refl refl (λ q. cc) bad _ _ refl refl refl refl)
   removal_effect stage m is (RemovalStep.takes_back node w e) = rm_on _ _ _ refl (rm_cancel_on o o.agreed) tt refl (asked_by (RemovalStage.TakingBack w) Minor.CancelRemove false node w is e refl refl (λ q. cc) refl _ _ refl refl refl refl)
   removal_effect stage m is (RemovalStep.cancels node w e) = rm_on _ _ _ refl (rm_cancel_on o (rest o.todo)) tt refl (asked_by (RemovalStage.Cancelling w) Minor.CancelRemove false node w is e refl refl (λ q. cc) refl _ _ refl refl refl refl)
   removal_effect stage m is (RemovalStep.removes node w e) =
-      rm_on _ _ _ refl (record { sort = refl; kind = refl; path = refl; spared = refl }) tt refl
+      rm_on _ _ _ refl (record { sort = refl; kind = refl; path = refl; spared = refl; own = λ own. refl }) tt refl
       (stripped s (Operation.Removing o) runs node e.first w (ap ma.removal_walk is) (ap removal_minor is) e.ended _ _ refl refl refl refl)
   removal_effect stage m is (RemovalStep.leaves node first inside) =
       let m = rm.leaves s.core o node (Label.Leave node.path) (rm.RemoveBeside.Left node.path node.born) in
@@ -331,7 +335,7 @@ module _ (s : State) (o : Surprise) (runs : s.operation ≡ Some (Operation.Surp
       su_on _ _ _ refl (su_tell_on s.core.nodes o (rest o.todo)) tt refl
       (walked s (Operation.Surprising o) runs node e.first Minor.SurpriseRemoval w (ap ma.surprise_walk is) (ap surprise_minor is) false (λ q. cc) e.ended refl _ _ refl refl refl refl)
   surprise_effect in_world stage m is (SurpriseStep.removes node w e) =
-      su_on _ _ _ refl (record { sort = refl; kind = refl; path = refl; spared = refl }) tt refl
+      su_on _ _ _ refl (record { sort = refl; kind = refl; path = refl; spared = refl; own = λ own. refl }) tt refl
       (stripped s (Operation.Surprising o) runs node e.first w (ap ma.surprise_walk is) (ap surprise_minor is) e.ended _ _ refl refl refl refl)
   surprise_effect in_world stage m is (SurpriseStep.leaves node first why) =
       let m = su.leaves s.core o node in

@@ -1,5 +1,5 @@
 -- What a step does where no operation runs.
-use Rattle.std.proofs.Common.{ℕ, ◌≡◌, ◌≢◌, ◌⊎◌, inl, inr, Bool, true, false, [], ◌∷◌, length, Some, None, refl, ◌∙◌, arith}
+use Rattle.std.proofs.Common.{ℕ, ◌≡◌, ◌≢◌, ◌⊎◌, inl, inr, Bool, true, false, [], ◌∷◌, length, Some, None, refl, ap, ◌∙◌, arith}
 use Rattle.pnp_labels.specs.declared.states.Problem.{Problem}
 use Rattle.pnp_labels.specs.declared.words.AskWhat.{AskWhat}
 use Rattle.pnp_labels.specs.declared.words.Minor.{Minor}
@@ -21,6 +21,7 @@ use Rattle.pnp_model.specs.Walks.{has_ended, state_after, walk_of}
 use Rattle.pnp_laws.specs.Words.{IsBeside, IsNoJoin, joined}
 use Rattle.pnp_laws.specs.Effects.{ActivityEffect, Acting, Alters, Assigned, BeginsFor, DriverEffect, Effect, Enters, IsUnasked, JoinEffect, NodeEffect, OpEffect, Origin, Owes, PathEffect, PhaseStep, RangeEffect, Request, TaskEffect, WorldEffect, begun, ends_bad, Over, Surprises}
 use Rattle.pnp_laws.proofs.IdleSteps.{ActivityStep, First, TaskStep}
+use Rattle.pnp_laws.proofs.Stages.{after_minor, reply}
 use Rattle.pnp_model.specs.Starts as st
 
 abbrev pub Steps : State → Step → Type 0
@@ -149,17 +150,17 @@ module _ (s : State) (node : Node) (at : node_at node.serial s.core.nodes ≡ So
       (TaskEffect.appended (record { kind = Duty.Begins OpKind.Rebalance; serial = node.serial }) (Origin.needs node.serial phase acts) refl)
   start_effect phase _ acts (ActivityStep.tires _ search) =
       goes _ _ phase (Due Problem.Budget) refl (inl tt) refl acts (still s _ _ tt refl (NodeEffect.same refl refl)) (PhaseStep.fails phase Problem.Budget acts tt)
-  start_effect _ _ acts (ActivityStep.asks_start w waits more) = goes _ _ (Starting w) (Starting _) refl (inl tt) refl acts (asks s node w at more _ _ _ refl refl refl refl) (PhaseStep.asked w _ acts refl)
+  start_effect _ _ acts (ActivityStep.asks_start w waits more) = goes _ _ (Starting w) (Starting _) refl (inl tt) refl acts (asks s node w at more _ _ _ refl refl refl refl) (PhaseStep.asked w _ acts (after_minor w (reply s.core node w)) refl)
   start_effect _ _ acts (ActivityStep.fails w ended bad) =
       goes _ _ (Starting w) (Due Problem.FailedStart) refl (inl tt) refl acts (walks s node Minor.Start w true at (Request.starts w acts) (λ e. cc) ended bad _ _ refl refl refl refl) (PhaseStep.fails (Starting w) Problem.FailedStart acts tt)
   start_effect _ _ acts (ActivityStep.starts w ended well) =
       ends _ _ (Starting w) refl refl refl refl refl refl refl (inl tt) refl acts (walks s node Minor.Start w false at (Request.starts w acts) (λ e. cc) ended well _ _ refl refl refl refl) (Over.up w refl)
       (TaskEffect.appended (record { kind = Duty.Listing; serial = node.serial }) (Origin.lists node.serial) refl)
-  start_effect _ _ acts (ActivityStep.asks_remove w waits more) = goes _ _ (Removing w) (Removing _) refl (inl tt) refl acts (asks s node w at more _ _ _ refl refl refl refl) (PhaseStep.undoes (Removing w) _ acts)
+  start_effect _ _ acts (ActivityStep.asks_remove w waits more) = goes _ _ (Removing w) (Removing _) refl (inl tt) refl acts (asks s node w at more _ _ _ refl refl refl refl) (PhaseStep.undoes (Removing w) _ acts (λ own. ap Some (after_minor w (reply s.core node w)) ∙ own))
   start_effect _ _ acts (ActivityStep.strips w ended) =
       ends _ _ (Removing w) refl refl refl refl refl refl refl (inl tt) refl acts (strips s node w at (Request.undoes w acts) ended _ _ refl refl refl refl) (Over.stripped w refl) (TaskEffect.same refl)
   start_effect _ _ acts (ActivityStep.empty problem none_left) =
       ends _ _ (Due problem) refl refl refl refl refl refl refl (inr (owes problem acts)) refl acts (still s _ _ tt refl (NodeEffect.changed node.serial _ (Alters.troubled node.serial (Some problem)) refl refl))
       (Over.empty problem node at none_left refl) (TaskEffect.same refl)
   start_effect _ _ acts (ActivityStep.undoes problem d ds some_left) =
-      goes _ _ (Due problem) (Removing (walk_of Minor.Remove)) refl (inr (owes problem acts)) refl acts (still s _ _ tt refl (NodeEffect.changed node.serial _ (Alters.troubled node.serial (Some problem)) refl refl)) (PhaseStep.undoes (Due problem) _ acts)
+      goes _ _ (Due problem) (Removing (walk_of Minor.Remove)) refl (inr (owes problem acts)) refl acts (still s _ _ tt refl (NodeEffect.changed node.serial _ (Alters.troubled node.serial (Some problem)) refl refl)) (PhaseStep.undoes (Due problem) _ acts (λ own. refl))

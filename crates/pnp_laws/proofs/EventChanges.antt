@@ -10,8 +10,7 @@ use Rattle.pnp_model.specs.Runs.{Entry}
 use Rattle.pnp_model.specs.States.{activity_at, is_activity, with_phase}
 use Rattle.pnp_laws.specs.Effects.{AnswerEffect, NodeEffect, RangeEffect}
 use Rattle.pnp_laws.specs.Holdings.{is_starting}
-use Rattle.pnp_laws.specs.Words.{IsWord, IsBeside, DueFine, DuesFine, joined}
-use Rattle.pnp_laws.proofs.Dues.{dues_as, dues_changed, dues_found}
+use Rattle.pnp_laws.specs.Words.{IsWord, IsBeside, DueFine, joined}
 use Rattle.pnp_laws.proofs.EffectsOfEvents.{event_effect}
 use Rattle.pnp_laws.proofs.Lookups.{phase_from}
 use Rattle.pnp_model.specs.Events as ev
@@ -27,7 +26,6 @@ Answered old new = (new ≡ old) ⊎ ((ok : Bool) × (o : Operation) × (old ≡
 
 pub record Outside (s : State) (step : Step) : Type 0 where
   pub word : IsWord step.label
-  pub dues : DuesFine s.activities → DuesFine step.state.activities
   pub nodes : step.state.core.nodes ≡ s.core.nodes
   pub relations : (o : Operation) → s.operation ≡ Some o → step.state.core.relations ≡ s.core.relations
   pub reserved : (o : Operation) → s.operation ≡ Some o → step.state.core.reserved ≡ s.core.reserved
@@ -80,7 +78,6 @@ outside_by : (s : State) (label : Label) (t : State) {entry : Entry} → NodeEff
 outside_by s label t nodes ranges (AnswerEffect.stays word same acts now) =
     record {
       word = word;
-      dues = dues_as s.activities t.activities acts;
       nodes = same;
       relations = λ o runs. relations_stay s label t o word runs nodes;
       reserved = λ o runs. ranges_stay s t o runs ranges;
@@ -91,8 +88,6 @@ outside_by s label t nodes ranges (AnswerEffect.answers word same j a ok there a
     let phase = ev.completed_phase (ev.answer_of ok) a.phase in
     record {
       word = word;
-      dues = λ h. dues_as (changed_first (is_activity j) (with_phase phase) s.activities) t.activities acts
-          (dues_changed j phase s.activities (answered_fine (ev.answer_of ok) a.phase (dues_found (is_activity j) s.activities a there h)) h);
       nodes = same;
       relations = λ o runs. relations_stay s label t o word runs nodes;
       reserved = λ o runs. ranges_stay s t o runs ranges;
@@ -102,7 +97,6 @@ outside_by s label t nodes ranges (AnswerEffect.answers word same j a ok there a
 outside_by s label t nodes ranges (AnswerEffect.answered word same acts ok o own now) =
     record {
       word = word;
-      dues = dues_as s.activities t.activities acts;
       nodes = same;
       relations = λ p runs. relations_stay s label t p word runs nodes;
       reserved = λ p runs. ranges_stay s t p runs ranges;

@@ -1,5 +1,5 @@
 -- Devices that are up hold one whole alternative, and devices without drivers nothing: by what a step does to nodes and activities.
-use Rattle.std.proofs.Common.{ℕ, ◌≡◌, ◌≢◌, inl, inr, Bool, true, false, List, [], ◌∷◌, ◌++◌, Option, Some, None, refl, sym, ap, ◌∙◌, subst, arith}
+use Rattle.std.proofs.Common.{ℕ, ◌≡◌, ◌≢◌, inl, inr, Bool, true, false, List, [], ◌∷◌, ◌++◌, Option, Some, refl, sym, ap, ◌∙◌, subst, arith}
 use Rattle.std.specs.List.{AllZip}
 use Rattle.std.proofs.lemmas.Bool.{cases_eq}
 use Rattle.std.proofs.lemmas.Bool.Decides.{nat_tests}
@@ -8,30 +8,30 @@ use Rattle.resource_reqs.specs.Spelling.Answer.{assignment}
 use Rattle.resource_reqs.proofs.Answering.{plan_is}
 use Rattle.pnp_labels.specs.declared.label.Label.{Label}
 use Rattle.pnp_labels.specs.declared.states.DevState.{DevState}
-use Rattle.pnp_labels.specs.declared.states.DevState.TheVariants.{NoStack, NotStarted, Started, Stopped}
+use Rattle.pnp_labels.specs.declared.states.DevState.TheVariants.{NoStack, NotStarted, Stopped}
 use Rattle.pnp_labels.specs.declared.words.Minor.{Minor}
 use Rattle.pnp_labels.specs.declared.words.Minor.TheVariants.{Start, QueryRemove, Remove, QueryStop}
-use Rattle.pnp_model.specs.Cores.{is_node, node_at, stacked, with_holds, with_stack, with_state}
+use Rattle.pnp_model.specs.Cores.{is_node, node_at, stacked, with_holds, with_stack}
 use Rattle.pnp_model.specs.Frames.{fixed_beside}
-use Rattle.pnp_model.specs.Keyed.{changed_first, without_first}
+use Rattle.pnp_model.specs.Keyed.{changed_first}
 use Rattle.pnp_model.specs.Laws.{is_up_to_now, HoldsWhole}
 use Rattle.pnp_model.specs.Rebalances.{committed, movers, plan_of}
-use Rattle.pnp_model.specs.Records.{Activity, Node, Operation, Phase, Rebalance, RebalanceStage, Removal, RemovalStage, State, Surprise, SurpriseStage, Walk}
+use Rattle.pnp_model.specs.Records.{Activity, Node, Operation, Phase, Rebalance, RebalanceStage, State, Walk}
 use Rattle.pnp_model.specs.Starts.{adding, own_part}
-use Rattle.pnp_model.specs.States.{activity_at, entered, is_activity}
-use Rattle.pnp_model.specs.Tests.{has, is_told}
+use Rattle.pnp_model.specs.States.{activity_at, with_phase}
+use Rattle.pnp_model.specs.Tests.{has}
 use Rattle.pnp_model.specs.Walks.{state_after}
-use Rattle.pnp_laws.specs.Effects.{ActivityEffect, Acting, Alters, Assigned, Enters, IsSearch, NodeEffect, PhaseStep, Request, operation_minor, rebalance_minor, removal_minor, surprise_minor, todo_of}
-use Rattle.pnp_laws.specs.Holdings.{HeldWell, IsWhole, StartsWhole, WholeAt, has_plan, is_starting}
-use Rattle.pnp_laws.specs.Kept.{Alone, Fits, IsGood, OperationFits, RebalanceKeeps, RemovalKeeps, SurpriseKeeps, asking_state, pending_state, restoring_state, stopped_state, stopping_state, telling_state}
+use Rattle.pnp_laws.specs.Effects.{ActivityEffect, Acting, Assigned, Enters, IsSearch, NodeEffect, PhaseStep, Request}
+use Rattle.pnp_laws.specs.Holdings.{HeldWell, IsWhole, WholeAt, has_plan, is_starting}
+use Rattle.pnp_laws.specs.Kept.{Alone, Fits, IsGood, OperationFits, RebalanceKeeps}
 use Rattle.pnp_laws.specs.Plans.{IsPlanned, PlanFits, PlanKept, StagePlan}
-use Rattle.pnp_laws.proofs.EffectViews.{CameFrom, acting_at, came_from}
+use Rattle.pnp_laws.proofs.Asked.{operation_asks}
+use Rattle.pnp_laws.proofs.EffectViews.{Origin, StartOrigin, acting_at, origin, start_origin}
 use Rattle.pnp_laws.proofs.EventChanges.{starting_still}
-use Rattle.pnp_laws.proofs.Lists.{head_found, head_has, member}
-use Rattle.pnp_laws.proofs.Lookups.{ended_other, ended_same, entered_other, entered_same, node_from, own_serial, phase_from, some_same}
-use Rattle.pnp_laws.proofs.OpSteps.{is_RemovePending, is_Started, is_StopPending, is_Stopped}
+use Rattle.pnp_laws.proofs.Lists.{member}
+use Rattle.pnp_laws.proofs.Lookups.{found_self, node_from, own_serial, some_same}
+use Rattle.pnp_laws.proofs.OpSteps.{is_Stopped}
 use Rattle.pnp_laws.proofs.PlansKept.{mover_whole}
-use Rattle.pnp_laws.proofs.RemovalSteps.{head_querying, head_refusing}
 use Rattle.pnp_laws.proofs.Sharing.{part_not}
 use Rattle.pnp_laws.proofs.StartSteps.{search_fits, stacked_idle}
 use Rattle.pnp_model.specs.Events as ev
@@ -44,59 +44,6 @@ from_holds nodes h k n at = record { up = h.up k n at; bare = h.bare k n at }
 
 pub to_holds : (nodes : List Node) → AllHeldWell nodes → HoldsWhole nodes
 to_holds nodes h = record { up = λ k n at e. (h k n at).up e; bare = λ k n at e. (h k n at).bare e }
-
--- The device that an operation asks is up: a fact of its stages ---------------------------
-
-told_up : (x : DevState) → is_told x ≡ true → is_up_to_now x ≡ true
-told_up Started h = refl
-told_up Stopped h = refl
-told_up _ h = absurd (cc)
-
-up_asking : (todo agreed : List ℕ) (j : ℕ) (x : DevState) → has todo j ≡ true → asking_state todo agreed j x ≡ true → is_up_to_now x ≡ true
-up_asking todo agreed j x h g = ap is_up_to_now (is_Started x (grind (arith)))
-
-up_pending : (todo : List ℕ) (j : ℕ) (x : DevState) → has todo j ≡ true → pending_state todo j x ≡ true → is_up_to_now x ≡ true
-up_pending todo j x h g = ap is_up_to_now (is_StopPending x (grind (arith)))
-
-up_stopping : (todo agreed : List ℕ) (j : ℕ) (x : DevState) → has todo j ≡ true → stopping_state todo agreed j x ≡ true → is_up_to_now x ≡ true
-up_stopping todo agreed j x h g = ap is_up_to_now (is_StopPending x (grind (arith)))
-
-up_stopped : (todo : List ℕ) (j : ℕ) (x : DevState) → has todo j ≡ true → stopped_state todo j x ≡ true → is_up_to_now x ≡ true
-up_stopped todo j x h g = ap is_up_to_now (is_Stopped x (grind (arith)))
-
-up_restoring : (todo : List ℕ) (j : ℕ) (x : DevState) → has todo j ≡ true → restoring_state todo j x ≡ true → is_up_to_now x ≡ true
-up_restoring todo j x h g = ap is_up_to_now (is_RemovePending x (grind (arith)))
-
-up_telling : (todo set : List ℕ) (j : ℕ) (x : DevState) → has todo j ≡ true → telling_state todo set j x ≡ true → is_up_to_now x ≡ true
-up_telling todo set j x h g = told_up x (grind (arith))
-
-module _ (nodes : List Node) (node : Node) (minor : Minor) (other : minor ≢ Minor.Remove) (at : node_at node.serial nodes ≡ Some node) where
-  re_up : (r : Rebalance) (stage : RebalanceStage) → RebalanceKeeps r stage nodes → has r.todo node.serial ≡ true → rebalance_minor stage ≡ Some minor → is_up_to_now node.state ≡ true
-  re_up r (RebalanceStage.Asking w) keeps here is = up_asking r.todo r.agreed node.serial node.state here (keeps.each node.serial node at)
-  re_up r (RebalanceStage.TakingBack w) keeps here is = up_asking r.todo r.agreed node.serial node.state here (keeps.each node.serial node at)
-  re_up r (RebalanceStage.Cancelling w) keeps here is = up_pending r.todo node.serial node.state here (keeps.each node.serial node at)
-  re_up r (RebalanceStage.Stopping w) keeps here is = up_stopping r.todo r.agreed node.serial node.state here (keeps.each node.serial node at)
-  re_up r (RebalanceStage.Restarting w) keeps here is = up_stopped r.todo node.serial node.state here (keeps.each node.serial node at)
-  re_up r _ keeps here is = absurd (cc)
-
-  rm_up : (o : Removal) (stage : RemovalStage) → RemovalKeeps o stage nodes → has o.todo node.serial ≡ true → removal_minor stage ≡ Some minor → is_up_to_now node.state ≡ true
-  rm_up o (RemovalStage.Asking w) keeps here is = ap is_up_to_now (head_querying o.todo o.agreed o.set node.serial node.state here (keeps.each node.serial node at))
-  rm_up o (RemovalStage.TakingBack w) keeps here is = ap is_up_to_now (head_refusing o.todo o.agreed node.serial node.state here (keeps.each node.serial node at))
-  rm_up o (RemovalStage.Cancelling w) keeps here is = up_restoring o.todo node.serial node.state here (keeps.each node.serial node at)
-  rm_up o (RemovalStage.Removing w) keeps here is = absurd (other (let e : Some Minor.Remove ≡ Some minor = is in cc))
-  rm_up o RemovalStage.Settling keeps here is = absurd (cc)
-  rm_up o RemovalStage.Ending keeps here is = absurd (cc)
-
-  su_up : (o : Surprise) (stage : SurpriseStage) → SurpriseKeeps o stage nodes → has o.todo node.serial ≡ true → surprise_minor stage ≡ Some minor → is_up_to_now node.state ≡ true
-  su_up o (SurpriseStage.Telling w) keeps here is = up_telling o.todo o.set node.serial node.state here (keeps.each node.serial node at)
-  su_up o (SurpriseStage.Removing w) keeps here is = absurd (other (let e : Some Minor.Remove ≡ Some minor = is in cc))
-  su_up o SurpriseStage.Settling keeps here is = absurd (cc)
-  su_up o SurpriseStage.Ending keeps here is = absurd (cc)
-
-  asked_up : (o : Operation) → OperationFits (Some o) nodes → has (todo_of o) node.serial ≡ true → operation_minor o ≡ Some minor → is_up_to_now node.state ≡ true
-  asked_up (Operation.Rebalancing r) keeps here is = re_up r r.stage keeps here is
-  asked_up (Operation.Removing o) keeps here is = rm_up o o.stage keeps here is
-  asked_up (Operation.Surprising o) keeps here is = su_up o o.stage keeps here is
 
 -- Starts ------------------------------------------------------------------------------------
 
@@ -182,35 +129,21 @@ module _ (s : State) (label : Label) (good : IsGood s) (planned : IsPlanned s) (
   asked_whole node _ w other at (Request.undoes v acts) = absurd (other refl)
   asked_whole node minor w other at (Request.operates m v asks) =
       let fits = subst (λ (x : Option Operation). OperationFits x s.core.nodes) asks.runs good.fits in
-      let here = head_has node.serial (todo_of asks.operation) (head_found s.core.nodes (todo_of asks.operation) node asks.first).0 in
-      (well node.serial node at).up (asked_up s.core.nodes node minor other at asks.operation fits here asks.minor_is)
+      (well node.serial node at).up ((operation_asks asks.operation s.core.nodes node minor fits asks.first asks.minor_is).up other)
 
-  altered_well : (t : State) (j : ℕ) (f : Node → Node) → Alters s label t j f → (n : Node) → node_at j s.core.nodes ≡ Some n → HeldWell (f n)
-  altered_well t j f (Alters.walked node minor w bad at request other ends verdict prints) n there =
-      let same = some_same (node_at node.serial s.core.nodes) node n at there in
-      subst (λ (x : Node). HeldWell (with_state (state_after minor bad node.state) x)) same
-      (record { up = λ e. asked_whole node minor w other at request; bare = λ e. (well node.serial node at).bare (stays_bare minor bad node.state other e) })
-  altered_well t j f (Alters.troubled k problem) n there = let h = well k n there in record { up = h.up; bare = h.bare }
-  altered_well t j f (Alters.stacks node d ds name at acts prints) n there =
-      waiting_well (with_stack (node.stack ++ d ∷ []) (stacked node.state) n) (stacked_idle node.state (fits_at node.serial (Phase.Adding (d ∷ ds)) node acts at))
-  altered_well t j f (Alters.assigned node phase plan acts search part now) n there =
-      waiting_well (with_holds (own_part plan) n) (search_fits phase n.state search (fits_at node.serial phase n acts there))
-
-  moved_well : (r : Rebalance) → s.operation ≡ Some (Operation.Rebalancing r) → r.stage ≡ RebalanceStage.Committing → (k : ℕ) (n : Node) → node_at k s.core.nodes ≡ Some n → HeldWell (committed (movers r) (plan_of r.found) n)
-  moved_well r runs is k n at =
+  well_from : (t : State) (k : ℕ) (m : Node) → Origin s label t k m → HeldWell m
+  well_from t k _ (Origin.was n at) = well k n at
+  well_from t k _ (Origin.walked n minor w bad at request other ends verdict prints) =
+      record { up = λ e. asked_whole n minor w other (found_self k s.core.nodes n at) request; bare = λ e. (well k n at).bare (stays_bare minor bad n.state other e) }
+  well_from t k _ (Origin.troubled n problem at) = let h = well k n at in record { up = h.up; bare = h.bare }
+  well_from t k _ (Origin.stacks n d ds name at acts prints) = waiting_well (with_stack (n.stack ++ d ∷ []) (stacked n.state) n) (stacked_idle n.state (fits_at k (Phase.Adding (d ∷ ds)) n acts at))
+  well_from t k _ (Origin.assigned n phase plan at acts search part now) = waiting_well (with_holds (own_part plan) n) (search_fits phase n.state search (fits_at k phase n acts at))
+  well_from t k _ (Origin.stripped n w at request prints) = record { up = λ h. absurd (cc); bare = λ h. refl }
+  well_from t k _ (Origin.commits r n runs is at) =
       let keeps = subst (λ (x : RebalanceStage). RebalanceKeeps r x s.core.nodes) is (subst (λ (x : Option Operation). OperationFits x s.core.nodes) runs good.fits) in
       let fits = subst (λ (x : RebalanceStage). StagePlan r x s.core.reserved s.core.nodes) is (subst (λ (x : Option Operation). PlanKept x s.core.reserved s.core.nodes) runs planned) in
       committed_well r s.core.reserved s.core.nodes k n keeps fits at (well k n at)
-
-  nodes_well : (t : State) → NodeEffect s label t → AllHeldWell t.core.nodes
-  nodes_well t effect k m at = by_from m (came_from s label t good.serials k m effect at)
-    where
-      by_from : (m : Node) → CameFrom s label t k m → HeldWell m
-      by_from m (CameFrom.was _ q) = well k m q
-      by_from _ (CameFrom.altered n f q alters) = altered_well t k f alters n q
-      by_from _ (CameFrom.stripped n w q request prints) = record { up = λ h. absurd (cc); bare = λ h. refl }
-      by_from _ (CameFrom.moved n r q runs is) = moved_well r runs is k n q
-      by_from _ (CameFrom.joined node d gone own below) = record { up = λ h. absurd (cc); bare = λ h. refl }
+  well_from t k _ (Origin.joins node d below gone own) = record { up = λ h. absurd (cc); bare = λ h. refl }
 
   -- Starts that were under way ---------------------------------------------------------
 
@@ -226,26 +159,23 @@ module _ (s : State) (label : Label) (good : IsGood s) (planned : IsPlanned s) (
         let is : is_starting a.phase ≡ is_starting phase = ap (λ (x : Activity). is_starting x.phase) (sym same) ∙ ap is_starting here.is in
         cc
 
-    altered_starts : (t : State) (j : ℕ) (f : Node → Node) → Alters s label t j f → (n : Node) → j ≡ k → node_at k s.core.nodes ≡ Some n → Whole (f n).reqs (f n).holds
-    altered_starts t j f (Alters.walked node minor w bad at request other ends verdict prints) n e q = before n q
-    altered_starts t j f (Alters.troubled i problem) n e q = before n q
-    altered_starts t j f (Alters.stacks node d ds name at acts prints) n e q = before n q
-    altered_starts t j f (Alters.assigned node phase plan acts search part now) n e q = absurd (not_acting phase (subst (λ (i : ℕ). Acting s i phase) e acts) (search_quiet phase search))
+    not_stripped : (n : Node) (minor : Minor) (w : Walk) → n.serial ≡ k → minor ≡ Minor.Remove → Request s n minor w → ⊥
+    not_stripped n _ w own is (Request.starts v acts) = cc
+    not_stripped n _ w own is (Request.undoes v acts) = not_acting (Phase.Removing v) (subst (λ (i : ℕ). Acting s i (Phase.Removing v)) own acts) refl
+    not_stripped n minor w own is (Request.operates i v asks) = none_starts asks.operation k a asks.runs under
 
-    not_stripped : (node : Node) (minor : Minor) (w : Walk) → minor ≡ Minor.Remove → Request s node minor w → node.serial ≡ k → ⊥
-    not_stripped node _ w is (Request.starts v acts) e = cc
-    not_stripped node _ w is (Request.undoes v acts) e = not_acting (Phase.Removing v) (subst (λ (i : ℕ). Acting s i (Phase.Removing v)) e acts) refl
-    not_stripped node minor w is (Request.operates i v asks) e = none_starts asks.operation k a asks.runs under
+    starts_from : (t : State) (m : Node) → Origin s label t k m → Whole m.reqs m.holds
+    starts_from t _ (Origin.was n at) = before n at
+    starts_from t _ (Origin.walked n minor w bad at request other ends verdict prints) = before n at
+    starts_from t _ (Origin.troubled n problem at) = before n at
+    starts_from t _ (Origin.stacks n d ds name at acts prints) = before n at
+    starts_from t _ (Origin.assigned n phase plan at acts search part now) = absurd (not_acting phase acts (search_quiet phase search))
+    starts_from t _ (Origin.stripped n w at request prints) = absurd (not_stripped n Minor.Remove w (own_serial k n s.core.nodes at) refl request)
+    starts_from t _ (Origin.commits r n runs is at) = absurd (none_starts (Operation.Rebalancing r) k a runs under)
+    starts_from t _ (Origin.joins node d below gone own) = absurd (let at = (good.phases k a under).1 in cc)
 
     kept_starts : (t : State) → NodeEffect s label t → WholeAt k t.core.nodes
-    kept_starts t effect m at = by_from m (came_from s label t good.serials k m effect at)
-      where
-        by_from : (m : Node) → CameFrom s label t k m → Whole m.reqs m.holds
-        by_from m (CameFrom.was _ q) = before m q
-        by_from _ (CameFrom.altered n f q alters) = altered_starts t k f alters n refl q
-        by_from _ (CameFrom.stripped n w q request prints) = absurd (not_stripped n Minor.Remove w refl request (own_serial k n s.core.nodes q))
-        by_from _ (CameFrom.moved n r q runs is) = absurd (none_starts (Operation.Rebalancing r) k a runs under)
-        by_from _ (CameFrom.joined node d gone own below) = absurd (let phase = good.phases k a under in let there = phase.1 in cc)
+    kept_starts t effect m at = starts_from t m (origin s label t good.serials k m effect at)
 
   -- Starts after it ---------------------------------------------------------------------
 
@@ -258,11 +188,6 @@ module _ (s : State) (label : Label) (good : IsGood s) (planned : IsPlanned s) (
   entered_starts t k phase (Enters.installs drivers chosen drops clears) starts = absurd (let quiet = adding_quiet drivers in cc)
   entered_starts t k phase (Enters.restarts r plan runs is target found nodes) starts = subst (λ (i : ℕ). WholeAt i t.core.nodes) target (restarted t r plan runs is found nodes)
   entered_starts t k phase (Enters.undoes r runs target) starts = absurd (cc)
-
-  entered_free : (t : State) (k : ℕ) (phase : Phase) → Enters s k t phase → activity_at k s.activities ≡ None
-  entered_free t k phase (Enters.installs drivers chosen drops clears) = chosen.free
-  entered_free t k phase (Enters.restarts r plan runs is target found nodes) = ap (activity_at k) (alone (Operation.Rebalancing r) runs)
-  entered_free t k phase (Enters.undoes r runs target) = ap (activity_at k) (alone (Operation.Rebalancing r) runs)
 
   fitted : (t : State) (k : ℕ) (node : Node) (plan : List (List Res)) → Assigned s node plan → node.serial ≡ k → t.core.nodes ≡ changed_first (is_node k) (with_holds (own_part plan)) s.core.nodes → WholeAt k t.core.nodes
   fitted t k node plan part own nodes m g =
@@ -278,37 +203,18 @@ module _ (s : State) (label : Label) (good : IsGood s) (planned : IsPlanned s) (
   went_starts : (t : State) (k : ℕ) (was now : Phase) → NodeEffect s label t → PhaseStep s k t was now → is_starting now ≡ true → WholeAt k t.core.nodes
   went_starts t k was now nodes (PhaseStep.added d ds acts) starts = absurd (let quiet = adding_quiet ds in cc)
   went_starts t k was now nodes (PhaseStep.fits phase node plan acts search part own is) starts = fitted t k node plan part own is
-  went_starts t k was now nodes (PhaseStep.asked w v acts same) starts =
+  went_starts t k was now nodes (PhaseStep.asked w v acts minor same) starts =
       let here = acting_at s k (Phase.Starting w) good.order acts in
       kept_starts k here.activity here.at (ap is_starting here.is) t nodes
   went_starts t k was now nodes (PhaseStep.fails phase problem acts other) starts = absurd (cc)
-  went_starts t k was now nodes (PhaseStep.undoes phase w acts) starts = absurd (cc)
+  went_starts t k was now nodes (PhaseStep.undoes phase w acts own) starts = absurd (cc)
   went_starts t k was now nodes (PhaseStep.answered a ok at same) starts = kept_starts k a at (sym (starting_still (ev.answer_of ok) a.phase) ∙ starts) t nodes
 
-  starts_whole : (t : State) → NodeEffect s label t → ActivityEffect s t → StartsWhole t.activities t.core.nodes
-  starts_whole t nodes (ActivityEffect.same e) k a at starts = kept_starts k a (subst (λ (x : List Activity). activity_at k x ≡ Some a) e at) starts t nodes
-  starts_whole t nodes (ActivityEffect.enters j phase why e) k a at starts =
-      let new : Activity = record { serial = j; phase = phase } in
-      let there = subst (λ (x : List Activity). activity_at k x ≡ Some a) e at in
-      elim (cases_eq j k) [
-        | inl q ↦
-            let here = subst (λ (i : ℕ). activity_at i (entered new s.activities) ≡ Some a) (sym q) there in
-            let same : new ≡ a = some_same (activity_at j (entered new s.activities)) new a (entered_same new s.activities (entered_free t j phase why)) here in
-            subst (λ (i : ℕ). WholeAt i t.core.nodes) q (entered_starts t j phase why (ap (λ (x : Activity). is_starting x.phase) same ∙ starts))
-        | inr d ↦ kept_starts k a (sym (entered_other new k s.activities d) ∙ there) starts t nodes
-      ]
-  starts_whole t nodes (ActivityEffect.goes j was now step e) k a at starts =
-      elim (phase_from j k now s.activities a (subst (λ (x : List Activity). activity_at k x ≡ Some a) e at)) [
-        | inl (q, (b, there, is)) ↦ subst (λ (i : ℕ). WholeAt i t.core.nodes) q (went_starts t j was now nodes step (sym (ap (λ (x : Activity). is_starting x.phase) is) ∙ starts))
-        | inr (d, there) ↦ kept_starts k a there starts t nodes
-      ]
-  starts_whole t nodes (ActivityEffect.ends j phase acts over e) k a at starts =
-      let there = subst (λ (x : List Activity). activity_at k x ≡ Some a) e at in
-      elim (cases_eq j k) [
-        | inl q ↦
-            absurd (let gone = ended_same 0 j s.activities good.order in let here = subst (λ (i : ℕ). activity_at i (without_first (is_activity j) s.activities) ≡ Some a) (sym q) there in cc)
-        | inr d ↦ kept_starts k a (sym (ended_other j k s.activities d) ∙ there) starts t nodes
-      ]
+  starts_whole : (t : State) (nodes : NodeEffect s label t) (k : ℕ) (a : Activity) (o : Option Activity) → StartOrigin s t k o → o ≡ Some a → is_starting a.phase ≡ true → WholeAt k t.core.nodes
+  starts_whole t nodes k a _ StartOrigin.was at starts = kept_starts k a at starts t nodes
+  starts_whole t nodes k a _ (StartOrigin.enters b why free) at starts = let same : b ≡ a = cc in entered_starts t k b.phase why (ap (λ (x : Activity). is_starting x.phase) same ∙ starts)
+  starts_whole t nodes k a _ (StartOrigin.goes b old new there step) at starts = let same : with_phase new b ≡ a = cc in went_starts t k old new nodes step (ap (λ (x : Activity). is_starting x.phase) same ∙ starts)
+  starts_whole t nodes k a _ (StartOrigin.ends phase acts over) at starts = absurd (cc)
 
   pub whole_effect : (t : State) → NodeEffect s label t → ActivityEffect s t → IsWhole t
-  whole_effect t nodes activities = record { holds = to_holds t.core.nodes (nodes_well t nodes); starts = starts_whole t nodes activities }
+  whole_effect t nodes activities = record { holds = to_holds t.core.nodes (λ k m at. well_from t k m (origin s label t good.serials k m nodes at)); starts = λ k a at starts. starts_whole t nodes k a (activity_at k t.activities) (start_origin s t good k activities) at starts }

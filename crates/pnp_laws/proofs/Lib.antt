@@ -35,8 +35,10 @@ pub mod Finishing
 pub mod OpSteps
 pub mod StartSteps
 pub mod RebalanceSteps
+pub mod FinishSteps
 pub mod RemovalSteps
 pub mod SurpriseSteps
+pub mod Asked
 pub mod TaskSteps
 pub mod EventSteps
 pub mod MachineSteps
@@ -52,7 +54,7 @@ pub mod RunsVeto
 pub mod RunsStand
 pub mod Reaching
 pub mod Reached
-pub mod Dues
+pub mod Phases
 pub mod EventChanges
 pub mod HoldingsKept
 pub mod RunsWhole
@@ -91,7 +93,6 @@ pub mod RunsSerials
 pub mod RunsKeys
 pub mod DriverNames
 pub mod RunsStacks
-pub mod Requests
 pub mod RunsTold
 pub mod StrayMoves
 pub mod RunsStrays

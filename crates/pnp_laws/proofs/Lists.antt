@@ -43,6 +43,15 @@ pub has-append : (xs ys : List ℕ) (k : ℕ) → has (xs ++ ys) k ≡ cond (has
 has-append [] ys k = refl
 has-append (x ∷ xs) ys k = grind (arith, nat_tests, has-append xs ys k)
 
+pub has_cases : (j k : ℕ) (ks : List ℕ) → has (j ∷ ks) k ≡ true → (j ≡ k) ⊎ (has ks k ≡ true)
+has_cases j k ks h = elim (cases_eq j k) [ inl e ↦ inl e | inr d ↦ inr (grind (arith, nat_tests)) ]
+
+pub cons_here : (j : ℕ) (ks : List ℕ) → has (j ∷ ks) j ≡ true
+cons_here j ks = grind (arith, nat_tests)
+
+pub cons_there : (j : ℕ) (ks : List ℕ) (k : ℕ) → has ks k ≡ true → has (j ∷ ks) k ≡ true
+cons_there j ks k h = elim (cases_eq j k) [ inl e ↦ grind (arith, nat_tests) | inr d ↦ grind (arith, nat_tests) ]
+
 -- the members that pass a test
 
 pub those_has : (test : ℕ → Bool) (xs : List ℕ) (k : ℕ) → has (those test xs) k ≡ true → (has xs k ≡ true) × (test k ≡ true)

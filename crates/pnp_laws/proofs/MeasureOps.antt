@@ -6,8 +6,7 @@ use Rattle.std.proofs.lemmas.Bool.{cases_eq}
 use Rattle.std.proofs.lemmas.Bool.Decides.{nat_tests}
 use Rattle.pnp_model.specs.Keyed.{those, without_first}
 use Rattle.pnp_model.specs.Tests.{has}
-use Rattle.pnp_model.specs.Records.{Node, Device, Task, Activity, Walk, State, Step, Found, Operation, RebalanceStage, RemovalStage, Surprise, SurpriseStage, Doing, Duty}
-use Rattle.pnp_model.specs.Records.Doing.{Does, Searches}
+use Rattle.pnp_model.specs.Records.{Node, Device, Task, Activity, Walk, State, Step, Operation, RebalanceStage, RemovalStage, Surprise, SurpriseStage, Duty}
 use Rattle.pnp_model.specs.Cores.{is_node, node_at, serials_of, stack_of}
 use Rattle.pnp_model.specs.Walks.{after, is_bad, has_ended}
 use Rattle.pnp_model.specs.Trees.{stands_up}
@@ -67,21 +66,17 @@ pub rest_shorter : (nodes : List Node) (todo : List ℕ) (node : Node) → first
 rest_shorter nodes [] node first = absurd (cc)
 rest_shorter nodes (k ∷ ks) node first = omega arith
 
+either_shorter : {A : Type 0} (b : Bool) (xs ys : List A) (n : ℕ) → length xs ≤ n → length ys ≤ n → length (cond b xs ys) ≤ n
+either_shorter true xs ys n h g = h
+either_shorter false xs ys n h g = g
+
 pub those_shorter : {A : Type 0} (test : A → Bool) (xs : List A) → length (those test xs) ≤ length xs
 those_shorter test [] = omega arith
-those_shorter test (x ∷ xs) = by_test (test x) (those_shorter test xs)
-  where
-    by_test : (b : Bool) → length (those test xs) ≤ length xs → length (cond b (x ∷ those test xs) (those test xs)) ≤ suc (length xs)
-    by_test true h = omega arith
-    by_test false h = omega arith
+those_shorter test (x ∷ xs) = let more = those_shorter test xs in either_shorter (test x) (x ∷ those test xs) (those test xs) (length (x ∷ xs)) (omega arith) (omega arith)
 
 pub startable_shorter : (nodes : List Node) (ks : List ℕ) → length (re.startable nodes ks) ≤ length ks
 startable_shorter nodes [] = omega arith
-startable_shorter nodes (k ∷ ks) = by_test (stands_up nodes k) (startable_shorter nodes ks)
-  where
-    by_test : (b : Bool) → length (re.startable nodes ks) ≤ length ks → length (cond b (k ∷ ks) (re.startable nodes ks)) ≤ suc (length ks)
-    by_test true h = omega arith
-    by_test false h = omega arith
+startable_shorter nodes (k ∷ ks) = let more = startable_shorter nodes ks in either_shorter (stands_up nodes k) (k ∷ ks) (re.startable nodes ks) (length (k ∷ ks)) (omega arith) (omega arith)
 
 -- An operation that goes on ----------------------------------------------------------------------------
 

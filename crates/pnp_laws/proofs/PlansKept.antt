@@ -23,11 +23,10 @@ use Rattle.pnp_model.specs.Runs.{Entry, Goes}
 use Rattle.pnp_model.specs.Runs.Entry.{Happens, Did}
 use Rattle.pnp_model.specs.Tests.{has}
 use Rattle.pnp_model.specs.Trees.{stands_up}
-use Rattle.pnp_laws.specs.Effects.{AnswerEffect, OpEffect, RangeEffect, begun}
+use Rattle.pnp_laws.specs.Effects.{AnswerEffect, OpEffect, RangeEffect, SameWork, begun}
 use Rattle.pnp_laws.specs.Holdings.{KeepsReqs, has_plan, WholeAt}
 use Rattle.pnp_laws.specs.Plans.{IsPlanned, PlanFits, PlanKept, StagePlan}
 use Rattle.pnp_laws.specs.Reached.{IsReached}
-use Rattle.pnp_laws.specs.Words.{SameWork}
 use Rattle.pnp_laws.proofs.EffectsOf.{effect_goes}
 use Rattle.pnp_laws.proofs.EventChanges.{ranges_stay}
 use Rattle.pnp_laws.proofs.Lookups.{map_from, node_changed_other, node_changed_same, node_from, own_serial}
@@ -186,8 +185,7 @@ answered_stage answer r _ reserved nodes h = h
 
 answered_plan : (answer : Answer) (o : Operation) (reserved : List Res) (nodes : List Node) → PlanKept (Some o) reserved nodes → PlanKept (Some (ev.completed answer o)) reserved nodes
 answered_plan answer (Operation.Rebalancing r) reserved nodes h = answered_stage answer r r.stage reserved nodes h
-answered_plan answer (Operation.Removing o) reserved nodes h = tt
-answered_plan answer (Operation.Surprising o) reserved nodes h = tt
+answered_plan answer _ reserved nodes h = tt
 
 -- the plan of a rebalance that runs
 abbrev PlanOf : Operation → List Res → List Node → Type 0
@@ -196,11 +194,8 @@ PlanOf _ reserved nodes = ⊥
 
 planned_operation : (s : State) (o : Operation) (step : Step) → PlanOf o s.core.reserved s.core.nodes → OperationStep s o step → IsPlanned step.state
 planned_operation s p step h (OperationStep.asks (Operation.Rebalancing r) node w asks) = answered_stage (reply s.core node w) r r.stage s.core.reserved s.core.nodes h
-planned_operation s p step h (OperationStep.asks (Operation.Removing o) node w asks) = absurd h
-planned_operation s p step h (OperationStep.asks (Operation.Surprising o) node w asks) = absurd h
 planned_operation s p step h (OperationStep.rebalances r stage m is x) = planned s r stage m (subst (λ (y : RebalanceStage). StagePlan r y s.core.reserved s.core.nodes) is h) x
-planned_operation s p step h (OperationStep.removes o stage m is x) = absurd h
-planned_operation s p step h (OperationStep.surprises o stage m is x) = absurd h
+planned_operation s _ step h _ = absurd h
 
 -- Steps and events ------------------------------------------------------------------------------------
 
@@ -217,10 +212,8 @@ IsOther _ = Unit {0}
 
 other_plan : (o p : Operation) (reserved : List Res) (nodes : List Node) → IsOther o → SameWork o p → PlanKept (Some p) reserved nodes
 other_plan (Operation.Rebalancing q) p reserved nodes other work = absurd other
-other_plan (Operation.Removing q) (Operation.Rebalancing r) reserved nodes other work = absurd (let e = work.sort in cc)
-other_plan (Operation.Surprising q) (Operation.Rebalancing r) reserved nodes other work = absurd (let e = work.kind in cc)
-other_plan o (Operation.Removing p) reserved nodes other work = tt
-other_plan o (Operation.Surprising p) reserved nodes other work = tt
+other_plan _ (Operation.Rebalancing r) reserved nodes other work = absurd (let a = work.sort in let b = work.kind in cc)
+other_plan _ _ reserved nodes other work = tt
 
 planned_as : (t : State) (o : Option Operation) (reserved : List Res) (nodes : List Node) → t.operation ≡ o → t.core.reserved ≡ reserved → t.core.nodes ≡ nodes → PlanKept o reserved nodes → IsPlanned t
 planned_as t o reserved nodes a b c h =

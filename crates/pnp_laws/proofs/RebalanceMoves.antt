@@ -1,5 +1,5 @@
 -- Each step of a rebalance: what it would restore, and whom it asked.
-use Rattle.std.proofs.Common.{ℕ, ◌≡◌, ◌⊎◌, inl, inr, Bool, true, false, not, ◌||◌, List, [], ◌∷◌, map, length, Option, Some, None, refl, sym, ap, ◌∙◌, subst, arith, reverse, nat_le}
+use Rattle.std.proofs.Common.{ℕ, ◌≡◌, ◌⊎◌, inl, inr, Bool, true, false, not, ◌||◌, List, [], ◌∷◌, map, length, Some, refl, sym, ap, ◌∙◌, subst, arith, reverse, nat_le}
 use Rattle.resource_reqs.specs.Spelling.{IsAnswer}
 use Rattle.resource_reqs.specs.Spelling.Answer.{assignment, no_fit, spent}
 use Rattle.resource_reqs.proofs.Answering.{no_fit_means}
@@ -17,15 +17,18 @@ use Rattle.pnp_labels.specs.declared.words.Minor.{Minor}
 use Rattle.pnp_labels.specs.declared.words.Answer.{Answer}
 use Rattle.pnp_labels.specs.declared.words.Answer.TheVariants.{Ok, Fail, Pend}
 use Rattle.pnp_labels.specs.declared.label.Label.{Label}
-use Rattle.pnp_labels.specs.declared.states.DevState.TheVariants.{Started}
+use Rattle.pnp_labels.specs.declared.states.DevState.TheVariants.{Started, StopPending}
 use Rattle.pnp_laws.specs.Kept.{RebalanceKeeps, asking_state}
 use Rattle.pnp_laws.specs.Holdings.{has_plan}
-use Rattle.pnp_laws.specs.Rebalanced.{Placed, Paused, Undone, Asks, EndsBad, IsHopeless, AskedSince, Refusing}
-use Rattle.pnp_laws.proofs.Lists.{HeadIs, head_found, head_has}
+use Rattle.pnp_laws.specs.Rebalanced.{Paused, Undone, Asks, EndsBad, IsHopeless, AskedSince, Refusing}
+use Rattle.pnp_laws.proofs.Lists.{HeadIs, cons_here, cons_there, has_cases, head_found, head_has}
 use Rattle.pnp_laws.proofs.OpSteps.{is_Started}
 use Rattle.pnp_laws.proofs.Stages.{RebalanceStep, reply}
-use Rattle.pnp_laws.proofs.Pauses.{paused_agreed, paused_same, paused_back, paused_still, above_paused, hopeless_before}
-use Rattle.pnp_laws.proofs.Askings.{cons_cases, cons_here, cons_there, asks_agreed, asks_refused}
+use Rattle.pnp_laws.proofs.EffectsOfOperations.{SameRefused, re_ask_on, re_cancel_on, re_restart, re_stop_on}
+use Rattle.pnp_laws.proofs.Pauses.{above_low, above_paused, hopeless_before}
+use Rattle.pnp_laws.proofs.Standing.{Tree}
+use Rattle.pnp_laws.proofs.Vetoes.{held_agreed, held_same, held_back, held_still}
+use Rattle.pnp_laws.proofs.Askings.{asks_agreed, asks_refused}
 use Rattle.pnp_model.specs.Events as ev
 use Rattle.pnp_model.specs.Machine as ma
 use Rattle.pnp_model.specs.Rebalances as re
@@ -63,50 +66,26 @@ abbrev NotAsking : RebalanceStage → Type 0
 NotAsking (Asking w) = ⊥
 NotAsking _ = Unit {0}
 
--- who refused stays the same
-pub record SameFrame (r f : Rebalance) : Type 0 where
-  pub device : SameDevice r f
-  pub refused : f.refused ≡ r.refused
-
 not_asking : (c : Core) (r : Rebalance) (stage : RebalanceStage) (k : ℕ) → NotAsking stage → Refusing c r stage k → ⊥
 not_asking c r stage k none (w, node, e, first, own, bad) = subst (λ (x : RebalanceStage). NotAsking x) e none
 
 -- a step that asks nobody
-asks_nobody : (before c : Core) (r : Rebalance) (stage : RebalanceStage) (m : re.RebalanceMove) → NotAsking stage → IsWithin m.label → GoesOn m.beside → SameFrame r m.frame →
+asks_nobody : (before c : Core) (r : Rebalance) (stage : RebalanceStage) (m : re.RebalanceMove) → NotAsking stage → IsWithin m.label → GoesOn m.beside → SameRefused r m.frame →
     Undone before m.core m.frame m.frame.stage → AskedSince before m.frame m.frame.stage → (NoConflict m.label ⊎ ((stage ≡ Stuck) × (m.label ≡ Label.Trouble r.path (re.trouble_of r.found)))) → MovesOn before c r stage m
 asks_nobody before c r stage m none within on same undone asked quiet =
     record {
       within = within;
       on = on;
-      device = same.device;
+      device = record { target = same.0.1; path = same.0.0 };
       undone = undone;
       asked = asked;
-      told = λ k h. inl (subst (λ (x : List ℕ). has x k ≡ true) same.refused h);
-      keeps = λ k h. subst (λ (x : List ℕ). has x k ≡ true) (sym same.refused) h;
+      told = λ k h. inl (subst (λ (x : List ℕ). has x k ≡ true) same.1 h);
+      keeps = λ k h. subst (λ (x : List ℕ). has x k ≡ true) (sym same.1) h;
       tells = λ k h. absurd (not_asking c r stage k none h);
       quiet = quiet;
     }
 
 -- What comes next -----------------------------------------------------------------------
-
-pub same_ask_on : (r f : Rebalance) (ks : List ℕ) → SameFrame r f → SameFrame r (re.ask_on f ks)
-same_ask_on r f [] h = record { device = record { target = h.device.target; path = h.device.path }; refused = h.refused }
-same_ask_on r f (k ∷ ks) h = record { device = record { target = h.device.target; path = h.device.path }; refused = h.refused }
-
-pub same_cancel_on : (r f : Rebalance) (ks : List ℕ) → SameFrame r f → SameFrame r (re.cancel_on f ks)
-same_cancel_on r f [] h = record { device = record { target = h.device.target; path = h.device.path }; refused = h.refused }
-same_cancel_on r f (k ∷ ks) h = record { device = record { target = h.device.target; path = h.device.path }; refused = h.refused }
-
-pub same_stop_on : (r f : Rebalance) (ks : List ℕ) → SameFrame r f → SameFrame r (re.stop_on f ks)
-same_stop_on r f [] h = record { device = record { target = h.device.target; path = h.device.path }; refused = h.refused }
-same_stop_on r f (k ∷ ks) h = record { device = record { target = h.device.target; path = h.device.path }; refused = h.refused }
-
-pub same_restart : (r : Rebalance) (ks : List ℕ) → SameFrame r (re.restart_from r ks)
-same_restart r [] = record { device = record { target = refl; path = refl }; refused = refl }
-same_restart r (k ∷ ks) = record { device = record { target = refl; path = refl }; refused = refl }
-
-pub own_frame : (r : Rebalance) → SameFrame r r
-own_frame r = record { device = record { target = refl; path = refl }; refused = refl }
 
 pub undone_ask_on : (before now : Core) (r : Rebalance) (ks : List ℕ) → Paused before now r.agreed → Undone before now (re.ask_on r ks) (re.ask_on r ks).stage
 undone_ask_on before now r [] h = h
@@ -157,16 +136,16 @@ record AtHead (c : Core) (r : Rebalance) (node : Node) : Type 0 where
 on_agreed : (before c : Core) (r : Rebalance) (node : Node) (w : Walk) → is_bad w ≡ false → AtHead c r node → Paused before c r.agreed → Asks before.nodes r.todo r.agreed r.refused → MovesOn before c r (Asking w) (re.end_ask c r node false)
 on_agreed before c r node w good head paused asks =
     let f = record r { agreed = node.serial ∷ r.agreed } in
-    let frame = same_ask_on r f (rest r.todo) (record { device = record { target = refl; path = refl }; refused = refl }) in
+    let frame = re_ask_on f (rest r.todo) in
     let asks2 = asks_agreed before.nodes node.serial (rest r.todo) r.agreed r.refused (subst (λ (x : List ℕ). Asks before.nodes x r.agreed r.refused) head.form asks) in
     record {
       within = tt;
       on = tt;
-      device = frame.device;
-      undone = undone_ask_on before _ f (rest r.todo) (paused_agreed before c node.serial r.agreed node head.at head.state paused);
+      device = record { target = frame.0.1; path = frame.0.0 };
+      undone = undone_ask_on before _ f (rest r.todo) (held_agreed StopPending before c node.serial r.agreed node head.at head.state paused);
       asked = asked_ask_on before f (rest r.todo) asks2;
-      told = λ k h. inl (subst (λ (x : List ℕ). has x k ≡ true) frame.refused h);
-      keeps = λ k h. subst (λ (x : List ℕ). has x k ≡ true) (sym frame.refused) h;
+      told = λ k h. inl (subst (λ (x : List ℕ). has x k ≡ true) frame.1 h);
+      keeps = λ k h. subst (λ (x : List ℕ). has x k ≡ true) (sym frame.1) h;
       tells = λ k h. absurd (let q = h.2 in let bad = h.5 in cc);
       quiet = inl tt;
     }
@@ -177,10 +156,10 @@ on_refused before c r node w bad head paused asks =
       within = tt;
       on = tt;
       device = record { target = refl; path = refl };
-      undone = paused_same before c node.serial node.state r.agreed node head.at refl paused;
+      undone = held_same StopPending before c node.serial node.state r.agreed node head.at refl paused;
       asked = (node.serial, r.refused, refl, head.form, asks);
       told =
-          λ k h. elim (cons_cases node.serial r.refused k h) [
+          λ k h. elim (has_cases node.serial k r.refused h) [
             | inl e ↦ inr (w, node, refl, head.first, e, bad)
             | inr e ↦ inl e
           ];
@@ -212,11 +191,11 @@ after_ends w Pend h e = absurd (cc)
 
 -- nodes, relations and ranges stay
 pub undone_still : (before c d : Core) (r : Rebalance) (stage : RebalanceStage) → d.nodes ≡ c.nodes → d.relations ≡ c.relations → d.reserved ≡ c.reserved → Undone before c r stage → Undone before d r stage
-undone_still before c d r (Asking w) a b e h = paused_still before c d r.agreed a b e h
-undone_still before c d r (TakingBack w) a b e h = paused_still before c d r.agreed a b e h
-undone_still before c d r Searching a b e h = paused_still before c d r.agreed a b e h
-undone_still before c d r (Cancelling w) a b e h = (paused_still before c d r.todo a b e h.0, h.1)
-undone_still before c d r Stuck a b e h = (paused_still before c d [] a b e h.0, h.1)
+undone_still before c d r (Asking w) a b e h = held_still StopPending before c d r.agreed a b e h
+undone_still before c d r (TakingBack w) a b e h = held_still StopPending before c d r.agreed a b e h
+undone_still before c d r Searching a b e h = held_still StopPending before c d r.agreed a b e h
+undone_still before c d r (Cancelling w) a b e h = (held_still StopPending before c d r.todo a b e h.0, h.1)
+undone_still before c d r Stuck a b e h = (held_still StopPending before c d [] a b e h.0, h.1)
 undone_still before c d r Ending a b e (inl h) = inl h
 undone_still before c d r Ending a b e (inr h) = inr (record { nodes = a ∙ h.nodes; relations = b ∙ h.relations; reserved = e ∙ h.reserved })
 undone_still before c d r _ a b e h = h
@@ -256,17 +235,19 @@ on_asks before c r stage node w walk more first undone since =
 
 -- Taking back ------------------------------------------------------------------------------------------
 
-on_take_back : (before c : Core) (r : Rebalance) (node : Node) (w : Walk) → Placed before.nodes → AtHead c r node → Paused before c r.agreed → AskedSince before r (TakingBack w) → MovesOn before c r (TakingBack w) (re.take_back c r node w true)
-on_take_back before c r node w placed head paused (j, more, refused, form, asks) =
+on_take_back : (next : ℕ) (before c : Core) (r : Rebalance) (node : Node) (w : Walk) → Tree next before → AtHead c r node → Paused before c r.agreed → AskedSince before r (TakingBack w) → MovesOn before c r (TakingBack w) (re.take_back c r node w true)
+on_take_back next before c r node w tree head paused (j, more, refused, form, asks) =
     let test = re.is_not_above c.nodes node.serial in
     let own : j ≡ node.serial = let f = head.form in cc in
     let up : above c.nodes node.serial ≡ above before.nodes node.serial =
     ap (λ (x : List Node). above x node.serial) paused.nodes ∙ above_paused r.agreed before.nodes node.serial in
-    let asks2 = asks_refused before.nodes node.serial (rest r.todo) r.agreed more placed (subst (λ (x : List ℕ). Asks before.nodes x r.agreed more) head.form asks) in
+    let own_asks = subst (λ (x : List ℕ). Asks before.nodes x r.agreed more) head.form asks in
+    let was = own_asks.asks node.serial (cons_here node.serial (rest r.todo)) in
+    let asks2 = asks_refused before.nodes node.serial (rest r.todo) r.agreed more (λ k above. above_low next before node.serial k was.0 tree was.1 above) own_asks in
     let asks3 = subst (λ (x : List ℕ). Asks before.nodes (those (λ i. not (has x i)) (rest r.todo)) r.agreed (node.serial ∷ more)) (sym up) asks2 in
     let asks4 = subst (λ (x : List ℕ). Asks before.nodes (those test (rest r.todo)) r.agreed x) (ap (λ (i : ℕ). i ∷ more) (sym own) ∙ sym refused) asks3 in
-    asks_nobody before c r (TakingBack w) _ tt tt tt (same_ask_on r r (those test (rest r.todo)) (own_frame r))
-    (undone_ask_on before _ r (those test (rest r.todo)) (paused_same before c node.serial Started r.agreed node head.at head.state paused))
+    asks_nobody before c r (TakingBack w) _ tt tt tt (re_ask_on r (those test (rest r.todo)))
+    (undone_ask_on before _ r (those test (rest r.todo)) (held_same StopPending before c node.serial Started r.agreed node head.at head.state paused))
     (asked_ask_on before r (those test (rest r.todo)) asks4) (inl tt)
 
 -- The search ------------------------------------------------------------------------------------
@@ -275,28 +256,28 @@ on_searched : (before c : Core) (r : Rebalance) (budget : ℕ) (found : Found) �
     MovesOn before c r Searching (re.searched c r found)
 on_searched before c r budget (assignment plan) answer paused asks =
     let f = record r { found = assignment plan } in
-    asks_nobody before c r Searching _ tt tt tt (same_stop_on r f (reverse r.agreed) (record { device = record { target = refl; path = refl }; refused = refl })) (undone_stop_on before c f (reverse r.agreed) refl) (asked_stop_on before f (reverse r.agreed)) (inl tt)
+    asks_nobody before c r Searching _ tt tt tt (re_stop_on f (reverse r.agreed)) (undone_stop_on before c f (reverse r.agreed) refl) (asked_stop_on before f (reverse r.agreed)) (inl tt)
 on_searched before c r budget no_fit answer paused asks =
     let f = record r { found = no_fit } in
     let none : NothingFits c (re.movers r) = ((no_fit_means (fixed_beside c (re.movers r)) (map (λ k. re.reqs_of (node_at k c.nodes)) (re.movers r)) budget).0 answer).0 in
-    asks_nobody before c r Searching _ tt tt tt (same_cancel_on r f r.agreed (record { device = record { target = refl; path = refl }; refused = refl })) (undone_cancel_on before c f r.agreed paused refl)
+    asks_nobody before c r Searching _ tt tt tt (re_cancel_on f r.agreed) (undone_cancel_on before c f r.agreed paused refl)
     (asked_cancel_on before f r.agreed asks (λ e. hopeless_before before c r.agreed (re.movers r) paused none)) (inl tt)
 on_searched before c r budget spent answer paused asks =
     let f = record r { found = spent } in
-    asks_nobody before c r Searching _ tt tt tt (same_cancel_on r f r.agreed (record { device = record { target = refl; path = refl }; refused = refl })) (undone_cancel_on before c f r.agreed paused refl)
+    asks_nobody before c r Searching _ tt tt tt (re_cancel_on f r.agreed) (undone_cancel_on before c f r.agreed paused refl)
     (asked_cancel_on before f r.agreed asks (λ e. absurd (cc))) (inl tt)
 
 -- Nothing was found -------------------------------------------------------------------------------
 
 on_cancel : (before c : Core) (r : Rebalance) (node : Node) (w : Walk) → r.todo ≡ node.serial ∷ rest r.todo → Undone before c r (Cancelling w) → AskedSince before r (Cancelling w) → MovesOn before c r (Cancelling w) (re.cancel_step c r node w true)
 on_cancel before c r node w form undone asked =
-    let back = paused_back before c node.serial (rest r.todo) (subst (λ (x : List ℕ). Paused before c x) form undone.0) in
-    asks_nobody before c r (Cancelling w) _ tt tt tt (same_cancel_on r r (rest r.todo) (own_frame r)) (undone_cancel_on before _ r (rest r.todo) back undone.1)
+    let back = held_back StopPending before c node.serial (rest r.todo) (subst (λ (x : List ℕ). Paused before c x) form undone.0) in
+    asks_nobody before c r (Cancelling w) _ tt tt tt (re_cancel_on r (rest r.todo)) (undone_cancel_on before _ r (rest r.todo) back undone.1)
     (asked_cancel_on before r (rest r.todo) asked.0 asked.1) (inl tt)
 
 on_stuck : (before c : Core) (r : Rebalance) → Undone before c r Stuck → MovesOn before c r Stuck (re.stuck c r)
 on_stuck before c r undone =
-    asks_nobody before c r Stuck _ tt tt tt (record { device = record { target = refl; path = refl }; refused = refl })
+    asks_nobody before c r Stuck _ tt tt tt ((refl, refl, refl), refl)
     (inr (record { nodes = ap (λ (x : List Node). changed_first (is_node r.target) (with_problem (Some (re.trouble_of r.found))) x) undone.0.nodes; relations = undone.0.relations; reserved = undone.0.reserved }))
     tt (inr (refl, refl))
 
@@ -304,23 +285,23 @@ on_stuck before c r undone =
 
 on_stop : (before c : Core) (r : Rebalance) (node : Node) (w : Walk) → has_plan r.found ≡ true → MovesOn before c r (Stopping w) (re.stop_step c r node w true)
 on_stop before c r node w h =
-    asks_nobody before c r (Stopping w) _ tt tt tt (same_stop_on r r (rest r.todo) (own_frame r)) (undone_stop_on before _ r (rest r.todo) h) (asked_stop_on before r (rest r.todo)) (inl tt)
+    asks_nobody before c r (Stopping w) _ tt tt tt (re_stop_on r (rest r.todo)) (undone_stop_on before _ r (rest r.todo) h) (asked_stop_on before r (rest r.todo)) (inl tt)
 
 on_commit : (before c : Core) (r : Rebalance) → has_plan r.found ≡ true → MovesOn before c r Committing (re.commit_step c r)
 on_commit before c r h =
     let ks = re.startable c.nodes r.agreed in
-    asks_nobody before c r Committing _ tt tt tt (same_restart r ks) (undone_restart before _ r ks h) (asked_restart before r ks) (inl tt)
+    asks_nobody before c r Committing _ tt tt tt (re_restart r ks) (undone_restart before _ r ks h) (asked_restart before r ks) (inl tt)
 
 on_end_restart : (before c : Core) (r : Rebalance) (node : Node) (w : Walk) (bad : Bool) → has_plan r.found ≡ true → MovesOn before c r (Restarting w) (re.end_restart c r node bad)
-on_end_restart before c r node w true h = asks_nobody before c r (Restarting w) _ tt tt tt (record { device = record { target = refl; path = refl }; refused = refl }) h tt (inl tt)
+on_end_restart before c r node w true h = asks_nobody before c r (Restarting w) _ tt tt tt ((refl, refl, refl), refl) h tt (inl tt)
 on_end_restart before c r node w false h =
     let ks = re.startable (ended c node Minor.Start false).nodes (rest r.todo) in
-    asks_nobody before c r (Restarting w) _ tt tt tt (same_restart r ks) (undone_restart before _ r ks h) (asked_restart before r ks) (inl tt)
+    asks_nobody before c r (Restarting w) _ tt tt tt (re_restart r ks) (undone_restart before _ r ks h) (asked_restart before r ks) (inl tt)
 
 on_failed : (before c : Core) (r : Rebalance) (node : Node) → has_plan r.found ≡ true → MovesOn before c r Failed (re.failed c r node)
 on_failed before c r node h =
     let ks = re.startable c.nodes (rest r.todo) in
-    asks_nobody before c r Failed _ tt tt tt (same_restart r ks) (undone_restart before _ r ks h) (asked_restart before r ks) (inl tt)
+    asks_nobody before c r Failed _ tt tt tt (re_restart r ks) (undone_restart before _ r ks h) (asked_restart before r ks) (inl tt)
 
 -- All steps -------------------------------------------------------------------------------------------
 
@@ -335,17 +316,17 @@ started_head c r node first each =
     let test = each node.serial node h.1 in
     record { first = first; form = head_form node.serial r.todo h.0; at = h.1; state = is_Started node.state (grind (arith)) }
 
-pub rebalance_moves : (before c : Core) (r : Rebalance) (stage : RebalanceStage) (m : re.RebalanceMove) → Placed before.nodes → RebalanceKeeps r stage c.nodes → Undone before c r stage → AskedSince before r stage → RebalanceStep c r stage m → OnOrOver before c r stage m
-rebalance_moves before c r stage m placed keeps undone asked (RebalanceStep.agrees node w e good) = inl (on_agreed before c r node w good (started_head c r node e.first keeps.each) undone asked.0)
-rebalance_moves before c r stage m placed keeps undone asked (RebalanceStep.refuses node w e bad) = inl (on_refused before c r node w bad (started_head c r node e.first keeps.each) undone asked.0)
-rebalance_moves before c r stage m placed keeps undone asked (RebalanceStep.takes_back node w e) = inl (on_take_back before c r node w placed (started_head c r node e.first keeps.each) undone asked)
-rebalance_moves before c r stage m placed keeps undone asked (RebalanceStep.searches found budget answer) = inl (on_searched before c r budget found answer undone asked)
-rebalance_moves before c r stage m placed keeps undone asked (RebalanceStep.cancels node w e) =
+pub rebalance_moves : (next : ℕ) (before c : Core) (r : Rebalance) (stage : RebalanceStage) (m : re.RebalanceMove) → Tree next before → RebalanceKeeps r stage c.nodes → Undone before c r stage → AskedSince before r stage → RebalanceStep c r stage m → OnOrOver before c r stage m
+rebalance_moves next before c r stage m tree keeps undone asked (RebalanceStep.agrees node w e good) = inl (on_agreed before c r node w good (started_head c r node e.first keeps.each) undone asked.0)
+rebalance_moves next before c r stage m tree keeps undone asked (RebalanceStep.refuses node w e bad) = inl (on_refused before c r node w bad (started_head c r node e.first keeps.each) undone asked.0)
+rebalance_moves next before c r stage m tree keeps undone asked (RebalanceStep.takes_back node w e) = inl (on_take_back next before c r node w tree (started_head c r node e.first keeps.each) undone asked)
+rebalance_moves next before c r stage m tree keeps undone asked (RebalanceStep.searches found budget answer) = inl (on_searched before c r budget found answer undone asked)
+rebalance_moves next before c r stage m tree keeps undone asked (RebalanceStep.cancels node w e) =
     inl (on_cancel before c r node w (head_form node.serial r.todo (head_found c.nodes r.todo node e.first).0) undone asked)
-rebalance_moves before c r stage m placed keeps undone asked RebalanceStep.sticks = inl (on_stuck before c r undone)
-rebalance_moves before c r stage m placed keeps undone asked (RebalanceStep.stops node w e) = inl (on_stop before c r node w undone)
-rebalance_moves before c r stage m placed keeps undone asked RebalanceStep.commits = inl (on_commit before c r undone)
-rebalance_moves before c r stage m placed keeps undone asked (RebalanceStep.restarts node w e good) = inl (on_end_restart before c r node w false undone)
-rebalance_moves before c r stage m placed keeps undone asked (RebalanceStep.fails node w e bad) = inl (on_end_restart before c r node w true undone)
-rebalance_moves before c r stage m placed keeps undone asked (RebalanceStep.failed node first) = inl (on_failed before c r node undone)
-rebalance_moves before c r stage m placed keeps undone asked RebalanceStep.closes = inr (refl, refl)
+rebalance_moves next before c r stage m tree keeps undone asked RebalanceStep.sticks = inl (on_stuck before c r undone)
+rebalance_moves next before c r stage m tree keeps undone asked (RebalanceStep.stops node w e) = inl (on_stop before c r node w undone)
+rebalance_moves next before c r stage m tree keeps undone asked RebalanceStep.commits = inl (on_commit before c r undone)
+rebalance_moves next before c r stage m tree keeps undone asked (RebalanceStep.restarts node w e good) = inl (on_end_restart before c r node w false undone)
+rebalance_moves next before c r stage m tree keeps undone asked (RebalanceStep.fails node w e bad) = inl (on_end_restart before c r node w true undone)
+rebalance_moves next before c r stage m tree keeps undone asked (RebalanceStep.failed node first) = inl (on_failed before c r node undone)
+rebalance_moves next before c r stage m tree keeps undone asked RebalanceStep.closes = inr (refl, refl)

@@ -4,8 +4,7 @@ use Rattle.std.specs.Option.{option_map}
 use Rattle.resource_reqs.specs.Spelling.Answer.{no_fit}
 use Rattle.pnp_model.specs.Keyed.{those}
 use Rattle.pnp_model.specs.Records.{Node, Core, Driver, Walk, State, Step, Settings, Operation, Rebalance, RebalanceStage, Doing, doing_map}
-use Rattle.pnp_model.specs.Records.Doing.{Does, Searches}
-use Rattle.pnp_model.specs.Records.RebalanceStage.{Asking, TakingBack, Searching, Cancelling, Stuck, Stopping, Committing, Restarting, Failed, Ending}
+use Rattle.pnp_model.specs.Records.RebalanceStage.{Asking, Searching, Ending}
 use Rattle.pnp_model.specs.Cores.{node_at, serials_of}
 use Rattle.pnp_model.specs.Tests.{has}
 use Rattle.pnp_model.specs.States.{with_core}
@@ -18,13 +17,15 @@ use Rattle.pnp_labels.specs.declared.label.Label.{Label}
 use Rattle.pnp_labels.specs.declared.label.OpKind.{OpKind}
 use Rattle.pnp_laws.specs.Kept.{Ascending, IsGood, OperationFits, RebalanceKeeps}
 use Rattle.pnp_laws.specs.Reached.{IsReached}
-use Rattle.pnp_laws.specs.Rebalanced.{Placed, Undone, EndsBad, AskedSince, Refusing, Underway}
+use Rattle.pnp_laws.specs.Rebalanced.{Undone, EndsBad, AskedSince, Refusing, Underway}
 use Rattle.pnp_laws.proofs.Reaching.{reached_on}
 use Rattle.pnp_laws.proofs.Reached.{reached_is_good}
 use Rattle.pnp_laws.proofs.EventChanges.{Outside, Answered, happens_outside}
 use Rattle.pnp_laws.proofs.Askings.{asks_begun}
 use Rattle.pnp_laws.proofs.BeginSteps.{Begun}
-use Rattle.pnp_laws.proofs.RebalanceMoves.{GoesOn, MovesOn, SameFrame, answered_asked, answered_undone, same_ask_on, own_frame, on_asks, undone_ask_on, undone_still, asked_ask_on, rebalance_moves}
+use Rattle.pnp_laws.proofs.EffectsOfOperations.{SameRefused, re_ask_on}
+use Rattle.pnp_laws.proofs.Standing.{Tree}
+use Rattle.pnp_laws.proofs.RebalanceMoves.{GoesOn, MovesOn, answered_asked, answered_undone, on_asks, undone_ask_on, undone_still, asked_ask_on, rebalance_moves}
 use Rattle.pnp_laws.proofs.Stages.{OperationStep, RebalanceStep, operation_step, reply}
 use Rattle.pnp_model.specs.Machine as ma
 use Rattle.pnp_model.specs.Events as ev
@@ -50,24 +51,21 @@ abbrev StepOf : Core → State → Operation → Step → Type 0
 StepOf before s (Operation.Rebalancing r) step = Stepped before s r step ⊎ IsOver s r step
 StepOf before s _ step = ⊥
 
-by_step : (before : Core) (s : State) (o : Operation) (step : Step) → Placed before.nodes → Holds before s o → OperationStep s o step → StepOf before s o step
-by_step before s p step placed h (OperationStep.asks (Operation.Rebalancing r) node w asks) =
+by_step : (next : ℕ) (before : Core) (s : State) (o : Operation) (step : Step) → Tree next before → Holds before s o → OperationStep s o step → StepOf before s o step
+by_step next before s p step tree h (OperationStep.asks (Operation.Rebalancing r) node w asks) =
     inl (record { move = re.moves (asked s.core node w).label (asked s.core node w).core (record r { stage = ev.completed_rebalance (reply s.core node w) r.stage }); is = refl; moves = on_asks before s.core r r.stage node w asks.walk asks.more asks.first h.1 h.2 })
-by_step before s p step placed h (OperationStep.asks (Operation.Removing o) node w asks) = h
-by_step before s p step placed h (OperationStep.asks (Operation.Surprising o) node w asks) = h
-by_step before s p step placed h (OperationStep.removes o stage m is x) = h
-by_step before s p step placed h (OperationStep.surprises o stage m is x) = h
-by_step before s p step placed h (OperationStep.rebalances r stage m is x) =
-    let all = rebalance_moves before s.core r r.stage m placed h.0 h.1 h.2 (subst (λ (y : RebalanceStage). RebalanceStep s.core r y m) (sym is) x) in
+by_step next before s p step tree h (OperationStep.rebalances r stage m is x) =
+    let all = rebalance_moves next before s.core r r.stage m tree h.0 h.1 h.2 (subst (λ (y : RebalanceStage). RebalanceStep s.core r y m) (sym is) x) in
     elim all [
       | inl on ↦ inl (record { move = m; is = refl; moves = on })
       | inr (ending, close) ↦ inr (record { ending = ending; is = ap (ma.rebalance_lifted s) close })
     ]
+by_step next before s _ step tree h _ = h
 
-pub rebalance_stepped : (path : List ℕ) (before : Core) (settings : Settings) (s : State) (step : Step) (u : Underway path before s) → Placed before.nodes → IsGood s → ma.IsStep settings (ma.next settings s) step →
+pub rebalance_stepped : (path : List ℕ) (next : ℕ) (before : Core) (settings : Settings) (s : State) (step : Step) (u : Underway path before s) → Tree next before → IsGood s → ma.IsStep settings (ma.next settings s) step →
     Stepped before s u.frame step ⊎ IsOver s u.frame step
-rebalance_stepped path before settings s step u placed good h =
-    by_step before s (Operation.Rebalancing u.frame) step placed (subst (λ (x : Option Operation). OperationFits x s.core.nodes) u.runs good.fits, u.undone, u.asked) (operation_step settings s (Operation.Rebalancing u.frame) step u.runs h)
+rebalance_stepped path next before settings s step u tree good h =
+    by_step next before s (Operation.Rebalancing u.frame) step tree (subst (λ (x : Option Operation). OperationFits x s.core.nodes) u.runs good.fits, u.undone, u.asked) (operation_step settings s (Operation.Rebalancing u.frame) step u.runs h)
 
 -- The next state ------------------------------------------------------------------------------
 
@@ -176,12 +174,12 @@ follows_answer path before settings s t label u quiet out (inr (ok, o, e, q)) =
 not_over : (s : State) (r : Rebalance) (label : Label) (t : State) → IsWithin label → IsOver s r (record { label = label; state = t }) → ⊥
 not_over s r label t within over = subst (λ (x : Step). IsWithin x.label) over.is within
 
-follows : (path : List ℕ) (before : Core) (settings : Settings) (s : State) (entry : Entry) (t : State) (u : Underway path before s) → Placed before.nodes → IsGood s → IsWithin (printed entry) → Goes settings s entry t → Follows path before s u.frame t
-follows path before settings s (Happens event label) t u placed good within goes =
+follows : (path : List ℕ) (next : ℕ) (before : Core) (settings : Settings) (s : State) (entry : Entry) (t : State) (u : Underway path before s) → Tree next before → IsGood s → IsWithin (printed entry) → Goes settings s entry t → Follows path before s u.frame t
+follows path next before settings s (Happens event label) t u tree good within goes =
     let out = subst (λ (x : Step). Outside s x) goes.1 (happens_outside s event) in
     follows_answer path before settings s t label u goes.0 out out.operation
-follows path before settings s (Did label) t u placed good within goes =
-    elim (rebalance_stepped path before settings s (record { label = label; state = t }) u placed good goes) [
+follows path next before settings s (Did label) t u tree good within goes =
+    elim (rebalance_stepped path next before settings s (record { label = label; state = t }) u tree good goes) [
       | inl h ↦ follows_step path before s label t u h
       | inr over ↦ absurd (not_over s u.frame label t within over)
     ]
@@ -200,26 +198,26 @@ refused_later : (settings : Settings) (s mid t : State) (entry : Entry) (rest : 
 refused_later settings s mid t entry rest k goes (x, (xs, ys, e, run, more), h) =
     (x, (entry ∷ xs, ys, ap (λ (l : List Entry). entry ∷ l) e, (mid, goes, run), more), h)
 
-pub lasts : (settings : Settings) (rack : List Driver) (path : List ℕ) (before : Core) → Placed before.nodes →
+pub lasts : (settings : Settings) (rack : List Driver) (path : List ℕ) (next : ℕ) (before : Core) → Tree next before →
     (s : State) (entries : List Entry) (t : State) → IsReached settings rack s → (u : Underway path before s) → AllWithin entries → Run settings s entries t → Lasts settings path before s u.frame entries t
-lasts settings rack path before placed s [] t reached u within run =
+lasts settings rack path next before tree s [] t reached u within run =
     let here : Lasts settings path before s u.frame [] s = record { under = u; told = λ k h. inl h; keeps = λ k h. h; tells = λ k h. inl h } in
     subst (λ (x : State). Lasts settings path before s u.frame [] x) (sym run) here
-lasts settings rack path before placed s (entry ∷ rest) t reached u within (mid, goes, run) =
-    let next = follows path before settings s entry mid u placed (reached_is_good settings rack s reached) within.0 goes in
-    let more = lasts settings rack path before placed mid rest t (reached_on settings rack s entry mid reached goes) next.under within.1 run in
+lasts settings rack path next before tree s (entry ∷ rest) t reached u within (mid, goes, run) =
+    let after = follows path next before settings s entry mid u tree (reached_is_good settings rack s reached) within.0 goes in
+    let more = lasts settings rack path next before tree mid rest t (reached_on settings rack s entry mid reached goes) after.under within.1 run in
     record {
       under = more.under;
       told =
           λ k h. elim (more.told k h) [
-            | inl e ↦ elim (next.told k e) [
+            | inl e ↦ elim (after.told k e) [
               | inl old ↦ inl old
               | inr now ↦ inr (s, ([], entry ∷ rest, refl, refl, (mid, goes, run)), now)
             ]
             | inr e ↦ inr (refused_later settings s mid t entry rest k goes e)
           ];
-      keeps = λ k h. more.keeps k (next.keeps k h);
-      tells = λ k h. inr (more.keeps k (next.tells k h));
+      keeps = λ k h. more.keeps k (after.keeps k h);
+      tells = λ k h. inr (more.keeps k (after.tells k h));
     }
 
 -- The begin -----------------------------------------------------------------------------------------
@@ -233,16 +231,16 @@ underway_begun path s t b order =
     let node = b.node in
     let ks = reverse (serials_of (those re.is_asked s.core.nodes)) in
     let r = re.begun_rebalance s.core node in
-    let same : SameFrame (fresh node) r = same_ask_on (fresh node) (fresh node) ks (own_frame (fresh node)) in
+    let same : SameRefused (fresh node) r = re_ask_on (fresh node) ks in
     let core : t.core ≡ s.core = ap (λ (x : State). x.core) b.is in (
       record {
         frame = r;
         runs = ap (λ (x : State). x.operation) b.is;
-        named = same.device.path ∙ b.named;
-        target = (node, subst (λ (i : ℕ). node_at i s.core.nodes ≡ Some node) (sym same.device.target) b.at, b.named);
+        named = same.0.0 ∙ b.named;
+        target = (node, subst (λ (i : ℕ). node_at i s.core.nodes ≡ Some node) (sym same.0.1) b.at, b.named);
         undone = subst (λ (c : Core). Undone s.core c r r.stage) (sym core)
             (undone_ask_on s.core s.core (fresh node) ks (record { nodes = refl; back = tt; relations = refl; reserved = refl }));
         asked = asked_ask_on s.core (fresh node) ks (asks_begun s.core.nodes order);
       },
-      same.refused,
+      same.1,
     )

@@ -1,19 +1,18 @@
 -- Each step of a removal keeps what a run keeps and follows the diagram.
-use Rattle.std.proofs.Common.{ℕ, ◌≡◌, ◌≢◌, inl, inr, Bool, true, false, cond, List, [], ◌∷◌, Option, Some, None, refl, sym, ap, ◌∙◌, subst, arith}
+use Rattle.std.proofs.Common.{ℕ, ◌≡◌, ◌≢◌, inl, inr, Bool, true, false, List, [], ◌∷◌, Some, None, refl, sym, ap, ◌∙◌, subst, arith}
 use Rattle.std.proofs.lemmas.Bool.{cases_eq}
 use Rattle.std.proofs.lemmas.Bool.Decides.{nat_tests}
-use Rattle.std.specs.Option.{option_map}
 use Rattle.pnp_model.specs.Keyed.{changed_first, without_first, those}
 use Rattle.pnp_model.specs.Records.{Node, State, Operation, Removal, RemovalStage}
-use Rattle.pnp_model.specs.Records.RemovalStage.{Asking, TakingBack, Cancelling, Removing, Settling, Ending}
-use Rattle.pnp_model.specs.Cores.{drop_node, is_node, node_at, with_state, with_problem, bare, stack_of}
+use Rattle.pnp_model.specs.Records.RemovalStage.{Settling, Ending}
+use Rattle.pnp_model.specs.Cores.{drop_node, is_node, node_at, with_state, with_problem, stack_of}
 use Rattle.pnp_model.specs.Tests.{has, is_started}
 use Rattle.pnp_model.specs.Trees.{is_up}
-use Rattle.pnp_model.specs.States.{unplug, set_operation, with_core}
+use Rattle.pnp_model.specs.States.{relist, unplug, set_operation, with_core}
 use Rattle.pnp_model.specs.Frames.{first_node, rest}
 use Rattle.pnp_model.specs.Removals.{RemovalMove, ejecting, finish_with, finish_on, ask_on, cancel_on, begun_with}
 use Rattle.pnp_model.specs.Machine.{removal_lifted}
-use Rattle.pnp_laws.specs.Kept.{Good, Lawful, Each, HasStackOf, OperationFits, Distinct, Apart, Within, RemovalKeeps, Ascending, querying_state, refusing_state, restoring_state, finishing_state, settling_state, removing_state, is_calm, is_idle, is_stopped}
+use Rattle.pnp_laws.specs.Kept.{Good, Lawful, Each, OperationFits, Distinct, Apart, Within, RemovalKeeps, querying_state, refusing_state, restoring_state, finishing_state, is_calm, is_idle, is_stopped}
 use Rattle.pnp_model.specs.Diagram.{Change, Row}
 use Rattle.pnp_model.specs.Diagram.Row.{query_remove, cancel_remove_refused, cancel_remove}
 use Rattle.pnp_labels.specs.declared.states.DevState.{DevState}
@@ -21,15 +20,14 @@ use Rattle.pnp_labels.specs.declared.words.Minor.{Minor}
 use Rattle.pnp_labels.specs.declared.label.Label.{Label}
 use Rattle.pnp_labels.specs.declared.states.Problem.{Problem}
 use Rattle.pnp_labels.specs.declared.label.OpKind.{OpKind}
-use Rattle.pnp_labels.specs.declared.states.DevState.TheVariants.{NoStack, NotStarted, Started, StopPending, Stopped, RemovePending, SurpriseRemoved}
-use Rattle.pnp_laws.proofs.Lookups.{node_from, left_from}
-use Rattle.pnp_laws.proofs.Diagrams.{Each_changed, Each_same, Each_left, diagram_left}
-use Rattle.pnp_laws.proofs.Kept.{lawful_by, Good_left}
-use Rattle.pnp_laws.proofs.Lists.{HeadIs, head_found, head_has, rest_has, rest_not, rest_distinct, rest_within, those_has, those_keeps, those_distinct}
-use Rattle.pnp_laws.proofs.OpSteps.{lawful_walked, lawful_still, lawful_close, up_stack, is_Started, is_RemovePending, started_calm}
+use Rattle.pnp_labels.specs.declared.states.DevState.TheVariants.{NoStack, NotStarted, Started, RemovePending}
+use Rattle.pnp_laws.proofs.Diagrams.{Each_changed, Each_same}
+use Rattle.pnp_laws.proofs.Lists.{head_has, rest_has, rest_not, rest_distinct, rest_within, those_has, those_distinct}
+use Rattle.pnp_laws.proofs.OpSteps.{lawful_walked, lawful_close, up_stack, is_Started, is_RemovePending, started_calm}
 use Rattle.pnp_laws.proofs.Stages.{RemovalStep}
 use Rattle.pnp_laws.proofs.StartSteps.{idle_calm}
-use Rattle.pnp_laws.proofs.Finishing.{StacksFit, settle_each, remove_each, head_stripped, head_bare, stripped_here, stripped_there, settled_there, calm_here, stack_kept, stack_left, strips, relist_only}
+use Rattle.pnp_laws.proofs.Finishing.{StacksFit, settle_each, remove_each, stack_kept, relist_only}
+use Rattle.pnp_laws.proofs.FinishSteps.{AtWork, NextFits, at_work, begun_one, lawful_leaves, lawful_remains, lawful_strips, not_root, stacks_changed}
 
 -- What comes next keeps the facts --------------------------------------------------
 
@@ -107,30 +105,10 @@ asked_within : (agreed set : List ℕ) (j : ℕ) → has set j ≡ true → With
 asked_within agreed set j h within k g =
     elim (cases_eq j k) [ inl e ↦ subst (λ (i : ℕ). has set i ≡ true) e h | inr d ↦ within k (grind (arith, nat_tests)) ]
 
--- a device of the operation, which stands first
-record AtWork (s : State) (node : Node) (o : Removal) : Type 0 where
-  alone : s.activities ≡ []
-  head : HeadIs node.serial o.todo
-  at : node_at node.serial s.core.nodes ≡ Some node
-  good : Good s.next_serial s.core.nodes [] (Some (Operation.Removing o))
-
-pub not_root : (set todo : List ℕ) (j : ℕ) → has set 0 ≡ false → Within todo set → has todo j ≡ true → j ≢ 0
-not_root set todo j h within g = λ z. let w = within j g in let w0 = subst (λ (i : ℕ). has set i ≡ true) z w in cc
-
 pub row : (path : List ℕ) (a b y : DevState) (minor : Minor) (bad : Bool) → a ≡ b → Row b minor bad y → Change (Label.State path y) a y
 row path a b y minor bad e r = inr (refl, (minor, bad, subst (λ (z : DevState). Row z minor bad y) (sym e) r))
 
-pub stacks_changed : (j : ℕ) (y : DevState) (node : Node) (nodes : List Node) → StacksFit nodes → node_at j nodes ≡ Some node → HasStackOf j y node.stack → StacksFit (changed_first (is_node j) (with_state y) nodes)
-stacks_changed j y node nodes stacks at stack k m g =
-    elim (node_from j k (with_state y) nodes m (λ x. refl) g) [
-      | inl (e, (n, q, r)) ↦
-          let at_k = subst (λ (i : ℕ). node_at i nodes ≡ Some node) e at in
-          let same : with_state y node ≡ m = let yn : node ≡ n = cc in cc in
-          subst (λ (z : Node). HasStackOf k z.state z.stack) same (subst (λ (i : ℕ). HasStackOf i y node.stack) e stack)
-      | inr (d, q) ↦ stacks k m q
-    ]
-
-walked : (s t : State) (label : Label) (node : Node) (o : Removal) (p : Operation) (x y : DevState) → AtWork s node o → node.state ≡ x → node.serial ≢ 0 → t.next_serial ≡ s.next_serial →
+walked : (s t : State) (label : Label) (node : Node) (o : Removal) (p : Operation) (x y : DevState) → AtWork s node (Operation.Removing o) → node.state ≡ x → node.serial ≢ 0 → t.next_serial ≡ s.next_serial →
     t.core.nodes ≡ changed_first (is_node node.serial) (with_state y) s.core.nodes → t.activities ≡ s.activities → t.operation ≡ Some p → x ≢ NoStack → y ≢ NoStack →
     (StacksFit (changed_first (is_node node.serial) (with_state y) s.core.nodes) → OperationFits (Some p) (changed_first (is_node node.serial) (with_state y) s.core.nodes)) →
     Change label node.state y → Lawful s (record { label = label; state = t })
@@ -139,61 +117,29 @@ walked s t label node o p x y w e up a b c d xn yn fits change =
     lawful_walked s t label (with_state y) node (Operation.Removing o) p a b (c ∙ w.alone) d (λ x. refl) w.at stack
     (fits (stacks_changed node.serial y node s.core.nodes w.good.stacks w.at stack)) change w.good
 
-pub stacks_problem : (j : ℕ) (problem : Option Problem) (nodes : List Node) → StacksFit nodes → StacksFit (changed_first (is_node j) (with_problem problem) nodes)
-stacks_problem j problem nodes stacks k m g =
-    elim (node_from j k (with_problem problem) nodes m (λ x. refl) g) [
-      | inl (e, (n, q, r)) ↦ subst (λ (z : Node). HasStackOf k z.state z.stack) (sym r) (stacks k n q)
-      | inr (d, q) ↦ stacks k m q
-    ]
-
-pub stacks_left : (j : ℕ) (nodes : List Node) → Ascending 0 nodes → StacksFit nodes → StacksFit (without_first (is_node j) nodes)
-stacks_left j nodes order stacks k m g = stacks k m (left_from j k nodes m order g).1
-
-at_work : (s : State) (o : Removal) (node : Node) → s.activities ≡ [] → first_node s.core.nodes o.todo ≡ Some node → Good s.next_serial s.core.nodes [] (Some (Operation.Removing o)) → AtWork s node o
-at_work s o node alone first good = let h = head_found s.core.nodes o.todo node first in record { alone = alone; head = h.0; at = h.1; good = good }
-
 -- The steps ----------------------------------------------------------------------------
 
 module _ (s : State) (o : Removal) (alone : s.activities ≡ []) (good : Good s.next_serial s.core.nodes [] (Some (Operation.Removing o))) where
-  -- the device remains, with a problem
-  rm_remains : (t : State) (node : Node) (problem : Problem) → t.next_serial ≡ s.next_serial → t.core.nodes ≡ changed_first (is_node node.serial) (with_problem (Some problem)) s.core.nodes → t.activities ≡ s.activities →
-      t.operation ≡ Some (Operation.Removing (finish_on s.core.nodes o (rest o.todo))) → RemovalKeeps o Settling s.core.nodes → AtWork s node o → Lawful s (record { label = Label.Trouble node.path problem; state = t })
-  rm_remains t node problem a b c d keeps work =
-      let j = node.serial in
-      let f = with_problem (Some problem) in
-      let state = head_bare o.todo j node.state work.head (keeps.each j node work.at) in
-      lawful_walked s t (Label.Trouble node.path problem) f node (Operation.Removing o) _ a b (c ∙ work.alone) d (λ x. refl) work.at (work.good.stacks j node work.at)
-      (fits_finish_on s.core.nodes o (rest o.todo) (changed_first (is_node j) f s.core.nodes)
-      (λ k h. stack_kept j k f s.core.nodes (λ x. refl) (λ x. refl)) keeps.set keeps.rootless (rest_distinct o.todo keeps.todo) keeps.agreed
-      (λ k h. keeps.asks k (rest_within k o.todo h))
-      (stacks_problem j (Some problem) s.core.nodes work.good.stacks)
-      (Each_changed (settling_state o.todo) (finishing_state (rest o.todo)) j f s.core.nodes node (λ x. refl) work.at
-      (subst (λ (x : DevState). finishing_state (rest o.todo) j x ≡ true) (sym state) (calm_here (rest o.todo) j (rest_not j o.todo work.head keeps.todo)))
-      (λ k x d h. settled_there o.todo j k x work.head d h) keeps.each))
-      refl work.good
+  next_fits : (nodes : List Node) → RemovalKeeps o Settling s.core.nodes → NextFits s (Operation.Removing (finish_on s.core.nodes o (rest o.todo))) (rest o.todo) nodes
+  next_fits nodes keeps same stacks each =
+      fits_finish_on s.core.nodes o (rest o.todo) nodes same keeps.set keeps.rootless (rest_distinct o.todo keeps.todo) keeps.agreed (λ k h. keeps.asks k (rest_within k o.todo h)) stacks each
 
-  -- the device leaves
-  rm_leaves : (t : State) (node : Node) (label : Label) → t.next_serial ≡ s.next_serial → t.core.nodes ≡ without_first (is_node node.serial) s.core.nodes → t.activities ≡ s.activities →
-      t.operation ≡ Some (Operation.Removing (finish_on s.core.nodes o (rest o.todo))) → RemovalKeeps o Settling s.core.nodes → AtWork s node o → Lawful s (record { label = label; state = t })
-  rm_leaves t node label a b c d keeps work =
-      let j = node.serial in
-      let nodes = without_first (is_node j) s.core.nodes in
-      let state = head_bare o.todo j node.state work.head (keeps.each j node work.at) in
-      let not_rest = rest_not j o.todo work.head keeps.todo in
-      lawful_by s t label s.next_serial nodes [] (Some (Operation.Removing (finish_on s.core.nodes o (rest o.todo)))) a b (c ∙ work.alone) d
-      (Good_left s.next_serial j s.core.nodes (Some (Operation.Removing o)) _
-      (fits_finish_on s.core.nodes o (rest o.todo) nodes
-      (λ k h. stack_left j k s.core.nodes (λ e. let z = subst (λ (i : ℕ). has (rest o.todo) i ≡ false) e not_rest in cc))
-      keeps.set keeps.rootless (rest_distinct o.todo keeps.todo) keeps.agreed
-      (λ k h. keeps.asks k (rest_within k o.todo h))
-      (stacks_left j s.core.nodes work.good.serials work.good.stacks)
-      (Each_left (settling_state o.todo) (finishing_state (rest o.todo)) j s.core.nodes work.good.serials (λ k x d h. settled_there o.todo j k x work.head d h) keeps.each))
-      refl work.good)
-      (diagram_left label j s.core.nodes node work.good.serials work.at state)
+  rm_remains : (t : State) (node : Node) (problem : Problem) → first_node s.core.nodes o.todo ≡ Some node → t.next_serial ≡ s.next_serial → t.core.nodes ≡ changed_first (is_node node.serial) (with_problem (Some problem)) s.core.nodes → t.activities ≡ s.activities →
+      t.operation ≡ Some (Operation.Removing (finish_on s.core.nodes o (rest o.todo))) → RemovalKeeps o Settling s.core.nodes → Lawful s (record { label = Label.Trouble node.path problem; state = t })
+  rm_remains t node problem first a b c d keeps =
+      lawful_remains s t (Operation.Removing o) _ node a c d (at_work s (Operation.Removing o) node alone first good) keeps.todo keeps.each problem b (next_fits (changed_first (is_node node.serial) (with_problem (Some problem)) s.core.nodes) keeps)
+
+  -- the device leaves, and the one above it may be listed again
+  rm_leaves : (u : State) (node : Node) (label : Label) → first_node s.core.nodes o.todo ≡ Some node → u.next_serial ≡ s.next_serial → u.core.nodes ≡ without_first (is_node node.serial) s.core.nodes → u.activities ≡ s.activities →
+      u.operation ≡ Some (Operation.Removing (finish_on s.core.nodes o (rest o.todo))) → RemovalKeeps o Settling s.core.nodes → Lawful s (record { label = label; state = relist node.path node.born u })
+  rm_leaves u node label first a b c d keeps =
+      let only = relist_only node.path node.born u in
+      lawful_leaves s (relist node.path node.born u) (Operation.Removing o) _ node (only.serial ∙ a) (only.activities ∙ c) (only.operation ∙ d) (at_work s (Operation.Removing o) node alone first good) keeps.todo keeps.each label (only.nodes ∙ b)
+      (next_fits (without_first (is_node node.serial) s.core.nodes) keeps)
 
   pub lawful_removal : (stage : RemovalStage) (m : RemovalMove) → RemovalKeeps o stage s.core.nodes → RemovalStep s.core o stage m → Lawful s (removal_lifted s m)
   lawful_removal stage m keeps (RemovalStep.agrees node w e ok) =
-      let work = at_work s o node alone e.first good in
+      let work = at_work s (Operation.Removing o) node alone e.first good in
       let j = node.serial in
       let here = head_has j o.todo work.head in
       let state = head_querying o.todo o.agreed o.set j node.state here (keeps.each j node work.at) in
@@ -213,7 +159,7 @@ module _ (s : State) (o : Removal) (alone : s.activities ≡ []) (good : Good s.
       (λ k x d h. asked_there o.todo (rest o.todo) o.agreed o.set j k x d (rest_has j k o.todo work.head d) h) keeps.each))
       (row node.path node.state Started RemovePending Minor.QueryRemove false state query_remove)
   lawful_removal stage m keeps (RemovalStep.refuses node w e bad) =
-      let work = at_work s o node alone e.first good in
+      let work = at_work s (Operation.Removing o) node alone e.first good in
       let j = node.serial in
       let here = head_has j o.todo work.head in
       let state = head_querying o.todo o.agreed o.set j node.state here (keeps.each j node work.at) in
@@ -230,7 +176,7 @@ module _ (s : State) (o : Removal) (alone : s.activities ≡ []) (good : Good s.
       })
       (inl refl)
   lawful_removal stage m keeps (RemovalStep.takes_back node w e) =
-      let work = at_work s o node alone e.first good in
+      let work = at_work s (Operation.Removing o) node alone e.first good in
       let j = node.serial in
       let here = head_has j o.todo work.head in
       let state = head_refusing o.todo o.agreed j node.state here (keeps.each j node work.at) in
@@ -241,7 +187,7 @@ module _ (s : State) (o : Removal) (alone : s.activities ≡ []) (good : Good s.
       (λ k x d h. back_there o.todo o.agreed k x (keeps.asks.0 k) h) keeps.each))
       (row node.path node.state Started Started Minor.CancelRemove false state cancel_remove_refused)
   lawful_removal stage m keeps (RemovalStep.cancels node w e) =
-      let work = at_work s o node alone e.first good in
+      let work = at_work s (Operation.Removing o) node alone e.first good in
       let j = node.serial in
       let here = head_has j o.todo work.head in
       let state = head_restoring o.todo j node.state here (keeps.each j node work.at) in
@@ -253,31 +199,15 @@ module _ (s : State) (o : Removal) (alone : s.activities ≡ []) (good : Good s.
       (λ k x d h. rest_restoring o.todo k x (rest_has j k o.todo work.head d) h) keeps.each))
       (row node.path node.state RemovePending Started Minor.CancelRemove false state cancel_remove)
   lawful_removal stage m keeps (RemovalStep.removes node w e) =
-      let work = at_work s o node alone e.first good in
-      let j = node.serial in
-      let up = not_root o.set o.todo j keeps.rootless keeps.asks (head_has j o.todo work.head) in
-      lawful_walked s _ (Label.State node.path NoStack) bare node (Operation.Removing o) _ refl refl work.alone refl (λ x. refl) work.at
-      (record { none = λ h. refl; some = λ d h. refl; root = λ z. absurd (up z) })
-      (record {
-        set = keeps.set;
-        rootless = keeps.rootless;
-        todo = keeps.todo;
-        agreed = keeps.agreed;
-        asks = keeps.asks;
-        each =
-            Each_changed (removing_state o.todo) (settling_state o.todo) j bare s.core.nodes node (λ x. refl) work.at (stripped_here o.todo j work.head)
-            (λ k x d h. stripped_there o.todo j k x work.head d h) keeps.each;
-      })
-      (inr (refl, (Minor.Remove, false, strips node.state (head_stripped o.todo j node.state work.head (keeps.each j node work.at)))))
-      work.good
+      let work = at_work s (Operation.Removing o) node alone e.first good in
+      lawful_strips s _ (Operation.Removing o) _ node refl refl refl work (not_root o.set o.todo node.serial keeps.rootless keeps.asks (head_has node.serial o.todo work.head)) keeps.each refl
+      (λ each. record { set = keeps.set; rootless = keeps.rootless; todo = keeps.todo; agreed = keeps.agreed; asks = keeps.asks; each = each })
   lawful_removal stage m keeps (RemovalStep.leaves node first inside) =
-      let only = relist_only node.path node.born (set_operation (Some (Operation.Removing (finish_on s.core.nodes o (rest o.todo)))) (with_core (drop_node node.serial s.core) s)) in
-      rm_leaves _ node (Label.Leave node.path) only.serial only.nodes only.activities only.operation keeps (at_work s o node alone first good)
+      rm_leaves (set_operation (Some (Operation.Removing (finish_on s.core.nodes o (rest o.todo)))) (with_core (drop_node node.serial s.core) s)) node (Label.Leave node.path) first refl refl refl refl keeps
   lawful_removal stage m keeps (RemovalStep.ejects node first) =
-      let only = relist_only node.path node.born (unplug node.born (set_operation (Some (Operation.Removing (finish_on s.core.nodes o (rest o.todo)))) (with_core (drop_node node.serial s.core) s))) in
-      rm_leaves _ node (Label.Ejected node.path) only.serial only.nodes only.activities only.operation keeps (at_work s o node alone first good)
-  lawful_removal stage m keeps (RemovalStep.disables node first over target) = rm_remains _ node Problem.Disabled refl refl refl refl keeps (at_work s o node alone first good)
-  lawful_removal stage m keeps (RemovalStep.remains node problem first over other) = rm_remains _ node problem refl refl refl refl keeps (at_work s o node alone first good)
+      rm_leaves (unplug node.born (set_operation (Some (Operation.Removing (finish_on s.core.nodes o (rest o.todo)))) (with_core (drop_node node.serial s.core) s))) node (Label.Ejected node.path) first refl refl refl refl keeps
+  lawful_removal stage m keeps (RemovalStep.disables node first over target) = rm_remains _ node Problem.Disabled first refl refl refl refl keeps
+  lawful_removal stage m keeps (RemovalStep.remains node problem first over other) = rm_remains _ node problem first refl refl refl refl keeps
   lawful_removal stage m keeps RemovalStep.closes = lawful_close s _ _ (Operation.Removing o) refl refl alone refl keeps.each good
 
 -- The begin: no device of the set is Stopped -----------------------------------------------
@@ -293,29 +223,10 @@ pub record SetFits (set : List ℕ) (nodes : List Node) : Type 0 where
   pub rootless : has set 0 ≡ false
   pub none_stopped : (k : ℕ) (n : Node) → has set k ≡ true → node_at k nodes ≡ Some n → is_stopped n.state ≡ false
 
-pub not_true : (b : Bool) → (b ≡ true → ⊥) → b ≡ false
-not_true true h = absurd (h refl)
-not_true false h = refl
-
-begun_one : (up : ℕ → Bool) (set : List ℕ) (k : ℕ) (x : DevState) → up k ≡ is_started x → is_calm x ≡ true → (has set k ≡ true → is_stopped x ≡ false) →
-    querying_state (those up set) [] set k x ≡ true
-begun_one up set k x e calm stopped =
-    let in_todo = those_has up set k in
-    let kept = those_keeps up set k in
-    let by_two : (a b : Bool) → has (those up set) k ≡ a → has set k ≡ b → cond a (is_started x) (cond b (is_idle x) (is_calm x)) ≡ true =
-    λ a b. elim a as (λ a. has (those up set) k ≡ a → has set k ≡ b → cond a (is_started x) (cond b (is_idle x) (is_calm x)) ≡ true) [
-      | true ↦ λ h g. let t = in_todo h in sym e ∙ t.1
-      | false ↦ λ h. elim b as (λ b. has set k ≡ b → cond b (is_idle x) (is_calm x) ≡ true) [
-        | true ↦ λ g. idle_or_up x calm (stopped g) (let no : up k ≡ true → ⊥ = λ u. let t = kept g u in cc in not_true (is_started x) (λ z. no (e ∙ z)))
-        | false ↦ λ g. calm
-      ]
-    ] in
-    by_two (has (those up set) k) (has set k) refl refl
-
 pub fits_begun_removal : (s : State) (kind : OpKind) (node : Node) (set : List ℕ) → SetFits set s.core.nodes → Good s.next_serial s.core.nodes s.activities None →
     OperationFits (Some (Operation.Removing (begun_with s.core kind node set))) s.core.nodes
 fits_begun_removal s kind node set fits good =
     let up : ℕ → Bool = λ k. is_up (node_at k s.core.nodes) in
     fits_ask_on s.core.nodes (record { kind = kind; target = node.serial; path = node.path; set = set; ejecting = ejecting s.core set; todo = []; agreed = []; refuser = None; stage = Ending }) (those up set) s.core.nodes (λ k. refl) fits.distinct fits.rootless (those_distinct up set fits.distinct) tt (λ k h. refl) (λ k h. absurd {0} (cc))
     (λ k h. (those_has up set k h).0) good.stacks
-    (λ k n at. begun_one up set k n.state (ap is_up at) (good.fits k n at) (λ h. fits.none_stopped k n h at))
+    (λ k n at. begun_one up set k (is_started n.state) (is_idle n.state) (is_calm n.state) (ap is_up at) (λ h off. idle_or_up n.state (good.fits k n at) (fits.none_stopped k n h at) off) (good.fits k n at))

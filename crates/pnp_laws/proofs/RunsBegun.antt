@@ -8,11 +8,11 @@ use Rattle.pnp_labels.specs.Texts.{Text}
 use Rattle.pnp_labels.specs.declared.states.Problem.{Problem}
 use Rattle.pnp_labels.specs.declared.label.Label.{Label}
 use Rattle.pnp_labels.specs.declared.label.OpKind.{OpKind}
-use Rattle.pnp_laws.specs.Words.{IsWord, kind_of, path_of, SameWork, NotTwelve, IsBeside}
+use Rattle.pnp_laws.specs.Words.{IsWord, kind_of, path_of, NotTwelve, IsBeside}
 use Rattle.pnp_laws.specs.Begun.{HasBegun, Belongs, BegunLaw}
 use Rattle.pnp_laws.proofs.Reaching.{run_on}
-use Rattle.pnp_laws.specs.Effects.{begun}
-use Rattle.pnp_laws.proofs.Courses.{Way, course_goes}
+use Rattle.pnp_laws.specs.Effects.{SameWork, begun}
+use Rattle.pnp_laws.proofs.Courses.{Way, way_goes}
 use Rattle.pnp_laws.proofs.EventChanges.{beside_word, happens_outside}
 use Rattle.pnp_laws.proofs.EffectsOfOperations.{begun_work}
 use Rattle.pnp_laws.proofs.BeginSteps.{reached_dues}
@@ -114,7 +114,7 @@ begun_along : (settings : Settings) (rack : List Driver) (entries : List Entry) 
 begun_along settings rack entries s [] t reaches h run =
     subst (λ (l : List Entry). RunsBegun settings rack l t) (sym (append-nil entries)) (subst (λ (x : State). RunsBegun settings rack entries x) (sym run) h)
 begun_along settings rack entries s (entry ∷ rest) t reaches h (mid, goes, run) =
-    let way = (course_goes settings s entry mid (reached_dues settings rack s (entries, reaches)) goes).way in
+    let way = (way_goes settings s entry mid (reached_dues settings rack s (entries, reaches)) goes) in
     let on = run_on settings (opening rack) s mid entries (entry ∷ []) reaches (mid, goes, refl) in
     subst (λ (l : List Entry). RunsBegun settings rack l t) (append_assoc entries (entry ∷ []) rest)
     (begun_along settings rack (entries ++ entry ∷ []) mid rest t on (goes_on settings rack entries s entry mid reaches goes way h) run)
@@ -136,4 +136,4 @@ belongs_way settings rack entries s label t (Way.ends o result runs after is by)
 -- where an operation ends or prints problem 12, it began before and has not ended since
 pub operations_begin : BegunLaw
 operations_begin settings rack entries s entry t reaches goes =
-    belongs_way settings rack entries s (printed entry) t (course_goes settings s entry t (reached_dues settings rack s (entries, reaches)) goes).way (runs_begun settings rack entries s reaches)
+    belongs_way settings rack entries s (printed entry) t (way_goes settings s entry t (reached_dues settings rack s (entries, reaches)) goes) (runs_begun settings rack entries s reaches)

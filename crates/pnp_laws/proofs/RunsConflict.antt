@@ -21,15 +21,17 @@ use Rattle.pnp_labels.specs.declared.label.Label.{Label}
 use Rattle.pnp_labels.specs.declared.label.OpKind.{OpKind}
 use Rattle.pnp_laws.specs.Words.{IsBeside}
 use Rattle.pnp_laws.specs.Holdings.{has_plan}
-use Rattle.pnp_laws.specs.Rebalanced.{Placed, Undone, AskedSince, Asks, IsAskedAt, Underway}
+use Rattle.pnp_laws.specs.Rebalanced.{Undone, AskedSince, Asks, IsAskedAt, Underway}
 use Rattle.pnp_laws.proofs.Lookups.{own_serial}
-use Rattle.pnp_laws.proofs.Reached.{reached_is_good, reached_is_placed}
+use Rattle.pnp_laws.proofs.Standing.{Tree}
+use Rattle.pnp_laws.proofs.Reached.{reached_is_good, reached_tree}
 use Rattle.pnp_laws.proofs.RebalanceMoves.{NoConflict}
 use Rattle.pnp_laws.proofs.RebalanceRuns.{Stepped, IsOver, rebalance_stepped, lasts}
 use Rattle.pnp_laws.specs.Begun.{HasBegun, Belongs, EachConflictLaw}
 use Rattle.pnp_laws.proofs.BeginSteps.{step_did}
 use Rattle.pnp_laws.proofs.RunsBegun.{operations_begin}
-use Rattle.pnp_laws.proofs.RunsFutile.{Since, since_begin, reached_after}
+use Rattle.pnp_laws.proofs.Reaching.{reached_after}
+use Rattle.pnp_laws.proofs.RunsFutile.{Since, since_begin}
 use Rattle.pnp_laws.proofs.Ascents.{has_from_contains, contains_from_has, rising_from_increasing, increasing_from_rising, same_ascent}
 use Rattle.pnp_laws.proofs.RebalanceSteps.{asked_up}
 
@@ -147,13 +149,13 @@ nothing_fits_still c d ms a b none fits =
     none (subst (λ (x : List Res). Fits x (map (λ k. reqs_of (node_at k c.nodes)) ms)) fixed (subst (λ (x : List Reqs). Fits (fixed_beside d ms) x) reqs fits))
 
 -- whoever refused since the begin is told at the end
-refusers_told : (settings : Settings) (rack : List Driver) (path : Text) (before begun : State) (entries : List Entry) (last : State) → Placed before.core.nodes → Since settings rack path before begun entries last → AllWithin entries →
+refusers_told : (settings : Settings) (rack : List Driver) (path : Text) (before begun : State) (entries : List Entry) (last : State) → Tree before.next_serial before.core → Since settings rack path before begun entries last → AllWithin entries →
     (u : Underway path before.core last) → u.frame.stage ≡ Stuck → (k : ℕ) → RefusedSince settings begun entries last k → has u.frame.refused k ≡ true
-refusers_told settings rack path before begun entries last placed since within u stage k (s, (xs, ys, e, run, more), refuses) =
+refusers_told settings rack path before begun entries last tree since within u stage k (s, (xs, ys, e, run, more), refuses) =
     let split = within_split xs ys (subst (λ (l : List Entry). AllWithin l) e within) in
-    let there = lasts settings rack path before.core placed begun xs s since.reached since.first split.0 run in
+    let there = lasts settings rack path before.next_serial before.core tree begun xs s since.reached since.first split.0 run in
     let at_s = reached_after settings rack begun xs s since.reached run in
-    let on = lasts settings rack path before.core placed s ys last at_s there.under split.1 more in
+    let on = lasts settings rack path before.next_serial before.core tree s ys last at_s there.under split.1 more in
     let same : on.under.frame ≡ u.frame = (let a = on.under.runs in let b = u.runs in cc) in
     elim (on.tells k refuses) [
       | inl now ↦ absurd (asks_now now)
@@ -177,12 +179,12 @@ at_conflict : (settings : Settings) (rack : List Driver) (earlier entries : List
     Reaches settings rack earlier before → Goes settings before (Did (Label.Begin OpKind.Rebalance begin_path)) begun → Run settings begun entries last → AllWithin entries →
     Goes settings last (Did (Label.Trouble path Problem.NormalConflict)) after → AtConflict settings rack begin_path path before begun entries last
 at_conflict settings rack earlier entries before begun last after begin_path path reaches goes run within ends =
-    let placed = reached_is_placed settings rack before (earlier, reaches) in
+    let tree = reached_tree settings rack before (earlier, reaches) in
     let since = since_begin settings rack earlier entries before begun last begin_path reaches goes run within in
     let good = reached_is_good settings rack last (reached_after settings rack begun entries last since.reached run) in
     let u = since.lasts.under in
     let r = u.frame in
-    let is_stuck = stuck_step path begin_path before.core settings last after u (rebalance_stepped begin_path before.core settings last (record { label = Label.Trouble path Problem.NormalConflict; state = after }) u placed good ends) in
+    let is_stuck = stuck_step path begin_path before.core settings last after u (rebalance_stepped begin_path before.next_serial before.core settings last (record { label = Label.Trouble path Problem.NormalConflict; state = after }) u tree good ends) in
     let undone : Undone before.core last.core r Stuck = subst (λ (x : RebalanceStage). Undone before.core last.core r x) is_stuck.stage u.undone in
     let asked : AskedSince before.core r Stuck = subst (λ (x : RebalanceStage). AskedSince before.core r x) is_stuck.stage u.asked in
     let found = no_fit_found r.found undone.1 is_stuck.trouble in
@@ -194,7 +196,7 @@ at_conflict settings rack earlier entries before begun last after begin_path pat
         reserved = undone.0.reserved;
         asks = asked.0;
         told = λ j h. elim (since.lasts.told j h) [ inl e ↦ absurd (let none = since.fresh in let h2 = subst (λ (x : List ℕ). has x j ≡ true) none e in cc) | inr e ↦ e ];
-        tells = refusers_told settings rack begin_path before begun entries last placed since within u is_stuck.stage;
+        tells = refusers_told settings rack begin_path before begun entries last tree since within u is_stuck.stage;
       };
       device = is_stuck.device ∙ u.named;
       none = nothing_fits_still before.core last.core (movers r) undone.0.nodes undone.0.reserved (asked.1 found);
@@ -203,13 +205,13 @@ at_conflict settings rack earlier entries before begun last after begin_path pat
 -- problem 12 comes only where no assignment exists for the device and all that can move
 pub conflicts_are_real : ConflictLaw
 conflicts_are_real settings rack earlier entries before begun last after begin_path path reaches goes run within ends k n at named ms free =
-    let placed = reached_is_placed settings rack before (earlier, reaches) in
+    let tree = reached_tree settings rack before (earlier, reaches) in
     let c = at_conflict settings rack earlier entries before begun last after begin_path path reaches goes run within ends in
     let u = c.under in
     let r = u.frame in
     let same_movers = free_are_agreed settings rack begin_path before begun entries last u ms c.stuck free in
     let was : node_at k before.core.nodes ≡ Some n = subst (λ (x : List Node). node_at k x ≡ Some n) c.stuck.nodes at in
-    let device : k ≡ r.target = placed.paths k r.target n u.target.0 was u.target.1 (named ∙ c.device ∙ sym u.target.2) in
+    let device : k ≡ r.target = tree.paths k r.target n u.target.0 was u.target.1 (named ∙ c.device ∙ sym u.target.2) in
     subst (λ (i : ℕ). NothingFits last.core (i ∷ ms)) (sym device) (subst (λ (l : List ℕ). NothingFits last.core (r.target ∷ l)) (sym same_movers) c.none)
 
 -- Each problem 12 -------------------------------------------------------------------------------

@@ -1,5 +1,5 @@
 -- In each run a rebalance that found nothing restores everything but the problem of its device.
-use Rattle.std.proofs.Common.{◌≡◌, ◌⊎◌, inl, inr, false, List, [], ◌∷◌, Some, refl, sym, ap, ◌∙◌, subst}
+use Rattle.std.proofs.Common.{◌≡◌, ◌⊎◌, inl, inr, false, List, [], Some, refl, sym, ap, ◌∙◌, subst}
 use Rattle.resource_reqs.specs.Spelling.Answer.{assignment, no_fit, spent}
 use Rattle.pnp_model.specs.Records.{Core, Driver, State, Step, Settings, Rebalance, RebalanceStage, Found}
 use Rattle.pnp_model.specs.Rebalances.{end_of, trouble_of, over}
@@ -13,8 +13,8 @@ use Rattle.pnp_labels.specs.declared.label.OpEnd.{OpEnd}
 use Rattle.pnp_laws.specs.Reached.{IsReached}
 use Rattle.pnp_laws.specs.Holdings.{has_plan}
 use Rattle.pnp_laws.specs.Rebalanced.{Undone, Underway}
-use Rattle.pnp_laws.proofs.Reaching.{reached_on}
-use Rattle.pnp_laws.proofs.Reached.{reached_is_good, reached_is_placed}
+use Rattle.pnp_laws.proofs.Reaching.{reached_after, reached_on}
+use Rattle.pnp_laws.proofs.Reached.{reached_is_good, reached_tree}
 use Rattle.pnp_laws.proofs.BeginSteps.{begins_right, reached_dues}
 use Rattle.pnp_laws.proofs.RebalanceRuns.{IsOver, rebalance_stepped, after_core, Lasts, lasts, underway_begun}
 
@@ -31,29 +31,25 @@ pub since_begin : (settings : Settings) (rack : List Driver) (earlier entries : 
 since_begin settings rack earlier entries before begun last path reaches goes run within =
     let at_before : IsReached settings rack before = (earlier, reaches) in
     let good = reached_is_good settings rack before at_before in
-    let placed = reached_is_placed settings rack before at_before in
+    let tree = reached_tree settings rack before at_before in
     let at_begun = reached_on settings rack before (Did (Label.Begin OpKind.Rebalance path)) begun at_before goes in
     let first = underway_begun path before begun (begins_right settings before begun OpKind.Rebalance path (reached_dues settings rack before at_before) goes) good.serials in
     record {
       first = first.0;
       fresh = first.1;
       reached = at_begun;
-      lasts = lasts settings rack path before.core placed begun entries last at_begun first.0 within run;
+      lasts = lasts settings rack path before.next_serial before.core tree begun entries last at_begun first.0 within run;
     }
 
 -- its end ----------------------------------------------------------------------------------
-
-pub reached_after : (settings : Settings) (rack : List Driver) (a : State) (entries : List Entry) (b : State) → IsReached settings rack a → Run settings a entries b → IsReached settings rack b
-reached_after settings rack a [] b reached run = subst (λ (x : State). IsReached settings rack x) (sym run) reached
-reached_after settings rack a (entry ∷ rest) b reached (mid, goes, run) = reached_after settings rack mid rest b (reached_on settings rack a entry mid reached goes) run
 
 end_is_over : (settings : Settings) (rack : List Driver) (path : Text) (before begun : State) (entries : List Entry) (last after : State) (kind : OpKind) (end_path : Text) (result : OpEnd) →
     IsReached settings rack before → Since settings rack path before begun entries last → Run settings begun entries last → (u : Underway path before.core last) → Goes settings last (Did (Label.End kind end_path result)) after →
     IsOver last u.frame (record { label = Label.End kind end_path result; state = after })
 end_is_over settings rack path before begun entries last after kind end_path result at_before since run u goes =
-    let placed = reached_is_placed settings rack before at_before in
+    let tree = reached_tree settings rack before at_before in
     let good = reached_is_good settings rack last (reached_after settings rack begun entries last since.reached run) in
-    elim (rebalance_stepped path before.core settings last (record { label = Label.End kind end_path result; state = after }) u placed good goes) [
+    elim (rebalance_stepped path before.next_serial before.core settings last (record { label = Label.End kind end_path result; state = after }) u tree good goes) [
       | inl h ↦ absurd (subst (λ (x : Step). IsWithin x.label) (sym h.is) h.moves.within)
       | inr over ↦ over
     ]

@@ -13,12 +13,11 @@ use Rattle.pnp_labels.specs.declared.label.Label.{Label}
 use Rattle.pnp_model.specs.Cores.{node_at}
 use Rattle.pnp_model.specs.Frames.{fixed_beside, held_by}
 use Rattle.pnp_model.specs.Rebalances.{committed, movers, plan_of}
-use Rattle.pnp_model.specs.Records.{Driver, Node, Operation, Rebalance, RebalanceStage, Settings, State}
+use Rattle.pnp_model.specs.Records.{Driver, Node, Operation, RebalanceStage, Settings, State}
 use Rattle.pnp_model.specs.Runs.{Entry, Goes, Run, opening, printed}
 use Rattle.pnp_model.specs.Runs.Entry.{Happens, Did}
-use Rattle.pnp_model.specs.Starts.{own_part}
 use Rattle.pnp_model.specs.Tests.{has}
-use Rattle.pnp_laws.specs.Effects.{Alters, NodeEffect, RangeEffect}
+use Rattle.pnp_laws.specs.Effects.{NodeEffect, RangeEffect}
 use Rattle.pnp_laws.specs.Ends.{events}
 use Rattle.pnp_laws.specs.Held.{AllHoldParts, AreWithin, FewHeldLaw, HoldsPart, PartsLaw}
 use Rattle.pnp_laws.specs.Kept.{Ascending}
@@ -26,13 +25,13 @@ use Rattle.pnp_laws.specs.Keys.{BirthsApart}
 use Rattle.pnp_laws.specs.Plans.{IsPlanned, PlanKept, StagePlan}
 use Rattle.pnp_laws.specs.Reached.{IsReached}
 use Rattle.pnp_laws.proofs.Closures.{head_at, tail_at}
-use Rattle.pnp_laws.proofs.EffectViews.{CameFrom, came_from}
+use Rattle.pnp_laws.proofs.EffectViews.{Origin, origin}
 use Rattle.pnp_laws.proofs.EffectsOf.{effect_goes}
 use Rattle.pnp_laws.proofs.HoldingsKept.{own_whole}
 use Rattle.pnp_laws.proofs.JoinMachine.{reaches_born}
 use Rattle.pnp_laws.proofs.Joins.{Born}
 use Rattle.pnp_laws.proofs.Lists.{member}
-use Rattle.pnp_laws.proofs.Lookups.{own_serial, some_same}
+use Rattle.pnp_laws.proofs.Lookups.{own_serial}
 use Rattle.pnp_laws.proofs.PlansKept.{mover_whole, reached_is_planned}
 use Rattle.pnp_laws.proofs.Reached.{reached_is_good}
 use Rattle.pnp_laws.proofs.Reaching.{kept}
@@ -49,33 +48,24 @@ part_same n m reqs holds (inl none) = inl (holds ∙ none)
 part_same n m reqs holds (inr whole) = inr (subst (λ (x : Reqs). Whole x m.holds) (sym reqs) (subst (λ (x : List Res). Whole n.reqs x) (sym holds) whole))
 
 module _ (s : State) (label : Label) (t : State) (order : Ascending 0 s.core.nodes) (planned : IsPlanned s) (old : AllHoldParts s.core.nodes) where
-  altered_part : (j : ℕ) (f : Node → Node) → Alters s label t j f → (n : Node) → node_at j s.core.nodes ≡ Some n → HoldsPart (f n)
-  altered_part j f (Alters.walked node minor w bad at request other ends verdict prints) n there = part_same n (f n) refl refl (old j n there)
-  altered_part j f (Alters.troubled k problem) n there = part_same n (f n) refl refl (old j n there)
-  altered_part j f (Alters.stacks node d ds name at acts prints) n there = part_same n (f n) refl refl (old j n there)
-  altered_part j f (Alters.assigned node phase plan acts search part now) n there =
-      let is = plan_is (fixed_beside s.core (node.serial ∷ [])) (node.reqs ∷ []) part.budget plan part.answer in
-      let one : node ≡ n = some_same (node_at node.serial s.core.nodes) node n part.at there in
-      inr (subst (λ (x : Node). Whole x.reqs (own_part plan)) one (own_whole node.reqs plan is.whole))
-
-  moved_part : (r : Rebalance) → s.operation ≡ Some (Operation.Rebalancing r) → r.stage ≡ RebalanceStage.Committing → (k : ℕ) (n : Node) → node_at k s.core.nodes ≡ Some n → HoldsPart (committed (movers r) (plan_of r.found) n)
-  moved_part r runs is k n at =
+  part_from : (k : ℕ) (m : Node) → Origin s label t k m → HoldsPart m
+  part_from k _ (Origin.was n at) = old k n at
+  part_from k _ (Origin.walked n minor w bad at request other ends verdict prints) = old k n at
+  part_from k _ (Origin.troubled n problem at) = old k n at
+  part_from k _ (Origin.stacks n d ds name at acts prints) = old k n at
+  part_from k _ (Origin.assigned n phase plan at acts search part now) =
+      inr (own_whole n.reqs plan (plan_is (fixed_beside s.core (n.serial ∷ [])) (n.reqs ∷ []) part.budget plan part.answer).whole)
+  part_from k _ (Origin.stripped n w at request prints) = inl refl
+  part_from k _ (Origin.commits r n runs is at) =
       let fits = subst (λ (x : RebalanceStage). StagePlan r x s.core.reserved s.core.nodes) is (subst (λ (x : Option Operation). PlanKept x s.core.reserved s.core.nodes) runs planned) in
-      let own = own_serial k n s.core.nodes at in
       elim (member (movers r) k) [
         | inl h ↦ inr (mover_whole r s.core.reserved s.core.nodes k n fits at h)
-        | inr h ↦ part_same n (committed (movers r) (plan_of r.found) n) refl (part_not n.serial (movers r) (plan_of r.found) n.holds (subst (λ (i : ℕ). has (movers r) i ≡ false) (sym own) h)) (old k n at)
+        | inr h ↦ part_same n (committed (movers r) (plan_of r.found) n) refl (part_not n.serial (movers r) (plan_of r.found) n.holds (subst (λ (i : ℕ). has (movers r) i ≡ false) (sym (own_serial k n s.core.nodes at)) h)) (old k n at)
       ]
+  part_from k _ (Origin.joins node d below gone own) = inl refl
 
   parts_after : NodeEffect s label t → AllHoldParts t.core.nodes
-  parts_after effect k m at = by_from m (came_from s label t order k m effect at)
-    where
-      by_from : (m : Node) → CameFrom s label t k m → HoldsPart m
-      by_from m (CameFrom.was _ q) = old k m q
-      by_from _ (CameFrom.altered n f q alters) = altered_part k f alters n q
-      by_from _ (CameFrom.stripped n w q request prints) = inl refl
-      by_from _ (CameFrom.moved n r q runs is) = moved_part r runs is k n q
-      by_from _ (CameFrom.joined node d gone own below) = inl refl
+  parts_after effect k m at = part_from k m (origin s label t order k m effect at)
 
 parts_goes : (settings : Settings) (rack : List Driver) (s : State) (entry : Entry) (t : State) → IsReached settings rack s → AllHoldParts s.core.nodes → Goes settings s entry t → AllHoldParts t.core.nodes
 parts_goes settings rack s entry t reached old goes =

@@ -1,7 +1,6 @@
 -- In each state of a run stacks are short and of named drivers, and paths are apart up to ASCII case.
 use Rattle.std.proofs.Common.{ℕ, ◌+◌, ◌≤◌, ◌≡◌, ◌⊎◌, inl, inr, true, false, List, [], ◌∷◌, ◌++◌, length, Option, Some, None, refl, sym, ap, ◌∙◌, subst, arith, length-append}
 use Rattle.std.specs.Option.{option_map}
-use Rattle.std.proofs.lemmas.Bool.{cases_eq}
 use Rattle.std.proofs.lemmas.Slice.Eq.{bytes_eq-Decides}
 use Rattle.device_ids.specs.Folding.{folded, same}
 use Rattle.pnp_labels.specs.Texts.{Text}
@@ -11,7 +10,7 @@ use Rattle.pnp_model.specs.Books.{name_of, printed_name}
 use Rattle.pnp_model.specs.Cores.{node_at}
 use Rattle.pnp_model.specs.Events.{completed_phase}
 use Rattle.pnp_model.specs.Frames.{next_driver}
-use Rattle.pnp_model.specs.Keyed.{changed_first, without_first}
+use Rattle.pnp_model.specs.Keyed.{changed_first}
 use Rattle.pnp_model.specs.Laws.{Reaches}
 use Rattle.pnp_model.specs.Records.{Activity, Driver, Node, Phase, Settings, State}
 use Rattle.pnp_model.specs.Records.Phase.{Adding}
@@ -20,18 +19,18 @@ use Rattle.pnp_model.specs.Starts.{adding}
 use Rattle.pnp_model.specs.States.{activity_at, is_activity, with_phase}
 use Rattle.pnp_model.specs.Tasks.{has_path, joins}
 use Rattle.pnp_model.specs.Walks.{place_of}
-use Rattle.pnp_laws.specs.Effects.{ActivityEffect, Acting, Alters, Chosen, DriverEffect, Enters, IsUnasked, NodeEffect, PhaseStep}
+use Rattle.pnp_laws.specs.Effects.{ActivityEffect, Acting, Chosen, DriverEffect, Enters, IsUnasked, NodeEffect, PhaseStep}
 use Rattle.pnp_laws.specs.Keys.{FoldedApart, KeysLaw}
-use Rattle.pnp_laws.specs.Kept.{Ascending, InOrder, IsGood}
+use Rattle.pnp_laws.specs.Kept.{InOrder, IsGood}
 use Rattle.pnp_laws.specs.Reached.{IsReached}
 use Rattle.pnp_laws.specs.Stacks.{AllNamed, HasName, IsNamed, NamesDriver, NamesLaw, StacksLaw}
 use Rattle.pnp_laws.proofs.DriverNames.{MoreNames, chosen_named, more_names, named_append, named_at, named_more, place_below}
 use Rattle.pnp_laws.proofs.EffectsOf.{effect_goes}
-use Rattle.pnp_laws.proofs.EffectViews.{CameFrom, acting_at, came_from, entered_either}
+use Rattle.pnp_laws.proofs.EffectViews.{Origin, StartOrigin, acting_at, origin, start_origin}
 use Rattle.pnp_laws.proofs.JoinMachine.{reaches_born}
 use Rattle.pnp_laws.proofs.IdleSteps.{joins_is}
 use Rattle.pnp_laws.proofs.Joins.{any_from}
-use Rattle.pnp_laws.proofs.Lookups.{ended_other, ended_same, find_passes, phase_set_other, phase_set_same, some_same}
+use Rattle.pnp_laws.proofs.Lookups.{phase_set_same, some_same, find_passes}
 use Rattle.pnp_laws.proofs.Reaching.{kept}
 use Rattle.pnp_laws.proofs.Runs.{root_is}
 use Rattle.pnp_laws.proofs.RunsStand.{reaches_kept}
@@ -92,34 +91,11 @@ module _ (s t : State) (order : InOrder 0 s.activities) where
   gone_adds k _ _ (PhaseStep.answered a ok at nodes) = remains_is k _ _ (ap to_add at ∙ sym (answered_adds _ a.phase)) Remains.was
   gone_adds k _ _ _ = Remains.nothing
 
-  set_adds : (k : ℕ) (phase : Phase) (o : Option Activity) → Remains s k (phase_drivers phase) → Remains s k (to_add (option_map (with_phase phase) o))
-  set_adds k phase None h = Remains.nothing
-  set_adds k phase (Some a) h = h
-
-  remains : ActivityEffect s t → (k : ℕ) → Remains s k (to_add (activity_at k t.activities))
-  remains (ActivityEffect.same e) k = remains_is k _ _ (ap (λ (x : List Activity). to_add (activity_at k x)) (sym e)) Remains.was
-  remains (ActivityEffect.enters j phase enters e) k =
-      remains_is k _ _ (ap (λ (x : List Activity). to_add (activity_at k x)) (sym e))
-      (elim (entered_either (record { serial = j; phase = phase }) k s.activities) [
-        | inl q ↦ remains_is k _ _ (ap to_add (sym q)) Remains.was
-        | inr (own, q) ↦ remains_is k _ _ (ap to_add (sym q)) (entered_adds k phase (subst (λ (i : ℕ). Enters s i t phase) own enters))
-      ])
-  remains (ActivityEffect.goes j old new step e) k =
-      remains_is k _ _ (ap (λ (x : List Activity). to_add (activity_at k x)) (sym e))
-      (elim (cases_eq j k) [
-        | inl own ↦
-            subst (λ (i : ℕ). Remains s k (to_add (activity_at k (changed_first (is_activity i) (with_phase new) s.activities)))) (sym own)
-            (remains_is k _ _ (ap to_add (sym (phase_set_same k new s.activities))) (set_adds k new (activity_at k s.activities) (gone_adds k old new (subst (λ (i : ℕ). PhaseStep s i t old new) own step))))
-        | inr d ↦ remains_is k _ _ (ap to_add (sym (phase_set_other j k new s.activities d))) Remains.was
-      ])
-  remains (ActivityEffect.ends j phase acts over e) k =
-      remains_is k _ _ (ap (λ (x : List Activity). to_add (activity_at k x)) (sym e))
-      (elim (cases_eq j k) [
-        | inl own ↦
-            subst (λ (i : ℕ). Remains s k (to_add (activity_at k (without_first (is_activity i) s.activities)))) (sym own)
-            (remains_is k _ _ (ap to_add (sym (ended_same 0 k s.activities order))) Remains.nothing)
-        | inr d ↦ remains_is k _ _ (ap to_add (sym (ended_other j k s.activities d))) Remains.was
-      ])
+  remains : (k : ℕ) (o : Option Activity) → StartOrigin s t k o → Remains s k (to_add o)
+  remains k _ StartOrigin.was = Remains.was
+  remains k _ (StartOrigin.enters a why free) = entered_adds k a.phase why
+  remains k _ (StartOrigin.goes a old new at step) = gone_adds k old new step
+  remains k _ (StartOrigin.ends phase acts over) = Remains.nothing
 
 -- Where a node comes from -------------------------------------------------------------------------
 
@@ -129,21 +105,15 @@ data From (s : State) (label : Label) (k : ℕ) (m : Node) : Type 0 where
       → Acting s k (Adding (d ∷ ds)) → label ≡ Label.Add path name true → From s label k m
   joined : node_at k s.core.nodes ≡ None → s.next_serial ≡ k → has_path m.path s.core.nodes ≡ false → m.stack ≡ [] → From s label k m
 
-module _ (s : State) (label : Label) (order : Ascending 0 s.core.nodes) where
-  altered : (t : State) (j : ℕ) (f : Node → Node) → Alters s label t j f → (n : Node) → node_at j s.core.nodes ≡ Some n → From s label j (f n)
-  altered t j f (Alters.stacks node d ds name at acts prints) n there =
-      From.pushed n d ds node.path name there refl (ap (λ (z : Node). z.stack ++ d ∷ []) (some_same (node_at node.serial s.core.nodes) node n at there)) acts prints
-  altered t j f _ n there = From.was n there refl (inl refl)
-
-  from : (t : State) → NodeEffect s label t → (k : ℕ) (m : Node) → node_at k t.core.nodes ≡ Some m → From s label k m
-  from t effect k m at = by_from m (came_from s label t order k m effect at)
-    where
-      by_from : (m : Node) → CameFrom s label t k m → From s label k m
-      by_from m (CameFrom.was _ q) = From.was m q refl (inl refl)
-      by_from _ (CameFrom.altered n f q alters) = altered t k f alters n q
-      by_from _ (CameFrom.stripped n w q request prints) = From.was n q refl (inr refl)
-      by_from _ (CameFrom.moved n r q runs is) = From.was n q refl (inl refl)
-      by_from _ (CameFrom.joined node d gone own below) = From.joined gone own (joins_is node.born s.core.nodes d (find_passes (joins node.born s.core.nodes) s.world d below)).2 refl
+by_origin : (s : State) (label : Label) (t : State) (k : ℕ) (m : Node) → Origin s label t k m → From s label k m
+by_origin s label t k _ (Origin.stacks n d ds name at acts prints) = From.pushed n d ds n.path name at refl refl acts prints
+by_origin s label t k _ (Origin.stripped n w at request prints) = From.was n at refl (inr refl)
+by_origin s label t k _ (Origin.joins node d below gone own) = From.joined gone own (joins_is node.born s.core.nodes d (find_passes (joins node.born s.core.nodes) s.world d below)).2 refl
+by_origin s label t k _ (Origin.was n at) = From.was n at refl (inl refl)
+by_origin s label t k _ (Origin.walked n minor w bad at request other ends verdict prints) = From.was n at refl (inl refl)
+by_origin s label t k _ (Origin.troubled n problem at) = From.was n at refl (inl refl)
+by_origin s label t k _ (Origin.assigned n phase plan at acts search part now) = From.was n at refl (inl refl)
+by_origin s label t k _ (Origin.commits r n runs is at) = From.was n at refl (inl refl)
 
 -- A step or an event --------------------------------------------------------------------------------
 
@@ -212,7 +182,7 @@ module _ (s : State) (entry : Entry) (t : State) (good : IsGood s) (old : Stacke
 
   module _ (activities : ActivityEffect s t) (k : ℕ) (m : Node) where
     rest : Remains s k (to_add (activity_at k t.activities))
-    rest = remains s t good.order activities k
+    rest = remains s t good.order k (activity_at k t.activities) (start_origin s t good k activities)
 
     fits_from : From s (printed entry) k m → Fits s.core.rack m.stack (to_add (activity_at k t.activities))
     fits_from (From.was n at path stack) = fits_still k n m.stack _ at stack rest
@@ -245,7 +215,7 @@ module _ (s : State) (entry : Entry) (t : State) (good : IsGood s) (old : Stacke
 
   stacked_then : NodeEffect s (printed entry) t → ActivityEffect s t → Stacked t
   stacked_then nodes activities =
-      let from_at : (k : ℕ) (m : Node) → node_at k t.core.nodes ≡ Some m → From s (printed entry) k m = from s (printed entry) good.serials t nodes in
+      let from_at : (k : ℕ) (m : Node) → node_at k t.core.nodes ≡ Some m → From s (printed entry) k m = λ k m at. by_origin s (printed entry) t k m (origin s (printed entry) t good.serials k m nodes at) in
       record {
         fits = λ k m at. fits_more s.core.rack t.core.rack m.stack _ more (fits_from activities k m (from_at k m at));
         paths = λ j k n m at there h. paths_of j k n.path m.path h (path_from activities j n (from_at j n at)) (path_from activities k m (from_at k m there));

@@ -11,7 +11,7 @@ use Rattle.pnp_labels.specs.declared.event.Event.{Event}
 use Rattle.pnp_labels.specs.declared.label.Label.{Label}
 use Rattle.pnp_laws.specs.Words.{IsWord}
 use Rattle.pnp_laws.specs.Kept.{IsGood}
-use Rattle.pnp_laws.specs.RunsWell.{MayBegin, RunWell}
+use Rattle.pnp_laws.specs.RunsWell.{MayBegin}
 use Rattle.pnp_laws.proofs.Runs.{lawful_goes, opening_is_good, root_is}
 use Rattle.pnp_laws.proofs.TreeMoves.{edge_cases}
 use Rattle.pnp_laws.proofs.Standing.{Stands}
@@ -43,10 +43,6 @@ kept_goes settings old (Did label) new kept goes =
 pub kept_run : (settings : Settings) (old : State) (entries : List Entry) (new : State) → Run settings old entries new → Kept old → Kept new
 kept_run settings old [] new run kept = subst (λ (s : State). Kept s) (sym run) kept
 kept_run settings old (entry ∷ rest) new (mid, goes, run) kept = kept_run settings mid rest new run (kept_goes settings old entry mid kept goes)
-
-pub run_well : (settings : Settings) (old : State) (entries : List Entry) (new : State) → Run settings old entries new → Kept old → RunWell settings old entries new
-run_well settings old [] new run kept = run
-run_well settings old (entry ∷ rest) new (mid, goes, run) kept = (may_begin old kept, (mid, goes, run_well settings mid rest new run (kept_goes settings old entry mid kept goes)))
 
 -- The opening state ---------------------------------------------------------------------------------
 
@@ -82,9 +78,6 @@ opening_kept rack = record { good = opening_is_good rack; stands = opening_stand
 
 pub reaches_kept : (settings : Settings) (rack : List Driver) (entries : List Entry) (s : State) → Reaches settings rack entries s → Kept s
 reaches_kept settings rack entries s run = kept_run settings (opening rack) entries s run (opening_kept rack)
-
-pub reaches_well : (settings : Settings) (rack : List Driver) (entries : List Entry) (s : State) → Reaches settings rack entries s → RunWell settings (opening rack) entries s
-reaches_well settings rack entries s run = run_well settings (opening rack) entries s run (opening_kept rack)
 
 -- The laws ------------------------------------------------------------------------------------------
 

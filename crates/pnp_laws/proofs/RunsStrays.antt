@@ -8,9 +8,8 @@ use Rattle.pnp_labels.specs.declared.label.Label.{Label}
 use Rattle.pnp_labels.specs.declared.label.OpKind.{OpKind}
 use Rattle.pnp_labels.specs.declared.states.DevState.TheVariants.{NoStack, NotStarted}
 use Rattle.pnp_model.specs.Events.{answer_of}
-use Rattle.pnp_model.specs.Cores.{bare, is_node, new_node, node_at, serials_of}
+use Rattle.pnp_model.specs.Cores.{bare, new_node, node_at, serials_of}
 use Rattle.pnp_model.specs.Diagram.{FollowsDiagram}
-use Rattle.pnp_model.specs.Keyed.{changed_first}
 use Rattle.pnp_model.specs.Laws.{DependentsFirst}
 use Rattle.pnp_model.specs.Rebalances.{committed, movers, plan_of}
 use Rattle.pnp_model.specs.Records.{Activity, Driver, Duty, Node, Operation, Settings, State, Step, Surprise, SurpriseStage, Task}
@@ -20,12 +19,12 @@ use Rattle.pnp_model.specs.States.{activity_at, entered}
 use Rattle.pnp_model.specs.Tests.{has, is_surprise_task}
 use Rattle.pnp_model.specs.Trees.{above, children, is_child, leaving, set_of, stands_up}
 use Rattle.pnp_laws.specs.Due.{is_due, leads}
-use Rattle.pnp_laws.specs.Effects.{Alters, AnswerEffect, Closes, CommandEffect, NodeEffect, OpEffect, OperationEffect, TaskEffect, TasksEffect, to_leave}
+use Rattle.pnp_laws.specs.Effects.{AnswerEffect, Closes, CommandEffect, NodeEffect, OpEffect, OperationEffect, TaskEffect, TasksEffect, to_leave}
 use Rattle.pnp_laws.specs.Kept.{Ascending, OperationFits, SurpriseKeeps}
 use Rattle.pnp_laws.specs.Reached.{IsReached}
 use Rattle.pnp_laws.specs.Strays.{IsStray, StraysLaw}
 use Rattle.pnp_laws.specs.Words.{spared}
-use Rattle.pnp_laws.proofs.Aboves.{any_from, due_below, due_more, has_cases, is_above_in}
+use Rattle.pnp_laws.proofs.Aboves.{any_from, due_below, due_more, is_above_in}
 use Rattle.pnp_laws.proofs.Closures.{closed_keeps, those_serial}
 use Rattle.pnp_laws.proofs.Due.{below_in_set}
 use Rattle.pnp_laws.proofs.EffectViews.{alters_keeps}
@@ -33,8 +32,8 @@ use Rattle.pnp_laws.proofs.EffectsOf.{effect_goes}
 use Rattle.pnp_laws.proofs.EffectsOfOperations.{begun_spared, completed_work}
 use Rattle.pnp_laws.proofs.Finishes.{leaving_all, set_is_closed}
 use Rattle.pnp_laws.proofs.Finishing.{head_bare}
-use Rattle.pnp_laws.proofs.Lists.{HeadIs, head_found, rest_has}
-use Rattle.pnp_laws.proofs.Lookups.{entered_same, left_from, left_same, map_from, node_at-map, node_changed_other, node_changed_same, node_from, own_serial}
+use Rattle.pnp_laws.proofs.Lists.{HeadIs, has_cases, head_found, rest_has}
+use Rattle.pnp_laws.proofs.Lookups.{entered_same, left_from, left_same, map_from, node_at-map, own_serial}
 use Rattle.pnp_laws.proofs.Orders.{any_some}
 use Rattle.pnp_laws.proofs.Reaching.{kept, reached_on}
 use Rattle.pnp_laws.proofs.Restarts.{over_stopped}
@@ -44,28 +43,11 @@ use Rattle.pnp_laws.proofs.RunsWhole.{reached_is_whole}
 use Rattle.pnp_laws.proofs.Sounds.{LeadsMore, leads_first, leads_pushed, leads_same}
 use Rattle.pnp_laws.proofs.Standing.{DueBut, StageKept, SurpriseOrder, waiting}
 use Rattle.pnp_laws.proofs.SurpriseSteps.{last_alone}
-use Rattle.pnp_laws.proofs.TreeChanges.{SameNodes, above_same}
+use Rattle.pnp_laws.proofs.TreeChanges.{SameNodes, above_same, nodes_kept}
 use Rattle.pnp_laws.proofs.TreeMoves.{Childless, above_joined, above_left}
 use Rattle.pnp_laws.proofs.StrayMoves.{From, Seen, from, none_from, over_none, spared_by, unplaced_now}
 
 -- Who stands above -----------------------------------------------------------------------------------
-
-nodes_kept : (old new : List Node) (j : ℕ) (f : Node → Node) → new ≡ changed_first (is_node j) f old → ((x : Node) → (f x).serial ≡ x.serial) → ((x : Node) → (f x).parent ≡ x.parent) → SameNodes old new
-nodes_kept old new j f is serial parent =
-    record {
-      from = λ k m at. elim (node_from j k f old m serial (subst (λ (x : List Node). node_at k x ≡ Some m) is at)) [
-        | inl (e, (n, q, r)) ↦ (n, q, ap (λ (z : Node). z.parent) r ∙ parent n)
-        | inr (d, q) ↦ (m, q, refl)
-      ];
-      to = λ k n at. elim (cases_eq j k) [
-        | inl e ↦ (
-          f n,
-          subst (λ (x : List Node). node_at k x ≡ Some (f n)) (sym is)
-              (subst (λ (i : ℕ). node_at k (changed_first (is_node i) f old) ≡ Some (f n)) (sym e) (node_changed_same k f old serial ∙ ap (option_map f) at)),
-        )
-        | inr d ↦ (n, subst (λ (x : List Node). node_at k x ≡ Some n) (sym is) (node_changed_other j k f old serial d ∙ at))
-      ];
-    }
 
 nodes_mapped : (old new : List Node) (f : Node → Node) → new ≡ map f old → ((x : Node) → (f x).serial ≡ x.serial) → ((x : Node) → (f x).parent ≡ x.parent) → SameNodes old new
 nodes_mapped old new f is serial parent =
@@ -75,12 +57,6 @@ nodes_mapped old new f is serial parent =
           (was.0, was.1, ap (λ (z : Node). z.parent) was.2 ∙ parent was.0);
       to = λ k n at. (f n, subst (λ (x : List Node). node_at k x ≡ Some (f n)) (sym is) (node_at-map k f old serial ∙ ap (option_map f) at));
     }
-
-alters_parent : (s : State) (label : Label) (t : State) (j : ℕ) (f : Node → Node) → Alters s label t j f → (n : Node) → (f n).parent ≡ n.parent
-alters_parent s label t j f (Alters.walked node minor w bad at request other ends verdict prints) n = refl
-alters_parent s label t j f (Alters.troubled k problem) n = refl
-alters_parent s label t j f (Alters.stacks node d ds name at acts prints) n = refl
-alters_parent s label t j f (Alters.assigned node phase plan acts search part now) n = refl
 
 childless : (j : ℕ) (nodes : List Node) → Ascending 0 nodes → children j nodes ≡ [] → Childless j nodes
 childless j nodes order none i m at up parent =
@@ -94,7 +70,7 @@ above_stays : (s : State) (label : Label) (t : State) → Kept s → DependentsF
     → (k : ℕ) (n m : Node) → node_at k s.core.nodes ≡ Some n → node_at k t.core.nodes ≡ Some m → above t.core.nodes k ≡ above s.core.nodes k
 above_stays s label t kept first follows (NodeEffect.same a b) k n m at now = ap (λ (x : List Node). above x k) a
 above_stays s label t kept first follows (NodeEffect.changed j f alters a b) k n m at now =
-    above_same s.core.nodes t.core.nodes (nodes_kept s.core.nodes t.core.nodes j f a (alters_keeps s label t j f alters).serial (alters_parent s label t j f alters)) k
+    above_same s.core.nodes t.core.nodes (nodes_kept s.core.nodes t.core.nodes j f a (alters_keeps s label t j f alters).serial (alters_keeps s label t j f alters).parent) k
 above_stays s label t kept first follows (NodeEffect.stripped node w there request ends prints a b) k n m at now =
     above_same s.core.nodes t.core.nodes (nodes_kept s.core.nodes t.core.nodes node.serial bare a (λ x. refl) (λ x. refl)) k
 above_stays s label t kept first follows (NodeEffect.commits r runs is a b) k n m at now =

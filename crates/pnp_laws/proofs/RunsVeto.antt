@@ -1,5 +1,5 @@
 -- A veto restores, in each run.
-use Rattle.std.proofs.Common.{ℕ, ◌≡◌, inl, inr, Bool, false, List, [], ◌∷◌, Option, Some, None, refl, sym, ap, ◌∙◌, subst}
+use Rattle.std.proofs.Common.{ℕ, ◌≡◌, inl, inr, Bool, false, List, Option, Some, None, refl, sym, ap, ◌∙◌, subst}
 use Rattle.pnp_model.specs.Records.{Node, Core, Driver, State, Step, Settings, Operation}
 use Rattle.pnp_model.specs.Trees.{leaving}
 use Rattle.pnp_model.specs.Rebalances.{begun_rebalance}
@@ -16,11 +16,9 @@ use Rattle.pnp_labels.specs.declared.label.OpEnd.{OpEnd}
 use Rattle.pnp_laws.specs.Words.{is_removal, NoVeto, EndsBy}
 use Rattle.pnp_laws.specs.Kept.{IsGood}
 use Rattle.pnp_laws.specs.Reached.{IsReached}
-use Rattle.pnp_laws.specs.RunsWell.{RunWell}
-use Rattle.pnp_laws.proofs.Runs.{lawful_goes}
-use Rattle.pnp_laws.proofs.RunsStand.{Kept, kept_goes, run_well, reaches_kept}
-use Rattle.pnp_laws.proofs.Reaching.{reached_on}
-use Rattle.pnp_laws.proofs.Courses.{Way, course_goes}
+use Rattle.pnp_laws.proofs.Reached.{reached_is_good}
+use Rattle.pnp_laws.proofs.Reaching.{kept_within, reached_after, reached_on}
+use Rattle.pnp_laws.proofs.Courses.{Way, way_goes}
 use Rattle.pnp_laws.proofs.BeginSteps.{Begun, begins_right, reached_dues}
 use Rattle.pnp_laws.proofs.Vetoes.{since_begun, veto_restores}
 use Rattle.pnp_laws.proofs.VetoSteps.{VetoSince, Closed, veto_step, veto_happens}
@@ -37,12 +35,6 @@ veto_goes before settings s (Did label) t good w g h =
       | inl next ↦ next.1
       | inr closed ↦ absurd (not_closed before s (record { label = label; state = t }) w closed)
     ]
-
-veto_run : (before : Core) (settings : Settings) (s : State) (entries : List Entry) (t : State) → AllWithin entries → IsGood s → RunWell settings s entries t → VetoSince before s → (VetoSince before t) × IsGood t
-veto_run before settings s [] t w good g h = (subst (λ (x : State). VetoSince before x) (sym g) h, subst (λ (x : State). IsGood x) (sym g) good)
-veto_run before settings s (entry ∷ rest) t w good g h =
-    let run = g.1 in
-    veto_run before settings run.0 rest t w.1 (lawful_goes settings s entry run.0 g.0 good run.1).good run.2 (veto_goes before settings s entry run.0 good w.0 run.1 h)
 
 -- the end
 
@@ -81,12 +73,6 @@ unvetoed_way s t label (Way.goes o p runs after work prints) w h =
     record { op = p; runs = after; sort = work.sort ∙ ap is_removal (sym same) ∙ h.sort }
 unvetoed_way s t label (Way.ends o result runs after is by) w h = absurd (subst (λ (x : Label). IsWithin x) is w)
 
-unvetoed_run : (settings : Settings) (rack : List Driver) (s : State) (entries : List Entry) (t : State) → IsReached settings rack s → AllWithin entries → Run settings s entries t → Unvetoed s → Unvetoed t × IsReached settings rack t
-unvetoed_run settings rack s [] t reached w run h = (subst (λ (x : State). Unvetoed x) (sym run) h, subst (λ (x : State). IsReached settings rack x) (sym run) reached)
-unvetoed_run settings rack s (entry ∷ rest) t reached w (mid, goes, run) h =
-    let way = (course_goes settings s entry mid (reached_dues settings rack s reached) goes).way in
-    unvetoed_run settings rack mid rest t (reached_on settings rack s entry mid reached goes) w.1 run (unvetoed_way s mid (printed entry) way w.0 h)
-
 no_veto : (s t : State) (kind : OpKind) (path q : Text) → Way s (record { label = Label.End kind path (OpEnd.Veto q); state = t }) → Unvetoed s → ⊥
 no_veto s t kind path q (Way.idles none after beside) h = beside
 no_veto s t kind path q (Way.begins own node none at is) h = let label = ap (λ (x : Step). x.label) is in absurd (cc)
@@ -102,18 +88,18 @@ no_veto s t kind path q (Way.ends o result runs after label by) h =
 -- The law -------------------------------------------------------------------------------------
 
 -- a removal that began keeps what it is to restore, and another operation is never vetoed
-veto_since : (before : Core) (settings : Settings) (begun last after : State) (entries : List Entry) (end_kind : OpKind) (end_path q : Text) → VetoSince before begun → Kept begun →
+veto_since : (before : Core) (settings : Settings) (rack : List Driver) (begun last after : State) (entries : List Entry) (end_kind : OpKind) (end_path q : Text) → IsReached settings rack begun → VetoSince before begun →
     Run settings begun entries last → AllWithin entries → Goes settings last (Did (Label.End end_kind end_path (OpEnd.Veto q))) after → Restores before after.core
-veto_since before settings begun last after entries end_kind end_path q since kept run within ends =
-    let two = veto_run before settings begun entries last within kept.good (run_well settings begun entries last run kept) since in
-    let same = veto_end before settings last after end_kind end_path q two.1 two.0 ends in
+veto_since before settings rack begun last after entries end_kind end_path q reached since run within ends =
+    let since_then = kept_within (VetoSince before) settings rack (λ old entry new there w h goes. veto_goes before settings old entry new (reached_is_good settings rack old there) w goes h) begun entries last reached within since run in
+    let same = veto_end before settings last after end_kind end_path q (reached_is_good settings rack last (reached_after settings rack begun entries last reached run)) since_then ends in
     record { nodes = same.0; relations = same.1; reserved = same.2 }
 
 unvetoed : (settings : Settings) (rack : List Driver) (begun last after : State) (entries : List Entry) (end_kind : OpKind) (end_path q : Text) → IsReached settings rack begun → Unvetoed begun → Run settings begun entries last → AllWithin entries →
     Goes settings last (Did (Label.End end_kind end_path (OpEnd.Veto q))) after → ⊥
 unvetoed settings rack begun last after entries end_kind end_path q reached h run within ends =
-    let there = unvetoed_run settings rack begun entries last reached within run h in
-    no_veto last after end_kind end_path q (course_goes settings last (Did (Label.End end_kind end_path (OpEnd.Veto q))) after (reached_dues settings rack last there.1) ends).way there.0
+    let still = kept_within Unvetoed settings rack (λ old entry new there w h goes. unvetoed_way old new (printed entry) (way_goes settings old entry new (reached_dues settings rack old there) goes) w h) begun entries last reached within h run in
+    no_veto last after end_kind end_path q (way_goes settings last (Did (Label.End end_kind end_path (OpEnd.Veto q))) after (reached_dues settings rack last (reached_after settings rack begun entries last reached run)) ends) still
 
 -- a removal of the kind began
 removal_since : (s : State) (kind : OpKind) (node : Node) (t : State) → t ≡ (begin s kind node (Operation.Removing (begun_removal s.core kind node))).state → VetoSince s.core t
@@ -126,22 +112,20 @@ removal_since s kind node t is =
 other_runs : (s : State) (kind : OpKind) (node : Node) (t : State) (o : Operation) → is_removal o ≡ false → t ≡ (begin s kind node o).state → Unvetoed t
 other_runs s kind node t o sort is = record { op = o; runs = ap (λ (x : State). x.operation) is; sort = sort }
 
-by_begin : (settings : Settings) (rack : List Driver) (before begun last after : State) (entries : List Entry) (kind end_kind : OpKind) (path end_path q : Text) → Begun before kind path begun → IsReached settings rack begun → Kept begun →
+by_begin : (settings : Settings) (rack : List Driver) (before begun last after : State) (entries : List Entry) (kind end_kind : OpKind) (path end_path q : Text) → Begun before kind path begun → IsReached settings rack begun →
     Run settings begun entries last → AllWithin entries → Goes settings last (Did (Label.End end_kind end_path (OpEnd.Veto q))) after → Restores before.core after.core
-by_begin settings rack before begun last after entries OpKind.Disable end_kind path end_path q b reached kept run within ends =
-    veto_since before.core settings begun last after entries end_kind end_path q (removal_since before OpKind.Disable b.node begun b.is) kept run within ends
-by_begin settings rack before begun last after entries OpKind.Eject end_kind path end_path q b reached kept run within ends =
-    veto_since before.core settings begun last after entries end_kind end_path q (removal_since before OpKind.Eject b.node begun b.is) kept run within ends
-by_begin settings rack before begun last after entries OpKind.Rebalance end_kind path end_path q b reached kept run within ends =
+by_begin settings rack before begun last after entries OpKind.Disable end_kind path end_path q b reached run within ends =
+    veto_since before.core settings rack begun last after entries end_kind end_path q reached (removal_since before OpKind.Disable b.node begun b.is) run within ends
+by_begin settings rack before begun last after entries OpKind.Eject end_kind path end_path q b reached run within ends =
+    veto_since before.core settings rack begun last after entries end_kind end_path q reached (removal_since before OpKind.Eject b.node begun b.is) run within ends
+by_begin settings rack before begun last after entries OpKind.Rebalance end_kind path end_path q b reached run within ends =
     absurd (unvetoed settings rack begun last after entries end_kind end_path q reached (other_runs before OpKind.Rebalance b.node begun (Operation.Rebalancing (begun_rebalance before.core b.node)) refl b.is) run within ends)
-by_begin settings rack before begun last after entries OpKind.Surprise end_kind path end_path q b reached kept run within ends =
+by_begin settings rack before begun last after entries OpKind.Surprise end_kind path end_path q b reached run within ends =
     absurd (unvetoed settings rack begun last after entries end_kind end_path q reached (other_runs before OpKind.Surprise b.node begun (Operation.Surprising (begun_surprise before.core b.node)) refl b.is) run within ends)
 
 pub a_veto_restores : VetoLaw
 a_veto_restores settings rack earlier entries before begun last after kind end_kind path end_path refuser reaches goes run within ends =
     let at_before : IsReached settings rack before = (earlier, reaches) in
-    let kept = reaches_kept settings rack earlier before reaches in
     by_begin settings rack before begun last after entries kind end_kind path end_path refuser
     (begins_right settings before begun kind path (reached_dues settings rack before at_before) goes)
-    (reached_on settings rack before (Did (Label.Begin kind path)) begun at_before goes)
-    (kept_goes settings before (Did (Label.Begin kind path)) begun kept goes) run within ends
+    (reached_on settings rack before (Did (Label.Begin kind path)) begun at_before goes) run within ends

@@ -1,5 +1,5 @@
 -- Each step of a rebalance keeps the tree and what is due.
-use Rattle.std.proofs.Common.{ℕ, ◌≡◌, ◌≢◌, inl, inr, Bool, true, false, List, [], ◌∷◌, length, Option, Some, None, refl, sym, ap, ◌∙◌, subst, arith, reverse}
+use Rattle.std.proofs.Common.{ℕ, ◌≡◌, ◌≢◌, inl, inr, Bool, true, false, List, [], ◌∷◌, length, Option, Some, refl, sym, ap, ◌∙◌, subst, arith, reverse}
 use Rattle.std.specs.Option.{option_map}
 use Rattle.std.proofs.lemmas.Bool.{cases_eq}
 use Rattle.std.proofs.lemmas.Bool.Decides.{nat_tests}
@@ -7,7 +7,7 @@ use Rattle.resource_reqs.specs.Spelling.Answer.{assignment, no_fit, spent}
 use Rattle.pnp_model.specs.Keyed.{changed_first, those}
 use Rattle.pnp_model.specs.Tests.{has}
 use Rattle.pnp_model.specs.Records.{Node, Task, State, Operation, Rebalance, RebalanceStage, Found, Duty}
-use Rattle.pnp_model.specs.Records.RebalanceStage.{Asking, TakingBack, Searching, Cancelling, Stuck, Stopping, Committing, Restarting, Failed, Ending}
+use Rattle.pnp_model.specs.Records.RebalanceStage.{Searching}
 use Rattle.pnp_model.specs.Cores.{is_node, node_at, with_state, with_problem}
 use Rattle.pnp_model.specs.Trees.{stands_up}
 use Rattle.pnp_model.specs.Frames.{first_node, rest}
@@ -28,13 +28,14 @@ use Rattle.pnp_laws.proofs.Lists.{head_found, head_has, rest_has}
 use Rattle.pnp_laws.proofs.OpSteps.{stopped_calm}
 use Rattle.pnp_laws.proofs.RebalanceSteps.{head_started, head_pending, head_stopping, head_stopped, rootless_head}
 use Rattle.pnp_laws.proofs.Aboves.{due_more}
-use Rattle.pnp_laws.proofs.Standing.{DueBut, waiting, rebalance_waiting, OrderKept, Stands, Sound, Rising, Ordered, RebalanceThere, AllThere, Goes}
+use Rattle.pnp_laws.specs.Rebalanced.{Rising}
+use Rattle.pnp_laws.proofs.Standing.{DueBut, waiting, rebalance_waiting, OrderKept, Stands, Sound, Ordered, RebalanceThere, AllThere}
 use Rattle.pnp_laws.proofs.Theres.{goes_on, rest_there, those_there, reverse_there, startable_there, more_there, same_there, same_goes}
 use Rattle.pnp_laws.proofs.TreeChanges.{Alike, same_changed, same_mapped, nodes_same, tree_same}
 use Rattle.pnp_laws.proofs.Sounds.{IsPlain, LeadsMore, leads_same, leads_first, due_still, due_same, due_changed, sound_same, sound_walk}
 use Rattle.pnp_laws.proofs.Stages.{RebalanceStep}
 use Rattle.pnp_laws.proofs.SoundOps.{Work, same_state, op_walk, op_still, problem_alike}
-use Rattle.pnp_laws.proofs.Restarts.{ordered_agreed, ordered_fewer, rising_weaker, rising_rest, rising_startable, due_restart}
+use Rattle.pnp_laws.proofs.Restarts.{ordered_agreed, ordered_fewer, rising_rest, rising_startable, due_restart}
 use Rattle.pnp_laws.proofs.SoundRemovals.{started_stays}
 
 -- What comes next, by what is still to do ----------------------------------------------------------
@@ -43,7 +44,7 @@ abbrev pub RebalanceKept : Rebalance → List Node → Type 0
 RebalanceKept r nodes = OrderKept r r.stage × RebalanceThere r r.stage nodes
 
 pub order_ask_on : (r : Rebalance) (ks : List ℕ) (nodes : List Node) → Ordered ks r.agreed → AllThere ks nodes → AllThere r.agreed nodes → RebalanceKept (ask_on r ks) nodes
-order_ask_on r [] nodes g there all = (rising_weaker 0 g.0 r.agreed (omega arith) g.2, all)
+order_ask_on r [] nodes g there all = (g.rising, all)
 order_ask_on r (k ∷ ks) nodes g there all = (g, (goes_on k ks nodes there, all))
 
 pub waits_ask_on : (r : Rebalance) (ks : List ℕ) → waiting (Some (Operation.Rebalancing (ask_on r ks))) ≡ []
@@ -58,7 +59,7 @@ waits_cancel_on : (r : Rebalance) (ks : List ℕ) → waiting (Some (Operation.R
 waits_cancel_on r [] = refl
 waits_cancel_on r (k ∷ ks) = refl
 
-order_stop_on : (r : Rebalance) (ks : List ℕ) (nodes : List Node) → Rising 0 r.agreed → AllThere ks nodes → AllThere r.agreed nodes → RebalanceKept (stop_on r ks) nodes
+order_stop_on : (r : Rebalance) (ks : List ℕ) (nodes : List Node) → Rising r.agreed → AllThere ks nodes → AllThere r.agreed nodes → RebalanceKept (stop_on r ks) nodes
 order_stop_on r [] nodes g there all = (g, all)
 order_stop_on r (k ∷ ks) nodes g there all = (g, (goes_on k ks nodes there, all))
 
@@ -66,7 +67,7 @@ waits_stop_on : (r : Rebalance) (ks : List ℕ) → waiting (Some (Operation.Reb
 waits_stop_on r [] = refl
 waits_stop_on r (k ∷ ks) = refl
 
-order_restart_from : (r : Rebalance) (ks : List ℕ) (nodes : List Node) → Rising 0 ks → AllThere ks nodes → RebalanceKept (restart_from r ks) nodes
+order_restart_from : (r : Rebalance) (ks : List ℕ) (nodes : List Node) → Rising ks → AllThere ks nodes → RebalanceKept (restart_from r ks) nodes
 order_restart_from r [] nodes g there = (tt, tt)
 order_restart_from r (k ∷ ks) nodes g there = (g, goes_on k ks nodes there)
 
@@ -189,8 +190,8 @@ module _ (s : State) (r : Rebalance) (good : Good s.next_serial s.core.nodes [] 
       let t = (rebalance_lifted s (commit_step s.core r)).state in
       let same = same_mapped s.core t.core f refl refl (commits_alike (movers r) r) in
       let ks = startable s.core.nodes r.agreed in
-      let now = due_restart s.tasks s.core 0 r.agreed h.tree.root h.tree.rooted h.tree.idle (all_calm r.agreed s.core.nodes keeps.each) (not_root s s.next_serial _ good) order due in
-      sound_same s t (Label.Commit (length (movers r))) tt same refl h.up (order_restart_from r ks t.core.nodes (rising_startable 0 s.core.nodes r.agreed order) (same_there ks s.core t.core same (startable_there s.core.nodes r.agreed s.core.nodes there)))
+      let now = due_restart s.tasks s.core r.agreed h.tree.root h.tree.rooted h.tree.idle (all_calm r.agreed s.core.nodes keeps.each) (not_root s s.next_serial _ good) order due in
+      sound_same s t (Label.Commit (length (movers r))) tt same refl h.up (order_restart_from r ks t.core.nodes (rising_startable s.core.nodes r.agreed order) (same_there ks s.core t.core same (startable_there s.core.nodes r.agreed s.core.nodes there)))
       (subst (λ (x : List ℕ). DueBut x s.tasks t.core.nodes) (sym (waits_restart_from r ks))
       (due_same ks ks s.tasks s.tasks s.core.nodes t.core.nodes (nodes_same s.core t.core same) (leads_same s.tasks)
       (λ k n m was at stopped.
@@ -220,9 +221,9 @@ module _ (s : State) (r : Rebalance) (good : Good s.next_serial s.core.nodes [] 
         | inl (q, (y, z, u)) ↦ absurd (let v = ap (λ (x : Node). x.state) u in cc)
         | inr (d, q) ↦ not_root s s.next_serial _ good k n q e
       ] in
-      let now = due_restart s.tasks t.core 0 ks tree.root tree.rooted tree.idle (rest_calm r.todo s.core.nodes keeps.each node.serial (with_state Started) node (λ x. refl) work.at refl) up (rising_rest 0 r.todo order) left in
+      let now = due_restart s.tasks t.core ks tree.root tree.rooted tree.idle (rest_calm r.todo s.core.nodes keeps.each node.serial (with_state Started) node (λ x. refl) work.at refl) up (rising_rest r.todo order) left in
       sound_walk s t node Minor.Start false Started refl same refl work.at (λ q. cc) (subst (λ (x : DevState). Row x Minor.Start false Started) (sym state) restart) h.up
-      (order_restart_from r (startable t.core.nodes ks) t.core.nodes (rising_startable 0 t.core.nodes ks (rising_rest 0 r.todo order)) (startable_there t.core.nodes ks t.core.nodes (same_there ks s.core t.core same (rest_there r.todo s.core.nodes there.there))))
+      (order_restart_from r (startable t.core.nodes ks) t.core.nodes (rising_startable t.core.nodes ks (rising_rest r.todo order)) (startable_there t.core.nodes ks t.core.nodes (same_there ks s.core t.core same (rest_there r.todo s.core.nodes there.there))))
       (subst (λ (x : List ℕ). DueBut x s.tasks t.core.nodes) (sym (waits_restart_from r (startable t.core.nodes ks))) now) h
   sound_rebalance stage m keeps order there due (RebalanceStep.failed node first) =
       let work = re_work node first keeps.rootless in
@@ -240,10 +241,10 @@ module _ (s : State) (r : Rebalance) (good : Good s.next_serial s.core.nodes [] 
           | inr d ↦ inr (rest_has node.serial k r.todo work.head d ∙ q)
         ]
       ] in
-      let now = due_restart t.tasks s.core 0 ks h.tree.root h.tree.rooted h.tree.idle (all_calm r.todo s.core.nodes keeps.each) (not_root s s.next_serial _ good) (rising_rest 0 r.todo order) left in
+      let now = due_restart t.tasks s.core ks h.tree.root h.tree.rooted h.tree.idle (all_calm r.todo s.core.nodes keeps.each) (not_root s s.next_serial _ good) (rising_rest r.todo order) left in
       let todo = startable s.core.nodes ks in
       sound_same s t (Label.Trouble node.path Problem.FailedStart) tt same refl (work.up, h.up)
-      (order_restart_from r todo t.core.nodes (rising_startable 0 s.core.nodes ks (rising_rest 0 r.todo order)) (same_there todo s.core t.core same (startable_there s.core.nodes ks s.core.nodes (rest_there r.todo s.core.nodes there.there))))
+      (order_restart_from r todo t.core.nodes (rising_startable s.core.nodes ks (rising_rest r.todo order)) (same_there todo s.core t.core same (startable_there s.core.nodes ks s.core.nodes (rest_there r.todo s.core.nodes there.there))))
       (subst (λ (x : List ℕ). DueBut x t.tasks t.core.nodes) (sym (waits_restart_from r todo))
       (due_changed todo todo t.tasks t.tasks s.core.nodes t.core.nodes node.serial f node refl (λ x. refl) work.at (nodes_same s.core t.core same) (leads_same t.tasks) (λ q. inl q) (λ k q. inl q) now)) h
   sound_rebalance stage m keeps order there due RebalanceStep.closes = re_closes r.found (Label.End OpKind.Rebalance r.path (end_of r.found)) tt due

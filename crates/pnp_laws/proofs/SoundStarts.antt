@@ -4,7 +4,7 @@ use Rattle.std.specs.List.{list_any}
 use Rattle.std.proofs.lemmas.Bool.Decides.{nat_tests}
 use Rattle.pnp_model.specs.Keyed.{changed_first}
 use Rattle.pnp_model.specs.Tests.{has}
-use Rattle.pnp_model.specs.Records.{Node, Core, Phase, State, Task, Operation, Duty}
+use Rattle.pnp_model.specs.Records.{Node, Core, Phase, State, Operation, Duty, Task}
 use Rattle.pnp_model.specs.Cores.{is_node, node_at, with_state, with_problem, with_stack, with_holds, stacked, strip}
 use Rattle.pnp_model.specs.Trees.{dependents, direct, hangs_on}
 use Rattle.pnp_model.specs.Starts.{StartMove, own_part}

@@ -16,14 +16,14 @@ use Rattle.pnp_labels.specs.declared.states.DevState.TheVariants.{NoStack, Start
 use Rattle.resource_reqs.specs.Spelling.Answer.{no_fit}
 use Rattle.pnp_laws.specs.Kept.{Good, is_idle}
 use Rattle.pnp_laws.specs.Due.{leads}
-use Rattle.pnp_laws.proofs.IdleSteps.{Bare, First, TaskStep, gone_is, joins_is}
-use Rattle.pnp_laws.proofs.Lookups.{own_serial, find_passes, found_self, joined_from, joined_keeps}
-use Rattle.pnp_laws.proofs.Lists.{those_found}
+use Rattle.pnp_laws.proofs.Lookups.{own_serial, found_self, joined_from, joined_keeps, find_passes}
+use Rattle.pnp_laws.proofs.Lists.{has_cases, those_found}
 use Rattle.pnp_laws.proofs.Closures.{closed_keeps}
 use Rattle.pnp_laws.proofs.Orders.{any_some}
 use Rattle.pnp_laws.proofs.Due.{below_in_set}
-use Rattle.pnp_laws.proofs.Aboves.{is_above_in, has_cases, any_from, due_more}
-use Rattle.pnp_laws.proofs.Standing.{Tree, DueBut, TasksUp, waiting, StageKept, Stands, Sound}
+use Rattle.pnp_laws.proofs.Aboves.{is_above_in, any_from, due_more}
+use Rattle.pnp_laws.proofs.Standing.{Tree, DueBut, waiting, StageKept, Stands, Sound, TasksUp}
+use Rattle.pnp_laws.proofs.IdleSteps.{Bare, First, TaskStep, gone_is, joins_is}
 use Rattle.pnp_laws.proofs.TreeMoves.{tree_joined, above_joined}
 use Rattle.pnp_laws.proofs.Sounds.{IsPlain, LeadsMore, leads_none, leads_pushed, up_append, up_drop, due_still, sound_still, first_stays}
 use Rattle.pnp_laws.proofs.SoundStarts.{stage_none, calm_still, calm_changed, plain_alike}
@@ -133,7 +133,7 @@ sound_rebalance s node first none good h =
     let r : Rebalance = record { target = node.serial; path = node.path; todo = []; agreed = []; refused = []; found = no_fit; stage = RebalanceStage.Searching } in
     let ks = reverse (serials_of (those re.is_asked s.core.nodes)) in
     sound_begin s OpKind.Rebalance node _ _ first refl none
-    (sre.order_ask_on r ks s.core.nodes (ordered_begun s.next_serial re.is_asked s.core.nodes good.serials (λ i q. let f = those_found 0 re.is_asked s.core.nodes i good.serials q in good.below i f.0 f.1))
+    (sre.order_ask_on r ks s.core.nodes (ordered_begun re.is_asked s.core.nodes good.serials)
     (reverse_there (serials_of (those re.is_asked s.core.nodes)) s.core.nodes (λ i q. let f = those_found 0 re.is_asked s.core.nodes i good.serials q in (f.0, f.1)))
     (none_there s.core.nodes))
     (sre.waits_ask_on r ks) h

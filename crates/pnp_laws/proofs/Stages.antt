@@ -1,9 +1,10 @@
 -- What a step of an operation is, stage by stage: the one list that laws over stages read.
-use Rattle.std.proofs.Common.{ℕ, ◌≡◌, ◌==◌, ◌⊎◌, ◌∙◌, inl, inr, Bool, true, false, ◌&&◌, List, length, Option, Some, None, refl, ap, subst}
+use Rattle.std.proofs.Common.{ℕ, ◌≡◌, ◌==◌, ◌⊎◌, ◌∙◌, inl, inr, Bool, true, false, ◌&&◌, List, length, Option, Some, None, refl, sym, ap, subst}
 use Rattle.std.specs.Option.{option_map}
 use Rattle.resource_reqs.specs.Spelling.{IsAnswer}
 use Rattle.pnp_labels.specs.declared.words.AskWhat.{AskWhat}
 use Rattle.pnp_labels.specs.declared.words.Answer.{Answer}
+use Rattle.pnp_labels.specs.declared.words.Minor.{Minor}
 use Rattle.pnp_labels.specs.declared.states.Problem.{Problem}
 use Rattle.pnp_model.specs.Books.{rack_reply}
 use Rattle.pnp_model.specs.Frames.{asked, first_node, next_driver}
@@ -12,7 +13,7 @@ use Rattle.pnp_model.specs.Records.Doing.{Does}
 use Rattle.pnp_model.specs.Removals.{RemoveBeside}
 use Rattle.pnp_model.specs.States.{set_operation, with_core}
 use Rattle.pnp_model.specs.Tests.{has, is_eject}
-use Rattle.pnp_model.specs.Walks.{has_ended, is_bad}
+use Rattle.pnp_model.specs.Walks.{after, has_ended, is_bad}
 use Rattle.pnp_laws.specs.Effects.{todo_of}
 use Rattle.pnp_laws.specs.Words.{NotTwelve}
 use Rattle.pnp_laws.proofs.Passing.{AllNext, all_step}
@@ -67,6 +68,14 @@ pub data SurpriseStep (c : Core) (o : Surprise) (in_world : Bool) : SurpriseStag
 abbrev pub reply : Core → Node → Walk → Answer
 reply c node w = rack_reply (AskWhat.Irp w.minor) node.path c.rack (next_driver node w)
 
+pub after_minor : (w : Walk) (answer : Answer) → (after w answer).minor ≡ w.minor
+after_minor w Answer.Ok = refl
+after_minor w Answer.Fail = refl
+after_minor w Answer.Pend = refl
+
+pub answered_own : (w : Walk) (answer : Answer) (minor : Minor) → Some w.minor ≡ Some minor → Some (after w answer).minor ≡ Some minor
+answered_own w answer minor own = ap Some (after_minor w answer) ∙ own
+
 -- the next driver of a walk is asked: nodes and relations stay, and the walk of the operation goes on by the answer
 abbrev pub asking : State → Operation → Node → Walk → Step
 asking s o node w = record { label = (asked s.core node w).label; state = set_operation (Some (ev.completed (reply s.core node w) o)) (with_core (asked s.core node w).core s) }
@@ -88,104 +97,99 @@ pub data OperationStep (s : State) : Operation → Step → Type 0 where
 abbrev StepsBy : ℕ → State → Operation → Option (Doing Step) → Type 0
 StepsBy budget s o next = AllNext budget (OperationStep s o) next
 
-module _ (budget : ℕ) (s : State) (r : Rebalance) where
-  re_asks : (stage : RebalanceStage) (node : Node) (w : Walk) → r.stage ≡ stage → first_node s.core.nodes r.todo ≡ Some node → ma.rebalance_walk stage ≡ Some w → w.waits ≡ false → has_ended w (length node.stack) ≡ false
-      → OperationStep s (Operation.Rebalancing r) (ma.rebalance_lifted s (re.moves (asked s.core node w).label (asked s.core node w).core (record r { stage = ev.completed_rebalance (reply s.core node w) stage })))
-  re_asks stage node w is first walk waits more =
-      subst (λ (x : RebalanceStage). OperationStep s (Operation.Rebalancing r) (ma.rebalance_lifted s (re.moves (asked s.core node w).label (asked s.core node w).core (record r { stage = ev.completed_rebalance (reply s.core node w) x })))) is
-      (OperationStep.asks (Operation.Rebalancing r) node w (record { first = first; walk = ap ma.rebalance_walk is ∙ walk; waits = waits; more = more }))
+module _ (budget : ℕ) (s : State) where
+  -- a walk that has not ended asks on; `wrap` puts a stage into the operation, and `step` is what is done by whether the walk has ended
+  walks : {A : Type 0} (wrap : A → Operation) (own stage : A) (node : Node) (w : Walk) (step : Bool → Step) → own ≡ stage → first_node s.core.nodes (todo_of (wrap own)) ≡ Some node → ma.operation_walk (wrap stage) ≡ Some w → w.waits ≡ false
+      → step false ≡ asking s (wrap stage) node w → (Ends s.core (todo_of (wrap own)) node w → OperationStep s (wrap own) (step true)) → OperationStep s (wrap own) (step (has_ended w (length node.stack)))
+  walks wrap own stage node w step is first walk waits on over =
+      by_test (λ b. OperationStep s (wrap own) (step b)) (has_ended w (length node.stack)) (λ ended. over (record { first = first; ended = ended }))
+      (λ more. subst (λ (x : Step). OperationStep s (wrap own) x) (sym on) (subst (λ x. OperationStep s (wrap own) (asking s (wrap x) node w)) is
+      (OperationStep.asks (wrap own) node w (record { first = first; walk = ap (λ x. ma.operation_walk (wrap x)) is ∙ walk; waits = waits; more = more }))))
 
-  rebalance_step : (stage : RebalanceStage) (n : Option Node) → r.stage ≡ stage → first_node s.core.nodes r.todo ≡ n → ma.is_waiting (ma.rebalance_walk stage) ≡ false
-      → StepsBy budget s (Operation.Rebalancing r) (option_map (doing_map (ma.rebalance_lifted s)) (re.rebalance_step s.core r stage n))
-  rebalance_step RebalanceStage.Searching n is first waits = λ found answer. OperationStep.rebalances r RebalanceStage.Searching (re.searched s.core r found) is (RebalanceStep.searches found budget answer)
-  rebalance_step RebalanceStage.Stuck n is first waits = OperationStep.rebalances r _ _ is RebalanceStep.sticks
-  rebalance_step RebalanceStage.Committing n is first waits = OperationStep.rebalances r _ _ is RebalanceStep.commits
-  rebalance_step RebalanceStage.Ending n is first waits = OperationStep.rebalances r _ _ is RebalanceStep.closes
-  rebalance_step (RebalanceStage.Asking w) (Some node) is first waits =
-      by_test (λ b. OperationStep s (Operation.Rebalancing r) (ma.rebalance_lifted s (re.ask_step s.core r node w b))) (has_ended w (length node.stack))
-      (λ ended. by_test (λ b. OperationStep s (Operation.Rebalancing r) (ma.rebalance_lifted s (re.end_ask s.core r node b))) (is_bad w)
-      (λ bad. OperationStep.rebalances r _ _ is (RebalanceStep.refuses node w (record { first = first; ended = ended }) bad))
-      (λ good. OperationStep.rebalances r _ _ is (RebalanceStep.agrees node w (record { first = first; ended = ended }) good)))
-      (re_asks (RebalanceStage.Asking w) node w is first refl waits)
-  rebalance_step (RebalanceStage.TakingBack w) (Some node) is first waits =
-      by_test (λ b. OperationStep s (Operation.Rebalancing r) (ma.rebalance_lifted s (re.take_back s.core r node w b))) (has_ended w (length node.stack))
-      (λ ended. OperationStep.rebalances r _ _ is (RebalanceStep.takes_back node w (record { first = first; ended = ended }))) (re_asks (RebalanceStage.TakingBack w) node w is first refl waits)
-  rebalance_step (RebalanceStage.Cancelling w) (Some node) is first waits =
-      by_test (λ b. OperationStep s (Operation.Rebalancing r) (ma.rebalance_lifted s (re.cancel_step s.core r node w b))) (has_ended w (length node.stack))
-      (λ ended. OperationStep.rebalances r _ _ is (RebalanceStep.cancels node w (record { first = first; ended = ended }))) (re_asks (RebalanceStage.Cancelling w) node w is first refl waits)
-  rebalance_step (RebalanceStage.Stopping w) (Some node) is first waits =
-      by_test (λ b. OperationStep s (Operation.Rebalancing r) (ma.rebalance_lifted s (re.stop_step s.core r node w b))) (has_ended w (length node.stack))
-      (λ ended. OperationStep.rebalances r _ _ is (RebalanceStep.stops node w (record { first = first; ended = ended }))) (re_asks (RebalanceStage.Stopping w) node w is first refl waits)
-  rebalance_step (RebalanceStage.Restarting w) (Some node) is first waits =
-      by_test (λ b. OperationStep s (Operation.Rebalancing r) (ma.rebalance_lifted s (re.restart_step s.core r node w b))) (has_ended w (length node.stack))
-      (λ ended. by_test (λ b. OperationStep s (Operation.Rebalancing r) (ma.rebalance_lifted s (re.end_restart s.core r node b))) (is_bad w)
-      (λ bad. OperationStep.rebalances r _ _ is (RebalanceStep.fails node w (record { first = first; ended = ended }) bad))
-      (λ good. OperationStep.rebalances r _ _ is (RebalanceStep.restarts node w (record { first = first; ended = ended }) good)))
-      (re_asks (RebalanceStage.Restarting w) node w is first refl waits)
-  rebalance_step RebalanceStage.Failed (Some node) is first waits = OperationStep.rebalances r _ _ is (RebalanceStep.failed node first)
-  rebalance_step _ None is first waits = tt
+  module _ (r : Rebalance) where
+    abbrev re_at : RebalanceStage → Operation
+    re_at stage = Operation.Rebalancing (record r { stage = stage })
 
-module _ (budget : ℕ) (s : State) (o : Removal) where
-  rm_asks : (stage : RemovalStage) (node : Node) (w : Walk) → o.stage ≡ stage → first_node s.core.nodes o.todo ≡ Some node → ma.removal_walk stage ≡ Some w → w.waits ≡ false → has_ended w (length node.stack) ≡ false
-      → OperationStep s (Operation.Removing o) (ma.removal_lifted s (rm.moves (asked s.core node w).label (asked s.core node w).core (record o { stage = ev.completed_removal (reply s.core node w) stage })))
-  rm_asks stage node w is first walk waits more =
-      subst (λ (x : RemovalStage). OperationStep s (Operation.Removing o) (ma.removal_lifted s (rm.moves (asked s.core node w).label (asked s.core node w).core (record o { stage = ev.completed_removal (reply s.core node w) x })))) is
-      (OperationStep.asks (Operation.Removing o) node w (record { first = first; walk = ap ma.removal_walk is ∙ walk; waits = waits; more = more }))
+    abbrev re_does : re.RebalanceMove → Step
+    re_does m = ma.rebalance_lifted s m
 
-  rm_settles : (node : Node) → o.stage ≡ RemovalStage.Settling → first_node s.core.nodes o.todo ≡ Some node → has o.set node.parent ≡ false → OperationStep s (Operation.Removing o) (ma.removal_lifted s (rm.settle s.core o node false))
-  rm_settles node is first over =
-      by_test (λ b. OperationStep s (Operation.Removing o) (ma.removal_lifted s (rm.settle_outer s.core o node b))) (node.serial == o.target)
-      (λ target. by_test (λ b. OperationStep s (Operation.Removing o) (ma.removal_lifted s (rm.settle_target s.core o node b))) (is_eject o.kind)
-      (λ eject. OperationStep.removes o _ _ is (RemovalStep.ejects node first)) (λ disable. OperationStep.removes o _ _ is (RemovalStep.disables node first over target)))
-      (λ other. by_test (λ b. OperationStep s (Operation.Removing o) (ma.removal_lifted s (rm.settle_related s.core o node b))) (is_eject o.kind && has o.ejecting node.serial)
-      (λ ejecting. OperationStep.removes o _ _ is (RemovalStep.remains node Problem.HeldForEject first over tt)) (λ held. OperationStep.removes o _ _ is (RemovalStep.remains node Problem.Held first over tt)))
+    rebalance_step : (stage : RebalanceStage) (n : Option Node) → r.stage ≡ stage → first_node s.core.nodes r.todo ≡ n → ma.is_waiting (ma.rebalance_walk stage) ≡ false
+        → StepsBy budget s (Operation.Rebalancing r) (option_map (doing_map (ma.rebalance_lifted s)) (re.rebalance_step s.core r stage n))
+    rebalance_step RebalanceStage.Searching n is first waits = λ found answer. OperationStep.rebalances r RebalanceStage.Searching (re.searched s.core r found) is (RebalanceStep.searches found budget answer)
+    rebalance_step RebalanceStage.Stuck n is first waits = OperationStep.rebalances r _ _ is RebalanceStep.sticks
+    rebalance_step RebalanceStage.Committing n is first waits = OperationStep.rebalances r _ _ is RebalanceStep.commits
+    rebalance_step RebalanceStage.Ending n is first waits = OperationStep.rebalances r _ _ is RebalanceStep.closes
+    rebalance_step (RebalanceStage.Asking w) (Some node) is first waits =
+        walks re_at r.stage (RebalanceStage.Asking w) node w (λ b. re_does (re.ask_step s.core r node w b)) is first refl waits refl
+        (λ e. by_test (λ b. OperationStep s (Operation.Rebalancing r) (re_does (re.end_ask s.core r node b))) (is_bad w)
+        (λ bad. OperationStep.rebalances r _ _ is (RebalanceStep.refuses node w e bad)) (λ good. OperationStep.rebalances r _ _ is (RebalanceStep.agrees node w e good)))
+    rebalance_step (RebalanceStage.TakingBack w) (Some node) is first waits =
+        walks re_at r.stage (RebalanceStage.TakingBack w) node w (λ b. re_does (re.take_back s.core r node w b)) is first refl waits refl (λ e. OperationStep.rebalances r _ _ is (RebalanceStep.takes_back node w e))
+    rebalance_step (RebalanceStage.Cancelling w) (Some node) is first waits =
+        walks re_at r.stage (RebalanceStage.Cancelling w) node w (λ b. re_does (re.cancel_step s.core r node w b)) is first refl waits refl (λ e. OperationStep.rebalances r _ _ is (RebalanceStep.cancels node w e))
+    rebalance_step (RebalanceStage.Stopping w) (Some node) is first waits =
+        walks re_at r.stage (RebalanceStage.Stopping w) node w (λ b. re_does (re.stop_step s.core r node w b)) is first refl waits refl (λ e. OperationStep.rebalances r _ _ is (RebalanceStep.stops node w e))
+    rebalance_step (RebalanceStage.Restarting w) (Some node) is first waits =
+        walks re_at r.stage (RebalanceStage.Restarting w) node w (λ b. re_does (re.restart_step s.core r node w b)) is first refl waits refl
+        (λ e. by_test (λ b. OperationStep s (Operation.Rebalancing r) (re_does (re.end_restart s.core r node b))) (is_bad w)
+        (λ bad. OperationStep.rebalances r _ _ is (RebalanceStep.fails node w e bad)) (λ good. OperationStep.rebalances r _ _ is (RebalanceStep.restarts node w e good)))
+    rebalance_step RebalanceStage.Failed (Some node) is first waits = OperationStep.rebalances r _ _ is (RebalanceStep.failed node first)
+    rebalance_step _ None is first waits = tt
 
-  removal_step : (stage : RemovalStage) (n : Option Node) → o.stage ≡ stage → first_node s.core.nodes o.todo ≡ n → ma.is_waiting (ma.removal_walk stage) ≡ false
-      → StepsBy budget s (Operation.Removing o) (option_map (λ m. Does (ma.removal_lifted s m)) (rm.removal_step s.core o stage n))
-  removal_step RemovalStage.Ending n is first waits = OperationStep.removes o _ _ is RemovalStep.closes
-  removal_step (RemovalStage.Asking w) (Some node) is first waits =
-      by_test (λ b. OperationStep s (Operation.Removing o) (ma.removal_lifted s (rm.ask_step s.core o node w b))) (has_ended w (length node.stack))
-      (λ ended. by_test (λ b. OperationStep s (Operation.Removing o) (ma.removal_lifted s (rm.end_ask s.core o node b))) (is_bad w)
-      (λ bad. OperationStep.removes o _ _ is (RemovalStep.refuses node w (record { first = first; ended = ended }) bad))
-      (λ good. OperationStep.removes o _ _ is (RemovalStep.agrees node w (record { first = first; ended = ended }) good)))
-      (rm_asks (RemovalStage.Asking w) node w is first refl waits)
-  removal_step (RemovalStage.TakingBack w) (Some node) is first waits =
-      by_test (λ b. OperationStep s (Operation.Removing o) (ma.removal_lifted s (rm.take_back s.core o node w b))) (has_ended w (length node.stack))
-      (λ ended. OperationStep.removes o _ _ is (RemovalStep.takes_back node w (record { first = first; ended = ended }))) (rm_asks (RemovalStage.TakingBack w) node w is first refl waits)
-  removal_step (RemovalStage.Cancelling w) (Some node) is first waits =
-      by_test (λ b. OperationStep s (Operation.Removing o) (ma.removal_lifted s (rm.cancel_step s.core o node w b))) (has_ended w (length node.stack))
-      (λ ended. OperationStep.removes o _ _ is (RemovalStep.cancels node w (record { first = first; ended = ended }))) (rm_asks (RemovalStage.Cancelling w) node w is first refl waits)
-  removal_step (RemovalStage.Removing w) (Some node) is first waits =
-      by_test (λ b. OperationStep s (Operation.Removing o) (ma.removal_lifted s (rm.remove_step s.core o node w b))) (has_ended w (length node.stack))
-      (λ ended. OperationStep.removes o _ _ is (RemovalStep.removes node w (record { first = first; ended = ended }))) (rm_asks (RemovalStage.Removing w) node w is first refl waits)
-  removal_step RemovalStage.Settling (Some node) is first waits =
-      by_test (λ b. OperationStep s (Operation.Removing o) (ma.removal_lifted s (rm.settle s.core o node b))) (has o.set node.parent)
-      (λ inside. OperationStep.removes o _ _ is (RemovalStep.leaves node first inside)) (rm_settles node is first)
-  removal_step _ None is first waits = tt
+  module _ (o : Removal) where
+    abbrev rm_at : RemovalStage → Operation
+    rm_at stage = Operation.Removing (record o { stage = stage })
 
-module _ (budget : ℕ) (s : State) (o : Surprise) where
-  su_asks : (stage : SurpriseStage) (node : Node) (w : Walk) → o.stage ≡ stage → first_node s.core.nodes o.todo ≡ Some node → ma.surprise_walk stage ≡ Some w → w.waits ≡ false → has_ended w (length node.stack) ≡ false
-      → OperationStep s (Operation.Surprising o) (ma.surprise_lifted s (su.moves (asked s.core node w).label (asked s.core node w).core (record o { stage = ev.completed_surprise (reply s.core node w) stage })))
-  su_asks stage node w is first walk waits more =
-      subst (λ (x : SurpriseStage). OperationStep s (Operation.Surprising o) (ma.surprise_lifted s (su.moves (asked s.core node w).label (asked s.core node w).core (record o { stage = ev.completed_surprise (reply s.core node w) x })))) is
-      (OperationStep.asks (Operation.Surprising o) node w (record { first = first; walk = ap ma.surprise_walk is ∙ walk; waits = waits; more = more }))
+    abbrev rm_does : rm.RemovalMove → Step
+    rm_does m = ma.removal_lifted s m
 
-  surprise_step : (stage : SurpriseStage) (n : Option Node) → o.stage ≡ stage → first_node s.core.nodes o.todo ≡ n → ma.is_waiting (ma.surprise_walk stage) ≡ false
-      → StepsBy budget s (Operation.Surprising o) (option_map (λ m. Does (ma.surprise_lifted s m)) (su.surprise_step s.core o (ma.is_target_in_world s o) stage n))
-  surprise_step SurpriseStage.Ending n is first waits = OperationStep.surprises o _ _ is SurpriseStep.closes
-  surprise_step (SurpriseStage.Telling w) (Some node) is first waits =
-      by_test (λ b. OperationStep s (Operation.Surprising o) (ma.surprise_lifted s (su.tell_step s.core o node w b))) (has_ended w (length node.stack))
-      (λ ended. OperationStep.surprises o _ _ is (SurpriseStep.tells node w (record { first = first; ended = ended }))) (su_asks (SurpriseStage.Telling w) node w is first refl waits)
-  surprise_step (SurpriseStage.Removing w) (Some node) is first waits =
-      by_test (λ b. OperationStep s (Operation.Surprising o) (ma.surprise_lifted s (su.remove_step s.core o node w b))) (has_ended w (length node.stack))
-      (λ ended. OperationStep.surprises o _ _ is (SurpriseStep.removes node w (record { first = first; ended = ended }))) (su_asks (SurpriseStage.Removing w) node w is first refl waits)
-  surprise_step SurpriseStage.Settling (Some node) is first waits =
-      by_test (λ b. OperationStep s (Operation.Surprising o) (ma.surprise_lifted s (su.settle s.core o node (ma.is_target_in_world s o) b))) (node.serial == o.target)
-      (λ target. by_test (λ b. OperationStep s (Operation.Surprising o) (ma.surprise_lifted s (su.settle_target s.core o node b))) (ma.is_target_in_world s o)
-      (λ back. OperationStep.surprises o _ _ is (SurpriseStep.stays node first target back)) (λ gone. OperationStep.surprises o _ _ is (SurpriseStep.leaves node first (inr (target, gone)))))
-      (λ other. by_test (λ b. OperationStep s (Operation.Surprising o) (ma.surprise_lifted s (su.settle_other s.core o node b))) (has o.set node.parent)
-      (λ inside. OperationStep.surprises o _ _ is (SurpriseStep.leaves node first (inl inside))) (λ over. OperationStep.surprises o _ _ is (SurpriseStep.remains node first other over)))
-  surprise_step _ None is first waits = tt
+    rm_settles : (node : Node) → o.stage ≡ RemovalStage.Settling → first_node s.core.nodes o.todo ≡ Some node → has o.set node.parent ≡ false → OperationStep s (Operation.Removing o) (rm_does (rm.settle s.core o node false))
+    rm_settles node is first over =
+        by_test (λ b. OperationStep s (Operation.Removing o) (rm_does (rm.settle_outer s.core o node b))) (node.serial == o.target)
+        (λ target. by_test (λ b. OperationStep s (Operation.Removing o) (rm_does (rm.settle_target s.core o node b))) (is_eject o.kind)
+        (λ eject. OperationStep.removes o _ _ is (RemovalStep.ejects node first)) (λ disable. OperationStep.removes o _ _ is (RemovalStep.disables node first over target)))
+        (λ other. by_test (λ b. OperationStep s (Operation.Removing o) (rm_does (rm.settle_related s.core o node b))) (is_eject o.kind && has o.ejecting node.serial)
+        (λ ejecting. OperationStep.removes o _ _ is (RemovalStep.remains node Problem.HeldForEject first over tt)) (λ held. OperationStep.removes o _ _ is (RemovalStep.remains node Problem.Held first over tt)))
+
+    removal_step : (stage : RemovalStage) (n : Option Node) → o.stage ≡ stage → first_node s.core.nodes o.todo ≡ n → ma.is_waiting (ma.removal_walk stage) ≡ false
+        → StepsBy budget s (Operation.Removing o) (option_map (λ m. Does (ma.removal_lifted s m)) (rm.removal_step s.core o stage n))
+    removal_step RemovalStage.Ending n is first waits = OperationStep.removes o _ _ is RemovalStep.closes
+    removal_step (RemovalStage.Asking w) (Some node) is first waits =
+        walks rm_at o.stage (RemovalStage.Asking w) node w (λ b. rm_does (rm.ask_step s.core o node w b)) is first refl waits refl
+        (λ e. by_test (λ b. OperationStep s (Operation.Removing o) (rm_does (rm.end_ask s.core o node b))) (is_bad w)
+        (λ bad. OperationStep.removes o _ _ is (RemovalStep.refuses node w e bad)) (λ good. OperationStep.removes o _ _ is (RemovalStep.agrees node w e good)))
+    removal_step (RemovalStage.TakingBack w) (Some node) is first waits =
+        walks rm_at o.stage (RemovalStage.TakingBack w) node w (λ b. rm_does (rm.take_back s.core o node w b)) is first refl waits refl (λ e. OperationStep.removes o _ _ is (RemovalStep.takes_back node w e))
+    removal_step (RemovalStage.Cancelling w) (Some node) is first waits =
+        walks rm_at o.stage (RemovalStage.Cancelling w) node w (λ b. rm_does (rm.cancel_step s.core o node w b)) is first refl waits refl (λ e. OperationStep.removes o _ _ is (RemovalStep.cancels node w e))
+    removal_step (RemovalStage.Removing w) (Some node) is first waits =
+        walks rm_at o.stage (RemovalStage.Removing w) node w (λ b. rm_does (rm.remove_step s.core o node w b)) is first refl waits refl (λ e. OperationStep.removes o _ _ is (RemovalStep.removes node w e))
+    removal_step RemovalStage.Settling (Some node) is first waits =
+        by_test (λ b. OperationStep s (Operation.Removing o) (rm_does (rm.settle s.core o node b))) (has o.set node.parent)
+        (λ inside. OperationStep.removes o _ _ is (RemovalStep.leaves node first inside)) (rm_settles node is first)
+    removal_step _ None is first waits = tt
+
+  module _ (o : Surprise) where
+    abbrev su_at : SurpriseStage → Operation
+    su_at stage = Operation.Surprising (record o { stage = stage })
+
+    abbrev su_does : su.SurpriseMove → Step
+    su_does m = ma.surprise_lifted s m
+
+    surprise_step : (stage : SurpriseStage) (n : Option Node) → o.stage ≡ stage → first_node s.core.nodes o.todo ≡ n → ma.is_waiting (ma.surprise_walk stage) ≡ false
+        → StepsBy budget s (Operation.Surprising o) (option_map (λ m. Does (ma.surprise_lifted s m)) (su.surprise_step s.core o (ma.is_target_in_world s o) stage n))
+    surprise_step SurpriseStage.Ending n is first waits = OperationStep.surprises o _ _ is SurpriseStep.closes
+    surprise_step (SurpriseStage.Telling w) (Some node) is first waits =
+        walks su_at o.stage (SurpriseStage.Telling w) node w (λ b. su_does (su.tell_step s.core o node w b)) is first refl waits refl (λ e. OperationStep.surprises o _ _ is (SurpriseStep.tells node w e))
+    surprise_step (SurpriseStage.Removing w) (Some node) is first waits =
+        walks su_at o.stage (SurpriseStage.Removing w) node w (λ b. su_does (su.remove_step s.core o node w b)) is first refl waits refl (λ e. OperationStep.surprises o _ _ is (SurpriseStep.removes node w e))
+    surprise_step SurpriseStage.Settling (Some node) is first waits =
+        by_test (λ b. OperationStep s (Operation.Surprising o) (su_does (su.settle s.core o node (ma.is_target_in_world s o) b))) (node.serial == o.target)
+        (λ target. by_test (λ b. OperationStep s (Operation.Surprising o) (su_does (su.settle_target s.core o node b))) (ma.is_target_in_world s o)
+        (λ back. OperationStep.surprises o _ _ is (SurpriseStep.stays node first target back)) (λ gone. OperationStep.surprises o _ _ is (SurpriseStep.leaves node first (inr (target, gone)))))
+        (λ other. by_test (λ b. OperationStep s (Operation.Surprising o) (su_does (su.settle_other s.core o node b))) (has o.set node.parent)
+        (λ inside. OperationStep.surprises o _ _ is (SurpriseStep.leaves node first (inl inside))) (λ over. OperationStep.surprises o _ _ is (SurpriseStep.remains node first other over)))
+    surprise_step _ None is first waits = tt
 
 operation_next : (budget : ℕ) (s : State) (o : Operation) (waits : Bool) → ma.is_waiting (ma.operation_walk o) ≡ waits → StepsBy budget s o (ma.operation_next s o waits)
 operation_next budget s o true e = tt

@@ -1,5 +1,5 @@
 -- What each state of a run keeps of the tree, the relations and the tasks.
-use Rattle.std.proofs.Common.{ℕ, suc, ◌<◌, ◌≤◌, ◌≡◌, ◌≢◌, ◌⊎◌, true, false, List, [], ◌∷◌, Option, Some, None}
+use Rattle.std.proofs.Common.{ℕ, ◌<◌, ◌≡◌, ◌≢◌, ◌⊎◌, true, false, List, [], ◌∷◌, Option, Some, None}
 use Rattle.pnp_model.specs.Tests.{has}
 use Rattle.pnp_model.specs.Records.{Node, Core, Task, State, Step, Duty, Operation, Rebalance, RebalanceStage, Removal, RemovalStage, Surprise, SurpriseStage}
 use Rattle.pnp_model.specs.Cores.{node_at}
@@ -8,6 +8,7 @@ use Rattle.pnp_model.specs.Diagram.{Walked}
 use Rattle.pnp_model.specs.Laws.{DependentsFirst}
 use Rattle.pnp_labels.specs.declared.label.Label.{Label}
 use Rattle.pnp_labels.specs.declared.states.DevState.TheVariants.{NoStack, Stopped}
+use Rattle.pnp_laws.specs.Rebalanced.{Falling, Rising}
 use Rattle.pnp_laws.specs.Words.{IsNoJoin}
 use Rattle.pnp_laws.specs.Kept.{is_idle}
 use Rattle.pnp_laws.specs.Due.{is_due}
@@ -64,30 +65,22 @@ waiting (Some (Operation.Rebalancing r)) = rebalance_waiting r r.stage
 waiting (Some (Operation.Removing o)) = []
 waiting (Some (Operation.Surprising o)) = o.set
 
--- serials that rise, from lo on
-abbrev pub Rising : ℕ → List ℕ → Type 0
-Rising lo [] = Unit {0}
-Rising lo (k ∷ ks) = (lo ≤ k) × Rising (suc k) ks
-
--- serials that fall, below hi
-abbrev pub Falling : ℕ → List ℕ → Type 0
-Falling hi [] = Unit {0}
-Falling hi (k ∷ ks) = (k < hi) × Falling k ks
-
 -- those still to ask fall, and are below those that agreed, which rise
-abbrev pub Ordered : List ℕ → List ℕ → Type 0
-Ordered todo agreed = (hi : ℕ) × Falling hi todo × Rising hi agreed
+pub record Ordered (todo agreed : List ℕ) : Type 0 where
+  pub falling : Falling todo
+  pub rising : Rising agreed
+  pub over : (j k : ℕ) → has todo j ≡ true → has agreed k ≡ true → j < k
 
 abbrev pub OrderKept : Rebalance → RebalanceStage → Type 0
 OrderKept r (RebalanceStage.Asking w) = Ordered r.todo r.agreed
 OrderKept r (RebalanceStage.TakingBack w) = Ordered r.todo r.agreed
-OrderKept r RebalanceStage.Searching = Rising 0 r.agreed
+OrderKept r RebalanceStage.Searching = Rising r.agreed
 OrderKept r (RebalanceStage.Cancelling w) = Unit {0}
 OrderKept r RebalanceStage.Stuck = Unit {0}
-OrderKept r (RebalanceStage.Stopping w) = Rising 0 r.agreed
-OrderKept r RebalanceStage.Committing = Rising 0 r.agreed
-OrderKept r (RebalanceStage.Restarting w) = Rising 0 r.todo
-OrderKept r RebalanceStage.Failed = Rising 0 r.todo
+OrderKept r (RebalanceStage.Stopping w) = Rising r.agreed
+OrderKept r RebalanceStage.Committing = Rising r.agreed
+OrderKept r (RebalanceStage.Restarting w) = Rising r.todo
+OrderKept r RebalanceStage.Failed = Rising r.todo
 OrderKept r RebalanceStage.Ending = Unit {0}
 
 -- devices are finished one after another: of the set, those that are done have no drivers, what has its parent

@@ -2,7 +2,6 @@
 -- resources are found, and whoever is a stray after a step was one before, or is the device of a rebalance.
 use Rattle.std.proofs.Common.{ℕ, ◌≡◌, ◌≢◌, ◌⊎◌, inl, inr, Bool, true, false, List, [], ◌∷◌, Option, Some, None, refl, sym, ap, ◌∙◌, subst, arith}
 use Rattle.std.specs.Option.{option_map}
-use Rattle.std.proofs.lemmas.Bool.{cases_eq}
 use Rattle.std.proofs.lemmas.Bool.Decides.{nat_tests}
 use Rattle.pnp_labels.specs.declared.label.Label.{Label}
 use Rattle.pnp_labels.specs.declared.states.DevState.{DevState}
@@ -10,23 +9,24 @@ use Rattle.pnp_labels.specs.declared.states.DevState.TheVariants.{NoStack, NotSt
 use Rattle.pnp_labels.specs.declared.words.Answer.{Answer}
 use Rattle.pnp_labels.specs.declared.words.Minor.{Minor}
 use Rattle.pnp_labels.specs.declared.words.Minor.TheVariants.{Start, QueryRemove, Remove, CancelRemove, Stop, QueryStop, CancelStop, SurpriseRemoval}
-use Rattle.pnp_model.specs.Cores.{bare, is_node, node_at, stacked, with_problem, with_state}
+use Rattle.pnp_model.specs.Starts.{own_part}
+use Rattle.pnp_model.specs.Cores.{bare, is_node, node_at, stacked, with_holds, with_problem, with_state}
 use Rattle.pnp_model.specs.Events.{answer_of, completed_phase}
-use Rattle.pnp_model.specs.Keyed.{changed_first, without_first}
+use Rattle.pnp_model.specs.Keyed.{changed_first}
 use Rattle.pnp_model.specs.Rebalances.{committed, movers, plan_of}
 use Rattle.pnp_model.specs.Records.{Activity, Node, Operation, Phase, Rebalance, RebalanceStage, State}
 use Rattle.pnp_model.specs.Records.Phase.{Adding, Searching, Starting, Removing, Due}
-use Rattle.pnp_model.specs.States.{activity_at, entered, is_activity, with_phase}
+use Rattle.pnp_model.specs.States.{activity_at, is_activity, with_phase}
 use Rattle.pnp_model.specs.Tests.{has}
 use Rattle.pnp_model.specs.Walks.{state_after, walk_of}
 use Rattle.pnp_laws.specs.Due.{is_due}
-use Rattle.pnp_laws.specs.Effects.{Acting, ActivityEffect, Alters, Enters, IsSearch, NodeEffect, Over, PhaseStep}
+use Rattle.pnp_laws.specs.Effects.{Acting, ActivityEffect, Enters, IsSearch, NodeEffect, Over, PhaseStep}
 use Rattle.pnp_laws.specs.Holdings.{IsWhole}
 use Rattle.pnp_laws.specs.Kept.{Alone, IsGood, OperationFits, RebalanceKeeps, stopped_state}
 use Rattle.pnp_laws.specs.Strays.{IsStray}
 use Rattle.pnp_laws.specs.Words.{spared}
-use Rattle.pnp_laws.proofs.EffectViews.{CameFrom, acting_at, came_from}
-use Rattle.pnp_laws.proofs.Lookups.{ended_other, ended_same, entered_other, entered_same, node_from, own_serial, phase_from, phase_set_other, phase_set_same, some_same}
+use Rattle.pnp_laws.proofs.EffectViews.{Origin, StartOrigin, acting_at, origin, start_origin}
+use Rattle.pnp_laws.proofs.Lookups.{node_from, own_serial, phase_set_same, some_same}
 use Rattle.pnp_laws.proofs.Sharing.{part_not}
 
 -- What is kept ---------------------------------------------------------------------------------
@@ -121,27 +121,6 @@ module _ (s : State) (label : Label) (t : State) (good : IsGood s) (whole : IsWh
 
   -- Nodes ------------------------------------------------------------------------------------------
 
-  -- all that stay as they were come from themselves
-  other : (k : ℕ) (m : Node) → node_at k s.core.nodes ≡ Some m → From s t k m
-  other k m at = From.unchanged m at (λ e. e) refl
-
-  altered_from : (k : ℕ) (f : Node → Node) → Alters s label t k f → (n : Node) → node_at k s.core.nodes ≡ Some n → From s t k (f n)
-  altered_from k f (Alters.walked node minor w bad there request not_remove ends verdict prints) n at =
-      let one : node ≡ n = some_same (node_at node.serial s.core.nodes) node n there at in
-      From.unchanged n at (λ q. ap (λ (x : Node). x.state) (sym one) ∙ not_started_before minor bad node.state q) refl
-  altered_from k f (Alters.troubled i problem) n at = From.unchanged n at (λ q. q) refl
-  altered_from k f (Alters.stacks node d ds name there acts prints) n at =
-      let one : node ≡ n = some_same (node_at node.serial s.core.nodes) node n there at in
-      elim (stacked_cases node.state) [
-        | inl none ↦ From.emptied (bare_holds node.serial n at (ap (λ (x : Node). x.state) (sym one) ∙ none))
-        | inr stays ↦ From.unchanged n at (λ q. ap (λ (x : Node). x.state) (sym one) ∙ sym stays ∙ q) refl
-      ]
-  altered_from k f (Alters.assigned node phase plan acts search part now) n at =
-      let here = acting_at s node.serial phase good.order acts in
-      let there : activity_at node.serial t.activities ≡ Some (with_phase (Starting (walk_of Minor.Start)) here.activity) =
-      ap (activity_at node.serial) now ∙ phase_set_same node.serial (Starting (walk_of Minor.Start)) s.activities ∙ ap (option_map (with_phase (Starting (walk_of Minor.Start)))) here.at in
-      From.placed _ there refl
-
   -- only the device of a rebalance is NotStarted among those that move
   mover_is : (r : Rebalance) (k : ℕ) (n : Node) → s.operation ≡ Some (Operation.Rebalancing r) → r.stage ≡ RebalanceStage.Committing → node_at k s.core.nodes ≡ Some n → has r.agreed k ≡ true → n.state ≡ NotStarted → ⊥
   mover_is r k n runs is at agreed waits =
@@ -150,57 +129,47 @@ module _ (s : State) (label : Label) (t : State) (good : IsGood s) (whole : IsWh
       let state2 = subst (λ (x : DevState). stopped_state r.agreed k x ≡ true) waits state in
       grind (arith)
 
-  committed_from : (r : Rebalance) → s.operation ≡ Some (Operation.Rebalancing r) → r.stage ≡ RebalanceStage.Committing → (k : ℕ) (n : Node) → node_at k s.core.nodes ≡ Some n → From s t k (committed (movers r) (plan_of r.found) n)
-  committed_from r runs is k n at = by_test (has (r.target ∷ []) k) (has r.agreed k) refl refl
+  committed_from : (r : Rebalance) → s.operation ≡ Some (Operation.Rebalancing r) → r.stage ≡ RebalanceStage.Committing → (k : ℕ) (n m : Node) → node_at k s.core.nodes ≡ Some n
+      → m ≡ committed (movers r) (plan_of r.found) n → From s t k m
+  committed_from r runs is k n m at e =
+      by_test (has (r.target ∷ []) k) (has r.agreed k) refl refl
     where
-      by_test : (a b : Bool) → has (r.target ∷ []) k ≡ a → has r.agreed k ≡ b → From s t k (committed (movers r) (plan_of r.found) n)
-      by_test true b h g = From.moved (Operation.Rebalancing r) n runs at (λ q. (q, h))
-      by_test false true h g = From.moved (Operation.Rebalancing r) n runs at (λ q. absurd (mover_is r k n runs is at g q))
-      by_test false false h g = From.unchanged n at (λ q. q) (part_not n.serial (movers r) (plan_of r.found) n.holds (subst (λ (i : ℕ). has (movers r) i ≡ false) (sym (own_serial k n s.core.nodes at)) (not_mover r.target r.agreed k h g)))
+      by_test : (a b : Bool) → has (r.target ∷ []) k ≡ a → has r.agreed k ≡ b → From s t k m
+      by_test true b h g = From.moved (Operation.Rebalancing r) n runs at (λ q. (sym (ap (λ (x : Node). x.state) e) ∙ q, h))
+      by_test false true h g = From.moved (Operation.Rebalancing r) n runs at (λ q. absurd (mover_is r k n runs is at g (sym (ap (λ (x : Node). x.state) e) ∙ q)))
+      by_test false false h g = From.unchanged n at (λ q. sym (ap (λ (x : Node). x.state) e) ∙ q) (ap (λ (x : Node). x.holds) e ∙ part_not n.serial (movers r) (plan_of r.found) n.holds (subst (λ (i : ℕ). has (movers r) i ≡ false) (sym (own_serial k n s.core.nodes at)) (not_mover r.target r.agreed k h g)))
+
+  placed_from : (k : ℕ) (phase : Phase) → Acting s k phase → t.activities ≡ changed_first (is_activity k) (with_phase (Starting (walk_of Minor.Start))) s.activities → (m : Node) → From s t k m
+  placed_from k phase acts now m =
+      let here = acting_at s k phase good.order acts in
+      From.placed (with_phase (Starting (walk_of Minor.Start)) here.activity)
+      (ap (activity_at k) now ∙ phase_set_same k (Starting (walk_of Minor.Start)) s.activities ∙ ap (option_map (with_phase (Starting (walk_of Minor.Start)))) here.at) refl
+
+  by_origin : (k : ℕ) (m : Node) → Origin s label t k m → From s t k m
+  by_origin k _ (Origin.was n at) = From.unchanged n at (λ q. q) refl
+  by_origin k _ (Origin.walked n minor w bad at request other ends verdict prints) = From.unchanged n at (λ q. not_started_before minor bad n.state q) refl
+  by_origin k _ (Origin.troubled n problem at) = From.unchanged n at (λ q. q) refl
+  by_origin k _ (Origin.stacks n d ds name at acts prints) =
+      elim (stacked_cases n.state) [ inl none ↦ From.emptied (bare_holds k n at none) | inr stays ↦ From.unchanged n at (λ q. sym stays ∙ q) refl ]
+  by_origin k _ (Origin.assigned n phase plan at acts search part now) = placed_from k phase acts now (with_holds (own_part plan) n)
+  by_origin k _ (Origin.stripped n w at request prints) = From.emptied refl
+  by_origin k _ (Origin.commits r n runs is at) = committed_from r runs is k n (committed (movers r) (plan_of r.found) n) at refl
+  by_origin k _ (Origin.joins node d below gone own) = From.emptied refl
 
   pub from : NodeEffect s label t → (k : ℕ) (m : Node) → node_at k t.core.nodes ≡ Some m → From s t k m
-  from effect k m at = by_from m (came_from s label t good.serials k m effect at)
-    where
-      by_from : (m : Node) → CameFrom s label t k m → From s t k m
-      by_from m (CameFrom.was _ q) = other k m q
-      by_from _ (CameFrom.altered n f q alters) = altered_from k f alters n q
-      by_from _ (CameFrom.stripped n w q request prints) = From.emptied refl
-      by_from _ (CameFrom.moved n r q runs is) = committed_from r runs is k n q
-      by_from _ (CameFrom.joined node d gone own below) = From.emptied refl
+  from effect k m at = by_origin k m (origin s label t good.serials k m effect at)
 
   -- Activities -------------------------------------------------------------------------------------
 
-  entered_free : (k : ℕ) (phase : Phase) → Enters s k t phase → activity_at k s.activities ≡ None
-  entered_free k phase (Enters.installs drivers chosen drops clears) = chosen.free
-  entered_free k phase (Enters.restarts r plan runs is target found nodes) = ap (activity_at k) (alone (Operation.Rebalancing r) runs)
-  entered_free k phase (Enters.undoes r runs target) = ap (activity_at k) (alone (Operation.Rebalancing r) runs)
-
   -- an activity that is not there now was not there, or it has ended
   pub none_from : ActivityEffect s t → (k : ℕ) → activity_at k t.activities ≡ None → (activity_at k s.activities ≡ None) ⊎ ((phase : Phase) × Acting s k phase × Over s k t phase)
-  none_from (ActivityEffect.same e) k none = inl (subst (λ (x : List Activity). activity_at k x ≡ None) e none)
-  none_from (ActivityEffect.enters j phase why e) k none =
-      elim (cases_eq j k) [
-        | inl q ↦ inl (subst (λ (i : ℕ). activity_at i s.activities ≡ None) q (entered_free j phase why))
-        | inr d ↦ inl (sym (entered_other (record { serial = j; phase = phase }) k s.activities d) ∙ subst (λ (x : List Activity). activity_at k x ≡ None) e none)
-      ]
-  none_from (ActivityEffect.goes j was now step e) k none = inl (none_changed (activity_at k s.activities) refl)
+  none_from effect k none = by_start (activity_at k t.activities) (start_origin s t good k effect) none
     where
-      none_changed : (o : Option Activity) → activity_at k s.activities ≡ o → activity_at k s.activities ≡ None
-      none_changed None q = q
-      none_changed (Some a) q =
-          let gone : activity_at k (changed_first (is_activity j) (with_phase now) s.activities) ≡ None = subst (λ (x : List Activity). activity_at k x ≡ None) e none in
-          elim (cases_eq j k) [
-            | inl same ↦
-                let gone_j = subst (λ (i : ℕ). activity_at i (changed_first (is_activity j) (with_phase now) s.activities) ≡ None) (sym same) gone in
-                let at_j = subst (λ (i : ℕ). activity_at i s.activities ≡ Some a) (sym same) q in
-                absurd (let there = phase_set_same j now s.activities ∙ ap (option_map (with_phase now)) at_j in cc)
-            | inr d ↦ sym (phase_set_other j k now s.activities d) ∙ gone
-          ]
-  none_from (ActivityEffect.ends j phase acts over e) k none =
-      elim (cases_eq j k) [
-        | inl q ↦ inr (phase, subst (λ (i : ℕ). Acting s i phase) q acts, subst (λ (i : ℕ). Over s i t phase) q over)
-        | inr d ↦ inl (sym (ended_other j k s.activities d) ∙ subst (λ (x : List Activity). activity_at k x ≡ None) e none)
-      ]
+      by_start : (o : Option Activity) → StartOrigin s t k o → o ≡ None → (activity_at k s.activities ≡ None) ⊎ ((phase : Phase) × Acting s k phase × Over s k t phase)
+      by_start _ StartOrigin.was none = inl none
+      by_start _ (StartOrigin.enters a why free) none = inl free
+      by_start _ (StartOrigin.goes a old new at step) none = absurd (cc)
+      by_start _ (StartOrigin.ends phase acts over) none = inr (phase, acts, over)
 
   -- Who holds nothing yet --------------------------------------------------------------------------
 
@@ -217,35 +186,16 @@ module _ (s : State) (label : Label) (t : State) (good : IsGood s) (whole : IsWh
   went_begun : (k : ℕ) (was now : Phase) → PhaseStep s k t was now → is_unplaced now ≡ true → Begun k
   went_begun k was now (PhaseStep.added d ds acts) h = let here = acting_at s k (Adding (d ∷ ds)) good.order acts in Begun.before here.activity here.at (ap is_unplaced here.is)
   went_begun k was now (PhaseStep.fits phase node plan acts search part own nodes) h = absurd (cc)
-  went_begun k was now (PhaseStep.asked w v acts nodes) h = absurd (cc)
+  went_begun k was now (PhaseStep.asked w v acts minor nodes) h = absurd (cc)
   went_begun k was now (PhaseStep.fails phase problem acts fine) h = absurd (cc)
-  went_begun k was now (PhaseStep.undoes phase w acts) h = absurd (cc)
+  went_begun k was now (PhaseStep.undoes phase w acts own) h = absurd (cc)
   went_begun k was now (PhaseStep.answered a ok at nodes) h = Begun.before a at (sym (unplaced_still (answer_of ok) a.phase) ∙ h)
 
-  begun : ActivityEffect s t → (k : ℕ) (b : Activity) → activity_at k t.activities ≡ Some b → is_unplaced b.phase ≡ true → Begun k
-  begun (ActivityEffect.same e) k b at h = Begun.before b (subst (λ (x : List Activity). activity_at k x ≡ Some b) e at) h
-  begun (ActivityEffect.enters j phase why e) k b at h =
-      let new : Activity = record { serial = j; phase = phase } in
-      let there = subst (λ (x : List Activity). activity_at k x ≡ Some b) e at in
-      elim (cases_eq j k) [
-        | inl q ↦
-            let here = subst (λ (i : ℕ). activity_at i (entered new s.activities) ≡ Some b) (sym q) there in
-            let one : new ≡ b = some_same (activity_at j (entered new s.activities)) new b (entered_same new s.activities (entered_free j phase why)) here in
-            subst (λ (i : ℕ). Begun i) q (entered_begun j phase why (ap (λ (x : Activity). is_unplaced x.phase) one ∙ h))
-        | inr d ↦ Begun.before b (sym (entered_other new k s.activities d) ∙ there) h
-      ]
-  begun (ActivityEffect.goes j was now step e) k b at h =
-      elim (phase_from j k now s.activities b (subst (λ (x : List Activity). activity_at k x ≡ Some b) e at)) [
-        | inl (q, (a, there, is)) ↦ subst (λ (i : ℕ). Begun i) q (went_begun j was now step (sym (ap (λ (x : Activity). is_unplaced x.phase) is) ∙ h))
-        | inr (d, there) ↦ Begun.before b there h
-      ]
-  begun (ActivityEffect.ends j phase acts over e) k b at h =
-      let there = subst (λ (x : List Activity). activity_at k x ≡ Some b) e at in
-      elim (cases_eq j k) [
-        | inl q ↦
-            absurd (let gone = ended_same 0 j s.activities good.order in let here = subst (λ (i : ℕ). activity_at i (without_first (is_activity j) s.activities) ≡ Some b) (sym q) there in cc)
-        | inr d ↦ Begun.before b (sym (ended_other j k s.activities d) ∙ there) h
-      ]
+  begun : (k : ℕ) (b : Activity) (o : Option Activity) → StartOrigin s t k o → o ≡ Some b → is_unplaced b.phase ≡ true → Begun k
+  begun k b _ StartOrigin.was at h = Begun.before b at h
+  begun k b _ (StartOrigin.enters a why free) at h = let one : a ≡ b = cc in entered_begun k a.phase why (ap (λ (x : Activity). is_unplaced x.phase) one ∙ h)
+  begun k b _ (StartOrigin.goes a old new there step) at h = let one : with_phase new a ≡ b = cc in went_begun k old new step (ap (λ (x : Activity). is_unplaced x.phase) one ∙ h)
+  begun k b _ (StartOrigin.ends phase acts over) at h = absurd (cc)
 
   module _ (effects : NodeEffect s label t) (acts : ActivityEffect s t) (old : Seen s) where
     unplaced_from : (k : ℕ) (a b : Activity) (m : Node) → activity_at k s.activities ≡ Some a → is_unplaced a.phase ≡ true → activity_at k t.activities ≡ Some b → is_unplaced b.phase ≡ true → From s t k m → m.holds ≡ []
@@ -255,7 +205,7 @@ module _ (s : State) (label : Label) (t : State) (good : IsGood s) (whole : IsWh
     unplaced_from k a b m at h there g (From.moved o n runs at_n waits) = absurd (none_acts o k a runs at)
 
     pub unplaced_now : UnplacedHoldNothing t
-    unplaced_now k b m at h there = by_begun (begun acts k b at h)
+    unplaced_now k b m at h there = by_begun (begun k b (activity_at k t.activities) (start_origin s t good k acts) at h)
       where
         by_begun : Begun k → m.holds ≡ []
         by_begun (Begun.before a was g) = unplaced_from k a b m was g at h (from effects k m there)

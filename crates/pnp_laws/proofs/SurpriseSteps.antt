@@ -1,17 +1,16 @@
 -- Each step of a surprise removal keeps what a run keeps and follows the diagram.
-use Rattle.std.proofs.Common.{ℕ, ◌≡◌, ◌≢◌, ◌==◌, inr, Bool, true, false, cond, List, [], ◌∷◌, Option, Some, None, refl, sym, ap, ◌∙◌, subst, arith}
+use Rattle.std.proofs.Common.{ℕ, ◌≡◌, ◌≢◌, inr, Bool, true, false, List, [], ◌∷◌, Some, None, refl, ap, subst, arith}
 use Rattle.std.proofs.lemmas.Bool.Decides.{nat_tests}
-use Rattle.std.specs.Option.{option_map}
 use Rattle.pnp_model.specs.Keyed.{changed_first, without_first, those}
 use Rattle.pnp_model.specs.Records.{Node, State, Operation, Surprise, SurpriseStage}
-use Rattle.pnp_model.specs.Records.SurpriseStage.{Telling, Removing, Settling, Ending}
-use Rattle.pnp_model.specs.Cores.{drop_node, is_node, node_at, with_state, with_problem, bare, stack_of}
+use Rattle.pnp_model.specs.Records.SurpriseStage.{Settling, Ending}
+use Rattle.pnp_model.specs.Cores.{drop_node, is_node, node_at, with_state, with_problem, stack_of}
 use Rattle.pnp_model.specs.Tests.{has, is_told}
 use Rattle.pnp_model.specs.States.{set_operation, with_core}
-use Rattle.pnp_model.specs.Frames.{first_node, rest}
+use Rattle.pnp_model.specs.Frames.{rest}
 use Rattle.pnp_model.specs.Surprises.{SurpriseMove, finish_with, finish_on, tell_on, is_told_node, begun_with}
 use Rattle.pnp_model.specs.Machine.{surprise_lifted}
-use Rattle.pnp_laws.specs.Kept.{Good, Lawful, Each, OperationFits, Distinct, Within, IsLast, SurpriseKeeps, telling_state, finishing_state, settling_state, removing_state, is_calm, is_removable}
+use Rattle.pnp_laws.specs.Kept.{Good, Lawful, Each, OperationFits, Distinct, Within, IsLast, SurpriseKeeps, telling_state, finishing_state, settling_state, is_calm, is_removable}
 use Rattle.pnp_model.specs.Diagram.{Row}
 use Rattle.pnp_model.specs.Diagram.Row.{surprise_stopped, surprise}
 use Rattle.pnp_labels.specs.declared.states.DevState.{DevState}
@@ -19,13 +18,12 @@ use Rattle.pnp_labels.specs.declared.words.Minor.{Minor}
 use Rattle.pnp_labels.specs.declared.label.Label.{Label}
 use Rattle.pnp_labels.specs.declared.states.Problem.{Problem}
 use Rattle.pnp_labels.specs.declared.states.DevState.TheVariants.{NoStack, NotStarted, Started, StopPending, Stopped, RemovePending, SurpriseRemoved}
-use Rattle.pnp_laws.proofs.Diagrams.{Each_changed, Each_same, Each_left, diagram_left}
-use Rattle.pnp_laws.proofs.Kept.{lawful_by, Good_left}
-use Rattle.pnp_laws.proofs.Lists.{HeadIs, head_found, head_has, rest_has, rest_not, rest_distinct, rest_within, those_has, those_keeps, those_distinct}
-use Rattle.pnp_laws.proofs.OpSteps.{lawful_walked, lawful_still, lawful_close, up_stack}
-use Rattle.pnp_laws.proofs.Finishing.{StacksFit, settle_each, remove_each, head_stripped, head_bare, stripped_here, stripped_there, settled_there, calm_here, stack_kept, stack_left, strips, relist_only}
+use Rattle.pnp_laws.proofs.Diagrams.{Each_changed, Each_same}
+use Rattle.pnp_laws.proofs.Lists.{HeadIs, head_has, rest_has, rest_not, rest_distinct, rest_within, those_has, those_distinct}
+use Rattle.pnp_laws.proofs.OpSteps.{lawful_walked, lawful_close, up_stack}
+use Rattle.pnp_laws.proofs.Finishing.{StacksFit, settle_each, remove_each, stack_kept, relist_only}
+use Rattle.pnp_laws.proofs.FinishSteps.{NextFits, at_work, begun_one, lawful_leaves, lawful_remains, lawful_strips, not_root, stacks_changed}
 use Rattle.pnp_laws.proofs.Stages.{SurpriseStep}
-use Rattle.pnp_laws.proofs.RemovalSteps.{stacks_changed, stacks_problem, stacks_left, not_root, not_true}
 
 -- What comes next keeps the facts
 
@@ -88,21 +86,16 @@ alone_calm (i ∷ is) j k RemovePending h e g = let f : has is k ≡ false = ap 
 alone_calm (i ∷ is) j k SurpriseRemoved h e g = let f : has is k ≡ false = ap (λ (t : List ℕ). has t k) e in grind (arith, nat_tests)
 alone_calm (i ∷ is) j k _ h e g = refl
 
-record AtWork (s : State) (node : Node) (o : Surprise) : Type 0 where
-  alone : s.activities ≡ []
-  head : HeadIs node.serial o.todo
-  at : node_at node.serial s.core.nodes ≡ Some node
-  good : Good s.next_serial s.core.nodes [] (Some (Operation.Surprising o))
-
-at_work : (s : State) (o : Surprise) (node : Node) → s.activities ≡ [] → first_node s.core.nodes o.todo ≡ Some node → Good s.next_serial s.core.nodes [] (Some (Operation.Surprising o)) → AtWork s node o
-at_work s o node alone first good = let h = head_found s.core.nodes o.todo node first in record { alone = alone; head = h.0; at = h.1; good = good }
-
 -- The steps
 
 module _ (s : State) (o : Surprise) (alone : s.activities ≡ []) (good : Good s.next_serial s.core.nodes [] (Some (Operation.Surprising o))) where
+  next_fits : (nodes : List Node) → SurpriseKeeps o Settling s.core.nodes → NextFits s (Operation.Surprising (finish_on s.core.nodes o (rest o.todo))) (rest o.todo) nodes
+  next_fits nodes keeps same stacks each =
+      fits_finish_on s.core.nodes o (rest o.todo) nodes same keeps.set keeps.rootless keeps.last (rest_distinct o.todo keeps.todo) (λ k h. keeps.inside k (rest_within k o.todo h)) (rest_last o.target o.todo keeps.ends) stacks each
+
   pub lawful_surprise : (in_world : Bool) (stage : SurpriseStage) (m : SurpriseMove) → SurpriseKeeps o stage s.core.nodes → SurpriseStep s.core o in_world stage m → Lawful s (surprise_lifted s m)
   lawful_surprise in_world stage m keeps (SurpriseStep.tells node w e) =
-      let work = at_work s o node alone e.first good in
+      let work = at_work s (Operation.Surprising o) node alone e.first good in
       let j = node.serial in
       let f = with_state SurpriseRemoved in
       let here = head_has j o.todo work.head in
@@ -119,60 +112,18 @@ module _ (s : State) (o : Surprise) (alone : s.activities ≡ []) (good : Good s
       (λ k x d h. told_there o.todo (rest o.todo) o.set k x (rest_has j k o.todo work.head d) h) keeps.each))
       (inr (refl, (Minor.SurpriseRemoval, false, told.0))) work.good
   lawful_surprise in_world stage m keeps (SurpriseStep.removes node w e) =
-      let work = at_work s o node alone e.first good in
-      let j = node.serial in
-      let up = not_root o.set o.todo j keeps.rootless keeps.inside (head_has j o.todo work.head) in
-      lawful_walked s _ (Label.State node.path NoStack) bare node (Operation.Surprising o) _ refl refl work.alone refl (λ x. refl) work.at
-      (record { none = λ h. refl; some = λ d h. refl; root = λ z. absurd (up z) })
-      (record {
-        set = keeps.set;
-        rootless = keeps.rootless;
-        last = keeps.last;
-        todo = keeps.todo;
-        inside = keeps.inside;
-        ends = keeps.ends;
-        each =
-            Each_changed (removing_state o.todo) (settling_state o.todo) j bare s.core.nodes node (λ x. refl) work.at (stripped_here o.todo j work.head)
-            (λ k x d h. stripped_there o.todo j k x work.head d h) keeps.each;
-      })
-      (inr (refl, (Minor.Remove, false, strips node.state (head_stripped o.todo j node.state work.head (keeps.each j node work.at)))))
-      work.good
+      let work = at_work s (Operation.Surprising o) node alone e.first good in
+      lawful_strips s _ (Operation.Surprising o) _ node refl refl refl work (not_root o.set o.todo node.serial keeps.rootless keeps.inside (head_has node.serial o.todo work.head)) keeps.each refl
+      (λ each. record { set = keeps.set; rootless = keeps.rootless; last = keeps.last; todo = keeps.todo; inside = keeps.inside; ends = keeps.ends; each = each })
   lawful_surprise in_world stage m keeps (SurpriseStep.leaves node first inside) =
-      let work = at_work s o node alone first good in
-      let j = node.serial in
-      let nodes = without_first (is_node j) s.core.nodes in
-      let q = finish_on s.core.nodes o (rest o.todo) in
-      let only = relist_only node.path node.born (set_operation (Some (Operation.Surprising q)) (with_core (drop_node node.serial s.core) s)) in
-      let state = head_bare o.todo j node.state work.head (keeps.each j node work.at) in
-      let not_rest = rest_not j o.todo work.head keeps.todo in
-      lawful_by s _ (Label.Leave node.path) s.next_serial nodes [] (Some (Operation.Surprising q)) only.serial only.nodes (only.activities ∙ work.alone) only.operation
-      (Good_left s.next_serial j s.core.nodes (Some (Operation.Surprising o)) _
-      (fits_finish_on s.core.nodes o (rest o.todo) nodes
-      (λ k h. stack_left j k s.core.nodes (λ e. let z = subst (λ (i : ℕ). has (rest o.todo) i ≡ false) e not_rest in cc))
-      keeps.set keeps.rootless keeps.last (rest_distinct o.todo keeps.todo)
-      (λ k h. keeps.inside k (rest_within k o.todo h))
-      (rest_last o.target o.todo keeps.ends)
-      (stacks_left j s.core.nodes work.good.serials work.good.stacks)
-      (Each_left (settling_state o.todo) (finishing_state (rest o.todo)) j s.core.nodes work.good.serials (λ k x d h. settled_there o.todo j k x work.head d h) keeps.each))
-      refl work.good)
-      (diagram_left (Label.Leave node.path) j s.core.nodes node work.good.serials work.at state)
+      let only = relist_only node.path node.born (set_operation (Some (Operation.Surprising (finish_on s.core.nodes o (rest o.todo)))) (with_core (drop_node node.serial s.core) s)) in
+      lawful_leaves s _ (Operation.Surprising o) _ node only.serial only.activities only.operation (at_work s (Operation.Surprising o) node alone first good) keeps.todo keeps.each (Label.Leave node.path) only.nodes
+      (next_fits (without_first (is_node node.serial) s.core.nodes) keeps)
   lawful_surprise in_world stage m keeps (SurpriseStep.remains node first other over) =
-      let work = at_work s o node alone first good in
-      let j = node.serial in
-      let f = with_problem (Some Problem.Held) in
-      let state = head_bare o.todo j node.state work.head (keeps.each j node work.at) in
-      lawful_walked s _ (Label.Trouble node.path Problem.Held) f node (Operation.Surprising o) _ refl refl work.alone refl (λ x. refl) work.at (work.good.stacks j node work.at)
-      (fits_finish_on s.core.nodes o (rest o.todo) (changed_first (is_node j) f s.core.nodes)
-      (λ k h. stack_kept j k f s.core.nodes (λ x. refl) (λ x. refl)) keeps.set keeps.rootless keeps.last (rest_distinct o.todo keeps.todo)
-      (λ k h. keeps.inside k (rest_within k o.todo h))
-      (rest_last o.target o.todo keeps.ends)
-      (stacks_problem j (Some Problem.Held) s.core.nodes work.good.stacks)
-      (Each_changed (settling_state o.todo) (finishing_state (rest o.todo)) j f s.core.nodes node (λ x. refl) work.at
-      (subst (λ (x : DevState). finishing_state (rest o.todo) j x ≡ true) (sym state) (calm_here (rest o.todo) j (rest_not j o.todo work.head keeps.todo)))
-      (λ k x d h. settled_there o.todo j k x work.head d h) keeps.each))
-      refl work.good
+      lawful_remains s _ (Operation.Surprising o) _ node refl refl refl (at_work s (Operation.Surprising o) node alone first good) keeps.todo keeps.each Problem.Held refl
+      (next_fits (changed_first (is_node node.serial) (with_problem (Some Problem.Held)) s.core.nodes) keeps)
   lawful_surprise in_world stage m keeps (SurpriseStep.stays node first target back) =
-      let work = at_work s o node alone first good in
+      let work = at_work s (Operation.Surprising o) node alone first good in
       let is : node.serial ≡ o.target = grind (arith, nat_tests) in
       let over = last_alone o.target o.todo (subst (λ (i : ℕ). HeadIs i o.todo) is work.head) keeps.ends in
       lawful_close s _ _ (Operation.Surprising o) refl refl alone refl
@@ -186,24 +137,10 @@ untold NoStack a b = refl
 untold NotStarted a b = refl
 untold _ a b = cc
 
-begun_one : (told : ℕ → Bool) (set : List ℕ) (k : ℕ) (x : DevState) → told k ≡ is_told x → is_calm x ≡ true → telling_state (those told set) set k x ≡ true
-begun_one told set k x e calm =
-    let in_todo = those_has told set k in
-    let kept = those_keeps told set k in
-    let by_two : (a b : Bool) → has (those told set) k ≡ a → has set k ≡ b → cond a (is_told x) (cond b (is_removable x) (is_calm x)) ≡ true =
-    λ a b. elim a as (λ a. has (those told set) k ≡ a → has set k ≡ b → cond a (is_told x) (cond b (is_removable x) (is_calm x)) ≡ true) [
-      | true ↦ λ h g. let t = in_todo h in sym e ∙ t.1
-      | false ↦ λ h. elim b as (λ b. has set k ≡ b → cond b (is_removable x) (is_calm x) ≡ true) [
-        | true ↦ λ g. untold x calm (let no : told k ≡ true → ⊥ = λ u. let t = kept g u in cc in not_true (is_told x) (λ z. no (e ∙ z)))
-        | false ↦ λ g. calm
-      ]
-    ] in
-    by_two (has (those told set) k) (has set k) refl refl
-
 pub fits_begun_surprise : (s : State) (node : Node) (set : List ℕ) → Distinct set → has set 0 ≡ false → IsLast node.serial set → Good s.next_serial s.core.nodes s.activities None →
     OperationFits (Some (Operation.Surprising (begun_with s.core node set))) s.core.nodes
 fits_begun_surprise s node set distinct rootless last good =
     let told : ℕ → Bool = λ k. is_told_node (node_at k s.core.nodes) in
     fits_tell_on s.core.nodes (record { target = node.serial; path = node.path; set = set; todo = []; stage = Ending }) (those told set) s.core.nodes (λ k. refl) distinct rootless last (those_distinct told set distinct)
     (λ k h. (those_has told set k h).0) good.stacks
-    (λ k n at. begun_one told set k n.state (ap is_told_node at) (good.fits k n at))
+    (λ k n at. begun_one told set k (is_told n.state) (is_removable n.state) (is_calm n.state) (ap is_told_node at) (λ h off. untold n.state (good.fits k n at) off) (good.fits k n at))

@@ -123,6 +123,23 @@ nodes_same c d same =
       to = λ k n at. let now = same.to k n at in (now.0, now.1);
     }
 
+pub nodes_kept : (old new : List Node) (j : ℕ) (f : Node → Node) → new ≡ changed_first (is_node j) f old → ((x : Node) → (f x).serial ≡ x.serial) → ((x : Node) → (f x).parent ≡ x.parent) → SameNodes old new
+nodes_kept old new j f is serial parent =
+    record {
+      from = λ k m at. elim (node_from j k f old m serial (subst (λ (x : List Node). node_at k x ≡ Some m) is at)) [
+        | inl (e, (n, q, r)) ↦ (n, q, ap (λ (z : Node). z.parent) r ∙ parent n)
+        | inr (d, q) ↦ (m, q, refl)
+      ];
+      to = λ k n at. elim (cases_eq j k) [
+        | inl e ↦ (
+          f n,
+          subst (λ (x : List Node). node_at k x ≡ Some (f n)) (sym is)
+              (subst (λ (i : ℕ). node_at k (changed_first (is_node i) f old) ≡ Some (f n)) (sym e) (node_changed_same k f old serial ∙ ap (option_map f) at)),
+        )
+        | inr d ↦ (n, subst (λ (x : List Node). node_at k x ≡ Some n) (sym is) (node_changed_other j k f old serial d ∙ at))
+      ];
+    }
+
 -- what stands above is the same
 above_alike : (n : ℕ) (old new : List Node) → SameNodes old new → (k : ℕ) → above_in n new k ≡ above_in n old k
 above_alike n old new same k = by_fuel n k (node_at k new) refl

@@ -1,5 +1,5 @@
 -- What a veto restores is kept by each step and event of a removal.
-use Rattle.std.proofs.Common.{ℕ, ◌≡◌, ◌⊎◌, inl, inr, Bool, true, false, List, [], Option, Some, None, refl, sym, ap, ◌∙◌, subst}
+use Rattle.std.proofs.Common.{◌≡◌, ◌⊎◌, inl, inr, [], Option, Some, refl, sym, ap, ◌∙◌, subst}
 use Rattle.pnp_model.specs.Records.{Node, Core, State, Step, Settings, Operation, Removal, RemovalStage, Walk}
 use Rattle.pnp_model.specs.Records.RemovalStage.{Asking, TakingBack, Cancelling, Removing, Settling, Ending}
 use Rattle.pnp_model.specs.States.{unplug, set_operation, with_core}
@@ -7,12 +7,13 @@ use Rattle.pnp_model.specs.Removals.{RemovalMove, RemoveBeside}
 use Rattle.pnp_model.specs.Machine.{removal_lifted, after_remove, next, IsStep}
 use Rattle.pnp_laws.specs.Kept.{IsGood, OperationFits, RemovalKeeps}
 use Rattle.pnp_model.specs.Laws.{IsWithin}
-use Rattle.pnp_laws.specs.Vetoes.{Held, Since}
+use Rattle.pnp_laws.specs.Vetoes.{Since}
 use Rattle.pnp_labels.specs.declared.words.Answer.{Answer}
 use Rattle.pnp_labels.specs.declared.label.Label.{Label}
 use Rattle.pnp_labels.specs.declared.event.Event.{Event}
 use Rattle.pnp_laws.proofs.Stages.{OperationStep, asking, operation_step, reply}
-use Rattle.pnp_laws.proofs.Vetoes.{IsOn, since_step}
+use Rattle.pnp_labels.specs.declared.states.DevState.TheVariants.{RemovePending}
+use Rattle.pnp_laws.proofs.Vetoes.{IsOn, held_still, since_step}
 use Rattle.pnp_laws.proofs.EventChanges.{Answered, happens_outside}
 use Rattle.pnp_laws.proofs.Finishing.{relist_only}
 use Rattle.pnp_model.specs.Removals as rm
@@ -26,17 +27,14 @@ pub record VetoSince (before : Core) (s : State) : Type 0 where
 
 -- What is kept ---------------------------------------------------------------------------
 
-held : (before c d : Core) (ks : List ℕ) → d.nodes ≡ c.nodes → d.relations ≡ c.relations → d.reserved ≡ c.reserved → Held before c ks → Held before d ks
-held before c d ks a b e h = record { nodes = a ∙ h.nodes; back = h.back; relations = b ∙ h.relations; reserved = e ∙ h.reserved }
-
 moved : (before c d : Core) (o : Removal) (stage : RemovalStage) → d.nodes ≡ c.nodes → d.relations ≡ c.relations → d.reserved ≡ c.reserved → Since before c o stage → Since before d o stage
-moved before c d o (Asking w) a b e h = (held before c d o.agreed a b e h.0, h.1)
-moved before c d o (TakingBack w) a b e h = held before c d o.agreed a b e h
-moved before c d o (Cancelling w) a b e h = held before c d o.todo a b e h
+moved before c d o (Asking w) a b e h = (held_still RemovePending before c d o.agreed a b e h.0, h.1)
+moved before c d o (TakingBack w) a b e h = held_still RemovePending before c d o.agreed a b e h
+moved before c d o (Cancelling w) a b e h = held_still RemovePending before c d o.todo a b e h
 moved before c d o (Removing w) a b e h = h
 moved before c d o Settling a b e h = h
 moved before c d o Ending a b e (inl h) = inl h
-moved before c d o Ending a b e (inr h) = inr (held before c d [] a b e h)
+moved before c d o Ending a b e (inr h) = inr (held_still RemovePending before c d [] a b e h)
 
 completed_since : (before c : Core) (answer : Answer) (o : Removal) (stage : RemovalStage) → Since before c o stage → Since before c (record o { stage = ev.completed_removal answer stage }) (ev.completed_removal answer stage)
 completed_since before c answer o (Asking w) h = h
@@ -75,13 +73,10 @@ asked_since before s (Operation.Removing o) node w h =
     let since = completed_since before s.core answer o o.stage h.1 in
     let p = record o { stage = ev.completed_removal answer o.stage } in
     record { op = p; runs = refl; since = moved before s.core (asking s (Operation.Removing o) node w).state.core p p.stage refl refl refl since }
-asked_since before s (Operation.Rebalancing r) node w h = absurd h
-asked_since before s (Operation.Surprising o) node w h = absurd h
+asked_since before s _ node w h = absurd h
 
 by_step : (before : Core) (s : State) (o : Operation) (step : Step) → Holds before s.core o → OperationStep s o step → (IsWithin step.label × VetoSince before step.state) ⊎ Closed before s step
 by_step before s p step h (OperationStep.asks o node w asks) = inl (tt, asked_since before s o node w h)
-by_step before s p step h (OperationStep.rebalances r stage m is x) = absurd h
-by_step before s p step h (OperationStep.surprises o stage m is x) = absurd h
 by_step before s p step h (OperationStep.removes o stage m is x) =
     let keeps = subst (λ (y : RemovalStage). RemovalKeeps o y s.core.nodes) is h.0 in
     let since = subst (λ (y : RemovalStage). Since before s.core o y) is h.1 in
@@ -94,6 +89,7 @@ by_step before s p step h (OperationStep.removes o stage m is x) =
         core = ap (λ (y : RemovalMove). (removal_lifted s y).state.core) closed;
       })
     ]
+by_step before s _ step h _ = absurd h
 
 pub veto_step : (before : Core) (settings : Settings) (s : State) (step : Step) → IsGood s → VetoSince before s → IsStep settings (next settings s) step → (IsWithin step.label × VetoSince before step.state) ⊎ Closed before s step
 veto_step before settings s step good h is =

@@ -1,12 +1,11 @@
 -- Each step of a removal keeps what a veto is to restore.
-use Rattle.std.proofs.Common.{ℕ, ◌≡◌, ◌==◌, ◌⊎◌, inl, inr, Bool, true, false, cond, List, [], ◌∷◌, Option, Some, None, refl, sym, ap, ◌∙◌, subst, arith}
+use Rattle.std.proofs.Common.{ℕ, ◌≡◌, ◌==◌, ◌⊎◌, inl, inr, Bool, true, false, cond, List, [], ◌∷◌, Some, None, refl, sym, ap, ◌∙◌, subst, arith}
 use Rattle.std.proofs.lemmas.Bool.{cases_eq}
 use Rattle.std.proofs.lemmas.Bool.Decides.{nat_tests}
 use Rattle.pnp_model.specs.Keyed.{those}
 use Rattle.pnp_model.specs.Records.{Node, Core, Removal, RemovalStage}
-use Rattle.pnp_model.specs.Records.RemovalStage.{Asking, TakingBack, Cancelling, Removing, Settling, Ending}
+use Rattle.pnp_model.specs.Records.RemovalStage.{Ending}
 use Rattle.pnp_model.specs.Cores.{node_at, with_state, stack_of}
-use Rattle.pnp_model.specs.Tests.{has}
 use Rattle.pnp_model.specs.Trees.{is_up}
 use Rattle.pnp_model.specs.Frames.{first_node, rest}
 use Rattle.pnp_model.specs.Laws.{IsWithin}
@@ -50,32 +49,34 @@ turned_twice k x y (m ∷ ms) =
     ] in
     by_test (m.serial == k) refl
 
--- one more agrees
-held_agreed : (before now : Core) (k : ℕ) (agreed : List ℕ) (n : Node) → node_at k now.nodes ≡ Some n → n.state ≡ Started → Held before now agreed →
-    Held before (record now { nodes = turned RemovePending k now.nodes }) (k ∷ agreed)
-held_agreed before now k agreed n at e h =
-    record {
-      nodes = ap (λ (x : List Node). turned RemovePending k x) h.nodes;
-      back = (turned_same k Started (marked agreed before.nodes) n (sym (ap (λ (x : List Node). node_at k x) h.nodes) ∙ at) e, h.back);
-      relations = h.relations;
-      reserved = h.reserved;
-    }
+module _ (y : DevState) (before now : Core) where
+  -- one more agrees
+  pub held_agreed : (k : ℕ) (agreed : List ℕ) (n : Node) → node_at k now.nodes ≡ Some n → n.state ≡ Started → Held y before now agreed → Held y before (record now { nodes = turned y k now.nodes }) (k ∷ agreed)
+  held_agreed k agreed n at e h =
+      record {
+        nodes = ap (λ (x : List Node). turned y k x) h.nodes;
+        back = (turned_same k Started (marked y agreed before.nodes) n (sym (ap (λ (x : List Node). node_at k x) h.nodes) ∙ at) e, h.back);
+        relations = h.relations;
+        reserved = h.reserved;
+      }
 
--- a Started device is made Started
-held_same : (before now : Core) (k : ℕ) (x : DevState) (agreed : List ℕ) (n : Node) → node_at k now.nodes ≡ Some n → n.state ≡ x → Held before now agreed →
-    Held before (record now { nodes = turned x k now.nodes }) agreed
-held_same before now k x agreed n at e h =
-    record { nodes = turned_same k x now.nodes n at e ∙ h.nodes; back = h.back; relations = h.relations; reserved = h.reserved }
+  -- a device gets the state that it has
+  pub held_same : (k : ℕ) (x : DevState) (agreed : List ℕ) (n : Node) → node_at k now.nodes ≡ Some n → n.state ≡ x → Held y before now agreed → Held y before (record now { nodes = turned x k now.nodes }) agreed
+  held_same k x agreed n at e h = record { nodes = turned_same k x now.nodes n at e ∙ h.nodes; back = h.back; relations = h.relations; reserved = h.reserved }
 
--- one is taken back
-held_back : (before now : Core) (k : ℕ) (ks : List ℕ) → Held before now (k ∷ ks) → Held before (record now { nodes = turned Started k now.nodes }) ks
-held_back before now k ks h =
-    record {
-      nodes = ap (λ (x : List Node). turned Started k x) h.nodes ∙ turned_twice k Started RemovePending (marked ks before.nodes) ∙ h.back.0;
-      back = h.back.1;
-      relations = h.relations;
-      reserved = h.reserved;
-    }
+  -- one is taken back
+  pub held_back : (k : ℕ) (ks : List ℕ) → Held y before now (k ∷ ks) → Held y before (record now { nodes = turned Started k now.nodes }) ks
+  held_back k ks h =
+      record {
+        nodes = ap (λ (x : List Node). turned Started k x) h.nodes ∙ turned_twice k Started y (marked y ks before.nodes) ∙ h.back.0;
+        back = h.back.1;
+        relations = h.relations;
+        reserved = h.reserved;
+      }
+
+  -- nodes, relations and ranges are the same
+  pub held_still : (d : Core) (ks : List ℕ) → d.nodes ≡ now.nodes → d.relations ≡ now.relations → d.reserved ≡ now.reserved → Held y before now ks → Held y before d ks
+  held_still d ks a b e h = record { nodes = a ∙ h.nodes; back = h.back; relations = b ∙ h.relations; reserved = e ∙ h.reserved }
 
 -- what comes next
 
@@ -87,23 +88,23 @@ since_finish_on : (before now : Core) (nodes : List Node) (o : Removal) (todo : 
 since_finish_on before now nodes o [] e = inl e
 since_finish_on before now nodes o (k ∷ ks) e = since_finish_with before now o (k ∷ ks) (stack_of (node_at k nodes)) e
 
-since_ask_on : (before now : Core) (nodes : List Node) (o : Removal) (todo : List ℕ) → Held before now o.agreed → o.refuser ≡ None → Since before now (ask_on nodes o todo) (ask_on nodes o todo).stage
+since_ask_on : (before now : Core) (nodes : List Node) (o : Removal) (todo : List ℕ) → Held RemovePending before now o.agreed → o.refuser ≡ None → Since before now (ask_on nodes o todo) (ask_on nodes o todo).stage
 since_ask_on before now nodes o [] h e = since_finish_on before now nodes o o.set e
 since_ask_on before now nodes o (k ∷ ks) h e = (h, e)
 
-since_cancel_on : (before now : Core) (o : Removal) (todo : List ℕ) → Held before now todo → Since before now (cancel_on o todo) (cancel_on o todo).stage
+since_cancel_on : (before now : Core) (o : Removal) (todo : List ℕ) → Held RemovePending before now todo → Since before now (cancel_on o todo) (cancel_on o todo).stage
 since_cancel_on before now o [] h = inr h
 since_cancel_on before now o (k ∷ ks) h = h
 
 -- the steps
 
-since_cancel_head : (before c : Core) (o : Removal) (todo : List ℕ) (node : Node) → first_node c.nodes todo ≡ Some node → Held before c todo →
+since_cancel_head : (before c : Core) (o : Removal) (todo : List ℕ) (node : Node) → first_node c.nodes todo ≡ Some node → Held RemovePending before c todo →
     Since before (record c { nodes = turned Started node.serial c.nodes }) (cancel_on o (rest todo)) (cancel_on o (rest todo)).stage
 since_cancel_head before c o [] node first h = absurd (cc)
 since_cancel_head before c o (k ∷ ks) node first h =
     let own = own_serial k node c.nodes first in
     subst (λ (i : ℕ). Since before (record c { nodes = turned Started i c.nodes }) (cancel_on o ks) (cancel_on o ks).stage) (sym own)
-    (since_cancel_on before (record c { nodes = turned Started k c.nodes }) o ks (held_back before c k ks h))
+    (since_cancel_on before (record c { nodes = turned Started k c.nodes }) o ks (held_back RemovePending before c k ks h))
 
 -- the operation goes on
 abbrev pub IsOn : RemoveBeside → Type 0
@@ -124,13 +125,13 @@ module _ (before c : Core) (o : Removal) where
   since_step stage m keeps since (RemovalStep.agrees node w e good) =
       let h = head_found c.nodes o.todo node e.first in
       let state = head_querying o.todo o.agreed o.set node.serial node.state (head_has node.serial o.todo h.0) (keeps.each node.serial node h.1) in
-      inl (record { within = tt; on = tt; since = since_ask_on before _ c.nodes (record o { agreed = node.serial ∷ o.agreed }) (rest o.todo) (held_agreed before c node.serial o.agreed node h.1 state since.0) since.1 })
+      inl (record { within = tt; on = tt; since = since_ask_on before _ c.nodes (record o { agreed = node.serial ∷ o.agreed }) (rest o.todo) (held_agreed RemovePending before c node.serial o.agreed node h.1 state since.0) since.1 })
   since_step stage m keeps since (RemovalStep.refuses node w e bad) =
-      inl (record { within = tt; on = tt; since = held_same before c node.serial node.state o.agreed node (head_found c.nodes o.todo node e.first).1 refl since.0 })
+      inl (record { within = tt; on = tt; since = held_same RemovePending before c node.serial node.state o.agreed node (head_found c.nodes o.todo node e.first).1 refl since.0 })
   since_step stage m keeps since (RemovalStep.takes_back node w e) =
       let h = head_found c.nodes o.todo node e.first in
       let state = head_refusing o.todo o.agreed node.serial node.state (head_has node.serial o.todo h.0) (keeps.each node.serial node h.1) in
-      inl (record { within = tt; on = tt; since = since_cancel_on before _ o o.agreed (held_same before c node.serial Started o.agreed node h.1 state since) })
+      inl (record { within = tt; on = tt; since = since_cancel_on before _ o o.agreed (held_same RemovePending before c node.serial Started o.agreed node h.1 state since) })
   since_step stage m keeps since (RemovalStep.cancels node w e) = inl (record { within = tt; on = tt; since = since_cancel_head before c o o.todo node e.first since })
   since_step stage m keeps since (RemovalStep.removes node w e) = inl (record { within = tt; on = tt; since = since })
   since_step stage m keeps since (RemovalStep.leaves node first inside) = inl (finishes _ tt tt refl since)

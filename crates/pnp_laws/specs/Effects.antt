@@ -1,5 +1,5 @@
 -- What a step of the machine, or an event, can do to a state: the one account that laws over steps read.
-use Rattle.std.specs.Prelude.{ℕ, ◌+◌, ◌≡◌, ◌≢◌, ◌⊎◌, ◌==◌, ◌&&◌, Bool, true, false, List, [], ◌∷◌, ◌++◌, Option, Some, None, length, map, find, drop, nat_le, slice_get}
+use Rattle.std.specs.Prelude.{ℕ, ◌+◌, ◌≡◌, ◌≢◌, ◌⊎◌, ◌==◌, ◌&&◌, Bool, true, false, List, [], ◌∷◌, ◌++◌, Option, Some, None, length, map, find, drop, nat_le, slice_get, option_map}
 use Rattle.std.specs.List.{list_any}
 use Rattle.resource_reqs.specs.Resources.{Res, clashes}
 use Rattle.resource_reqs.specs.Spelling.{IsAnswer}
@@ -29,12 +29,12 @@ use Rattle.pnp_model.specs.Rebalances.{begun_rebalance, committed, movers, plan_
 use Rattle.pnp_model.specs.Removals.{begun_removal}
 use Rattle.pnp_model.specs.Surprises.{begun_surprise}
 use Rattle.pnp_model.specs.Tasks.{begin, is_gone, join_step, joining, numbered}
-use Rattle.pnp_model.specs.Machine.{is_ready, operation_walk}
+use Rattle.pnp_model.specs.Machine.{is_ready, operation_walk, phase_walk}
 use Rattle.pnp_model.specs.Events.{answer_of, completed, completed_phase, with_rule}
 use Rattle.pnp_model.specs.Runs.{Entry, Goes, printed}
 use Rattle.pnp_model.specs.Runs.Entry.{Happens, Did}
 use Rattle.pnp_model.specs.Records.{Node, Core, Device, Relation, Walk, Activity, Phase, Task, Duty, State, Operation, Rebalance, RebalanceStage, Removal, RemovalStage, Settings, SurpriseStage}
-use Rattle.pnp_laws.specs.Words.{IsBeside, IsNoJoin, IsWord, NotTwelve, SameWork, EndsBy, is_removal, kind_of, path_of, joined}
+use Rattle.pnp_laws.specs.Words.{IsBeside, IsNoJoin, IsWord, NotTwelve, EndsBy, is_removal, kind_of, path_of, spared, joined}
 use Rattle.device_ids.specs.Folding as folding
 
 -- Who does it ----------------------------------------------------------------------
@@ -84,6 +84,22 @@ abbrev pub operation_minor : Operation → Option Minor
 operation_minor (Operation.Rebalancing r) = rebalance_minor r.stage
 operation_minor (Operation.Removing o) = removal_minor o.stage
 operation_minor (Operation.Surprising o) = surprise_minor o.stage
+
+-- and in a phase of a start
+abbrev pub phase_minor : Phase → Option Minor
+phase_minor (Phase.Starting w) = Some Minor.Start
+phase_minor (Phase.Removing w) = Some Minor.Remove
+phase_minor _ = None
+
+-- a walk is of the request of its stage
+abbrev pub IsOwn : Option Walk → Option Minor → Type 0
+IsOwn walk minor = option_map (λ w. w.minor) walk ≡ minor
+
+abbrev pub PhaseOwn : Phase → Type 0
+PhaseOwn phase = IsOwn (phase_walk phase) (phase_minor phase)
+
+abbrev pub OperationOwn : Operation → Type 0
+OperationOwn o = IsOwn (operation_walk o) (operation_minor o)
 
 -- a walk of the operation that runs, at its first device
 pub record Asking (s : State) (node : Node) (minor : Minor) (w : Walk) : Type 0 where
@@ -255,6 +271,13 @@ BeginsFor s OpKind.Disable node = has_same node.path s.disabled ≡ false
 BeginsFor s OpKind.Eject node = Unit {0}
 BeginsFor s OpKind.Surprise node = Unit {0}
 
+pub record SameWork (o p : Operation) : Type 0 where
+  pub sort : is_removal p ≡ is_removal o
+  pub kind : kind_of p ≡ kind_of o
+  pub path : path_of p ≡ path_of o
+  pub spared : spared p ≡ spared o
+  pub own : OperationOwn o → OperationOwn p
+
 -- an activity prints the problem that it owes
 pub record Owes (s : State) (label : Label) : Type 0 where
   pub activity : Activity
@@ -308,9 +331,9 @@ pub data PhaseStep (s : State) (k : ℕ) (t : State) : Phase → Phase → Type 
   added : (d : ℕ) (ds : List ℕ) → Acting s k (Phase.Adding (d ∷ ds)) → PhaseStep s k t (Phase.Adding (d ∷ ds)) (adding ds)
   fits : (phase : Phase) (node : Node) (plan : List (List Res)) → Acting s k phase → IsSearch phase → Assigned s node plan → node.serial ≡ k
       → t.core.nodes ≡ changed_first (is_node k) (with_holds (own_part plan)) s.core.nodes → PhaseStep s k t phase (Phase.Starting (walk_of Minor.Start))
-  asked : (w v : Walk) → Acting s k (Phase.Starting w) → t.core.nodes ≡ s.core.nodes → PhaseStep s k t (Phase.Starting w) (Phase.Starting v)
+  asked : (w v : Walk) → Acting s k (Phase.Starting w) → v.minor ≡ w.minor → t.core.nodes ≡ s.core.nodes → PhaseStep s k t (Phase.Starting w) (Phase.Starting v)
   fails : (phase : Phase) (problem : Problem) → Acting s k phase → NotTwelve problem → PhaseStep s k t phase (Phase.Due problem)
-  undoes : (phase : Phase) (w : Walk) → Acting s k phase → PhaseStep s k t phase (Phase.Removing w)
+  undoes : (phase : Phase) (w : Walk) → Acting s k phase → (PhaseOwn phase → PhaseOwn (Phase.Removing w)) → PhaseStep s k t phase (Phase.Removing w)
   answered : (a : Activity) (ok : Bool) → activity_at k s.activities ≡ Some a → t.core.nodes ≡ s.core.nodes → PhaseStep s k t a.phase (completed_phase (answer_of ok) a.phase)
 
 -- what has become of device k where its start ends in a phase: nothing was found for it, it is up, its drivers are removed,

@@ -1,5 +1,5 @@
 -- What a rebalance keeps since its begin: what it restores where it finds nothing, and who was asked.
-use Rattle.std.specs.Prelude.{ℕ, ◌≡◌, ◌<◌, ◌⊎◌, true, false, List, [], ◌∷◌, Some, ◌≤◌, ◌-◌}
+use Rattle.std.specs.Prelude.{ℕ, ◌≡◌, ◌<◌, ◌⊎◌, true, false, List, [], ◌∷◌, Some}
 use Rattle.resource_reqs.specs.Spelling.Answer.{no_fit}
 use Rattle.pnp_model.specs.Keyed.{changed_first}
 use Rattle.pnp_model.specs.Tests.{has}
@@ -11,28 +11,15 @@ use Rattle.pnp_model.specs.Rebalances.{is_asked, movers, trouble_of}
 use Rattle.pnp_model.specs.Laws.{NothingFits}
 use Rattle.pnp_model.specs.Records.{Node, Core, Walk, State, Operation, Rebalance, RebalanceStage}
 use Rattle.pnp_model.specs.Records.RebalanceStage.{Asking, TakingBack, Searching, Cancelling, Stuck, Stopping, Committing, Restarting, Failed, Ending}
-use Rattle.pnp_labels.specs.declared.states.DevState.TheVariants.{Started, StopPending}
-use Rattle.pnp_laws.specs.Vetoes.{turned}
+use Rattle.pnp_labels.specs.declared.states.DevState.TheVariants.{StopPending}
+use Rattle.pnp_laws.specs.Vetoes.{Held}
 use Rattle.pnp_laws.specs.Holdings.{has_plan}
 
 -- What is restored ---------------------------------------------------------------
 
--- the nodes, with those that agreed StopPending
-abbrev pub paused : List ℕ → List Node → List Node
-paused [] nodes = nodes
-paused (k ∷ ks) nodes = turned StopPending k (paused ks nodes)
-
--- each that agreed is as before where it is Started again
-abbrev pub Resumed : List ℕ → List Node → Type 0
-Resumed [] nodes = Unit {0}
-Resumed (k ∷ ks) nodes = (turned Started k (paused ks nodes) ≡ paused ks nodes) × Resumed ks nodes
-
 -- nothing has changed since but for those that agreed
-pub record Paused (before now : Core) (agreed : List ℕ) : Type 0 where
-  pub nodes : now.nodes ≡ paused agreed before.nodes
-  pub back : Resumed agreed before.nodes
-  pub relations : now.relations ≡ before.relations
-  pub reserved : now.reserved ≡ before.reserved
+abbrev pub Paused : Core → Core → List ℕ → Type 0
+Paused before now agreed = Held StopPending before now agreed
 
 -- nothing has changed since but for the problem of the device
 pub record Troubled (before now : Core) (r : Rebalance) : Type 0 where
@@ -51,13 +38,6 @@ Undone before now r Committing = has_plan r.found ≡ true
 Undone before now r (Restarting w) = has_plan r.found ≡ true
 Undone before now r Failed = has_plan r.found ≡ true
 Undone before now r Ending = (has_plan r.found ≡ true) ⊎ Troubled before now r
-
--- Where devices stand -----------------------------------------------------------
-
--- no two devices have one path, and a parent has a lower serial
-pub record Placed (nodes : List Node) : Type 0 where
-  pub paths : (j k : ℕ) (n m : Node) → node_at j nodes ≡ Some n → node_at k nodes ≡ Some m → n.path ≡ m.path → j ≡ k
-  pub parents : (k : ℕ) (n : Node) → node_at k nodes ≡ Some n → n.parent ≤ k - 1
 
 -- Who was asked --------------------------------------------------------------------
 

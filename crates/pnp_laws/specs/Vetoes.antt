@@ -9,27 +9,27 @@ use Rattle.pnp_labels.specs.declared.states.DevState.TheVariants.{Started, Remov
 abbrev pub turned : DevState → ℕ → List Node → List Node
 turned state k nodes = changed_first (is_node k) (with_state state) nodes
 
--- the nodes, with those that agreed RemovePending
-abbrev pub marked : List ℕ → List Node → List Node
-marked [] nodes = nodes
-marked (k ∷ ks) nodes = turned RemovePending k (marked ks nodes)
+-- the nodes, with those that agreed in this state
+abbrev pub marked : DevState → List ℕ → List Node → List Node
+marked state [] nodes = nodes
+marked state (k ∷ ks) nodes = turned state k (marked state ks nodes)
 
 -- each that agreed is as before where it is Started again
-abbrev pub TakenBack : List ℕ → List Node → Type 0
-TakenBack [] nodes = Unit {0}
-TakenBack (k ∷ ks) nodes = (turned Started k (marked ks nodes) ≡ marked ks nodes) × TakenBack ks nodes
+abbrev pub TakenBack : DevState → List ℕ → List Node → Type 0
+TakenBack state [] nodes = Unit {0}
+TakenBack state (k ∷ ks) nodes = (turned Started k (marked state ks nodes) ≡ marked state ks nodes) × TakenBack state ks nodes
 
--- nothing has changed since but for those that agreed
-pub record Held (before now : Core) (agreed : List ℕ) : Type 0 where
-  pub nodes : now.nodes ≡ marked agreed before.nodes
-  pub back : TakenBack agreed before.nodes
+-- nothing has changed since but for those that agreed, which are in this state
+pub record Held (state : DevState) (before now : Core) (agreed : List ℕ) : Type 0 where
+  pub nodes : now.nodes ≡ marked state agreed before.nodes
+  pub back : TakenBack state agreed before.nodes
   pub relations : now.relations ≡ before.relations
   pub reserved : now.reserved ≡ before.reserved
 
 abbrev pub Since : Core → Core → Removal → RemovalStage → Type 0
-Since before now o (RemovalStage.Asking w) = Held before now o.agreed × (o.refuser ≡ None)
-Since before now o (RemovalStage.TakingBack w) = Held before now o.agreed
-Since before now o (RemovalStage.Cancelling w) = Held before now o.todo
+Since before now o (RemovalStage.Asking w) = Held RemovePending before now o.agreed × (o.refuser ≡ None)
+Since before now o (RemovalStage.TakingBack w) = Held RemovePending before now o.agreed
+Since before now o (RemovalStage.Cancelling w) = Held RemovePending before now o.todo
 Since before now o (RemovalStage.Removing w) = o.refuser ≡ None
 Since before now o RemovalStage.Settling = o.refuser ≡ None
-Since before now o RemovalStage.Ending = (o.refuser ≡ None) ⊎ Held before now []
+Since before now o RemovalStage.Ending = (o.refuser ≡ None) ⊎ Held RemovePending before now []

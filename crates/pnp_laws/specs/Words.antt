@@ -1,5 +1,5 @@
 -- Words of operations, labels and activities that several laws share.
-use Rattle.std.specs.Prelude.{ℕ, ◌≡◌, Bool, true, false, List, [], ◌∷◌}
+use Rattle.std.specs.Prelude.{ℕ, Bool, true, false, List, [], ◌∷◌}
 use Rattle.pnp_model.specs.Records.{Activity, Phase, Operation}
 use Rattle.pnp_model.specs.Records.Phase.{Due}
 use Rattle.pnp_labels.specs.Texts.{Text}
@@ -43,12 +43,6 @@ spared (Operation.Rebalancing r) = r.target ∷ []
 spared (Operation.Removing o) = []
 spared (Operation.Surprising o) = o.set
 
-pub record SameWork (o p : Operation) : Type 0 where
-  pub sort : is_removal p ≡ is_removal o
-  pub kind : kind_of p ≡ kind_of o
-  pub path : path_of p ≡ path_of o
-  pub spared : spared p ≡ spared o
-
 -- it is not problem 12
 abbrev pub NotTwelve : Problem → Type 0
 NotTwelve Problem.NormalConflict = ⊥
@@ -80,7 +74,10 @@ abbrev pub DueFine : Phase → Type 0
 DueFine (Due problem) = NotTwelve problem
 DueFine _ = Unit {0}
 
+abbrev pub EachPhase : (Phase → Type 0) → List Activity → Type 0
+EachPhase P [] = Unit {0}
+EachPhase P (a ∷ activities) = P a.phase × EachPhase P activities
+
 -- no activity owes problem 12
 abbrev pub DuesFine : List Activity → Type 0
-DuesFine [] = Unit {0}
-DuesFine (a ∷ activities) = DueFine a.phase × DuesFine activities
+DuesFine activities = EachPhase DueFine activities

@@ -17,7 +17,7 @@ use Rattle.pnp_laws.specs.Kept.{InOrder}
 use Rattle.devnode_tree.specs.Rows.{row_of}
 use Rattle.devnode_tree.specs.Trees.{Ascends, Tree}
 use Rattle.devnode_tree.specs.declared.print.PrintRow.{PrintRow}
-use Rattle.pnp_machine.specs.Endings.{RowAdded, request_lines, works_lines, operation_lines}
+use Rattle.pnp_machine.specs.Endings.{RowAdded, works_lines, operation_lines}
 use Rattle.pnp_machine.proofs.Texts.{joined_append}
 
 all_those : {A : Type 0} (P : A → Type 0) (test : A → Bool) (xs : List A) → AllByRecursion P xs → AllByRecursion P (those test xs)
@@ -27,10 +27,6 @@ all_those P test (x ∷ xs) all =
       | true ↦ (all.0, all_those P test xs all.1)
       | false ↦ all_those P test xs all.1
     ]
-
--- each node is found by its serial
-FoundIn : List Node → List Node → Type 0
-FoundIn nodes xs = AllByRecursion (λ x. node_at x.serial nodes ≡ Some x) xs
 
 found_later : (n : Node) (nodes xs : List Node) (low : ℕ) → n.serial < low → Ascends low (serials_of xs)
     → AllByRecursion (λ x. node_at x.serial nodes ≡ Some x) xs → AllByRecursion (λ x. node_at x.serial (n ∷ nodes) ≡ Some x) xs
@@ -124,31 +120,11 @@ tree_next t rows i row out out' whole are read added so_far =
 
 -- What is held --------------------------------------------------------------------------------
 
--- one row more
-pub rows_next : (nodes : List Node) (rows : List Pair) (i : ℕ) (row : Pair) (out out' whole : Text) → slice_get rows i ≡ Some row → out' ≡ out ++ joined (map_line (row_of_pair nodes row) ∷ [])
-    → out ++ joined (map map_line (map (row_of_pair nodes) (drop i rows))) ≡ whole → out' ++ joined (map map_line (map (row_of_pair nodes) (drop (i + 1) rows))) ≡ whole
-rows_next nodes rows i row out out' whole read added so_far =
-    ap (λ x. x ++ joined (map map_line (map (row_of_pair nodes) (drop (i + 1) rows)))) added
-    ∙ append_assoc out (joined (map_line (row_of_pair nodes row) ∷ [])) (joined (map map_line (map (row_of_pair nodes) (drop (i + 1) rows))))
-    ∙ ap (λ x. out ++ x) (sym (joined_append (map_line (row_of_pair nodes row) ∷ []) (map map_line (map (row_of_pair nodes) (drop (i + 1) rows)))))
-    ∙ ap (λ ps. out ++ joined (map map_line (map (row_of_pair nodes) ps))) (sym (rest_at rows i row read))
-    ∙ so_far
-  where
-    rest_at : (rows : List Pair) (i : ℕ) (row : Pair) → slice_get rows i ≡ Some row → drop i rows ≡ row ∷ drop (i + 1) rows
-    rest_at [] i row e = absurd (cc)
-    rest_at (x ∷ rows) zero row e = let same : x ≡ row = cc in ap (λ y. y ∷ rows) same
-    rest_at (x ∷ rows) (suc i) row e = rest_at rows i row e ∙ ap (λ n. row ∷ drop n (x ∷ rows)) (one_more i)
-
 -- The requests that wait, in order of serial ----------------------------------------------------
 
 map_append : {A B : Type 0} (f : A → B) (xs ys : List A) → map f (xs ++ ys) ≡ map f xs ++ map f ys
 map_append f [] ys = refl
 map_append f (x ∷ xs) ys = ap (λ l. f x ∷ l) (map_append f xs ys)
-
-pub works_next : (nodes : List Node) (rack : List Driver) (a : Activity) (more : List Activity) → works_lines nodes rack (a ∷ more) ≡ request_lines nodes rack a.serial (phase_walk a.phase) ++ works_lines nodes rack more
-works_next nodes rack a more =
-    let line = outstanding_line (core_of nodes [] rack []) in
-    ap joined (map_append line (walk_row a.serial (phase_walk a.phase)) (activity_rows more)) ∙ joined_append (map line (walk_row a.serial (phase_walk a.phase))) (map line (activity_rows more))
 
 -- a line says nothing of what is related or reserved
 line_same : (c : Core) (row : Outstanding) → outstanding_line c row ≡ outstanding_line (core_of c.nodes [] c.rack []) row

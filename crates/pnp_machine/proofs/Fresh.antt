@@ -67,10 +67,8 @@ abbrev pub FreshFor : Removal → List Node → List Text → Type 0
 FreshFor o nodes disabled = is_eject o.kind ≡ false → FreshIn o o.stage nodes disabled
 
 abbrev pub FreshWhile : Option Operation → List Node → List Text → Type 0
-FreshWhile None nodes disabled = Unit {0}
-FreshWhile (Some (Operation.Rebalancing r)) nodes disabled = Unit {0}
 FreshWhile (Some (Operation.Removing o)) nodes disabled = FreshFor o nodes disabled
-FreshWhile (Some (Operation.Surprising o)) nodes disabled = Unit {0}
+FreshWhile _ nodes disabled = Unit {0}
 
 abbrev pub IsTargetFresh : State → Type 0
 IsTargetFresh s = FreshWhile s.operation s.core.nodes s.disabled
@@ -171,17 +169,14 @@ begun_fresh c disabled kind node set h =
 
 -- a disable begins where the path is not disabled
 begins_fresh : (s : State) (kind : OpKind) (node : Node) → node_at node.serial s.core.nodes ≡ Some node → BeginsFor s kind node → FreshWhile (Some (begun s.core kind node)) s.core.nodes s.disabled
-begins_fresh s OpKind.Rebalance node at fits = tt
 begins_fresh s OpKind.Disable node at fits =
     begun_fresh s.core s.disabled OpKind.Disable node (leaving s.core node.serial)
     (λ e m there. ap (λ (x : Node). has_same x.path s.disabled) (some_same (node_at node.serial s.core.nodes) m node there at) ∙ fits)
 begins_fresh s OpKind.Eject node at fits = begun_fresh s.core s.disabled OpKind.Eject node (leaving s.core node.serial) (λ e. absurd (cc))
-begins_fresh s OpKind.Surprise node at fits = tt
+begins_fresh s _ node at fits = tt
 
 -- an answer leaves its walk where it is
 answer_fresh : (nodes : List Node) (disabled : List Text) (answer : Answer) (o : Operation) → FreshWhile (Some o) nodes disabled → FreshWhile (Some (ev.completed answer o)) nodes disabled
-answer_fresh nodes disabled answer (Operation.Rebalancing r) h = tt
-answer_fresh nodes disabled answer (Operation.Surprising o) h = tt
 answer_fresh nodes disabled answer (Operation.Removing o) h = λ e. by_stage o.stage (h e)
   where
     by_stage : (stage : RemovalStage) → FreshIn o stage nodes disabled → FreshIn (record o { stage = ev.completed_removal answer o.stage }) (ev.completed_removal answer stage) nodes disabled
@@ -189,6 +184,7 @@ answer_fresh nodes disabled answer (Operation.Removing o) h = λ e. by_stage o.s
     by_stage (RemovalStage.Cancelling w) g = tt
     by_stage RemovalStage.Ending g = tt
     by_stage _ g = g
+answer_fresh nodes disabled answer _ h = tt
 
 -- the step of a removal that runs
 abbrev FreshOf : State → Operation → Type 0
@@ -197,11 +193,8 @@ FreshOf s _ = ⊥
 
 operation_fresh : (s : State) (o : Operation) (step : Step) → Ascending 0 s.core.nodes → FreshOf s o → OperationStep s o step → IsTargetFresh step.state
 operation_fresh s p step order h (OperationStep.asks (Operation.Removing o) node w asks) = answer_fresh s.core.nodes s.disabled (reply s.core node w) (Operation.Removing o) h.1
-operation_fresh s p step order h (OperationStep.asks (Operation.Rebalancing r) node w asks) = absurd h
-operation_fresh s p step order h (OperationStep.asks (Operation.Surprising o) node w asks) = absurd h
-operation_fresh s p step order h (OperationStep.rebalances r stage m is x) = absurd h
 operation_fresh s p step order h (OperationStep.removes o stage m is x) = removal_fresh s o stage m order h.0 (subst (λ (y : RemovalStage). is_eject o.kind ≡ false → FreshIn o y s.core.nodes s.disabled) is h.1) x
-operation_fresh s p step order h (OperationStep.surprises o stage m is x) = absurd h
+operation_fresh s _ step order h _ = absurd h
 
 -- Each step ----------------------------------------------------------------------------------------
 
@@ -210,9 +203,8 @@ other_fresh : (t : State) (p : Operation) → t.operation ≡ Some p → is_remo
 other_fresh t p now sort = subst (λ (x : Option Operation). FreshWhile x t.core.nodes t.disabled) (sym now) (by_sort p sort)
   where
     by_sort : (q : Operation) → is_removal q ≡ false → FreshWhile (Some q) t.core.nodes t.disabled
-    by_sort (Operation.Rebalancing r) e = tt
     by_sort (Operation.Removing q) e = absurd (cc)
-    by_sort (Operation.Surprising q) e = tt
+    by_sort _ e = tt
 
 none_fresh : (t : State) → t.operation ≡ None → IsTargetFresh t
 none_fresh t now = subst (λ (x : Option Operation). FreshWhile x t.core.nodes t.disabled) (sym now) tt
@@ -220,13 +212,12 @@ none_fresh t now = subst (λ (x : Option Operation). FreshWhile x t.core.nodes t
 step_fresh : (settings : Settings) (s : State) (label : Label) (t : State) → IsGood s → OpEffect s label t → Goes settings s (Did label) t → IsTargetFresh s → IsTargetFresh t
 step_fresh settings s label t good (OpEffect.idles none now prints) goes h = none_fresh t now
 step_fresh settings s label t good (OpEffect.begins kind node none alone at fits is) goes h = subst (λ (x : Step). IsTargetFresh x.state) (sym is) (begins_fresh s kind node at fits)
-step_fresh settings s label t good (OpEffect.goes (Operation.Rebalancing r) p runs now work prints) goes h = other_fresh t p now work.sort
-step_fresh settings s label t good (OpEffect.goes (Operation.Surprising o) p runs now work prints) goes h = other_fresh t p now work.sort
 step_fresh settings s label t good (OpEffect.goes (Operation.Removing o) p runs now work prints) goes h =
     let keeps = subst (λ (x : Option Operation). OperationFits x s.core.nodes) runs good.fits in
     let fresh = subst (λ (x : Option Operation). FreshWhile x s.core.nodes s.disabled) runs h in
     operation_fresh s (Operation.Removing o) (record { label = label; state = t }) good.serials (keeps.todo, fresh) (operation_step settings s (Operation.Removing o) (record { label = label; state = t }) runs goes)
 step_fresh settings s label t good (OpEffect.ends o result runs now prints by over) goes h = none_fresh t now
+step_fresh settings s label t good (OpEffect.goes _ p runs now work prints) goes h = other_fresh t p now work.sort
 
 -- Events -------------------------------------------------------------------------------------------
 
@@ -247,9 +238,6 @@ fewer_paths s label t word (PathEffect.disables o node runs first prints e) = ab
 fewer_paths s label t word (PathEffect.enables path e) = subst (IsFewer s.disabled) (sym e) (fewer_without (same path) s.disabled)
 
 fewer_fresh : (nodes : List Node) (old new : List Text) → IsFewer old new → (o : Option Operation) → FreshWhile o nodes old → FreshWhile o nodes new
-fewer_fresh nodes old new fewer None h = tt
-fewer_fresh nodes old new fewer (Some (Operation.Rebalancing r)) h = tt
-fewer_fresh nodes old new fewer (Some (Operation.Surprising o)) h = tt
 fewer_fresh nodes old new fewer (Some (Operation.Removing o)) h = λ e. by_stage o.stage (h e)
   where
     by_stage : (stage : RemovalStage) → FreshIn o stage nodes old → FreshIn o stage nodes new
@@ -259,6 +247,7 @@ fewer_fresh nodes old new fewer (Some (Operation.Removing o)) h = λ e. by_stage
     by_stage (RemovalStage.Removing w) g = λ there n at. fewer n.path (g there n at)
     by_stage RemovalStage.Settling g = λ there n at. fewer n.path (g there n at)
     by_stage RemovalStage.Ending g = tt
+fewer_fresh nodes old new fewer _ h = tt
 
 answered_fresh : (nodes : List Node) (disabled : List Text) (old new : Option Operation) → Answered old new → FreshWhile old nodes disabled → FreshWhile new nodes disabled
 answered_fresh nodes disabled old new (inl e) h = subst (λ (x : Option Operation). FreshWhile x nodes disabled) (sym e) h

@@ -17,7 +17,7 @@ use Rattle.pnp_laws.specs.Kept.{Alone, Ascending, Fits, is_idle}
 use Rattle.pnp_laws.specs.Quiet.{RestsWith}
 use Rattle.pnp_laws.specs.Reached.{IsReached}
 use Rattle.pnp_laws.specs.Effects.{NodeEffect}
-use Rattle.pnp_laws.proofs.EffectViews.{alters_keeps}
+use Rattle.pnp_laws.proofs.EffectViews.{Origin, origin}
 use Rattle.pnp_laws.proofs.EffectsOf.{effect_goes}
 use Rattle.pnp_laws.proofs.Lookups.{joined_from, left_from, map_from, node_from}
 use Rattle.pnp_laws.proofs.Reached.{reached_is_good}
@@ -40,44 +40,22 @@ use Rattle.pnp_machine.proofs.Related.{related_up, no_relations}
 abbrev pub RootNeedsNothing : List Node → Type 0
 RootNeedsNothing nodes = (n : Node) → node_at 0 nodes ≡ Some n → n.reqs ≡ []
 
-changed_needs : (j : ℕ) (f : Node → Node) (nodes : List Node) → ((n : Node) → (f n).serial ≡ n.serial) → ((n : Node) → (f n).reqs ≡ n.reqs)
-    → RootNeedsNothing nodes → RootNeedsNothing (changed_first (is_node j) f nodes)
-changed_needs j f nodes serial reqs h m at =
-    elim (node_from j 0 f nodes m serial at) [
-      | inl (e, (n, there, same)) ↦ ap (λ (x : Node). x.reqs) same ∙ reqs n ∙ h n there
-      | inr (d, there) ↦ h m there
-    ]
-
+needs_from : (s : State) (label : Label) (t : State) (m : Node) → 0 < s.next_serial → RootNeedsNothing s.core.nodes → Origin s label t 0 m → m.reqs ≡ []
+needs_from s label t _ begun h (Origin.was n at) = h n at
+needs_from s label t _ begun h (Origin.walked n minor w bad at request other ends verdict prints) = h n at
+needs_from s label t _ begun h (Origin.troubled n problem at) = h n at
+needs_from s label t _ begun h (Origin.stacks n d ds name at acts prints) = h n at
+needs_from s label t _ begun h (Origin.assigned n phase plan at acts search part now) = h n at
+needs_from s label t _ begun h (Origin.stripped n w at request prints) = h n at
+needs_from s label t _ begun h (Origin.commits r n runs is at) = h n at
 -- what joins is not the root
-joined_needs : (nodes : List Node) (new : Node) → 0 < new.serial → RootNeedsNothing nodes → RootNeedsNothing (nodes ++ new ∷ [])
-joined_needs nodes new up h m at =
-    elim (joined_from 0 nodes new m at) [
-      | inl there ↦ h m there
-      | inr (none, same, root) ↦ absurd (omega arith)
-    ]
-
-mapped_needs : (movers : List ℕ) (plan : List (List Res)) (nodes : List Node) → RootNeedsNothing nodes → RootNeedsNothing (map (committed movers plan) nodes)
-mapped_needs movers plan nodes h m at =
-    let from = map_from 0 (committed movers plan) nodes m (λ n. refl) at in
-    ap (λ (x : Node). x.reqs) from.2 ∙ h from.0 from.1
-
-effect_needs : (s : State) (label : Label) (t : State) → NodeEffect s label t → Ascending 0 s.core.nodes → 0 < s.next_serial → RootNeedsNothing s.core.nodes → RootNeedsNothing t.core.nodes
-effect_needs s label t (NodeEffect.same a b) order begun h = subst RootNeedsNothing (sym a) h
-effect_needs s label t (NodeEffect.changed j f alters a b) order begun h =
-    let keeps = alters_keeps s label t j f alters in
-    subst RootNeedsNothing (sym a) (changed_needs j f s.core.nodes keeps.serial keeps.reqs h)
-effect_needs s label t (NodeEffect.stripped node w at request ends prints a b) order begun h = subst RootNeedsNothing (sym a) (changed_needs node.serial bare s.core.nodes (λ n. refl) (λ n. refl) h)
-effect_needs s label t (NodeEffect.commits r runs is a b) order begun h = subst RootNeedsNothing (sym a) (mapped_needs (movers r) (plan_of r.found) s.core.nodes h)
-effect_needs s label t (NodeEffect.joins node d none at up there is) order begun h =
-    subst (λ (x : Step). RootNeedsNothing x.state.core.nodes) (sym is) (joined_needs s.core.nodes (new_node s.next_serial node.serial d) begun h)
-effect_needs s label t (NodeEffect.left node o runs first a b) order begun h = subst RootNeedsNothing (sym a) (λ m at. h m (left_from node.serial 0 s.core.nodes m order at).1)
-effect_needs s label t (NodeEffect.related r related a b) order begun h = subst RootNeedsNothing (sym a) h
+needs_from s label t _ begun h (Origin.joins node d below gone own) = absurd (omega arith)
 
 goes_needs : (settings : Settings) (rack : List Driver) (old : State) (entry : Entry) (new : State) → IsReached settings rack old → RootNeedsNothing old.core.nodes → Goes settings old entry new
     → RootNeedsNothing new.core.nodes
 goes_needs settings rack old entry new reached h goes =
     let good = reached_is_good settings rack old reached in
-    effect_needs old (printed entry) new (effect_goes settings old entry new goes).nodes good.serials good.begun h
+    λ m at. needs_from old (printed entry) new m good.begun h (origin old (printed entry) new good.serials 0 m (effect_goes settings old entry new goes).nodes at)
 
 -- a device that needs nothing holds nothing where it holds one whole alternative
 nothing_held : (reqs : Reqs) (holds : List Res) → reqs ≡ [] → Whole reqs holds → holds ≡ []

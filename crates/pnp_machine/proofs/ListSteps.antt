@@ -1,21 +1,21 @@
 -- A step of the task that lists a device's children, as the machine's step.
-use Rattle.std.proofs.Common.{◌≡◌, ℕ, Bool, true, false, ◌&&◌, cond, if◌then◌else◌, find, List, [], ◌∷◌, ◌++◌, Option, Some, None, Result, Ok, Err, IfOk, option_map, refl, sym, ◌∙◌, ap, subst}
+use Rattle.std.proofs.Common.{◌≡◌, ℕ, Bool, true, false, ◌&&◌, cond, if◌then◌else◌, find, List, [], ◌∷◌, Option, Some, None, Result, Ok, Err, IfOk, option_map, refl, sym, ◌∙◌, ap, subst}
 use Rattle.pnp_labels.specs.Texts.{Text}
 use Rattle.pnp_labels.specs.declared.label.Label.{Label}
 use Rattle.pnp_labels.specs.declared.states.DevState.{DevState}
 use Rattle.pnp_labels.specs.declared.states.DevState.TheVariants.{NoStack, NotStarted, Started, StopPending, Stopped, RemovePending, SurpriseRemoved}
-use Rattle.pnp_model.specs.Cores.{node_at, new_node, serials_of}
+use Rattle.pnp_model.specs.Cores.{node_at, serials_of}
 use Rattle.pnp_model.specs.Keyed.{those}
 use Rattle.pnp_model.specs.Trees.{children, is_child}
 use Rattle.pnp_model.specs.Records.{Node, Driver, Activity, Operation, State, Step, Task}
 use Rattle.std.specs.declared.alloc.AllocError.{AllocError}
 use Rattle.pnp_labels.specs.declared.label.OpKind.{OpKind}
-use Rattle.pnp_model.specs.Records.Duty.{Listing, Starting, Begins}
+use Rattle.pnp_model.specs.Records.Duty.{Listing, Begins}
 use Rattle.pnp_model.specs.States.{append_task}
-use Rattle.pnp_model.specs.Tasks.{skip, list_step, list_up, join_or_on, join_step, gone_or_listed, gone_child, is_gone, joining}
+use Rattle.pnp_model.specs.Tasks.{skip, list_step, list_up, join_or_on, gone_or_listed, gone_child, is_gone, joining}
 use Rattle.pnp_model.specs.Tests.{is_started}
 use Rattle.pnp_laws.proofs.Lookups.{own_serial}
-use Rattle.devnode_tree.specs.Trees.{with_node, Ascends}
+use Rattle.devnode_tree.specs.Trees.{Ascends}
 use Rattle.script_bus.proofs.Unplugs.{by_bool}
 use Rattle.pnp_machine.proofs.EventSteps.{found_serial}
 use Rattle.pnp_machine.specs.Devices.{Devices, JoinedFor}
@@ -75,17 +75,6 @@ module _ (ds ds' : Devices) (rack : List Driver) (disabled : List Text) (works :
     (at : node_at k ds.tree.nodes ≡ Some n) (up : n.state ≡ Started) where
   abbrev s : State
   s = state_of ds rack disabled works operation tasks
-
-  pub list_joined : (joined : ℕ × Text) → JoinedFor (node_at k ds.tree.nodes) (Some joined) ds ds' → tasks' ≡ tasks ++ record { kind = Starting; serial = joined.0 } ∷ []
-      → IsDone (list_step s k (node_at k ds.tree.nodes)) (Label.Join joined.0 joined.1) (state_of ds' rack disabled works operation tasks')
-  list_joined joined h tasks_is =
-      let by = subst (λ o. JoinedFor o (Some joined) ds ds') at h in
-      on_started s k n at up (join_step s n by.0) (Label.Join joined.0 joined.1) (state_of ds' rack disabled works operation tasks') (ap (join_or_on s n) by.1) (
-        ap (λ i. Label.Join i joined.1) by.2 ∙ ap (λ path. Label.Join ds.tree.next path) by.3,
-        ap (λ (x : Devices). state_of x rack disabled works operation tasks') by.4
-            ∙ ap (state_of (record ds { tree = with_node (new_node ds.tree.next n.serial by.0) ds.tree }) rack disabled works operation)
-            (tasks_is ∙ ap (λ i. tasks ++ record { kind = Starting; serial = i } ∷ []) by.2),
-      )
 
   -- none joins, and nothing has changed
   pub none_joins : JoinedFor (node_at k ds.tree.nodes) None ds ds' → (joining n.born ds.tree.nodes ds.world.devices ≡ None) × (ds' ≡ ds)

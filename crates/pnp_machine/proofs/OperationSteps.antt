@@ -46,8 +46,7 @@ module _ (s : State) (run : IsOfRun s) (turn : IsTurn turns.Operate s) where
   pub may_rebalance : (o : Operation) → s.operation ≡ Some o → IsRebalance o → MayRebalance s.core.nodes o
   may_rebalance (Operation.Rebalancing r) runs sort =
       (rebalance_ready s r (reaches_kept run.told run.rack run.entries s run.reaches) runs, awake_is s (Operation.Rebalancing r) turn runs)
-  may_rebalance (Operation.Removing o) runs sort = absurd sort
-  may_rebalance (Operation.Surprising o) runs sort = absurd sort
+  may_rebalance _ runs sort = absurd sort
 
   pub may_remove : (o : Operation) → s.operation ≡ Some o → IsRemoving (Some o) → MayRemove s.core.nodes o
   may_remove (Operation.Rebalancing r) runs sort = absurd sort
@@ -132,11 +131,7 @@ module _ (ds ds' : Devices) (rack rack' : List Driver) (disabled : List Text) (w
       by_kind : (o o' : Operation) → IsOfRun (state_of ds rack disabled works (Some o) tasks) → RemovesBy ds rack o step ds' rack' o' → IsNoRoot step
       by_kind (Operation.Removing o) (Operation.Removing o') run h = removal_no_root (state_of ds rack disabled works (Some (Operation.Removing o)) tasks) run o refl _ o' step h.0
       by_kind (Operation.Surprising o) (Operation.Surprising o') run h = surprise_no_root o' _ _ step h.0
-      by_kind (Operation.Rebalancing o) o' run h = absurd h
-      by_kind (Operation.Removing o) (Operation.Rebalancing o') run h = absurd h
-      by_kind (Operation.Removing o) (Operation.Surprising o') run h = absurd h
-      by_kind (Operation.Surprising o) (Operation.Rebalancing o') run h = absurd h
-      by_kind (Operation.Surprising o) (Operation.Removing o') run h = absurd h
+      by_kind _ _ run h = absurd h
 
   pub is_new : IsOfRun s → (step : RemoveStep) (settled : Option Text) → settled ≡ settled_in (Some o) ds.tree.nodes → RemovesBy ds rack o step ds' rack' o' → IsNew step settled disabled
   is_new run step settled set h = by_kind o o' (subst (λ (x : State). IsOfRun x) (sym is) run) set h
@@ -146,11 +141,7 @@ module _ (ds ds' : Devices) (rack rack' : List Driver) (disabled : List Text) (w
       by_kind (Operation.Removing o) (Operation.Removing o') run set h =
           removal_new (state_of ds rack disabled works (Some (Operation.Removing o)) tasks) run o refl _ o' step settled set h.0
       by_kind (Operation.Surprising o) (Operation.Surprising o') run set h = surprise_new o' _ _ step settled disabled h.0
-      by_kind (Operation.Rebalancing o) o' run set h = absurd h
-      by_kind (Operation.Removing o) (Operation.Rebalancing o') run set h = absurd h
-      by_kind (Operation.Removing o) (Operation.Surprising o') run set h = absurd h
-      by_kind (Operation.Surprising o) (Operation.Rebalancing o') run set h = absurd h
-      by_kind (Operation.Surprising o) (Operation.Removing o') run set h = absurd h
+      by_kind _ _ run set h = absurd h
 
   -- The steps -----------------------------------------------------------------------------
 
@@ -172,11 +163,7 @@ module _ (ds ds' : Devices) (rack rack' : List Driver) (disabled : List Text) (w
           subst (λ x. Steps settings (state_of ds rack disabled works (Some (Operation.Surprising o)) tasks) (label_of step) (beside step x (state_of ds' rack' disabled works (Some (Operation.Surprising o')) tasks))) (sym set)
           (operate_moves settings (state_of ds rack disabled works (Some (Operation.Surprising o)) tasks) (Operation.Surprising o) refl _ _ awake
           (surprise_done ds ds' rack rack' disabled works tasks h.1 o o' step h.0 settings))
-      by_kind (Operation.Rebalancing o) o' set awake h = absurd h
-      by_kind (Operation.Removing o) (Operation.Rebalancing o') set awake h = absurd h
-      by_kind (Operation.Removing o) (Operation.Surprising o') set awake h = absurd h
-      by_kind (Operation.Surprising o) (Operation.Rebalancing o') set awake h = absurd h
-      by_kind (Operation.Surprising o) (Operation.Removing o') set awake h = absurd h
+      by_kind _ _ set awake h = absurd h
 
 -- of a rebalance; it runs on, or is over
 abbrev pub running : RebalanceStep → Operation → Option Operation
@@ -208,15 +195,4 @@ module _ (infs : List Inf) (budget : ℕ) (ds ds' : Devices) (rack rack' : List 
       ∙ ap (λ x. state_of ds' rack' disabled (moved.works_after step r'.target works) (moved.operation_after step r') x) t in
       subst (λ x. Steps (settings_of infs budget) x (moved.label_of step) (state_of ds' rack' disabled works' operation' tasks')) is
       (subst (λ x. Steps (settings_of infs budget) old (moved.label_of step) x) (sym same) done)
-  rebalanced_moves (Operation.Rebalancing r) (Operation.Removing r') s works' operation' tasks' is turn h target w o t = absurd h
-  rebalanced_moves (Operation.Rebalancing r) (Operation.Surprising r') s works' operation' tasks' is turn h target w o t = absurd h
-  rebalanced_moves (Operation.Removing r) r' s works' operation' tasks' is turn h target w o t = absurd h
-  rebalanced_moves (Operation.Surprising r) r' s works' operation' tasks' is turn h target w o t = absurd h
-
--- the rebalance runs on as one
-pub stays_rebalance : (budget : ℕ) (ds ds' : Devices) (rack rack' : List Driver) (step : RebalanceStep) (o o' : Operation) → RebalancesBy budget ds rack o step ds' rack' o' → IsRebalance o'
-stays_rebalance budget ds ds' rack rack' step (Operation.Rebalancing r) (Operation.Rebalancing r') h = tt
-stays_rebalance budget ds ds' rack rack' step (Operation.Rebalancing r) (Operation.Removing r') h = absurd h
-stays_rebalance budget ds ds' rack rack' step (Operation.Rebalancing r) (Operation.Surprising r') h = absurd h
-stays_rebalance budget ds ds' rack rack' step (Operation.Removing r) r' h = absurd h
-stays_rebalance budget ds ds' rack rack' step (Operation.Surprising r) r' h = absurd h
+  rebalanced_moves _ _ s works' operation' tasks' is turn h target w o t = absurd h

@@ -116,9 +116,6 @@ module _ (told : Settings) (s t : State) where
   laws_stepped n (Printed label) h most steps = laws_of n h (Did label) (omega arith) steps
   laws_stepped n Quiet h most steps = tt
 
-pub of_run : (told : Settings) (n : ℕ) (s : State) → IsRunOf told n s → IsOfRun s
-of_run told n s h = record { told = told; rack = h.rack; entries = h.entries; reaches = h.reaches }
-
 pub of_run_good : (s : State) → IsOfRun s → IsGood s
 of_run_good s run = reached_is_good run.told run.rack s (run.entries, run.reaches)
 

@@ -1,5 +1,5 @@
 -- Which step is next, and when none is.
-use Rattle.std.proofs.Common.{◌≡◌, ℕ, Bool, true, false, List, ◌∷◌, find, Option, Some, None, IsSome, refl, sym, ◌∙◌, ap, subst, option_map, slice_get}
+use Rattle.std.proofs.Common.{◌≡◌, ℕ, Bool, true, false, List, find, Option, Some, None, IsSome, refl, sym, ◌∙◌, ap, subst, option_map, slice_get}
 use Rattle.pnp_labels.specs.declared.label.Label.{Label}
 use Rattle.pnp_labels.specs.declared.label.OpKind.{OpKind}
 use Rattle.pnp_labels.specs.declared.words.Minor.{Minor}
@@ -7,7 +7,6 @@ use Rattle.pnp_model.specs.Cores.{node_at}
 use Rattle.pnp_model.specs.Machine.{Steps, IsStep, IsQuiet, idle_next, task_next, activity_next, operation_next, operation_walk, is_waiting, begin_alone, next, next_of, is_ready}
 use Rattle.pnp_model.specs.Records.{Activity, Operation, State, Step, Settings, Doing, Walk}
 use Rattle.pnp_model.specs.Records.Doing.{Does}
-use Rattle.pnp_model.specs.Records.Duty.{Begins}
 use Rattle.pnp_model.specs.Tasks.{list_step, start_step, begin_step}
 use Rattle.pnp_laws.specs.Kept.{IsGood}
 use Rattle.pnp_laws.proofs.Lookups.{ready_found}
@@ -72,11 +71,6 @@ module _ (settings : Settings) (s : State) where
     pub no_task : first_ready s.activities ≡ None → slice_get s.tasks 0 ≡ None → IsQuiet settings s
     no_task idle empty = task_is idle ∙ ap (task_next settings s) empty
 
-    -- a task that begins an operation waits for those that start
-    pub begin_waits : (kind : OpKind) (k : ℕ) (a : Activity) (more : List Activity) → first_ready s.activities ≡ None
-        → slice_get s.tasks 0 ≡ Some (record { kind = Begins kind; serial = k }) → s.activities ≡ a ∷ more → IsQuiet settings s
-    begin_waits kind k a more idle first starts = task_is idle ∙ ap (task_next settings s) first ∙ ap (begin_alone s kind k) starts
-
     pub start_goes : (k : ℕ) → IsGood s → first_ready s.activities ≡ Some k → IsQuiet settings s → ⊥
     start_goes k good first q = by_found (find is_ready s.activities) refl first (sym idle_is ∙ q)
       where
@@ -104,16 +98,6 @@ module _ (settings : Settings) (s : State) where
 
   begin_is : (kind : OpKind) (k : ℕ) → IsTurn (turns.Do (duties.Begin kind) k) s → next settings s ≡ Some (Does (begin_step s kind k (node_at k s.core.nodes)))
   begin_is kind k (none, idle, first, may) = task_is none idle ∙ ap (task_next settings s) first ∙ ap (begin_alone s kind k) may
-
-  pub list_moves : (k : ℕ) (label : Label) (t : State) → IsTurn (turns.Do duties.List k) s → IsDone (list_step s k (node_at k s.core.nodes)) label t → Steps settings s label t
-  list_moves k label t turn h = by_step (list_step s k (node_at k s.core.nodes)) label t (list_is k turn) h
-
-  pub start_moves : (k : ℕ) (label : Label) (t : State) → IsTurn (turns.Do duties.Start k) s → IsDone (start_step settings s k (node_at k s.core.nodes)) label t → Steps settings s label t
-  start_moves k label t turn h = by_step (start_step settings s k (node_at k s.core.nodes)) label t (start_is k turn) h
-
-  pub begin_moves : (kind : OpKind) (k : ℕ) (label : Label) (t : State) → IsTurn (turns.Do (duties.Begin kind) k) s → IsDone (begin_step s kind k (node_at k s.core.nodes)) label t
-      → Steps settings s label t
-  begin_moves kind k label t turn h = by_step (begin_step s kind k (node_at k s.core.nodes)) label t (begin_is kind k turn) h
 
   -- Where a step is next none is quiet ----------------------------------------------------
 
