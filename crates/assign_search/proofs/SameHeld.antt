@@ -6,7 +6,6 @@ use Rattle.std.proofs.lemmas.List.Elements.{All-contains, Contains-push, Contain
 use Rattle.std.proofs.lemmas.List.Sorted.{IsPermutation-trans, IsPermutation-sym, IsPermutation-middle, IsPermutation-append_left, IsPermutation-append_right, IsPermutation-map, Contains-permutation, length_permutation}
 use Rattle.resource_reqs.specs.declared.kind.Kind.{Kind}
 use Rattle.resource_reqs.specs.declared.kind.Kind.TheVariants.{Port, Irq, Mem, Dma}
-use Rattle.resource_reqs.specs.declared.owner.Owner.TheVariants.{Reserved}
 use Rattle.resource_reqs.specs.Resources.{Res, Clash, Free, Group, AltList, Reqs, res_at}
 use Rattle.resource_reqs.specs.Spelling.{Coord, alt, place, Place, res_of}
 use Rattle.resource_reqs.proofs.Points.{all_weaker}
@@ -15,7 +14,7 @@ use Rattle.range_arbiter.specs.Pairs.{Pair, pairs_with, res_list}
 use Rattle.range_arbiter.proofs.PairLists.{with_permutation, with_once}
 use Rattle.trial_journal.specs.Four.{Arbiters, Lists, lists_of, of_kind}
 use Rattle.assign_search.specs.declared.spots.Child.{Child}
-use Rattle.assign_search.specs.Walking.{OpenPick, HasOpen, AllOpen, HasOpenList, IsOpenCoord, IsChild, NoChild, coord_of, list_at, put_in, lists_holding}
+use Rattle.assign_search.specs.Walking.{OpenPick, HasOpen, AllOpen, HasOpenList, IsOpenCoord, IsChild, NoChild, coord_of, list_at, put_in, lists_holding, trial}
 use Rattle.assign_search.proofs.Held.{held_of}
 use Rattle.assign_search.proofs.Touching.{contains_later}
 
@@ -113,13 +112,13 @@ length-put_in l kind p = let same = length_permutation (p ∷ lists_pairs l) (li
 
 pub length-holding : (l : Lists) (o : Option Res) → (length (lists_pairs l) ≤ length (lists_pairs (lists_holding l o))) × (length (lists_pairs (lists_holding l o)) ≤ length (lists_pairs l) + 1)
 length-holding l None = (omega arith, omega arith)
-length-holding l (Some r) = let more = length-put_in l r.kind (Reserved, r) in (omega arith, omega arith)
+length-holding l (Some r) = let more = length-put_in l r.kind (trial, r) in (omega arith, omega arith)
 
 -- what a resource that is put in adds
 pub put_adds : (l : Lists) (r : Res) (x : Res) → (Contains (lists_res (lists_holding l (Some r))) x → Contains (lists_res l) x ⊎ (r ≡ x))
     × ((Contains (lists_res l) x → Contains (lists_res (lists_holding l (Some r))) x) × Contains (lists_res (lists_holding l (Some r))) r)
 put_adds l r x =
-    let p : Pair = (Reserved, r) in
+    let p : Pair = (trial, r) in
     let moved : IsPermutation (r ∷ lists_res l) (lists_res (put_in l r.kind p)) =
     IsPermutation-map (λ (q : Pair). q.1) (p ∷ lists_pairs l) (lists_pairs (put_in l r.kind p)) (put_permutation l r.kind p) in (
       λ inside. elim (contains_cons r (lists_res l) x (Contains-permutation (lists_res (put_in l r.kind p)) (r ∷ lists_res l) x
@@ -166,7 +165,7 @@ put_once l m Dma p e = lists_same_parts l m (ap (λ (x : Lists). x.port) e) (ap 
 
 pub holding_once : (l m : Lists) (o : Option Res) → lists_holding l o ≡ lists_holding m o → l ≡ m
 holding_once l m None e = e
-holding_once l m (Some r) e = put_once l m r.kind (Reserved, r) e
+holding_once l m (Some r) e = put_once l m r.kind (trial, r) e
 
 -- how many pairs there are after a release, and after a put
 pub fewer : (l m : Lists) (o : Option Res) (n : ℕ) → lists_holding l o ≡ m → length (lists_pairs m) ≤ n → length (lists_pairs l) ≤ n

@@ -5,7 +5,8 @@ use Rattle.resource_reqs.specs.Resources.{Res, Want, IsOpen, Group, AltList, Req
 use Rattle.resource_reqs.specs.Spelling.{Coord, alt, place, Less, Place, Point, choose, next_in}
 use Rattle.resource_reqs.specs.declared.kind.Kind.{Kind}
 use Rattle.resource_reqs.specs.declared.kind.Kind.TheVariants.{Port, Irq, Mem, Dma}
-use Rattle.resource_reqs.specs.declared.owner.Owner.TheVariants.{Reserved}
+use Rattle.resource_reqs.specs.declared.owner.Owner.{Owner}
+use Rattle.resource_reqs.specs.declared.owner.Owner.TheVariants.{Device}
 use Rattle.range_arbiter.specs.Pairs.{Pair, pairs_with, res_list}
 use Rattle.trial_journal.specs.Four.{Arbiters, Lists, all_pairs}
 use Rattle.assign_search.specs.declared.spots.Step.{Step}
@@ -156,10 +157,14 @@ put_in l Irq p = record l { irq = pairs_with l.irq p }
 put_in l Mem p = record l { mem = pairs_with l.mem p }
 put_in l Dma p = record l { dma = pairs_with l.dma p }
 
--- what a step places is held beside the rest, as reserved
+-- the owner of what a trial places: no device has this serial, and it is the last in the order of owners
+abbrev pub trial : Owner
+trial = Device 18446744073709551615
+
+-- what a step places is held beside the rest, for the trial
 abbrev pub lists_holding : Lists → Option Res → Lists
 lists_holding l None = l
-lists_holding l (Some res) = put_in l res.kind (Reserved, res)
+lists_holding l (Some res) = put_in l res.kind (trial, res)
 
 -- what the frames of a path placed is held beside the rest, the first frame's first
 abbrev pub lists_along : Lists → List Frame → Lists

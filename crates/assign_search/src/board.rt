@@ -1,10 +1,14 @@
 ghost use Rattle.std.specs.Prelude.{◌≡◌, ◌<◌, ◌+◌, ◌^◌, length, Contains, OnOk, OnErr};
 ghost use Rattle.std.specs.Option.{ForSome};
 ghost use Rattle.trial_journal.specs.Four.{of_kind, all_pairs, lists_of};
-ghost use Rattle.assign_search.specs.Walking.{put_in, lists_holding};
+ghost use Rattle.assign_search.specs.Walking.{put_in, lists_holding, trial};
 
 use resource_reqs::{Owner, Res, WantOfMemory};
 use trial_journal::Arbiters;
+
+/// The serial of what a trial places. No device has it, and it is the last in the order of owners, so that what is placed
+/// beside thousands that share a number goes behind them, and is taken off again without moving them.
+const NO_DEVICE: u64 = 18_446_744_073_709_551_615;
 
 /// Puts a pair on the board, and takes the memory for it before; after want of memory the lists are as before.
 pub fn add(board: &mut Arbiters, owner: Owner, res: Res) -> Result<(), WantOfMemory>
@@ -17,24 +21,24 @@ pub fn add(board: &mut Arbiters, owner: Owner, res: Res) -> Result<(), WantOfMem
     Ok(())
 }
 
-/// Holds what a step places, as reserved; after want of memory the lists are as before.
+/// Holds what a step places, for the trial; after want of memory the lists are as before.
 pub fn hold(board: &mut Arbiters, res: &Option<Res>) -> Result<(), WantOfMemory>
     requires { length (all_pairs board.old) + 1 < 2 ^ 32 }
     ensures held { OnOk result (lists_of board.new ≡ lists_holding (lists_of board.old) res.now) }
     ensures err { OnErr result (lists_of board.new ≡ lists_of board.old) }
 {
     if let Some(res) = res {
-        add(board, Owner::Reserved, *res)?;
+        add(board, Owner::Device(NO_DEVICE), *res)?;
     }
     Ok(())
 }
 
 /// Takes away again what a step placed.
 pub fn release(board: &mut Arbiters, res: &Option<Res>)
-    requires { ForSome res.now (λ r. Contains (of_kind board.old r.kind).pairs (Owner.Reserved, r)) }
+    requires { ForSome res.now (λ r. Contains (of_kind board.old r.kind).pairs (trial, r)) }
     ensures { lists_holding (lists_of board.new) res.now ≡ lists_of board.old }
 {
     if let Some(res) = res {
-        board.take(Owner::Reserved, *res);
+        board.take(Owner::Device(NO_DEVICE), *res);
     }
 }

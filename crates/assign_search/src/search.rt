@@ -5,7 +5,7 @@ ghost use Rattle.trial_journal.specs.Four.{of_kind, all_pairs, lists_of, Lists};
 ghost use Rattle.resource_reqs.specs.Resources.{Res};
 ghost use Rattle.resource_reqs.specs.Spelling.{IsAnswer};
 ghost use Rattle.assign_search.specs.Fixed.{reqs_of, answer_of};
-ghost use Rattle.assign_search.specs.Walking.{AllOpen, HasOpenList, Adds, IsSpot, groups_at, movers_at, held_in, lists_holding, lists_along};
+ghost use Rattle.assign_search.specs.Walking.{AllOpen, HasOpenList, Adds, IsSpot, groups_at, movers_at, held_in, lists_holding, lists_along, trial};
 ghost use Rattle.assign_search.specs.Watching.{AllWatched, AddsStep, Within};
 
 use crate::board::{hold, release};
@@ -17,7 +17,7 @@ use crate::plan::Found;
 use crate::spelled::plan_of;
 use crate::spots::{Child, Frame, Spot, Step};
 use crate::watch::{Watch, no_watch};
-use resource_reqs::{Owner, WantOfMemory};
+use resource_reqs::WantOfMemory;
 use std::alloc::Global;
 use trial_journal::Arbiters;
 
@@ -36,7 +36,7 @@ fn frame_of(before: Spot, child: &Child) -> Frame
 /// Appends the frame of what was put on the board last; after want of memory the path is as before, and what
 /// the frame placed is taken off the board.
 fn grow(board: &mut Arbiters, path: &mut Vec<Frame>, frame: Frame) -> Result<(), WantOfMemory>
-    requires { ForSome frame.res (λ r. Contains (of_kind board.old r.kind).pairs (Owner.Reserved, r)) }
+    requires { ForSome frame.res (λ r. Contains (of_kind board.old r.kind).pairs (trial, r)) }
     ensures path { OnOk result (path.new.items ≡ path.old.items ++ frame ∷ []) }
     ensures board { OnOk result (board.new ≡ board.old) }
     ensures short { OnErr result (path.new.items ≡ path.old.items) }
@@ -60,7 +60,7 @@ fn look_ahead(
 ) -> Result<bool, WantOfMemory>
     requires spot { IsSpot (map reqs_of movers.now) child.now.spot }
     requires long { length watch.old.places ≡ length movers.now }
-    requires there { ForSome child.now.res (λ r. Contains (of_kind board.old r.kind).pairs (Owner.Reserved, r)) }
+    requires there { ForSome child.now.res (λ r. Contains (of_kind board.old r.kind).pairs (trial, r)) }
     ensures long { length watch.new.places ≡ length movers.now }
     ensures board { OnOk result (board.new ≡ board.old) }
     ensures back { OnErr result (lists_holding (lists_of board.new) child.now.res ≡ lists_of board.old) }
