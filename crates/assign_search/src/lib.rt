@@ -20,5 +20,3 @@ pub use plan::{Found, Plan};
 pub use problem::{answer, answer_beside};
 pub use resource_reqs::WantOfMemory;
 
-#[cfg(test)]
-mod tests;

@@ -6,5 +6,3 @@ mod arbiter;
 pub use arbiter::NumberArbiter;
 pub use range_arbiter::{Kind, Owner, Res, Want, WantOfMemory};
 
-#[cfg(test)]
-mod tests;

@@ -7,8 +7,6 @@ mod memory;
 mod outside;
 mod short;
 mod sure;
-#[cfg(test)]
-mod tests;
 mod whole;
 
 pub use host::{HostFiles, HostSink};

@@ -2,6 +2,8 @@
 #![tactic(auto)]
 
 #[cfg(test)]
+mod inf_boards;
+#[cfg(test)]
 mod inf_encodings;
 #[cfg(test)]
 mod inf_lines;
@@ -13,6 +15,8 @@ mod inf_told;
 mod inf_vendors;
 #[cfg(test)]
 mod inf_versions;
+#[cfg(test)]
+mod script_limits;
 #[cfg(test)]
 mod script_lines;
 #[cfg(test)]

@@ -39,8 +39,6 @@ mod reader;
 mod skip;
 mod step;
 mod tables;
-#[cfg(test)]
-mod tests;
 mod wants;
 mod whole;
 mod words;

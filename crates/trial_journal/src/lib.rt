@@ -5,5 +5,3 @@ mod arbiters;
 
 pub use arbiters::Arbiters;
 
-#[cfg(test)]
-mod tests;

@@ -1,0 +1,63 @@
+//! How many parts a line may have, and how long they may be: with so many it is read, with one more it is bad.
+use script_reader::{ScriptEnd, read_events};
+use std::alloc::{AllocError, Global};
+use std::test::Fail;
+
+/// What a line begins with, a part, what stands between two parts, what the line ends with, and how many parts it may have.
+type Row = (
+    &'static [u8],
+    &'static [u8],
+    &'static [u8],
+    &'static [u8],
+    u32,
+);
+
+const ROWS: [Row; 11] = [
+    (b"pull OWN\\DEV\\1", b" ", b"", b"", 4082),
+    (b"driver ", b"n", b"", b" steady", 64),
+    (b"teach dev add * ok ", b"1", b"", b"", 6),
+    (b"reserve irq:0x", b"f", b"", b"", 16),
+    (b"plug A\\B\\1 A\\B 2 hw=", b"A", b"", b"", 199),
+    (b"plug A\\B\\1 A\\B 2 hw=", b"A", b",", b"", 64),
+    (b"plug A\\B\\1 A\\B 2 compat=", b"A", b",", b"", 64),
+    (b"plug A\\B\\1 A\\B 2 ", b"need=irq:1", b" ", b"", 8),
+    (b"plug A\\B\\1 A\\B 2 need=", b"irq:1", b";", b"", 16),
+    (b"plug A\\B\\1 A\\B 2 need=", b"irq:1", b"|", b"", 16),
+    (b"plug A\\B\\1 A\\B 2 ", b"hw=A", b" ", b"", 1),
+];
+
+/// The line with that many parts, or with more.
+fn line(alloc: Global, row: &Row, more: u32) -> Result<Vec<u8>, AllocError> {
+    let (head, part, between, end, most) = *row;
+    let mut text = Vec::from_slice(alloc, head)?;
+    text.extend_from_slice(part)?;
+    for _ in 1..most {
+        text.extend_from_slice(between)?;
+        text.extend_from_slice(part)?;
+    }
+    for _ in 0..more {
+        text.extend_from_slice(between)?;
+        text.extend_from_slice(part)?;
+    }
+    text.extend_from_slice(end)?;
+    text.push(b'\n')?;
+    Ok(text)
+}
+
+/// How a script of that line ends.
+fn ends(alloc: Global, row: &Row, more: u32) -> Result<ScriptEnd, Fail> {
+    let text = line(alloc, row, more)?;
+    let script = read_events(alloc, &text)?;
+    Ok(script.ends)
+}
+
+#[test]
+fn limits(rt: HostRuntime) -> Result<(), Fail> {
+    for row in &ROWS {
+        let most = ends(rt.alloc(), row, 0)?;
+        assert!(rt; most == ScriptEnd::End, "{}", row.4);
+        let above = ends(rt.alloc(), row, 1)?;
+        assert!(rt; above == (ScriptEnd::Bad { line: 1 }), "{}", row.4);
+    }
+    Ok(())
+}

@@ -1,0 +1,11 @@
+//! Tests of single public calls, with values from outside: small ones that no whole script shows. There is no other code here.
+#![tactic(auto)]
+
+#[cfg(test)]
+mod places;
+#[cfg(test)]
+mod reading;
+#[cfg(test)]
+mod searches;
+#[cfg(test)]
+mod trees;
