@@ -40,7 +40,7 @@ use Rattle.pnp_laws.proofs.Restarts.{over_stopped}
 use Rattle.pnp_laws.proofs.Runs.{root_is}
 use Rattle.pnp_laws.proofs.RunsStand.{Kept, dependents_go_first, every_run_follows, reaches_kept}
 use Rattle.pnp_laws.proofs.RunsWhole.{reached_is_whole}
-use Rattle.pnp_laws.proofs.Sounds.{LeadsMore, leads_first, leads_pushed, leads_same}
+use Rattle.pnp_laws.proofs.Sounds.{LeadsMore, leads_first, leads_pushed, leads_same, due_less}
 use Rattle.pnp_laws.proofs.Standing.{DueBut, StageKept, SurpriseOrder, waiting}
 use Rattle.pnp_laws.proofs.SurpriseSteps.{last_alone}
 use Rattle.pnp_laws.proofs.TreeChanges.{SameNodes, above_same, nodes_kept}
@@ -87,29 +87,6 @@ above_stays s label t kept first follows (NodeEffect.left node o runs head a b) 
 above_stays s label t kept first follows (NodeEffect.related r related a b) k n m at now = ap (λ (x : List Node). above x k) a
 
 -- Who is due -------------------------------------------------------------------------------------------
-
--- a task is dropped: who was due by it alone is its device or stands below it
-due_less : (tasks : List Task) (task : Task) (nodes : List Node) (k : ℕ) → slice_get tasks 0 ≡ Some task → is_due tasks nodes k ≡ true
-    → (is_due (drop 1 tasks) nodes k ≡ true) ⊎ ((is_surprise_task task.kind ≡ true) × (has (k ∷ above nodes k) task.serial ≡ true))
-due_less [] task nodes k first h = absurd (cc)
-due_less (x ∷ tasks) task nodes k first h =
-    subst (λ (y : Task). (is_due tasks nodes k ≡ true) ⊎ ((is_surprise_task y.kind ≡ true) × (has (k ∷ above nodes k) y.serial ≡ true))) (own_first x task tasks first) (by_test (is_surprise_task x.kind) refl)
-  where
-    own_first : (x task : Task) (tasks : List Task) → slice_get (x ∷ tasks) 0 ≡ Some task → x ≡ task
-    own_first x task tasks e = cc
-
-    by_test : (b : Bool) → is_surprise_task x.kind ≡ b → (is_due tasks nodes k ≡ true) ⊎ ((is_surprise_task x.kind ≡ true) × (has (k ∷ above nodes k) x.serial ≡ true))
-    by_test true e =
-        let found = any_from (leads (x ∷ tasks)) (k ∷ above nodes k) h in
-        let lead : leads (x ∷ tasks) ≡ x.serial ∷ leads tasks = ap (λ (b : Bool). cond b (x.serial ∷ leads tasks) []) e in
-        elim (has_cases x.serial found.0 (leads tasks) (subst (λ (ks : List ℕ). has ks found.0 ≡ true) lead found.2)) [
-          | inl q ↦ inr (e, subst (λ (i : ℕ). has (k ∷ above nodes k) i ≡ true) (sym q) found.1)
-          | inr q ↦ inl (any_some (leads tasks) (k ∷ above nodes k) found.0 found.1 q)
-        ]
-    by_test false e =
-        let found = any_from (leads (x ∷ tasks)) (k ∷ above nodes k) h in
-        let lead : leads (x ∷ tasks) ≡ [] = ap (λ (b : Bool). cond b (x.serial ∷ leads tasks) []) e in
-        absurd (let none = subst (λ (ks : List ℕ). has ks found.0 ≡ true) lead found.2 in cc)
 
 command_leads : (s t : State) → CommandEffect s t → LeadsMore s.tasks t.tasks
 command_leads s t (CommandEffect.same e) = subst (λ (ts : List Task). LeadsMore s.tasks ts) (sym e) (leads_same s.tasks)
