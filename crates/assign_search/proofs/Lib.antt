@@ -10,3 +10,4 @@ pub mod Planning
 pub mod SameAnswers
 pub mod Fixing
 pub mod Watched
+pub mod Covering

@@ -1,7 +1,7 @@
 -- What places that are watched say of a mover: how they stay right, and what is open by them.
-use Rattle.std.proofs.Common.{◌≡◌, ◌≢◌, ℕ, ◌+◌, ◌<◌, ◌≤◌, inl, inr, List, [], ◌∷◌, ◌++◌, drop, length, slice_get, get_or, set, Contains, Option, Some, None, refl, sym, ◌∙◌, ap, subst, arith}
+use Rattle.std.proofs.Common.{◌≡◌, ◌≢◌, ℕ, zero, suc, ◌+◌, ◌-◌, ◌<◌, ◌≤◌, inl, inr, List, [], ◌∷◌, ◌++◌, drop, length, slice_get, get_or, set, Contains, Option, Some, None, refl, sym, ◌∙◌, ap, subst, arith}
 use Rattle.std.specs.List.{AllByRecursion}
-use Rattle.std.proofs.lemmas.Option.{slice_get_within}
+use Rattle.std.proofs.lemmas.Option.{slice_get_within, slice_get-get_or}
 use Rattle.std.proofs.lemmas.List.{get_or-set_same, get_or-set_other, length-set}
 use Rattle.std.proofs.lemmas.Bool.{cases_eq}
 use native.Mathlib.Decide.{dec_lt}
@@ -203,3 +203,25 @@ holding_adds l m (Some r) is = λ x inside. (put_adds l r x).0 (subst (λ k. Con
 pub holding_within : (l m : Lists) (o : Option Res) → m ≡ lists_holding l o → Within (lists_res l) (lists_res m)
 holding_within l m None is = λ x inside. subst (λ k. Contains (lists_res k) x) (sym is) inside
 holding_within l m (Some r) is = λ x inside. subst (λ k. Contains (lists_res k) x) (sym is) ((put_adds l r x).1.0 inside)
+
+-- No place is hit ------------------------------------------------------------------------
+
+module _ (held : List Res) (res : Res) (ms : List Reqs) (from sure : ℕ) (old : List (List Res)) (known : sure ≤ from) (off : (at : ℕ) → IsHit (get_or old at []) res → ⊥) where
+  seen_steps : (k : ℕ) → from + k ≤ length ms → SeenTo held res ms from sure old old (from + k)
+  seen_steps zero within = let e : from ≡ from + 0 = omega arith in subst (SeenTo held res ms from sure old old) e (seen_none held res ms from sure old)
+  seen_steps (suc k) within =
+      let read : slice_get ms (from + k) ≡ Some (get_or ms (from + k) []) = slice_get-get_or ms (from + k) [] (omega arith) in
+      let e : from + k + 1 ≡ from + suc k = omega arith in
+      subst (SeenTo held res ms from sure old old) e
+      (seen_unhit held res ms from sure old old (from + k) (get_or ms (from + k) []) (omega arith) read (seen_steps k (omega arith)) (omega arith) (off (from + k)))
+
+  -- so all movers that were watched still are, and the later ones are as before
+  pub off_watched : (before : List Res) → Adds before res held → AllWatched before ms sure old → AllWatched held ms sure old
+  off_watched before adds all at reqs from' read =
+      watched_beside before held res adds reqs (get_or old at []) (free_unhit (get_or old at []) res (off at)) (all at reqs from' read)
+
+  pub off_live : (before : List Res) → Adds before res held → AllWatched before ms sure old → AllByRecursion (HasOpenList held) (drop from ms)
+  off_live before adds all = elim (dec_lt (length ms) from) [
+    | yes past ↦ (seen_all held res ms from sure old old from (omega arith) (seen_none held res ms from sure old) before adds all).0
+    | no within ↦ (seen_all held res ms from sure old old (from + (length ms - from)) (omega arith) (seen_steps (length ms - from) (omega arith)) before adds all).0
+  ]

@@ -35,3 +35,11 @@ AddsStep before (Some res) held = Adds before res held
 -- all that was held is still held
 abbrev pub Within : List Res → List Res → Type 0
 Within before held = (x : Res) → Contains before x → Contains held x
+
+-- what hits a place of some mover hits one of these ranges
+abbrev pub AreCovered : List Res → List (List Res) → Type 0
+AreCovered over watched = (at : ℕ) (x : Res) → IsHit (get_or watched at []) x → IsHit over x
+
+-- the range at a place has the kind and the sharing of the resource
+abbrev pub IsRangeOf : List Res → ℕ → Res → Type 0
+IsRangeOf over at res = (range : Res) × (slice_get over at ≡ Some range) × (range.kind ≡ res.kind) × (range.shared ≡ res.shared)

@@ -24,18 +24,18 @@ pub fn is_live_child(
     watch: &mut Watch,
 ) -> Result<bool, WantOfMemory>
     requires spot { IsSpot (map reqs_of movers.now) child.now.spot }
-    requires long { length watch.old.places.items ≡ length movers.now }
-    ensures long { length watch.new.places.items ≡ length movers.now }
+    requires long { length watch.old.places ≡ length movers.now }
+    ensures long { length watch.new.places ≡ length movers.now }
     ensures listed { child.now.res ≡ None → AllByRecursion (HasOpenList (held_in board.now)) (movers_at (map reqs_of movers.now) child.now.spot)
         → IfOk result (λ live. IsTrue live ↔ AllOpen (held_in board.now) (groups_at (map reqs_of movers.now) child.now.spot)) }
     ensures placed { (res : Res) (before : List Res) → child.now.res ≡ Some res → Adds before res (held_in board.now)
-        → AllWatched before (map reqs_of movers.now) watch.old.sure watch.old.places.items
+        → AllWatched before (map reqs_of movers.now) watch.old.sure watch.old.places
         → AllOpen before (groups_at (map reqs_of movers.now) child.now.spot) → AllByRecursion (HasOpenList before) (movers_at (map reqs_of movers.now) child.now.spot)
         → IfOk result (λ live. IsTrue live ↔ (AllOpen (held_in board.now) (groups_at (map reqs_of movers.now) child.now.spot) × AllByRecursion (HasOpenList (held_in board.now)) (movers_at (map reqs_of movers.now) child.now.spot))) }
-    ensures watched { (before : List Res) → AddsStep before child.now.res (held_in board.now) → AllWatched before (map reqs_of movers.now) watch.old.sure watch.old.places.items
-        → IfOk result (λ live. IsTrue live → AllWatched (held_in board.now) (map reqs_of movers.now) watch.new.sure watch.new.places.items) }
-    ensures kept { (before : List Res) → Within before (held_in board.now) → AllWatched before (map reqs_of movers.now) watch.old.sure watch.old.places.items
-        → IfOk result (λ live. (IsTrue live → ⊥) → AllWatched before (map reqs_of movers.now) watch.new.sure watch.new.places.items) }
+    ensures watched { (before : List Res) → AddsStep before child.now.res (held_in board.now) → AllWatched before (map reqs_of movers.now) watch.old.sure watch.old.places
+        → IfOk result (λ live. IsTrue live → AllWatched (held_in board.now) (map reqs_of movers.now) watch.new.sure watch.new.places) }
+    ensures kept { (before : List Res) → Within before (held_in board.now) → AllWatched before (map reqs_of movers.now) watch.old.sure watch.old.places
+        → IfOk result (λ live. (IsTrue live → ⊥) → AllWatched before (map reqs_of movers.now) watch.new.sure watch.new.places) }
 {
     match child.spot {
         Spot::Between(mover) => {

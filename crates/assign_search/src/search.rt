@@ -59,21 +59,21 @@ fn look_ahead(
     watch: &mut Watch,
 ) -> Result<bool, WantOfMemory>
     requires spot { IsSpot (map reqs_of movers.now) child.now.spot }
-    requires long { length watch.old.places.items ≡ length movers.now }
+    requires long { length watch.old.places ≡ length movers.now }
     requires there { ForSome child.now.res (λ r. Contains (of_kind board.old r.kind).pairs (Owner.Reserved, r)) }
-    ensures long { length watch.new.places.items ≡ length movers.now }
+    ensures long { length watch.new.places ≡ length movers.now }
     ensures board { OnOk result (board.new ≡ board.old) }
     ensures back { OnErr result (lists_holding (lists_of board.new) child.now.res ≡ lists_of board.old) }
     ensures listed { child.now.res ≡ None → AllByRecursion (HasOpenList (held_in board.old)) (movers_at (map reqs_of movers.now) child.now.spot)
         → IfOk result (λ live. IsTrue live ↔ AllOpen (held_in board.old) (groups_at (map reqs_of movers.now) child.now.spot)) }
     ensures placed { (res : Res) (before : List Res) → child.now.res ≡ Some res → Adds before res (held_in board.old)
-        → AllWatched before (map reqs_of movers.now) watch.old.sure watch.old.places.items
+        → AllWatched before (map reqs_of movers.now) watch.old.sure watch.old.places
         → AllOpen before (groups_at (map reqs_of movers.now) child.now.spot) → AllByRecursion (HasOpenList before) (movers_at (map reqs_of movers.now) child.now.spot)
         → IfOk result (λ live. IsTrue live ↔ (AllOpen (held_in board.old) (groups_at (map reqs_of movers.now) child.now.spot) × AllByRecursion (HasOpenList (held_in board.old)) (movers_at (map reqs_of movers.now) child.now.spot))) }
-    ensures watched { (before : List Res) → AddsStep before child.now.res (held_in board.old) → AllWatched before (map reqs_of movers.now) watch.old.sure watch.old.places.items
-        → IfOk result (λ live. IsTrue live → AllWatched (held_in board.old) (map reqs_of movers.now) watch.new.sure watch.new.places.items) }
-    ensures kept { (before : List Res) → Within before (held_in board.old) → AllWatched before (map reqs_of movers.now) watch.old.sure watch.old.places.items
-        → IfOk result (λ live. (IsTrue live → ⊥) → AllWatched before (map reqs_of movers.now) watch.new.sure watch.new.places.items) }
+    ensures watched { (before : List Res) → AddsStep before child.now.res (held_in board.old) → AllWatched before (map reqs_of movers.now) watch.old.sure watch.old.places
+        → IfOk result (λ live. IsTrue live → AllWatched (held_in board.old) (map reqs_of movers.now) watch.new.sure watch.new.places) }
+    ensures kept { (before : List Res) → Within before (held_in board.old) → AllWatched before (map reqs_of movers.now) watch.old.sure watch.old.places
+        → IfOk result (λ live. (IsTrue live → ⊥) → AllWatched before (map reqs_of movers.now) watch.new.sure watch.new.places) }
 {
     match is_live_child(alloc, board, movers, child, watch) {
         Ok(live) => Ok(live),
@@ -113,7 +113,7 @@ fn walk_paths(
     requires some_list { ¬ AllByRecursion (λ reqs. reqs ≡ []) (map reqs_of movers.now) }
     requires open_lists { AllByRecursion (HasOpenList (held_in board.old)) (map reqs_of movers.now) }
     requires empty { path.old.items ≡ [] }
-    requires long { length watch.old.places.items ≡ length movers.now }
+    requires long { length watch.old.places ≡ length movers.now }
     requires sure { watch.old.sure ≡ length movers.now }
     ensures answer { IfOk result (λ found. IsAnswer (held_in board.old) (map reqs_of movers.now) budget (answer_of found)) }
     ensures along { lists_of board.new ≡ lists_along (lists_of board.old) path.new.items }

@@ -7,6 +7,7 @@ ghost use Rattle.assign_search.specs.Watching.{IsHit, WatchesList, Watches, AllW
 
 use crate::look::late_place;
 use crate::mover::{Mover, reqs_at};
+use crate::places::Places;
 use resource_reqs::{AltList, Reqs, Res, ResList, WantOfMemory, clash};
 use std::alloc::Global;
 use trial_journal::Arbiters;
@@ -18,17 +19,17 @@ pub struct Watch {
     /// The first mover from which on the places are right.
     pub sure: usize,
     /// The places of each mover.
-    pub places: Vec<ResList>,
+    pub places: Places,
 }
 
 /// Nothing remembered yet of so many movers.
 pub fn no_watch(alloc: Global, movers: &[Mover]) -> Result<Watch, WantOfMemory>
-    ensures long { IfOk result (λ watch. length watch.places.items ≡ length movers.now) }
+    ensures long { IfOk result (λ watch. length watch.places ≡ length movers.now) }
     ensures sure { IfOk result (λ watch. watch.sure ≡ length movers.now) }
 {
-    let mut places = Vec::new(alloc);
+    let mut places = Places::new(alloc);
     'movers: for _mover in movers {
-        places.push(ResList::new(alloc))?;
+        places.add(alloc)?;
     }
     Ok(Watch {
         sure: movers.len(),
@@ -89,8 +90,8 @@ fn is_hit(places: &ResList, res: &Res) -> bool
 }
 
 /// Whether each mover from this one on has no lists, or one whose every group has an open place, beside a
-/// resource that came to what was held. A mover whose places it does not hit is not looked at again; for the
-/// others new places are sought.
+/// resource that came to what was held. A mover whose places it does not hit is not looked at again, and no mover
+/// where it hits none of the ranges over all places; for the others new places are sought.
 pub fn lists_beside(
     alloc: Global,
     board: &Arbiters,
@@ -99,22 +100,25 @@ pub fn lists_beside(
     res: &Res,
     watch: &mut Watch,
 ) -> Result<bool, WantOfMemory>
-    requires { length watch.old.places.items ≡ length movers.now }
-    ensures long { length watch.new.places.items ≡ length movers.now }
-    ensures live { (before : List Res) → Adds before res.now (held_in board.now) → AllWatched before (map reqs_of movers.now) watch.old.sure watch.old.places.items
+    requires { length watch.old.places ≡ length movers.now }
+    ensures long { length watch.new.places ≡ length movers.now }
+    ensures live { (before : List Res) → Adds before res.now (held_in board.now) → AllWatched before (map reqs_of movers.now) watch.old.sure watch.old.places
         → AllByRecursion (HasOpenList before) (drop from (map reqs_of movers.now))
         → IfOk result (λ live. IsTrue live ↔ AllByRecursion (HasOpenList (held_in board.now)) (drop from (map reqs_of movers.now))) }
-    ensures watched { (before : List Res) → Adds before res.now (held_in board.now) → AllWatched before (map reqs_of movers.now) watch.old.sure watch.old.places.items
-        → IfOk result (λ live. IsTrue live → AllWatched (held_in board.now) (map reqs_of movers.now) watch.new.sure watch.new.places.items) }
-    ensures kept { (before : List Res) → Within before (held_in board.now) → AllWatched before (map reqs_of movers.now) watch.old.sure watch.old.places.items
-        → IfOk result (λ live. (IsTrue live → ⊥) → AllWatched before (map reqs_of movers.now) watch.new.sure watch.new.places.items) }
+    ensures watched { (before : List Res) → Adds before res.now (held_in board.now) → AllWatched before (map reqs_of movers.now) watch.old.sure watch.old.places
+        → IfOk result (λ live. IsTrue live → AllWatched (held_in board.now) (map reqs_of movers.now) watch.new.sure watch.new.places) }
+    ensures kept { (before : List Res) → Within before (held_in board.now) → AllWatched before (map reqs_of movers.now) watch.old.sure watch.old.places
+        → IfOk result (λ live. (IsTrue live → ⊥) → AllWatched before (map reqs_of movers.now) watch.new.sure watch.new.places) }
 {
+    if watch.sure <= from && !watch.places.may_be_hit(res) {
+        return Ok(true);
+    }
     'movers: for at in from..movers.len() {
-        if at < watch.sure || is_hit(&watch.places[at], res) {
+        if at < watch.sure || is_hit(watch.places.get(at), res) {
             let Some(places) = mover_places(alloc, board, reqs_at(movers, at))? else {
                 return Ok(false);
             };
-            watch.places[at] = places;
+            watch.places.set(at, places)?;
         }
     }
     watch.sure = from;

@@ -1,5 +1,5 @@
 -- Devices get the parts of a plan one after another, the last first: in the end all have theirs.
-use Rattle.std.proofs.Common.{◌≡◌, ℕ, zero, suc, ◌+◌, ◌-◌, ◌<◌, ◌^◌, ◌==◌, Bool, true, false, cond, min, List, [], ◌∷◌, ◌++◌, length, map, take, drop, sum_by, slice_get, Some, None, refl, sym, ap, ◌∙◌, subst, arith}
+use Rattle.std.proofs.Common.{◌≡◌, ℕ, zero, suc, ◌+◌, ◌-◌, ◌<◌, ◌^◌, ◌==◌, Bool, true, false, cond, min, List, [], ◌∷◌, ◌++◌, length, map, take, drop, sum_by, slice_get, Option, Some, None, IsSome, is_some, option_copied, Bor, refl, sym, ap, ◌∙◌, subst, arith}
 use Rattle.std.proofs.lemmas.Bool.Decides.{nat_tests}
 use Rattle.std.proofs.lemmas.List.Sums.{sum_by_push}
 use Rattle.resource_reqs.specs.Resources.{Res}
@@ -8,7 +8,8 @@ use Rattle.pnp_model.specs.Keyed.{changed_first}
 use Rattle.pnp_model.specs.Cores.{is_node, node_at, serials_of, with_holds}
 use Rattle.pnp_model.specs.Records.{Node}
 use Rattle.pnp_model.specs.Rebalances.{part_for, committed}
-use Rattle.devnode_tree.specs.Trees.{Ascends}
+use Rattle.devnode_tree.specs.Trees.{Ascends, IsTree, Tree, changed}
+use Rattle.device_holdings.specs.Giving.{given}
 use Rattle.device_holdings.specs.Mirrors.{HasRoom}
 
 -- Room ----------------------------------------------------------------------------------
@@ -121,9 +122,6 @@ module _ (serials : List ℕ) (plan : List (List Res)) (i : ℕ) (h : List Res) 
       ∙ (one_more k h (drop (suc i) serials) (drop (suc i) plan) 0 before (subst (Ascends 0) (ap serials_of so_far ∙ same_serials k h (drop (suc i) serials) (drop (suc i) plan) before) up)
       ∙ (ap (λ js. map (committed js (h ∷ drop (suc i) plan)) before) (sym (split_off serials i k at)) ∙ ap (λ ps. map (committed (drop i serials) ps) before) (sym part)))
 
-  pub not_there : (k : ℕ) → slice_get serials i ≡ Some k → Ascends 0 (serials_of now) → node_at k now ≡ None → now ≡ map (committed (drop i serials) (drop i plan)) before
-  not_there k at up gone = sym (unchanged k (with_holds h) now gone) ∙ got_part k at up
-
   pub no_serial : slice_get serials i ≡ None → now ≡ map (committed (drop i serials) (drop i plan)) before
   no_serial at =
       let none = none_from serials i at in
@@ -131,3 +129,21 @@ module _ (serials : List ℕ) (plan : List (List Res)) (i : ℕ) (h : List Res) 
       ∙ (ap (λ js. map (committed js (drop (suc i) plan)) before) none.1
       ∙ (nobody (drop (suc i) plan) before
       ∙ (sym (nobody (drop i plan) before) ∙ ap (λ js. map (committed js (drop i plan)) before) (sym none.0))))
+
+-- the device at place i gets the last part that is left
+pub given_part : (serials : List ℕ) (plan : List (List Res)) (i : ℕ) (h : List Res) (before : List Node) (t : Tree) → t.nodes ≡ map (committed (drop (suc i) serials) (drop (suc i) plan)) before
+    → drop i plan ≡ h ∷ drop (suc i) plan → (IsSome (slice_get serials i) → IsTree t) → given (slice_get serials i) h t ≡ record t { nodes = map (committed (drop i serials) (drop i plan)) before }
+given_part serials plan i h before t so_far part up = by_place (slice_get serials i) refl
+  where
+    by_place : (o : Option ℕ) → slice_get serials i ≡ o → given o h t ≡ record t { nodes = map (committed (drop i serials) (drop i plan)) before }
+    by_place None at = ap (λ (ns : List Node). record t { nodes = ns }) (no_serial serials plan i h before t.nodes so_far part at)
+    by_place (Some k) at = ap (λ (ns : List Node). record t { nodes = ns }) (got_part serials plan i h before t.nodes so_far part k at (up (subst (λ (o : Option ℕ). IsSome o) (sym at) refl)).ascends)
+
+-- nothing is found
+pub none_copied : (o : Option (Bor Node)) → is_some o ≡ false → option_copied o ≡ None
+none_copied None e = refl
+none_copied (Some n) e = absurd (cc)
+
+-- where no device has the serial nothing changes
+pub not_given : (t : Tree) (k : ℕ) (h : List Res) → node_at k t.nodes ≡ None → t ≡ changed k (with_holds h) t
+not_given t k h gone = ap (λ (ns : List Node). record t { nodes = ns }) (sym (unchanged k (with_holds h) t.nodes gone))

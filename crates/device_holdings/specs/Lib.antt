@@ -2,3 +2,4 @@ pub mod Mirrors
 pub mod Answers
 pub mod MapRows
 pub mod Idle
+pub mod Giving

@@ -1,9 +1,10 @@
-ghost use Rattle.std.specs.Prelude.{◌≡◌, ℕ, ◌+◌, ◌++◌, [], ◌∷◌, List, length, map, min, sum_by, IsSome, IfOk, OnOk, OnErr};
+ghost use Rattle.std.specs.Prelude.{◌≡◌, ℕ, ◌+◌, ◌++◌, [], ◌∷◌, List, length, map, min, sum_by, slice_get, IsSome, IfOk, OnOk, OnErr};
 ghost use Rattle.pnp_model.specs.Records.{Node};
 ghost use Rattle.pnp_model.specs.Cores.{node_at, bare, with_holds};
 ghost use Rattle.pnp_model.specs.Rebalances.{committed};
 ghost use Rattle.trial_journal.specs.Four.{lists_of};
-ghost use Rattle.devnode_tree.specs.Trees.{changed};
+ghost use Rattle.devnode_tree.specs.Trees.{changed, IsTree};
+ghost use Rattle.device_holdings.specs.Giving.{given};
 ghost use Rattle.device_holdings.specs.Mirrors.{Mirrors, IsMirrored, KeepsMirror, HasRoom};
 
 use crate::pairs::{make_room, put_all, take_all};
@@ -86,6 +87,37 @@ fn resources_in(parts: &[ResList]) -> u64
     all
 }
 
+/// A device that is there gets these holdings in place of its own, in the tree and in the arbiters; else nothing
+/// changes. Conditions: the arbiters hold just what is reserved and what devices hold, and there is room.
+#[tactic(auto, using(crate::proofs::Committing::not_given, crate::proofs::Committing::none_copied, crate::proofs::Committing::room_left))]
+fn replace_where_there(tree: &mut Tree, arbiters: &mut Arbiters, serial: u64, holds: ResList)
+    requires mirrored { IsMirrored tree.old.nodes arbiters.old }
+    requires room { HasRoom arbiters.old (length holds) }
+    ensures replaced { tree.new ≡ changed serial (with_holds holds) tree.old }
+    ensures tree { IsTree tree.old }
+    ensures mirrors { KeepsMirror tree.old.nodes arbiters.old tree.new.nodes arbiters.new }
+    ensures room { (more : ℕ) → HasRoom arbiters.old (length holds + more) → HasRoom arbiters.new more }
+{
+    if tree.node(serial).is_some() {
+        replace(tree, arbiters, serial, holds);
+    }
+}
+
+/// The same for the device whose serial stands at a place of these. Nothing changes where there is no such place.
+#[tactic(auto, using(crate::proofs::Committing::room_left))]
+fn give(tree: &mut Tree, arbiters: &mut Arbiters, serials: &[u64], at: usize, holds: ResList)
+    requires mirrored { IsMirrored tree.old.nodes arbiters.old }
+    requires room { HasRoom arbiters.old (length holds) }
+    ensures given { tree.new ≡ given (slice_get serials.now at) holds tree.old }
+    ensures tree { IsSome (slice_get serials.now at) → IsTree tree.old }
+    ensures mirrors { KeepsMirror tree.old.nodes arbiters.old tree.new.nodes arbiters.new }
+    ensures room { (more : ℕ) → HasRoom arbiters.old (length holds + more) → HasRoom arbiters.new more }
+{
+    if let Some(serial) = serials.get(at) {
+        replace_where_there(tree, arbiters, *serial, holds);
+    }
+}
+
 /// Devices get the parts of a plan in place of what they hold, all at once, in the tree and in the arbiters: the
 /// first device gets the first part. A device that is not there, or that has no part, changes nothing, and of a
 /// serial that comes twice the first counts. Condition: the arbiters hold just what is reserved and what devices
@@ -107,12 +139,7 @@ pub fn assign_all(
     let mut parts = parts_of(alloc, plan)?;
     make_room(arbiters, resources_in(&parts))?;
     'parts: while let Some(holds) = parts.pop() {
-        let Some(serial) = serials.get(parts.len()) else {
-            continue;
-        };
-        if tree.node(*serial).is_some() {
-            replace(tree, arbiters, *serial, holds);
-        }
+        give(tree, arbiters, serials, parts.len(), holds);
     }
     Ok(())
 }

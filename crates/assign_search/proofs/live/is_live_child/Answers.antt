@@ -47,13 +47,13 @@ returns-else-not-groups_beside-clause-placed c res before some adds watched grou
 pub returns-in-Between-clause-watched : goal.returns-in-Between-clause-watched
 returns-in-Between-clause-watched c before adds watched live =
     let long : length (map reqs_of c.args.movers.now) ≡ length c.args.movers.now = length-map c.args.movers.now reqs_of in
-    none_known (held_in c.args.board.now) (map reqs_of c.args.movers.now) (length c.args.movers.now) c.args.watch.now.places.items (omega arith)
+    none_known (held_in c.args.board.now) (map reqs_of c.args.movers.now) (length c.args.movers.now) c.args.watch.now.places (omega arith)
 
 pub returns-in-Between-clause-kept : goal.returns-in-Between-clause-kept
 returns-in-Between-clause-kept c before within watched dead =
     let long : length (map reqs_of c.args.movers.now) ≡ length c.args.movers.now = length-map c.args.movers.now reqs_of in
-    none_known before (map reqs_of c.args.movers.now) (length c.args.movers.now) c.args.watch.now.places.items (omega arith)
+    none_known before (map reqs_of c.args.movers.now) (length c.args.movers.now) c.args.watch.now.places (omega arith)
 
 pub returns-in-None-clause-watched : goal.returns-in-None-clause-watched
 returns-in-None-clause-watched c before adds watched live =
-    watched_step before (held_in c.args.board.now) c.args.child.now.res c.in-None.is adds (map reqs_of c.args.movers.now) c.args.watch.now.sure c.args.watch.now.places.items watched
+    watched_step before (held_in c.args.board.now) c.args.child.now.res c.in-None.is adds (map reqs_of c.args.movers.now) c.args.watch.now.sure c.args.watch.now.places watched

@@ -31,7 +31,7 @@ search-init c = record {
   within = omega arith;
   long = c.requires.long;
   watched = (let all : length (map reqs_of c.args.movers.now) ≡ length c.args.movers.now = length-map c.args.movers.now reqs_of in
-      none_known (held_in c.args.board.now) (map reqs_of c.args.movers.now) c.args.watch.now.sure c.args.watch.now.places.items (omega (arith, c.requires.sure)));
+      none_known (held_in c.args.board.now) (map reqs_of c.args.movers.now) c.args.watch.now.sure c.args.watch.now.places (omega (arith, c.requires.sure)));
 }
 
 pub returns-in_default-pop-clause-answer : goal.returns-in_default-pop-clause-answer
@@ -71,7 +71,7 @@ search-preserved-in_default c =
       long = c.search.invariant.long;
       watched = all_watched_less (held_in c.release.new.board) (held_in c.search.board)
           (holding_within (lists_of c.release.new.board) (lists_of c.search.board) c.in-Some-pop.last.res (sym c.release.ensures))
-          (map reqs_of c.args.movers.now) c.search.watch.sure c.search.watch.places.items c.search.invariant.watched;
+          (map reqs_of c.args.movers.now) c.search.watch.sure c.search.watch.places c.search.invariant.watched;
     }
 
 pub returns-then-count-budget-clause-answer : goal.returns-then-count-budget-clause-answer
@@ -100,7 +100,7 @@ search-preserved-then-live c =
     c.search.path.items (lists_of c.search.board) c.search.spot c.search.from c.search.count c.search.invariant.state
     c.in-Some.child c.in-Some.ensures.found (lists_of c.hold.new.board) c.in_ok-live.live c.in_ok-hold.ensures.held c.in_ok-live.ensures.listed
     (λ res before some within' adds groups lists. c.in_ok-live.ensures.placed res before some adds
-    (all_watched_less before (held_in c.search.board) within' (map reqs_of c.args.movers.now) c.search.watch.sure c.search.watch.places.items c.search.invariant.watched) groups lists)).0 c.if-live.true in
+    (all_watched_less before (held_in c.search.board) within' (map reqs_of c.args.movers.now) c.search.watch.sure c.search.watch.places c.search.invariant.watched) groups lists)).0 c.if-live.true in
     let path_is : c.grow-then-live.new.path.items ≡ c.search.path.items ++ f ∷ [] =
     c.in_ok-grow-2.ensures.path ∙ ap (λ x. c.search.path.items ++ x ∷ []) c.frame_of-then-live.ensures in
     let lists_are : lists_of c.grow-then-live.new.board ≡ lists_of c.hold.new.board = ap lists_of (c.in_ok-grow-2.ensures.board ∙ c.in_ok-live.ensures.board) in
@@ -119,7 +119,7 @@ search-preserved-then-live c =
           c.search.invariant.along (lists_are ∙ c.in_ok-hold.ensures.held) ∙ ap (lists_along (lists_of c.args.board.now)) (sym path_is);
       within = omega arith;
       long = c.in_ok-live.ensures.long;
-      watched = subst (λ (b : Arbiters). AllWatched (held_in b) (map reqs_of c.args.movers.now) c.look_ahead.new.watch.sure c.look_ahead.new.watch.places.items)
+      watched = subst (λ (b : Arbiters). AllWatched (held_in b) (map reqs_of c.args.movers.now) c.look_ahead.new.watch.sure c.look_ahead.new.watch.places)
           (sym (c.in_ok-grow-2.ensures.board ∙ c.in_ok-live.ensures.board))
           (c.in_ok-live.ensures.watched (held_in c.search.board) (holding_adds (lists_of c.search.board) (lists_of c.hold.new.board) c.in-Some.child.res c.in_ok-hold.ensures.held)
           c.search.invariant.watched c.if-live.true);
@@ -149,7 +149,7 @@ search-preserved c =
     c.search.path.items (lists_of c.search.board) c.search.spot c.search.from c.search.count c.search.invariant.state
     c.in-Some.child c.in-Some.ensures.found (lists_of c.hold.new.board) c.in_ok-live.live c.in_ok-hold.ensures.held c.in_ok-live.ensures.listed
     (λ res before some within' adds groups lists. c.in_ok-live.ensures.placed res before some adds
-    (all_watched_less before (held_in c.search.board) within' (map reqs_of c.args.movers.now) c.search.watch.sure c.search.watch.places.items c.search.invariant.watched) groups lists) in
+    (all_watched_less before (held_in c.search.board) within' (map reqs_of c.args.movers.now) c.search.watch.sure c.search.watch.places c.search.invariant.watched) groups lists) in
     record {
       state = subst (λ l. Inv (held_in c.args.board.now) (map reqs_of c.args.movers.now) (lists_of c.args.board.now) c.search.path.items l c.search.spot c.in-Some.child.next (c.search.count + 1)) (sym same)
           (dead_child (held_in c.args.board.now) (map reqs_of c.args.movers.now) (lists_of c.args.board.now) (same_itself (held_in c.args.board.now))
@@ -160,7 +160,7 @@ search-preserved c =
       along = same ∙ c.search.invariant.along;
       within = omega arith;
       long = c.in_ok-live.ensures.long;
-      watched = subst (λ (l : Lists). AllWatched (lists_res l) (map reqs_of c.args.movers.now) c.look_ahead.new.watch.sure c.look_ahead.new.watch.places.items) (sym same)
+      watched = subst (λ (l : Lists). AllWatched (lists_res l) (map reqs_of c.args.movers.now) c.look_ahead.new.watch.sure c.look_ahead.new.watch.places) (sym same)
           (c.in_ok-live.ensures.kept (held_in c.search.board) (holding_within (lists_of c.search.board) (lists_of c.hold.new.board) c.in-Some.child.res c.in_ok-hold.ensures.held)
           c.search.invariant.watched (λ h. false_true (sym c.if-live.false ∙ h)));
     }

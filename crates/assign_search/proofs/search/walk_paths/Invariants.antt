@@ -12,8 +12,8 @@ invariant-search l = record {
   few : length (all_pairs l.board) ≤ length (all_pairs l.fn.board) + l.count;
   along : lists_of l.board ≡ lists_along (lists_of l.fn.board) l.path.items;
   within : l.count ≤ l.budget;
-  long : length l.watch.places.items ≡ length l.movers;
-  watched : AllWatched (held_in l.board) (map reqs_of l.movers) l.watch.sure l.watch.places.items;
+  long : length l.watch.places ≡ length l.movers;
+  watched : AllWatched (held_in l.board) (map reqs_of l.movers) l.watch.sure l.watch.places;
 }
 
 abbrev pub decreases-search : goal.decreases-search

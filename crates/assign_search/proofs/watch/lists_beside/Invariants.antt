@@ -7,5 +7,5 @@ use Rattle.assign_search.proofs.watch.lists_beside.Given as goal
 abbrev pub invariant-movers : goal.invariant-movers
 invariant-movers l = record {
   sure : l.watch.sure ≡ l.initial.watch.sure;
-  state : SeenTo (held_in l.board) l.res (map reqs_of l.movers) l.from l.initial.watch.sure l.initial.watch.places.items l.watch.places.items l.at;
+  state : SeenTo (held_in l.board) l.res (map reqs_of l.movers) l.from l.initial.watch.sure l.initial.watch.places l.watch.places l.at;
 }

@@ -1,20 +1,15 @@
-use Rattle.std.proofs.Common.{◌≡◌, ℕ, suc, false, Option, None, is_some, option_copied, Bor, length-append, ◌+◌, ◌-◌, ◌^◌, ◌∙◌, [], ◌∷◌, List, length, take, drop, map, min, sum_by, Some, slice_get, ap, sym, subst, refl, arith}
+use Rattle.std.proofs.Common.{◌≡◌, ℕ, suc, length-append, ◌+◌, ◌-◌, ◌^◌, ◌∙◌, [], ◌∷◌, List, length, take, drop, map, min, sum_by, slice_get, IsSome, ap, sym, subst, arith}
 use Rattle.std.proofs.Math.ListN.{drop_of_length-le}
 use Rattle.std.proofs.lemmas.List.{take_all}
-use Rattle.std.proofs.lemmas.Option.{slice_get_read}
 use Rattle.pnp_model.specs.Rebalances.{committed}
 use Rattle.pnp_model.specs.Records.{Node}
 use Rattle.resource_reqs.specs.Resources.{Res}
-use Rattle.devnode_tree.specs.Trees.{Tree}
+use Rattle.devnode_tree.specs.Trees.{IsTree, Tree}
+use Rattle.device_holdings.specs.Giving.{given}
 use Rattle.device_holdings.specs.Mirrors.{HasRoom}
 use Rattle.device_holdings.proofs.Apart.{mirrors_same}
-use Rattle.device_holdings.proofs.Committing.{room_for_all, room_next, room_left, last_part, none_yet, got_part, not_there}
+use Rattle.device_holdings.proofs.Committing.{room_for_all, room_next, last_part, none_yet, given_part}
 use Rattle.device_holdings.proofs.holding.assign_all.Goals as goal
-
--- nothing is found
-copied_none : (o : Option (Bor Node)) → false ≡ is_some o → option_copied o ≡ None
-copied_none None e = refl
-copied_none (Some n) e = absurd (cc)
 
 pub parts-init : goal.parts-init
 parts-init c =
@@ -30,34 +25,6 @@ parts-init c =
           (subst (λ (l : List (List Res)). HasRoom c.make_room.new.arbiters (min (sum_by length l) (2 ^ 64 - 1))) c.deref.ensures.value (subst (λ (n : ℕ). HasRoom c.make_room.new.arbiters n) c.resources_in.ensures c.in_ok-make_room.ensures.room));
     }
 
-pub parts-preserved-then-is_some : goal.parts-preserved-then-is_some
-parts-preserved-then-is_some c =
-    let xs = c.pop.new.self.items in
-    let h = c.in-Some.holds in
-    let plan = c.args.plan.now in
-    let serials = c.args.serials.now in
-    let before = c.args.tree.now.nodes in
-    let k = c.in-Some-get.serial.now in
-    let pop = c.in-Some.ensures.items in
-    let last = last_part xs h plan (sym pop ∙ (c.parts.invariant.left ∙ ap (λ (l : List (List Res)). take (length l) plan) pop)) in
-    let get = c.in-Some-get.ensures.lookup in
-    let place : c.len.result ≡ length xs = omega (arith, c.pop.new.self.ok.0, c.len.ensures) in
-    let at : slice_get serials (length xs) ≡ Some k = ap (slice_get serials) (sym place) ∙ slice_get_read serials (length serials) c.len.result k refl get.3.0 get.1 in
-    let count : length c.parts.parts.items ≡ suc (length xs) = omega (arith, ap length pop, length-append xs (h ∷ [])) in
-    let so_far : c.parts.tree.nodes ≡ map (committed (drop (suc (length xs)) serials) (drop (suc (length xs)) plan)) before =
-    ap (λ (t : Tree). t.nodes) c.parts.invariant.so_far ∙ ap (λ (n : ℕ). map (committed (drop n serials) (drop n plan)) before) count in
-    let next : c.parts.tree.next ≡ c.args.tree.now.next = ap (λ (t : Tree). t.next) c.parts.invariant.so_far in
-    let room : HasRoom c.parts.arbiters (length h + sum_by length xs) = room_next c.parts.arbiters xs h (subst (λ (l : List (List Res)). HasRoom c.parts.arbiters (sum_by length l)) pop c.parts.invariant.room) in
-    record {
-      left = last.0;
-      so_far =
-          c.replace.ensures.replaced
-          ∙ (ap (λ (ns : List Node). record { nodes = ns; next = c.parts.tree.next }) (got_part serials plan (length xs) h before c.parts.tree.nodes so_far last.1 k at c.node.ensures.tree.ascends)
-          ∙ ap (λ (n : ℕ). record { nodes = map (committed (drop (length xs) serials) (drop (length xs) plan)) before; next = n }) next);
-      mirrors = λ reserved m. c.replace.ensures.mirrors reserved (c.parts.invariant.mirrors reserved m);
-      room = c.replace.ensures.room (sum_by length xs) room;
-    }
-
 pub parts-preserved : goal.parts-preserved
 parts-preserved c =
     let xs = c.pop.new.self.items in
@@ -65,24 +32,22 @@ parts-preserved c =
     let plan = c.args.plan.now in
     let serials = c.args.serials.now in
     let before = c.args.tree.now.nodes in
-    let k = c.in-Some-get.serial.now in
     let pop = c.in-Some.ensures.items in
     let last = last_part xs h plan (sym pop ∙ (c.parts.invariant.left ∙ ap (λ (l : List (List Res)). take (length l) plan) pop)) in
-    let get = c.in-Some-get.ensures.lookup in
     let place : c.len.result ≡ length xs = omega (arith, c.pop.new.self.ok.0, c.len.ensures) in
-    let at : slice_get serials (length xs) ≡ Some k = ap (slice_get serials) (sym place) ∙ slice_get_read serials (length serials) c.len.result k refl get.3.0 get.1 in
     let count : length c.parts.parts.items ≡ suc (length xs) = omega (arith, ap length pop, length-append xs (h ∷ [])) in
     let so_far : c.parts.tree.nodes ≡ map (committed (drop (suc (length xs)) serials) (drop (suc (length xs)) plan)) before =
     ap (λ (t : Tree). t.nodes) c.parts.invariant.so_far ∙ ap (λ (n : ℕ). map (committed (drop n serials) (drop n plan)) before) count in
     let next : c.parts.tree.next ≡ c.args.tree.now.next = ap (λ (t : Tree). t.next) c.parts.invariant.so_far in
     let room : HasRoom c.parts.arbiters (length h + sum_by length xs) = room_next c.parts.arbiters xs h (subst (λ (l : List (List Res)). HasRoom c.parts.arbiters (sum_by length l)) pop c.parts.invariant.room) in
-    let gone = sym c.node.ensures.node ∙ copied_none c.node.result c.if-is_some.ensures in
-    let stays = not_there serials plan (length xs) h before c.parts.tree.nodes so_far last.1 k at c.node.ensures.tree.ascends gone in
+    let tree = subst (λ (n : ℕ). IsSome (slice_get serials n) → IsTree c.parts.tree) place c.give.ensures.tree in
     record {
       left = last.0;
       so_far =
-          ap (λ (ns : List Node). record { nodes = ns; next = c.parts.tree.next }) stays
-          ∙ ap (λ (n : ℕ). record { nodes = map (committed (drop (length xs) serials) (drop (length xs) plan)) before; next = n }) next;
-      mirrors = c.parts.invariant.mirrors;
-      room = room_left c.parts.arbiters (length h) (sum_by length xs) room;
+          c.give.ensures.given
+          ∙ (ap (λ (n : ℕ). given (slice_get serials n) h c.parts.tree) place
+          ∙ (given_part serials plan (length xs) h before c.parts.tree so_far last.1 tree
+          ∙ ap (λ (n : ℕ). record { nodes = map (committed (drop (length xs) serials) (drop (length xs) plan)) before; next = n }) next));
+      mirrors = λ reserved m. c.give.ensures.mirrors reserved (c.parts.invariant.mirrors reserved m);
+      room = c.give.ensures.room (sum_by length xs) room;
     }

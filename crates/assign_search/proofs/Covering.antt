@@ -1,0 +1,75 @@
+-- Ranges that reach over places: what hits a place hits one of them.
+use Rattle.std.proofs.Common.{◌≡◌, ℕ, zero, suc, ◌<◌, ◌≤◌, inl, inr, List, [], ◌∷◌, ◌++◌, take, drop, length, slice_get, get_or, set, IsTrue, Some, refl, sym, ◌∙◌, ap, subst, arith}
+use Rattle.std.proofs.lemmas.Option.{slice_get_within, slice_get-get_or, get_or_from_slice_get}
+use Rattle.std.proofs.lemmas.List.{get_or-set_same, get_or-set_other, length-set}
+use Rattle.std.proofs.lemmas.List.Elements.{Contains-append_left, Contains-push}
+use Rattle.std.proofs.lemmas.Bool.{cases_eq}
+use Rattle.std.proofs.lemmas.Grind.{common_steps}
+use Rattle.resource_reqs.specs.Resources.{Res, Clash}
+use Rattle.assign_search.specs.Watching.{IsHit, AreCovered}
+
+-- what reaches further clashes with no less
+pub wider_clash : (a b x : Res) → a.kind ≡ b.kind → a.shared ≡ b.shared → b.lo ≤ a.lo → a.hi ≤ b.hi → Clash a x → Clash b x
+wider_clash a b x kinds shares lo hi (same, (n, from, to, from', to'), apart) =
+    (sym kinds ∙ same, (n, omega arith, omega arith, from', to'), λ both. apart (subst (λ s. IsTrue s) (sym shares) both.0, both.1))
+
+-- one range is widened
+module _ (over : List Res) (at : ℕ) (range wide : Res) (read : slice_get over at ≡ Some range) (x : Res) where
+  within : at < length over
+  within = slice_get_within over at range read
+
+  put_within : at < length (set over at wide)
+  put_within = let same = length-set over at wide in let inside = within in omega arith
+
+  pub hit_wide : Clash wide x → IsHit (set over at wide) x
+  hit_wide clash = (wide, (at, put_within, get_or-set_same over at wide wide within), clash)
+
+  pub hit_wider : (Clash range x → Clash wide x) → IsHit over x → IsHit (set over at wide) x
+  hit_wider wider (place, (j, inside, is), clash) = elim (cases_eq j at) [
+    | inl e ↦
+        let same : place ≡ range = sym is ∙ (ap (λ k. get_or over k place) e ∙ get_or_from_slice_get over at range place read) in
+        hit_wide (wider (subst (λ r. Clash r x) same clash))
+    | inr ne ↦ (place, (j, (let same = length-set over at wide in omega arith), get_or-set_other over at j wide place ne ∙ is), clash)
+  ]
+
+-- one range more
+pub hit_more : (over : List Res) (res x : Res) → IsHit over x → IsHit (over ++ res ∷ []) x
+hit_more over res x (place, inside, clash) = (place, Contains-append_left over (res ∷ []) place inside, clash)
+
+pub hit_new : (over : List Res) (res x : Res) → Clash res x → IsHit (over ++ res ∷ []) x
+hit_new over res x clash = (res, Contains-push over res, clash)
+
+pub hit_at : (places : List Res) (x : Res) → IsHit places x → (at : ℕ) × (place : Res) × (slice_get places at ≡ Some place) × Clash place x
+hit_at places x (place, (j, inside, is), clash) = (j, place, slice_get-get_or places j place inside ∙ ap (λ (r : Res). Some r) is, clash)
+
+pub none_hit : (x : Res) → IsHit [] x → ⊥
+none_hit x (place, (j, inside, is), clash) = absurd (omega arith)
+
+-- what a write through a slice of the whole leaves
+pub whole : {X : Type 0} (len : ℕ) (new old : List X) → length old ≡ len → length new ≡ length old → take len (new ++ drop (length new) old) ≡ new
+whole len new old l e = grind (arith, common_steps)
+
+-- a mover more, without places
+get_pushed : (xs : List (List Res)) (at : ℕ) → get_or (xs ++ [] ∷ []) at [] ≡ get_or xs at []
+get_pushed [] zero = refl
+get_pushed [] (suc at) = refl
+get_pushed (x ∷ xs) zero = refl
+get_pushed (x ∷ xs) (suc at) = get_pushed xs at
+
+pub covered_more : (over : List Res) (watched : List (List Res)) → AreCovered over watched → AreCovered over (watched ++ [] ∷ [])
+covered_more over watched covers at x hit = covers at x (subst (λ l. IsHit l x) (get_pushed watched at) hit)
+
+pub covered_none : (over : List Res) → AreCovered over []
+covered_none over at x hit = absurd (none_hit x hit)
+
+-- ranges that reach further
+pub covered_wider : (over wide : List Res) (watched : List (List Res)) → ((x : Res) → IsHit over x → IsHit wide x) → AreCovered over watched → AreCovered wide watched
+covered_wider over wide watched wider covers at x hit = wider x (covers at x hit)
+
+-- other places of a mover, which they reach over
+pub covered_set : (wide : List Res) (watched : List (List Res)) (at : ℕ) (places : List Res) → at < length watched → ((x : Res) → IsHit places x → IsHit wide x)
+    → AreCovered wide watched → AreCovered wide (set watched at places)
+covered_set wide watched at places inside new covers k x hit = elim (cases_eq k at) [
+  | inl e ↦ new x (subst (λ l. IsHit l x) (ap (λ j. get_or (set watched at places) j []) e ∙ get_or-set_same watched at places [] inside) hit)
+  | inr ne ↦ covers k x (subst (λ l. IsHit l x) (get_or-set_other watched at k places [] ne) hit)
+]
