@@ -21,7 +21,7 @@ use Rattle.pnp_model.specs.States.{activity_at, entered, is_activity, with_phase
 use Rattle.pnp_model.specs.Tasks.{joining}
 use Rattle.pnp_model.specs.Walks.{has_ended, state_after, walk_of}
 use Rattle.pnp_laws.specs.Effects.{Acting, ActivityEffect, Alters, Assigned, Enters, IsSearch, NodeEffect, Over, PhaseStep, Request, ends_bad}
-use Rattle.pnp_laws.specs.Kept.{Alone, Ascending, InOrder, IsGood, is_idle}
+use Rattle.pnp_laws.specs.Kept.{Ascending, InOrder, IsGood, is_idle}
 use Rattle.pnp_laws.proofs.Kept.{alone}
 use Rattle.pnp_laws.proofs.Lookups.{ended_other, ended_same, entered_other, entered_same, joined_from, left_from, map_from, node_from, phase_set_other, phase_set_same, ready_found, some_same}
 

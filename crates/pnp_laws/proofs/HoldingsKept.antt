@@ -23,7 +23,7 @@ use Rattle.pnp_model.specs.Tests.{has}
 use Rattle.pnp_model.specs.Walks.{state_after}
 use Rattle.pnp_laws.specs.Effects.{ActivityEffect, Acting, Assigned, Enters, IsSearch, NodeEffect, PhaseStep, Request}
 use Rattle.pnp_laws.specs.Holdings.{HeldWell, IsWhole, WholeAt, has_plan, is_starting}
-use Rattle.pnp_laws.specs.Kept.{Alone, Fits, IsGood, OperationFits, RebalanceKeeps}
+use Rattle.pnp_laws.specs.Kept.{Fits, IsGood, OperationFits, RebalanceKeeps}
 use Rattle.pnp_laws.specs.Plans.{IsPlanned, PlanFits, PlanKept, StagePlan}
 use Rattle.pnp_laws.proofs.Kept.{none_acts}
 use Rattle.pnp_laws.proofs.Asked.{operation_asks}

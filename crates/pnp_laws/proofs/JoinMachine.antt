@@ -10,7 +10,7 @@ use Rattle.pnp_model.specs.Runs.{Entry, Goes, Run, opening}
 use Rattle.pnp_model.specs.Runs.Entry.{Happens, Did}
 use Rattle.pnp_labels.specs.declared.label.Label.{Label}
 use Rattle.pnp_laws.specs.Words.{IsNoJoin}
-use Rattle.pnp_laws.specs.Kept.{Alone, IsGood, OperationFits, RemovalKeeps, SurpriseKeeps}
+use Rattle.pnp_laws.specs.Kept.{IsGood, OperationFits, RemovalKeeps, SurpriseKeeps}
 use Rattle.pnp_laws.specs.Effects.{NodeEffect, to_leave}
 use Rattle.pnp_laws.proofs.Kept.{alone}
 use Rattle.pnp_laws.proofs.EffectsOf.{effect_of}

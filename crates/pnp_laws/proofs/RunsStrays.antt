@@ -1,6 +1,5 @@
 -- In each state of a run without an operation, who was stopped, and who holds something and is not up, is due to go.
-use Rattle.std.proofs.Common.{ℕ, ◌≡◌, ◌≢◌, ◌⊎◌, inl, inr, Bool, true, false, cond, List, [], ◌∷◌, drop, map, Option, Some, None, refl, sym, ap, ◌∙◌, subst, arith}
-use Rattle.std.specs.List.{slice_get}
+use Rattle.std.proofs.Common.{ℕ, ◌≡◌, ◌≢◌, ◌⊎◌, inl, inr, true, false, List, [], ◌∷◌, drop, map, Option, Some, None, refl, sym, ap, ◌∙◌, subst, arith}
 use Rattle.std.specs.Option.{option_map}
 use Rattle.std.proofs.lemmas.Bool.{cases_eq}
 use Rattle.std.proofs.lemmas.Bool.Decides.{nat_tests}
@@ -16,7 +15,7 @@ use Rattle.pnp_model.specs.Records.{Activity, Driver, Duty, Node, Operation, Set
 use Rattle.pnp_model.specs.Runs.{Entry, Goes, opening, printed}
 use Rattle.pnp_model.specs.Runs.Entry.{Happens, Did}
 use Rattle.pnp_model.specs.States.{activity_at, entered}
-use Rattle.pnp_model.specs.Tests.{has, is_surprise_task}
+use Rattle.pnp_model.specs.Tests.{has}
 use Rattle.pnp_model.specs.Trees.{above, children, is_child, leaving, set_of, stands_up}
 use Rattle.pnp_laws.specs.Due.{is_due, leads}
 use Rattle.pnp_laws.specs.Effects.{AnswerEffect, Closes, CommandEffect, NodeEffect, OpEffect, OperationEffect, TaskEffect, TasksEffect, to_leave}
@@ -24,7 +23,7 @@ use Rattle.pnp_laws.specs.Kept.{Ascending, OperationFits, SurpriseKeeps}
 use Rattle.pnp_laws.specs.Reached.{IsReached}
 use Rattle.pnp_laws.specs.Strays.{IsStray, StraysLaw}
 use Rattle.pnp_laws.specs.Words.{spared}
-use Rattle.pnp_laws.proofs.Aboves.{any_from, due_below, due_more, is_above_in}
+use Rattle.pnp_laws.proofs.Aboves.{due_below, due_more, is_above_in}
 use Rattle.pnp_laws.proofs.Closures.{closed_keeps, those_serial}
 use Rattle.pnp_laws.proofs.Due.{below_in_set}
 use Rattle.pnp_laws.proofs.EffectViews.{alters_keeps}
@@ -34,7 +33,6 @@ use Rattle.pnp_laws.proofs.Finishes.{leaving_all, set_is_closed}
 use Rattle.pnp_laws.proofs.Finishing.{head_bare}
 use Rattle.pnp_laws.proofs.Lists.{HeadIs, has_cases, head_found, rest_has}
 use Rattle.pnp_laws.proofs.Lookups.{entered_same, left_from, left_same, map_from, node_at-map, own_serial}
-use Rattle.pnp_laws.proofs.Orders.{any_some}
 use Rattle.pnp_laws.proofs.Reaching.{kept, reached_on}
 use Rattle.pnp_laws.proofs.Restarts.{over_stopped}
 use Rattle.pnp_laws.proofs.Runs.{root_is}

@@ -19,9 +19,8 @@ use Rattle.pnp_laws.specs.Due.{leads}
 use Rattle.pnp_laws.proofs.Lookups.{own_serial, found_self, joined_from, joined_keeps, find_passes}
 use Rattle.pnp_laws.proofs.Lists.{has_cases, those_found}
 use Rattle.pnp_laws.proofs.Closures.{closed_keeps}
-use Rattle.pnp_laws.proofs.Orders.{any_some}
 use Rattle.pnp_laws.proofs.Due.{below_in_set}
-use Rattle.pnp_laws.proofs.Aboves.{is_above_in, any_from, due_more}
+use Rattle.pnp_laws.proofs.Aboves.{is_above_in, due_more}
 use Rattle.pnp_laws.proofs.Standing.{Tree, DueBut, waiting, StageKept, Stands, Sound, TasksUp}
 use Rattle.pnp_laws.proofs.IdleSteps.{Bare, First, TaskStep, gone_is, joins_is}
 use Rattle.pnp_laws.proofs.TreeMoves.{tree_joined, above_joined}

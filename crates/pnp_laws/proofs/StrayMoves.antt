@@ -22,7 +22,7 @@ use Rattle.pnp_model.specs.Walks.{state_after, walk_of}
 use Rattle.pnp_laws.specs.Due.{is_due}
 use Rattle.pnp_laws.specs.Effects.{Acting, ActivityEffect, Enters, IsSearch, NodeEffect, Over, PhaseStep}
 use Rattle.pnp_laws.specs.Holdings.{IsWhole}
-use Rattle.pnp_laws.specs.Kept.{Alone, IsGood, OperationFits, RebalanceKeeps, stopped_state}
+use Rattle.pnp_laws.specs.Kept.{IsGood, OperationFits, RebalanceKeeps, stopped_state}
 use Rattle.pnp_laws.specs.Strays.{IsStray}
 use Rattle.pnp_laws.specs.Words.{spared}
 use Rattle.pnp_laws.proofs.Kept.{none_acts}
