@@ -21,7 +21,8 @@ use Rattle.pnp_model.specs.States.{activity_at, entered, is_activity, with_phase
 use Rattle.pnp_model.specs.Tasks.{joining}
 use Rattle.pnp_model.specs.Walks.{has_ended, state_after, walk_of}
 use Rattle.pnp_laws.specs.Effects.{Acting, ActivityEffect, Alters, Assigned, Enters, IsSearch, NodeEffect, Over, PhaseStep, Request, ends_bad}
-use Rattle.pnp_laws.specs.Kept.{Alone, Ascending, InOrder, IsGood, is_idle}
+use Rattle.pnp_laws.specs.Kept.{Ascending, InOrder, IsGood, is_idle}
+use Rattle.pnp_laws.proofs.Kept.{alone}
 use Rattle.pnp_laws.proofs.Lookups.{ended_other, ended_same, entered_other, entered_same, joined_from, left_from, map_from, node_from, phase_set_other, phase_set_same, ready_found, some_same}
 
 -- the start that acts, by its device
@@ -165,14 +166,10 @@ pub data StartOrigin (s t : State) (k : ℕ) : Option Activity → Type 0 where
   ends : (phase : Phase) → Acting s k phase → Over s k t phase → StartOrigin s t k None
 
 module _ (s t : State) (good : IsGood s) (k : ℕ) where
-  -- while an operation runs, no start is under way
-  alone : (o : Operation) → s.operation ≡ Some o → activity_at k s.activities ≡ None
-  alone o runs = ap (activity_at k) (subst (λ (x : Option Operation). Alone x s.activities) runs good.alone)
-
   free : (phase : Phase) → Enters s k t phase → activity_at k s.activities ≡ None
   free phase (Enters.installs drivers chosen drops clears) = chosen.free
-  free phase (Enters.restarts r plan runs is target found nodes) = alone (Operation.Rebalancing r) runs
-  free phase (Enters.undoes r runs target) = alone (Operation.Rebalancing r) runs
+  free phase (Enters.restarts r plan runs is target found nodes) = ap (activity_at k) (alone s (Operation.Rebalancing r) good runs)
+  free phase (Enters.undoes r runs target) = ap (activity_at k) (alone s (Operation.Rebalancing r) good runs)
 
   kept_as : (o p : Option Activity) → p ≡ o → StartOrigin s t k o → StartOrigin s t k p
   kept_as o p e h = subst (StartOrigin s t k) (sym e) h

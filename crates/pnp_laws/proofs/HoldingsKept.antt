@@ -23,8 +23,9 @@ use Rattle.pnp_model.specs.Tests.{has}
 use Rattle.pnp_model.specs.Walks.{state_after}
 use Rattle.pnp_laws.specs.Effects.{ActivityEffect, Acting, Assigned, Enters, IsSearch, NodeEffect, PhaseStep, Request}
 use Rattle.pnp_laws.specs.Holdings.{HeldWell, IsWhole, WholeAt, has_plan, is_starting}
-use Rattle.pnp_laws.specs.Kept.{Alone, Fits, IsGood, OperationFits, RebalanceKeeps}
+use Rattle.pnp_laws.specs.Kept.{Fits, IsGood, OperationFits, RebalanceKeeps}
 use Rattle.pnp_laws.specs.Plans.{IsPlanned, PlanFits, PlanKept, StagePlan}
+use Rattle.pnp_laws.proofs.Kept.{none_acts}
 use Rattle.pnp_laws.proofs.Asked.{operation_asks}
 use Rattle.pnp_laws.proofs.EffectViews.{Origin, StartOrigin, acting_at, origin, start_origin}
 use Rattle.pnp_laws.proofs.EventChanges.{starting_still}
@@ -108,13 +109,6 @@ module _ (s : State) (label : Label) (good : IsGood s) (planned : IsPlanned s) (
   well : AllHeldWell s.core.nodes
   well = from_holds s.core.nodes old.holds
 
-  alone : (o : Operation) → s.operation ≡ Some o → s.activities ≡ []
-  alone o runs = subst (λ (x : Option Operation). Alone x s.activities) runs good.alone
-
-  -- while an operation runs, no start is under way
-  none_starts : (o : Operation) (k : ℕ) (a : Activity) → s.operation ≡ Some o → activity_at k s.activities ≡ Some a → ⊥
-  none_starts o k a runs at = let none = subst (λ (x : List Activity). activity_at k x ≡ Some a) (alone o runs) at in cc
-
   fits_at : (k : ℕ) (phase : Phase) (node : Node) → Acting s k phase → node_at k s.core.nodes ≡ Some node → Fits phase node.state
   fits_at k phase node acts at =
       let here = acting_at s k phase good.order acts in
@@ -162,7 +156,7 @@ module _ (s : State) (label : Label) (good : IsGood s) (planned : IsPlanned s) (
     not_stripped : (n : Node) (minor : Minor) (w : Walk) → n.serial ≡ k → minor ≡ Minor.Remove → Request s n minor w → ⊥
     not_stripped n _ w own is (Request.starts v acts) = cc
     not_stripped n _ w own is (Request.undoes v acts) = not_acting (Phase.Removing v) (subst (λ (i : ℕ). Acting s i (Phase.Removing v)) own acts) refl
-    not_stripped n minor w own is (Request.operates i v asks) = none_starts asks.operation k a asks.runs under
+    not_stripped n minor w own is (Request.operates i v asks) = none_acts s asks.operation k a good asks.runs under
 
     starts_from : (t : State) (m : Node) → Origin s label t k m → Whole m.reqs m.holds
     starts_from t _ (Origin.was n at) = before n at
@@ -171,7 +165,7 @@ module _ (s : State) (label : Label) (good : IsGood s) (planned : IsPlanned s) (
     starts_from t _ (Origin.stacks n d ds name at acts prints) = before n at
     starts_from t _ (Origin.assigned n phase plan at acts search part now) = absurd (not_acting phase acts (search_quiet phase search))
     starts_from t _ (Origin.stripped n w at request prints) = absurd (not_stripped n Minor.Remove w (own_serial k n s.core.nodes at) refl request)
-    starts_from t _ (Origin.commits r n runs is at) = absurd (none_starts (Operation.Rebalancing r) k a runs under)
+    starts_from t _ (Origin.commits r n runs is at) = absurd (none_acts s (Operation.Rebalancing r) k a good runs under)
     starts_from t _ (Origin.joins node d below gone own) = absurd (let at = (good.phases k a under).1 in cc)
 
     kept_starts : (t : State) → NodeEffect s label t → WholeAt k t.core.nodes

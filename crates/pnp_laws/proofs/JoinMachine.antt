@@ -10,8 +10,9 @@ use Rattle.pnp_model.specs.Runs.{Entry, Goes, Run, opening}
 use Rattle.pnp_model.specs.Runs.Entry.{Happens, Did}
 use Rattle.pnp_labels.specs.declared.label.Label.{Label}
 use Rattle.pnp_laws.specs.Words.{IsNoJoin}
-use Rattle.pnp_laws.specs.Kept.{Alone, IsGood, OperationFits, RemovalKeeps, SurpriseKeeps}
+use Rattle.pnp_laws.specs.Kept.{IsGood, OperationFits, RemovalKeeps, SurpriseKeeps}
 use Rattle.pnp_laws.specs.Effects.{NodeEffect, to_leave}
+use Rattle.pnp_laws.proofs.Kept.{alone}
 use Rattle.pnp_laws.proofs.EffectsOf.{effect_of}
 use Rattle.pnp_laws.proofs.EffectViews.{alters_keeps}
 use Rattle.pnp_laws.proofs.Lookups.{joined_keeps, node_at-map, node_missing}
@@ -28,10 +29,6 @@ use Rattle.pnp_laws.proofs.JoinCounts.{flows_price, join_price}
 use Rattle.pnp_laws.proofs.JoinFalls.{join_goes}
 use Rattle.pnp_laws.proofs.JoinEvents.{born_happens}
 use Rattle.pnp_model.specs.Machine as ma
-
--- while an operation runs, no activity is there
-alone_then : (s : State) (o : Operation) → s.operation ≡ Some o → Kept s → s.activities ≡ []
-alone_then s o e kept = subst (λ (x : Option Operation). Alone x s.activities) e kept.good.alone
 
 -- nobody leaves but in a removal or a surprise removal
 node_stays : (s : State) (label : Label) (t : State) → ((o : Operation) → s.operation ≡ Some o → to_leave o ≡ []) → NodeEffect s label t → (k : ℕ) (n : Node) → node_at k s.core.nodes ≡ Some n → node_at k t.core.nodes ≡ None → ⊥
@@ -55,11 +52,11 @@ closing_of s p step kept nodes runs (OperationStep.asks o node w a) knows = asks
 closing_of s p step kept nodes runs (OperationStep.rebalances r stage m is x) knows =
     open_closing s step.label step.state (λ k. ap (λ (x : Option Operation). closed x k) runs) (λ o own. let same : o ≡ Operation.Rebalancing r = cc in ap to_leave same) nodes
 closing_of s p step kept nodes runs (OperationStep.removes o stage m is x) knows =
-    removal_closing s o stage m (record { runs = runs; is = is; empty = alone_then s (Operation.Removing o) runs kept })
+    removal_closing s o stage m (record { runs = runs; is = is; empty = alone s (Operation.Removing o) kept.good runs })
     (subst (λ (y : RemovalStage). RemovalKeeps o y s.core.nodes) is (subst (λ (x : Option Operation). OperationFits x s.core.nodes) runs kept.good.fits))
     (subst (λ (y : RemovalStage). RemovalOrder s.core o y) is (subst (λ (x : Option Operation). StageKept x s.core) runs kept.stands.stage).0) x knows
 closing_of s p step kept nodes runs (OperationStep.surprises o stage m is x) knows =
-    surprise_closing s o stage m (record { runs = runs; empty = alone_then s (Operation.Surprising o) runs kept })
+    surprise_closing s o stage m (record { runs = runs; empty = alone s (Operation.Surprising o) kept.good runs })
     (subst (λ (y : SurpriseStage). SurpriseKeeps o y s.core.nodes) is (subst (λ (x : Option Operation). OperationFits x s.core.nodes) runs kept.good.fits))
     (subst (λ (y : SurpriseStage). SurpriseOrder s.core o y) is (subst (λ (x : Option Operation). StageKept x s.core) runs kept.stands.stage).0) x knows
 

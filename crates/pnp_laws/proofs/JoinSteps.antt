@@ -22,7 +22,7 @@ use Rattle.pnp_laws.specs.Words.{IsNoJoin, joined}
 use Rattle.pnp_laws.specs.Kept.{Fits, InOrder, IsGood, OperationFits, RemovalKeeps}
 use Rattle.pnp_laws.proofs.EffectViews.{Turns, acting_at, entered_either, state_from}
 use Rattle.pnp_laws.proofs.Lists.{head_found, head_has}
-use Rattle.pnp_laws.proofs.Lookups.{some_same, own_serial, found_self, phase_from, ended_same, ended_other}
+use Rattle.pnp_laws.proofs.Lookups.{some_same, own_serial, found_self, phase_from, ended_same, ended_other, first_is}
 use Rattle.pnp_laws.proofs.RunsStand.{Kept}
 use Rattle.pnp_laws.proofs.Standing.{Sound}
 use Rattle.pnp_laws.proofs.Joins.{starts, start_cost, start_of, closed, removal_closed, is_bare, some_there, is_live, In, Gone, Stays, sub_stays, Flows}
@@ -124,8 +124,7 @@ dropped_cheaper [] cost = omega arith
 dropped_cheaper (t ∷ tasks) cost = omega arith
 
 starts_first : (cost : ℕ → ℕ) (tasks : List Task) (task : Task) → slice_get tasks 0 ≡ Some task → starts cost (drop 1 tasks) + start_cost cost task.kind task.serial ≡ starts cost tasks
-starts_first cost [] task first = absurd (cc)
-starts_first cost (t ∷ tasks) task first = let same : t ≡ task = cc in let e = ap (λ (x : Task). start_cost cost x.kind x.serial) same in omega arith
+starts_first cost tasks task first = let e = ap (starts cost) (first_is tasks task first) in omega arith
 
 origin_free : (s : State) (kind : Duty) (k : ℕ) → Origin s kind k → (cost : ℕ → ℕ) → start_cost cost kind k ≡ 0
 origin_free s _ _ (Origin.lists k) cost = refl

@@ -6,7 +6,7 @@ use Rattle.pnp_model.specs.Keyed.{changed_first, without_first}
 use Rattle.pnp_model.specs.Records.{Node, Activity, State, Operation}
 use Rattle.pnp_model.specs.Cores.{is_node, node_at}
 use Rattle.pnp_model.specs.States.{activity_at}
-use Rattle.pnp_laws.specs.Kept.{Good, Lawful, HasStackOf, Fits, InOrder, Alone, OperationFits}
+use Rattle.pnp_laws.specs.Kept.{Good, Lawful, HasStackOf, Fits, InOrder, Alone, OperationFits, IsGood}
 use Rattle.pnp_model.specs.Diagram.{FollowsDiagram}
 use Rattle.pnp_labels.specs.declared.label.Label.{Label}
 use Rattle.pnp_laws.proofs.Lookups.{node_from, node_changed_same, node_changed_other, Ascending-changed, Ascending-map, Ascending-joined, Ascending-without, joined_from, joined_keeps, left_from, map_from}
@@ -128,3 +128,10 @@ Good_mapped next f nodes o p keeps state stack fits alone good =
       alone = alone;
       fits = fits;
     }
+
+-- while an operation runs, nobody is being started
+pub alone : (s : State) (o : Operation) → IsGood s → s.operation ≡ Some o → s.activities ≡ []
+alone s o good runs = subst (λ (x : Option Operation). Alone x s.activities) runs good.alone
+
+pub none_acts : (s : State) (o : Operation) (k : ℕ) (a : Activity) → IsGood s → s.operation ≡ Some o → activity_at k s.activities ≡ Some a → ⊥
+none_acts s o k a good runs at = let none = subst (λ (x : List Activity). activity_at k x ≡ Some a) (alone s o good runs) at in cc

@@ -1,6 +1,6 @@
 -- What is found after a change of a list.
-use Rattle.std.proofs.Common.{ℕ, suc, ◌<◌, ◌≤◌, ◌≡◌, ◌≢◌, ◌==◌, ◌⊎◌, inl, inr, Bool, true, false, ◌&&◌, cond, List, [], ◌∷◌, ◌++◌, map, Option, Some, None, refl, sym, ap, ◌∙◌, subst, arith}
-use Rattle.std.specs.List.{find}
+use Rattle.std.proofs.Common.{ℕ, suc, ◌<◌, ◌≤◌, ◌≡◌, ◌≢◌, ◌==◌, ◌⊎◌, inl, inr, Bool, true, false, ◌&&◌, cond, List, [], ◌∷◌, ◌++◌, map, Option, Some, None, refl, sym, ap, ◌∙◌, subst, arith, drop}
+use Rattle.std.specs.List.{find, slice_get}
 use Rattle.std.specs.Option.{option_map}
 use Rattle.std.proofs.lemmas.Bool.{cases_eq}
 use Rattle.std.proofs.lemmas.Bool.Decides.{nat_tests}
@@ -232,3 +232,8 @@ node_found test lo (x ∷ xs) n g h = grind (arith, nat_tests, node_found test (
 pub changed_none : {A : Type 0} (p : A → Bool) (xs : List A) → changed_first p (λ x. x) xs ≡ xs
 changed_none p [] = refl
 changed_none p (x ∷ xs) = grind (arith, changed_none p xs)
+
+-- what is first stands before the others
+pub first_is : {A : Type 0} (xs : List A) (x : A) → slice_get xs 0 ≡ Some x → xs ≡ x ∷ drop 1 xs
+first_is [] x h = absurd (cc)
+first_is (y ∷ ys) x h = cc

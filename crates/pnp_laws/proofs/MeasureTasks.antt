@@ -18,7 +18,7 @@ use Rattle.pnp_labels.specs.declared.label.OpKind.{OpKind}
 use Rattle.pnp_labels.specs.declared.states.Problem.{Problem}
 use Rattle.pnp_laws.specs.Effects.{IsSearch}
 use Rattle.pnp_laws.proofs.IdleSteps.{ActivityStep}
-use Rattle.pnp_laws.proofs.Lookups.{own_activity}
+use Rattle.pnp_laws.proofs.Lookups.{own_activity, first_is}
 use Rattle.pnp_laws.proofs.Measures.{Falls, falls_coarse, coarse_by, coarse_no_more, tasks_cost, tasks_pushed, duty_cost, sum, sum_changed, sum_without, phase_cost, is_open, is_target, born_in, operation_cost, answers, answers_of, activity_answers, stack_at, SameBirths, births_same, births_changed}
 use Rattle.pnp_laws.proofs.MeasureOps.{falls_answers, asked_less}
 
@@ -49,8 +49,7 @@ open_dropped (t ∷ tasks) task o p k first kind target h =
     ap (λ (b : Bool). not (b || list_any (is_surprise_of k) tasks) && not (is_target o k)) none ∙ (ap (λ (b : Bool). not (list_any (is_surprise_of k) tasks) && not b) (sym target) ∙ h)
 
 pub dropped_cost : (n : ℕ) (born : ℕ → Bool) (tasks : List Task) (task : Task) → slice_get tasks 0 ≡ Some task → tasks_cost n born (drop 1 tasks) + duty_cost n (born task.serial) task.kind ≡ tasks_cost n born tasks
-dropped_cost n born [] task first = absurd (cc)
-dropped_cost n born (t ∷ tasks) task first = let same : t ≡ task = cc in let e = ap (λ (x : Task). duty_cost n (born x.serial) x.kind) same in omega arith
+dropped_cost n born tasks task first = let e = ap (tasks_cost n born) (first_is tasks task first) in omega arith
 
 -- Activities ---------------------------------------------------------------------------------------------
 

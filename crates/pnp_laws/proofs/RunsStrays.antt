@@ -1,6 +1,5 @@
 -- In each state of a run without an operation, who was stopped, and who holds something and is not up, is due to go.
-use Rattle.std.proofs.Common.{ℕ, ◌≡◌, ◌≢◌, ◌⊎◌, inl, inr, Bool, true, false, cond, List, [], ◌∷◌, drop, map, Option, Some, None, refl, sym, ap, ◌∙◌, subst, arith}
-use Rattle.std.specs.List.{slice_get}
+use Rattle.std.proofs.Common.{ℕ, ◌≡◌, ◌≢◌, ◌⊎◌, inl, inr, true, false, List, [], ◌∷◌, drop, map, Option, Some, None, refl, sym, ap, ◌∙◌, subst, arith}
 use Rattle.std.specs.Option.{option_map}
 use Rattle.std.proofs.lemmas.Bool.{cases_eq}
 use Rattle.std.proofs.lemmas.Bool.Decides.{nat_tests}
@@ -16,7 +15,7 @@ use Rattle.pnp_model.specs.Records.{Activity, Driver, Duty, Node, Operation, Set
 use Rattle.pnp_model.specs.Runs.{Entry, Goes, opening, printed}
 use Rattle.pnp_model.specs.Runs.Entry.{Happens, Did}
 use Rattle.pnp_model.specs.States.{activity_at, entered}
-use Rattle.pnp_model.specs.Tests.{has, is_surprise_task}
+use Rattle.pnp_model.specs.Tests.{has}
 use Rattle.pnp_model.specs.Trees.{above, children, is_child, leaving, set_of, stands_up}
 use Rattle.pnp_laws.specs.Due.{is_due, leads}
 use Rattle.pnp_laws.specs.Effects.{AnswerEffect, Closes, CommandEffect, NodeEffect, OpEffect, OperationEffect, TaskEffect, TasksEffect, to_leave}
@@ -24,7 +23,7 @@ use Rattle.pnp_laws.specs.Kept.{Ascending, OperationFits, SurpriseKeeps}
 use Rattle.pnp_laws.specs.Reached.{IsReached}
 use Rattle.pnp_laws.specs.Strays.{IsStray, StraysLaw}
 use Rattle.pnp_laws.specs.Words.{spared}
-use Rattle.pnp_laws.proofs.Aboves.{any_from, due_below, due_more, is_above_in}
+use Rattle.pnp_laws.proofs.Aboves.{due_below, due_more, is_above_in}
 use Rattle.pnp_laws.proofs.Closures.{closed_keeps, those_serial}
 use Rattle.pnp_laws.proofs.Due.{below_in_set}
 use Rattle.pnp_laws.proofs.EffectViews.{alters_keeps}
@@ -34,13 +33,12 @@ use Rattle.pnp_laws.proofs.Finishes.{leaving_all, set_is_closed}
 use Rattle.pnp_laws.proofs.Finishing.{head_bare}
 use Rattle.pnp_laws.proofs.Lists.{HeadIs, has_cases, head_found, rest_has}
 use Rattle.pnp_laws.proofs.Lookups.{entered_same, left_from, left_same, map_from, node_at-map, own_serial}
-use Rattle.pnp_laws.proofs.Orders.{any_some}
 use Rattle.pnp_laws.proofs.Reaching.{kept, reached_on}
 use Rattle.pnp_laws.proofs.Restarts.{over_stopped}
 use Rattle.pnp_laws.proofs.Runs.{root_is}
 use Rattle.pnp_laws.proofs.RunsStand.{Kept, dependents_go_first, every_run_follows, reaches_kept}
 use Rattle.pnp_laws.proofs.RunsWhole.{reached_is_whole}
-use Rattle.pnp_laws.proofs.Sounds.{LeadsMore, leads_first, leads_pushed, leads_same}
+use Rattle.pnp_laws.proofs.Sounds.{LeadsMore, leads_first, leads_pushed, leads_same, due_less}
 use Rattle.pnp_laws.proofs.Standing.{DueBut, StageKept, SurpriseOrder, waiting}
 use Rattle.pnp_laws.proofs.SurpriseSteps.{last_alone}
 use Rattle.pnp_laws.proofs.TreeChanges.{SameNodes, above_same, nodes_kept}
@@ -87,29 +85,6 @@ above_stays s label t kept first follows (NodeEffect.left node o runs head a b) 
 above_stays s label t kept first follows (NodeEffect.related r related a b) k n m at now = ap (λ (x : List Node). above x k) a
 
 -- Who is due -------------------------------------------------------------------------------------------
-
--- a task is dropped: who was due by it alone is its device or stands below it
-due_less : (tasks : List Task) (task : Task) (nodes : List Node) (k : ℕ) → slice_get tasks 0 ≡ Some task → is_due tasks nodes k ≡ true
-    → (is_due (drop 1 tasks) nodes k ≡ true) ⊎ ((is_surprise_task task.kind ≡ true) × (has (k ∷ above nodes k) task.serial ≡ true))
-due_less [] task nodes k first h = absurd (cc)
-due_less (x ∷ tasks) task nodes k first h =
-    subst (λ (y : Task). (is_due tasks nodes k ≡ true) ⊎ ((is_surprise_task y.kind ≡ true) × (has (k ∷ above nodes k) y.serial ≡ true))) (own_first x task tasks first) (by_test (is_surprise_task x.kind) refl)
-  where
-    own_first : (x task : Task) (tasks : List Task) → slice_get (x ∷ tasks) 0 ≡ Some task → x ≡ task
-    own_first x task tasks e = cc
-
-    by_test : (b : Bool) → is_surprise_task x.kind ≡ b → (is_due tasks nodes k ≡ true) ⊎ ((is_surprise_task x.kind ≡ true) × (has (k ∷ above nodes k) x.serial ≡ true))
-    by_test true e =
-        let found = any_from (leads (x ∷ tasks)) (k ∷ above nodes k) h in
-        let lead : leads (x ∷ tasks) ≡ x.serial ∷ leads tasks = ap (λ (b : Bool). cond b (x.serial ∷ leads tasks) []) e in
-        elim (has_cases x.serial found.0 (leads tasks) (subst (λ (ks : List ℕ). has ks found.0 ≡ true) lead found.2)) [
-          | inl q ↦ inr (e, subst (λ (i : ℕ). has (k ∷ above nodes k) i ≡ true) (sym q) found.1)
-          | inr q ↦ inl (any_some (leads tasks) (k ∷ above nodes k) found.0 found.1 q)
-        ]
-    by_test false e =
-        let found = any_from (leads (x ∷ tasks)) (k ∷ above nodes k) h in
-        let lead : leads (x ∷ tasks) ≡ [] = ap (λ (b : Bool). cond b (x.serial ∷ leads tasks) []) e in
-        absurd (let none = subst (λ (ks : List ℕ). has ks found.0 ≡ true) lead found.2 in cc)
 
 command_leads : (s t : State) → CommandEffect s t → LeadsMore s.tasks t.tasks
 command_leads s t (CommandEffect.same e) = subst (λ (ts : List Task). LeadsMore s.tasks ts) (sym e) (leads_same s.tasks)

@@ -19,13 +19,12 @@ use Rattle.pnp_laws.specs.Due.{leads}
 use Rattle.pnp_laws.proofs.Lookups.{own_serial, found_self, joined_from, joined_keeps, find_passes}
 use Rattle.pnp_laws.proofs.Lists.{has_cases, those_found}
 use Rattle.pnp_laws.proofs.Closures.{closed_keeps}
-use Rattle.pnp_laws.proofs.Orders.{any_some}
 use Rattle.pnp_laws.proofs.Due.{below_in_set}
-use Rattle.pnp_laws.proofs.Aboves.{is_above_in, any_from, due_more}
+use Rattle.pnp_laws.proofs.Aboves.{is_above_in, due_more}
 use Rattle.pnp_laws.proofs.Standing.{Tree, DueBut, waiting, StageKept, Stands, Sound, TasksUp}
 use Rattle.pnp_laws.proofs.IdleSteps.{Bare, First, TaskStep, gone_is, joins_is}
 use Rattle.pnp_laws.proofs.TreeMoves.{tree_joined, above_joined}
-use Rattle.pnp_laws.proofs.Sounds.{IsPlain, LeadsMore, leads_none, leads_pushed, up_append, up_drop, due_still, sound_still, first_stays}
+use Rattle.pnp_laws.proofs.Sounds.{IsPlain, LeadsMore, leads_none, leads_pushed, up_append, up_drop, due_still, sound_still, first_stays, due_less}
 use Rattle.pnp_laws.proofs.SoundStarts.{stage_none, calm_still, calm_changed, plain_alike}
 use Rattle.pnp_laws.proofs.Theres.{none_there, those_there, reverse_there, leaving_there}
 use Rattle.pnp_laws.proofs.Finishes.{set_is_closed, leaving_all, finishes_begun}
@@ -90,17 +89,9 @@ sound_started s t label node problem plain a b next op tasks none bare h =
 -- the lead of a surprise goes: those that were due by it alone are the device and what stands below it
 due_dropped : (tasks : List Task) (k : ℕ) (rest : List ℕ) (nodes : List Node) → slice_get tasks 0 ≡ Some (record { kind = Duty.Begins OpKind.Surprise; serial = k }) → ((i : ℕ) (n : Node) → node_at i nodes ≡ Some n → n.state ≡ Stopped → has (i ∷ above nodes i) k ≡ true → has rest i ≡ true) →
     DueBut [] tasks nodes → DueBut rest (drop 1 tasks) nodes
-due_dropped [] k rest nodes first below due i n at stopped = absurd (cc)
-due_dropped (t ∷ tasks) k rest nodes first below due i n at stopped =
-    let same : t ≡ record { kind = Duty.Begins OpKind.Surprise; serial = k } = cc in
-    let lead : leads (t ∷ tasks) ≡ k ∷ leads tasks = ap (λ (x : Task). leads (x ∷ tasks)) same in
+due_dropped tasks k rest nodes first below due i n at stopped =
     elim (due i n at stopped) [
-      | inl h ↦
-          let from = any_from (leads (t ∷ tasks)) (i ∷ above nodes i) h in
-          elim (has_cases k from.0 (leads tasks) (subst (λ (ks : List ℕ). has ks from.0 ≡ true) lead from.2)) [
-            | inl e ↦ inr (below i n at stopped (subst (λ (x : ℕ). has (i ∷ above nodes i) x ≡ true) (sym e) from.1))
-            | inr q ↦ inl (any_some (leads tasks) (i ∷ above nodes i) from.0 from.1 q)
-          ]
+      | inl h ↦ elim (due_less tasks (record { kind = Duty.Begins OpKind.Surprise; serial = k }) nodes i first h) [ inl q ↦ inl q | inr (kind, q) ↦ inr (below i n at stopped q) ]
       | inr h ↦ absurd (cc)
     ]
 

@@ -17,14 +17,16 @@ use Rattle.pnp_labels.specs.declared.label.Label.{Label}
 use Rattle.pnp_labels.specs.declared.states.DevState.TheVariants.{NoStack, Stopped}
 use Rattle.pnp_laws.specs.Kept.{Ascending}
 use Rattle.pnp_laws.specs.Due.{leads, is_due}
-use Rattle.pnp_laws.proofs.Lookups.{some_same, node_from, node_changed_same, left_missing, left_from}
+use Rattle.pnp_laws.proofs.Lists.{has_cases}
+use Rattle.pnp_laws.proofs.Orders.{any_some}
+use Rattle.pnp_laws.proofs.Lookups.{some_same, node_from, node_changed_same, left_missing, left_from, first_is}
 use Rattle.pnp_laws.proofs.Due.{leads_append, none_leads, RootIsOwn}
-use Rattle.pnp_laws.proofs.Aboves.{due_more}
+use Rattle.pnp_laws.proofs.Aboves.{due_more, any_from}
 use Rattle.pnp_laws.proofs.Standing.{Tree, TasksUp, DutyUp, DueBut, waiting, StageKept, Stands, Sound, IsNoLeave, FromThose}
 use Rattle.pnp_laws.proofs.TreeChanges.{SameTree, SameNodes, same_still, tree_same, above_same}
 use Rattle.pnp_laws.proofs.TreeMoves.{Childless, was_stripped, now_stripped, tree_stripped, tree_left, above_left}
 use Rattle.pnp_laws.proofs.Closures.{tail_at}
-use Rattle.pnp_laws.proofs.Truths.{and_both}
+use Rattle.pnp_laws.proofs.Truths.{and_both, by_test}
 
 -- Tasks ---------------------------------------------------------------------------------------
 
@@ -37,8 +39,7 @@ up_drop [] g = tt
 up_drop (t ∷ tasks) g = g.1
 
 pub up_first : (tasks : List Task) (task : Task) → slice_get tasks 0 ≡ Some task → TasksUp tasks → DutyUp task.kind task.serial
-up_first [] task h g = absurd (cc)
-up_first (t ∷ tasks) task h g = let same : t ≡ task = cc in subst (λ (x : Task). DutyUp x.kind x.serial) same g.0
+up_first tasks task h g = (subst TasksUp (first_is tasks task h) g).0
 
 -- each lead stays one
 abbrev pub LeadsMore : List Task → List Task → Type 0
@@ -110,6 +111,20 @@ due_changed rest next tasks more old new j f node is keeps at same leads state l
           inl (subst (λ (i : ℕ). is_due more new i ≡ true) e (g (ap (λ (z : Node). z.state) one ∙ stopped)))
     ])
     due
+
+-- a task is dropped: who was due by it alone is its device or stands below it
+pub due_less : (tasks : List Task) (task : Task) (nodes : List Node) (k : ℕ) → slice_get tasks 0 ≡ Some task → is_due tasks nodes k ≡ true
+    → (is_due (drop 1 tasks) nodes k ≡ true) ⊎ ((is_surprise_task task.kind ≡ true) × (has (k ∷ above nodes k) task.serial ≡ true))
+due_less tasks task nodes k first h =
+    by_test (λ b. (is_due (drop 1 tasks) nodes k ≡ true) ⊎ ((b ≡ true) × (has (k ∷ above nodes k) task.serial ≡ true))) (is_surprise_task task.kind)
+    (λ e.
+    let found = any_from (leads tasks) (k ∷ above nodes k) h in
+    let lead : leads tasks ≡ task.serial ∷ leads (drop 1 tasks) = ap leads (first_is tasks task first) ∙ ap (λ (b : Bool). cond b (task.serial ∷ leads (drop 1 tasks)) []) e in
+    elim (has_cases task.serial found.0 (leads (drop 1 tasks)) (subst (λ (ks : List ℕ). has ks found.0 ≡ true) lead found.2)) [
+      | inl q ↦ inr (refl, subst (λ (i : ℕ). has (k ∷ above nodes k) i ≡ true) (sym q) found.1)
+      | inr q ↦ inl (any_some (leads (drop 1 tasks)) (k ∷ above nodes k) found.0 found.1 q)
+    ])
+    (λ e. absurd (let found = any_from (leads tasks) (k ∷ above nodes k) h in let none = subst (λ (ks : List ℕ). has ks found.0 ≡ true) (none_leads tasks task first e) found.2 in cc))
 
 -- Labels ------------------------------------------------------------------------------------
 

@@ -22,9 +22,10 @@ use Rattle.pnp_model.specs.Walks.{state_after, walk_of}
 use Rattle.pnp_laws.specs.Due.{is_due}
 use Rattle.pnp_laws.specs.Effects.{Acting, ActivityEffect, Enters, IsSearch, NodeEffect, Over, PhaseStep}
 use Rattle.pnp_laws.specs.Holdings.{IsWhole}
-use Rattle.pnp_laws.specs.Kept.{Alone, IsGood, OperationFits, RebalanceKeeps, stopped_state}
+use Rattle.pnp_laws.specs.Kept.{IsGood, OperationFits, RebalanceKeeps, stopped_state}
 use Rattle.pnp_laws.specs.Strays.{IsStray}
 use Rattle.pnp_laws.specs.Words.{spared}
+use Rattle.pnp_laws.proofs.Kept.{none_acts}
 use Rattle.pnp_laws.proofs.EffectViews.{Origin, StartOrigin, acting_at, origin, start_origin}
 use Rattle.pnp_laws.proofs.Lookups.{node_from, own_serial, phase_set_same, some_same}
 use Rattle.pnp_laws.proofs.Sharing.{part_not}
@@ -109,13 +110,6 @@ pub data From (s t : State) (k : ℕ) (m : Node) : Type 0 where
 -- A step or an event -------------------------------------------------------------------------------
 
 module _ (s : State) (label : Label) (t : State) (good : IsGood s) (whole : IsWhole s) where
-  alone : (o : Operation) → s.operation ≡ Some o → s.activities ≡ []
-  alone o runs = subst (λ (x : Option Operation). Alone x s.activities) runs good.alone
-
-  -- while an operation runs, nobody is being started
-  none_acts : (o : Operation) (k : ℕ) (a : Activity) → s.operation ≡ Some o → activity_at k s.activities ≡ Some a → ⊥
-  none_acts o k a runs at = let none = subst (λ (x : List Activity). activity_at k x ≡ Some a) (alone o runs) at in cc
-
   bare_holds : (k : ℕ) (n : Node) → node_at k s.core.nodes ≡ Some n → n.state ≡ NoStack → n.holds ≡ []
   bare_holds k n at e = whole.holds.bare k n at e
 
@@ -202,7 +196,7 @@ module _ (s : State) (label : Label) (t : State) (good : IsGood s) (whole : IsWh
     unplaced_from k a b m at h there g (From.unchanged n at_n state holds) = holds ∙ old.unplaced k a n at h at_n
     unplaced_from k a b m at h there g (From.emptied none) = none
     unplaced_from k a b m at h there g (From.placed c at_c past) = absurd (let one : c ≡ b = some_same (activity_at k t.activities) c b at_c there in let q = ap (λ (x : Activity). is_unplaced x.phase) one in cc)
-    unplaced_from k a b m at h there g (From.moved o n runs at_n waits) = absurd (none_acts o k a runs at)
+    unplaced_from k a b m at h there g (From.moved o n runs at_n waits) = absurd (none_acts s o k a good runs at)
 
     pub unplaced_now : UnplacedHoldNothing t
     unplaced_now k b m at h there = by_begun (begun k b (activity_at k t.activities) (start_origin s t good k acts) at h)
