@@ -1,18 +1,19 @@
--- The device that an operation asks has the state for the request of the stage.
-use Rattle.std.proofs.Common.{◌≡◌, ◌≢◌, ◌&&◌, Bool, true, false, List, Some, refl, sym, ap, ◌∙◌, subst}
+-- The device that is asked has the state for the request, and the device that leaves has no drivers.
+use Rattle.std.proofs.Common.{◌≡◌, ◌≢◌, ◌&&◌, Bool, true, false, List, Option, Some, refl, sym, ap, ◌∙◌, subst}
 use Rattle.pnp_labels.specs.declared.states.DevState.{DevState}
-use Rattle.pnp_labels.specs.declared.states.DevState.TheVariants.{NotStarted, Started, StopPending, Stopped, RemovePending}
+use Rattle.pnp_labels.specs.declared.states.DevState.TheVariants.{NoStack, NotStarted, Started, StopPending, Stopped, RemovePending}
 use Rattle.pnp_labels.specs.declared.words.Minor.{Minor}
 use Rattle.pnp_model.specs.Cores.{node_at}
 use Rattle.pnp_model.specs.Diagram.{Row}
 use Rattle.pnp_model.specs.Frames.{first_node}
 use Rattle.pnp_model.specs.Laws.{is_up_to_now}
-use Rattle.pnp_model.specs.Records.{Node, Operation, Rebalance, RebalanceStage, Removal, RemovalStage, Surprise, SurpriseStage}
+use Rattle.pnp_model.specs.Records.{Node, Operation, Phase, Rebalance, RebalanceStage, Removal, RemovalStage, State, Surprise, SurpriseStage, Walk}
 use Rattle.pnp_model.specs.Tests.{is_told}
 use Rattle.pnp_model.specs.Walks.{may_fail, state_after}
-use Rattle.pnp_laws.specs.Effects.{operation_minor, rebalance_minor, removal_minor, surprise_minor, todo_of}
-use Rattle.pnp_laws.specs.Kept.{OperationFits, RebalanceKeeps, RemovalKeeps, SurpriseKeeps}
-use Rattle.pnp_laws.proofs.Finishing.{head_stripped, strips}
+use Rattle.pnp_laws.specs.Effects.{Request, operation_minor, rebalance_minor, removal_leaves, removal_minor, surprise_leaves, surprise_minor, to_leave, todo_of}
+use Rattle.pnp_laws.specs.Kept.{IsGood, OperationFits, RebalanceKeeps, RemovalKeeps, SurpriseKeeps}
+use Rattle.pnp_laws.proofs.EffectViews.{acting_fits}
+use Rattle.pnp_laws.proofs.Finishing.{head_bare, head_stripped, strips}
 use Rattle.pnp_laws.proofs.Lists.{HeadIs, head_found, head_has}
 use Rattle.pnp_laws.proofs.RebalanceSteps.{head_pending, head_started, head_stopped, head_stopping}
 use Rattle.pnp_laws.proofs.RemovalSteps.{head_querying, head_refusing, head_restoring}
@@ -30,7 +31,7 @@ query_remove_rows : Rows Minor.QueryRemove Started
 query_remove_rows true = Row.query_remove_bad
 query_remove_rows false = Row.query_remove
 
-pub start_rows : Rows Minor.Start NotStarted
+start_rows : Rows Minor.Start NotStarted
 start_rows true = Row.start_bad
 start_rows false = Row.start
 
@@ -43,7 +44,7 @@ told_up Started h = refl
 told_up Stopped h = refl
 told_up _ h = absurd (cc)
 
-pub rows_as : (minor : Minor) (y x : DevState) → x ≡ y → Rows minor y → Rows minor x
+rows_as : (minor : Minor) (y x : DevState) → x ≡ y → Rows minor y → Rows minor x
 rows_as minor y x same rows = subst (λ (z : DevState). Rows minor z) (sym same) rows
 
 -- it was up before the operation, unless it is to lose its drivers
@@ -98,3 +99,24 @@ pub operation_asks : (o : Operation) (nodes : List Node) (node : Node) (minor : 
 operation_asks (Operation.Rebalancing r) nodes node minor fits first is = let h = head_found nodes r.todo node first in by_rebalance nodes node minor h.1 r r.stage fits h.0 is
 operation_asks (Operation.Removing o) nodes node minor fits first is = let h = head_found nodes o.todo node first in by_removal nodes node minor h.1 o o.stage fits h.0 is
 operation_asks (Operation.Surprising o) nodes node minor fits first is = let h = head_found nodes o.todo node first in by_surprise nodes node minor h.1 o o.stage fits h.0 is
+
+-- a request that is made of a device fits its state
+pub request_rows : (s : State) → IsGood s → (node : Node) → node_at node.serial s.core.nodes ≡ Some node → (minor : Minor) (w : Walk) → Request s node minor w → Rows minor node.state
+request_rows s good node at _ _ (Request.starts w acts) = rows_as Minor.Start NotStarted node.state (acting_fits s node.serial node (Phase.Starting w) at acts good).1 start_rows
+request_rows s good node at _ _ (Request.undoes w acts) = rows_as Minor.Remove NotStarted node.state (acting_fits s node.serial node (Phase.Removing w) at acts good).1 (λ bad. Row.remove)
+request_rows s good node at _ _ (Request.operates minor w asks) =
+    (operation_asks asks.operation s.core.nodes node minor (subst (λ (x : Option Operation). OperationFits x s.core.nodes) asks.runs good.fits) asks.first asks.minor_is).rows
+
+-- who may leave has no drivers
+pub left_bare : (o : Operation) (nodes : List Node) (node : Node) → OperationFits (Some o) nodes → first_node nodes (to_leave o) ≡ Some node → node.state ≡ NoStack
+left_bare (Operation.Rebalancing r) nodes node fits first = absurd (cc)
+left_bare (Operation.Removing o) nodes node fits first = by_stage o.stage fits first
+  where
+    by_stage : (stage : RemovalStage) → RemovalKeeps o stage nodes → first_node nodes (removal_leaves stage o.todo) ≡ Some node → node.state ≡ NoStack
+    by_stage RemovalStage.Settling keeps head = let h = head_found nodes o.todo node head in head_bare o.todo node.serial node.state h.0 (keeps.each node.serial node h.1)
+    by_stage _ keeps head = absurd (cc)
+left_bare (Operation.Surprising o) nodes node fits first = by_stage o.stage fits first
+  where
+    by_stage : (stage : SurpriseStage) → SurpriseKeeps o stage nodes → first_node nodes (surprise_leaves stage o.todo) ≡ Some node → node.state ≡ NoStack
+    by_stage SurpriseStage.Settling keeps head = let h = head_found nodes o.todo node head in head_bare o.todo node.serial node.state h.0 (keeps.each node.serial node h.1)
+    by_stage _ keeps head = absurd (cc)

@@ -1,5 +1,5 @@
 -- What all changes of a device have in common.
-use Rattle.std.proofs.Common.{ℕ, ◌≡◌, ◌≢◌, ◌⊎◌, inl, inr, Bool, true, false, List, [], ◌∷◌, ◌++◌, length, Option, Some, None, refl, sym, ap, subst, arith}
+use Rattle.std.proofs.Common.{ℕ, ◌≡◌, ◌≢◌, ◌⊎◌, inl, inr, Bool, true, false, List, [], ◌∷◌, ◌++◌, length, Option, Some, None, refl, sym, ap, subst, arith, ◌∙◌}
 use Rattle.std.proofs.lemmas.Bool.{cases_eq}
 use Rattle.std.specs.Option.{option_map}
 use Rattle.std.proofs.lemmas.Bool.Decides.{nat_tests}
@@ -12,6 +12,7 @@ use Rattle.pnp_labels.specs.declared.states.DevState.TheVariants.{NoStack}
 use Rattle.pnp_labels.specs.declared.words.Minor.{Minor}
 use Rattle.pnp_labels.specs.declared.words.Minor.TheVariants.{Start, QueryRemove, Remove, QueryStop}
 use Rattle.pnp_model.specs.Cores.{bare, is_node, new_node, node_at, stacked, with_holds, with_problem, with_stack, with_state}
+use Rattle.pnp_model.specs.Frames.{first_node}
 use Rattle.pnp_model.specs.Keyed.{changed_first, without_first}
 use Rattle.pnp_model.specs.Machine.{is_ready}
 use Rattle.pnp_model.specs.Rebalances.{committed, movers, plan_of}
@@ -20,10 +21,11 @@ use Rattle.pnp_model.specs.Starts.{own_part}
 use Rattle.pnp_model.specs.States.{activity_at, entered, is_activity, with_phase}
 use Rattle.pnp_model.specs.Tasks.{joining}
 use Rattle.pnp_model.specs.Walks.{has_ended, state_after, walk_of}
-use Rattle.pnp_laws.specs.Effects.{Acting, ActivityEffect, Alters, Assigned, Enters, IsSearch, NodeEffect, Over, PhaseStep, Request, ends_bad}
-use Rattle.pnp_laws.specs.Kept.{Ascending, InOrder, IsGood, is_idle}
+use Rattle.pnp_laws.specs.Effects.{Acting, ActivityEffect, Alters, Assigned, Enters, IsSearch, NodeEffect, Over, PhaseStep, Request, ends_bad, to_leave}
+use Rattle.pnp_laws.specs.Kept.{Ascending, Fits, InOrder, IsGood, is_idle}
 use Rattle.pnp_laws.proofs.Kept.{alone}
-use Rattle.pnp_laws.proofs.Lookups.{ended_other, ended_same, entered_other, entered_same, joined_from, left_from, map_from, node_from, phase_set_other, phase_set_same, ready_found, some_same}
+use Rattle.pnp_laws.proofs.Lists.{head_found}
+use Rattle.pnp_laws.proofs.Lookups.{ended_other, ended_same, entered_other, entered_same, joined_from, joined_keeps, left_from, left_missing, map_from, node_at-map, node_from, node_missing, phase_set_other, phase_set_same, ready_found, some_same}
 
 -- the start that acts, by its device
 pub record ActsAt (s : State) (k : ℕ) (phase : Phase) : Type 0 where
@@ -35,6 +37,13 @@ pub acting_at : (s : State) (k : ℕ) (phase : Phase) → InOrder 0 s.activities
 acting_at s k phase order acts =
     let at = (ready_found is_ready 0 s.activities acts.activity order acts.ready).1 in
     record { activity = acts.activity; at = subst (λ (i : ℕ). activity_at i s.activities ≡ Some acts.activity) acts.own at; is = acts.is }
+
+-- the device of a start that acts is not the root, and its state fits the phase
+pub acting_fits : (s : State) (k : ℕ) (node : Node) (phase : Phase) → node_at k s.core.nodes ≡ Some node → Acting s k phase → IsGood s → (k ≢ 0) × Fits phase node.state
+acting_fits s k node phase at acting good =
+    let here = acting_at s k phase good.order acting in
+    let old = good.phases k here.activity here.at in
+    (old.2, subst (λ (x : Phase). Fits x node.state) here.is (subst (λ (x : Node). Fits here.activity.phase x.state) (some_same (node_at k s.core.nodes) old.0 node old.1 at) old.3))
 
 pub entered_either : (new : Activity) (k : ℕ) (rest : List Activity) → (activity_at k (entered new rest) ≡ activity_at k rest) ⊎ ((new.serial ≡ k) × (activity_at k (entered new rest) ≡ Some new))
 entered_either new k [] = elim (cases_eq new.serial k) [ inl e ↦ inr (e, grind (arith, nat_tests)) | inr d ↦ inl (entered_other new k [] d) ]
@@ -207,3 +216,19 @@ module _ (s t : State) (good : IsGood s) (k : ℕ) where
             (StartOrigin.ends phase (subst (λ (i : ℕ). Acting s i phase) q acts) (subst (λ (i : ℕ). Over s i t phase) q over))
         | inr d ↦ kept_as _ _ (ended_other j k s.activities d) StartOrigin.was
       ])
+
+-- Who is gone stood first of those that may leave ------------------------------------------------------
+
+pub gone_left : (s : State) (label : Label) (t : State) → NodeEffect s label t → (k : ℕ) (n : Node) → node_at k s.core.nodes ≡ Some n → node_at k t.core.nodes ≡ None → (o : Operation) × (s.operation ≡ Some o) × (first_node s.core.nodes (to_leave o) ≡ Some n)
+gone_left s label t (NodeEffect.same e rest) k n at gone = absurd (let now = ap (node_at k) e in cc)
+gone_left s label t (NodeEffect.changed j f alters e rest) k n at gone = absurd (let was = node_missing j k f s.core.nodes (alters_keeps s label t j f alters).serial (sym (ap (node_at k) e) ∙ gone) in cc)
+gone_left s label t (NodeEffect.stripped node w there request over prints e rest) k n at gone = absurd (let was = node_missing node.serial k bare s.core.nodes (λ x. refl) (sym (ap (node_at k) e) ∙ gone) in cc)
+gone_left s label t (NodeEffect.commits r runs is e rest) k n at gone =
+    absurd (let now = sym gone ∙ ap (node_at k) e ∙ node_at-map k (committed (movers r) (plan_of r.found)) s.core.nodes (λ x. refl) ∙ ap (option_map (committed (movers r) (plan_of r.found))) at in cc)
+gone_left s label t (NodeEffect.joins node d idle there up below is) k n at gone =
+    absurd (let now = sym gone ∙ ap (λ (x : Step). node_at k x.state.core.nodes) is ∙ joined_keeps k s.core.nodes (new_node s.next_serial node.serial d) n at in cc)
+gone_left s label t (NodeEffect.left node o runs first e rest) k n at gone =
+    let k_is : node.serial ≡ k = left_missing node.serial k s.core.nodes n at (sym (ap (node_at k) e) ∙ gone) in
+    let there = subst (λ (i : ℕ). node_at i s.core.nodes ≡ Some node) k_is (head_found s.core.nodes (to_leave o) node first).1 in
+    (o, runs, first ∙ ap Some (some_same (node_at k s.core.nodes) node n there at))
+gone_left s label t (NodeEffect.related r related e rest) k n at gone = absurd (let now = ap (node_at k) e in cc)

@@ -1,6 +1,6 @@
 -- What a step of an operation does.
 use Rattle.std.proofs.lemmas.Bool.Decides.{nat_tests}
-use Rattle.std.proofs.Common.{ℕ, ◌≡◌, ◌≢◌, ◌⊎◌, inl, inr, Bool, true, false, List, [], ◌∷◌, ◌++◌, length, reverse, Some, None, refl, ap, ◌∙◌, arith, ◌==◌}
+use Rattle.std.proofs.Common.{ℕ, ◌≡◌, ◌≢◌, ◌⊎◌, inl, inr, Bool, true, false, List, [], ◌∷◌, ◌++◌, length, reverse, Some, None, refl, ap, ◌∙◌, arith, ◌==◌, sym, subst}
 use Rattle.resource_reqs.specs.Resources.{Res}
 use Rattle.resource_reqs.specs.Spelling.Answer.{assignment, no_fit, spent}
 use Rattle.pnp_labels.specs.Texts.{Text}
@@ -19,7 +19,7 @@ use Rattle.pnp_model.specs.States.{relist, set_operation, unplug, with_core}
 use Rattle.pnp_model.specs.Trees.{is_up, leaving, stands_up}
 use Rattle.pnp_model.specs.Walks.{has_ended, state_after, walk_of}
 use Rattle.pnp_laws.specs.Words.{IsBeside, NoVeto, EndsBy, is_removal, joined, kind_of, path_of, spared}
-use Rattle.pnp_laws.specs.Effects.{ActivityEffect, Alters, DriverEffect, Effect, Enters, IsUnasked, JoinEffect, NodeEffect, OpEffect, Origin, PathEffect, RangeEffect, Request, TaskEffect, WorldEffect, to_leave, todo_of, begun, ends_bad, operation_minor, rebalance_minor, removal_minor, surprise_minor, Closes, IsOwn, OperationOwn, SameWork}
+use Rattle.pnp_laws.specs.Effects.{ActivityEffect, Alters, DriverEffect, Effect, Enters, IsUnasked, JoinEffect, NodeEffect, OpEffect, Origin, PathEffect, RangeEffect, Request, TaskEffect, WorldEffect, to_leave, todo_of, begun, ends_bad, operation_minor, rebalance_minor, removal_minor, surprise_minor, Closes, IsOwn, OperationOwn, SameWork, removal_leaves, surprise_leaves}
 use Rattle.pnp_laws.proofs.EffectsOfStarts.{Changes, Steps, asks, inside, quiet_label, still, strips, walks}
 use Rattle.pnp_laws.proofs.Finishing.{Listed, relist_only}
 use Rattle.pnp_laws.proofs.Lists.{head_found}
@@ -283,6 +283,9 @@ module _ (s : State) (o : Removal) (runs : s.operation ≡ Some (Operation.Remov
   asked_by stage minor bad node w is e walk minor_is other =
       walked s (Operation.Removing o) runs node e.first minor w (ap ma.removal_walk is ∙ walk) (ap removal_minor is ∙ minor_is) bad other e.ended
 
+  settles : o.stage ≡ RemovalStage.Settling → (node : Node) → first_node s.core.nodes o.todo ≡ Some node → first_node s.core.nodes (to_leave (Operation.Removing o)) ≡ Some node
+  settles is node first = subst (λ (x : RemovalStage). first_node s.core.nodes (removal_leaves x o.todo) ≡ Some node) (sym is) first
+
   removal_effect : (stage : RemovalStage) (m : rm.RemovalMove) → o.stage ≡ stage → RemovalStep s.core o stage m → Steps s (ma.removal_lifted s m)
   removal_effect stage m is (RemovalStep.agrees node w e good) =
       let work = rm_ask_on s.core.nodes (record o { agreed = node.serial ∷ o.agreed }) (rest o.todo) in
@@ -296,11 +299,11 @@ module _ (s : State) (o : Removal) (runs : s.operation ≡ Some (Operation.Remov
       (stripped s (Operation.Removing o) runs node e.first w (ap ma.removal_walk is) (ap removal_minor is) e.ended _ _ refl refl refl refl)
   removal_effect stage m is (RemovalStep.leaves node first inside) =
       let m = rm.leaves s.core o node (Label.Leave node.path) (rm.RemoveBeside.Left node.path node.born) in
-      leaves s (set_operation (Some (Operation.Removing m.frame)) (with_core m.core s)) (Operation.Removing o) (Operation.Removing m.frame) runs node first (Label.Leave node.path) tt tt refl
+      leaves s (set_operation (Some (Operation.Removing m.frame)) (with_core m.core s)) (Operation.Removing o) (Operation.Removing m.frame) runs node (settles is node first) (Label.Leave node.path) tt tt refl
       (rm_finish_on s.core.nodes o (rest o.todo)) refl (WorldEffect.same refl refl) refl refl refl refl refl refl refl refl node.path node.born
   removal_effect stage m is (RemovalStep.ejects node first) =
       let m = rm.leaves s.core o node (Label.Ejected node.path) (rm.RemoveBeside.Ejected node.path node.born) in
-      leaves s (unplug node.born (set_operation (Some (Operation.Removing m.frame)) (with_core m.core s))) (Operation.Removing o) (Operation.Removing m.frame) runs node first (Label.Ejected node.path) tt tt refl
+      leaves s (unplug node.born (set_operation (Some (Operation.Removing m.frame)) (with_core m.core s))) (Operation.Removing o) (Operation.Removing m.frame) runs node (settles is node first) (Label.Ejected node.path) tt tt refl
       (rm_finish_on s.core.nodes o (rest o.todo)) refl (WorldEffect.unplugged node.born (node, o, runs, is, first, refl) refl refl) refl refl refl refl refl refl refl refl node.path node.born
   removal_effect stage m is (RemovalStep.disables node first over target) =
       record {
@@ -339,7 +342,7 @@ module _ (s : State) (o : Surprise) (runs : s.operation ≡ Some (Operation.Surp
       (stripped s (Operation.Surprising o) runs node e.first w (ap ma.surprise_walk is) (ap surprise_minor is) e.ended _ _ refl refl refl refl)
   surprise_effect in_world stage m is (SurpriseStep.leaves node first why) =
       let m = su.leaves s.core o node in
-      leaves s (set_operation (Some (Operation.Surprising m.frame)) (with_core m.core s)) (Operation.Surprising o) (Operation.Surprising m.frame) runs node first (Label.Leave node.path) tt tt refl
+      leaves s (set_operation (Some (Operation.Surprising m.frame)) (with_core m.core s)) (Operation.Surprising o) (Operation.Surprising m.frame) runs node (subst (λ (x : SurpriseStage). first_node s.core.nodes (surprise_leaves x o.todo) ≡ Some node) (sym is) first) (Label.Leave node.path) tt tt refl
       (su_finish_on s.core.nodes o (rest o.todo)) refl (WorldEffect.same refl refl) refl refl refl refl refl refl refl refl node.path node.born
   surprise_effect in_world stage m is (SurpriseStep.remains node first other over) =
       su_on _ _ _ refl (su_finish_on s.core.nodes o (rest o.todo)) tt refl (still s _ _ tt refl (NodeEffect.changed node.serial _ (Alters.troubled node.serial (Some Problem.Held)) refl refl))

@@ -1,4 +1,4 @@
--- Each event keeps what a run keeps and follows the diagram.
+-- Each event keeps what a run keeps.
 use Rattle.std.proofs.Common.{ℕ, ◌≡◌, ◌≢◌, inl, inr, List, ◌∷◌, Option, Some, None, sym, ap, subst}
 use Rattle.pnp_model.specs.Keyed.{changed_first}
 use Rattle.pnp_model.specs.Records.{Node, Activity, Phase, State, Operation, Rebalance, RebalanceStage, Removal, RemovalStage, Surprise, SurpriseStage}
@@ -13,7 +13,6 @@ use Rattle.pnp_labels.specs.declared.words.Answer.{Answer}
 use Rattle.pnp_labels.specs.declared.event.Event.{Event}
 use Rattle.pnp_labels.specs.declared.label.Label.{Label}
 use Rattle.pnp_laws.proofs.Lookups.{phase_from, InOrder-set_phase}
-use Rattle.pnp_laws.proofs.Diagrams.{diagram_same}
 use Rattle.pnp_laws.proofs.EffectsOfEvents.{event_effect}
 use Rattle.pnp_laws.proofs.EventChanges.{happens_outside, still_serial}
 use Rattle.pnp_laws.proofs.Kept.{lawful_by, Good_nodes}
@@ -44,12 +43,12 @@ still_alone : (o : Option Operation) (acts : List Activity) (k : ℕ) (phase : P
 still_alone None acts k phase h = tt
 still_alone (Some o) acts k phase h = ap (changed_first (is_activity k) (with_phase phase)) h
 
-lawful_answer : (s : State) (label : Label) (t : State) → t.next_serial ≡ s.next_serial → AnswerEffect s label t → IsGood s → Lawful s (record { label = label; state = t })
-lawful_answer s label t serial (AnswerEffect.stays word nodes acts now) good = unchanged s t label serial nodes acts now good
+lawful_answer : (s : State) (label : Label) (t : State) → t.next_serial ≡ s.next_serial → AnswerEffect s label t → IsGood s → Lawful t
+lawful_answer s label t serial (AnswerEffect.stays word nodes acts now) good = unchanged s t serial nodes acts now good
 lawful_answer s label t serial (AnswerEffect.answers word nodes k a ok at acts now) good =
     let phase = completed_phase (answer_of ok) a.phase in
     let new = changed_first (is_activity k) (with_phase phase) s.activities in
-    lawful_by s t label s.next_serial s.core.nodes new s.operation serial nodes acts now
+    lawful_by t s.next_serial s.core.nodes new s.operation serial nodes acts now
     (Good_nodes s.next_serial s.core.nodes s.activities new s.operation s.operation (InOrder-set_phase 0 k phase s.activities good.order)
     (λ i x g. elim (phase_from k i phase s.activities x g) [
       | inl (e, (y, q, r)) ↦
@@ -62,15 +61,13 @@ lawful_answer s label t serial (AnswerEffect.answers word nodes k a ok at acts n
       | inr (d, q) ↦ good.phases i x q
     ])
     (still_alone s.operation s.activities k phase good.alone) good.fits good)
-    (diagram_same label s.core.nodes)
 lawful_answer s label t serial (AnswerEffect.answered word nodes acts ok o runs now) good =
     let g = subst (λ (x : Option Operation). Good s.next_serial s.core.nodes s.activities x) runs good in
     let fits = completed_operation (answer_of ok) o s.core.nodes g.fits in
-    lawful_by s t label s.next_serial s.core.nodes s.activities (Some (completed (answer_of ok) o)) serial nodes acts now
+    lawful_by t s.next_serial s.core.nodes s.activities (Some (completed (answer_of ok) o)) serial nodes acts now
     (Good_nodes s.next_serial s.core.nodes s.activities s.activities (Some o) (Some (completed (answer_of ok) o)) g.order g.phases g.alone fits g)
-    (diagram_same label s.core.nodes)
 
-pub lawful_happens : (s : State) (event : Event) → IsGood s → Lawful s (happens s event)
+pub lawful_happens : (s : State) (event : Event) → IsGood s → Lawful (happens s event).state
 lawful_happens s event good =
     let effect = event_effect s event in
     let step = happens s event in

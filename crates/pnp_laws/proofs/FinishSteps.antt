@@ -7,17 +7,15 @@ use Rattle.pnp_model.specs.Tests.{has}
 use Rattle.pnp_model.specs.Frames.{first_node, rest}
 use Rattle.pnp_labels.specs.declared.states.DevState.{DevState}
 use Rattle.pnp_labels.specs.declared.states.DevState.TheVariants.{NoStack}
-use Rattle.pnp_labels.specs.declared.words.Minor.{Minor}
 use Rattle.pnp_labels.specs.declared.states.Problem.{Problem}
-use Rattle.pnp_labels.specs.declared.label.Label.{Label}
 use Rattle.pnp_laws.specs.Effects.{todo_of}
 use Rattle.pnp_laws.specs.Kept.{Good, Lawful, Each, HasStackOf, OperationFits, Distinct, Within, Ascending, finishing_state, settling_state, removing_state}
 use Rattle.pnp_laws.proofs.Lookups.{node_from, left_from}
-use Rattle.pnp_laws.proofs.Diagrams.{Each_changed, Each_left, diagram_left}
+use Rattle.pnp_laws.proofs.Diagrams.{Each_changed, Each_left}
 use Rattle.pnp_laws.proofs.Kept.{lawful_by, Good_left}
 use Rattle.pnp_laws.proofs.Lists.{HeadIs, head_found, rest_not, those_has, those_keeps}
-use Rattle.pnp_laws.proofs.OpSteps.{lawful_walked}
-use Rattle.pnp_laws.proofs.Finishing.{StacksFit, head_stripped, head_bare, stripped_here, stripped_there, settled_there, calm_here, stack_kept, stack_left, strips}
+use Rattle.pnp_laws.proofs.OpSteps.{lawful_walked, up_stack}
+use Rattle.pnp_laws.proofs.Finishing.{StacksFit, head_bare, stripped_here, stripped_there, settled_there, calm_here, stack_kept, stack_left}
 
 -- a device of the operation, which stands first
 pub record AtWork (s : State) (node : Node) (o : Operation) : Type 0 where
@@ -54,6 +52,14 @@ stacks_problem j problem nodes stacks k m g =
 pub stacks_left : (j : ℕ) (nodes : List Node) → Ascending 0 nodes → StacksFit nodes → StacksFit (without_first (is_node j) nodes)
 stacks_left j nodes order stacks k m g = stacks k m (left_from j k nodes m order g).1
 
+-- a walk of the device that stands first has ended, and it has the state y
+pub lawful_ended : (s t : State) (node : Node) (o p : Operation) (x y : DevState) → AtWork s node o → node.state ≡ x → node.serial ≢ 0 → t.next_serial ≡ s.next_serial →
+    t.core.nodes ≡ changed_first (is_node node.serial) (with_state y) s.core.nodes → t.activities ≡ s.activities → t.operation ≡ Some p → x ≢ NoStack → y ≢ NoStack →
+    (StacksFit (changed_first (is_node node.serial) (with_state y) s.core.nodes) → OperationFits (Some p) (changed_first (is_node node.serial) (with_state y) s.core.nodes)) → Lawful t
+lawful_ended s t node o p x y w e up a b c d xn yn fits =
+    let stack = up_stack node.serial node.state y node.stack (w.good.stacks node.serial node w.at) (λ z. xn (sym e ∙ z)) yn up in
+    lawful_walked s t (with_state y) node o p a b (c ∙ w.alone) d (λ x. refl) w.at stack (fits (stacks_changed node.serial y node s.core.nodes w.good.stacks w.at stack)) w.good
+
 -- The device that stands first is finished --------------------------------------------------
 
 -- what stands behind it is still to be finished, and the drivers of the next are those that were looked up
@@ -65,15 +71,14 @@ module _ (s t : State) (o p : Operation) (node : Node) (serial : t.next_serial �
   -- its REMOVE walk ends
   pub lawful_strips : node.serial ≢ 0 → Each (removing_state (todo_of o)) s.core.nodes → t.core.nodes ≡ changed_first (is_node node.serial) bare s.core.nodes
       → (Each (settling_state (todo_of o)) (changed_first (is_node node.serial) bare s.core.nodes) → OperationFits (Some p) (changed_first (is_node node.serial) bare s.core.nodes))
-      → Lawful s (record { label = Label.State node.path NoStack; state = t })
+      → Lawful t
   lawful_strips up each nodes fits =
       let j = node.serial in
       let todo = todo_of o in
-      lawful_walked s t (Label.State node.path NoStack) bare node o p serial nodes (activities ∙ work.alone) runs (λ x. refl) work.at
+      lawful_walked s t bare node o p serial nodes (activities ∙ work.alone) runs (λ x. refl) work.at
       (record { none = λ h. refl; some = λ d h. refl; root = λ z. absurd (up z) })
       (fits (Each_changed (removing_state todo) (settling_state todo) j bare s.core.nodes node (λ x. refl) work.at (stripped_here todo j work.head)
       (λ k x d h. stripped_there todo j k x work.head d h) each))
-      (inr (refl, (Minor.Remove, false, strips node.state (head_stripped todo j node.state work.head (each j node work.at)))))
       work.good
 
   module _ (distinct : Distinct (todo_of o)) (each : Each (settling_state (todo_of o)) s.core.nodes) where
@@ -85,27 +90,26 @@ module _ (s t : State) (o p : Operation) (node : Node) (serial : t.next_serial �
 
     -- it remains, with a problem
     pub lawful_remains : (problem : Problem) → t.core.nodes ≡ changed_first (is_node node.serial) (with_problem (Some problem)) s.core.nodes → NextFits s p (rest (todo_of o)) (changed_first (is_node node.serial) (with_problem (Some problem)) s.core.nodes)
-        → Lawful s (record { label = Label.Trouble node.path problem; state = t })
+        → Lawful t
     lawful_remains problem nodes fits =
         let j = node.serial in
         let todo = todo_of o in
-        lawful_walked s t (Label.Trouble node.path problem) (with_problem (Some problem)) node o p serial nodes (activities ∙ work.alone) runs (λ x. refl) work.at (work.good.stacks j node work.at)
+        lawful_walked s t (with_problem (Some problem)) node o p serial nodes (activities ∙ work.alone) runs (λ x. refl) work.at (work.good.stacks j node work.at)
         (fits (λ k h. stack_kept j k (with_problem (Some problem)) s.core.nodes (λ x. refl) (λ x. refl)) (stacks_problem j (Some problem) s.core.nodes work.good.stacks)
         (Each_changed (settling_state todo) (finishing_state (rest todo)) j (with_problem (Some problem)) s.core.nodes node (λ x. refl) work.at
         (subst (λ (x : DevState). finishing_state (rest todo) j x ≡ true) (sym state) (calm_here (rest todo) j not_rest)) (λ k x d h. settled_there todo j k x work.head d h) each))
-        refl work.good
+        work.good
 
     -- it leaves
-    pub lawful_leaves : (label : Label) → t.core.nodes ≡ without_first (is_node node.serial) s.core.nodes → NextFits s p (rest (todo_of o)) (without_first (is_node node.serial) s.core.nodes) → Lawful s (record { label = label; state = t })
-    lawful_leaves label nodes fits =
+    pub lawful_leaves : t.core.nodes ≡ without_first (is_node node.serial) s.core.nodes → NextFits s p (rest (todo_of o)) (without_first (is_node node.serial) s.core.nodes) → Lawful t
+    lawful_leaves nodes fits =
         let j = node.serial in
         let todo = todo_of o in
-        lawful_by s t label s.next_serial (without_first (is_node j) s.core.nodes) [] (Some p) serial nodes (activities ∙ work.alone) runs
+        lawful_by t s.next_serial (without_first (is_node j) s.core.nodes) [] (Some p) serial nodes (activities ∙ work.alone) runs
         (Good_left s.next_serial j s.core.nodes (Some o) (Some p)
         (fits (λ k h. stack_left j k s.core.nodes (λ e. let z = subst (λ (i : ℕ). has (rest todo) i ≡ false) e not_rest in cc)) (stacks_left j s.core.nodes work.good.serials work.good.stacks)
         (Each_left (settling_state todo) (finishing_state (rest todo)) j s.core.nodes work.good.serials (λ k x d h. settled_there todo j k x work.head d h) each))
         refl work.good)
-        (diagram_left label j s.core.nodes node work.good.serials work.at state)
 
 -- The begin: who of the set is asked first ----------------------------------------------------
 

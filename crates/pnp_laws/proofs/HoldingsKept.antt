@@ -23,11 +23,11 @@ use Rattle.pnp_model.specs.Tests.{has}
 use Rattle.pnp_model.specs.Walks.{state_after}
 use Rattle.pnp_laws.specs.Effects.{ActivityEffect, Acting, Assigned, Enters, IsSearch, NodeEffect, PhaseStep, Request}
 use Rattle.pnp_laws.specs.Holdings.{HeldWell, IsWhole, WholeAt, has_plan, is_starting}
-use Rattle.pnp_laws.specs.Kept.{Fits, IsGood, OperationFits, RebalanceKeeps}
+use Rattle.pnp_laws.specs.Kept.{IsGood, OperationFits, RebalanceKeeps}
 use Rattle.pnp_laws.specs.Plans.{IsPlanned, PlanFits, PlanKept, StagePlan}
 use Rattle.pnp_laws.proofs.Kept.{none_acts}
 use Rattle.pnp_laws.proofs.Asked.{operation_asks}
-use Rattle.pnp_laws.proofs.EffectViews.{Origin, StartOrigin, acting_at, origin, start_origin}
+use Rattle.pnp_laws.proofs.EffectViews.{Origin, StartOrigin, acting_at, acting_fits, origin, start_origin}
 use Rattle.pnp_laws.proofs.EventChanges.{starting_still}
 use Rattle.pnp_laws.proofs.Lists.{member}
 use Rattle.pnp_laws.proofs.Lookups.{found_self, node_from, own_serial, some_same}
@@ -109,12 +109,6 @@ module _ (s : State) (label : Label) (good : IsGood s) (planned : IsPlanned s) (
   well : AllHeldWell s.core.nodes
   well = from_holds s.core.nodes old.holds
 
-  fits_at : (k : ℕ) (phase : Phase) (node : Node) → Acting s k phase → node_at k s.core.nodes ≡ Some node → Fits phase node.state
-  fits_at k phase node acts at =
-      let here = acting_at s k phase good.order acts in
-      let fits = good.phases k here.activity here.at in
-      subst (λ (x : Phase). Fits x node.state) here.is (subst (λ (x : Node). Fits here.activity.phase x.state) (some_same (node_at k s.core.nodes) fits.0 node fits.1 at) fits.3)
-
   -- the device whose walk ends holds one whole alternative
   asked_whole : (node : Node) (minor : Minor) (w : Walk) → minor ≢ Minor.Remove → node_at node.serial s.core.nodes ≡ Some node → Request s node minor w → Whole node.reqs node.holds
   asked_whole node _ w other at (Request.starts v acts) =
@@ -130,8 +124,8 @@ module _ (s : State) (label : Label) (good : IsGood s) (planned : IsPlanned s) (
   well_from t k _ (Origin.walked n minor w bad at request other ends verdict prints) =
       record { up = λ e. asked_whole n minor w other (found_self k s.core.nodes n at) request; bare = λ e. (well k n at).bare (stays_bare minor bad n.state other e) }
   well_from t k _ (Origin.troubled n problem at) = let h = well k n at in record { up = h.up; bare = h.bare }
-  well_from t k _ (Origin.stacks n d ds name at acts prints) = waiting_well (with_stack (n.stack ++ d ∷ []) (stacked n.state) n) (stacked_idle n.state (fits_at k (Phase.Adding (d ∷ ds)) n acts at))
-  well_from t k _ (Origin.assigned n phase plan at acts search part now) = waiting_well (with_holds (own_part plan) n) (search_fits phase n.state search (fits_at k phase n acts at))
+  well_from t k _ (Origin.stacks n d ds name at acts prints) = waiting_well (with_stack (n.stack ++ d ∷ []) (stacked n.state) n) (stacked_idle n.state (acting_fits s k n (Phase.Adding (d ∷ ds)) at acts good).1)
+  well_from t k _ (Origin.assigned n phase plan at acts search part now) = waiting_well (with_holds (own_part plan) n) (search_fits phase n.state search (acting_fits s k n phase at acts good).1)
   well_from t k _ (Origin.stripped n w at request prints) = record { up = λ h. absurd (cc); bare = λ h. refl }
   well_from t k _ (Origin.commits r n runs is at) =
       let keeps = subst (λ (x : RebalanceStage). RebalanceKeeps r x s.core.nodes) is (subst (λ (x : Option Operation). OperationFits x s.core.nodes) runs good.fits) in

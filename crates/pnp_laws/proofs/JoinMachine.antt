@@ -1,10 +1,7 @@
 -- Each step of a run keeps births in order, and makes the joins to come cost no more.
 use Rattle.std.proofs.Common.{ℕ, ◌<◌, ◌≤◌, ◌≡◌, ◌⊎◌, inl, inr, false, List, [], ◌∷◌, Option, Some, None, refl, sym, ap, ◌∙◌, subst, arith}
-use Rattle.std.specs.Option.{option_map}
 use Rattle.pnp_model.specs.Records.{Node, Device, Driver, State, Step, Settings, Operation, RemovalStage, SurpriseStage}
-use Rattle.pnp_model.specs.Cores.{bare, new_node, node_at}
 use Rattle.pnp_model.specs.Frames.{first_node}
-use Rattle.pnp_model.specs.Rebalances.{committed, movers, plan_of}
 use Rattle.pnp_model.specs.Laws.{Reaches}
 use Rattle.pnp_model.specs.Runs.{Entry, Goes, Run, opening}
 use Rattle.pnp_model.specs.Runs.Entry.{Happens, Did}
@@ -14,8 +11,8 @@ use Rattle.pnp_laws.specs.Kept.{IsGood, OperationFits, RemovalKeeps, SurpriseKee
 use Rattle.pnp_laws.specs.Effects.{NodeEffect, to_leave}
 use Rattle.pnp_laws.proofs.Kept.{alone}
 use Rattle.pnp_laws.proofs.EffectsOf.{effect_of}
-use Rattle.pnp_laws.proofs.EffectViews.{alters_keeps}
-use Rattle.pnp_laws.proofs.Lookups.{joined_keeps, node_at-map, node_missing}
+use Rattle.pnp_laws.proofs.DiagramSteps.{follows_effect}
+use Rattle.pnp_laws.proofs.EffectViews.{gone_left}
 use Rattle.pnp_laws.proofs.Standing.{RemovalOrder, StageKept, SurpriseOrder}
 use Rattle.pnp_laws.proofs.Runs.{lawful_goes, root_is}
 use Rattle.pnp_laws.proofs.SoundMachine.{sound_step}
@@ -30,22 +27,9 @@ use Rattle.pnp_laws.proofs.JoinFalls.{join_goes}
 use Rattle.pnp_laws.proofs.JoinEvents.{born_happens}
 use Rattle.pnp_model.specs.Machine as ma
 
--- nobody leaves but in a removal or a surprise removal
-node_stays : (s : State) (label : Label) (t : State) → ((o : Operation) → s.operation ≡ Some o → to_leave o ≡ []) → NodeEffect s label t → (k : ℕ) (n : Node) → node_at k s.core.nodes ≡ Some n → node_at k t.core.nodes ≡ None → ⊥
-node_stays s label t none (NodeEffect.same e rest) k n at gone = let now = ap (node_at k) e in cc
-node_stays s label t none (NodeEffect.changed j f alters e rest) k n at gone = let was = node_missing j k f s.core.nodes (alters_keeps s label t j f alters).serial (sym (ap (node_at k) e) ∙ gone) in cc
-node_stays s label t none (NodeEffect.stripped node w there request ends prints e rest) k n at gone = let was = node_missing node.serial k bare s.core.nodes (λ x. refl) (sym (ap (node_at k) e) ∙ gone) in cc
-node_stays s label t none (NodeEffect.commits r runs is e rest) k n at gone =
-    let now = sym gone ∙ ap (node_at k) e ∙ node_at-map k (committed (movers r) (plan_of r.found)) s.core.nodes (λ x. refl) ∙ ap (option_map (committed (movers r) (plan_of r.found))) at in
-    cc
-node_stays s label t none (NodeEffect.joins node d idle there up below is) k n at gone =
-    let now = sym gone ∙ ap (λ (x : Step). node_at k x.state.core.nodes) is ∙ joined_keeps k s.core.nodes (new_node s.next_serial node.serial d) n at in
-    cc
-node_stays s label t none (NodeEffect.left node o runs first e rest) k n at gone = absurd (let h = subst (λ (ks : List ℕ). first_node s.core.nodes ks ≡ Some node) (none o runs) first in cc)
-node_stays s label t none (NodeEffect.related r related e rest) k n at gone = let now = ap (node_at k) e in cc
-
+-- where none may leave
 open_closing : (s : State) (label : Label) (t : State) → ((k : ℕ) → closed s.operation k ≡ false) → ((o : Operation) → s.operation ≡ Some o → to_leave o ≡ []) → NodeEffect s label t → Closing s t
-open_closing s label t free none nodes = record { closes = λ k m at now. inl (free k); gone = λ k n at gone. absurd (node_stays s label t none nodes k n at gone) }
+open_closing s label t free none nodes = record { closes = λ k m at now. inl (free k); gone = λ k n at gone. absurd (let left = gone_left s label t nodes k n at gone in let first = subst (λ (ks : List ℕ). first_node s.core.nodes ks ≡ Some n) (none left.0 left.1) left.2 in cc) }
 
 closing_of : (s : State) (o : Operation) (step : Step) → Kept s → NodeEffect s step.label step.state → s.operation ≡ Some o → OperationStep s o step → ClosesStep s step
 closing_of s p step kept nodes runs (OperationStep.asks o node w a) knows = asks_closing s o node w runs knows
@@ -68,8 +52,8 @@ closing_step settings s step kept nodes (Some o) e is knows = closing_of s o ste
 step_flows : (settings : Settings) (s : State) (step : Step) → Kept s → ma.IsStep settings (ma.next settings s) step → IsGood step.state × ((IsNoJoin step.label × Flows s step.state) ⊎ Joined s step)
 step_flows settings s step kept is =
     let lawful = lawful_goes settings s (Did step.label) step.state (may_begin s kept) kept.good is in
-    let knows : Knows s step = record { sound = sound_step settings s step kept.good kept.stands is; diagram = lawful.diagram; good = lawful.good } in
     let effect = effect_of settings s step.label step.state is in
+    let knows : Knows s step = record { sound = sound_step settings s step kept.good kept.stands is; diagram = follows_effect s step.label step.state kept.good effect.nodes; good = lawful.good } in
     (lawful.good, flows_step s step.label step.state kept knows effect (closing_step settings s step kept effect.nodes s.operation refl is knows))
 
 -- births stay in order, and the price of the joins to come falls, or is no more, and no device joined

@@ -7,22 +7,19 @@ use Rattle.pnp_model.specs.Records.{Node, Activity, State, Operation}
 use Rattle.pnp_model.specs.Cores.{is_node, node_at}
 use Rattle.pnp_model.specs.States.{activity_at}
 use Rattle.pnp_laws.specs.Kept.{Good, Lawful, HasStackOf, Fits, InOrder, Alone, OperationFits, IsGood}
-use Rattle.pnp_model.specs.Diagram.{FollowsDiagram}
-use Rattle.pnp_labels.specs.declared.label.Label.{Label}
 use Rattle.pnp_laws.proofs.Lookups.{node_from, node_changed_same, node_changed_other, Ascending-changed, Ascending-map, Ascending-joined, Ascending-without, joined_from, joined_keeps, left_from, map_from}
 
 -- a step, by its parts
-pub lawful_by : (s t : State) (label : Label) (next : ℕ) (nodes : List Node) (activities : List Activity) (operation : Option Operation) →
+pub lawful_by : (t : State) (next : ℕ) (nodes : List Node) (activities : List Activity) (operation : Option Operation) →
     t.next_serial ≡ next → t.core.nodes ≡ nodes → t.activities ≡ activities → t.operation ≡ operation →
-    Good next nodes activities operation → FollowsDiagram label s.core.nodes nodes → Lawful s (record { label = label; state = t })
-lawful_by s t label next nodes activities operation a b c d good diagram =
+    Good next nodes activities operation → Lawful t
+lawful_by t next nodes activities operation a b c d good =
     record {
       good =
           subst (λ (x : ℕ). Good x t.core.nodes t.activities t.operation) (sym a)
           (subst (λ (x : List Node). Good next x t.activities t.operation) (sym b)
           (subst (λ (x : List Activity). Good next nodes x t.operation) (sym c)
           (subst (λ (x : Option Operation). Good next nodes activities x) (sym d) good)));
-      diagram = subst (λ (x : List Node). FollowsDiagram label s.core.nodes x) (sym b) diagram;
     }
 
 -- one node is changed, with its activity, and the operation goes on

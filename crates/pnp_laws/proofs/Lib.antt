@@ -11,6 +11,7 @@ pub mod EffectsOf
 pub mod EffectViews
 pub mod Minors
 pub mod Diagrams
+pub mod DiagramSteps
 pub mod Kept
 pub mod Closures
 pub mod Orders

@@ -8,40 +8,34 @@ use Rattle.pnp_model.specs.Records.{Node, State, Operation}
 use Rattle.pnp_model.specs.Cores.{is_node, node_at}
 use Rattle.pnp_model.specs.Tests.{has, is_started}
 use Rattle.pnp_laws.specs.Kept.{Good, Lawful, Each, HasStackOf, OperationFits, Distinct, Waits, is_calm, is_stopped, is_stop_pending, is_remove_pending}
-use Rattle.pnp_model.specs.Diagram.{Change}
 use Rattle.pnp_labels.specs.declared.states.DevState.{DevState}
-use Rattle.pnp_labels.specs.declared.label.Label.{Label}
 use Rattle.pnp_labels.specs.declared.states.DevState.TheVariants.{NoStack, NotStarted, Started, StopPending, Stopped, RemovePending}
 use Rattle.pnp_laws.proofs.Lookups.{node_changed_other, node_at-map}
-use Rattle.pnp_laws.proofs.Diagrams.{diagram_same, diagram_changed}
 use Rattle.pnp_laws.proofs.Kept.{lawful_by, Good_changed, Good_nodes}
 use Rattle.pnp_laws.proofs.Lists.{has-append}
 
 -- one node is changed, and the operation goes on
-pub lawful_walked : (s t : State) (label : Label) (f : Node → Node) (node : Node) (o p : Operation) → t.next_serial ≡ s.next_serial →
+pub lawful_walked : (s t : State) (f : Node → Node) (node : Node) (o p : Operation) → t.next_serial ≡ s.next_serial →
     t.core.nodes ≡ changed_first (is_node node.serial) f s.core.nodes → t.activities ≡ [] → t.operation ≡ Some p → ((x : Node) → (f x).serial ≡ x.serial) →
     node_at node.serial s.core.nodes ≡ Some node → HasStackOf node.serial (f node).state (f node).stack → OperationFits (Some p) (changed_first (is_node node.serial) f s.core.nodes) →
-    Change label node.state (f node).state → Good s.next_serial s.core.nodes [] (Some o) → Lawful s (record { label = label; state = t })
-lawful_walked s t label f node o p a b c d keeps at stack fits change good =
-    lawful_by s t label s.next_serial (changed_first (is_node node.serial) f s.core.nodes) [] (Some p) a b c d
+    Good s.next_serial s.core.nodes [] (Some o) → Lawful t
+lawful_walked s t f node o p a b c d keeps at stack fits good =
+    lawful_by t s.next_serial (changed_first (is_node node.serial) f s.core.nodes) [] (Some p) a b c d
     (Good_changed s.next_serial node.serial f node s.core.nodes [] [] (Some o) (Some p) keeps at stack tt (λ k d. refl) (λ x g. absurd (cc)) refl fits good)
-    (diagram_changed label node.serial f s.core.nodes node keeps at change)
 
 -- no node is changed, and the operation goes on
-pub lawful_still : (s t : State) (label : Label) (o p : Operation) → t.next_serial ≡ s.next_serial → t.core.nodes ≡ s.core.nodes → t.activities ≡ [] → t.operation ≡ Some p →
-    OperationFits (Some p) s.core.nodes → Good s.next_serial s.core.nodes [] (Some o) → Lawful s (record { label = label; state = t })
-lawful_still s t label o p a b c d fits good =
-    lawful_by s t label s.next_serial s.core.nodes [] (Some p) a b c d
+pub lawful_still : (s t : State) (o p : Operation) → t.next_serial ≡ s.next_serial → t.core.nodes ≡ s.core.nodes → t.activities ≡ [] → t.operation ≡ Some p →
+    OperationFits (Some p) s.core.nodes → Good s.next_serial s.core.nodes [] (Some o) → Lawful t
+lawful_still s t o p a b c d fits good =
+    lawful_by t s.next_serial s.core.nodes [] (Some p) a b c d
     (Good_nodes s.next_serial s.core.nodes [] [] (Some o) (Some p) tt (λ k x g. absurd (cc)) refl fits good)
-    (diagram_same label s.core.nodes)
 
 -- the operation closes, and nothing follows
-pub lawful_close : (s t : State) (label : Label) (o : Operation) → t.next_serial ≡ s.next_serial → t.core.nodes ≡ s.core.nodes → t.activities ≡ [] → t.operation ≡ None →
-    Each (λ k x. is_calm x) s.core.nodes → Good s.next_serial s.core.nodes [] (Some o) → Lawful s (record { label = label; state = t })
-lawful_close s t label o a b c d fits good =
-    lawful_by s t label s.next_serial s.core.nodes [] None a b c d
+pub lawful_close : (s t : State) (o : Operation) → t.next_serial ≡ s.next_serial → t.core.nodes ≡ s.core.nodes → t.activities ≡ [] → t.operation ≡ None →
+    Each (λ k x. is_calm x) s.core.nodes → Good s.next_serial s.core.nodes [] (Some o) → Lawful t
+lawful_close s t o a b c d fits good =
+    lawful_by t s.next_serial s.core.nodes [] None a b c d
     (Good_nodes s.next_serial s.core.nodes [] [] (Some o) None tt (λ k x g. absurd (cc)) tt fits good)
-    (diagram_same label s.core.nodes)
 
 -- a device that had drivers has them still
 pub up_stack : (j : ℕ) (x y : DevState) (stack : List ℕ) → HasStackOf j x stack → x ≢ NoStack → y ≢ NoStack → j ≢ 0 → HasStackOf j y stack

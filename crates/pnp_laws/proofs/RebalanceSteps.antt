@@ -1,5 +1,5 @@
--- Each step of a rebalance keeps what a run keeps and follows the diagram.
-use Rattle.std.proofs.Common.{ℕ, ◌≡◌, ◌≢◌, ◌==◌, inl, inr, Bool, true, false, not, cond, List, [], ◌∷◌, map, length, Option, Some, None, refl, sym, ap, ◌∙◌, subst, arith, reverse}
+-- Each step of a rebalance keeps what a run keeps.
+use Rattle.std.proofs.Common.{ℕ, ◌≡◌, ◌≢◌, ◌==◌, inl, inr, Bool, true, false, not, cond, List, [], ◌∷◌, map, Option, Some, None, refl, sym, ap, ◌∙◌, subst, arith, reverse}
 use Rattle.std.proofs.lemmas.Bool.{cases_eq}
 use Rattle.std.proofs.lemmas.Bool.Decides.{nat_tests}
 use Rattle.std.specs.Option.{option_map}
@@ -11,27 +11,26 @@ use Rattle.pnp_model.specs.Cores.{is_node, node_at, with_state, with_problem, se
 use Rattle.pnp_model.specs.Walks.{walk_of}
 use Rattle.pnp_model.specs.Tests.{has, is_started}
 use Rattle.pnp_model.specs.Trees.{stands_up}
-use Rattle.pnp_model.specs.Frames.{first_node, rest}
+use Rattle.pnp_model.specs.Frames.{rest}
 use Rattle.pnp_model.specs.Rebalances.{RebalanceMove, ask_on, cancel_on, stop_on, startable, restart_from, restart_on, is_asked, begun_rebalance, is_not_above, searched, trouble_of, committed, movers, plan_of, end_of, moved_on, over}
 use Rattle.pnp_model.specs.Machine.{rebalance_lifted}
 use Rattle.pnp_laws.specs.Kept.{Good, Lawful, Each, OperationFits, Distinct, Apart, Within, Waits, RebalanceKeeps, asking_state, pending_state, stopping_state, stopped_state, Fits, is_calm, is_stopped}
-use Rattle.pnp_model.specs.Diagram.{Change}
-use Rattle.pnp_model.specs.Diagram.Row.{query_stop, cancel_stop_refused, cancel_stop, stop, restart}
 use Rattle.pnp_labels.specs.declared.states.DevState.{DevState}
 use Rattle.pnp_labels.specs.declared.words.Minor.{Minor}
 use Rattle.pnp_labels.specs.declared.label.Label.{Label}
 use Rattle.pnp_labels.specs.declared.label.OpKind.{OpKind}
 use Rattle.pnp_labels.specs.declared.states.Problem.{Problem}
-use Rattle.pnp_labels.specs.declared.states.DevState.TheVariants.{NoStack, NotStarted, Started, StopPending, Stopped}
+use Rattle.pnp_labels.specs.declared.states.DevState.TheVariants.{NotStarted, Started, StopPending, Stopped}
 use Rattle.pnp_laws.proofs.Lookups.{own_serial, found_self, node_changed_same, node_changed_other}
 use Rattle.pnp_model.specs.States.{entered}
 use Rattle.pnp_model.specs.Records.Phase.{Starting, Removing}
-use Rattle.pnp_laws.proofs.Diagrams.{Each_changed, Each_same, Each_mapped, diagram_mapped, diagram_same}
+use Rattle.pnp_laws.proofs.Diagrams.{Each_changed, Each_same, Each_mapped}
 use Rattle.pnp_laws.proofs.Kept.{lawful_by, Good_nodes, Good_mapped}
-use Rattle.pnp_laws.proofs.Lists.{HeadIs, head_found, head_has, rest_has, rest_not, rest_distinct, rest_within, those_has, those_not, those_distinct, those_found, serials_distinct}
-use Rattle.pnp_laws.proofs.OpSteps.{lawful_walked, lawful_still, lawful_close, up_stack, waits_changed, waits_mapped, is_Started, is_StopPending, is_Stopped, started_calm, stopped_calm, has-reverse, Distinct-reverse}
+use Rattle.pnp_laws.proofs.Lists.{HeadIs, head_has, rest_has, rest_not, rest_distinct, rest_within, those_has, those_not, those_distinct, those_found, serials_distinct}
+use Rattle.pnp_laws.proofs.OpSteps.{lawful_walked, lawful_still, lawful_close, waits_changed, waits_mapped, is_Started, is_StopPending, is_Stopped, started_calm, stopped_calm, has-reverse, Distinct-reverse}
 use Rattle.pnp_laws.proofs.Truths.{and_both}
-use Rattle.pnp_laws.proofs.RemovalSteps.{asked_apart, row}
+use Rattle.pnp_laws.proofs.FinishSteps.{at_work, lawful_ended}
+use Rattle.pnp_laws.proofs.RemovalSteps.{asked_apart}
 use Rattle.pnp_laws.proofs.Stages.{RebalanceStep}
 
 -- What comes next keeps the facts ------------------------------------------------
@@ -116,24 +115,6 @@ head_stopping todo agreed j x h g = is_StopPending x (grind (arith))
 pub head_stopped : (todo : List ℕ) (j : ℕ) (x : DevState) → has todo j ≡ true → stopped_state todo j x ≡ true → x ≡ Stopped
 head_stopped todo j x h g = is_Stopped x (grind (arith))
 
--- a device of the walk that is in state x, where the operation runs
-record AtWork (s : State) (node : Node) (todo : List ℕ) (o : Operation) (x : DevState) : Type 0 where
-  alone : s.activities ≡ []
-  runs : s.operation ≡ Some o
-  head : HeadIs node.serial todo
-  at : node_at node.serial s.core.nodes ≡ Some node
-  up : node.serial ≢ 0
-  state : node.state ≡ x
-  good : Good s.next_serial s.core.nodes [] (Some o)
-
--- the walk ended, and the device has the state y
-walked : (s t : State) (label : Label) (node : Node) (todo : List ℕ) (o p : Operation) (x y : DevState) → AtWork s node todo o x → t.next_serial ≡ s.next_serial →
-    t.core.nodes ≡ changed_first (is_node node.serial) (with_state y) s.core.nodes → t.activities ≡ s.activities → t.operation ≡ Some p → x ≢ NoStack → y ≢ NoStack →
-    OperationFits (Some p) (changed_first (is_node node.serial) (with_state y) s.core.nodes) → Change label node.state y → Lawful s (record { label = label; state = t })
-walked s t label node todo o p x y w a b c d xn yn fits change =
-    lawful_walked s t label (with_state y) node o p a b (c ∙ w.alone) d (λ x. refl) w.at
-    (up_stack node.serial node.state y node.stack (w.good.stacks node.serial node w.at) (λ e. xn (sym w.state ∙ e)) yn w.up) fits change w.good
-
 -- What the steps need ---------------------------------------------------------------------
 
 back_here : (todo agreed more : List ℕ) (j : ℕ) → has todo j ≡ true → has more j ≡ false → Apart todo agreed → asking_state more agreed j Started ≡ true
@@ -175,12 +156,12 @@ rest_stopped todo k x e h = grind (arith)
 calm_stopped : (todo : List ℕ) (k : ℕ) (x : DevState) → has todo k ≡ false → is_calm x ≡ true → stopped_state todo k x ≡ true
 calm_stopped todo k x h g = grind (arith)
 
-lawful_then : (s t : State) (label : Label) (r : Rebalance) (phase : Phase) → t.next_serial ≡ s.next_serial → t.core.nodes ≡ s.core.nodes → t.activities ≡ entered (record { serial = r.target; phase = phase }) s.activities → t.operation ≡ None →
-    s.activities ≡ [] → Fits phase NotStarted → RebalanceKeeps r Ending s.core.nodes → Good s.next_serial s.core.nodes [] (Some (Operation.Rebalancing r)) → Lawful s (record { label = label; state = t })
-lawful_then s t label r phase a b c d alone fit keeps good =
+lawful_then : (s t : State) (r : Rebalance) (phase : Phase) → t.next_serial ≡ s.next_serial → t.core.nodes ≡ s.core.nodes → t.activities ≡ entered (record { serial = r.target; phase = phase }) s.activities → t.operation ≡ None →
+    s.activities ≡ [] → Fits phase NotStarted → RebalanceKeeps r Ending s.core.nodes → Good s.next_serial s.core.nodes [] (Some (Operation.Rebalancing r)) → Lawful t
+lawful_then s t r phase a b c d alone fit keeps good =
     let node = keeps.waits.0 in
     let x : Activity = record { serial = r.target; phase = phase } in
-    lawful_by s t label s.next_serial s.core.nodes (x ∷ []) None a b (c ∙ ap (entered x) alone) d
+    lawful_by t s.next_serial s.core.nodes (x ∷ []) None a b (c ∙ ap (entered x) alone) d
     (Good_nodes s.next_serial s.core.nodes [] (x ∷ []) (Some (Operation.Rebalancing r)) None (omega arith, tt)
     (λ k y g.
     let at = keeps.waits.1 in
@@ -192,64 +173,59 @@ lawful_then s t label r phase a b c d alone fit keeps good =
       subst (λ (v : Activity). Fits v.phase node.state) same (subst (λ (v : DevState). Fits phase v) (sym keeps.waits.2) fit),
     ))
     tt keeps.each good)
-    (diagram_same label s.core.nodes)
-
-at_work : (s : State) (r : Rebalance) (node : Node) (x : DevState) → s.activities ≡ [] → s.operation ≡ Some (Operation.Rebalancing r) → first_node s.core.nodes r.todo ≡ Some node → has r.todo 0 ≡ false →
-    (has r.todo node.serial ≡ true → node_at node.serial s.core.nodes ≡ Some node → node.state ≡ x) → Good s.next_serial s.core.nodes [] (Some (Operation.Rebalancing r)) →
-    AtWork s node r.todo (Operation.Rebalancing r) x
-at_work s r node x alone runs first rootless state good =
-    let h = head_found s.core.nodes r.todo node first in
-    record { alone = alone; runs = runs; head = h.0; at = h.1; up = rootless_head node.serial r.todo h.0 rootless; state = state (head_has node.serial r.todo h.0) h.1; good = good }
 
 -- The steps --------------------------------------------------------------------------
 
-module _ (s : State) (r : Rebalance) (alone : s.activities ≡ []) (runs : s.operation ≡ Some (Operation.Rebalancing r)) (good : Good s.next_serial s.core.nodes [] (Some (Operation.Rebalancing r))) where
-  re_searched : (found : Found) → RebalanceKeeps r Searching s.core.nodes → Lawful s (rebalance_lifted s (searched s.core r found))
+module _ (s : State) (r : Rebalance) (alone : s.activities ≡ []) (good : Good s.next_serial s.core.nodes [] (Some (Operation.Rebalancing r))) where
+  re_searched : (found : Found) → RebalanceKeeps r Searching s.core.nodes → Lawful (rebalance_lifted s (searched s.core r found)).state
   re_searched (assignment plan) keeps =
-      lawful_still s _ _ (Operation.Rebalancing r) _ refl refl alone refl
+      lawful_still s _ (Operation.Rebalancing r) _ refl refl alone refl
       (fits_stop_on (record r { found = assignment plan }) (reverse r.agreed) s.core.nodes (Distinct-reverse r.agreed keeps.agreed) keeps.agreed
       (has-reverse r.agreed 0 ∙ keeps.no_root) keeps.no_root
       (λ k h. sym (has-reverse r.agreed k) ∙ h)
       (Each_same (pending_state r.agreed) (stopping_state (reverse r.agreed) r.agreed) s.core.nodes (λ k x h. turned_stopping r.agreed k x h) keeps.each)
       keeps.waits) good
   re_searched no_fit keeps =
-      lawful_still s _ _ (Operation.Rebalancing r) _ refl refl alone refl
+      lawful_still s _ (Operation.Rebalancing r) _ refl refl alone refl
       (fits_cancel_on (record r { found = no_fit }) r.agreed s.core.nodes keeps.agreed keeps.agreed keeps.no_root keeps.no_root keeps.each keeps.waits) good
   re_searched spent keeps =
-      lawful_still s _ _ (Operation.Rebalancing r) _ refl refl alone refl
+      lawful_still s _ (Operation.Rebalancing r) _ refl refl alone refl
       (fits_cancel_on (record r { found = spent }) r.agreed s.core.nodes keeps.agreed keeps.agreed keeps.no_root keeps.no_root keeps.each keeps.waits) good
 
-  re_closes : (found : Found) (label : Label) → RebalanceKeeps r Ending s.core.nodes → Lawful s (rebalance_lifted s (record { label = label; core = s.core; frame = r; beside = over s.core r found }))
+  re_closes : (found : Found) (label : Label) → RebalanceKeeps r Ending s.core.nodes → Lawful (rebalance_lifted s (record { label = label; core = s.core; frame = r; beside = over s.core r found })).state
   re_closes (assignment plan) label keeps = by_test (stands_up s.core.nodes r.target)
     where
-      by_test : (up : Bool) → Lawful s (rebalance_lifted s (record { label = label; core = s.core; frame = r; beside = moved_on up }))
-      by_test true = lawful_then s _ label r (Starting (walk_of Minor.Start)) refl refl refl refl alone refl keeps good
-      by_test false = lawful_close s _ label (Operation.Rebalancing r) refl refl alone refl keeps.each good
-  re_closes no_fit label keeps = lawful_then s _ label r (Removing (walk_of Minor.Remove)) refl refl refl refl alone refl keeps good
-  re_closes spent label keeps = lawful_then s _ label r (Removing (walk_of Minor.Remove)) refl refl refl refl alone refl keeps good
+      by_test : (up : Bool) → Lawful (rebalance_lifted s (record { label = label; core = s.core; frame = r; beside = moved_on up })).state
+      by_test true = lawful_then s _ r (Starting (walk_of Minor.Start)) refl refl refl refl alone refl keeps good
+      by_test false = lawful_close s _ (Operation.Rebalancing r) refl refl alone refl keeps.each good
+  re_closes no_fit label keeps = lawful_then s _ r (Removing (walk_of Minor.Remove)) refl refl refl refl alone refl keeps good
+  re_closes spent label keeps = lawful_then s _ r (Removing (walk_of Minor.Remove)) refl refl refl refl alone refl keeps good
 
-  pub lawful_rebalance : (stage : RebalanceStage) (m : RebalanceMove) → RebalanceKeeps r stage s.core.nodes → RebalanceStep s.core r stage m → Lawful s (rebalance_lifted s m)
+  pub lawful_rebalance : (stage : RebalanceStage) (m : RebalanceMove) → RebalanceKeeps r stage s.core.nodes → RebalanceStep s.core r stage m → Lawful (rebalance_lifted s m).state
   lawful_rebalance stage m keeps (RebalanceStep.agrees node w e ok) =
-      let work = at_work s r node Started alone runs e.first keeps.rootless (λ here at. head_started r.todo r.agreed node.serial node.state here (keeps.each node.serial node at)) good in
+      let work = at_work s (Operation.Rebalancing r) node alone e.first good in
+      let here = head_has node.serial r.todo work.head in
+      let state = head_started r.todo r.agreed node.serial node.state here (keeps.each node.serial node work.at) in
       let j = node.serial in
       let not_rest = rest_not j r.todo work.head keeps.todo in
-      walked s _ _ node r.todo (Operation.Rebalancing r) _ Started StopPending work refl refl refl refl (λ e. cc) (λ e. cc)
-      (fits_ask_on (record r { agreed = j ∷ r.agreed }) (rest r.todo) (changed_first (is_node j) (with_state StopPending) s.core.nodes)
+      lawful_ended s _ node (Operation.Rebalancing r) _ Started StopPending work state (rootless_head node.serial r.todo work.head keeps.rootless) refl refl refl refl (λ e. cc) (λ e. cc)
+      (λ stacks. fits_ask_on (record r { agreed = j ∷ r.agreed }) (rest r.todo) (changed_first (is_node j) (with_state StopPending) s.core.nodes)
       (rest_distinct r.todo keeps.todo)
-      (keeps.asks j (head_has j r.todo work.head), keeps.agreed)
+      (keeps.asks j here, keeps.agreed)
       (rest_rootless r.todo keeps.rootless)
-      (let up = work.up in let old = keeps.no_root in grind (arith, nat_tests))
+      (let up = rootless_head node.serial r.todo work.head keeps.rootless in let old = keeps.no_root in grind (arith, nat_tests))
       (asked_apart r.todo (rest r.todo) r.agreed j not_rest (λ k h. rest_within k r.todo h) keeps.asks)
       (Each_changed (asking_state r.todo r.agreed) (asking_state (rest r.todo) (j ∷ r.agreed)) j (with_state StopPending) s.core.nodes node (λ x. refl) work.at
       (asked_here (rest r.todo) r.agreed j not_rest)
       (λ k x d h. asked_there r.todo (rest r.todo) r.agreed j k x d (rest_has j k r.todo work.head d) h) keeps.each)
-      (waits_changed r.target j (with_state StopPending) s.core.nodes node (λ x. refl) work.at (λ e. let z = work.state in cc) keeps.waits))
-      (row node.path node.state Started StopPending Minor.QueryStop false work.state query_stop)
+      (waits_changed r.target j (with_state StopPending) s.core.nodes node (λ x. refl) work.at (λ e. let z = state in cc) keeps.waits))
   lawful_rebalance stage m keeps (RebalanceStep.refuses node w e bad) =
-      let work = at_work s r node Started alone runs e.first keeps.rootless (λ here at. head_started r.todo r.agreed node.serial node.state here (keeps.each node.serial node at)) good in
+      let work = at_work s (Operation.Rebalancing r) node alone e.first good in
+      let here = head_has node.serial r.todo work.head in
+      let state = head_started r.todo r.agreed node.serial node.state here (keeps.each node.serial node work.at) in
       let j = node.serial in
-      walked s _ _ node r.todo (Operation.Rebalancing r) _ Started node.state work refl refl refl refl (λ e. cc) (λ e. let z = work.state in cc)
-      (record {
+      lawful_ended s _ node (Operation.Rebalancing r) _ Started node.state work state (rootless_head node.serial r.todo work.head keeps.rootless) refl refl refl refl (λ e. cc) (λ e. let z = state in cc)
+      (λ stacks. record {
         todo = keeps.todo;
         agreed = keeps.agreed;
         rootless = keeps.rootless;
@@ -258,45 +234,46 @@ module _ (s : State) (r : Rebalance) (alone : s.activities ≡ []) (runs : s.ope
         each =
             Each_changed (asking_state r.todo r.agreed) (asking_state r.todo r.agreed) j (with_state node.state) s.core.nodes node (λ x. refl) work.at
             (keeps.each j node work.at) (λ k x d h. h) keeps.each;
-        waits = waits_changed r.target j (with_state node.state) s.core.nodes node (λ x. refl) work.at (λ e. let z = work.state in cc) keeps.waits;
+        waits = waits_changed r.target j (with_state node.state) s.core.nodes node (λ x. refl) work.at (λ e. let z = state in cc) keeps.waits;
       })
-      (inl refl)
   lawful_rebalance stage m keeps (RebalanceStep.takes_back node w e) =
-      let work = at_work s r node Started alone runs e.first keeps.rootless (λ here at. head_started r.todo r.agreed node.serial node.state here (keeps.each node.serial node at)) good in
+      let work = at_work s (Operation.Rebalancing r) node alone e.first good in
+      let here = head_has node.serial r.todo work.head in
+      let state = head_started r.todo r.agreed node.serial node.state here (keeps.each node.serial node work.at) in
       let j = node.serial in
       let more = those (is_not_above s.core.nodes j) (rest r.todo) in
       let not_more = those_not (is_not_above s.core.nodes j) (rest r.todo) j (rest_not j r.todo work.head keeps.todo) in
       let within : (k : ℕ) → has more k ≡ true → has r.todo k ≡ true = λ k h. rest_within k r.todo (those_has (is_not_above s.core.nodes j) (rest r.todo) k h).0 in
-      walked s _ _ node r.todo (Operation.Rebalancing r) _ Started Started work refl refl refl refl (λ e. cc) (λ e. cc)
-      (fits_ask_on r more (changed_first (is_node j) (with_state Started) s.core.nodes)
+      lawful_ended s _ node (Operation.Rebalancing r) _ Started Started work state (rootless_head node.serial r.todo work.head keeps.rootless) refl refl refl refl (λ e. cc) (λ e. cc)
+      (λ stacks. fits_ask_on r more (changed_first (is_node j) (with_state Started) s.core.nodes)
       (those_distinct (is_not_above s.core.nodes j) (rest r.todo) (rest_distinct r.todo keeps.todo))
       keeps.agreed
       (those_not (is_not_above s.core.nodes j) (rest r.todo) 0 (rest_rootless r.todo keeps.rootless))
       keeps.no_root
       (λ k h. keeps.asks k (within k h))
       (Each_changed (asking_state r.todo r.agreed) (asking_state more r.agreed) j (with_state Started) s.core.nodes node (λ x. refl) work.at
-      (back_here r.todo r.agreed more j (head_has j r.todo work.head) not_more keeps.asks)
+      (back_here r.todo r.agreed more j here not_more keeps.asks)
       (λ k x d h. fewer_asked r.todo more r.agreed k x (within k) (keeps.asks k) h) keeps.each)
-      (waits_changed r.target j (with_state Started) s.core.nodes node (λ x. refl) work.at (λ e. let z = work.state in cc) keeps.waits))
-      (row node.path node.state Started Started Minor.CancelStop false work.state cancel_stop_refused)
+      (waits_changed r.target j (with_state Started) s.core.nodes node (λ x. refl) work.at (λ e. let z = state in cc) keeps.waits))
   lawful_rebalance stage m keeps (RebalanceStep.searches found budget answer) = re_searched found keeps
   lawful_rebalance stage m keeps (RebalanceStep.cancels node w e) =
-      let work = at_work s r node StopPending alone runs e.first keeps.rootless (λ here at. head_pending r.todo node.serial node.state here (keeps.each node.serial node at)) good in
+      let work = at_work s (Operation.Rebalancing r) node alone e.first good in
+      let here = head_has node.serial r.todo work.head in
+      let state = head_pending r.todo node.serial node.state here (keeps.each node.serial node work.at) in
       let j = node.serial in
-      walked s _ _ node r.todo (Operation.Rebalancing r) _ StopPending Started work refl refl refl refl (λ e. cc) (λ e. cc)
-      (fits_cancel_on r (rest r.todo) (changed_first (is_node j) (with_state Started) s.core.nodes)
+      lawful_ended s _ node (Operation.Rebalancing r) _ StopPending Started work state (rootless_head node.serial r.todo work.head keeps.rootless) refl refl refl refl (λ e. cc) (λ e. cc)
+      (λ stacks. fits_cancel_on r (rest r.todo) (changed_first (is_node j) (with_state Started) s.core.nodes)
       (rest_distinct r.todo keeps.todo) keeps.agreed (rest_rootless r.todo keeps.rootless) keeps.no_root
       (Each_changed (pending_state r.todo) (pending_state (rest r.todo)) j (with_state Started) s.core.nodes node (λ x. refl) work.at
       (calm_pending (rest r.todo) j (rest_not j r.todo work.head keeps.todo))
       (λ k x d h. rest_pending r.todo k x (rest_has j k r.todo work.head d) h) keeps.each)
-      (waits_changed r.target j (with_state Started) s.core.nodes node (λ x. refl) work.at (λ e. let z = work.state in cc) keeps.waits))
-      (row node.path node.state StopPending Started Minor.CancelStop false work.state cancel_stop)
+      (waits_changed r.target j (with_state Started) s.core.nodes node (λ x. refl) work.at (λ e. let z = state in cc) keeps.waits))
   lawful_rebalance stage m keeps RebalanceStep.sticks =
       let node = keeps.waits.0 in
       let own = own_serial r.target node s.core.nodes keeps.waits.1 in
       let at = found_self r.target s.core.nodes node keeps.waits.1 in
       let f = with_problem (Some (trouble_of r.found)) in
-      lawful_walked s _ (Label.Trouble r.path (trouble_of r.found)) f node (Operation.Rebalancing r) (Operation.Rebalancing (record r { stage = Ending })) refl
+      lawful_walked s _ f node (Operation.Rebalancing r) (Operation.Rebalancing (record r { stage = Ending })) refl
       (ap (λ (i : ℕ). changed_first (is_node i) f s.core.nodes) (sym own)) alone refl (λ x. refl) at (good.stacks node.serial node at)
       (record {
         todo = keeps.todo;
@@ -307,44 +284,47 @@ module _ (s : State) (r : Rebalance) (alone : s.activities ≡ []) (runs : s.ope
         each = problem_each (λ k x. is_calm x) node.serial (Some (trouble_of r.found)) s.core.nodes node at keeps.each;
         waits = problem_waits r.target node.serial (Some (trouble_of r.found)) s.core.nodes keeps.waits;
       })
-      refl good
+      good
   lawful_rebalance stage m keeps (RebalanceStep.stops node w e) =
-      let work = at_work s r node StopPending alone runs e.first keeps.rootless (λ here at. head_stopping r.todo r.agreed node.serial node.state here (keeps.each node.serial node at)) good in
+      let work = at_work s (Operation.Rebalancing r) node alone e.first good in
+      let here = head_has node.serial r.todo work.head in
+      let state = head_stopping r.todo r.agreed node.serial node.state here (keeps.each node.serial node work.at) in
       let j = node.serial in
-      walked s _ _ node r.todo (Operation.Rebalancing r) _ StopPending Stopped work refl refl refl refl (λ e. cc) (λ e. cc)
-      (fits_stop_on r (rest r.todo) (changed_first (is_node j) (with_state Stopped) s.core.nodes)
+      lawful_ended s _ node (Operation.Rebalancing r) _ StopPending Stopped work state (rootless_head node.serial r.todo work.head keeps.rootless) refl refl refl refl (λ e. cc) (λ e. cc)
+      (λ stacks. fits_stop_on r (rest r.todo) (changed_first (is_node j) (with_state Stopped) s.core.nodes)
       (rest_distinct r.todo keeps.todo) keeps.agreed (rest_rootless r.todo keeps.rootless) keeps.no_root
       (λ k h. keeps.asks k (rest_within k r.todo h))
       (Each_changed (stopping_state r.todo r.agreed) (stopping_state (rest r.todo) r.agreed) j (with_state Stopped) s.core.nodes node (λ x. refl) work.at
-      (stop_here (rest r.todo) r.agreed j (rest_not j r.todo work.head keeps.todo) (keeps.asks j (head_has j r.todo work.head)))
+      (stop_here (rest r.todo) r.agreed j (rest_not j r.todo work.head keeps.todo) (keeps.asks j here))
       (λ k x d h. rest_stopping r.todo r.agreed k x (rest_has j k r.todo work.head d) h) keeps.each)
-      (waits_changed r.target j (with_state Stopped) s.core.nodes node (λ x. refl) work.at (λ e. let z = work.state in cc) keeps.waits))
-      (row node.path node.state StopPending Stopped Minor.Stop false work.state stop)
+      (waits_changed r.target j (with_state Stopped) s.core.nodes node (λ x. refl) work.at (λ e. let z = state in cc) keeps.waits))
   lawful_rebalance stage m keeps RebalanceStep.commits =
       let f = committed (movers r) (plan_of r.found) in
       let fits = fits_restart_on s.core.nodes r r.agreed (map f s.core.nodes) keeps.agreed keeps.agreed keeps.no_root keeps.no_root
       (Each_mapped (stopped_state r.agreed) (stopped_state r.agreed) f s.core.nodes (λ x. refl) (λ x. refl) (λ k x h. h) keeps.each)
       (waits_mapped r.target f s.core.nodes (λ x. refl) (λ x. refl) keeps.waits) in
-      lawful_by s _ (Label.Commit (length (movers r))) s.next_serial (map f s.core.nodes) [] (Some (Operation.Rebalancing (restart_on s.core.nodes r r.agreed))) refl refl alone refl
+      lawful_by _ s.next_serial (map f s.core.nodes) [] (Some (Operation.Rebalancing (restart_on s.core.nodes r r.agreed))) refl refl alone refl
       (Good_mapped s.next_serial f s.core.nodes (Some (Operation.Rebalancing r)) (Some (Operation.Rebalancing (restart_on s.core.nodes r r.agreed))) (λ x. refl) (λ x. refl) (λ x. refl) fits refl good)
-      (diagram_mapped (Label.Commit (length (movers r))) f s.core.nodes (λ x. refl) (λ x. refl))
   lawful_rebalance stage m keeps (RebalanceStep.restarts node w e ok) =
-      let work = at_work s r node Stopped alone runs e.first keeps.rootless (λ here at. head_stopped r.todo node.serial node.state here (keeps.each node.serial node at)) good in
+      let work = at_work s (Operation.Rebalancing r) node alone e.first good in
+      let here = head_has node.serial r.todo work.head in
+      let state = head_stopped r.todo node.serial node.state here (keeps.each node.serial node work.at) in
       let j = node.serial in
       let nodes = changed_first (is_node j) (with_state Started) s.core.nodes in
-      walked s _ _ node r.todo (Operation.Rebalancing r) _ Stopped Started work refl refl refl refl (λ e. cc) (λ e. cc)
-      (fits_restart_on nodes r (rest r.todo) nodes
+      lawful_ended s _ node (Operation.Rebalancing r) _ Stopped Started work state (rootless_head node.serial r.todo work.head keeps.rootless) refl refl refl refl (λ e. cc) (λ e. cc)
+      (λ stacks. fits_restart_on nodes r (rest r.todo) nodes
       (rest_distinct r.todo keeps.todo) keeps.agreed (rest_rootless r.todo keeps.rootless) keeps.no_root
       (Each_changed (stopped_state r.todo) (stopped_state (rest r.todo)) j (with_state Started) s.core.nodes node (λ x. refl) work.at
       (calm_stopped (rest r.todo) j Started (rest_not j r.todo work.head keeps.todo) refl)
       (λ k x d h. rest_stopped r.todo k x (rest_has j k r.todo work.head d) h) keeps.each)
-      (waits_changed r.target j (with_state Started) s.core.nodes node (λ x. refl) work.at (λ e. let z = work.state in cc) keeps.waits))
-      (row node.path node.state Stopped Started Minor.Start false work.state restart)
+      (waits_changed r.target j (with_state Started) s.core.nodes node (λ x. refl) work.at (λ e. let z = state in cc) keeps.waits))
   lawful_rebalance stage m keeps (RebalanceStep.fails node w e bad) =
-      let work = at_work s r node Stopped alone runs e.first keeps.rootless (λ here at. head_stopped r.todo node.serial node.state here (keeps.each node.serial node at)) good in
+      let work = at_work s (Operation.Rebalancing r) node alone e.first good in
+      let here = head_has node.serial r.todo work.head in
+      let state = head_stopped r.todo node.serial node.state here (keeps.each node.serial node work.at) in
       let j = node.serial in
-      walked s _ _ node r.todo (Operation.Rebalancing r) _ Stopped node.state work refl refl refl refl (λ e. cc) (λ e. let z = work.state in cc)
-      (record {
+      lawful_ended s _ node (Operation.Rebalancing r) _ Stopped node.state work state (rootless_head node.serial r.todo work.head keeps.rootless) refl refl refl refl (λ e. cc) (λ e. let z = state in cc)
+      (λ stacks. record {
         todo = keeps.todo;
         agreed = keeps.agreed;
         rootless = keeps.rootless;
@@ -353,22 +333,23 @@ module _ (s : State) (r : Rebalance) (alone : s.activities ≡ []) (runs : s.ope
         each =
             Each_changed (stopped_state r.todo) (stopped_state r.todo) j (with_state node.state) s.core.nodes node (λ x. refl) work.at
             (keeps.each j node work.at) (λ k x d h. h) keeps.each;
-        waits = waits_changed r.target j (with_state node.state) s.core.nodes node (λ x. refl) work.at (λ e. let z = work.state in cc) keeps.waits;
+        waits = waits_changed r.target j (with_state node.state) s.core.nodes node (λ x. refl) work.at (λ e. let z = state in cc) keeps.waits;
       })
-      (inl refl)
   lawful_rebalance stage m keeps (RebalanceStep.failed node first) =
-      let work = at_work s r node Stopped alone runs first keeps.rootless (λ here at. head_stopped r.todo node.serial node.state here (keeps.each node.serial node at)) good in
+      let work = at_work s (Operation.Rebalancing r) node alone first good in
+      let here = head_has node.serial r.todo work.head in
+      let state = head_stopped r.todo node.serial node.state here (keeps.each node.serial node work.at) in
       let j = node.serial in
       let nodes = changed_first (is_node j) (with_problem (Some Problem.FailedStart)) s.core.nodes in
-      lawful_walked s _ (Label.Trouble node.path Problem.FailedStart) (with_problem (Some Problem.FailedStart)) node (Operation.Rebalancing r) _ refl
+      lawful_walked s _ (with_problem (Some Problem.FailedStart)) node (Operation.Rebalancing r) _ refl
       refl work.alone refl (λ x. refl) work.at (work.good.stacks j node work.at)
       (fits_restart_on s.core.nodes r (rest r.todo) nodes
       (rest_distinct r.todo keeps.todo) keeps.agreed (rest_rootless r.todo keeps.rootless) keeps.no_root
       (Each_changed (stopped_state r.todo) (stopped_state (rest r.todo)) j (with_problem (Some Problem.FailedStart)) s.core.nodes node (λ x. refl) work.at
-      (calm_stopped (rest r.todo) j node.state (rest_not j r.todo work.head keeps.todo) (ap is_calm work.state))
+      (calm_stopped (rest r.todo) j node.state (rest_not j r.todo work.head keeps.todo) (ap is_calm state))
       (λ k x d h. rest_stopped r.todo k x (rest_has j k r.todo work.head d) h) keeps.each)
       (problem_waits r.target j (Some Problem.FailedStart) s.core.nodes keeps.waits))
-      refl work.good
+      work.good
   lawful_rebalance stage m keeps RebalanceStep.closes = re_closes r.found (Label.End OpKind.Rebalance r.path (end_of r.found)) keeps
 
 -- The begin ---------------------------------------------------------------------------

@@ -1,5 +1,5 @@
--- Each step of a removal keeps what a run keeps and follows the diagram.
-use Rattle.std.proofs.Common.{ℕ, ◌≡◌, ◌≢◌, inl, inr, Bool, true, false, List, [], ◌∷◌, Some, None, refl, sym, ap, ◌∙◌, subst, arith}
+-- Each step of a removal keeps what a run keeps.
+use Rattle.std.proofs.Common.{ℕ, ◌≡◌, ◌≢◌, inl, inr, Bool, true, false, List, [], ◌∷◌, Some, None, refl, ap, ◌∙◌, subst, arith}
 use Rattle.std.proofs.lemmas.Bool.{cases_eq}
 use Rattle.std.proofs.lemmas.Bool.Decides.{nat_tests}
 use Rattle.pnp_model.specs.Keyed.{changed_first, without_first, those}
@@ -13,21 +13,17 @@ use Rattle.pnp_model.specs.Frames.{first_node, rest}
 use Rattle.pnp_model.specs.Removals.{RemovalMove, ejecting, finish_with, finish_on, ask_on, cancel_on, begun_with}
 use Rattle.pnp_model.specs.Machine.{removal_lifted}
 use Rattle.pnp_laws.specs.Kept.{Good, Lawful, Each, OperationFits, Distinct, Apart, Within, RemovalKeeps, querying_state, refusing_state, restoring_state, finishing_state, is_calm, is_idle, is_stopped}
-use Rattle.pnp_model.specs.Diagram.{Change, Row}
-use Rattle.pnp_model.specs.Diagram.Row.{query_remove, cancel_remove_refused, cancel_remove}
 use Rattle.pnp_labels.specs.declared.states.DevState.{DevState}
-use Rattle.pnp_labels.specs.declared.words.Minor.{Minor}
-use Rattle.pnp_labels.specs.declared.label.Label.{Label}
 use Rattle.pnp_labels.specs.declared.states.Problem.{Problem}
 use Rattle.pnp_labels.specs.declared.label.OpKind.{OpKind}
 use Rattle.pnp_labels.specs.declared.states.DevState.TheVariants.{NoStack, NotStarted, Started, RemovePending}
 use Rattle.pnp_laws.proofs.Diagrams.{Each_changed, Each_same}
 use Rattle.pnp_laws.proofs.Lists.{head_has, rest_has, rest_not, rest_distinct, rest_within, those_has, those_distinct}
-use Rattle.pnp_laws.proofs.OpSteps.{lawful_walked, lawful_close, up_stack, is_Started, is_RemovePending, started_calm}
+use Rattle.pnp_laws.proofs.OpSteps.{lawful_close, is_Started, is_RemovePending, started_calm}
 use Rattle.pnp_laws.proofs.Stages.{RemovalStep}
 use Rattle.pnp_laws.proofs.StartSteps.{idle_calm}
 use Rattle.pnp_laws.proofs.Finishing.{StacksFit, settle_each, remove_each, stack_kept, relist_only}
-use Rattle.pnp_laws.proofs.FinishSteps.{AtWork, NextFits, at_work, begun_one, lawful_leaves, lawful_remains, lawful_strips, not_root, stacks_changed}
+use Rattle.pnp_laws.proofs.FinishSteps.{NextFits, at_work, begun_one, lawful_ended, lawful_leaves, lawful_remains, lawful_strips, not_root}
 
 -- What comes next keeps the facts --------------------------------------------------
 
@@ -105,18 +101,6 @@ asked_within : (agreed set : List ℕ) (j : ℕ) → has set j ≡ true → With
 asked_within agreed set j h within k g =
     elim (cases_eq j k) [ inl e ↦ subst (λ (i : ℕ). has set i ≡ true) e h | inr d ↦ within k (grind (arith, nat_tests)) ]
 
-pub row : (path : List ℕ) (a b y : DevState) (minor : Minor) (bad : Bool) → a ≡ b → Row b minor bad y → Change (Label.State path y) a y
-row path a b y minor bad e r = inr (refl, (minor, bad, subst (λ (z : DevState). Row z minor bad y) (sym e) r))
-
-walked : (s t : State) (label : Label) (node : Node) (o : Removal) (p : Operation) (x y : DevState) → AtWork s node (Operation.Removing o) → node.state ≡ x → node.serial ≢ 0 → t.next_serial ≡ s.next_serial →
-    t.core.nodes ≡ changed_first (is_node node.serial) (with_state y) s.core.nodes → t.activities ≡ s.activities → t.operation ≡ Some p → x ≢ NoStack → y ≢ NoStack →
-    (StacksFit (changed_first (is_node node.serial) (with_state y) s.core.nodes) → OperationFits (Some p) (changed_first (is_node node.serial) (with_state y) s.core.nodes)) →
-    Change label node.state y → Lawful s (record { label = label; state = t })
-walked s t label node o p x y w e up a b c d xn yn fits change =
-    let stack = up_stack node.serial node.state y node.stack (w.good.stacks node.serial node w.at) (λ z. xn (sym e ∙ z)) yn up in
-    lawful_walked s t label (with_state y) node (Operation.Removing o) p a b (c ∙ w.alone) d (λ x. refl) w.at stack
-    (fits (stacks_changed node.serial y node s.core.nodes w.good.stacks w.at stack)) change w.good
-
 -- The steps ----------------------------------------------------------------------------
 
 module _ (s : State) (o : Removal) (alone : s.activities ≡ []) (good : Good s.next_serial s.core.nodes [] (Some (Operation.Removing o))) where
@@ -125,26 +109,26 @@ module _ (s : State) (o : Removal) (alone : s.activities ≡ []) (good : Good s.
       fits_finish_on s.core.nodes o (rest o.todo) nodes same keeps.set keeps.rootless (rest_distinct o.todo keeps.todo) keeps.agreed (λ k h. keeps.asks k (rest_within k o.todo h)) stacks each
 
   rm_remains : (t : State) (node : Node) (problem : Problem) → first_node s.core.nodes o.todo ≡ Some node → t.next_serial ≡ s.next_serial → t.core.nodes ≡ changed_first (is_node node.serial) (with_problem (Some problem)) s.core.nodes → t.activities ≡ s.activities →
-      t.operation ≡ Some (Operation.Removing (finish_on s.core.nodes o (rest o.todo))) → RemovalKeeps o Settling s.core.nodes → Lawful s (record { label = Label.Trouble node.path problem; state = t })
+      t.operation ≡ Some (Operation.Removing (finish_on s.core.nodes o (rest o.todo))) → RemovalKeeps o Settling s.core.nodes → Lawful t
   rm_remains t node problem first a b c d keeps =
       lawful_remains s t (Operation.Removing o) _ node a c d (at_work s (Operation.Removing o) node alone first good) keeps.todo keeps.each problem b (next_fits (changed_first (is_node node.serial) (with_problem (Some problem)) s.core.nodes) keeps)
 
   -- the device leaves, and the one above it may be listed again
-  rm_leaves : (u : State) (node : Node) (label : Label) → first_node s.core.nodes o.todo ≡ Some node → u.next_serial ≡ s.next_serial → u.core.nodes ≡ without_first (is_node node.serial) s.core.nodes → u.activities ≡ s.activities →
-      u.operation ≡ Some (Operation.Removing (finish_on s.core.nodes o (rest o.todo))) → RemovalKeeps o Settling s.core.nodes → Lawful s (record { label = label; state = relist node.path node.born u })
-  rm_leaves u node label first a b c d keeps =
+  rm_leaves : (u : State) (node : Node) → first_node s.core.nodes o.todo ≡ Some node → u.next_serial ≡ s.next_serial → u.core.nodes ≡ without_first (is_node node.serial) s.core.nodes → u.activities ≡ s.activities →
+      u.operation ≡ Some (Operation.Removing (finish_on s.core.nodes o (rest o.todo))) → RemovalKeeps o Settling s.core.nodes → Lawful (relist node.path node.born u)
+  rm_leaves u node first a b c d keeps =
       let only = relist_only node.path node.born u in
-      lawful_leaves s (relist node.path node.born u) (Operation.Removing o) _ node (only.serial ∙ a) (only.activities ∙ c) (only.operation ∙ d) (at_work s (Operation.Removing o) node alone first good) keeps.todo keeps.each label (only.nodes ∙ b)
+      lawful_leaves s (relist node.path node.born u) (Operation.Removing o) _ node (only.serial ∙ a) (only.activities ∙ c) (only.operation ∙ d) (at_work s (Operation.Removing o) node alone first good) keeps.todo keeps.each (only.nodes ∙ b)
       (next_fits (without_first (is_node node.serial) s.core.nodes) keeps)
 
-  pub lawful_removal : (stage : RemovalStage) (m : RemovalMove) → RemovalKeeps o stage s.core.nodes → RemovalStep s.core o stage m → Lawful s (removal_lifted s m)
+  pub lawful_removal : (stage : RemovalStage) (m : RemovalMove) → RemovalKeeps o stage s.core.nodes → RemovalStep s.core o stage m → Lawful (removal_lifted s m).state
   lawful_removal stage m keeps (RemovalStep.agrees node w e ok) =
       let work = at_work s (Operation.Removing o) node alone e.first good in
       let j = node.serial in
       let here = head_has j o.todo work.head in
       let state = head_querying o.todo o.agreed o.set j node.state here (keeps.each j node work.at) in
       let not_rest = rest_not j o.todo work.head keeps.todo in
-      walked s _ _ node o _ Started RemovePending work state (not_root o.set o.todo j keeps.rootless keeps.asks.2 here) refl refl refl refl (λ e. cc) (λ e. cc)
+      lawful_ended s _ node (Operation.Removing o) _ Started RemovePending work state (not_root o.set o.todo j keeps.rootless keeps.asks.2 here) refl refl refl refl (λ e. cc) (λ e. cc)
       (λ stacks. fits_ask_on s.core.nodes (record o { agreed = j ∷ o.agreed }) (rest o.todo) (changed_first (is_node j) (with_state RemovePending) s.core.nodes)
       (λ k. stack_kept j k (with_state RemovePending) s.core.nodes (λ x. refl) (λ x. refl))
       keeps.set keeps.rootless
@@ -157,13 +141,12 @@ module _ (s : State) (o : Removal) (alone : s.activities ≡ []) (good : Good s.
       (Each_changed (querying_state o.todo o.agreed o.set) (querying_state (rest o.todo) (j ∷ o.agreed) o.set) j (with_state RemovePending) s.core.nodes node (λ x. refl) work.at
       (asked_here (rest o.todo) o.agreed o.set j not_rest)
       (λ k x d h. asked_there o.todo (rest o.todo) o.agreed o.set j k x d (rest_has j k o.todo work.head d) h) keeps.each))
-      (row node.path node.state Started RemovePending Minor.QueryRemove false state query_remove)
   lawful_removal stage m keeps (RemovalStep.refuses node w e bad) =
       let work = at_work s (Operation.Removing o) node alone e.first good in
       let j = node.serial in
       let here = head_has j o.todo work.head in
       let state = head_querying o.todo o.agreed o.set j node.state here (keeps.each j node work.at) in
-      walked s _ _ node o _ Started node.state work state (not_root o.set o.todo j keeps.rootless keeps.asks.2 here) refl refl refl refl (λ e. cc) (λ e. let z = state in cc)
+      lawful_ended s _ node (Operation.Removing o) _ Started node.state work state (not_root o.set o.todo j keeps.rootless keeps.asks.2 here) refl refl refl refl (λ e. cc) (λ e. let z = state in cc)
       (λ stacks. record {
         set = keeps.set;
         rootless = keeps.rootless;
@@ -174,41 +157,38 @@ module _ (s : State) (o : Removal) (alone : s.activities ≡ []) (good : Good s.
             Each_changed (querying_state o.todo o.agreed o.set) (refusing_state o.todo o.agreed) j (with_state node.state) s.core.nodes node (λ x. refl) work.at
             (refused_state o.todo o.agreed o.set j node.state (keeps.each j node work.at)) (λ k x d h. refused_state o.todo o.agreed o.set k x h) keeps.each;
       })
-      (inl refl)
   lawful_removal stage m keeps (RemovalStep.takes_back node w e) =
       let work = at_work s (Operation.Removing o) node alone e.first good in
       let j = node.serial in
       let here = head_has j o.todo work.head in
       let state = head_refusing o.todo o.agreed j node.state here (keeps.each j node work.at) in
-      walked s _ _ node o _ Started Started work state (not_root o.set o.todo j keeps.rootless keeps.asks.2 here) refl refl refl refl (λ e. cc) (λ e. cc)
+      lawful_ended s _ node (Operation.Removing o) _ Started Started work state (not_root o.set o.todo j keeps.rootless keeps.asks.2 here) refl refl refl refl (λ e. cc) (λ e. cc)
       (λ stacks. fits_cancel_on o o.agreed (changed_first (is_node j) (with_state Started) s.core.nodes) keeps.set keeps.rootless keeps.agreed keeps.agreed keeps.asks.1
       (Each_changed (refusing_state o.todo o.agreed) (restoring_state o.agreed) j (with_state Started) s.core.nodes node (λ x. refl) work.at
       (back_here o.todo o.agreed j here (keeps.asks.0 j))
       (λ k x d h. back_there o.todo o.agreed k x (keeps.asks.0 k) h) keeps.each))
-      (row node.path node.state Started Started Minor.CancelRemove false state cancel_remove_refused)
   lawful_removal stage m keeps (RemovalStep.cancels node w e) =
       let work = at_work s (Operation.Removing o) node alone e.first good in
       let j = node.serial in
       let here = head_has j o.todo work.head in
       let state = head_restoring o.todo j node.state here (keeps.each j node work.at) in
-      walked s _ _ node o _ RemovePending Started work state (not_root o.set o.todo j keeps.rootless keeps.asks here) refl refl refl refl (λ e. cc) (λ e. cc)
+      lawful_ended s _ node (Operation.Removing o) _ RemovePending Started work state (not_root o.set o.todo j keeps.rootless keeps.asks here) refl refl refl refl (λ e. cc) (λ e. cc)
       (λ stacks. fits_cancel_on o (rest o.todo) (changed_first (is_node j) (with_state Started) s.core.nodes) keeps.set keeps.rootless (rest_distinct o.todo keeps.todo) keeps.agreed
       (λ k h. keeps.asks k (rest_within k o.todo h))
       (Each_changed (restoring_state o.todo) (restoring_state (rest o.todo)) j (with_state Started) s.core.nodes node (λ x. refl) work.at
       (calm_restoring (rest o.todo) j (rest_not j o.todo work.head keeps.todo))
       (λ k x d h. rest_restoring o.todo k x (rest_has j k o.todo work.head d) h) keeps.each))
-      (row node.path node.state RemovePending Started Minor.CancelRemove false state cancel_remove)
   lawful_removal stage m keeps (RemovalStep.removes node w e) =
       let work = at_work s (Operation.Removing o) node alone e.first good in
       lawful_strips s _ (Operation.Removing o) _ node refl refl refl work (not_root o.set o.todo node.serial keeps.rootless keeps.asks (head_has node.serial o.todo work.head)) keeps.each refl
       (λ each. record { set = keeps.set; rootless = keeps.rootless; todo = keeps.todo; agreed = keeps.agreed; asks = keeps.asks; each = each })
   lawful_removal stage m keeps (RemovalStep.leaves node first inside) =
-      rm_leaves (set_operation (Some (Operation.Removing (finish_on s.core.nodes o (rest o.todo)))) (with_core (drop_node node.serial s.core) s)) node (Label.Leave node.path) first refl refl refl refl keeps
+      rm_leaves (set_operation (Some (Operation.Removing (finish_on s.core.nodes o (rest o.todo)))) (with_core (drop_node node.serial s.core) s)) node first refl refl refl refl keeps
   lawful_removal stage m keeps (RemovalStep.ejects node first) =
-      rm_leaves (unplug node.born (set_operation (Some (Operation.Removing (finish_on s.core.nodes o (rest o.todo)))) (with_core (drop_node node.serial s.core) s))) node (Label.Ejected node.path) first refl refl refl refl keeps
+      rm_leaves (unplug node.born (set_operation (Some (Operation.Removing (finish_on s.core.nodes o (rest o.todo)))) (with_core (drop_node node.serial s.core) s))) node first refl refl refl refl keeps
   lawful_removal stage m keeps (RemovalStep.disables node first over target) = rm_remains _ node Problem.Disabled first refl refl refl refl keeps
   lawful_removal stage m keeps (RemovalStep.remains node problem first over other) = rm_remains _ node problem first refl refl refl refl keeps
-  lawful_removal stage m keeps RemovalStep.closes = lawful_close s _ _ (Operation.Removing o) refl refl alone refl keeps.each good
+  lawful_removal stage m keeps RemovalStep.closes = lawful_close s _ (Operation.Removing o) refl refl alone refl keeps.each good
 
 -- The begin: no device of the set is Stopped -----------------------------------------------
 

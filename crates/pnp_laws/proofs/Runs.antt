@@ -1,17 +1,17 @@
--- Every run follows the diagram.
+-- Each step and each event keeps what a run keeps, and the opening state has it.
 use Rattle.std.proofs.Common.{ℕ, ◌≡◌, true, List, [], ◌∷◌, Some, refl, subst, arith}
 use Rattle.std.proofs.lemmas.Bool.Decides.{nat_tests}
 use Rattle.pnp_model.specs.Records.{Node, Driver, State, Step, Settings}
 use Rattle.pnp_model.specs.Cores.{node_at}
 use Rattle.pnp_laws.specs.Kept.{IsGood, Lawful, HasStackOf, is_calm}
-use Rattle.pnp_model.specs.Runs.{Entry, Goes, printed, opening, root_node}
+use Rattle.pnp_model.specs.Runs.{Entry, Goes, opening, root_node}
 use Rattle.pnp_laws.specs.RunsWell.{MayBegin}
 use Rattle.pnp_model.specs.Runs.Entry.{Happens, Did}
 use Rattle.pnp_laws.proofs.MachineSteps.{lawful_step}
 use Rattle.pnp_laws.proofs.EventSteps.{lawful_happens}
 
-pub lawful_goes : (settings : Settings) (old : State) (entry : Entry) (new : State) → MayBegin old → IsGood old → Goes settings old entry new → Lawful old (record { label = printed entry; state = new })
-lawful_goes settings old (Happens event label) new begins good h = subst (λ (t : Step). Lawful old t) h.1 (lawful_happens old event good)
+pub lawful_goes : (settings : Settings) (old : State) (entry : Entry) (new : State) → MayBegin old → IsGood old → Goes settings old entry new → Lawful new
+lawful_goes settings old (Happens event label) new begins good h = subst (λ (t : Step). Lawful t.state) h.1 (lawful_happens old event good)
 lawful_goes settings old (Did label) new begins good h = lawful_step settings old (record { label = label; state = new }) begins good h
 
 pub root_is : (k : ℕ) (n : Node) → node_at k (root_node ∷ []) ≡ Some n → (root_node ≡ n) × (k ≡ 0)

@@ -12,6 +12,8 @@ use Rattle.pnp_labels.specs.declared.label.Label.{Label}
 use Rattle.pnp_laws.specs.Words.{IsWord}
 use Rattle.pnp_laws.specs.Kept.{IsGood}
 use Rattle.pnp_laws.specs.RunsWell.{MayBegin}
+use Rattle.pnp_laws.proofs.DiagramSteps.{follows_effect}
+use Rattle.pnp_laws.proofs.EffectsOf.{effect_goes}
 use Rattle.pnp_laws.proofs.Runs.{lawful_goes, opening_is_good, root_is}
 use Rattle.pnp_laws.proofs.TreeMoves.{edge_cases}
 use Rattle.pnp_laws.proofs.Standing.{Stands}
@@ -105,7 +107,7 @@ first_goes settings old (Did label) new kept goes = (sound_step settings old (re
 pub every_run_follows : DiagramLaw
 every_run_follows settings rack entries old entry new run goes =
     let kept = reaches_kept settings rack entries old run in
-    ((lawful_goes settings old entry new (may_begin old kept) kept.good goes).diagram, walked_goes settings old entry new kept goes)
+    (follows_effect old (printed entry) new kept.good (effect_goes settings old entry new goes).nodes, walked_goes settings old entry new kept goes)
 
 pub dependents_go_first : DependentsLaw
 dependents_go_first settings rack entries old entry new run goes = first_goes settings old entry new (reaches_kept settings rack entries old run) goes

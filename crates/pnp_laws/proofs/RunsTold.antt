@@ -3,7 +3,6 @@ use Rattle.std.proofs.Common.{ℕ, ◌≡◌, ◌⊎◌, ◌&&◌, inl, inr, Boo
 use Rattle.pnp_labels.specs.Texts.{Text}
 use Rattle.pnp_labels.specs.declared.label.Label.{Label}
 use Rattle.pnp_labels.specs.declared.states.DevState.{DevState}
-use Rattle.pnp_labels.specs.declared.states.DevState.TheVariants.{NotStarted}
 use Rattle.pnp_labels.specs.declared.words.Minor.{Minor}
 use Rattle.std.specs.Option.{option_map}
 use Rattle.pnp_model.specs.Cores.{node_at}
@@ -17,9 +16,9 @@ use Rattle.pnp_model.specs.Records.Phase.{Starting, Removing}
 use Rattle.pnp_model.specs.Runs.{Entry, printed}
 use Rattle.pnp_model.specs.Walks.{has_ended, is_bad, may_fail, state_after}
 use Rattle.pnp_laws.specs.Effects.{Acting, DriverEffect, IsUnasked, OperationOwn, PhaseOwn, Request, operation_minor, phase_minor, todo_of}
-use Rattle.pnp_laws.specs.Kept.{Fits, IsGood, OperationFits}
+use Rattle.pnp_laws.specs.Kept.{IsGood}
 use Rattle.pnp_laws.specs.Told.{ChangesAt, IsWalkOf, StatesLaw}
-use Rattle.pnp_laws.proofs.Asked.{Rows, operation_asks, rows_as, start_rows}
+use Rattle.pnp_laws.proofs.Asked.{Rows, request_rows}
 use Rattle.pnp_laws.proofs.EffectsOf.{effect_goes}
 use Rattle.pnp_laws.proofs.EffectViews.{Turns, acting_at, state_from}
 use Rattle.pnp_laws.proofs.Lookups.{own_serial, some_same}
@@ -36,32 +35,26 @@ operation_front : (o : Operation) → operation_at o ≡ front (todo_of o)
 operation_front (Operation.Rebalancing o) = refl
 operation_front _ = refl
 
--- a request is on its way to its device, and the device has the state for it
+-- a request is on its way to its device
 record UnderWay (s : State) (node : Node) (minor : Minor) (w : Walk) : Type 0 where
   walk : IsWalkOf s node.serial w
   own : w.minor ≡ minor
-  rows : Rows minor node.state
 
 module _ (s : State) (good : IsGood s) (owns : HasOwn s) (node : Node) (there : node_at node.serial s.core.nodes ≡ Some node) where
   -- in the start of the device, whose phase asks this request
-  by_start : (phase : Phase) (w : Walk) (minor : Minor) → Acting s node.serial phase → phase_walk phase ≡ Some w → phase_minor phase ≡ Some minor → (Fits phase node.state → Rows minor node.state) → UnderWay s node minor w
-  by_start phase w minor acts walk is rows =
+  by_start : (phase : Phase) (w : Walk) (minor : Minor) → Acting s node.serial phase → phase_walk phase ≡ Some w → phase_minor phase ≡ Some minor → UnderWay s node minor w
+  by_start phase w minor acts walk is =
       let here = acting_at s node.serial phase good.order acts in
-      let at = good.phases node.serial here.activity here.at in
-      let same : at.0 ≡ node = some_same (node_at node.serial s.core.nodes) at.0 node at.1 there in
       let own : PhaseOwn phase = subst PhaseOwn here.is (phase_found PhaseOwn (is_activity node.serial) s.activities here.activity here.at owns.starts) in
       let of_walk : Some w.minor ≡ phase_minor phase = ap (λ (o : Option Walk). option_map (λ (v : Walk). v.minor) o) (sym walk) ∙ own in
       record {
         walk = IsWalkOf.starts here.activity acts.none here.at (ap phase_walk here.is ∙ walk);
         own = cc;
-        rows = rows (subst (λ (p : Phase). Fits p node.state) here.is (subst (λ (m : Node). Fits here.activity.phase m.state) same at.3));
       }
 
   under_way : (minor : Minor) (w : Walk) → Request s node minor w → UnderWay s node minor w
-  under_way _ _ (Request.starts w acts) =
-      by_start (Starting w) w Minor.Start acts refl refl (λ fits. rows_as Minor.Start NotStarted node.state fits start_rows)
-  under_way _ _ (Request.undoes w acts) =
-      by_start (Removing w) w Minor.Remove acts refl refl (λ fits. rows_as Minor.Remove NotStarted node.state fits (λ bad. Row.remove))
+  under_way _ _ (Request.starts w acts) = by_start (Starting w) w Minor.Start acts refl refl
+  under_way _ _ (Request.undoes w acts) = by_start (Removing w) w Minor.Remove acts refl refl
   under_way _ _ (Request.operates minor w asks) =
       let at_front : operation_at asks.operation ≡ Some node.serial = operation_front asks.operation ∙ front_is s.core.nodes (todo_of asks.operation) node asks.first in
       let own : OperationOwn asks.operation = subst RunsOwn asks.runs owns.operation in
@@ -70,7 +63,6 @@ module _ (s : State) (good : IsGood s) (owns : HasOwn s) (node : Node) (there : 
       record {
         walk = IsWalkOf.operates asks.operation asks.runs at_front asks.walk;
         own = cc;
-        rows = (operation_asks asks.operation s.core.nodes node minor (subst (λ (x : Option Operation). OperationFits x s.core.nodes) asks.runs good.fits) asks.first asks.minor_is).rows;
       }
 
 -- how a request ended is how its walk did
@@ -107,7 +99,7 @@ module _ (s : State) (entry : Entry) (t : State) (all : Kept s) (path : Text) (s
       let way = under_way s all.good owns node there minor w request in
       let ends_so : is_bad w ≡ bad = sym (ends_by_walk w minor way.own) ∙ verdict in
       let after : state_after w.minor (is_bad w) node.state ≡ state = ap (λ (m : Minor). state_after m (is_bad w) node.state) way.own ∙ ap (λ (b : Bool). state_after minor b node.state) ends_so ∙ same_after in
-      let rows : Rows w.minor node.state = subst (λ (m : Minor). Rows m node.state) (sym way.own) way.rows in (
+      let rows : Rows w.minor node.state = subst (λ (m : Minor). Rows m node.state) (sym way.own) (request_rows s all.good node there minor w request) in (
         w,
         subst (λ (i : ℕ). IsWalkOf s i w) k_is way.walk,
         subst (λ (x : Node). has_ended w (length x.stack) ≡ true) one ends,

@@ -15,6 +15,7 @@ use Rattle.pnp_laws.specs.Due.{AllDue}
 use Rattle.pnp_labels.specs.declared.label.Label.{Label}
 use Rattle.pnp_laws.specs.Effects.{AnswerEffect, CommandEffect, NodeEffect, Related}
 use Rattle.pnp_laws.specs.Words.{IsWord}
+use Rattle.pnp_laws.proofs.EffectViews.{acting_fits}
 use Rattle.pnp_laws.proofs.EffectsOfEvents.{event_effect}
 use Rattle.pnp_laws.proofs.EventChanges.{happens_outside, relations_stay, still_serial}
 use Rattle.pnp_laws.proofs.Lookups.{node_found}
@@ -28,7 +29,6 @@ use Rattle.pnp_laws.proofs.Sounds.{leads_pushed, up_append, up_first, due_still}
 use Rattle.pnp_laws.proofs.Finishes.{fades_same, finishes_still}
 use Rattle.pnp_laws.proofs.SoundOps.{MoreTasks, more_same, more_pushed, op_still}
 use Rattle.pnp_laws.proofs.IdleSteps.{MachineStep, machine_step}
-use Rattle.pnp_laws.proofs.MachineSteps.{acting_fits}
 use Rattle.pnp_laws.proofs.SoundStarts.{sound_act, stage_none}
 use Rattle.pnp_laws.proofs.SoundRebalances.{sound_rebalance}
 use Rattle.pnp_laws.proofs.SoundRemovals.{sound_removal, sound_surprise}
@@ -123,7 +123,7 @@ sound_step settings s step good h is = by_step step (machine_step settings s ste
         sound_operation s o x (subst (λ (y : Option Operation). Good s.next_serial s.core.nodes s.activities y) runs good) (subst (λ (y : Option Operation). StageKept y s.core) runs h.stage)
         (subst (λ (y : Option Operation). DueBut (waiting y) s.tasks s.core.nodes) runs h.due) h is
     by_step _ (MachineStep.starts node phase m at acting is) =
-        let fit = acting_fits s node phase at acting (calm acting.none) in
+        let fit = acting_fits s node.serial node phase at acting good in
         sound_act s node acting.none at fit.0 h phase m fit.1 good.serials is
     by_step _ (MachineStep.does x none is) = sound_task s x none (calm none) h is
 

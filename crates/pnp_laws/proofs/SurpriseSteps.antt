@@ -1,5 +1,5 @@
--- Each step of a surprise removal keeps what a run keeps and follows the diagram.
-use Rattle.std.proofs.Common.{ℕ, ◌≡◌, ◌≢◌, inr, Bool, true, false, List, [], ◌∷◌, Some, None, refl, ap, subst, arith}
+-- Each step of a surprise removal keeps what a run keeps.
+use Rattle.std.proofs.Common.{ℕ, ◌≡◌, ◌≢◌, Bool, true, false, List, [], ◌∷◌, Some, None, refl, ap, subst, arith}
 use Rattle.std.proofs.lemmas.Bool.Decides.{nat_tests}
 use Rattle.pnp_model.specs.Keyed.{changed_first, without_first, those}
 use Rattle.pnp_model.specs.Records.{Node, State, Operation, Surprise, SurpriseStage}
@@ -15,14 +15,13 @@ use Rattle.pnp_model.specs.Diagram.{Row}
 use Rattle.pnp_model.specs.Diagram.Row.{surprise_stopped, surprise}
 use Rattle.pnp_labels.specs.declared.states.DevState.{DevState}
 use Rattle.pnp_labels.specs.declared.words.Minor.{Minor}
-use Rattle.pnp_labels.specs.declared.label.Label.{Label}
 use Rattle.pnp_labels.specs.declared.states.Problem.{Problem}
 use Rattle.pnp_labels.specs.declared.states.DevState.TheVariants.{NoStack, NotStarted, Started, StopPending, Stopped, RemovePending, SurpriseRemoved}
 use Rattle.pnp_laws.proofs.Diagrams.{Each_changed, Each_same}
 use Rattle.pnp_laws.proofs.Lists.{HeadIs, head_has, rest_has, rest_not, rest_distinct, rest_within, those_has, those_distinct}
-use Rattle.pnp_laws.proofs.OpSteps.{lawful_walked, lawful_close, up_stack}
+use Rattle.pnp_laws.proofs.OpSteps.{lawful_close}
 use Rattle.pnp_laws.proofs.Finishing.{StacksFit, settle_each, remove_each, stack_kept, relist_only}
-use Rattle.pnp_laws.proofs.FinishSteps.{NextFits, at_work, begun_one, lawful_leaves, lawful_remains, lawful_strips, not_root, stacks_changed}
+use Rattle.pnp_laws.proofs.FinishSteps.{NextFits, at_work, begun_one, lawful_ended, lawful_leaves, lawful_remains, lawful_strips, not_root}
 use Rattle.pnp_laws.proofs.Stages.{SurpriseStep}
 
 -- What comes next keeps the facts
@@ -93,31 +92,28 @@ module _ (s : State) (o : Surprise) (alone : s.activities ≡ []) (good : Good s
   next_fits nodes keeps same stacks each =
       fits_finish_on s.core.nodes o (rest o.todo) nodes same keeps.set keeps.rootless keeps.last (rest_distinct o.todo keeps.todo) (λ k h. keeps.inside k (rest_within k o.todo h)) (rest_last o.target o.todo keeps.ends) stacks each
 
-  pub lawful_surprise : (in_world : Bool) (stage : SurpriseStage) (m : SurpriseMove) → SurpriseKeeps o stage s.core.nodes → SurpriseStep s.core o in_world stage m → Lawful s (surprise_lifted s m)
+  pub lawful_surprise : (in_world : Bool) (stage : SurpriseStage) (m : SurpriseMove) → SurpriseKeeps o stage s.core.nodes → SurpriseStep s.core o in_world stage m → Lawful (surprise_lifted s m).state
   lawful_surprise in_world stage m keeps (SurpriseStep.tells node w e) =
       let work = at_work s (Operation.Surprising o) node alone e.first good in
       let j = node.serial in
       let f = with_state SurpriseRemoved in
       let here = head_has j o.todo work.head in
       let told = told_or node.state (head_told o.todo o.set j node.state here (keeps.each j node work.at)) in
-      let up = not_root o.set o.todo j keeps.rootless keeps.inside here in
-      let stack = up_stack j node.state SurpriseRemoved node.stack (work.good.stacks j node work.at) told.1 (λ e. cc) up in
-      lawful_walked s _ (Label.State node.path SurpriseRemoved) f node (Operation.Surprising o) _ refl refl work.alone refl (λ x. refl) work.at stack
-      (fits_tell_on s.core.nodes o (rest o.todo) (changed_first (is_node j) f s.core.nodes)
+      lawful_ended s _ node (Operation.Surprising o) _ node.state SurpriseRemoved work refl (not_root o.set o.todo j keeps.rootless keeps.inside here) refl refl refl refl told.1 (λ e. cc)
+      (λ stacks. fits_tell_on s.core.nodes o (rest o.todo) (changed_first (is_node j) f s.core.nodes)
       (λ k. stack_kept j k f s.core.nodes (λ x. refl) (λ x. refl)) keeps.set keeps.rootless keeps.last (rest_distinct o.todo keeps.todo)
       (λ k h. keeps.inside k (rest_within k o.todo h))
-      (stacks_changed j SurpriseRemoved node s.core.nodes work.good.stacks work.at stack)
+      stacks
       (Each_changed (telling_state o.todo o.set) (telling_state (rest o.todo) o.set) j f s.core.nodes node (λ x. refl) work.at
       (told_here (rest o.todo) o.set j (rest_not j o.todo work.head keeps.todo) (keeps.inside j here))
       (λ k x d h. told_there o.todo (rest o.todo) o.set k x (rest_has j k o.todo work.head d) h) keeps.each))
-      (inr (refl, (Minor.SurpriseRemoval, false, told.0))) work.good
   lawful_surprise in_world stage m keeps (SurpriseStep.removes node w e) =
       let work = at_work s (Operation.Surprising o) node alone e.first good in
       lawful_strips s _ (Operation.Surprising o) _ node refl refl refl work (not_root o.set o.todo node.serial keeps.rootless keeps.inside (head_has node.serial o.todo work.head)) keeps.each refl
       (λ each. record { set = keeps.set; rootless = keeps.rootless; last = keeps.last; todo = keeps.todo; inside = keeps.inside; ends = keeps.ends; each = each })
   lawful_surprise in_world stage m keeps (SurpriseStep.leaves node first inside) =
       let only = relist_only node.path node.born (set_operation (Some (Operation.Surprising (finish_on s.core.nodes o (rest o.todo)))) (with_core (drop_node node.serial s.core) s)) in
-      lawful_leaves s _ (Operation.Surprising o) _ node only.serial only.activities only.operation (at_work s (Operation.Surprising o) node alone first good) keeps.todo keeps.each (Label.Leave node.path) only.nodes
+      lawful_leaves s _ (Operation.Surprising o) _ node only.serial only.activities only.operation (at_work s (Operation.Surprising o) node alone first good) keeps.todo keeps.each only.nodes
       (next_fits (without_first (is_node node.serial) s.core.nodes) keeps)
   lawful_surprise in_world stage m keeps (SurpriseStep.remains node first other over) =
       lawful_remains s _ (Operation.Surprising o) _ node refl refl refl (at_work s (Operation.Surprising o) node alone first good) keeps.todo keeps.each Problem.Held refl
@@ -126,9 +122,9 @@ module _ (s : State) (o : Surprise) (alone : s.activities ≡ []) (good : Good s
       let work = at_work s (Operation.Surprising o) node alone first good in
       let is : node.serial ≡ o.target = grind (arith, nat_tests) in
       let over = last_alone o.target o.todo (subst (λ (i : ℕ). HeadIs i o.todo) is work.head) keeps.ends in
-      lawful_close s _ _ (Operation.Surprising o) refl refl alone refl
+      lawful_close s _ (Operation.Surprising o) refl refl alone refl
       (Each_same (settling_state o.todo) (λ k x. is_calm x) s.core.nodes (λ k x h. alone_calm o.todo node.serial k x work.head over h) keeps.each) good
-  lawful_surprise in_world stage m keeps SurpriseStep.closes = lawful_close s _ _ (Operation.Surprising o) refl refl alone refl keeps.each good
+  lawful_surprise in_world stage m keeps SurpriseStep.closes = lawful_close s _ (Operation.Surprising o) refl refl alone refl keeps.each good
 
 -- The begin
 

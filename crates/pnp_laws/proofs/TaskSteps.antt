@@ -1,4 +1,4 @@
--- Each task keeps what a run keeps and follows the diagram; an operation begins only by `BeginsWell`.
+-- Each task keeps what a run keeps; an operation begins only by `BeginsWell`.
 use Rattle.std.proofs.Common.{ℕ, ◌≡◌, false, List, [], ◌∷◌, ◌++◌, Some, None, refl, sym, subst, arith}
 use Rattle.pnp_model.specs.Records.{Node, Device, Activity, State, Step, Operation}
 use Rattle.pnp_model.specs.Cores.{node_at, with_problem, new_node}
@@ -9,12 +9,11 @@ use Rattle.pnp_model.specs.Tasks.{begin, join_step, install}
 use Rattle.pnp_model.specs.Trees.{leaving}
 use Rattle.pnp_laws.specs.Kept.{BeginsWell, Good, IsGood, Lawful, Fits, OperationFits, OrderFits, is_calm, is_stopped}
 use Rattle.pnp_labels.specs.declared.states.DevState.{DevState}
-use Rattle.pnp_labels.specs.declared.label.Label.{Label}
 use Rattle.pnp_labels.specs.declared.label.OpKind.{OpKind}
 use Rattle.pnp_labels.specs.declared.states.DevState.TheVariants.{NoStack}
 use Rattle.pnp_laws.proofs.IdleSteps.{Bare, TaskStep}
 use Rattle.pnp_laws.proofs.Lookups.{entered_same, entered_other, InOrder-entered}
-use Rattle.pnp_laws.proofs.Diagrams.{diagram_same, diagram_joined, Each_joined}
+use Rattle.pnp_laws.proofs.Diagrams.{Each_joined}
 use Rattle.pnp_laws.proofs.Kept.{lawful_by, Good_joined, Good_nodes}
 use Rattle.pnp_laws.proofs.StartSteps.{lawful_changed}
 use Rattle.pnp_laws.proofs.RebalanceSteps.{fits_begun_rebalance}
@@ -22,27 +21,26 @@ use Rattle.pnp_laws.proofs.RemovalSteps.{fits_begun_removal}
 use Rattle.pnp_laws.proofs.SurpriseSteps.{fits_begun_surprise}
 
 -- only tasks, world and the like change
-pub unchanged : (s t : State) (label : Label) → t.next_serial ≡ s.next_serial → t.core.nodes ≡ s.core.nodes → t.activities ≡ s.activities → t.operation ≡ s.operation →
-    IsGood s → Lawful s (record { label = label; state = t })
-unchanged s t label a b c d good = lawful_by s t label s.next_serial s.core.nodes s.activities s.operation a b c d good (diagram_same label s.core.nodes)
+pub unchanged : (s t : State) → t.next_serial ≡ s.next_serial → t.core.nodes ≡ s.core.nodes → t.activities ≡ s.activities → t.operation ≡ s.operation →
+    IsGood s → Lawful t
+unchanged s t a b c d good = lawful_by t s.next_serial s.core.nodes s.activities s.operation a b c d good
 
 drivers_fit : (lower : List ℕ) (d : ℕ) (upper : List ℕ) → Fits (adding (lower ++ d ∷ upper)) NoStack
 drivers_fit [] d upper = refl
 drivers_fit (x ∷ lower) d upper = refl
 
 module _ (s : State) (none : s.operation ≡ None) (good : Good s.next_serial s.core.nodes s.activities None) where
-  joins : (node : Node) (d : Device) → Lawful s (join_step s node d)
+  joins : (node : Node) (d : Device) → Lawful (join_step s node d).state
   joins node d =
       let new = new_node s.next_serial node.serial d in
-      lawful_by s _ _ _ _ s.activities None refl refl refl none
+      lawful_by _ _ _ s.activities None refl refl refl none
       (Good_joined s.next_serial new s.core.nodes s.activities None refl refl (record { none = λ h. refl; some = λ u h. refl; root = λ z. absurd (let b = good.begun in omega arith) })
       (Each_joined (λ k x. is_calm x) new s.core.nodes refl good.fits) good)
-      (diagram_joined (Label.Join s.next_serial d.path) new s.core.nodes refl)
 
-  installs : (node : Node) (rank driver : ℕ) (drivers : List ℕ) → Bare s node → Fits (adding drivers) NoStack → Lawful s (install s node rank driver drivers)
+  installs : (node : Node) (rank driver : ℕ) (drivers : List ℕ) → Bare s node → Fits (adding drivers) NoStack → Lawful (install s node rank driver drivers).state
   installs node rank driver drivers b fit =
       let a : Activity = record { serial = node.serial; phase = adding drivers } in
-      lawful_changed s _ (Label.Install node.path rank _) (with_problem None) node (entered a s.activities) refl refl refl none (λ x. refl) b.at (good.stacks node.serial node b.at) (good.fits node.serial node b.at) refl
+      lawful_changed s _ (with_problem None) node (entered a s.activities) refl refl refl none (λ x. refl) b.at (good.stacks node.serial node b.at) (good.fits node.serial node b.at)
       (InOrder-entered 0 a s.activities (omega arith) good.order b.free)
       (λ k d. entered_other a k s.activities d)
       (λ x h.
@@ -52,24 +50,23 @@ module _ (s : State) (none : s.operation ≡ None) (good : Good s.next_serial s.
       good
 
   -- an operation begins
-  begins : (kind : OpKind) (node : Node) (o : Operation) → s.activities ≡ [] → OperationFits (Some o) s.core.nodes → Lawful s (begin s kind node o)
+  begins : (kind : OpKind) (node : Node) (o : Operation) → s.activities ≡ [] → OperationFits (Some o) s.core.nodes → Lawful (begin s kind node o).state
   begins kind node o alone fits =
-      lawful_by s _ (Label.Begin kind node.path) s.next_serial s.core.nodes [] (Some o) refl refl alone refl
+      lawful_by _ s.next_serial s.core.nodes [] (Some o) refl refl alone refl
       (Good_nodes s.next_serial s.core.nodes s.activities [] None (Some o) tt (λ k a g. absurd (cc)) refl fits good)
-      (diagram_same (Label.Begin kind node.path) s.core.nodes)
 
-  removes : (kind : OpKind) (node : Node) → s.activities ≡ [] → OrderFits node.serial (leaving s.core node.serial) → ((j : ℕ) (n : Node) → node_at j s.core.nodes ≡ Some n → is_stopped n.state ≡ false) → Lawful s (begin s kind node (Operation.Removing (begun_removal s.core kind node)))
+  removes : (kind : OpKind) (node : Node) → s.activities ≡ [] → OrderFits node.serial (leaving s.core node.serial) → ((j : ℕ) (n : Node) → node_at j s.core.nodes ≡ Some n → is_stopped n.state ≡ false) → Lawful (begin s kind node (Operation.Removing (begun_removal s.core kind node))).state
   removes kind node alone order settled =
       begins kind node _ alone (fits_begun_removal s kind node (leaving s.core node.serial) (record { distinct = order.distinct; rootless = order.rootless; none_stopped = λ k n h at. settled k n at }) good)
 
-  pub lawful_task : (step : Step) → IsGood s → BeginsWell s.core s.tasks → TaskStep s step → Lawful s step
-  lawful_task _ g well (TaskStep.skips kind k j first calm) = unchanged s _ _ refl refl refl refl g
-  lawful_task _ g well (TaskStep.misses k first gone) = unchanged s _ _ refl refl refl refl g
-  lawful_task _ g well (TaskStep.lists k node first) = unchanged s _ _ refl refl refl refl g
-  lawful_task _ g well (TaskStep.finds_gone node child gone) = unchanged s _ _ refl refl refl refl g
+  pub lawful_task : (step : Step) → IsGood s → BeginsWell s.core s.tasks → TaskStep s step → Lawful step.state
+  lawful_task _ g well (TaskStep.skips kind k j first calm) = unchanged s _ refl refl refl refl g
+  lawful_task _ g well (TaskStep.misses k first gone) = unchanged s _ refl refl refl refl g
+  lawful_task _ g well (TaskStep.lists k node first) = unchanged s _ refl refl refl refl g
+  lawful_task _ g well (TaskStep.finds_gone node child gone) = unchanged s _ refl refl refl refl g
   lawful_task _ g well (TaskStep.joins node d at up below) = joins node d
   lawful_task _ g well (TaskStep.troubles node problem b fine) =
-      lawful_changed s _ (Label.Trouble node.path problem) (with_problem (Some problem)) node s.activities refl refl refl none (λ x. refl) b.at (good.stacks node.serial node b.at) (good.fits node.serial node b.at) refl good.order
+      lawful_changed s _ (with_problem (Some problem)) node s.activities refl refl refl none (λ x. refl) b.at (good.stacks node.serial node b.at) (good.fits node.serial node b.at) good.order
       (λ k d. refl) (λ a h. absurd (let free = b.free in cc)) good
   lawful_task _ g well (TaskStep.installs node rank driver drivers b chosen) =
       installs node rank driver drivers b (subst (λ (ds : List ℕ). Fits (adding ds) NoStack) (sym chosen.all) (drivers_fit chosen.lower chosen.driver chosen.upper))

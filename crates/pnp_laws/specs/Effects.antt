@@ -53,11 +53,19 @@ todo_of (Operation.Rebalancing r) = r.todo
 todo_of (Operation.Removing o) = o.todo
 todo_of (Operation.Surprising o) = o.todo
 
--- those of them that may leave: a rebalance lets none leave
+-- those of them that may leave: where the operation settles who stays
+abbrev pub removal_leaves : RemovalStage → List ℕ → List ℕ
+removal_leaves RemovalStage.Settling todo = todo
+removal_leaves _ todo = []
+
+abbrev pub surprise_leaves : SurpriseStage → List ℕ → List ℕ
+surprise_leaves SurpriseStage.Settling todo = todo
+surprise_leaves _ todo = []
+
 abbrev pub to_leave : Operation → List ℕ
 to_leave (Operation.Rebalancing r) = []
-to_leave (Operation.Removing o) = o.todo
-to_leave (Operation.Surprising o) = o.todo
+to_leave (Operation.Removing o) = removal_leaves o.stage o.todo
+to_leave (Operation.Surprising o) = surprise_leaves o.stage o.todo
 
 -- what is asked in a stage
 abbrev pub rebalance_minor : RebalanceStage → Option Minor

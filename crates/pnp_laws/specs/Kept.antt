@@ -5,12 +5,11 @@ use Rattle.std.specs.List.{slice_get}
 use Rattle.pnp_model.specs.Trees.{leaving}
 use Rattle.pnp_model.specs.Cores.{node_at}
 use Rattle.pnp_model.specs.States.{activity_at}
-use Rattle.pnp_model.specs.Records.{Node, Core, Task, Activity, Phase, State, Step, Operation, Rebalance, RebalanceStage, Removal, RemovalStage, Surprise, SurpriseStage, Duty}
+use Rattle.pnp_model.specs.Records.{Node, Core, Task, Activity, Phase, State, Operation, Rebalance, RebalanceStage, Removal, RemovalStage, Surprise, SurpriseStage, Duty}
 use Rattle.pnp_model.specs.Records.Phase.{Adding, Searching, Starting, Removing, Due}
 use Rattle.pnp_labels.specs.declared.states.DevState.{DevState}
 use Rattle.pnp_labels.specs.declared.label.OpKind.{OpKind}
 use Rattle.pnp_labels.specs.declared.states.DevState.TheVariants.{NoStack, NotStarted, Started, StopPending, Stopped, RemovePending, SurpriseRemoved}
-use Rattle.pnp_model.specs.Diagram.{FollowsDiagram}
 
 -- Which state a device has --------------------------------------------------------
 
@@ -251,10 +250,9 @@ pub record Good (next : ℕ) (nodes : List Node) (activities : List Activity) (o
 abbrev pub IsGood : State → Type 0
 IsGood s = Good s.next_serial s.core.nodes s.activities s.operation
 
--- a step keeps what a run keeps, and follows the diagram
-pub record Lawful (old : State) (step : Step) : Type 0 where
-  pub good : IsGood step.state
-  pub diagram : FollowsDiagram step.label old.core.nodes step.state.core.nodes
+-- a step keeps what a run keeps, if it leads here
+pub record Lawful (t : State) : Type 0 where
+  pub good : IsGood t
 
 -- What the begin of an operation needs of the tree and of the tasks ------------------------
 
