@@ -1,5 +1,5 @@
 -- Lists whose keys ascend, and what a binary search finds there.
-use Rattle.std.proofs.Common.{◌≡◌, ℕ, zero, suc, ◌+◌, ◌<◌, ◌≤◌, ◌==◌, List, [], ◌∷◌, ◌++◌, length, get_or, map, position, Result, Ok, Err, remove, refl, sym, ap, subst, arith}
+use Rattle.std.proofs.Common.{◌≡◌, ℕ, zero, suc, ◌+◌, ◌-◌, ◌<◌, ◌≤◌, ◌==◌, List, [], ◌∷◌, ◌++◌, length, get_or, map, position, Result, Ok, Err, remove, refl, sym, ◌∙◌, ap, subst, length-append, arith}
 use Rattle.std.specs.Result.{result_ok}
 use Rattle.std.specs.List.{AllByRecursion}
 use Rattle.std.specs.List.Sorted.{IsSearchInRange, IsBinarySearchResult, IsNonDecreasingBy}
@@ -55,7 +55,7 @@ map-same [] = refl
 map-same (x ∷ xs) = ap (λ l. x ∷ l) (map-same xs)
 
 module _ (xs : List ℕ) (h : Ascends 0 xs) (k : ℕ) where
-  number_place : (r : Result ℕ ℕ) → IsSearchInRange r (length xs) → IsBinarySearchResult (λ x. nat_cmp x k) xs r → result_ok r ≡ position (λ x. x == k) xs
+  pub number_place : (r : Result ℕ ℕ) → IsSearchInRange r (length xs) → IsBinarySearchResult (λ x. nat_cmp x k) xs r → result_ok r ≡ position (λ x. x == k) xs
   number_place = search_place (λ x. x) xs (subst (Ascends 0) (sym (map-same xs)) h) k
 
   -- a number that a binary search found is taken out
@@ -72,3 +72,29 @@ ascends_push low (x ∷ xs) k h below le = (h.0, ascends_push (x + 1) xs k h.1 b
 pub ascends_lower : (low high : ℕ) (ks : List ℕ) → low ≤ high → Ascends high ks → Ascends low ks
 ascends_lower low high [] le h = tt
 ascends_lower low high (k ∷ ks) le h = (omega (arith, h.0), h.1)
+
+-- a number above the last one is above all
+below_last : (low : ℕ) (ks : List ℕ) (k d : ℕ) → Ascends low ks → 0 < length ks → get_or ks (length ks - 1) d < k → AllByRecursion (λ j. j < k) ks
+below_last low [] k d h some last = tt
+below_last low (x ∷ []) k d h some last = (last, tt)
+below_last low (x ∷ y ∷ ks) k d h some last =
+    let at : length (x ∷ y ∷ ks) - 1 ≡ suc (length (y ∷ ks) - 1) = omega arith in
+    let rest = below_last (x + 1) (y ∷ ks) k d h.1 (omega arith) (subst (λ n. get_or (x ∷ y ∷ ks) n d < k) at last) in
+    (let step = h.1.0 in let next = rest.0 in omega arith, rest)
+
+pub ascends_last : (ks : List ℕ) (k d : ℕ) → get_or ks (length ks - 1) d < k → Ascends 0 ks → Ascends 0 (ks ++ k ∷ [])
+ascends_last [] k d last h = (omega arith, tt)
+ascends_last (x ∷ xs) k d last h = ascends_push 0 (x ∷ xs) k h (below_last 0 (x ∷ xs) k d h (omega arith) last) (omega arith)
+
+pub ascends_removed : (low : ℕ) (ks : List ℕ) (i : ℕ) → Ascends low ks → Ascends low (remove ks i)
+ascends_removed low [] zero h = tt
+ascends_removed low [] (suc i) h = tt
+ascends_removed low (k ∷ ks) zero h = ascends_lower low (k + 1) ks (omega (arith, h.0)) h.1
+ascends_removed low (k ∷ ks) (suc i) h = (h.0, ascends_removed (k + 1) ks i h.1)
+
+-- the last of a list taken off again
+pub remove_last : {X : Type 0} (xs : List X) (x : X) → remove (xs ++ x ∷ []) (length (xs ++ x ∷ []) - 1) ≡ xs
+remove_last [] x = refl
+remove_last (y ∷ xs) x =
+    let at : length ((y ∷ xs) ++ x ∷ []) - 1 ≡ suc (length (xs ++ x ∷ []) - 1) = (let some = length-append xs (x ∷ []) in omega arith) in
+    ap (remove ((y ∷ xs) ++ x ∷ [])) at ∙ ap (λ l. y ∷ l) (remove_last xs x)

@@ -8,7 +8,7 @@ use Rattle.pnp_model.specs.Keyed.{changed_first}
 use Rattle.pnp_model.specs.Records.{Node}
 use Rattle.pnp_model.specs.Trees.{children}
 use Rattle.pnp_model.proofs.Keyed.{changed_first_at, changed_first_none}
-use Rattle.devnode_tree.specs.Entries.{Entry, nodes_of, tree_of, has_serial, changed_node, child_serials, IsKept}
+use Rattle.devnode_tree.specs.Entries.{Entry, nodes_of, tree_of, has_serial, changed_node, child_serials, births_in, IsKept}
 use Rattle.devnode_tree.specs.Trees.{Tree, IsTree, HasParent, changed}
 use Rattle.devnode_tree.proofs.KeyedMaps.{map-changed_first, map-changed_same, position-map}
 
@@ -23,6 +23,7 @@ pub record KeepsLinks (f : Node → Node) : Type 0 where
   pub serial : (n : Node) → (f n).serial ≡ n.serial
   pub parent : (n : Node) → (f n).parent ≡ n.parent
   pub path : (n : Node) → (f n).path ≡ n.path
+  pub born : (n : Node) → (f n).born ≡ n.born
 
 all_changed : {X : Type 0} (P : X → Type 0) (test : X → Bool) (f : X → X) → ((x : X) → P x → P (f x)) → (xs : List X)
     → AllByRecursion P xs → AllByRecursion P (changed_first test f xs)
@@ -82,6 +83,9 @@ module _ (f : Node → Node) (keeps : KeepsLinks f) where
     -- the entry at the place is written
     pub kept_set : (paths : List (List ℕ)) → IsKept paths es next → IsKept paths (set es i e) next
     kept_set paths h = subst (λ l. IsKept paths l next) (sym placed) (kept_changed paths es next k h)
+
+    pub births_set : (births : List ℕ) → births ≡ births_in es → births ≡ births_in (set es i e)
+    births_set births h = h ∙ sym (ap births_in placed ∙ map-changed_same (has_serial k) (λ (x : Entry). x.node.born) (changed_node f) (λ x. keeps.born x.node) es)
 
     pub seen_set : tree_of (set es i e) next ≡ changed k f (tree_of es next)
     seen_set = ap (λ l. tree_of l next) placed ∙ ap (nodes_tree next) (nodes_changed k es)

@@ -11,7 +11,7 @@ use Rattle.pnp_model.specs.Cores.{node_at, serials_of}
 use Rattle.pnp_model.specs.Keyed.{changed_first}
 use Rattle.pnp_model.specs.Records.{Node}
 use Rattle.pnp_model.specs.Tests.{has}
-use Rattle.devnode_tree.specs.Entries.{Entry, nodes_of, tree_of, has_serial, with_child, lone, child_serials, IsKept}
+use Rattle.devnode_tree.specs.Entries.{Entry, nodes_of, tree_of, has_serial, with_child, lone, births_in, child_serials, IsKept}
 use Rattle.devnode_tree.specs.Trees.{Tree, with_node, Ascends, HasParent, IsTree}
 use Rattle.devnode_tree.proofs.Ascending.{ascends_push}
 use Rattle.devnode_tree.proofs.KeyedMaps.{map-changed_same}
@@ -148,3 +148,9 @@ module _ (paths : List (List ℕ)) (es : List Entry) (next : ℕ) (h : IsKept pa
         ∙ (ap (λ l. l ++ [] ∷ []) (children_changed (λ l. l ++ n.serial ∷ []) n.parent (child_serials (nodes_of es)) (child_serials (nodes_of es ++ n ∷ [])) kids_elsewhere kids_here 0 es h.tree.ascends h.children_are)
         ∙ sym (map-append (child_serials (nodes_of es ++ n ∷ [])) (serials_of (nodes_of es)) (n.serial ∷ []) ∙ ap (λ l. map (child_serials (nodes_of es ++ n ∷ [])) (serials_of (nodes_of es)) ++ l ∷ []) kids_new)));
   }
+
+pub births_joined : (es : List Entry) (n : Node) (births : List ℕ) → births ≡ births_in es
+    → births ++ n.born ∷ [] ≡ births_in (changed_first (has_serial n.parent) (with_child n.serial) es ++ lone n ∷ [])
+births_joined es n births are =
+    ap (λ l. l ++ n.born ∷ []) (are ∙ sym (map-changed_same (has_serial n.parent) (λ (e : Entry). e.node.born) (with_child n.serial) (λ e. refl) es))
+    ∙ sym (map-append (λ (e : Entry). e.node.born) (changed_first (has_serial n.parent) (with_child n.serial) es) (lone n ∷ []))

@@ -7,19 +7,19 @@ use Rattle.resource_reqs.specs.Resources.{Res}
 use Rattle.devnode_tree.proofs.Changes.{KeepsLinks}
 
 pub keeps_state : (state : DevState) → KeepsLinks (with_state state)
-keeps_state state = record { serial = λ n. refl; parent = λ n. refl; path = λ n. refl }
+keeps_state state = record { serial = λ n. refl; parent = λ n. refl; path = λ n. refl; born = λ n. refl }
 
 pub keeps_problem : (problem : Option Problem) → KeepsLinks (with_problem problem)
-keeps_problem problem = record { serial = λ n. refl; parent = λ n. refl; path = λ n. refl }
+keeps_problem problem = record { serial = λ n. refl; parent = λ n. refl; path = λ n. refl; born = λ n. refl }
 
 pub keeps_holds : (holds : List Res) → KeepsLinks (with_holds holds)
-keeps_holds holds = record { serial = λ n. refl; parent = λ n. refl; path = λ n. refl }
+keeps_holds holds = record { serial = λ n. refl; parent = λ n. refl; path = λ n. refl; born = λ n. refl }
 
 pub keeps_drivers : (stack : List ℕ) → KeepsLinks (with_drivers stack)
-keeps_drivers stack = record { serial = λ n. refl; parent = λ n. refl; path = λ n. refl }
+keeps_drivers stack = record { serial = λ n. refl; parent = λ n. refl; path = λ n. refl; born = λ n. refl }
 
 pub keeps_stack : (stack : List ℕ) (state : DevState) → KeepsLinks (with_stack stack state)
-keeps_stack stack state = record { serial = λ n. refl; parent = λ n. refl; path = λ n. refl }
+keeps_stack stack state = record { serial = λ n. refl; parent = λ n. refl; path = λ n. refl; born = λ n. refl }
 
 pub keeps_bare : KeepsLinks bare
-keeps_bare = record { serial = λ n. refl; parent = λ n. refl; path = λ n. refl }
+keeps_bare = record { serial = λ n. refl; parent = λ n. refl; path = λ n. refl; born = λ n. refl }

@@ -13,7 +13,7 @@ use Rattle.pnp_model.specs.Records.{Node}
 use Rattle.pnp_model.specs.Tests.{has}
 use Rattle.pnp_model.specs.Trees.{children, is_child}
 use Rattle.pnp_model.proofs.Keyed.{without_first_at, without_first_none}
-use Rattle.devnode_tree.specs.Entries.{Entry, nodes_of, tree_of, has_serial, without_child, child_serials, IsKept}
+use Rattle.devnode_tree.specs.Entries.{Entry, nodes_of, tree_of, has_serial, without_child, births_in, child_serials, IsKept}
 use Rattle.devnode_tree.specs.Trees.{Tree, without_node, Ascends, HasParent, IsTree}
 use Rattle.devnode_tree.proofs.Ascending.{ascends_lower}
 use Rattle.devnode_tree.proofs.Changes.{nodes_tree, no_node}
@@ -159,3 +159,16 @@ none_left es seen is next k h = sym (ap (nodes_tree next) (without_first_none (i
 -- what a write through a slice of the whole leaves
 pub whole : {X : Type 0} (len : ℕ) (new old : List X) → length old ≡ len → length new ≡ length old → take len (new ++ drop (length new) old) ≡ new
 whole len new old l e = grind (arith, common_steps)
+
+-- the birth number of the node goes
+pub births_left : (es : List Entry) (k i parent : ℕ) (births : List ℕ) → births ≡ births_in es
+    → remove births i ≡ births_in (remove (changed_first (has_serial parent) (without_child k) es) i)
+births_left es k i parent births are =
+    ap (λ l. remove l i) (are ∙ sym (map-changed_same (has_serial parent) (λ (e : Entry). e.node.born) (without_child k) (λ e. refl) es))
+    ∙ sym (map-remove (λ (e : Entry). e.node.born) (changed_first (has_serial parent) (without_child k) es) i)
+
+pub place_in_births : (es seen : List Entry) → seen ≡ es → (k i : ℕ) → Some i ≡ position (has_serial k) seen → (births : List ℕ) → births ≡ births_in es → i < length births
+place_in_births [] seen is k i at births are = let none : Some i ≡ None = at ∙ ap (position (has_serial k)) is in absurd (cc)
+place_in_births (e ∷ es) seen is k i at births are =
+    let within = (position-Some (has_serial k) (e ∷ es) i e (sym (at ∙ ap (position (has_serial k)) is))).0 in
+    omega (arith, ap length are, length-map (e ∷ es) (λ (x : Entry). x.node.born))

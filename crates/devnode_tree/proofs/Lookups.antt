@@ -13,7 +13,7 @@ use Rattle.pnp_model.specs.Tests.{has}
 use Rattle.std.specs.Str.{bytes_eq}
 use Rattle.device_ids.specs.Folding.{folded, same}
 use Rattle.pnp_model.proofs.Keyed.{find_from_position, find_from_none}
-use Rattle.devnode_tree.specs.Entries.{Entry, nodes_of, has_serial, has_born, child_serials, IsKept}
+use Rattle.devnode_tree.specs.Entries.{Entry, nodes_of, has_serial, births_in, child_serials, IsKept}
 use Rattle.devnode_tree.specs.Trees.{HasParent}
 use Rattle.devnode_tree.proofs.KeyedMaps.{find-map, position-map, list_any-map}
 
@@ -71,17 +71,28 @@ no_children k serials h (n ∷ nodes) all = grind (arith, nat_tests, no_children
 pub children_missing : (k : ℕ) (nodes : List Node) → AllByRecursion (HasParent (serials_of nodes)) nodes → node_at k nodes ≡ None → child_serials nodes k ≡ []
 children_missing k nodes all h = no_children k (serials_of nodes) (has_none k nodes h) nodes all
 
-twice : {X Y Z : Type 0} (g : Y → Z) (f : X → Y) (o : Option X) → option_map g (option_map f o) ≡ option_map (λ x. g (f x)) o
-twice g f None = refl
-twice g f (Some x) = refl
+-- Births -------------------------------------------------------------------------
 
--- the first node with a birth number stands in the first entry with it
-pub born_is : (es seen : List Entry) → seen ≡ es → (born : ℕ) (o : Option Entry) → o ≡ find (has_born born) seen
-    → option_map (λ (e : Entry). e.node.serial) o ≡ option_map (λ (n : Node). n.serial) (node_born born (nodes_of es))
-born_is es seen is born o at =
-    ap (option_map (λ (e : Entry). e.node.serial)) (at ∙ ap (find (has_born born)) is)
-    ∙ (sym (twice (λ (n : Node). n.serial) (λ (e : Entry). e.node) (find (has_born born) es))
-    ∙ ap (option_map (λ (n : Node). n.serial)) (sym (find-map (λ (n : Node). n.born == born) (λ (e : Entry). e.node) es)))
+module _ (es : List Entry) (births : List ℕ) (are : births ≡ births_in es) (born : ℕ) where
+  born_place : position (λ b. b == born) births ≡ position (λ (n : Node). n.born == born) (nodes_of es)
+  born_place =
+      ap (position (λ b. b == born)) are
+      ∙ (sym (position-map (λ b. b == born) (λ (e : Entry). e.node.born) es) ∙ position-map (λ (n : Node). n.born == born) (λ (e : Entry). e.node) es)
+
+  pub born_missing : None ≡ position (λ b. b == born) births → node_born born (nodes_of es) ≡ None
+  born_missing absent = find_from_none (λ (n : Node). n.born == born) (nodes_of es) (sym (absent ∙ born_place))
+
+  module _ (i : ℕ) (at : Some i ≡ position (λ b. b == born) births) where
+    pub born_within : i < length es
+    born_within =
+        let within = (position-Some (λ b. b == born) births i 0 (sym at)).0 in
+        omega (arith, ap length are, length-map es (λ (e : Entry). e.node.born))
+
+    pub born_found : (d : Entry) → d ≡ get_or es i d → option_map (λ (n : Node). n.serial) (node_born born (nodes_of es)) ≡ Some d.node.serial
+    born_found d read =
+        let place = sym (at ∙ born_place) in
+        ap (option_map (λ (n : Node). n.serial)) (find_from_position (λ (n : Node). n.born == born) (nodes_of es) i d.node place)
+        ∙ ap (λ (n : Node). Some n.serial) (get_or-map (λ (e : Entry). e.node) es i d d.node born_within ∙ ap (λ (e : Entry). e.node) (sym read))
 
 -- Paths --------------------------------------------------------------------------
 

@@ -21,9 +21,6 @@ tree_of entries next = record { nodes = nodes_of entries; next = next }
 abbrev pub has_serial : ℕ → Entry → Bool
 has_serial k e = is_node k e.node
 
-abbrev pub has_born : ℕ → Entry → Bool
-has_born born e = e.node.born == born
-
 abbrev pub changed_node : (Node → Node) → Entry → Entry
 changed_node f e = record e { node = f e.node }
 
@@ -40,8 +37,17 @@ lone n = record { node = n; children = [] }
 abbrev pub child_serials : List Node → ℕ → List ℕ
 child_serials nodes k = serials_of (children k nodes)
 
+-- the birth numbers of the nodes
+abbrev pub births_in : List Entry → List ℕ
+births_in entries = map (λ e. e.node.born) entries
+
 -- the paths are those of the nodes, the nodes are a tree, and the children of each stand beside it
 pub record IsKept (paths : List (List ℕ)) (entries : List Entry) (next : ℕ) : Type 0 where
   pub paths_are : paths ≡ map (λ n. folded n.path) (nodes_of entries)
   pub tree : IsTree (tree_of entries next)
   pub children_are : map (λ e. e.children) entries ≡ map (child_serials (nodes_of entries)) (serials_of (nodes_of entries))
+
+-- and so are the birth numbers
+pub record IsIndexed (paths : List (List ℕ)) (births : List ℕ) (entries : List Entry) (next : ℕ) : Type 0 where
+  pub kept : IsKept paths entries next
+  pub births_are : births ≡ births_in entries

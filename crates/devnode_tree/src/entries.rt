@@ -1,12 +1,13 @@
-ghost use Rattle.std.specs.Prelude.{◌≡◌, ◌++◌, [], ◌∷◌, false, OnOk, OnErr, map, option_map, position};
-ghost use Rattle.std.specs.List.{list_any, find, All};
+ghost use Rattle.std.specs.Prelude.{◌≡◌, ◌++◌, [], ◌∷◌, false, OnOk, OnErr, map, position};
+ghost use Rattle.std.specs.List.{list_any, All};
 ghost use Rattle.std.specs.Str.{bytes_eq};
 ghost use Rattle.device_ids.specs.Folding.{folded};
 ghost use Rattle.pnp_model.specs.Cores.{serials_of};
 ghost use Rattle.pnp_model.specs.Keyed.{changed_first};
-ghost use Rattle.devnode_tree.specs.Entries.{nodes_of, has_serial, has_born, with_child, without_child, lone};
+ghost use Rattle.devnode_tree.specs.Entries.{nodes_of, has_serial, with_child, without_child, lone};
 ghost use Rattle.devnode_tree.specs.Trees.{Ascends};
 
+use crate::births::Births;
 use crate::entry::Entry;
 use crate::node::Node;
 use device_ids::WantOfMemory;
@@ -20,13 +21,6 @@ pub(crate) fn place_of(entries: &[Entry], serial: u64) -> Option<usize>
     entries
         .binary_search_by_key(&serial, |entry| entry.node.serial)
         .ok()
-}
-
-/// The first node with a birth number.
-pub(crate) fn first_born(entries: &[Entry], born: u64) -> Option<&Entry>
-    ensures { option_map (λ e. e.now) result ≡ find (has_born born) entries.now }
-{
-    entries.iter().find(|entry| entry.node.born == born)
 }
 
 /// Notes a child beside its parent.
@@ -52,9 +46,10 @@ pub(crate) fn forget_child(entries: &mut [Entry], parent: u64, serial: u64)
     }
 }
 
-/// Adds a node as the last, with its path, and notes it beside its parent.
+/// Adds a node as the last, with its path and birth number, and notes it beside its parent.
 pub(crate) fn add(
     paths: &mut IndexSet<Vec<u8>>,
+    births: &mut Births,
     entries: &mut Vec<Entry>,
     node: Node,
 ) -> Result<(), WantOfMemory>
@@ -63,13 +58,20 @@ pub(crate) fn add(
     ensures path { OnOk result (map (λ path. path.items) paths.new.keys ≡ map (λ path. path.items) paths.old.keys ++ folded node.path ∷ []) }
     ensures entry { OnOk result (entries.new.items ≡ changed_first (has_serial node.parent) (with_child node.serial) entries.old.items ++ lone node ∷ []) }
     ensures err { OnErr result (paths.new.keys ≡ paths.old.keys) }
+    ensures born { OnOk result (births.new ≡ births.old ++ node.born ∷ []) }
+    ensures births_err { OnErr result (births.new ≡ births.old) }
     ensures entries_err { OnErr result (entries.new.items ≡ entries.old.items) }
 {
     let alloc = *entries.allocator();
     let key = Vec::from_slice(alloc, node.path.folded())?;
     paths.reserve(1)?;
     entries.reserve(1)?;
-    note_child(entries, node.parent, node.serial)?;
+    births.push(node.born)?;
+    if let Err(want) = note_child(entries, node.parent, node.serial) {
+        let last = births.len() - 1;
+        births.remove(last);
+        return Err(want);
+    }
     let _ = paths.insert(key);
     let _ = entries.push(Entry {
         node,

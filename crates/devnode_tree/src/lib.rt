@@ -1,6 +1,7 @@
 //! The tree of device nodes: who stands below whom, and what each node is at.
 #![tactic(auto)]
 
+mod births;
 mod entries;
 mod entry;
 mod error;

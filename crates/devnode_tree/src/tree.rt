@@ -7,7 +7,8 @@ ghost use Rattle.pnp_model.specs.Runs.{root_node};
 ghost use Rattle.devnode_tree.specs.Entries.{child_serials};
 ghost use Rattle.devnode_tree.specs.Trees.{changed, with_node, without_node, CanLeave, IsTree};
 
-use crate::entries::{add, first_born, forget_child, place_of};
+use crate::births::Births;
+use crate::entries::{add, forget_child, place_of};
 use crate::entry::Entry;
 use crate::error::JoinError;
 use crate::node::{Node, fresh, root};
@@ -25,6 +26,8 @@ use std::marker::Model;
 pub struct Tree {
     /// The folded paths of the nodes, in the order of the entries.
     paths: IndexSet<Vec<u8>>,
+    /// The birth numbers of the nodes, in the order of the entries.
+    births: Births,
     entries: Vec<Entry>,
     next: u64,
 }
@@ -32,13 +35,13 @@ pub struct Tree {
 impl Model for Tree {
     ghost use Rattle.std.specs.Prelude.{map};
     ghost use Rattle.devnode_tree.specs.Trees.{Tree};
-    ghost use Rattle.devnode_tree.specs.Entries.{tree_of, IsKept};
+    ghost use Rattle.devnode_tree.specs.Entries.{tree_of, IsIndexed};
 
     ghost Value = { Tree };
 
     ghost view = { λ t. tree_of t.entries.items t.next };
 
-    ghost invariant = { λ t. IsKept (map (λ path. path.items) t.paths.keys) t.entries.items t.next };
+    ghost invariant = { λ t. IsIndexed (map (λ path. path.items) t.paths.keys) t.births t.entries.items t.next };
 }
 
 impl Tree {
@@ -48,16 +51,19 @@ impl Tree {
         ensures tree { IfOk result (λ t. IsTree t) }
     {
         let mut paths = IndexSet::new(alloc);
+        let mut births = Births::new(alloc);
         let mut entries = Vec::new(alloc);
         let node = root(alloc)?;
         let key = Vec::from_slice(alloc, node.path.folded())?;
         paths.insert(key)?;
+        births.push(node.born)?;
         entries.push(Entry {
             node,
             children: Vec::new(alloc),
         })?;
         Ok(Tree {
             paths,
+            births,
             entries,
             next: 1,
         })
@@ -94,7 +100,7 @@ impl Tree {
         let serial = self.next;
         let alloc = *self.entries.allocator();
         let node = fresh(alloc, serial, parent, born, path, hw, compat, reqs);
-        match add(&mut self.paths, &mut self.entries, node) {
+        match add(&mut self.paths, &mut self.births, &mut self.entries, node) {
             Ok(()) => {
                 self.next += 1;
                 Ok(serial)
@@ -113,6 +119,7 @@ impl Tree {
             let parent = self.entries[place].parent();
             forget_child(&mut self.entries, parent, serial);
             self.paths.shift_remove_index(place);
+            self.births.remove(place);
             self.entries.remove(place);
         }
     }
@@ -237,14 +244,13 @@ impl Tree {
     }
 
     /// The serial of the first node with a birth number, and none exactly where no node has it. It takes no memory.
-    /// Cost: the number of nodes.
+    /// Cost: the logarithm of the number of nodes, while each device that joined was born after the last one that was there;
+    /// else one look at the birth number of each.
     pub fn find_born(&self, born: u64) -> Option<u64>
         ensures { result ≡ option_map (λ n. n.serial) (node_born born self.now.nodes) }
     {
-        match first_born(&self.entries, born) {
-            Some(entry) => Some(entry.serial()),
-            None => None,
-        }
+        let place = self.births.find(born)?;
+        Some(self.entries[place].serial())
     }
 
     /// How many nodes there are, the root among them.

@@ -83,7 +83,7 @@ impl Devices {
     }
 
     /// The device of a path goes, with all below it, as `World::pull` says; the node of its parent is told. It takes no
-    /// memory. Cost: as `World::pull`, and the number of nodes.
+    /// memory. Cost: as `World::pull`, and that of `Tree::find_born`.
     pub(crate) fn pull(&mut self, path: &InstancePath) -> Result<Option<u64>, PullError>
         ensures { Departs self.old path.now result self.new }
     {
@@ -104,7 +104,7 @@ impl Devices {
     }
 
     /// Where the world has another device of a path than the one with the birth number, the node of its parent. Cost: the
-    /// length of the path, and where there is one the number of nodes.
+    /// length of the path, and where there is one that of `Tree::find_born`.
     pub(crate) fn relisted(&self, path: &InstancePath, born: u64) -> Option<u64>
         ensures { result ≡ relisted path.now born self.now }
     {
@@ -128,7 +128,7 @@ impl Devices {
 
     /// The first device that is to join below a node joins, and its serial and path are told; none where none is to.
     /// Conditions: the node is there, and fewer than 2^63 nodes joined. After want of memory all is as before. Cost: what
-    /// the device shows, and the number of nodes.
+    /// the device shows, and that of `Tree::find_born`.
     pub(crate) fn join_next(
         &mut self,
         alloc: Global,

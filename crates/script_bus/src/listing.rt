@@ -84,7 +84,7 @@ fn gone_below(
 /// Who joins below a node and which of its children are gone: the world children of its device, by birth number, for
 /// which no node has the birth number and none has the path, up to ASCII case; and its children, by serial, whose birth
 /// number is not in the world. Condition: the node is there. Cost: for each child the length of its path and the
-/// logarithm of the number of devices; for each that joins also the number of nodes. This project's own.
+/// logarithm of the number of devices; for each that joins also that of `Tree::find_born`. This project's own.
 pub fn difference(
     alloc: Global,
     world: &World,
@@ -119,7 +119,7 @@ fn first_join(world: &World, tree: &Tree, born: u64, from: u64) -> Option<u64>
 /// The first device that joins below a node, of those with at least this birth number, and none exactly where none of
 /// them joins. Who lists one device a step need not look again at those that did not join. Condition: the node is there.
 /// It takes no memory. Cost: for each child from that number on that does not join the length of its path and the
-/// logarithm of the number of devices; for the one that joins also the number of nodes. This project's own.
+/// logarithm of the number of devices; for the one that joins also that of `Tree::find_born`. This project's own.
 pub fn next_join(world: &World, tree: &Tree, serial: u64, from: u64) -> Option<u64>
     requires { IsSome (node_at serial tree.now.nodes) }
     ensures { IfSome (node_at serial tree.now.nodes) (λ n. result ≡ option_map (λ d. d.born) (find (joins_from from tree.now n) world.now.devices)) }

@@ -2,13 +2,16 @@ use Rattle.std.proofs.Common.{◌∙◌, ap, sym, option_map, []}
 use Rattle.std.specs.Option.{unwrap_or}
 use Rattle.pnp_model.specs.Cores.{bare}
 use Rattle.pnp_model.specs.Records.{Node}
-use Rattle.devnode_tree.proofs.Changes.{kept_set, seen_set, unchanged}
+use Rattle.devnode_tree.proofs.Changes.{kept_set, births_set, seen_set, unchanged}
 use Rattle.devnode_tree.proofs.Keeping.{keeps_bare}
 use Rattle.devnode_tree.proofs.Lookups.{node_found, node_missing}
 use Rattle.devnode_tree.proofs.tree.Tree.strip.Goals as goal
 
 pub invariant_of-self : goal.invariant_of-self
-invariant_of-self c = kept_set bare keeps_bare c.self.inside.entries.items c.deref.result.now c.deref.ensures.value c.self.inside.next c.args.serial c.in-Some.place c.in-Some.ensures c.index_mut.result.now c.strip.new.self c.index_mut.ensures.value c.strip.ensures.new _ c.self.invariant
+invariant_of-self c = record {
+  kept = kept_set bare keeps_bare c.self.inside.entries.items c.deref.result.now c.deref.ensures.value c.self.inside.next c.args.serial c.in-Some.place c.in-Some.ensures c.index_mut.result.now c.strip.new.self c.index_mut.ensures.value c.strip.ensures.new _ c.self.invariant.kept;
+  births_are = births_set bare keeps_bare c.self.inside.entries.items c.deref.result.now c.deref.ensures.value c.self.inside.next c.args.serial c.in-Some.place c.in-Some.ensures c.index_mut.result.now c.strip.new.self c.index_mut.ensures.value c.strip.ensures.new _ c.self.invariant.births_are;
+}
 
 pub returns-in-Some-clause-set : goal.returns-in-Some-clause-set
 returns-in-Some-clause-set c = rw (← c.self.view_is) (seen_set bare keeps_bare c.self.inside.entries.items c.deref.result.now c.deref.ensures.value c.self.inside.next c.args.serial c.in-Some.place c.in-Some.ensures c.index_mut.result.now c.strip.new.self c.index_mut.ensures.value c.strip.ensures.new)
