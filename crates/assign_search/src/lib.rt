@@ -19,4 +19,3 @@ pub use mover::Mover;
 pub use plan::{Found, Plan};
 pub use problem::{answer, answer_beside};
 pub use resource_reqs::WantOfMemory;
-

@@ -5,4 +5,3 @@ mod arbiter;
 
 pub use arbiter::NumberArbiter;
 pub use range_arbiter::{Kind, Owner, Res, Want, WantOfMemory};
-

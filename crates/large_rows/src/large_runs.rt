@@ -16,6 +16,7 @@ const INF: &[u8] = b"[Version]\nSignature=\"$Windows NT$\"\nDriverVer=01/01/2020
 const BEGIN: &[u8] = b"driver dev steady\nplug HTREE\\ROOT\\0 OWN\\DEV 0\n";
 
 /// Lines that differ in their numbers: the text before a number, that between it and the next, the first and the one behind the last.
+#[derive(Clone, Copy)]
 struct Lines {
     before: &'static [u8],
     between: &'static [u8],

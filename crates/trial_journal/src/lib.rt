@@ -4,4 +4,3 @@
 mod arbiters;
 
 pub use arbiters::Arbiters;
-
