@@ -1,5 +1,5 @@
--- The events of a script plug devices with at most 64 identifiers of each kind, and name drivers by words.
-use Rattle.std.proofs.Common.{ℕ, ◌+◌, ◌≤◌, ◌≡◌, ◌≢◌, Bool, true, false, cond, List, [], ◌∷◌, length, Option, Some, None, refl, subst, arith, nat_le}
+-- The events of a script plug devices with at most 64 identifiers of each kind and alternatives of at most 16 groups, and name drivers by words.
+use Rattle.std.proofs.Common.{ℕ, zero, suc, ◌+◌, ◌<◌, ◌≤◌, ◌≡◌, get_or, ◌≢◌, Bool, true, false, cond, List, [], ◌∷◌, length, Option, Some, None, refl, subst, arith, nat_le}
 use Rattle.std.proofs.lemmas.Bool.Decides.{nat_tests}
 use Rattle.std.specs.List.{AllByRecursion, list_all}
 use Rattle.device_ids.specs.Ids.{joined}
@@ -11,10 +11,13 @@ use Rattle.pnp_labels.specs.declared.label.EventWord.{EventWord}
 use Rattle.pnp_labels.specs.declared.label.EventWord.TheVariants as words
 use Rattle.script_reader.specs.Numbers.{◌>>=◌, only_if}
 use Rattle.script_reader.specs.Tables.{keyword_of, driver_kind_of, rel_kind_of, minor_of, ok_of}
-use Rattle.script_reader.specs.Wants.{at_most, all_of, id_of, ids_of}
+use Rattle.script_reader.specs.Wants.{at_most, all_of, group_of, list_of, id_of, ids_of}
 use Rattle.script_reader.specs.Words.{is_name, words_of}
 use Rattle.script_reader.specs.Lines.{event_of, event_by, plug_of, plugged, path_of, name_of, once, hw_of, compat_of, reqs_of, values, is_attribute, uses_by, rule_of, res_of}
 use Rattle.script_reader.specs.Script.{Meaning, nothing, means, bad, event_or_bad, is_comment, meaning_of, whole_line, last_line, Trace, gives, waits, ends, stops, onward, at_end, of_lines, trace}
+use Rattle.resource_reqs.specs.Resources.{AltList, Reqs}
+use Rattle.pnp_laws.specs.Held.{AreWithin}
+use Rattle.pnp_laws.specs.Needs.{IsEventWithin}
 use Rattle.pnp_machine.specs.Machines.{HasFewIds}
 use Rattle.pnp_cli.specs.Contents.{events_of}
 use Rattle.pnp_cli.specs.Lawful.{events_in}
@@ -26,7 +29,7 @@ NamesByWord (events.Name name kind) = name ≢ []
 NamesByWord _ = Unit {0}
 
 abbrev Fine : Event → Type 0
-Fine event = HasFewIds event × NamesByWord event
+Fine event = HasFewIds event × NamesByWord event × IsEventWithin 16 event
 
 abbrev Few : Option Event → Type 0
 Few None = Unit {0}
@@ -63,6 +66,49 @@ few_short : (o : Option (List (List ℕ))) (f : List (List ℕ) → Option Event
 few_short None f short h = tt
 few_short (Some ids) f short h = h ids short
 
+-- What a device needs -------------------------------------------------------------
+
+abbrev ShortList : Option AltList → Type 0
+ShortList None = Unit {0}
+ShortList (Some list) = length list ≤ 16
+
+abbrev Within : Option Reqs → Type 0
+Within None = Unit {0}
+Within (Some reqs) = AreWithin 16 reqs
+
+short_list : (o : Option AltList) → ShortList (at_most 16 o)
+short_list None = tt
+short_list (Some list) = by_test (nat_le (length list) 16) refl
+  where
+    by_test : (b : Bool) → nat_le (length list) 16 ≡ b → ShortList (only_if b list)
+    by_test true e = grind (arith, nat_tests)
+    by_test false e = tt
+
+one_more_within : (x : AltList) (xs : Reqs) → length x ≤ 16 → AreWithin 16 xs → (list : AltList) (k : ℕ) → k < length (x ∷ xs) → get_or (x ∷ xs) k list ≡ list → length list ≤ 16
+one_more_within x xs short within list zero less is = subst (λ (l : AltList). length l ≤ 16) is short
+one_more_within x xs short within list (suc k) less is = within list (k, omega arith, is)
+
+both_within : (o : Option AltList) (p : Option Reqs) → ShortList o → Within p → Within (o >>= (λ x. p >>= (λ xs. Some (x ∷ xs))))
+both_within None p short within = tt
+both_within (Some x) None short within = tt
+both_within (Some x) (Some xs) short within = λ list (k, less, is). one_more_within x xs short within list k less is
+
+all_within : (texts : List (List ℕ)) → Within (all_of list_of texts)
+all_within [] = λ list (k, less, is). let none : k < 0 = less in absurd (omega arith)
+all_within (text ∷ texts) = both_within (list_of text) (all_of list_of texts) (short_list (all_of group_of (parts 0x3B text))) (all_within texts)
+
+at_most_within : (o : Option Reqs) → Within o → Within (at_most 8 o)
+at_most_within None within = tt
+at_most_within (Some reqs) within = by_test (nat_le (length reqs) 8)
+  where
+    by_test : (b : Bool) → Within (only_if b reqs)
+    by_test true = within
+    by_test false = tt
+
+few_within : (o : Option Reqs) (f : Reqs → Option Event) → Within o → ((reqs : Reqs) → AreWithin 16 reqs → Few (f reqs)) → Few (o >>= f)
+few_within None f within h = tt
+few_within (Some reqs) f within h = h reqs within
+
 -- Names ---------------------------------------------------------------------------
 
 abbrev NotEmpty : Option (List ℕ) → Type 0
@@ -88,8 +134,9 @@ few_plugged parent device path attributes =
     (short_once (device ∷ []) (omega arith) (values (codes "hw=") attributes))
     (λ hw few_hw. few_short (compat_of attributes) (λ compat. reqs_of attributes >>= (λ reqs. only_if (list_all is_attribute attributes) (events.Plug parent path hw compat reqs)))
     (short_once [] (omega arith) (values (codes "compat=") attributes))
-    (λ compat few_compat. few_bind (reqs_of attributes) (λ reqs. only_if (list_all is_attribute attributes) (events.Plug parent path hw compat reqs))
-    (λ reqs. few_if (list_all is_attribute attributes) (events.Plug parent path hw compat reqs) ((few_hw, few_compat), tt))))
+    (λ compat few_compat. few_within (reqs_of attributes) (λ reqs. only_if (list_all is_attribute attributes) (events.Plug parent path hw compat reqs))
+    (at_most_within (all_of list_of (values (codes "need=") attributes)) (all_within (values (codes "need=") attributes)))
+    (λ reqs within. few_if (list_all is_attribute attributes) (events.Plug parent path hw compat reqs) ((few_hw, few_compat), tt, within))))
 
 few_plug : (ws : List (List ℕ)) → Few (plug_of ws)
 few_plug (parent ∷ device ∷ instance ∷ attributes) =
@@ -103,26 +150,26 @@ few_plug (a ∷ b ∷ []) = tt
 
 few_by : (word : EventWord) (ws : List (List ℕ)) → Few (event_by word ws)
 few_by words.Plug ws = few_plug ws
-few_by words.Pull (path ∷ []) = few_bind (path_of path) (λ path. Some (events.Pull path)) (λ path. (tt, tt))
-few_by words.Disable (path ∷ []) = few_bind (path_of path) (λ path. Some (events.Disable path)) (λ path. (tt, tt))
-few_by words.Enable (path ∷ []) = few_bind (path_of path) (λ path. Some (events.Enable path)) (λ path. (tt, tt))
-few_by words.Eject (path ∷ []) = few_bind (path_of path) (λ path. Some (events.Eject path)) (λ path. (tt, tt))
+few_by words.Pull (path ∷ []) = few_bind (path_of path) (λ path. Some (events.Pull path)) (λ path. (tt, tt, tt))
+few_by words.Disable (path ∷ []) = few_bind (path_of path) (λ path. Some (events.Disable path)) (λ path. (tt, tt, tt))
+few_by words.Enable (path ∷ []) = few_bind (path_of path) (λ path. Some (events.Enable path)) (λ path. (tt, tt, tt))
+few_by words.Eject (path ∷ []) = few_bind (path_of path) (λ path. Some (events.Eject path)) (λ path. (tt, tt, tt))
 few_by words.Name (name ∷ kind ∷ []) =
     few_word (name_of name) (λ name. driver_kind_of kind >>= (λ kind. Some (events.Name name kind))) (word_of name)
-    (λ name some. few_bind (driver_kind_of kind) (λ kind. Some (events.Name name kind)) (λ kind. (tt, some)))
+    (λ name some. few_bind (driver_kind_of kind) (λ kind. Some (events.Name name kind)) (λ kind. (tt, some, tt)))
 few_by words.Teach (name ∷ ask ∷ path ∷ answer ∷ uses) =
     few_bind (name_of name) (λ name. uses_by uses >>= (λ uses. rule_of ask path answer uses >>= (λ rule. Some (events.Teach name rule))))
     (λ name. few_bind (uses_by uses) (λ uses. rule_of ask path answer uses >>= (λ rule. Some (events.Teach name rule)))
-    (λ uses. few_bind (rule_of ask path answer uses) (λ rule. Some (events.Teach name rule)) (λ rule. (tt, tt))))
+    (λ uses. few_bind (rule_of ask path answer uses) (λ rule. Some (events.Teach name rule)) (λ rule. (tt, tt, tt))))
 few_by words.Relate (kind ∷ owner ∷ member ∷ []) =
     few_bind (rel_kind_of kind) (λ kind. path_of owner >>= (λ owner. path_of member >>= (λ member. Some (events.Relate kind owner member))))
     (λ kind. few_bind (path_of owner) (λ owner. path_of member >>= (λ member. Some (events.Relate kind owner member)))
-    (λ owner. few_bind (path_of member) (λ member. Some (events.Relate kind owner member)) (λ member. (tt, tt))))
-few_by words.Reserve (res ∷ []) = few_bind (res_of res) (λ res. Some (events.Reserve res)) (λ res. (tt, tt))
+    (λ owner. few_bind (path_of member) (λ member. Some (events.Relate kind owner member)) (λ member. (tt, tt, tt))))
+few_by words.Reserve (res ∷ []) = few_bind (res_of res) (λ res. Some (events.Reserve res)) (λ res. (tt, tt, tt))
 few_by words.Complete (path ∷ minor ∷ ok ∷ []) =
     few_bind (path_of path) (λ path. minor_of minor >>= (λ minor. ok_of ok >>= (λ ok. Some (events.Complete path minor ok))))
     (λ path. few_bind (minor_of minor) (λ minor. ok_of ok >>= (λ ok. Some (events.Complete path minor ok)))
-    (λ minor. few_bind (ok_of ok) (λ ok. Some (events.Complete path minor ok)) (λ ok. (tt, tt))))
+    (λ minor. few_bind (ok_of ok) (λ ok. Some (events.Complete path minor ok)) (λ ok. (tt, tt, tt))))
 few_by _ _ = tt
 
 few_event : (ws : List (List ℕ)) → Few (event_of ws)
@@ -192,6 +239,15 @@ few_lines finished passed (line ∷ next ∷ lines) = few_onward (passed + 1) (w
 
 pub few_ids : (finished : Bool) (passed : ℕ) (bytes : List ℕ) (number : ℕ) (event : Event) (rest : Trace) → trace finished passed bytes ≡ gives number event rest → HasFewIds event
 few_ids finished passed bytes number event rest is = (subst AllFine is (few_lines finished passed (parts 0x0A bytes))).0.0
+
+events_within : (t : Trace) → AllFine t → AllByRecursion (IsEventWithin 16) (events_in t)
+events_within (gives number event rest) h = (h.0.2, events_within rest h.1)
+events_within waits h = tt
+events_within ends h = tt
+events_within (stops number) h = tt
+
+pub script_within : (script : List ℕ) → AllByRecursion (IsEventWithin 16) (events_in (events_of script))
+script_within script = events_within (events_of script) (few_lines true 0 (parts 0x0A script))
 
 named_by_words : (t : Trace) → AllFine t → AllByRecursion NamesByWord (events_in t)
 named_by_words (gives number event rest) h = (h.0.1, named_by_words rest h.1)

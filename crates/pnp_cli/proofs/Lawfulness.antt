@@ -29,6 +29,8 @@ use Rattle.pnp_laws.proofs.RunsBegun.{operations_begin}
 use Rattle.pnp_laws.proofs.RunsEnds.{each_end_restores}
 use Rattle.pnp_laws.proofs.RunsConflict.{each_conflict_is_real}
 use Rattle.pnp_laws.proofs.JoinLimits.{joins_are_limited}
+use Rattle.pnp_laws.specs.Needs.{IsEntryWithin, IsEventWithin}
+use Rattle.pnp_laws.proofs.NodesPlugged.{needs_are_within}
 use Rattle.pnp_laws.proofs.TreePrints.{each_node_is_printed_once}
 use Rattle.script_reader.specs.Script.{Trace, gives, waits, ends, stops}
 use Rattle.inf_reader.specs.declared.parts.Inf.{Inf}
@@ -39,7 +41,7 @@ use Rattle.pnp_cli.specs.Contents.{events_of}
 use Rattle.pnp_cli.specs.Words.{settings_of}
 use Rattle.pnp_cli.specs.Lawful.{happened, events_in, IsStep, IsTold, SomeRun, OfRun, EachPassed, EachState, EachStep, OfScript, OfInfs, OfOutput, ByDiagram, NothingClashes, AllHoldWhole, OperationsBegan, EndsRestore, DependentsGoFirst, ConflictsAreReal, FewJoin, AllStatesTold, NodesAreKeyed, NothingOnItself, MapIsClear, AllStacksFit, NamesAreKnown, NobodyIsForgotten, EachHoldsPart, FewAreHeld, NamesAreShown, ShowsName, TreeIsWhole}
 use Rattle.pnp_cli.specs.declared.infs.InfsError.{InfsError}
-use Rattle.pnp_cli.proofs.FewIds.{NamesByWord, names_by_words}
+use Rattle.pnp_cli.proofs.FewIds.{NamesByWord, names_by_words, script_within}
 use Rattle.pnp_cli.specs.declared.parts.Settings.{Settings}
 
 -- What is printed is told by a run ---------------------------------------------------
@@ -221,10 +223,26 @@ unfolding Holds
 output_holds_parts words contents rack =
     of_output (EachState EachHoldsPart) rack (λ settings script text prints entries last told s state. each_holds_a_part settings rack state.earlier s state.before) words contents
 
+-- what the events of a run plug is within the limits of the script
+entries_within : (entries : List Entry) → AllByRecursion (IsEventWithin 16) (happened entries) → AllByRecursion (IsEntryWithin 16) entries
+entries_within [] h = tt
+entries_within (Happens event label ∷ rest) h = (h.0, entries_within rest h.1)
+entries_within (Did label ∷ rest) h = (tt, entries_within rest h)
+
+front_within : (xs ys : List Entry) → AllByRecursion (IsEntryWithin 16) (xs ++ ys) → AllByRecursion (IsEntryWithin 16) xs
+front_within [] ys h = tt
+front_within (x ∷ xs) ys h = (h.0, front_within xs ys h.1)
+
 pub output_holds_few : (words : List Text) (contents : Option (Text → Option (List ℕ))) (rack : List Driver) → OfOutput (EachPassed FewAreHeld) words contents rack
 unfolding Holds
 output_holds_few words contents rack =
-    of_output (EachPassed FewAreHeld) rack (λ settings script text prints entries last told s state. few_held settings rack state.earlier s state.before) words contents
+    of_output (EachPassed FewAreHeld) rack
+    (λ settings script text prints entries last told s state. (
+      needs_are_within settings rack state.earlier s state.before 16
+          (front_within state.earlier state.later (subst (λ (xs : List Entry). AllByRecursion (IsEntryWithin 16) xs) state.all
+          (entries_within entries (subst (λ (es : List Event). AllByRecursion (IsEventWithin 16) es) (sym told.events) (script_within script))))),
+      few_held settings rack state.earlier s state.before,
+    )) words contents
 
 pub output_tree : (words : List Text) (contents : Option (Text → Option (List ℕ))) (rack : List Driver) → OfOutput (EachState TreeIsWhole) words contents rack
 unfolding Holds

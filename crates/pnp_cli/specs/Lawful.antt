@@ -177,10 +177,10 @@ NobodyIsForgotten s = s.operation ≡ None → NobodyForgotten s
 abbrev pub EachHoldsPart : State → Type 0
 EachHoldsPart s = AllHoldParts s.core.nodes
 
--- where no alternative has more than some number of groups, at most one more than that number is held or reserved for each
--- event, and for the root
+-- no alternative of a device has more than 16 groups; and where none has more than some number, at most one more than that
+-- number is held or reserved for each event, and for the root
 abbrev pub FewAreHeld : List Entry → State → Type 0
-FewAreHeld earlier s = (most : ℕ) → NodesWithin most s.core.nodes → how_many s.core ≤ (most + 1) * (events earlier + 1)
+FewAreHeld earlier s = NodesWithin 16 s.core.nodes × ((most : ℕ) → NodesWithin most s.core.nodes → how_many s.core ≤ (most + 1) * (events earlier + 1))
 
 -- the name that is printed for it is not empty
 abbrev pub ShowsName : Label → Type 0

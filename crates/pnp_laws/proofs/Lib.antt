@@ -100,3 +100,4 @@ pub mod RunsStrays
 pub mod RunsHeld
 pub mod TreePrints
 pub mod NamesGiven
+pub mod NodesPlugged

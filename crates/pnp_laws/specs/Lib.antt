@@ -19,3 +19,4 @@ pub mod Printed
 pub mod Told
 pub mod Strays
 pub mod Held
+pub mod Needs

@@ -4,6 +4,7 @@ ghost use Rattle.pnp_laws.specs.Begun.{BegunLaw, EachConflictLaw, EachEndLaw};
 ghost use Rattle.pnp_laws.specs.Effects.{EffectLaw};
 ghost use Rattle.pnp_laws.specs.Ends.{SettlesLaw, JoinsLaw, FewJoinLaw};
 ghost use Rattle.pnp_laws.specs.Held.{FewHeldLaw, PartsLaw};
+ghost use Rattle.pnp_laws.specs.Needs.{NeedsLaw, PluggedLaw};
 ghost use Rattle.pnp_laws.specs.Keys.{KeysLaw, MapLaw, NoCycleLaw};
 ghost use Rattle.pnp_laws.specs.Printed.{GivenLaw, TreeLaw};
 ghost use Rattle.pnp_laws.specs.Quiet.{QuietLaw, StepLaw};
@@ -201,6 +202,18 @@ pub fn each_holds_a_part()
 /// for each event, and for the root.
 pub fn few_held()
     ensures { FewHeldLaw }
+{}
+
+/// In each state of each run each node but the root has the path, the identifiers and the requirements that an event of
+/// the run plugged together.
+#[tactic(auto, using(crate::proofs::NodesPlugged::nodes_are_plugged))]
+pub fn nodes_are_plugged()
+    ensures { PluggedLaw }
+{}
+
+/// So where no event of a run plugs an alternative of more than some number of groups, no node needs more.
+pub fn needs_are_within()
+    ensures { NeedsLaw }
 {}
 
 /// In each state of each run each node has one line under `tree`, and each line there is of a node.

@@ -47,7 +47,7 @@ module _ {A : Type 0} (P : A → Type 0) where
   mapped_have f keeps [] h = tt
   mapped_have f keeps (x ∷ xs) h = (keeps x h.0, mapped_have f keeps xs h.1)
 
-  one_more_has : (y : A) → P y → (xs : List A) → AllByRecursion P xs → AllByRecursion P (xs ++ y ∷ [])
+  pub one_more_has : (y : A) → P y → (xs : List A) → AllByRecursion P xs → AllByRecursion P (xs ++ y ∷ [])
   one_more_has y own [] h = (own, tt)
   one_more_has y own (x ∷ xs) h = (h.0, one_more_has y own xs h.1)
 

@@ -12,6 +12,7 @@ pub mod Arrivals
 pub mod Departures
 pub mod Joins
 pub mod RunLaws
+pub mod Groups
 pub mod Turns
 pub mod EndLines
 pub mod ActSteps

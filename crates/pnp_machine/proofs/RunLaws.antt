@@ -11,7 +11,9 @@ use Rattle.pnp_model.specs.Laws.{Reaches}
 use Rattle.pnp_model.specs.Runs.Entry.{Happens, Did}
 use Rattle.pnp_laws.specs.Ends.{events}
 use Rattle.pnp_laws.specs.Kept.{IsGood}
+use Rattle.pnp_laws.specs.Needs.{IsEntryWithin, IsEventWithin}
 use Rattle.pnp_laws.specs.Printed.{TreeIsPrinted}
+use Rattle.pnp_laws.proofs.NodesPlugged.{needs_are_within}
 use Rattle.pnp_laws.proofs.Reached.{reached_is_good}
 use Rattle.pnp_laws.proofs.Reaching.{run_on}
 use Rattle.pnp_laws.proofs.RunsBegun.{operations_begin}
@@ -33,7 +35,7 @@ use Rattle.pnp_machine.specs.Machines.{HasFewIds}
 use Rattle.pnp_machine.specs.Managers.{IsRunOf, IsOfRun, KeepsLaws, LawsOf}
 use Rattle.pnp_machine.specs.declared.manager.Moved.{Moved}
 use Rattle.pnp_machine.specs.declared.manager.Moved.TheVariants.{Label as Printed, Quiet}
-use Rattle.pnp_machine.proofs.Ids.{few_goes}
+use Rattle.pnp_machine.proofs.Ids.{few_goes, one_more_has}
 
 events_more : (xs : List Entry) (event : Event) (label : Label) → events (xs ++ Happens event label ∷ []) ≡ events xs + 1
 events_more [] event label = refl
@@ -53,8 +55,8 @@ module _ (told : Settings) (s t : State) where
   more_entries : (rack : List Driver) (xs : List Entry) (entry : Entry) → Reaches told rack xs s → Goes told s entry t → Reaches told rack (xs ++ entry ∷ []) t
   more_entries rack xs entry run goes = run_on told (opening rack) s t xs (entry ∷ []) run (t, goes, refl)
 
-  laws_of : (n : ℕ) → IsRunOf told n s → (entry : Entry) → n + events (entry ∷ []) ≤ 2 ^ 24 → Goes told s entry t → KeepsLaws told (printed entry) s t
-  laws_of n h entry most goes =
+  laws_of : (n : ℕ) → IsRunOf told n s → (entry : Entry) → n + events (entry ∷ []) ≤ 2 ^ 24 → IsEntryWithin 16 entry → Goes told s entry t → KeepsLaws told (printed entry) s t
+  laws_of n h entry most own goes =
       let follows = every_run_follows told h.rack h.entries s entry t h.reaches goes in
       let more = more_entries h.rack h.entries entry h.reaches goes in
       record {
@@ -63,7 +65,8 @@ module _ (told : Settings) (s t : State) where
         clear = nothing_clashes told h.rack (h.entries ++ entry ∷ []) t more;
         whole = all_hold_whole told h.rack (h.entries ++ entry ∷ []) t more;
         parts = each_holds_a_part told h.rack (h.entries ++ entry ∷ []) t more;
-        few = λ within.
+        few =
+            let within = needs_are_within told h.rack (h.entries ++ entry ∷ []) t more 16 (one_more_has (IsEntryWithin 16) entry own h.entries h.within) in
             let all = few_held told h.rack (h.entries ++ entry ∷ []) t more 16 within in
             let on = events_on h.entries entry in
             let count : events h.entries ≡ n = h.count in
@@ -90,17 +93,18 @@ module _ (told : Settings) (s t : State) where
           step : Label → State → Step
           step x y = record { label = x; state = y }
 
-  pub run_applied : (n : ℕ) (event : Event) (label : Label) → IsRunOf told n s → IsQuiet told s → IsDone (happens s event) label t → IsRunOf told (n + 1) t
-  run_applied n event label h quiet is =
+  pub run_applied : (n : ℕ) (event : Event) (label : Label) → IsRunOf told n s → IsEventWithin 16 event → IsQuiet told s → IsDone (happens s event) label t → IsRunOf told (n + 1) t
+  run_applied n event label h own quiet is =
       record {
         rack = h.rack;
         entries = h.entries ++ Happens event label ∷ [];
         reaches = more_entries h.rack h.entries (Happens event label) h.reaches (event_goes event label quiet is);
         count = events_more h.entries event label ∙ ap (λ k. k + 1) h.count;
+        within = one_more_has (IsEntryWithin 16) (Happens event label) own h.entries h.within;
       }
 
-  pub laws_applied : (n : ℕ) (event : Event) (label : Label) → IsRunOf told n s → n < 2 ^ 24 → IsQuiet told s → IsDone (happens s event) label t → KeepsLaws told label s t
-  laws_applied n event label h most quiet is = laws_of n h (Happens event label) (omega arith) (event_goes event label quiet is)
+  pub laws_applied : (n : ℕ) (event : Event) (label : Label) → IsRunOf told n s → n < 2 ^ 24 → IsEventWithin 16 event → IsQuiet told s → IsDone (happens s event) label t → KeepsLaws told label s t
+  laws_applied n event label h most own quiet is = laws_of n h (Happens event label) (omega arith) own (event_goes event label quiet is)
 
   pub run_stepped : (n : ℕ) (moved : Moved) → IsRunOf told n s → Moves told s moved t → IsRunOf told n t
   run_stepped n (Printed label) h steps =
@@ -109,11 +113,12 @@ module _ (told : Settings) (s t : State) where
         entries = h.entries ++ Did label ∷ [];
         reaches = more_entries h.rack h.entries (Did label) h.reaches steps;
         count = events_same h.entries label ∙ h.count;
+        within = one_more_has (IsEntryWithin 16) (Did label) tt h.entries h.within;
       }
   run_stepped n Quiet h (quiet, same) = subst (IsRunOf told n) (sym same) h
 
   pub laws_stepped : (n : ℕ) (moved : Moved) → IsRunOf told n s → n ≤ 2 ^ 24 → Moves told s moved t → LawsOf told moved s t
-  laws_stepped n (Printed label) h most steps = laws_of n h (Did label) (omega arith) steps
+  laws_stepped n (Printed label) h most steps = laws_of n h (Did label) (omega arith) tt steps
   laws_stepped n Quiet h most steps = tt
 
 pub of_run_good : (s : State) → IsOfRun s → IsGood s

@@ -1,5 +1,6 @@
 -- The manager as contracts see it, and what holds of its state and of each of its steps.
 use Rattle.std.specs.Prelude.{◌≡◌, ℕ, ◌<◌, ◌≤◌, ◌^◌, Bool, true, false, List, None, length}
+use Rattle.std.specs.List.{AllByRecursion}
 use Rattle.inf_reader.specs.declared.parts.Inf.{Inf}
 use Rattle.pnp_labels.specs.Texts.{Text}
 use Rattle.pnp_labels.specs.declared.label.Label.{Label}
@@ -10,8 +11,9 @@ use Rattle.pnp_model.specs.Records.{Driver, Settings, State}
 use Rattle.pnp_model.specs.Runs.{Entry}
 use Rattle.pnp_model.specs.Sharing.{Clear}
 use Rattle.pnp_laws.specs.Begun.{Belongs, Restoring, Conflicts}
-use Rattle.pnp_laws.specs.Held.{AllHoldParts, NodesWithin, how_many}
+use Rattle.pnp_laws.specs.Held.{AllHoldParts, how_many}
 use Rattle.pnp_laws.specs.Keys.{Keyed, IsAcyclic, NothingHeldClashes}
+use Rattle.pnp_laws.specs.Needs.{IsEntryWithin}
 use Rattle.pnp_laws.specs.Stacks.{NamesDriver, StacksFit}
 use Rattle.pnp_laws.specs.Strays.{NobodyForgotten}
 use Rattle.pnp_laws.specs.Told.{StatesTold}
@@ -33,12 +35,13 @@ pub record Manager : Type 0 where
 abbrev pub settings : Manager → Settings
 settings m = settings_of m.infs m.budget
 
--- a run of so many events leads to this state
+-- a run of so many events leads to this state, and no device was plugged with an alternative of more than 16 groups
 pub record IsRunOf (told : Settings) (events : ℕ) (s : State) : Type 0 where
   pub rack : List Driver
   pub entries : List Entry
   pub reaches : Reaches told rack entries s
   pub count : ends.events entries ≡ events
+  pub within : AllByRecursion (IsEntryWithin 16) entries
 
 -- some run leads to this state
 pub record IsOfRun (s : State) : Type 0 where
@@ -57,18 +60,18 @@ pub record IsManager (infs : List Inf) (budget events : ℕ) (s : State) : Type 
 
 -- what holds of each step and each event: states change by rows of the diagram, at the printed path alone and by the
 -- request that has just ended there; nothing clashes, devices that are up hold one whole alternative and all others one or
--- nothing, so that fewer than 2^29 resources are held or reserved where alternatives have at most 16 groups; dependents go
--- first; nodes are told apart, nothing depends on itself, no two of the printed resources clash, stacks are short and of
--- drivers with names, and such a name is printed where a driver is asked; where no operation runs, who was stopped, or
--- holds something and is not up, is being started or is due to go; and whatever run leads to it, what ends has begun in it,
--- a veto and a futile rebalance restore, and problem 12 is real
+-- nothing, so that fewer than 2^29 resources are held or reserved; dependents go first; nodes are told apart, nothing
+-- depends on itself, no two of the printed resources clash, stacks are short and of drivers with names, and such a name is
+-- printed where a driver is asked; where no operation runs, who was stopped, or holds something and is not up, is being
+-- started or is due to go; and whatever run leads to it, what ends has begun in it, a veto and a futile rebalance restore,
+-- and problem 12 is real
 pub record KeepsLaws (told : Settings) (label : Label) (old new : State) : Type 0 where
   pub diagram : FollowsDiagram label old.core.nodes new.core.nodes
   pub walked : Walked label old.core.nodes new.core.nodes
   pub clear : Clear new.core.reserved new.core.nodes
   pub whole : HoldsWhole new.core.nodes
   pub parts : AllHoldParts new.core.nodes
-  pub few : NodesWithin 16 new.core.nodes → how_many new.core < 2 ^ 29
+  pub few : how_many new.core < 2 ^ 29
   pub states : StatesTold label old new
   pub first : DependentsFirst label old.core new.core
   pub keyed : Keyed new

@@ -12,6 +12,7 @@ mod events;
 mod listing;
 mod machine;
 mod manager;
+mod needs;
 mod operation;
 mod starts;
 mod step_operation;

@@ -9,6 +9,7 @@ ghost use Rattle.pnp_machine.specs.Machines.{IsDone, Moves, HasFewIds};
 ghost use Rattle.pnp_machine.specs.Managers.{settings, IsRunOf, KeepsLaws, LawsOf, IfQuiet};
 
 use crate::machine::Machine;
+use crate::needs::needs_are_few;
 use device_ids::WantOfMemory;
 use devnode_tree::Tree;
 use driver_rack::Drivers;
@@ -84,6 +85,7 @@ impl<R: Drivers> Manager<R> {
         ensures run { OnOk result (IsRunOf (settings self.new) self.new.events self.new.state) }
         ensures err { OnErr result (self.new ≡ self.old) }
     {
+        needs_are_few(&event);
         let label = self.machine.apply(event)?;
         self.events += 1;
         Ok(label)

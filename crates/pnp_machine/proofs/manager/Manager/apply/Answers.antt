@@ -19,7 +19,7 @@ invariant_of-self-2 g c =
       spends = c.self.invariant.spends;
       happened = let e = ap (λ (m : Manager). m.events) c.self.view_is in let few = c.requires.events in omega arith;
       ids = few_applied (settings_of c.self.inside.infs.items c.self.inside.budget) _ _ c.self.invariant.ids c.args.event c.in_ok-label.label c.requires.ids quiet c.in_ok-label.ensures.done;
-      run = run_applied _ _ _ _ c.args.event c.in_ok-label.label c.self.invariant.run quiet c.in_ok-label.ensures.done;
+      run = run_applied _ _ _ _ c.args.event c.in_ok-label.label c.self.invariant.run c.needs_are_few.ensures quiet c.in_ok-label.ensures.done;
     }
 
 pub returns-clause-laws : goal.returns-clause-laws
@@ -27,9 +27,9 @@ returns-clause-laws g c =
     let quiet = subst (λ (m : Manager). IsQuiet (settings m) m.state) (sym c.self.view_is) c.requires.quiet in
     let e = ap (λ (m : Manager). m.events) c.self.view_is in
     let most = c.requires.events in
-    rw (← c.self.view_is) (laws_applied _ _ _ _ c.args.event c.in_ok-label.label c.self.invariant.run (omega arith) quiet c.in_ok-label.ensures.done)
+    rw (← c.self.view_is) (laws_applied _ _ _ _ c.args.event c.in_ok-label.label c.self.invariant.run (omega arith) c.needs_are_few.ensures quiet c.in_ok-label.ensures.done)
 
 pub returns-clause-run : goal.returns-clause-run
 returns-clause-run g c =
     let quiet = subst (λ (m : Manager). IsQuiet (settings m) m.state) (sym c.self.view_is) c.requires.quiet in
-    run_applied _ _ _ _ c.args.event c.in_ok-label.label c.self.invariant.run quiet c.in_ok-label.ensures.done
+    run_applied _ _ _ _ c.args.event c.in_ok-label.label c.self.invariant.run c.needs_are_few.ensures quiet c.in_ok-label.ensures.done

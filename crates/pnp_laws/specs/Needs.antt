@@ -1,0 +1,45 @@
+-- Whence what a device needs comes, and that no alternative has more groups than those that are plugged.
+use Rattle.std.specs.Prelude.{ℕ, ◌≡◌, ◌⊎◌, Contains, List, [], Some}
+use Rattle.std.specs.List.{AllByRecursion}
+use Rattle.resource_reqs.specs.Resources.{Reqs}
+use Rattle.pnp_labels.specs.Texts.{Text}
+use Rattle.pnp_labels.specs.declared.event.Event.{Event}
+use Rattle.pnp_labels.specs.declared.label.Label.{Label}
+use Rattle.pnp_model.specs.Cores.{node_at}
+use Rattle.pnp_model.specs.Laws.{Reaches}
+use Rattle.pnp_model.specs.Records.{Driver, Node, Settings, State}
+use Rattle.pnp_model.specs.Runs.{Entry, root_path}
+use Rattle.pnp_model.specs.Runs.Entry.{Happens, Did}
+use Rattle.pnp_laws.specs.Held.{AreWithin, NodesWithin}
+
+-- the root has these from the opening on
+pub record IsRoot (path : Text) (hw compat : List Text) (reqs : Reqs) : Type 0 where
+  pub path_is : path ≡ root_path
+  pub hw_is : hw ≡ []
+  pub compat_is : compat ≡ []
+  pub reqs_are : reqs ≡ []
+
+-- it is the root that has this path, these IDs and these requirements, or an event plugs a device with them
+abbrev pub IsSaid : List Entry → Text → List Text → List Text → Reqs → Type 0
+IsSaid entries path hw compat reqs = IsRoot path hw compat reqs ⊎ ((parent : Text) × (label : Label) × Contains entries (Happens (Event.Plug parent path hw compat reqs) label))
+
+-- in each state of a run so it is with each node
+abbrev pub PluggedLaw : Type 0
+PluggedLaw =
+    (settings : Settings) (rack : List Driver) (entries : List Entry) (s : State) → Reaches settings rack entries s
+    → (k : ℕ) (n : Node) → node_at k s.core.nodes ≡ Some n → IsSaid entries n.path n.hw n.compat n.reqs
+
+-- where a device is plugged, no alternative of its requirements has more groups
+abbrev pub IsEventWithin : ℕ → Event → Type 0
+IsEventWithin most (Event.Plug parent path hw compat reqs) = AreWithin most reqs
+IsEventWithin most _ = Unit {0}
+
+abbrev pub IsEntryWithin : ℕ → Entry → Type 0
+IsEntryWithin most (Happens event label) = IsEventWithin most event
+IsEntryWithin most (Did label) = Unit {0}
+
+-- so where no event of a run plugs more, no node of it needs more
+abbrev pub NeedsLaw : Type 0
+NeedsLaw =
+    (settings : Settings) (rack : List Driver) (entries : List Entry) (s : State) → Reaches settings rack entries s
+    → (most : ℕ) → AllByRecursion (IsEntryWithin most) entries → NodesWithin most s.core.nodes
