@@ -109,7 +109,6 @@ request_rows s good node at _ _ (Request.operates minor w asks) =
 
 -- who may leave has no drivers
 pub left_bare : (o : Operation) (nodes : List Node) (node : Node) → OperationFits (Some o) nodes → first_node nodes (to_leave o) ≡ Some node → node.state ≡ NoStack
-left_bare (Operation.Rebalancing r) nodes node fits first = absurd (cc)
 left_bare (Operation.Removing o) nodes node fits first = by_stage o.stage fits first
   where
     by_stage : (stage : RemovalStage) → RemovalKeeps o stage nodes → first_node nodes (removal_leaves stage o.todo) ≡ Some node → node.state ≡ NoStack
@@ -120,3 +119,4 @@ left_bare (Operation.Surprising o) nodes node fits first = by_stage o.stage fits
     by_stage : (stage : SurpriseStage) → SurpriseKeeps o stage nodes → first_node nodes (surprise_leaves stage o.todo) ≡ Some node → node.state ≡ NoStack
     by_stage SurpriseStage.Settling keeps head = let h = head_found nodes o.todo node head in head_bare o.todo node.serial node.state h.0 (keeps.each node.serial node h.1)
     by_stage _ keeps head = absurd (cc)
+left_bare _ nodes node fits first = absurd (cc)

@@ -68,9 +68,8 @@ with_closed o p RemovalStage.Settling k e = ap (λ (ks : List ℕ). has ks k) e
 with_closed o p _ k e = refl
 
 pub answer_closed : (answer : Answer) (o : Operation) (k : ℕ) → closed (Some (ev.completed answer o)) k ≡ closed (Some o) k
-answer_closed answer (Operation.Rebalancing r) k = refl
 answer_closed answer (Operation.Removing o) k = with_closed o (record o { stage = ev.completed_removal answer o.stage }) (ev.completed_removal answer o.stage) k refl ∙ stage_closed answer o o.stage k
-answer_closed answer (Operation.Surprising o) k = refl
+answer_closed answer _ k = refl
 
 -- What is known of a step --------------------------------------------------------------------------------
 

@@ -39,10 +39,9 @@ removal_closed o RemovalStage.Settling k = has o.set k
 removal_closed o RemovalStage.Ending k = false
 
 abbrev pub closed : Option Operation → ℕ → Bool
-closed None k = false
-closed (Some (Operation.Rebalancing r)) k = false
 closed (Some (Operation.Removing o)) k = removal_closed o o.stage k
 closed (Some (Operation.Surprising o)) k = has o.set k
+closed _ k = false
 
 abbrev pub is_bare : DevState → Bool
 is_bare NoStack = true

@@ -225,13 +225,10 @@ stays_plan s t None none now nodes ranges h = planned_as t None t.core.reserved 
 stays_plan s t (Some o) runs now nodes ranges h = planned_as t s.operation s.core.reserved s.core.nodes now (ranges_stay s t o runs ranges) nodes h
 
 goes_plan : (settings : Settings) (s : State) (label : Label) (t : State) (o p : Operation) → s.operation ≡ Some o → t.operation ≡ Some p → SameWork o p → Goes settings s (Did label) t → IsPlanned s → IsPlanned t
-goes_plan settings s label t (Operation.Removing o) p runs now work goes h =
-    planned_as t (Some p) t.core.reserved t.core.nodes now refl refl (other_plan (Operation.Removing o) p t.core.reserved t.core.nodes tt work)
-goes_plan settings s label t (Operation.Surprising o) p runs now work goes h =
-    planned_as t (Some p) t.core.reserved t.core.nodes now refl refl (other_plan (Operation.Surprising o) p t.core.reserved t.core.nodes tt work)
 goes_plan settings s label t (Operation.Rebalancing r) p runs now work goes h =
     planned_operation s (Operation.Rebalancing r) (record { label = label; state = t }) (subst (λ (x : Option Operation). PlanKept x s.core.reserved s.core.nodes) runs h)
     (operation_step settings s (Operation.Rebalancing r) (record { label = label; state = t }) runs goes)
+goes_plan settings s label t o p runs now work goes h = planned_as t (Some p) t.core.reserved t.core.nodes now refl refl (other_plan o p t.core.reserved t.core.nodes tt work)
 
 event_plan : (s : State) (label : Label) (t : State) {entry : Entry} → RangeEffect s entry t → AnswerEffect s label t → IsPlanned s → IsPlanned t
 event_plan s label t ranges (AnswerEffect.stays word nodes acts now) h = stays_plan s t s.operation refl now nodes ranges h

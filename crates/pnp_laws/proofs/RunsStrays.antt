@@ -184,8 +184,8 @@ module _ (s t : State) (was : Kept s) (now : Kept t) (k : ℕ) (n m : Node) (at 
             let found : activity_at r.target (entered new s.activities) ≡ Some new = entered_same new s.activities (subst (λ (i : ℕ). activity_at i s.activities ≡ None) (sym own) idle) in
             absurd (let here = subst (λ (i : ℕ). activity_at i t.activities ≡ Some new) own (subst (λ (x : List Activity). activity_at r.target x ≡ Some new) (sym e) found) in cc)
         by_end (inr down) own = inl (below_down none (subst (λ (i : ℕ). stands_up t.core.nodes i ≡ false) own down))
-    ends_spared (Operation.Removing o) runs none closes h = absurd (cc)
     ends_spared (Operation.Surprising o) runs none closes h = absurd (let bare_state = surprise_ends o runs closes h in cc)
+    ends_spared _ runs none closes h = absurd (cc)
 
     spared_on : (label : Label) → OpEffect s label t → has (spared_by s.operation) k ≡ true → IsSeen t k
     spared_on label (OpEffect.idles none after prints) h = absurd (let q = subst (λ (x : Option Operation). has (spared_by x) k ≡ true) none h in cc)

@@ -41,7 +41,6 @@ use Rattle.pnp_model.specs.Events as ev
 
 -- the operation's facts are of nodes and relations alone
 stage_same : (o : Option Operation) (c d : Core) → Ascending 0 c.nodes → d.nodes ≡ c.nodes → d.relations ≡ c.relations → StageKept o c → StageKept o d
-stage_same None c d order a b h = tt
 stage_same (Some (Operation.Rebalancing r)) c d order a b h = (h.0, subst (λ (x : List Node). RebalanceThere r r.stage x) (sym a) h.1)
 stage_same (Some (Operation.Removing o)) c d order a b h = (by_stage o.stage h.0, subst (λ (x : List Node). RemovalThere o o.stage x) (sym a) h.1)
   where
@@ -65,6 +64,7 @@ stage_same (Some (Operation.Surprising o)) c d order a b h = (by_stage o.stage h
     by_stage (SurpriseStage.Removing w) h = moved o.todo h
     by_stage SurpriseStage.Settling h = moved o.todo h
     by_stage SurpriseStage.Ending h = moved [] h
+stage_same _ c d order a b h = tt
 
 -- an answer leaves them as they are, and who waits
 completed_rebalance : (answer : Answer) (nodes : List Node) (r : Rebalance) (stage : RebalanceStage) → (OrderKept r stage × RebalanceThere r stage nodes →
@@ -90,8 +90,7 @@ completed_stage answer (Operation.Surprising o) c h = completed_surprise answer 
 
 completed_waiting : (answer : Answer) (nodes : List Node) (o : Operation) → waiting (Some (ev.completed answer o)) ≡ waiting (Some o)
 completed_waiting answer nodes (Operation.Rebalancing r) = (completed_rebalance answer nodes r r.stage).1
-completed_waiting answer nodes (Operation.Removing o) = refl
-completed_waiting answer nodes (Operation.Surprising o) = refl
+completed_waiting answer nodes _ = refl
 
 -- Steps --------------------------------------------------------------------------------------------
 

@@ -60,10 +60,9 @@ rebalance_waiting r RebalanceStage.Ending = []
 rebalance_waiting r _ = []
 
 abbrev pub waiting : Option Operation → List ℕ
-waiting None = []
 waiting (Some (Operation.Rebalancing r)) = rebalance_waiting r r.stage
-waiting (Some (Operation.Removing o)) = []
 waiting (Some (Operation.Surprising o)) = o.set
+waiting _ = []
 
 -- those still to ask fall, and are below those that agreed, which rise
 pub record Ordered (todo agreed : List ℕ) : Type 0 where
@@ -146,10 +145,10 @@ SurpriseThere o SurpriseStage.Settling nodes = Goes o.todo nodes × (has o.todo 
 SurpriseThere o SurpriseStage.Ending nodes = node_at o.target nodes ≡ None
 
 abbrev pub StageKept : Option Operation → Core → Type 0
-StageKept None c = Unit {0}
 StageKept (Some (Operation.Rebalancing r)) c = OrderKept r r.stage × RebalanceThere r r.stage c.nodes
 StageKept (Some (Operation.Removing o)) c = RemovalOrder c o o.stage × RemovalThere o o.stage c.nodes
 StageKept (Some (Operation.Surprising o)) c = SurpriseOrder c o o.stage × SurpriseThere o o.stage c.nodes
+StageKept _ c = Unit {0}
 
 pub record Stands (s : State) : Type 0 where
   pub tree : Tree s.next_serial s.core

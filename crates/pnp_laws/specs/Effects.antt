@@ -63,9 +63,9 @@ surprise_leaves SurpriseStage.Settling todo = todo
 surprise_leaves _ todo = []
 
 abbrev pub to_leave : Operation → List ℕ
-to_leave (Operation.Rebalancing r) = []
 to_leave (Operation.Removing o) = removal_leaves o.stage o.todo
 to_leave (Operation.Surprising o) = surprise_leaves o.stage o.todo
+to_leave _ = []
 
 -- what is asked in a stage
 abbrev pub rebalance_minor : RebalanceStage → Option Minor
@@ -276,8 +276,7 @@ begun c OpKind.Surprise node = Operation.Surprising (begun_surprise c node)
 abbrev pub BeginsFor : State → OpKind → Node → Type 0
 BeginsFor s OpKind.Rebalance node = (node.state ≡ NotStarted) × (activity_at node.serial s.activities ≡ None)
 BeginsFor s OpKind.Disable node = has_same node.path s.disabled ≡ false
-BeginsFor s OpKind.Eject node = Unit {0}
-BeginsFor s OpKind.Surprise node = Unit {0}
+BeginsFor s _ node = Unit {0}
 
 pub record SameWork (o p : Operation) : Type 0 where
   pub sort : is_removal p ≡ is_removal o
@@ -307,9 +306,9 @@ pub data AnswerEffect (s : State) (label : Label) (t : State) : Type 0 where
 abbrev pub Closes : State → Operation → State → Type 0
 Closes s (Operation.Rebalancing r) t =
     ((phase : Phase) × (t.activities ≡ entered (record { serial = r.target; phase = phase }) s.activities)) ⊎ (stands_up t.core.nodes r.target ≡ false)
-Closes s (Operation.Removing o) t = Unit {0}
 Closes s (Operation.Surprising o) t =
     (o.stage ≡ SurpriseStage.Ending) ⊎ ((o.stage ≡ SurpriseStage.Settling) × (node : Node) × (first_node s.core.nodes o.todo ≡ Some node) × (node.serial ≡ o.target))
+Closes s _ t = Unit {0}
 
 -- in a step none runs; or one begins, goes on, or ends
 pub data OpEffect (s : State) (label : Label) (t : State) : Type 0 where

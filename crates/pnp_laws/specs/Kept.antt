@@ -265,8 +265,7 @@ pub record OrderFits (target : ℕ) (set : List ℕ) : Type 0 where
 abbrev pub removes : OpKind → Bool
 removes OpKind.Disable = true
 removes OpKind.Eject = true
-removes OpKind.Rebalance = false
-removes OpKind.Surprise = false
+removes _ = false
 
 pub record BeginsWell (c : Core) (tasks : List Task) : Type 0 where
   -- the root is no target

@@ -1,5 +1,5 @@
 -- What is kept of a plan that was found: it fits until it is used, and then the device of the rebalance holds its part.
-use Rattle.std.specs.Prelude.{◌≡◌, ◌++◌, true, false, List, Option, Some, None, map}
+use Rattle.std.specs.Prelude.{◌≡◌, ◌++◌, true, false, List, Option, Some, map}
 use Rattle.resource_reqs.specs.Resources.{Res, IsAssignment}
 use Rattle.pnp_model.specs.Cores.{node_at}
 use Rattle.pnp_model.specs.Frames.{held_by, is_beside}
@@ -24,10 +24,8 @@ StagePlan r RebalanceStage.Ending reserved nodes = has_plan r.found ≡ true →
 StagePlan r _ reserved nodes = Unit {0}
 
 abbrev pub PlanKept : Option Operation → List Res → List Node → Type 0
-PlanKept None reserved nodes = Unit {0}
 PlanKept (Some (Operation.Rebalancing r)) reserved nodes = StagePlan r r.stage reserved nodes
-PlanKept (Some (Operation.Removing o)) reserved nodes = Unit {0}
-PlanKept (Some (Operation.Surprising o)) reserved nodes = Unit {0}
+PlanKept _ reserved nodes = Unit {0}
 
 abbrev pub IsPlanned : State → Type 0
 IsPlanned s = PlanKept s.operation s.core.reserved s.core.nodes

@@ -33,15 +33,14 @@ path_of (Operation.Surprising o) = o.path
 
 abbrev pub is_removal : Operation → Bool
 is_removal (Operation.Removing o) = true
-is_removal (Operation.Rebalancing r) = false
-is_removal (Operation.Surprising o) = false
+is_removal _ = false
 
 -- who may hold something as long as the operation runs, though nothing else is to come of it: the device of a rebalance,
 -- and those that a surprise removal takes
 abbrev pub spared : Operation → List ℕ
 spared (Operation.Rebalancing r) = r.target ∷ []
-spared (Operation.Removing o) = []
 spared (Operation.Surprising o) = o.set
+spared _ = []
 
 -- it is not problem 12
 abbrev pub NotTwelve : Problem → Type 0
