@@ -4,3 +4,4 @@ pub mod Changes
 pub mod Leaving
 pub mod Found
 pub mod Joining
+pub mod Births

@@ -1,9 +1,9 @@
-ghost use Rattle.std.specs.Prelude.{◌≡◌, ◌&&◌, not, IfOk, IfSome, IsSome, IsTrue, nat_le, find, option_map};
+ghost use Rattle.std.specs.Prelude.{◌≡◌, ◌≤◌, ◌<◌, ◌&&◌, ℕ, not, IfOk, IfSome, IsSome, IsTrue, nat_le, find, get_or, length, option_map};
 ghost use Rattle.pnp_model.specs.Cores.{node_at};
 ghost use Rattle.pnp_model.specs.Keyed.{those};
 ghost use Rattle.pnp_model.specs.Tasks.{has_born, has_path, joins};
 ghost use Rattle.script_bus.specs.Differences.{joins_of, gone_of, joins_from, is_new_born, is_lost_serial};
-ghost use Rattle.devnode_tree.specs.Trees.{IsTree};
+ghost use Rattle.devnode_tree.specs.Trees.{Ascends, IsTree};
 ghost use Rattle.script_bus.specs.Worlds.{births_of};
 
 use crate::change::Difference;
@@ -103,14 +103,33 @@ pub fn difference(
     Ok(Difference { joins, gone })
 }
 
+/// How many ascending numbers are below one; they stand in front. Cost: the logarithm of their number.
+fn below_in(numbers: &[u64], from: u64) -> usize
+    requires { Ascends 0 numbers.now }
+    ensures within { result ≤ length numbers.now }
+    ensures below { (k d : ℕ) → k < result → get_or numbers.now k d < from }
+{
+    numbers.partition_point(|number| *number < from)
+}
+
+/// Whether a device of the world has at least a birth number and is new to the tree.
+fn is_new_from(world: &World, tree: &Tree, from: u64, born: u64) -> bool
+    ensures { result ≡ (nat_le from born && is_new_born world.now tree.now born) }
+{
+    born >= from && is_new_born(world, tree, born)
+}
+
 /// The first device with at least a birth number that joins below a node with a birth number.
 fn first_join(world: &World, tree: &Tree, born: u64, from: u64) -> Option<u64>
     requires { IsTrue (has_born born tree.now.nodes) }
     ensures { result ≡ option_map (λ d. d.born) (find (λ d. nat_le from d.born && joins born tree.now.nodes d) world.now.devices) }
 {
-    for child in world.children(born) {
-        if *child >= from && is_new_born(world, tree, *child) {
-            return Some(*child);
+    let children = world.children(born);
+    let first = below_in(children, from);
+    'joins: for at in first..children.len() {
+        let child = children[at];
+        if is_new_from(world, tree, from, child) {
+            return Some(child);
         }
     }
     None

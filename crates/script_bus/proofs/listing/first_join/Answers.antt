@@ -1,26 +1,38 @@
-use Rattle.std.proofs.Common.{◌≡◌, ◌&&◌, ◌∙◌, ap, ap₂, sym, arith, find, get_or, true}
+use Rattle.std.proofs.Common.{◌≡◌, ◌&&◌, ◌∙◌, ap, sym, subst, arith, find, get_or}
 use Rattle.std.proofs.lemmas.List.{get_or_default}
 use Rattle.std.specs.Bool.{nat_le}
-use Rattle.std.proofs.lemmas.Bool.Decides.{nat_tests}
+use Rattle.devnode_tree.specs.Trees.{Ascends}
 use Rattle.script_bus.specs.Differences.{is_new_born}
-use Rattle.script_bus.proofs.Joining.{first_by_birth, found_here, none_found}
+use Rattle.script_bus.specs.Worlds.{is_child}
+use Rattle.script_bus.proofs.Births.{births_ascend, find_from}
+use Rattle.script_bus.proofs.Joining.{first_by_birth, found_here, not_here, none_found}
 use Rattle.script_bus.proofs.listing.first_join.Goals as goal
 
-pub returns-then-is_new_born : goal.returns-then-is_new_born
-returns-then-is_new_born c =
-    let w = c.args.world.now in
-    let t = c.args.tree.now in
-    let ks = c.children-child-items.result.now in
-    let at = c.loop-child.child-index in
-    let k = get_or ks at 0 in
-    let above : nat_le c.args.from k ≡ true = grind (arith, nat_tests) in
-    let is_new : is_new_born w t k ≡ true = sym c.is_new_born.ensures ∙ c.if-is_new_born.true in
-    found_here (λ k. nat_le c.args.from k && is_new_born w t k) ks at k (omega arith) (λ d. get_or_default ks at d 0 (omega arith)) c.loop-child.invariant (ap₂ (λ a b. a && b) above is_new)
-    ∙ (ap (find (λ k. nat_le c.args.from k && is_new_born w t k)) c.children-child-items.ensures.children ∙ sym (first_by_birth w t c.args.born c.children-child-items.ensures.world c.requires c.args.from))
+pub below_in-first-requires : goal.below_in-first-requires
+below_in-first-requires c =
+    subst (Ascends 0) (sym c.children-children.ensures.children) (births_ascend (is_child c.args.born) 0 c.args.world.now.devices c.children-children.ensures.world.ascends)
+
+pub joins-init : goal.joins-init
+joins-init c = find_from (is_new_born c.args.world.now c.args.tree.now) c.args.from c.children-children.result.now c.below_in-first.result c.below_in-first.ensures.within c.below_in-first.ensures.below
+
+pub joins-preserved : goal.joins-preserved
+joins-preserved c =
+    let ks = c.children-children.result.now in
+    let k = get_or ks c.joins.at 0 in
+    not_here (λ k. nat_le c.args.from k && is_new_born c.args.world.now c.args.tree.now k) ks c.joins.at k (omega arith)
+    (λ d. get_or_default ks c.joins.at d 0 (omega arith)) c.joins.invariant (sym c.is_new_from.ensures ∙ c.if-is_new_from.false)
+
+pub returns-then-is_new_from : goal.returns-then-is_new_from
+returns-then-is_new_from c =
+    let ks = c.children-children.result.now in
+    let k = get_or ks c.joins.at 0 in
+    found_here (λ k. nat_le c.args.from k && is_new_born c.args.world.now c.args.tree.now k) ks c.joins.at k (omega arith)
+    (λ d. get_or_default ks c.joins.at d 0 (omega arith)) c.joins.invariant (sym c.is_new_from.ensures ∙ c.if-is_new_from.true)
+    ∙ (ap (find (λ k. nat_le c.args.from k && is_new_born c.args.world.now c.args.tree.now k)) c.children-children.ensures.children
+    ∙ sym (first_by_birth c.args.world.now c.args.tree.now c.args.born c.children-children.ensures.world c.requires c.args.from))
 
 pub returns : goal.returns
 returns c =
-    let w = c.args.world.now in
-    let t = c.args.tree.now in
-    none_found (λ k. nat_le c.args.from k && is_new_born w t k) c.children-child-items.result.now c.loop-child.child-index (omega arith) c.loop-child.invariant
-    ∙ (ap (find (λ k. nat_le c.args.from k && is_new_born w t k)) c.children-child-items.ensures.children ∙ sym (first_by_birth w t c.args.born c.children-child-items.ensures.world c.requires c.args.from))
+    none_found (λ k. nat_le c.args.from k && is_new_born c.args.world.now c.args.tree.now k) c.children-children.result.now c.joins.at (omega arith) c.joins.invariant
+    ∙ (ap (find (λ k. nat_le c.args.from k && is_new_born c.args.world.now c.args.tree.now k)) c.children-children.ensures.children
+    ∙ sym (first_by_birth c.args.world.now c.args.tree.now c.args.born c.children-children.ensures.world c.requires c.args.from))
