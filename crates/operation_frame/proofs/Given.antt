@@ -19,8 +19,9 @@ use Rattle.pnp_laws.proofs.Standing.{Tree, Finishes, Goes, StageKept}
 use Rattle.pnp_laws.proofs.RunsStand.{Kept}
 use Rattle.operation_frame.specs.Nodes.{IsStripped}
 
-pub found_own : (nodes : List Node) (k : ℕ) (node : Node) → Some node ≡ node_at k nodes → is_some (node_at node.serial nodes) ≡ true
-found_own nodes k node at = ap is_some (found_self k nodes node (sym at))
+-- a node is found by its own serial
+pub own_there : (nodes : List Node) (k serial : ℕ) (node : Node) → Some node ≡ node_at k nodes → serial ≡ node.serial → is_some (node_at serial nodes) ≡ true
+own_there nodes k serial node at own = ap (λ j. is_some (node_at j nodes)) own ∙ ap is_some (found_self k nodes node (sym at))
 
 -- what a state of a run keeps of the operation that runs
 pub running : (s : State) (o : Operation) → Kept s → s.operation ≡ Some o → StageKept (Some o) s.core × OperationFits (Some o) s.core.nodes

@@ -14,9 +14,9 @@ rest_is [] = refl
 rest_is (k ∷ ks) = refl
 
 -- one more of a set that passes a test, or not
-pub passes_more : (p : ℕ → Bool) (b : Bool) (xs : List ℕ) (i x : ℕ) (found all : List ℕ) → slice_get xs i ≡ Some x → p x ≡ b → found ++ those p (drop i xs) ≡ all
-    → cond b (found ++ x ∷ []) found ++ those p (drop (i + 1) xs) ≡ all
-passes_more p b xs i x found all at test h = by_test b ∙ (ap (λ l. found ++ l) (sym here) ∙ h)
+pub passes_more : (p : ℕ → Bool) (b : Bool) (xs : List ℕ) (i x : ℕ) (found found' all : List ℕ) → slice_get xs i ≡ Some x → p x ≡ b → found' ≡ cond b (found ++ x ∷ []) found → found ++ those p (drop i xs) ≡ all
+    → found' ++ those p (drop (i + 1) xs) ≡ all
+passes_more p b xs i x found found' all at test more h = ap (λ l. l ++ those p (drop (i + 1) xs)) more ∙ (by_test b ∙ (ap (λ l. found ++ l) (sym here) ∙ h))
   where
     next : (xs : List ℕ) (i : ℕ) → slice_get xs i ≡ Some x → drop i xs ≡ x ∷ drop (suc i) xs
     next [] i e = absurd (cc)

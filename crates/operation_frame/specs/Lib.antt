@@ -1,3 +1,4 @@
+pub mod Finishes
 pub mod Nodes
 pub mod Queues
 pub mod Steps

@@ -6,6 +6,6 @@ mod leaving;
 mod queue;
 mod walking;
 
-pub use leaving::{has_drivers, leave, remain};
+pub use leaving::{Finish, Settled, finish_of, has_drivers, leave, remain};
 pub use queue::SerialQueue;
-pub use walking::{Walked, end_walk, pass_on, strip};
+pub use walking::{Asked, Walked, end_walk, pass_on, strip};

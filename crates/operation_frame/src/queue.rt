@@ -1,6 +1,6 @@
-ghost use Rattle.std.specs.Prelude.{◌≡◌, ◌∷◌, ◌++◌, [], IfOk, OnOk, OnErr, drop, slice_get};
+ghost use Rattle.std.specs.Prelude.{◌≡◌, ◌∷◌, ◌++◌, [], IfOk, OnOk, OnErr, Some, IsSome, is_none, drop, slice_get};
 ghost use Rattle.pnp_model.specs.Frames.{rest};
-ghost use Rattle.operation_frame.specs.Queues.{all_after};
+ghost use Rattle.operation_frame.specs.Queues.{all_after, filled};
 
 use device_ids::WantOfMemory;
 use relations::SerialSet;
@@ -101,11 +101,31 @@ impl SerialQueue {
         Ok(())
     }
 
+    /// The device that is next. Condition: there is one.
+    pub fn first(&self) -> u64
+        requires { IsSome (slice_get self.now 0) }
+        ensures { slice_get self.now 0 ≡ Some result }
+    {
+        self.serials[0]
+    }
+
     /// The device at a place.
     pub fn get(&self, at: u64) -> Option<u64>
         ensures { result ≡ slice_get self.now at }
     {
         self.serials.get(at as usize).copied()
+    }
+
+    /// Where none is to do, these are; whether none was is told.
+    pub fn fill(&mut self, all: SerialQueue) -> bool
+        ensures filled { self.new ≡ filled self.old all }
+        ensures told { result ≡ is_none (slice_get self.old 0) }
+    {
+        if !self.serials.is_empty() {
+            return false;
+        }
+        self.serials = all.serials;
+        true
     }
 
     /// The next device is done.

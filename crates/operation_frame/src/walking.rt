@@ -27,6 +27,13 @@ pub enum Walked {
     Ended { path: Text, refused: bool },
 }
 
+/// A device whose request has ended: its path is for the line that tells its state. This project's own.
+#[derive(Debug, Drop)]
+pub struct Asked {
+    pub serial: u64,
+    pub path: Text,
+}
+
 /// The next step of a request for a device; its end changes nothing yet. Conditions: the device is there, and the request
 /// does not wait. After want of memory nothing has changed, and no driver was asked. Cost: the rules of one book, and the
 /// logarithm of the number of nodes.

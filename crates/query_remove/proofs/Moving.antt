@@ -23,24 +23,27 @@ use Rattle.operation_frame.proofs.Ends.{ended_is}
 use Rattle.query_remove.specs.Steps.{Moved}
 use Rattle.operation_frame.proofs.Queues.{rest_is}
 use Rattle.query_remove.specs.Parts.{problem_if, SettlesFor, is_walking}
-use Rattle.query_remove.specs.Stages.{stage_of}
+use Rattle.query_remove.specs.Stages.{stage_of, finishing}
+use Rattle.operation_frame.specs.Finishes.{finish_by, finish_of}
+use Rattle.operation_frame.specs.Nodes.{is_full}
 use Rattle.query_remove.specs.declared.frame.Stage.{Stage}
 use Rattle.query_remove.specs.declared.frame.Stage.TheVariants.{Asking, TakingBack, Cancelling, Removing, Settling, Ending}
 
 -- What comes next does not read what was done before ----------------------------------------
 
-pub finish_same : (nodes : List Node) (o : Removal) (t : List ℕ) (s : Records.RemovalStage) (todo : List ℕ) → finish_on nodes (record o { todo = t; stage = s }) todo ≡ finish_on nodes o todo
-finish_same nodes o t s [] = refl
-finish_same nodes o t s (k ∷ ks) =
-    elim (stack_of (node_at k nodes)) as (λ stack. finish_with (record o { todo = t; stage = s }) (k ∷ ks) stack ≡ finish_with o (k ∷ ks) stack) [ [] ↦ refl | d ∷ ds ↦ refl ]
-
-pub ask_same : (nodes : List Node) (o : Removal) (t todo : List ℕ) → ask_on nodes (record o { todo = t }) todo ≡ ask_on nodes o todo
-ask_same nodes o t [] = finish_same nodes o t o.stage o.set
-ask_same nodes o t (k ∷ ks) = refl
+-- the word for how a device is finished
+pub finish_is : (nodes : List Node) (o : Removal) (todo : List ℕ) → record o { todo = todo; stage = stage_of (finishing (finish_of nodes todo)) (walk_of Minor.Remove) } ≡ finish_on nodes o todo
+finish_is nodes o [] = refl
+finish_is nodes o (k ∷ ks) =
+    elim (stack_of (node_at k nodes)) as (λ stack. record o { todo = k ∷ ks; stage = stage_of (finishing (finish_by (is_full stack))) (walk_of Minor.Remove) } ≡ finish_with o (k ∷ ks) stack) [ [] ↦ refl | d ∷ ds ↦ refl ]
 
 pub cancel_same : (o : Removal) (t todo : List ℕ) → cancel_on (record o { todo = t }) todo ≡ cancel_on o todo
 cancel_same o t [] = refl
 cancel_same o t (k ∷ ks) = refl
+
+pub ask_same : (nodes : List Node) (o : Removal) (t todo : List ℕ) → ask_on nodes (record o { todo = t }) todo ≡ ask_on nodes o todo
+ask_same nodes o t [] = sym (finish_is nodes (record o { todo = t }) o.set) ∙ finish_is nodes o o.set
+ask_same nodes o t (k ∷ ks) = refl
 
 -- A request ends -----------------------------------------------------------------------------
 

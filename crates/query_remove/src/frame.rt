@@ -3,11 +3,12 @@ ghost use Rattle.pnp_model.specs.Tests.{has, is_eject};
 ghost use Rattle.pnp_model.specs.Machine.{removal_walk};
 ghost use Rattle.pnp_model.specs.Removals.{finish_on, cancel_on};
 ghost use Rattle.query_remove.specs.Frames.{minor_that_waits, is_settling, Completed};
+ghost use Rattle.query_remove.specs.Stages.{finishing};
 
 use device_ids::Text;
 use device_stack::{NoSuchRequest, Walk};
 use devnode_tree::Tree;
-use operation_frame::{SerialQueue, has_drivers};
+use operation_frame::{Finish, SerialQueue, finish_of};
 use pnp_labels::{Minor, OpKind};
 use relations::SerialSet;
 use std::marker::Model;
@@ -66,6 +67,13 @@ impl Removal {
         }
     }
 
+    /// Whether the device that is next is settled with the next step: it leaves or remains.
+    pub fn settles(&self) -> bool
+        ensures { result ≡ is_settling self.now.stage }
+    {
+        matches!(&self.stage, Stage::Settling)
+    }
+
     /// The driver at which the request waits completes it: Ok, or Fail. `NoSuchRequest` exactly where none waits; then
     /// nothing changes. It takes no memory.
     pub fn complete(&mut self, ok: bool) -> Result<(), NoSuchRequest>
@@ -77,6 +85,13 @@ impl Removal {
         }
     }
 
+    /// The device that is next; none exactly where none is.
+    pub fn first(&self) -> Option<u64>
+        ensures { result ≡ slice_get self.now.todo 0 }
+    {
+        self.todo.get(0)
+    }
+
     /// The request that is on its way through the drivers of the device that is next; none exactly where none is.
     pub fn walk(&self) -> Option<&Walk>
         ensures { option_map (λ w. w.now.walk) result ≡ removal_walk self.now.stage }
@@ -85,20 +100,6 @@ impl Removal {
             Stage::Settling | Stage::Ending => None,
             _ => Some(&self.walk),
         }
-    }
-
-    /// Whether the device that is next is settled with the next step: it leaves or remains.
-    pub fn settles(&self) -> bool
-        ensures { result ≡ is_settling self.now.stage }
-    {
-        matches!(&self.stage, Stage::Settling)
-    }
-
-    /// The device that is next; none exactly where none is.
-    pub fn first(&self) -> Option<u64>
-        ensures { result ≡ slice_get self.now.todo 0 }
-    {
-        self.todo.get(0)
     }
 
     /// Whether a device is of those that are removed.
@@ -126,16 +127,8 @@ impl Removal {
     pub(crate) fn finish_next(&mut self, tree: &Tree)
         ensures { self.new ≡ finish_on tree.now.nodes self.old self.old.todo }
     {
-        let Some(serial) = self.todo.get(0) else {
-            self.stage = Stage::Ending;
-            return;
-        };
-        if has_drivers(tree, serial) {
-            self.stage = Stage::Removing;
-            self.walk = Walk::begin(Minor::Remove);
-        } else {
-            self.stage = Stage::Settling;
-        }
+        self.stage = finishing(finish_of(tree, &self.todo));
+        self.walk = Walk::begin(Minor::Remove);
     }
 
     /// The device that is next is told that it stays, and where none is next the end is.
@@ -148,5 +141,16 @@ impl Removal {
         } else {
             self.stage = Stage::Ending;
         }
+    }
+}
+
+/// The word for how a device is finished.
+fn finishing(finish: Finish) -> Stage
+    ensures { result ≡ finishing finish }
+{
+    match finish {
+        Finish::Removing => Stage::Removing,
+        Finish::Settling => Stage::Settling,
+        Finish::Ending => Stage::Ending,
     }
 }

@@ -14,11 +14,11 @@ ghost use Rattle.operation_frame.specs.Queues.{all_after};
 ghost use Rattle.operation_frame.specs.Steps.{MovesFor, MovesRelated};
 
 use crate::frame::{Removal, Stage};
-use device_ids::{Text, WantOfMemory};
+use device_ids::WantOfMemory;
 use device_stack::Walk;
 use devnode_tree::Tree;
 use driver_rack::Drivers;
-use operation_frame::{SerialQueue, Walked, end_walk, pass_on, strip};
+use operation_frame::{Asked, SerialQueue, Walked, end_walk, pass_on, strip};
 use pnp_labels::{Label, Minor, RemoveStep};
 use relations::Relations;
 use std::alloc::Global;
@@ -30,60 +30,46 @@ impl Removal {
         requires { all ≡ all_after self.old.set self.old.todo }
         ensures { self.new ≡ ask_on tree.now.nodes self.old self.old.todo }
     {
-        if self.todo.get(0).is_some() {
-            self.stage = Stage::Asking;
-            self.walk = Walk::begin(Minor::QueryRemove);
-            return;
+        if self.todo.fill(all) {
+            return self.finish_next(tree);
         }
-        self.todo = all;
-        self.finish_next(tree);
+        self.stage = Stage::Asking;
+        self.walk = Walk::begin(Minor::QueryRemove);
     }
 
     /// The device that is next agreed; after the last one all are finished.
-    fn agree(
-        &mut self,
-        alloc: Global,
-        serial: u64,
-        path: Text,
-        tree: &mut Tree,
-    ) -> Result<Label, WantOfMemory>
-        requires path { PathIs (node_at serial tree.old.nodes) path }
-        ensures agreed { IfOk result (λ label. MovesFor Moved (node_at serial tree.old.nodes) (λ c n. end_ask c self.old n false) tree.old.nodes (steps.Did label) tree.new.nodes self.new) }
+    fn agree(&mut self, alloc: Global, asked: Asked, tree: &mut Tree) -> Result<Label, WantOfMemory>
+        requires path { PathIs (node_at asked.serial tree.old.nodes) asked.path }
+        ensures agreed { IfOk result (λ label. MovesFor Moved (node_at asked.serial tree.old.nodes) (λ c n. end_ask c self.old n false) tree.old.nodes (steps.Did label) tree.new.nodes self.new) }
         ensures next { tree.new.next ≡ tree.old.next }
         ensures mirrors { (arbiters : Four.Arbiters) → KeepsMirror tree.old.nodes arbiters tree.new.nodes arbiters }
         ensures removal { OnErr result (self.new ≡ self.old) }
         ensures tree { OnErr result (tree.new ≡ tree.old) }
     {
         let all = self.todo.all_after_next(alloc, &self.set)?;
-        self.agreed.push_front(serial)?;
+        self.agreed.push_front(asked.serial)?;
         self.todo.drop_first();
         self.ask_next(tree, all);
-        Ok(end_walk(Minor::QueryRemove, false, path, serial, tree))
+        Ok(end_walk(Minor::QueryRemove, false, asked.path, asked.serial, tree))
     }
 
     /// The device that is next refused: it is told that it stays.
-    fn refuse(&mut self, serial: u64, path: Text, tree: &mut Tree) -> Label
-        requires path { PathIs (node_at serial tree.old.nodes) path }
-        ensures refused { MovesFor Moved (node_at serial tree.old.nodes) (λ c n. end_ask c self.old n true) tree.old.nodes (steps.Did result) tree.new.nodes self.new }
+    fn refuse(&mut self, asked: Asked, tree: &mut Tree) -> Label
+        requires path { PathIs (node_at asked.serial tree.old.nodes) asked.path }
+        ensures refused { MovesFor Moved (node_at asked.serial tree.old.nodes) (λ c n. end_ask c self.old n true) tree.old.nodes (steps.Did result) tree.new.nodes self.new }
         ensures next { tree.new.next ≡ tree.old.next }
         ensures mirrors { (arbiters : Four.Arbiters) → KeepsMirror tree.old.nodes arbiters tree.new.nodes arbiters }
     {
-        self.refuser = Some(serial);
+        self.refuser = Some(asked.serial);
         self.stage = Stage::TakingBack;
         self.walk = Walk::begin(Minor::CancelRemove);
-        end_walk(Minor::QueryRemove, true, path, serial, tree)
+        end_walk(Minor::QueryRemove, true, asked.path, asked.serial, tree)
     }
 
     /// The device that refused was told that it stays: then all that agreed are, the last one first.
-    fn take_back(
-        &mut self,
-        alloc: Global,
-        serial: u64,
-        path: Text,
-        tree: &mut Tree,
-    ) -> Result<Label, WantOfMemory>
-        requires path { PathIs (node_at serial tree.old.nodes) path }
-        ensures taken { IfOk result (λ label. (w : Records.Walk) → MovesFor Moved (node_at serial tree.old.nodes) (λ c n. take_back c self.old n w true) tree.old.nodes (steps.Did label) tree.new.nodes self.new) }
+    fn stays(&mut self, alloc: Global, asked: Asked, tree: &mut Tree) -> Result<Label, WantOfMemory>
+        requires path { PathIs (node_at asked.serial tree.old.nodes) asked.path }
+        ensures taken { IfOk result (λ label. (w : Records.Walk) → MovesFor Moved (node_at asked.serial tree.old.nodes) (λ c n. take_back c self.old n w true) tree.old.nodes (steps.Did label) tree.new.nodes self.new) }
         ensures next { tree.new.next ≡ tree.old.next }
         ensures mirrors { (arbiters : Four.Arbiters) → KeepsMirror tree.old.nodes arbiters tree.new.nodes arbiters }
         ensures removal { OnErr result (self.new ≡ self.old) }
@@ -91,57 +77,19 @@ impl Removal {
     {
         self.todo = self.agreed.copy(alloc)?;
         self.cancel_next();
-        Ok(end_walk(Minor::CancelRemove, false, path, serial, tree))
+        Ok(end_walk(Minor::CancelRemove, false, asked.path, asked.serial, tree))
     }
 
     /// A device that agreed was told that it stays.
-    fn cancel(&mut self, serial: u64, path: Text, tree: &mut Tree) -> Label
-        requires path { PathIs (node_at serial tree.old.nodes) path }
-        ensures cancelled { (w : Records.Walk) → MovesFor Moved (node_at serial tree.old.nodes) (λ c n. cancel_step c self.old n w true) tree.old.nodes (steps.Did result) tree.new.nodes self.new }
+    fn cancel(&mut self, asked: Asked, tree: &mut Tree) -> Label
+        requires path { PathIs (node_at asked.serial tree.old.nodes) asked.path }
+        ensures cancelled { (w : Records.Walk) → MovesFor Moved (node_at asked.serial tree.old.nodes) (λ c n. cancel_step c self.old n w true) tree.old.nodes (steps.Did result) tree.new.nodes self.new }
         ensures next { tree.new.next ≡ tree.old.next }
         ensures mirrors { (arbiters : Four.Arbiters) → KeepsMirror tree.old.nodes arbiters tree.new.nodes arbiters }
     {
         self.todo.drop_first();
         self.cancel_next();
-        end_walk(Minor::CancelRemove, false, path, serial, tree)
-    }
-
-    /// The request of the device that is next has ended.
-    fn end_request(
-        &mut self,
-        alloc: Global,
-        serial: u64,
-        path: Text,
-        refused: bool,
-        tree: &mut Tree,
-        relations: &mut Relations,
-        arbiters: &mut Arbiters,
-    ) -> Result<Label, WantOfMemory>
-        requires path { PathIs (node_at serial tree.old.nodes) path }
-        requires walking { is_walking self.old.stage ≡ true }
-        requires mirrored { IsMirrored tree.old.nodes arbiters.old }
-        ensures ended { IfOk result (λ label. MovesRelated Moved (node_at serial tree.old.nodes) (end_move self.old self.old.stage refused) tree.old.nodes relations.old (steps.Did label) tree.new.nodes relations.new self.new) }
-        ensures next { tree.new.next ≡ tree.old.next }
-        ensures mirrors { KeepsMirror tree.old.nodes arbiters.old tree.new.nodes arbiters.new }
-        ensures removal { OnErr result (self.new ≡ self.old) }
-        ensures tree { OnErr result (tree.new ≡ tree.old) }
-        ensures relations { OnErr result (relations.new ≡ relations.old) }
-    {
-        match self.stage {
-            Stage::Asking => {
-                if refused {
-                    Ok(self.refuse(serial, path, tree))
-                } else {
-                    self.agree(alloc, serial, path, tree)
-                }
-            }
-            Stage::TakingBack => self.take_back(alloc, serial, path, tree),
-            Stage::Cancelling => Ok(self.cancel(serial, path, tree)),
-            _ => {
-                self.stage = Stage::Settling;
-                Ok(strip(path, serial, tree, relations, arbiters))
-            }
-        }
+        end_walk(Minor::CancelRemove, false, asked.path, asked.serial, tree)
     }
 
     /// A step of the request of the device that is next.
@@ -158,23 +106,61 @@ impl Removal {
         requires goes { is_waiting (removal_walk self.old.stage) ≡ false }
         requires mirrored { IsMirrored tree.old.nodes arbiters.old }
         ensures removes { IfOk result (λ step. Removes tree.old.nodes relations.old (R.rows rack.old) self.old step tree.new.nodes relations.new (R.rows rack.new) self.new) }
+        ensures removal { OnErr result (self.new ≡ self.old) }
+        ensures tree { OnErr result (tree.new ≡ tree.old) }
+        ensures relations { OnErr result (relations.new ≡ relations.old) }
+        ensures rack { OnErr result (R.rows rack.new ≡ R.rows rack.old) }
+        ensures next { tree.new.next ≡ tree.old.next }
+        ensures mirrors { KeepsMirror tree.old.nodes arbiters.old tree.new.nodes arbiters.new }
+    {
+        let serial = self.todo.first();
+        let mut walk = self.walk;
+        match pass_on(alloc, serial, &mut walk, tree, rack)? {
+            Walked::Ended { path, refused } => {
+                let asked = Asked { serial, path };
+                let label = self.end_request(alloc, tree, relations, arbiters, asked, refused)?;
+                Ok(RemoveStep::Did(label))
+            }
+            Walked::On(label) => {
+                self.walk = walk;
+                Ok(RemoveStep::Did(label))
+            }
+        }
+    }
+
+    /// The request of the device that is next has ended.
+    fn end_request(
+        &mut self,
+        alloc: Global,
+        tree: &mut Tree,
+        relations: &mut Relations,
+        arbiters: &mut Arbiters,
+        asked: Asked,
+        refused: bool,
+    ) -> Result<Label, WantOfMemory>
+        requires path { PathIs (node_at asked.serial tree.old.nodes) asked.path }
+        requires walking { is_walking self.old.stage ≡ true }
+        requires mirrored { IsMirrored tree.old.nodes arbiters.old }
+        ensures ended { IfOk result (λ label. MovesRelated Moved (node_at asked.serial tree.old.nodes) (end_move self.old self.old.stage refused) tree.old.nodes relations.old (steps.Did label) tree.new.nodes relations.new self.new) }
         ensures next { tree.new.next ≡ tree.old.next }
         ensures mirrors { KeepsMirror tree.old.nodes arbiters.old tree.new.nodes arbiters.new }
         ensures removal { OnErr result (self.new ≡ self.old) }
         ensures tree { OnErr result (tree.new ≡ tree.old) }
         ensures relations { OnErr result (relations.new ≡ relations.old) }
-        ensures rack { OnErr result (R.rows rack.new ≡ R.rows rack.old) }
     {
-        let Some(serial) = self.first() else {
-            unreachable!()
-        };
-        match pass_on(alloc, serial, &mut self.walk, tree, rack)? {
-            Walked::On(label) => Ok(RemoveStep::Did(label)),
-            Walked::Ended { path, refused } => {
-                let label = self.end_request(
-                    alloc, serial, path, refused, tree, relations, arbiters,
-                )?;
-                Ok(RemoveStep::Did(label))
+        match self.stage {
+            Stage::Asking => {
+                if refused {
+                    Ok(self.refuse(asked, tree))
+                } else {
+                    self.agree(alloc, asked, tree)
+                }
+            }
+            Stage::TakingBack => self.stays(alloc, asked, tree),
+            Stage::Cancelling => Ok(self.cancel(asked, tree)),
+            _ => {
+                self.stage = Stage::Settling;
+                Ok(strip(asked.path, asked.serial, tree, relations, arbiters))
             }
         }
     }

@@ -10,7 +10,7 @@ ghost use Rattle.operation_frame.specs.Nodes.{IsStripped};
 use crate::frame::Removal;
 use device_ids::{Text, WantOfMemory};
 use devnode_tree::Tree;
-use operation_frame::{leave, remain};
+use operation_frame::{Settled, leave, remain};
 use pnp_labels::{Label, OpEnd, Problem, RemoveStep};
 use std::alloc::Global;
 
@@ -48,41 +48,41 @@ impl Removal {
         ensures removal { OnErr result (self.new ≡ self.old) }
         ensures tree { OnErr result (tree.new ≡ tree.old) }
     {
-        let Some(serial) = self.first() else {
-            unreachable!()
-        };
-        let node = tree.at(serial);
-        let serial = node.serial;
-        let born = node.born;
-        let in_set = self.removes(node.parent);
-        let line = Text::make(alloc, node.path.bytes())?;
-        let path = node.path.copy(alloc)?;
-        if in_set {
+        let device = Settled::of(alloc, tree.at(self.todo.first()))?;
+        if self.removes(device.parent) {
             self.go_on(tree);
-            leave(serial, tree);
-            let label = Label::Leave { path: line };
-            return Ok(RemoveStep::Left { label, path, born });
+            leave(device.serial, tree);
+            let label = Label::Leave { path: device.line };
+            return Ok(RemoveStep::Left {
+                label,
+                path: device.path,
+                born: device.born,
+            });
         }
-        if !self.is_target(serial) {
-            let problem = self.problem_of(serial);
+        if !self.is_target(device.serial) {
+            let problem = self.problem_of(device.serial);
             self.go_on(tree);
-            remain(serial, problem, tree);
+            remain(device.serial, problem, tree);
             return Ok(RemoveStep::Did(Label::Trouble {
-                path: line,
+                path: device.line,
                 problem,
             }));
         }
         if self.is_eject() {
             self.go_on(tree);
-            leave(serial, tree);
-            let label = Label::Ejected { path: line };
-            return Ok(RemoveStep::Ejected { label, path, born });
+            leave(device.serial, tree);
+            let label = Label::Ejected { path: device.line };
+            return Ok(RemoveStep::Ejected {
+                label,
+                path: device.path,
+                born: device.born,
+            });
         }
         let problem = Problem::Disabled;
         self.go_on(tree);
-        remain(serial, problem, tree);
+        remain(device.serial, problem, tree);
         Ok(RemoveStep::Disabled(Label::Trouble {
-            path: line,
+            path: device.line,
             problem,
         }))
     }

@@ -70,12 +70,12 @@ module _ (nodes : List Node) (rack rack' : List Driver) (r : Rebalance) (k : ℕ
       (λ around. requests.goes_on (λ m l c v. MovedBy budget m (steps.Did l) c v) (λ c x. rebalance_step c r (stage_of s w) x) (λ v. record r { stage = stage_of s v }) (node_at k nodes) rack rack' w w' label r'
       (λ c n e. walks budget c r n w s walking e) h f (at_nodes nodes around))
 
-  pub ends_so : (path : Text) (refused : Bool) (nodes' : List Node) (mid : Rebalance) → ((around : Core) → WalksFor (node_at k nodes) (set_rack rack around) w (Ended path refused) (set_rack rack' around) w')
-      → mid ≡ r → MovesFor Moved (node_at k nodes) (end_move mid mid.stage refused) nodes (steps.Did label) nodes' r'
+  pub ends_so : (path : Text) (refused : Bool) (nodes' : List Node) → ((around : Core) → WalksFor (node_at k nodes) (set_rack rack around) w (Ended path refused) (set_rack rack' around) w')
+      → MovesFor Moved (node_at k nodes) (end_move r r.stage refused) nodes (steps.Did label) nodes' r'
       → (around : Core) → MovedBy budget (rebalanced (at_nodes nodes (set_rack rack around)) r) (steps.Did label) (at_nodes nodes' (set_rack rack' around)) r'
-  ends_so path refused nodes' mid h same moves =
+  ends_so path refused nodes' h moves =
       at_first nodes'
       (λ around. requests.ends_so (λ m l c v. MovedBy budget m (steps.Did l) c v) (λ c x. rebalance_step c r (stage_of s w) x) (λ v. record r { stage = stage_of s v }) (node_at k nodes) rack rack' w w' label r' Moved (steps.Did label)
       (end_move r (stage_of s w) refused) refused (λ c n d e f m. subst (λ x. MovedBy budget x (steps.Did label) d r') (sym (ends c r n w s refused walking e f)) m) path nodes nodes' around.relations around.relations h
-      (requests.ends_at Moved (λ (m : Core → Node → RebalanceMove). m) (end_move r (stage_of s w) refused) (end_move mid mid.stage refused) (sym (ap (λ (q : Rebalance). end_move q q.stage refused) same ∙ ap (λ t. end_move r t refused) stage))
+      (requests.ends_at Moved (λ (m : Core → Node → RebalanceMove). m) (end_move r (stage_of s w) refused) (end_move r r.stage refused) (sym (ap (λ t. end_move r t refused) stage))
       (node_at k nodes) nodes around.relations (steps.Did label) nodes' r' moves) around)

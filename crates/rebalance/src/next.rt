@@ -51,11 +51,13 @@ impl Rebalance {
         ensures tree { OnErr result (tree.new ≡ tree.old) }
         ensures rack { OnErr result (R.rows rack.new ≡ R.rows rack.old) }
     {
-        let Some(serial) = self.first() else {
-            unreachable!()
-        };
-        match pass_on(alloc, serial, &mut self.walk, tree, rack)? {
-            Walked::On(label) => Ok(RebalanceStep::Did(label)),
+        let serial = self.todo.first();
+        let mut walk = self.walk;
+        match pass_on(alloc, serial, &mut walk, tree, rack)? {
+            Walked::On(label) => {
+                self.walk = walk;
+                Ok(RebalanceStep::Did(label))
+            }
             Walked::Ended { path, refused } => {
                 let label = self.end_request(alloc, serial, path, refused, tree)?;
                 Ok(RebalanceStep::Did(label))

@@ -113,10 +113,7 @@ impl Rebalance {
         ensures rebalance { OnErr result (self.new ≡ self.old) }
         ensures tree { OnErr result (tree.new ≡ tree.old) }
     {
-        let Some(serial) = self.first() else {
-            unreachable!()
-        };
-        let node = tree.at(serial);
+        let node = tree.at(self.todo.first());
         let serial = node.serial;
         let path = Text::make(alloc, node.path.bytes())?;
         let problem = Problem::FailedStart;

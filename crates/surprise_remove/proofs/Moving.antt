@@ -11,6 +11,7 @@ use Rattle.pnp_model.specs.Keyed.{changed_first, without_first}
 use Rattle.pnp_model.specs.Tests.{has}
 use Rattle.pnp_model.specs.Cores.{is_node, node_at, with_problem, stack_of}
 use Rattle.pnp_model.specs.Frames.{first_node, rest}
+use Rattle.pnp_model.specs.Walks.{walk_of}
 use Rattle.pnp_model.specs.Records as Records
 use Rattle.pnp_model.specs.Records.{Node, Walk, Surprise}
 use Rattle.pnp_model.specs.Removals.{RemoveBeside}
@@ -23,26 +24,23 @@ use Rattle.operation_frame.proofs.Ends.{ended_is}
 use Rattle.operation_frame.proofs.Queues.{rest_is}
 use Rattle.surprise_remove.specs.Steps.{Moved}
 use Rattle.surprise_remove.specs.Parts.{SettlesFor, is_walking}
-use Rattle.surprise_remove.specs.Stages.{stage_of}
+use Rattle.surprise_remove.specs.Stages.{stage_of, finishing}
+use Rattle.operation_frame.specs.Finishes.{finish_by, finish_of}
+use Rattle.operation_frame.specs.Nodes.{is_full}
 use Rattle.surprise_remove.specs.declared.frame.Stage.{Stage}
 use Rattle.surprise_remove.specs.declared.frame.Stage.TheVariants.{Telling, Removing, Settling, Ending}
 
 -- What comes next does not read what was done before ----------------------------------------
 
-pub finish_same : (nodes : List Node) (o : Surprise) (t : List ℕ) (s : Records.SurpriseStage) (todo : List ℕ) → finish_on nodes (record o { todo = t; stage = s }) todo ≡ finish_on nodes o todo
-finish_same nodes o t s [] = refl
-finish_same nodes o t s (k ∷ ks) =
-    elim (stack_of (node_at k nodes)) as (λ stack. finish_with (record o { todo = t; stage = s }) (k ∷ ks) stack ≡ finish_with o (k ∷ ks) stack) [ [] ↦ refl | d ∷ ds ↦ refl ]
+-- the word for how a device is finished
+pub finish_is : (nodes : List Node) (o : Surprise) (todo : List ℕ) → record o { todo = todo; stage = stage_of (finishing (finish_of nodes todo)) (walk_of Minor.Remove) } ≡ finish_on nodes o todo
+finish_is nodes o [] = refl
+finish_is nodes o (k ∷ ks) =
+    elim (stack_of (node_at k nodes)) as (λ stack. record o { todo = k ∷ ks; stage = stage_of (finishing (finish_by (is_full stack))) (walk_of Minor.Remove) } ≡ finish_with o (k ∷ ks) stack) [ [] ↦ refl | d ∷ ds ↦ refl ]
 
 pub tell_same : (nodes : List Node) (o : Surprise) (t todo : List ℕ) → tell_on nodes (record o { todo = t }) todo ≡ tell_on nodes o todo
-tell_same nodes o t [] = finish_same nodes o t o.stage o.set
+tell_same nodes o t [] = sym (finish_is nodes (record o { todo = t }) o.set) ∙ finish_is nodes o o.set
 tell_same nodes o t (k ∷ ks) = refl
-
-pub go_frame : (nodes : List Node) (o : Surprise) (t : List ℕ) → t ≡ drop 1 o.todo → finish_on nodes (record o { todo = t }) t ≡ finish_on nodes o (rest o.todo)
-go_frame nodes o t e = ap (λ (t : List ℕ). finish_on nodes (record o { todo = t }) t) (e ∙ rest_is o.todo) ∙ finish_same nodes o (rest o.todo) o.stage (rest o.todo)
-
-pub all_frame : (nodes : List Node) (o : Surprise) (t : List ℕ) → finish_on nodes (record o { todo = t }) t ≡ finish_on nodes o t
-all_frame nodes o t = finish_same nodes o t o.stage t
 
 pub tell_frame : (nodes : List Node) (o : Surprise) (t : List ℕ) → t ≡ drop 1 o.todo → tell_on nodes (record o { todo = t }) t ≡ tell_on nodes o (rest o.todo)
 tell_frame nodes o t e = ap (λ (t : List ℕ). tell_on nodes (record o { todo = t }) t) (e ∙ rest_is o.todo) ∙ tell_same nodes o (rest o.todo) (rest o.todo)

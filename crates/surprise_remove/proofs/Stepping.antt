@@ -54,13 +54,13 @@ module _ (nodes : List Node) (rs : List Relation) (rack rack' : List Driver) (o 
       (λ around. requests.goes_on (λ m l c v. MovedBy m (steps.Did l) c v) (λ c x. surprise_step c o in_world (stage_of s w) x) (λ v. record o { stage = stage_of s v }) (node_at k nodes) rack rack' w w' label o'
       (λ c n e. walks c o in_world n w s walking e) h f (at_related nodes rs around))
 
-  pub ends_so : (path : Text) (refused : Bool) (nodes' : List Node) (rs' : List Relation) (mid : Surprise) → ((around : Core) → WalksFor (node_at k nodes) (set_rack rack around) w (Ended path refused) (set_rack rack' around) w')
-      → mid ≡ o → MovesRelated Moved (node_at k nodes) (end_move mid mid.stage) nodes rs (steps.Did label) nodes' rs' o' → Surprises nodes rs rack o in_world (steps.Did label) nodes' rs' rack' o'
-  ends_so path refused nodes' rs' mid h same moves =
+  pub ends_so : (path : Text) (refused : Bool) (nodes' : List Node) (rs' : List Relation) → ((around : Core) → WalksFor (node_at k nodes) (set_rack rack around) w (Ended path refused) (set_rack rack' around) w')
+      → MovesRelated Moved (node_at k nodes) (end_move o o.stage) nodes rs (steps.Did label) nodes' rs' o' → Surprises nodes rs rack o in_world (steps.Did label) nodes' rs' rack' o'
+  ends_so path refused nodes' rs' h moves =
       at_first nodes' rs'
       (requests.ends_so (λ m l c v. MovedBy m (steps.Did l) c v) (λ c x. surprise_step c o in_world (stage_of s w) x) (λ v. record o { stage = stage_of s v }) (node_at k nodes) rack rack' w w' label o' Moved (steps.Did label)
       (end_move o (stage_of s w)) refused (λ c n d e r m. subst (λ x. MovedBy x (steps.Did label) d o') (sym (ends c o in_world n w s walking e)) m) path nodes nodes' rs rs' h
-      (subst (λ (m : Core → Node → SurpriseMove). MovesRelated Moved (node_at k nodes) m nodes rs (steps.Did label) nodes' rs' o') (ap (λ (r : Surprise). end_move r r.stage) same ∙ ap (λ t. end_move o t) stage) moves))
+      (subst (λ (m : Core → Node → SurpriseMove). MovesRelated Moved (node_at k nodes) m nodes rs (steps.Did label) nodes' rs' o') (ap (λ t. end_move o t) stage) moves))
 
 -- a device is settled
 pub settles_so : (nodes nodes' : List Node) (rs : List Relation) (rack : List Driver) (o o' : Surprise) (in_world : Bool) (step : RemoveStep) → o.stage ≡ SurpriseStage.Settling → SettlesFor (first_node nodes o.todo) nodes o in_world step nodes' o' → Surprises nodes rs rack o in_world step nodes' rs rack o'

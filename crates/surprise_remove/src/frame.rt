@@ -1,13 +1,15 @@
 ghost use Rattle.std.specs.Prelude.{◌≡◌, ◌==◌, slice_get, option_map};
 ghost use Rattle.pnp_model.specs.Tests.{has};
 ghost use Rattle.pnp_model.specs.Machine.{surprise_walk};
-ghost use Rattle.pnp_model.specs.Surprises.{finish_on};
+ghost use Rattle.pnp_model.specs.Surprises.{finish_on, tell_on};
+ghost use Rattle.operation_frame.specs.Queues.{all_after};
 ghost use Rattle.surprise_remove.specs.Frames.{minor_that_waits, Completed};
+ghost use Rattle.surprise_remove.specs.Stages.{finishing};
 
 use device_ids::Text;
 use device_stack::{NoSuchRequest, Walk};
 use devnode_tree::Tree;
-use operation_frame::{SerialQueue, has_drivers};
+use operation_frame::{Finish, SerialQueue, finish_of};
 use pnp_labels::Minor;
 use relations::SerialSet;
 use std::marker::Model;
@@ -57,15 +59,11 @@ impl Surprise {
         }
     }
 
-    /// The driver at which the request waits completes it: Ok, or Fail. `NoSuchRequest` exactly where none waits; then
-    /// nothing changes. It takes no memory.
-    pub fn complete(&mut self, ok: bool) -> Result<(), NoSuchRequest>
-        ensures { Completed result self.old ok self.new }
+    /// The device that the bus has lost.
+    pub fn target(&self) -> u64
+        ensures { result ≡ self.now.target }
     {
-        match self.stage {
-            Stage::Settling | Stage::Ending => Err(NoSuchRequest),
-            _ => self.walk.complete_waiting(ok),
-        }
+        self.target
     }
 
     /// The request that is on its way through the drivers of the device that is next; none exactly where none is.
@@ -78,18 +76,22 @@ impl Surprise {
         }
     }
 
-    /// The device that the bus has lost.
-    pub fn target(&self) -> u64
-        ensures { result ≡ self.now.target }
-    {
-        self.target
-    }
-
     /// The device that is next; none exactly where none is.
     pub fn first(&self) -> Option<u64>
         ensures { result ≡ slice_get self.now.todo 0 }
     {
         self.todo.get(0)
+    }
+
+    /// The driver at which the request waits completes it: Ok, or Fail. `NoSuchRequest` exactly where none waits; then
+    /// nothing changes. It takes no memory.
+    pub fn complete(&mut self, ok: bool) -> Result<(), NoSuchRequest>
+        ensures { Completed result self.old ok self.new }
+    {
+        match self.stage {
+            Stage::Settling | Stage::Ending => Err(NoSuchRequest),
+            _ => self.walk.complete_waiting(ok),
+        }
     }
 
     /// Whether a device is of those that are gone.
@@ -110,15 +112,30 @@ impl Surprise {
     pub(crate) fn finish_next(&mut self, tree: &Tree)
         ensures { self.new ≡ finish_on tree.now.nodes self.old self.old.todo }
     {
-        let Some(serial) = self.todo.get(0) else {
-            self.stage = Stage::Ending;
-            return;
-        };
-        if has_drivers(tree, serial) {
-            self.stage = Stage::Removing;
-            self.walk = Walk::begin(Minor::Remove);
-        } else {
-            self.stage = Stage::Settling;
+        self.stage = finishing(finish_of(tree, &self.todo));
+        self.walk = Walk::begin(Minor::Remove);
+    }
+
+    /// The device that is next is told, and where none is next all are finished.
+    pub(crate) fn tell_next(&mut self, tree: &Tree, all: SerialQueue)
+        requires { all ≡ all_after self.old.set self.old.todo }
+        ensures { self.new ≡ tell_on tree.now.nodes self.old self.old.todo }
+    {
+        if self.todo.fill(all) {
+            return self.finish_next(tree);
         }
+        self.stage = Stage::Telling;
+        self.walk = Walk::begin(Minor::SurpriseRemoval);
+    }
+}
+
+/// The word for how a device is finished.
+fn finishing(finish: Finish) -> Stage
+    ensures { result ≡ finishing finish }
+{
+    match finish {
+        Finish::Removing => Stage::Removing,
+        Finish::Settling => Stage::Settling,
+        Finish::Ending => Stage::Ending,
     }
 }

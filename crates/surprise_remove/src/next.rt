@@ -1,54 +1,32 @@
 ghost use Rattle.std.specs.Prelude.{◌≡◌, IfOk, OnErr, IsSome, true, false};
 ghost use Rattle.pnp_model.specs.Cores.{node_at};
 ghost use Rattle.pnp_model.specs.Machine.{surprise_walk, is_waiting};
-ghost use Rattle.pnp_model.specs.Surprises.{tell_on, tell_step};
+ghost use Rattle.pnp_model.specs.Surprises.{tell_step};
 ghost use Rattle.pnp_model.specs.Frames.{first_node};
 ghost use Rattle.pnp_model.specs.Records as Records;
 ghost use Rattle.trial_journal.specs.Four as Four;
 ghost use Rattle.device_holdings.specs.Mirrors.{IsMirrored, KeepsMirror};
 ghost use Rattle.operation_frame.specs.Nodes.{PathIs};
-ghost use Rattle.operation_frame.specs.Queues.{all_after};
 ghost use Rattle.operation_frame.specs.Steps.{MovesFor, MovesRelated};
 ghost use Rattle.pnp_labels.specs.declared.label.RemoveStep.TheVariants as steps;
 ghost use Rattle.surprise_remove.specs.Steps.{Moved, Surprises, HasNext, SettlesStripped};
 ghost use Rattle.surprise_remove.specs.Parts.{end_move, is_walking};
 
 use crate::frame::{Stage, Surprise};
-use device_ids::{Text, WantOfMemory};
-use device_stack::Walk;
+use device_ids::WantOfMemory;
 use devnode_tree::Tree;
 use driver_rack::Drivers;
-use operation_frame::{SerialQueue, Walked, end_walk, pass_on, strip};
+use operation_frame::{Asked, Walked, end_walk, pass_on, strip};
 use pnp_labels::{Label, Minor, RemoveStep};
 use relations::Relations;
 use std::alloc::Global;
 use trial_journal::Arbiters;
 
 impl Surprise {
-    /// The device that is next is told, and where none is next all are finished.
-    pub(crate) fn tell_next(&mut self, tree: &Tree, all: SerialQueue)
-        requires { all ≡ all_after self.old.set self.old.todo }
-        ensures { self.new ≡ tell_on tree.now.nodes self.old self.old.todo }
-    {
-        if self.todo.get(0).is_some() {
-            self.stage = Stage::Telling;
-            self.walk = Walk::begin(Minor::SurpriseRemoval);
-            return;
-        }
-        self.todo = all;
-        self.finish_next(tree);
-    }
-
     /// The device that is next was told; after the last one all are finished.
-    fn told(
-        &mut self,
-        alloc: Global,
-        serial: u64,
-        path: Text,
-        tree: &mut Tree,
-    ) -> Result<Label, WantOfMemory>
-        requires path { PathIs (node_at serial tree.old.nodes) path }
-        ensures told { IfOk result (λ label. (w : Records.Walk) → MovesFor Moved (node_at serial tree.old.nodes) (λ c n. tell_step c self.old n w true) tree.old.nodes (steps.Did label) tree.new.nodes self.new) }
+    fn told(&mut self, alloc: Global, asked: Asked, tree: &mut Tree) -> Result<Label, WantOfMemory>
+        requires path { PathIs (node_at asked.serial tree.old.nodes) asked.path }
+        ensures told { IfOk result (λ label. (w : Records.Walk) → MovesFor Moved (node_at asked.serial tree.old.nodes) (λ c n. tell_step c self.old n w true) tree.old.nodes (steps.Did label) tree.new.nodes self.new) }
         ensures next { tree.new.next ≡ tree.old.next }
         ensures mirrors { (arbiters : Four.Arbiters) → KeepsMirror tree.old.nodes arbiters tree.new.nodes arbiters }
         ensures surprise { OnErr result (self.new ≡ self.old) }
@@ -57,23 +35,23 @@ impl Surprise {
         let all = self.todo.all_after_next(alloc, &self.set)?;
         self.todo.drop_first();
         self.tell_next(tree, all);
-        Ok(end_walk(Minor::SurpriseRemoval, false, path, serial, tree))
+        let minor = Minor::SurpriseRemoval;
+        Ok(end_walk(minor, false, asked.path, asked.serial, tree))
     }
 
     /// The request of the device that is next has ended.
     fn end_request(
         &mut self,
         alloc: Global,
-        serial: u64,
-        path: Text,
         tree: &mut Tree,
         relations: &mut Relations,
         arbiters: &mut Arbiters,
+        asked: Asked,
     ) -> Result<Label, WantOfMemory>
-        requires path { PathIs (node_at serial tree.old.nodes) path }
+        requires path { PathIs (node_at asked.serial tree.old.nodes) asked.path }
         requires walking { is_walking self.old.stage ≡ true }
         requires mirrored { IsMirrored tree.old.nodes arbiters.old }
-        ensures ended { IfOk result (λ label. MovesRelated Moved (node_at serial tree.old.nodes) (end_move self.old self.old.stage) tree.old.nodes relations.old (steps.Did label) tree.new.nodes relations.new self.new) }
+        ensures ended { IfOk result (λ label. MovesRelated Moved (node_at asked.serial tree.old.nodes) (end_move self.old self.old.stage) tree.old.nodes relations.old (steps.Did label) tree.new.nodes relations.new self.new) }
         ensures next { tree.new.next ≡ tree.old.next }
         ensures mirrors { KeepsMirror tree.old.nodes arbiters.old tree.new.nodes arbiters.new }
         ensures surprise { OnErr result (self.new ≡ self.old) }
@@ -81,10 +59,10 @@ impl Surprise {
         ensures relations { OnErr result (relations.new ≡ relations.old) }
     {
         match self.stage {
-            Stage::Telling => self.told(alloc, serial, path, tree),
+            Stage::Telling => self.told(alloc, asked, tree),
             _ => {
                 self.stage = Stage::Settling;
-                Ok(strip(path, serial, tree, relations, arbiters))
+                Ok(strip(asked.path, asked.serial, tree, relations, arbiters))
             }
         }
     }
@@ -111,13 +89,16 @@ impl Surprise {
         ensures relations { OnErr result (relations.new ≡ relations.old) }
         ensures rack { OnErr result (R.rows rack.new ≡ R.rows rack.old) }
     {
-        let Some(serial) = self.first() else {
-            unreachable!()
-        };
-        match pass_on(alloc, serial, &mut self.walk, tree, rack)? {
-            Walked::On(label) => Ok(RemoveStep::Did(label)),
+        let serial = self.todo.first();
+        let mut walk = self.walk;
+        match pass_on(alloc, serial, &mut walk, tree, rack)? {
             Walked::Ended { path, .. } => {
-                let label = self.end_request(alloc, serial, path, tree, relations, arbiters)?;
+                let asked = Asked { serial, path };
+                let label = self.end_request(alloc, tree, relations, arbiters, asked)?;
+                Ok(RemoveStep::Did(label))
+            }
+            Walked::On(label) => {
+                self.walk = walk;
                 Ok(RemoveStep::Did(label))
             }
         }

@@ -10,9 +10,9 @@ ghost use Rattle.pnp_labels.specs.declared.label.Label.{Label};
 ghost use Rattle.surprise_remove.specs.Parts.{SettlesFor};
 
 use crate::frame::Surprise;
-use device_ids::{Text, WantOfMemory};
+use device_ids::WantOfMemory;
 use devnode_tree::Tree;
-use operation_frame::{leave, remain};
+use operation_frame::{Settled, leave, remain};
 use pnp_labels::{Label, OpEnd, OpKind, Problem, RemoveStep};
 use std::alloc::Global;
 
@@ -41,32 +41,28 @@ impl Surprise {
         ensures surprise { OnErr result (self.new ≡ self.old) }
         ensures tree { OnErr result (tree.new ≡ tree.old) }
     {
-        let Some(serial) = self.first() else {
-            unreachable!()
-        };
-        let node = tree.at(serial);
-        let serial = node.serial;
-        let born = node.born;
-        let in_set = self.removes(node.parent);
-        let line = Text::make(alloc, node.path.bytes())?;
-        let path = node.path.copy(alloc)?;
-        if self.is_target(serial) {
+        let device = Settled::of(alloc, tree.at(self.todo.first()))?;
+        if self.is_target(device.serial) {
             if in_world {
                 return Ok(RemoveStep::Over(self.end_line(alloc)?));
             }
-        } else if !in_set {
+        } else if !self.removes(device.parent) {
             let problem = Problem::Held;
             self.go_on(tree);
-            remain(serial, problem, tree);
+            remain(device.serial, problem, tree);
             return Ok(RemoveStep::Did(Label::Trouble {
-                path: line,
+                path: device.line,
                 problem,
             }));
         }
         self.go_on(tree);
-        leave(serial, tree);
-        let label = Label::Leave { path: line };
-        Ok(RemoveStep::Left { label, path, born })
+        leave(device.serial, tree);
+        let label = Label::Leave { path: device.line };
+        Ok(RemoveStep::Left {
+            label,
+            path: device.path,
+            born: device.born,
+        })
     }
 
     /// The line of the end.

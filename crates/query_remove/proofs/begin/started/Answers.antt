@@ -1,4 +1,4 @@
-use Rattle.std.proofs.Common.{ℕ, ◌≡◌, ◌+◌, ◌∙◌, ◌++◌, Bool, true, false, List, drop, ap, sym}
+use Rattle.std.proofs.Common.{◌∙◌, true, false, sym}
 use Rattle.pnp_model.specs.Cores.{node_at}
 use Rattle.pnp_model.specs.Keyed.{those}
 use Rattle.pnp_model.specs.Trees.{is_up}
@@ -8,14 +8,9 @@ use Rattle.query_remove.proofs.begin.started.Goals.{then-is_up+in_ok-push_back, 
 
 pub loop-at-preserved : goal.loop-at-preserved
 loop-at-preserved c =
-    let nodes = c.args.tree.now.nodes in
-    let set = c.args.set.now in
-    let k = c.get-serial.result in
-    let more = λ (b : Bool) (e : is_up (node_at k nodes) ≡ b).
-    passes_more (λ j. is_up (node_at j nodes)) b set c.loop-at.at k c.loop-at.queue (those (λ j. is_up (node_at j nodes)) set) c.get-serial.ensures e c.loop-at.invariant in
+    let more = passes_more (λ j. is_up (node_at j c.args.tree.now.nodes)) in
     elim c.if-is_up.branch [
       | then-is_up+in_ok-push_back w ↦
-          ap (λ (l : List ℕ). l ++ those (λ j. is_up (node_at j nodes)) (drop (c.loop-at.at + 1) set)) (w.queue-is ∙ w.in_ok-push_back.ensures.pushed) ∙ more true (sym c.is_up.ensures ∙ w.if-is_up.true)
-      | else-is_up w ↦
-          ap (λ (l : List ℕ). l ++ those (λ j. is_up (node_at j nodes)) (drop (c.loop-at.at + 1) set)) w.queue-is ∙ more false (sym c.is_up.ensures ∙ w.if-is_up.false)
+          more true c.args.set.now c.loop-at.at c.get-serial.result c.loop-at.queue _ _ c.get-serial.ensures (sym c.is_up.ensures ∙ w.if-is_up.true) (w.queue-is ∙ w.in_ok-push_back.ensures.pushed) c.loop-at.invariant
+      | else-is_up w ↦ more false c.args.set.now c.loop-at.at c.get-serial.result c.loop-at.queue _ _ c.get-serial.ensures (sym c.is_up.ensures ∙ w.if-is_up.false) w.queue-is c.loop-at.invariant
     ]

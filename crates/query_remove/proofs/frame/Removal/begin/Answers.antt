@@ -1,14 +1,11 @@
-use Rattle.std.proofs.Common.{ℕ, ◌≡◌, ◌∙◌, ap, sym, subst, is_some, true}
-use Rattle.pnp_model.specs.Cores.{node_at}
+use Rattle.std.proofs.Common.{◌∙◌, ap}
 use Rattle.pnp_model.specs.Records.{Node}
-use Rattle.operation_frame.proofs.Given.{found_own}
+use Rattle.operation_frame.proofs.Given.{own_there}
 use Rattle.query_remove.proofs.Beginning.{begun_is}
 use Rattle.query_remove.proofs.frame.Removal.begin.Goals as goal
 
 pub leaving-requires : goal.leaving-requires
-leaving-requires c =
-    let nodes = c.args.tree.now.nodes in
-    subst (λ (k : ℕ). is_some (node_at k nodes) ≡ true) (sym (ap (λ (n : Node). n.serial) c.node.view_is)) (found_own nodes c.args.serial c.at-node.result.now c.at-node.ensures.node)
+leaving-requires c = own_there c.args.tree.now.nodes c.args.serial c.node.inside.serial c.at-node.result.now c.at-node.ensures.node (ap (λ (n : Node). n.serial) c.node.view_is)
 
 pub returns : goal.returns
 returns c =

@@ -21,12 +21,11 @@ returns-in-Telling-clause-mirrors c = c.told.ensures.mirrors c.args.arbiters.now
 pub returns-in-Telling-clause-ended : goal.returns-in-Telling-clause-ended
 returns-in-Telling-clause-ended c =
     let o = c.args.self.now in
-    let w = c.self.inside.walk.walk in
     let nodes = c.args.tree.now.nodes in
-    let x = node_at c.args.serial nodes in
-    let stage = ap (λ (r : Surprise). r.stage) (sym c.self.view_is) ∙ ap (λ s. stage_of s w) c.in-Telling.is in
+    let x = node_at c.args.asked.serial nodes in
+    let stage = ap (λ (r : Surprise). r.stage) (sym c.self.view_is) ∙ ap (λ s. stage_of s c.self.inside.walk.walk) c.in-Telling.is in
     ok_then (λ label. (v : Records.Walk) → MovesFor Moved x (λ d n. tell_step d o n v true) nodes (steps.Did label) c.told.new.tree.nodes c.told.new.self) _
-    (λ label h. ends_at Moved (end_move o) o.stage (Records.SurpriseStage.Telling w) stage x nodes c.args.relations.now (steps.Did label) c.told.new.tree.nodes c.told.new.self (h w)) c.told.result c.told.ensures.told
+    (λ label h. ends_at Moved (end_move o) o.stage (Records.SurpriseStage.Telling c.self.inside.walk.walk) stage x nodes c.args.relations.now (steps.Did label) c.told.new.tree.nodes c.told.new.self (h c.self.inside.walk.walk)) c.told.result c.told.ensures.told
 
 pub returns-in_default-clause-ended : goal.returns-in_default-clause-ended
 returns-in_default-clause-ended c =
@@ -38,7 +37,7 @@ returns-in_default-clause-ended c =
     let only = only_removing c.self.inside.stage w c.in_default.not-Telling (ap is_walking seen ∙ c.requires.walking) in
     let stage = sym seen ∙ ap (λ s. stage_of s w) only in
     let settles = ap (λ (r : Surprise). record r { stage = Records.SurpriseStage.Settling }) c.self.view_is in
-    at_stage Moved (end_move o) o.stage (Records.SurpriseStage.Removing w) stage (node_at c.args.serial nodes) nodes rs (steps.Did c.strip.result) c.strip.new.tree.nodes _ c.strip.new.relations
-    (subst (λ (f : Surprise). MovesRelated Moved (node_at c.args.serial nodes) (end_move o (Records.SurpriseStage.Removing w)) nodes rs (steps.Did c.strip.result) c.strip.new.tree.nodes c.strip.new.relations f) (sym settles)
-    (stripped_is Moved RemoveBeside.On (steps.Did c.strip.result) c.strip.result (λ m core frame h. h) nodes c.strip.new.tree.nodes c.args.serial c.args.path (record o { stage = Records.SurpriseStage.Settling }) rs c.strip.new.relations
+    at_stage Moved (end_move o) o.stage (Records.SurpriseStage.Removing w) stage (node_at c.args.asked.serial nodes) nodes rs (steps.Did c.strip.result) c.strip.new.tree.nodes _ c.strip.new.relations
+    (subst (λ (f : Surprise). MovesRelated Moved (node_at c.args.asked.serial nodes) (end_move o (Records.SurpriseStage.Removing w)) nodes rs (steps.Did c.strip.result) c.strip.new.tree.nodes c.strip.new.relations f) (sym settles)
+    (stripped_is Moved RemoveBeside.On (steps.Did c.strip.result) c.strip.result (λ m core frame h. h) nodes c.strip.new.tree.nodes c.args.asked.serial c.args.asked.path (record o { stage = Records.SurpriseStage.Settling }) rs c.strip.new.relations
     (λ d n. remove_step d o n w true) c.requires.path c.strip.ensures.label (ap (λ (t : Tree). t.nodes) c.strip.ensures.bare) c.strip.ensures.relations (λ around n. refl)))

@@ -1,6 +1,6 @@
-use Rattle.std.proofs.Common.{ℕ, subst, sym, ap}
+use Rattle.std.proofs.Common.{ℕ, ◌∙◌, slice_get, ap, subst, sym}
+use Rattle.pnp_model.specs.Records.{Surprise}
 use Rattle.pnp_model.specs.Cores.{node_at}
-use Rattle.pnp_model.specs.Records.{Node}
 use Rattle.operation_frame.specs.Nodes.{HoldsNothing}
 use Rattle.operation_frame.proofs.Requests.{stripped_at}
 use Rattle.surprise_remove.proofs.frame.Surprise.settle.Goals as goal
@@ -8,6 +8,5 @@ use Rattle.surprise_remove.proofs.frame.Surprise.settle.Goals as goal
 pub leave-requires-clause-bare : goal.leave-requires-clause-bare
 leave-requires-clause-bare c =
     let nodes = c.args.tree.now.nodes in
-    let seen = ap (λ (n : Node). n.serial) c.node.view_is in
-    subst (λ (k : ℕ). HoldsNothing (node_at k nodes)) (sym seen)
-    (stripped_at nodes c.args.self.now.todo c.in-Some.serial c.at-node.result.now c.in-Some.ensures c.at-node.ensures.node c.requires.settles).1
+    subst (λ (k : ℕ). HoldsNothing (node_at k nodes)) (sym c.in_ok-device.ensures.serial)
+    (stripped_at nodes c.args.self.now.todo c.first.result c.at.result.now (sym (ap (λ (r : Surprise). slice_get r.todo 0) (sym c.self.view_is) ∙ c.first.ensures)) c.at.ensures.node c.requires.settles).1
