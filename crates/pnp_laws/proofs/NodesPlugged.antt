@@ -12,12 +12,12 @@ use Rattle.pnp_model.specs.Runs.{Entry, Run, opening, printed, root_path}
 use Rattle.pnp_model.specs.Runs.Entry.{Happens}
 use Rattle.pnp_model.specs.States.{without_those}
 use Rattle.pnp_model.specs.Tasks.{joins}
-use Rattle.pnp_laws.specs.Effects.{Alters, NodeEffect, WorldEffect}
+use Rattle.pnp_laws.specs.Effects.{NodeEffect, WorldEffect}
 use Rattle.pnp_laws.specs.Held.{AreWithin}
 use Rattle.pnp_laws.specs.Kept.{Ascending}
 use Rattle.pnp_laws.specs.Needs.{IsEntryWithin, IsSaid, NeedsLaw, PluggedLaw}
 use Rattle.pnp_laws.specs.Reached.{IsReached}
-use Rattle.pnp_laws.proofs.EffectViews.{CameFrom, came_from}
+use Rattle.pnp_laws.proofs.EffectViews.{Origin, origin}
 use Rattle.pnp_laws.proofs.EffectsOf.{effect_goes}
 use Rattle.pnp_laws.proofs.JoinSteps.{in_find}
 use Rattle.pnp_laws.proofs.Joins.{In, sub_in, sub_without}
@@ -49,19 +49,18 @@ EventsSay Q entries = (parent path : Text) (hw compat : List Text) (reqs : Reqs)
 -- Nodes ---------------------------------------------------------------------------------------
 
 module _ (Q : Says) (s : State) (label : Label) (t : State) (old : NodesSay Q s.core.nodes) (world : WorldSays Q s.world) where
-  altered_says : (j : ℕ) (f : Node → Node) → Alters s label t j f → (n : Node) → OfNode Q n → OfNode Q (f n)
-  altered_says j f (Alters.walked node minor w bad at request other ends verdict prints) n h = h
-  altered_says j f _ n h = h
-
-  node_says : (k : ℕ) (m : Node) → CameFrom s label t k m → OfNode Q m
-  node_says k m (CameFrom.was _ q) = old k m q
-  node_says k _ (CameFrom.altered n f q alters) = altered_says k f alters n (old k n q)
-  node_says k _ (CameFrom.stripped n w q request prints) = old k n q
-  node_says k _ (CameFrom.moved n r q runs is) = old k n q
-  node_says k _ (CameFrom.joined node d none own there) = world d (in_find (joins node.born s.core.nodes) s.world d there).1
+  node_says : (k : ℕ) (m : Node) → Origin s label t k m → OfNode Q m
+  node_says k _ (Origin.was n at) = old k n at
+  node_says k _ (Origin.walked n minor w bad at request other ends verdict prints) = old k n at
+  node_says k _ (Origin.troubled n problem at) = old k n at
+  node_says k _ (Origin.stacks n d ds name at acts prints) = old k n at
+  node_says k _ (Origin.assigned n phase plan at acts search part now) = old k n at
+  node_says k _ (Origin.stripped n w at request prints) = old k n at
+  node_says k _ (Origin.commits r n runs is at) = old k n at
+  node_says k _ (Origin.joins node d below gone own) = world d (in_find (joins node.born s.core.nodes) s.world d below).1
 
   nodes_say : Ascending 0 s.core.nodes → NodeEffect s label t → NodesSay Q t.core.nodes
-  nodes_say order effect = λ k m now. node_says k m (came_from s label t order k m effect now)
+  nodes_say order effect = λ k m now. node_says k m (origin s label t order k m effect now)
 
 -- The world -----------------------------------------------------------------------------------
 

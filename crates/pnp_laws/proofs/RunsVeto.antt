@@ -2,9 +2,7 @@
 use Rattle.std.proofs.Common.{ℕ, ◌≡◌, inl, inr, Bool, false, List, Option, Some, None, refl, sym, ap, ◌∙◌, subst}
 use Rattle.pnp_model.specs.Records.{Node, Core, Driver, State, Step, Settings, Operation}
 use Rattle.pnp_model.specs.Trees.{leaving}
-use Rattle.pnp_model.specs.Rebalances.{begun_rebalance}
 use Rattle.pnp_model.specs.Removals.{begun_removal, end_of}
-use Rattle.pnp_model.specs.Surprises.{begun_surprise}
 use Rattle.pnp_model.specs.Tasks.{begin}
 use Rattle.pnp_model.specs.Runs.{Entry, Goes, Run, printed}
 use Rattle.pnp_model.specs.Runs.Entry.{Happens, Did}
@@ -22,6 +20,7 @@ use Rattle.pnp_laws.proofs.Courses.{Way, way_goes}
 use Rattle.pnp_laws.proofs.BeginSteps.{Begun, begins_right, reached_dues}
 use Rattle.pnp_laws.proofs.Vetoes.{since_begun, veto_restores}
 use Rattle.pnp_laws.proofs.VetoSteps.{VetoSince, Closed, veto_step, veto_happens}
+use Rattle.pnp_laws.specs.Effects as ef
 
 -- within the operation
 
@@ -118,10 +117,8 @@ by_begin settings rack before begun last after entries OpKind.Disable end_kind p
     veto_since before.core settings rack begun last after entries end_kind end_path q reached (removal_since before OpKind.Disable b.node begun b.is) run within ends
 by_begin settings rack before begun last after entries OpKind.Eject end_kind path end_path q b reached run within ends =
     veto_since before.core settings rack begun last after entries end_kind end_path q reached (removal_since before OpKind.Eject b.node begun b.is) run within ends
-by_begin settings rack before begun last after entries OpKind.Rebalance end_kind path end_path q b reached run within ends =
-    absurd (unvetoed settings rack begun last after entries end_kind end_path q reached (other_runs before OpKind.Rebalance b.node begun (Operation.Rebalancing (begun_rebalance before.core b.node)) refl b.is) run within ends)
-by_begin settings rack before begun last after entries OpKind.Surprise end_kind path end_path q b reached run within ends =
-    absurd (unvetoed settings rack begun last after entries end_kind end_path q reached (other_runs before OpKind.Surprise b.node begun (Operation.Surprising (begun_surprise before.core b.node)) refl b.is) run within ends)
+by_begin settings rack before begun last after entries kind end_kind path end_path q b reached run within ends =
+    absurd (unvetoed settings rack begun last after entries end_kind end_path q reached (other_runs before kind b.node begun (ef.begun before.core kind b.node) refl b.is) run within ends)
 
 pub a_veto_restores : VetoLaw
 a_veto_restores settings rack earlier entries before begun last after kind end_kind path end_path refuser reaches goes run within ends =
