@@ -150,3 +150,21 @@ fn large_trees(rt: HostRuntime) -> Result<(), Fail> {
     assert_eq!(rt; rows.last().copied(), Some(row(5120, 1025)));
     Ok(())
 }
+
+/// A path is found by its index, not by going over all nodes: with 300,000 devices below one parent each is found, up to the case
+/// of its letters, within seconds.
+#[test]
+fn a_wide_tree(rt: HostRuntime) -> Result<(), Fail> {
+    let alloc = rt.alloc();
+    let mut tree = Tree::new(alloc)?;
+    for k in 1..300_001u64 {
+        let path = format!(in alloc; "OWN\\DEV\\{k}")?;
+        join(&mut tree, alloc, 0, path.as_bytes())?;
+    }
+    'finds: for k in 1..300_001u64 {
+        let path = format!(in alloc; "own\\dev\\{k}")?;
+        let path = InstancePath::read(alloc, path.as_bytes())?;
+        assert_eq!(rt; tree.find(&path), Some(k));
+    }
+    Ok(())
+}
