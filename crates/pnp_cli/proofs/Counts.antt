@@ -1,10 +1,13 @@
 -- Of the lines of the printed tree as many pass a test as of the nodes.
-use Rattle.std.proofs.Common.{ℕ, suc, ◌+◌, ◌≡◌, ◌≢◌, ◌==◌, Bool, true, false, cond, List, [], ◌∷◌, map, Option, Some, None, refl, sym, ◌∙◌, ap, ap₂, subst, arith}
+use Rattle.std.proofs.Common.{ℕ, suc, ◌+◌, ◌≡◌, ◌≢◌, ◌==◌, Bool, true, false, cond, List, [], ◌∷◌, map, take, length, ◌≤◌, Option, Some, refl, sym, ◌∙◌, ap, ap₂, subst, arith}
 use Rattle.std.specs.Prelude.{count_by}
 use Rattle.std.specs.List.{AllByRecursion}
 use Rattle.std.proofs.lemmas.Bool.Decides.{nat_tests}
+use Rattle.std.proofs.lemmas.List.{take_all}
+use Rattle.std.proofs.lemmas.List.Sums.{sum_by-cons}
 use Rattle.std.proofs.lemmas.List.Elements.{recursion_from_All}
 use Rattle.devnode_tree.specs.Rows.{row_of}
+use Rattle.devnode_tree.specs.declared.print.PrintRow.{PrintRow}
 use Rattle.pnp_model.specs.Cores.{node_at}
 use Rattle.pnp_model.specs.Endings.{Placed, print_order}
 use Rattle.pnp_model.specs.Records.{Node, State}
@@ -19,6 +22,9 @@ use Rattle.pnp_machine.specs.Managers.{IsOfRun}
 
 abbrev one : Bool → ℕ
 one b = cond b 1 0
+
+count_first : {X : Type 0} (test : X → Bool) (x : X) (xs : List X) → count_by test (x ∷ xs) ≡ one (test x) + count_by test xs
+count_first test x xs = sum_by-cons (λ y. one (test y)) x xs
 
 -- each line is of a node
 abbrev AllFound : List Node → List Placed → Type 0
@@ -52,7 +58,7 @@ lines_others j k d (p ∷ ps) = by_tests (p.node.serial == k) (p.node.serial == 
 count_one : (test : Node → Bool) (nodes : List Node) (k : ℕ) (n : Node) (ps : List Placed) → node_at k nodes ≡ Some n → AllFound nodes ps → lines_of k ps ≡ 1
     → count_by (λ p. test p.node) ps ≡ one (test n) + count_by (λ p. test p.node) (others k ps)
 count_one test nodes k n [] at found e = absurd (omega (arith, e))
-count_one test nodes k n (p ∷ ps) at found e = by_test (p.node.serial == k) refl e (λ h. count_one test nodes k n ps at found.1 h)
+count_one test nodes k n (p ∷ ps) at found e = count_first (λ p. test p.node) p ps ∙ by_test (p.node.serial == k) refl e (λ h. count_one test nodes k n ps at found.1 h)
   where
     by_test : (b : Bool) → (p.node.serial == k) ≡ b → cond b (1 + lines_of k ps) (lines_of k ps) ≡ 1
         → (lines_of k ps ≡ 1 → count_by (λ p. test p.node) ps ≡ one (test n) + count_by (λ p. test p.node) (others k ps))
@@ -62,7 +68,7 @@ count_one test nodes k n (p ∷ ps) at found e = by_test (p.node.serial == k) re
         let is : p.node ≡ n = some_same (node_at k nodes) p.node n (subst (λ (i : ℕ). node_at i nodes ≡ Some p.node) same found.0) at in
         let rest : others k ps ≡ ps = others_none k ps (omega (arith, e)) in
         ap₂ (λ (m : Node) (qs : List Placed). one (test m) + count_by (λ p. test p.node) qs) is (sym rest)
-    by_test false h e more = omega (arith, more e)
+    by_test false h e more = omega (arith, more e, count_first (λ p. test p.node) p (others k ps))
 
 -- behind the first node
 below_first : (k : ℕ) (m n : Node) (ns : List Node) → (n.serial == k) ≡ false → node_at k (n ∷ ns) ≡ Some m → node_at k ns ≡ Some m
@@ -88,12 +94,14 @@ count_all test lo (n ∷ ns) ps order once found =
     λ k m at e. let none = none_below (suc n.serial) k ns (omega (arith, e)) order.1 in cc in
     let more = count_all test (suc n.serial) ns (others n.serial ps) order.1
     (λ k m at. lines_others k n.serial (apart k m at) ps ∙ once k m (tail_at lo n ns k m order at)) (found_others n ns ps found) in
-    count_one test (n ∷ ns) n.serial n ps (head_at n ns) found (once n.serial n (head_at n ns)) ∙ ap (λ (i : ℕ). one (test n) + i) more
+    count_one test (n ∷ ns) n.serial n ps (head_at n ns) found (once n.serial n (head_at n ns)) ∙ ap (λ (i : ℕ). one (test n) + i) more ∙ sym (count_first test n ns)
 
 count_rows : (test : ℕ → Option Node → Bool) (nodes : List Node) (ps : List Placed) → AllFound nodes ps
     → count_by (λ row. test row.serial (node_at row.serial nodes)) (map row_of ps) ≡ count_by (λ p. test p.node.serial (Some p.node)) ps
 count_rows test nodes [] found = refl
-count_rows test nodes (p ∷ ps) found = ap₂ (λ (o : Option Node) (i : ℕ). one (test p.node.serial o) + i) found.0 (count_rows test nodes ps found.1)
+count_rows test nodes (p ∷ ps) found =
+    count_first (λ row. test row.serial (node_at row.serial nodes)) (row_of p) (map row_of ps)
+    ∙ ap₂ (λ (o : Option Node) (i : ℕ). one (test p.node.serial o) + i) found.0 (count_rows test nodes ps found.1) ∙ sym (count_first (λ p. test p.node.serial (Some p.node)) p ps)
 
 count_listed : (test : ℕ → Option Node → Bool) (nodes : List Node) → Ascending 0 nodes → TreeIsPrinted nodes
     → count_by (λ row. test row.serial (node_at row.serial nodes)) (map row_of (print_order nodes)) ≡ count_by (λ n. test n.serial (Some n)) nodes
@@ -102,8 +110,16 @@ count_listed test nodes order printed =
     count_rows test nodes (print_order nodes) found ∙ count_all (λ n. test n.serial (Some n)) 0 nodes (print_order nodes) order printed.once found
 
 -- so in each state of a run
-pub count_printed : (test : ℕ → Option Node → Bool) (s : State) → IsOfRun s
+count_printed : (test : ℕ → Option Node → Bool) (s : State) → IsOfRun s
     → count_by (λ row. test row.serial (node_at row.serial s.core.nodes)) (map row_of (print_order s.core.nodes)) ≡ count_by (λ n. test n.serial (Some n)) s.core.nodes
 count_printed test s h =
     let keys : Keyed s = keyed h.told h.rack h.entries s h.reaches in
     count_listed test s.core.nodes keys.serials.ascending (each_node_is_printed_once h.told h.rack h.entries s h.reaches)
+
+-- and what was counted over all rows is the count over the nodes
+pub count_up : (test : ℕ → Option Node → Bool) (s : State) → IsOfRun s → (nodes : List Node) (rows : List PrintRow) (i count : ℕ) → nodes ≡ s.core.nodes → rows ≡ map row_of (print_order s.core.nodes)
+    → length rows ≤ i → count ≡ count_by (λ row. test row.serial (node_at row.serial nodes)) (take i rows) → count ≡ count_by (λ n. test n.serial (Some n)) s.core.nodes
+count_up test s h nodes rows i count same_nodes same_rows long is =
+    is ∙ ap (λ (xs : List PrintRow). count_by (λ row. test row.serial (node_at row.serial nodes)) xs) (take_all i rows long)
+    ∙ ap₂ (λ (ns : List Node) (xs : List PrintRow). count_by (λ row. test row.serial (node_at row.serial ns)) xs) same_nodes same_rows
+    ∙ count_printed test s h

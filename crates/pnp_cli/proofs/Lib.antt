@@ -12,7 +12,7 @@ pub mod Refusals
 pub mod WordRows
 pub mod InfSteps
 pub mod Limited
-pub mod Made
+pub mod MadeRuns
 pub mod MadeLines
 pub mod Counts
 pub mod Counting

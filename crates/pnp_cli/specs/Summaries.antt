@@ -1,5 +1,5 @@
 -- The summary of a run over a generated script.
-use Rattle.std.specs.Prelude.{ℕ, ◌==◌, ◌&&◌, not, ◌≡◌, Bool, true, false, List, ◌∷◌, [], ◌++◌, Option, Some, codes, count_by, length}
+use Rattle.std.specs.Prelude.{ℕ, ◌==◌, ◌&&◌, not, ◌≡◌, Bool, true, false, List, ◌∷◌, [], ◌++◌, Option, Some, None, codes, count_by, length}
 use Rattle.std.specs.Fmt.{decimal}
 use Rattle.pnp_labels.specs.Texts.{Text}
 use Rattle.pnp_labels.specs.declared.label.Label.{Label}

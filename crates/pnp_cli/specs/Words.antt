@@ -28,9 +28,13 @@ inf_rule = record (new_rule (codes "inf")) { action = Some Append }
 abbrev pub bare : App
 bare = on_top (λ s. record s { disable_help_flag = true }) (new_app (codes "pnpmgr"))
 
--- two options with a value each, one word for the script, and then any number of words for INFs
+-- two options with a value each
+abbrev pub options : App
+options = with_rule (with_rule bare budget_rule) gen_rule
+
+-- these, one word for the script, and then any number of words for INFs
 abbrev pub pnpmgr : App
-pnpmgr = with_rule (with_rule (with_rule (with_rule bare budget_rule) gen_rule) script_rule) inf_rule
+pnpmgr = with_rule (with_rule options script_rule) inf_rule
 
 abbrev pub has_none : Kinds → Bool
 has_none [] = true

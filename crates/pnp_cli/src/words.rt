@@ -3,7 +3,7 @@ ghost use Rattle.std.specs.Prelude.{◌≡◌, ◌≤◌, ◌<◌, Some, None, I
 ghost use Rattle.clap.specs.Simple.{app_of, matches_of};
 ghost use Rattle.clap.specs.Walk.{rows_of, first_of, all_of};
 ghost use Rattle.clap.specs.Matches.{found_of};
-ghost use Rattle.pnp_cli.specs.Words.{pnpmgr, is_accepted, number_of, within, budget_of, made_of, given, parts_of, infs_of, settings_of, texts};
+ghost use Rattle.pnp_cli.specs.Words.{options, pnpmgr, is_accepted, number_of, within, budget_of, made_of, given, parts_of, infs_of, settings_of, texts};
 ghost use Rattle.pnp_cli.specs.declared.parts.WordsError.TheVariants.{BadWords};
 
 use crate::parts::{Settings, WordsError};
@@ -27,18 +27,25 @@ const MOST_MADE: u64 = 400;
 /// The most digits of a number: this project's own.
 const MOST_DIGITS: usize = 7;
 
+/// The options of the command: `[--budget N] [--gen N]`.
+fn options<'a>(alloc: Global) -> Result<Command<'a>, WantOfMemory>
+    ensures { IfOk result (λ c. app_of c ≡ options) }
+{
+    let budget = Arg::new(alloc, "budget").long("budget");
+    let made = Arg::new(alloc, "gen").long("gen");
+    let plain = Command::new(alloc, "pnpmgr").disable_help_flag(true);
+    let with_budget = plain.arg(budget)?;
+    with_budget.arg(made)
+}
+
 /// The command: `pnpmgr [--budget N] [--gen N] [SCRIPT [INF ...]]`.
 fn command<'a>(alloc: Global) -> Result<Command<'a>, WantOfMemory>
     ensures { IfOk result (λ c. app_of c ≡ pnpmgr) }
 {
-    let budget = Arg::new(alloc, "budget").long("budget");
-    let made = Arg::new(alloc, "gen").long("gen");
     let script = Arg::new(alloc, "script");
     let inf = Arg::new(alloc, "inf").action(ArgAction::Append);
-    let plain = Command::new(alloc, "pnpmgr").disable_help_flag(true);
-    let with_budget = plain.arg(budget)?;
-    let with_made = with_budget.arg(made)?;
-    let with_script = with_made.arg(script)?;
+    let with_options = options(alloc)?;
+    let with_script = with_options.arg(script)?;
     with_script.arg(inf)
 }
 

@@ -7,3 +7,5 @@ mod device_holdings_calls;
 mod device_stack_calls;
 #[cfg(test)]
 mod driver_rack_calls;
+#[cfg(test)]
+mod node_pool_calls;

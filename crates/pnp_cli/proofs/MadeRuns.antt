@@ -1,6 +1,7 @@
 -- What the summary of a run over a generated script says.
-use Rattle.std.proofs.Common.{◌≡◌, ℕ, List, [], ◌∷◌, ◌++◌, Option, Some, None, Result, Ok, Err, sym, ◌∙◌, subst, append_assoc, ap}
-use Rattle.pnp_io.specs.Outside.{Appends, AppendsFront}
+use Rattle.std.proofs.Common.{◌≡◌, ℕ, List, [], ◌∷◌, ◌++◌, ◌≤◌, length, Option, Some, Result, Ok, Err, IfOk, Vec, sym, ◌∙◌, subst, append_assoc, ap, arith}
+use Rattle.std.specs.Global.{Global}
+use Rattle.pnp_io.specs.Outside.{AppendsFront}
 use Rattle.pnp_labels.specs.Texts.{Text}
 use Rattle.pnp_model.specs.Records.{Driver}
 use Rattle.pnp_model.specs.Runs.{opening}
@@ -34,6 +35,15 @@ sums_up rack budget n read infs m text meaning alone is shows =
     subst (λ (x : Manager). Shows (settings x) x.state (events_of (gen_script n)) (summary n) text) is shows in
     subst (λ (r : Result Inf InfError). IsSummaryBy rack budget n r text) (sym meaning)
     (subst (λ (x : List Inf). Shows (machine x budget) (opening rack) (events_of (gen_script n)) (summary n) text) alone at_start)
+
+pub sums_up_if : {E : Type 0} (rack : List Driver) (budget n : ℕ) (read : Inf) (infs : List Inf) (m : Manager) (r : Result (Vec ℕ Global) E) → inf gen_inf ≡ Ok read → infs ≡ read ∷ []
+    → m ≡ record { infs = infs; budget = budget; events = 0; state = opening rack }
+    → IfOk r (λ text. Shows (settings m) m.state (events_of (gen_script n)) (summary n) text.items) → IfOk r (λ text. IsSummary rack budget n text.items)
+sums_up_if rack budget n read infs m (Ok text) meaning alone is shows = sums_up rack budget n read infs m text.items meaning alone is shows
+sums_up_if rack budget n read infs m (Err error) meaning alone is shows = tt
+
+pub one_inf : (infs : List Inf) (read : Inf) → infs ≡ read ∷ [] → length infs ≤ 64
+one_inf infs read alone = subst (λ (x : List Inf). length x ≤ 64) (sym alone) (omega arith)
 
 summary_one : (rack : List Driver) (budget n : ℕ) (read : Result Inf InfError) (text other : Text) → IsSummaryBy rack budget n read text → IsSummaryBy rack budget n read other → other ≡ text
 summary_one rack budget n (Ok read) text other h g = shows_one (machine (read ∷ []) budget) (opening rack) (events_of (gen_script n)) (summary n) text other h g
