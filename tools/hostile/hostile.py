@@ -72,6 +72,8 @@ def failing_calls(d):
         whole = run(words)
         for variable in ("SHORT_READ", "SHORT_WRITE"):
             expect("%s, %s=1" % (name, variable), run(words, {"LD_PRELOAD": so, variable: "1"}), whole[0], whole[1])
+    sweep(so, "--gen 2", ["--gen", "2"], "FAIL_ALLOC", "alloc", [MEMORY])
+    sweep(so, "--gen 2", ["--gen", "2"], "FAIL_WRITE", "write", [WRITE])
 
 
 def words_and_files(d):
@@ -82,6 +84,9 @@ def words_and_files(d):
     expect("64 INFs", run([at("empty")] + [at("empty")] * 64), BAD_INF, b"inf 1 error 1 line 0\n")
     expect("65 INFs", run([at("empty")] + [at("empty")] * 65), BAD_WORDS, b"")
     expect("10,000 words", run(["w"] * 10000), BAD_WORDS, b"")
+    expect("--gen and a script", run(["--gen", "1", at("empty")]), BAD_WORDS, b"")
+    expect("--gen 401", run(["--gen", "401"]), BAD_WORDS, b"")
+    expect("--gen 50", run(["--gen", "50"]), DONE, b"devices 50\nsteps 765\nstarted 51\nproblem12 0\nmoved 1\n")
     expect("an empty script", run([at("empty")]), DONE, END)
     expect("/dev/null", run(["/dev/null"]), DONE, END)
     expect("a script that is not there", run([at("none")]), READ, b"")

@@ -1,8 +1,7 @@
 -- What is written at the end of a script, behind the lines of its labels.
-use Rattle.std.proofs.Common.{◌≡◌, ℕ, List, [], ◌∷◌, ◌++◌, Option, Some, None, IfSome, refl, sym, ◌∙◌, ap, ap₂, subst}
+use Rattle.std.proofs.Common.{◌≡◌, ℕ, List, [], ◌++◌, Option, Some, None, IfSome, refl, sym, ◌∙◌, ap, ap₂, subst}
 use Rattle.pnp_io.specs.Outside.{Appends, AppendsFront}
 use Rattle.pnp_labels.specs.Texts.{Text}
-use Rattle.pnp_labels.specs.declared.event.Event.{Event}
 use Rattle.pnp_labels.specs.declared.label.Label.{Label}
 use Rattle.inf_reader.specs.declared.parts.Inf.{Inf}
 use Rattle.pnp_model.specs.Records.{State, Settings, Driver}
@@ -10,12 +9,11 @@ use Rattle.pnp_model.specs.Runs.{opening}
 use Rattle.script_reader.specs.Script.{Trace, gives, waits, ends, stops}
 use Rattle.pnp_machine.specs.Managers.{Manager, settings}
 use Rattle.pnp_cli.specs.Outputs.{Plays, text_of, bad_text, end_text, written}
-use Rattle.pnp_cli.specs.Contents.{events_of, script_status, answer_of, decided_of, TookFront}
+use Rattle.pnp_cli.specs.Contents.{events_of, script_status, TookFront}
 use Rattle.pnp_cli.specs.Pieces.{Ran, line_of_bad, answer_by}
 use Rattle.pnp_cli.specs.Runs.{IsPrintedFor, Wrote, WroteFront}
 use Rattle.pnp_cli.specs.Turns.{Awaits}
 use Rattle.pnp_cli.specs.declared.tally.Tally.{Tally}
-use Rattle.pnp_cli.specs.declared.status.Status.{Status}
 use Rattle.pnp_cli.proofs.Fronts.{none_is_front, appends_both, front_in, front_after}
 use Rattle.pnp_cli.proofs.Sameness.{SameEnd, follows_one}
 

@@ -1,5 +1,5 @@
 -- Reading and running, one event after another.
-use Rattle.std.proofs.Common.{◌≡◌, ℕ, ◌+◌, ◌≤◌, ◌<◌, Bool, true, false, List, [], ◌∷◌, ◌++◌, Option, length, refl, sym, ◌∙◌, ap, subst, append_assoc, append-nil, arith, length-append}
+use Rattle.std.proofs.Common.{◌≡◌, ℕ, ◌+◌, ◌≤◌, ◌<◌, Bool, List, [], ◌∷◌, ◌++◌, Option, length, refl, sym, ◌∙◌, ap, subst, append_assoc, append-nil, arith, length-append}
 use Rattle.pnp_io.specs.Outside.{Appends, AppendsFront}
 use Rattle.pnp_labels.specs.Texts.{Text}
 use Rattle.pnp_labels.specs.declared.event.Event.{Event}
@@ -7,7 +7,6 @@ use Rattle.pnp_labels.specs.declared.label.Label.{Label}
 use Rattle.pnp_model.specs.Records.{State, Settings}
 use Rattle.script_reader.specs.Reading.{Reading, Moves}
 use Rattle.script_reader.specs.Script.{Trace, gives, trace, MayFollow}
-use Rattle.script_reader.specs.declared.line.Line.{Line}
 use Rattle.pnp_machine.specs.Managers.{Manager, settings}
 use Rattle.pnp_cli.specs.Outputs.{Follows, Plays, text_of}
 use Rattle.pnp_cli.specs.Turns.{Told, Answered, Awaits, FollowsFront, Leads, Goes, Stands, Taken, TakenFront}

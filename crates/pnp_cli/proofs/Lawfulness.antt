@@ -34,15 +34,21 @@ use Rattle.pnp_laws.proofs.NodesPlugged.{needs_are_within}
 use Rattle.pnp_laws.proofs.TreePrints.{each_node_is_printed_once}
 use Rattle.script_reader.specs.Script.{Trace, gives, waits, ends, stops}
 use Rattle.inf_reader.specs.declared.parts.Inf.{Inf}
-use Rattle.pnp_cli.specs.Outputs.{Settles, Follows, Plays, Prints, written}
+use Rattle.inf_reader.specs.declared.parts.InfError.{InfError}
+use Rattle.inf_reader.specs.Meaning.{inf}
+use Rattle.pnp_cli.specs.Outputs.{Settles, Follows, Plays, Report, Shows, written}
+use Rattle.pnp_cli.specs.Generated.{gen_script, gen_inf}
+use Rattle.pnp_cli.specs.Summaries.{summary}
 use Rattle.pnp_cli.specs.Infs.{infs_in}
-use Rattle.pnp_cli.specs.Runs.{IsOutput, IsOutputBy, IsScriptOutput, machine}
+use Rattle.pnp_cli.specs.Runs.{IsOutput, IsOutputBy, IsOutputFor, IsScriptOutput, IsSummaryBy, machine}
 use Rattle.pnp_cli.specs.Contents.{events_of}
 use Rattle.pnp_cli.specs.Words.{settings_of}
-use Rattle.pnp_cli.specs.Lawful.{happened, events_in, IsStep, IsTold, SomeRun, OfRun, EachPassed, EachState, EachStep, OfScript, OfInfs, OfOutput, ByDiagram, NothingClashes, AllHoldWhole, OperationsBegan, EndsRestore, DependentsGoFirst, ConflictsAreReal, FewJoin, AllStatesTold, NodesAreKeyed, NothingOnItself, MapIsClear, AllStacksFit, NamesAreKnown, NobodyIsForgotten, EachHoldsPart, FewAreHeld, NamesAreShown, ShowsName, TreeIsWhole}
+use Rattle.pnp_cli.specs.Lawful.{happened, events_in, IsStep, IsTold, Said, SomeRun, OfRun, EachPassed, EachState, EachStep, OfScript, OfInfs, OfMade, OfSource, OfOutput, ByDiagram, NothingClashes, AllHoldWhole, OperationsBegan, EndsRestore, DependentsGoFirst, ConflictsAreReal, FewJoin, AllStatesTold, NodesAreKeyed, NothingOnItself, MapIsClear, AllStacksFit, NamesAreKnown, NobodyIsForgotten, EachHoldsPart, FewAreHeld, NamesAreShown, ShowsName, TreeIsWhole}
 use Rattle.pnp_cli.specs.declared.infs.InfsError.{InfsError}
 use Rattle.pnp_cli.proofs.FewIds.{NamesByWord, names_by_words, script_within}
 use Rattle.pnp_cli.specs.declared.parts.Settings.{Settings}
+use Rattle.pnp_machine.specs.Managers.{Manager, IsOfRun, settings}
+use Rattle.pnp_cli.specs.Turns.{Awaits}
 
 -- What is printed is told by a run ---------------------------------------------------
 
@@ -104,36 +110,61 @@ telling_plays settings s (stops number) labels last quiet is =
     subst (λ (x : List Label). Telling settings s (stops number) x last) (sym is.0) (record { entries = []; run = is.1; rests = subst (λ (x : State). IsQuiet settings x) (sym is.1) quiet; events = refl; shows = refl })
 telling_plays settings s waits labels last quiet is = absurd is
 
-some_run : (settings : machines.Settings) (rack : List Driver) (t : Trace) (text : Text) → Prints settings (opening rack) t text → SomeRun settings rack t text
-some_run settings rack t text (labels, last, plays, is) =
+-- so the events of a script lead to a state of a run
+pub plays_reach : (m : Manager) (t : Trace) (labels : List Label) (last : State) → Awaits m → Plays (settings m) m.state t labels last → IsOfRun last
+plays_reach m t labels last h plays =
+    let told = telling_plays (settings m) m.state t labels last h.quiet plays in
+    record {
+      told = settings m;
+      rack = h.run.rack;
+      entries = h.run.entries ++ told.entries;
+      reaches = run_on (settings m) (opening h.run.rack) m.state last h.run.entries told.entries h.run.reaches told.run;
+    }
+
+some_run : (settings : machines.Settings) (rack : List Driver) (t : Trace) (report : Report) (text : Text) → Shows settings (opening rack) t report text → SomeRun settings rack t report text
+some_run settings rack t report text (labels, last, plays, is) =
     let told = telling_plays settings (opening rack) t labels last refl plays in
-    (told.entries, last, record { run = told.run; rests = told.rests; events = told.events; is = is ∙ ap (λ (ls : List Label). written t ls last) (sym told.shows) })
+    (told.entries, last, record { run = told.run; rests = told.rests; events = told.events; is = is ∙ ap (λ (ls : List Label). report ls last) (sym told.shows) })
 
 -- What is said of outputs ----------------------------------------------------------------
 
--- what holds of each text that is printed for a script, over this rack
-Holds : (machines.Settings → List Driver → Trace → Text → Type 0) → List Driver → Type 0
-Holds Says rack = (settings : machines.Settings) (script : List ℕ) (text : Text) → Prints settings (opening rack) (events_of script) text → Says settings rack (events_of script) text
+-- what holds of each report of a script's run, over this rack
+Holds : Said → List Driver → Type 0
+Holds Says rack =
+    (settings : machines.Settings) (script : List ℕ) (report : Report) (text : Text) → Shows settings (opening rack) (events_of script) report text
+    → Says settings rack (events_of script) report text
 
-of_script : (Says : machines.Settings → List Driver → Trace → Text → Type 0) (rack : List Driver) → Holds Says rack
+of_script : (Says : Said) (rack : List Driver) → Holds Says rack
     → (settings : machines.Settings) (script : Option (List ℕ)) (text : Text) → IsScriptOutput settings rack script text → OfScript Says settings rack script text
 unfolding Holds
 of_script Says rack holds settings None text is = tt
-of_script Says rack holds settings (Some script) text is = holds settings script text is
+of_script Says rack holds settings (Some script) text is = holds settings script (written (events_of script)) text is
 
-of_infs : (Says : machines.Settings → List Driver → Trace → Text → Type 0) (rack : List Driver) → Holds Says rack
+of_infs : (Says : Said) (rack : List Driver) → Holds Says rack
     → (budget : ℕ) (infs : Result (List Inf) InfsError) (script : Option (List ℕ)) (text : Text) → IsOutputBy rack budget infs script text → OfInfs Says rack budget infs script text
 of_infs Says rack holds budget (Ok infs) script text is = of_script Says rack holds (machine infs budget) script text is
 of_infs Says rack holds budget (Err error) script text is = tt
 
-of_settings : (Says : machines.Settings → List Driver → Trace → Text → Type 0) (rack : List Driver) → Holds Says rack
+of_made : (Says : Said) (rack : List Driver) → Holds Says rack
+    → (budget n : ℕ) (read : Result Inf InfError) (text : Text) → IsSummaryBy rack budget n read text → OfMade Says rack budget n read text
+unfolding Holds
+of_made Says rack holds budget n (Ok read) text is = holds (machine (read ∷ []) budget) (gen_script n) (summary n) text is
+of_made Says rack holds budget n (Err error) text is = tt
+
+of_source : (Says : Said) (rack : List Driver) → Holds Says rack → (budget : ℕ) (told : Text → Option (List ℕ)) (infs : List Text) (script : Option Text) (made : Option ℕ) (text : Text)
+    → IsOutputFor rack budget told infs script made text → OfSource Says rack budget told infs script made text
+of_source Says rack holds budget told infs (Some name) made text is = of_infs Says rack holds budget (infs_in told infs) (told name) text is
+of_source Says rack holds budget told infs None (Some n) text is = of_made Says rack holds budget n (inf gen_inf) text is
+of_source Says rack holds budget told infs None None text is = tt
+
+of_settings : (Says : Said) (rack : List Driver) → Holds Says rack
     → (s : Option Settings) (contents : Option (Text → Option (List ℕ)))
-    → IfSome s (λ s. IfSome contents (λ told. (text : Text) → IsOutput rack told s text → OfInfs Says rack s.budget (infs_in told s.infs) (told s.script) text))
+    → IfSome s (λ s. IfSome contents (λ told. (text : Text) → IsOutput rack told s text → OfSource Says rack s.budget told s.infs s.script s.made text))
 of_settings Says rack holds None contents = tt
 of_settings Says rack holds (Some s) None = tt
-of_settings Says rack holds (Some s) (Some told) = λ text is. of_infs Says rack holds s.budget (infs_in told s.infs) (told s.script) text is
+of_settings Says rack holds (Some s) (Some told) = λ text is. of_source Says rack holds s.budget told s.infs s.script s.made text is
 
-of_output : (Says : machines.Settings → List Driver → Trace → Text → Type 0) (rack : List Driver) → Holds Says rack
+of_output : (Says : Said) (rack : List Driver) → Holds Says rack
     → (words : List Text) (contents : Option (Text → Option (List ℕ))) → OfOutput Says words contents rack
 of_output Says rack holds words contents = of_settings Says rack holds (settings_of words) contents
 
@@ -141,87 +172,87 @@ of_output Says rack holds words contents = of_settings Says rack holds (settings
 
 pub output_tells : (words : List Text) (contents : Option (Text → Option (List ℕ))) (rack : List Driver) → OfOutput SomeRun words contents rack
 unfolding Holds
-output_tells words contents rack = of_output SomeRun rack (λ settings script text prints. some_run settings rack (events_of script) text prints) words contents
+output_tells words contents rack = of_output SomeRun rack (λ settings script report text shows. some_run settings rack (events_of script) report text shows) words contents
 
 pub output_by_diagram : (words : List Text) (contents : Option (Text → Option (List ℕ))) (rack : List Driver) → OfOutput (EachStep ByDiagram) words contents rack
 unfolding Holds
 output_by_diagram words contents rack =
-    of_output (EachStep ByDiagram) rack (λ settings script text prints entries last told earlier old entry new step. every_run_follows settings rack earlier old entry new step.before step.goes) words contents
+    of_output (EachStep ByDiagram) rack (λ settings script report text shows entries last told earlier old entry new step. every_run_follows settings rack earlier old entry new step.before step.goes) words contents
 
 pub output_shares : (words : List Text) (contents : Option (Text → Option (List ℕ))) (rack : List Driver) → OfOutput (EachState NothingClashes) words contents rack
 unfolding Holds
 output_shares words contents rack =
-    of_output (EachState NothingClashes) rack (λ settings script text prints entries last told s state. nothing_clashes settings rack state.earlier s state.before) words contents
+    of_output (EachState NothingClashes) rack (λ settings script report text shows entries last told s state. nothing_clashes settings rack state.earlier s state.before) words contents
 
 pub output_holds_whole : (words : List Text) (contents : Option (Text → Option (List ℕ))) (rack : List Driver) → OfOutput (EachState AllHoldWhole) words contents rack
 unfolding Holds
 output_holds_whole words contents rack =
-    of_output (EachState AllHoldWhole) rack (λ settings script text prints entries last told s state. all_hold_whole settings rack state.earlier s state.before) words contents
+    of_output (EachState AllHoldWhole) rack (λ settings script report text shows entries last told s state. all_hold_whole settings rack state.earlier s state.before) words contents
 
 pub output_begins : (words : List Text) (contents : Option (Text → Option (List ℕ))) (rack : List Driver) → OfOutput (EachStep OperationsBegan) words contents rack
 unfolding Holds
 output_begins words contents rack =
-    of_output (EachStep OperationsBegan) rack (λ settings script text prints entries last told earlier old entry new step. operations_begin settings rack earlier old entry new step.before step.goes) words contents
+    of_output (EachStep OperationsBegan) rack (λ settings script report text shows entries last told earlier old entry new step. operations_begin settings rack earlier old entry new step.before step.goes) words contents
 
 pub output_restores : (words : List Text) (contents : Option (Text → Option (List ℕ))) (rack : List Driver) → OfOutput (EachStep EndsRestore) words contents rack
 unfolding Holds
 output_restores words contents rack =
-    of_output (EachStep EndsRestore) rack (λ settings script text prints entries last told earlier old entry new step. each_end_restores settings rack earlier old entry new step.before step.goes) words contents
+    of_output (EachStep EndsRestore) rack (λ settings script report text shows entries last told earlier old entry new step. each_end_restores settings rack earlier old entry new step.before step.goes) words contents
 
 pub output_dependents : (words : List Text) (contents : Option (Text → Option (List ℕ))) (rack : List Driver) → OfOutput (EachStep DependentsGoFirst) words contents rack
 unfolding Holds
 output_dependents words contents rack =
-    of_output (EachStep DependentsGoFirst) rack (λ settings script text prints entries last told earlier old entry new step. dependents_go_first settings rack earlier old entry new step.before step.goes) words contents
+    of_output (EachStep DependentsGoFirst) rack (λ settings script report text shows entries last told earlier old entry new step. dependents_go_first settings rack earlier old entry new step.before step.goes) words contents
 
 pub output_conflicts : (words : List Text) (contents : Option (Text → Option (List ℕ))) (rack : List Driver) → OfOutput (EachStep ConflictsAreReal) words contents rack
 unfolding Holds
 output_conflicts words contents rack =
-    of_output (EachStep ConflictsAreReal) rack (λ settings script text prints entries last told earlier old entry new step path is. each_conflict_is_real settings rack earlier old entry new path step.before step.goes is) words contents
+    of_output (EachStep ConflictsAreReal) rack (λ settings script report text shows entries last told earlier old entry new step path is. each_conflict_is_real settings rack earlier old entry new path step.before step.goes is) words contents
 
 pub output_joins : (words : List Text) (contents : Option (Text → Option (List ℕ))) (rack : List Driver) → OfOutput (OfRun FewJoin) words contents rack
 unfolding Holds
 output_joins words contents rack =
-    of_output (OfRun FewJoin) rack (λ settings script text prints entries last told. joins_are_limited settings rack entries last told.run) words contents
+    of_output (OfRun FewJoin) rack (λ settings script report text shows entries last told. joins_are_limited settings rack entries last told.run) words contents
 
 pub output_told : (words : List Text) (contents : Option (Text → Option (List ℕ))) (rack : List Driver) → OfOutput (EachStep AllStatesTold) words contents rack
 unfolding Holds
 output_told words contents rack =
-    of_output (EachStep AllStatesTold) rack (λ settings script text prints entries last told earlier old entry new step. states_are_told settings rack earlier old entry new step.before step.goes) words contents
+    of_output (EachStep AllStatesTold) rack (λ settings script report text shows entries last told earlier old entry new step. states_are_told settings rack earlier old entry new step.before step.goes) words contents
 
 pub output_keyed : (words : List Text) (contents : Option (Text → Option (List ℕ))) (rack : List Driver) → OfOutput (EachState NodesAreKeyed) words contents rack
 unfolding Holds
 output_keyed words contents rack =
-    of_output (EachState NodesAreKeyed) rack (λ settings script text prints entries last told s state. keyed settings rack state.earlier s state.before) words contents
+    of_output (EachState NodesAreKeyed) rack (λ settings script report text shows entries last told s state. keyed settings rack state.earlier s state.before) words contents
 
 pub output_acyclic : (words : List Text) (contents : Option (Text → Option (List ℕ))) (rack : List Driver) → OfOutput (EachState NothingOnItself) words contents rack
 unfolding Holds
 output_acyclic words contents rack =
-    of_output (EachState NothingOnItself) rack (λ settings script text prints entries last told s state. no_cycle settings rack state.earlier s state.before) words contents
+    of_output (EachState NothingOnItself) rack (λ settings script report text shows entries last told s state. no_cycle settings rack state.earlier s state.before) words contents
 
 pub output_map_clear : (words : List Text) (contents : Option (Text → Option (List ℕ))) (rack : List Driver) → OfOutput (EachState MapIsClear) words contents rack
 unfolding Holds
 output_map_clear words contents rack =
-    of_output (EachState MapIsClear) rack (λ settings script text prints entries last told s state. nothing_printed_clashes settings rack state.earlier s state.before) words contents
+    of_output (EachState MapIsClear) rack (λ settings script report text shows entries last told s state. nothing_printed_clashes settings rack state.earlier s state.before) words contents
 
 pub output_stacks : (words : List Text) (contents : Option (Text → Option (List ℕ))) (rack : List Driver) → OfOutput (EachState AllStacksFit) words contents rack
 unfolding Holds
 output_stacks words contents rack =
-    of_output (EachState AllStacksFit) rack (λ settings script text prints entries last told s state. stacks_fit settings rack state.earlier s state.before) words contents
+    of_output (EachState AllStacksFit) rack (λ settings script report text shows entries last told s state. stacks_fit settings rack state.earlier s state.before) words contents
 
 pub output_names : (words : List Text) (contents : Option (Text → Option (List ℕ))) (rack : List Driver) → OfOutput (EachStep NamesAreKnown) words contents rack
 unfolding Holds
 output_names words contents rack =
-    of_output (EachStep NamesAreKnown) rack (λ settings script text prints entries last told earlier old entry new step. names_are_known settings rack earlier old entry new step.before step.goes) words contents
+    of_output (EachStep NamesAreKnown) rack (λ settings script report text shows entries last told earlier old entry new step. names_are_known settings rack earlier old entry new step.before step.goes) words contents
 
 pub output_remembers : (words : List Text) (contents : Option (Text → Option (List ℕ))) (rack : List Driver) → OfOutput (EachState NobodyIsForgotten) words contents rack
 unfolding Holds
 output_remembers words contents rack =
-    of_output (EachState NobodyIsForgotten) rack (λ settings script text prints entries last told s state. nobody_is_forgotten settings rack state.earlier s state.before) words contents
+    of_output (EachState NobodyIsForgotten) rack (λ settings script report text shows entries last told s state. nobody_is_forgotten settings rack state.earlier s state.before) words contents
 
 pub output_holds_parts : (words : List Text) (contents : Option (Text → Option (List ℕ))) (rack : List Driver) → OfOutput (EachState EachHoldsPart) words contents rack
 unfolding Holds
 output_holds_parts words contents rack =
-    of_output (EachState EachHoldsPart) rack (λ settings script text prints entries last told s state. each_holds_a_part settings rack state.earlier s state.before) words contents
+    of_output (EachState EachHoldsPart) rack (λ settings script report text shows entries last told s state. each_holds_a_part settings rack state.earlier s state.before) words contents
 
 -- what the events of a run plug is within the limits of the script
 entries_within : (entries : List Entry) → AllByRecursion (IsEventWithin 16) (happened entries) → AllByRecursion (IsEntryWithin 16) entries
@@ -237,7 +268,7 @@ pub output_holds_few : (words : List Text) (contents : Option (Text → Option (
 unfolding Holds
 output_holds_few words contents rack =
     of_output (EachPassed FewAreHeld) rack
-    (λ settings script text prints entries last told s state. (
+    (λ settings script report text shows entries last told s state. (
       needs_are_within settings rack state.earlier s state.before 16
           (front_within state.earlier state.later (subst (λ (xs : List Entry). AllByRecursion (IsEntryWithin 16) xs) state.all
           (entries_within entries (subst (λ (es : List Event). AllByRecursion (IsEventWithin 16) es) (sym told.events) (script_within script))))),
@@ -247,7 +278,7 @@ output_holds_few words contents rack =
 pub output_tree : (words : List Text) (contents : Option (Text → Option (List ℕ))) (rack : List Driver) → OfOutput (EachState TreeIsWhole) words contents rack
 unfolding Holds
 output_tree words contents rack =
-    of_output (EachState TreeIsWhole) rack (λ settings script text prints entries last told s state. each_node_is_printed_once settings rack state.earlier s state.before) words contents
+    of_output (EachState TreeIsWhole) rack (λ settings script report text shows entries last told s state. each_node_is_printed_once settings rack state.earlier s state.before) words contents
 
 -- Names that are not empty -----------------------------------------------------------------
 
@@ -270,10 +301,10 @@ entries_by_words (Happens event label ∷ rest) h = (h.0, entries_by_words rest 
 entries_by_words (Did label ∷ rest) h = (tt, entries_by_words rest h)
 
 -- a name of the rack in a run of a script
-name_shown : (settings : machines.Settings) (rack : List Driver) (script : List ℕ) (text : Text) (entries : List Entry) (last : State) (earlier : List Entry) (old : State) (entry : Entry) (new : State)
-    → Nameless rack → IsTold settings rack (events_of script) text entries last → IsStep settings rack entries last earlier old entry new
+name_shown : (settings : machines.Settings) (rack : List Driver) (script : List ℕ) (report : Report) (text : Text) (entries : List Entry) (last : State) (earlier : List Entry) (old : State) (entry : Entry) (new : State)
+    → Nameless rack → IsTold settings rack (events_of script) report text entries last → IsStep settings rack entries last earlier old entry new
     → (d : ℕ) (name : Text) → HasName new.core.rack d name → name ≢ []
-name_shown settings rack script text entries last earlier old entry new none told step d name h =
+name_shown settings rack script report text entries last earlier old entry new none told step d name h =
     let run = run_on settings (opening rack) old new earlier (entry ∷ []) step.before (new, step.goes, refl) in
     elim (names_are_given settings rack (earlier ++ entry ∷ []) new run d name h) [
       | inl own ↦ absurd (none d name own)
@@ -297,7 +328,7 @@ unfolding Holds
 output_shown kind book items words contents =
     let rack = map (λ x. unnamed (kind x) (book x)) items in
     of_output (EachStep NamesAreShown) rack
-    (λ settings script text prints entries last told earlier old entry new step.
+    (λ settings script report text shows entries last told earlier old entry new step.
     label_shown (printed entry) new.core.rack
-    (name_shown settings rack script text entries last earlier old entry new (nameless kind book items) told step)
+    (name_shown settings rack script report text entries last earlier old entry new (nameless kind book items) told step)
     (names_are_known settings rack earlier old entry new step.before step.goes)) words contents

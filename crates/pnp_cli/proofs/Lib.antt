@@ -12,3 +12,8 @@ pub mod Refusals
 pub mod WordRows
 pub mod InfSteps
 pub mod Limited
+pub mod MadeRuns
+pub mod MadeLines
+pub mod Counts
+pub mod Counting
+pub mod Sources

@@ -5,6 +5,8 @@ use Rattle.pnp_labels.specs.Texts.{Text}
 use Rattle.pnp_labels.specs.declared.event.Event.{Event}
 use Rattle.pnp_labels.specs.declared.label.Label.{Label}
 use Rattle.inf_reader.specs.declared.parts.Inf.{Inf}
+use Rattle.inf_reader.specs.declared.parts.InfError.{InfError}
+use Rattle.inf_reader.specs.Meaning.{inf}
 use Rattle.pnp_model.specs.Records as machines
 use Rattle.pnp_model.specs.Records.{Driver, State, Step}
 use Rattle.pnp_model.specs.Machine.{IsQuiet}
@@ -20,8 +22,10 @@ use Rattle.pnp_laws.proofs.RunsStep.{quiet_where_it_rests}
 use Rattle.script_reader.specs.Script.{Meaning, nothing, means, bad, whole_line, last_line, Trace, gives, waits, ends, stops, onward, at_end, of_lines}
 use Rattle.pnp_cli.specs.Contents.{events_of}
 use Rattle.pnp_cli.specs.Infs.{infs_in, refusal_line}
-use Rattle.pnp_cli.specs.Outputs.{Settles, Follows, Plays, Prints, written}
-use Rattle.pnp_cli.specs.Runs.{IsOnly, IsOutput, IsOutputBy, IsScriptOutput, OutputLaw, WroteFront, WroteOneFront, machine}
+use Rattle.pnp_cli.specs.Outputs.{Settles, Follows, Plays, Report, Shows, written}
+use Rattle.pnp_cli.specs.Generated.{gen_script, gen_inf}
+use Rattle.pnp_cli.specs.Summaries.{summary}
+use Rattle.pnp_cli.specs.Runs.{IsOnly, IsOutput, IsOutputBy, IsOutputFor, IsScriptOutput, IsSummaryBy, OutputLaw, WroteFront, WroteOneFront, machine}
 use Rattle.pnp_cli.specs.declared.infs.InfsError.{InfsError}
 use Rattle.pnp_cli.specs.declared.infs.InfsError.TheVariants as faults
 use Rattle.pnp_cli.specs.declared.parts.Settings.{Settings}
@@ -94,22 +98,25 @@ plays_some settings rack s waits on h = absurd on
 
 -- There is no other -----------------------------------------------------------------------
 
-prints_one : (settings : machines.Settings) (s : State) (t : Trace) (text other : Text) → Prints settings s t text → Prints settings s t other → other ≡ text
-prints_one settings s t text other (labels, last, plays, is) (labels', last', plays', is') =
+pub shows_one : (settings : machines.Settings) (s : State) (t : Trace) (report : Report) (text other : Text) → Shows settings s t report text → Shows settings s t report other → other ≡ text
+shows_one settings s t report text other (labels, last, plays, is) (labels', last', plays', is') =
     let same : SameEnd labels' labels last' last = plays_one settings s t labels' labels last' last plays' plays in
-    is' ∙ ap₂ (λ (ls : List Label) (x : State). written t ls x) same.labels same.state ∙ sym is
-
-pub exactly_one_output : OutputLaw
-exactly_one_output settings rack script =
-    let some = plays_some settings rack (opening rack) (events_of script) (finished_never_waits script) (record { reached = ([], refl); quiet = refl }) in
-    let text : Text = written (events_of script) some.0 some.1 in
-    let prints : Prints settings (opening rack) (events_of script) text = (some.0, some.1, some.2, refl) in
-    (text, (prints, λ other h. prints_one settings (opening rack) (events_of script) text other prints h))
-
--- The output of a command -----------------------------------------------------------------
+    is' ∙ ap₂ (λ (ls : List Label) (x : State). report ls x) same.labels same.state ∙ sym is
 
 abbrev One : (Text → Type 0) → Type 0
 One output = (text : Text) × IsOnly output text
+
+one_shown : (settings : machines.Settings) (rack : List Driver) (script : List ℕ) (report : Report) → One (Shows settings (opening rack) (events_of script) report)
+one_shown settings rack script report =
+    let some = plays_some settings rack (opening rack) (events_of script) (finished_never_waits script) (record { reached = ([], refl); quiet = refl }) in
+    let text : Text = report some.0 some.1 in
+    let shows : Shows settings (opening rack) (events_of script) report text = (some.0, some.1, some.2, refl) in
+    (text, (shows, λ other h. shows_one settings (opening rack) (events_of script) report text other shows h))
+
+pub exactly_one_output : OutputLaw
+exactly_one_output settings rack script = one_shown settings rack script (written (events_of script))
+
+-- The output of a command -----------------------------------------------------------------
 
 this_alone : (line : Text) → One (λ text. text ≡ line)
 this_alone line = (line, (refl, λ other is. is))
@@ -125,11 +132,20 @@ one_by rack budget (Err faults.ReadFault) script = this_alone []
 one_by rack budget (Err faults.TooLarge) script = this_alone []
 one_by rack budget (Err faults.WantOfMemory) script = this_alone []
 
+one_summary : (rack : List Driver) (budget n : ℕ) (read : Result Inf InfError) → One (IsSummaryBy rack budget n read)
+one_summary rack budget n (Ok read) = one_shown (machine (read ∷ []) budget) rack (gen_script n) (summary n)
+one_summary rack budget n (Err error) = this_alone []
+
+one_for : (rack : List Driver) (budget : ℕ) (told : Text → Option (List ℕ)) (infs : List Text) (script : Option Text) (made : Option ℕ) → One (IsOutputFor rack budget told infs script made)
+one_for rack budget told infs (Some name) made = one_by rack budget (infs_in told infs) (told name)
+one_for rack budget told infs None (Some n) = one_summary rack budget n (inf gen_inf)
+one_for rack budget told infs None None = this_alone []
+
 -- a front of whatever the output is, is a front of the one that there is
 pub one_front : (s : Option Settings) (contents : Option (Text → Option (List ℕ))) (rack : List Driver) (old new : Option Text)
     → IfSome s (λ s. IfSome contents (λ told. WroteFront (IsOutput rack told s) old new)) → IfSome s (λ s. IfSome contents (λ told. WroteOneFront (IsOutput rack told s) old new))
 one_front None contents rack old new front = tt
 one_front (Some s) None rack old new front = tt
 one_front (Some s) (Some told) rack old new front =
-    let one = one_by rack s.budget (infs_in told s.infs) (told s.script) in
+    let one = one_for rack s.budget told s.infs s.script s.made in
     (one.0, one.1, front one.0 one.1.0)

@@ -1,5 +1,5 @@
 -- Steps one after another until nothing is next, and their labels.
-use Rattle.std.proofs.Common.{◌≡◌, ℕ, ◌+◌, ◌<◌, List, [], ◌∷◌, ◌++◌, Option, refl, sym, ◌∙◌, ap, subst, append_assoc, append-nil}
+use Rattle.std.proofs.Common.{◌≡◌, ℕ, ◌+◌, ◌<◌, List, [], ◌∷◌, ◌++◌, Option, refl, sym, ◌∙◌, ap, subst, append_assoc}
 use Rattle.pnp_io.specs.Outside.{Appends, AppendsFront}
 use Rattle.pnp_labels.specs.Texts.{Text}
 use Rattle.pnp_labels.specs.declared.event.Event.{Event}
@@ -13,7 +13,7 @@ use Rattle.pnp_machine.specs.Machines.{IsDone, Moves}
 use Rattle.pnp_machine.specs.declared.manager.Moved.{Moved}
 use Rattle.pnp_cli.specs.declared.tally.Tally.{Tally}
 use Rattle.pnp_cli.specs.Outputs.{Settles, Follows, text_of}
-use Rattle.pnp_cli.specs.Turns.{Told, Held, Settled, Answered, Awaits, SettlesFront, FollowsFront}
+use Rattle.pnp_cli.specs.Turns.{Held, Settled, Answered, Awaits, SettlesFront, FollowsFront}
 use Rattle.pnp_cli.specs.Tallies.{with_all}
 use Rattle.pnp_cli.proofs.Telling.{told_none, labels_front, held_none, held_text, held_both, lines_front, lines_held, lines_last, lines_took}
 use Rattle.pnp_cli.proofs.Fronts.{none_is_front, appends_both}

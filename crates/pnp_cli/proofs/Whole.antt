@@ -1,6 +1,6 @@
 -- A script that is read piece by piece, and what its run comes to.
 use Rattle.std.proofs.Common.{Result, Ok, Err, IfOk, ◌≡◌, ℕ, ◌+◌, ◌-◌, ◌≤◌, ◌<◌, Bool, true, false, List, [], ◌∷◌, ◌++◌, Option, Some, None, IfSome, length, take, drop, refl, sym, ◌∙◌, ap, subst, append_assoc, append-nil, arith, nat_le, length-append}
-use Rattle.std.proofs.lemmas.List.{take-append-le, take_all, length-take-le}
+use Rattle.std.proofs.lemmas.List.{take_all, length-take-le}
 use Rattle.std.proofs.Math.Seq.{take-append_seam, take-append-add, drop-append_seam, take-add}
 use Rattle.std.proofs.lemmas.Bool.Decides.{nat_tests}
 use Rattle.std.proofs.Math.Nat.{min-le_left, min-le_right, le-min}
@@ -11,7 +11,7 @@ use Rattle.pnp_labels.specs.Texts.{Text}
 use Rattle.pnp_labels.specs.declared.label.Label.{Label}
 use Rattle.pnp_model.specs.Records.{State, Settings}
 use Rattle.script_reader.specs.Reading.{Reading}
-use Rattle.script_reader.specs.Script.{Trace, trace, gives, waits, ends, stops, MayFollow, IsStuck, Waits, Ends}
+use Rattle.script_reader.specs.Script.{Trace, trace, waits, ends, stops, MayFollow, IsStuck}
 use Rattle.pnp_machine.specs.Managers.{Manager, settings}
 use Rattle.pnp_cli.specs.Outputs.{Plays, text_of, bad_text}
 use Rattle.pnp_cli.specs.Infs.{limit}
@@ -24,8 +24,8 @@ use Rattle.pnp_cli.specs.declared.turn.Ending.{Ending}
 use Rattle.pnp_cli.specs.declared.turn.Ending.TheVariants.{NeedsMore, Over, Bad}
 use Rattle.pnp_cli.proofs.Going.{goes_none, goes_both}
 use Rattle.pnp_cli.proofs.Settling.{labels_nil}
-use Rattle.pnp_cli.proofs.Telling.{told_none, told_both, labels_told, labels_front, text_append}
-use Rattle.pnp_cli.proofs.Fronts.{none_is_front, front_after}
+use Rattle.pnp_cli.proofs.Telling.{told_none, told_both, labels_told, text_append}
+use Rattle.pnp_cli.proofs.Fronts.{front_after}
 
 -- What was read so far ------------------------------------------------------------------
 

@@ -3,15 +3,15 @@ use Rattle.std.proofs.Common.{◌≡◌, refl, codes, [], ◌∷◌, Some, None,
 use Rattle.clap.proofs.OnLiterals.{clap_on_literals}
 use Rattle.pnp_cli.specs.Words.{settings_of, is_accepted}
 
-pub all_given : settings_of (codes "p" ∷ codes "--budget" ∷ codes "7" ∷ codes "s" ∷ codes "i" ∷ codes "j" ∷ []) ≡ Some (record { script = codes "s"; infs = codes "i" ∷ codes "j" ∷ []; budget = 7 })
+pub all_given : settings_of (codes "p" ∷ codes "--budget" ∷ codes "7" ∷ codes "s" ∷ codes "i" ∷ codes "j" ∷ []) ≡ Some (record { script = Some (codes "s"); infs = codes "i" ∷ codes "j" ∷ []; budget = 7; made = None })
 unfolding clap_on_literals
 all_given = refl
 
-pub with_equals : settings_of (codes "p" ∷ codes "s" ∷ codes "--budget=12" ∷ codes "i" ∷ []) ≡ Some (record { script = codes "s"; infs = codes "i" ∷ []; budget = 12 })
+pub with_equals : settings_of (codes "p" ∷ codes "s" ∷ codes "--budget=12" ∷ codes "i" ∷ []) ≡ Some (record { script = Some (codes "s"); infs = codes "i" ∷ []; budget = 12; made = None })
 unfolding clap_on_literals
 with_equals = refl
 
-pub script_alone : settings_of (codes "p" ∷ codes "s" ∷ []) ≡ Some (record { script = codes "s"; infs = []; budget = 20000 })
+pub script_alone : settings_of (codes "p" ∷ codes "s" ∷ []) ≡ Some (record { script = Some (codes "s"); infs = []; budget = 20000; made = None })
 unfolding clap_on_literals
 script_alone = refl
 
@@ -22,7 +22,7 @@ no_script = refl
 pub no_word : settings_of [] ≡ None
 no_word = refl
 
-pub after_dashes : settings_of (codes "p" ∷ codes "--" ∷ codes "--budget" ∷ []) ≡ Some (record { script = codes "--budget"; infs = []; budget = 20000 })
+pub after_dashes : settings_of (codes "p" ∷ codes "--" ∷ codes "--budget" ∷ []) ≡ Some (record { script = Some (codes "--budget"); infs = []; budget = 20000; made = None })
 unfolding clap_on_literals
 after_dashes = refl
 
@@ -46,7 +46,7 @@ pub zero : settings_of (codes "p" ∷ codes "--budget" ∷ codes "0" ∷ codes "
 unfolding clap_on_literals
 zero = refl
 
-pub greatest : settings_of (codes "p" ∷ codes "--budget" ∷ codes "1000000" ∷ codes "s" ∷ []) ≡ Some (record { script = codes "s"; infs = []; budget = 1000000 })
+pub greatest : settings_of (codes "p" ∷ codes "--budget" ∷ codes "1000000" ∷ codes "s" ∷ []) ≡ Some (record { script = Some (codes "s"); infs = []; budget = 1000000; made = None })
 unfolding clap_on_literals
 greatest = refl
 
@@ -58,7 +58,7 @@ pub letter : settings_of (codes "p" ∷ codes "--budget" ∷ codes "x" ∷ codes
 unfolding clap_on_literals
 letter = refl
 
-pub leading_zeros : settings_of (codes "p" ∷ codes "--budget" ∷ codes "0000007" ∷ codes "s" ∷ []) ≡ Some (record { script = codes "s"; infs = []; budget = 7 })
+pub leading_zeros : settings_of (codes "p" ∷ codes "--budget" ∷ codes "0000007" ∷ codes "s" ∷ []) ≡ Some (record { script = Some (codes "s"); infs = []; budget = 7; made = None })
 unfolding clap_on_literals
 leading_zeros = refl
 
@@ -74,6 +74,26 @@ pub short : is_accepted (codes "p" ∷ codes "-h" ∷ codes "s" ∷ []) ≡ fals
 unfolding clap_on_literals
 short = refl
 
-pub unknown : is_accepted (codes "p" ∷ codes "--gen" ∷ codes "3" ∷ codes "s" ∷ []) ≡ false
+pub unknown : is_accepted (codes "p" ∷ codes "--made" ∷ codes "3" ∷ codes "s" ∷ []) ≡ false
 unfolding clap_on_literals
 unknown = refl
+
+pub made : settings_of (codes "p" ∷ codes "--gen" ∷ codes "50" ∷ []) ≡ Some (record { script = None; infs = []; budget = 20000; made = Some 50 })
+unfolding clap_on_literals
+made = refl
+
+pub made_and_budget : settings_of (codes "p" ∷ codes "--budget" ∷ codes "7" ∷ codes "--gen=400" ∷ []) ≡ Some (record { script = None; infs = []; budget = 7; made = Some 400 })
+unfolding clap_on_literals
+made_and_budget = refl
+
+pub made_too_many : settings_of (codes "p" ∷ codes "--gen" ∷ codes "401" ∷ []) ≡ None
+unfolding clap_on_literals
+made_too_many = refl
+
+pub made_none : settings_of (codes "p" ∷ codes "--gen" ∷ codes "0" ∷ []) ≡ None
+unfolding clap_on_literals
+made_none = refl
+
+pub made_and_named : settings_of (codes "p" ∷ codes "--gen" ∷ codes "3" ∷ codes "s" ∷ []) ≡ None
+unfolding clap_on_literals
+made_and_named = refl

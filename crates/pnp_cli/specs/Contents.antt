@@ -1,5 +1,5 @@
 -- What the bytes of a script decide, of which no more are read than a file may have.
-use Rattle.std.specs.Prelude.{ℕ, ◌≡◌, nat_le, Bool, true, List, length, take, Option, Some, None}
+use Rattle.std.specs.Prelude.{ℕ, ◌≡◌, nat_le, true, List, length, take, Option, Some, None}
 use Rattle.pnp_io.specs.Outside.{AppendsFront}
 use Rattle.pnp_labels.specs.declared.label.Label.{Label}
 use Rattle.pnp_model.specs.Records.{State, Settings}

@@ -22,7 +22,11 @@ use Rattle.pnp_laws.specs.Strays.{NobodyForgotten}
 use Rattle.pnp_laws.specs.Told.{StatesTold}
 use Rattle.script_reader.specs.Script.{Trace, gives, waits, ends, stops}
 use Rattle.inf_reader.specs.declared.parts.Inf.{Inf}
-use Rattle.pnp_cli.specs.Outputs.{written}
+use Rattle.inf_reader.specs.declared.parts.InfError.{InfError}
+use Rattle.inf_reader.specs.Meaning.{inf}
+use Rattle.pnp_cli.specs.Outputs.{Report, written}
+use Rattle.pnp_cli.specs.Generated.{gen_script, gen_inf}
+use Rattle.pnp_cli.specs.Summaries.{summary}
 use Rattle.pnp_cli.specs.Infs.{infs_in}
 use Rattle.pnp_cli.specs.Contents.{events_of}
 use Rattle.pnp_cli.specs.Runs.{Given, IsOutput, machine}
@@ -43,12 +47,12 @@ events_in waits = []
 events_in ends = []
 events_in (stops number) = []
 
--- the text tells this run of the events, up to where nothing is next: a line for each label, then the bad line, then the end
-pub record IsTold (settings : machines.Settings) (rack : List Driver) (t : Trace) (text : Text) (entries : List Entry) (last : State) : Type 0 where
+-- the text tells this run of the events, up to where nothing is next: it is the report of its labels and of its last state
+pub record IsTold (settings : machines.Settings) (rack : List Driver) (t : Trace) (report : Report) (text : Text) (entries : List Entry) (last : State) : Type 0 where
   pub run : Reaches settings rack entries last
   pub rests : IsQuiet settings last
   pub events : happened entries ≡ events_in t
-  pub is : text ≡ written t (map printed entries) last
+  pub is : text ≡ report (map printed entries) last
 
 -- a step of a run, with the entries before it
 pub record IsStep (settings : machines.Settings) (rack : List Driver) (entries : List Entry) (last : State) (earlier : List Entry) (old : State) (entry : Entry) (new : State) : Type 0 where
@@ -68,46 +72,61 @@ pub record IsState (settings : machines.Settings) (rack : List Driver) (entries 
 
 -- What is said of it ----------------------------------------------------------------------
 
+-- what can be said of a run from the opening state of a rack on, over the events of a script, whose report is a text
+abbrev pub Said : Type 1
+Said = machines.Settings → List Driver → Trace → Report → Text → Type 0
+
 -- the text tells a run
-abbrev pub SomeRun : machines.Settings → List Driver → Trace → Text → Type 0
-SomeRun settings rack t text = (entries : List Entry) × (last : State) × IsTold settings rack t text entries last
+abbrev pub SomeRun : Said
+SomeRun settings rack t report text = (entries : List Entry) × (last : State) × IsTold settings rack t report text entries last
 
 -- the run that it tells keeps a law
-abbrev pub OfRun : (List Entry → Type 0) → machines.Settings → List Driver → Trace → Text → Type 0
-OfRun Law settings rack t text = (entries : List Entry) (last : State) → IsTold settings rack t text entries last → Law entries
+abbrev pub OfRun : (List Entry → Type 0) → Said
+OfRun Law settings rack t report text = (entries : List Entry) (last : State) → IsTold settings rack t report text entries last → Law entries
 
 -- each state of it does
-abbrev pub EachState : (State → Type 0) → machines.Settings → List Driver → Trace → Text → Type 0
-EachState Law settings rack t text =
-    (entries : List Entry) (last : State) → IsTold settings rack t text entries last
+abbrev pub EachState : (State → Type 0) → Said
+EachState Law settings rack t report text =
+    (entries : List Entry) (last : State) → IsTold settings rack t report text entries last
     → (s : State) → IsState settings rack entries last s → Law s
 
 -- each state of it does, with the entries before it
-abbrev pub EachPassed : (List Entry → State → Type 0) → machines.Settings → List Driver → Trace → Text → Type 0
-EachPassed Law settings rack t text =
-    (entries : List Entry) (last : State) → IsTold settings rack t text entries last
+abbrev pub EachPassed : (List Entry → State → Type 0) → Said
+EachPassed Law settings rack t report text =
+    (entries : List Entry) (last : State) → IsTold settings rack t report text entries last
     → (s : State) (state : IsState settings rack entries last s) → Law state.earlier s
 
 -- each step of it does
-abbrev pub EachStep : (machines.Settings → List Driver → List Entry → State → Entry → State → Type 0) → machines.Settings → List Driver → Trace → Text → Type 0
-EachStep Law settings rack t text =
-    (entries : List Entry) (last : State) → IsTold settings rack t text entries last
+abbrev pub EachStep : (machines.Settings → List Driver → List Entry → State → Entry → State → Type 0) → Said
+EachStep Law settings rack t report text =
+    (entries : List Entry) (last : State) → IsTold settings rack t report text entries last
     → (earlier : List Entry) (old : State) (entry : Entry) (new : State) → IsStep settings rack entries last earlier old entry new
     → Law settings rack earlier old entry new
 
 -- for a script that is there
-abbrev pub OfScript : (machines.Settings → List Driver → Trace → Text → Type 0) → machines.Settings → List Driver → Option (List ℕ) → Text → Type 0
+abbrev pub OfScript : Said → machines.Settings → List Driver → Option (List ℕ) → Text → Type 0
 OfScript Says settings rack None text = Unit {0}
-OfScript Says settings rack (Some script) text = Says settings rack (events_of script) text
+OfScript Says settings rack (Some script) text = Says settings rack (events_of script) (written (events_of script)) text
 
 -- where all INFs are taken
-abbrev pub OfInfs : (machines.Settings → List Driver → Trace → Text → Type 0) → List Driver → ℕ → Result (List Inf) InfsError → Option (List ℕ) → Text → Type 0
+abbrev pub OfInfs : Said → List Driver → ℕ → Result (List Inf) InfsError → Option (List ℕ) → Text → Type 0
 OfInfs Says rack budget (Ok infs) script text = OfScript Says (machine infs budget) rack script text
 OfInfs Says rack budget (Err error) script text = Unit {0}
 
+-- for a generated script, of which the summary is written
+abbrev pub OfMade : Said → List Driver → ℕ → ℕ → Result Inf InfError → Text → Type 0
+OfMade Says rack budget n (Ok read) text = Says (machine (read ∷ []) budget) rack (events_of (gen_script n)) (summary n) text
+OfMade Says rack budget n (Err error) text = Unit {0}
+
+-- by whether a script is named, or else how many devices are generated
+abbrev pub OfSource : Said → List Driver → ℕ → (Text → Option (List ℕ)) → List Text → Option Text → Option ℕ → Text → Type 0
+OfSource Says rack budget told infs (Some name) made text = OfInfs Says rack budget (infs_in told infs) (told name) text
+OfSource Says rack budget told infs None (Some n) text = OfMade Says rack budget n (inf gen_inf) text
+OfSource Says rack budget told infs None None text = Unit {0}
+
 -- it is so of the output for the words, the contents that the files tell, and the kinds and books of a rack
-abbrev pub OfOutput : (machines.Settings → List Driver → Trace → Text → Type 0) → List Text → Option (Text → Option (List ℕ)) → List Driver → Type 0
-OfOutput Says words contents rack = Given words contents (λ s told. (text : Text) → IsOutput rack told s text → OfInfs Says rack s.budget (infs_in told s.infs) (told s.script) text)
+abbrev pub OfOutput : Said → List Text → Option (Text → Option (List ℕ)) → List Driver → Type 0
+OfOutput Says words contents rack = Given words contents (λ s told. (text : Text) → IsOutput rack told s text → OfSource Says rack s.budget told s.infs s.script s.made text)
 
 -- The laws ----------------------------------------------------------------------------------
 

@@ -4,6 +4,8 @@ pub mod Outputs
 pub mod Contents
 pub mod Tallies
 pub mod Turns
+pub mod Generated
+pub mod Summaries
 pub mod Pieces
 pub mod Runs
 pub mod Lawful

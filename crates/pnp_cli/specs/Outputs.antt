@@ -52,10 +52,18 @@ bad_text (stops number) = error_line number
 abbrev pub end_text : State → Text
 end_text s = joined (ending s)
 
+-- what is written of all labels of a run and of its last state
+abbrev pub Report : Type 0
+Report = List Label → State → Text
+
+-- the events of a script happen from a quiet state on, and the report of their run is this text
+abbrev pub Shows : Settings → State → Trace → Report → Text → Type 0
+Shows settings s t report text = (labels : List Label) × (last : State) × Plays settings s t labels last × (text ≡ report labels last)
+
 -- what is written of labels and of a last state, for a script
-abbrev pub written : Trace → List Label → State → Text
+abbrev pub written : Trace → Report
 written t labels last = text_of labels ++ (bad_text t ++ end_text last)
 
 -- what is written for the events of a script from a quiet state on, and for how it ends
 abbrev pub Prints : Settings → State → Trace → Text → Type 0
-Prints settings s t text = (labels : List Label) × (last : State) × Plays settings s t labels last × (text ≡ written t labels last)
+Prints settings s t text = Shows settings s t (written t) text

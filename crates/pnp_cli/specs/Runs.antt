@@ -6,7 +6,11 @@ use Rattle.pnp_model.specs.Records as machines
 use Rattle.pnp_model.specs.Records.{Driver}
 use Rattle.pnp_model.specs.Runs.{opening}
 use Rattle.inf_reader.specs.declared.parts.Inf.{Inf}
-use Rattle.pnp_cli.specs.Outputs.{Prints}
+use Rattle.inf_reader.specs.declared.parts.InfError.{InfError}
+use Rattle.inf_reader.specs.Meaning.{inf}
+use Rattle.pnp_cli.specs.Outputs.{Prints, Shows}
+use Rattle.pnp_cli.specs.Generated.{gen_script, gen_inf}
+use Rattle.pnp_cli.specs.Summaries.{summary}
 use Rattle.pnp_cli.specs.Contents.{events_of, script_status}
 use Rattle.start_sequence.specs.Begins as begins
 use Rattle.pnp_cli.specs.Words.{settings_of}
@@ -16,9 +20,13 @@ use Rattle.pnp_cli.specs.declared.infs.InfsError.TheVariants as faults
 use Rattle.pnp_cli.specs.declared.parts.Settings.{Settings}
 use Rattle.pnp_cli.specs.declared.status.Status.{Status}
 
--- the files that are read: the INFs in order, and then the script
+-- the files that are read: the INFs in order, and then the script; none, where the script is generated
+abbrev pub names_of : List Text → Option Text → List Text
+names_of infs None = []
+names_of infs (Some name) = infs ++ name ∷ []
+
 abbrev pub named : Settings → List Text
-named s = s.infs ++ s.script ∷ []
+named s = names_of s.infs s.script
 
 -- what the machine is told of INFs and of the budget
 abbrev pub machine : List Inf → ℕ → machines.Settings
@@ -39,9 +47,23 @@ IsOutputBy rack budget (Ok infs) script text = IsScriptOutput (machine infs budg
 IsOutputBy rack budget (Err (faults.Refused number error)) script text = text ≡ refusal_line number error
 IsOutputBy rack budget (Err error) script text = text ≡ []
 
+-- what is written for the generated script of so many devices: the summary of its run, by what the generated INF comes to
+abbrev pub IsSummaryBy : List Driver → ℕ → ℕ → Result Inf InfError → Text → Type 0
+IsSummaryBy rack budget n (Ok read) text = Shows (machine (read ∷ []) budget) (opening rack) (events_of (gen_script n)) (summary n) text
+IsSummaryBy rack budget n (Err error) text = text ≡ []
+
+abbrev pub IsSummary : List Driver → ℕ → ℕ → Text → Type 0
+IsSummary rack budget n text = IsSummaryBy rack budget n (inf gen_inf) text
+
+-- the output, by whether a script is named, or else how many devices are generated
+abbrev pub IsOutputFor : List Driver → ℕ → (Text → Option (List ℕ)) → List Text → Option Text → Option ℕ → Text → Type 0
+IsOutputFor rack budget told infs (Some name) made text = IsOutputBy rack budget (infs_in told infs) (told name) text
+IsOutputFor rack budget told infs None (Some n) text = IsSummary rack budget n text
+IsOutputFor rack budget told infs None None text = text ≡ []
+
 -- the output for settings, by the contents of the files and the kinds and books of a rack
 abbrev pub IsOutput : List Driver → (Text → Option (List ℕ)) → Settings → Text → Type 0
-IsOutput rack told s text = IsOutputBy rack s.budget (infs_in told s.infs) (told s.script) text
+IsOutput rack told s text = IsOutputFor rack s.budget told s.infs s.script s.made text
 
 -- the same, by what the INFs come to; an INF that is not there gives none
 abbrev pub status_by : Result (List Inf) InfsError → Option (List ℕ) → Option Status
@@ -50,9 +72,14 @@ status_by (Err (faults.Refused number error)) script = Some Status.BadInf
 status_by (Err faults.TooLarge) script = Some Status.TooLarge
 status_by (Err error) script = None
 
+-- the same, by whether a script is named; one that is generated is read to its end
+abbrev pub status_for : (Text → Option (List ℕ)) → List Text → Option Text → Option Status
+status_for told infs None = Some Status.Done
+status_for told infs (Some name) = status_by (infs_in told infs) (told name)
+
 -- the answer for settings that the contents of the files decide
 abbrev pub status_of : (Text → Option (List ℕ)) → Settings → Option Status
-status_of told s = status_by (infs_in told s.infs) (told s.script)
+status_of told s = status_for told s.infs s.script
 
 -- answers that come only where the contents decide them
 abbrev pub is_decided : Status → Bool

@@ -1,5 +1,5 @@
 -- How the reading of a script and the running of its events go on together.
-use Rattle.std.specs.Prelude.{ℕ, ◌≡◌, ◌≤◌, ◌+◌, ◌^◌, Bool, true, List, [], ◌++◌, Option, Some, None, length}
+use Rattle.std.specs.Prelude.{ℕ, ◌≡◌, ◌≤◌, ◌+◌, Bool, true, List, [], ◌++◌, Option, Some, None, length}
 use Rattle.pnp_io.specs.Outside.{Appends, AppendsFront}
 use Rattle.pnp_labels.specs.Texts.{Text}
 use Rattle.pnp_labels.specs.declared.event.Event.{Event}
@@ -7,7 +7,7 @@ use Rattle.pnp_labels.specs.declared.label.Label.{Label}
 use Rattle.pnp_model.specs.Records.{State, Settings}
 use Rattle.pnp_model.specs.Machine.{IsQuiet}
 use Rattle.script_reader.specs.Reading.{Reading}
-use Rattle.script_reader.specs.Script.{Trace, trace, waits, ends, stops, MayFollow, IsStuck, Waits, Ends}
+use Rattle.script_reader.specs.Script.{Trace, trace, MayFollow, IsStuck, Waits, Ends}
 use Rattle.pnp_machine.specs.Managers.{Manager, settings, IsRunOf}
 use Rattle.pnp_cli.specs.Outputs.{Settles, Follows, Plays, bad_text, text_of}
 use Rattle.pnp_cli.specs.Tallies.{with_all}

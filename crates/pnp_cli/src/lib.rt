@@ -3,27 +3,23 @@
 #![tactic(auto)]
 
 mod ending;
-#[cfg(test)]
-mod fault_tests;
+mod generated;
 mod infs;
 pub mod laws;
+mod made;
 mod parts;
 mod pieces;
 mod program;
-#[cfg(test)]
-mod row_tests;
 mod settle;
 mod status;
+mod summary;
 mod taking;
 mod tally;
 mod tell;
-#[cfg(test)]
-mod tests;
 mod turn;
-#[cfg(test)]
-mod word_tests;
 mod words;
 
+pub use generated::{gen_inf, gen_script};
 pub use parts::{Settings, WordsError};
 pub use program::run;
 pub use status::Status;

@@ -5,12 +5,14 @@ use std::alloc::AllocError;
 /// What the words of a command line say. This project's own.
 #[derive(Debug, Drop)]
 pub struct Settings {
-    /// The name of the script.
-    pub script: Text,
+    /// The name of the script; none where the script is generated.
+    pub script: Option<Text>,
     /// The names of the INFs, in order; at most 64.
     pub infs: TextList,
     /// How many places a search for resources may try, from 1 to 1,000,000.
     pub budget: u64,
+    /// How many devices the generated script has, from 1 to 400; none where a script is named.
+    pub made: Option<u64>,
 }
 
 /// Why words give no settings. This project's own.

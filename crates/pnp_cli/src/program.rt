@@ -1,4 +1,4 @@
-ghost use Rattle.std.specs.Prelude.{◌≡◌, ◌⊎◌, ◌<◌, ◌≤◌, ◌^◌, ℕ, List, [], ◌∷◌, Some, None, Ok, IfSome, IfOk, OnOk, IsErrOf, map, length, true};
+ghost use Rattle.std.specs.Prelude.{◌≡◌, ◌⊎◌, ◌<◌, ◌≤◌, ◌^◌, ℕ, List, [], ◌∷◌, ◌++◌, Some, None, Ok, IfSome, IfOk, OnOk, IsErrOf, map, length, true};
 ghost use Rattle.pnp_io.specs.Outside.{Rose, Appends, AppendsFront};
 ghost use Rattle.pnp_cli.specs.Words.{texts, settings_of};
 ghost use Rattle.pnp_cli.specs.Infs.{infs_in, refusal_line, SomeRose};
@@ -13,12 +13,14 @@ ghost use Rattle.driver_rack.specs.Rows.{unnamed};
 
 use crate::ending::write_end;
 use crate::infs::{InfsError, read_infs, refusal_line};
+use crate::made::run_made;
 use crate::parts::{Settings, WordsError};
 use crate::pieces::run_pieces;
 use crate::status::Status;
 use crate::tally::Tally;
 use crate::turn::{PieceError, WriteError};
 use crate::words::settings;
+use device_ids::TextList;
 use driver_rack::{Driver, Drivers, Rack};
 use inf_reader::{Inf, InfError};
 use pnp_io::{Files, Sink, write_all};
@@ -134,7 +136,36 @@ fn answer_refusal<K: Sink>(alloc: Global, number: u64, error: InfError, sink: &m
     }
 }
 
-/// Reads and checks the INFs of the settings, and then runs the script.
+/// Reads and checks the INFs of these names, and then runs the script of a name.
+fn run_named<R: Drivers, F: Files, K: Sink>(
+    alloc: Global,
+    name: &[u8],
+    infs: &TextList,
+    budget: u64,
+    rack: R,
+    files: &mut F,
+    sink: &mut K,
+) -> Status
+    requires infs { length infs.now ≤ 64 }
+    requires budget { budget ≤ 1000000 }
+    ensures words { result ≡ Status.BadWords → ⊥ }
+    ensures decided { is_decided result ≡ true → IfSome (F.contents files.old) (λ told. status_by (infs_in told infs.now) (told name.now) ≡ Some result) }
+    ensures whole { is_whole result ≡ true → IfSome (F.contents files.old) (λ told. Wrote (IsOutputBy (R.rows rack) budget (infs_in told infs.now) (told name.now)) (K.taken sink.old) (K.taken sink.new)) }
+    ensures front { IfSome (F.contents files.old) (λ told. WroteFront (IsOutputBy (R.rows rack) budget (infs_in told infs.now) (told name.now)) (K.taken sink.old) (K.taken sink.new)) }
+    ensures read_fault { result ≡ Status.ReadFault → SomeRose (F.faults files.old) (F.faults files.new) (infs.now ++ name.now ∷ []) }
+    ensures write_fault { result ≡ Status.WriteFault → Rose (K.faults sink.old) (K.faults sink.new) }
+    ensures answered { IfSome (F.contents files.old) (λ told. Answers (status_by (infs_in told infs.now) (told name.now)) (SomeRose (F.faults files.old) (F.faults files.new) (infs.now ++ name.now ∷ [])) (Rose (K.faults sink.old) (K.faults sink.new)) result) }
+{
+    match read_infs(alloc, files, infs) {
+        Ok(infs) => run_script(alloc, name, infs, budget, rack, files, sink),
+        Err(InfsError::Refused(number, error)) => answer_refusal(alloc, number, error, sink),
+        Err(InfsError::TooLarge) => Status::TooLarge,
+        Err(InfsError::ReadFault) => Status::ReadFault,
+        Err(InfsError::WantOfMemory) => Status::WantOfMemory,
+    }
+}
+
+/// Runs what the settings say: the script that they name, or the one that is generated.
 fn run_settings<R: Drivers, F: Files, K: Sink>(
     alloc: Global,
     settings: &Settings,
@@ -151,23 +182,21 @@ fn run_settings<R: Drivers, F: Files, K: Sink>(
     ensures write_fault { result ≡ Status.WriteFault → Rose (K.faults sink.old) (K.faults sink.new) }
     ensures answered { IfSome (F.contents files.old) (λ told. Answers (status_of told settings.now) (SomeRose (F.faults files.old) (F.faults files.new) (named settings.now)) (Rose (K.faults sink.old) (K.faults sink.new)) result) }
 {
-    match read_infs(alloc, files, &settings.infs) {
-        Ok(infs) => {
-            let budget = settings.budget;
-            run_script(
-                alloc,
-                settings.script.bytes(),
-                infs,
-                budget,
-                rack,
-                files,
-                sink,
-            )
-        }
-        Err(InfsError::Refused(number, error)) => answer_refusal(alloc, number, error, sink),
-        Err(InfsError::TooLarge) => Status::TooLarge,
-        Err(InfsError::ReadFault) => Status::ReadFault,
-        Err(InfsError::WantOfMemory) => Status::WantOfMemory,
+    let budget = settings.budget;
+    match &settings.script {
+        Some(name) => run_named(
+            alloc,
+            name.bytes(),
+            &settings.infs,
+            budget,
+            rack,
+            files,
+            sink,
+        ),
+        None => match settings.made {
+            Some(n) => run_made(alloc, n, budget, rack, sink),
+            None => unreachable!(),
+        },
     }
 }
 
@@ -202,7 +231,8 @@ fn run_over<D: Driver, F: Files, K: Sink>(
 
 /// Reads the words, then each INF that they name, which is checked before the next one is read, and then the
 /// script, runs it over the drivers of a rack, and writes its output and nothing else; where an INF is refused,
-/// its number, error and line are the output. The condition is that the rack has fewer than 2^32 drivers. Each
+/// its number, error and line are the output. With `--gen N` no file is read: the script and the INF are generated ones, and the
+/// summary of the run is all that is written. The condition is that the rack has fewer than 2^32 drivers. Each
 /// status comes as its clauses say; after a fault, and after want of memory, what was written is a front of the
 /// output. The output tells a run of the machine that keeps the laws of the last clauses. It always returns. Cost:
 /// near linear in the bytes read, and that of the machine's steps. This project's own.

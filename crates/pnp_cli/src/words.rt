@@ -3,7 +3,7 @@ ghost use Rattle.std.specs.Prelude.{◌≡◌, ◌≤◌, ◌<◌, Some, None, I
 ghost use Rattle.clap.specs.Simple.{app_of, matches_of};
 ghost use Rattle.clap.specs.Walk.{rows_of, first_of, all_of};
 ghost use Rattle.clap.specs.Matches.{found_of};
-ghost use Rattle.pnp_cli.specs.Words.{pnpmgr, is_accepted, number_of, within, budget_of, parts_of, infs_of, settings_of, texts};
+ghost use Rattle.pnp_cli.specs.Words.{options, pnpmgr, is_accepted, number_of, within, budget_of, made_of, given, parts_of, infs_of, settings_of, texts};
 ghost use Rattle.pnp_cli.specs.declared.parts.WordsError.TheVariants.{BadWords};
 
 use crate::parts::{Settings, WordsError};
@@ -21,19 +21,31 @@ const BUDGET: u64 = 20_000;
 /// The greatest budget: this project's own.
 const MOST_BUDGET: u64 = 1_000_000;
 
+/// The most devices that are generated: this project's own.
+const MOST_MADE: u64 = 400;
+
 /// The most digits of a number: this project's own.
 const MOST_DIGITS: usize = 7;
 
-/// The command: `pnpmgr [--budget N] SCRIPT [INF ...]`.
+/// The options of the command: `[--budget N] [--gen N]`.
+fn options<'a>(alloc: Global) -> Result<Command<'a>, WantOfMemory>
+    ensures { IfOk result (λ c. app_of c ≡ options) }
+{
+    let budget = Arg::new(alloc, "budget").long("budget");
+    let made = Arg::new(alloc, "gen").long("gen");
+    let plain = Command::new(alloc, "pnpmgr").disable_help_flag(true);
+    let with_budget = plain.arg(budget)?;
+    with_budget.arg(made)
+}
+
+/// The command: `pnpmgr [--budget N] [--gen N] [SCRIPT [INF ...]]`.
 fn command<'a>(alloc: Global) -> Result<Command<'a>, WantOfMemory>
     ensures { IfOk result (λ c. app_of c ≡ pnpmgr) }
 {
-    let budget = Arg::new(alloc, "budget").long("budget");
     let script = Arg::new(alloc, "script");
     let inf = Arg::new(alloc, "inf").action(ArgAction::Append);
-    let plain = Command::new(alloc, "pnpmgr").disable_help_flag(true);
-    let with_budget = plain.arg(budget)?;
-    let with_script = with_budget.arg(script)?;
+    let with_options = options(alloc)?;
+    let with_script = with_options.arg(script)?;
     with_script.arg(inf)
 }
 
@@ -70,19 +82,13 @@ fn number(text: &str) -> Option<u64>
     Some(n)
 }
 
-/// A number, if it is a budget.
-fn within(number: Option<u64>) -> Option<u64>
-    ensures { result ≡ within number }
+/// A number, if it is from 1 to this one.
+fn within(most: u64, number: Option<u64>) -> Option<u64>
+    ensures { result ≡ within most number }
 {
     match number {
         None => None,
-        Some(n) => {
-            if 1 <= n && n <= MOST_BUDGET {
-                Some(n)
-            } else {
-                None
-            }
-        }
+        Some(n) => { if 1 <= n && n <= most { Some(n) } else { None } }
     }
 }
 
@@ -92,7 +98,20 @@ fn budget_of(text: Option<&str>) -> Option<u64>
 {
     match text {
         None => Some(BUDGET),
-        Some(text) => within(number(text)),
+        Some(text) => within(MOST_BUDGET, number(text)),
+    }
+}
+
+/// How many devices are to be generated, where the option is given; none where its value is bad.
+fn made_of(text: Option<&str>) -> Option<Option<u64>>
+    ensures { result ≡ made_of (option_map (λ t. t.now) text.entry) }
+{
+    match text {
+        None => Some(None),
+        Some(text) => match within(MOST_MADE, number(text)) {
+            None => None,
+            Some(n) => Some(Some(n)),
+        },
     }
 }
 
@@ -138,6 +157,42 @@ fn infs_found(alloc: Global, found: &ArgMatches) -> Result<TextList, WordsError>
     }
 }
 
+/// The settings of good parts: a script is named, or devices are to be generated, and not both.
+fn with_source(
+    alloc: Global,
+    script: Option<&str>,
+    infs: TextList,
+    budget: u64,
+    made: Option<u64>,
+) -> Result<Settings, WordsError>
+    ensures ok { IfOk result (λ s. given (option_map (λ t. t.now) script.entry) infs (Some budget) (Some made) ≡ Some s) }
+    ensures bad { IsErrOf result BadWords → given (option_map (λ t. t.now) script.entry) infs (Some budget) (Some made) ≡ None }
+{
+    match script {
+        Some(name) => {
+            if made.is_some() {
+                return Err(WordsError::BadWords);
+            }
+            let script = Some(Text::make(alloc, name.as_bytes())?);
+            Ok(Settings {
+                script,
+                infs,
+                budget,
+                made: None,
+            })
+        }
+        None => match made {
+            None => Err(WordsError::BadWords),
+            Some(n) => Ok(Settings {
+                script: None,
+                infs,
+                budget,
+                made: Some(n),
+            }),
+        },
+    }
+}
+
 /// The settings by what was found.
 fn settings_from(alloc: Global, found: &ArgMatches) -> Result<Settings, WordsError>
     ensures ok { IfOk result (λ s. parts_of (rows_of (found_of found.now)) ≡ Some s) }
@@ -147,22 +202,17 @@ fn settings_from(alloc: Global, found: &ArgMatches) -> Result<Settings, WordsErr
     let Some(budget) = budget_of(text_found(found, "budget")) else {
         return Err(WordsError::BadWords);
     };
-    let Some(script) = text_found(found, "script") else {
+    let Some(made) = made_of(text_found(found, "gen")) else {
         return Err(WordsError::BadWords);
     };
-    let script = Text::make(alloc, script.as_bytes())?;
-    Ok(Settings {
-        script,
-        infs,
-        budget,
-    })
+    with_source(alloc, text_found(found, "script"), infs, budget, made)
 }
 
 /// The settings that the words give: the program's name, which is not looked at, and then
-/// `[--budget N] SCRIPT [INF ...]`, as one simple command. `BadWords` comes only where the command refuses the
-/// words, no script is named, the budget is no number of one to seven decimal digits or outside 1 to
-/// 1,000,000, or more than 64 INFs are named; and there nothing but `WantOfMemory` may come in its place. Cost:
-/// the words' bytes. This project's own.
+/// `[--budget N] [--gen N] [SCRIPT [INF ...]]`, as one simple command. `BadWords` comes only where the command refuses the
+/// words, a script is named beside `--gen` or neither is, a number is not one to seven decimal digits, the budget is outside 1 to
+/// 1,000,000, the number of devices outside 1 to 400, or more than 64 INFs are named; and there nothing but `WantOfMemory` may come
+/// in its place. Cost: the words' bytes. This project's own.
 pub fn settings(alloc: Global, words: &[String]) -> Result<Settings, WordsError>
     ensures ok { IfOk result (λ s. settings_of (texts words.now) ≡ Some s) }
     ensures bad { IsErrOf result BadWords → settings_of (texts words.now) ≡ None }

@@ -1,11 +1,11 @@
-use Rattle.std.proofs.Common.{◌≡◌, ◌∙◌, ◌+◌, ◌<◌, ◌≤◌, ℕ, List, Option, Some, None, IfSome, arith, refl, sym, subst, false, true, length, take}
+use Rattle.std.proofs.Common.{◌≡◌, ◌∙◌, ℕ, List, Option, IfSome, arith, refl, sym, subst, false, take}
 use Rattle.std.proofs.lemmas.Grind.{common_steps}
 use Rattle.pnp_io.specs.Outside.{ReadsTold}
 use Rattle.script_reader.specs.Reading.{Reading}
 use Rattle.script_reader.specs.Script.{trace, waits}
-use Rattle.pnp_cli.specs.Turns.{TakenBad, TakenFront, shut, fed_with}
+use Rattle.pnp_cli.specs.Turns.{TakenBad, shut, fed_with}
 use Rattle.pnp_cli.specs.Pieces.{Ran}
-use Rattle.pnp_cli.proofs.Whole.{so_far_none, ran_end, above_told, so_far_front, so_far_front_last, if_ok, Fed, fed_by, turn_on, turn_bad, turn_front, waits_on, SoFar}
+use Rattle.pnp_cli.proofs.Whole.{so_far_none, ran_end, above_told, so_far_front, so_far_front_last, if_ok, Fed, fed_by, turn_on, turn_bad, turn_front, waits_on}
 use Rattle.pnp_cli.proofs.pieces.run_through.Goals as goal
 
 pub pieces-init : goal.pieces-init

@@ -1,7 +1,6 @@
-use Rattle.std.proofs.Common.{◌≡◌, true, IfSome, subst}
+use Rattle.std.proofs.Common.{IfSome, subst}
 use Rattle.pnp_machine.specs.Managers.{Manager, settings}
-use Rattle.pnp_cli.specs.Runs.{IsPrintedFor, Wrote, WroteFront, is_whole}
-use Rattle.pnp_cli.proofs.Ended.{awaits_first}
+use Rattle.pnp_cli.specs.Runs.{IsPrintedFor, Wrote, WroteFront}
 use Rattle.pnp_cli.proofs.program.run_script.Goals as goal
 
 pub returns-in-Ok-clause-whole : goal.returns-in-Ok-clause-whole

@@ -1,6 +1,5 @@
 use Rattle.pnp_machine.specs.Managers.{settings}
 use Rattle.pnp_cli.proofs.Ended.{decided_told, wrote_told, front_told, took_told}
-use Rattle.pnp_cli.proofs.Fronts.{all_is_front}
 use Rattle.pnp_cli.proofs.program.run_whole.Goals as goal
 
 pub returns-in_err-bad-clause-front : goal.returns-in_err-bad-clause-front

@@ -1,5 +1,5 @@
 //! The words of the command line, and the INFs that they name.
-use crate::{Settings, Status, WordsError, run, settings};
+use pnp_cli::{Settings, Status, WordsError, run, settings};
 use pnp_io::{MemFiles, MemSink};
 use std::alloc::{AllocError, Global};
 use std::process::Abort;
@@ -14,19 +14,27 @@ pub fn words_of(alloc: Global, texts: &[&str]) -> Result<Vec<String>, Fail> {
     Ok(words)
 }
 
-/// What the words say: the script, the INFs and the budget.
+/// What the words say: the script, the INFs and the budget, or how many devices are generated and the budget.
 fn said(alloc: Global, settings: &Settings) -> Result<Vec<u8>, AllocError> {
-    let mut said = Vec::from_slice(alloc, settings.script.bytes())?;
+    let mut said = Vec::new(alloc);
+    match &settings.script {
+        Some(script) => said.extend_from_slice(script.bytes())?,
+        None => said.extend_from_slice(b"none")?,
+    }
     for at in 0..settings.infs.len() {
         said.push(b' ')?;
         said.extend_from_slice(settings.infs.get(at).bytes())?;
+    }
+    if let Some(n) = settings.made {
+        let made = format!(in alloc; " made {n}")?;
+        said.extend_from_slice(made.as_bytes())?;
     }
     let budget = format!(in alloc; " {}", settings.budget)?;
     said.extend_from_slice(budget.as_bytes())?;
     Ok(said)
 }
 
-const GOOD: [(&[&str], &[u8]); 9] = [
+const GOOD: [(&[&str], &[u8]); 13] = [
     (&["pnpmgr", "s"], b"s 20000"),
     (&["-", "s"], b"s 20000"),
     (&["pnpmgr", "s", "i", "j"], b"s i j 20000"),
@@ -36,6 +44,16 @@ const GOOD: [(&[&str], &[u8]); 9] = [
     (&["pnpmgr", "--", "--budget", "-x"], b"--budget -x 20000"),
     (&["pnpmgr", "s", "--", "--gen"], b"s --gen 20000"),
     (&["pnpmgr", "-"], b"- 20000"),
+    (&["pnpmgr", "--gen", "1"], b"none made 1 20000"),
+    (
+        &["pnpmgr", "--gen=400", "--budget", "5"],
+        b"none made 400 5",
+    ),
+    (
+        &["pnpmgr", "--budget=5", "--gen", "0000050"],
+        b"none made 50 5",
+    ),
+    (&["pnpmgr", "--", "--gen", "1"], b"--gen 1 20000"),
 ];
 
 #[test]
@@ -54,12 +72,20 @@ fn good_words(rt: HostRuntime) -> Result<(), Fail> {
     Ok(())
 }
 
-const BAD: [&[&str]; 19] = [
+const BAD: [&[&str]; 27] = [
     &[],
     &["pnpmgr"],
     &["pnpmgr", "--budget", "0", "s"],
     &["pnpmgr", "--budget", "x", "s"],
     &["pnpmgr", "--gen", "3", "s"],
+    &["pnpmgr", "s", "--gen", "3"],
+    &["pnpmgr", "--gen", "3", "--", "s", "i"],
+    &["pnpmgr", "--gen", "0"],
+    &["pnpmgr", "--gen", "401"],
+    &["pnpmgr", "--gen", "x"],
+    &["pnpmgr", "--gen"],
+    &["pnpmgr", "--gen", "00000001"],
+    &["pnpmgr", "--gen", "1", "--gen", "1"],
     &["pnpmgr", "--budget", "1000001", "s"],
     &["pnpmgr", "--budget", "00000001", "s"],
     &["pnpmgr", "--budget", "0x10", "s"],

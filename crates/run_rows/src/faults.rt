@@ -1,8 +1,8 @@
 //! Memory or writes that are refused on the way: the status says so, and what was written is a front of the output. The
 //! first three are for runs in which one allocation fails (`rt try --test --fail-alloc N`).
-use crate::row_tests::{ONE_DEVICE_SCRIPT, ONE_DEVICE_TEXT, OWN_INF, ended};
-use crate::word_tests::words_of;
-use crate::{Status, run};
+use crate::scripts::{ONE_DEVICE_SCRIPT, ONE_DEVICE_TEXT, OWN_INF, ended};
+use crate::words::words_of;
+use pnp_cli::{Status, run};
 use pnp_io::{MemFiles, MemSink};
 use std::alloc::Global;
 use std::process::Abort;

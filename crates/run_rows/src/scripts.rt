@@ -1,7 +1,7 @@
 //! Whole runs, from the words, INFs and script to the bytes that are written, as the description of the machine gives them.
-use crate::word_tests::words_of;
-use crate::{Status, run};
+use crate::words::words_of;
 use driver_rack::{Driver, Scripted, Steady, Stubborn};
+use pnp_cli::{Status, run};
 use pnp_io::{MemFiles, MemSink};
 use std::alloc::Global;
 use std::process::Abort;

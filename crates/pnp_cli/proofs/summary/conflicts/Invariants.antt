@@ -1,0 +1,11 @@
+use Rattle.std.proofs.Common.{◌≡◌, ◌≤◌, take}
+use Rattle.std.specs.Prelude.{count_by}
+use Rattle.pnp_model.specs.Cores.{node_at}
+use Rattle.pnp_cli.specs.Summaries.{has_conflict}
+use Rattle.pnp_cli.proofs.summary.conflicts.Given as goal
+
+abbrev pub invariant-loop-row : goal.invariant-loop-row
+invariant-loop-row g l = record {
+  counted : l.count ≡ count_by (λ row. has_conflict (node_at row.serial l.tree.nodes)) (take l.row-index l.rows);
+  small : l.count ≤ l.row-index;
+}

@@ -1,0 +1,107 @@
+//! Summaries of generated scripts, over racks of drivers; and the generated texts.
+use crate::words::words_of;
+use driver_rack::{Driver, Steady, TeachError};
+use pnp_cli::{Status, gen_inf, gen_script, run};
+use pnp_io::{MemFiles, MemSink};
+use pnp_labels::{Answer, Ask, AskWhat, DriverKind, Minor, Rule};
+use std::alloc::Global;
+use std::process::Abort;
+use std::test::Fail;
+
+/// A driver that fails each START_DEVICE, answers all else with success and can be taught nothing.
+#[derive(Drop)]
+struct Unwilling {}
+
+impl Driver for Unwilling {
+    ghost use Rattle.std.specs.Prelude.{[], ◌∷◌};
+    ghost use Rattle.pnp_labels.specs.declared.words.DriverKind.TheVariants as kinds;
+    ghost use Rattle.pnp_labels.specs.declared.words.Minor.TheVariants as minors;
+    ghost use Rattle.driver_rack.specs.Teaching.{always_fails};
+
+    ghost book = { λ _. always_fails minors.Start ∷ [] };
+
+    ghost kind_of = { λ _. kinds.Steady };
+
+    fn kind(&self) -> DriverKind {
+        DriverKind::Steady
+    }
+
+    fn teach(&mut self, _rule: Rule) -> Result<(), TeachError> {
+        Err(TeachError::NotTeachable)
+    }
+
+    fn answer(&mut self, ask: &Ask) -> Answer {
+        match ask.what {
+            AskWhat::Irp(Minor::Start) => Answer::Fail,
+            _ => Answer::Ok,
+        }
+    }
+}
+
+/// Runs `--gen` with this number over a rack, and compares the summary.
+fn sums_up(
+    rt: &impl Abort,
+    alloc: Global,
+    rack: Vec<Box<dyn Driver>>,
+    n: &str,
+    text: &[u8],
+) -> Result<(), Fail> {
+    assert!(rt; rack.len() < 8);
+    let words = words_of(alloc, &["pnpmgr", "--gen", n])?;
+    let mut files = MemFiles::new(alloc);
+    let mut sink = MemSink::new(alloc, 4096)?;
+    let status = run(alloc, &words, rack, &mut files, &mut sink);
+    assert_eq!(rt; status, Status::Done);
+    assert!(rt; sink.taken() == text, "{:?}", sink.taken());
+    Ok(())
+}
+
+/// A rack of two Steady drivers.
+fn two_steady(alloc: Global) -> Result<Vec<Box<dyn Driver>>, Fail> {
+    let mut rack: Vec<Box<dyn Driver>> = Vec::new(alloc);
+    rack.push(Box::new(alloc, Steady::make())?)?;
+    rack.push(Box::new(alloc, Steady::make())?)?;
+    Ok(rack)
+}
+
+/// One device; and fifty, of which the last needs the ports of the first, which moves.
+#[test]
+fn devices_start(rt: HostRuntime) -> Result<(), Fail> {
+    let alloc = rt.alloc();
+    let one = b"devices 1\nsteps 20\nstarted 2\nproblem12 0\nmoved 0\n";
+    sums_up(&rt, alloc, two_steady(alloc)?, "1", one)?;
+    let fifty = b"devices 50\nsteps 765\nstarted 51\nproblem12 0\nmoved 1\n";
+    sums_up(&rt, alloc, two_steady(alloc)?, "50", fifty)
+}
+
+/// No driver; and one for the bus, while that of the device fails its start.
+#[test]
+fn devices_do_not_start(rt: HostRuntime) -> Result<(), Fail> {
+    let alloc = rt.alloc();
+    let none = b"devices 1\nsteps 8\nstarted 0\nproblem12 0\nmoved 0\n";
+    sums_up(&rt, alloc, Vec::new(alloc), "1", none)?;
+    let mut rack: Vec<Box<dyn Driver>> = Vec::new(alloc);
+    rack.push(Box::new(alloc, Steady::make())?)?;
+    rack.push(Box::new(alloc, Unwilling {})?)?;
+    let failed = b"devices 1\nsteps 22\nstarted 1\nproblem12 0\nmoved 0\n";
+    sums_up(&rt, alloc, rack, "1", failed)
+}
+
+/// The generated texts.
+#[test]
+fn generated_texts(rt: HostRuntime) -> Result<(), Fail> {
+    let alloc = rt.alloc();
+    let script = gen_script(alloc, 50)?;
+    let first =
+        b"driver bus steady\ndriver dev steady\nplug HTREE\\ROOT\\0 GEN\\BUS 0\nplug GEN\\BUS\\0 GEN\\DEV 1 need=port:4096-65535/8@8;irq:16-23:shared\n";
+    let last =
+        b"\nplug GEN\\BUS\\0 GEN\\DEV 49 need=port:4096-65535/8@8;irq:16-23:shared\nplug GEN\\BUS\\0 GEN\\DEV 50 need=port:4096-4103/8@8\n";
+    assert!(rt; script.starts_with(first), "{script:?}");
+    assert!(rt; script.ends_with(last), "{script:?}");
+    let inf = gen_inf(alloc)?;
+    assert!(rt;
+        inf.ends_with(b"\n[D.Services]\nAddService=dev,2,S\n"),
+        "{inf:?}"
+    );
+    Ok(())
+}

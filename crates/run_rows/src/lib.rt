@@ -1,0 +1,15 @@
+//! Tests of whole runs, by calls of `run` and `settings` alone. There is no other code here.
+#![tactic(auto)]
+
+#[cfg(test)]
+mod faults;
+#[cfg(test)]
+mod generated;
+#[cfg(test)]
+mod live;
+#[cfg(test)]
+mod scripts;
+#[cfg(test)]
+mod small_scripts;
+#[cfg(test)]
+mod words;
