@@ -12,3 +12,4 @@ pub mod Refusals
 pub mod WordRows
 pub mod InfSteps
 pub mod Limited
+pub mod Racks

@@ -2,6 +2,7 @@
 //! written.
 #![tactic(auto)]
 
+mod drivers;
 mod ending;
 #[cfg(test)]
 mod fault_tests;
@@ -24,6 +25,7 @@ mod turn;
 mod word_tests;
 mod words;
 
+pub use drivers::{ProgramDriver, program_drivers};
 pub use parts::{Settings, WordsError};
 pub use program::run;
 pub use status::Status;
