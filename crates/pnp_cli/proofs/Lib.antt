@@ -17,3 +17,4 @@ pub mod MadeLines
 pub mod Counts
 pub mod Counting
 pub mod Sources
+pub mod Racks

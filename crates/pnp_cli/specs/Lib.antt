@@ -10,3 +10,4 @@ pub mod Pieces
 pub mod Runs
 pub mod Lawful
 pub mod Limits
+pub mod Racks

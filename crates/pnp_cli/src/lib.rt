@@ -2,6 +2,7 @@
 //! written.
 #![tactic(auto)]
 
+mod drivers;
 mod ending;
 mod generated;
 mod infs;
@@ -19,6 +20,7 @@ mod tell;
 mod turn;
 mod words;
 
+pub use drivers::{ProgramDriver, program_drivers};
 pub use generated::{gen_inf, gen_script};
 pub use parts::{Settings, WordsError};
 pub use program::run;

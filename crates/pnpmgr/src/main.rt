@@ -2,21 +2,12 @@
 //! itself: whatever comes before `run` has a status of its own.
 #![tactic(auto)]
 
-use driver_rack::{Driver, Scripted, Steady, Stubborn};
-use pnp_cli::{Status, run};
+use driver_rack::Driver;
+use pnp_cli::{Status, program_drivers, run};
 use pnp_io::{HostFiles, HostSink};
 use std::alloc::AllocError;
 use std::io::ErrorKind;
 use std::process::ExitCode;
-
-/// How many scripted drivers the rack has: this project's own.
-const SCRIPTED: u32 = 128;
-
-/// How many steady drivers the rack has: this project's own.
-const STEADY: u32 = 32;
-
-/// How many stubborn drivers the rack has: this project's own.
-const STUBBORN: u32 = 16;
 
 /// The words of the command line. Words that are not UTF-8 are refused as `BadWords`; else memory was refused.
 fn words_of(rt: &HostRuntime) -> Result<Vec<String>, Status> {
@@ -32,18 +23,13 @@ fn words_of(rt: &HostRuntime) -> Result<Vec<String>, Status> {
     }
 }
 
-/// Runs what the words name, over the rack: scripted drivers, then steady ones, then stubborn ones.
+/// Runs what the words name, over the drivers of the program, each in a box of its own.
 fn run_words(rt: &HostRuntime, words: &[String]) -> Result<Status, AllocError> {
     let alloc = rt.alloc();
+    let drivers = program_drivers(alloc)?;
     let mut rack: Vec<Box<dyn Driver>> = Vec::new(alloc);
-    'scripted: for _ in 0..SCRIPTED {
-        rack.push(Box::new(alloc, Scripted::make(alloc)?)?)?;
-    }
-    'steady: for _ in 0..STEADY {
-        rack.push(Box::new(alloc, Steady::make())?)?;
-    }
-    'stubborn: for _ in 0..STUBBORN {
-        rack.push(Box::new(alloc, Stubborn::make())?)?;
+    'boxes: for driver in drivers {
+        rack.push(Box::new(alloc, driver)?)?;
     }
     let mut files = HostFiles::make(rt);
     let mut sink = HostSink::make(rt);
