@@ -91,4 +91,4 @@ took_told (Some told) name told_machine s t t' h = took_file told_machine s (tol
 pub awaits_first : (infs : List Inf) (budget : ℕ) (rack : List Driver) (m : Manager) → m ≡ record { infs = infs; budget = budget; events = 0; state = opening rack } → Awaits m
 awaits_first infs budget rack m is =
     let P : Manager → Type 0 = λ x. Awaits x in
-    subst P (sym is) (record { run = record { rack = rack; entries = []; reaches = refl; count = refl }; quiet = refl })
+    subst P (sym is) (record { run = record { rack = rack; entries = []; reaches = refl; count = refl; within = tt }; quiet = refl })
