@@ -11,6 +11,7 @@ mod RowsRemovals
 mod RowsRelations
 mod RowsReturns
 mod RowsBoard
+mod RowsWindows
 mod RowsKept
 mod RowsMixed
 mod RowsMixedMore
