@@ -111,6 +111,7 @@ word_text EventWord.Eject = codes "eject"
 word_text EventWord.Relate = codes "relate"
 word_text EventWord.Reserve = codes "reserve"
 word_text EventWord.Complete = codes "complete"
+word_text EventWord.Window = codes "window"
 
 abbrev pub reason_text : Reason → Text
 reason_text Reason.NoParent = codes "NoParent"
@@ -132,6 +133,8 @@ reason_text Reason.RelationCycle = codes "RelationCycle"
 reason_text Reason.NotStarted = codes "NotStarted"
 reason_text Reason.InUse = codes "InUse"
 reason_text Reason.NoSuchRequest = codes "NoSuchRequest"
+reason_text Reason.HasChildren = codes "HasChildren"
+reason_text Reason.SameWindow = codes "SameWindow"
 
 abbrev pub hex : ℕ → Text
 hex n = codes "0x" ++ digits 16 false n

@@ -79,4 +79,9 @@ pub enum Event {
         minor: Minor,
         ok: bool,
     },
+    /// To the devices below this one only ports, or memory, of this range are passed on from now on.
+    Window {
+        path: InstancePath,
+        res: Res,
+    },
 }

@@ -16,6 +16,7 @@ pub enum EventWord {
     Relate,
     Reserve,
     Complete,
+    Window,
 }
 
 /// Why an event was refused: this project's own.
@@ -59,6 +60,10 @@ pub enum Reason {
     InUse,
     /// No request of that minor waits at the device.
     NoSuchRequest,
+    /// The world or the tree has a device below it.
+    HasChildren,
+    /// It has a window of the kind.
+    SameWindow,
 }
 
 /// What an ask or a completion shows: an answer, or a failure that must not be (this project's own name

@@ -106,6 +106,7 @@ pub fn word_text(word: EventWord) -> &'static [u8]
         EventWord::Relate => b"relate",
         EventWord::Reserve => b"reserve",
         EventWord::Complete => b"complete",
+        EventWord::Window => b"window",
     }
 }
 
@@ -133,5 +134,7 @@ pub fn reason_text(reason: Reason) -> &'static [u8]
         Reason::NotStarted => b"NotStarted",
         Reason::InUse => b"InUse",
         Reason::NoSuchRequest => b"NoSuchRequest",
+        Reason::HasChildren => b"HasChildren",
+        Reason::SameWindow => b"SameWindow",
     }
 }

@@ -12,6 +12,7 @@ mod RowsRelations
 mod RowsReturns
 mod RowsBoard
 mod RowsBuses
+mod RowsWindows
 mod RowsKept
 mod RowsMixed
 mod RowsMixedMore

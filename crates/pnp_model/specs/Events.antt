@@ -1,5 +1,5 @@
 -- What an event does to a quiet machine: a label, and the state after it.
-use Rattle.std.specs.Prelude.{ℕ, ◌==◌, Bool, true, false, ◌&&◌, List, [], ◌∷◌, ◌++◌, Option, Some, None, nat_le, nat_lt, find, length}
+use Rattle.std.specs.Prelude.{ℕ, ◌==◌, Bool, true, false, ◌&&◌, ◌||◌, List, [], ◌∷◌, ◌++◌, Option, Some, None, nat_le, nat_lt, find, length}
 use Rattle.std.specs.List.{list_any}
 use Rattle.resource_reqs.specs.Resources.{Res, Reqs, clashes}
 use Rattle.pnp_model.specs.Keyed.{changed_first}
@@ -8,9 +8,10 @@ use Rattle.pnp_model.specs.Tests.{has_same, has, is_scripted, is_started, same_m
 use Rattle.pnp_model.specs.Books.{is_named, is_unnamed, with_name, printed_name}
 use Rattle.pnp_model.specs.Walks.{after, shown_of}
 use Rattle.pnp_model.specs.Cores.{set_rack}
-use Rattle.pnp_model.specs.Trees.{dependents}
+use Rattle.pnp_model.specs.Trees.{dependents, is_child}
+use Rattle.pnp_model.specs.Windows.{is_window_on}
 use Rattle.pnp_model.specs.Frames.{held_by}
-use Rattle.pnp_model.specs.States.{with_core, append_task, list_node, node_born, node_of, device_of, plug, unplug, enable_path, activity_at, set_phase, set_operation}
+use Rattle.pnp_model.specs.States.{with_core, append_task, list_node, node_born, node_of, device_of, has_below, add_window, plug, unplug, enable_path, activity_at, set_phase, set_operation}
 use Rattle.pnp_model.specs.Machine.{phase_walk, operation_walk}
 use Rattle.pnp_labels.specs.Texts.{spaced, minor_text, shown_text, res_text, Text}
 use Rattle.pnp_model.specs.Records.{Node, Core, Walk, Device, Driver, Relation, Activity, Phase, State, Step, Operation, RebalanceStage, RemovalStage, SurpriseStage, Duty}
@@ -180,6 +181,34 @@ reserve_idle s res (Some o) = refused EventWord.Reserve Reason.Busy s
 reserve_idle s res None =
     reserve_free s res (list_any (clashes res) (s.core.reserved ++ held_by s.core.nodes))
 
+-- window ----------------------------------------------------------------------
+
+-- a node has this one as parent
+abbrev pub has_children : List Node → Option Node → Bool
+has_children nodes None = false
+has_children nodes (Some node) = list_any (is_child node.serial) nodes
+
+-- has it a window of the kind?
+abbrev pub window_new : State → Res → Device → Bool → Step
+window_new s res d true = refused EventWord.Window Reason.SameWindow s
+window_new s res d false =
+    did EventWord.Window (spaced (d.path ∷ res_text res ∷ [])) (add_window d.born res s)
+
+-- is a device below it, in the world or in the tree?
+abbrev pub window_childless : State → Res → Device → Bool → Step
+window_childless s res d true = refused EventWord.Window Reason.HasChildren s
+window_childless s res d false = window_new s res d (list_any (is_window_on res.kind (d.born ∷ [])) s.windows)
+
+-- is it the root?
+abbrev pub window_device : State → Res → Device → Bool → Step
+window_device s res d true = refused EventWord.Window Reason.RootStays s
+window_device s res d false =
+    window_childless s res d (has_below d.born s.world || has_children s.core.nodes (node_born d.born s.core.nodes))
+
+abbrev pub window_at : State → Res → Option Device → Step
+window_at s res None = refused EventWord.Window Reason.NoDevice s
+window_at s res (Some d) = window_device s res d (d.born == 0)
+
 -- complete --------------------------------------------------------------------
 
 abbrev pub answer_of : Bool → Answer
@@ -279,3 +308,4 @@ happens s (Event.Eject path) = eject_at s (node_of path s.core.nodes)
 happens s (Event.Relate kind owner member) = relate_at s kind (node_of owner s.core.nodes) (node_of member s.core.nodes)
 happens s (Event.Reserve res) = reserve_idle s res s.operation
 happens s (Event.Complete path minor ok) = complete_at s minor ok (node_of path s.core.nodes)
+happens s (Event.Window path res) = window_at s res (device_of path s.world)

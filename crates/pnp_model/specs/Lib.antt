@@ -5,6 +5,7 @@ pub mod Books
 pub mod Walks
 pub mod Cores
 pub mod Trees
+pub mod Windows
 pub mod Frames
 pub mod Starts
 pub mod Rebalances

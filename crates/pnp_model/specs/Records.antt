@@ -35,6 +35,11 @@ pub record Node : Type 0 where
   pub stack : List ℕ
   pub holds : List Res
 
+-- the device of this birth number passes on only what lies in this range of its kind
+pub record Window : Type 0 where
+  pub born : ℕ
+  pub res : Res
+
 -- a driver of the rack
 pub record Driver : Type 0 where
   pub kind : DriverKind
@@ -158,6 +163,7 @@ pub record State : Type 0 where
   pub activities : List Activity
   pub operation : Option Operation
   pub tasks : List Task
+  pub windows : List Window
 
 -- the drivers that the INFs name for a device
 pub record Choice : Type 0 where

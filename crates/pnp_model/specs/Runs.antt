@@ -63,6 +63,7 @@ opening rack =
       activities = [];
       operation = None;
       tasks = [];
+      windows = [];
     }
 
 -- A run that computes, where the answers of its searches are given in their order ------------------

@@ -1,10 +1,12 @@
 -- The small changes of a state, of which each step is made.
-use Rattle.std.specs.Prelude.{ℕ, ◌+◌, ◌==◌, Bool, true, false, ◌||◌, List, [], ◌∷◌, ◌++◌, Option, Some, None, nat_lt, find, drop, if◌then◌else◌}
+use Rattle.std.specs.Prelude.{ℕ, ◌+◌, ◌==◌, Bool, true, false, not, ◌&&◌, ◌||◌, List, [], ◌∷◌, ◌++◌, Option, Some, None, nat_lt, find, drop, if◌then◌else◌}
 use Rattle.std.specs.List.{list_any}
 use Rattle.pnp_model.specs.Keyed.{changed_first, without_first, put_before}
 use Rattle.device_ids.specs.Folding.{same}
+use Rattle.resource_reqs.specs.Resources.{Res}
 use Rattle.pnp_model.specs.Tests.{has}
 use Rattle.pnp_model.specs.Cores.{new_node, add_node}
+use Rattle.pnp_model.specs.Windows.{clip}
 use Rattle.pnp_model.specs.Records.{Node, Core, Device, Activity, Phase, State, Operation, Duty}
 use Rattle.pnp_labels.specs.Texts.{Text}
 
@@ -74,6 +76,17 @@ unplug born s = record s { world = without_those (born ∷ []) s.world }
 abbrev pub plug : Device → State → State
 plug d s = record s { world = s.world ++ d ∷ []; next_born = s.next_born + 1 }
 
+-- a device of the world is below that of the birth number; the root is below none
+abbrev pub is_below : ℕ → Device → Bool
+is_below born d = d.parent == born && not (d.born == 0)
+
+abbrev pub has_below : ℕ → List Device → Bool
+has_below born world = list_any (is_below born) world
+
+-- the device of the birth number has this window for good
+abbrev pub add_window : ℕ → Res → State → State
+add_window born res s = record s { windows = s.windows ++ record { born = born; res = res } ∷ [] }
+
 -- nodes by birth number and by path
 
 abbrev pub node_born : ℕ → List Node → Option Node
@@ -82,10 +95,14 @@ node_born born nodes = find (λ n. n.born == born) nodes
 abbrev pub node_of : Text → List Node → Option Node
 node_of path nodes = find (λ n. same n.path path) nodes
 
--- a device of the world joins below a parent, under the next serial
+-- the node of a device of the world that joins below a parent, under the next serial: what it requires is cut to what
+-- the devices above it pass on
+abbrev pub new_child : ℕ → Device → State → Node
+new_child parent d s =
+    new_node s.next_serial parent (record d { reqs = clip s.windows s.core.nodes parent d.reqs })
+
 abbrev pub join_node : ℕ → Device → State → State
-join_node parent d s =
-    record s { core = add_node (new_node s.next_serial parent d) s.core; next_serial = s.next_serial + 1 }
+join_node parent d s = record s { core = add_node (new_child parent d s) s.core; next_serial = s.next_serial + 1 }
 
 -- the `list` task of the node, if there is one
 abbrev pub list_node : Option Node → State → State
