@@ -148,6 +148,7 @@ range_text kinds.Port lo hi = codes "port:" ++ hex lo ++ 45 ∷ hex hi
 range_text kinds.Irq lo hi = codes "irq:" ++ decimal lo ++ 45 ∷ decimal hi
 range_text kinds.Mem lo hi = codes "mem:" ++ hex lo ++ 45 ∷ hex hi
 range_text kinds.Dma lo hi = codes "dma:" ++ decimal lo ++ 45 ∷ decimal hi
+range_text kinds.Bus lo hi = codes "bus:" ++ decimal lo ++ 45 ∷ decimal hi
 
 abbrev pub res_text : Res → Text
 res_text res = range_text res.kind res.lo res.hi ++ share_text res.shared

@@ -36,7 +36,7 @@ fn rank_text(alloc: Global, rank: u32) -> Result<Vec<u8>, WantOfMemory>
     Ok(text)
 }
 
-/// A kind with its first and last number: ports and memory in hexadecimal, interrupts and channels in decimal.
+/// A kind with its first and last number: ports and memory in hexadecimal, all others in decimal.
 fn range_text(alloc: Global, kind: Kind, lo: u64, hi: u64) -> Result<String, WantOfMemory>
     ensures { IfOk result (λ text. string_bytes text ≡ range_text kind lo hi) }
 {
@@ -45,6 +45,7 @@ fn range_text(alloc: Global, kind: Kind, lo: u64, hi: u64) -> Result<String, Wan
         Kind::Irq => format!(in alloc; "irq:{lo}-{hi}"),
         Kind::Mem => format!(in alloc; "mem:0x{lo:x}-0x{hi:x}"),
         Kind::Dma => format!(in alloc; "dma:{lo}-{hi}"),
+        Kind::Bus => format!(in alloc; "bus:{lo}-{hi}"),
     }
 }
 

@@ -5,7 +5,7 @@ use Rattle.std.specs.List.{All, AllByRecursion}
 use Rattle.std.proofs.lemmas.List.Elements.{All-nil, All-cons, All-head, All-tail, Contains-append_left, Contains-append_right}
 use Rattle.std.proofs.lemmas.Option.{slice_get_within}
 use Rattle.resource_reqs.specs.declared.kind.Kind.{Kind}
-use Rattle.resource_reqs.specs.declared.kind.Kind.TheVariants.{Port, Irq, Mem, Dma}
+use Rattle.resource_reqs.specs.declared.kind.Kind.TheVariants.{Port, Irq, Mem, Dma, Bus}
 use Rattle.resource_reqs.specs.Resources.{Res, Want, Group, AltList, Reqs, ShareNumber, Clash, May, Free, res_at}
 use Rattle.resource_reqs.specs.Spelling.{Coord, alt, place, Less, Place, res_of, Point, choose, next_in, next, CleanPlaces, HasPlace, HasList, LiveAt, CompleteAt}
 use Rattle.resource_reqs.proofs.Ends.{share_from_ends, ends_from_share}
@@ -49,10 +49,12 @@ dec_kind Port Port = yes refl
 dec_kind Irq Irq = yes refl
 dec_kind Mem Mem = yes refl
 dec_kind Dma Dma = yes refl
+dec_kind Bus Bus = yes refl
 dec_kind Port _ = no (λ e. cc)
 dec_kind Irq _ = no (λ e. cc)
 dec_kind Mem _ = no (λ e. cc)
 dec_kind Dma _ = no (λ e. cc)
+dec_kind Bus _ = no (λ e. cc)
 
 dec_bool : (a b : Bool) → Dec (a ≡ b)
 dec_bool true true = yes refl

@@ -259,6 +259,7 @@ same_kind_self a kinds.Port e = ap (λ (x : Kind). same_kind x kinds.Port) e
 same_kind_self a kinds.Irq e = ap (λ (x : Kind). same_kind x kinds.Irq) e
 same_kind_self a kinds.Mem e = ap (λ (x : Kind). same_kind x kinds.Mem) e
 same_kind_self a kinds.Dma e = ap (λ (x : Kind). same_kind x kinds.Dma) e
+same_kind_self a kinds.Bus e = ap (λ (x : Kind). same_kind x kinds.Bus) e
 
 not_both : (a b : Bool) → ((a ≡ true) × (b ≡ true) → ⊥) → not (a && b) ≡ true
 not_both true true h = absurd (h (refl, refl))

@@ -69,6 +69,7 @@ unit_number kinds.Port = 0
 unit_number kinds.Irq = 1
 unit_number kinds.Mem = 2
 unit_number kinds.Dma = 3
+unit_number kinds.Bus = 4
 
 -- the first comes before the second in the order of their lists of numbers
 abbrev pub comes_before : List ℕ → List ℕ → Bool
