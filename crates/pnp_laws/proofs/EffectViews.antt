@@ -11,14 +11,14 @@ use Rattle.pnp_labels.specs.declared.states.DevState.{DevState}
 use Rattle.pnp_labels.specs.declared.states.DevState.TheVariants.{NoStack}
 use Rattle.pnp_labels.specs.declared.words.Minor.{Minor}
 use Rattle.pnp_labels.specs.declared.words.Minor.TheVariants.{Start, QueryRemove, Remove, QueryStop}
-use Rattle.pnp_model.specs.Cores.{bare, is_node, new_node, node_at, stacked, with_holds, with_problem, with_stack, with_state}
+use Rattle.pnp_model.specs.Cores.{bare, is_node, node_at, stacked, with_holds, with_problem, with_stack, with_state}
 use Rattle.pnp_model.specs.Frames.{first_node}
 use Rattle.pnp_model.specs.Keyed.{changed_first, without_first}
 use Rattle.pnp_model.specs.Machine.{is_ready}
 use Rattle.pnp_model.specs.Rebalances.{committed, movers, plan_of}
 use Rattle.pnp_model.specs.Records.{Activity, Device, Node, Operation, Phase, Rebalance, RebalanceStage, State, Step, Walk}
 use Rattle.pnp_model.specs.Starts.{own_part}
-use Rattle.pnp_model.specs.States.{activity_at, entered, is_activity, with_phase}
+use Rattle.pnp_model.specs.States.{activity_at, entered, is_activity, new_child, with_phase}
 use Rattle.pnp_model.specs.Tasks.{joining}
 use Rattle.pnp_model.specs.Walks.{has_ended, state_after, walk_of}
 use Rattle.pnp_laws.specs.Effects.{Acting, ActivityEffect, Alters, Assigned, Enters, IsSearch, NodeEffect, Over, PhaseStep, Request, ends_bad, to_leave}
@@ -100,7 +100,7 @@ pub data Origin (s : State) (label : Label) (t : State) (k : ℕ) : Node → Typ
       → t.activities ≡ changed_first (is_activity k) (with_phase (Phase.Starting (walk_of Minor.Start))) s.activities → Origin s label t k (with_holds (own_part plan) n)
   stripped : (n : Node) (w : Walk) → node_at k s.core.nodes ≡ Some n → Request s n Minor.Remove w → label ≡ Label.State n.path NoStack → Origin s label t k (bare n)
   commits : (r : Rebalance) (n : Node) → s.operation ≡ Some (Operation.Rebalancing r) → r.stage ≡ RebalanceStage.Committing → node_at k s.core.nodes ≡ Some n → Origin s label t k (committed (movers r) (plan_of r.found) n)
-  joins : (node : Node) (d : Device) → joining node.born s.core.nodes s.world ≡ Some d → node_at k s.core.nodes ≡ None → s.next_serial ≡ k → Origin s label t k (new_node s.next_serial node.serial d)
+  joins : (node : Node) (d : Device) → joining node.born s.core.nodes s.world ≡ Some d → node_at k s.core.nodes ≡ None → s.next_serial ≡ k → Origin s label t k (new_child node.serial d s)
 
 module _ (s : State) (label : Label) (t : State) where
   altered : (j : ℕ) (f : Node → Node) → Alters s label t j f → (n : Node) → node_at j s.core.nodes ≡ Some n → Origin s label t j (f n)
@@ -134,7 +134,7 @@ module _ (s : State) (label : Label) (t : State) where
         let old = map_from k (committed (movers r) (plan_of r.found)) s.core.nodes m (λ x. refl) (subst (λ (x : List Node). node_at k x ≡ Some m) e now) in
         subst (λ (z : Node). Origin s label t k z) (sym old.2) (Origin.commits r old.0 runs is old.1)
     origin (NodeEffect.joins node d none there up below is) now =
-        elim (joined_from k s.core.nodes (new_node s.next_serial node.serial d) m (subst (λ (x : Step). node_at k x.state.core.nodes ≡ Some m) is now)) [
+        elim (joined_from k s.core.nodes (new_child node.serial d s) m (subst (λ (x : Step). node_at k x.state.core.nodes ≡ Some m) is now)) [
           | inl q ↦ Origin.was m q
           | inr (gone, new, own) ↦ subst (λ (z : Node). Origin s label t k z) (sym new) (Origin.joins node d below gone own)
         ]
@@ -226,7 +226,7 @@ gone_left s label t (NodeEffect.stripped node w there request over prints e rest
 gone_left s label t (NodeEffect.commits r runs is e rest) k n at gone =
     absurd (let now = sym gone ∙ ap (node_at k) e ∙ node_at-map k (committed (movers r) (plan_of r.found)) s.core.nodes (λ x. refl) ∙ ap (option_map (committed (movers r) (plan_of r.found))) at in cc)
 gone_left s label t (NodeEffect.joins node d idle there up below is) k n at gone =
-    absurd (let now = sym gone ∙ ap (λ (x : Step). node_at k x.state.core.nodes) is ∙ joined_keeps k s.core.nodes (new_node s.next_serial node.serial d) n at in cc)
+    absurd (let now = sym gone ∙ ap (λ (x : Step). node_at k x.state.core.nodes) is ∙ joined_keeps k s.core.nodes (new_child node.serial d s) n at in cc)
 gone_left s label t (NodeEffect.left node o runs first e rest) k n at gone =
     let k_is : node.serial ≡ k = left_missing node.serial k s.core.nodes n at (sym (ap (node_at k) e) ∙ gone) in
     let there = subst (λ (i : ℕ). node_at i s.core.nodes ≡ Some node) k_is (head_found s.core.nodes (to_leave o) node first).1 in

@@ -1,8 +1,8 @@
 -- What an event does.
-use Rattle.std.proofs.Common.{◌≡◌, ◌==◌, ◌&&◌, Bool, true, false, List, [], ◌∷◌, ◌++◌, length, nat_le, Option, Some, None, refl, ap, arith}
+use Rattle.std.proofs.Common.{◌≡◌, ◌==◌, ◌&&◌, ◌||◌, Bool, true, false, List, [], ◌∷◌, ◌++◌, length, nat_le, Option, Some, None, refl, ap, arith}
 use Rattle.std.specs.List.{find, list_any}
 use Rattle.resource_reqs.specs.Resources.{Res, Reqs, clashes}
-use Rattle.pnp_labels.specs.Texts.{Text}
+use Rattle.pnp_labels.specs.Texts.{Text, res_text, spaced}
 use Rattle.pnp_labels.specs.declared.words.Minor.{Minor}
 use Rattle.pnp_labels.specs.declared.event.Rule.{Rule}
 use Rattle.pnp_labels.specs.declared.words.DriverKind.{DriverKind}
@@ -16,13 +16,14 @@ use Rattle.pnp_model.specs.Books.{is_named, is_unnamed}
 use Rattle.pnp_model.specs.Frames.{held_by}
 use Rattle.pnp_model.specs.Records.{Activity, Core, Device, Driver, Duty, Node, Operation, State, Step, Task}
 use Rattle.pnp_model.specs.Runs.Entry.{Happens}
-use Rattle.pnp_model.specs.States.{activity_at, device_of, enable_path, list_node, node_born, node_of, plug, unplug}
+use Rattle.pnp_model.specs.States.{activity_at, device_of, enable_path, has_below, list_node, node_born, node_of, plug, unplug}
 use Rattle.pnp_model.specs.Tests.{has, is_started}
+use Rattle.pnp_model.specs.Windows.{is_window_on}
 use Rattle.pnp_model.specs.Trees.{dependents}
 use Rattle.pnp_laws.specs.Words.{IsWord, joined}
-use Rattle.pnp_laws.specs.Effects.{ActivityEffect, AnswerEffect, DriverEffect, Effect, JoinEffect, NodeEffect, PathEffect, PhaseStep, RangeEffect, Related, CommandEffect, WorldEffect}
-use Rattle.pnp_laws.proofs.EffectsOfStarts.{quiet_label}
-use Rattle.pnp_laws.proofs.Truths.{and_both}
+use Rattle.pnp_laws.specs.Effects.{ActivityEffect, AnswerEffect, DriverEffect, Effect, JoinEffect, NodeEffect, PathEffect, PhaseStep, RangeEffect, Related, CommandEffect, WindowEffect, Windowed, WorldEffect}
+use Rattle.pnp_laws.proofs.EffectsOfStarts.{lasting, quiet_label, same_paths, same_windows}
+use Rattle.pnp_laws.proofs.Truths.{and_both, or_neither}
 use Rattle.device_ids.specs.Folding as folding
 use Rattle.pnp_model.specs.Events as ev
 
@@ -32,8 +33,8 @@ Happened s event step = Effect s (Happens event step.label) step.state
 module _ (s : State) (event : Event) where
   -- nodes, serials and activities stay
   outside : (label : Label) (t : State) → IsWord label → joined label ≡ 0 → t.next_serial ≡ s.next_serial → t.operation ≡ s.operation → t.activities ≡ s.activities → t.core.nodes ≡ s.core.nodes → NodeEffect s label t → DriverEffect s (Happens event label) t → RangeEffect s (Happens event label) t → CommandEffect s t
-      → WorldEffect s (Happens event label) t → PathEffect s label t → Happened s event (record { label = label; state = t })
-  outside label t word quiet serial operation activities same nodes drivers ranges tasks world paths =
+      → WorldEffect s (Happens event label) t → PathEffect s label t → WindowEffect s (Happens event label) t → Happened s event (record { label = label; state = t })
+  outside label t word quiet serial operation activities same nodes drivers ranges tasks world paths windows =
       record {
         nodes = nodes;
         drivers = drivers;
@@ -43,26 +44,27 @@ module _ (s : State) (event : Event) where
         tasks = tasks;
         world = world;
         paths = paths;
+        windows = windows;
         joins = JoinEffect.none (quiet_label label quiet);
         serial = omega arith;
       }
 
   -- so does all but drivers and tasks
   kept : (label : Label) (t : State) → IsWord label → joined label ≡ 0 → t.next_serial ≡ s.next_serial → t.operation ≡ s.operation → t.activities ≡ s.activities → t.core.nodes ≡ s.core.nodes → t.core.relations ≡ s.core.relations
-      → t.core.reserved ≡ s.core.reserved → t.world ≡ s.world → t.next_born ≡ s.next_born → t.disabled ≡ s.disabled → DriverEffect s (Happens event label) t → CommandEffect s t → Happened s event (record { label = label; state = t })
-  kept label t word quiet serial operation activities nodes relations ranges world born paths drivers tasks =
-      outside label t word quiet serial operation activities nodes (NodeEffect.same nodes relations) drivers (RangeEffect.same ranges) tasks (WorldEffect.same world born) (PathEffect.same paths)
+      → t.core.reserved ≡ s.core.reserved → t.world ≡ s.world → t.next_born ≡ s.next_born → lasting t ≡ lasting s → DriverEffect s (Happens event label) t → CommandEffect s t → Happened s event (record { label = label; state = t })
+  kept label t word quiet serial operation activities nodes relations ranges world born last drivers tasks =
+      outside label t word quiet serial operation activities nodes (NodeEffect.same nodes relations) drivers (RangeEffect.same ranges) tasks (WorldEffect.same world born) (PathEffect.same (same_paths s t last)) (WindowEffect.same (same_windows s t last))
 
   nothing : (word : EventWord) (reason : Reason) → Happened s event (ev.refused word reason s)
   nothing word reason = kept _ s tt refl refl refl refl refl refl refl refl refl refl (DriverEffect.same tt refl) (CommandEffect.same refl)
 
-  listed : (word : EventWord) (what : Text) (u : State) (o : Option Node) → u.next_serial ≡ s.next_serial → u.operation ≡ s.operation → u.activities ≡ s.activities → u.core ≡ s.core → u.tasks ≡ s.tasks → u.disabled ≡ s.disabled
+  listed : (word : EventWord) (what : Text) (u : State) (o : Option Node) → u.next_serial ≡ s.next_serial → u.operation ≡ s.operation → u.activities ≡ s.activities → u.core ≡ s.core → u.tasks ≡ s.tasks → lasting u ≡ lasting s
       → WorldEffect s (Happens event (Label.Did word what)) u → Happened s event (ev.did word what (list_node o u))
-  listed word what u None serial operation activities core tasks paths world =
-      outside _ u tt refl serial operation activities (ap (λ (c : Core). c.nodes) core) (NodeEffect.same (ap (λ (c : Core). c.nodes) core) (ap (λ (c : Core). c.relations) core)) (DriverEffect.same tt (ap (λ (c : Core). c.rack) core)) (RangeEffect.same (ap (λ (c : Core). c.reserved) core)) (CommandEffect.same tasks) world (PathEffect.same paths)
-  listed word what u (Some n) serial operation activities core tasks paths world =
+  listed word what u None serial operation activities core tasks last world =
+      outside _ u tt refl serial operation activities (ap (λ (c : Core). c.nodes) core) (NodeEffect.same (ap (λ (c : Core). c.nodes) core) (ap (λ (c : Core). c.relations) core)) (DriverEffect.same tt (ap (λ (c : Core). c.rack) core)) (RangeEffect.same (ap (λ (c : Core). c.reserved) core)) (CommandEffect.same tasks) world (PathEffect.same (same_paths s u last)) (WindowEffect.same (same_windows s u last))
+  listed word what u (Some n) serial operation activities core tasks last world =
       outside _ (list_node (Some n) u) tt refl serial operation activities (ap (λ (c : Core). c.nodes) core) (NodeEffect.same (ap (λ (c : Core). c.nodes) core) (ap (λ (c : Core). c.relations) core)) (DriverEffect.same tt (ap (λ (c : Core). c.rack) core)) (RangeEffect.same (ap (λ (c : Core). c.reserved) core))
-      (CommandEffect.lists n.serial (ap (λ (ts : List Task). ts ++ record { kind = Duty.Listing; serial = n.serial } ∷ []) tasks)) (by_world world) (PathEffect.same paths)
+      (CommandEffect.lists n.serial (ap (λ (ts : List Task). ts ++ record { kind = Duty.Listing; serial = n.serial } ∷ []) tasks)) (by_world world) (PathEffect.same (same_paths s u last)) (WindowEffect.same (same_windows s u last))
     where
       by_world : WorldEffect s (Happens event (Label.Did word what)) u → WorldEffect s (Happens event (Label.Did word what)) (list_node (Some n) u)
       by_world (WorldEffect.same a b) = WorldEffect.same a b
@@ -122,10 +124,10 @@ module _ (s : State) (event : Event) where
   eject_at path (Some node) e = eject_below path node e _ refl
 
   started : (path own : Text) (o : Option Node) → node_of path s.core.nodes ≡ o → Happened s event (ev.did EventWord.Enable own (ev.start_node o (enable_path path s)))
-  started path own None e = outside _ _ tt refl refl refl refl refl (NodeEffect.same refl refl) (DriverEffect.same tt refl) (RangeEffect.same refl) (CommandEffect.same refl) (WorldEffect.same refl refl) (PathEffect.enables path refl)
+  started path own None e = outside _ _ tt refl refl refl refl refl (NodeEffect.same refl refl) (DriverEffect.same tt refl) (RangeEffect.same refl) (CommandEffect.same refl) (WorldEffect.same refl refl) (PathEffect.enables path refl) (WindowEffect.same refl)
   started path own (Some n) e =
       outside _ _ tt refl refl refl refl refl (NodeEffect.same refl refl) (DriverEffect.same tt refl) (RangeEffect.same refl) (CommandEffect.starts path n (record { at = e; stays = refl }) refl)
-      (WorldEffect.same refl refl) (PathEffect.enables path refl)
+      (WorldEffect.same refl refl) (PathEffect.enables path refl) (WindowEffect.same refl)
 
   enable_at : (path : Text) (o : Option Text) → Happened s event (ev.enable_at s path o)
   enable_at path None = nothing _ _
@@ -153,7 +155,7 @@ module _ (s : State) (event : Event) where
           apart = apart;
           free = free;
         } in
-        outside _ _ tt refl refl refl refl refl (NodeEffect.related (record { kind = kind; owner = a.serial; member = b.serial }) related refl refl) (DriverEffect.same tt refl) (RangeEffect.same refl) (CommandEffect.same refl) (WorldEffect.same refl refl) (PathEffect.same refl)
+        outside _ _ tt refl refl refl refl refl (NodeEffect.related (record { kind = kind; owner = a.serial; member = b.serial }) related refl refl) (DriverEffect.same tt refl) (RangeEffect.same refl) (CommandEffect.same refl) (WorldEffect.same refl refl) (PathEffect.same refl) (WindowEffect.same refl)
 
     relate_free : (x : Bool) → (a.serial == b.serial) ≡ false → has (dependents s.core b.serial) a.serial ≡ x → Happened s event (ev.relate_free s kind a b x)
     relate_free true apart e = nothing _ _
@@ -179,11 +181,35 @@ module _ (s : State) (event : Event) where
   reserve_free : (res : Res) (b : Bool) → s.operation ≡ None → list_any (clashes res) (s.core.reserved ++ held_by s.core.nodes) ≡ b → Happened s event (ev.reserve_free s res b)
   reserve_free res true none e = nothing _ _
   reserve_free res false none e =
-      outside _ _ tt refl refl refl refl refl (NodeEffect.same refl refl) (DriverEffect.same tt refl) (RangeEffect.reserves res none e refl refl event _ refl) (CommandEffect.same refl) (WorldEffect.same refl refl) (PathEffect.same refl)
+      outside _ _ tt refl refl refl refl refl (NodeEffect.same refl refl) (DriverEffect.same tt refl) (RangeEffect.reserves res none e refl refl event _ refl) (CommandEffect.same refl) (WorldEffect.same refl refl) (PathEffect.same refl) (WindowEffect.same refl)
 
   reserve_idle : (res : Res) (o : Option Operation) → s.operation ≡ o → Happened s event (ev.reserve_idle s res o)
   reserve_idle res (Some o) e = nothing _ _
   reserve_idle res None e = reserve_free res _ e refl
+
+  -- a window is set
+  module _ (path : Text) (res : Res) (d : Device) (there : device_of path s.world ≡ Some d) (is : event ≡ Event.Window path res) where
+    window_new : (b : Bool) → (d.born == 0) ≡ false → (has_below d.born s.world || ev.has_children s.core.nodes (node_born d.born s.core.nodes)) ≡ false → list_any (is_window_on res.kind (d.born ∷ [])) s.windows ≡ b
+        → Happened s event (ev.window_new s res d b)
+    window_new true low childless e = nothing _ _
+    window_new false low childless e =
+        let neither = or_neither (has_below d.born s.world) (ev.has_children s.core.nodes (node_born d.born s.core.nodes)) childless in
+        let label = Label.Did EventWord.Window (spaced (d.path ∷ res_text res ∷ [])) in
+        let windowed : Windowed s (Happens event label) d res =
+        record { path = path; label = label; there = there; root_stays = low; no_device = neither.0; no_node = neither.1; first = e; event = ap (λ (x : Event). Happens x label) is } in
+        outside _ _ tt refl refl refl refl refl (NodeEffect.same refl refl) (DriverEffect.same tt refl) (RangeEffect.same refl) (CommandEffect.same refl) (WorldEffect.same refl refl) (PathEffect.same refl) (WindowEffect.sets d res windowed refl refl)
+
+    window_childless : (b : Bool) → (d.born == 0) ≡ false → (has_below d.born s.world || ev.has_children s.core.nodes (node_born d.born s.core.nodes)) ≡ b → Happened s event (ev.window_childless s res d b)
+    window_childless true low e = nothing _ _
+    window_childless false low e = window_new _ low e refl
+
+    window_device : (b : Bool) → (d.born == 0) ≡ b → Happened s event (ev.window_device s res d b)
+    window_device true e = nothing _ _
+    window_device false e = window_childless _ e refl
+
+  window_at : (path : Text) (res : Res) (o : Option Device) → device_of path s.world ≡ o → event ≡ Event.Window path res → Happened s event (ev.window_at s res o)
+  window_at path res None e is = nothing _ _
+  window_at path res (Some d) e is = window_device path res d e is _ refl
 
   complete_activity : (node : Node) (minor : Minor) (ok : Bool) (a : Activity) (b : Bool) → activity_at node.serial s.activities ≡ Some a → Happened s event (ev.complete_activity s node minor ok a b)
   complete_activity node minor ok a false at = nothing _ _
@@ -197,6 +223,7 @@ module _ (s : State) (event : Event) where
         tasks = CommandEffect.same refl;
         world = WorldEffect.same refl refl;
         paths = PathEffect.same refl;
+        windows = WindowEffect.same refl;
         joins = JoinEffect.none tt;
         serial = omega arith;
       }
@@ -216,6 +243,7 @@ module _ (s : State) (event : Event) where
         tasks = CommandEffect.same refl;
         world = WorldEffect.same refl refl;
         paths = PathEffect.same refl;
+        windows = WindowEffect.same refl;
         joins = JoinEffect.none tt;
         serial = omega arith;
       }
@@ -257,3 +285,4 @@ event_effect s (Event.Eject path) = eject_at s (Event.Eject path) path (node_of 
 event_effect s (Event.Relate kind owner member) = relate_at s (Event.Relate kind owner member) kind owner member (node_of owner s.core.nodes) (node_of member s.core.nodes) refl refl
 event_effect s (Event.Reserve res) = reserve_idle s (Event.Reserve res) res s.operation refl
 event_effect s (Event.Complete path minor ok) = complete_at s (Event.Complete path minor ok) minor ok (node_of path s.core.nodes)
+event_effect s (Event.Window path res) = window_at s (Event.Window path res) path res (device_of path s.world) refl refl

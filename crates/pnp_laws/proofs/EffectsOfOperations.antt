@@ -19,8 +19,8 @@ use Rattle.pnp_model.specs.States.{relist, set_operation, unplug, with_core}
 use Rattle.pnp_model.specs.Trees.{is_up, leaving, stands_up}
 use Rattle.pnp_model.specs.Walks.{has_ended, state_after, walk_of}
 use Rattle.pnp_laws.specs.Words.{IsBeside, NoVeto, EndsBy, is_removal, joined, kind_of, path_of, spared}
-use Rattle.pnp_laws.specs.Effects.{ActivityEffect, Alters, DriverEffect, Effect, Enters, IsUnasked, JoinEffect, NodeEffect, OpEffect, Origin, PathEffect, RangeEffect, Request, TaskEffect, WorldEffect, to_leave, todo_of, begun, ends_bad, operation_minor, rebalance_minor, removal_minor, surprise_minor, Closes, IsOwn, OperationOwn, SameWork, removal_leaves, surprise_leaves}
-use Rattle.pnp_laws.proofs.EffectsOfStarts.{Changes, Steps, asks, inside, quiet_label, still, strips, walks}
+use Rattle.pnp_laws.specs.Effects.{ActivityEffect, Alters, DriverEffect, Effect, Enters, IsUnasked, JoinEffect, NodeEffect, OpEffect, Origin, PathEffect, RangeEffect, Request, TaskEffect, WindowEffect, WorldEffect, to_leave, todo_of, begun, ends_bad, operation_minor, rebalance_minor, removal_minor, surprise_minor, Closes, IsOwn, OperationOwn, SameWork, removal_leaves, surprise_leaves}
+use Rattle.pnp_laws.proofs.EffectsOfStarts.{Changes, Steps, asks, inside, lasting, quiet_label, same_paths, same_windows, still, strips, walks}
 use Rattle.pnp_laws.proofs.Finishing.{Listed, relist_only}
 use Rattle.pnp_laws.proofs.Lists.{head_found}
 use Rattle.pnp_laws.proofs.Stages.{Ends, OperationStep, RebalanceStep, RemovalStep, SurpriseStep, answered_own, reply}
@@ -119,15 +119,15 @@ own_number j k h = grind (arith, nat_tests)
 
 module _ (s : State) (o : Operation) (runs : s.operation ≡ Some o) where
   -- it goes on
-  on : (label : Label) (t : State) (p : Operation) → t.world ≡ s.world → t.next_born ≡ s.next_born → t.disabled ≡ s.disabled → t.core.reserved ≡ s.core.reserved → t.next_serial ≡ s.next_serial → t.activities ≡ s.activities
+  on : (label : Label) (t : State) (p : Operation) → t.world ≡ s.world → t.next_born ≡ s.next_born → lasting t ≡ lasting s → t.core.reserved ≡ s.core.reserved → t.next_serial ≡ s.next_serial → t.activities ≡ s.activities
       → t.operation ≡ Some p → SameWork o p → IsBeside label → joined label ≡ 0 → Changes s label t → TaskEffect s t → Steps s (record { label = label; state = t })
-  on label t p world born paths ranges serial activities now work beside quiet nodes tasks =
-      inside s label t world born paths ranges serial quiet nodes (OpEffect.goes o p runs now work (inl beside)) (ActivityEffect.same activities) tasks
+  on label t p world born last ranges serial activities now work beside quiet nodes tasks =
+      inside s label t world born last ranges serial quiet nodes (OpEffect.goes o p runs now work (inl beside)) (ActivityEffect.same activities) tasks
 
-  closes : (label : Label) (t : State) (result : OpEnd) → t.world ≡ s.world → t.next_born ≡ s.next_born → t.disabled ≡ s.disabled → t.core ≡ s.core → t.next_serial ≡ s.next_serial → t.tasks ≡ s.tasks → t.operation ≡ None
+  closes : (label : Label) (t : State) (result : OpEnd) → t.world ≡ s.world → t.next_born ≡ s.next_born → lasting t ≡ lasting s → t.core ≡ s.core → t.next_serial ≡ s.next_serial → t.tasks ≡ s.tasks → t.operation ≡ None
       → label ≡ Label.End (kind_of o) (path_of o) result → EndsBy (is_removal o) result → IsUnasked label → joined label ≡ 0 → Closes s o t → ActivityEffect s t → Steps s (record { label = label; state = t })
-  closes label t result world born paths core serial tasks now is by unasked quiet over activities =
-      inside s label t world born paths (ap (λ (c : Core). c.reserved) core) serial quiet (still s label t unasked (ap (λ (c : Core). c.rack) core) (NodeEffect.same (ap (λ (c : Core). c.nodes) core) (ap (λ (c : Core). c.relations) core))) (OpEffect.ends o result runs now is by over) activities (TaskEffect.same tasks)
+  closes label t result world born last core serial tasks now is by unasked quiet over activities =
+      inside s label t world born last (ap (λ (c : Core). c.reserved) core) serial quiet (still s label t unasked (ap (λ (c : Core). c.rack) core) (NodeEffect.same (ap (λ (c : Core). c.nodes) core) (ap (λ (c : Core). c.relations) core))) (OpEffect.ends o result runs now is by over) activities (TaskEffect.same tasks)
 
   module _ (node : Node) (first : first_node s.core.nodes (todo_of o) ≡ Some node) (minor : Minor) (w : Walk) (walk : ma.operation_walk o ≡ Some w) (minor_is : operation_minor o ≡ Some minor) where
     asked : Request s node minor w
@@ -146,7 +146,7 @@ stripped s o runs node first w walk minor_is = strips s node w (head_found s.cor
 
 -- a device leaves, and the node above it may be listed again
 module _ (s u : State) (o p : Operation) (runs : s.operation ≡ Some o) (node : Node) (first : first_node s.core.nodes (to_leave o) ≡ Some node) (label : Label) (beside : IsBeside label) (unasked : IsUnasked label) (quiet : joined label ≡ 0)
-    (work : SameWork o p) (now : u.operation ≡ Some p) (world : WorldEffect s (Did label) u) (paths : u.disabled ≡ s.disabled) (serial : u.next_serial ≡ s.next_serial)
+    (work : SameWork o p) (now : u.operation ≡ Some p) (world : WorldEffect s (Did label) u) (last : lasting u ≡ lasting s) (serial : u.next_serial ≡ s.next_serial)
     (activities : u.activities ≡ s.activities) (tasks : u.tasks ≡ s.tasks) (nodes : u.core.nodes ≡ without_first (is_node node.serial) s.core.nodes) (relations : u.core.relations ≡ s.core.relations) (ranges : u.core.reserved ≡ s.core.reserved) (rack : u.core.rack ≡ s.core.rack) where
   by_world : (t : State) → t.world ≡ u.world → t.next_born ≡ u.next_born → WorldEffect s (Did label) u → WorldEffect s (Did label) t
   by_world t a b (WorldEffect.same c d) = WorldEffect.same (a ∙ c) (b ∙ d)
@@ -168,7 +168,8 @@ module _ (s u : State) (o p : Operation) (runs : s.operation ≡ Some o) (node :
         activities = ActivityEffect.same (only.activities ∙ activities);
         tasks = listed (relist path born u) only.tasks;
         world = by_world (relist path born u) only.world only.births world;
-        paths = PathEffect.same (only.paths ∙ paths);
+        paths = PathEffect.same (only.paths ∙ same_paths s u last);
+        windows = WindowEffect.same (only.windows ∙ same_windows s u last);
         joins = JoinEffect.none (quiet_label label quiet);
         serial = let e = only.serial in omega arith;
       }
@@ -315,6 +316,7 @@ module _ (s : State) (o : Removal) (runs : s.operation ≡ Some (Operation.Remov
         tasks = TaskEffect.same refl;
         world = WorldEffect.same refl refl;
         paths = PathEffect.disables o node runs first refl refl;
+        windows = WindowEffect.same refl;
         joins = JoinEffect.none tt;
         serial = omega arith;
       }

@@ -1,5 +1,6 @@
 -- What a step does where no operation runs.
-use Rattle.std.proofs.Common.{ℕ, ◌≡◌, ◌≢◌, ◌⊎◌, inl, inr, Bool, true, false, [], ◌∷◌, length, Some, None, refl, ap, ◌∙◌, arith}
+use Rattle.std.proofs.Common.{ℕ, ◌≡◌, ◌≢◌, ◌⊎◌, inl, inr, Bool, true, false, List, [], ◌∷◌, length, Some, None, refl, ap, ◌∙◌, arith}
+use Rattle.pnp_labels.specs.Texts.{Text}
 use Rattle.pnp_labels.specs.declared.states.Problem.{Problem}
 use Rattle.pnp_labels.specs.declared.words.AskWhat.{AskWhat}
 use Rattle.pnp_labels.specs.declared.words.Minor.{Minor}
@@ -11,7 +12,7 @@ use Rattle.pnp_model.specs.Cores.{bare, forget, is_node, node_at, with_state}
 use Rattle.pnp_model.specs.Frames.{next_driver}
 use Rattle.pnp_model.specs.Keyed.{changed_first, without_first}
 use Rattle.pnp_model.specs.Machine.{start_lifted}
-use Rattle.pnp_model.specs.Records.{Core, Duty, Node, Phase, State, Step, Walk}
+use Rattle.pnp_model.specs.Records.{Core, Duty, Node, Phase, State, Step, Walk, Window}
 use Rattle.pnp_model.specs.Records.Phase.{Adding, Starting, Removing, Due}
 use Rattle.pnp_model.specs.Runs.Entry.{Did}
 use Rattle.pnp_model.specs.Starts.{adding}
@@ -19,7 +20,7 @@ use Rattle.pnp_model.specs.States.{drop_task, is_activity, set_phase, with_core}
 use Rattle.pnp_model.specs.Tasks.{begin}
 use Rattle.pnp_model.specs.Walks.{has_ended, state_after, walk_of}
 use Rattle.pnp_laws.specs.Words.{IsBeside, IsNoJoin, joined}
-use Rattle.pnp_laws.specs.Effects.{ActivityEffect, Acting, Alters, Assigned, BeginsFor, DriverEffect, Effect, Enters, IsUnasked, JoinEffect, NodeEffect, OpEffect, Origin, Owes, PathEffect, PhaseStep, RangeEffect, Request, TaskEffect, WorldEffect, begun, ends_bad, Over, Surprises}
+use Rattle.pnp_laws.specs.Effects.{ActivityEffect, Acting, Alters, Assigned, BeginsFor, DriverEffect, Effect, Enters, IsUnasked, JoinEffect, NodeEffect, OpEffect, Origin, Owes, PathEffect, PhaseStep, RangeEffect, Request, TaskEffect, WindowEffect, WorldEffect, begun, ends_bad, Over, Surprises}
 use Rattle.pnp_laws.proofs.IdleSteps.{ActivityStep, First, TaskStep}
 use Rattle.pnp_laws.proofs.Stages.{after_minor, reply}
 use Rattle.pnp_model.specs.Starts as st
@@ -58,10 +59,20 @@ pub quiet_label : (label : Label) → joined label ≡ 0 → IsNoJoin label
 quiet_label (Label.Join k path) e = absurd (cc)
 quiet_label _ e = tt
 
--- world, ranges, paths and serials stay
-pub inside : (s : State) (label : Label) (t : State) → t.world ≡ s.world → t.next_born ≡ s.next_born → t.disabled ≡ s.disabled → t.core.reserved ≡ s.core.reserved → t.next_serial ≡ s.next_serial → joined label ≡ 0
+-- what only events change, and the end of a disable
+abbrev pub lasting : State → List Text × List Window
+lasting s = (s.disabled, s.windows)
+
+pub same_paths : (s t : State) → lasting t ≡ lasting s → t.disabled ≡ s.disabled
+same_paths s t e = ap (λ (x : List Text × List Window). x.0) e
+
+pub same_windows : (s t : State) → lasting t ≡ lasting s → t.windows ≡ s.windows
+same_windows s t e = ap (λ (x : List Text × List Window). x.1) e
+
+-- world, ranges, paths, windows and serials stay
+pub inside : (s : State) (label : Label) (t : State) → t.world ≡ s.world → t.next_born ≡ s.next_born → lasting t ≡ lasting s → t.core.reserved ≡ s.core.reserved → t.next_serial ≡ s.next_serial → joined label ≡ 0
     → Changes s label t → OpEffect s label t → ActivityEffect s t → TaskEffect s t → Effect s (Did label) t
-inside s label t world born paths ranges serial quiet (nodes, drivers) operation activities tasks =
+inside s label t world born last ranges serial quiet (nodes, drivers) operation activities tasks =
     record {
       nodes = nodes;
       drivers = drivers;
@@ -70,7 +81,8 @@ inside s label t world born paths ranges serial quiet (nodes, drivers) operation
       activities = activities;
       tasks = tasks;
       world = WorldEffect.same world born;
-      paths = PathEffect.same paths;
+      paths = PathEffect.same (same_paths s t last);
+      windows = WindowEffect.same (same_windows s t last);
       joins = JoinEffect.none (quiet_label label quiet);
       serial = omega arith;
     }
@@ -106,6 +118,7 @@ module _ (s : State) (none : s.operation ≡ None) where
         tasks = TaskEffect.joins refl refl;
         world = WorldEffect.same refl refl;
         paths = PathEffect.same refl;
+        windows = WindowEffect.same refl;
         joins = JoinEffect.joins node d none at up e refl;
         serial = refl;
       }
@@ -128,10 +141,10 @@ module _ (s : State) (node : Node) (at : node_at node.serial s.core.nodes ≡ So
       inside s label _ refl refl refl ranges refl quiet nodes (OpEffect.idles acts.none acts.none prints) (ActivityEffect.goes node.serial old new step refl) (TaskEffect.same refl)
 
   -- it ends
-  ends : (t : State) (label : Label) (old : Phase) → t.world ≡ s.world → t.next_born ≡ s.next_born → t.disabled ≡ s.disabled → t.core.reserved ≡ s.core.reserved → t.next_serial ≡ s.next_serial → t.operation ≡ s.operation → t.activities ≡ without_first (is_activity node.serial) s.activities
+  ends : (t : State) (label : Label) (old : Phase) → t.world ≡ s.world → t.next_born ≡ s.next_born → lasting t ≡ lasting s → t.core.reserved ≡ s.core.reserved → t.next_serial ≡ s.next_serial → t.operation ≡ s.operation → t.activities ≡ without_first (is_activity node.serial) s.activities
       → IsBeside label ⊎ Owes s label → joined label ≡ 0 → Acting s node.serial old → Changes s label t → Over s node.serial t old → TaskEffect s t → Steps s (record { label = label; state = t })
-  ends t label old world born paths ranges serial now over prints quiet acts nodes is tasks =
-      inside s label t world born paths ranges serial quiet nodes (OpEffect.idles acts.none (now ∙ acts.none) prints) (ActivityEffect.ends node.serial old acts is over) tasks
+  ends t label old world born last ranges serial now over prints quiet acts nodes is tasks =
+      inside s label t world born last ranges serial quiet nodes (OpEffect.idles acts.none (now ∙ acts.none) prints) (ActivityEffect.ends node.serial old acts is over) tasks
 
   owes : (problem : Problem) → Acting s node.serial (Due problem) → Owes s (Label.Trouble node.path problem)
   owes problem acts = record { activity = acts.activity; ready = acts.ready; problem = problem; is = acts.is; path = node.path; prints = refl }

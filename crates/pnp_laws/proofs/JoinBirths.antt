@@ -2,8 +2,8 @@
 use Rattle.std.proofs.Common.{ℕ, suc, ◌+◌, ◌<◌, ◌≤◌, ◌≡◌, ◌==◌, inl, inr, Bool, true, false, not, ◌&&◌, ◌||◌, cond, List, [], ◌∷◌, ◌++◌, Option, Some, None, refl, sym, ap, ◌∙◌, subst, arith, nat_lt}
 use Rattle.std.proofs.lemmas.Bool.Decides.{nat_tests}
 use Rattle.pnp_model.specs.Records.{Node, Device, Activity, State, Operation, Duty}
-use Rattle.pnp_model.specs.Cores.{node_at, new_node}
-use Rattle.pnp_model.specs.States.{activity_at}
+use Rattle.pnp_model.specs.Cores.{node_at}
+use Rattle.pnp_model.specs.States.{activity_at, new_child}
 use Rattle.pnp_model.specs.Tasks.{joins, join_step, has_born}
 use Rattle.pnp_labels.specs.declared.states.DevState.TheVariants.{Started}
 use Rattle.pnp_laws.specs.Kept.{IsGood}
@@ -103,7 +103,7 @@ pub born_joins : (s : State) (node : Node) (d : Device) → Joining s node d →
 born_joins s node d h =
     let b = h.born in
     let u = joins_is node.born s.core.nodes d h.join in
-    let new = new_node s.next_serial node.serial d in
+    let new = new_child node.serial d s in
     record {
       room = b.room;
       grows = b.grows;
@@ -172,14 +172,14 @@ no_activity s node d h = by_activity (activity_at s.next_serial s.activities) re
     by_activity None e = e
     by_activity (Some a) e = absurd (let there = h.good.phases s.next_serial a e in let q = there.1 in let fresh = not_given s node d h in cc)
 
-pub new_there : (s : State) (node : Node) (d : Device) → Joining s node d → node_at s.next_serial (s.core.nodes ++ new_node s.next_serial node.serial d ∷ []) ≡ Some (new_node s.next_serial node.serial d)
+pub new_there : (s : State) (node : Node) (d : Device) → Joining s node d → node_at s.next_serial (s.core.nodes ++ new_child node.serial d s ∷ []) ≡ Some (new_child node.serial d s)
 new_there s node d h = added s.core.nodes (not_given s node d h)
   where
-    added : (nodes : List Node) → node_at s.next_serial nodes ≡ None → node_at s.next_serial (nodes ++ new_node s.next_serial node.serial d ∷ []) ≡ Some (new_node s.next_serial node.serial d)
+    added : (nodes : List Node) → node_at s.next_serial nodes ≡ None → node_at s.next_serial (nodes ++ new_child node.serial d s ∷ []) ≡ Some (new_child node.serial d s)
     added [] e = grind (arith, nat_tests)
     added (x ∷ xs) e = let more = added xs in grind (arith, nat_tests)
 
-pub new_dead : (s : State) (node : Node) (d : Device) → Joining s node d → is_live (join_step s node d).state (new_node s.next_serial node.serial d) ≡ false
+pub new_dead : (s : State) (node : Node) (d : Device) → Joining s node d → is_live (join_step s node d).state (new_child node.serial d s) ≡ false
 new_dead s node d h = by_tests (closed s.operation s.next_serial) (some_there (activity_at s.next_serial s.activities)) (ap some_there (no_activity s node d h))
   where
     by_tests : (a c : Bool) → c ≡ false → (not a && (not true || c)) ≡ false
@@ -195,13 +195,13 @@ could_join s node d h =
     (any_from (λ n. n.born == d.parent && is_live s n) s.core.nodes node.serial node h.at (both_true (node.born == d.parent) (is_live s node) (let e = u.0 in grind (arith, nat_tests)) live_node)) (ap not u.1)
 
 pub is_born_now : (s : State) (node : Node) (d : Device) → Joining s node d → has_born d.born (join_step s node d).state.core.nodes ≡ true
-is_born_now s node d h = any_from (λ n. n.born == d.born) (join_step s node d).state.core.nodes s.next_serial (new_node s.next_serial node.serial d) (new_there s node d h) (grind (arith, nat_tests))
+is_born_now s node d h = any_from (λ n. n.born == d.born) (join_step s node d).state.core.nodes s.next_serial (new_child node.serial d s) (new_there s node d h) (grind (arith, nat_tests))
 
 -- whoever can join after it could before
 pub could_before : (s : State) (node : Node) (d x : Device) → IsGood (join_step s node d).state → Joining s node d → (lives (join_step s node d).state x.parent && not (has_born x.born (join_step s node d).state.core.nodes)) ≡ true → (lives s x.parent && not (has_born x.born s.core.nodes)) ≡ true
 could_before s node d x good_t h g =
     let t = (join_step s node d).state in
-    let new = new_node s.next_serial node.serial d in
+    let new = new_child node.serial d s in
     let dead = new_dead s node d h in
     let two = and_both (lives t x.parent) (not (has_born x.born t.core.nodes)) g in
     let at = any_at (λ n. n.born == x.parent && is_live t n) 0 t.core.nodes good_t.serials two.0 in

@@ -3,8 +3,9 @@ use Rattle.std.proofs.Common.{ℕ, suc, ◌+◌, ◌<◌, ◌≤◌, ◌≡◌, 
 use Rattle.std.proofs.lemmas.Bool.{cases_eq}
 use Rattle.std.proofs.lemmas.Bool.Decides.{nat_tests}
 use Rattle.pnp_model.specs.Records.{Node, Device, State, Step, Operation, Duty}
-use Rattle.pnp_model.specs.Cores.{node_at, new_node}
+use Rattle.pnp_model.specs.Cores.{node_at}
 use Rattle.pnp_model.specs.Tasks.{join_step, has_born}
+use Rattle.pnp_model.specs.States.{new_child}
 use Rattle.pnp_labels.specs.declared.states.DevState.{DevState}
 use Rattle.pnp_labels.specs.declared.states.DevState.TheVariants.{NoStack}
 use Rattle.pnp_laws.specs.Kept.{IsGood, is_idle}
@@ -106,7 +107,7 @@ live_before s node d k l = by_node (node_at k (join_step s node d).state.core.no
     by_node : (o : Option Node) → node_at k (join_step s node d).state.core.nodes ≡ o → is_alive (join_step s node d).state o ≡ true → live_at s k ≡ true
     by_node None e h = absurd (cc)
     by_node (Some m) e h =
-        elim (joined_from k s.core.nodes (new_node s.next_serial node.serial d) m e) [
+        elim (joined_from k s.core.nodes (new_child node.serial d s) m e) [
           | inl old ↦ ap (is_alive s) old ∙ h
           | inr (q, r, z) ↦ absurd (omega arith)
         ]
@@ -152,7 +153,7 @@ up_above s node d x h there (n, at, born, up) =
 inside_out : (s : State) (node : Node) (d x : Device) → IsUp s x.born → is_outside (join_step s node d).state x ≡ false
 inside_out s node d x (n, at, born, up) =
     let t = (join_step s node d).state in
-    let kept = joined_keeps n.serial s.core.nodes (new_node s.next_serial node.serial d) n at in
+    let kept = joined_keeps n.serial s.core.nodes (new_child node.serial d s) n at in
     let there : has_born x.born t.core.nodes ≡ true = any_from (λ n. n.born == x.born) t.core.nodes n.serial n kept (grind (arith, nat_tests)) in
     but_not (lives t x.parent) (has_born x.born t.core.nodes) there
 
@@ -162,7 +163,7 @@ up_shut s node d good_t h b (n, at, born, up) =
     untrue (opens_at (join_step s node d).state b)
     (λ g.
     let t = (join_step s node d).state in
-    let new = new_node s.next_serial node.serial d in
+    let new = new_child node.serial d s in
     let m = any_at (λ n. n.born == b && is_to_start t n.serial) 0 t.core.nodes good_t.serials g in
     let two = and_both (m.0.born == b) (is_to_start t m.0.serial) m.2 in
     let start = and_both (not (live_at t m.0.serial)) (nat_lt 0 (start_count t m.0.serial)) two.1 in
@@ -182,7 +183,7 @@ up_shut s node d good_t h b (n, at, born, up) =
 to_start_before : (s : State) (node : Node) (d : Device) → IsGood (join_step s node d).state → Joining s node d → (b : ℕ) → opens_at (join_step s node d).state b ≡ true → (opens_at s b ≡ true) ⊎ (d.born ≡ b)
 to_start_before s node d good_t h b g =
     let t = (join_step s node d).state in
-    let new = new_node s.next_serial node.serial d in
+    let new = new_child node.serial d s in
     let m = any_at (λ n. n.born == b && is_to_start t n.serial) 0 t.core.nodes good_t.serials g in
     let two = and_both (m.0.born == b) (is_to_start t m.0.serial) m.2 in
     let start = and_both (not (live_at t m.0.serial)) (nat_lt 0 (start_count t m.0.serial)) two.1 in

@@ -1,8 +1,11 @@
 -- In each state of a run a node is the root, or one whose device was plugged with the path, the IDs and the requirements that it has.
-use Rattle.std.proofs.Common.{ℕ, ◌<◌, ◌≡◌, ◌⊎◌, inl, inr, List, [], ◌∷◌, ◌++◌, Some, Contains, refl, sym, subst, arith}
+use Rattle.std.proofs.Common.{ℕ, ◌<◌, ◌≡◌, ◌⊎◌, inl, inr, List, [], ◌∷◌, ◌++◌, length, map, Some, Contains, refl, sym, subst, ap, ◌∙◌, arith}
 use Rattle.std.specs.List.{AllByRecursion}
 use Rattle.std.proofs.lemmas.List.Elements.{All-contains, All-from_recursion, Contains-append_right}
-use Rattle.resource_reqs.specs.Resources.{Reqs}
+use Rattle.std.proofs.lemmas.List.{length-map}
+use Rattle.resource_reqs.proofs.Counts.{contains_cons, contains_nil}
+use Rattle.resource_reqs.specs.Resources.{AltList, Reqs}
+use Rattle.resource_reqs.specs.declared.kind.Kind.{Kind}
 use Rattle.pnp_labels.specs.Texts.{Text}
 use Rattle.pnp_labels.specs.declared.event.Event.{Event}
 use Rattle.pnp_labels.specs.declared.label.Label.{Label}
@@ -12,10 +15,11 @@ use Rattle.pnp_model.specs.Runs.{Entry, Run, opening, printed, root_path}
 use Rattle.pnp_model.specs.Runs.Entry.{Happens}
 use Rattle.pnp_model.specs.States.{without_those}
 use Rattle.pnp_model.specs.Tasks.{joins}
+use Rattle.pnp_model.specs.Windows.{Room, all_numbers, clip_by, clipped_want, room}
 use Rattle.pnp_laws.specs.Effects.{NodeEffect, WorldEffect}
 use Rattle.pnp_laws.specs.Held.{AreWithin}
 use Rattle.pnp_laws.specs.Kept.{Ascending}
-use Rattle.pnp_laws.specs.Needs.{IsEntryWithin, IsSaid, NeedsLaw, PluggedLaw}
+use Rattle.pnp_laws.specs.Needs.{IsClipped, IsEntryWithin, IsSaid, NeedsLaw, PluggedLaw}
 use Rattle.pnp_laws.specs.Reached.{IsReached}
 use Rattle.pnp_laws.proofs.EffectViews.{Origin, origin}
 use Rattle.pnp_laws.proofs.EffectsOf.{effect_goes}
@@ -30,7 +34,7 @@ abbrev Says : Type 1
 Says = Text → List Text → List Text → Reqs → Type 0
 
 abbrev OfNode : Says → Node → Type 0
-OfNode Q n = Q n.path n.hw n.compat n.reqs
+OfNode Q n = (said : Reqs) × Q n.path n.hw n.compat said × IsClipped said n.reqs
 
 abbrev OfDevice : Says → Device → Type 0
 OfDevice Q d = Q d.path d.hw d.compat d.reqs
@@ -57,7 +61,7 @@ module _ (Q : Says) (s : State) (label : Label) (t : State) (old : NodesSay Q s.
   node_says k _ (Origin.assigned n phase plan at acts search part now) = old k n at
   node_says k _ (Origin.stripped n w at request prints) = old k n at
   node_says k _ (Origin.commits r n runs is at) = old k n at
-  node_says k _ (Origin.joins node d below gone own) = world d (in_find (joins node.born s.core.nodes) s.world d below).1
+  node_says k _ (Origin.joins node d below gone own) = (d.reqs, world d (in_find (joins node.born s.core.nodes) s.world d below).1, (room s.windows s.core.nodes node.serial, refl))
 
   nodes_say : Ascending 0 s.core.nodes → NodeEffect s label t → NodesSay Q t.core.nodes
   nodes_say order effect = λ k m now. node_says k m (origin s label t order k m effect now)
@@ -98,7 +102,7 @@ run_says Q settings rack old (entry ∷ rest) new reached (mid, goes, run) event
 -- what holds of the root, and of all that is plugged, holds of each node
 says_all : (Q : Says) (settings : Settings) (rack : List Driver) (entries : List Entry) (s : State) → Run settings (opening rack) entries s → Q root_path [] [] [] → EventsSay Q entries → NodesSay Q s.core.nodes
 says_all Q settings rack entries s run root events =
-    run_says Q settings rack (opening rack) entries s ([], refl) run events (λ k n at. subst (λ (x : Node). OfNode Q x) (root_is k n at).0 root) of_root
+    run_says Q settings rack (opening rack) entries s ([], refl) run events (λ k n at. subst (λ (x : Node). OfNode Q x) (root_is k n at).0 ([], root, (λ kind. all_numbers, refl))) of_root
   where
     of_root : WorldSays Q (opening rack).world
     of_root d (inl e) = subst (λ (x : Device). OfDevice Q x) e root
@@ -114,5 +118,17 @@ said_within most entries within path hw compat reqs (inl root) = subst (λ (x : 
 said_within most entries within path hw compat reqs (inr (parent, label, there)) =
     All-contains (IsEntryWithin most) entries (Happens (Event.Plug parent path hw compat reqs) label) (All-from_recursion (IsEntryWithin most) entries within) there
 
+-- clipping keeps the number of groups
+clip_within : (most : ℕ) (rooms : Kind → Room) (reqs : Reqs) → AreWithin most reqs → AreWithin most (clip_by rooms reqs)
+clip_within most rooms [] within list there = absurd (contains_nil list there)
+clip_within most rooms (x ∷ reqs) within list there =
+    let clipped : AltList = map (λ group. map (λ want. clipped_want (rooms want.kind) want) group) x in
+    elim (contains_cons clipped (clip_by rooms reqs) list there) [
+      | inl is ↦ let same = ap length is ∙ length-map x (λ group. map (λ want. clipped_want (rooms want.kind) want) group) in let few = within x (0, omega arith, refl) in omega arith
+      | inr later ↦ clip_within most rooms reqs (λ l h. within l (Contains-append_right (x ∷ []) reqs l h)) list later
+    ]
+
 pub needs_are_within : NeedsLaw
-needs_are_within settings rack entries s run most within k n at = said_within most entries within n.path n.hw n.compat n.reqs (nodes_are_plugged settings rack entries s run k n at)
+needs_are_within settings rack entries s run most within k n at =
+    let (said, is, (rooms, clipped)) = nodes_are_plugged settings rack entries s run k n at in
+    subst (λ (x : Reqs). AreWithin most x) (sym clipped) (clip_within most rooms said (said_within most entries within n.path n.hw n.compat said is))

@@ -7,14 +7,14 @@ use Rattle.pnp_labels.specs.declared.label.Label.{Label}
 use Rattle.pnp_labels.specs.declared.label.OpKind.{OpKind}
 use Rattle.pnp_labels.specs.declared.states.DevState.TheVariants.{NoStack, NotStarted}
 use Rattle.pnp_model.specs.Events.{answer_of}
-use Rattle.pnp_model.specs.Cores.{bare, new_node, node_at, serials_of}
+use Rattle.pnp_model.specs.Cores.{bare, node_at, serials_of}
 use Rattle.pnp_model.specs.Diagram.{FollowsDiagram}
 use Rattle.pnp_model.specs.Laws.{DependentsFirst}
 use Rattle.pnp_model.specs.Rebalances.{committed, movers, plan_of}
 use Rattle.pnp_model.specs.Records.{Activity, Driver, Duty, Node, Operation, Settings, State, Step, Surprise, SurpriseStage, Task}
 use Rattle.pnp_model.specs.Runs.{Entry, Goes, opening, printed}
 use Rattle.pnp_model.specs.Runs.Entry.{Happens, Did}
-use Rattle.pnp_model.specs.States.{activity_at, entered}
+use Rattle.pnp_model.specs.States.{activity_at, entered, new_child}
 use Rattle.pnp_model.specs.Tests.{has}
 use Rattle.pnp_model.specs.Trees.{above, children, is_child, leaving, set_of, stands_up}
 use Rattle.pnp_laws.specs.Due.{is_due, leads}
@@ -74,7 +74,7 @@ above_stays s label t kept first follows (NodeEffect.stripped node w there reque
 above_stays s label t kept first follows (NodeEffect.commits r runs is a b) k n m at now =
     above_same s.core.nodes t.core.nodes (nodes_mapped s.core.nodes t.core.nodes (committed (movers r) (plan_of r.found)) a (λ x. refl) (λ x. refl)) k
 above_stays s label t kept first follows (NodeEffect.joins node d none there up joining is) k n m at now =
-    ap (λ (x : Step). above x.state.core.nodes k) is ∙ above_joined k s.core (new_node s.next_serial node.serial d) kept.stands.tree.rooted kept.stands.tree.root k n at
+    ap (λ (x : Step). above x.state.core.nodes k) is ∙ above_joined k s.core (new_child node.serial d s) kept.stands.tree.rooted kept.stands.tree.root k n at
 above_stays s label t kept first follows (NodeEffect.left node o runs head a b) k n m at now =
     let there = (head_found s.core.nodes (to_leave o) node head).1 in
     let gone : node_at node.serial t.core.nodes ≡ None = subst (λ (x : List Node). node_at node.serial x ≡ None) (sym a) (left_same 0 node.serial s.core.nodes kept.good.serials) in

@@ -5,7 +5,7 @@ use Rattle.std.proofs.lemmas.Slice.Zip.{AllZip-long}
 use Rattle.resource_reqs.specs.Resources.{Res, Reqs, IsAssignment, Whole}
 use Rattle.resource_reqs.proofs.Answering.{plan_is}
 use Rattle.pnp_labels.specs.declared.label.Label.{Label}
-use Rattle.pnp_model.specs.Cores.{bare, is_node, node_at, new_node}
+use Rattle.pnp_model.specs.Cores.{bare, is_node, node_at}
 use Rattle.pnp_model.specs.Frames.{fixed_beside}
 use Rattle.pnp_model.specs.Keyed.{changed_first}
 use Rattle.pnp_model.specs.Rebalances.{movers, plan_of, reqs_of}
@@ -13,6 +13,7 @@ use Rattle.pnp_model.specs.Records.{Node, Operation, RebalanceStage, State, Step
 use Rattle.pnp_model.specs.Runs.{Entry}
 use Rattle.pnp_model.specs.Sharing.{Clear}
 use Rattle.pnp_model.specs.Starts.{own_part}
+use Rattle.pnp_model.specs.States.{new_child}
 use Rattle.pnp_laws.specs.Effects.{Alters, NodeEffect, RangeEffect}
 use Rattle.pnp_laws.specs.Kept.{Ascending}
 use Rattle.pnp_laws.specs.Plans.{IsPlanned, PlanKept, StagePlan}
@@ -70,7 +71,7 @@ module _ (s : State) (label : Label) (order : Ascending 0 s.core.nodes) (planned
       subst (λ (x : List Node). Clear s.core.reserved x) (sym e)
       (Clear_committed s.core (movers r) reqs (plan_of r.found) plan (length-map (movers r) (λ k. reqs_of (node_at k s.core.nodes))) clear)
   clear_nodes t (NodeEffect.joins node d none at up there is) =
-      let new = new_node s.next_serial node.serial d in
+      let new = new_child node.serial d s in
       subst (λ (x : Step). Clear s.core.reserved x.state.core.nodes) (sym is) (less (s.core.nodes ++ new ∷ []) (no_more_joined s.core.nodes new refl))
   clear_nodes t (NodeEffect.left node o runs first e relations) =
       subst (λ (x : List Node). Clear s.core.reserved x) (sym e) (less _ (λ k m at. inr (m, (left_from node.serial k s.core.nodes m order at).1, refl)))

@@ -5,8 +5,8 @@ use Rattle.std.proofs.lemmas.Bool.Decides.{nat_tests}
 use Rattle.pnp_model.specs.Keyed.{changed_first, those}
 use Rattle.pnp_model.specs.Tests.{has, is_surprise_task}
 use Rattle.pnp_model.specs.Records.{Node, Core, Device, Task, State, Step, Operation, Duty, Rebalance, RebalanceStage, Removal, RemovalStage, Surprise, SurpriseStage}
-use Rattle.pnp_model.specs.Cores.{is_node, node_at, with_problem, new_node, add_node, serials_of}
-use Rattle.pnp_model.specs.States.{drop_task}
+use Rattle.pnp_model.specs.Cores.{is_node, node_at, with_problem, add_node, serials_of}
+use Rattle.pnp_model.specs.States.{drop_task, new_child}
 use Rattle.pnp_model.specs.Trees.{above, leaving, is_up, set_of}
 use Rattle.pnp_model.specs.Tasks.{joins, join_step, begin}
 use Rattle.pnp_labels.specs.declared.states.Problem.{Problem}
@@ -62,7 +62,7 @@ calm_none s none h = subst (λ (ks : List ℕ). DueBut ks s.tasks s.core.nodes) 
 sound_join : (s : State) (node : Node) (d : Device) → joins node.born s.core.nodes d ≡ true → node_at node.serial s.core.nodes ≡ Some node → node.state ≡ Started → s.operation ≡ None → Good s.next_serial s.core.nodes s.activities None → Stands s → Sound s (join_step s node d)
 sound_join s node d join at up none good h =
     let t = (join_step s node d).state in
-    let new = new_node s.next_serial node.serial d in
+    let new = new_child node.serial d s in
     record {
       stands = record {
         tree = tree_joined s.next_serial s.core new node good.begun good.below refl at (ap is_idle up) (joins_is node.born s.core.nodes d join).2 h.tree;

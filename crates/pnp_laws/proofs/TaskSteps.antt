@@ -1,9 +1,9 @@
 -- Each task keeps what a run keeps; an operation begins only by `BeginsWell`.
 use Rattle.std.proofs.Common.{ℕ, ◌≡◌, false, List, [], ◌∷◌, ◌++◌, Some, None, refl, sym, subst, arith}
 use Rattle.pnp_model.specs.Records.{Node, Device, Activity, State, Step, Operation}
-use Rattle.pnp_model.specs.Cores.{node_at, with_problem, new_node}
+use Rattle.pnp_model.specs.Cores.{node_at, with_problem}
 use Rattle.pnp_model.specs.Removals.{begun_removal}
-use Rattle.pnp_model.specs.States.{entered}
+use Rattle.pnp_model.specs.States.{entered, new_child}
 use Rattle.pnp_model.specs.Starts.{adding}
 use Rattle.pnp_model.specs.Tasks.{begin, join_step, install}
 use Rattle.pnp_model.specs.Trees.{leaving}
@@ -32,7 +32,7 @@ drivers_fit (x ∷ lower) d upper = refl
 module _ (s : State) (none : s.operation ≡ None) (good : Good s.next_serial s.core.nodes s.activities None) where
   joins : (node : Node) (d : Device) → Lawful (join_step s node d).state
   joins node d =
-      let new = new_node s.next_serial node.serial d in
+      let new = new_child node.serial d s in
       lawful_by _ _ _ s.activities None refl refl refl none
       (Good_joined s.next_serial new s.core.nodes s.activities None refl refl (record { none = λ h. refl; some = λ u h. refl; root = λ z. absurd (let b = good.begun in omega arith) })
       (Each_joined (λ k x. is_calm x) new s.core.nodes refl good.fits) good)

@@ -23,14 +23,15 @@ use Rattle.pnp_model.specs.Trees.{children, dependents, stands_up}
 use Rattle.pnp_model.specs.Walks.{walk_of, may_fail, is_bad, has_ended, state_after}
 use Rattle.pnp_model.specs.Cores.{is_node, node_at, forget, bare, stacked, with_state, with_problem, with_stack, with_holds}
 use Rattle.pnp_model.specs.Frames.{first_node, fixed_beside, held_by, next_driver}
-use Rattle.pnp_model.specs.States.{is_activity, activity_at, device_of, entered, node_of, with_phase, without_those}
+use Rattle.pnp_model.specs.States.{is_activity, activity_at, device_of, entered, has_below, node_born, node_of, with_phase, without_those}
+use Rattle.pnp_model.specs.Windows.{is_window_on}
 use Rattle.pnp_model.specs.Starts.{adding, own_part}
 use Rattle.pnp_model.specs.Rebalances.{begun_rebalance, committed, movers, plan_of}
 use Rattle.pnp_model.specs.Removals.{begun_removal}
 use Rattle.pnp_model.specs.Surprises.{begun_surprise}
 use Rattle.pnp_model.specs.Tasks.{begin, is_gone, join_step, joining, numbered}
 use Rattle.pnp_model.specs.Machine.{is_ready, operation_walk, phase_walk}
-use Rattle.pnp_model.specs.Events.{answer_of, completed, completed_phase, with_rule}
+use Rattle.pnp_model.specs.Events.{answer_of, completed, completed_phase, has_children, with_rule}
 use Rattle.pnp_model.specs.Runs.{Entry, Goes, printed}
 use Rattle.pnp_model.specs.Runs.Entry.{Happens, Did}
 use Rattle.pnp_model.specs.Records.{Node, Core, Device, Relation, Walk, Activity, Phase, Task, Duty, State, Operation, Rebalance, RebalanceStage, Removal, RemovalStage, Settings, SurpriseStage}
@@ -263,6 +264,21 @@ pub data PathEffect (s : State) (label : Label) (t : State) : Type 0 where
       → t.disabled ≡ s.disabled ++ node.path ∷ [] → PathEffect s label t
   enables : (path : Text) → t.disabled ≡ without_first (folding.same path) s.disabled → PathEffect s label t
 
+-- the event that gives a device its first window of a kind: it is not the root, and nothing is below it
+pub record Windowed (s : State) (entry : Entry) (d : Device) (res : Res) : Type 0 where
+  pub path : Text
+  pub label : Label
+  pub there : device_of path s.world ≡ Some d
+  pub root_stays : (d.born == 0) ≡ false
+  pub no_device : has_below d.born s.world ≡ false
+  pub no_node : has_children s.core.nodes (node_born d.born s.core.nodes) ≡ false
+  pub first : list_any (is_window_on res.kind (d.born ∷ [])) s.windows ≡ false
+  pub event : entry ≡ Happens (Event.Window path res) label
+
+pub data WindowEffect (s : State) (entry : Entry) (t : State) : Type 0 where
+  same : t.windows ≡ s.windows → WindowEffect s entry t
+  sets : (d : Device) (res : Res) → Windowed s entry d res → t.core ≡ s.core → t.windows ≡ s.windows ++ record { born = d.born; res = res } ∷ [] → WindowEffect s entry t
+
 -- The operation ------------------------------------------------------------------------
 
 -- the operation of a kind, as it begins
@@ -418,6 +434,7 @@ pub record Effect (s : State) (entry : Entry) (t : State) : Type 0 where
   pub tasks : TasksEffect s entry t
   pub world : WorldEffect s entry t
   pub paths : PathEffect s (printed entry) t
+  pub windows : WindowEffect s entry t
   pub joins : JoinEffect s (printed entry) t
   pub serial : t.next_serial ≡ s.next_serial + joined (printed entry)
 
