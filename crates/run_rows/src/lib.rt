@@ -8,6 +8,8 @@ mod generated;
 #[cfg(test)]
 mod live;
 #[cfg(test)]
+mod runs;
+#[cfg(test)]
 mod scripts;
 #[cfg(test)]
 mod small_scripts;

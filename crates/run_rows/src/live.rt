@@ -1,5 +1,5 @@
 //! What an event led to is on the sink before more of the script is asked for.
-use crate::words::words_of;
+use crate::runs::words_of;
 use driver_rack::{Driver, Steady};
 use pnp_cli::{Status, run};
 use pnp_io::{Failed, Files, Sink};
