@@ -6,7 +6,7 @@ use std::alloc::Global;
 use std::process::Abort;
 use std::test::Fail;
 
-pub const OWN_INF: &str = r#"[Version]
+pub const OWN_INF: &[u8] = br#"[Version]
 Signature="$Windows NT$"
 DriverVer=01/01/2020,1.0.0.0
 [Manufacturer]
@@ -45,7 +45,7 @@ pub fn ended_into(
     script: &str,
     sink: &mut MemSink,
 ) -> Result<Status, Fail> {
-    let (words, mut files) = named(alloc, &[OWN_INF.as_bytes()], script)?;
+    let (words, mut files) = named(alloc, &[OWN_INF], script)?;
     let rack = rack_of(alloc, 2, 4)?;
     Ok(ended(rt, alloc, &words, rack, &mut files, sink))
 }
@@ -306,7 +306,7 @@ outstanding
 /// INFs, a script, the status and what is written.
 type Row = (&'static [&'static [u8]], &'static str, Status, &'static str);
 
-const OWN: &[&[u8]] = &[OWN_INF.as_bytes()];
+const OWN: &[&[u8]] = &[OWN_INF];
 
 const ROWS: [Row; 10] = [
     (OWN, ONE_DEVICE_SCRIPT, Status::Done, ONE_DEVICE_TEXT),
@@ -359,7 +359,7 @@ fn whole_runs(rt: HostRuntime) -> Result<(), Fail> {
     Ok(())
 }
 
-const NEW_INF: &str = r#"[Version]
+const NEW_INF: &[u8] = br#"[Version]
 Signature="$Windows NT$"
 DriverVer=06/01/2024,1.0.0.0
 [Manufacturer]
@@ -370,7 +370,7 @@ Device=N,OWN\ANY
 AddService=new,2,T
 "#;
 
-const OLD_INF: &str = r#"[Version]
+const OLD_INF: &[u8] = br#"[Version]
 Signature="$Windows NT$"
 DriverVer=01/01/2020,1.0.0.0
 [Manufacturer]
@@ -381,7 +381,7 @@ Device=N,OWN\X
 AddService=old,2,T
 "#;
 
-const LATE_INF: &str = r#"[Version]
+const LATE_INF: &[u8] = br#"[Version]
 Signature="$Windows NT$"
 DriverVer=01/02/2020,1.0.0.0
 [Manufacturer]
@@ -392,7 +392,7 @@ Device=N,OWN\X
 AddService=late,2,T
 "#;
 
-const HIGH_INF: &str = r#"[Version]
+const HIGH_INF: &[u8] = br#"[Version]
 Signature="$Windows NT$"
 DriverVer=01/02/2020,1.0.0.1
 [Manufacturer]
@@ -420,9 +420,9 @@ listed HTREE\ROOT\0
 ";
 
 /// The text of an INF in UTF-16LE.
-fn in_utf16(alloc: Global, text: &str) -> Result<Vec<u8>, Fail> {
+fn in_utf16(alloc: Global, text: &[u8]) -> Result<Vec<u8>, Fail> {
     let mut bytes = Vec::from_slice(alloc, b"\xFF\xFE")?;
-    for byte in text.as_bytes() {
+    for byte in text {
         bytes.push(*byte)?;
         bytes.push(0)?;
     }
@@ -460,10 +460,10 @@ fn the_best_driver(rt: HostRuntime) -> Result<(), Fail> {
     let alloc = rt.alloc();
     let wide = in_utf16(alloc, HIGH_INF)?;
     let infs: [(&[u8], &[u8], &str); 4] = [
-        (NEW_INF.as_bytes(), OLD_INF.as_bytes(), "old"),
-        (OLD_INF.as_bytes(), LATE_INF.as_bytes(), "late"),
-        (LATE_INF.as_bytes(), HIGH_INF.as_bytes(), "high"),
-        (LATE_INF.as_bytes(), &wide, "high"),
+        (NEW_INF, OLD_INF, "old"),
+        (OLD_INF, LATE_INF, "late"),
+        (LATE_INF, HIGH_INF, "high"),
+        (LATE_INF, &wide, "high"),
     ];
     for (first, second, service) in infs {
         chooses(&rt, alloc, &[first, second], service)?;
