@@ -1,6 +1,6 @@
 //! Summaries of generated scripts, over racks of drivers; and the generated texts.
-use crate::runs::{Rack, ends, words_of};
-use driver_rack::{Driver, Steady, TeachError};
+use crate::runs::{Rack, ends, rack_of, words_of};
+use driver_rack::{Driver, TeachError};
 use pnp_cli::{Status, gen_inf, gen_script};
 use pnp_io::MemFiles;
 use pnp_labels::{Answer, Ask, AskWhat, DriverKind, Minor, Rule};
@@ -45,16 +45,7 @@ fn sums_up(rt: &impl Abort, alloc: Global, rack: Rack, n: &str, text: &[u8]) -> 
     ends(rt, alloc, &words, rack, &mut files, (Status::Done, text))
 }
 
-/// So many Steady drivers.
-fn steady(alloc: Global, count: u32) -> Result<Rack, Fail> {
-    let mut rack: Rack = Vec::new(alloc);
-    for _ in 0..count {
-        rack.push(Box::new(alloc, Steady::make())?)?;
-    }
-    Ok(rack)
-}
-
-/// How many drivers, how many devices, and the summary: no driver; one device; fifty, of which the last needs the ports of the
+/// How many Steady drivers, how many devices, and the summary: no driver; one device; fifty, of which the last needs the ports of the
 /// first, which moves.
 const SUMMARIES: [(u32, &str, &[u8]); 3] = [
     (
@@ -79,9 +70,9 @@ const SUMMARIES: [(u32, &str, &[u8]); 3] = [
 fn summaries(rt: HostRuntime) -> Result<(), Fail> {
     let alloc = rt.alloc();
     for (drivers, n, text) in SUMMARIES {
-        sums_up(&rt, alloc, steady(alloc, drivers)?, n, text)?;
+        sums_up(&rt, alloc, rack_of(alloc, 0, drivers, 0)?, n, text)?;
     }
-    let mut rack = steady(alloc, 1)?;
+    let mut rack = rack_of(alloc, 0, 1, 0)?;
     rack.push(Box::new(alloc, Unwilling {})?)?;
     let failed = b"devices 1\nsteps 22\nstarted 1\nproblem12 0\nmoved 0\n";
     sums_up(&rt, alloc, rack, "1", failed)

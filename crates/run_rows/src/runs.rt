@@ -27,8 +27,8 @@ pub fn files_of(alloc: Global, named: &[(&str, &[u8])]) -> Result<MemFiles, Fail
     Ok(files)
 }
 
-/// So many Scripted drivers, so many Steady ones, and a Stubborn one.
-pub fn rack_of(alloc: Global, scripted: u32, steady: u32) -> Result<Rack, Fail> {
+/// So many Scripted drivers, Steady ones and Stubborn ones.
+pub fn rack_of(alloc: Global, scripted: u32, steady: u32, stubborn: u32) -> Result<Rack, Fail> {
     let mut rack: Rack = Vec::new(alloc);
     for _ in 0..scripted {
         rack.push(Box::new(alloc, Scripted::make(alloc)?)?)?;
@@ -36,7 +36,9 @@ pub fn rack_of(alloc: Global, scripted: u32, steady: u32) -> Result<Rack, Fail> 
     for _ in 0..steady {
         rack.push(Box::new(alloc, Steady::make())?)?;
     }
-    rack.push(Box::new(alloc, Stubborn::make())?)?;
+    for _ in 0..stubborn {
+        rack.push(Box::new(alloc, Stubborn::make())?)?;
+    }
     Ok(rack)
 }
 

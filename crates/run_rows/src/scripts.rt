@@ -46,7 +46,7 @@ pub fn ended_into(
     sink: &mut MemSink,
 ) -> Result<Status, Fail> {
     let (words, mut files) = named(alloc, &[OWN_INF], script)?;
-    let rack = rack_of(alloc, 2, 4)?;
+    let rack = rack_of(alloc, 2, 4, 1)?;
     Ok(ended(rt, alloc, &words, rack, &mut files, sink))
 }
 
@@ -59,7 +59,14 @@ fn runs(
     want: (Status, &[u8]),
 ) -> Result<(), Fail> {
     let (words, mut files) = named(alloc, infs, script)?;
-    ends(rt, alloc, &words, rack_of(alloc, 2, 4)?, &mut files, want)
+    ends(
+        rt,
+        alloc,
+        &words,
+        rack_of(alloc, 2, 4, 1)?,
+        &mut files,
+        want,
+    )
 }
 
 /// One device starts.

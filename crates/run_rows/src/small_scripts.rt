@@ -35,7 +35,7 @@ fn small_scripts(rt: HostRuntime) -> Result<(), Fail> {
     let words = words_of(alloc, &["pnpmgr", "s"])?;
     for (script, status, text) in ROWS {
         let mut files = files_of(alloc, &[("s", script)])?;
-        let rack = rack_of(alloc, 1, 1)?;
+        let rack = rack_of(alloc, 1, 1, 1)?;
         ends(&rt, alloc, &words, rack, &mut files, (status, text))?;
     }
     Ok(())
