@@ -14,6 +14,7 @@ DONE, BAD_SCRIPT, BAD_WORDS, READ, WRITE, BAD_INF, MEMORY, LARGE = range(8)
 LIMIT = 16777216
 END = b"tree\n0 HTREE\\ROOT\\0 Started\nmap\noutstanding\n"
 wrong = []
+failed = collections.Counter()
 
 
 def run(words, env=(), **more):
@@ -49,8 +50,20 @@ def sweep(so, name, words, variable, counted, allowed):
         seen["as ever" if same else "status %s" % status] += 1
         if not fine:
             wrong.append("%s %s=%d" % (name, variable, k))
+    failed[variable] += total
     told = ", ".join("%d %s" % (n, what) for what, n in sorted(seen.items()))
     print("%-24s %-12s %5d runs: %s" % (name, variable, total, told or "no such call"), flush=True)
+
+
+def swept():
+    """A name, the words and the wanted output of each script whose calls fail: the three of scripts/, and three examples."""
+    own = os.path.join(HERE, "scripts")
+    for name in ("chain", "veto", "failed_restart"):
+        yield "scripts/" + name, [os.path.join(own, name + ".pnp"), os.path.join(own, "own.inf")], os.path.join(own, name + ".out")
+    for name in ("rebalance_chain", "veto", "failed_restart"):
+        folder = os.path.join(EXAMPLES, name)
+        infs = sorted(f for f in os.listdir(folder) if f.endswith(".inf"))
+        yield name, [os.path.join(folder, f) for f in [name + ".pnp"] + infs], os.path.join(folder, name + ".out")
 
 
 def failing_calls(d):
@@ -60,16 +73,17 @@ def failing_calls(d):
         return
     so = os.path.join(d, "fail.so")
     subprocess.run([cc, "-O2", "-shared", "-fPIC", "-o", so, os.path.join(HERE, "fail.c"), "-ldl"], check=True)
-    for name in ("rebalance_chain", "veto", "failed_restart"):
-        folder = os.path.join(EXAMPLES, name)
-        words = sorted((os.path.join(folder, f) for f in os.listdir(folder) if f.endswith((".pnp", ".inf"))), key=lambda f: f.endswith(".inf"))
+    for name, words, out in swept():
+        with open(out, "rb") as it:
+            wanted = it.read()
+        whole = run(words)
+        expect(name, whole, DONE, wanted)
         sweep(so, name, words, "FAIL_ALLOC", "alloc", [MEMORY])
         sweep(so, name, words, "FAIL_OPEN", "open", [READ])
         sweep(so, name, words, "FAIL_READ", "read", [READ])
         sweep(so, name, words, "FAIL_WRITE", "write", [WRITE])
         sweep(so, name, words, "INTR_READ", "read", [])
         sweep(so, name, words, "INTR_WRITE", "write", [])
-        whole = run(words)
         for variable in ("SHORT_READ", "SHORT_WRITE"):
             expect("%s, %s=1" % (name, variable), run(words, {"LD_PRELOAD": so, variable: "1"}), whole[0], whole[1])
     sweep(so, "--gen 2", ["--gen", "2"], "FAIL_ALLOC", "alloc", [MEMORY])
@@ -216,6 +230,8 @@ def main():
         extremes(d)
         live(d)
         failing_calls(d)
+    for variable, total in failed.items():
+        print("%-12s %6d runs in all" % (variable, total))
     print("%d wrong" % len(wrong))
     for name in wrong:
         print("   " + name)

@@ -1,8 +1,8 @@
 //! Memory or writes that are refused on the way: the status says so, and what was written is a front of the output. The
 //! first three are for runs in which one allocation fails (`rt try --test --fail-alloc N`).
-use crate::scripts::{ONE_DEVICE_SCRIPT, ONE_DEVICE_TEXT, OWN_INF, ended};
-use crate::words::words_of;
-use pnp_cli::{Status, run};
+use crate::runs::{ended, files_of, words_of};
+use crate::scripts::{ONE_DEVICE_SCRIPT, ONE_DEVICE_TEXT, ended_into};
+use pnp_cli::Status;
 use pnp_io::{MemFiles, MemSink};
 use std::alloc::Global;
 use std::process::Abort;
@@ -10,9 +10,8 @@ use std::test::Fail;
 
 /// The whole output is written; or memory was refused, and a front of it was.
 fn whole_or_front(rt: &impl Abort, alloc: Global, script: &str, text: &str) -> Result<(), Fail> {
-    let sink = MemSink::new(alloc, 4096)?;
-    let (status, sink) = ended(alloc, &[OWN_INF.as_bytes()], script, sink)?;
-    match status {
+    let mut sink = MemSink::new(alloc, 4096)?;
+    match ended_into(rt, alloc, script, &mut sink)? {
         Status::Done => assert!(rt; sink.taken() == text.as_bytes(), "{:?}", sink.taken()),
         Status::WantOfMemory => {
             assert!(rt;
@@ -26,6 +25,7 @@ fn whole_or_front(rt: &impl Abort, alloc: Global, script: &str, text: &str) -> R
     Ok(())
 }
 
+/// A rebalance in which two devices move.
 const CHAIN_SCRIPT: &str = r"driver dev steady
 plug HTREE\ROOT\0 OWN\DEV A need=irq:3-4
 plug HTREE\ROOT\0 OWN\DEV B need=irq:4-5
@@ -88,12 +88,7 @@ irq:5-5 OWN\DEV\B
 outstanding
 ";
 
-/// A rebalance in which two devices move.
-#[test]
-fn a_rebalance_along_a_chain(rt: HostRuntime) -> Result<(), Fail> {
-    whole_or_front(&rt, rt.alloc(), CHAIN_SCRIPT, CHAIN_TEXT)
-}
-
+/// A veto, after which the devices that agreed are told.
 const VETO_SCRIPT: &str = r"driver dev steady
 driver low scripted
 teach low QUERY_REMOVE_DEVICE OWN\FIL\2 fail
@@ -168,12 +163,7 @@ map
 outstanding
 ";
 
-/// A veto, after which the devices that agreed are told.
-#[test]
-fn a_veto(rt: HostRuntime) -> Result<(), Fail> {
-    whole_or_front(&rt, rt.alloc(), VETO_SCRIPT, VETO_TEXT)
-}
-
+/// A rebalance in which a device does not start again.
 const FAILED_RESTART_SCRIPT: &str = r"driver dev scripted
 teach dev START_DEVICE OWN\DEV\H ok 1
 teach dev START_DEVICE OWN\DEV\H fail
@@ -247,10 +237,17 @@ irq:5-5 OWN\DEV\D
 outstanding
 ";
 
-/// A rebalance in which a device does not start again.
 #[test]
-fn a_failed_restart(rt: HostRuntime) -> Result<(), Fail> {
-    whole_or_front(&rt, rt.alloc(), FAILED_RESTART_SCRIPT, FAILED_RESTART_TEXT)
+fn whole_or_a_front(rt: HostRuntime) -> Result<(), Fail> {
+    let rows = [
+        (CHAIN_SCRIPT, CHAIN_TEXT),
+        (VETO_SCRIPT, VETO_TEXT),
+        (FAILED_RESTART_SCRIPT, FAILED_RESTART_TEXT),
+    ];
+    for (script, text) in rows {
+        whole_or_front(&rt, rt.alloc(), script, text)?;
+    }
+    Ok(())
 }
 
 /// Wherever the sink is full, what it took is the front of the output up to there.
@@ -259,8 +256,8 @@ fn each_write_fails(rt: HostRuntime) -> Result<(), Fail> {
     let alloc = rt.alloc();
     let text = ONE_DEVICE_TEXT.as_bytes();
     for room in 0..text.len() {
-        let sink = MemSink::new(alloc, room as u64)?;
-        let (status, sink) = ended(alloc, &[OWN_INF.as_bytes()], ONE_DEVICE_SCRIPT, sink)?;
+        let mut sink = MemSink::new(alloc, room as u64)?;
+        let status = ended_into(&rt, alloc, ONE_DEVICE_SCRIPT, &mut sink)?;
         assert_eq!(rt; status, Status::WriteFault);
         assert!(rt; sink.taken() == &text[..room], "{:?}", sink.taken());
     }
@@ -277,7 +274,7 @@ fn each_call_of_write_fails(rt: HostRuntime) -> Result<(), Fail> {
     for call in 0..2usize {
         let mut sink = MemSink::new(alloc, 4096)?;
         sink.fail_at(call as u64 + 1)?;
-        let (status, sink) = ended(alloc, &[OWN_INF.as_bytes()], ONE_DEVICE_SCRIPT, sink)?;
+        let status = ended_into(&rt, alloc, ONE_DEVICE_SCRIPT, &mut sink)?;
         assert_eq!(rt; status, Status::WriteFault);
         assert_eq!(rt; sink.taken().len(), taken[call]);
         assert!(rt; text.starts_with(sink.taken()), "{:?}", sink.taken());
@@ -285,25 +282,21 @@ fn each_call_of_write_fails(rt: HostRuntime) -> Result<(), Fail> {
     Ok(())
 }
 
-/// Reads and writes of one byte at a time make the same output.
+/// Reads and writes of one byte at a time, a hundred of each, make the same output.
 #[test]
 fn one_byte_at_a_time(rt: HostRuntime) -> Result<(), Fail> {
     let alloc = rt.alloc();
-    let mut files = MemFiles::new(alloc);
-    files.add(b"s", ONE_DEVICE_SCRIPT.as_bytes())?;
-    let mut sink = MemSink::new(alloc, 4096)?;
+    let words = words_of(alloc, &["pnpmgr", "s"])?;
+    let mut whole = MemSink::new(alloc, 4096)?;
+    let mut parts = MemSink::new(alloc, 4096)?;
+    let mut files = files_of(alloc, &[("s", ONE_DEVICE_SCRIPT.as_bytes())])?;
+    let long = ended(&rt, alloc, &words, Vec::new(alloc), &mut files, &mut whole);
     for call in 1..101u64 {
         files.short_at(call, 1)?;
-        sink.short_at(call, 1)?;
+        parts.short_at(call, 1)?;
     }
-    let mut whole = MemSink::new(alloc, 4096)?;
-    let words = words_of(alloc, &["pnpmgr", "s"])?;
-    let short = run(alloc, &words, Vec::new(alloc), &mut files, &mut sink);
-    assert_eq!(rt; short, Status::Done);
-    let mut plain = MemFiles::new(alloc);
-    plain.add(b"s", ONE_DEVICE_SCRIPT.as_bytes())?;
-    let long = run(alloc, &words, Vec::new(alloc), &mut plain, &mut whole);
-    assert_eq!(rt; long, Status::Done);
-    assert!(rt; sink.taken() == whole.taken(), "{:?}", sink.taken());
+    let short = ended(&rt, alloc, &words, Vec::new(alloc), &mut files, &mut parts);
+    assert_eq!(rt; (long, short), (Status::Done, Status::Done));
+    assert!(rt; parts.taken() == whole.taken(), "{:?}", parts.taken());
     Ok(())
 }

@@ -1,8 +1,8 @@
 //! Summaries of generated scripts, over racks of drivers; and the generated texts.
-use crate::words::words_of;
-use driver_rack::{Driver, Steady, TeachError};
-use pnp_cli::{Status, gen_inf, gen_script, run};
-use pnp_io::{MemFiles, MemSink};
+use crate::runs::{Rack, ends, rack_of, words_of};
+use driver_rack::{Driver, TeachError};
+use pnp_cli::{Status, gen_inf, gen_script};
+use pnp_io::MemFiles;
 use pnp_labels::{Answer, Ask, AskWhat, DriverKind, Minor, Rule};
 use std::alloc::Global;
 use std::process::Abort;
@@ -38,50 +38,41 @@ impl Driver for Unwilling {
     }
 }
 
-/// Runs `--gen` with this number over a rack, and compares the summary.
-fn sums_up(
-    rt: &impl Abort,
-    alloc: Global,
-    rack: Vec<Box<dyn Driver>>,
-    n: &str,
-    text: &[u8],
-) -> Result<(), Fail> {
-    assert!(rt; rack.len() < 8);
+/// `--gen` with this number over a rack writes this summary.
+fn sums_up(rt: &impl Abort, alloc: Global, rack: Rack, n: &str, text: &[u8]) -> Result<(), Fail> {
     let words = words_of(alloc, &["pnpmgr", "--gen", n])?;
     let mut files = MemFiles::new(alloc);
-    let mut sink = MemSink::new(alloc, 4096)?;
-    let status = run(alloc, &words, rack, &mut files, &mut sink);
-    assert_eq!(rt; status, Status::Done);
-    assert!(rt; sink.taken() == text, "{:?}", sink.taken());
-    Ok(())
+    ends(rt, alloc, &words, rack, &mut files, (Status::Done, text))
 }
 
-/// A rack of two Steady drivers.
-fn two_steady(alloc: Global) -> Result<Vec<Box<dyn Driver>>, Fail> {
-    let mut rack: Vec<Box<dyn Driver>> = Vec::new(alloc);
-    rack.push(Box::new(alloc, Steady::make())?)?;
-    rack.push(Box::new(alloc, Steady::make())?)?;
-    Ok(rack)
-}
+/// How many Steady drivers, how many devices, and the summary: no driver; one device; fifty, of which the last needs the ports of the
+/// first, which moves.
+const SUMMARIES: [(u32, &str, &[u8]); 3] = [
+    (
+        0,
+        "1",
+        b"devices 1\nsteps 8\nstarted 0\nproblem12 0\nmoved 0\n",
+    ),
+    (
+        2,
+        "1",
+        b"devices 1\nsteps 20\nstarted 2\nproblem12 0\nmoved 0\n",
+    ),
+    (
+        2,
+        "50",
+        b"devices 50\nsteps 765\nstarted 51\nproblem12 0\nmoved 1\n",
+    ),
+];
 
-/// One device; and fifty, of which the last needs the ports of the first, which moves.
+/// Those; and one driver for the bus, while that of the device fails its start.
 #[test]
-fn devices_start(rt: HostRuntime) -> Result<(), Fail> {
+fn summaries(rt: HostRuntime) -> Result<(), Fail> {
     let alloc = rt.alloc();
-    let one = b"devices 1\nsteps 20\nstarted 2\nproblem12 0\nmoved 0\n";
-    sums_up(&rt, alloc, two_steady(alloc)?, "1", one)?;
-    let fifty = b"devices 50\nsteps 765\nstarted 51\nproblem12 0\nmoved 1\n";
-    sums_up(&rt, alloc, two_steady(alloc)?, "50", fifty)
-}
-
-/// No driver; and one for the bus, while that of the device fails its start.
-#[test]
-fn devices_do_not_start(rt: HostRuntime) -> Result<(), Fail> {
-    let alloc = rt.alloc();
-    let none = b"devices 1\nsteps 8\nstarted 0\nproblem12 0\nmoved 0\n";
-    sums_up(&rt, alloc, Vec::new(alloc), "1", none)?;
-    let mut rack: Vec<Box<dyn Driver>> = Vec::new(alloc);
-    rack.push(Box::new(alloc, Steady::make())?)?;
+    for (drivers, n, text) in SUMMARIES {
+        sums_up(&rt, alloc, rack_of(alloc, 0, drivers, 0)?, n, text)?;
+    }
+    let mut rack = rack_of(alloc, 0, 1, 0)?;
     rack.push(Box::new(alloc, Unwilling {})?)?;
     let failed = b"devices 1\nsteps 22\nstarted 1\nproblem12 0\nmoved 0\n";
     sums_up(&rt, alloc, rack, "1", failed)

@@ -6,7 +6,11 @@ mod faults;
 #[cfg(test)]
 mod generated;
 #[cfg(test)]
+mod large_runs;
+#[cfg(test)]
 mod live;
+#[cfg(test)]
+mod runs;
 #[cfg(test)]
 mod scripts;
 #[cfg(test)]

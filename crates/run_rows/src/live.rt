@@ -1,6 +1,5 @@
 //! What an event led to is on the sink before more of the script is asked for.
-use crate::words::words_of;
-use driver_rack::{Driver, Steady};
+use crate::runs::{rack_of, words_of};
 use pnp_cli::{Status, run};
 use pnp_io::{Failed, Files, Sink};
 use std::cell::Cell;
@@ -76,8 +75,8 @@ const SECOND: &str =
 #[test]
 fn no_line_is_held_back(rt: HostRuntime) -> Result<(), Fail> {
     let alloc = rt.alloc();
-    let mut rack: Vec<Box<dyn Driver>> = Vec::new(alloc);
-    rack.push(Box::new(alloc, Steady::make())?)?;
+    let rack = rack_of(alloc, 0, 1, 0)?;
+    assert!(rt; rack.len() < 8);
     let taken = Cell::new(0usize);
     let mut files = Parts {
         parts: &PARTS,

@@ -1,13 +1,12 @@
 //! Whole runs, from the words, INFs and script to the bytes that are written, as the description of the machine gives them.
-use crate::words::words_of;
-use driver_rack::{Driver, Scripted, Steady, Stubborn};
-use pnp_cli::{Status, run};
+use crate::runs::{ended, ends, files_of, rack_of, words_of};
+use pnp_cli::Status;
 use pnp_io::{MemFiles, MemSink};
 use std::alloc::Global;
 use std::process::Abort;
 use std::test::Fail;
 
-pub const OWN_INF: &str = r#"[Version]
+pub const OWN_INF: &[u8] = br#"[Version]
 Signature="$Windows NT$"
 DriverVer=01/01/2020,1.0.0.0
 [Manufacturer]
@@ -28,64 +27,49 @@ HKR,,"LowerFilters",0x00010000,"low"
 /// The names of at most two INFs.
 const NAMES: [&str; 2] = ["1", "2"];
 
-/// The status of a script with these INFs over two Scripted drivers, four Steady ones and a Stubborn one, and the sink after it.
-pub fn ended(
-    alloc: Global,
-    infs: &[&[u8]],
-    script: &str,
-    mut sink: MemSink,
-) -> Result<(Status, MemSink), Fail> {
-    let mut rack: Vec<Box<dyn Driver>> = Vec::new(alloc);
-    for _ in 0..2 {
-        rack.push(Box::new(alloc, Scripted::make(alloc)?)?)?;
-    }
-    for _ in 0..4 {
-        rack.push(Box::new(alloc, Steady::make())?)?;
-    }
-    rack.push(Box::new(alloc, Stubborn::make())?)?;
-    if rack.len() > 7 {
-        return Err(Fail::from("drivers"));
-    }
+/// The words and the files of a script with at most two INFs.
+fn named(alloc: Global, infs: &[&[u8]], script: &str) -> Result<(Vec<String>, MemFiles), Fail> {
     let mut words = words_of(alloc, &["pnpmgr", "s"])?;
-    let mut files = MemFiles::new(alloc);
-    files.add(b"s", script.as_bytes())?;
+    let mut files = files_of(alloc, &[("s", script.as_bytes())])?;
     for (name, inf) in NAMES.iter().zip(infs) {
         words.push(String::from_str(alloc, name)?)?;
         files.add(name.as_bytes(), inf)?;
     }
-    let status = run(alloc, &words, rack, &mut files, &mut sink);
-    Ok((status, sink))
+    Ok((words, files))
 }
 
-/// Compares status and output of a script with these INFs.
-fn writes(
+/// The status of a script with one INF over two Scripted drivers, four Steady ones and a Stubborn one.
+pub fn ended_into(
     rt: &impl Abort,
     alloc: Global,
-    infs: &[&[u8]],
     script: &str,
-    sink: MemSink,
-    status: Status,
-    text: &[u8],
-) -> Result<(), Fail> {
-    let (answer, sink) = ended(alloc, infs, script, sink)?;
-    assert_eq!(rt; answer, status);
-    assert!(rt; sink.taken() == text, "{:?}", sink.taken());
-    Ok(())
+    sink: &mut MemSink,
+) -> Result<Status, Fail> {
+    let (words, mut files) = named(alloc, &[OWN_INF], script)?;
+    let rack = rack_of(alloc, 2, 4, 1)?;
+    Ok(ended(rt, alloc, &words, rack, &mut files, sink))
 }
 
-/// The same with room for all that is written.
+/// A script with these INFs over those drivers ends with this status and writes this.
 fn runs(
     rt: &impl Abort,
     alloc: Global,
     infs: &[&[u8]],
     script: &str,
-    status: Status,
-    text: &str,
+    want: (Status, &[u8]),
 ) -> Result<(), Fail> {
-    let sink = MemSink::new(alloc, 4096)?;
-    writes(rt, alloc, infs, script, sink, status, text.as_bytes())
+    let (words, mut files) = named(alloc, infs, script)?;
+    ends(
+        rt,
+        alloc,
+        &words,
+        rack_of(alloc, 2, 4, 1)?,
+        &mut files,
+        want,
+    )
 }
 
+/// One device starts.
 pub const ONE_DEVICE_SCRIPT: &str = r"driver dev steady
 plug HTREE\ROOT\0 OWN\DEV 1
 ";
@@ -107,19 +91,7 @@ map
 outstanding
 ";
 
-/// One device starts.
-#[test]
-fn one_device(rt: HostRuntime) -> Result<(), Fail> {
-    runs(
-        &rt,
-        rt.alloc(),
-        &[OWN_INF.as_bytes()],
-        ONE_DEVICE_SCRIPT,
-        Status::Done,
-        ONE_DEVICE_TEXT,
-    )
-}
-
+/// Two starts are outstanding at once, and end in the other order.
 const TWO_STARTS_AT_ONCE_SCRIPT: &str = r"driver dev scripted
 teach dev START_DEVICE * pend
 plug HTREE\ROOT\0 OWN\DEV 1
@@ -158,19 +130,7 @@ map
 outstanding
 ";
 
-/// Two starts are outstanding at once, and end in the other order.
-#[test]
-fn two_starts_at_once(rt: HostRuntime) -> Result<(), Fail> {
-    runs(
-        &rt,
-        rt.alloc(),
-        &[OWN_INF.as_bytes()],
-        TWO_STARTS_AT_ONCE_SCRIPT,
-        Status::Done,
-        TWO_STARTS_AT_ONCE_TEXT,
-    )
-}
-
+/// A request that does not wait is not completed.
 const NO_SUCH_REQUEST_SCRIPT: &str = r"driver dev steady
 plug HTREE\ROOT\0 OWN\DEV 1
 complete OWN\DEV\1 START_DEVICE ok
@@ -194,19 +154,7 @@ map
 outstanding
 ";
 
-/// A request that does not wait is not completed.
-#[test]
-fn no_such_request(rt: HostRuntime) -> Result<(), Fail> {
-    runs(
-        &rt,
-        rt.alloc(),
-        &[OWN_INF.as_bytes()],
-        NO_SUCH_REQUEST_SCRIPT,
-        Status::Done,
-        NO_SUCH_REQUEST_TEXT,
-    )
-}
-
+/// A line outside the language ends the script.
 const A_BAD_LINE_AT_THE_END_SCRIPT: &str = r"driver dev steady
 plug HTREE\ROOT\0 OWN\DEV 1
 # comment
@@ -231,19 +179,7 @@ map
 outstanding
 ";
 
-/// A line outside the language ends the script.
-#[test]
-fn a_bad_line_at_the_end(rt: HostRuntime) -> Result<(), Fail> {
-    runs(
-        &rt,
-        rt.alloc(),
-        &[OWN_INF.as_bytes()],
-        A_BAD_LINE_AT_THE_END_SCRIPT,
-        Status::BadScript,
-        A_BAD_LINE_AT_THE_END_TEXT,
-    )
-}
-
+/// A device of the same path, and one without a parent.
 const SAME_PATH_SCRIPT: &str = r"driver dev steady
 plug HTREE\ROOT\0 OWN\DEV 1
 plug htree\root\0 own\dev 1
@@ -269,19 +205,7 @@ map
 outstanding
 ";
 
-/// A device of the same path, and one without a parent.
-#[test]
-fn same_path(rt: HostRuntime) -> Result<(), Fail> {
-    runs(
-        &rt,
-        rt.alloc(),
-        &[OWN_INF.as_bytes()],
-        SAME_PATH_SCRIPT,
-        Status::Done,
-        SAME_PATH_TEXT,
-    )
-}
-
+/// No INF matches the device.
 const NO_MATCH_SCRIPT: &str = r"driver dev steady
 plug HTREE\ROOT\0 OWN\DEV 1
 ";
@@ -298,19 +222,7 @@ map
 outstanding
 ";
 
-/// No INF matches the device.
-#[test]
-fn no_match(rt: HostRuntime) -> Result<(), Fail> {
-    runs(
-        &rt,
-        rt.alloc(),
-        &[],
-        NO_MATCH_SCRIPT,
-        Status::Done,
-        NO_MATCH_TEXT,
-    )
-}
-
+/// The driver of the INF has no namesake in the rack.
 const NO_NAMESAKE_SCRIPT: &str = r"plug HTREE\ROOT\0 OWN\DEV 1
 ";
 
@@ -325,19 +237,7 @@ map
 outstanding
 ";
 
-/// The driver of the INF has no namesake in the rack.
-#[test]
-fn no_namesake(rt: HostRuntime) -> Result<(), Fail> {
-    runs(
-        &rt,
-        rt.alloc(),
-        &[OWN_INF.as_bytes()],
-        NO_NAMESAKE_SCRIPT,
-        Status::Done,
-        NO_NAMESAKE_TEXT,
-    )
-}
-
+/// The only driver fails to add the device.
 const A_DRIVER_FAILS_TO_ADD_SCRIPT: &str = r"driver dev scripted
 teach dev add * fail
 plug HTREE\ROOT\0 OWN\DEV 1
@@ -358,19 +258,7 @@ map
 outstanding
 ";
 
-/// The only driver fails to add the device.
-#[test]
-fn a_driver_fails_to_add(rt: HostRuntime) -> Result<(), Fail> {
-    runs(
-        &rt,
-        rt.alloc(),
-        &[OWN_INF.as_bytes()],
-        A_DRIVER_FAILS_TO_ADD_SCRIPT,
-        Status::Done,
-        A_DRIVER_FAILS_TO_ADD_TEXT,
-    )
-}
-
+/// The driver fails to start the device.
 const A_DRIVER_FAILS_TO_START_SCRIPT: &str = r"driver dev scripted
 teach dev START_DEVICE * fail
 plug HTREE\ROOT\0 OWN\DEV 1
@@ -396,19 +284,7 @@ map
 outstanding
 ";
 
-/// The driver fails to start the device.
-#[test]
-fn a_driver_fails_to_start(rt: HostRuntime) -> Result<(), Fail> {
-    runs(
-        &rt,
-        rt.alloc(),
-        &[OWN_INF.as_bytes()],
-        A_DRIVER_FAILS_TO_START_SCRIPT,
-        Status::Done,
-        A_DRIVER_FAILS_TO_START_TEXT,
-    )
-}
-
+/// A lower filter has added the device, and the function driver fails to.
 const A_FILTER_IS_REMOVED_SCRIPT: &str = r"driver low steady
 driver dev scripted
 teach dev add * fail
@@ -434,20 +310,63 @@ map
 outstanding
 ";
 
-/// A lower filter has added the device, and the function driver fails to.
-#[test]
-fn a_filter_is_removed(rt: HostRuntime) -> Result<(), Fail> {
-    runs(
-        &rt,
-        rt.alloc(),
-        &[OWN_INF.as_bytes()],
+/// INFs, a script, the status and what is written.
+type Row = (&'static [&'static [u8]], &'static str, Status, &'static str);
+
+const OWN: &[&[u8]] = &[OWN_INF];
+
+const ROWS: [Row; 10] = [
+    (OWN, ONE_DEVICE_SCRIPT, Status::Done, ONE_DEVICE_TEXT),
+    (
+        OWN,
+        TWO_STARTS_AT_ONCE_SCRIPT,
+        Status::Done,
+        TWO_STARTS_AT_ONCE_TEXT,
+    ),
+    (
+        OWN,
+        NO_SUCH_REQUEST_SCRIPT,
+        Status::Done,
+        NO_SUCH_REQUEST_TEXT,
+    ),
+    (
+        OWN,
+        A_BAD_LINE_AT_THE_END_SCRIPT,
+        Status::BadScript,
+        A_BAD_LINE_AT_THE_END_TEXT,
+    ),
+    (OWN, SAME_PATH_SCRIPT, Status::Done, SAME_PATH_TEXT),
+    (&[], NO_MATCH_SCRIPT, Status::Done, NO_MATCH_TEXT),
+    (OWN, NO_NAMESAKE_SCRIPT, Status::Done, NO_NAMESAKE_TEXT),
+    (
+        OWN,
+        A_DRIVER_FAILS_TO_ADD_SCRIPT,
+        Status::Done,
+        A_DRIVER_FAILS_TO_ADD_TEXT,
+    ),
+    (
+        OWN,
+        A_DRIVER_FAILS_TO_START_SCRIPT,
+        Status::Done,
+        A_DRIVER_FAILS_TO_START_TEXT,
+    ),
+    (
+        OWN,
         A_FILTER_IS_REMOVED_SCRIPT,
         Status::Done,
         A_FILTER_IS_REMOVED_TEXT,
-    )
+    ),
+];
+
+#[test]
+fn whole_runs(rt: HostRuntime) -> Result<(), Fail> {
+    for (infs, script, status, text) in ROWS {
+        runs(&rt, rt.alloc(), infs, script, (status, text.as_bytes()))?;
+    }
+    Ok(())
 }
 
-const NEW_INF: &str = r#"[Version]
+const NEW_INF: &[u8] = br#"[Version]
 Signature="$Windows NT$"
 DriverVer=06/01/2024,1.0.0.0
 [Manufacturer]
@@ -458,7 +377,7 @@ Device=N,OWN\ANY
 AddService=new,2,T
 "#;
 
-const OLD_INF: &str = r#"[Version]
+const OLD_INF: &[u8] = br#"[Version]
 Signature="$Windows NT$"
 DriverVer=01/01/2020,1.0.0.0
 [Manufacturer]
@@ -469,7 +388,7 @@ Device=N,OWN\X
 AddService=old,2,T
 "#;
 
-const LATE_INF: &str = r#"[Version]
+const LATE_INF: &[u8] = br#"[Version]
 Signature="$Windows NT$"
 DriverVer=01/02/2020,1.0.0.0
 [Manufacturer]
@@ -480,7 +399,7 @@ Device=N,OWN\X
 AddService=late,2,T
 "#;
 
-const HIGH_INF: &str = r#"[Version]
+const HIGH_INF: &[u8] = br#"[Version]
 Signature="$Windows NT$"
 DriverVer=01/02/2020,1.0.0.1
 [Manufacturer]
@@ -508,16 +427,16 @@ listed HTREE\ROOT\0
 ";
 
 /// The text of an INF in UTF-16LE.
-fn in_utf16(alloc: Global, text: &str) -> Result<Vec<u8>, Fail> {
+fn in_utf16(alloc: Global, text: &[u8]) -> Result<Vec<u8>, Fail> {
     let mut bytes = Vec::from_slice(alloc, b"\xFF\xFE")?;
-    for byte in text.as_bytes() {
+    for byte in text {
         bytes.push(*byte)?;
         bytes.push(0)?;
     }
     Ok(bytes)
 }
 
-/// Two INFs, of which the second one's driver is chosen.
+/// Two INFs, and the service whose driver is chosen: that of the second.
 fn chooses(rt: &impl Abort, alloc: Global, infs: &[&[u8]], service: &str) -> Result<(), Fail> {
     let text = format!(in alloc;
         "{PLUGGED_TEXT}\
@@ -533,60 +452,43 @@ fn chooses(rt: &impl Abort, alloc: Global, infs: &[&[u8]], service: &str) -> Res
         map\n\
         outstanding\n"
     )?;
-    runs(rt, alloc, infs, CHOICE_SCRIPT, Status::Done, &text)
+    runs(
+        rt,
+        alloc,
+        infs,
+        CHOICE_SCRIPT,
+        (Status::Done, text.as_bytes()),
+    )
 }
 
-/// A match of the hardware ID, a later date, and a higher version.
+/// A match of the hardware ID, a later date, and a higher version, which an INF in UTF-16 has too.
 #[test]
 fn the_best_driver(rt: HostRuntime) -> Result<(), Fail> {
     let alloc = rt.alloc();
-    chooses(&rt, alloc, &[NEW_INF.as_bytes(), OLD_INF.as_bytes()], "old")?;
-    chooses(
-        &rt,
-        alloc,
-        &[OLD_INF.as_bytes(), LATE_INF.as_bytes()],
-        "late",
-    )?;
-    chooses(
-        &rt,
-        alloc,
-        &[LATE_INF.as_bytes(), HIGH_INF.as_bytes()],
-        "high",
-    )
-}
-
-#[test]
-fn an_inf_in_utf16(rt: HostRuntime) -> Result<(), Fail> {
-    let alloc = rt.alloc();
-    let high = in_utf16(alloc, HIGH_INF)?;
-    chooses(&rt, alloc, &[LATE_INF.as_bytes(), &high], "high")?;
+    let wide = in_utf16(alloc, HIGH_INF)?;
+    let infs: [(&[u8], &[u8], &str); 4] = [
+        (NEW_INF, OLD_INF, "old"),
+        (OLD_INF, LATE_INF, "late"),
+        (LATE_INF, HIGH_INF, "high"),
+        (LATE_INF, &wide, "high"),
+    ];
+    for (first, second, service) in infs {
+        chooses(&rt, alloc, &[first, second], service)?;
+    }
     Ok(())
 }
 
-/// The script of one device, where the sink takes so many bytes and a write fails.
-fn fails_to_write(
-    rt: &impl Abort,
-    alloc: Global,
-    room: u64,
-    call: u64,
-    taken: &[u8],
-) -> Result<(), Fail> {
-    let mut sink = MemSink::new(alloc, room)?;
-    sink.fail_at(call)?;
-    let infs = [OWN_INF.as_bytes()];
-    writes(
-        rt,
-        alloc,
-        &infs,
-        ONE_DEVICE_SCRIPT,
-        sink,
-        Status::WriteFault,
-        taken,
-    )
-}
+/// The script of one device, where the sink has room for so many bytes and a call of write fails: what it took.
+const FAILING_SINKS: [(u64, u64, &str); 2] = [(4096, 1, ""), (8, 2, "event dr")];
 
 #[test]
 fn a_sink_that_fails(rt: HostRuntime) -> Result<(), Fail> {
-    fails_to_write(&rt, rt.alloc(), 4096, 1, b"")?;
-    fails_to_write(&rt, rt.alloc(), 8, 2, b"event dr")
+    for (room, call, taken) in FAILING_SINKS {
+        let mut sink = MemSink::new(rt.alloc(), room)?;
+        sink.fail_at(call)?;
+        let status = ended_into(&rt, rt.alloc(), ONE_DEVICE_SCRIPT, &mut sink)?;
+        assert_eq!(rt; status, Status::WriteFault);
+        assert!(rt; sink.taken() == taken.as_bytes(), "{:?}", sink.taken());
+    }
+    Ok(())
 }

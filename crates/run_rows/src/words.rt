@@ -1,18 +1,10 @@
 //! The words of the command line, and the INFs that they name.
-use pnp_cli::{Settings, Status, WordsError, run, settings};
+use crate::runs::{ended, ends, files_of, words_of};
+use pnp_cli::{Settings, Status, WordsError, settings};
 use pnp_io::{MemFiles, MemSink};
 use std::alloc::{AllocError, Global};
 use std::process::Abort;
 use std::test::Fail;
-
-/// Words of their own.
-pub fn words_of(alloc: Global, texts: &[&str]) -> Result<Vec<String>, Fail> {
-    let mut words = Vec::new(alloc);
-    for text in texts {
-        words.push(String::from_str(alloc, text)?)?;
-    }
-    Ok(words)
-}
 
 /// What the words say: the script, the INFs and the budget, or how many devices are generated and the budget.
 fn said(alloc: Global, settings: &Settings) -> Result<Vec<u8>, AllocError> {
@@ -112,10 +104,14 @@ fn bad_words(rt: HostRuntime) -> Result<(), Fail> {
             Err(error) => assert_eq!(rt; error, WordsError::BadWords),
         }
         let mut files = MemFiles::new(alloc);
-        let mut sink = MemSink::new(alloc, 64)?;
-        let status = run(alloc, &words, Vec::new(alloc), &mut files, &mut sink);
-        assert_eq!(rt; status, Status::BadWords);
-        assert_eq!(rt; sink.taken().len(), 0);
+        ends(
+            &rt,
+            alloc,
+            &words,
+            Vec::new(alloc),
+            &mut files,
+            (Status::BadWords, b""),
+        )?;
     }
     Ok(())
 }
@@ -138,16 +134,7 @@ fn at_most_64_infs(rt: HostRuntime) -> Result<(), Fail> {
 
 const GOOD_INF: &[u8] = b"[Version]\nSignature=$Chicago$\n";
 
-/// Files of these names, with their bytes.
-fn files_of(alloc: Global, named: &[(&str, &[u8])]) -> Result<MemFiles, Fail> {
-    let mut files = MemFiles::new(alloc);
-    for (name, bytes) in named {
-        files.add(name.as_bytes(), bytes)?;
-    }
-    Ok(files)
-}
-
-/// Runs the script `s` with the INFs `1` to `3`, and compares the status and what was written.
+/// The script `s` with the INFs `1` to `3` ends with this status and writes this.
 fn answers(
     rt: &impl Abort,
     alloc: Global,
@@ -156,11 +143,14 @@ fn answers(
     text: &str,
 ) -> Result<(), Fail> {
     let words = words_of(alloc, &["pnpmgr", "s", "1", "2", "3"])?;
-    let mut sink = MemSink::new(alloc, 4096)?;
-    let answer = run(alloc, &words, Vec::new(alloc), files, &mut sink);
-    assert_eq!(rt; answer, status);
-    assert!(rt; sink.taken() == text.as_bytes(), "{:?}", sink.taken());
-    Ok(())
+    ends(
+        rt,
+        alloc,
+        &words,
+        Vec::new(alloc),
+        files,
+        (status, text.as_bytes()),
+    )
 }
 
 const REFUSED: [(&[(&str, &[u8])], &str); 8] = [
@@ -193,16 +183,6 @@ const REFUSED: [(&[(&str, &[u8])], &str); 8] = [
     ),
 ];
 
-#[test]
-fn refused_infs(rt: HostRuntime) -> Result<(), Fail> {
-    let alloc = rt.alloc();
-    for (named, text) in REFUSED {
-        let mut files = files_of(alloc, named)?;
-        answers(&rt, alloc, &mut files, Status::BadInf, text)?;
-    }
-    Ok(())
-}
-
 /// Files in which one is not there: the earliest one that is not taken decides.
 const MISSING: [&[(&str, &[u8])]; 5] = [
     &[],
@@ -213,8 +193,12 @@ const MISSING: [&[(&str, &[u8])]; 5] = [
 ];
 
 #[test]
-fn missing_files(rt: HostRuntime) -> Result<(), Fail> {
+fn refused_and_missing_files(rt: HostRuntime) -> Result<(), Fail> {
     let alloc = rt.alloc();
+    for (named, text) in REFUSED {
+        let mut files = files_of(alloc, named)?;
+        answers(&rt, alloc, &mut files, Status::BadInf, text)?;
+    }
     for named in MISSING {
         let mut files = files_of(alloc, named)?;
         answers(&rt, alloc, &mut files, Status::ReadFault, "")?;
@@ -305,7 +289,7 @@ fn a_refusal_that_is_not_written(rt: HostRuntime) -> Result<(), Fail> {
     let words = words_of(alloc, &["pnpmgr", "s", "1"])?;
     let mut files = files_of(alloc, &[("1", b"")])?;
     let mut sink = MemSink::new(alloc, 9)?;
-    let answer = run(alloc, &words, Vec::new(alloc), &mut files, &mut sink);
+    let answer = ended(&rt, alloc, &words, Vec::new(alloc), &mut files, &mut sink);
     assert_eq!(rt; answer, Status::WriteFault);
     assert_eq!(rt; sink.taken(), b"inf 1 err".as_slice());
     Ok(())
