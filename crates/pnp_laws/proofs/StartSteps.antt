@@ -10,7 +10,6 @@ use Rattle.pnp_model.specs.Starts.{StartMove, adding, own_part}
 use Rattle.pnp_model.specs.Machine.{start_lifted}
 use Rattle.pnp_laws.specs.Effects.{IsSearch}
 use Rattle.pnp_laws.specs.Kept.{Good, InOrder, Lawful, HasStackOf, Fits, is_calm, is_idle}
-use Rattle.pnp_model.specs.Diagram.Row.{start}
 use Rattle.pnp_labels.specs.declared.states.DevState.{DevState}
 use Rattle.pnp_labels.specs.declared.words.Minor.{Minor}
 use Rattle.pnp_labels.specs.declared.states.Problem.{Problem}
@@ -19,7 +18,6 @@ use Rattle.pnp_laws.proofs.IdleSteps.{ActivityStep}
 use Rattle.pnp_laws.proofs.Lookups.{changed_none, phase_from, phase_set_other, ended_same, ended_other, InOrder-set_phase, InOrder-ended}
 use Rattle.pnp_laws.proofs.Diagrams.{Each_changed}
 use Rattle.pnp_laws.proofs.Kept.{lawful_by, Good_changed}
-use Rattle.pnp_model.specs.Starts as st
 
 -- a device is changed by f, and what activities it has
 pub lawful_changed : (s t : State) (f : Node → Node) (node : Node) (acts : List Activity) → t.next_serial ≡ s.next_serial → t.core.nodes ≡ changed_first (is_node node.serial) f s.core.nodes → t.activities ≡ acts → t.operation ≡ None
