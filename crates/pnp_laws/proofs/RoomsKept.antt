@@ -58,16 +58,20 @@ births_alike old new [] same = refl
 births_alike old new (k ∷ ks) same = ap₂ (λ (xs ys : List ℕ). xs ++ ys) (same k (cons_here k ks)) (births_alike old new ks (λ j h. same j (cons_there k ks j h)))
 
 -- whose birth number it is
-pub birth_from : (nodes : List Node) (ks : List ℕ) (b : ℕ) → has (births nodes ks) b ≡ true → (j : ℕ) × (n : Node) × (has ks j ≡ true) × (node_at j nodes ≡ Some n) × (n.born ≡ b)
-birth_from nodes [] b h = absurd (cc)
-birth_from nodes (k ∷ ks) b h = by_node (node_at k nodes) refl h
-  where
-    by_node : (o : Option Node) → node_at k nodes ≡ o → has (birth_of o ++ births nodes ks) b ≡ true → (j : ℕ) × (n : Node) × (has (k ∷ ks) j ≡ true) × (node_at j nodes ≡ Some n) × (n.born ≡ b)
-    by_node None e q = let more = birth_from nodes ks b q in (more.0, more.1, cons_there k ks more.0 more.2, more.3)
-    by_node (Some n) e q = elim (has_cases n.born b (births nodes ks) q) [
+abbrev IsBirthOf : List Node → List ℕ → ℕ → Type 0
+IsBirthOf nodes ks b = (j : ℕ) × (n : Node) × (has ks j ≡ true) × (node_at j nodes ≡ Some n) × (n.born ≡ b)
+
+birth_first : (nodes : List Node) (k : ℕ) (ks : List ℕ) (b : ℕ) (o : Option Node) → node_at k nodes ≡ o → (has (births nodes ks) b ≡ true → IsBirthOf nodes ks b) → has (birth_of o ++ births nodes ks) b ≡ true → IsBirthOf nodes (k ∷ ks) b
+birth_first nodes k ks b None e later h = let more = later h in (more.0, more.1, cons_there k ks more.0 more.2, more.3, more.4)
+birth_first nodes k ks b (Some n) e later h =
+    elim (has_cases n.born b (births nodes ks) h) [
       | inl is ↦ (k, n, cons_here k ks, e, is)
-      | inr rest ↦ let more = birth_from nodes ks b rest in (more.0, more.1, cons_there k ks more.0 more.2, more.3)
+      | inr rest ↦ let more = later rest in (more.0, more.1, cons_there k ks more.0 more.2, more.3, more.4)
     ]
+
+birth_from : (nodes : List Node) (ks : List ℕ) (b : ℕ) → has (births nodes ks) b ≡ true → IsBirthOf nodes ks b
+birth_from nodes [] b h = absurd (cc)
+birth_from nodes (k ∷ ks) b h = birth_first nodes k ks b (node_at k nodes) refl (birth_from nodes ks b) h
 
 -- a device, or one above it, is there
 on_path : (c : Core) → Rooted c → RootIsOwn c.nodes → (k j : ℕ) (m : Node) → node_at k c.nodes ≡ Some m → has (k ∷ above c.nodes k) j ≡ true → (n : Node) × (node_at j c.nodes ≡ Some n)

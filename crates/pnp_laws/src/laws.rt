@@ -231,14 +231,12 @@ pub fn names_are_given()
 
 /// In each state of each run clipping what a device below the root needs by the windows above it, as they are now,
 /// changes nothing: what it was given when it joined still fits.
-#[tactic(auto, using(crate::proofs::RunsWindows::needs_are_clipped))]
 pub fn needs_are_clipped()
     ensures { ClippedLaw }
 {}
 
 /// In each state of each run what a device holds lies inside the windows of every device above it: a resource of a kind
 /// for which one of them has a window lies in that window.
-#[tactic(auto, using(crate::proofs::RunsWindows::held_inside_windows))]
 pub fn held_inside_windows()
     ensures { WindowsLaw }
 {}
