@@ -23,6 +23,7 @@ use Rattle.pnp_laws.proofs.RunsKeys.{no_cycle, nothing_printed_clashes}
 use Rattle.pnp_laws.proofs.RunsStacks.{keyed, names_are_known, stacks_fit}
 use Rattle.pnp_laws.proofs.RunsTold.{states_are_told}
 use Rattle.pnp_laws.proofs.RunsWhole.{all_hold_whole}
+use Rattle.pnp_laws.proofs.RunsWindows.{held_inside_windows}
 use Rattle.pnp_laws.proofs.RunsStand.{every_run_follows, dependents_go_first}
 use Rattle.pnp_laws.proofs.RunsStrays.{nobody_is_forgotten}
 use Rattle.pnp_laws.proofs.RunsBegun.{operations_begin}
@@ -43,7 +44,7 @@ use Rattle.pnp_cli.specs.Infs.{infs_in}
 use Rattle.pnp_cli.specs.Runs.{IsOutput, IsOutputBy, IsOutputFor, IsScriptOutput, IsSummaryBy, machine}
 use Rattle.pnp_cli.specs.Contents.{events_of}
 use Rattle.pnp_cli.specs.Words.{settings_of}
-use Rattle.pnp_cli.specs.Lawful.{happened, events_in, IsStep, IsTold, Said, SomeRun, OfRun, EachPassed, EachState, EachStep, OfScript, OfInfs, OfMade, OfSource, OfOutput, ByDiagram, NothingClashes, AllHoldWhole, OperationsBegan, EndsRestore, DependentsGoFirst, ConflictsAreReal, FewJoin, AllStatesTold, NodesAreKeyed, NothingOnItself, MapIsClear, AllStacksFit, NamesAreKnown, NobodyIsForgotten, EachHoldsPart, FewAreHeld, NamesAreShown, ShowsName, TreeIsWhole}
+use Rattle.pnp_cli.specs.Lawful.{happened, events_in, IsStep, IsTold, Said, SomeRun, OfRun, EachPassed, EachState, EachStep, OfScript, OfInfs, OfMade, OfSource, OfOutput, ByDiagram, NothingClashes, AllHoldWhole, OperationsBegan, EndsRestore, DependentsGoFirst, ConflictsAreReal, FewJoin, AllStatesTold, NodesAreKeyed, NothingOnItself, MapIsClear, AllStacksFit, NamesAreKnown, NobodyIsForgotten, EachHoldsPart, HeldInsideWindows, FewAreHeld, NamesAreShown, ShowsName, TreeIsWhole}
 use Rattle.pnp_cli.specs.declared.infs.InfsError.{InfsError}
 use Rattle.pnp_cli.proofs.FewIds.{NamesByWord, names_by_words, script_within}
 use Rattle.pnp_cli.specs.declared.parts.Settings.{Settings}
@@ -253,6 +254,11 @@ pub output_holds_parts : (words : List Text) (contents : Option (Text → Option
 unfolding Holds
 output_holds_parts words contents rack =
     of_output (EachState EachHoldsPart) rack (λ settings script report text shows entries last told s state. each_holds_a_part settings rack state.earlier s state.before) words contents
+
+pub output_inside_windows : (words : List Text) (contents : Option (Text → Option (List ℕ))) (rack : List Driver) → OfOutput (EachState HeldInsideWindows) words contents rack
+unfolding Holds
+output_inside_windows words contents rack =
+    of_output (EachState HeldInsideWindows) rack (λ settings script report text shows entries last told s state. held_inside_windows settings rack state.earlier s state.before) words contents
 
 -- what the events of a run plug is within the limits of the script
 entries_within : (entries : List Entry) → AllByRecursion (IsEventWithin 16) (happened entries) → AllByRecursion (IsEntryWithin 16) entries

@@ -20,6 +20,7 @@ use Rattle.pnp_laws.specs.Printed.{TreeIsPrinted}
 use Rattle.pnp_laws.specs.Stacks.{NamesDriver, StacksFit}
 use Rattle.pnp_laws.specs.Strays.{NobodyForgotten}
 use Rattle.pnp_laws.specs.Told.{StatesTold}
+use Rattle.pnp_laws.specs.Windows.{InsideWindows}
 use Rattle.script_reader.specs.Script.{Trace, gives, waits, ends, stops}
 use Rattle.inf_reader.specs.declared.parts.Inf.{Inf}
 use Rattle.inf_reader.specs.declared.parts.InfError.{InfError}
@@ -195,6 +196,10 @@ NobodyIsForgotten s = s.operation ≡ None → NobodyForgotten s
 -- each device holds one whole alternative, or nothing
 abbrev pub EachHoldsPart : State → Type 0
 EachHoldsPart s = AllHoldParts s.core.nodes
+
+-- what a device holds lies inside the windows of every device above it
+abbrev pub HeldInsideWindows : State → Type 0
+HeldInsideWindows s = InsideWindows s
 
 -- no alternative of a device has more than 16 groups; and where none has more than some number, at most one more than that
 -- number is held or reserved for each event, and for the root

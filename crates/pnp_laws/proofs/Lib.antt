@@ -101,3 +101,5 @@ pub mod RunsHeld
 pub mod TreePrints
 pub mod NamesGiven
 pub mod NodesPlugged
+pub mod RoomsKept
+pub mod RunsWindows

@@ -64,7 +64,7 @@ childless j nodes order none i m at up parent =
     let h = subst (λ (ns : List Node). has (serials_of ns) i ≡ true) none there in
     cc
 
-above_stays : (s : State) (label : Label) (t : State) → Kept s → DependentsFirst label s.core t.core → FollowsDiagram label s.core.nodes t.core.nodes → NodeEffect s label t
+pub above_stays : (s : State) (label : Label) (t : State) → Kept s → DependentsFirst label s.core t.core → FollowsDiagram label s.core.nodes t.core.nodes → NodeEffect s label t
     → (k : ℕ) (n m : Node) → node_at k s.core.nodes ≡ Some n → node_at k t.core.nodes ≡ Some m → above t.core.nodes k ≡ above s.core.nodes k
 above_stays s label t kept first follows (NodeEffect.same a b) k n m at now = ap (λ (x : List Node). above x k) a
 above_stays s label t kept first follows (NodeEffect.changed j f alters a b) k n m at now =

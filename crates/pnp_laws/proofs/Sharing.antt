@@ -254,7 +254,7 @@ Clear_committed c serials reqs plan found l old =
 
 -- A range is reserved -------------------------------------------------------------------------------
 
-same_kind_self : (a b : Kind) → a ≡ b → same_kind a b ≡ true
+pub same_kind_self : (a b : Kind) → a ≡ b → same_kind a b ≡ true
 same_kind_self a kinds.Port e = ap (λ (x : Kind). same_kind x kinds.Port) e
 same_kind_self a kinds.Irq e = ap (λ (x : Kind). same_kind x kinds.Irq) e
 same_kind_self a kinds.Mem e = ap (λ (x : Kind). same_kind x kinds.Mem) e

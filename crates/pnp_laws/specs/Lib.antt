@@ -20,3 +20,4 @@ pub mod Told
 pub mod Strays
 pub mod Held
 pub mod Needs
+pub mod Windows

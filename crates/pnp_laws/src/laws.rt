@@ -13,6 +13,7 @@ ghost use Rattle.pnp_laws.specs.Stacks.{NamesLaw, StacksLaw};
 ghost use Rattle.pnp_laws.specs.StepsLeft.{StepsLeftLaw};
 ghost use Rattle.pnp_laws.specs.Strays.{StraysLaw};
 ghost use Rattle.pnp_laws.specs.Told.{StatesLaw};
+ghost use Rattle.pnp_laws.specs.Windows.{ClippedLaw, WindowsLaw};
 ghost use Rattle.pnp_model.specs.Laws.{DiagramLaw, SharingLaw, WholeLaw, VetoLaw, FutileLaw, DependentsLaw, ConflictLaw};
 
 /// In each state of each run no two resources among all holdings and the reserved ranges clash: two clash where
@@ -226,4 +227,16 @@ pub fn each_node_is_printed_once()
 #[tactic(auto, using(crate::proofs::NamesGiven::names_are_given))]
 pub fn names_are_given()
     ensures { GivenLaw }
+{}
+
+/// In each state of each run clipping what a device below the root needs by the windows above it, as they are now,
+/// changes nothing: what it was given when it joined still fits.
+pub fn needs_are_clipped()
+    ensures { ClippedLaw }
+{}
+
+/// In each state of each run what a device holds lies inside the windows of every device above it: a resource of a kind
+/// for which one of them has a window lies in that window.
+pub fn held_inside_windows()
+    ensures { WindowsLaw }
 {}

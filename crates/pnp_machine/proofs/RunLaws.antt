@@ -28,6 +28,7 @@ use Rattle.pnp_laws.proofs.RunsStand.{dependents_go_first, every_run_follows}
 use Rattle.pnp_laws.proofs.RunsStrays.{nobody_is_forgotten}
 use Rattle.pnp_laws.proofs.RunsTold.{states_are_told}
 use Rattle.pnp_laws.proofs.RunsWhole.{all_hold_whole}
+use Rattle.pnp_laws.proofs.RunsWindows.{held_inside_windows}
 use Rattle.pnp_laws.proofs.TreePrints.{each_node_is_printed_once}
 use Rattle.pnp_machine.specs.Machines.{IsDone, Moves}
 use Rattle.pnp_machine.specs.Ids.{AreFewIds}
@@ -71,6 +72,7 @@ module _ (told : Settings) (s t : State) where
             let on = events_on h.entries entry in
             let count : events h.entries ≡ n = h.count in
             omega arith;
+        inside = held_inside_windows told h.rack (h.entries ++ entry ∷ []) t more;
         states = states_are_told told h.rack h.entries s entry t h.reaches goes;
         first = dependents_go_first told h.rack h.entries s entry t h.reaches goes;
         keyed = keyed told h.rack (h.entries ++ entry ∷ []) t more;

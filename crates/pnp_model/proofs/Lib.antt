@@ -1,5 +1,6 @@
 pub mod Keyed
 pub mod Determined
+pub mod Clips
 mod RowBase
 mod RowsStarts
 mod RowsChoices

@@ -6,6 +6,7 @@ pub mod Walks
 pub mod Cores
 pub mod Trees
 pub mod Windows
+pub mod Clips
 pub mod Frames
 pub mod Starts
 pub mod Rebalances
