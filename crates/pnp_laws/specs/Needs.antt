@@ -2,7 +2,6 @@
 use Rattle.std.specs.Prelude.{ℕ, ◌≡◌, ◌⊎◌, Contains, List, [], Some}
 use Rattle.std.specs.List.{AllByRecursion}
 use Rattle.resource_reqs.specs.Resources.{Reqs}
-use Rattle.resource_reqs.specs.declared.kind.Kind.{Kind}
 use Rattle.pnp_labels.specs.Texts.{Text}
 use Rattle.pnp_labels.specs.declared.event.Event.{Event}
 use Rattle.pnp_labels.specs.declared.label.Label.{Label}
@@ -11,7 +10,7 @@ use Rattle.pnp_model.specs.Laws.{Reaches}
 use Rattle.pnp_model.specs.Records.{Driver, Node, Settings, State}
 use Rattle.pnp_model.specs.Runs.{Entry, root_path}
 use Rattle.pnp_model.specs.Runs.Entry.{Happens, Did}
-use Rattle.pnp_model.specs.Windows.{Room, clip_by}
+use Rattle.pnp_model.specs.Windows.{clip}
 use Rattle.pnp_laws.specs.Held.{AreWithin, NodesWithin}
 
 -- the root has these from the opening on
@@ -25,15 +24,11 @@ pub record IsRoot (path : Text) (hw compat : List Text) (reqs : Reqs) : Type 0 w
 abbrev pub IsSaid : List Entry → Text → List Text → List Text → Reqs → Type 0
 IsSaid entries path hw compat reqs = IsRoot path hw compat reqs ⊎ ((parent : Text) × (label : Label) × Contains entries (Happens (Event.Plug parent path hw compat reqs) label))
 
--- requirements that were cut to the numbers that come through
-abbrev pub IsClipped : Reqs → Reqs → Type 0
-IsClipped said reqs = (rooms : Kind → Room) × (reqs ≡ clip_by rooms said)
-
--- in each state of a run so it is with each node, but that its requirements are clipped
+-- in each state of a run so it is with each node, but that its requirements are cut to what comes through to it in this state
 abbrev pub PluggedLaw : Type 0
 PluggedLaw =
     (settings : Settings) (rack : List Driver) (entries : List Entry) (s : State) → Reaches settings rack entries s
-    → (k : ℕ) (n : Node) → node_at k s.core.nodes ≡ Some n → (said : Reqs) × IsSaid entries n.path n.hw n.compat said × IsClipped said n.reqs
+    → (k : ℕ) (n : Node) → node_at k s.core.nodes ≡ Some n → (said : Reqs) × IsSaid entries n.path n.hw n.compat said × (n.reqs ≡ clip s.windows s.core.nodes n.parent said)
 
 -- where a device is plugged, no alternative of its requirements has more groups
 abbrev pub IsEventWithin : ℕ → Event → Type 0
