@@ -1,7 +1,7 @@
 -- What the frames of a path placed: put on the lists frame by frame, and taken off again.
 use Rattle.std.proofs.Common.{◌≡◌, List, [], ◌∷◌, ◌++◌, Contains, Some, refl, sym, ◌∙◌, ap}
 use Rattle.resource_reqs.specs.Resources.{Res}
-use Rattle.trial_journal.specs.Four.{Lists}
+use Rattle.trial_journal.specs.ByKind.{Lists}
 use Rattle.assign_search.specs.declared.spots.Frame.{Frame}
 use Rattle.assign_search.specs.Walking.{list_at, lists_holding, lists_along, trial}
 use Rattle.assign_search.proofs.SameHeld.{holding_once}

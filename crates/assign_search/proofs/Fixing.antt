@@ -16,7 +16,7 @@ use Rattle.resource_reqs.specs.declared.owner.Owner.{Owner}
 use Rattle.resource_reqs.specs.declared.owner.Owner.TheVariants.{Reserved, Device}
 use Rattle.resource_reqs.proofs.Counts.{contains_cons, contains_nil}
 use Rattle.range_arbiter.specs.Pairs.{Pair, res_list}
-use Rattle.trial_journal.specs.Four.{Arbiters, all_pairs}
+use Rattle.trial_journal.specs.ByKind.{Arbiters, all_pairs}
 use Rattle.assign_search.specs.Fixed.{is_mover, fixed_pairs, has_moving, fixed_of}
 use Rattle.assign_search.proofs.SameHeld.{SameSet}
 use Rattle.assign_search.proofs.Touching.{contains_later}

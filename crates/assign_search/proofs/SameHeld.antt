@@ -12,7 +12,7 @@ use Rattle.resource_reqs.proofs.Points.{all_weaker}
 use Rattle.resource_reqs.proofs.Counts.{contains_cons}
 use Rattle.range_arbiter.specs.Pairs.{Pair, pairs_with, res_list}
 use Rattle.range_arbiter.proofs.PairLists.{with_permutation, with_once}
-use Rattle.trial_journal.specs.Four.{Arbiters, Lists, lists_of, of_kind}
+use Rattle.trial_journal.specs.ByKind.{Arbiters, Lists, lists_of, of_kind}
 use Rattle.assign_search.specs.declared.spots.Child.{Child}
 use Rattle.assign_search.specs.Walking.{OpenPick, HasOpen, AllOpen, HasOpenList, IsOpenCoord, IsChild, NoChild, coord_of, list_at, put_in, lists_holding, trial}
 use Rattle.assign_search.proofs.Held.{held_of}

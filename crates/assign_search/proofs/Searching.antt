@@ -6,7 +6,7 @@ use Rattle.resource_reqs.specs.Resources.{Res, Reqs, Group}
 use Rattle.resource_reqs.specs.Spelling.{Coord, alt, Place, res_of, Point, next_in, next, after, root, CleanPlaces, LiveAt, Clean, Live, Complete, IsFound, IsNoFit, IsAnswer, spent}
 use Rattle.resource_reqs.proofs.Points.{after-append, live_prefix}
 use Rattle.resource_reqs.proofs.Front.{Front, UpTo, NothingFrom, start, found, descend, dead, back, ends_no_fit, ends_found, ends_spent, ends_at_once, ends_empty}
-use Rattle.trial_journal.specs.Four.{Lists}
+use Rattle.trial_journal.specs.ByKind.{Lists}
 use Rattle.assign_search.specs.declared.spots.Spot.{Spot}
 use Rattle.assign_search.specs.declared.spots.Spot.TheVariants.{Between}
 use Rattle.assign_search.specs.declared.spots.Step.{Step}

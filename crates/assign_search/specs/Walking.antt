@@ -8,7 +8,7 @@ use Rattle.resource_reqs.specs.declared.kind.Kind.TheVariants.{Port, Irq, Mem, D
 use Rattle.resource_reqs.specs.declared.owner.Owner.{Owner}
 use Rattle.resource_reqs.specs.declared.owner.Owner.TheVariants.{Device}
 use Rattle.range_arbiter.specs.Pairs.{Pair, pairs_with, res_list}
-use Rattle.trial_journal.specs.Four.{Arbiters, Lists, all_pairs}
+use Rattle.trial_journal.specs.ByKind.{Arbiters, Lists, all_pairs}
 use Rattle.assign_search.specs.declared.spots.Step.{Step}
 use Rattle.assign_search.specs.declared.spots.Step.TheVariants.{Alt, At}
 use Rattle.assign_search.specs.declared.spots.Spot.{Spot}

@@ -2,7 +2,7 @@ ghost use Rattle.std.specs.Prelude.{◌≡◌, ◌≤◌, ◌<◌, ◌+◌, ◌^
 ghost use Rattle.std.specs.List.Sorted.{IsNonDecreasing};
 ghost use Rattle.resource_reqs.specs.declared.kind.Kind.{Kind};
 ghost use Rattle.resource_reqs.specs.Spelling.{IsAnswer};
-ghost use Rattle.trial_journal.specs.Four.{of_kind, all_pairs, lists_of};
+ghost use Rattle.trial_journal.specs.ByKind.{of_kind, all_pairs, lists_of};
 ghost use Rattle.assign_search.specs.Fixed.{serial_of, reqs_of, is_mover, fixed_pairs, has_moving, fixed_of, answer_of};
 
 use crate::board::add;

@@ -7,7 +7,7 @@ use Rattle.resource_reqs.specs.declared.kind.Kind.TheVariants.{Port, Irq, Mem, D
 use Rattle.resource_reqs.specs.declared.owner.Owner.TheVariants.{Reserved, Device}
 use Rattle.resource_reqs.specs.Resources.{Res}
 use Rattle.range_arbiter.specs.Pairs.{Pair}
-use Rattle.trial_journal.specs.Four.{Arbiters, of_kind, lists_of, arbiters_with}
+use Rattle.trial_journal.specs.ByKind.{Arbiters, of_kind, lists_of, arbiters_with}
 use Rattle.assign_search.specs.Walking.{list_at, put_in}
 use Rattle.pnp_model.specs.Keyed.{changed_first, without_first}
 use Rattle.pnp_model.specs.Cores.{is_node, node_at, bare, with_holds}

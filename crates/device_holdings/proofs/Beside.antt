@@ -10,7 +10,7 @@ use Rattle.resource_reqs.specs.Resources.{Res, Reqs}
 use Rattle.resource_reqs.specs.Spelling.{Answer, IsAnswer}
 use Rattle.resource_reqs.proofs.Counts.{contains_cons}
 use Rattle.range_arbiter.specs.Pairs.{Pair, res_list}
-use Rattle.trial_journal.specs.Four.{Arbiters, all_pairs}
+use Rattle.trial_journal.specs.ByKind.{Arbiters, all_pairs}
 use Rattle.assign_search.specs.Fixed.{is_mover, fixed_pairs, fixed_of}
 use Rattle.assign_search.proofs.SameHeld.{SameSet, lists_pairs}
 use Rattle.assign_search.proofs.SameAnswers.{answer_same}

@@ -7,7 +7,7 @@ use Rattle.resource_reqs.specs.declared.owner.Owner.{Owner}
 use Rattle.resource_reqs.specs.declared.owner.Owner.TheVariants.{Reserved, Device}
 use Rattle.resource_reqs.specs.Resources.{Res, clashes, same_kind}
 use Rattle.range_arbiter.specs.Pairs.{Pair, is_before, pairs_with, res_list}
-use Rattle.trial_journal.specs.Four.{Arbiters, Lists, lists_of}
+use Rattle.trial_journal.specs.ByKind.{Arbiters, Lists, lists_of}
 use Rattle.assign_search.specs.Walking.{list_at, put_in}
 use Rattle.pnp_model.specs.Frames.{held_by}
 use Rattle.pnp_model.specs.Records.{Node}

@@ -8,7 +8,7 @@ use Rattle.resource_reqs.specs.declared.owner.Owner.{Owner}
 use Rattle.resource_reqs.specs.declared.owner.Owner.TheVariants.{Reserved, Device}
 use Rattle.resource_reqs.specs.Resources.{Res}
 use Rattle.range_arbiter.specs.Pairs.{Pair}
-use Rattle.trial_journal.specs.Four.{Arbiters, all_pairs}
+use Rattle.trial_journal.specs.ByKind.{Arbiters, all_pairs}
 use Rattle.assign_search.specs.Fixed.{is_mover, has_moving}
 use Rattle.assign_search.proofs.Fixing.{any_means}
 use Rattle.assign_search.proofs.SameHeld.{lists_pairs}

@@ -9,7 +9,7 @@ use Rattle.resource_reqs.specs.declared.owner.Owner.{Owner}
 use Rattle.resource_reqs.specs.Resources.{Res}
 use Rattle.range_arbiter.specs.Pairs.{Pair}
 use Rattle.range_arbiter.proofs.PairLists.{with_swapped, length-pairs_with}
-use Rattle.trial_journal.specs.Four.{Arbiters, Lists, lists_of, of_kind, with_kind, arbiter_with, arbiters_with}
+use Rattle.trial_journal.specs.ByKind.{Arbiters, Lists, lists_of, of_kind, with_kind, arbiter_with, arbiters_with}
 use Rattle.assign_search.specs.Walking.{list_at, put_in}
 use Rattle.assign_search.proofs.SameHeld.{lists_pairs, put_permutation, put_once, put_there, at_kind}
 use Rattle.device_holdings.specs.Mirrors.{pairs_of, lists_with}

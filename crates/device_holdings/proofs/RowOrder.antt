@@ -11,7 +11,7 @@ use Rattle.resource_reqs.specs.declared.owner.Owner.{Owner}
 use Rattle.resource_reqs.specs.declared.owner.Owner.TheVariants.{Reserved, Device}
 use Rattle.range_arbiter.specs.Pairs.{Pair, is_before, is_less, owner_number, share_number, pairs_with}
 use Rattle.range_arbiter.proofs.PairOrder.{before_itself, before_once, not_before_trans}
-use Rattle.trial_journal.specs.Four.{Lists}
+use Rattle.trial_journal.specs.ByKind.{Lists}
 use Rattle.assign_search.specs.Walking.{put_in}
 use Rattle.assign_search.proofs.SameHeld.{lists_pairs}
 use Rattle.pnp_model.specs.Keyed.{put_before, in_order}

@@ -4,7 +4,7 @@ use Rattle.std.specs.List.{AllByRecursion}
 use Rattle.std.proofs.lemmas.List.Elements.{All-from_recursion, recursion_from_All}
 use Rattle.std.proofs.lemmas.List.Sorted.{All-permutation, IsPermutation-sym}
 use Rattle.range_arbiter.specs.Pairs.{Pair}
-use Rattle.trial_journal.specs.Four.{Arbiters, all_pairs}
+use Rattle.trial_journal.specs.ByKind.{Arbiters, all_pairs}
 use Rattle.assign_search.proofs.SameHeld.{lists_pairs}
 use Rattle.pnp_model.specs.Keyed.{in_order}
 use Rattle.pnp_model.specs.Endings.{row_before, map_rows}

@@ -5,7 +5,7 @@ use Rattle.resource_reqs.specs.declared.owner.Owner.{Owner}
 use Rattle.resource_reqs.specs.declared.owner.Owner.TheVariants.{Reserved, Device}
 use Rattle.resource_reqs.specs.Resources.{Res}
 use Rattle.range_arbiter.specs.Pairs.{Pair}
-use Rattle.trial_journal.specs.Four.{Arbiters, Lists, of_kind, lists_of}
+use Rattle.trial_journal.specs.ByKind.{Arbiters, Lists, of_kind, lists_of}
 use Rattle.assign_search.specs.Walking.{list_at, put_in}
 use Rattle.pnp_model.specs.Records.{Node}
 

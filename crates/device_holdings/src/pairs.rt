@@ -1,7 +1,7 @@
 ghost use Rattle.std.specs.Prelude.{◌≡◌, ◌≤◌, ◌+◌, ◌++◌, ◌^◌, List, length, OnOk};
 ghost use Rattle.resource_reqs.specs.declared.kind.Kind.{Kind};
 ghost use Rattle.range_arbiter.specs.Pairs.{Pair};
-ghost use Rattle.trial_journal.specs.Four.{of_kind, lists_of};
+ghost use Rattle.trial_journal.specs.ByKind.{of_kind, lists_of};
 ghost use Rattle.assign_search.specs.Walking.{list_at};
 ghost use Rattle.device_holdings.specs.Mirrors.{pairs_of, lists_with, HasRoom};
 

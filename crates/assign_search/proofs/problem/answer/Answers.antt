@@ -1,7 +1,7 @@
 use Rattle.std.proofs.Common.{ℕ, List, false, ap, map, sym, subst, arith, Result, Ok, Err, IfOk, ◌≡◌, ◌∙◌}
 use Rattle.std.specs.Prelude.{IsPermutation}
 use Rattle.resource_reqs.specs.declared.kind.Kind.TheVariants.{Port, Irq, Mem, Dma}
-use Rattle.trial_journal.specs.Four.{all_pairs}
+use Rattle.trial_journal.specs.ByKind.{all_pairs}
 use Rattle.assign_search.specs.Fixed.{serial_of, reqs_of, fixed_pairs, has_moving, fixed_of, answer_of}
 use Rattle.assign_search.specs.Walking.{held_in}
 use Rattle.assign_search.proofs.Fixing.{length_four, same_res, all_fixed, fixed_same}

@@ -1,7 +1,7 @@
 use Rattle.std.proofs.Common.{map, Result, Ok, Err, IfOk, arith}
 use Rattle.std.proofs.lemmas.List.Sorted.{IsPermutation-refl}
 use Rattle.resource_reqs.specs.declared.kind.Kind.TheVariants.{Port, Irq, Mem, Dma}
-use Rattle.trial_journal.specs.Four.{all_pairs}
+use Rattle.trial_journal.specs.ByKind.{all_pairs}
 use Rattle.assign_search.specs.Fixed.{serial_of, reqs_of, fixed_of, answer_of}
 use Rattle.assign_search.specs.Walking.{held_in}
 use Rattle.assign_search.proofs.Fixing.{length_four, all_fixed}

@@ -1,7 +1,7 @@
 use Rattle.std.proofs.Common.{◌≡◌, ◌+◌, ◌<◌, ◌∷◌, ◌++◌, length, take, slice_get, Some, sym, ◌∙◌, subst, arith}
 use Rattle.std.specs.Prelude.{IsPermutation}
 use Rattle.std.proofs.lemmas.Option.{slice_get_within}
-use Rattle.trial_journal.specs.Four.{of_kind, all_pairs, lists_of}
+use Rattle.trial_journal.specs.ByKind.{of_kind, all_pairs, lists_of}
 use Rattle.assign_search.specs.Fixed.{fixed_pairs}
 use Rattle.assign_search.proofs.SameHeld.{lists_pairs, put_permutation}
 use Rattle.assign_search.proofs.Fixing.{copied_more, copied_less, copied_all, copied_few}

@@ -1,6 +1,6 @@
 use Rattle.std.proofs.Common.{◌≡◌, length, ap, arith}
 use Rattle.resource_reqs.specs.declared.kind.Kind.TheVariants.{Port, Irq, Mem, Dma}
-use Rattle.trial_journal.specs.Four.{all_pairs}
+use Rattle.trial_journal.specs.ByKind.{all_pairs}
 use Rattle.assign_search.proofs.Fixing.{copied_four}
 use Rattle.assign_search.proofs.problem.fixed_board.Goals as goal
 

@@ -1,6 +1,6 @@
 use Rattle.std.proofs.Common.{◌≡◌, List, [], ◌∷◌, ◌++◌, Contains, option_to_list, sym, ◌∙◌, ap, subst}
 use Rattle.range_arbiter.specs.Pairs.{Pair}
-use Rattle.trial_journal.specs.Four.{lists_of}
+use Rattle.trial_journal.specs.ByKind.{lists_of}
 use Rattle.assign_search.specs.Walking.{lists_along, trial}
 use Rattle.assign_search.proofs.Rest.{none_of_length}
 use Rattle.assign_search.proofs.SameHeld.{at_kind}

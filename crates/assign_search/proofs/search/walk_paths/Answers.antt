@@ -1,7 +1,7 @@
 use Rattle.std.proofs.Common.{◌≡◌, ◌+◌, ◌≤◌, ◌++◌, [], ◌∷◌, List, map, length, Contains, option_to_list, refl, sym, ◌∙◌, subst, arith, ap}
 use Rattle.resource_reqs.specs.Spelling.{IsPlan}
 use Rattle.range_arbiter.specs.Pairs.{Pair}
-use Rattle.trial_journal.specs.Four.{Arbiters, all_pairs, lists_of}
+use Rattle.trial_journal.specs.ByKind.{Arbiters, all_pairs, lists_of}
 use Rattle.assign_search.specs.declared.spots.Frame.{Frame}
 use Rattle.assign_search.specs.declared.spots.Spot.TheVariants.{Between}
 use Rattle.assign_search.specs.declared.spots.Step.TheVariants.{Alt}
@@ -10,7 +10,7 @@ use Rattle.assign_search.specs.Walking.{held_in, plan_in, lists_holding, lists_a
 use Rattle.assign_search.proofs.Rest.{false_true, none_of_length}
 use Rattle.assign_search.proofs.SameHeld.{fewer, more, holding_once, at_kind}
 use Rattle.std.proofs.Math.ListN.{length-map}
-use Rattle.trial_journal.specs.Four.{Lists}
+use Rattle.trial_journal.specs.ByKind.{Lists}
 use Rattle.assign_search.specs.Watching.{AllWatched}
 use Rattle.assign_search.proofs.SameHeld.{lists_res}
 use Rattle.assign_search.proofs.Watched.{all_watched_less, none_known, holding_adds, holding_within}

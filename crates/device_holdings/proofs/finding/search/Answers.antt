@@ -1,5 +1,5 @@
 use Rattle.std.proofs.Common.{◌≡◌, ◌≤◌, ◌^◌, ℕ, List, length, map, ap, ◌∙◌, subst, Result, IfOk}
-use Rattle.trial_journal.specs.Four.{Arbiters, all_pairs}
+use Rattle.trial_journal.specs.ByKind.{Arbiters, all_pairs}
 use Rattle.resource_reqs.specs.Spelling.{IsAnswer}
 use Rattle.assign_search.specs.declared.mover.Mover.{Mover}
 use Rattle.assign_search.specs.declared.plan.Found.{Found}

@@ -1,5 +1,5 @@
 use Rattle.std.proofs.Common.{◌≡◌, ◌++◌, map, ◌∙◌, ap}
-use Rattle.trial_journal.specs.Four.{all_pairs}
+use Rattle.trial_journal.specs.ByKind.{all_pairs}
 use Rattle.device_holdings.specs.MapRows.{row_of}
 use Rattle.device_holdings.proofs.RowsAre.{rows_are, all_ends}
 use Rattle.device_holdings.proofs.rows.map_rows.Goals as goal
