@@ -46,5 +46,6 @@ pub fn map_rows(alloc: Global, arbiters: &Arbiters) -> Result<Vec<(Owner, Res)>,
     add_kind(&mut rows, arbiters, Kind::Irq)?;
     add_kind(&mut rows, arbiters, Kind::Mem)?;
     add_kind(&mut rows, arbiters, Kind::Dma)?;
+    add_kind(&mut rows, arbiters, Kind::Bus)?;
     Ok(rows)
 }

@@ -27,6 +27,19 @@ module _ {X : Type 0} where
   with_at each Bus Bus x = inl (refl, refl)
   with_at each _ _ x = inr (refl, refl)
 
+  -- what the change of one does to it, and nothing does to the others, is done to each
+  pub at_each : (P : X → X → Type 0) (each : ByKind X) (j : Kind) (x : X) → P (of_kind each j) x → ((y : X) → P y y) → (k : Kind) → P (of_kind each k) (of_kind (with_kind each j x) k)
+  at_each P each j x changed same k = elim (with_at each j k x) [
+    | inl (at, here) ↦ subst (P (of_kind each k)) (sym here) (subst (λ i. P (of_kind each i) x) at changed)
+    | inr (apart, there) ↦ subst (P (of_kind each k)) (sym there) (same (of_kind each k))
+  ]
+
+  pub with_other : (each : ByKind X) (j k : Kind) (x : X) → (j ≡ k → ⊥) → of_kind (with_kind each j x) k ≡ of_kind each k
+  with_other each j k x other = elim (with_at each j k x) [
+    | inl (same, here) ↦ absurd (other same)
+    | inr (apart, there) ↦ there
+  ]
+
   pub with_there : (each : ByKind X) (k : Kind) (x : X) → of_kind (with_kind each k x) k ≡ x
   with_there each Port x = refl
   with_there each Irq x = refl
@@ -44,15 +57,6 @@ module _ {X : Type 0} where
   with_own each Mem = refl
   with_own each Dma = refl
   with_own each Bus = refl
-
-  -- the order of two changes of different kinds
-  pub with_swapped : (each : ByKind X) (j k : Kind) (x y : X) → same_kind k j ≡ false → with_kind (with_kind each j x) k y ≡ with_kind (with_kind each k y) j x
-  with_swapped each Port Port x y apart = absurd (cc)
-  with_swapped each Irq Irq x y apart = absurd (cc)
-  with_swapped each Mem Mem x y apart = absurd (cc)
-  with_swapped each Dma Dma x y apart = absurd (cc)
-  with_swapped each Bus Bus x y apart = absurd (cc)
-  with_swapped each _ _ x y apart = refl
 
 -- the kinds before one and after it
 abbrev pub before : Kind → List Kind

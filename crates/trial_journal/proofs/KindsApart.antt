@@ -1,15 +1,15 @@
 -- What is open beside the pairs of one kind is open beside all pairs; and the kinds through a put and a take.
-use Rattle.std.proofs.Common.{◌≡◌, ℕ, ◌+◌, ◌<◌, ◌≤◌, ◌⊎◌, inl, inr, false, List, ◌∷◌, length, Contains, All, Option, Some, None, IfSome, IfNone, refl, sym, ◌∙◌, ap, subst, arith}
+use Rattle.std.proofs.Common.{◌≡◌, ℕ, ◌+◌, ◌<◌, ◌≤◌, ◌⊎◌, inl, inr, List, ◌∷◌, length, Contains, All, Option, Some, None, IfSome, IfNone, refl, sym, ◌∙◌, ap, subst, arith}
 use Rattle.std.proofs.lemmas.List.Elements.{All-map, All-cons, All-tail, All-weaker}
 use Rattle.std.proofs.lemmas.List.Sorted.{All-permutation, Contains-permutation, IsPermutation-sym}
 use Rattle.resource_reqs.specs.declared.kind.Kind.{Kind}
 use Rattle.resource_reqs.specs.declared.kind.Kind.TheVariants.{Port, Irq, Mem, Dma, Bus}
-use Rattle.resource_reqs.specs.Resources.{Res, Want, Clash, Free, IsOpen, res_at, same_kind}
+use Rattle.resource_reqs.specs.Resources.{Res, Want, Clash, Free, IsOpen, res_at}
 use Rattle.range_arbiter.specs.Pairs.{Pair, Arbiter, pairs_with, res_list}
 use Rattle.range_arbiter.proofs.Sweeping.{free_at}
 use Rattle.range_arbiter.proofs.PairLists.{with_permutation, length-pairs_with}
 use Rattle.trial_journal.specs.ByKind.{Arbiters, of_kind, with_kind, kind_order, lists_of, all_pairs, arbiter_with, arbiters_with, IsOf, AreOfKinds}
-use Rattle.trial_journal.proofs.EachKind.{kinds_either, with_at, with_there, all_each, each_all}
+use Rattle.trial_journal.proofs.EachKind.{kinds_either, with_at, with_there, at_each, all_each, each_all}
 
 pub pairs_at : (a : Arbiters) (kind : Kind) → of_kind (lists_of a) kind ≡ (of_kind a kind).pairs
 pairs_at a Port = refl
@@ -103,33 +103,16 @@ none_all a want from (Some s) h = tt
 
 -- the pairs of each kind after more room was made for one
 pub pairs-room : (a b : Arbiters) (j k : Kind) (s : ℕ) → b ≡ with_kind a j (record { kind = (of_kind a j).kind; pairs = (of_kind a j).pairs; spare = s }) → (of_kind b k).pairs ≡ (of_kind a k).pairs
-pairs-room a b j k s is = ap (λ (x : Arbiters). (of_kind x k).pairs) is ∙ go (with_at a j k made)
-  where
-    made : Arbiter
-    made = record { kind = (of_kind a j).kind; pairs = (of_kind a j).pairs; spare = s }
-
-    go : ((j ≡ k) × (of_kind (with_kind a j (record { kind = (of_kind a j).kind; pairs = (of_kind a j).pairs; spare = s })) k ≡ record { kind = (of_kind a j).kind; pairs = (of_kind a j).pairs; spare = s }))
-        ⊎ ((same_kind k j ≡ false) × (of_kind (with_kind a j (record { kind = (of_kind a j).kind; pairs = (of_kind a j).pairs; spare = s })) k ≡ of_kind a k))
-        → (of_kind (with_kind a j (record { kind = (of_kind a j).kind; pairs = (of_kind a j).pairs; spare = s })) k).pairs ≡ (of_kind a k).pairs
-    go (inl (same, here)) = ap (λ (x : Arbiter). x.pairs) here ∙ ap (λ i. (of_kind a i).pairs) same
-    go (inr (apart, there)) = ap (λ (x : Arbiter). x.pairs) there
+pairs-room a b j k s is =
+    ap (λ (x : Arbiters). (of_kind x k).pairs) is
+    ∙ at_each (λ (x y : Arbiter). y.pairs ≡ x.pairs) a j (record { kind = (of_kind a j).kind; pairs = (of_kind a j).pairs; spare = s }) refl (λ y. refl) k
 
 -- a put makes no list longer than by one
 pub length-put : (a b : Arbiters) (p : Pair) (k : Kind) → b ≡ arbiters_with a p → length (of_kind b k).pairs ≤ length (of_kind a k).pairs + 1
 length-put a b p k is =
-    subst (λ (x : Arbiters). length (of_kind x k).pairs ≤ length (of_kind a k).pairs + 1) (sym is) (go (with_at a p.1.kind k (arbiter_with (of_kind a p.1.kind) p)))
-  where
-    go : ((p.1.kind ≡ k) × (of_kind (with_kind a p.1.kind (arbiter_with (of_kind a p.1.kind) p)) k ≡ arbiter_with (of_kind a p.1.kind) p))
-        ⊎ ((same_kind k p.1.kind ≡ false) × (of_kind (with_kind a p.1.kind (arbiter_with (of_kind a p.1.kind) p)) k ≡ of_kind a k))
-        → length (of_kind (with_kind a p.1.kind (arbiter_with (of_kind a p.1.kind) p)) k).pairs ≤ length (of_kind a k).pairs + 1
-    go (inl (same, here)) =
-        let longer = length-pairs_with (of_kind a p.1.kind).pairs p in
-        let first : length (of_kind (with_kind a p.1.kind (arbiter_with (of_kind a p.1.kind) p)) k).pairs ≡ length (pairs_with (of_kind a p.1.kind).pairs p) = ap (λ (x : Arbiter). length x.pairs) here in
-        let second : length (of_kind a p.1.kind).pairs ≡ length (of_kind a k).pairs = ap (λ i. length (of_kind a i).pairs) same in
-        omega arith
-    go (inr (apart, there)) =
-        let first : length (of_kind (with_kind a p.1.kind (arbiter_with (of_kind a p.1.kind) p)) k).pairs ≡ length (of_kind a k).pairs = ap (λ (x : Arbiter). length x.pairs) there in
-        omega arith
+    subst (λ (x : Arbiters). length (of_kind x k).pairs ≤ length (of_kind a k).pairs + 1) (sym is)
+    (at_each (λ (x y : Arbiter). length y.pairs ≤ length x.pairs + 1) a p.1.kind (arbiter_with (of_kind a p.1.kind) p)
+    (let longer = length-pairs_with (of_kind a p.1.kind).pairs p in omega arith) (λ y. omega arith) k)
 
 -- a pair that is put in is held
 pub Contains-put : (a b : Arbiters) (p : Pair) → b ≡ arbiters_with a p → Contains (of_kind b p.1.kind).pairs p
