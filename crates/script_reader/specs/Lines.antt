@@ -16,7 +16,7 @@ use Rattle.pnp_labels.specs.declared.label.EventWord.{EventWord}
 use Rattle.std.specs.Str.{bytes_eq}
 use Rattle.script_reader.specs.Words.{is_name}
 use Rattle.script_reader.specs.Tables.{keyword_of, minor_of, driver_kind_of, rel_kind_of, kind_of, answer_of, ask_of, ok_of}
-use Rattle.script_reader.specs.Numbers.{◌>>=◌, only_if, number_of, range_of}
+use Rattle.script_reader.specs.Numbers.{◌>>=◌, only_if, number_of, range_in}
 use Rattle.script_reader.specs.Wants.{all_of, at_most, list_of, id_of, ids_of}
 
 abbrev pub path_of : List ℕ → Option (List ℕ)
@@ -152,7 +152,7 @@ abbrev pub res_of : List ℕ → Option Res
 res_of text = do
   cut ← cut_once 0x3A text
   kind ← kind_of cut.0
-  range ← range_of cut.1
+  range ← range_in kind cut.1
   Some (record { kind = kind; lo = range.0; hi = range.1; shared = false })
 
 abbrev pub reserved : List ℕ → Option Event

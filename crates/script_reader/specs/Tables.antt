@@ -45,7 +45,8 @@ kind_of word = among (
     (codes "port", Kind.Port) ∷
     (codes "irq", Kind.Irq) ∷
     (codes "mem", Kind.Mem) ∷
-    (codes "dma", Kind.Dma) ∷ []) word
+    (codes "dma", Kind.Dma) ∷
+    (codes "bus", Kind.Bus) ∷ []) word
 
 abbrev pub answer_of : List ℕ → Option Answer
 answer_of word = among (

@@ -4,7 +4,7 @@ ghost use Rattle.script_reader.specs.Faults.{Gives};
 ghost use Rattle.script_reader.specs.Lines.{path_of, name_of, rule_path_of, is_answerable, rule_of, uses_of, pull_of, disable_of, enable_of, eject_of, driver_of, uses_by, teach_of, related, relate_of, res_of, reserved, reserve_of, completed, complete_of};
 
 use crate::fault::LineError;
-use crate::numbers::{number_of, range_of};
+use crate::numbers::{number_of, range_in};
 use crate::tables::{answer_of, ask_of, driver_kind_of, kind_of, minor_of, ok_of, rel_kind_of};
 use crate::words::is_name;
 use device_ids::{InstancePath, Text, split_once};
@@ -214,7 +214,7 @@ fn res_of(word: &[u8]) -> Option<Res>
 {
     let (kind, range) = split_once(word, b':')?;
     let kind = kind_of(kind)?;
-    let (lo, hi) = range_of(range)?;
+    let (lo, hi) = range_in(kind, range)?;
     Res::make(kind, lo, hi, false)
 }
 

@@ -28,11 +28,12 @@ const REL_KINDS: [(&[u8], RelKind); 2] = [
     (b"ejection", RelKind::Ejection),
 ];
 
-const KINDS: [(&[u8], Kind); 4] = [
+const KINDS: [(&[u8], Kind); 5] = [
     (b"port", Kind::Port),
     (b"irq", Kind::Irq),
     (b"mem", Kind::Mem),
     (b"dma", Kind::Dma),
+    (b"bus", Kind::Bus),
 ];
 
 const ANSWERS: [(&[u8], Answer); 3] = [
