@@ -80,5 +80,9 @@ pub fn range_in(kind: Kind, text: &[u8]) -> Option<(u64, u64)>
     ensures ordered { IfSome result (λ range. range.0 ≤ range.1) }
 {
     let (lo, hi) = range_of(text)?;
-    if has_number(kind, hi) { Some((lo, hi)) } else { None }
+    if has_number(kind, hi) {
+        Some((lo, hi))
+    } else {
+        None
+    }
 }

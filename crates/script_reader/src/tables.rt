@@ -4,7 +4,7 @@ ghost use Rattle.script_reader.specs.Tables.{among, keyword_of, driver_kind_of, 
 use pnp_labels::{Answer, AskWhat, DriverKind, EventWord, Minor, RelKind};
 use resource_reqs::Kind;
 
-const KEYWORDS: [(&[u8], EventWord); 10] = [
+const KEYWORDS: [(&[u8], EventWord); 11] = [
     (b"plug", EventWord::Plug),
     (b"pull", EventWord::Pull),
     (b"driver", EventWord::Name),
@@ -15,6 +15,7 @@ const KEYWORDS: [(&[u8], EventWord); 10] = [
     (b"relate", EventWord::Relate),
     (b"reserve", EventWord::Reserve),
     (b"complete", EventWord::Complete),
+    (b"window", EventWord::Window),
 ];
 
 const DRIVER_KINDS: [(&[u8], DriverKind); 3] = [
