@@ -1,9 +1,9 @@
 -- What the frames of a path placed: put on the lists frame by frame, and taken off again.
 use Rattle.std.proofs.Common.{◌≡◌, List, [], ◌∷◌, ◌++◌, Contains, Some, refl, sym, ◌∙◌, ap}
 use Rattle.resource_reqs.specs.Resources.{Res}
-use Rattle.trial_journal.specs.Four.{Lists}
+use Rattle.trial_journal.specs.ByKind.{Lists, of_kind}
 use Rattle.assign_search.specs.declared.spots.Frame.{Frame}
-use Rattle.assign_search.specs.Walking.{list_at, lists_holding, lists_along, trial}
+use Rattle.assign_search.specs.Walking.{lists_holding, lists_along, trial}
 use Rattle.assign_search.proofs.SameHeld.{holding_once}
 use Rattle.assign_search.proofs.Searching.{there}
 
@@ -20,5 +20,5 @@ pub along_back : (l m m' : Lists) (fs : List Frame) (f : Frame) → m ≡ lists_
 along_back l m m' fs f is released = holding_once m' (lists_along l fs) f.res (released ∙ is ∙ along_push l fs f)
 
 -- what the last frame placed is held
-pub along_there : (l m : Lists) (fs : List Frame) (f : Frame) → m ≡ lists_along l (fs ++ f ∷ []) → (r : Res) → f.res ≡ Some r → Contains (list_at m r.kind) (trial, r)
+pub along_there : (l m : Lists) (fs : List Frame) (f : Frame) → m ≡ lists_along l (fs ++ f ∷ []) → (r : Res) → f.res ≡ Some r → Contains (of_kind m r.kind) (trial, r)
 along_there l m fs f is r some = there (lists_along l fs) m f.res (is ∙ along_push l fs f) r some

@@ -1,22 +1,24 @@
 -- What is fixed, and the board that holds it.
-use Rattle.std.proofs.Common.{◌≡◌, ℕ, Bool, true, false, not, ◌==◌, ◌||◌, ◌+◌, ◌<◌, ◌≤◌, cond, inl, inr, List, [], ◌∷◌, ◌++◌, length, take, get_or, slice_get, Contains, Some, None, zero, suc, append_assoc, append-nil, length-append, length-take, Result, Ok, Err, is_ok, filter, refl, sym, ◌∙◌, ap, ap₂, subst, arith}
+use Rattle.std.proofs.Common.{◌≡◌, ℕ, Bool, true, false, not, ◌==◌, ◌||◌, ◌+◌, ◌*◌, ◌^◌, ◌<◌, ◌≤◌, cond, inl, inr, List, [], ◌∷◌, ◌++◌, length, take, get_or, slice_get, Contains, Some, None, zero, suc, append_assoc, append-nil, length-append, length-take, Result, Ok, Err, is_ok, filter, refl, sym, ◌∙◌, ap, ap₂, subst, arith}
 use Rattle.std.specs.Prelude.{IsPermutation}
-use Rattle.std.specs.List.{list_any}
+use Rattle.std.specs.List.{list_any, flat_map}
 use Rattle.std.specs.List.Sorted.{IsNonDecreasing, IsBinarySearchResult}
 use Rattle.std.specs.Ordering.{nat_cmp}
 use Rattle.std.proofs.lemmas.Bool.{eqb-true, eq-eqb, cond_both, or_cases, or_left, or_right, cases_Bool, both_ways, false_from_ne_true}
 use native.Mathlib.Decide.{dec_lt}
 use Rattle.std.specs.Result.{MatchResult}
-use Rattle.std.proofs.lemmas.List.{take_all, get_or_default}
+use Rattle.std.proofs.lemmas.List.{take_all, get_or_default, flat_map_more}
 use Rattle.std.proofs.lemmas.Option.{slice_get_within, get_or_from_slice_get}
-use Rattle.std.proofs.lemmas.List.Folds.{list_any-append, list_any_at, list_any_more}
+use Rattle.std.proofs.lemmas.List.Folds.{list_any_at, list_any_more}
 use Rattle.std.proofs.lemmas.List.Elements.{filter_more, filter-append, filter_agree}
 use Rattle.std.proofs.lemmas.List.Sorted.{searched, IsPermutation-append_left, IsPermutation-trans, IsPermutation-push_more, IsPermutation-map, IsPermutation-sym, Contains-permutation, length_permutation}
+use Rattle.resource_reqs.specs.declared.kind.Kind.{Kind}
 use Rattle.resource_reqs.specs.declared.owner.Owner.{Owner}
 use Rattle.resource_reqs.specs.declared.owner.Owner.TheVariants.{Reserved, Device}
 use Rattle.resource_reqs.proofs.Counts.{contains_cons, contains_nil}
 use Rattle.range_arbiter.specs.Pairs.{Pair, res_list}
-use Rattle.trial_journal.specs.Four.{Arbiters, all_pairs}
+use Rattle.trial_journal.specs.ByKind.{Arbiters, of_kind, lists_of}
+use Rattle.trial_journal.proofs.KindsApart.{pairs_at}
 use Rattle.assign_search.specs.Fixed.{is_mover, fixed_pairs, has_moving, fixed_of}
 use Rattle.assign_search.proofs.SameHeld.{SameSet}
 use Rattle.assign_search.proofs.Touching.{contains_later}
@@ -121,20 +123,19 @@ next_part : (old part board board' : List Pair) → IsPermutation old board → 
 next_part old part board board' so_far more =
     IsPermutation-trans (old ++ part) (board ++ part) board' (IsPermutation-append_left part old board so_far) more
 
--- what was copied kind by kind is all that is fixed
-pub copied_four : (serials : List ℕ) (a : Arbiters) (b b1 b2 b3 b4 : List Pair) → b ≡ []
-    → IsPermutation (b ++ fixed_pairs serials a.port.pairs) b1 → IsPermutation (b1 ++ fixed_pairs serials a.irq.pairs) b2
-    → IsPermutation (b2 ++ fixed_pairs serials a.mem.pairs) b3 → IsPermutation (b3 ++ fixed_pairs serials a.dma.pairs) b4
-    → IsPermutation (fixed_pairs serials (all_pairs a)) b4
-copied_four serials a b b1 b2 b3 b4 none p i m d =
-    let first : IsPermutation (fixed_pairs serials a.port.pairs) b1 = subst (λ l. IsPermutation (l ++ fixed_pairs serials a.port.pairs) b1) none p in
-    let second = next_part (fixed_pairs serials a.port.pairs) (fixed_pairs serials a.irq.pairs) b1 b2 first i in
-    let third = next_part (fixed_pairs serials a.port.pairs ++ fixed_pairs serials a.irq.pairs) (fixed_pairs serials a.mem.pairs) b2 b3 second m in
-    let fourth = next_part (fixed_pairs serials a.port.pairs ++ fixed_pairs serials a.irq.pairs ++ fixed_pairs serials a.mem.pairs) (fixed_pairs serials a.dma.pairs) b3 b4 third d in
-    subst (λ l. IsPermutation l b4) (sym (
-    filter-append (λ p. not (is_mover serials p.0)) (a.port.pairs ++ a.irq.pairs ++ a.mem.pairs) a.dma.pairs
-    ∙ ap (λ l. l ++ fixed_pairs serials a.dma.pairs) (filter-append (λ p. not (is_mover serials p.0)) (a.port.pairs ++ a.irq.pairs) a.mem.pairs)
-    ∙ ap (λ l. l ++ fixed_pairs serials a.mem.pairs ++ fixed_pairs serials a.dma.pairs) (filter-append (λ p. not (is_mover serials p.0)) a.port.pairs a.irq.pairs))) fourth
+-- the pairs of these kinds
+abbrev pub pairs_in : Arbiters → List Kind → List Pair
+pairs_in a kinds = flat_map (of_kind (lists_of a)) kinds
+
+-- what is fixed of one kind more was copied
+pub copied_kind : (serials : List ℕ) (a : Arbiters) (kinds : List Kind) (kind : Kind) (board board' : List Pair) → IsPermutation (fixed_pairs serials (pairs_in a kinds)) board
+    → IsPermutation (board ++ fixed_pairs serials (of_kind a kind).pairs) board' → IsPermutation (fixed_pairs serials (pairs_in a (kinds ++ kind ∷ []))) board'
+copied_kind serials a kinds kind board board' so_far more =
+    subst (λ l. IsPermutation l board')
+    (ap (λ l. fixed_pairs serials (pairs_in a kinds) ++ fixed_pairs serials l) (sym (pairs_at a kind))
+    ∙ sym (filter-append (λ p. not (is_mover serials p.0)) (pairs_in a kinds) (of_kind (lists_of a) kind))
+    ∙ ap (fixed_pairs serials) (flat_map_more (of_kind (lists_of a)) [] kinds kind))
+    (next_part (fixed_pairs serials (pairs_in a kinds)) (fixed_pairs serials (of_kind a kind).pairs) board board' so_far more)
 
 -- the same pairs in another order: the same resources
 pub same_res : (a b : List Pair) → IsPermutation a b → SameSet (res_list b) (res_list a)
@@ -188,16 +189,11 @@ all_fixed serials ascending moved pairs none r =
     let same : fixed_of serials pairs ≡ res_list pairs = ap res_list (fixed_all serials pairs (moving_same serials ascending moved pairs ∙ none)) in
     (λ h. subst (λ l. Contains l r) (sym same) h, λ h. subst (λ l. Contains l r) same h)
 
--- kind by kind
-pub moving_four : (serials : List ℕ) (a : Arbiters)
-    → has_moving serials (all_pairs a) ≡ (((has_moving serials a.port.pairs || has_moving serials a.irq.pairs) || has_moving serials a.mem.pairs) || has_moving serials a.dma.pairs)
-moving_four serials a =
-    list_any-append (λ (q : Pair). is_mover serials q.0) (a.port.pairs ++ a.irq.pairs ++ a.mem.pairs) a.dma.pairs
-    ∙ ap (λ b. b || has_moving serials a.dma.pairs) (list_any-append (λ (q : Pair). is_mover serials q.0) (a.port.pairs ++ a.irq.pairs) a.mem.pairs
-    ∙ ap (λ b. b || has_moving serials a.mem.pairs) (list_any-append (λ (q : Pair). is_mover serials q.0) a.port.pairs a.irq.pairs))
-
-pub length_four : (a : Arbiters) → length (all_pairs a) ≡ ((length a.port.pairs + length a.irq.pairs) + length a.mem.pairs) + length a.dma.pairs
-length_four a =
-    length-append (a.port.pairs ++ a.irq.pairs ++ a.mem.pairs) a.dma.pairs
-    ∙ ap (λ n. n + length a.dma.pairs) (length-append (a.port.pairs ++ a.irq.pairs) a.mem.pairs
-    ∙ ap (λ n. n + length a.mem.pairs) (length-append a.port.pairs a.irq.pairs))
+-- few of each kind are few of all
+pub few_in : (a : Arbiters) → ((kind : Kind) → length (of_kind a kind).pairs ≤ 2 ^ 29) → (kinds : List Kind) → length (pairs_in a kinds) ≤ length kinds * 2 ^ 29
+few_in a few [] = omega arith
+few_in a few (kind ∷ kinds) =
+    let rest = few_in a few kinds in
+    let here : length (of_kind (lists_of a) kind) ≤ 2 ^ 29 = subst (λ l. length l ≤ 2 ^ 29) (sym (pairs_at a kind)) (few kind) in
+    let all : length (pairs_in a (kind ∷ kinds)) ≡ length (of_kind (lists_of a) kind) + length (pairs_in a kinds) = length-append (of_kind (lists_of a) kind) (pairs_in a kinds) in
+    omega arith

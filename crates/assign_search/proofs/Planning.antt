@@ -5,7 +5,7 @@ use Rattle.std.specs.List.{AllByRecursion}
 use Rattle.resource_reqs.specs.Resources.{Res, Want, Reqs, Group, res_at}
 use Rattle.resource_reqs.specs.Spelling.{Coord, alt, place, Place, res_of, Point, next_in, next, after, root, Picks, Spells, IsPlan}
 use Rattle.resource_reqs.proofs.Fitting.{put_read, listed_read, skip_next}
-use Rattle.trial_journal.specs.Four.{Lists}
+use Rattle.trial_journal.specs.ByKind.{Lists}
 use Rattle.assign_search.specs.declared.spots.Frame.{Frame}
 use Rattle.assign_search.specs.declared.spots.Spot.{Spot}
 use Rattle.assign_search.specs.declared.spots.Step.{Step}

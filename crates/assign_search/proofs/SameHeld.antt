@@ -1,20 +1,20 @@
 -- Whatever keeps what is held, the search sees only what clashes with it: the lists of a board stand for one list.
-use Rattle.std.proofs.Common.{◌≡◌, ℕ, ◌+◌, ◌≤◌, ◌⊎◌, inl, inr, List, [], ◌∷◌, ◌++◌, length, get_or, Contains, Option, Some, None, refl, sym, ap, subst, arith}
+use Rattle.std.proofs.Common.{◌≡◌, ℕ, ◌+◌, ◌≤◌, ◌⊎◌, inl, inr, List, [], ◌∷◌, ◌++◌, length, get_or, Contains, Option, Some, None, refl, sym, ap, ◌∙◌, subst, arith}
 use Rattle.std.specs.Prelude.{IsPermutation}
-use Rattle.std.specs.List.{AllByRecursion}
+use Rattle.std.specs.List.{AllByRecursion, flat_map}
 use Rattle.std.proofs.lemmas.List.Elements.{All-contains, Contains-push, Contains-push_cases, Contains-append_left, Contains-get_or}
 use Rattle.std.proofs.lemmas.List.Sorted.{IsPermutation-trans, IsPermutation-sym, IsPermutation-middle, IsPermutation-append_left, IsPermutation-append_right, IsPermutation-map, Contains-permutation, length_permutation}
 use Rattle.resource_reqs.specs.declared.kind.Kind.{Kind}
-use Rattle.resource_reqs.specs.declared.kind.Kind.TheVariants.{Port, Irq, Mem, Dma}
 use Rattle.resource_reqs.specs.Resources.{Res, Clash, Free, Group, AltList, Reqs, res_at}
 use Rattle.resource_reqs.specs.Spelling.{Coord, alt, place, Place, res_of}
 use Rattle.resource_reqs.proofs.Points.{all_weaker}
 use Rattle.resource_reqs.proofs.Counts.{contains_cons}
 use Rattle.range_arbiter.specs.Pairs.{Pair, pairs_with, res_list}
 use Rattle.range_arbiter.proofs.PairLists.{with_permutation, with_once}
-use Rattle.trial_journal.specs.Four.{Arbiters, Lists, lists_of, of_kind}
+use Rattle.trial_journal.specs.ByKind.{Lists, of_kind, all_kinds}
+use Rattle.trial_journal.proofs.EachKind.{kinds_either, with_there, with_other, same_each, before, after, split_with, split_own}
 use Rattle.assign_search.specs.declared.spots.Child.{Child}
-use Rattle.assign_search.specs.Walking.{OpenPick, HasOpen, AllOpen, HasOpenList, IsOpenCoord, IsChild, NoChild, coord_of, list_at, put_in, lists_holding, trial}
+use Rattle.assign_search.specs.Walking.{OpenPick, HasOpen, AllOpen, HasOpenList, IsOpenCoord, IsChild, NoChild, coord_of, put_in, lists_holding, trial}
 use Rattle.assign_search.proofs.Held.{held_of}
 use Rattle.assign_search.proofs.Touching.{contains_later}
 
@@ -77,9 +77,9 @@ lists_same a b same movers h = all_weaker (HasOpenList a) (HasOpenList b) (λ re
     one reqs (inl e) = inl e
     one reqs (inr (k, list, read, each)) = inr (k, list, read, all_open_same a b same list each)
 
--- the resources of all four lists
+-- the resources of all the lists
 abbrev pub lists_res : Lists → List Res
-lists_res l = res_list (l.port ++ l.irq ++ l.mem ++ l.dma)
+lists_res l = res_list (all_kinds l)
 
 -- the lists with these placed
 abbrev pub board_of : Lists → List Place → Lists
@@ -87,30 +87,22 @@ board_of base [] = base
 board_of base (p ∷ placed) = lists_holding (board_of base placed) (Some (res_of p))
 
 -- the pairs after a put are the pair and those before
-in_end : (b xs : List Pair) (p : Pair) → IsPermutation (p ∷ (b ++ xs)) (b ++ pairs_with xs p)
-in_end b xs p = IsPermutation-trans (p ∷ (b ++ xs)) (b ++ p ∷ xs) (b ++ pairs_with xs p)
-    (IsPermutation-sym (b ++ p ∷ xs) (p ∷ (b ++ xs)) (IsPermutation-middle b p xs))
-    (IsPermutation-append_right b (p ∷ xs) (pairs_with xs p) (with_permutation xs p))
+in_part : (b xs a : List Pair) (p : Pair) → IsPermutation (p ∷ (b ++ (xs ++ a))) (b ++ (pairs_with xs p ++ a))
+in_part b xs a p =
+    IsPermutation-trans (p ∷ (b ++ (xs ++ a))) (b ++ p ∷ (xs ++ a)) (b ++ (pairs_with xs p ++ a))
+    (IsPermutation-sym (b ++ p ∷ (xs ++ a)) (p ∷ (b ++ (xs ++ a))) (IsPermutation-middle b p (xs ++ a)))
+    (IsPermutation-append_right b (p ∷ (xs ++ a)) (pairs_with xs p ++ a) (IsPermutation-append_left a (p ∷ xs) (pairs_with xs p) (with_permutation xs p)))
 
-in_part : (b xs a : List Pair) (p : Pair) → IsPermutation (p ∷ (b ++ xs ++ a)) (b ++ pairs_with xs p ++ a)
-in_part b xs a p = IsPermutation-append_left a (p ∷ (b ++ xs)) (b ++ pairs_with xs p) (in_end b xs p)
+pub put_permutation : (l : Lists) (kind : Kind) (p : Pair) → IsPermutation (p ∷ all_kinds l) (all_kinds (put_in l kind p))
+put_permutation l kind p =
+    let here = in_part (flat_map (of_kind l) (before kind)) (of_kind l kind) (flat_map (of_kind l) (after kind)) p in
+    subst (λ ps. IsPermutation (p ∷ ps) (all_kinds (put_in l kind p))) (sym (split_own l kind))
+    (subst (IsPermutation (p ∷ (flat_map (of_kind l) (before kind) ++ (of_kind l kind ++ flat_map (of_kind l) (after kind))))) (sym (split_with l kind (pairs_with (of_kind l kind) p))) here)
 
-abbrev pub lists_pairs : Lists → List Pair
-lists_pairs l = l.port ++ l.irq ++ l.mem ++ l.dma
+pub length-put_in : (l : Lists) (kind : Kind) (p : Pair) → length (all_kinds (put_in l kind p)) ≡ length (all_kinds l) + 1
+length-put_in l kind p = let same = length_permutation (p ∷ all_kinds l) (all_kinds (put_in l kind p)) (put_permutation l kind p) in omega arith
 
-pub put_permutation : (l : Lists) (kind : Kind) (p : Pair) → IsPermutation (p ∷ lists_pairs l) (lists_pairs (put_in l kind p))
-put_permutation l Port p =
-    IsPermutation-append_left l.dma (p ∷ (l.port ++ l.irq ++ l.mem)) (pairs_with l.port p ++ l.irq ++ l.mem)
-    (IsPermutation-append_left l.mem (p ∷ (l.port ++ l.irq)) (pairs_with l.port p ++ l.irq) (in_part [] l.port l.irq p))
-put_permutation l Irq p =
-    IsPermutation-append_left l.dma (p ∷ (l.port ++ l.irq ++ l.mem)) (l.port ++ pairs_with l.irq p ++ l.mem) (in_part l.port l.irq l.mem p)
-put_permutation l Mem p = in_part (l.port ++ l.irq) l.mem l.dma p
-put_permutation l Dma p = in_end (l.port ++ l.irq ++ l.mem) l.dma p
-
-pub length-put_in : (l : Lists) (kind : Kind) (p : Pair) → length (lists_pairs (put_in l kind p)) ≡ length (lists_pairs l) + 1
-length-put_in l kind p = let same = length_permutation (p ∷ lists_pairs l) (lists_pairs (put_in l kind p)) (put_permutation l kind p) in omega arith
-
-pub length-holding : (l : Lists) (o : Option Res) → (length (lists_pairs l) ≤ length (lists_pairs (lists_holding l o))) × (length (lists_pairs (lists_holding l o)) ≤ length (lists_pairs l) + 1)
+pub length-holding : (l : Lists) (o : Option Res) → (length (all_kinds l) ≤ length (all_kinds (lists_holding l o))) × (length (all_kinds (lists_holding l o)) ≤ length (all_kinds l) + 1)
 length-holding l None = (omega arith, omega arith)
 length-holding l (Some r) = let more = length-put_in l r.kind (trial, r) in (omega arith, omega arith)
 
@@ -120,7 +112,7 @@ pub put_adds : (l : Lists) (r : Res) (x : Res) → (Contains (lists_res (lists_h
 put_adds l r x =
     let p : Pair = (trial, r) in
     let moved : IsPermutation (r ∷ lists_res l) (lists_res (put_in l r.kind p)) =
-    IsPermutation-map (λ (q : Pair). q.1) (p ∷ lists_pairs l) (lists_pairs (put_in l r.kind p)) (put_permutation l r.kind p) in (
+    IsPermutation-map (λ (q : Pair). q.1) (p ∷ all_kinds l) (all_kinds (put_in l r.kind p)) (put_permutation l r.kind p) in (
       λ inside. elim (contains_cons r (lists_res l) x (Contains-permutation (lists_res (put_in l r.kind p)) (r ∷ lists_res l) x
           (IsPermutation-sym (r ∷ lists_res l) (lists_res (put_in l r.kind p)) moved) inside)) [
             | inl e ↦ inr (sym e)
@@ -140,48 +132,37 @@ board_same base fixed (p ∷ placed) same =
     (board_same base fixed placed same) (put_adds (board_of base placed) (res_of p))
 
 -- a pair stands in the list of its kind once it is put in
-pub put_there : (l : Lists) (kind : Kind) (p : Pair) → Contains (list_at (put_in l kind p) kind) p
-put_there l kind p = Contains-permutation (p ∷ list_at l kind) (list_at (put_in l kind p) kind) p (at kind) (0, omega arith, refl)
-  where
-    at : (kind : Kind) → IsPermutation (p ∷ list_at l kind) (list_at (put_in l kind p) kind)
-    at Port = with_permutation l.port p
-    at Irq = with_permutation l.irq p
-    at Mem = with_permutation l.mem p
-    at Dma = with_permutation l.dma p
-
-lists_same_parts : (l m : Lists) → l.port ≡ m.port → l.irq ≡ m.irq → l.mem ≡ m.mem → l.dma ≡ m.dma → l ≡ m
-lists_same_parts l m a b c d =
-    subst (λ x. l ≡ record { port = x; irq = m.irq; mem = m.mem; dma = m.dma }) a
-    (subst (λ x. l ≡ record { port = l.port; irq = x; mem = m.mem; dma = m.dma }) b
-    (subst (λ x. l ≡ record { port = l.port; irq = l.irq; mem = x; dma = m.dma }) c
-    (subst (λ x. l ≡ record { port = l.port; irq = l.irq; mem = l.mem; dma = x }) d refl)))
+pub put_there : (l : Lists) (kind : Kind) (p : Pair) → Contains (of_kind (put_in l kind p) kind) p
+put_there l kind p =
+    subst (λ ps. Contains ps p) (sym (with_there l kind (pairs_with (of_kind l kind) p)))
+    (Contains-permutation (p ∷ of_kind l kind) (pairs_with (of_kind l kind) p) p (with_permutation (of_kind l kind) p) (0, omega arith, refl))
 
 -- what was put in and is taken away leaves the lists as they were
 pub put_once : (l m : Lists) (kind : Kind) (p : Pair) → put_in l kind p ≡ put_in m kind p → l ≡ m
-put_once l m Port p e = lists_same_parts l m (with_once l.port m.port p (ap (λ (x : Lists). x.port) e)) (ap (λ (x : Lists). x.irq) e) (ap (λ (x : Lists). x.mem) e) (ap (λ (x : Lists). x.dma) e)
-put_once l m Irq p e = lists_same_parts l m (ap (λ (x : Lists). x.port) e) (with_once l.irq m.irq p (ap (λ (x : Lists). x.irq) e)) (ap (λ (x : Lists). x.mem) e) (ap (λ (x : Lists). x.dma) e)
-put_once l m Mem p e = lists_same_parts l m (ap (λ (x : Lists). x.port) e) (ap (λ (x : Lists). x.irq) e) (with_once l.mem m.mem p (ap (λ (x : Lists). x.mem) e)) (ap (λ (x : Lists). x.dma) e)
-put_once l m Dma p e = lists_same_parts l m (ap (λ (x : Lists). x.port) e) (ap (λ (x : Lists). x.irq) e) (ap (λ (x : Lists). x.mem) e) (with_once l.dma m.dma p (ap (λ (x : Lists). x.dma) e))
+put_once l m kind p e = same_each l m (λ k. elim (kinds_either kind k) [
+  | inl same ↦ subst (λ i. of_kind l i ≡ of_kind m i) same own
+  | inr (apart, other) ↦ sym (with_other l kind k (pairs_with (of_kind l kind) p) other) ∙ at k ∙ with_other m kind k (pairs_with (of_kind m kind) p) other
+])
+  where
+    at : (k : Kind) → of_kind (put_in l kind p) k ≡ of_kind (put_in m kind p) k
+    at k = ap (λ (x : Lists). of_kind x k) e
+
+    own : of_kind l kind ≡ of_kind m kind
+    own = with_once (of_kind l kind) (of_kind m kind) p (sym (with_there l kind (pairs_with (of_kind l kind) p)) ∙ at kind ∙ with_there m kind (pairs_with (of_kind m kind) p))
 
 pub holding_once : (l m : Lists) (o : Option Res) → lists_holding l o ≡ lists_holding m o → l ≡ m
 holding_once l m None e = e
 holding_once l m (Some r) e = put_once l m r.kind (trial, r) e
 
 -- how many pairs there are after a release, and after a put
-pub fewer : (l m : Lists) (o : Option Res) (n : ℕ) → lists_holding l o ≡ m → length (lists_pairs m) ≤ n → length (lists_pairs l) ≤ n
+pub fewer : (l m : Lists) (o : Option Res) (n : ℕ) → lists_holding l o ≡ m → length (all_kinds m) ≤ n → length (all_kinds l) ≤ n
 fewer l m o n is few =
     let longer = length-holding l o in
-    let same : length (lists_pairs (lists_holding l o)) ≡ length (lists_pairs m) = ap (λ x. length (lists_pairs x)) is in
+    let same : length (all_kinds (lists_holding l o)) ≡ length (all_kinds m) = ap (λ x. length (all_kinds x)) is in
     omega arith
 
-pub more : (l m : Lists) (o : Option Res) (n count : ℕ) → m ≡ lists_holding l o → length (lists_pairs l) ≤ n + count → length (lists_pairs m) ≤ n + (count + 1)
+pub more : (l m : Lists) (o : Option Res) (n count : ℕ) → m ≡ lists_holding l o → length (all_kinds l) ≤ n + count → length (all_kinds m) ≤ n + (count + 1)
 more l m o n count is few =
     let longer = length-holding l o in
-    let same : length (lists_pairs m) ≡ length (lists_pairs (lists_holding l o)) = ap (λ x. length (lists_pairs x)) is in
+    let same : length (all_kinds m) ≡ length (all_kinds (lists_holding l o)) = ap (λ x. length (all_kinds x)) is in
     omega arith
-
-pub at_kind : (a : Arbiters) (kind : Kind) → list_at (lists_of a) kind ≡ (of_kind a kind).pairs
-at_kind a Port = refl
-at_kind a Irq = refl
-at_kind a Mem = refl
-at_kind a Dma = refl

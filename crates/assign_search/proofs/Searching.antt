@@ -6,14 +6,14 @@ use Rattle.resource_reqs.specs.Resources.{Res, Reqs, Group}
 use Rattle.resource_reqs.specs.Spelling.{Coord, alt, Place, res_of, Point, next_in, next, after, root, CleanPlaces, LiveAt, Clean, Live, Complete, IsFound, IsNoFit, IsAnswer, spent}
 use Rattle.resource_reqs.proofs.Points.{after-append, live_prefix}
 use Rattle.resource_reqs.proofs.Front.{Front, UpTo, NothingFrom, start, found, descend, dead, back, ends_no_fit, ends_found, ends_spent, ends_at_once, ends_empty}
-use Rattle.trial_journal.specs.Four.{Lists}
+use Rattle.trial_journal.specs.ByKind.{Lists, of_kind}
 use Rattle.assign_search.specs.declared.spots.Spot.{Spot}
 use Rattle.assign_search.specs.declared.spots.Spot.TheVariants.{Between}
 use Rattle.assign_search.specs.declared.spots.Step.{Step}
 use Rattle.assign_search.specs.declared.spots.Step.TheVariants.{Alt}
 use Rattle.assign_search.specs.declared.spots.Child.{Child}
 use Rattle.assign_search.specs.declared.spots.Frame.{Frame}
-use Rattle.assign_search.specs.Walking.{coord_of, coords, groups_at, movers_at, point_at, IsSpot, IsOpenCoord, Goes, IsChild, NoChild, NextOpen, HasOpen, AllOpen, HasOpenList, Adds, list_at, lists_holding, trial}
+use Rattle.assign_search.specs.Walking.{coord_of, coords, groups_at, movers_at, point_at, IsSpot, IsOpenCoord, Goes, IsChild, NoChild, NextOpen, HasOpen, AllOpen, HasOpenList, Adds, lists_holding, trial}
 use Rattle.assign_search.specs.Watching.{Within}
 use Rattle.assign_search.proofs.Held.{held_of, clean_of_open, live_of_open, open_of_live, open_at, later_next, groups_next}
 use Rattle.assign_search.proofs.SameHeld.{SameSet, lists_res, board_of, board_same, child_same, no_child_same, all_open_same, lists_same, same_back, put_there, holding_once}
@@ -327,13 +327,13 @@ back_to fixed ms base same_base path f lists lists' spot from count inv none rel
     }
 
 -- what was put in is held
-pub there : (l m : Lists) (o : Option Res) → m ≡ lists_holding l o → (r : Res) → o ≡ Some r → Contains (list_at m r.kind) (trial, r)
+pub there : (l m : Lists) (o : Option Res) → m ≡ lists_holding l o → (r : Res) → o ≡ Some r → Contains (of_kind m r.kind) (trial, r)
 there l m o is r some =
-    subst (λ (x : Lists). Contains (list_at x r.kind) (trial, r)) (sym (is ∙ ap (lists_holding l) some)) (put_there l r.kind (trial, r))
+    subst (λ (x : Lists). Contains (of_kind x r.kind) (trial, r)) (sym (is ∙ ap (lists_holding l) some)) (put_there l r.kind (trial, r))
 
 -- what the last frame placed is held
 pub last_there : (fixed : List Res) (ms : List Reqs) (base : Lists) (path : List Frame) (f : Frame) (lists : Lists) (spot : Spot) (from : Step) (count : ℕ)
-    → Inv fixed ms base (path ++ f ∷ []) lists spot from count → (r : Res) → f.res ≡ Some r → Contains (list_at lists r.kind) (trial, r)
+    → Inv fixed ms base (path ++ f ∷ []) lists spot from count → (r : Res) → f.res ≡ Some r → Contains (of_kind lists r.kind) (trial, r)
 last_there fixed ms base path f lists spot from count inv =
     let last = last_of fixed ms base path f lists spot from count inv in there (board_of base last.before) lists f.res last.holds
 

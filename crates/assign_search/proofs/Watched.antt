@@ -7,7 +7,7 @@ use Rattle.std.proofs.lemmas.Bool.{cases_eq}
 use native.Mathlib.Decide.{dec_lt}
 use Rattle.std.proofs.lemmas.List.Elements.{All-contains, Contains-append_left, Contains-push}
 use Rattle.resource_reqs.specs.Resources.{Res, Clash, Free, Group, AltList, Reqs, res_at}
-use Rattle.trial_journal.specs.Four.{Lists}
+use Rattle.trial_journal.specs.ByKind.{Lists}
 use Rattle.assign_search.specs.Walking.{HasOpen, AllOpen, HasOpenList, Adds, lists_holding}
 use Rattle.assign_search.specs.Watching.{IsPlaceOf, IsHit, LeavesFree, WatchesList, Watches, AllWatched, AddsStep, Within}
 use Rattle.assign_search.proofs.Touching.{free_from}

@@ -4,11 +4,10 @@ use Rattle.std.specs.List.{AllByRecursion}
 use Rattle.resource_reqs.specs.Resources.{Res, Want, IsOpen, Group, AltList, Reqs, res_at}
 use Rattle.resource_reqs.specs.Spelling.{Coord, alt, place, Less, Place, Point, choose, next_in}
 use Rattle.resource_reqs.specs.declared.kind.Kind.{Kind}
-use Rattle.resource_reqs.specs.declared.kind.Kind.TheVariants.{Port, Irq, Mem, Dma}
 use Rattle.resource_reqs.specs.declared.owner.Owner.{Owner}
 use Rattle.resource_reqs.specs.declared.owner.Owner.TheVariants.{Device}
 use Rattle.range_arbiter.specs.Pairs.{Pair, pairs_with, res_list}
-use Rattle.trial_journal.specs.Four.{Arbiters, Lists, all_pairs}
+use Rattle.trial_journal.specs.ByKind.{Arbiters, Lists, of_kind, with_kind, all_pairs}
 use Rattle.assign_search.specs.declared.spots.Step.{Step}
 use Rattle.assign_search.specs.declared.spots.Step.TheVariants.{Alt, At}
 use Rattle.assign_search.specs.declared.spots.Spot.{Spot}
@@ -16,7 +15,7 @@ use Rattle.assign_search.specs.declared.spots.Spot.TheVariants.{Between, Inside}
 use Rattle.assign_search.specs.declared.spots.Child.{Child}
 use Rattle.assign_search.specs.declared.spots.Frame.{Frame}
 
--- the resources that all four arbiters hold
+-- the resources that all arbiters hold
 abbrev pub held_in : Arbiters → List Res
 held_in a = res_list (all_pairs a)
 
@@ -143,19 +142,9 @@ plan_in ([] ∷ movers) fs = [] ∷ plan_in movers fs
 plan_in ((list ∷ lists) ∷ movers) [] = [] ∷ plan_in movers []
 plan_in ((list ∷ lists) ∷ movers) (f ∷ fs) = places_of fs ∷ plan_in movers (rest_of fs)
 
--- the list of a kind
-abbrev pub list_at : Lists → Kind → List Pair
-list_at l Port = l.port
-list_at l Irq = l.irq
-list_at l Mem = l.mem
-list_at l Dma = l.dma
-
 -- a pair put into the list of its kind
 abbrev pub put_in : Lists → Kind → Pair → Lists
-put_in l Port p = record l { port = pairs_with l.port p }
-put_in l Irq p = record l { irq = pairs_with l.irq p }
-put_in l Mem p = record l { mem = pairs_with l.mem p }
-put_in l Dma p = record l { dma = pairs_with l.dma p }
+put_in lists kind p = with_kind lists kind (pairs_with (of_kind lists kind) p)
 
 -- the owner of what a trial places: no device has this serial, and it is the last in the order of owners
 abbrev pub trial : Owner

@@ -1,6 +1,6 @@
 ghost use Rattle.std.specs.Prelude.{◌≡◌, ◌<◌, ◌+◌, ◌^◌, length, Contains, OnOk, OnErr};
 ghost use Rattle.std.specs.Option.{ForSome};
-ghost use Rattle.trial_journal.specs.Four.{of_kind, all_pairs, lists_of};
+ghost use Rattle.trial_journal.specs.ByKind.{of_kind, all_pairs, lists_of};
 ghost use Rattle.assign_search.specs.Walking.{put_in, lists_holding, trial};
 
 use resource_reqs::{Owner, Res, WantOfMemory};

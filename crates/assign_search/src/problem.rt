@@ -1,8 +1,8 @@
-ghost use Rattle.std.specs.Prelude.{◌≡◌, ◌≤◌, ◌<◌, ◌+◌, ◌^◌, ◌++◌, false, length, map, IfOk, OnOk, IsPermutation};
+ghost use Rattle.std.specs.Prelude.{◌≡◌, ◌≤◌, ◌<◌, ◌+◌, ◌*◌, ◌^◌, ◌++◌, false, length, map, IfOk, OnOk, IsPermutation};
 ghost use Rattle.std.specs.List.Sorted.{IsNonDecreasing};
 ghost use Rattle.resource_reqs.specs.declared.kind.Kind.{Kind};
 ghost use Rattle.resource_reqs.specs.Spelling.{IsAnswer};
-ghost use Rattle.trial_journal.specs.Four.{of_kind, all_pairs, lists_of};
+ghost use Rattle.trial_journal.specs.ByKind.{of_kind, all_pairs, lists_of};
 ghost use Rattle.assign_search.specs.Fixed.{serial_of, reqs_of, is_mover, fixed_pairs, has_moving, fixed_of, answer_of};
 
 use crate::board::add;
@@ -69,6 +69,7 @@ fn has_moving(arbiters: &Arbiters, serials: &[u64]) -> bool
         || has_moving_of(arbiters, serials, Kind::Irq)
         || has_moving_of(arbiters, serials, Kind::Mem)
         || has_moving_of(arbiters, serials, Kind::Dma)
+        || has_moving_of(arbiters, serials, Kind::Bus)
 }
 
 /// Puts on a board what the arbiter of a kind holds for none of these serials.
@@ -102,13 +103,14 @@ fn fixed_board(
     requires ascending { IsNonDecreasing serials.now }
     requires few { (kind : Kind) → length (of_kind arbiters.now kind).pairs ≤ 2 ^ 29 }
     ensures fixed { IfOk result (λ board. IsPermutation (fixed_pairs serials.now (all_pairs arbiters.now)) (all_pairs board)) }
-    ensures few { IfOk result (λ board. length (all_pairs board) ≤ 2 ^ 31) }
+    ensures few { IfOk result (λ board. length (all_pairs board) ≤ 5 * 2 ^ 29) }
 {
     let mut board = Arbiters::new(alloc)?;
     copy_fixed(arbiters, &mut board, serials, Kind::Port)?;
     copy_fixed(arbiters, &mut board, serials, Kind::Irq)?;
     copy_fixed(arbiters, &mut board, serials, Kind::Mem)?;
     copy_fixed(arbiters, &mut board, serials, Kind::Dma)?;
+    copy_fixed(arbiters, &mut board, serials, Kind::Bus)?;
     Ok(board)
 }
 

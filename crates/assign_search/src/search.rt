@@ -1,7 +1,7 @@
 ghost use Rattle.std.specs.Prelude.{◌≡◌, ◌↔◌, ◌<◌, ◌+◌, ◌^◌, ◌++◌, ◌∷◌, List, [], length, map, Contains, IfOk, OnOk, OnErr, IsTrue, Some, None};
 ghost use Rattle.std.specs.List.{AllByRecursion};
 ghost use Rattle.std.specs.Option.{ForSome};
-ghost use Rattle.trial_journal.specs.Four.{of_kind, all_pairs, lists_of, Lists};
+ghost use Rattle.trial_journal.specs.ByKind.{of_kind, all_pairs, lists_of, Lists};
 ghost use Rattle.resource_reqs.specs.Resources.{Res};
 ghost use Rattle.resource_reqs.specs.Spelling.{IsAnswer};
 ghost use Rattle.assign_search.specs.Fixed.{reqs_of, answer_of};

@@ -3,12 +3,12 @@ use Rattle.std.proofs.Common.{◌≡◌, ℕ, ◌+◌, ◌≤◌, ◌^◌, ◌==
 use Rattle.std.proofs.lemmas.Bool.Decides.{nat_tests}
 use Rattle.std.proofs.lemmas.List.{append_assoc, length-map}
 use Rattle.resource_reqs.specs.declared.kind.Kind.{Kind}
-use Rattle.resource_reqs.specs.declared.kind.Kind.TheVariants.{Port, Irq, Mem, Dma}
+use Rattle.resource_reqs.specs.declared.kind.Kind.TheVariants.{Port, Irq, Mem, Dma, Bus}
 use Rattle.resource_reqs.specs.declared.owner.Owner.TheVariants.{Reserved, Device}
 use Rattle.resource_reqs.specs.Resources.{Res}
 use Rattle.range_arbiter.specs.Pairs.{Pair}
-use Rattle.trial_journal.specs.Four.{Arbiters, of_kind, lists_of, arbiters_with}
-use Rattle.assign_search.specs.Walking.{list_at, put_in}
+use Rattle.trial_journal.specs.ByKind.{Arbiters, of_kind, lists_of, arbiters_with}
+use Rattle.assign_search.specs.Walking.{put_in}
 use Rattle.pnp_model.specs.Keyed.{changed_first, without_first}
 use Rattle.pnp_model.specs.Cores.{is_node, node_at, bare, with_holds}
 use Rattle.pnp_model.specs.Records.{Node}
@@ -115,8 +115,8 @@ module _ (reserved : List Res) (k : ℕ) (nodes : List Node) (held : List Res) (
         lists = left ∙ sym (held_changed bare (λ n. refl) k reserved nodes ∙ ap (λ l. lists_with (pairs_of (Device k) l ++ pairs_beside reserved k nodes)) (none_held (node_at k nodes)));
         few = λ kind.
             let longer = longer_with (pairs_of (Device k) held) (pairs_beside reserved k nodes) kind in
-            let before : length (list_at (lists_of a) kind) ≡ length (list_at (lists_with (pairs_of (Device k) held ++ pairs_beside reserved k nodes)) kind) = ap (λ l. length (list_at l kind)) own_first in
-            let after : length (list_at (lists_of b) kind) ≡ length (list_at (lists_with (pairs_beside reserved k nodes)) kind) = ap (λ l. length (list_at l kind)) left in
+            let before : length (of_kind (lists_of a) kind) ≡ length (of_kind (lists_with (pairs_of (Device k) held ++ pairs_beside reserved k nodes)) kind) = ap (λ l. length (of_kind l kind)) own_first in
+            let after : length (of_kind (lists_of b) kind) ≡ length (of_kind (lists_with (pairs_beside reserved k nodes)) kind) = ap (λ l. length (of_kind l kind)) left in
             let few = m.few kind in omega arith;
       }
 
@@ -128,17 +128,17 @@ module _ (reserved : List Res) (k : ℕ) (nodes : List Node) (held : List Res) (
         ∙ blocks_swapped (pairs_of (Device k) holds) (pairs_of (Device k) held) (pairs_beside reserved k nodes)
 
     -- no list is longer then than by these
-    pub longer : (d : Arbiters) → Loses k held b d → (kind : Kind) → length (list_at (lists_of d) kind) ≤ length (list_at (lists_of a) kind) + length holds
+    pub longer : (d : Arbiters) → Loses k held b d → (kind : Kind) → length (of_kind (lists_of d) kind) ≤ length (of_kind (lists_of a) kind) + length holds
     longer d loses kind =
         let left : lists_of d ≡ lists_with (pairs_of (Device k) holds ++ pairs_beside reserved k nodes) = loses (pairs_of (Device k) holds ++ pairs_beside reserved k nodes) old_first in
         let fewer = longer_with (pairs_of (Device k) held) (pairs_beside reserved k nodes) kind in
         let more = longer_with (pairs_of (Device k) holds) (pairs_beside reserved k nodes) kind in
-        let before : length (list_at (lists_of a) kind) ≡ length (list_at (lists_with (pairs_of (Device k) held ++ pairs_beside reserved k nodes)) kind) = ap (λ l. length (list_at l kind)) own_first in
-        let after : length (list_at (lists_of d) kind) ≡ length (list_at (lists_with (pairs_of (Device k) holds ++ pairs_beside reserved k nodes)) kind) = ap (λ l. length (list_at l kind)) left in
+        let before : length (of_kind (lists_of a) kind) ≡ length (of_kind (lists_with (pairs_of (Device k) held ++ pairs_beside reserved k nodes)) kind) = ap (λ l. length (of_kind l kind)) own_first in
+        let after : length (of_kind (lists_of d) kind) ≡ length (of_kind (lists_with (pairs_of (Device k) holds ++ pairs_beside reserved k nodes)) kind) = ap (λ l. length (of_kind l kind)) left in
         let pairs : length (pairs_of (Device k) holds) ≡ length holds = length-map holds (λ res. (Device k, res)) in
         omega arith
 
-    pub assigned : IsSome (node_at k nodes) → ((kind : Kind) → length (list_at (lists_of a) kind) + length holds ≤ 2 ^ 29) → (d : Arbiters) → Loses k held b d
+    pub assigned : IsSome (node_at k nodes) → ((kind : Kind) → length (of_kind (lists_of a) kind) + length holds ≤ 2 ^ 29) → (d : Arbiters) → Loses k held b d
         → Mirrors reserved (changed_first (is_node k) (with_holds holds) nodes) d
     assigned there room d loses =
         let left : lists_of d ≡ lists_with (pairs_of (Device k) holds ++ pairs_beside reserved k nodes) = loses (pairs_of (Device k) holds ++ pairs_beside reserved k nodes) old_first in record {
@@ -147,7 +147,7 @@ module _ (reserved : List Res) (k : ℕ) (nodes : List Node) (held : List Res) (
         }
 
 pub reserved_more : (reserved : List Res) (res : Res) (nodes : List Node) (a b : Arbiters) → b ≡ arbiters_with a (Reserved, res)
-    → ((kind : Kind) → length (list_at (lists_of a) kind) + 1 ≤ 2 ^ 29) → Mirrors reserved nodes a → Mirrors (reserved ++ res ∷ []) nodes b
+    → ((kind : Kind) → length (of_kind (lists_of a) kind) + 1 ≤ 2 ^ 29) → Mirrors reserved nodes a → Mirrors (reserved ++ res ∷ []) nodes b
 reserved_more reserved res nodes a b put room m =
     let with_one : lists_of b ≡ lists_with ((Reserved, res) ∷ held_pairs reserved nodes) = ap lists_of put ∙ lists_put a (Reserved, res) ∙ ap (λ l. put_in l res.kind (Reserved, res)) m.lists in
     let at_end : held_pairs (reserved ++ res ∷ []) nodes ≡ pairs_of Reserved reserved ++ (Reserved, res) ∷ node_pairs nodes =
@@ -155,8 +155,8 @@ reserved_more reserved res nodes a b put room m =
       lists = with_one ∙ sym (ap lists_with at_end ∙ from_middle (pairs_of Reserved reserved) (Reserved, res) (node_pairs nodes));
       few = λ kind.
           let longer = longer_with ((Reserved, res) ∷ []) (held_pairs reserved nodes) kind in
-          let before : length (list_at (lists_of a) kind) ≡ length (list_at (lists_with (held_pairs reserved nodes)) kind) = ap (λ l. length (list_at l kind)) m.lists in
-          let after : length (list_at (lists_of b) kind) ≡ length (list_at (lists_with ((Reserved, res) ∷ held_pairs reserved nodes)) kind) = ap (λ l. length (list_at l kind)) with_one in
+          let before : length (of_kind (lists_of a) kind) ≡ length (of_kind (lists_with (held_pairs reserved nodes)) kind) = ap (λ l. length (of_kind l kind)) m.lists in
+          let after : length (of_kind (lists_of b) kind) ≡ length (of_kind (lists_with ((Reserved, res) ∷ held_pairs reserved nodes)) kind) = ap (λ l. length (of_kind l kind)) with_one in
           let few = room kind in omega arith;
     }
 
@@ -188,13 +188,14 @@ mirrors_left reserved nodes k a none m = record {
 -- nothing is held by anybody
 pub mirrors_none : (nodes : List Node) (a : Arbiters) → node_pairs nodes ≡ [] → ((kind : Kind) → of_kind a kind ≡ record { kind = kind; pairs = []; spare = 0 }) → Mirrors [] nodes a
 mirrors_none nodes a none new =
-    let lists : lists_of a ≡ lists_with [] = λ t. record { port = (new Port t).pairs; irq = (new Irq t).pairs; mem = (new Mem t).pairs; dma = (new Dma t).pairs } in record {
+    let lists : lists_of a ≡ lists_with [] = λ t. record { port = (new Port t).pairs; irq = (new Irq t).pairs; mem = (new Mem t).pairs; dma = (new Dma t).pairs; bus = (new Bus t).pairs } in record {
       lists = lists ∙ ap lists_with (sym none);
-      few = λ kind. subst (λ l. length (list_at l kind) ≤ 2 ^ 29) (sym lists) (no_pairs kind);
+      few = λ kind. subst (λ l. length (of_kind l kind) ≤ 2 ^ 29) (sym lists) (no_pairs kind);
     }
   where
-    no_pairs : (kind : Kind) → length (list_at (lists_with []) kind) ≤ 2 ^ 29
+    no_pairs : (kind : Kind) → length (of_kind (lists_with []) kind) ≤ 2 ^ 29
     no_pairs Port = omega arith
     no_pairs Irq = omega arith
     no_pairs Mem = omega arith
     no_pairs Dma = omega arith
+    no_pairs Bus = omega arith

@@ -10,9 +10,9 @@ use Rattle.resource_reqs.specs.Resources.{Res, Reqs}
 use Rattle.resource_reqs.specs.Spelling.{Answer, IsAnswer}
 use Rattle.resource_reqs.proofs.Counts.{contains_cons}
 use Rattle.range_arbiter.specs.Pairs.{Pair, res_list}
-use Rattle.trial_journal.specs.Four.{Arbiters, all_pairs}
+use Rattle.trial_journal.specs.ByKind.{Arbiters, all_kinds, all_pairs}
 use Rattle.assign_search.specs.Fixed.{is_mover, fixed_pairs, fixed_of}
-use Rattle.assign_search.proofs.SameHeld.{SameSet, lists_pairs}
+use Rattle.assign_search.proofs.SameHeld.{SameSet}
 use Rattle.assign_search.proofs.SameAnswers.{answer_same}
 use Rattle.assign_search.proofs.Touching.{contains_later}
 use Rattle.pnp_model.specs.Keyed.{those}
@@ -95,11 +95,11 @@ module _ (movers : List ℕ) where
 pub answered : (movers : List ℕ) (reqs : List Reqs) (budget : ℕ) (x : Answer) (reserved : List Res) (nodes : List Node) (a : Arbiters) → Mirrors reserved nodes a
     → IsAnswer (fixed_of movers (all_pairs a)) reqs budget x → IsAnswer (held_beside reserved nodes movers) reqs budget x
 answered movers reqs budget x reserved nodes a m is =
-    let here : IsAnswer (fixed_of movers (lists_pairs (lists_with (held_pairs reserved nodes)))) reqs budget x =
-    subst (λ l. IsAnswer (fixed_of movers (lists_pairs l)) reqs budget x) m.lists is in
+    let here : IsAnswer (fixed_of movers (all_kinds (lists_with (held_pairs reserved nodes)))) reqs budget x =
+    subst (λ l. IsAnswer (fixed_of movers (all_kinds l)) reqs budget x) m.lists is in
     subst (λ fixed. IsAnswer fixed reqs budget x) (fixed_is movers reserved nodes)
-    (answer_same (fixed_of movers (lists_pairs (lists_with (held_pairs reserved nodes)))) (fixed_of movers (held_pairs reserved nodes))
-    (same_fixed movers (held_pairs reserved nodes) (lists_pairs (lists_with (held_pairs reserved nodes))) (permuted (held_pairs reserved nodes))) reqs budget x here)
+    (answer_same (fixed_of movers (all_kinds (lists_with (held_pairs reserved nodes)))) (fixed_of movers (held_pairs reserved nodes))
+    (same_fixed movers (held_pairs reserved nodes) (all_kinds (lists_with (held_pairs reserved nodes))) (permuted (held_pairs reserved nodes))) reqs budget x here)
 
 pub then_ok : {A E : Type 0} (r : Result A E) {P Q : A → Type 0} → ((x : A) → P x → Q x) → IfOk r P → IfOk r Q
 then_ok (Ok x) f p = f x p

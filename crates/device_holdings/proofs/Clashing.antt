@@ -1,14 +1,15 @@
 -- What clashes with a range: among the pairs of its kind, and among all.
-use Rattle.std.proofs.Common.{◌≡◌, Bool, true, false, cond, ◌||◌, List, [], ◌∷◌, ◌++◌, refl, sym, ap, ◌∙◌}
+use Rattle.std.proofs.Common.{◌≡◌, inl, inr, Bool, true, false, cond, ◌||◌, List, [], ◌∷◌, ◌++◌, refl, sym, ap, ◌∙◌}
 use Rattle.std.specs.List.{list_any}
 use Rattle.resource_reqs.specs.declared.kind.Kind.{Kind}
-use Rattle.resource_reqs.specs.declared.kind.Kind.TheVariants.{Port, Irq, Mem, Dma}
+use Rattle.resource_reqs.specs.declared.kind.Kind.TheVariants.{Port, Irq, Mem, Dma, Bus}
 use Rattle.resource_reqs.specs.declared.owner.Owner.{Owner}
 use Rattle.resource_reqs.specs.declared.owner.Owner.TheVariants.{Reserved, Device}
 use Rattle.resource_reqs.specs.Resources.{Res, clashes, same_kind}
 use Rattle.range_arbiter.specs.Pairs.{Pair, is_before, pairs_with, res_list}
-use Rattle.trial_journal.specs.Four.{Arbiters, Lists, lists_of}
-use Rattle.assign_search.specs.Walking.{list_at, put_in}
+use Rattle.trial_journal.specs.ByKind.{Arbiters, Lists, of_kind, lists_of}
+use Rattle.trial_journal.proofs.EachKind.{with_at}
+use Rattle.assign_search.specs.Walking.{put_in}
 use Rattle.pnp_model.specs.Frames.{held_by}
 use Rattle.pnp_model.specs.Records.{Node}
 use Rattle.device_holdings.specs.Mirrors.{pairs_of, node_pairs, held_pairs, lists_with, Mirrors}
@@ -33,32 +34,23 @@ other_kind : (r : Res) (p : Pair) (k j : Kind) → r.kind ≡ k → p.1.kind ≡
 other_kind r p k j e f b apart = rw (e, f, apart) refl
 
 any_in : (r : Res) (l : Lists) (p : Pair) (k j : Kind) → r.kind ≡ k → p.1.kind ≡ j
-    → list_any (clashes r) (res_list (list_at (put_in l j p) k)) ≡ (clashes r p.1 || list_any (clashes r) (res_list (list_at l k)))
-any_in r l p Port Port e f = any_put (clashes r) l.port p
-any_in r l p Irq Irq e f = any_put (clashes r) l.irq p
-any_in r l p Mem Mem e f = any_put (clashes r) l.mem p
-any_in r l p Dma Dma e f = any_put (clashes r) l.dma p
-any_in r l p Port Irq e f = sym (other_kind r p Port Irq e f (list_any (clashes r) (res_list l.port)) refl)
-any_in r l p Port Mem e f = sym (other_kind r p Port Mem e f (list_any (clashes r) (res_list l.port)) refl)
-any_in r l p Port Dma e f = sym (other_kind r p Port Dma e f (list_any (clashes r) (res_list l.port)) refl)
-any_in r l p Irq Port e f = sym (other_kind r p Irq Port e f (list_any (clashes r) (res_list l.irq)) refl)
-any_in r l p Irq Mem e f = sym (other_kind r p Irq Mem e f (list_any (clashes r) (res_list l.irq)) refl)
-any_in r l p Irq Dma e f = sym (other_kind r p Irq Dma e f (list_any (clashes r) (res_list l.irq)) refl)
-any_in r l p Mem Port e f = sym (other_kind r p Mem Port e f (list_any (clashes r) (res_list l.mem)) refl)
-any_in r l p Mem Irq e f = sym (other_kind r p Mem Irq e f (list_any (clashes r) (res_list l.mem)) refl)
-any_in r l p Mem Dma e f = sym (other_kind r p Mem Dma e f (list_any (clashes r) (res_list l.mem)) refl)
-any_in r l p Dma Port e f = sym (other_kind r p Dma Port e f (list_any (clashes r) (res_list l.dma)) refl)
-any_in r l p Dma Irq e f = sym (other_kind r p Dma Irq e f (list_any (clashes r) (res_list l.dma)) refl)
-any_in r l p Dma Mem e f = sym (other_kind r p Dma Mem e f (list_any (clashes r) (res_list l.dma)) refl)
+    → list_any (clashes r) (res_list (of_kind (put_in l j p) k)) ≡ (clashes r p.1 || list_any (clashes r) (res_list (of_kind l k)))
+any_in r l p k j e f = elim (with_at l j k (pairs_with (of_kind l j) p)) [
+  | inl (same, here) ↦
+      ap (λ (qs : List Pair). list_any (clashes r) (res_list qs)) here ∙ any_put (clashes r) (of_kind l j) p ∙ ap (λ i. clashes r p.1 || list_any (clashes r) (res_list (of_kind l i))) same
+  | inr (apart, there) ↦
+      ap (λ (qs : List Pair). list_any (clashes r) (res_list qs)) there ∙ sym (other_kind r p k j e f (list_any (clashes r) (res_list (of_kind l k))) apart)
+]
 
-none_empty : (r : Res) (k : Kind) → list_any (clashes r) (res_list (list_at (lists_with []) k)) ≡ false
+none_empty : (r : Res) (k : Kind) → list_any (clashes r) (res_list (of_kind (lists_with []) k)) ≡ false
 none_empty r Port = refl
 none_empty r Irq = refl
 none_empty r Mem = refl
 none_empty r Dma = refl
+none_empty r Bus = refl
 
 -- what clashes among all clashes among those of its kind
-any_with : (r : Res) (ps : List Pair) → list_any (clashes r) (res_list (list_at (lists_with ps) r.kind)) ≡ list_any (clashes r) (res_list ps)
+any_with : (r : Res) (ps : List Pair) → list_any (clashes r) (res_list (of_kind (lists_with ps) r.kind)) ≡ list_any (clashes r) (res_list ps)
 any_with r [] = none_empty r r.kind
 any_with r (p ∷ ps) = any_in r (lists_with ps) p r.kind p.1.kind refl refl ∙ ap (λ b. clashes r p.1 || b) (any_with r ps)
 
@@ -80,6 +72,6 @@ res_held : (reserved : List Res) (nodes : List Node) → res_list (held_pairs re
 res_held reserved nodes = res_append (pairs_of Reserved reserved) (node_pairs nodes) ∙ (λ t. res_own Reserved reserved t ++ res_nodes nodes t)
 
 pub in_use : (r : Res) (reserved : List Res) (nodes : List Node) (a : Arbiters) → Mirrors reserved nodes a
-    → list_any (clashes r) (res_list (list_at (lists_of a) r.kind)) ≡ list_any (clashes r) (reserved ++ held_by nodes)
+    → list_any (clashes r) (res_list (of_kind (lists_of a) r.kind)) ≡ list_any (clashes r) (reserved ++ held_by nodes)
 in_use r reserved nodes a m =
-    ap (λ l. list_any (clashes r) (res_list (list_at l r.kind))) m.lists ∙ any_with r (held_pairs reserved nodes) ∙ ap (list_any (clashes r)) (res_held reserved nodes)
+    ap (λ l. list_any (clashes r) (res_list (of_kind l r.kind))) m.lists ∙ any_with r (held_pairs reserved nodes) ∙ ap (list_any (clashes r)) (res_held reserved nodes)

@@ -3,7 +3,7 @@ use Rattle.std.proofs.Common.{◌≡◌, ℕ, zero, suc, ◌+◌, ◌-◌, ◌<�
 use Rattle.std.proofs.lemmas.Bool.Decides.{nat_tests}
 use Rattle.std.proofs.lemmas.List.Sums.{sum_by_push}
 use Rattle.resource_reqs.specs.Resources.{Res}
-use Rattle.trial_journal.specs.Four.{Arbiters}
+use Rattle.trial_journal.specs.ByKind.{Arbiters}
 use Rattle.pnp_model.specs.Keyed.{changed_first}
 use Rattle.pnp_model.specs.Cores.{is_node, node_at, serials_of, with_holds}
 use Rattle.pnp_model.specs.Records.{Node}

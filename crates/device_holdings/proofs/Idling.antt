@@ -8,10 +8,9 @@ use Rattle.resource_reqs.specs.declared.owner.Owner.{Owner}
 use Rattle.resource_reqs.specs.declared.owner.Owner.TheVariants.{Reserved, Device}
 use Rattle.resource_reqs.specs.Resources.{Res}
 use Rattle.range_arbiter.specs.Pairs.{Pair}
-use Rattle.trial_journal.specs.Four.{Arbiters, all_pairs}
+use Rattle.trial_journal.specs.ByKind.{Arbiters, all_kinds, all_pairs}
 use Rattle.assign_search.specs.Fixed.{is_mover, has_moving}
 use Rattle.assign_search.proofs.Fixing.{any_means}
-use Rattle.assign_search.proofs.SameHeld.{lists_pairs}
 use Rattle.pnp_model.specs.Cores.{node_at, serials_of}
 use Rattle.pnp_model.specs.Records.{Node}
 use Rattle.devnode_tree.specs.Trees.{Ascends}
@@ -65,6 +64,6 @@ module _ (movers : List ℕ) where
 
   pub none_moving : (reserved : List Res) (nodes : List Node) (a : Arbiters) → Mirrors reserved nodes a → AreIdle movers nodes → has_moving movers (all_pairs a) ≡ false
   none_moving reserved nodes a m idle =
-      ap (λ l. has_moving movers (lists_pairs l)) m.lists
-      ∙ sym (list_any-IsPermutation (λ (p : Pair). is_mover movers p.0) (held_pairs reserved nodes) (lists_pairs (lists_with (held_pairs reserved nodes))) (permuted (held_pairs reserved nodes)))
+      ap (λ l. has_moving movers (all_kinds l)) m.lists
+      ∙ sym (list_any-IsPermutation (λ (p : Pair). is_mover movers p.0) (held_pairs reserved nodes) (all_kinds (lists_with (held_pairs reserved nodes))) (permuted (held_pairs reserved nodes)))
       ∙ moving_own Reserved reserved (node_pairs nodes) (inr refl) (moving_nodes nodes idle)

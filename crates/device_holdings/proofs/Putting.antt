@@ -1,17 +1,19 @@
--- Pairs that are put into the four lists: in any order they give the same lists.
+-- Pairs that are put into the lists: in any order they give the same lists.
 use Rattle.std.proofs.Common.{◌≡◌, ℕ, zero, suc, ◌≤◌, ◌+◌, List, [], ◌∷◌, ◌++◌, take, drop, length, slice_get, Some, None, Contains, refl, sym, ap, ◌∙◌, subst, arith}
 use Rattle.std.specs.Prelude.{IsPermutation}
 use Rattle.std.proofs.lemmas.List.{append_assoc}
 use Rattle.std.proofs.lemmas.List.Sorted.{IsPermutation-refl, IsPermutation-cons, IsPermutation-trans}
 use Rattle.resource_reqs.specs.declared.kind.Kind.{Kind}
-use Rattle.resource_reqs.specs.declared.kind.Kind.TheVariants.{Port, Irq, Mem, Dma}
+use Rattle.resource_reqs.specs.declared.kind.Kind.TheVariants.{Port, Irq, Mem, Dma, Bus}
 use Rattle.resource_reqs.specs.declared.owner.Owner.{Owner}
 use Rattle.resource_reqs.specs.Resources.{Res}
-use Rattle.range_arbiter.specs.Pairs.{Pair}
+use Rattle.range_arbiter.specs.Pairs.{Pair, Arbiter, pairs_with}
 use Rattle.range_arbiter.proofs.PairLists.{with_swapped, length-pairs_with}
-use Rattle.trial_journal.specs.Four.{Arbiters, Lists, lists_of, of_kind, with_kind, arbiter_with, arbiters_with}
-use Rattle.assign_search.specs.Walking.{list_at, put_in}
-use Rattle.assign_search.proofs.SameHeld.{lists_pairs, put_permutation, put_once, put_there, at_kind}
+use Rattle.trial_journal.specs.ByKind.{Arbiters, Lists, all_kinds, lists_of, of_kind, with_kind, arbiter_with, arbiters_with}
+use Rattle.trial_journal.proofs.EachKind.{at_each}
+use Rattle.trial_journal.proofs.KindsApart.{pairs_at}
+use Rattle.assign_search.specs.Walking.{put_in}
+use Rattle.assign_search.proofs.SameHeld.{put_permutation, put_once, put_there}
 use Rattle.device_holdings.specs.Mirrors.{pairs_of, lists_with}
 
 -- the order of two puts makes no difference
@@ -20,18 +22,8 @@ swapped l p q Port Port e f = ap (λ ps. record l { port = ps }) (with_swapped l
 swapped l p q Irq Irq e f = ap (λ ps. record l { irq = ps }) (with_swapped l.irq p q (e ∙ sym f))
 swapped l p q Mem Mem e f = ap (λ ps. record l { mem = ps }) (with_swapped l.mem p q (e ∙ sym f))
 swapped l p q Dma Dma e f = ap (λ ps. record l { dma = ps }) (with_swapped l.dma p q (e ∙ sym f))
-swapped l p q Port Irq e f = refl
-swapped l p q Port Mem e f = refl
-swapped l p q Port Dma e f = refl
-swapped l p q Irq Port e f = refl
-swapped l p q Irq Mem e f = refl
-swapped l p q Irq Dma e f = refl
-swapped l p q Mem Port e f = refl
-swapped l p q Mem Irq e f = refl
-swapped l p q Mem Dma e f = refl
-swapped l p q Dma Port e f = refl
-swapped l p q Dma Irq e f = refl
-swapped l p q Dma Mem e f = refl
+swapped l p q Bus Bus e f = ap (λ ps. record l { bus = ps }) (with_swapped l.bus p q (e ∙ sym f))
+swapped l p q _ _ e f = refl
 
 -- a pair from the middle, and a block of pairs, at the front
 pub from_middle : (xs : List Pair) (p : Pair) (ys : List Pair) → lists_with (xs ++ p ∷ ys) ≡ lists_with (p ∷ (xs ++ ys))
@@ -58,40 +50,28 @@ lists_put a p = by_kind p.1.kind
     by_kind Irq = refl
     by_kind Mem = refl
     by_kind Dma = refl
+    by_kind Bus = refl
 
 -- How long the lists are -----------------------------------------------------------
 
-longer_put : (l : Lists) (p : Pair) (j k : Kind) → (length (list_at l k) ≤ length (list_at (put_in l j p) k)) × (length (list_at (put_in l j p) k) ≤ length (list_at l k) + 1)
-longer_put l p Port Port = let n = length-pairs_with l.port p in (omega arith, omega arith)
-longer_put l p Irq Irq = let n = length-pairs_with l.irq p in (omega arith, omega arith)
-longer_put l p Mem Mem = let n = length-pairs_with l.mem p in (omega arith, omega arith)
-longer_put l p Dma Dma = let n = length-pairs_with l.dma p in (omega arith, omega arith)
-longer_put l p Port Irq = (omega arith, omega arith)
-longer_put l p Port Mem = (omega arith, omega arith)
-longer_put l p Port Dma = (omega arith, omega arith)
-longer_put l p Irq Port = (omega arith, omega arith)
-longer_put l p Irq Mem = (omega arith, omega arith)
-longer_put l p Irq Dma = (omega arith, omega arith)
-longer_put l p Mem Port = (omega arith, omega arith)
-longer_put l p Mem Irq = (omega arith, omega arith)
-longer_put l p Mem Dma = (omega arith, omega arith)
-longer_put l p Dma Port = (omega arith, omega arith)
-longer_put l p Dma Irq = (omega arith, omega arith)
-longer_put l p Dma Mem = (omega arith, omega arith)
+longer_put : (l : Lists) (p : Pair) (j k : Kind) → (length (of_kind l k) ≤ length (of_kind (put_in l j p) k)) × (length (of_kind (put_in l j p) k) ≤ length (of_kind l k) + 1)
+longer_put l p j k =
+    at_each (λ (xs ys : List Pair). (length xs ≤ length ys) × (length ys ≤ length xs + 1)) l j (pairs_with (of_kind l j) p)
+    (let n = length-pairs_with (of_kind l j) p in (omega arith, omega arith)) (λ ys. (omega arith, omega arith)) k
 
 -- with more pairs the lists are no shorter, and longer by no more than these
 pub longer_with : (xs ys : List Pair) (k : Kind)
-    → (length (list_at (lists_with ys) k) ≤ length (list_at (lists_with (xs ++ ys)) k)) × (length (list_at (lists_with (xs ++ ys)) k) ≤ length xs + length (list_at (lists_with ys) k))
+    → (length (of_kind (lists_with ys) k) ≤ length (of_kind (lists_with (xs ++ ys)) k)) × (length (of_kind (lists_with (xs ++ ys)) k) ≤ length xs + length (of_kind (lists_with ys) k))
 longer_with [] ys k = (omega arith, omega arith)
 longer_with (x ∷ xs) ys k =
     let more = longer_with xs ys k in let here = longer_put (lists_with (xs ++ ys)) x x.1.kind k in (omega arith, omega arith)
 
 -- the same pairs, in another order
-pub permuted : (ps : List Pair) → IsPermutation ps (lists_pairs (lists_with ps))
+pub permuted : (ps : List Pair) → IsPermutation ps (all_kinds (lists_with ps))
 permuted [] = IsPermutation-refl []
 permuted (p ∷ ps) =
-    IsPermutation-trans (p ∷ ps) (p ∷ lists_pairs (lists_with ps)) (lists_pairs (lists_with (p ∷ ps)))
-    (IsPermutation-cons p ps (lists_pairs (lists_with ps)) (permuted ps)) (put_permutation (lists_with ps) p.1.kind p)
+    IsPermutation-trans (p ∷ ps) (p ∷ all_kinds (lists_with ps)) (all_kinds (lists_with (p ∷ ps)))
+    (IsPermutation-cons p ps (all_kinds (lists_with ps)) (permuted ps)) (put_permutation (lists_with ps) p.1.kind p)
 
 -- One pair more, one pair less ------------------------------------------------------
 
@@ -129,53 +109,21 @@ module _ (a b : Arbiters) (owner : Owner) (held : List Res) (i : ℕ) (res : Res
 
   pub is_held : lists_of a ≡ lists_with (pairs_of owner (drop i held) ++ rest) → Contains (of_kind a res.kind).pairs (owner, res)
   is_held so_far =
-      subst (λ l. Contains l (owner, res)) (at_kind a res.kind)
-      (subst (λ l. Contains (list_at l res.kind) (owner, res)) (sym (first_left so_far))
+      subst (λ l. Contains l (owner, res)) (pairs_at a res.kind)
+      (subst (λ l. Contains (of_kind l res.kind) (owner, res)) (sym (first_left so_far))
       (put_there (lists_with (pairs_of owner (drop (i + 1) held) ++ rest)) res.kind (owner, res)))
 
 -- a put takes one place of what is spare
 pub spare_put : (a b : Arbiters) (p : Pair) (k : Kind) → b ≡ arbiters_with a p → (of_kind a k).spare ≤ (of_kind b k).spare + 1
-spare_put a b p k put = subst (λ x. (of_kind a k).spare ≤ (of_kind x k).spare + 1) (sym put) (by_kinds p.1.kind k)
-  where
-    by_kinds : (j k : Kind) → (of_kind a k).spare ≤ (of_kind (with_kind a j (arbiter_with (of_kind a j) p)) k).spare + 1
-    by_kinds Port Port = omega arith
-    by_kinds Irq Irq = omega arith
-    by_kinds Mem Mem = omega arith
-    by_kinds Dma Dma = omega arith
-    by_kinds Port Irq = omega arith
-    by_kinds Port Mem = omega arith
-    by_kinds Port Dma = omega arith
-    by_kinds Irq Port = omega arith
-    by_kinds Irq Mem = omega arith
-    by_kinds Irq Dma = omega arith
-    by_kinds Mem Port = omega arith
-    by_kinds Mem Irq = omega arith
-    by_kinds Mem Dma = omega arith
-    by_kinds Dma Port = omega arith
-    by_kinds Dma Irq = omega arith
-    by_kinds Dma Mem = omega arith
+spare_put a b p k put =
+    subst (λ (x : Arbiters). (of_kind a k).spare ≤ (of_kind x k).spare + 1) (sym put)
+    (at_each (λ (x y : Arbiter). x.spare ≤ y.spare + 1) a p.1.kind (arbiter_with (of_kind a p.1.kind) p) (omega arith) (λ y. omega arith) k)
 
 -- what is taken away leaves what is spare
 pub spare_taken : (a b : Arbiters) (p : Pair) (k : Kind) → a ≡ arbiters_with b p → (of_kind a k).spare ≤ (of_kind b k).spare
-spare_taken a b p k is = subst (λ x. (of_kind x k).spare ≤ (of_kind b k).spare) (sym is) (by_kinds p.1.kind k)
-  where
-    by_kinds : (j k : Kind) → (of_kind (with_kind b j (arbiter_with (of_kind b j) p)) k).spare ≤ (of_kind b k).spare
-    by_kinds Port Port = omega arith
-    by_kinds Irq Irq = omega arith
-    by_kinds Mem Mem = omega arith
-    by_kinds Dma Dma = omega arith
-    by_kinds Port Irq = omega arith
-    by_kinds Port Mem = omega arith
-    by_kinds Port Dma = omega arith
-    by_kinds Irq Port = omega arith
-    by_kinds Irq Mem = omega arith
-    by_kinds Irq Dma = omega arith
-    by_kinds Mem Port = omega arith
-    by_kinds Mem Irq = omega arith
-    by_kinds Mem Dma = omega arith
-    by_kinds Dma Port = omega arith
-    by_kinds Dma Irq = omega arith
-    by_kinds Dma Mem = omega arith
+spare_taken a b p k is =
+    subst (λ (x : Arbiters). (of_kind x k).spare ≤ (of_kind b k).spare) (sym is)
+    (at_each (λ (x y : Arbiter). y.spare ≤ x.spare) b p.1.kind (arbiter_with (of_kind b p.1.kind) p) (omega arith) (λ y. omega arith) k)
 
 -- Room -------------------------------------------------------------------------------
 
@@ -191,27 +139,12 @@ room_same a b j s is = ap lists_of is ∙ by_kind j
     by_kind Irq = refl
     by_kind Mem = refl
     by_kind Dma = refl
+    by_kind Bus = refl
 
 pub room_grows : (a b : Arbiters) (j k : Kind) (s : ℕ) → b ≡ with_spare a j s → (of_kind a j).spare ≤ s → (of_kind a k).spare ≤ (of_kind b k).spare
-room_grows a b j k s is more = subst (λ x. (of_kind a k).spare ≤ (of_kind x k).spare) (sym is) (by_kinds j k more)
-  where
-    by_kinds : (j k : Kind) → (of_kind a j).spare ≤ s → (of_kind a k).spare ≤ (of_kind (with_spare a j s) k).spare
-    by_kinds Port Port more = more
-    by_kinds Irq Irq more = more
-    by_kinds Mem Mem more = more
-    by_kinds Dma Dma more = more
-    by_kinds Port Irq more = omega arith
-    by_kinds Port Mem more = omega arith
-    by_kinds Port Dma more = omega arith
-    by_kinds Irq Port more = omega arith
-    by_kinds Irq Mem more = omega arith
-    by_kinds Irq Dma more = omega arith
-    by_kinds Mem Port more = omega arith
-    by_kinds Mem Irq more = omega arith
-    by_kinds Mem Dma more = omega arith
-    by_kinds Dma Port more = omega arith
-    by_kinds Dma Irq more = omega arith
-    by_kinds Dma Mem more = omega arith
+room_grows a b j k s is more =
+    subst (λ (x : Arbiters). (of_kind a k).spare ≤ (of_kind x k).spare) (sym is)
+    (at_each (λ (x y : Arbiter). x.spare ≤ y.spare) a j (record (of_kind a j) { spare = s }) more (λ y. omega arith) k)
 
 -- nothing stands at a place past the end
 pub none_past : {X : Type 0} (xs : List X) (i : ℕ) → slice_get xs i ≡ None → length xs ≤ i
@@ -219,8 +152,9 @@ none_past [] i h = omega arith
 none_past (x ∷ xs) zero h = absurd (cc)
 none_past (x ∷ xs) (suc i) h = let rest = none_past xs i (grind arith) in omega arith
 
-pub each_kind : (P : Kind → Type 0) → P Port → P Irq → P Mem → P Dma → (k : Kind) → P k
-each_kind P p i m d Port = p
-each_kind P p i m d Irq = i
-each_kind P p i m d Mem = m
-each_kind P p i m d Dma = d
+pub each_kind : (P : Kind → Type 0) → P Port → P Irq → P Mem → P Dma → P Bus → (k : Kind) → P k
+each_kind P p i m d b Port = p
+each_kind P p i m d b Irq = i
+each_kind P p i m d b Mem = m
+each_kind P p i m d b Dma = d
+each_kind P p i m d b Bus = b

@@ -1,19 +1,19 @@
 -- The rows of the map in their order: the lists of the arbiters, kind by kind.
-use Rattle.std.proofs.Common.{◌≡◌, ℕ, ◌<◌, ◌⊎◌, inl, inr, Bool, true, false, cond, List, [], ◌∷◌, ◌++◌, map, refl, sym, ap, ◌∙◌, subst, arith}
-use Rattle.std.specs.List.{AllByRecursion}
+use Rattle.std.proofs.Common.{◌≡◌, ℕ, ◌<◌, ◌⊎◌, inl, inr, Bool, true, false, cond, List, [], ◌∷◌, ◌++◌, All, map, refl, sym, ap, ◌∙◌, subst, arith}
+use Rattle.std.specs.List.{AllByRecursion, flat_map}
 use Rattle.std.proofs.lemmas.Bool.{cases_Bool, cases_order}
 use Rattle.std.proofs.lemmas.Bool.Decides.{nat_tests}
 use Rattle.std.proofs.lemmas.List.Elements.{All-from_recursion, recursion_from_All}
 use Rattle.std.proofs.lemmas.List.Sorted.{All-permutation}
 use Rattle.resource_reqs.specs.declared.kind.Kind.{Kind}
-use Rattle.resource_reqs.specs.declared.kind.Kind.TheVariants.{Port, Irq, Mem, Dma}
+use Rattle.resource_reqs.specs.declared.kind.Kind.TheVariants.{Port, Irq, Mem, Dma, Bus}
 use Rattle.resource_reqs.specs.declared.owner.Owner.{Owner}
 use Rattle.resource_reqs.specs.declared.owner.Owner.TheVariants.{Reserved, Device}
 use Rattle.range_arbiter.specs.Pairs.{Pair, is_before, is_less, owner_number, share_number, pairs_with}
 use Rattle.range_arbiter.proofs.PairOrder.{before_itself, before_once, not_before_trans}
-use Rattle.trial_journal.specs.Four.{Lists}
+use Rattle.trial_journal.specs.ByKind.{Lists, of_kind, all_kinds}
+use Rattle.trial_journal.proofs.EachKind.{with_at, before, after, split_with, split_own, each_all}
 use Rattle.assign_search.specs.Walking.{put_in}
-use Rattle.assign_search.proofs.SameHeld.{lists_pairs}
 use Rattle.pnp_model.specs.Keyed.{put_before, in_order}
 use Rattle.pnp_model.specs.Endings.{comes_before, unit_number}
 use Rattle.device_holdings.specs.Mirrors.{lists_with}
@@ -135,7 +135,7 @@ put_same p (q ∷ qs) kinds ties rises = elim (three p q kinds.0) [
         let after : pairs_with qs p ≡ p ∷ qs = first_put qs p (subst (λ (x : Pair). AllByRecursion (λ r. is_before r x ≡ false) qs) (sym same) rises.0) in
         rw here (by_test b same (rest ∙ after))
 
--- The four lists rise, each with its kind --------------------------------------------------
+-- The lists rise, each with its kind -------------------------------------------------------
 
 all_put : (P : Pair → Type 0) (qs : List Pair) (p : Pair) → P p → AllByRecursion P qs → AllByRecursion P (pairs_with qs p)
 all_put P [] p h all = (h, tt)
@@ -163,32 +163,27 @@ pub record Right (k : Kind) (qs : List Pair) : Type 0 where
 right_put : (k : Kind) (qs : List Pair) (p : Pair) → p.1.kind ≡ k → Right k qs → Right k (pairs_with qs p)
 right_put k qs p same r = record { kinds = all_put (λ q. q.1.kind ≡ k) qs p same r.kinds; rises = rises_put qs p r.rises }
 
-record AreRight (l : Lists) : Type 0 where
-  port : Right Port l.port
-  irq : Right Irq l.irq
-  mem : Right Mem l.mem
-  dma : Right Dma l.dma
+AreRight : Lists → Type 0
+AreRight l = (kind : Kind) → Right kind (of_kind l kind)
 
 are_put : (l : Lists) (p : Pair) (k : Kind) → p.1.kind ≡ k → AreRight l → AreRight (put_in l k p)
-are_put l p Port same h = record { port = right_put Port l.port p same h.port; irq = h.irq; mem = h.mem; dma = h.dma }
-are_put l p Irq same h = record { port = h.port; irq = right_put Irq l.irq p same h.irq; mem = h.mem; dma = h.dma }
-are_put l p Mem same h = record { port = h.port; irq = h.irq; mem = right_put Mem l.mem p same h.mem; dma = h.dma }
-are_put l p Dma same h = record { port = h.port; irq = h.irq; mem = h.mem; dma = right_put Dma l.dma p same h.dma }
+are_put l p k same right = λ j. elim (with_at l k j (pairs_with (of_kind l k) p)) [
+  | inl (at, here) ↦ subst (Right j) (sym here) (subst (λ i. Right i (pairs_with (of_kind l k) p)) at (right_put k (of_kind l k) p same (right k)))
+  | inr (apart, there) ↦ subst (Right j) (sym there) (right j)
+]
 
 are_right : (ps : List Pair) → AreRight (lists_with ps)
-are_right [] = record {
-  port = record { kinds = tt; rises = tt };
-  irq = record { kinds = tt; rises = tt };
-  mem = record { kinds = tt; rises = tt };
-  dma = record { kinds = tt; rises = tt };
-}
+are_right [] = none
+  where
+    none : (kind : Kind) → Right kind (of_kind (lists_with []) kind)
+    none Port = record { kinds = tt; rises = tt }
+    none Irq = record { kinds = tt; rises = tt }
+    none Mem = record { kinds = tt; rises = tt }
+    none Dma = record { kinds = tt; rises = tt }
+    none Bus = record { kinds = tt; rises = tt }
 are_right (p ∷ ps) = are_put (lists_with ps) p p.1.kind refl (are_right ps)
 
 -- One pair more ---------------------------------------------------------------------------
-
-split_all : (P : Pair → Type 0) (xs ys : List Pair) → AllByRecursion P (xs ++ ys) → AllByRecursion P xs × AllByRecursion P ys
-split_all P [] ys h = (tt, h)
-split_all P (x ∷ xs) ys h = let rest = split_all P xs ys h.1 in ((h.0, rest.0), rest.1)
 
 pub join_all : (P : Pair → Type 0) (xs ys : List Pair) → AllByRecursion P xs → AllByRecursion P ys → AllByRecursion P (xs ++ ys)
 join_all P [] ys h g = g
@@ -205,62 +200,56 @@ earlier_kind p k qs less kinds =
     all_weaker (λ q. q.1.kind ≡ k) (λ q. pair_before p q ≡ false) (λ q is.
     let lower : unit_number q.1.kind < unit_number p.1.kind = subst (λ j. unit_number j < unit_number p.1.kind) (sym is) less in grind (arith, nat_tests)) qs kinds
 
-module _ (p : Pair) (l : Lists) (right : AreRight l) (ties : AllByRecursion (λ q. Ties p q → p ≡ q) (lists_pairs l)) where
-  here : (k : Kind) (qs : List Pair) → p.1.kind ≡ k → Right k qs → AllByRecursion (λ q. Ties p q → p ≡ q) qs → put_before (pair_before p) p qs ≡ pairs_with qs p
-  here k qs same r tied = put_same p qs (all_weaker (λ q. q.1.kind ≡ k) (λ q. p.1.kind ≡ q.1.kind) (λ q is. same ∙ sym is) qs r.kinds) tied r.rises
+-- the kinds before one are lower, those after it higher
+lower : (k : Kind) → AllByRecursion (λ j. unit_number j < unit_number k) (before k)
+lower Port = tt
+lower Irq = (omega arith, tt)
+lower Mem = (omega arith, omega arith, tt)
+lower Dma = (omega arith, omega arith, omega arith, tt)
+lower Bus = (omega arith, omega arith, omega arith, omega arith, tt)
 
-  below : (k j : Kind) → p.1.kind ≡ k → unit_number k < unit_number j → unit_number p.1.kind < unit_number j
-  below k j same less = subst (λ i. unit_number i < unit_number j) (sym same) less
+higher : (k : Kind) → AllByRecursion (λ j. unit_number k < unit_number j) (after k)
+higher Port = (omega arith, omega arith, omega arith, omega arith, tt)
+higher Irq = (omega arith, omega arith, omega arith, tt)
+higher Mem = (omega arith, omega arith, tt)
+higher Dma = (omega arith, tt)
+higher Bus = tt
 
-  above : (k j : Kind) → p.1.kind ≡ k → unit_number j < unit_number k → unit_number j < unit_number p.1.kind
-  above k j same less = subst (λ i. unit_number j < unit_number i) (sym same) less
+module _ (p : Pair) (l : Lists) (right : AreRight l) (ties : All (λ q. Ties p q → p ≡ q) (all_kinds l)) where
+  here : put_before (pair_before p) p (of_kind l p.1.kind) ≡ pairs_with (of_kind l p.1.kind) p
+  here =
+      let own = right p.1.kind in
+      put_same p (of_kind l p.1.kind) (all_weaker (λ q. q.1.kind ≡ p.1.kind) (λ q. p.1.kind ≡ q.1.kind) (λ q is. sym is) (of_kind l p.1.kind) own.kinds)
+      (recursion_from_All (λ q. Ties p q → p ≡ q) (of_kind l p.1.kind) (each_all (λ q. Ties p q → p ≡ q) l p.1.kind ties)) own.rises
 
-  one_more : (k : Kind) → p.1.kind ≡ k → put_before (pair_before p) p (lists_pairs l) ≡ lists_pairs (put_in l k p)
-  one_more Port same =
-      let t = pair_before p in
-      let parts = split_all (λ q. Ties p q → p ≡ q) (l.port ++ l.irq ++ l.mem) l.dma ties in
-      let more = split_all (λ q. Ties p q → p ≡ q) (l.port ++ l.irq) l.mem parts.0 in
-      let last = split_all (λ q. Ties p q → p ≡ q) l.port l.irq more.0 in
-      stop t p (l.port ++ l.irq ++ l.mem) l.dma (later_kind p Dma l.dma (below Port Dma same (omega arith)) right.dma.kinds)
-      ∙ ap (λ ps. ps ++ l.dma) (stop t p (l.port ++ l.irq) l.mem (later_kind p Mem l.mem (below Port Mem same (omega arith)) right.mem.kinds)
-      ∙ ap (λ ps. ps ++ l.mem) (stop t p l.port l.irq (later_kind p Irq l.irq (below Port Irq same (omega arith)) right.irq.kinds)
-      ∙ ap (λ ps. ps ++ l.irq) (here Port l.port same right.port last.0)))
-  one_more Irq same =
-      let t = pair_before p in
-      let parts = split_all (λ q. Ties p q → p ≡ q) (l.port ++ l.irq ++ l.mem) l.dma ties in
-      let more = split_all (λ q. Ties p q → p ≡ q) (l.port ++ l.irq) l.mem parts.0 in
-      let last = split_all (λ q. Ties p q → p ≡ q) l.port l.irq more.0 in
-      stop t p (l.port ++ l.irq ++ l.mem) l.dma (later_kind p Dma l.dma (below Irq Dma same (omega arith)) right.dma.kinds)
-      ∙ ap (λ ps. ps ++ l.dma) (stop t p (l.port ++ l.irq) l.mem (later_kind p Mem l.mem (below Irq Mem same (omega arith)) right.mem.kinds)
-      ∙ ap (λ ps. ps ++ l.mem) (skip t p l.port l.irq (earlier_kind p Port l.port (above Irq Port same (omega arith)) right.port.kinds)
-      ∙ ap (λ ps. l.port ++ ps) (here Irq l.irq same right.irq last.1)))
-  one_more Mem same =
-      let t = pair_before p in
-      let parts = split_all (λ q. Ties p q → p ≡ q) (l.port ++ l.irq ++ l.mem) l.dma ties in
-      let more = split_all (λ q. Ties p q → p ≡ q) (l.port ++ l.irq) l.mem parts.0 in
-      stop t p (l.port ++ l.irq ++ l.mem) l.dma (later_kind p Dma l.dma (below Mem Dma same (omega arith)) right.dma.kinds)
-      ∙ ap (λ ps. ps ++ l.dma) (skip t p (l.port ++ l.irq) l.mem
-      (join_all (λ q. t q ≡ false) l.port l.irq (earlier_kind p Port l.port (above Mem Port same (omega arith)) right.port.kinds) (earlier_kind p Irq l.irq (above Mem Irq same (omega arith)) right.irq.kinds))
-      ∙ ap (λ ps. l.port ++ l.irq ++ ps) (here Mem l.mem same right.mem more.1))
-  one_more Dma same =
-      let t = pair_before p in
-      let parts = split_all (λ q. Ties p q → p ≡ q) (l.port ++ l.irq ++ l.mem) l.dma ties in
-      skip t p (l.port ++ l.irq ++ l.mem) l.dma
-      (join_all (λ q. t q ≡ false) (l.port ++ l.irq) l.mem
-      (join_all (λ q. t q ≡ false) l.port l.irq (earlier_kind p Port l.port (above Dma Port same (omega arith)) right.port.kinds) (earlier_kind p Irq l.irq (above Dma Irq same (omega arith)) right.irq.kinds))
-      (earlier_kind p Mem l.mem (above Dma Mem same (omega arith)) right.mem.kinds))
-      ∙ ap (λ ps. l.port ++ l.irq ++ l.mem ++ ps) (here Dma l.dma same right.dma parts.1)
+  earlier : (kinds : List Kind) → AllByRecursion (λ k. unit_number k < unit_number p.1.kind) kinds → AllByRecursion (λ q. pair_before p q ≡ false) (flat_map (of_kind l) kinds)
+  earlier [] less = tt
+  earlier (k ∷ kinds) less =
+      join_all (λ q. pair_before p q ≡ false) (of_kind l k) (flat_map (of_kind l) kinds) (earlier_kind p k (of_kind l k) less.0 (right k).kinds) (earlier kinds less.1)
+
+  later : (kinds : List Kind) → AllByRecursion (λ k. unit_number p.1.kind < unit_number k) kinds → AllByRecursion (λ q. pair_before p q ≡ true) (flat_map (of_kind l) kinds)
+  later [] less = tt
+  later (k ∷ kinds) less =
+      join_all (λ q. pair_before p q ≡ true) (of_kind l k) (flat_map (of_kind l) kinds) (later_kind p k (of_kind l k) less.0 (right k).kinds) (later kinds less.1)
+
+  one_more : put_before (pair_before p) p (all_kinds l) ≡ all_kinds (put_in l p.1.kind p)
+  one_more =
+      let k = p.1.kind in
+      let first = flat_map (of_kind l) (before k) in
+      let last = flat_map (of_kind l) (after k) in
+      ap (put_before (pair_before p) p) (split_own l k)
+      ∙ skip (pair_before p) p first (of_kind l k ++ last) (earlier (before k) (lower k))
+      ∙ ap (λ ps. first ++ ps) (stop (pair_before p) p (of_kind l k) last (later (after k) (higher k)) ∙ ap (λ ps. ps ++ last) here)
+      ∙ sym (split_with l k (pairs_with (of_kind l k) p))
 
 -- two that tie are one
 abbrev pub TieFree : List Pair → Type 0
 TieFree [] = Unit {0}
 TieFree (p ∷ ps) = AllByRecursion (λ q. Ties p q → p ≡ q) ps × TieFree ps
 
-pub order_is : (ps : List Pair) → TieFree ps → in_order pair_before ps ≡ lists_pairs (lists_with ps)
+pub order_is : (ps : List Pair) → TieFree ps → in_order pair_before ps ≡ all_kinds (lists_with ps)
 order_is [] h = refl
 order_is (p ∷ ps) h =
     ap (put_before (pair_before p) p) (order_is ps h.1)
     ∙ one_more p (lists_with ps) (are_right ps)
-    (recursion_from_All (λ q. Ties p q → p ≡ q) (lists_pairs (lists_with ps))
-    (All-permutation (λ q. Ties p q → p ≡ q) ps (lists_pairs (lists_with ps)) (permuted ps) (All-from_recursion (λ q. Ties p q → p ≡ q) ps h.0)))
-    p.1.kind refl
+    (All-permutation (λ q. Ties p q → p ≡ q) ps (all_kinds (lists_with ps)) (permuted ps) (All-from_recursion (λ q. Ties p q → p ≡ q) ps h.0))

@@ -1,42 +1,52 @@
 -- The pairs of the arbiters, one after another, are the rows of the map.
-use Rattle.std.proofs.Common.{◌≡◌, ◌≤◌, List, ◌++◌, map, refl, sym, ap, ◌∙◌, subst}
-use Rattle.std.specs.List.{AllByRecursion}
+use Rattle.std.proofs.Common.{◌≡◌, ◌≤◌, List, [], ◌∷◌, ◌++◌, map, refl, sym, ap, ◌∙◌, subst}
+use Rattle.std.specs.List.{AllByRecursion, flat_map}
+use Rattle.std.proofs.lemmas.List.{flat_map_more}
 use Rattle.std.proofs.lemmas.List.Elements.{All-from_recursion, recursion_from_All}
 use Rattle.std.proofs.lemmas.List.Sorted.{All-permutation, IsPermutation-sym}
 use Rattle.range_arbiter.specs.Pairs.{Pair}
-use Rattle.trial_journal.specs.Four.{Arbiters, all_pairs}
-use Rattle.assign_search.proofs.SameHeld.{lists_pairs}
+use Rattle.resource_reqs.specs.declared.kind.Kind.{Kind}
+use Rattle.trial_journal.specs.ByKind.{Arbiters, of_kind, kind_order, all_kinds, lists_of, all_pairs}
+use Rattle.trial_journal.proofs.EachKind.{all_each}
+use Rattle.trial_journal.proofs.KindsApart.{pairs_at}
 use Rattle.pnp_model.specs.Keyed.{in_order}
 use Rattle.pnp_model.specs.Endings.{row_before, map_rows}
 use Rattle.pnp_model.specs.Records.{Core}
 use Rattle.device_holdings.specs.Mirrors.{held_pairs, lists_with, Mirrors}
 use Rattle.device_holdings.specs.MapRows.{row_of, IsOrderly}
 use Rattle.device_holdings.proofs.Putting.{permuted}
-use Rattle.device_holdings.proofs.RowOrder.{pair_before, order_map, order_is, join_all}
+use Rattle.device_holdings.proofs.RowOrder.{pair_before, order_map, order_is}
 use Rattle.device_holdings.proofs.TieLemmas.{ties_held, rows_held}
 
 abbrev pub EndInOrder : List Pair → Type 0
 EndInOrder ps = AllByRecursion (λ (p : Pair). p.1.lo ≤ p.1.hi) ps
 
 -- in whatever order they stand
-ends_held : (ps : List Pair) → EndInOrder (lists_pairs (lists_with ps)) → EndInOrder ps
+ends_held : (ps : List Pair) → EndInOrder (all_kinds (lists_with ps)) → EndInOrder ps
 ends_held ps h =
     recursion_from_All (λ (p : Pair). p.1.lo ≤ p.1.hi) ps
-    (All-permutation (λ (p : Pair). p.1.lo ≤ p.1.hi) (lists_pairs (lists_with ps)) ps (IsPermutation-sym ps (lists_pairs (lists_with ps)) (permuted ps))
-    (All-from_recursion (λ (p : Pair). p.1.lo ≤ p.1.hi) (lists_pairs (lists_with ps)) h))
+    (All-permutation (λ (p : Pair). p.1.lo ≤ p.1.hi) (all_kinds (lists_with ps)) ps (IsPermutation-sym ps (all_kinds (lists_with ps)) (permuted ps))
+    (All-from_recursion (λ (p : Pair). p.1.lo ≤ p.1.hi) (all_kinds (lists_with ps)) h))
 
 pub rows_are : (a : Arbiters) (c : Core) → EndInOrder (all_pairs a) → Mirrors c.reserved c.nodes a → IsOrderly c → map (row_of c.nodes) (all_pairs a) ≡ map_rows c
 rows_are a c ends m orderly =
-    ap (λ l. map (row_of c.nodes) (lists_pairs l)) m.lists
+    ap (λ l. map (row_of c.nodes) (all_kinds l)) m.lists
     ∙ sym (ap (in_order row_before) (sym (rows_held c.reserved c.nodes orderly.ascends))
     ∙ order_map (row_of c.nodes) row_before pair_before (λ p q. refl) (held_pairs c.reserved c.nodes)
     ∙ ap (map (row_of c.nodes)) (order_is (held_pairs c.reserved c.nodes)
     (ties_held c.reserved c.nodes orderly.ascends orderly.clear.taken orderly.clear.own orderly.root
-    (ends_held (held_pairs c.reserved c.nodes) (subst (λ l. EndInOrder (lists_pairs l)) m.lists ends)))))
+    (ends_held (held_pairs c.reserved c.nodes) (subst (λ l. EndInOrder (all_kinds l)) m.lists ends)))))
 
 -- kind by kind
-pub all_ends : (a : Arbiters) → EndInOrder a.port.pairs → EndInOrder a.irq.pairs → EndInOrder a.mem.pairs → EndInOrder a.dma.pairs → EndInOrder (all_pairs a)
-all_ends a port irq mem dma =
+pub all_ends : (a : Arbiters) → ((kind : Kind) → EndInOrder (of_kind a kind).pairs) → EndInOrder (all_pairs a)
+all_ends a ends =
     let P : Pair → Type 0 = λ p. p.1.lo ≤ p.1.hi in
-    join_all P (a.port.pairs ++ a.irq.pairs ++ a.mem.pairs) a.dma.pairs
-    (join_all P (a.port.pairs ++ a.irq.pairs) a.mem.pairs (join_all P a.port.pairs a.irq.pairs port irq) mem) dma
+    recursion_from_All P (all_pairs a) (all_each P (lists_of a) (λ k. All-from_recursion P (of_kind (lists_of a) k) (subst EndInOrder (sym (pairs_at a k)) (ends k))) kind_order)
+
+-- the pairs of these kinds, and those of one more
+abbrev pub rows_in : Arbiters → List Kind → List Pair
+rows_in a kinds = flat_map (of_kind (lists_of a)) kinds
+
+pub more_rows : (a : Arbiters) (kinds : List Kind) (kind : Kind) (rows rows' : List Pair) → rows' ≡ rows ++ (of_kind a kind).pairs → rows ≡ rows_in a kinds → rows' ≡ rows_in a (kinds ++ kind ∷ [])
+more_rows a kinds kind rows rows' added so_far =
+    added ∙ (λ t. so_far t ++ sym (pairs_at a kind) t) ∙ flat_map_more (of_kind (lists_of a)) [] kinds kind

@@ -2,7 +2,7 @@
 use Rattle.std.specs.Prelude.{ℕ, List, ◌++◌, map}
 use Rattle.resource_reqs.specs.Resources.{Res, Reqs}
 use Rattle.resource_reqs.specs.Spelling.{IsAnswer}
-use Rattle.trial_journal.specs.Four.{Arbiters}
+use Rattle.trial_journal.specs.ByKind.{Arbiters}
 use Rattle.assign_search.specs.Fixed.{answer_of}
 use Rattle.assign_search.specs.declared.plan.Found.{Found}
 use Rattle.pnp_model.specs.Keyed.{those}

@@ -5,8 +5,8 @@ use Rattle.resource_reqs.specs.declared.owner.Owner.{Owner}
 use Rattle.resource_reqs.specs.declared.owner.Owner.TheVariants.{Reserved, Device}
 use Rattle.resource_reqs.specs.Resources.{Res}
 use Rattle.range_arbiter.specs.Pairs.{Pair}
-use Rattle.trial_journal.specs.Four.{Arbiters, Lists, of_kind, lists_of}
-use Rattle.assign_search.specs.Walking.{list_at, put_in}
+use Rattle.trial_journal.specs.ByKind.{Arbiters, Lists, of_kind, lists_of}
+use Rattle.assign_search.specs.Walking.{put_in}
 use Rattle.pnp_model.specs.Records.{Node}
 
 -- the pairs of one owner
@@ -21,19 +21,19 @@ node_pairs (n ∷ ns) = pairs_of (Device n.serial) n.holds ++ node_pairs ns
 abbrev pub held_pairs : List Res → List Node → List Pair
 held_pairs reserved nodes = pairs_of Reserved reserved ++ node_pairs nodes
 
--- the four lists that have just these pairs, each at its place
+-- the lists that have just these pairs, each at its place
 abbrev pub lists_with : List Pair → Lists
-lists_with [] = record { port = []; irq = []; mem = []; dma = [] }
+lists_with [] = record { port = []; irq = []; mem = []; dma = []; bus = [] }
 lists_with (p ∷ ps) = put_in (lists_with ps) p.1.kind p
 
 -- at most 2^29 pairs of each kind
 abbrev pub AreFew : Lists → Type 0
-AreFew lists = (kind : Kind) → length (list_at lists kind) ≤ 2 ^ 29
+AreFew lists = (kind : Kind) → length (of_kind lists kind) ≤ 2 ^ 29
 
 -- room for so many more pairs of each kind, and few pairs then
 pub record HasRoom (a : Arbiters) (more : ℕ) : Type 0 where
   pub spare : (kind : Kind) → more ≤ (of_kind a kind).spare
-  pub few : (kind : Kind) → length (list_at (lists_of a) kind) + more ≤ 2 ^ 29
+  pub few : (kind : Kind) → length (of_kind (lists_of a) kind) + more ≤ 2 ^ 29
 
 -- the arbiters hold just what is reserved and what devices hold, and few pairs of each kind
 pub record Mirrors (reserved : List Res) (nodes : List Node) (a : Arbiters) : Type 0 where

@@ -5,7 +5,7 @@ ghost use Rattle.pnp_model.specs.Cores.{node_at};
 ghost use Rattle.pnp_model.specs.Records.{Node};
 ghost use Rattle.pnp_model.specs.Frames.{held_by};
 ghost use Rattle.pnp_model.specs.Rebalances.{reqs_of};
-ghost use Rattle.trial_journal.specs.Four.{lists_of};
+ghost use Rattle.trial_journal.specs.ByKind.{lists_of};
 ghost use Rattle.assign_search.specs.Fixed as Fixed;
 ghost use Rattle.device_holdings.specs.Mirrors.{AreFew, Mirrors, IsMirrored};
 ghost use Rattle.device_holdings.specs.Answers.{needs_of, Answers};

@@ -2,7 +2,7 @@ ghost use Rattle.std.specs.Prelude.{◌≡◌, ℕ, ◌+◌, ◌++◌, [], ◌�
 ghost use Rattle.pnp_model.specs.Records.{Node};
 ghost use Rattle.pnp_model.specs.Cores.{node_at, bare, with_holds};
 ghost use Rattle.pnp_model.specs.Rebalances.{committed};
-ghost use Rattle.trial_journal.specs.Four.{lists_of};
+ghost use Rattle.trial_journal.specs.ByKind.{lists_of};
 ghost use Rattle.devnode_tree.specs.Trees.{changed, IsTree};
 ghost use Rattle.device_holdings.specs.Giving.{given};
 ghost use Rattle.device_holdings.specs.Mirrors.{Mirrors, IsMirrored, KeepsMirror, HasRoom};

@@ -1,8 +1,7 @@
 ghost use Rattle.std.specs.Prelude.{◌≡◌, ◌≤◌, ◌+◌, ◌++◌, ◌^◌, List, length, OnOk};
 ghost use Rattle.resource_reqs.specs.declared.kind.Kind.{Kind};
 ghost use Rattle.range_arbiter.specs.Pairs.{Pair};
-ghost use Rattle.trial_journal.specs.Four.{of_kind, lists_of};
-ghost use Rattle.assign_search.specs.Walking.{list_at};
+ghost use Rattle.trial_journal.specs.ByKind.{of_kind, lists_of};
 ghost use Rattle.device_holdings.specs.Mirrors.{pairs_of, lists_with, HasRoom};
 
 use resource_reqs::{Kind, Owner, ResList, WantOfMemory};
@@ -15,7 +14,7 @@ const MOST: u64 = 536870912;
 /// Takes memory for so many more pairs of a kind. Past the most pairs of a kind it is refused as memory is.
 fn room_of(arbiters: &mut Arbiters, kind: Kind, more: u64) -> Result<(), WantOfMemory>
     ensures room { OnOk result (more ≤ (of_kind arbiters.new kind).spare) }
-    ensures few { OnOk result (length (list_at (lists_of arbiters.old) kind) + more ≤ 2 ^ 29) }
+    ensures few { OnOk result (length (of_kind (lists_of arbiters.old) kind) + more ≤ 2 ^ 29) }
     ensures grows { (j : Kind) → (of_kind arbiters.old j).spare ≤ (of_kind arbiters.new j).spare }
     ensures same { lists_of arbiters.new ≡ lists_of arbiters.old }
 {
@@ -33,7 +32,8 @@ pub fn make_room(arbiters: &mut Arbiters, more: u64) -> Result<(), WantOfMemory>
     room_of(arbiters, Kind::Port, more)?;
     room_of(arbiters, Kind::Irq, more)?;
     room_of(arbiters, Kind::Mem, more)?;
-    room_of(arbiters, Kind::Dma, more)
+    room_of(arbiters, Kind::Dma, more)?;
+    room_of(arbiters, Kind::Bus, more)
 }
 
 /// Puts in what an owner gets.

@@ -2,7 +2,7 @@ ghost use Rattle.std.specs.Prelude.{◌≡◌, ◌≤◌, ◌++◌, map, IfOk, O
 ghost use Rattle.std.specs.List.{AllByRecursion};
 ghost use Rattle.pnp_model.specs.Records.{Core};
 ghost use Rattle.pnp_model.specs.Endings as Endings;
-ghost use Rattle.trial_journal.specs.Four.{of_kind, all_pairs};
+ghost use Rattle.trial_journal.specs.ByKind.{of_kind, all_pairs};
 ghost use Rattle.device_holdings.specs.Mirrors.{Mirrors};
 ghost use Rattle.device_holdings.specs.MapRows.{row_of, IsOrderly};
 
@@ -46,5 +46,6 @@ pub fn map_rows(alloc: Global, arbiters: &Arbiters) -> Result<Vec<(Owner, Res)>,
     add_kind(&mut rows, arbiters, Kind::Irq)?;
     add_kind(&mut rows, arbiters, Kind::Mem)?;
     add_kind(&mut rows, arbiters, Kind::Dma)?;
+    add_kind(&mut rows, arbiters, Kind::Bus)?;
     Ok(rows)
 }

@@ -7,9 +7,10 @@ use range_arbiter::{Kind, Owner, RangeArbiter, Res, Want, WantOfMemory};
 use std::alloc::Global;
 use std::marker::Model;
 
-/// The numbers of one kind that are held, interrupts or DMA channels: ranges that most often have one number,
-/// kept in the order of the range arbiter (this project's own; the driver kit, "Arbiter Interface"). A
-/// contract sees the kind, the list of pairs, and `spare`, the number of pairs for which memory is taken.
+/// The numbers of one kind that are held, interrupts, DMA channels or bus numbers: ranges of few numbers, most
+/// often of one, kept in the order of the range arbiter (this project's own; the driver kit, "Arbiter
+/// Interface"). A contract sees the kind, the list of pairs, and `spare`, the number of pairs for which memory
+/// is taken.
 #[derive(Debug, Drop)]
 pub struct NumberArbiter {
     numbers: RangeArbiter,

@@ -1,4 +1,4 @@
-//! Who holds which interrupts or DMA channels, and the least free one.
+//! Who holds which interrupts, DMA channels or bus numbers, and the least free one.
 #![tactic(auto)]
 
 mod arbiter;

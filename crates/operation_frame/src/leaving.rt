@@ -1,6 +1,6 @@
 ghost use Rattle.std.specs.Prelude.{◌≡◌, IfOk};
 ghost use Rattle.pnp_model.specs.Cores.{node_at, with_problem};
-ghost use Rattle.trial_journal.specs.Four as Four;
+ghost use Rattle.trial_journal.specs.ByKind as ByKind;
 ghost use Rattle.device_holdings.specs.Mirrors.{KeepsMirror};
 ghost use Rattle.devnode_tree.specs.Trees.{CanLeave, changed, without_node};
 ghost use Rattle.operation_frame.specs.Nodes.{HoldsNothing, has_drivers};
@@ -85,7 +85,7 @@ pub fn leave(serial: u64, tree: &mut Tree)
     requires may_leave { CanLeave serial tree.old.nodes }
     requires bare { HoldsNothing (node_at serial tree.old.nodes) }
     ensures left { tree.new ≡ without_node serial tree.old }
-    ensures mirrors { (arbiters : Four.Arbiters) → KeepsMirror tree.old.nodes arbiters tree.new.nodes arbiters }
+    ensures mirrors { (arbiters : ByKind.Arbiters) → KeepsMirror tree.old.nodes arbiters tree.new.nodes arbiters }
 {
     tree.leave(serial);
 }
@@ -93,7 +93,7 @@ pub fn leave(serial: u64, tree: &mut Tree)
 /// A device remains, with a problem. It takes no memory. Cost: the logarithm of the number of nodes.
 pub fn remain(serial: u64, problem: Problem, tree: &mut Tree)
     ensures changed { tree.new ≡ changed serial (with_problem (Some problem)) tree.old }
-    ensures mirrors { (arbiters : Four.Arbiters) → KeepsMirror tree.old.nodes arbiters tree.new.nodes arbiters }
+    ensures mirrors { (arbiters : ByKind.Arbiters) → KeepsMirror tree.old.nodes arbiters tree.new.nodes arbiters }
 {
     tree.set_problem(serial, Some(problem));
 }

@@ -3,7 +3,7 @@ ghost use Rattle.pnp_model.specs.Cores.{node_at, forget, bare, set_rack};
 ghost use Rattle.pnp_model.specs.Records.{Core};
 ghost use Rattle.pnp_labels.specs.declared.states.DevState.TheVariants.{NoStack};
 ghost use Rattle.devnode_tree.specs.Trees.{changed};
-ghost use Rattle.trial_journal.specs.Four as Four;
+ghost use Rattle.trial_journal.specs.ByKind as ByKind;
 ghost use Rattle.device_holdings.specs.Mirrors.{IsMirrored, KeepsMirror};
 ghost use Rattle.operation_frame.specs.Walks.{WalksFor, EndsFor};
 
@@ -64,7 +64,7 @@ pub fn end_walk(minor: Minor, refused: bool, path: Text, serial: u64, tree: &mut
     requires { IsSome (node_at serial tree.old.nodes) }
     ensures ended { EndsFor (node_at serial tree.old.nodes) minor refused path tree.old.nodes result tree.new.nodes }
     ensures next { tree.new.next ≡ tree.old.next }
-    ensures mirrors { (arbiters : Four.Arbiters) → KeepsMirror tree.old.nodes arbiters tree.new.nodes arbiters }
+    ensures mirrors { (arbiters : ByKind.Arbiters) → KeepsMirror tree.old.nodes arbiters tree.new.nodes arbiters }
 {
     let node = tree.at(serial);
     let serial = node.serial;

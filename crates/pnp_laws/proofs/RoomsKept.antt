@@ -1,10 +1,10 @@
 -- What comes through to a device stays as it is: nodes keep their births and parents, and a window is set only where nothing is below.
 use Rattle.std.proofs.Common.{ℕ, ◌≡◌, ◌≢◌, ◌<◌, ◌==◌, ◌&&◌, inl, inr, Bool, true, false, cond, List, [], ◌∷◌, ◌++◌, Option, Some, None, refl, sym, ap, ap₂, ◌∙◌, subst, arith}
-use Rattle.std.specs.List.{find, list_any}
+use Rattle.std.specs.List.{list_any}
 use Rattle.std.proofs.Math.Path.{fun_ext}
 use Rattle.std.proofs.lemmas.Bool.{cases_eq}
 use Rattle.std.proofs.lemmas.Bool.Decides.{nat_tests}
-use Rattle.resource_reqs.specs.Resources.{Reqs, Res, same_kind}
+use Rattle.resource_reqs.specs.Resources.{Res, same_kind}
 use Rattle.resource_reqs.specs.declared.kind.Kind.{Kind}
 use Rattle.pnp_labels.specs.declared.label.Label.{Label}
 use Rattle.pnp_model.specs.Cores.{node_at}

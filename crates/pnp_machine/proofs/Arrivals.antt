@@ -11,7 +11,7 @@ use Rattle.devnode_tree.specs.Trees.{Tree}
 use Rattle.script_bus.specs.Worlds.{World, plugged}
 use Rattle.script_bus.specs.declared.error.PlugError.{PlugError}
 use Rattle.script_bus.specs.declared.error.PlugError.TheVariants.{NoParent, SameId, WorldFull, WantOfMemory}
-use Rattle.trial_journal.specs.Four.{Arbiters}
+use Rattle.trial_journal.specs.ByKind.{Arbiters}
 use Rattle.device_holdings.specs.Mirrors.{Mirrors}
 use Rattle.pnp_machine.specs.Devices.{Arrives, NotJoining, IsHere, IsKept}
 

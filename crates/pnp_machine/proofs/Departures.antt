@@ -16,7 +16,7 @@ use Rattle.pnp_model.specs.Tasks.{is_surprise_of}
 use Rattle.pnp_model.specs.Trees.{children, is_child}
 use Rattle.devnode_tree.specs.Entries.{child_serials}
 use Rattle.devnode_tree.specs.Trees.{Tree, Ascends, IsTree}
-use Rattle.trial_journal.specs.Four.{Arbiters, of_kind}
+use Rattle.trial_journal.specs.ByKind.{Arbiters, of_kind}
 use Rattle.device_holdings.proofs.Apart.{mirrors_none}
 use Rattle.script_bus.specs.Worlds.{World, IsWorld, HasParent, births_of, part_of, parent_in, without_device}
 use Rattle.script_bus.specs.declared.device.Device as shown

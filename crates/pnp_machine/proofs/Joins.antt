@@ -16,7 +16,7 @@ use Rattle.devnode_tree.specs.declared.error.JoinError.TheVariants as errors
 use Rattle.script_bus.specs.Differences.{joins_from}
 use Rattle.script_bus.specs.Worlds.{World, IsWorld, births_of, part_of}
 use Rattle.script_bus.specs.declared.device.Device as shown
-use Rattle.trial_journal.specs.Four.{Arbiters}
+use Rattle.trial_journal.specs.ByKind.{Arbiters}
 use Rattle.device_holdings.specs.Mirrors.{Mirrors}
 use Rattle.device_holdings.proofs.Apart.{mirrors_joined}
 use Rattle.pnp_laws.proofs.Lookups.{own_serial}

@@ -15,7 +15,7 @@ use Rattle.script_bus.specs.declared.error.PlugError.{PlugError}
 use Rattle.script_bus.specs.declared.error.PlugError.TheVariants.{NoParent, SameId, WorldFull, WantOfMemory}
 use Rattle.script_bus.specs.declared.error.PullError.{PullError}
 use Rattle.script_bus.specs.declared.error.PullError.TheVariants as pulls
-use Rattle.trial_journal.specs.Four.{Arbiters}
+use Rattle.trial_journal.specs.ByKind.{Arbiters}
 use Rattle.device_holdings.specs.Mirrors.{Mirrors}
 
 pub record Devices : Type 0 where

@@ -1,15 +1,15 @@
 -- What may be held of clipped requirements: want by want, group by group, list by list.
-use Rattle.std.proofs.Common.{ℕ, ◌+◌, ◌%◌, ◌≤◌, ◌≡◌, ◌⊎◌, ◌↔◌, inl, inr, Bool, true, false, List, [], ◌∷◌, map, length, Contains, max, min, refl, sym, ap, ap₂, ◌∙◌, subst, arith}
+use Rattle.std.proofs.Common.{ℕ, ◌+◌, ◌%◌, ◌≤◌, ◌≡◌, inl, inr, Bool, true, false, List, [], ◌∷◌, map, length, Contains, max, min, refl, sym, ap, ap₂, ◌∙◌, subst, arith}
 use Rattle.std.specs.List.{AllByRecursion, AllZip}
 use Rattle.std.proofs.lemmas.Bool.Decides.{nat_tests}
 use Rattle.std.proofs.Math.Nat.{le-max_left, le-max_right, max-eq_left, max-le, min-eq_left, min-le_left, min-le_right, le-min}
 use Rattle.std.proofs.lemmas.List.{length-map}
-use Rattle.std.proofs.lemmas.List.Elements.{All-from_recursion, recursion_from_All, Contains-append_left, Contains-append_right, Contains-push}
+use Rattle.std.proofs.lemmas.List.Elements.{All-from_recursion, recursion_from_All, Contains-append_right}
 use Rattle.resource_reqs.specs.Resources.{Res, Want, Group, AltList, Reqs, May, MayFrom, Whole}
 use Rattle.resource_reqs.specs.declared.kind.Kind.{Kind}
 use Rattle.resource_reqs.proofs.Counts.{contains_cons, contains_nil}
 use Rattle.pnp_model.specs.Windows.{Room, cut, placeless, has_room, clipped_with, clipped_want, clip_by}
-use Rattle.pnp_model.specs.Clips.{IsInRoom, ClipLaw, ClipTwiceLaw, ClipCountsLaw, wants_of}
+use Rattle.pnp_model.specs.Clips.{IsInRoom, ClipLaw, ClipTwiceLaw, ClipCountsLaw}
 
 -- One want -----------------------------------------------------------------------------
 
@@ -52,24 +52,18 @@ to_clipped r want res may inside =
 
 -- Groups, lists and all ------------------------------------------------------------------
 
-contains_here : {X : Type 0} (x : X) (xs : List X) → Contains (x ∷ xs) x
-contains_here x xs = Contains-append_left (x ∷ []) xs x (Contains-push [] x)
-
-contains_later : {X : Type 0} (x : X) (xs : List X) (y : X) → Contains xs y → Contains (x ∷ xs) y
-contains_later x xs y c = Contains-append_right (x ∷ []) xs y c
-
 contains_mapped : {X Y : Type 0} (f : X → Y) (xs : List X) (x : X) → Contains xs x → Contains (map f xs) (f x)
 contains_mapped f [] x c = absurd (contains_nil x c)
 contains_mapped f (y ∷ ys) x c = elim (contains_cons y ys x c) [
-  | inl e ↦ subst (λ z. Contains (map f (y ∷ ys)) (f z)) (sym e) (contains_here (f y) (map f ys))
-  | inr more ↦ contains_later (f y) (map f ys) (f x) (contains_mapped f ys x more)
+  | inl e ↦ subst (λ z. Contains (map f (y ∷ ys)) (f z)) (sym e) (0, omega arith, refl)
+  | inr more ↦ Contains-append_right (f y ∷ []) (map f ys) (f x) (contains_mapped f ys x more)
 ]
 
 mapped_from : {X Y : Type 0} (f : X → Y) (xs : List X) (y : Y) → Contains (map f xs) y → (x : X) × Contains xs x × (y ≡ f x)
 mapped_from f [] y c = absurd (contains_nil y c)
 mapped_from f (x ∷ xs) y c = elim (contains_cons (f x) (map f xs) y c) [
-  | inl e ↦ (x, contains_here x xs, e)
-  | inr more ↦ let rest = mapped_from f xs y more in (rest.0, contains_later x xs rest.0 rest.1, rest.2)
+  | inl e ↦ (x, (0, omega arith, refl), e)
+  | inr more ↦ let rest = mapped_from f xs y more in (rest.0, Contains-append_right (x ∷ []) xs rest.0 rest.1, rest.2)
 ]
 
 module _ (rooms : Kind → Room) where
@@ -177,7 +171,7 @@ clip_twice rooms reqs = map_twice (clipped_list rooms) (map_twice (clipped_group
 
 -- Counts ---------------------------------------------------------------------------------
 
-pub map_alike : {X Y Z : Type 0} (f : X → Y) (g : Y → Z) (h : X → Z) → ((x : X) → g (f x) ≡ h x) → (xs : List X) → map g (map f xs) ≡ map h xs
+map_alike : {X Y Z : Type 0} (f : X → Y) (g : Y → Z) (h : X → Z) → ((x : X) → g (f x) ≡ h x) → (xs : List X) → map g (map f xs) ≡ map h xs
 map_alike f g h same [] = refl
 map_alike f g h same (x ∷ xs) = ap₂ (λ y ys. y ∷ ys) (same x) (map_alike f g h same xs)
 

@@ -214,7 +214,7 @@ const RELATIONS: [(&[u8], &[u8]); 41] = [
     (b"reserve port:1-2-3", b"bad "),
     (b"reserve irq:4:shared", b"bad "),
     (b"reserve Irq:4", b"bad "),
-    (b"reserve bus:4", b"bad "),
+    (b"reserve pci:4", b"bad "),
     (b"reserve irq: 4", b"bad "),
     (b"reserve", b"bad "),
     (
@@ -397,7 +397,7 @@ const WANTS: [(&[u8], &[u8]); 42] = [
     (b"plug HTREE\\ROOT\\0 OWN\\DEV 1 need=port:8-15/9", b"bad "),
     (b"plug HTREE\\ROOT\\0 OWN\\DEV 1 need=port:8-15/", b"bad "),
     (b"plug HTREE\\ROOT\\0 OWN\\DEV 1 need=port:8-15@", b"bad "),
-    (b"plug HTREE\\ROOT\\0 OWN\\DEV 1 need=bus:1", b"bad "),
+    (b"plug HTREE\\ROOT\\0 OWN\\DEV 1 need=pci:1", b"bad "),
     (b"plug HTREE\\ROOT\\0 OWN\\DEV 1 need=irq:5,irq:6", b"bad "),
     (
         b"plug HTREE\\ROOT\\0 OWN\\DEV 1 need=mem:0-0xffffffffffffffff/0x8000000000000000",
@@ -407,6 +407,113 @@ const WANTS: [(&[u8], &[u8]); 42] = [
         b"plug HTREE\\ROOT\\0 OWN\\DEV 1 need=mem:0-18446744073709551616",
         b"bad ",
     ),
+];
+
+const BUSES: [(&[u8], &[u8]); 36] = [
+    (
+        b"plug A\\B\\1 A\\B 2 need=bus:0-255/4",
+        b"Plug A\\B\\1 A\\B\\2 hw A\\B compat list group Bus 0-255 4 1 false ",
+    ),
+    (
+        b"plug A\\B\\1 A\\B 2 need=bus:3",
+        b"Plug A\\B\\1 A\\B\\2 hw A\\B compat list group Bus 3-3 1 1 false ",
+    ),
+    (
+        b"plug A\\B\\1 A\\B 2 need=bus:255",
+        b"Plug A\\B\\1 A\\B\\2 hw A\\B compat list group Bus 255-255 1 1 false ",
+    ),
+    (
+        b"plug A\\B\\1 A\\B 2 need=bus:0x10-0xff/16:shared",
+        b"Plug A\\B\\1 A\\B\\2 hw A\\B compat list group Bus 16-255 16 1 true ",
+    ),
+    (
+        b"plug A\\B\\1 A\\B 2 need=bus:0-255/256",
+        b"Plug A\\B\\1 A\\B\\2 hw A\\B compat list group Bus 0-255 256 1 false ",
+    ),
+    (
+        b"plug A\\B\\1 A\\B 2 need=bus:1:shared",
+        b"Plug A\\B\\1 A\\B\\2 hw A\\B compat list group Bus 1-1 1 1 true ",
+    ),
+    (
+        b"plug A\\B\\1 A\\B 2 need=bus:1-2|irq:5;bus:3",
+        b"Plug A\\B\\1 A\\B\\2 hw A\\B compat list group Bus 1-2 1 1 false Irq 5-5 1 1 false group Bus 3-3 1 1 false ",
+    ),
+    (
+        b"plug A\\B\\1 A\\B 2 need=irq:256",
+        b"Plug A\\B\\1 A\\B\\2 hw A\\B compat list group Irq 256-256 1 1 false ",
+    ),
+    (b"plug A\\B\\1 A\\B 2 need=bus:256", b"bad "),
+    (b"plug A\\B\\1 A\\B 2 need=bus:0-256", b"bad "),
+    (b"plug A\\B\\1 A\\B 2 need=bus:255-256", b"bad "),
+    (b"plug A\\B\\1 A\\B 2 need=bus:0x100", b"bad "),
+    (b"plug A\\B\\1 A\\B 2 need=bus:0-255/257", b"bad "),
+    (b"plug A\\B\\1 A\\B 2 need=bus:0-3/0", b"bad "),
+    (b"plug A\\B\\1 A\\B 2 need=bus:0-3/", b"bad "),
+    (b"plug A\\B\\1 A\\B 2 need=bus:0-3@1", b"bad "),
+    (b"plug A\\B\\1 A\\B 2 need=bus:0-3/2@2", b"bad "),
+    (b"plug A\\B\\1 A\\B 2 need=bus:0-3:shared/2", b"bad "),
+    (b"plug A\\B\\1 A\\B 2 need=bus:3-0", b"bad "),
+    (b"plug A\\B\\1 A\\B 2 need=bus:", b"bad "),
+    (b"plug A\\B\\1 A\\B 2 need=bus", b"bad "),
+    (b"plug A\\B\\1 A\\B 2 need=Bus:1", b"bad "),
+    (b"plug A\\B\\1 A\\B 2 need=bus:1|bus:256", b"bad "),
+    (b"plug A\\B\\1 A\\B 2 need=bus:1:alone", b"bad "),
+    (b"reserve bus:0", b"Reserve Bus 0-0 false "),
+    (b"reserve bus:0-255", b"Reserve Bus 0-255 false "),
+    (b"reserve bus:0x10-0x1f", b"Reserve Bus 16-31 false "),
+    (b"reserve irq:256", b"Reserve Irq 256-256 false "),
+    (b"reserve bus:256", b"bad "),
+    (b"reserve bus:0-256", b"bad "),
+    (b"reserve bus:18446744073709551615", b"bad "),
+    (b"reserve bus:0:shared", b"bad "),
+    (b"reserve bus:0/1", b"bad "),
+    (b"reserve bus:", b"bad "),
+    (b"reserve bus:2-1", b"bad "),
+    (b"reserve buses:4", b"bad "),
+];
+
+const WINDOWS: [(&[u8], &[u8]); 26] = [
+    (
+        b"window OWN\\DEV\\B port:0x1000-0x1fff",
+        b"Window OWN\\DEV\\B Port 4096-8191 false ",
+    ),
+    (
+        b"window OWN\\DEV\\B mem:0-18446744073709551615",
+        b"Window OWN\\DEV\\B Mem 0-18446744073709551615 false ",
+    ),
+    (
+        b"window own\\dev\\b mem:7",
+        b"Window own\\dev\\b Mem 7-7 false ",
+    ),
+    (
+        b"window HTREE\\ROOT\\0 port:0-7",
+        b"Window HTREE\\ROOT\\0 Port 0-7 false ",
+    ),
+    (
+        b"\twindow  OWN\\DEV\\B\tmem:0-7 ",
+        b"Window OWN\\DEV\\B Mem 0-7 false ",
+    ),
+    (b"window OWN\\DEV\\B irq:1", b"bad "),
+    (b"window OWN\\DEV\\B dma:1", b"bad "),
+    (b"window OWN\\DEV\\B bus:1", b"bad "),
+    (b"window OWN\\DEV\\B port:0-7:shared", b"bad "),
+    (b"window OWN\\DEV\\B port:0-7/8", b"bad "),
+    (b"window OWN\\DEV\\B port:0-7@8", b"bad "),
+    (b"window OWN\\DEV\\B port:7-0", b"bad "),
+    (b"window OWN\\DEV\\B port:-1", b"bad "),
+    (b"window OWN\\DEV\\B port:", b"bad "),
+    (b"window OWN\\DEV\\B port", b"bad "),
+    (b"window OWN\\DEV\\B Port:0-7", b"bad "),
+    (b"window OWN\\DEV\\B port:0X10", b"bad "),
+    (b"window OWN\\DEV\\B mem:0-18446744073709551616", b"bad "),
+    (b"window OWN\\DEV\\B port:0-7 mem:0-7", b"bad "),
+    (b"window OWN\\DEV\\B", b"bad "),
+    (b"window port:0-7 OWN\\DEV\\B", b"bad "),
+    (b"window OWN\\DEV port:0-7", b"bad "),
+    (b"window * port:0-7", b"bad "),
+    (b"window", b"bad "),
+    (b"Window OWN\\DEV\\B port:0-7", b"bad "),
+    (b"windows OWN\\DEV\\B port:0-7", b"bad "),
 ];
 
 #[test]
@@ -437,4 +544,14 @@ fn plugs(rt: HostRuntime) -> Result<(), Fail> {
 #[test]
 fn wants(rt: HostRuntime) -> Result<(), Fail> {
     reads(&rt, rt.alloc(), &WANTS)
+}
+
+#[test]
+fn buses(rt: HostRuntime) -> Result<(), Fail> {
+    reads(&rt, rt.alloc(), &BUSES)
+}
+
+#[test]
+fn windows(rt: HostRuntime) -> Result<(), Fail> {
+    reads(&rt, rt.alloc(), &WINDOWS)
 }

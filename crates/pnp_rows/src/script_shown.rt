@@ -1,7 +1,7 @@
 //! An event as a line of text, so that a table can say which event is meant.
 use device_ids::IdList;
 use pnp_labels::{Event, Rule};
-use resource_reqs::{AltList, Reqs};
+use resource_reqs::{AltList, Reqs, Res};
 use std::alloc::{AllocError, Global};
 
 fn put(text: &mut Vec<u8>, word: &[u8]) -> Result<(), AllocError> {
@@ -47,6 +47,11 @@ fn put_reqs(alloc: Global, text: &mut Vec<u8>, reqs: &Reqs) -> Result<(), AllocE
         put_list(alloc, text, reqs.get(at))?;
     }
     Ok(())
+}
+
+fn put_res(alloc: Global, text: &mut Vec<u8>, res: &Res) -> Result<(), AllocError> {
+    let shown = format!(in alloc; "{:?} {}-{} {}", res.kind, res.lo, res.hi, res.shared)?;
+    put(text, shown.as_bytes())
 }
 
 fn put_rule(alloc: Global, text: &mut Vec<u8>, rule: &Rule) -> Result<(), AllocError> {
@@ -112,15 +117,16 @@ pub fn shown(alloc: Global, event: &Event) -> Result<Vec<u8>, AllocError> {
             )?;
         }
         Event::Reserve { res } => {
-            let res = format!(in alloc;
-                "Reserve {:?} {}-{} {}",
-                res.kind, res.lo, res.hi, res.shared
-            )?;
-            put(&mut text, res.as_bytes())?;
+            put(&mut text, b"Reserve")?;
+            put_res(alloc, &mut text, res)?;
         }
         Event::Complete { path, minor, ok } => {
             let end = format!(in alloc; "{:?} {}", minor, ok)?;
             put_words(&mut text, &[b"Complete", path.bytes(), end.as_bytes()])?;
+        }
+        Event::Window { path, res } => {
+            put_words(&mut text, &[b"Window", path.bytes()])?;
+            put_res(alloc, &mut text, res)?;
         }
         _ => put_operation(&mut text, event)?,
     }

@@ -7,7 +7,7 @@ use std::test::Fail;
 
 const SCRIPT: &[u8] = b"# every form once\r
 driver dev\tscripted
-plug HTREE\\ROOT\\0 OWN\\DEV 1 need=mem:0xE0000000-0xEFFFFFFF/0x20000@64:shared|irq:5;port:8-15/8 hw=OWN\\A,OWN\\B need=dma:1:shared
+plug HTREE\\ROOT\\0 OWN\\DEV 1 need=mem:0xE0000000-0xEFFFFFFF/0x20000@64:shared|irq:5;port:8-15/8 hw=OWN\\A,OWN\\B need=dma:1:shared;bus:0-255/4
 
   teach dev QUERY_STOP_DEVICE * pend 1000000\r
 teach d-e_v.2 add OWN\\DEV\\1 fail
@@ -20,13 +20,14 @@ enable own\\dev\\1
 eject OWN\\DEV\\1
 pull OWN\\DEV\\1
 plug OWN\\X\\2 A B\\C compat=*PNP0501
+window A\\B\\C mem:0xE0000000-0xEFFFFFFF
 plag";
 
-const EVENTS: [(u64, &[u8]); 12] = [
+const EVENTS: [(u64, &[u8]); 13] = [
     (2, b"Name dev Scripted "),
     (
         3,
-        b"Plug HTREE\\ROOT\\0 OWN\\DEV\\1 hw OWN\\A OWN\\B compat list group Mem 3758096384-4026531839 131072 64 true Irq 5-5 1 1 false group Port 8-15 8 1 false list group Dma 1-1 1 1 true ",
+        b"Plug HTREE\\ROOT\\0 OWN\\DEV\\1 hw OWN\\A OWN\\B compat list group Mem 3758096384-4026531839 131072 64 true Irq 5-5 1 1 false group Port 8-15 8 1 false list group Dma 1-1 1 1 true group Bus 0-255 4 1 false ",
     ),
     (5, b"Teach dev Irp(QueryStop) * Pend Some(1000000) "),
     (6, b"Teach d-e_v.2 Add OWN\\DEV\\1 Fail None "),
@@ -38,10 +39,11 @@ const EVENTS: [(u64, &[u8]); 12] = [
     (13, b"Eject OWN\\DEV\\1 "),
     (14, b"Pull OWN\\DEV\\1 "),
     (15, b"Plug OWN\\X\\2 A\\B\\C hw A compat *PNP0501 "),
+    (16, b"Window A\\B\\C Mem 3758096384-4026531839 false "),
 ];
 
 fn assert_script(rt: &impl Abort, alloc: Global, script: &Script) -> Result<(), Fail> {
-    assert!(rt; script.ends == (ScriptEnd::Bad { line: 16 }));
+    assert!(rt; script.ends == (ScriptEnd::Bad { line: 17 }));
     assert_eq!(rt; script.lines.len(), EVENTS.len());
     let mut at = 0;
     for line in &script.lines {

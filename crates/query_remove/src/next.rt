@@ -4,7 +4,7 @@ ghost use Rattle.pnp_model.specs.Machine.{removal_walk, is_waiting};
 ghost use Rattle.pnp_model.specs.Removals.{ask_on, end_ask, take_back, cancel_step};
 ghost use Rattle.pnp_model.specs.Frames.{first_node};
 ghost use Rattle.pnp_model.specs.Records as Records;
-ghost use Rattle.trial_journal.specs.Four as Four;
+ghost use Rattle.trial_journal.specs.ByKind as ByKind;
 ghost use Rattle.device_holdings.specs.Mirrors.{IsMirrored, KeepsMirror};
 ghost use Rattle.pnp_labels.specs.declared.label.RemoveStep.TheVariants as steps;
 ghost use Rattle.query_remove.specs.Steps.{Moved, Removes, HasNext, SettlesStripped};
@@ -42,7 +42,7 @@ impl Removal {
         requires path { PathIs (node_at asked.serial tree.old.nodes) asked.path }
         ensures agreed { IfOk result (λ label. MovesFor Moved (node_at asked.serial tree.old.nodes) (λ c n. end_ask c self.old n false) tree.old.nodes (steps.Did label) tree.new.nodes self.new) }
         ensures next { tree.new.next ≡ tree.old.next }
-        ensures mirrors { (arbiters : Four.Arbiters) → KeepsMirror tree.old.nodes arbiters tree.new.nodes arbiters }
+        ensures mirrors { (arbiters : ByKind.Arbiters) → KeepsMirror tree.old.nodes arbiters tree.new.nodes arbiters }
         ensures removal { OnErr result (self.new ≡ self.old) }
         ensures tree { OnErr result (tree.new ≡ tree.old) }
     {
@@ -58,7 +58,7 @@ impl Removal {
         requires path { PathIs (node_at asked.serial tree.old.nodes) asked.path }
         ensures refused { MovesFor Moved (node_at asked.serial tree.old.nodes) (λ c n. end_ask c self.old n true) tree.old.nodes (steps.Did result) tree.new.nodes self.new }
         ensures next { tree.new.next ≡ tree.old.next }
-        ensures mirrors { (arbiters : Four.Arbiters) → KeepsMirror tree.old.nodes arbiters tree.new.nodes arbiters }
+        ensures mirrors { (arbiters : ByKind.Arbiters) → KeepsMirror tree.old.nodes arbiters tree.new.nodes arbiters }
     {
         self.refuser = Some(asked.serial);
         self.stage = Stage::TakingBack;
@@ -71,7 +71,7 @@ impl Removal {
         requires path { PathIs (node_at asked.serial tree.old.nodes) asked.path }
         ensures taken { IfOk result (λ label. (w : Records.Walk) → MovesFor Moved (node_at asked.serial tree.old.nodes) (λ c n. take_back c self.old n w true) tree.old.nodes (steps.Did label) tree.new.nodes self.new) }
         ensures next { tree.new.next ≡ tree.old.next }
-        ensures mirrors { (arbiters : Four.Arbiters) → KeepsMirror tree.old.nodes arbiters tree.new.nodes arbiters }
+        ensures mirrors { (arbiters : ByKind.Arbiters) → KeepsMirror tree.old.nodes arbiters tree.new.nodes arbiters }
         ensures removal { OnErr result (self.new ≡ self.old) }
         ensures tree { OnErr result (tree.new ≡ tree.old) }
     {
@@ -85,7 +85,7 @@ impl Removal {
         requires path { PathIs (node_at asked.serial tree.old.nodes) asked.path }
         ensures cancelled { (w : Records.Walk) → MovesFor Moved (node_at asked.serial tree.old.nodes) (λ c n. cancel_step c self.old n w true) tree.old.nodes (steps.Did result) tree.new.nodes self.new }
         ensures next { tree.new.next ≡ tree.old.next }
-        ensures mirrors { (arbiters : Four.Arbiters) → KeepsMirror tree.old.nodes arbiters tree.new.nodes arbiters }
+        ensures mirrors { (arbiters : ByKind.Arbiters) → KeepsMirror tree.old.nodes arbiters tree.new.nodes arbiters }
     {
         self.todo.drop_first();
         self.cancel_next();

@@ -17,7 +17,7 @@ use Rattle.pnp_model.specs.Records.Doing.{Does, Searches}
 use Rattle.pnp_model.specs.Rebalances.{RebalanceMove, RebalanceBeside, moves, rebalance_step, rebalanced, movers, plan_of, committed, startable, restart_from, restart_on, stuck, trouble_of, commit_step, failed, close, end_of, over, moved_on, searched, group_problem, stop_on, cancel_on}
 use Rattle.pnp_laws.proofs.Lookups.{own_serial}
 use Rattle.devnode_tree.specs.Cores.{at_nodes}
-use Rattle.trial_journal.specs.Four.{Arbiters}
+use Rattle.trial_journal.specs.ByKind.{Arbiters}
 use Rattle.assign_search.specs.Fixed.{answer_of}
 use Rattle.assign_search.specs.declared.plan.Found.{Found as Answer}
 use Rattle.assign_search.specs.declared.plan.Found.TheVariants.{Assignment, NoFit, Spent}

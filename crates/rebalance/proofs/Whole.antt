@@ -10,7 +10,7 @@ use Rattle.pnp_model.specs.Cores.{is_node, node_at, with_problem}
 use Rattle.pnp_model.specs.Walks.{state_after}
 use Rattle.pnp_model.specs.Rebalances.{committed}
 use Rattle.pnp_model.specs.Records.{Node}
-use Rattle.trial_journal.specs.Four.{Arbiters}
+use Rattle.trial_journal.specs.ByKind.{Arbiters}
 use Rattle.device_holdings.specs.Mirrors.{KeepsMirror}
 use Rattle.devnode_tree.specs.Trees.{Tree, changed}
 use Rattle.devnode_tree.specs.Identities.{identity, identities}

@@ -11,7 +11,7 @@ use Rattle.pnp_model.specs.Rebalances.{RebalanceMove, end_ask, take_back, cancel
 use Rattle.devnode_tree.specs.Cores.{at_nodes}
 use Rattle.devnode_tree.specs.Trees.{Tree}
 use Rattle.devnode_tree.specs.Identities.{identities}
-use Rattle.trial_journal.specs.Four.{Arbiters}
+use Rattle.trial_journal.specs.ByKind.{Arbiters}
 use Rattle.device_holdings.specs.Mirrors.{Mirrors, KeepsMirror}
 use Rattle.rebalance.specs.declared.next.RebalanceStep.{RebalanceStep}
 use Rattle.rebalance.specs.declared.next.RebalanceStep.TheVariants as steps

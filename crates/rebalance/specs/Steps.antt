@@ -7,7 +7,7 @@ use Rattle.pnp_model.specs.Records.Doing.{Does, Searches}
 use Rattle.pnp_model.specs.Cores.{set_rack}
 use Rattle.pnp_model.specs.Rebalances.{RebalanceMove, RebalanceBeside, rebalanced}
 use Rattle.devnode_tree.specs.Cores.{at_nodes}
-use Rattle.trial_journal.specs.Four.{Arbiters}
+use Rattle.trial_journal.specs.ByKind.{Arbiters}
 use Rattle.device_holdings.specs.Mirrors.{Mirrors}
 use Rattle.operation_frame.specs.Steps.{StepIs}
 use Rattle.rebalance.specs.declared.next.RebalanceStep.{RebalanceStep}

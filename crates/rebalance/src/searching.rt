@@ -1,7 +1,7 @@
 ghost use Rattle.std.specs.Prelude.{◌≡◌, ◌≤◌, reverse, IfOk, OnOk, OnErr};
 ghost use Rattle.resource_reqs.specs.Spelling.Answer.{assignment};
 ghost use Rattle.assign_search.specs.Fixed.{answer_of};
-ghost use Rattle.trial_journal.specs.Four.{lists_of};
+ghost use Rattle.trial_journal.specs.ByKind.{lists_of};
 ghost use Rattle.pnp_model.specs.Rebalances.{movers, stop_on, cancel_on};
 ghost use Rattle.device_holdings.specs.Mirrors.{IsMirrored};
 ghost use Rattle.rebalance.specs.Parts.{Searched, found_label, found_frame};

@@ -1,6 +1,6 @@
 -- Lines of too few words, or of too many.
 use Rattle.std.proofs.Common.{◌≡◌, ℕ, List, [], ◌∷◌, length, None, refl}
-use Rattle.script_reader.specs.Lines.{relate_of, reserve_of, complete_of}
+use Rattle.script_reader.specs.Lines.{relate_of, reserve_of, complete_of, window_of}
 
 pub relate_other : (words : List (List ℕ)) → (length words ≡ 3 → ⊥) → relate_of words ≡ None
 relate_other [] other = refl
@@ -20,3 +20,9 @@ complete_other (a ∷ []) other = refl
 complete_other (a ∷ b ∷ []) other = refl
 complete_other (a ∷ b ∷ c ∷ []) other = absurd (other refl)
 complete_other (a ∷ b ∷ c ∷ d ∷ more) other = refl
+
+pub window_other : (words : List (List ℕ)) → (length words ≡ 2 → ⊥) → window_of words ≡ None
+window_other [] other = refl
+window_other (a ∷ []) other = refl
+window_other (a ∷ b ∷ []) other = absurd (other refl)
+window_other (a ∷ b ∷ c ∷ more) other = refl

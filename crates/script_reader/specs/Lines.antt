@@ -4,6 +4,8 @@ use Rattle.std.specs.Option.{option_map, is_some}
 use Rattle.std.specs.List.{list_all, filter_map}
 use Rattle.device_ids.specs.Ids.{is_path, joined}
 use Rattle.resource_reqs.specs.Resources.{Res, Reqs}
+use Rattle.resource_reqs.specs.declared.kind.Kind.{Kind}
+use Rattle.resource_reqs.specs.declared.kind.Kind.TheVariants as kinds
 use Rattle.device_ids.specs.Cuts.{cut_once}
 use Rattle.pnp_labels.specs.declared.words.AskWhat.{AskWhat}
 use Rattle.pnp_labels.specs.declared.words.AskWhat.TheVariants as asks
@@ -16,7 +18,7 @@ use Rattle.pnp_labels.specs.declared.label.EventWord.{EventWord}
 use Rattle.std.specs.Str.{bytes_eq}
 use Rattle.script_reader.specs.Words.{is_name}
 use Rattle.script_reader.specs.Tables.{keyword_of, minor_of, driver_kind_of, rel_kind_of, kind_of, answer_of, ask_of, ok_of}
-use Rattle.script_reader.specs.Numbers.{◌>>=◌, only_if, number_of, range_of}
+use Rattle.script_reader.specs.Numbers.{◌>>=◌, only_if, number_of, range_in}
 use Rattle.script_reader.specs.Wants.{all_of, at_most, list_of, id_of, ids_of}
 
 abbrev pub path_of : List ℕ → Option (List ℕ)
@@ -152,7 +154,7 @@ abbrev pub res_of : List ℕ → Option Res
 res_of text = do
   cut ← cut_once 0x3A text
   kind ← kind_of cut.0
-  range ← range_of cut.1
+  range ← range_in kind cut.1
   Some (record { kind = kind; lo = range.0; hi = range.1; shared = false })
 
 abbrev pub reserved : List ℕ → Option Event
@@ -175,6 +177,24 @@ abbrev pub complete_of : List (List ℕ) → Option Event
 complete_of (path ∷ minor ∷ ok ∷ []) = completed path minor ok
 complete_of _ = None
 
+-- bridges have windows of ports and of memory
+abbrev pub has_windows : Kind → Bool
+has_windows kinds.Port = true
+has_windows kinds.Mem = true
+has_windows _ = false
+
+abbrev pub window_res_of : List ℕ → Option Res
+window_res_of text = do
+  res ← res_of text
+  only_if (has_windows res.kind) res
+
+abbrev pub window_of : List (List ℕ) → Option Event
+window_of (path ∷ res ∷ []) = do
+  path ← path_of path
+  res ← window_res_of res
+  Some (events.Window path res)
+window_of _ = None
+
 abbrev pub event_by : EventWord → List (List ℕ) → Option Event
 event_by EventWord.Plug words = plug_of words
 event_by EventWord.Pull words = pull_of words
@@ -186,6 +206,7 @@ event_by EventWord.Eject words = eject_of words
 event_by EventWord.Relate words = relate_of words
 event_by EventWord.Reserve words = reserve_of words
 event_by EventWord.Complete words = complete_of words
+event_by EventWord.Window words = window_of words
 
 -- the event of a line's words, its keyword and the words after it
 abbrev pub event_of : List (List ℕ) → Option Event

@@ -1,6 +1,8 @@
--- Numbers and ranges.
+-- Numbers, ranges, and the ranges of a kind of resource.
 use Rattle.std.specs.Prelude.{ℕ, ◌+◌, ◌-◌, ◌*◌, ◌^◌, Bool, true, false, ◌==◌, ◌&&◌, nat_le, nat_lt, List, [], ◌∷◌, length, Option, Some, None, if◌then◌else◌}
 use Rattle.device_ids.specs.Cuts.{cut_once}
+use Rattle.resource_reqs.specs.declared.kind.Kind.{Kind}
+use Rattle.resource_reqs.specs.declared.kind.Kind.TheVariants.{Bus}
 
 infixl 10 ◌>>=◌
 abbrev pub ◌>>=◌ : {A B : Type 0} → Option A → (A → Option B) → Option B
@@ -71,3 +73,14 @@ range_by text (Some texts) = ends texts
 -- LO-HI, or one number
 abbrev pub range_of : List ℕ → Option (ℕ × ℕ)
 range_of text = range_by text (cut_once 0x2D text)
+
+-- a bus has one of 256 numbers
+abbrev pub has_number : Kind → ℕ → Bool
+has_number Bus number = nat_le number 255
+has_number _ number = true
+
+-- RANGE, with numbers that the kind has
+abbrev pub range_in : Kind → List ℕ → Option (ℕ × ℕ)
+range_in kind text = do
+  range ← range_of text
+  only_if (has_number kind range.1) range

@@ -27,7 +27,8 @@ keyword_of word = among (
     (codes "eject", EventWord.Eject) ∷
     (codes "relate", EventWord.Relate) ∷
     (codes "reserve", EventWord.Reserve) ∷
-    (codes "complete", EventWord.Complete) ∷ []) word
+    (codes "complete", EventWord.Complete) ∷
+    (codes "window", EventWord.Window) ∷ []) word
 
 abbrev pub driver_kind_of : List ℕ → Option DriverKind
 driver_kind_of word = among (
@@ -45,7 +46,8 @@ kind_of word = among (
     (codes "port", Kind.Port) ∷
     (codes "irq", Kind.Irq) ∷
     (codes "mem", Kind.Mem) ∷
-    (codes "dma", Kind.Dma) ∷ []) word
+    (codes "dma", Kind.Dma) ∷
+    (codes "bus", Kind.Bus) ∷ []) word
 
 abbrev pub answer_of : List ℕ → Option Answer
 answer_of word = among (

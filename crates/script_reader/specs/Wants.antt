@@ -4,10 +4,10 @@ use Rattle.device_ids.specs.Cuts.{parts, cut_once}
 use Rattle.device_ids.specs.Ids.{is_id}
 use Rattle.resource_reqs.specs.Resources.{Want, is_want}
 use Rattle.resource_reqs.specs.declared.kind.Kind.{Kind}
-use Rattle.resource_reqs.specs.declared.kind.Kind.TheVariants.{Port, Irq, Mem, Dma}
+use Rattle.resource_reqs.specs.declared.kind.Kind.TheVariants.{Port, Irq, Mem, Dma, Bus}
 use Rattle.std.specs.Str.{bytes_eq}
 use Rattle.script_reader.specs.Tables.{kind_of}
-use Rattle.script_reader.specs.Numbers.{◌>>=◌, only_if, number_of, range_of}
+use Rattle.script_reader.specs.Numbers.{◌>>=◌, only_if, number_of, range_in}
 
 -- a text without its tail, and the tail behind the first such byte where there is one
 abbrev pub tail_by : List ℕ → Option (List ℕ × List ℕ) → List ℕ × Option (List ℕ)
@@ -32,21 +32,26 @@ want_from kind range len align shared =
     only_if (is_want (record { kind = kind; min = range.0; max = range.1; len = len; align = align; shared = shared }))
     (record { kind = kind; min = range.0; max = range.1; len = len; align = align; shared = shared })
 
--- RANGE, then /LEN, then @ALIGN
-abbrev pub sized_by : Kind → List ℕ × Option (List ℕ) → Option (List ℕ) → Bool → Option Want
-sized_by kind size align shared = do
-  range ← range_of size.0
-  len ← number_or_one size.1
+-- RANGE, then /LEN, beside an alignment
+abbrev pub sized_by : Kind → List ℕ → Option (List ℕ) → Bool → Option Want
+sized_by kind text align shared = do
+  range ← range_in kind (tail_at 0x2F text).0
+  len ← number_or_one (tail_at 0x2F text).1
   align ← number_or_one align
   want_from kind range len align shared
 
+-- RANGE, then /LEN, then @ALIGN
 abbrev pub sized : Kind → List ℕ → Bool → Option Want
-sized kind text shared = sized_by kind (tail_at 0x2F (tail_at 0x40 text).0) (tail_at 0x40 text).1 shared
+sized kind text shared = sized_by kind (tail_at 0x40 text).0 (tail_at 0x40 text).1 shared
+
+-- RANGE, then /LEN
+abbrev pub spanned : Kind → List ℕ → Bool → Option Want
+spanned kind text shared = sized_by kind text None shared
 
 -- RANGE alone
 abbrev pub counted : Kind → List ℕ → Bool → Option Want
 counted kind text shared = do
-  range ← range_of text
+  range ← range_in kind text
   want_from kind range 1 1 shared
 
 abbrev pub want_by : Kind → List ℕ → Bool → Option Want
@@ -54,6 +59,7 @@ want_by Port text shared = sized Port text shared
 want_by Irq text shared = counted Irq text shared
 want_by Mem text shared = sized Mem text shared
 want_by Dma text shared = counted Dma text shared
+want_by Bus text shared = spanned Bus text shared
 
 -- KIND:RANGE, the lengths, and :shared at the end
 abbrev pub want_of : List ℕ → Option Want

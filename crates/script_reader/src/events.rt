@@ -5,7 +5,7 @@ ghost use Rattle.script_reader.specs.Lines.{event_of, event_by};
 use crate::fault::LineError;
 use crate::lines::{
     complete_of, disable_of, driver_of, eject_of, enable_of, pull_of, relate_of, reserve_of,
-    teach_of,
+    teach_of, window_of,
 };
 use crate::plug::plug_of;
 use crate::tables::keyword_of;
@@ -27,6 +27,7 @@ fn event_by(alloc: Global, keyword: EventWord, words: &[&[u8]]) -> Result<Event,
         EventWord::Relate => relate_of(alloc, words),
         EventWord::Reserve => reserve_of(words),
         EventWord::Complete => complete_of(alloc, words),
+        EventWord::Window => window_of(alloc, words),
     }
 }
 

@@ -14,6 +14,7 @@
 //! | `relate removal OWNER MEMBER`, `relate ejection OWNER MEMBER` | two devices are related |
 //! | `reserve KIND:RANGE` | a range is taken for no device |
 //! | `complete PATH MINOR ok`, `complete PATH MINOR fail` | a pended request is completed |
+//! | `window PATH KIND:RANGE` | a bridge passes on no other ports, or memory; KIND is `port` or `mem` |
 //!
 //! - NAME has 1 to 64 letters, digits, `_`, `-` and `.`. ASK is `add` or a request, ANSWER is `ok`, `fail` or
 //!   `pend`, but `add` is not left unanswered. N is 1 to 1,000,000.
@@ -22,8 +23,9 @@
 //! - The attributes of `plug` stand in any order: `hw=ID,ID` and `compat=ID,ID` at most once, with 1 to 64
 //!   IDs (without `hw` DEVICE is the only hardware ID), and up to 8 times `need=LIST`. LIST is 1 to 16 groups
 //!   between `;`, a group 1 to 16 wants between `|`.
-//! - A want is `port:RANGE` or `mem:RANGE`, then perhaps `/LEN`, `@ALIGN` and `:shared` in this order, or
-//!   `irq:RANGE` or `dma:RANGE`, then perhaps `:shared`.
+//! - A want is `port:RANGE` or `mem:RANGE`, then perhaps `/LEN`, `@ALIGN` and `:shared` in this order,
+//!   `irq:RANGE` or `dma:RANGE`, then perhaps `:shared`, or `bus:RANGE`, then perhaps `/LEN` and `:shared`.
+//! - The numbers of a RANGE behind `bus:` are at most 255.
 #![tactic(auto)]
 
 mod error;

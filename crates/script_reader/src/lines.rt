@@ -1,15 +1,15 @@
 ghost use Rattle.std.specs.Prelude.{◌≡◌, ◌<◌, length, map, IfOk, Some, None};
 ghost use Rattle.std.specs.Option.{option_map};
 ghost use Rattle.script_reader.specs.Faults.{Gives};
-ghost use Rattle.script_reader.specs.Lines.{path_of, name_of, rule_path_of, is_answerable, rule_of, uses_of, pull_of, disable_of, enable_of, eject_of, driver_of, uses_by, teach_of, related, relate_of, res_of, reserved, reserve_of, completed, complete_of};
+ghost use Rattle.script_reader.specs.Lines.{path_of, name_of, rule_path_of, is_answerable, rule_of, uses_of, pull_of, disable_of, enable_of, eject_of, driver_of, uses_by, teach_of, related, relate_of, res_of, reserved, reserve_of, completed, complete_of, has_windows, window_res_of, window_of};
 
 use crate::fault::LineError;
-use crate::numbers::{number_of, range_of};
+use crate::numbers::{number_of, range_in};
 use crate::tables::{answer_of, ask_of, driver_kind_of, kind_of, minor_of, ok_of, rel_kind_of};
 use crate::words::is_name;
 use device_ids::{InstancePath, Text, split_once};
 use pnp_labels::{Answer, AskWhat, Event, RelKind, Rule};
-use resource_reqs::Res;
+use resource_reqs::{Kind, Res};
 use std::alloc::Global;
 
 /// The greatest number of uses of a rule.
@@ -214,7 +214,7 @@ fn res_of(word: &[u8]) -> Option<Res>
 {
     let (kind, range) = split_once(word, b':')?;
     let kind = kind_of(kind)?;
-    let (lo, hi) = range_of(range)?;
+    let (lo, hi) = range_in(kind, range)?;
     Res::make(kind, lo, hi, false)
 }
 
@@ -260,4 +260,40 @@ pub fn complete_of(alloc: Global, words: &[&[u8]]) -> Result<Event, LineError>
         return Err(LineError::Bad);
     };
     completed(alloc, path, minor, ok)
+}
+
+/// Whether a bridge has windows of the kind: it has them of ports and of memory.
+fn has_windows(kind: Kind) -> bool
+    ensures { result ≡ has_windows kind }
+{
+    match kind {
+        Kind::Port | Kind::Mem => true,
+        _ => false,
+    }
+}
+
+/// The range of a window.
+fn window_res_of(word: &[u8]) -> Option<Res>
+    ensures { result ≡ window_res_of word.now }
+{
+    let res = res_of(word)?;
+    if has_windows(res.kind) {
+        Some(res)
+    } else {
+        None
+    }
+}
+
+/// `window PATH KIND:RANGE`.
+pub fn window_of(alloc: Global, words: &[&[u8]]) -> Result<Event, LineError>
+    ensures { Gives result (window_of (map (λ w. w.now) words.now)) }
+{
+    let [path, res] = words else {
+        return Err(LineError::Bad);
+    };
+    let path = path_of(alloc, path)?;
+    let Some(res) = window_res_of(res) else {
+        return Err(LineError::Bad);
+    };
+    Ok(Event::Window { path, res })
 }

@@ -1,7 +1,11 @@
-ghost use Rattle.std.specs.Prelude.{◌≡◌, ◌<◌, ◌⊎◌, ◌^◌};
-ghost use Rattle.script_reader.specs.Numbers.{digit_of, numeral, number_of, range_of};
+ghost use Rattle.std.specs.Prelude.{◌≡◌, ◌<◌, ◌≤◌, ◌⊎◌, ◌^◌, IfSome};
+ghost use Rattle.script_reader.specs.Numbers.{digit_of, numeral, number_of, range_of, has_number, range_in};
 
 use device_ids::split_once;
+use resource_reqs::Kind;
+
+/// The greatest number of a bus.
+const LAST_BUS: u64 = 255;
 
 /// The value of a digit of the base.
 fn digit_of(byte: u8, base: u64) -> Option<u64>
@@ -47,8 +51,9 @@ pub fn number_of(text: &[u8]) -> Option<u64>
 }
 
 /// The least and the greatest number of the range that the text is.
-pub fn range_of(text: &[u8]) -> Option<(u64, u64)>
-    ensures { result ≡ range_of text.now }
+fn range_of(text: &[u8]) -> Option<(u64, u64)>
+    ensures is { result ≡ range_of text.now }
+    ensures ordered { IfSome result (λ range. range.0 ≤ range.1) }
 {
     let Some((lo, hi)) = split_once(text, b'-') else {
         let number = number_of(text)?;
@@ -57,4 +62,27 @@ pub fn range_of(text: &[u8]) -> Option<(u64, u64)>
     let lo = number_of(lo)?;
     let hi = number_of(hi)?;
     if lo <= hi { Some((lo, hi)) } else { None }
+}
+
+/// Whether the kind has the number: a bus has one of 256, the other kinds have all.
+fn has_number(kind: Kind, number: u64) -> bool
+    ensures { result ≡ has_number kind number }
+{
+    match kind {
+        Kind::Bus => number <= LAST_BUS,
+        _ => true,
+    }
+}
+
+/// The least and the greatest number of the range that the text is, where the kind has them.
+pub fn range_in(kind: Kind, text: &[u8]) -> Option<(u64, u64)>
+    ensures is { result ≡ range_in kind text.now }
+    ensures ordered { IfSome result (λ range. range.0 ≤ range.1) }
+{
+    let (lo, hi) = range_of(text)?;
+    if has_number(kind, hi) {
+        Some((lo, hi))
+    } else {
+        None
+    }
 }

@@ -4,7 +4,7 @@ ghost use Rattle.script_reader.specs.Tables.{among, keyword_of, driver_kind_of, 
 use pnp_labels::{Answer, AskWhat, DriverKind, EventWord, Minor, RelKind};
 use resource_reqs::Kind;
 
-const KEYWORDS: [(&[u8], EventWord); 10] = [
+const KEYWORDS: [(&[u8], EventWord); 11] = [
     (b"plug", EventWord::Plug),
     (b"pull", EventWord::Pull),
     (b"driver", EventWord::Name),
@@ -15,6 +15,7 @@ const KEYWORDS: [(&[u8], EventWord); 10] = [
     (b"relate", EventWord::Relate),
     (b"reserve", EventWord::Reserve),
     (b"complete", EventWord::Complete),
+    (b"window", EventWord::Window),
 ];
 
 const DRIVER_KINDS: [(&[u8], DriverKind); 3] = [
@@ -28,11 +29,12 @@ const REL_KINDS: [(&[u8], RelKind); 2] = [
     (b"ejection", RelKind::Ejection),
 ];
 
-const KINDS: [(&[u8], Kind); 4] = [
+const KINDS: [(&[u8], Kind); 5] = [
     (b"port", Kind::Port),
     (b"irq", Kind::Irq),
     (b"mem", Kind::Mem),
     (b"dma", Kind::Dma),
+    (b"bus", Kind::Bus),
 ];
 
 const ANSWERS: [(&[u8], Answer); 3] = [

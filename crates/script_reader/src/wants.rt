@@ -1,10 +1,10 @@
 ghost use Rattle.std.specs.Prelude.{◌≡◌, ◌<◌, ◌+◌, ◌^◌, length, map, IfOk};
 ghost use Rattle.std.specs.Option.{option_map};
 ghost use Rattle.script_reader.specs.Faults.{Gives};
-ghost use Rattle.script_reader.specs.Wants.{tail_at, shared_of, number_or_one, want_from, sized, counted, want_of, group_of, list_of, id_of, ids_of};
+ghost use Rattle.script_reader.specs.Wants.{tail_at, shared_of, number_or_one, want_from, sized_by, sized, spanned, counted, want_of, group_of, list_of, id_of, ids_of};
 
 use crate::fault::LineError;
-use crate::numbers::{number_of, range_of};
+use crate::numbers::{number_of, range_in};
 use crate::tables::kind_of;
 use device_ids::{DeviceId, IdList, cut, split_once};
 use resource_reqs::{AltList, Group, Kind, Want};
@@ -56,23 +56,37 @@ fn want_from(kind: Kind, range: (u64, u64), len: u64, align: u64, shared: bool) 
     }
 }
 
+/// A want of a range and a length, with this alignment.
+fn sized_by(kind: Kind, text: &[u8], align: Option<&[u8]>, shared: bool) -> Option<Want>
+    ensures { result ≡ sized_by kind text.now (option_map (λ x. x.now) align.entry) shared }
+{
+    let (range, len) = tail_at(text, b'/');
+    let range = range_in(kind, range)?;
+    let len = number_or_one(len)?;
+    let align = number_or_one(align)?;
+    want_from(kind, range, len, align, shared)
+}
+
 /// A want of ports or memory: a range, a length and an alignment.
 fn sized(kind: Kind, text: &[u8], shared: bool) -> Option<Want>
     ensures { result ≡ sized kind text.now shared }
 {
     let (text, align) = tail_at(text, b'@');
-    let (range, len) = tail_at(text, b'/');
-    let range = range_of(range)?;
-    let len = number_or_one(len)?;
-    let align = number_or_one(align)?;
-    want_from(kind, range, len, align, shared)
+    sized_by(kind, text, align, shared)
+}
+
+/// A want of bus numbers: a range and a length.
+fn spanned(kind: Kind, text: &[u8], shared: bool) -> Option<Want>
+    ensures { result ≡ spanned kind text.now shared }
+{
+    sized_by(kind, text, None, shared)
 }
 
 /// A want of an interrupt or a DMA channel: a range.
 fn counted(kind: Kind, text: &[u8], shared: bool) -> Option<Want>
     ensures { result ≡ counted kind text.now shared }
 {
-    let range = range_of(text)?;
+    let range = range_in(kind, text)?;
     want_from(kind, range, 1, 1, shared)
 }
 
@@ -89,6 +103,7 @@ fn want_of(text: &[u8]) -> Option<Want>
         Kind::Irq => counted(Kind::Irq, form, shared),
         Kind::Mem => sized(Kind::Mem, form, shared),
         Kind::Dma => counted(Kind::Dma, form, shared),
+        Kind::Bus => spanned(Kind::Bus, form, shared),
     }
 }
 

@@ -16,7 +16,7 @@ use Rattle.pnp_model.specs.Cores.{is_node, node_at, with_holds}
 use Rattle.pnp_model.specs.Starts.{own_part, own_problem, searched}
 use Rattle.pnp_model.specs.Walks.{walk_of}
 use Rattle.devnode_tree.specs.Cores.{at_nodes}
-use Rattle.trial_journal.specs.Four.{Arbiters}
+use Rattle.trial_journal.specs.ByKind.{Arbiters}
 use Rattle.assign_search.specs.Fixed.{answer_of}
 use Rattle.assign_search.specs.declared.plan.Found.{Found}
 use Rattle.assign_search.specs.declared.plan.Found.TheVariants.{Assignment, NoFit, Spent}

@@ -1,6 +1,6 @@
 -- Arbiters that mirror what devices hold still do where no holdings change.
 use Rattle.std.proofs.Common.{ℕ, List, Option, refl}
-use Rattle.trial_journal.specs.Four.{Arbiters}
+use Rattle.trial_journal.specs.ByKind.{Arbiters}
 use Rattle.pnp_model.specs.Keyed.{changed_first}
 use Rattle.pnp_model.specs.Records.{Node}
 use Rattle.pnp_model.specs.Cores.{is_node, with_state, with_problem, with_stack}

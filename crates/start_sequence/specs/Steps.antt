@@ -10,7 +10,7 @@ use Rattle.pnp_model.specs.Records.Doing.{Does, Searches}
 use Rattle.pnp_model.specs.Cores.{node_at, set_rack, forget}
 use Rattle.pnp_model.specs.Starts.{StartMove, StartBeside, act, adding}
 use Rattle.devnode_tree.specs.Cores.{at_nodes}
-use Rattle.trial_journal.specs.Four.{Arbiters}
+use Rattle.trial_journal.specs.ByKind.{Arbiters}
 use Rattle.device_holdings.specs.Mirrors.{Mirrors}
 use Rattle.start_sequence.specs.declared.next.StartStep.{StartStep}
 use Rattle.start_sequence.specs.declared.next.StartStep.TheVariants as steps

@@ -3,7 +3,7 @@ ghost use Rattle.pnp_model.specs.Cores.{node_at};
 ghost use Rattle.pnp_model.specs.Records.{State};
 ghost use Rattle.pnp_model.specs.Tasks.{start_enabled, numbered};
 ghost use Rattle.devnode_tree.specs.Identities.{identities};
-ghost use Rattle.trial_journal.specs.Four as Four;
+ghost use Rattle.trial_journal.specs.ByKind as ByKind;
 ghost use Rattle.device_holdings.specs.Mirrors.{KeepsMirror};
 ghost use Rattle.start_sequence.specs.Begins.{settings_of, step_of, AppendedBy, ChosenBy, HasFewIds, BegunFor};
 ghost use Rattle.start_sequence.specs.Works.{phase_of};
@@ -144,7 +144,7 @@ impl StartWork {
         ensures device { IfOk result (λ r. IfSome r.1 (λ work. work.serial ≡ serial)) }
         ensures next { tree.new.next ≡ tree.old.next }
         ensures keeps { identities tree.new.nodes ≡ identities tree.old.nodes }
-        ensures mirrors { (arbiters : Four.Arbiters) → KeepsMirror tree.old.nodes arbiters tree.new.nodes arbiters }
+        ensures mirrors { (arbiters : ByKind.Arbiters) → KeepsMirror tree.old.nodes arbiters tree.new.nodes arbiters }
         ensures tree { OnErr result (tree.new ≡ tree.old) }
     {
         let node = tree.at(serial);

@@ -4,7 +4,7 @@ ghost use Rattle.pnp_model.specs.Machine.{phase_walk, is_waiting};
 ghost use Rattle.pnp_model.specs.Records.{Core};
 ghost use Rattle.devnode_tree.specs.Cores.{at_nodes};
 ghost use Rattle.devnode_tree.specs.Identities.{identities};
-ghost use Rattle.trial_journal.specs.Four as Four;
+ghost use Rattle.trial_journal.specs.ByKind as ByKind;
 ghost use Rattle.device_holdings.specs.Mirrors.{IsMirrored, KeepsMirror};
 ghost use Rattle.start_sequence.specs.Steps.{Acts, first_pending, phase_added};
 ghost use Rattle.start_sequence.specs.Parts.{AddedFor, StartsFor, RemovesFor, TroubledFor};
@@ -83,7 +83,7 @@ fn add<R: Drivers>(
     ensures added { IfOk result (λ r. AddedFor (node_at serial tree.old.nodes) driver tree.old.nodes (R.rows rack.old) r.0 r.1 tree.new.nodes (R.rows rack.new)) }
     ensures next { tree.new.next ≡ tree.old.next }
     ensures keeps { identities tree.new.nodes ≡ identities tree.old.nodes }
-    ensures mirrors { (arbiters : Four.Arbiters) → KeepsMirror tree.old.nodes arbiters tree.new.nodes arbiters }
+    ensures mirrors { (arbiters : ByKind.Arbiters) → KeepsMirror tree.old.nodes arbiters tree.new.nodes arbiters }
     ensures tree { OnErr result (tree.new ≡ tree.old) }
     ensures rack { OnErr result (R.rows rack.new ≡ R.rows rack.old) }
 {
@@ -123,7 +123,7 @@ fn start<R: Drivers>(
     ensures started { IfOk result (λ went. (around : Core) → StartsFor (node_at serial tree.old.nodes) (at_nodes tree.old.nodes (set_rack (R.rows rack.old) around)) walk.old.walk went (at_nodes tree.new.nodes (set_rack (R.rows rack.new) around)) walk.new.walk) }
     ensures next { tree.new.next ≡ tree.old.next }
     ensures keeps { identities tree.new.nodes ≡ identities tree.old.nodes }
-    ensures mirrors { (arbiters : Four.Arbiters) → KeepsMirror tree.old.nodes arbiters tree.new.nodes arbiters }
+    ensures mirrors { (arbiters : ByKind.Arbiters) → KeepsMirror tree.old.nodes arbiters tree.new.nodes arbiters }
     ensures walk { OnErr result (walk.new ≡ walk.old) }
     ensures tree { OnErr result (tree.new ≡ tree.old) }
     ensures rack { OnErr result (R.rows rack.new ≡ R.rows rack.old) }
@@ -194,7 +194,7 @@ fn trouble(
     ensures troubled { IfOk result (λ r. TroubledFor (node_at serial tree.old.nodes) problem tree.old.nodes r.0 r.1 tree.new.nodes) }
     ensures next { tree.new.next ≡ tree.old.next }
     ensures keeps { identities tree.new.nodes ≡ identities tree.old.nodes }
-    ensures mirrors { (arbiters : Four.Arbiters) → KeepsMirror tree.old.nodes arbiters tree.new.nodes arbiters }
+    ensures mirrors { (arbiters : ByKind.Arbiters) → KeepsMirror tree.old.nodes arbiters tree.new.nodes arbiters }
     ensures tree { OnErr result (tree.new ≡ tree.old) }
 {
     let node = tree.at(serial);

@@ -4,7 +4,7 @@ ghost use Rattle.pnp_model.specs.Machine.{surprise_walk, is_waiting};
 ghost use Rattle.pnp_model.specs.Surprises.{tell_step};
 ghost use Rattle.pnp_model.specs.Frames.{first_node};
 ghost use Rattle.pnp_model.specs.Records as Records;
-ghost use Rattle.trial_journal.specs.Four as Four;
+ghost use Rattle.trial_journal.specs.ByKind as ByKind;
 ghost use Rattle.device_holdings.specs.Mirrors.{IsMirrored, KeepsMirror};
 ghost use Rattle.operation_frame.specs.Nodes.{PathIs};
 ghost use Rattle.operation_frame.specs.Steps.{MovesFor, MovesRelated};
@@ -28,7 +28,7 @@ impl Surprise {
         requires path { PathIs (node_at asked.serial tree.old.nodes) asked.path }
         ensures told { IfOk result (λ label. (w : Records.Walk) → MovesFor Moved (node_at asked.serial tree.old.nodes) (λ c n. tell_step c self.old n w true) tree.old.nodes (steps.Did label) tree.new.nodes self.new) }
         ensures next { tree.new.next ≡ tree.old.next }
-        ensures mirrors { (arbiters : Four.Arbiters) → KeepsMirror tree.old.nodes arbiters tree.new.nodes arbiters }
+        ensures mirrors { (arbiters : ByKind.Arbiters) → KeepsMirror tree.old.nodes arbiters tree.new.nodes arbiters }
         ensures surprise { OnErr result (self.new ≡ self.old) }
         ensures tree { OnErr result (tree.new ≡ tree.old) }
     {

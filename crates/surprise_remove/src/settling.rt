@@ -1,7 +1,7 @@
 ghost use Rattle.std.specs.Prelude.{◌≡◌, IfOk, OnErr, IsSome, IfSome};
 ghost use Rattle.pnp_model.specs.Frames.{first_node, rest};
 ghost use Rattle.pnp_model.specs.Surprises.{finish_on};
-ghost use Rattle.trial_journal.specs.Four as Four;
+ghost use Rattle.trial_journal.specs.ByKind as ByKind;
 ghost use Rattle.device_holdings.specs.Mirrors.{KeepsMirror};
 ghost use Rattle.operation_frame.specs.Nodes.{IsStripped};
 ghost use Rattle.pnp_labels.specs.declared.label.OpEnd.{OpEnd};
@@ -37,7 +37,7 @@ impl Surprise {
         requires settles { IfSome (first_node tree.old.nodes self.old.todo) (IsStripped tree.old.nodes) }
         ensures settles { IfOk result (λ step. SettlesFor (first_node tree.old.nodes self.old.todo) tree.old.nodes self.old in_world step tree.new.nodes self.new) }
         ensures next { tree.new.next ≡ tree.old.next }
-        ensures mirrors { (arbiters : Four.Arbiters) → KeepsMirror tree.old.nodes arbiters tree.new.nodes arbiters }
+        ensures mirrors { (arbiters : ByKind.Arbiters) → KeepsMirror tree.old.nodes arbiters tree.new.nodes arbiters }
         ensures surprise { OnErr result (self.new ≡ self.old) }
         ensures tree { OnErr result (tree.new ≡ tree.old) }
     {

@@ -1,1 +1,2 @@
+pub mod EachKind
 pub mod KindsApart

@@ -1,1 +1,1 @@
-pub mod Four
+pub mod ByKind

@@ -3,7 +3,7 @@ ghost use Rattle.std.specs.List.{list_any};
 ghost use Rattle.resource_reqs.specs.Resources.{IsOpen, clashes};
 ghost use Rattle.range_arbiter.specs.Pairs.{res_list};
 ghost use Rattle.resource_reqs.specs.declared.kind.Kind.{Kind};
-ghost use Rattle.trial_journal.specs.Four.{of_kind, with_kind, all_pairs, arbiters_with, AreOfKinds};
+ghost use Rattle.trial_journal.specs.ByKind.{of_kind, with_kind, all_pairs, arbiters_with, AreOfKinds};
 
 use irq_dma_arbiter::NumberArbiter;
 use range_arbiter::RangeArbiter;
@@ -11,25 +11,26 @@ use resource_reqs::{Kind, Owner, Res, Want, WantOfMemory};
 use std::alloc::Global;
 use std::marker::Model;
 
-/// The arbiters of ports, interrupts, memory and DMA channels, each of which holds pairs of an owner and a
-/// resource (this project's own; the driver kit, "Arbiter Interface"). A contract sees the four: kind, list
-/// of pairs and `spare` of each.
+/// The arbiters of ports, interrupts, memory, DMA channels and bus numbers, each of which holds pairs of an
+/// owner and a resource (this project's own; the driver kit, "Arbiter Interface"). A contract sees one for each
+/// kind: its kind, its list of pairs and `spare`.
 #[derive(Debug, Drop)]
 pub struct Arbiters {
     ports: RangeArbiter,
     irqs: NumberArbiter,
     memory: RangeArbiter,
     channels: NumberArbiter,
+    buses: NumberArbiter,
 }
 
 impl Model for Arbiters {
-    ghost use Rattle.trial_journal.specs.Four.{Arbiters, AreOfKinds};
+    ghost use Rattle.trial_journal.specs.ByKind.{Arbiters, AreOfKinds};
 
     ghost Value = { Arbiters };
 
-    ghost view = { λ a. record { port = a.ports; irq = a.irqs; mem = a.memory; dma = a.channels } };
+    ghost view = { λ a. record { port = a.ports; irq = a.irqs; mem = a.memory; dma = a.channels; bus = a.buses } };
 
-    ghost invariant = { λ a. AreOfKinds (record { port = a.ports; irq = a.irqs; mem = a.memory; dma = a.channels }) };
+    ghost invariant = { λ a. AreOfKinds (record { port = a.ports; irq = a.irqs; mem = a.memory; dma = a.channels; bus = a.buses }) };
 }
 
 impl Arbiters {
@@ -43,6 +44,7 @@ impl Arbiters {
             irqs: NumberArbiter::new(alloc, Kind::Irq)?,
             memory: RangeArbiter::new(alloc, Kind::Mem)?,
             channels: NumberArbiter::new(alloc, Kind::Dma)?,
+            buses: NumberArbiter::new(alloc, Kind::Bus)?,
         })
     }
 
@@ -58,6 +60,7 @@ impl Arbiters {
             Kind::Irq => self.irqs.room(more),
             Kind::Mem => self.memory.room(more),
             Kind::Dma => self.channels.room(more),
+            Kind::Bus => self.buses.room(more),
         }
     }
 
@@ -70,6 +73,7 @@ impl Arbiters {
             Kind::Irq => self.irqs.spare(),
             Kind::Mem => self.memory.spare(),
             Kind::Dma => self.channels.spare(),
+            Kind::Bus => self.buses.spare(),
         }
     }
 
@@ -85,6 +89,7 @@ impl Arbiters {
             Kind::Irq => self.irqs.next_place(want, from),
             Kind::Mem => self.memory.next_place(want, from),
             Kind::Dma => self.channels.next_place(want, from),
+            Kind::Bus => self.buses.next_place(want, from),
         }
     }
 
@@ -108,6 +113,7 @@ impl Arbiters {
             Kind::Irq => self.irqs.clashes(res),
             Kind::Mem => self.memory.clashes(res),
             Kind::Dma => self.channels.clashes(res),
+            Kind::Bus => self.buses.clashes(res),
         }
     }
 
@@ -122,6 +128,7 @@ impl Arbiters {
             Kind::Irq => self.irqs.put(owner, res),
             Kind::Mem => self.memory.put(owner, res),
             Kind::Dma => self.channels.put(owner, res),
+            Kind::Bus => self.buses.put(owner, res),
         }
     }
 
@@ -137,6 +144,7 @@ impl Arbiters {
             Kind::Irq => self.irqs.take(owner, res),
             Kind::Mem => self.memory.take(owner, res),
             Kind::Dma => self.channels.take(owner, res),
+            Kind::Bus => self.buses.take(owner, res),
         }
     }
 
@@ -149,6 +157,7 @@ impl Arbiters {
             Kind::Irq => self.irqs.held(at),
             Kind::Mem => self.memory.held(at),
             Kind::Dma => self.channels.held(at),
+            Kind::Bus => self.buses.held(at),
         }
     }
 }

@@ -1,4 +1,4 @@
-//! The four arbiters together: what is held of every kind.
+//! The arbiters together, one for each kind: what is held of every kind.
 #![tactic(auto)]
 
 mod arbiters;

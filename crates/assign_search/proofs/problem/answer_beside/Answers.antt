@@ -1,10 +1,9 @@
 use Rattle.std.proofs.Common.{map, Result, Ok, Err, IfOk, arith}
 use Rattle.std.proofs.lemmas.List.Sorted.{IsPermutation-refl}
-use Rattle.resource_reqs.specs.declared.kind.Kind.TheVariants.{Port, Irq, Mem, Dma}
-use Rattle.trial_journal.specs.Four.{all_pairs}
+use Rattle.trial_journal.specs.ByKind.{kind_order, all_pairs}
 use Rattle.assign_search.specs.Fixed.{serial_of, reqs_of, fixed_of, answer_of}
 use Rattle.assign_search.specs.Walking.{held_in}
-use Rattle.assign_search.proofs.Fixing.{length_four, all_fixed}
+use Rattle.assign_search.proofs.Fixing.{few_in, all_fixed}
 use Rattle.assign_search.proofs.SameAnswers.{answer_same}
 use Rattle.assign_search.proofs.problem.answer_beside.Goals as goal
 
@@ -14,11 +13,7 @@ then_ok (Err e) f p = tt
 
 pub search-requires : goal.search-requires
 search-requires c =
-    let all = length_four c.args.arbiters.now in
-    let port = c.requires.few Port in
-    let irq = c.requires.few Irq in
-    let mem = c.requires.few Mem in
-    let dma = c.requires.few Dma in
+    let all = few_in c.args.arbiters.now c.requires.few kind_order in
     let most = c.requires.budget in
     omega arith
 

@@ -1,9 +1,9 @@
 use Rattle.std.proofs.Common.{◌≡◌, ◌+◌, ◌<◌, ◌∷◌, ◌++◌, length, take, slice_get, Some, sym, ◌∙◌, subst, arith}
 use Rattle.std.specs.Prelude.{IsPermutation}
 use Rattle.std.proofs.lemmas.Option.{slice_get_within}
-use Rattle.trial_journal.specs.Four.{of_kind, all_pairs, lists_of}
+use Rattle.trial_journal.specs.ByKind.{of_kind, all_kinds, all_pairs, lists_of}
 use Rattle.assign_search.specs.Fixed.{fixed_pairs}
-use Rattle.assign_search.proofs.SameHeld.{lists_pairs, put_permutation}
+use Rattle.assign_search.proofs.SameHeld.{put_permutation}
 use Rattle.assign_search.proofs.Fixing.{copied_more, copied_less, copied_all, copied_few}
 use Rattle.assign_search.proofs.problem.copy_fixed.Goals as goal
 use Rattle.assign_search.proofs.problem.copy_fixed.Goals.{In-Some, then-not-owns_moving+in_ok-add, else-not-owns_moving}
@@ -36,7 +36,7 @@ pairs-preserved c =
             subst (λ b. IsPermutation (all_pairs c.args.board.now ++ fixed_pairs c.args.serials.now (take (c.pairs.at + 1) (of_kind c.args.arbiters.now c.args.kind).pairs)) (all_pairs b)) (sym w.board-is)
             (copied_more (all_pairs c.args.board.now) (of_kind c.args.arbiters.now c.args.kind).pairs c.args.serials.now c.pairs.at c.in-Some.pair (all_pairs c.pairs.board) (all_pairs w.add.new.board)
             (read at) (sym c.owns_moving.ensures ∙ w.if-not-owns_moving.true)
-            (subst (λ l. IsPermutation (c.in-Some.pair ∷ all_pairs c.pairs.board) (lists_pairs l)) (sym w.in_ok-add.ensures.put)
+            (subst (λ l. IsPermutation (c.in-Some.pair ∷ all_pairs c.pairs.board) (all_kinds l)) (sym w.in_ok-add.ensures.put)
             (put_permutation (lists_of c.pairs.board) c.in-Some.pair.1.kind c.in-Some.pair))
             c.pairs.invariant.copied)
         | else-not-owns_moving w ↦

@@ -1,6 +1,6 @@
 use Rattle.std.proofs.Common.{◌≤◌, ◌-◌, ◌++◌, length, take}
 use Rattle.std.specs.Prelude.{IsPermutation}
-use Rattle.trial_journal.specs.Four.{of_kind, all_pairs}
+use Rattle.trial_journal.specs.ByKind.{of_kind, all_pairs}
 use Rattle.assign_search.specs.Fixed.{fixed_pairs}
 use Rattle.assign_search.proofs.problem.copy_fixed.Given as goal
 

@@ -1,6 +1,6 @@
 use Rattle.std.proofs.Common.{◌≡◌, ◌<◌, length, slice_get, Some, sym, ◌∙◌, arith}
 use Rattle.std.proofs.lemmas.Option.{slice_get_within}
-use Rattle.trial_journal.specs.Four.{of_kind}
+use Rattle.trial_journal.specs.ByKind.{of_kind}
 use Rattle.assign_search.proofs.Fixing.{none_more, one_moves, none_at_all}
 use Rattle.assign_search.proofs.problem.has_moving_of.Goals as goal
 use Rattle.assign_search.proofs.problem.has_moving_of.Goals.{In-Some}

@@ -1,5 +1,5 @@
 use Rattle.std.proofs.Common.{◌≡◌, ◌≤◌, ◌-◌, false, length, take}
-use Rattle.trial_journal.specs.Four.{of_kind}
+use Rattle.trial_journal.specs.ByKind.{of_kind}
 use Rattle.assign_search.specs.Fixed.{has_moving}
 use Rattle.assign_search.proofs.problem.has_moving_of.Given as goal
 

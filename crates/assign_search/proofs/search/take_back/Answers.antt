@@ -1,9 +1,9 @@
 use Rattle.std.proofs.Common.{◌≡◌, List, [], ◌∷◌, ◌++◌, Contains, option_to_list, sym, ◌∙◌, ap, subst}
 use Rattle.range_arbiter.specs.Pairs.{Pair}
-use Rattle.trial_journal.specs.Four.{lists_of}
+use Rattle.trial_journal.specs.ByKind.{lists_of}
 use Rattle.assign_search.specs.Walking.{lists_along, trial}
 use Rattle.assign_search.proofs.Rest.{none_of_length}
-use Rattle.assign_search.proofs.SameHeld.{at_kind}
+use Rattle.trial_journal.proofs.KindsApart.{pairs_at}
 use Rattle.assign_search.proofs.Along.{along_back, along_there}
 use Rattle.assign_search.proofs.search.take_back.Goals as goal
 use Rattle.assign_search.proofs.search.take_back.Goals.{In-Some}
@@ -15,7 +15,7 @@ popped c = c.pop.ensures.items ∙ ap (λ o. c.pop.new.self.items ++ option_to_l
 pub release-requires : goal.release-requires
 release-requires c r some =
     let (before, is) = c.frames.invariant.held in
-    subst (λ (l : List Pair). Contains l (trial, r)) (at_kind c.frames.board r.kind)
+    subst (λ (l : List Pair). Contains l (trial, r)) (pairs_at c.frames.board r.kind)
     (along_there before (lists_of c.frames.board) c.pop.new.self.items c.in-Some.tried
     (is ∙ ap (lists_along before) (popped ((goal.at.release-requires c).In-Some))) r some)
 

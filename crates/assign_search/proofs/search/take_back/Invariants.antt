@@ -1,5 +1,5 @@
 use Rattle.std.proofs.Common.{◌≡◌, vec_len}
-use Rattle.trial_journal.specs.Four.{Lists, lists_of}
+use Rattle.trial_journal.specs.ByKind.{Lists, lists_of}
 use Rattle.assign_search.specs.Walking.{lists_along}
 use Rattle.assign_search.proofs.search.take_back.Given as goal
 

@@ -1,16 +1,17 @@
 use Rattle.std.proofs.Common.{◌≡◌, ◌+◌, ◌≤◌, ◌++◌, [], ◌∷◌, List, map, length, Contains, option_to_list, refl, sym, ◌∙◌, subst, arith, ap}
 use Rattle.resource_reqs.specs.Spelling.{IsPlan}
 use Rattle.range_arbiter.specs.Pairs.{Pair}
-use Rattle.trial_journal.specs.Four.{Arbiters, all_pairs, lists_of}
+use Rattle.trial_journal.specs.ByKind.{Arbiters, all_pairs, lists_of}
 use Rattle.assign_search.specs.declared.spots.Frame.{Frame}
 use Rattle.assign_search.specs.declared.spots.Spot.TheVariants.{Between}
 use Rattle.assign_search.specs.declared.spots.Step.TheVariants.{Alt}
 use Rattle.assign_search.specs.Fixed.{reqs_of}
 use Rattle.assign_search.specs.Walking.{held_in, plan_in, lists_holding, lists_along, trial}
 use Rattle.assign_search.proofs.Rest.{false_true, none_of_length}
-use Rattle.assign_search.proofs.SameHeld.{fewer, more, holding_once, at_kind}
+use Rattle.trial_journal.proofs.KindsApart.{pairs_at}
+use Rattle.assign_search.proofs.SameHeld.{fewer, more, holding_once}
 use Rattle.std.proofs.Math.ListN.{length-map}
-use Rattle.trial_journal.specs.Four.{Lists}
+use Rattle.trial_journal.specs.ByKind.{Lists}
 use Rattle.assign_search.specs.Watching.{AllWatched}
 use Rattle.assign_search.proofs.SameHeld.{lists_res}
 use Rattle.assign_search.proofs.Watched.{all_watched_less, none_known, holding_adds, holding_within}
@@ -52,7 +53,7 @@ popped c =
 
 pub release-requires : goal.release-requires
 release-requires c r some =
-    subst (λ (l : List Pair). Contains l (trial, r)) (at_kind c.search.board r.kind)
+    subst (λ (l : List Pair). Contains l (trial, r)) (pairs_at c.search.board r.kind)
     (last_there (held_in c.args.board.now) (map reqs_of c.args.movers.now) (lists_of c.args.board.now) c.pop.new.self.items c.in-Some-pop.last
     (lists_of c.search.board) c.search.spot c.search.from c.search.count (popped ((goal.at.release-requires c).In-Some-pop)) r some)
 
@@ -126,12 +127,12 @@ search-preserved-then-live c =
 
 pub release-requires-else-live : goal.release-requires-else-live
 release-requires-else-live c r some =
-    subst (λ (l : List Pair). Contains l (trial, r)) (at_kind c.look_ahead.new.board r.kind)
+    subst (λ (l : List Pair). Contains l (trial, r)) (pairs_at c.look_ahead.new.board r.kind)
     (there (lists_of c.search.board) (lists_of c.look_ahead.new.board) c.in-Some.child.res (ap lists_of c.in_ok-live.ensures.board ∙ c.in_ok-hold.ensures.held) r some)
 
 pub look_ahead-requires-clause-there : goal.look_ahead-requires-clause-there
 look_ahead-requires-clause-there c r some =
-    subst (λ (l : List Pair). Contains l (trial, r)) (at_kind c.hold.new.board r.kind)
+    subst (λ (l : List Pair). Contains l (trial, r)) (pairs_at c.hold.new.board r.kind)
     (there (lists_of c.search.board) (lists_of c.hold.new.board) c.in-Some.child.res c.in_ok-hold.ensures.held r some)
 
 pub returns-in_err-live-clause-along : goal.returns-in_err-live-clause-along
@@ -166,13 +167,13 @@ search-preserved c =
 
 pub grow-requires : goal.grow-requires
 grow-requires c r some =
-    subst (λ (l : List Pair). Contains l (trial, r)) (at_kind c.hold.new.board r.kind)
+    subst (λ (l : List Pair). Contains l (trial, r)) (pairs_at c.hold.new.board r.kind)
     (there (lists_of c.search.board) (lists_of c.hold.new.board) c.in-Some.child.res c.in_ok-hold.ensures.held r
     (ap (λ (f : Frame). f.res) (sym c.frame_of.ensures) ∙ some))
 
 pub grow-requires-then-live : goal.grow-requires-then-live
 grow-requires-then-live c r some =
-    subst (λ (l : List Pair). Contains l (trial, r)) (at_kind c.look_ahead.new.board r.kind)
+    subst (λ (l : List Pair). Contains l (trial, r)) (pairs_at c.look_ahead.new.board r.kind)
     (there (lists_of c.search.board) (lists_of c.look_ahead.new.board) c.in-Some.child.res (ap lists_of c.in_ok-live.ensures.board ∙ c.in_ok-hold.ensures.held) r
     (ap (λ (f : Frame). f.res) (sym c.frame_of-then-live.ensures) ∙ some))
 

@@ -1,5 +1,5 @@
 use Rattle.std.proofs.Common.{◌≡◌, ◌+◌, ◌*◌, ◌-◌, ◌≤◌, map, length, vec_len}
-use Rattle.trial_journal.specs.Four.{all_pairs, lists_of}
+use Rattle.trial_journal.specs.ByKind.{all_pairs, lists_of}
 use Rattle.assign_search.specs.Fixed.{reqs_of}
 use Rattle.assign_search.specs.Walking.{held_in, lists_along}
 use Rattle.assign_search.specs.Watching.{AllWatched}

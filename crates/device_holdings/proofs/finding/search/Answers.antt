@@ -1,10 +1,10 @@
 use Rattle.std.proofs.Common.{◌≡◌, ◌≤◌, ◌^◌, ℕ, List, length, map, ap, ◌∙◌, subst, Result, IfOk}
-use Rattle.trial_journal.specs.Four.{Arbiters, all_pairs}
+use Rattle.trial_journal.specs.ByKind.{Arbiters, all_pairs}
 use Rattle.resource_reqs.specs.Spelling.{IsAnswer}
 use Rattle.assign_search.specs.declared.mover.Mover.{Mover}
 use Rattle.assign_search.specs.declared.plan.Found.{Found}
 use Rattle.assign_search.specs.Fixed as Fixed
-use Rattle.assign_search.proofs.SameHeld.{at_kind}
+use Rattle.trial_journal.proofs.KindsApart.{pairs_at}
 use Rattle.pnp_model.specs.Records.{Node}
 use Rattle.device_holdings.specs.Answers.{needs_of, Answers}
 use Rattle.device_holdings.proofs.Beside.{answered, then_ok}
@@ -13,7 +13,7 @@ use Rattle.device_holdings.proofs.finding.search.Goals as goal
 
 pub answer_beside-requires-clause-few : goal.answer_beside-requires-clause-few
 answer_beside-requires-clause-few c = λ kind.
-    subst (λ l. length l ≤ 2 ^ 29) (at_kind c.args.arbiters.now kind) (c.requires.mirrored.1.few kind)
+    subst (λ l. length l ≤ 2 ^ 29) (pairs_at c.args.arbiters.now kind) (c.requires.mirrored.1.few kind)
 
 pub answer_beside-requires-clause-none : goal.answer_beside-requires-clause-none
 answer_beside-requires-clause-none c =
@@ -22,7 +22,7 @@ answer_beside-requires-clause-none c =
 
 pub answer-requires-clause-few : goal.answer-requires-clause-few
 answer-requires-clause-few c = λ kind.
-    subst (λ l. length l ≤ 2 ^ 29) (at_kind c.args.arbiters.now kind) (c.requires.mirrored.1.few kind)
+    subst (λ l. length l ≤ 2 ^ 29) (pairs_at c.args.arbiters.now kind) (c.requires.mirrored.1.few kind)
 
 -- what an answer for these movers says of these serials
 answers_for : {E : Type 0} (r : Result Found E) (movers items : List Mover) (nodes : List Node) (a : Arbiters) (serials : List ℕ) (budget : ℕ) → movers ≡ items

@@ -1,7 +1,7 @@
 use Rattle.std.proofs.Common.{◌≡◌, ◌≤◌, List, ◌++◌, drop}
 use Rattle.resource_reqs.specs.declared.kind.Kind.{Kind}
 use Rattle.range_arbiter.specs.Pairs.{Pair}
-use Rattle.trial_journal.specs.Four.{of_kind, lists_of}
+use Rattle.trial_journal.specs.ByKind.{of_kind, lists_of}
 use Rattle.device_holdings.specs.Mirrors.{pairs_of, lists_with}
 use Rattle.device_holdings.proofs.pairs.take_all.Given as goal
 

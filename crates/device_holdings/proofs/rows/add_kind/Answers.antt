@@ -2,7 +2,7 @@ use Rattle.std.proofs.Common.{◌≡◌, ◌≤◌, ◌+◌, ◌++◌, [], ◌�
 use Rattle.std.specs.List.{AllByRecursion}
 use Rattle.std.proofs.lemmas.List.{append_assoc, take_all}
 use Rattle.range_arbiter.specs.Pairs.{Pair}
-use Rattle.trial_journal.specs.Four.{of_kind}
+use Rattle.trial_journal.specs.ByKind.{of_kind}
 use Rattle.device_holdings.proofs.Putting.{front_at, none_past}
 use Rattle.device_holdings.proofs.RowOrder.{join_all}
 use Rattle.device_holdings.proofs.rows.add_kind.Goals as goal

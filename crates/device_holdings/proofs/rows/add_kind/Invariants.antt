@@ -1,7 +1,7 @@
 use Rattle.std.proofs.Common.{◌≡◌, ◌≤◌, ◌-◌, ◌++◌, length, take}
 use Rattle.std.specs.List.{AllByRecursion}
 use Rattle.range_arbiter.specs.Pairs.{Pair}
-use Rattle.trial_journal.specs.Four.{of_kind}
+use Rattle.trial_journal.specs.ByKind.{of_kind}
 use Rattle.device_holdings.proofs.rows.add_kind.Given as goal
 
 abbrev pub invariant-pairs : goal.invariant-pairs

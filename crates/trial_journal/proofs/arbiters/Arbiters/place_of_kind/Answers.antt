@@ -1,7 +1,7 @@
 use Rattle.std.proofs.Common.{◌≡◌, ◌≤◌, ◌<◌, ℕ, IfSome, IfNone, sym, ◌∙◌, ap, ap₂, subst}
 use Rattle.resource_reqs.specs.Resources.{Want, IsOpen}
 use Rattle.range_arbiter.specs.Pairs.{Arbiter, res_list}
-use Rattle.trial_journal.specs.Four.{of_kind}
+use Rattle.trial_journal.specs.ByKind.{of_kind}
 use Rattle.trial_journal.proofs.arbiters.Arbiters.place_of_kind.Goals as goal
 
 pub returns-in-Port-clause-least : goal.returns-in-Port-clause-least
@@ -43,3 +43,13 @@ pub returns-in-Dma-clause-none : goal.returns-in-Dma-clause-none
 returns-in-Dma-clause-none c =
     let same : c.self.inside.channels ≡ of_kind c.args.self.now c.args.want.now.kind = ap₂ of_kind c.self.view_is (sym c.in-Dma.is ∙ ap (λ (w : Want). w.kind) c.want.view_is) in
     subst (λ (a : Arbiter). IfNone c.next_place-in-Dma.result ((t : ℕ) → c.args.from ≤ t → ¬ IsOpen (res_list a.pairs) c.args.want.now t)) same c.next_place-in-Dma.ensures.none
+
+pub returns-in-Bus-clause-least : goal.returns-in-Bus-clause-least
+returns-in-Bus-clause-least c =
+    let same : c.self.inside.buses ≡ of_kind c.args.self.now c.args.want.now.kind = ap₂ of_kind c.self.view_is (sym c.in-Bus.is ∙ ap (λ (w : Want). w.kind) c.want.view_is) in
+    subst (λ (a : Arbiter). IfSome c.next_place-in-Bus.result (λ s. (t : ℕ) → c.args.from ≤ t → t < s → ¬ IsOpen (res_list a.pairs) c.args.want.now t)) same c.next_place-in-Bus.ensures.least
+
+pub returns-in-Bus-clause-none : goal.returns-in-Bus-clause-none
+returns-in-Bus-clause-none c =
+    let same : c.self.inside.buses ≡ of_kind c.args.self.now c.args.want.now.kind = ap₂ of_kind c.self.view_is (sym c.in-Bus.is ∙ ap (λ (w : Want). w.kind) c.want.view_is) in
+    subst (λ (a : Arbiter). IfNone c.next_place-in-Bus.result ((t : ℕ) → c.args.from ≤ t → ¬ IsOpen (res_list a.pairs) c.args.want.now t)) same c.next_place-in-Bus.ensures.none
