@@ -1,0 +1,4 @@
+mod Rows
+mod Again
+pub mod Put
+pub mod Lists
