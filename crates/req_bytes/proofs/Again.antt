@@ -7,15 +7,16 @@ use Rattle.std.specs.Option.{option_map}
 use Rattle.std.specs.Int.{w32, w64, to_le_bytes}
 use Rattle.std.proofs.lemmas.List.{take_at, drop_at, length-append}
 use Rattle.std.proofs.lemmas.Nat.{from_le_bytes-to_le_bytes_4, from_le_bytes-to_le_bytes_8}
-use Rattle.resource_reqs.specs.Resources.{Want, Group, AltList, Reqs, is_want}
+use Rattle.resource_reqs.specs.Resources.{Want, Group, AltList, Reqs, IsWant, is_want}
 use Rattle.resource_reqs.specs.declared.kind.Kind.{Kind}
 use Rattle.resource_reqs.specs.declared.kind.Kind.TheVariants.{Port, Irq, Mem, Dma, Bus}
 use Rattle.req_bytes.specs.declared.error.BytesError.{BytesError}
 use Rattle.req_bytes.specs.declared.descriptor.Sort.TheVariants.{Known}
 use Rattle.req_bytes.specs.Bytes as by
 use Rattle.req_bytes.specs.Bytes.{number_at, pieces, lists_in, or_one, want_in, into_last, taken, items_in, all_in, reqs_in}
-use Rattle.req_bytes.specs.Written.{type_of, share_of, body_text, fits_kind, item_text, group_items, list_items, glued, list_text, lists_text, reqs_text, fits_want}
-use Rattle.req_bytes.specs.Laws.{is_right, IsGroup, IsList, CanBeWritten, AgainLaw}
+use Rattle.req_bytes.specs.Written.{type_of, share_of, body_text, item_text, group_items, list_items, glued, list_text, lists_text, reqs_text}
+use Rattle.req_bytes.specs.Wide.{fits_kind, fits_want, IsWritable, IsGroup, IsList, CanBeWritten}
+use Rattle.req_bytes.specs.Laws.{AgainLaw}
 
 -- One descriptor -----------------------------------------------------------------------------
 
@@ -50,16 +51,19 @@ record One (w : Want) : Type 0 where
   min : w.min < 2 ^ 32
   max : w.max < 2 ^ 32
 
-sized : (w : Want) → is_want w ≡ true → w.max < 2 ^ 64 → (nat_lt w.len (2 ^ 32) && nat_lt w.align (2 ^ 32)) ≡ true → Sized w
-sized w h max fits =
+sized : (w : Want) → IsWant w → (nat_lt w.len (2 ^ 32) && nat_lt w.align (2 ^ 32)) ≡ true → Sized w
+sized w h fits =
     record {
-      len = grind (arith, nat_tests);
-      align = grind (arith, nat_tests);
+      len = h.some_length;
+      align = h.some_align;
       wide_len = grind (arith, nat_tests);
       wide_align = grind (arith, nat_tests);
-      min = grind (arith, nat_tests);
-      max = max;
+      min = let room = h.room in let some = h.some_length in let max = h.fits in omega arith;
+      max = h.fits;
     }
+
+is_so : (w : Want) → IsWant w → is_want w ≡ true
+is_so w h = let some = h.some_length in let align = h.some_align in let room = h.room in grind (arith, nat_tests, some, align, room)
 
 one : (w : Want) → (w.len == 1 && (w.align == 1 && (nat_lt w.min (2 ^ 32) && nat_lt w.max (2 ^ 32)))) ≡ true → One w
 one w fits =
@@ -100,23 +104,18 @@ record Says (option : ℕ) (kind : Kind) (w : Want) : Type 0 where
   sort : by.sort_of (by.byte_in 1 (item_of option kind w)) ≡ Known kind
   want : want_in kind (item_of option kind w) ≡ w
 
-says : (option : ℕ) (w : Want) (kind : Kind) → kind ≡ w.kind → is_want w ≡ true → w.max < 2 ^ 64 → fits_kind kind w ≡ true → Says option kind w
-says option w Port e h max fits = record { sort = refl; want = ranged_again option 1 w Port e (sized w h max fits) }
-says option w Irq e h max fits = record { sort = refl; want = numbered_again option 2 w Irq e (one w fits) }
-says option w Mem e h max fits = record { sort = refl; want = ranged_again option 3 w Mem e (sized w h max fits) }
-says option w Dma e h max fits = record { sort = refl; want = numbered_again option 4 w Dma e (one w fits) }
-says option w Bus e h max fits = record { sort = refl; want = bus_again option 6 w e (one_aligned w fits) }
-
-record IsRight (w : Want) : Type 0 where
-  is : is_want w ≡ true
-  fits : fits_want w ≡ true
-  max : w.max < 2 ^ 64
+says : (option : ℕ) (w : Want) (kind : Kind) → kind ≡ w.kind → IsWant w → fits_kind kind w ≡ true → Says option kind w
+says option w Port e h fits = record { sort = refl; want = ranged_again option 1 w Port e (sized w h fits) }
+says option w Irq e h fits = record { sort = refl; want = numbered_again option 2 w Irq e (one w fits) }
+says option w Mem e h fits = record { sort = refl; want = ranged_again option 3 w Mem e (sized w h fits) }
+says option w Dma e h fits = record { sort = refl; want = numbered_again option 4 w Dma e (one w fits) }
+says option w Bus e h fits = record { sort = refl; want = bus_again option 6 w e (one_aligned w fits) }
 
 -- an item as it is read
-item_taken : (list item option : ℕ) (groups : List Group) (w : Want) → IsRight w →
+item_taken : (list item option : ℕ) (groups : List Group) (w : Want) → IsWritable w →
     taken list item groups (item_text option w) ≡ by.placed list item groups (by.is_alternative (item_text option w)) w
 item_taken list item option groups w h =
-    let s = says option w w.kind refl h.is h.max h.fits in
+    let s = says option w w.kind refl h.is h.fits in
     ap (by.by_sort list item groups (item_text option w)) s.sort ∙ ap (by.placed list item groups (by.is_alternative (item_text option w))) s.want
 
 put_first : (list item : ℕ) (groups : List Group) (w : Want) → is_want w ≡ true → length groups < 16 → by.placed list item groups false w ≡ Ok (groups ++ (w ∷ []) ∷ [])
@@ -138,13 +137,13 @@ bind_ok : {A B : Type 0} (r : Result A BytesError) (x : A) (f : A → Result B B
 bind_ok r x f h = ap (λ q. by.◌>>=◌ q f) h
 
 -- the alternatives of a group come behind its wants
-alternatives_again : (list item : ℕ) (groups : List Group) (group wants : Group) (more : List (List ℕ)) → AllByRecursion IsRight wants → length group + length wants ≤ 16 → 
+alternatives_again : (list item : ℕ) (groups : List Group) (group wants : Group) (more : List (List ℕ)) → AllByRecursion IsWritable wants → length group + length wants ≤ 16 → 
     items_in list item (groups ++ group ∷ []) (map (item_text 8) wants ++ more) ≡ items_in list (item + length wants) (groups ++ (group ++ wants) ∷ []) more
 alternatives_again list item groups group [] more h short =
     ap (λ (x : Group). items_in list item (groups ++ x ∷ []) more) (sym (append-nil group)) ∙ ap (λ (n : ℕ). items_in list n (groups ++ (group ++ []) ∷ []) more) (omega arith)
 alternatives_again list item groups group (w ∷ wants) more (r, h) short =
     bind_ok _ (groups ++ (group ++ w ∷ []) ∷ []) (λ now. items_in list (item + 1) now (map (item_text 8) wants ++ more))
-    (item_taken list item 8 (groups ++ group ∷ []) w r ∙ put_next list item groups group w r.is (omega arith))
+    (item_taken list item 8 (groups ++ group ∷ []) w r ∙ put_next list item groups group w (is_so w r.is) (omega arith))
     ∙ alternatives_again list (item + 1) groups (group ++ w ∷ []) wants more h (length_plus group w wants short)
     ∙ ap (λ (x : Group). items_in list (item + 1 + length wants) (groups ++ x ∷ []) more) (append_assoc group (w ∷ []) wants)
     ∙ ap (λ (n : ℕ). items_in list n (groups ++ (group ++ w ∷ wants) ∷ []) more) (omega arith)
@@ -152,18 +151,13 @@ alternatives_again list item groups group (w ∷ wants) more (r, h) short =
     length_plus : (group : Group) (w : Want) (wants : Group) → length group + suc (length wants) ≤ 16 → length (group ++ w ∷ []) + length wants ≤ 16
     length_plus group w wants short = let e = length-append group (w ∷ []) in omega arith
 
-record GroupRight (group : Group) : Type 0 where
-  some : 0 < length group
-  short : length group ≤ 16
-  each : AllByRecursion IsRight group
-
-group_again : (list item : ℕ) (groups : List Group) (group : Group) (more : List (List ℕ)) → GroupRight group → length groups < 16 →
+group_again : (list item : ℕ) (groups : List Group) (group : Group) (more : List (List ℕ)) → IsGroup group → length groups < 16 →
     items_in list item groups (group_items group ++ more) ≡ items_in list (item + length group) (groups ++ group ∷ []) more
 group_again list item groups [] more h room = absurd (let some = h.some in omega arith)
 group_again list item groups (w ∷ wants) more h room =
     let r = h.each.0 in
     bind_ok _ (groups ++ (w ∷ []) ∷ []) (λ now. items_in list (item + 1) now (map (item_text 8) wants ++ more))
-    (item_taken list item 0 groups w r ∙ put_first list item groups w r.is room)
+    (item_taken list item 0 groups w r ∙ put_first list item groups w (is_so w r.is) room)
     ∙ alternatives_again list (item + 1) groups (w ∷ []) wants more h.each.1 (let short = h.short in omega arith)
     ∙ ap (λ (n : ℕ). items_in list n (groups ++ (w ∷ wants) ∷ []) more) (omega arith)
 
@@ -172,7 +166,7 @@ count : List Group → ℕ
 count [] = 0
 count (g ∷ gs) = length g + count gs
 
-groups_again : (list item : ℕ) (groups left : List Group) → AllByRecursion GroupRight left → length groups + length left ≤ 16 →
+groups_again : (list item : ℕ) (groups left : List Group) → AllByRecursion IsGroup left → length groups + length left ≤ 16 →
     items_in list item groups (list_items left) ≡ Ok (groups ++ left)
 groups_again list item groups [] h room = ap (λ (x : List Group). Ok x) (sym (append-nil groups))
 groups_again list item groups (g ∷ gs) (r, h) room =
@@ -180,16 +174,11 @@ groups_again list item groups (g ∷ gs) (r, h) room =
     ∙ groups_again list (item + length g) (groups ++ g ∷ []) gs h (let e = length-append groups (g ∷ []) in omega arith)
     ∙ ap (λ (x : List Group). Ok x) (append_assoc groups (g ∷ []) gs)
 
-record ListRight (groups : AltList) : Type 0 where
-  some : 0 < length groups
-  short : length groups ≤ 16
-  each : AllByRecursion GroupRight groups
-
 closed_again : (list : ℕ) (done : Reqs) (groups : AltList) → 0 < length groups → length done < 8 → by.closed list done groups ≡ Ok (done ++ groups ∷ [])
 closed_again list done [] some room = absurd (omega arith)
 closed_again list done (g ∷ gs) some room = grind (arith, nat_tests)
 
-lists_again : (list : ℕ) (done left : Reqs) → AllByRecursion ListRight left → length done + length left ≤ 8 → all_in list done (map list_items left) ≡ Ok (done ++ left)
+lists_again : (list : ℕ) (done left : Reqs) → AllByRecursion IsList left → length done + length left ≤ 8 → all_in list done (map list_items left) ≡ Ok (done ++ left)
 lists_again list done [] h room = ap (λ (x : Reqs). Ok x) (sym (append-nil done))
 lists_again list done (groups ∷ left) (r, h) room =
     bind_ok _ groups (λ now. by.◌>>=◌ (by.closed list done now) (λ next. all_in (list + 1) next (map list_items left))) (groups_again list 0 [] groups r.each (let short = r.short in omega arith))
@@ -224,11 +213,11 @@ are_both : (xs ys : List (List ℕ)) → AreItems xs → AreItems ys → AreItem
 are_both [] ys h g = g
 are_both (x ∷ xs) ys (e, h) g = (e, are_both xs ys h g)
 
-are_list : (groups : AltList) → AreItems (list_items groups)
+pub are_list : (groups : AltList) → AreItems (list_items groups)
 are_list [] = tt
 are_list (g ∷ gs) = are_both (group_items g) (list_items gs) (are_group g) (are_list gs)
 
-glued_length : (items : List (List ℕ)) → AreItems items → length (glued items) ≡ 32 * length items
+pub glued_length : (items : List (List ℕ)) → AreItems items → length (glued items) ≡ 32 * length items
 glued_length [] h = refl
 glued_length (p ∷ ps) (e, h) = let a = length-append p (glued ps) in let b = glued_length ps h in omega arith
 
@@ -240,7 +229,7 @@ pieces_again (p ∷ ps) rest (e, h) =
     ∙ ap (λ (l : List ℕ). p ∷ pieces (length ps) l) (drop_at p (glued ps ++ rest) 32 e)
     ∙ ap (λ (l : List (List ℕ)). p ∷ l) (pieces_again ps rest h)
 
-group_length : (group : Group) → length (group_items group) ≡ length group
+pub group_length : (group : Group) → length (group_items group) ≡ length group
 group_length [] = refl
 group_length (w ∷ wants) = ap suc (mapped wants)
   where
@@ -248,7 +237,7 @@ group_length (w ∷ wants) = ap suc (mapped wants)
     mapped [] = refl
     mapped (w ∷ wants) = ap suc (mapped wants)
 
-list_length : (groups : AltList) → AllByRecursion GroupRight groups → length (list_items groups) ≤ 16 * length groups
+list_length : (groups : AltList) → AllByRecursion IsGroup groups → length (list_items groups) ≤ 16 * length groups
 list_length [] h = omega arith
 list_length (g ∷ gs) (r, h) =
     let a = length-append (group_items g) (list_items gs) in
@@ -274,7 +263,7 @@ list_told k n m items rest b0 b1 b2 b3 lists e q are h =
     ∙ ap (λ (o : Option (List (List (List ℕ)))). option_map (λ lists. pieces m (glued items ++ rest) ∷ lists) o) h
     ∙ ap (λ (p : List (List ℕ)). Some (p ∷ lists)) cut
 
-shapes_again : (reqs : Reqs) → AllByRecursion ListRight reqs → lists_in (length reqs) (lists_text reqs) ≡ Some (map list_items reqs)
+shapes_again : (reqs : Reqs) → AllByRecursion IsList reqs → lists_in (length reqs) (lists_text reqs) ≡ Some (map list_items reqs)
 shapes_again [] h = refl
 shapes_again (groups ∷ left) (r, h) =
     let items = list_items groups in
@@ -287,10 +276,10 @@ shapes_again (groups ∷ left) (r, h) =
 
 -- The whole --------------------------------------------------------------------------------------------
 
-list_bytes : (groups : AltList) → AllByRecursion GroupRight groups → length groups ≤ 16 → length (list_text groups) ≤ 8200
+pub list_bytes : (groups : AltList) → AllByRecursion IsGroup groups → length groups ≤ 16 → length (list_text groups) ≤ 8200
 list_bytes groups h short = let a = glued_length (list_items groups) (are_list groups) in let b = list_length groups h in omega arith
 
-all_bytes : (reqs : Reqs) → AllByRecursion ListRight reqs → length (lists_text reqs) ≤ 8200 * length reqs
+all_bytes : (reqs : Reqs) → AllByRecursion IsList reqs → length (lists_text reqs) ≤ 8200 * length reqs
 all_bytes [] h = omega arith
 all_bytes (groups ∷ left) (r, h) =
     let a = length-append (list_text groups) (lists_text left) in
@@ -298,7 +287,7 @@ all_bytes (groups ∷ left) (r, h) =
     let c = all_bytes left h in
     omega arith
 
-shape_again : (reqs : Reqs) → AllByRecursion ListRight reqs → length reqs ≤ 8 → by.shape (reqs_text reqs) ≡ Some (map list_items reqs)
+shape_again : (reqs : Reqs) → AllByRecursion IsList reqs → length reqs ≤ 8 → by.shape (reqs_text reqs) ≡ Some (map list_items reqs)
 shape_again reqs h short =
     let few = all_bytes reqs h in
     let size : 32 + length (lists_text reqs) < 2 ^ 32 = omega arith in
@@ -309,28 +298,6 @@ shape_again reqs h short =
     ∙ ap (λ (n : ℕ). lists_in n (lists_text reqs)) last
     ∙ shapes_again reqs h
 
--- what can be written is right
-
-right_want : (w : Want) → is_right w ≡ true → w.max < 2 ^ 64 → IsRight w
-right_want w h max = record { is = (two (is_want w) (fits_want w) h).0; fits = (two (is_want w) (fits_want w) h).1; max = max }
-  where
-    two : (a b : Bool) → (a && b) ≡ true → (a ≡ true) × (b ≡ true)
-    two true b h = (refl, h)
-    two false b h = absurd (cc)
-
-right_wants : (wants : Group) → AllByRecursion (λ want. is_right want ≡ true × want.max < 2 ^ 64) wants → AllByRecursion IsRight wants
-right_wants [] h = tt
-right_wants (w ∷ wants) (r, h) = (right_want w r.0 r.1, right_wants wants h)
-
-right_groups : (groups : AltList) → AllByRecursion IsGroup groups → AllByRecursion GroupRight groups
-right_groups [] h = tt
-right_groups (g ∷ gs) (r, h) = (record { some = r.some; short = r.short; each = right_wants g r.each }, right_groups gs h)
-
-right_lists : (reqs : Reqs) → AllByRecursion IsList reqs → AllByRecursion ListRight reqs
-right_lists [] h = tt
-right_lists (l ∷ ls) (r, h) = (record { some = r.some; short = r.short; each = right_groups l r.each }, right_lists ls h)
-
 pub reads_again : AgainLaw
 reads_again reqs h =
-    let right = right_lists reqs h.each in
-    ap by.reqs_by (shape_again reqs right h.short) ∙ lists_again 0 [] reqs right (let short = h.short in omega arith)
+    ap by.reqs_by (shape_again reqs h.each h.short) ∙ lists_again 0 [] reqs h.each (let short = h.short in omega arith)

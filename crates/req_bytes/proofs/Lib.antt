@@ -1,4 +1,5 @@
 mod Rows
-mod Again
+pub mod Again
 pub mod Put
 pub mod Lists
+pub mod Walks

@@ -1,5 +1,5 @@
 -- The bytes that are written for requirements.
-use Rattle.std.specs.Prelude.{ℕ, ◌+◌, ◌==◌, ◌^◌, Bool, true, false, ◌&&◌, List, [], ◌∷◌, ◌++◌, nat_lt, length, map, replicate}
+use Rattle.std.specs.Prelude.{ℕ, zero, suc, ◌+◌, ◌==◌, ◌^◌, Bool, true, false, ◌&&◌, List, [], ◌∷◌, ◌++◌, nat_lt, length, map, replicate}
 use Rattle.std.specs.List.{flat_map, list_all}
 use Rattle.std.specs.Int.{w32, w64, to_le_bytes}
 use Rattle.resource_reqs.specs.Resources.{Want, Group, AltList, Reqs}
@@ -37,7 +37,11 @@ body_text Bus want = bus_text want
 abbrev pub item_text : ℕ → Want → List ℕ
 item_text option want = option ∷ type_of want.kind ∷ share_of want.shared ∷ 0 ∷ 0 ∷ 0 ∷ 0 ∷ 0 ∷ body_text want.kind want
 
--- the further wants of a group are alternatives
+-- the option of the want at a place of its group: all but the first are alternatives
+abbrev pub option_at : ℕ → ℕ
+option_at zero = 0
+option_at (suc n) = 8
+
 abbrev pub group_items : Group → List (List ℕ)
 group_items [] = []
 group_items (want ∷ wants) = item_text 0 want ∷ map (item_text 8) wants
@@ -57,32 +61,3 @@ lists_text reqs = flat_map list_text reqs
 abbrev pub reqs_text : Reqs → List ℕ
 reqs_text reqs =
     to_le_bytes w32 (32 + length (lists_text reqs)) ++ replicate 24 0 ++ to_le_bytes w32 (length reqs) ++ lists_text reqs
-
--- What can be written ----------------------------------------------------------------------------------
-
--- below 2 ^ 32
-abbrev pub is_narrow : ℕ → Bool
-is_narrow n = nat_lt n (2 ^ 32)
-
-abbrev pub fits_ranged : Want → Bool
-fits_ranged want = is_narrow want.len && is_narrow want.align
-
-abbrev pub fits_numbered : Want → Bool
-fits_numbered want = want.len == 1 && (want.align == 1 && (is_narrow want.min && is_narrow want.max))
-
-abbrev pub fits_bus : Want → Bool
-fits_bus want = is_narrow want.len && (want.align == 1 && (is_narrow want.min && is_narrow want.max))
-
--- the fields of its type are wide enough, and what its type fixes is so
-abbrev pub fits_kind : Kind → Want → Bool
-fits_kind Port want = fits_ranged want
-fits_kind Irq want = fits_numbered want
-fits_kind Mem want = fits_ranged want
-fits_kind Dma want = fits_numbered want
-fits_kind Bus want = fits_bus want
-
-abbrev pub fits_want : Want → Bool
-fits_want want = fits_kind want.kind want
-
-abbrev pub fits_all : Reqs → Bool
-fits_all reqs = list_all (λ groups. list_all (λ group. list_all fits_want group) groups) reqs

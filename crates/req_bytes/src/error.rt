@@ -25,3 +25,14 @@ pub enum BytesError {
     #[error("out of memory")]
     WantOfMemory,
 }
+
+/// Why requirements have no bytes. An earlier variant is tested first.
+#[derive(Clone, Copy, Debug, PartialEq, Eq, Error)]
+pub enum EncodeError {
+    /// The first want that no descriptor can say: a number of it is above 2^32 - 1 where its field has 32 bits, or its length or
+    /// alignment is another one than its type fixes. Lists, groups and wants are counted from 0.
+    #[error("list {list}, group {group}, want {want}: no descriptor can say it")]
+    TooWide { list: u32, group: u32, want: u32 },
+    #[error("out of memory")]
+    WantOfMemory,
+}

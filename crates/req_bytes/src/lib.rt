@@ -25,7 +25,9 @@ mod descriptor;
 mod error;
 mod groups;
 mod reading;
+mod writing;
 pub mod laws;
 
-pub use error::BytesError;
+pub use error::{BytesError, EncodeError};
 pub use reading::decode;
+pub use writing::encode;
