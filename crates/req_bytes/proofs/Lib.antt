@@ -1,5 +1,7 @@
-mod Rows
+pub mod Rows
+mod RowsWritten
 pub mod Again
 pub mod Put
 pub mod Lists
 pub mod Walks
+pub mod Within

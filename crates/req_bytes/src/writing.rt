@@ -35,6 +35,7 @@ fn fits_want(want: &Want) -> bool
 fn wide_in_group(list: u32, group: u32, wants: &Group) -> Option<EncodeError>
     ensures wide { result ≡ wide_in_group list group 0 wants.now }
     ensures fits { IsNone result → AllByRecursion IsWritable wants.now }
+    ensures short { length wants.now ≤ 16 }
 {
     for want in 0..wants.len() {
         if !fits_want(wants.get(want)) {
@@ -49,6 +50,7 @@ fn wide_in_group(list: u32, group: u32, wants: &Group) -> Option<EncodeError>
 fn wide_in_list(list: u32, groups: &AltList) -> Option<EncodeError>
     ensures wide { result ≡ wide_in_list list 0 groups.now }
     ensures fits { IsNone result → AllByRecursion IsGroup groups.now }
+    ensures short { length groups.now ≤ 16 }
 {
     for group in 0..groups.len() {
         if let Some(error) = wide_in_group(list, group, groups.get(group)) {
