@@ -1,5 +1,5 @@
 -- The window of a kind of a device is found among its ranges.
-use Rattle.std.proofs.Common.{◌≡◌, ◌↔◌, IsTrue, Result, Ok, Err, nat_eq, inl, inr, arith, subst, ℕ, ◌==◌, Bool, true, false, ◌&&◌, ◌||◌, cond, List, [], ◌∷◌, ◌++◌, map, Option, Some, None, refl, sym, ap, ap₂, ◌∙◌, is_some}
+use Rattle.std.proofs.Common.{◌≡◌, ◌↔◌, IsTrue, Ok, Err, nat_eq, inl, inr, arith, ℕ, ◌==◌, Bool, true, false, ◌&&◌, ◌||◌, cond, List, [], ◌∷◌, ◌++◌, map, Option, Some, None, refl, sym, ap, ◌∙◌, is_some}
 use Rattle.std.specs.List.{find, list_any}
 use Rattle.std.specs.HashMap.{HashMap, get}
 use Rattle.std.specs.declared.vec.Vec.{Vec}

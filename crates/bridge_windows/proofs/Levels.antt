@@ -1,5 +1,5 @@
 -- What comes through from above, met one level at a time.
-use Rattle.std.proofs.Common.{◌≡◌, ◌≢◌, ℕ, List, ◌∷◌, Option, Some, None, refl, sym, ap, ap₂, ◌∙◌, subst}
+use Rattle.std.proofs.Common.{◌≡◌, ◌≢◌, ℕ, List, ◌∷◌, Some, None, sym, ap, ◌∙◌, subst}
 use Rattle.std.proofs.Math.Nat.{le_refl}
 use Rattle.resource_reqs.specs.declared.kind.Kind.{Kind}
 use Rattle.pnp_model.specs.Cores.{node_at}

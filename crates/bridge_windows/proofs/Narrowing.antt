@@ -1,5 +1,5 @@
 -- Windows on several devices narrow what comes through as those on each of them do.
-use Rattle.std.proofs.Common.{◌≡◌, ℕ, ◌≤◌, ◌==◌, Bool, true, false, ◌&&◌, ◌||◌, cond, List, [], ◌∷◌, ◌++◌, map, Option, Some, None, refl, sym, ap, ap₂, ◌∙◌, subst}
+use Rattle.std.proofs.Common.{◌≡◌, ℕ, ◌==◌, Bool, true, false, ◌&&◌, ◌||◌, cond, List, [], ◌∷◌, ◌++◌, map, Option, Some, None, refl, sym, ap, ap₂, ◌∙◌}
 use Rattle.std.proofs.Math.Nat.{le_refl}
 use Rattle.resource_reqs.specs.Resources.{Res, same_kind}
 use Rattle.resource_reqs.specs.declared.kind.Kind.{Kind}
@@ -9,7 +9,7 @@ use Rattle.pnp_model.specs.Tests.{has}
 use Rattle.pnp_model.specs.Windows.{Room, all_numbers, narrowed, birth_of, is_window_on}
 use Rattle.bridge_windows.specs.Ranges.{is_of, ranges_of}
 use Rattle.bridge_windows.specs.Rooms.{meet, range, narrowed_at, narrowed_by, ranges_at}
-use Rattle.bridge_windows.proofs.Meets.{IsNarrow, meet_assoc, meet_comm, meet_same, meet_all, meet_narrow, meet_twice, meet_swap}
+use Rattle.bridge_windows.proofs.Meets.{IsNarrow, meet_assoc, meet_same, meet_all, meet_narrow, meet_twice, meet_swap}
 
 -- what the windows of a kind on devices let through
 abbrev pub through : Kind → List ℕ → List Window → Room

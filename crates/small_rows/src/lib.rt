@@ -2,6 +2,8 @@
 #![tactic(auto)]
 
 #[cfg(test)]
+mod bridges;
+#[cfg(test)]
 mod places;
 #[cfg(test)]
 mod reading;

@@ -1,5 +1,5 @@
-use Rattle.std.proofs.Common.{◌≡◌, ◌↔◌, ◌∙◌, sym, subst, All, List}
-use Rattle.resource_reqs.specs.Resources.{Res, Reqs, Whole}
+use Rattle.std.proofs.Common.{◌≡◌, ◌↔◌, ◌∙◌, sym, subst, All}
+use Rattle.resource_reqs.specs.Resources.{Reqs, Whole}
 use Rattle.pnp_model.specs.Clips.{IsInRoom}
 use Rattle.pnp_model.specs.Windows.{clip, clip_by, room}
 use Rattle.pnp_model.proofs.Clips.{clip_is_whole}
