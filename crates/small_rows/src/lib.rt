@@ -8,4 +8,6 @@ mod reading;
 #[cfg(test)]
 mod searches;
 #[cfg(test)]
+mod sizes;
+#[cfg(test)]
 mod trees;
