@@ -10,4 +10,6 @@ mod reading;
 #[cfg(test)]
 mod searches;
 #[cfg(test)]
+mod sizes;
+#[cfg(test)]
 mod trees;
