@@ -1,5 +1,5 @@
 -- Members of lists of pairs, lists in order, and a pair put into a list that is parted at another one.
-use Rattle.std.proofs.Common.{◌≡◌, zero, suc, true, false, ◌⊎◌, inl, inr, List, [], ◌∷◌, ◌++◌, length, get_or, Contains, refl, sym, ◌∙◌, ap, ap₂, subst, arith}
+use Rattle.std.proofs.Common.{◌≡◌, zero, suc, true, false, ◌⊎◌, inl, inr, List, [], ◌∷◌, ◌++◌, Contains, refl, sym, ◌∙◌, ap, ap₂, subst, arith}
 use Rattle.std.proofs.lemmas.Bool.{cases_Bool, both_ways}
 use Rattle.resource_reqs.specs.declared.kind.Kind.{Kind}
 use Rattle.range_arbiter.specs.Pairs.{Pair, is_before, pairs_with}

@@ -1,4 +1,4 @@
-use Rattle.std.proofs.Common.{rules, ◌≡◌, true, false, ◌+◌, ◌<◌, ◌∷◌, ◌++◌, length, sym, ◌∙◌, ap, subst, arith, length-append}
+use Rattle.std.proofs.Common.{rules, ◌≡◌, true, false, ◌+◌, ◌∷◌, ◌++◌, length, sym, ◌∙◌, ap, subst, arith, length-append}
 use Rattle.range_arbiter.specs.Pairs.{is_before, pairs_with}
 use Rattle.range_arbiter.specs.Orders.{IsOrdered}
 use Rattle.range_arbiter.proofs.InOrder.{ordered_left, ordered_right, put_behind, put_before}

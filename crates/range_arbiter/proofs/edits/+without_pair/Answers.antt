@@ -1,4 +1,4 @@
-use Rattle.std.proofs.Common.{rules, ◌≡◌, true, false, ◌<◌, inr, ◌∷◌, ◌++◌, length, sym, ◌∙◌, ap, subst, arith, length-append}
+use Rattle.std.proofs.Common.{rules, ◌≡◌, true, false, inr, ◌∷◌, ◌++◌, length, sym, ◌∙◌, ap, subst, arith, length-append}
 use Rattle.range_arbiter.specs.Pairs.{is_before, pairs_with}
 use Rattle.range_arbiter.specs.Orders.{In, IsOrdered}
 use Rattle.range_arbiter.proofs.InOrder.{in_left, in_right, ordered_left, ordered_right, held_behind, held_before, take_behind, take_before, take_here}

@@ -1,7 +1,7 @@
-use Rattle.std.proofs.Common.{◌≡◌, ◌<◌, ◌+◌, ◌-◌, sym, ap, subst, arith}
+use Rattle.std.proofs.Common.{◌≡◌, ap, subst, arith}
 use Rattle.std.proofs.lemmas.Result.{IfErr-weaker}
 use Rattle.resource_reqs.specs.Resources.{IsWant, Res, Clash}
-use Rattle.range_arbiter.proofs.Sweeping.{passed_clash, ended_clash, stopped_pair, passed_pair, with_ok}
+use Rattle.range_arbiter.proofs.Sweeping.{passed_clash, ended_clash, stopped_pair, with_ok}
 use Rattle.range_arbiter.proofs.sweep.past_pair.Goals as goal
 
 pub returns-then-place-want-clause-ended : goal.returns-then-place-want-clause-ended
