@@ -1,13 +1,13 @@
 -- What is fixed, and the board that holds it.
 use Rattle.std.proofs.Common.{◌≡◌, ℕ, Bool, true, false, not, ◌==◌, ◌||◌, ◌+◌, ◌*◌, ◌^◌, ◌<◌, ◌≤◌, cond, inl, inr, List, [], ◌∷◌, ◌++◌, length, take, get_or, slice_get, Contains, Some, None, zero, suc, append_assoc, append-nil, length-append, length-take, Result, Ok, Err, is_ok, filter, refl, sym, ◌∙◌, ap, ap₂, subst, arith}
 use Rattle.std.specs.Prelude.{IsPermutation}
-use Rattle.std.specs.List.{list_any, flat_map}
+use Rattle.std.specs.List.{list_any}
 use Rattle.std.specs.List.Sorted.{IsNonDecreasing, IsBinarySearchResult}
 use Rattle.std.specs.Ordering.{nat_cmp}
 use Rattle.std.proofs.lemmas.Bool.{eqb-true, eq-eqb, cond_both, or_cases, or_left, or_right, cases_Bool, both_ways, false_from_ne_true}
 use native.Mathlib.Decide.{dec_lt}
 use Rattle.std.specs.Result.{MatchResult}
-use Rattle.std.proofs.lemmas.List.{take_all, get_or_default, flat_map_more}
+use Rattle.std.proofs.lemmas.List.{take_all, get_or_default}
 use Rattle.std.proofs.lemmas.Option.{slice_get_within, get_or_from_slice_get}
 use Rattle.std.proofs.lemmas.List.Folds.{list_any_at, list_any_more}
 use Rattle.std.proofs.lemmas.List.Elements.{filter_more, filter-append, filter_agree}
@@ -18,7 +18,7 @@ use Rattle.resource_reqs.specs.declared.owner.Owner.TheVariants.{Reserved, Devic
 use Rattle.resource_reqs.proofs.Counts.{contains_cons, contains_nil}
 use Rattle.range_arbiter.specs.Pairs.{Pair, res_list}
 use Rattle.trial_journal.specs.ByKind.{Arbiters, of_kind, lists_of}
-use Rattle.trial_journal.proofs.KindsApart.{pairs_at}
+use Rattle.trial_journal.proofs.KindsApart.{pairs_at, pairs_in, pairs_in_more}
 use Rattle.assign_search.specs.Fixed.{is_mover, fixed_pairs, has_moving, fixed_of}
 use Rattle.assign_search.proofs.SameHeld.{SameSet}
 use Rattle.assign_search.proofs.Touching.{contains_later}
@@ -123,18 +123,12 @@ next_part : (old part board board' : List Pair) → IsPermutation old board → 
 next_part old part board board' so_far more =
     IsPermutation-trans (old ++ part) (board ++ part) board' (IsPermutation-append_left part old board so_far) more
 
--- the pairs of these kinds
-abbrev pub pairs_in : Arbiters → List Kind → List Pair
-pairs_in a kinds = flat_map (of_kind (lists_of a)) kinds
-
 -- what is fixed of one kind more was copied
 pub copied_kind : (serials : List ℕ) (a : Arbiters) (kinds : List Kind) (kind : Kind) (board board' : List Pair) → IsPermutation (fixed_pairs serials (pairs_in a kinds)) board
     → IsPermutation (board ++ fixed_pairs serials (of_kind a kind).pairs) board' → IsPermutation (fixed_pairs serials (pairs_in a (kinds ++ kind ∷ []))) board'
 copied_kind serials a kinds kind board board' so_far more =
     subst (λ l. IsPermutation l board')
-    (ap (λ l. fixed_pairs serials (pairs_in a kinds) ++ fixed_pairs serials l) (sym (pairs_at a kind))
-    ∙ sym (filter-append (λ p. not (is_mover serials p.0)) (pairs_in a kinds) (of_kind (lists_of a) kind))
-    ∙ ap (fixed_pairs serials) (flat_map_more (of_kind (lists_of a)) [] kinds kind))
+    (sym (filter-append (λ p. not (is_mover serials p.0)) (pairs_in a kinds) (of_kind a kind).pairs) ∙ ap (fixed_pairs serials) (pairs_in_more a kinds kind))
     (next_part (fixed_pairs serials (pairs_in a kinds)) (fixed_pairs serials (of_kind a kind).pairs) board board' so_far more)
 
 -- the same pairs in another order: the same resources

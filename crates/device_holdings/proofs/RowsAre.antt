@@ -1,14 +1,13 @@
 -- The pairs of the arbiters, one after another, are the rows of the map.
 use Rattle.std.proofs.Common.{◌≡◌, ◌≤◌, List, [], ◌∷◌, ◌++◌, map, refl, sym, ap, ◌∙◌, subst}
-use Rattle.std.specs.List.{AllByRecursion, flat_map}
-use Rattle.std.proofs.lemmas.List.{flat_map_more}
+use Rattle.std.specs.List.{AllByRecursion}
 use Rattle.std.proofs.lemmas.List.Elements.{All-from_recursion, recursion_from_All}
 use Rattle.std.proofs.lemmas.List.Sorted.{All-permutation, IsPermutation-sym}
 use Rattle.range_arbiter.specs.Pairs.{Pair}
 use Rattle.resource_reqs.specs.declared.kind.Kind.{Kind}
 use Rattle.trial_journal.specs.ByKind.{Arbiters, of_kind, kind_order, all_kinds, lists_of, all_pairs}
 use Rattle.trial_journal.proofs.EachKind.{all_each}
-use Rattle.trial_journal.proofs.KindsApart.{pairs_at}
+use Rattle.trial_journal.proofs.KindsApart.{pairs_at, pairs_in, pairs_in_more}
 use Rattle.pnp_model.specs.Keyed.{in_order}
 use Rattle.pnp_model.specs.Endings.{row_before, map_rows}
 use Rattle.pnp_model.specs.Records.{Core}
@@ -43,10 +42,6 @@ all_ends a ends =
     let P : Pair → Type 0 = λ p. p.1.lo ≤ p.1.hi in
     recursion_from_All P (all_pairs a) (all_each P (lists_of a) (λ k. All-from_recursion P (of_kind (lists_of a) k) (subst EndInOrder (sym (pairs_at a k)) (ends k))) kind_order)
 
--- the pairs of these kinds, and those of one more
-abbrev pub rows_in : Arbiters → List Kind → List Pair
-rows_in a kinds = flat_map (of_kind (lists_of a)) kinds
-
-pub more_rows : (a : Arbiters) (kinds : List Kind) (kind : Kind) (rows rows' : List Pair) → rows' ≡ rows ++ (of_kind a kind).pairs → rows ≡ rows_in a kinds → rows' ≡ rows_in a (kinds ++ kind ∷ [])
-more_rows a kinds kind rows rows' added so_far =
-    added ∙ (λ t. so_far t ++ sym (pairs_at a kind) t) ∙ flat_map_more (of_kind (lists_of a)) [] kinds kind
+-- the rows after those of one kind more
+pub more_rows : (a : Arbiters) (kinds : List Kind) (kind : Kind) (rows rows' : List Pair) → rows' ≡ rows ++ (of_kind a kind).pairs → rows ≡ pairs_in a kinds → rows' ≡ pairs_in a (kinds ++ kind ∷ [])
+more_rows a kinds kind rows rows' added so_far = added ∙ ap (λ ps. ps ++ (of_kind a kind).pairs) so_far ∙ pairs_in_more a kinds kind

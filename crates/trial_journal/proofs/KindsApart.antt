@@ -1,5 +1,7 @@
 -- What is open beside the pairs of one kind is open beside all pairs; and the kinds through a put and a take.
-use Rattle.std.proofs.Common.{◌≡◌, ℕ, ◌+◌, ◌<◌, ◌≤◌, inl, inr, List, ◌∷◌, length, Contains, All, Option, Some, None, IfSome, IfNone, refl, sym, ◌∙◌, ap, subst, arith}
+use Rattle.std.proofs.Common.{◌≡◌, ℕ, ◌+◌, ◌<◌, ◌≤◌, inl, inr, List, [], ◌∷◌, ◌++◌, length, Contains, All, Option, Some, None, IfSome, IfNone, refl, sym, ◌∙◌, ap, subst, arith}
+use Rattle.std.specs.List.{flat_map}
+use Rattle.std.proofs.lemmas.List.{flat_map_more}
 use Rattle.std.proofs.lemmas.List.Elements.{All-map, All-cons, All-tail, All-weaker}
 use Rattle.std.proofs.lemmas.List.Sorted.{All-permutation, Contains-permutation, IsPermutation-sym}
 use Rattle.resource_reqs.specs.declared.kind.Kind.{Kind}
@@ -17,6 +19,13 @@ pairs_at a Irq = refl
 pairs_at a Mem = refl
 pairs_at a Dma = refl
 pairs_at a Bus = refl
+
+-- the pairs of these kinds, and of one more
+abbrev pub pairs_in : Arbiters → List Kind → List Pair
+pairs_in a kinds = flat_map (of_kind (lists_of a)) kinds
+
+pub pairs_in_more : (a : Arbiters) (kinds : List Kind) (kind : Kind) → pairs_in a kinds ++ (of_kind a kind).pairs ≡ pairs_in a (kinds ++ kind ∷ [])
+pairs_in_more a kinds kind = ap (λ ps. pairs_in a kinds ++ ps) (sym (pairs_at a kind)) ∙ flat_map_more (of_kind (lists_of a)) [] kinds kind
 
 pub put_is_of : (kind : Kind) (a b : Arbiter) (p : Pair) → IsOf kind a → p.1.kind ≡ kind → b ≡ arbiter_with a p → IsOf kind b
 put_is_of kind a b p is same put = subst (IsOf kind) (sym put) (record {
