@@ -16,6 +16,8 @@ mod inf_vendors;
 #[cfg(test)]
 mod inf_versions;
 #[cfg(test)]
+mod script_bytes;
+#[cfg(test)]
 mod script_limits;
 #[cfg(test)]
 mod script_lines;

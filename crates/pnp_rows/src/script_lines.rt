@@ -21,7 +21,7 @@ fn told(alloc: Global, line: &[u8]) -> Result<Vec<u8>, Fail> {
 }
 
 /// Each line is read as the table says.
-fn reads(rt: &impl Abort, alloc: Global, rows: &[(&[u8], &[u8])]) -> Result<(), Fail> {
+pub fn reads(rt: &impl Abort, alloc: Global, rows: &[(&[u8], &[u8])]) -> Result<(), Fail> {
     for (line, event) in rows {
         let told = told(alloc, line)?;
         assert!(rt; told.as_slice() == *event, "{told:?}");

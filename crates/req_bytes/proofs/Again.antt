@@ -1,8 +1,8 @@
 -- What is written is read again.
-use Rattle.std.proofs.Common.{ℕ, zero, suc, ◌≡◌, ◌<◌, ◌≤◌, ◌+◌, ◌*◌, Bool, true, false, ◌&&◌, List, [], ◌∷◌, ◌++◌, ◌==◌, length, Option, Some, None, refl, sym, ap, ◌∙◌, subst, arith, append_assoc, append-nil}
+use Rattle.std.proofs.Common.{ℕ, suc, ◌≡◌, ◌<◌, ◌≤◌, ◌+◌, ◌*◌, Bool, true, false, ◌&&◌, List, [], ◌∷◌, ◌++◌, ◌==◌, length, Option, Some, None, refl, sym, ap, ◌∙◌, arith, append_assoc, append-nil}
 use Rattle.std.proofs.lemmas.Bool.Decides.{nat_tests}
-use Rattle.std.specs.Prelude.{Ok, Err, Result, take, drop, nat_le, nat_lt, map, replicate, cond, ◌^◌, if◌then◌else◌}
-use Rattle.std.specs.List.{flat_map, AllByRecursion}
+use Rattle.std.specs.Prelude.{Ok, Result, take, drop, nat_le, nat_lt, map, replicate, ◌^◌, if◌then◌else◌}
+use Rattle.std.specs.List.{AllByRecursion}
 use Rattle.std.specs.Option.{option_map}
 use Rattle.std.specs.Int.{w32, w64, to_le_bytes}
 use Rattle.std.proofs.lemmas.List.{take_at, drop_at, length-append}
@@ -15,7 +15,7 @@ use Rattle.req_bytes.specs.declared.descriptor.Sort.TheVariants.{Known}
 use Rattle.req_bytes.specs.Bytes as by
 use Rattle.req_bytes.specs.Bytes.{number_at, pieces, lists_in, or_one, want_in, into_last, taken, items_in, all_in, reqs_in}
 use Rattle.req_bytes.specs.Written.{type_of, share_of, body_text, item_text, group_items, list_items, glued, list_text, lists_text, reqs_text}
-use Rattle.req_bytes.specs.Wide.{fits_kind, fits_want, IsWritable, IsGroup, IsList, CanBeWritten}
+use Rattle.req_bytes.specs.Wide.{fits_kind, IsWritable, IsGroup, IsList}
 use Rattle.req_bytes.specs.Laws.{AgainLaw}
 
 -- One descriptor -----------------------------------------------------------------------------
@@ -137,7 +137,7 @@ bind_ok : {A B : Type 0} (r : Result A BytesError) (x : A) (f : A → Result B B
 bind_ok r x f h = ap (λ q. by.◌>>=◌ q f) h
 
 -- the alternatives of a group come behind its wants
-alternatives_again : (list item : ℕ) (groups : List Group) (group wants : Group) (more : List (List ℕ)) → AllByRecursion IsWritable wants → length group + length wants ≤ 16 → 
+alternatives_again : (list item : ℕ) (groups : List Group) (group wants : Group) (more : List (List ℕ)) → AllByRecursion IsWritable wants → length group + length wants ≤ 16 →
     items_in list item (groups ++ group ∷ []) (map (item_text 8) wants ++ more) ≡ items_in list (item + length wants) (groups ++ (group ++ wants) ∷ []) more
 alternatives_again list item groups group [] more h short =
     ap (λ (x : Group). items_in list item (groups ++ x ∷ []) more) (sym (append-nil group)) ∙ ap (λ (n : ℕ). items_in list n (groups ++ (group ++ []) ∷ []) more) (omega arith)

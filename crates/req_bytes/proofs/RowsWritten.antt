@@ -1,6 +1,6 @@
 -- Requirements, and the bytes that are written for them, as a writing of the format gives them that stands apart; and the first want that no
 -- descriptor can say.
-use Rattle.std.proofs.Common.{ℕ, ◌≡◌, ◌-◌, ◌^◌, true, false, List, [], ◌∷◌, Some, None, refl}
+use Rattle.std.proofs.Common.{ℕ, ◌≡◌, ◌-◌, ◌^◌, true, false, [], ◌∷◌, Some, None, refl}
 use Rattle.std.specs.Prelude.{codes}
 use Rattle.resource_reqs.specs.Resources.{Want, Reqs}
 use Rattle.resource_reqs.specs.declared.kind.Kind.{Kind}

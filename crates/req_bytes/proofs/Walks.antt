@@ -1,13 +1,13 @@
 -- The loops over wants, groups and lists, a step at a time.
-use Rattle.std.proofs.Common.{ℕ, zero, suc, ◌≡◌, ◌<◌, ◌≤◌, ◌+◌, ◌*◌, ◌==◌, Bool, true, false, List, [], ◌∷◌, ◌++◌, length, drop, map, slice_get, Option, Some, None, refl, sym, ap, ◌∙◌, subst, arith, add-one, append_assoc, append-nil, cond}
-use Rattle.std.specs.List.{AllByRecursion, flat_map}
+use Rattle.std.proofs.Common.{ℕ, zero, suc, ◌≡◌, ◌≤◌, ◌+◌, ◌*◌, Bool, true, false, List, [], ◌∷◌, ◌++◌, length, drop, map, slice_get, Option, Some, None, refl, sym, ap, ◌∙◌, subst, arith, add-one, append_assoc, append-nil, cond}
+use Rattle.std.specs.List.{AllByRecursion}
 use Rattle.std.proofs.lemmas.List.{length-append}
 use Rattle.resource_reqs.specs.Resources.{Want, Group, AltList, Reqs}
 use Rattle.req_bytes.specs.declared.error.EncodeError.{EncodeError}
 use Rattle.req_bytes.specs.declared.error.EncodeError.TheVariants.{TooWide}
 use Rattle.req_bytes.specs.Written.{item_text, option_at, group_items, list_items, glued, list_text, lists_text}
-use Rattle.req_bytes.specs.Wide.{fits_want, wide_in_group, or_later, wide_in_list, wide_in_reqs, IsGroup}
-use Rattle.req_bytes.proofs.Again.{are_list, glued_length, group_length, list_bytes}
+use Rattle.req_bytes.specs.Wide.{fits_want, wide_in_group, or_later, wide_in_list, wide_in_reqs}
+use Rattle.req_bytes.proofs.Again.{are_list, glued_length, group_length}
 
 drop_read : {Y : Type 0} (ys : List Y) (at : ℕ) (y : Y) → slice_get ys at ≡ Some y → drop at ys ≡ y ∷ drop (suc at) ys
 drop_read [] at y h = cc

@@ -1,5 +1,5 @@
 -- What the readers of a descriptor answer.
-use Rattle.std.specs.Prelude.{ℕ, ◌≡◌, ◌≤◌, ◌<◌, Bool, true, false, List, [], ◌∷◌, ◌++◌, Option, Some, None, Result, Ok, Err, length}
+use Rattle.std.specs.Prelude.{ℕ, ◌≡◌, ◌≤◌, ◌<◌, true, false, List, [], ◌∷◌, ◌++◌, Option, Some, None, Result, Ok, Err, length}
 use Rattle.std.specs.List.{AllByRecursion}
 use Rattle.resource_reqs.specs.Resources.{Want, Group, Reqs, is_want}
 use Rattle.req_bytes.specs.declared.error.BytesError.{BytesError}

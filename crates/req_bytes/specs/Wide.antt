@@ -1,5 +1,5 @@
 -- What can be written, and the first want that can not.
-use Rattle.std.specs.Prelude.{ℕ, ◌≡◌, ◌<◌, ◌≤◌, ◌+◌, ◌==◌, ◌^◌, Bool, true, ◌&&◌, List, [], ◌∷◌, Option, Some, None, nat_lt, length, if◌then◌else◌}
+use Rattle.std.specs.Prelude.{ℕ, ◌≡◌, ◌<◌, ◌≤◌, ◌+◌, ◌==◌, ◌^◌, Bool, true, ◌&&◌, [], ◌∷◌, Option, Some, None, nat_lt, length, if◌then◌else◌}
 use Rattle.std.specs.List.{AllByRecursion}
 use Rattle.resource_reqs.specs.Resources.{Want, Group, AltList, Reqs, IsWant}
 use Rattle.resource_reqs.specs.declared.kind.Kind.{Kind}

@@ -1,6 +1,6 @@
 -- The bytes that are written for requirements.
-use Rattle.std.specs.Prelude.{ℕ, zero, suc, ◌+◌, ◌==◌, ◌^◌, Bool, true, false, ◌&&◌, List, [], ◌∷◌, ◌++◌, nat_lt, length, map, replicate}
-use Rattle.std.specs.List.{flat_map, list_all}
+use Rattle.std.specs.Prelude.{ℕ, zero, suc, ◌+◌, Bool, true, false, List, [], ◌∷◌, ◌++◌, length, map, replicate}
+use Rattle.std.specs.List.{flat_map}
 use Rattle.std.specs.Int.{w32, w64, to_le_bytes}
 use Rattle.resource_reqs.specs.Resources.{Want, Group, AltList, Reqs}
 use Rattle.resource_reqs.specs.declared.kind.Kind.{Kind}

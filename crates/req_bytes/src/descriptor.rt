@@ -87,7 +87,15 @@ fn ranged(kind: Kind, item: &[u8]) -> Option<Want>
 {
     let len = u32_at(item, 8) as u64;
     let align = or_one(u32_at(item, 12)) as u64;
-    Want::make(kind, u64_at(item, 16), u64_at(item, 24), len, align, is_shared(item)).ok()
+    Want::make(
+        kind,
+        u64_at(item, 16),
+        u64_at(item, 24),
+        len,
+        align,
+        is_shared(item),
+    )
+    .ok()
 }
 
 /// The want of a descriptor of interrupts or channels, or none where its numbers make none.

@@ -126,12 +126,7 @@ fn close(groups: OpenGroups) -> Result<AltList, BytesError>
 }
 
 /// The groups that the descriptors of a list say, the first `count` pieces of the bytes.
-pub fn read_items(
-    alloc: Global,
-    list: u32,
-    count: u32,
-    bytes: &[u8],
-) -> Result<AltList, BytesError>
+pub fn read_items(alloc: Global, list: u32, count: u32, bytes: &[u8]) -> Result<AltList, BytesError>
     requires { 32 * count ≤ length bytes.now }
     ensures { Gives result (items_in list 0 [] (pieces count bytes.now)) }
 {

@@ -24,9 +24,9 @@
 mod descriptor;
 mod error;
 mod groups;
+pub mod laws;
 mod reading;
 mod writing;
-pub mod laws;
 
 pub use error::{BytesError, EncodeError};
 pub use reading::decode;

@@ -151,7 +151,16 @@ fn write_item(out: &mut Vec<u8>, option: u8, want: &Want) -> Result<(), AllocErr
     requires { fits_want want.now ≡ true }
     ensures { OnOk result (out.new.items ≡ out.old.items ++ item_text option want.now) }
 {
-    out.extend_from_slice(&[option, type_of(want.kind), share_of(want.shared), 0, 0, 0, 0, 0])?;
+    out.extend_from_slice(&[
+        option,
+        type_of(want.kind),
+        share_of(want.shared),
+        0,
+        0,
+        0,
+        0,
+        0,
+    ])?;
     write_body(out, want)
 }
 

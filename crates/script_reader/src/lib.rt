@@ -23,6 +23,8 @@
 //! - The attributes of `plug` stand in any order: `hw=ID,ID` and `compat=ID,ID` at most once, with 1 to 64
 //!   IDs (without `hw` DEVICE is the only hardware ID), and up to 8 times `need=LIST`. LIST is 1 to 16 groups
 //!   between `;`, a group 1 to 16 wants between `|`.
+//! - `reqs=HEX` stands in place of all `need`, once: the bytes of an `IO_RESOURCE_REQUIREMENTS_LIST` of the driver kit, two
+//!   hexadecimal digits of either case for each (`req_bytes`).
 //! - A want is `port:RANGE` or `mem:RANGE`, then perhaps `/LEN`, `@ALIGN` and `:shared` in this order,
 //!   `irq:RANGE` or `dma:RANGE`, then perhaps `:shared`, or `bus:RANGE`, then perhaps `/LEN` and `:shared`.
 //! - The numbers of a RANGE behind `bus:` are at most 255.

@@ -1,5 +1,5 @@
-use Rattle.std.proofs.Common.{◌≡◌, ◌≤◌, ◌*◌, ◌-◌, ◌+◌, List, ℕ, [], length, subst, sym, ap, arith}
-use Rattle.std.specs.Prelude.{Ok, take, drop}
+use Rattle.std.proofs.Common.{◌≡◌, ◌-◌, ◌+◌, List, ℕ, [], subst, sym, arith}
+use Rattle.std.specs.Prelude.{Ok, take}
 use Rattle.req_bytes.specs.Bytes.{taken, items_in, pieces}
 use Rattle.req_bytes.specs.Readings.{opened, Refuses}
 use Rattle.req_bytes.proofs.Put.{goes_on, refused}

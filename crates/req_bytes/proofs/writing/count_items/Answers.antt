@@ -1,4 +1,4 @@
-use Rattle.std.proofs.Common.{◌≡◌, ◌≤◌, ◌*◌, ◌+◌, length, drop, sym, ap, ◌∙◌, arith}
+use Rattle.std.proofs.Common.{◌+◌, length, drop, ap, ◌∙◌, arith}
 use Rattle.req_bytes.specs.Written.{list_items}
 use Rattle.req_bytes.proofs.Walks.{count_next}
 use Rattle.req_bytes.proofs.writing.count_items.Goals as goal

@@ -1,4 +1,4 @@
-use Rattle.std.proofs.Common.{◌≡◌, ◌≤◌, ◌*◌, ◌+◌, ◌++◌, length, drop}
+use Rattle.std.proofs.Common.{◌≡◌, ◌≤◌, ◌*◌, ◌+◌, length, drop}
 use Rattle.req_bytes.specs.Written.{list_items}
 use Rattle.req_bytes.proofs.writing.count_items.Given as goal
 

@@ -1,4 +1,4 @@
-use Rattle.std.proofs.Common.{◌≡◌, ◌≤◌, ◌*◌, ◌+◌, length, drop, sym, ap, ◌∙◌, arith}
+use Rattle.std.proofs.Common.{sym, ap, ◌∙◌}
 use Rattle.std.specs.Option.{is_some}
 use Rattle.req_bytes.specs.Wide.{first_wide, IsList}
 use Rattle.req_bytes.proofs.Walks.{list_next, list_here, rest_next}
@@ -11,7 +11,8 @@ returns-in-Some-clause-wide c =
 
 pub loop-list-preserved : goal.loop-list-preserved
 loop-list-preserved c =
-    let each : IsList c.get.result.now = record { some = c.get.ensures.not_empty; short = c.wide_in_list.ensures.short; each = c.wide_in_list.ensures.fits (ap (λ o. is_some o) c.in_default.is) } in
-    ( list_next c.loop-list.list c.args.reqs.now c.get.result.now (first_wide c.args.reqs.now) c.get.ensures.part
-      (sym c.in_default.is ∙ c.wide_in_list.ensures.wide) c.loop-list.invariant.0
-    , rest_next IsList c.args.reqs.now c.loop-list.list c.get.result.now c.get.ensures.part each c.loop-list.invariant.1 )
+    let each : IsList c.get.result.now = record { some = c.get.ensures.not_empty; short = c.wide_in_list.ensures.short; each = c.wide_in_list.ensures.fits (ap (λ o. is_some o) c.in_default.is) } in (
+      list_next c.loop-list.list c.args.reqs.now c.get.result.now (first_wide c.args.reqs.now) c.get.ensures.part
+          (sym c.in_default.is ∙ c.wide_in_list.ensures.wide) c.loop-list.invariant.0,
+      rest_next IsList c.args.reqs.now c.loop-list.list c.get.result.now c.get.ensures.part each c.loop-list.invariant.1,
+    )

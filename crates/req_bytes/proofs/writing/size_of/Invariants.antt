@@ -1,4 +1,4 @@
-use Rattle.std.proofs.Common.{◌≡◌, ◌≤◌, ◌*◌, ◌+◌, ◌++◌, length, drop}
+use Rattle.std.proofs.Common.{◌≡◌, ◌≤◌, ◌*◌, ◌+◌, length, drop}
 use Rattle.req_bytes.specs.Written.{lists_text, reqs_text}
 use Rattle.req_bytes.proofs.writing.size_of.Given as goal
 

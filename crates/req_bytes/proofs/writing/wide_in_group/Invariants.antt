@@ -1,4 +1,4 @@
-use Rattle.std.proofs.Common.{◌≡◌, ◌≤◌, ◌*◌, ◌+◌, ◌++◌, length, drop}
+use Rattle.std.proofs.Common.{◌≡◌, drop}
 use Rattle.req_bytes.specs.Wide.{wide_in_group, IsWritable}
 use Rattle.req_bytes.proofs.Walks.{RestIsAll}
 use Rattle.req_bytes.proofs.writing.wide_in_group.Given as goal
