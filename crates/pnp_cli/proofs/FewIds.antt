@@ -13,12 +13,13 @@ use Rattle.script_reader.specs.Numbers.{◌>>=◌, only_if}
 use Rattle.script_reader.specs.Tables.{keyword_of, driver_kind_of, rel_kind_of, minor_of, ok_of}
 use Rattle.script_reader.specs.Wants.{at_most, all_of, group_of, list_of, id_of, ids_of}
 use Rattle.script_reader.specs.Words.{is_name, words_of}
-use Rattle.script_reader.specs.Lines.{event_of, event_by, plug_of, plugged, path_of, name_of, once, hw_of, compat_of, reqs_of, values, is_attribute, uses_by, rule_of, res_of}
+use Rattle.script_reader.specs.Lines.{event_of, event_by, plug_of, plugged, path_of, name_of, once, hw_of, compat_of, reqs_from, reqs_of, values, is_attribute, uses_by, rule_of, res_of}
 use Rattle.script_reader.specs.Script.{Meaning, nothing, means, bad, event_or_bad, is_comment, meaning_of, whole_line, last_line, Trace, gives, waits, ends, stops, onward, at_end, of_lines, trace}
 use Rattle.resource_reqs.specs.Resources.{AltList, Reqs}
 use Rattle.pnp_laws.specs.Held.{AreWithin}
 use Rattle.pnp_laws.specs.Needs.{IsEventWithin}
 use Rattle.pnp_machine.specs.Machines.{HasFewIds}
+use Rattle.pnp_cli.proofs.BytesWithin.{Within, one_more_within, bytes_within}
 use Rattle.pnp_cli.specs.Contents.{events_of}
 use Rattle.pnp_cli.specs.Lawful.{events_in}
 use Rattle.std.specs.Prelude.{codes}
@@ -72,10 +73,6 @@ abbrev ShortList : Option AltList → Type 0
 ShortList None = Unit {0}
 ShortList (Some list) = length list ≤ 16
 
-abbrev Within : Option Reqs → Type 0
-Within None = Unit {0}
-Within (Some reqs) = AreWithin 16 reqs
-
 short_list : (o : Option AltList) → ShortList (at_most 16 o)
 short_list None = tt
 short_list (Some list) = by_test (nat_le (length list) 16) refl
@@ -83,10 +80,6 @@ short_list (Some list) = by_test (nat_le (length list) 16) refl
     by_test : (b : Bool) → nat_le (length list) 16 ≡ b → ShortList (only_if b list)
     by_test true e = grind (arith, nat_tests)
     by_test false e = tt
-
-one_more_within : (x : AltList) (xs : Reqs) → length x ≤ 16 → AreWithin 16 xs → (list : AltList) (k : ℕ) → k < length (x ∷ xs) → get_or (x ∷ xs) k list ≡ list → length list ≤ 16
-one_more_within x xs short within list zero less is = subst (λ (l : AltList). length l ≤ 16) is short
-one_more_within x xs short within list (suc k) less is = within list (k, omega arith, is)
 
 both_within : (o : Option AltList) (p : Option Reqs) → ShortList o → Within p → Within (o >>= (λ x. p >>= (λ xs. Some (x ∷ xs))))
 both_within None p short within = tt
@@ -104,6 +97,12 @@ at_most_within (Some reqs) within = by_test (nat_le (length reqs) 8)
     by_test : (b : Bool) → Within (only_if b reqs)
     by_test true = within
     by_test false = tt
+
+reqs_within : (texts needs : List (List ℕ)) → Within (reqs_from texts needs)
+reqs_within [] needs = at_most_within (all_of list_of needs) (all_within needs)
+reqs_within (text ∷ []) [] = bytes_within text
+reqs_within (text ∷ []) (need ∷ needs) = tt
+reqs_within (text ∷ second ∷ more) needs = tt
 
 few_within : (o : Option Reqs) (f : Reqs → Option Event) → Within o → ((reqs : Reqs) → AreWithin 16 reqs → Few (f reqs)) → Few (o >>= f)
 few_within None f within h = tt
@@ -135,7 +134,7 @@ few_plugged parent device path attributes =
     (λ hw few_hw. few_short (compat_of attributes) (λ compat. reqs_of attributes >>= (λ reqs. only_if (list_all is_attribute attributes) (events.Plug parent path hw compat reqs)))
     (short_once [] (omega arith) (values (codes "compat=") attributes))
     (λ compat few_compat. few_within (reqs_of attributes) (λ reqs. only_if (list_all is_attribute attributes) (events.Plug parent path hw compat reqs))
-    (at_most_within (all_of list_of (values (codes "need=") attributes)) (all_within (values (codes "need=") attributes)))
+    (reqs_within (values (codes "reqs=") attributes) (values (codes "need=") attributes))
     (λ reqs within. few_if (list_all is_attribute attributes) (events.Plug parent path hw compat reqs) ((few_hw, few_compat), tt, within))))
 
 few_plug : (ws : List (List ℕ)) → Few (plug_of ws)

@@ -1,3 +1,4 @@
+mod BytesWithin
 pub mod FewIds
 pub mod Fronts
 pub mod Telling

@@ -93,20 +93,13 @@ const LONG: [(&[u8], &[u8], u32, &[u8], &str); 8] = [
 ];
 
 #[test]
-fn eight_bits(rt: HostRuntime) -> Result<(), Fail> {
-    model_bytes(&rt, rt.alloc(), &NARROW)
-}
-
-#[test]
-fn sixteen_bits(rt: HostRuntime) -> Result<(), Fail> {
-    wide_models(&rt, rt.alloc(), &WIDE)
-}
-
-#[test]
-fn long_lines(rt: HostRuntime) -> Result<(), Fail> {
+fn encodings(rt: HostRuntime) -> Result<(), Fail> {
+    let alloc = rt.alloc();
+    model_bytes(&rt, alloc, &NARROW)?;
+    wide_models(&rt, alloc, &WIDE)?;
     for (front, piece, count, end, want) in LONG {
-        let inf = long(rt.alloc(), front, piece, count, end)?;
-        let told = told(rt.alloc(), &inf)?;
+        let inf = long(alloc, front, piece, count, end)?;
+        let told = told(alloc, &inf)?;
         assert!(rt; told.starts_with(want.as_bytes()), "{told:?}");
     }
     Ok(())

@@ -122,32 +122,13 @@ const OPEN_HEADERS: [(&str, &str); 4] = [
     ("[Z\r\n]\r\n", "refused 2 6"),
 ];
 
+/// What is read under `[M]`.
+const TABLES: [&[(&str, &str)]; 5] = [&LINES, &QUOTES, &HEADERS, &CONTINUED, &ENTRIES];
+
 #[test]
 fn lines(rt: HostRuntime) -> Result<(), Fail> {
-    models(&rt, rt.alloc(), &LINES)
-}
-
-#[test]
-fn quotes(rt: HostRuntime) -> Result<(), Fail> {
-    models(&rt, rt.alloc(), &QUOTES)
-}
-
-#[test]
-fn headers(rt: HostRuntime) -> Result<(), Fail> {
-    models(&rt, rt.alloc(), &HEADERS)
-}
-
-#[test]
-fn continued(rt: HostRuntime) -> Result<(), Fail> {
-    models(&rt, rt.alloc(), &CONTINUED)
-}
-
-#[test]
-fn entries(rt: HostRuntime) -> Result<(), Fail> {
-    models(&rt, rt.alloc(), &ENTRIES)
-}
-
-#[test]
-fn open_headers(rt: HostRuntime) -> Result<(), Fail> {
+    for rows in TABLES {
+        models(&rt, rt.alloc(), rows)?;
+    }
     refuses(&rt, rt.alloc(), MODELS, &OPEN_HEADERS)
 }

@@ -161,6 +161,9 @@ const BAD_SCORES_ANYWHERE: [(&str, &str); 3] = [
     ),
 ];
 
+/// What stands before the value of a `FeatureScore`.
+const SCORE: &str = "x=I,A\n[I]\nFeatureScore=";
+
 /// The value of a `FeatureScore`, and the score.
 const SCORES: [(&str, &str); 15] = [
     ("0", "6 0 - ids|A lower upper\n"),
@@ -300,53 +303,25 @@ const FILTERS: [(&str, &str); 17] = [
     ),
 ];
 
-#[test]
-fn tokens(rt: HostRuntime) -> Result<(), Fail> {
-    models(&rt, rt.alloc(), &TOKENS)
-}
+/// What is read under `[M]`.
+const TABLES: [&[(&str, &str)]; 3] = [&TOKENS, &INSTALLS, &REGISTRY];
+
+/// What is read under `[M]` behind a front.
+const VALUES: [(&str, &[(&str, &str)]); 3] = [
+    (SCORE, &SCORES),
+    ("x=I,A\n[I.Services]\nAddService=", &SERVICES),
+    ("x=I,A\n[I.HW]\nAddReg=R\n[R]\n", &FILTERS),
+];
 
 #[test]
-fn installs(rt: HostRuntime) -> Result<(), Fail> {
-    models(&rt, rt.alloc(), &INSTALLS)
-}
-
-#[test]
-fn registry(rt: HostRuntime) -> Result<(), Fail> {
-    models(&rt, rt.alloc(), &REGISTRY)
-}
-
-#[test]
-fn bad_scores_anywhere(rt: HostRuntime) -> Result<(), Fail> {
-    refuses(&rt, rt.alloc(), MODELS, &BAD_SCORES_ANYWHERE)
-}
-
-#[test]
-fn scores(rt: HostRuntime) -> Result<(), Fail> {
-    entries(&rt, rt.alloc(), "x=I,A\n[I]\nFeatureScore=", &SCORES)
-}
-
-#[test]
-fn bad_scores(rt: HostRuntime) -> Result<(), Fail> {
-    refuses_each(
-        &rt,
-        rt.alloc(),
-        "x=I,A\n[I]\nFeatureScore=",
-        &BAD_SCORES,
-        "refused 5 8",
-    )
-}
-
-#[test]
-fn services(rt: HostRuntime) -> Result<(), Fail> {
-    entries(
-        &rt,
-        rt.alloc(),
-        "x=I,A\n[I.Services]\nAddService=",
-        &SERVICES,
-    )
-}
-
-#[test]
-fn filters(rt: HostRuntime) -> Result<(), Fail> {
-    entries(&rt, rt.alloc(), "x=I,A\n[I.HW]\nAddReg=R\n[R]\n", &FILTERS)
+fn parts_of_models_lines(rt: HostRuntime) -> Result<(), Fail> {
+    let alloc = rt.alloc();
+    for rows in TABLES {
+        models(&rt, alloc, rows)?;
+    }
+    for (front, rows) in VALUES {
+        entries(&rt, alloc, front, rows)?;
+    }
+    refuses(&rt, alloc, MODELS, &BAD_SCORES_ANYWHERE)?;
+    refuses_each(&rt, alloc, SCORE, &BAD_SCORES, "refused 5 8")
 }

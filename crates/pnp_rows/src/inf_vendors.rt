@@ -1,5 +1,5 @@
 //! INFs in the style of those that come with hardware, with all that is read over in them.
-use crate::inf_told::gives;
+use crate::inf_told::{gives, whole};
 use std::test::Fail;
 
 /// A network adapter, for several systems.
@@ -323,46 +323,28 @@ const STORAGE_GIVES: &str = "20060621 2814751249596417\n\
     10 255 =bstor ids|pci\\ven_1111&dev_2223|pci\\ven_1111&cc_0104|pci\\cc_0104 lower|blow|clow upper\n\
     12 255 =astor ids|pci\\cc_010601|pci\\cc_0106 lower|alow|blow|clow upper|aup\n";
 
-#[test]
-fn net(rt: HostRuntime) -> Result<(), Fail> {
-    gives(&rt, rt.alloc(), NET.as_bytes(), NET_GIVES)
-}
+const WHOLE: [(&str, &str); 6] = [
+    (NET, NET_GIVES),
+    (AUDIO, AUDIO_GIVES),
+    (USB, USB_GIVES),
+    (PRINTER, PRINTER_GIVES),
+    (WIDE, WIDE_GIVES),
+    (STORAGE, STORAGE_GIVES),
+];
+
+/// What is damaged in the first of them, what stands there then, and the refusal: a score that is none, a header without its end.
+const DAMAGED: [(&str, &str, &str); 2] = [
+    ("= 0xD0", "= 0x1D0", "refused 5 34\n"),
+    ("[Gbe.Service]", "[Gbe.Service", "refused 2 70\n"),
+];
 
 #[test]
-fn audio(rt: HostRuntime) -> Result<(), Fail> {
-    gives(&rt, rt.alloc(), AUDIO.as_bytes(), AUDIO_GIVES)
-}
-
-#[test]
-fn usb(rt: HostRuntime) -> Result<(), Fail> {
-    gives(&rt, rt.alloc(), USB.as_bytes(), USB_GIVES)
-}
-
-#[test]
-fn printer(rt: HostRuntime) -> Result<(), Fail> {
-    gives(&rt, rt.alloc(), PRINTER.as_bytes(), PRINTER_GIVES)
-}
-
-#[test]
-fn wide(rt: HostRuntime) -> Result<(), Fail> {
-    gives(&rt, rt.alloc(), WIDE.as_bytes(), WIDE_GIVES)
-}
-
-#[test]
-fn storage(rt: HostRuntime) -> Result<(), Fail> {
-    gives(&rt, rt.alloc(), STORAGE.as_bytes(), STORAGE_GIVES)
-}
-
-#[test]
-fn net_with_a_bad_score(rt: HostRuntime) -> Result<(), Fail> {
+fn vendors(rt: HostRuntime) -> Result<(), Fail> {
     let alloc = rt.alloc();
-    let bad = NET.replace(alloc, "= 0xD0", "= 0x1D0")?;
-    gives(&rt, alloc, bad.as_bytes(), "refused 5 34\n")
-}
-
-#[test]
-fn net_with_an_open_header(rt: HostRuntime) -> Result<(), Fail> {
-    let alloc = rt.alloc();
-    let bad = NET.replace(alloc, "[Gbe.Service]", "[Gbe.Service")?;
-    gives(&rt, alloc, bad.as_bytes(), "refused 2 70\n")
+    whole(&rt, alloc, &WHOLE)?;
+    for (old, new, want) in DAMAGED {
+        let bad = NET.replace(alloc, old, new)?;
+        gives(&rt, alloc, bad.as_bytes(), want)?;
+    }
+    Ok(())
 }

@@ -244,32 +244,15 @@ const BYTES: [(&[u8], &str); 8] = [
     (b"\0", "refused 1 0\n"),
 ];
 
-#[test]
-fn dates(rt: HostRuntime) -> Result<(), Fail> {
-    dates_are(&rt, rt.alloc(), &DATES)
-}
+const WHOLE: [&[(&str, &str)]; 3] = [&VERSIONS, &MAKERS, &REFUSALS];
 
 #[test]
-fn bad_dates(rt: HostRuntime) -> Result<(), Fail> {
-    no_dates(&rt, rt.alloc(), &BAD_DATES)
-}
-
-#[test]
-fn versions(rt: HostRuntime) -> Result<(), Fail> {
-    whole(&rt, rt.alloc(), &VERSIONS)
-}
-
-#[test]
-fn makers(rt: HostRuntime) -> Result<(), Fail> {
-    whole(&rt, rt.alloc(), &MAKERS)
-}
-
-#[test]
-fn refusals(rt: HostRuntime) -> Result<(), Fail> {
-    whole(&rt, rt.alloc(), &REFUSALS)
-}
-
-#[test]
-fn bytes(rt: HostRuntime) -> Result<(), Fail> {
-    whole_bytes(&rt, rt.alloc(), &BYTES)
+fn versions_and_makers(rt: HostRuntime) -> Result<(), Fail> {
+    let alloc = rt.alloc();
+    for rows in WHOLE {
+        whole(&rt, alloc, rows)?;
+    }
+    whole_bytes(&rt, alloc, &BYTES)?;
+    dates_are(&rt, alloc, &DATES)?;
+    no_dates(&rt, alloc, &BAD_DATES)
 }

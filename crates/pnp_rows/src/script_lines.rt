@@ -516,42 +516,15 @@ const WINDOWS: [(&[u8], &[u8]); 26] = [
     (b"windows OWN\\DEV\\B port:0-7", b"bad "),
 ];
 
-#[test]
-fn drivers(rt: HostRuntime) -> Result<(), Fail> {
-    reads(&rt, rt.alloc(), &DRIVERS)
-}
+/// All tables.
+const TABLES: [&[(&[u8], &[u8])]; 8] = [
+    &DRIVERS, &OTHERS, &LESSONS, &RELATIONS, &PLUGS, &WANTS, &BUSES, &WINDOWS,
+];
 
 #[test]
-fn others(rt: HostRuntime) -> Result<(), Fail> {
-    reads(&rt, rt.alloc(), &OTHERS)
-}
-
-#[test]
-fn lessons(rt: HostRuntime) -> Result<(), Fail> {
-    reads(&rt, rt.alloc(), &LESSONS)
-}
-
-#[test]
-fn relations(rt: HostRuntime) -> Result<(), Fail> {
-    reads(&rt, rt.alloc(), &RELATIONS)
-}
-
-#[test]
-fn plugs(rt: HostRuntime) -> Result<(), Fail> {
-    reads(&rt, rt.alloc(), &PLUGS)
-}
-
-#[test]
-fn wants(rt: HostRuntime) -> Result<(), Fail> {
-    reads(&rt, rt.alloc(), &WANTS)
-}
-
-#[test]
-fn buses(rt: HostRuntime) -> Result<(), Fail> {
-    reads(&rt, rt.alloc(), &BUSES)
-}
-
-#[test]
-fn windows(rt: HostRuntime) -> Result<(), Fail> {
-    reads(&rt, rt.alloc(), &WINDOWS)
+fn lines(rt: HostRuntime) -> Result<(), Fail> {
+    for rows in TABLES {
+        reads(&rt, rt.alloc(), rows)?;
+    }
+    Ok(())
 }

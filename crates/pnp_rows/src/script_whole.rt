@@ -58,14 +58,11 @@ fn assert_script(rt: &impl Abort, alloc: Global, script: &Script) -> Result<(), 
     Ok(())
 }
 
+/// The script gives each form, in one piece and in pieces of any size.
 #[test]
-fn gives_each_form(rt: HostRuntime) -> Result<(), Fail> {
+fn each_form(rt: HostRuntime) -> Result<(), Fail> {
     let script = read_events(rt.alloc(), SCRIPT)?;
-    assert_script(&rt, rt.alloc(), &script)
-}
-
-#[test]
-fn pieces_of_any_size(rt: HostRuntime) -> Result<(), Fail> {
+    assert_script(&rt, rt.alloc(), &script)?;
     for size in [1usize, 7, 4096] {
         assert!(rt; 0 < size);
         let script = read_pieces(rt.alloc(), SCRIPT, size)?;

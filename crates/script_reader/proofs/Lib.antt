@@ -1,4 +1,5 @@
 pub mod Digits
+pub mod HexBytes
 pub mod Gathering
 pub mod Errors
 pub mod Sifting

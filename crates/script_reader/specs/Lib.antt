@@ -2,6 +2,7 @@ pub mod Faults
 pub mod Tables
 pub mod Words
 pub mod Numbers
+pub mod Bytes
 pub mod Wants
 pub mod Lines
 pub mod Script

@@ -19,6 +19,7 @@ use Rattle.std.specs.Str.{bytes_eq}
 use Rattle.script_reader.specs.Words.{is_name}
 use Rattle.script_reader.specs.Tables.{keyword_of, minor_of, driver_kind_of, rel_kind_of, kind_of, answer_of, ask_of, ok_of}
 use Rattle.script_reader.specs.Numbers.{◌>>=◌, only_if, number_of, range_in}
+use Rattle.script_reader.specs.Bytes.{reqs_by_bytes}
 use Rattle.script_reader.specs.Wants.{all_of, at_most, list_of, id_of, ids_of}
 
 abbrev pub path_of : List ℕ → Option (List ℕ)
@@ -36,7 +37,7 @@ abbrev pub values : List ℕ → List (List ℕ) → List (List ℕ)
 values name words = filter_map (value_at name) words
 
 abbrev pub is_attribute : List ℕ → Bool
-is_attribute word = is_some (value_at (codes "hw=") word) || is_some (value_at (codes "compat=") word) || is_some (value_at (codes "need=") word)
+is_attribute word = is_some (value_at (codes "hw=") word) || is_some (value_at (codes "compat=") word) || is_some (value_at (codes "need=") word) || is_some (value_at (codes "reqs=") word)
 
 -- what the one value is, or this where there is none
 abbrev pub once : {A : Type 0} → (List ℕ → Option A) → A → List (List ℕ) → Option A
@@ -52,9 +53,15 @@ hw_of device attributes = once ids_of (device ∷ []) (values (codes "hw=") attr
 abbrev pub compat_of : List (List ℕ) → Option (List (List ℕ))
 compat_of attributes = once ids_of [] (values (codes "compat=") attributes)
 
--- the alternative lists, 8 at most
+-- the alternative lists, 8 at most; or the bytes that stand in place of them, once
+abbrev pub reqs_from : List (List ℕ) → List (List ℕ) → Option Reqs
+reqs_from [] needs = at_most 8 (all_of list_of needs)
+reqs_from (text ∷ []) [] = reqs_by_bytes text
+reqs_from (text ∷ []) (need ∷ needs) = None
+reqs_from (text ∷ second ∷ more) needs = None
+
 abbrev pub reqs_of : List (List ℕ) → Option Reqs
-reqs_of attributes = at_most 8 (all_of list_of (values (codes "need=") attributes))
+reqs_of attributes = reqs_from (values (codes "reqs=") attributes) (values (codes "need=") attributes)
 
 abbrev pub plugged : List ℕ → List ℕ → List ℕ → List (List ℕ) → Option Event
 plugged parent device path attributes = do

@@ -28,6 +28,7 @@
 //! - The numbers of a RANGE behind `bus:` are at most 255.
 #![tactic(auto)]
 
+mod bytes;
 mod error;
 mod events;
 mod fault;

@@ -8,7 +8,7 @@ use resource_reqs::Kind;
 const LAST_BUS: u64 = 255;
 
 /// The value of a digit of the base.
-fn digit_of(byte: u8, base: u64) -> Option<u64>
+pub fn digit_of(byte: u8, base: u64) -> Option<u64>
     ensures { result ≡ digit_of base byte }
 {
     let value = match byte {

@@ -3,8 +3,9 @@ ghost use Rattle.std.specs.Option.{option_map};
 ghost use Rattle.std.specs.List.{list_all};
 ghost use Rattle.script_reader.specs.Faults.{Gives};
 ghost use Rattle.script_reader.specs.Wants.{all_of, at_most, list_of, ids_of};
-ghost use Rattle.script_reader.specs.Lines.{value_at, values, is_attribute, hw_of, compat_of, reqs_of, plugged, plug_of};
+ghost use Rattle.script_reader.specs.Lines.{value_at, values, is_attribute, hw_of, compat_of, reqs_from, reqs_of, plugged, plug_of};
 
+use crate::bytes::reqs_by_bytes;
 use crate::fault::LineError;
 use crate::lines::path_of;
 use crate::wants::{id_of, ids_of, list_of};
@@ -43,7 +44,10 @@ fn is_attribute(word: &[u8]) -> bool
     if let Some(_) = value_at(b"compat=", word) {
         return true;
     }
-    match value_at(b"need=", word) {
+    if let Some(_) = value_at(b"need=", word) {
+        return true;
+    }
+    match value_at(b"reqs=", word) {
         Some(_) => true,
         None => false,
     }
@@ -105,12 +109,27 @@ fn lists_of(alloc: Global, values: &[&[u8]]) -> Result<Reqs, LineError>
     Ok(reqs)
 }
 
-/// The requirements: an alternative list for each `need`.
+/// The requirements that the bytes say, where no `need` stands beside them.
+fn bytes_alone(alloc: Global, text: &[u8], needs: &[&[u8]]) -> Result<Reqs, LineError>
+    ensures { Gives result (reqs_from (text.now ∷ []) (map (λ w. w.now) needs.now)) }
+{
+    let [] = needs else {
+        return Err(LineError::Bad);
+    };
+    reqs_by_bytes(alloc, text)
+}
+
+/// The requirements: an alternative list for each `need`, or the bytes that stand in place of them.
 fn reqs_of(alloc: Global, attributes: &[&[u8]]) -> Result<Reqs, LineError>
     ensures { Gives result (reqs_of (map (λ w. w.now) attributes.now)) }
 {
-    let values = values(alloc, b"need=", attributes)?;
-    lists_of(alloc, &values)
+    let needs = values(alloc, b"need=", attributes)?;
+    let bytes = values(alloc, b"reqs=", attributes)?;
+    match bytes.as_slice() {
+        [] => lists_of(alloc, &needs),
+        [text] => bytes_alone(alloc, text, &needs),
+        _ => Err(LineError::Bad),
+    }
 }
 
 /// The device of this path below the parent, with what its attributes say.

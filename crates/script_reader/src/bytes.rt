@@ -1,0 +1,63 @@
+//! Requirements as the hexadecimal digits of their bytes.
+ghost use Rattle.std.specs.Prelude.{◌≡◌};
+ghost use Rattle.script_reader.specs.Bytes.{hex_byte, hex_pair, hex_bytes, reqs_by_bytes};
+ghost use Rattle.script_reader.specs.Faults.{Gives, GivesBytes};
+
+use crate::fault::LineError;
+use crate::numbers::digit_of;
+use req_bytes::{BytesError, decode};
+use resource_reqs::Reqs;
+use std::alloc::Global;
+
+/// The number below 256 that two hexadecimal digits spell.
+fn hex_byte(high: u8, low: u8) -> Option<u8>
+    ensures { result ≡ hex_byte high low }
+{
+    let high = digit_of(high, 16)?;
+    let low = digit_of(low, 16)?;
+    Some((16 * high + low) as u8)
+}
+
+/// The number that a pair of digits spells.
+fn hex_pair(pair: &[u8]) -> Option<u8>
+    ensures { result ≡ hex_pair pair.now }
+{
+    let [high, low] = pair else {
+        return None;
+    };
+    hex_byte(*high, *low)
+}
+
+/// The bytes of hexadecimal digits, two for each.
+#[tactic(auto, using(crate::proofs::HexBytes::front_none, crate::proofs::HexBytes::goes_on, crate::proofs::HexBytes::no_byte, crate::proofs::HexBytes::all_read, crate::proofs::HexBytes::one_left))]
+fn hex_bytes(alloc: Global, text: &[u8]) -> Result<Vec<u8>, LineError>
+    ensures { GivesBytes result (hex_bytes text.now) }
+{
+    let mut bytes = Vec::new(alloc);
+    let mut rest = text;
+    for _ in 0..text.len() / 2 {
+        let (pair, more) = rest.split_at(2);
+        let Some(byte) = hex_pair(pair) else {
+            return Err(LineError::Bad);
+        };
+        bytes.push(byte)?;
+        rest = more;
+    }
+    if rest.is_empty() {
+        Ok(bytes)
+    } else {
+        Err(LineError::Bad)
+    }
+}
+
+/// The requirements that the bytes of these digits say.
+pub fn reqs_by_bytes(alloc: Global, text: &[u8]) -> Result<Reqs, LineError>
+    ensures { Gives result (reqs_by_bytes text.now) }
+{
+    let bytes = hex_bytes(alloc, text)?;
+    match decode(alloc, &bytes) {
+        Ok(reqs) => Ok(reqs),
+        Err(BytesError::WantOfMemory) => Err(LineError::WantOfMemory),
+        Err(_) => Err(LineError::Bad),
+    }
+}
