@@ -9,3 +9,4 @@ pub mod Leaves
 pub mod Printing
 pub mod Facts
 pub mod Identities
+pub mod Climbs

@@ -7,7 +7,7 @@ use Rattle.pnp_labels.specs.declared.states.DevState.TheVariants.{NotStarted}
 use Rattle.pnp_model.specs.Keyed.{changed_first}
 use Rattle.pnp_model.specs.Records.{Node, Core, Driver, Activity, Phase, State, Step, Settings, Operation, Removal, Surprise, Doing}
 use Rattle.pnp_model.specs.Records.Phase.{Adding, Searching, Starting, Removing, Due}
-use Rattle.pnp_model.specs.Cores.{is_node, node_at, bare, forget, new_node, serials_of}
+use Rattle.pnp_model.specs.Cores.{is_node, node_at, bare, forget, serials_of}
 use Rattle.pnp_model.specs.Laws.{Reaches, is_up_to_now}
 use Rattle.pnp_model.specs.Machine.{is_waiting, next, next_of, operation_next, operation_walk}
 use Rattle.pnp_model.specs.Rebalances.{committed, movers, plan_of}

@@ -4,10 +4,10 @@ use Rattle.std.specs.List.{find, AllByRecursion}
 use Rattle.pnp_labels.specs.declared.label.Label.{Label}
 use Rattle.pnp_model.specs.Keyed.{changed_first, without_first}
 use Rattle.pnp_model.specs.Records.{Device, Node, Core, Driver, State, Step, Settings}
-use Rattle.pnp_model.specs.Cores.{is_node, node_at, new_node, bare}
+use Rattle.pnp_model.specs.Cores.{is_node, node_at, bare}
 use Rattle.pnp_model.specs.Rebalances.{committed, movers, plan_of}
 use Rattle.pnp_model.specs.Runs.{Entry, Goes, opening, printed}
-use Rattle.pnp_model.specs.States.{without_those}
+use Rattle.pnp_model.specs.States.{new_child, without_those}
 use Rattle.pnp_model.specs.Tasks.{joins}
 use Rattle.pnp_model.specs.Tests.{has}
 use Rattle.pnp_laws.specs.Effects.{NodeEffect, WorldEffect}
@@ -83,7 +83,7 @@ few_nodes s label t (NodeEffect.commits r runs is a b) h =
 few_nodes s label t (NodeEffect.joins node d none at up there is) h =
     let few = found_has IsFewDevice (joins node.born s.core.nodes) s.world d h.1 there in
     subst (λ (x : Step). AllByRecursion IsFewNode x.state.core.nodes) (sym is)
-    (one_more_has IsFewNode (new_node s.next_serial node.serial d) (record { hw = few.hw; compat = few.compat }) s.core.nodes h.0)
+    (one_more_has IsFewNode (new_child node.serial d s) (record { hw = few.hw; compat = few.compat }) s.core.nodes h.0)
 few_nodes s label t (NodeEffect.left node o runs first a b) h = from_nodes t.core _ a (left_have IsFewNode (is_node node.serial) s.core.nodes h.0)
 few_nodes s label t (NodeEffect.related r related a b) h = from_nodes t.core s.core.nodes a h.0
 

@@ -3,11 +3,12 @@ use Rattle.std.proofs.Common.{◌≡◌, ℕ, ◌+◌, ◌<◌, ◌≤◌, ◌==
 use Rattle.std.specs.List.{AllByRecursion, list_any}
 use Rattle.std.proofs.lemmas.Bool.Decides.{nat_tests}
 use Rattle.device_ids.specs.Folding.{same}
-use Rattle.resource_reqs.specs.Resources.{Res}
+use Rattle.resource_reqs.specs.Resources.{Res, Reqs}
 use Rattle.pnp_labels.specs.Texts.{Text}
 use Rattle.pnp_model.specs.Cores.{node_at, new_node, fresh_node}
-use Rattle.pnp_model.specs.Records.{Device, Node, Relation}
+use Rattle.pnp_model.specs.Records.{Device, Node, Relation, Window}
 use Rattle.pnp_model.specs.States.{device_born, is_in_world}
+use Rattle.pnp_model.specs.Windows.{clip}
 use Rattle.pnp_model.specs.Tasks.{joins, joining, has_born, has_path}
 use Rattle.devnode_tree.specs.Identities.{Identity, identity, identities}
 use Rattle.devnode_tree.specs.Trees.{Tree, with_node, Ascends}
@@ -219,12 +220,16 @@ in_world born [] d at = absurd (cc)
 in_world born (x ∷ ds) d at =
     by_bool (λ b. cond b (Some x) (device_born born ds) ≡ Some d → (b || is_in_world ds born) ≡ true) (x.born == born) (λ e at. refl) (λ e at. in_world born ds d at) at
 
+-- the device, which requires this
+abbrev requiring : Reqs → Device → Device
+requiring reqs d = record d { reqs = reqs }
+
 -- the first device has joined
-pub kept_joined : (w : World) (t : Tree) (reserved : List Res) (arbiters : Arbiters) (over from serial parent born : ℕ) (whole : Option ℕ) → IsWorld w → IsKept w t reserved arbiters over from whole → (j : Joining w t over born)
-    → IsKept w (with_node (new_node serial parent j.device) t) reserved arbiters over (born + 1) whole
-kept_joined w t reserved arbiters over from serial parent born whole h kept j =
+pub kept_joined : (w : World) (t : Tree) (reserved : List Res) (arbiters : Arbiters) (over from serial parent born : ℕ) (whole : Option ℕ) → IsWorld w → IsKept w t reserved arbiters over from whole → (j : Joining w t over born) (reqs : Reqs)
+    → IsKept w (with_node (new_node serial parent (requiring reqs j.device)) t) reserved arbiters over (born + 1) whole
+kept_joined w t reserved arbiters over from serial parent born whole h kept j reqs =
     let d = j.device in
-    let n = new_node serial parent d in
+    let n = new_node serial parent (requiring reqs d) in
     let below : d.born < w.next = born_below w.next born w.devices d h.below j.at in
     let is : d.born ≡ born = j.born_is in
     record {
@@ -237,14 +242,14 @@ kept_joined w t reserved arbiters over from serial parent born whole h kept j =
     }
   where
     by_test : (e : Device) → (e.born < j.device.born → joins over t.nodes e ≡ false) → e.born < born + 1 → (b : Bool) → (e.born == j.device.born) ≡ b
-        → joins over (t.nodes ++ new_node serial parent j.device ∷ []) e ≡ false
+        → joins over (t.nodes ++ new_node serial parent (requiring reqs j.device) ∷ []) e ≡ false
     by_test e before less true q =
         let same : e.born ≡ j.device.born = grind (arith, nat_tests) in
-        joins_not over t.nodes (new_node serial parent j.device) e (sym same)
+        joins_not over t.nodes (new_node serial parent (requiring reqs j.device)) e (sym same)
     by_test e before less false q =
         let is : j.device.born ≡ born = j.born_is in
         let lower : e.born < j.device.born = grind (arith, nat_tests) in
-        joins_less over t.nodes (new_node serial parent j.device) e (before lower)
+        joins_less over t.nodes (new_node serial parent (requiring reqs j.device)) e (before lower)
 
 -- the node, and the device that joins below it
 pub record JoinsAt (w : World) (t : Tree) (k born : ℕ) : Type 0 where
@@ -252,12 +257,12 @@ pub record JoinsAt (w : World) (t : Tree) (k born : ℕ) : Type 0 where
   pub there : node_at k t.nodes ≡ Some node
   pub joining : Joining w t node.born born
 
-pub joins_at : (w : World) (t : Tree) (relations : List Relation) (reserved : List Res) (ds : Devices) (k born : ℕ) → record { world = w; tree = t; relations = relations; reserved = reserved } ≡ ds → IsWorld w
+pub joins_at : (w : World) (t : Tree) (relations : List Relation) (reserved : List Res) (windows : List Window) (ds : Devices) (k born : ℕ) → record { world = w; tree = t; relations = relations; reserved = reserved; windows = windows } ≡ ds → IsWorld w
     → Some born ≡ joins_next (node_at k ds.tree.nodes) ds → JoinsAt w t k born
-joins_at w t relations reserved ds k born e h next =
+joins_at w t relations reserved windows ds k born e h next =
     by_node (node_at k t.nodes) refl (subst (λ (x : Devices). Some born ≡ joins_next (node_at k x.tree.nodes) x) (sym e) next)
   where
-    by_node : (o : Option Node) → node_at k t.nodes ≡ o → Some born ≡ joins_next o (record { world = w; tree = t; relations = relations; reserved = reserved }) → JoinsAt w t k born
+    by_node : (o : Option Node) → node_at k t.nodes ≡ o → Some born ≡ joins_next o (record { world = w; tree = t; relations = relations; reserved = reserved; windows = windows }) → JoinsAt w t k born
     by_node None at n = absurd (cc)
     by_node (Some node) at n = record { node = node; there = at; joining = joining_of w t node.born born h n }
 
@@ -275,17 +280,21 @@ no_same_path w t over born j path is h =
     let none = no_path w t over j.device j.passes in let there : has_path path t.nodes ≡ has_path j.device.path t.nodes = ap (λ x. has_path x t.nodes) is in cc
 
 -- the tree after the join
-module _ (w : World) (t t' : Tree) (k born serial : ℕ) (j : JoinsAt w t k born) (d : shown.Device) (part : d ≡ part_of j.joining.device) (next : serial ≡ t.next)
+module _ (w : World) (t t' : Tree) (k born serial : ℕ) (j : JoinsAt w t k born) (windows : List Window) (d : shown.Device)
+    (part : d ≡ record (part_of j.joining.device) { reqs = clip windows t.nodes k j.joining.device.reqs }) (next : serial ≡ t.next)
     (is : t' ≡ with_node (fresh_node serial k born d.path d.hw d.compat d.reqs) t) where
   abbrev device : Device
   device = j.joining.device
 
-  tree_is : t' ≡ with_node (new_node t.next j.node.serial device) t
+  abbrev reqs_below : ℕ → Reqs
+  reqs_below i = clip windows t.nodes i device.reqs
+
+  tree_is : t' ≡ with_node (new_node t.next j.node.serial (requiring (reqs_below j.node.serial) device)) t
   tree_is =
       is ∙ ap (λ (x : shown.Device). with_node (fresh_node serial k born x.path x.hw x.compat x.reqs) t) part
-      ∙ ap (λ i. with_node (fresh_node i k born device.path device.hw device.compat device.reqs) t) next
-      ∙ ap (λ i. with_node (fresh_node t.next i born device.path device.hw device.compat device.reqs) t) (sym (own_serial k j.node t.nodes j.there))
-      ∙ ap (λ i. with_node (fresh_node t.next j.node.serial i device.path device.hw device.compat device.reqs) t) (sym j.joining.born_is)
+      ∙ ap (λ i. with_node (fresh_node i k born device.path device.hw device.compat (reqs_below k)) t) next
+      ∙ ap (λ i. with_node (fresh_node t.next i born device.path device.hw device.compat (reqs_below i)) t) (sym (own_serial k j.node t.nodes j.there))
+      ∙ ap (λ i. with_node (fresh_node t.next j.node.serial i device.path device.hw device.compat (reqs_below j.node.serial)) t) (sym j.joining.born_is)
 
   pub kept_after : (reserved : List Res) (arbiters : Arbiters) (last from over : ℕ) (whole : Option ℕ) (n : Node) → IsWorld w → IsKept w t reserved arbiters last from whole → Some n ≡ node_at k t.nodes → over ≡ n.born
       → IsKept w t' reserved arbiters over (born + 1) whole
@@ -294,11 +303,11 @@ module _ (w : World) (t t' : Tree) (k born serial : ℕ) (j : JoinsAt w t k born
       let own : over ≡ j.node.born = is_over ∙ ap (λ (x : Node). x.born) same in
       subst (λ i. IsKept w t' reserved arbiters i (born + 1) whole) (sym own)
       (subst (λ (x : Tree). IsKept w x reserved arbiters j.node.born (born + 1) whole) (sym tree_is)
-      (kept_joined w t reserved arbiters j.node.born (cond (j.node.born == last) from 0) t.next j.node.serial born whole h (kept_at w t reserved arbiters last from j.node.born whole kept) j.joining))
+      (kept_joined w t reserved arbiters j.node.born (cond (j.node.born == last) from 0) t.next j.node.serial born whole h (kept_at w t reserved arbiters last from j.node.born whole kept) j.joining (reqs_below j.node.serial)))
 
   module _ (relations : List Relation) (reserved : List Res) where
     abbrev a_devices : Tree → Devices
-    a_devices x = record { world = w; tree = x; relations = relations; reserved = reserved }
+    a_devices x = record { world = w; tree = x; relations = relations; reserved = reserved; windows = windows }
 
     pub joined_is : (ds ds' : Devices) (path : Text) → a_devices t ≡ ds → ds' ≡ a_devices t' → path ≡ d.path → JoinedFor (node_at k ds.tree.nodes) (Some (serial, path)) ds ds'
     joined_is ds ds' path e e' path_is =

@@ -25,3 +25,4 @@ pub mod OperationSteps
 pub mod EventSteps
 pub mod CommandSteps
 pub mod Completions
+pub mod WindowSteps

@@ -10,12 +10,12 @@ use Rattle.pnp_labels.specs.declared.states.DevState.{DevState}
 use Rattle.pnp_labels.specs.declared.states.DevState.TheVariants.{NoStack, NotStarted, Started, StopPending, Stopped, RemovePending, SurpriseRemoved}
 use Rattle.pnp_model.specs.Keyed.{changed_first, without_first, those}
 use Rattle.pnp_model.specs.Records.{Node, Core, Driver, Relation, State, Step, Settings}
-use Rattle.pnp_model.specs.Cores.{is_node, node_at, new_node, bare, forget, is_apart_from}
+use Rattle.pnp_model.specs.Cores.{is_node, node_at, bare, forget, is_apart_from}
 use Rattle.pnp_model.specs.Diagram.{FollowsDiagram}
 use Rattle.pnp_model.specs.Laws.{Reaches}
 use Rattle.pnp_model.specs.Rebalances.{committed, movers, plan_of}
 use Rattle.pnp_model.specs.Runs.{Entry, Goes, printed}
-use Rattle.pnp_model.specs.States.{node_of}
+use Rattle.pnp_model.specs.States.{new_child, node_of}
 use Rattle.pnp_model.specs.Tests.{is_started}
 use Rattle.pnp_laws.specs.Kept.{Ascending, is_idle}
 use Rattle.pnp_laws.specs.Reached.{IsReached}
@@ -129,7 +129,7 @@ effect_up s label t (NodeEffect.stripped node w at request ends prints a b) orde
 effect_up s label t (NodeEffect.commits r runs is a b) order follows h =
     from_parts t.core (map (committed (movers r) (plan_of r.found)) s.core.nodes) s.core.relations a b (all_up s.core.nodes _ (mapped_up (movers r) (plan_of r.found) s.core.nodes) s.core.relations h)
 effect_up s label t (NodeEffect.joins node d none at up there is) order follows h =
-    subst (λ (x : Step). RelatedUp x.state.core) (sym is) (all_up s.core.nodes _ (joined_up s.core.nodes (new_node s.next_serial node.serial d)) s.core.relations h)
+    subst (λ (x : Step). RelatedUp x.state.core) (sym is) (all_up s.core.nodes _ (joined_up s.core.nodes (new_child node.serial d s)) s.core.relations h)
 effect_up s label t (NodeEffect.left node o runs first a b) order follows h =
     let leaves = subst (λ (x : List Node). FollowsDiagram label s.core.nodes x) a follows in
     from_parts t.core (without_first (is_node node.serial) s.core.nodes) s.core.relations a b (all_up s.core.nodes _ (left_up label node.serial s.core.nodes order leaves) s.core.relations h)

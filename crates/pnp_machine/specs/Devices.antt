@@ -1,13 +1,15 @@
 -- The devices of the world and their nodes in the tree, with what they hold and how they are related.
-use Rattle.std.specs.Prelude.{◌≡◌, ℕ, ◌<◌, ◌≤◌, ◌==◌, Bool, true, false, not, ◌&&◌, List, [], ◌∷◌, Option, Some, None, Result, Ok, Err, find, nat_le, option_map, length, if◌then◌else◌}
+use Rattle.std.specs.Prelude.{◌≡◌, ℕ, ◌<◌, ◌≤◌, ◌==◌, Bool, true, false, not, ◌&&◌, ◌||◌, List, [], ◌∷◌, ◌++◌, Option, Some, None, Result, Ok, Err, find, nat_le, option_map, length, if◌then◌else◌}
 use Rattle.std.specs.List.{AllByRecursion, list_any}
 use Rattle.pnp_labels.specs.Texts.{Text}
 use Rattle.pnp_model.specs.Cores.{new_node, node_at}
-use Rattle.pnp_model.specs.Records.{Device, Node, Relation, Task}
+use Rattle.pnp_model.specs.Records.{Device, Node, Relation, Task, Window}
 use Rattle.pnp_model.specs.Runs.{root_device, root_node}
-use Rattle.pnp_model.specs.States.{is_in_world, device_of, node_born}
+use Rattle.pnp_model.specs.States.{is_in_world, has_below, device_of, node_born}
 use Rattle.pnp_model.specs.Tasks.{joins, joining, is_surprise_of}
 use Rattle.pnp_model.specs.Trees.{children, is_child}
+use Rattle.pnp_model.specs.Windows.{clip, is_window_on}
+use Rattle.pnp_model.specs.Events.{has_children}
 use Rattle.devnode_tree.specs.Trees.{Tree, with_node}
 use Rattle.resource_reqs.specs.Resources.{Res, Reqs}
 use Rattle.script_bus.specs.Worlds.{World, plugged, without_device}
@@ -15,6 +17,7 @@ use Rattle.script_bus.specs.declared.error.PlugError.{PlugError}
 use Rattle.script_bus.specs.declared.error.PlugError.TheVariants.{NoParent, SameId, WorldFull, WantOfMemory}
 use Rattle.script_bus.specs.declared.error.PullError.{PullError}
 use Rattle.script_bus.specs.declared.error.PullError.TheVariants as pulls
+use Rattle.pnp_labels.specs.declared.label.Reason.{Reason}
 use Rattle.trial_journal.specs.ByKind.{Arbiters}
 use Rattle.device_holdings.specs.Mirrors.{Mirrors}
 
@@ -23,6 +26,7 @@ pub record Devices : Type 0 where
   pub tree : Tree
   pub relations : List Relation
   pub reserved : List Res
+  pub windows : List Window
 
 -- the root alone, in world and tree
 abbrev pub opening_devices : Devices
@@ -32,6 +36,7 @@ opening_devices =
       tree = record { nodes = root_node ∷ []; next = 1 };
       relations = [];
       reserved = [];
+      windows = [];
     }
 
 -- a device that was born before another is not to join below this one
@@ -55,12 +60,16 @@ abbrev pub joins_next : Option Node → Devices → Option ℕ
 joins_next None ds = None
 joins_next (Some node) ds = option_map (λ d. d.born) (joining node.born ds.tree.nodes ds.world.devices)
 
+-- a device of the world that requires only what comes through to those below a node
+abbrev pub clipped : Devices → ℕ → Device → Device
+clipped ds k d = record d { reqs = clip ds.windows ds.tree.nodes k d.reqs }
+
 -- the first device that is to join below a node got a node of this serial; or none is to join
 abbrev pub JoinedBy : Node → Option (ℕ × Text) → Devices → Devices → Type 0
 JoinedBy node None old new = (joining node.born old.tree.nodes old.world.devices ≡ None) × (new ≡ old)
 JoinedBy node (Some joined) old new =
     (d : Device) × (joining node.born old.tree.nodes old.world.devices ≡ Some d) × (joined.0 ≡ old.tree.next) × (joined.1 ≡ d.path)
-    × (new ≡ record old { tree = with_node (new_node old.tree.next node.serial d) old.tree })
+    × (new ≡ record old { tree = with_node (new_node old.tree.next node.serial (clipped old node.serial d)) old.tree })
 
 abbrev pub JoinedFor : Option Node → Option (ℕ × Text) → Devices → Devices → Type 0
 JoinedFor None joined old new = ⊥
@@ -114,3 +123,21 @@ is_gone_node world tasks (Some n) = is_gone_from world tasks n
 
 abbrev pub is_gone_at : Devices → List Task → ℕ → Bool
 is_gone_at ds tasks k = is_gone_node ds.world.devices tasks (node_at k ds.tree.nodes)
+
+-- a device of the world, or a node, stands below the device of a birth number
+abbrev pub has_any_below : Devices → ℕ → Bool
+has_any_below ds born = has_below born ds.world.devices || has_children ds.tree.nodes (node_born born ds.tree.nodes)
+
+-- why a device gets no window of this range; None: it gets it
+abbrev pub window_refusal : Devices → Res → Option Device → Option Reason
+window_refusal ds res None = Some Reason.NoDevice
+window_refusal ds res (Some d) =
+    if d.born == 0 then Some Reason.RootStays
+    else if has_any_below ds d.born then Some Reason.HasChildren
+    else if list_any (is_window_on res.kind (d.born ∷ [])) ds.windows then Some Reason.SameWindow
+    else None
+
+-- the device has the window from now on, unless it was refused
+abbrev pub with_window : Devices → Res → Option Device → Option Reason → Devices
+with_window ds res (Some d) None = record ds { windows = ds.windows ++ record { born = d.born; res = res } ∷ [] }
+with_window ds res device refused = ds

@@ -43,6 +43,7 @@ state_of devices rack disabled works operation tasks =
       activities = works;
       operation = operation;
       tasks = tasks;
+      windows = devices.windows;
     }
 
 -- what was printed and what is there now are those of the step

@@ -4,27 +4,37 @@ ghost use Rattle.pnp_labels.specs.Texts.{Text as Letters};
 ghost use Rattle.devnode_tree.specs.Trees.{IsTree};
 ghost use Rattle.devnode_tree.specs.declared.error.JoinError.TheVariants as JoinError;
 ghost use Rattle.pnp_model.specs.Cores.{node_at};
+ghost use Rattle.pnp_model.specs.Windows.{clip};
 ghost use Rattle.pnp_model.specs.States.{device_of};
 ghost use Rattle.script_bus.specs.Worlds.{without_device};
-ghost use Rattle.pnp_machine.specs.Devices.{Arrives, Departs, JoinedFor, joins_next, serial_born, relisted, gone_below, is_gone_at, IsHere};
+ghost use Rattle.pnp_machine.specs.Devices.{Arrives, Departs, JoinedFor, joins_next, serial_born, relisted, gone_below, has_any_below, is_gone_at, window_refusal, with_window, IsHere};
 
 use crate::devices::Devices;
 use crate::tasks::Tasks;
+use bridge_windows::{Bridges, WindowError, clip};
 use device_ids::{IdList, InstancePath, Text, WantOfMemory};
-use devnode_tree::JoinError;
-use resource_reqs::Reqs;
+use devnode_tree::{JoinError, Tree};
+use pnp_labels::Reason;
+use resource_reqs::{Reqs, Res};
 use script_bus::{Device, PlugError, PullError, next_join};
 use std::alloc::{AllocError, Global};
 
-/// What a device of the world shows, copied.
-fn copied(alloc: Global, device: &Device) -> Result<Device, WantOfMemory>
-    ensures { IfOk result (λ copy. copy ≡ device.now) }
+/// What a device of the world shows to the node below which it joins, copied: it requires only what comes through to it.
+fn clipped(
+    alloc: Global,
+    tree: &Tree,
+    bridges: &Bridges,
+    parent: u64,
+    device: &Device,
+) -> Result<Device, WantOfMemory>
+    requires { IsSome (node_at parent tree.now.nodes) }
+    ensures { IfOk result (λ copy. copy ≡ record device.now { reqs = clip bridges.now tree.now.nodes parent device.now.reqs }) }
 {
     Ok(Device {
         path: device.path.copy(alloc)?,
         hw: device.hw.copy(alloc)?,
         compat: device.compat.copy(alloc)?,
-        reqs: device.reqs.copy(alloc)?,
+        reqs: clip(alloc, tree, bridges, parent, &device.reqs)?,
     })
 }
 
@@ -103,6 +113,49 @@ impl Devices {
         self.whole = None;
     }
 
+    /// Whether a device of the world, or a node, stands below the device of a birth number. Cost: that of
+    /// `Tree::find_born`.
+    fn has_any_below(&self, born: u64) -> bool
+        ensures { result ≡ has_any_below self.now born }
+    {
+        if self.world.has_child(born) {
+            return true;
+        }
+        match self.tree.find_born(born) {
+            Some(serial) => !self.tree.children(serial).is_empty(),
+            None => false,
+        }
+    }
+
+    /// The device of a path passes on only what lies in a range of its kind from now on; else the reason why not is told,
+    /// the first that holds: the world has no such device, it is the root, a device stands below it, or it has a window
+    /// of the kind; and nothing changes. After want of memory all is as before. Cost: the length of the path, and that of
+    /// `Tree::find_born`.
+    pub(crate) fn set_window(
+        &mut self,
+        path: &InstancePath,
+        res: Res,
+    ) -> Result<Option<Reason>, WantOfMemory>
+        ensures refused { IfOk result (λ refused. refused ≡ window_refusal self.old res (device_of path.now self.old.world.devices)) }
+        ensures set { IfOk result (λ refused. self.new ≡ with_window self.old res (device_of path.now self.old.world.devices) refused) }
+        ensures err { OnErr result (self.new ≡ self.old) }
+    {
+        let Some(born) = self.world.born_of(path) else {
+            return Ok(Some(Reason::NoDevice));
+        };
+        if born == 0 {
+            return Ok(Some(Reason::RootStays));
+        }
+        if self.has_any_below(born) {
+            return Ok(Some(Reason::HasChildren));
+        }
+        match self.bridges.set(born, res) {
+            Ok(()) => Ok(None),
+            Err(WindowError::SameWindow) => Ok(Some(Reason::SameWindow)),
+            Err(WindowError::WantOfMemory) => Err(AllocError),
+        }
+    }
+
     /// Where the world has another device of a path than the one with the birth number, the node of its parent. Cost: the
     /// length of the path, and where there is one that of `Tree::find_born`.
     pub(crate) fn relisted(&self, path: &InstancePath, born: u64) -> Option<u64>
@@ -128,7 +181,7 @@ impl Devices {
 
     /// The first device that is to join below a node joins, and its serial and path are told; none where none is to.
     /// Conditions: the node is there, and fewer than 2^63 nodes joined. After want of memory all is as before. Cost: what
-    /// the device shows, and that of `Tree::find_born`.
+    /// the device shows, the climb of `bridge_windows::clip`, and that of `Tree::find_born`.
     pub(crate) fn join_next(
         &mut self,
         alloc: Global,
@@ -150,7 +203,7 @@ impl Devices {
             unreachable!()
         };
         let path = Text::make(alloc, part.path.bytes())?;
-        let device = copied(alloc, part)?;
+        let device = clipped(alloc, &self.tree, &self.bridges, serial, part)?;
         let joined = self.tree.join(
             serial,
             born,

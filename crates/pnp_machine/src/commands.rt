@@ -1,6 +1,6 @@
 ghost use Rattle.std.specs.Prelude.{◌≡◌, [], ◌∷◌, IfOk, OnErr, IsSome};
 ghost use Rattle.pnp_labels.specs.declared.event.Event.TheVariants as Event;
-ghost use Rattle.pnp_labels.specs.Texts.{spaced};
+ghost use Rattle.pnp_labels.specs.Texts.{spaced, res_text};
 ghost use Rattle.pnp_model.specs.Cores.{node_at, path_of, serials_of};
 ghost use Rattle.pnp_model.specs.Events.{happens};
 ghost use Rattle.devnode_tree.specs.Trees.{Ascends};
@@ -144,5 +144,30 @@ impl<R: Drivers> Machine<R> {
         let what = Text::make(self.alloc, &text)?;
         self.devices.reserve(res)?;
         Ok(Label::Did { word, what })
+    }
+
+    /// A path as the world spells it, and a range.
+    fn path_and_range(&self, own: &InstancePath, res: &Res) -> Result<Text, WantOfMemory>
+        ensures { IfOk result (λ text. text ≡ spaced (own.now ∷ res_text res.now ∷ [])) }
+    {
+        let range = res_text(self.alloc, res)?;
+        let line = two(self.alloc, own.bytes(), &range)?;
+        Text::make(self.alloc, &line)
+    }
+
+    /// A device of the world passes on only what lies in a range of its kind from now on.
+    pub(crate) fn window(&mut self, path: &InstancePath, res: Res) -> Result<Label, WantOfMemory>
+        ensures done { IfOk result (λ label. IsDone (happens self.old (Event.Window path.now res)) label self.new) }
+        ensures err { OnErr result (self.new ≡ self.old) }
+    {
+        let word = EventWord::Window;
+        let Some(own) = self.devices.path_in_world(path) else {
+            return Ok(refusal(word, Reason::NoDevice));
+        };
+        let what = self.path_and_range(own, &res)?;
+        match self.devices.set_window(path, res)? {
+            Some(reason) => Ok(refusal(word, reason)),
+            None => Ok(Label::Did { word, what }),
+        }
     }
 }

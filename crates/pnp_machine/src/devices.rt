@@ -9,6 +9,7 @@ ghost use Rattle.relations.specs.Relating.{RelatesFor};
 ghost use Rattle.device_holdings.specs.MapRows.{row_of, IsOrderly};
 ghost use Rattle.pnp_machine.specs.Devices.{opening_devices};
 
+use bridge_windows::Bridges;
 use device_holdings::{is_in_use, map_rows, reserve};
 use device_ids::WantOfMemory;
 use devnode_tree::Tree;
@@ -20,8 +21,8 @@ use std::alloc::Global;
 use std::marker::Model;
 use trial_journal::Arbiters;
 
-/// The devices of the world, their nodes in the tree, their relations, what is reserved, and the arbiters that mirror what
-/// is held. A contract sees all but the arbiters.
+/// The devices of the world, their nodes in the tree, their relations, what is reserved, the arbiters that mirror what is
+/// held, and the windows of bridges. A contract sees all but the arbiters.
 #[derive(Drop)]
 pub(crate) struct Devices {
     pub(crate) world: World,
@@ -29,6 +30,7 @@ pub(crate) struct Devices {
     pub(crate) relations: Relations,
     pub(crate) reserved: ResList,
     pub(crate) arbiters: Arbiters,
+    pub(crate) bridges: Bridges,
     /// The device below which one joined last, by its birth number.
     pub(crate) over: u64,
     /// Of its children none that was born before this one is to join.
@@ -42,7 +44,7 @@ impl Model for Devices {
 
     ghost Value = { Devices };
 
-    ghost view = { λ d. record { world = d.world; tree = d.tree; relations = d.relations; reserved = d.reserved } };
+    ghost view = { λ d. record { world = d.world; tree = d.tree; relations = d.relations; reserved = d.reserved; windows = d.bridges } };
 
     ghost invariant = { λ d. IsKept d.world d.tree d.reserved d.arbiters d.over d.from d.whole };
 }
@@ -58,6 +60,7 @@ impl Devices {
             relations: Relations::new(alloc),
             reserved: ResList::new(alloc),
             arbiters: Arbiters::new(alloc)?,
+            bridges: Bridges::new(alloc),
             over: 0,
             from: 0,
             whole: None,

@@ -181,6 +181,7 @@ impl<R: Drivers> Machine<R> {
             } => self.relate(kind, &owner, &member),
             Event::Reserve { res } => self.reserve(res),
             Event::Complete { path, minor, ok } => self.complete(&path, minor, ok),
+            Event::Window { path, res } => self.window(&path, res),
         }
     }
 }

@@ -516,14 +516,17 @@ const WINDOWS: [(&[u8], &[u8]); 26] = [
     (b"windows OWN\\DEV\\B port:0-7", b"bad "),
 ];
 
-/// All tables.
-const TABLES: [&[(&[u8], &[u8])]; 8] = [
-    &DRIVERS, &OTHERS, &LESSONS, &RELATIONS, &PLUGS, &WANTS, &BUSES, &WINDOWS,
-];
+/// The tables; those of what a device needs, of bus numbers and of windows apart, since a constant has at most 10,000 parts.
+const LINES: [&[(&[u8], &[u8])]; 4] = [&DRIVERS, &OTHERS, &LESSONS, &RELATIONS];
+
+const RANGES: [&[(&[u8], &[u8])]; 4] = [&PLUGS, &WANTS, &BUSES, &WINDOWS];
 
 #[test]
 fn lines(rt: HostRuntime) -> Result<(), Fail> {
-    for rows in TABLES {
+    for rows in LINES {
+        reads(&rt, rt.alloc(), rows)?;
+    }
+    for rows in RANGES {
         reads(&rt, rt.alloc(), rows)?;
     }
     Ok(())

@@ -24,7 +24,7 @@ use Rattle.devnode_tree.specs.declared.print.PrintRow.{PrintRow}
 use Rattle.devnode_tree.proofs.Ascending.{ascends_lower}
 use Rattle.devnode_tree.proofs.Printing.{rows_below, each_below, row_and_kids}
 use Rattle.rebalance.specs.Frames.{is_asked_in}
-use Rattle.rebalance.proofs.Climbs.{parent_at}
+use Rattle.devnode_tree.proofs.Climbs.{parent_at}
 
 abbrev serial_rows : List PrintRow → List ℕ
 serial_rows rows = map (λ (r : PrintRow). r.serial) rows

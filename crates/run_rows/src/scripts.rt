@@ -310,12 +310,92 @@ map
 outstanding
 ";
 
+/// A device below a bridge gets ports of its window, and the bridge no further window.
+const BELOW_A_WINDOW_SCRIPT: &str = r"driver dev steady
+plug HTREE\ROOT\0 OWN\DEV B
+window OWN\DEV\B port:0x1000-0x1fff
+plug OWN\DEV\B OWN\DEV 1 need=port:0-0xffff/8@8
+window OWN\DEV\B mem:0-7
+";
+
+const BELOW_A_WINDOW_TEXT: &str = r"event driver dev
+event plug OWN\DEV\B
+join 1 OWN\DEV\B
+listed HTREE\ROOT\0
+install OWN\DEV\B 00ff0000 dev
+add OWN\DEV\B dev ok
+assign OWN\DEV\B
+START_DEVICE OWN\DEV\B dev ok
+state OWN\DEV\B Started
+listed OWN\DEV\B
+event window OWN\DEV\B port:0x1000-0x1fff
+event plug OWN\DEV\1
+join 2 OWN\DEV\1
+listed OWN\DEV\B
+install OWN\DEV\1 00ff0000 dev
+add OWN\DEV\1 dev ok
+assign OWN\DEV\1 port:0x1000-0x1007
+START_DEVICE OWN\DEV\1 dev ok
+state OWN\DEV\1 Started
+listed OWN\DEV\1
+refused window HasChildren
+tree
+0 HTREE\ROOT\0 Started
+ 1 OWN\DEV\B Started
+  2 OWN\DEV\1 Started
+map
+port:0x1000-0x1007 OWN\DEV\1
+outstanding
+";
+
+/// Nothing that the device needs comes through, although nobody holds it.
+const BESIDE_A_WINDOW_SCRIPT: &str = r"driver dev steady
+plug HTREE\ROOT\0 OWN\DEV B
+window OWN\DEV\B port:0x1000-0x1fff
+plug OWN\DEV\B OWN\DEV D need=port:0x2000-0x20ff/8@8
+";
+
+const BESIDE_A_WINDOW_TEXT: &str = r"event driver dev
+event plug OWN\DEV\B
+join 1 OWN\DEV\B
+listed HTREE\ROOT\0
+install OWN\DEV\B 00ff0000 dev
+add OWN\DEV\B dev ok
+assign OWN\DEV\B
+START_DEVICE OWN\DEV\B dev ok
+state OWN\DEV\B Started
+listed OWN\DEV\B
+event window OWN\DEV\B port:0x1000-0x1fff
+event plug OWN\DEV\D
+join 2 OWN\DEV\D
+listed OWN\DEV\B
+install OWN\DEV\D 00ff0000 dev
+add OWN\DEV\D dev ok
+nofit OWN\DEV\D
+begin rebalance OWN\DEV\D
+QUERY_STOP_DEVICE OWN\DEV\B dev ok
+state OWN\DEV\B StopPending
+nofit OWN\DEV\D
+CANCEL_STOP_DEVICE OWN\DEV\B dev ok
+state OWN\DEV\B Started
+problem OWN\DEV\D 12
+end rebalance OWN\DEV\D nofit
+REMOVE_DEVICE OWN\DEV\D dev ok
+state OWN\DEV\D NoStack
+tree
+0 HTREE\ROOT\0 Started
+ 1 OWN\DEV\B Started
+  2 OWN\DEV\D NoStack problem 12
+map
+outstanding
+";
+
 /// INFs, a script, the status and what is written.
 type Row = (&'static [&'static [u8]], &'static str, Status, &'static str);
 
 const OWN: &[&[u8]] = &[OWN_INF];
 
-const ROWS: [Row; 10] = [
+const ROWS: [Row; 12] = [
     (OWN, ONE_DEVICE_SCRIPT, Status::Done, ONE_DEVICE_TEXT),
     (
         OWN,
@@ -355,6 +435,18 @@ const ROWS: [Row; 10] = [
         A_FILTER_IS_REMOVED_SCRIPT,
         Status::Done,
         A_FILTER_IS_REMOVED_TEXT,
+    ),
+    (
+        OWN,
+        BELOW_A_WINDOW_SCRIPT,
+        Status::Done,
+        BELOW_A_WINDOW_TEXT,
+    ),
+    (
+        OWN,
+        BESIDE_A_WINDOW_SCRIPT,
+        Status::Done,
+        BESIDE_A_WINDOW_TEXT,
     ),
 ];
 

@@ -1,5 +1,5 @@
 -- What the tree of places says of the devices.
-use Rattle.std.proofs.Common.{◌≡◌, ℕ, ◌+◌, ◌<◌, ◌==◌, Bool, true, false, not, ◌&&◌, ◌||◌, cond, List, [], ◌∷◌, map, Option, Some, None, nat_eq, refl, sym, ap, ap₂, subst, ◌∙◌, arith, option_map, IsSome, is_some, inl, inr}
+use Rattle.std.proofs.Common.{◌≡◌, ℕ, ◌+◌, ◌<◌, ◌==◌, Bool, true, false, not, ◌&&◌, ◌||◌, cond, List, [], ◌∷◌, map, length, Option, Some, None, nat_eq, refl, sym, ap, ap₂, subst, ◌∙◌, arith, option_map, IsSome, is_some, inl, inr}
 use Rattle.std.specs.List.{find, list_any, AllByRecursion}
 use Rattle.std.specs.HashMap.{HashMap, get}
 use Rattle.std.specs.Option.{option_copied}
@@ -65,6 +65,17 @@ found_passes p (y ∷ xs) x e = by_test (p y) refl e (found_passes p xs x)
     by_test : (b : Bool) → p y ≡ b → cond b (Some y) (find p xs) ≡ Some x → (find p xs ≡ Some x → p x ≡ true) → p x ≡ true
     by_test true t e more = let same : y ≡ x = cc in subst (λ z. p z ≡ true) same t
     by_test false t e more = more e
+
+-- one passes exactly where those that pass are not none
+pub some_those : {X Y : Type 0} (f : X → Y) (p : X → Bool) (xs : List X) → not (length (map f (those p xs)) == 0) ≡ list_any p xs
+some_those f p [] = refl
+some_those f p (x ∷ xs) = by_test (p x) (some_those f p xs)
+  where
+    more : (length (map f (x ∷ those p xs)) == 0) ≡ false
+    more = grind (arith, nat_tests)
+    by_test : (b : Bool) → not (length (map f (those p xs)) == 0) ≡ list_any p xs → not (length (map f (cond b (x ∷ those p xs) (those p xs))) == 0) ≡ (b || list_any p xs)
+    by_test true e = ap not more
+    by_test false e = e
 
 pub no_map : {X Y : Type 0} (f : X → Y) (xs : List X) → map f xs ≡ [] → xs ≡ []
 no_map f [] e = refl

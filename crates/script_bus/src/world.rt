@@ -1,6 +1,6 @@
 ghost use Rattle.std.specs.Prelude.{◌≡◌, ◌≢◌, ◌+◌, ◌<◌, ◌≤◌, ◌^◌, ◌↔◌, [], ◌∷◌, None, IfOk, IfSome, OnOk, OnErr, IsErrOf, IsSome, IsTrue, Bool, true, ℕ, length, option_map, option_copied};
 ghost use Rattle.pnp_model.specs.Runs.{root_device};
-ghost use Rattle.pnp_model.specs.States.{device_born, device_of, is_in_world};
+ghost use Rattle.pnp_model.specs.States.{device_born, device_of, has_below, is_in_world};
 ghost use Rattle.script_bus.specs.Worlds.{with_device, without_device, plugged, part_of, parent_in, child_births, IsWorld, PassesDown, without_leaf};
 
 use crate::device::Device;
@@ -193,6 +193,15 @@ impl World {
         ensures world { IsWorld self.now }
     {
         self.places.node(born).is_some()
+    }
+
+    /// Whether a device stands directly below the one with a birth number; none stands below a number that no device
+    /// has. It takes no memory. Cost: the logarithm of the number of devices.
+    pub fn has_child(&self, born: u64) -> bool
+        ensures child { result ≡ has_below born self.now.devices }
+        ensures world { IsWorld self.now }
+    {
+        !self.children(born).is_empty()
     }
 
     /// The birth number of the device of a path, up to ASCII case, and none exactly where no device has it. Cost: the

@@ -2,10 +2,14 @@
 #![tactic(auto)]
 
 #[cfg(test)]
+mod bridges;
+#[cfg(test)]
 mod places;
 #[cfg(test)]
 mod reading;
 #[cfg(test)]
 mod searches;
+#[cfg(test)]
+mod sizes;
 #[cfg(test)]
 mod trees;

@@ -1,42 +1,58 @@
 //! Sizes that a body which shifts, copies or goes through whole lists does not end in a minute: a pool of a million values,
-//! 200,000 ports, and 300,000 nodes of a tree.
-ghost use Rattle.std.specs.Prelude.{◌≡◌, ◌<◌, ◌≤◌, ◌+◌, ◌^◌, length, IfSome, OnOk};
+//! and 300,000 nodes of a tree.
+ghost use Rattle.std.specs.Prelude.{◌≡◌, ◌<◌, ◌+◌, ◌^◌, length, IfSome, IfOk, OnOk};
 ghost use Rattle.node_pool.specs.Chains.{Stands};
 
 use device_ids::{IdList, InstancePath};
 use devnode_tree::Tree;
 use node_pool::{Place, Pool};
-use resource_reqs::{Kind, Owner, Reqs, Res};
+use resource_reqs::Reqs;
 use std::alloc::Global;
-use std::process::Abort;
 use std::test::Fail;
-use trial_journal::Arbiters;
 
-/// Half of the values, and half of those.
+/// Half of the values.
 const HALF: u64 = 500_000;
 
+/// Half of those.
 const QUARTER: u64 = 250_000;
 
+/// Puts a value in behind a place, or at the front. What stood stands.
+fn put(
+    pool: &mut Pool<u64>,
+    at: Option<Place>,
+    other: Option<Place>,
+    value: u64,
+) -> Result<Place, Fail>
+    requires one { length pool.old.chains ≡ 1 }
+    requires at { IfSome at (λ p. Stands pool.old 0 p.node) }
+    requires other { IfSome other (λ p. Stands pool.old 0 p.node) }
+    ensures one { OnOk result (length pool.new.chains ≡ 1) }
+    ensures at { IfOk result (λ p. Stands pool.new 0 p.node) }
+    ensures other { OnOk result (IfSome other (λ p. Stands pool.new 0 p.node)) }
+{
+    match pool.insert_after(0, at, value) {
+        Ok(place) => Ok(place),
+        Err(_) => Err(Fail::from("room")),
+    }
+}
+
 /// The first half of the values, each behind the one before; the other half each behind the last value of the first quarter.
-fn filled(rt: &impl Abort, alloc: Global) -> Result<Pool<u64>, Fail> {
+fn filled(alloc: Global) -> Result<Pool<u64>, Fail>
+    ensures { IfOk result (λ pool. length pool.chains ≡ 1) }
+{
     let mut pool = Pool::with_capacity(alloc, 1_000_000, 1)?;
     let mut last = None;
     let mut middle = None;
     'ascending: for value in 1..HALF + 1 {
-        let Ok(place) = pool.insert_after(0, last, value) else {
-            return Err(Fail::from("room for the first half"));
-        };
+        let place = put(&mut pool, last, middle, value)?;
         last = Some(place);
         if value == QUARTER {
             middle = last;
         }
     }
     'descending: for value in HALF + 1..2 * HALF + 1 {
-        let Ok(_) = pool.insert_after(0, middle, value) else {
-            return Err(Fail::from("room for the second half"));
-        };
+        put(&mut pool, middle, middle, value)?;
     }
-    assert_eq!(rt; pool.spare(), 0);
     Ok(pool)
 }
 
@@ -45,66 +61,36 @@ fn value_at(position: u64) -> u64 {
     if position <= QUARTER {
         position
     } else if position <= QUARTER + HALF {
-        QUARTER + 2 * HALF + 1 - position
+        (QUARTER + 2 * HALF + 1).saturating_sub(position)
     } else {
         position.saturating_sub(HALF)
     }
 }
 
-#[test]
-fn a_million_values(rt: HostRuntime) -> Result<(), Fail> {
-    let pool = filled(&rt, rt.alloc())?;
+/// How many values of the chain, from its first on, are those that stand there.
+fn right_values(pool: &Pool<u64>) -> u64
+    requires { length pool.now.chains ≡ 1 }
+{
     let mut at = pool.first(0);
-    let mut count = 0u64;
-    'places: for position in 1..2 * HALF + 2 {
+    let mut right = 0;
+    'places: for position in 1..2 * HALF + 1 {
         let Some(place) = at else {
             break;
         };
-        assert!(rt; *pool.get(0, place) == value_at(position), "{position}");
+        if *pool.get(0, place) != value_at(position) {
+            break;
+        }
         at = pool.next(0, place);
-        count = position;
+        right = position;
     }
-    assert!(rt; at.is_none());
-    assert_eq!(rt; count, 2 * HALF);
-    Ok(())
-}
-
-/// One port.
-fn port(number: u64) -> Result<Res, Fail> {
-    match Res::make(Kind::Port, number, number, false) {
-        Some(port) => Ok(port),
-        None => Err(Fail::from("a port")),
-    }
-}
-
-/// One port more for a device.
-fn put(arbiters: &mut Arbiters, device: u64, number: u64) -> Result<(), Fail> {
-    if arbiters.spare(Kind::Port) == 0 {
-        return Err(Fail::from("room"));
-    }
-    arbiters.put(Owner::Device(device), port(number)?);
-    Ok(())
-}
-
-/// The port at a position of the list, where the first device holds it.
-fn held_at(arbiters: &Arbiters, at: u64) -> Option<u64> {
-    match arbiters.held(Kind::Port, at) {
-        Some((Owner::Device(1), port)) => Some(port.lo),
-        _ => None,
-    }
+    right
 }
 
 #[test]
-fn ports_in_descending_order(rt: HostRuntime) -> Result<(), Fail> {
-    let mut arbiters = Arbiters::new(rt.alloc())?;
-    arbiters.room(Kind::Port, 200_001)?;
-    for turn in 0..200_000u64 {
-        put(&mut arbiters, 1, 400_000u64.saturating_sub(2 * turn))?;
-    }
-    for (at, number) in [(0, 2), (100_000, 200_002), (199_999, 400_000)] {
-        assert_eq!(rt; held_at(&arbiters, at), Some(number));
-    }
-    assert!(rt; arbiters.held(Kind::Port, 200_000).is_none());
+fn a_million_values(rt: HostRuntime) -> Result<(), Fail> {
+    let pool = filled(rt.alloc())?;
+    assert_eq!(rt; pool.spare(), 0);
+    assert_eq!(rt; right_values(&pool), 2 * HALF);
     Ok(())
 }
 

@@ -2,7 +2,8 @@ use Rattle.std.proofs.Common.{◌≡◌, ◌<◌, ℕ, ◌||◌, ◌++◌, [], �
 use Rattle.pnp_model.specs.Records.{Node}
 use Rattle.pnp_model.specs.Tests.{has}
 use Rattle.pnp_model.specs.Trees.{above}
-use Rattle.rebalance.proofs.Climbs.{parent_at, has_from, nothing_above, or_false, has_one_more}
+use Rattle.devnode_tree.proofs.Climbs.{parent_at, nothing_above}
+use Rattle.rebalance.proofs.Climbs.{has_from, or_false, has_one_more}
 use Rattle.rebalance.proofs.above.all_above.Goals as goal
 
 pub returns-in_default : goal.returns-in_default

@@ -2,7 +2,8 @@ use Rattle.std.proofs.Common.{◌≡◌, ◌<◌, ℕ, ◌&&◌, ◌∙◌, sym,
 use Rattle.pnp_model.specs.Cores.{node_at}
 use Rattle.pnp_model.specs.Records.{Node}
 use Rattle.pnp_model.specs.Trees.{is_up, stands_up}
-use Rattle.rebalance.proofs.Climbs.{parent_at, up_from}
+use Rattle.devnode_tree.proofs.Climbs.{parent_at}
+use Rattle.rebalance.proofs.Climbs.{up_from}
 use Rattle.rebalance.proofs.above.stands_up.Goals as goal
 
 pub levels-smaller : goal.levels-smaller

@@ -15,7 +15,7 @@ invariant_of-self g c =
 pub returns-clause-acts : goal.returns-clause-acts
 returns-clause-acts g c =
     let s = c.self.inside in
-    let ds : Devices = record { world = s.world; tree = s.tree; relations = s.relations; reserved = s.reserved } in
+    let ds : Devices = record { world = s.world; tree = s.tree; relations = s.relations; reserved = s.reserved; windows = s.bridges } in
     let rack = g.R.Drivers.rows c.args.rack.now in
     let work = c.args.work.now in
     rw (← c.self.view_is)

@@ -16,11 +16,11 @@ invariant_of-self g c =
 pub returns-clause-rebalances : goal.returns-clause-rebalances
 returns-clause-rebalances g c =
     let s = c.self.inside in
-    let ds : Devices = record { world = s.world; tree = s.tree; relations = s.relations; reserved = s.reserved } in
+    let ds : Devices = record { world = s.world; tree = s.tree; relations = s.relations; reserved = s.reserved; windows = s.bridges } in
     let rack = g.R.Drivers.rows c.args.rack.now in
     let later = g.R.Drivers.rows c.next.new.rack in
     let r = c.args.rebalance.now in
-    let new : Devices = record { world = s.world; tree = c.next.new.tree; relations = s.relations; reserved = s.reserved } in
+    let new : Devices = record { world = s.world; tree = c.next.new.tree; relations = s.relations; reserved = s.reserved; windows = s.bridges } in
     subst (λ (d : Devices). IfOk c.next.result (λ step. Rebalances c.args.budget d rack r step new later c.next.new.self)) c.self.view_is
     (ok_then (λ step. rebalances.Rebalances s.tree.nodes s.arbiters rack r c.args.budget step c.next.new.tree.nodes later c.next.new.self) (λ step. Rebalances c.args.budget ds rack r step new later c.next.new.self)
     (λ step h. (h (core_with ds rack) c.self.invariant.mirrors, nodes_alone ds c.next.new.tree c.next.ensures.next)) c.next.result c.next.ensures.rebalances)

@@ -1,0 +1,5 @@
+pub mod Meets
+pub mod Narrowing
+pub mod Levels
+pub mod Finding
+pub mod Stepping

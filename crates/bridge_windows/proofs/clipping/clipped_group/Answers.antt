@@ -1,0 +1,16 @@
+use Rattle.std.proofs.Common.{◌≡◌, ◌∙◌, ◌++◌, ◌∷◌, [], ap, drop, map, List, ◌+◌}
+use Rattle.resource_reqs.specs.Resources.{Want}
+use Rattle.bridge_windows.specs.Clips.{want_in}
+use Rattle.bridge_windows.specs.Rooms.{room_in}
+use Rattle.pnp_model.specs.Windows.{clipped_want}
+use Rattle.bridge_windows.proofs.Stepping.{mapped_next}
+use Rattle.bridge_windows.proofs.clipping.clipped_group.Goals as goal
+
+pub loop-at-preserved : goal.loop-at-preserved
+loop-at-preserved c =
+    let rooms = c.args.rooms.now in
+    let rest = map (want_in rooms) (drop (c.loop-at.at + 1) c.args.group.now) in
+    let cut : c.clipped_want.result ≡ want_in rooms c.get-want.result.now =
+    c.clipped_want.ensures ∙ (ap (λ r. clipped_want r c.get-want.result.now) c.of.ensures ∙ ap (λ (w : Want). clipped_want (room_in rooms w.kind) c.get-want.result.now) c.want.view_is) in
+    ap (λ (l : List Want). l ++ rest) (c.in_ok-push.ensures.pushed ∙ ap (λ (w : Want). c.loop-at.clipped ++ w ∷ []) cut)
+    ∙ mapped_next (want_in rooms) c.args.group.now c.loop-at.at c.get-want.result.now c.loop-at.clipped c.get-want.ensures c.loop-at.invariant

@@ -1,0 +1,186 @@
+-- A bridge gets a window, as what happens by the definition.
+use Rattle.std.proofs.Common.{◌≡◌, ◌↔◌, ℕ, ◌==◌, Bool, true, false, not, ◌||◌, cond, IsTrue, Result, Ok, Err, arith, List, [], ◌∷◌, ◌++◌, length, Option, Some, None, refl, sym, ◌∙◌, ap, subst, option_map}
+use Rattle.std.specs.List.{list_any}
+use Rattle.std.specs.Result.{IsErrOf}
+use Rattle.std.proofs.lemmas.Bool.Decides.{nat_tests}
+use Rattle.resource_reqs.specs.Resources.{Res}
+use Rattle.pnp_labels.specs.Texts.{Text, spaced, res_text}
+use Rattle.pnp_labels.specs.declared.label.EventWord.{EventWord}
+use Rattle.pnp_labels.specs.declared.label.Label.{Label}
+use Rattle.pnp_labels.specs.declared.label.Reason.{Reason}
+use Rattle.pnp_model.specs.Events.{did, has_children, refused, window_at, window_device, window_childless, window_new}
+use Rattle.pnp_model.specs.Records.{Device, Node, Driver, Activity, Operation, State, Step, Task, Window}
+use Rattle.pnp_model.specs.States.{add_window, has_below, node_born}
+use Rattle.pnp_model.specs.Trees.{is_child}
+use Rattle.pnp_model.specs.Windows.{is_window_on}
+use Rattle.devnode_tree.specs.Entries.{child_serials}
+use Rattle.script_bus.proofs.Places.{some_those}
+use Rattle.script_bus.proofs.Unplugs.{by_bool}
+use Rattle.bridge_windows.specs.declared.error.WindowError.{WindowError}
+use Rattle.bridge_windows.specs.declared.error.WindowError.TheVariants.{SameWindow}
+use Rattle.pnp_machine.specs.Devices.{Devices, has_any_below, serial_born, window_refusal, with_window}
+use Rattle.pnp_machine.specs.Machines.{state_of, IsDone}
+
+-- who is refused a window keeps what there is
+pub stays_refused : (ds : Devices) (res : Res) (o : Option Device) (reason : Reason) → with_window ds res o (Some reason) ≡ ds
+stays_refused ds res None reason = refl
+stays_refused ds res (Some d) reason = refl
+
+module _ (ds : Devices) (rack : List Driver) (paths : List Text) (works : List Activity) (operation : Option Operation) (tasks : List Task) (res : Res) where
+  abbrev s : State
+  s = state_of ds rack paths works operation tasks
+
+  abbrev with_devices : Devices → State
+  with_devices x = state_of x rack paths works operation tasks
+
+  -- the step, by why it is refused
+  abbrev Comes : Device → Option Reason → Step → Type 0
+  Comes d None step = step ≡ did EventWord.Window (spaced (d.path ∷ res_text res ∷ [])) (add_window d.born res s)
+  Comes d (Some reason) step = step ≡ refused EventWord.Window reason s
+
+  comes : (d : Device) → Comes d (window_refusal ds res (Some d)) (window_at s res (Some d))
+  comes d =
+      let below = has_any_below ds d.born in
+      let same = list_any (is_window_on res.kind (d.born ∷ [])) ds.windows in
+      by_bool (λ b. Comes d (cond b (Some Reason.RootStays) (cond below (Some Reason.HasChildren) (cond same (Some Reason.SameWindow) None))) (window_device s res d b)) (d.born == 0)
+      (λ e. refl)
+      (λ e.
+      by_bool (λ b. Comes d (cond b (Some Reason.HasChildren) (cond same (Some Reason.SameWindow) None)) (window_childless s res d b)) below
+      (λ e. refl)
+      (λ e. by_bool (λ b. Comes d (cond b (Some Reason.SameWindow) None) (window_new s res d b)) same (λ e. refl) (λ e. refl)))
+
+  -- the world has no such device
+  pub window_absent : (o : Option Device) → None ≡ option_map (λ d. d.path) o → IsDone (window_at s res o) (Label.Refused EventWord.Window Reason.NoDevice) s
+  window_absent None e = (refl, refl)
+  window_absent (Some d) e = absurd (cc)
+
+  -- refused
+  pub window_refused : (o : Option Device) (ds' : Devices) (reason : Reason) → Some reason ≡ window_refusal ds res o → ds' ≡ with_window ds res o (Some reason)
+      → IsDone (window_at s res o) (Label.Refused EventWord.Window reason) (with_devices ds')
+  window_refused o ds' reason why same = by o why (ap with_devices (same ∙ stays_refused ds res o reason))
+    where
+      by : (o : Option Device) → Some reason ≡ window_refusal ds res o → with_devices ds' ≡ s → IsDone (window_at s res o) (Label.Refused EventWord.Window reason) (with_devices ds')
+      by None why stays = let e : reason ≡ Reason.NoDevice = cc in (ap (Label.Refused EventWord.Window) e, stays)
+      by (Some d) why stays =
+          let step = subst (λ r. Comes d r (window_at s res (Some d))) (sym why) (comes d) in
+          (sym (ap (λ (x : Step). x.label) step), stays ∙ sym (ap (λ (x : Step). x.state) step))
+
+  -- taken
+  pub window_taken : (o : Option Device) (ds' : Devices) (own what : Text) → None ≡ window_refusal ds res o → ds' ≡ with_window ds res o None → Some own ≡ option_map (λ d. d.path) o
+      → what ≡ spaced (own ∷ res_text res ∷ []) → IsDone (window_at s res o) (Label.Did EventWord.Window what) (with_devices ds')
+  window_taken None ds' own what why set path text = absurd (cc)
+  window_taken (Some d) ds' own what why set path text =
+      let step = subst (λ r. Comes d r (window_at s res (Some d))) (sym why) (comes d) in
+      let same : own ≡ d.path = cc in
+      (ap (Label.Did EventWord.Window) (text ∙ ap (λ p. spaced (p ∷ res_text res ∷ [])) same) ∙ sym (ap (λ (x : Step). x.label) step),
+       ap with_devices set ∙ sym (ap (λ (x : Step). x.state) step))
+
+-- Whether a device stands below ---------------------------------------------------
+
+pub below_in_world : (ds : Devices) (born : ℕ) → has_below born ds.world.devices ≡ true → has_any_below ds born ≡ true
+below_in_world ds born e = ap (λ b. b || has_children ds.tree.nodes (node_born born ds.tree.nodes)) e
+
+module _ (ds : Devices) (born : ℕ) (none : has_below born ds.world.devices ≡ false) where
+  else_node : has_any_below ds born ≡ has_children ds.tree.nodes (node_born born ds.tree.nodes)
+  else_node = ap (λ b. b || has_children ds.tree.nodes (node_born born ds.tree.nodes)) none
+
+  pub below_no_node : None ≡ serial_born born ds.tree.nodes → has_any_below ds born ≡ false
+  below_no_node h = else_node ∙ by (node_born born ds.tree.nodes) h
+    where
+      by : (o : Option Node) → None ≡ option_map (λ (n : Node). n.serial) o → has_children ds.tree.nodes o ≡ false
+      by None e = refl
+      by (Some n) e = absurd (cc)
+
+  pub below_node : (k : ℕ) → Some k ≡ serial_born born ds.tree.nodes → not (length (child_serials ds.tree.nodes k) == 0) ≡ has_any_below ds born
+  below_node k h = some_those (λ (n : Node). n.serial) (is_child k) ds.tree.nodes ∙ sym (else_node ∙ by (node_born born ds.tree.nodes) h)
+    where
+      by : (o : Option Node) → Some k ≡ option_map (λ (n : Node). n.serial) o → has_children ds.tree.nodes o ≡ list_any (is_child k) ds.tree.nodes
+      by None e = absurd (cc)
+      by (Some n) e = let same : n.serial ≡ k = cc in ap (λ i. list_any (is_child i) ds.tree.nodes) same
+
+-- Why a window is refused -----------------------------------------------------------
+
+module _ (ds : Devices) (res : Res) (d : Device) where
+  abbrev below : Bool
+  below = has_any_below ds d.born
+
+  abbrev same : Bool
+  same = list_any (is_window_on res.kind (d.born ∷ [])) ds.windows
+
+  pub root_refused : (d.born == 0) ≡ true → window_refusal ds res (Some d) ≡ Some Reason.RootStays
+  root_refused e = ap (λ b. cond b (Some Reason.RootStays) (cond below (Some Reason.HasChildren) (cond same (Some Reason.SameWindow) None))) e
+
+  module _ (up : (d.born == 0) ≡ false) where
+    above_root : window_refusal ds res (Some d) ≡ cond below (Some Reason.HasChildren) (cond same (Some Reason.SameWindow) None)
+    above_root = ap (λ b. cond b (Some Reason.RootStays) (cond below (Some Reason.HasChildren) (cond same (Some Reason.SameWindow) None))) up
+
+    pub parent_refused : below ≡ true → window_refusal ds res (Some d) ≡ Some Reason.HasChildren
+    parent_refused e = above_root ∙ ap (λ b. cond b (Some Reason.HasChildren) (cond same (Some Reason.SameWindow) None)) e
+
+    module _ (alone : below ≡ false) where
+      childless : window_refusal ds res (Some d) ≡ cond same (Some Reason.SameWindow) None
+      childless = above_root ∙ ap (λ b. cond b (Some Reason.HasChildren) (cond same (Some Reason.SameWindow) None)) alone
+
+      pub same_refused : same ≡ true → window_refusal ds res (Some d) ≡ Some Reason.SameWindow
+      same_refused e = childless ∙ ap (λ b. cond b (Some Reason.SameWindow) None) e
+
+      pub not_refused : same ≡ false → window_refusal ds res (Some d) ≡ None
+      not_refused e = childless ∙ ap (λ b. cond b (Some Reason.SameWindow) None) e
+
+-- What a call answers and leaves: why it was refused, and the devices after it
+pub record Bridged (ds : Devices) (res : Res) (o : Option Device) (refused : Option Reason) (ds' : Devices) : Type 0 where
+  pub why : refused ≡ window_refusal ds res o
+  pub after : ds' ≡ with_window ds res o refused
+
+module _ (ds : Devices) (res : Res) where
+  pub bridged_none : (o : Option Device) → None ≡ option_map (λ d. d.born) o → Bridged ds res o (Some Reason.NoDevice) ds
+  bridged_none None e = record { why = refl; after = refl }
+  bridged_none (Some d) e = absurd (cc)
+
+  module _ (born : ℕ) where
+    pub bridged_root : (o : Option Device) → Some born ≡ option_map (λ d. d.born) o → born ≡ 0 → Bridged ds res o (Some Reason.RootStays) ds
+    bridged_root None e root = absurd (cc)
+    bridged_root (Some d) e root =
+        let own : d.born ≡ born = cc in
+        record { why = sym (root_refused ds res d (grind (arith, nat_tests))); after = refl }
+
+    module _ (up : born ≡ 0 → ⊥) where
+      above_zero : (d : Device) → d.born ≡ born → (d.born == 0) ≡ false
+      above_zero d own = grind (arith, nat_tests, up)
+
+      pub bridged_below : (o : Option Device) → Some born ≡ option_map (λ d. d.born) o → has_any_below ds born ≡ true → Bridged ds res o (Some Reason.HasChildren) ds
+      bridged_below None e below = absurd (cc)
+      bridged_below (Some d) e below =
+          let own : d.born ≡ born = cc in
+          record { why = sym (parent_refused ds res d (above_zero d own) (ap (has_any_below ds) own ∙ below)); after = refl }
+
+      module _ (alone : has_any_below ds born ≡ false) where
+        pub bridged_same : (o : Option Device) → Some born ≡ option_map (λ d. d.born) o → list_any (is_window_on res.kind (born ∷ [])) ds.windows ≡ true → Bridged ds res o (Some Reason.SameWindow) ds
+        bridged_same None e there = absurd (cc)
+        bridged_same (Some d) e there =
+            let own : d.born ≡ born = cc in
+            record {
+              why =
+                  sym (same_refused ds res d (above_zero d own) (ap (has_any_below ds) own ∙ alone)
+                  (ap (λ k. list_any (is_window_on res.kind (k ∷ [])) ds.windows) own ∙ there));
+              after = refl;
+            }
+
+        pub bridged_set : (o : Option Device) → Some born ≡ option_map (λ d. d.born) o → list_any (is_window_on res.kind (born ∷ [])) ds.windows ≡ false
+            → (windows : List Window) → windows ≡ ds.windows ++ record { born = born; res = res } ∷ [] → Bridged ds res o None (record ds { windows = windows })
+        bridged_set None e new windows is = absurd (cc)
+        bridged_set (Some d) e new windows is =
+            let own : d.born ≡ born = cc in
+            record {
+              why =
+                  sym (not_refused ds res d (above_zero d own) (ap (has_any_below ds) own ∙ alone)
+                  (ap (λ k. list_any (is_window_on res.kind (k ∷ [])) ds.windows) own ∙ new));
+              after =
+                  ap (λ (ws : List Window). record ds { windows = ws }) is
+                  ∙ ap (λ k. record ds { windows = ds.windows ++ record { born = k; res = res } ∷ [] }) (sym own);
+            }
+
+-- a window that was set was not there
+pub not_there : (there : Bool) → IsErrOf {T = Unit {0}} {E = WindowError} (Ok tt) SameWindow ↔ IsTrue there → there ≡ false
+not_there true h = absurd (let e = h.1 refl in cc)
+not_there false h = refl
