@@ -163,7 +163,7 @@ pub record Right (k : Kind) (qs : List Pair) : Type 0 where
 right_put : (k : Kind) (qs : List Pair) (p : Pair) → p.1.kind ≡ k → Right k qs → Right k (pairs_with qs p)
 right_put k qs p same r = record { kinds = all_put (λ q. q.1.kind ≡ k) qs p same r.kinds; rises = rises_put qs p r.rises }
 
-AreRight : Lists → Type 0
+abbrev AreRight : Lists → Type 0
 AreRight l = (kind : Kind) → Right kind (of_kind l kind)
 
 are_put : (l : Lists) (p : Pair) (k : Kind) → p.1.kind ≡ k → AreRight l → AreRight (put_in l k p)
@@ -204,14 +204,14 @@ earlier_kind p k qs less kinds =
 lower : (k : Kind) → AllByRecursion (λ j. unit_number j < unit_number k) (before k)
 lower Port = tt
 lower Irq = (omega arith, tt)
-lower Mem = (omega arith, omega arith, tt)
-lower Dma = (omega arith, omega arith, omega arith, tt)
-lower Bus = (omega arith, omega arith, omega arith, omega arith, tt)
+lower Mem = (omega arith, (omega arith, tt))
+lower Dma = (omega arith, (omega arith, (omega arith, tt)))
+lower Bus = (omega arith, (omega arith, (omega arith, (omega arith, tt))))
 
 higher : (k : Kind) → AllByRecursion (λ j. unit_number k < unit_number j) (after k)
-higher Port = (omega arith, omega arith, omega arith, omega arith, tt)
-higher Irq = (omega arith, omega arith, omega arith, tt)
-higher Mem = (omega arith, omega arith, tt)
+higher Port = (omega arith, (omega arith, (omega arith, (omega arith, tt))))
+higher Irq = (omega arith, (omega arith, (omega arith, tt)))
+higher Mem = (omega arith, (omega arith, tt))
 higher Dma = (omega arith, tt)
 higher Bus = tt
 
