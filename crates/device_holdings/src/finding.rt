@@ -24,7 +24,7 @@ fn needs_at(
     serial: u64,
     given: Option<&Reqs>,
 ) -> Result<Reqs, WantOfMemory>
-    ensures { IfOk result (λ reqs. reqs ≡ reqs_or (option_copied given) (reqs_of (node_at serial tree.now.nodes))) }
+    ensures { IfOk result (λ reqs. reqs ≡ reqs_or (option_copied given.entry) (reqs_of (node_at serial tree.now.nodes))) }
 {
     if let Some(reqs) = given {
         return reqs.copy(alloc);
@@ -43,7 +43,7 @@ fn movers_of(
     serials: &[u64],
 ) -> Result<Vec<Mover>, WantOfMemory>
     ensures serials { IfOk result (λ movers. map Fixed.serial_of movers.items ≡ serials.now) }
-    ensures needs { IfOk result (λ movers. map Fixed.reqs_of movers.items ≡ asked_for (option_copied first) tree.now.nodes serials.now) }
+    ensures needs { IfOk result (λ movers. map Fixed.reqs_of movers.items ≡ asked_for (option_copied first.entry) tree.now.nodes serials.now) }
 {
     let mut movers = Vec::new(alloc);
     let mut given = first;
@@ -96,7 +96,7 @@ pub fn search_for(
 ) -> Result<Found, WantOfMemory>
     requires mirrored { IsMirrored tree.now.nodes arbiters.old }
     requires budget { budget ≤ 1000000 }
-    ensures answers { IfOk result (λ found. AnswersTo (asked_for (option_copied first) tree.now.nodes serials.now) tree.now.nodes arbiters.old serials.now budget found) }
+    ensures answers { IfOk result (λ found. AnswersTo (asked_for (option_copied first.entry) tree.now.nodes serials.now) tree.now.nodes arbiters.old serials.now budget found) }
     ensures same { lists_of arbiters.new ≡ lists_of arbiters.old }
 {
     let movers = movers_of(alloc, tree, first, serials)?;

@@ -161,6 +161,7 @@ impl Tree {
     pub fn swap_reqs(&mut self, serial: u64, reqs: Reqs) -> Reqs
         ensures set { self.new ≡ changed serial (with_reqs reqs) self.old }
         ensures old { result ≡ unwrap_or (option_map (λ n. n.reqs) (node_at serial self.old.nodes)) reqs }
+        ensures tree { IsTree self.old }
     {
         match place_of(&self.entries, serial) {
             Some(place) => self.entries[place].swap_reqs(reqs),

@@ -1,8 +1,8 @@
 -- Devices that are taken from a queue one after another.
-use Rattle.std.proofs.Common.{◌≡◌, ℕ, zero, suc, ◌+◌, ◌<◌, Bool, true, false, not, cond, List, [], ◌∷◌, ◌++◌, length, drop, reverse, slice_get, Option, Some, None, option_to_list, refl, sym, ap, ◌∙◌, subst, arith}
+use Rattle.std.proofs.Common.{◌≡◌, ℕ, zero, suc, ◌+◌, ◌<◌, ◌==◌, Bool, true, false, not, ◌&&◌, cond, List, [], ◌∷◌, ◌++◌, length, drop, reverse, slice_get, Option, Some, None, option_to_list, refl, sym, ap, ◌∙◌, subst, arith}
 use Rattle.std.proofs.lemmas.List.{append_assoc, append-nil, reverse-append}
 use Rattle.pnp_model.specs.Cores.{node_at}
-use Rattle.pnp_model.specs.Keyed.{those}
+use Rattle.pnp_model.specs.Keyed.{those, without_first}
 use Rattle.pnp_model.specs.Records.{Node}
 use Rattle.pnp_model.specs.Tests.{has}
 use Rattle.pnp_model.specs.Trees.{above, stands_up}
@@ -36,6 +36,20 @@ turn_start ks = append-nil (reverse ks)
 -- in order
 pub move_more : (done old new all : List ℕ) (k : ℕ) → old ≡ k ∷ new → done ++ old ≡ all → (done ++ k ∷ []) ++ new ≡ all
 move_more done old new all k e h = append_assoc done (k ∷ []) new ∙ (ap (λ l. done ++ l) (sym e) ∙ h)
+
+-- but for the first that is the device in front
+abbrev pub others_after : ℕ → Bool → List ℕ → List ℕ
+others_after first true ks = ks
+others_after first false ks = without_first (λ j. j == first) ks
+
+pub leave_out : (first : ℕ) (old new : List ℕ) (k : ℕ) → old ≡ k ∷ new → (k == first) ≡ true → others_after first true new ≡ others_after first false old
+leave_out first old new k e same = sym (ap (without_first (λ j. j == first)) e ∙ ap (λ b. cond b new (k ∷ without_first (λ j. j == first) new)) same)
+
+pub take_along : (first : ℕ) (is_left_out : Bool) (old new : List ℕ) (k : ℕ) → old ≡ k ∷ new → ((k == first) && not is_left_out) ≡ false → k ∷ others_after first is_left_out new ≡ others_after first is_left_out old
+take_along first true old new k e other = sym e
+take_along first false old new k e other =
+    let differ : (k == first) ≡ false = grind arith in
+    sym (ap (without_first (λ j. j == first)) e ∙ ap (λ b. cond b new (k ∷ without_first (λ j. j == first) new)) differ)
 
 -- the last one first
 pub last_more : (done old new all : List ℕ) (k : ℕ) → old ≡ new ++ k ∷ [] → done ++ reverse old ≡ all → (done ++ k ∷ []) ++ reverse new ≡ all

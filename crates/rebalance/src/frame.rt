@@ -167,8 +167,7 @@ impl Rebalance {
             self.todo = todo;
             self.ask_first();
         } else if self.has_refused() {
-            self.todo = self.agreed.copy(alloc)?;
-            self.cancel_next();
+            self.cancel_agreed(alloc)?;
         } else {
             self.todo = todo;
             self.stage = Stage::Searching;
@@ -210,6 +209,16 @@ impl Rebalance {
         } else {
             self.stage = self.cancelled();
         }
+    }
+
+    /// All that agreed are told that they go on, the least serial first.
+    pub(crate) fn cancel_agreed(&mut self, alloc: Global) -> Result<(), WantOfMemory>
+        ensures cancels { OnOk result (self.new ≡ cancel_on self.old self.old.agreed) }
+        ensures err { OnErr result (self.new ≡ self.old) }
+    {
+        self.todo = self.agreed.copy(alloc)?;
+        self.cancel_next();
+        Ok(())
     }
 
     /// The device that is next is stopped, and where none is next all get what was found.

@@ -28,7 +28,7 @@ fn end(minor: Minor, refused: bool, path: Text, serial: u64, tree: &mut Tree) ->
 }
 
 impl Rebalance {
-    /// The device that is next agreed. Without memory for what comes next it has not.
+    /// The device that is next agreed.
     fn agree(
         &mut self,
         alloc: Global,

@@ -40,9 +40,8 @@ impl Rebalance {
         ensures cancels { OnOk result (self.new ≡ cancel_on (record self.old { found = answer_of found }) self.old.agreed) }
         ensures err { OnErr result (self.new ≡ self.old) }
     {
-        self.todo = self.agreed.copy(alloc)?;
+        self.cancel_agreed(alloc)?;
         self.found = found;
-        self.cancel_next();
         Ok(())
     }
 
