@@ -52,7 +52,7 @@ impl NumberArbiter {
 
     /// The least start at or above `from` whose resource may come from the want and clashes with nothing
     /// held; none exactly where there is none. It takes no memory. Cost: the logarithm of the number of
-    /// pairs, for each stretch of numbers held without a gap by what can stand in the way that is met up to the place.
+    /// pairs, for each free stretch as long as the want that is met up to the place and has no aligned start.
     pub fn next_place(&self, want: &Want, from: u64) -> Option<u64>
         requires { want.now.kind ≡ self.now.kind }
         ensures found { IfSome result (λ s. (from ≤ s) × IsOpen (res_list self.now.pairs) want.now s) }
@@ -63,15 +63,14 @@ impl NumberArbiter {
     }
 
     /// Whether the resource clashes with a pair that is held. It takes no memory. Cost: the logarithm of the number
-    /// of pairs, and one step for each pair from the first one that reaches the resource up to the first one that
-    /// begins beyond it.
+    /// of pairs, for each pair that reaches over the resource and shares with it.
     pub fn clashes(&self, res: &Res) -> bool
         ensures { result ≡ list_any (clashes res.now) (res_list self.now.pairs) }
     {
         self.numbers.clashes(res)
     }
 
-    /// Puts the pair at its place. It takes no memory. Cost: the number of pairs after that place.
+    /// Puts the pair at its place. It takes no memory. Cost: the logarithm of the number of pairs.
     pub fn put(&mut self, owner: Owner, res: Res)
         requires kind { res.kind ≡ self.old.kind }
         requires spare { 0 < self.old.spare }
@@ -80,8 +79,8 @@ impl NumberArbiter {
         self.numbers.put(owner, res);
     }
 
-    /// Takes the pair away: with it the list is as before. It takes no memory. Cost: the number of pairs
-    /// after it.
+    /// Takes the pair away: with it the list is as before. It takes no memory. Cost: the logarithm of the number
+    /// of pairs.
     pub fn take(&mut self, owner: Owner, res: Res)
         requires { Contains self.old.pairs (owner, res) }
         ensures pairs { self.old.pairs ≡ pairs_with self.new.pairs (owner, res) }

@@ -13,7 +13,7 @@ use Rattle.script_reader.specs.Numbers.{◌>>=◌, only_if}
 use Rattle.script_reader.specs.Tables.{keyword_of, driver_kind_of, rel_kind_of, minor_of, ok_of}
 use Rattle.script_reader.specs.Wants.{at_most, all_of, group_of, list_of, id_of, ids_of}
 use Rattle.script_reader.specs.Words.{is_name, words_of}
-use Rattle.script_reader.specs.Lines.{event_of, event_by, plug_of, plugged, path_of, name_of, once, hw_of, compat_of, reqs_from, reqs_of, values, is_attribute, uses_by, rule_of, res_of}
+use Rattle.script_reader.specs.Lines.{event_of, event_by, plug_of, plugged, path_of, name_of, once, hw_of, compat_of, reqs_from, reqs_of, values, is_attribute, uses_by, rule_of, res_of, window_res_of}
 use Rattle.script_reader.specs.Script.{Meaning, nothing, means, bad, event_or_bad, is_comment, meaning_of, whole_line, last_line, Trace, gives, waits, ends, stops, onward, at_end, of_lines, trace}
 use Rattle.resource_reqs.specs.Resources.{AltList, Reqs}
 use Rattle.pnp_laws.specs.Held.{AreWithin}
@@ -169,6 +169,9 @@ few_by words.Complete (path ∷ minor ∷ ok ∷ []) =
     few_bind (path_of path) (λ path. minor_of minor >>= (λ minor. ok_of ok >>= (λ ok. Some (events.Complete path minor ok))))
     (λ path. few_bind (minor_of minor) (λ minor. ok_of ok >>= (λ ok. Some (events.Complete path minor ok)))
     (λ minor. few_bind (ok_of ok) (λ ok. Some (events.Complete path minor ok)) (λ ok. (tt, tt, tt))))
+few_by words.Window (path ∷ res ∷ []) =
+    few_bind (path_of path) (λ path. window_res_of res >>= (λ res. Some (events.Window path res)))
+    (λ path. few_bind (window_res_of res) (λ res. Some (events.Window path res)) (λ res. (tt, tt, tt)))
 few_by _ _ = tt
 
 few_event : (ws : List (List ℕ)) → Few (event_of ws)

@@ -1,6 +1,7 @@
-pub mod Reaching
 pub mod PairOrder
-pub mod Sweeping
-pub mod Keeping
 pub mod PairLists
-pub mod Clashes
+pub mod InOrder
+pub mod Aligned
+pub mod Spanning
+pub mod Sweeping
+pub mod Clashing

@@ -117,8 +117,8 @@ impl Arbiters {
         }
     }
 
-    /// Puts the pair at its place in the list of its kind. It takes no memory. Cost: the number of pairs
-    /// after that place.
+    /// Puts the pair at its place in the list of its kind. It takes no memory. Cost: the logarithm of
+    /// the number of its pairs.
     pub fn put(&mut self, owner: Owner, res: Res)
         requires { 0 < (of_kind self.old res.kind).spare }
         ensures { self.new ≡ arbiters_with self.old (owner, res) }
@@ -133,7 +133,7 @@ impl Arbiters {
     }
 
     /// Takes the pair away from the list of its kind: with it the lists are as before. It takes no memory.
-    /// Cost: the number of pairs after it.
+    /// Cost: the logarithm of the number of its pairs.
     pub fn take(&mut self, owner: Owner, res: Res)
         requires { Contains (of_kind self.old res.kind).pairs (owner, res) }
         ensures pairs { self.old ≡ arbiters_with self.new (owner, res) }

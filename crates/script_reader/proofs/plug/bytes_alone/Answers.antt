@@ -1,4 +1,4 @@
-use Rattle.std.proofs.Common.{arith, length, ◌≤◌}
+use Rattle.std.proofs.Common.{arith}
 use Rattle.script_reader.proofs.Gathering.{now_of, length_now}
 use Rattle.script_reader.proofs.HexBytes.{alone_other}
 use Rattle.script_reader.proofs.plug.bytes_alone.Goals as goal

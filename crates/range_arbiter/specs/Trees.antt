@@ -1,0 +1,25 @@
+-- The pairs of a tree, and what each of its nodes keeps. No public contract cites this.
+use Rattle.std.specs.Prelude.{◌≡◌, true, false, List, [], ◌∷◌, ◌++◌, length}
+use Rattle.range_arbiter.specs.Pairs.{Pair}
+use Rattle.range_arbiter.specs.Spans.{Covers}
+use Rattle.range_arbiter.specs.declared.tree.Top.{Top}
+use Rattle.range_arbiter.specs.declared.tree.Node.{Node}
+use Rattle.range_arbiter.specs.declared.tree.Top.TheVariants.{Empty, Full}
+
+-- the pairs of a node: those of its left side, its own, those of its right side
+abbrev pub pairs_at : Node → List Pair
+pairs_at n = n.left ++ n.pair ∷ n.right
+
+abbrev pub pairs_of : Top → List Pair
+pairs_of Empty = []
+pairs_of (Full n) = pairs_at n.value
+
+-- the count and both spans are right
+pub record IsNode (n : Node) : Type 0 where
+  pub count : n.count ≡ length (pairs_at n)
+  pub all : Covers false (pairs_at n) n.all
+  pub unshared : Covers true (pairs_at n) n.unshared
+
+abbrev pub IsTop : Top → Type 0
+IsTop Empty = Unit {0}
+IsTop (Full n) = IsNode n.value
