@@ -167,9 +167,10 @@ impl World {
     pub fn change_reqs(&mut self, born: u64, reqs: Reqs)
         ensures { self.new ≡ changed born reqs self.old }
     {
-        if let Some(device) = self.parts.get_mut(&born) {
-            device.reqs = reqs;
-        }
+        let Some(device) = self.parts.get_mut(&born) else {
+            return;
+        };
+        device.reqs = reqs;
     }
 
     /// From a device downwards, the last child of each, to one without children.
