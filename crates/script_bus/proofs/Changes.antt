@@ -120,6 +120,7 @@ module _ {S : Type 0} (old new : HashMap ℕ shown.Device S) where
         where
           test_is : (b : Bool) → (n.serial == k) ≡ b → ((device_at old n).born == k) ≡ b
           test_is b t = ap (λ i. i == k) (born_is n (get nat_eq old n.serial)) ∙ t
+
           by_test : (b : Bool) → (n.serial == k) ≡ b → map (device_at new) nodes ≡ changed_first (λ d. d.born == k) (requires reqs) (map (device_at old) nodes)
               → map (device_at new) (n ∷ nodes) ≡ changed_first (λ d. d.born == k) (requires reqs) (map (device_at old) (n ∷ nodes))
           by_test true t more =
