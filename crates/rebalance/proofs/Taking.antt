@@ -42,7 +42,7 @@ abbrev pub others_after : ℕ → Bool → List ℕ → List ℕ
 others_after first true ks = ks
 others_after first false ks = without_first (λ j. j == first) ks
 
-pub leave_more : (first : ℕ) (is_left_out : Bool) (done old new all : List ℕ) (k : ℕ) → (k == first) ≡ true → not is_left_out ≡ true → old ≡ k ∷ new → done ++ others_after first is_left_out old ≡ all → done ++ others_after first true new ≡ all
+pub leave_more : (first : ℕ) (is_left_out : Bool) (done old new all : List ℕ) (k : ℕ) → (k == first) ≡ true → is_left_out ≡ false → old ≡ k ∷ new → done ++ others_after first is_left_out old ≡ all → done ++ others_after first true new ≡ all
 leave_more first true done old new all k same still e h = absurd (cc)
 leave_more first false done old new all k same still e h =
     ap (λ l. done ++ l) (sym (ap (without_first (λ j. j == first)) e ∙ ap (λ b. cond b new (k ∷ without_first (λ j. j == first) new)) same)) ∙ h
