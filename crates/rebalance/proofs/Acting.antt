@@ -1,5 +1,5 @@
 -- The steps without a request are those of the machine.
-use Rattle.std.proofs.Common.{◌≡◌, ℕ, ◌≤◌, Bool, true, false, List, [], ◌∷◌, length, map, drop, reverse, slice_get, Option, Some, None, IfOk, Result, Ok, Err, refl, sym, ap, ◌∙◌, subst}
+use Rattle.std.proofs.Common.{◌≡◌, ℕ, ◌≤◌, Bool, true, false, List, [], ◌∷◌, length, map, drop, reverse, slice_get, Option, Some, None, is_some, IfOk, Result, Ok, Err, refl, sym, ap, ◌∙◌, subst}
 use Rattle.resource_reqs.specs.Resources.{Res, Reqs}
 use Rattle.resource_reqs.specs.Spelling.{IsAnswer}
 use Rattle.resource_reqs.specs.Spelling.Answer.{assignment, no_fit, spent}
@@ -112,15 +112,23 @@ failed_is nodes nodes' r r' k node serial path first at s p e f =
     ))
 
 module _ (nodes : List Node) (r : Rebalance) (label : Label) (line : label ≡ Label.End (kind_of r.wanted) r.path (result r.found (has_refused r))) where
-  pub over_change : (wanted : Reqs) → r.wanted ≡ Some wanted → Moves (λ c. close c r) nodes (steps.OverChange label) nodes r
-  over_change wanted e = λ around. (ap (λ w. over (at_nodes nodes around) r r.found w) e ∙ by around r.found, line, refl, refl)
+  pub over_change : is_some r.wanted ≡ true → Moves (λ c. close c r) nodes (steps.OverChange label) nodes r
+  over_change some = λ around. (by around r.found r.wanted some, line, refl, refl)
     where
-      by : (around : Core) (x : Found) → over (at_nodes nodes around) r x (Some wanted) ≡ RebalanceBeside.OverChange
-      by around (assignment plan) = refl
-      by around no_fit = refl
-      by around spent = refl
+      by : (around : Core) (x : Found) (w : Option Reqs) → is_some w ≡ true → over (at_nodes nodes around) r x w ≡ RebalanceBeside.OverChange
+      by around x None h = absurd (cc)
+      by around (assignment plan) (Some wanted) h = refl
+      by around no_fit (Some wanted) h = refl
+      by around spent (Some wanted) h = refl
 
-  module _ (none : r.wanted ≡ None) where
+  module _ (rebalances : is_some r.wanted ≡ false) where
+    is_none : (w : Option Reqs) → is_some w ≡ false → w ≡ None
+    is_none None h = refl
+    is_none (Some wanted) h = absurd (cc)
+
+    none : r.wanted ≡ None
+    none = is_none r.wanted rebalances
+
     pub over_start : (plan : List (List Res)) → r.found ≡ assignment plan → stands_up nodes r.target ≡ true → Moves (λ c. close c r) nodes (steps.OverStart label) nodes r
     over_start plan e up = λ around. (ap (λ w. over (at_nodes nodes around) r r.found w) none ∙ (ap (λ x. over (at_nodes nodes around) r x None) e ∙ ap moved_on up), line, refl, refl)
 

@@ -1,7 +1,8 @@
 ghost use Rattle.std.specs.Prelude.{◌≡◌, length, map, IfOk, OnOk, OnErr, IsSome};
 ghost use Rattle.assign_search.specs.Fixed.{answer_of};
 ghost use Rattle.pnp_model.specs.Frames.{first_node};
-ghost use Rattle.pnp_model.specs.Rebalances.{trouble_of, end_of, result, has_refused, movers, plan_of, committed, stuck, commit_step, failed, close};
+ghost use Rattle.pnp_model.specs.Rebalances.{trouble_of, end_of, has_refused, movers, plan_of, committed, stuck, commit_step, failed, close};
+ghost use Rattle.pnp_model.specs.Rebalances as Rebalances;
 ghost use Rattle.devnode_tree.specs.Identities.{identities};
 ghost use Rattle.device_holdings.specs.Giving.{with_part};
 ghost use Rattle.device_holdings.specs.Mirrors.{IsMirrored, KeepsMirror};
@@ -166,7 +167,7 @@ impl Rebalance {
 
     /// How it ends.
     fn result(&self) -> OpEnd
-        ensures { result ≡ result self.now.found (has_refused self.now) }
+        ensures { result ≡ Rebalances.result self.now.found (has_refused self.now) }
     {
         if self.has_refused() {
             return OpEnd::Refused;
