@@ -16,6 +16,9 @@ use Rattle.resource_reqs.specs.Resources.{Res, Reqs}
 use Rattle.script_bus.specs.Worlds.{World, plugged, without_device}
 use Rattle.script_bus.specs.declared.error.PlugError.{PlugError}
 use Rattle.script_bus.specs.declared.error.PlugError.TheVariants.{NoParent, SameId, WorldFull, WantOfMemory}
+use Rattle.bridge_windows.specs.declared.error.WindowError.{WindowError}
+use Rattle.bridge_windows.specs.declared.error.WindowError.TheVariants as windows
+use Rattle.std.specs.declared.alloc.AllocError.{AllocError}
 use Rattle.script_bus.specs.declared.error.PullError.{PullError}
 use Rattle.script_bus.specs.declared.error.PullError.TheVariants as pulls
 use Rattle.pnp_labels.specs.declared.label.Reason.{Reason}
@@ -152,3 +155,10 @@ window_refusal ds res (Some d) =
 abbrev pub with_window : Devices → Res → Option Device → Option Reason → Devices
 with_window ds res (Some d) None = record ds { windows = ds.windows ++ record { born = d.born; res = res } ∷ [] }
 with_window ds res device refused = ds
+
+-- what is told where all but the windows of the device allows it: that it has one of the kind, or that it was set
+abbrev pub IsTold : Result (Unit {0}) WindowError → Result (Option Reason) AllocError → Type 0
+IsTold (Ok done) (Ok refused) = refused ≡ None
+IsTold (Err windows.SameWindow) (Ok refused) = refused ≡ Some Reason.SameWindow
+IsTold (Err windows.WantOfMemory) (Err want) = Unit {0}
+IsTold _ _ = ⊥
