@@ -30,8 +30,8 @@ returns-clause-refused c =
     let ds : Devices = record { world = s.world; tree = s.tree; relations = s.relations; reserved = s.reserved; windows = s.bridges } in
     let o = device_of c.args.path.now s.world.devices in
     let alone : has_any_below ds c.in-Some.born ≡ false = ap (λ (x : Devices). has_any_below x c.in-Some.born) c.self.view_is ∙ (sym c.has_any_below.ensures ∙ c.if-has_any_below.false) in
-    rw (← c.self.view_is) (why_told ds c.args.res o (record ds { windows = c.set.new.self }) c.told.result
-    (bridged_told ds c.args.res c.in-Some.born c.if-born-eq0.false alone o c.in-Some.ensures c.set.new.self c.set.result c.told.result c.told.ensures c.set.ensures.set c.set.ensures.same_window c.set.ensures.err))
+    rw (← c.self.view_is) (why_told ds c.args.res o (record ds { windows = c.set-set.new.self }) c.told.result
+    (bridged_told ds c.args.res c.in-Some.born c.if-born-eq0.false alone o c.in-Some.ensures c.set-set.new.self c.set-set.result c.told.result c.told.ensures c.set-set.ensures.set c.set-set.ensures.same_window c.set-set.ensures.err))
 
 pub returns-clause-set : goal.returns-clause-set
 returns-clause-set c =
@@ -39,8 +39,8 @@ returns-clause-set c =
     let ds : Devices = record { world = s.world; tree = s.tree; relations = s.relations; reserved = s.reserved; windows = s.bridges } in
     let o = device_of c.args.path.now s.world.devices in
     let alone : has_any_below ds c.in-Some.born ≡ false = ap (λ (x : Devices). has_any_below x c.in-Some.born) c.self.view_is ∙ (sym c.has_any_below.ensures ∙ c.if-has_any_below.false) in
-    rw (← c.self.view_is) (after_told ds c.args.res o (record ds { windows = c.set.new.self }) c.told.result
-    (bridged_told ds c.args.res c.in-Some.born c.if-born-eq0.false alone o c.in-Some.ensures c.set.new.self c.set.result c.told.result c.told.ensures c.set.ensures.set c.set.ensures.same_window c.set.ensures.err))
+    rw (← c.self.view_is) (after_told ds c.args.res o (record ds { windows = c.set-set.new.self }) c.told.result
+    (bridged_told ds c.args.res c.in-Some.born c.if-born-eq0.false alone o c.in-Some.ensures c.set-set.new.self c.set-set.result c.told.result c.told.ensures c.set-set.ensures.set c.set-set.ensures.same_window c.set-set.ensures.err))
 
 pub returns-clause-err : goal.returns-clause-err
 returns-clause-err c =
@@ -48,4 +48,4 @@ returns-clause-err c =
     let ds : Devices = record { world = s.world; tree = s.tree; relations = s.relations; reserved = s.reserved; windows = s.bridges } in
     let o = device_of c.args.path.now s.world.devices in
     let alone : has_any_below ds c.in-Some.born ≡ false = ap (λ (x : Devices). has_any_below x c.in-Some.born) c.self.view_is ∙ (sym c.has_any_below.ensures ∙ c.if-has_any_below.false) in
-    rw (← c.self.view_is) (stays_told ds c.args.res c.in-Some.born c.if-born-eq0.false alone o c.in-Some.ensures c.set.new.self c.set.result c.told.result c.told.ensures c.set.ensures.err)
+    rw (← c.self.view_is) (stays_told ds c.args.res c.in-Some.born c.if-born-eq0.false alone o c.in-Some.ensures c.set-set.new.self c.set-set.result c.told.result c.told.ensures c.set-set.ensures.err)
