@@ -5,7 +5,8 @@ use Rattle.pnp_labels.specs.Texts.{Text}
 use Rattle.pnp_model.specs.Cores.{new_node, node_at}
 use Rattle.pnp_model.specs.Records.{Device, Node, Relation, Task, Window}
 use Rattle.pnp_model.specs.Runs.{root_device, root_node}
-use Rattle.pnp_model.specs.States.{is_in_world, has_below, device_of, node_born}
+use Rattle.pnp_model.specs.States.{is_in_world, has_below, device_born, device_of, node_born}
+use Rattle.pnp_model.specs.Tests.{is_started}
 use Rattle.pnp_model.specs.Tasks.{joins, joining, is_surprise_of}
 use Rattle.pnp_model.specs.Trees.{children, is_child}
 use Rattle.pnp_model.specs.Windows.{clip, is_window_on}
@@ -130,6 +131,16 @@ is_gone_at ds tasks k = is_gone_node ds.world.devices tasks (node_at k ds.tree.n
 -- a device of the world, or a node, stands below the device of a birth number
 abbrev pub has_any_below : Devices → ℕ → Bool
 has_any_below ds born = has_below born ds.world.devices || has_children ds.tree.nodes (node_born born ds.tree.nodes)
+
+-- what the device of a node requires in the world now, as far as it comes through to the node; None: it is in the world no more
+abbrev pub wanted_of : Devices → Node → Option Device → Option Reqs
+wanted_of ds n None = None
+wanted_of ds n (Some d) = Some (clip ds.windows ds.tree.nodes n.parent d.reqs)
+
+-- the same where the device is Started
+abbrev pub wanted_at : Devices → Option Node → Option Reqs
+wanted_at ds None = None
+wanted_at ds (Some n) = if is_started n.state then wanted_of ds n (device_born n.born ds.world.devices) else None
 
 -- why a device gets no window of this range; None: it gets it
 abbrev pub window_refusal : Devices → Res → Option Device → Option Reason
