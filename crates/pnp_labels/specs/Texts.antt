@@ -84,6 +84,7 @@ op_text OpKind.Rebalance = codes "rebalance"
 op_text OpKind.Disable = codes "disable"
 op_text OpKind.Eject = codes "eject"
 op_text OpKind.Surprise = codes "surprise"
+op_text OpKind.Change = codes "change"
 
 abbrev pub task_text : TaskKind → Text
 task_text TaskKind.List = codes "list"
@@ -92,11 +93,13 @@ task_text TaskKind.Rebalance = codes "rebalance"
 task_text TaskKind.Disable = codes "disable"
 task_text TaskKind.Eject = codes "eject"
 task_text TaskKind.Surprise = codes "surprise"
+task_text TaskKind.Change = codes "change"
 
 abbrev pub end_text : OpEnd → Text
 end_text OpEnd.Moved = codes "moved"
 end_text OpEnd.NoFit = codes "nofit"
 end_text OpEnd.Spent = codes "spent"
+end_text OpEnd.Refused = codes "refused"
 end_text OpEnd.Done = codes "done"
 end_text (OpEnd.Veto path) = codes "veto " ++ path
 
@@ -112,6 +115,7 @@ word_text EventWord.Relate = codes "relate"
 word_text EventWord.Reserve = codes "reserve"
 word_text EventWord.Complete = codes "complete"
 word_text EventWord.Window = codes "window"
+word_text EventWord.Change = codes "change"
 
 abbrev pub reason_text : Reason → Text
 reason_text Reason.NoParent = codes "NoParent"

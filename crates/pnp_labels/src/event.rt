@@ -84,4 +84,9 @@ pub enum Event {
         path: InstancePath,
         res: Res,
     },
+    /// A device of the world, which runs, requires something else from now on.
+    Change {
+        path: InstancePath,
+        reqs: Reqs,
+    },
 }

@@ -17,6 +17,7 @@ pub enum EventWord {
     Reserve,
     Complete,
     Window,
+    Change,
 }
 
 /// Why an event was refused: this project's own.
@@ -89,6 +90,7 @@ pub enum TaskKind {
     Disable,
     Eject,
     Surprise,
+    Change,
 }
 
 /// The operations, of which one runs at a time: this project's own.
@@ -102,6 +104,8 @@ pub enum OpKind {
     Eject,
     /// A device has gone without a word.
     Surprise,
+    /// A running device requires something else: it and others stop so that it can have it.
+    Change,
 }
 
 /// How an operation ended: this project's own.
@@ -115,6 +119,8 @@ pub enum OpEnd {
     Spent,
     /// Nothing is left to do.
     Done,
+    /// The device that is to change would not stop.
+    Refused,
     /// The device of this path refused.
     Veto(Text),
 }

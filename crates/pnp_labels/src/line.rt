@@ -77,6 +77,7 @@ fn end_text(alloc: Global, end: &OpEnd) -> Result<Vec<u8>, WantOfMemory>
         OpEnd::Moved => Vec::from_slice(alloc, b"moved"),
         OpEnd::NoFit => Vec::from_slice(alloc, b"nofit"),
         OpEnd::Spent => Vec::from_slice(alloc, b"spent"),
+        OpEnd::Refused => Vec::from_slice(alloc, b"refused"),
         OpEnd::Done => Vec::from_slice(alloc, b"done"),
         OpEnd::Veto(path) => two(alloc, b"veto", path.bytes()),
     }

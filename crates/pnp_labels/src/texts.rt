@@ -74,6 +74,7 @@ pub fn op_text(op: OpKind) -> &'static [u8]
         OpKind::Disable => b"disable",
         OpKind::Eject => b"eject",
         OpKind::Surprise => b"surprise",
+        OpKind::Change => b"change",
     }
 }
 
@@ -88,6 +89,7 @@ pub fn task_text(task: TaskKind) -> &'static [u8]
         TaskKind::Disable => b"disable",
         TaskKind::Eject => b"eject",
         TaskKind::Surprise => b"surprise",
+        TaskKind::Change => b"change",
     }
 }
 
@@ -107,6 +109,7 @@ pub fn word_text(word: EventWord) -> &'static [u8]
         EventWord::Reserve => b"reserve",
         EventWord::Complete => b"complete",
         EventWord::Window => b"window",
+        EventWord::Change => b"change",
     }
 }
 
