@@ -11,7 +11,7 @@ use Rattle.pnp_model.specs.Cores.{set_rack}
 use Rattle.pnp_model.specs.Trees.{dependents, is_child}
 use Rattle.pnp_model.specs.Windows.{is_window_on}
 use Rattle.pnp_model.specs.Frames.{held_by}
-use Rattle.pnp_model.specs.States.{with_core, append_task, list_node, node_born, node_of, device_of, has_below, add_window, plug, unplug, enable_path, activity_at, set_phase, set_operation}
+use Rattle.pnp_model.specs.States.{with_core, append_task, list_node, node_born, node_of, device_of, has_below, add_window, is_in_world, change_device, plug, unplug, enable_path, activity_at, set_phase, set_operation}
 use Rattle.pnp_model.specs.Machine.{phase_walk, operation_walk}
 use Rattle.pnp_labels.specs.Texts.{spaced, minor_text, shown_text, res_text, Text}
 use Rattle.pnp_model.specs.Records.{Node, Core, Walk, Device, Driver, Relation, Activity, Phase, State, Step, Operation, RebalanceStage, RemovalStage, SurpriseStage, Duty}
@@ -181,6 +181,26 @@ reserve_idle s res (Some o) = refused EventWord.Reserve Reason.Busy s
 reserve_idle s res None =
     reserve_free s res (list_any (clashes res) (s.core.reserved ++ held_by s.core.nodes))
 
+-- change ----------------------------------------------------------------------
+
+abbrev pub change_up : State → Reqs → Node → Bool → Step
+change_up s reqs node false = refused EventWord.Change Reason.NotStarted s
+change_up s reqs node true =
+    did EventWord.Change node.path (append_task (Duty.Begins OpKind.Change) node.serial (change_device node.born reqs s))
+
+abbrev pub change_below : State → Reqs → Node → Bool → Step
+change_below s reqs node true = refused EventWord.Change Reason.RootStays s
+change_below s reqs node false = change_up s reqs node (is_started node.state)
+
+-- is its device in the world?
+abbrev pub change_there : State → Reqs → Node → Bool → Step
+change_there s reqs node false = refused EventWord.Change Reason.NoDevice s
+change_there s reqs node true = change_below s reqs node (node.serial == 0)
+
+abbrev pub change_at : State → Reqs → Option Node → Step
+change_at s reqs None = refused EventWord.Change Reason.NoDevice s
+change_at s reqs (Some node) = change_there s reqs node (is_in_world s.world node.born)
+
 -- window ----------------------------------------------------------------------
 
 -- a node has this one as parent
@@ -308,4 +328,5 @@ happens s (Event.Eject path) = eject_at s (node_of path s.core.nodes)
 happens s (Event.Relate kind owner member) = relate_at s kind (node_of owner s.core.nodes) (node_of member s.core.nodes)
 happens s (Event.Reserve res) = reserve_idle s res s.operation
 happens s (Event.Complete path minor ok) = complete_at s minor ok (node_of path s.core.nodes)
+happens s (Event.Change path reqs) = change_at s reqs (node_of path s.core.nodes)
 happens s (Event.Window path res) = window_at s res (device_of path s.world)

@@ -37,6 +37,7 @@ after_rebalance r RebalanceBeside.OverStart s =
 after_rebalance r RebalanceBeside.OverUndo s =
     begin_activity r.target (Removing (walk_of Minor.Remove)) (set_operation None s)
 after_rebalance r RebalanceBeside.OverDropped s = set_operation None s
+after_rebalance r RebalanceBeside.OverChange s = set_operation None s
 
 abbrev pub rebalance_lifted : State → RebalanceMove → Step
 rebalance_lifted s m = record { label = m.label; state = after_rebalance m.frame m.beside (with_core m.core s) }

@@ -1,8 +1,9 @@
--- The rebalance: devices stop so that one more can have its resources.
+-- The rebalance: devices stop so that one more can have its resources. The change: they stop so that one of them can have
+-- what it requires now.
 use Rattle.std.specs.Prelude.{ℕ, ◌==◌, Bool, true, false, not, ◌&&◌, List, [], ◌∷◌, Option, Some, None, length, map, reverse, if◌then◌else◌}
 use Rattle.resource_reqs.specs.Resources.{Res, Reqs}
 use Rattle.resource_reqs.specs.Spelling.Answer.{assignment, no_fit, spent}
-use Rattle.pnp_model.specs.Keyed.{those}
+use Rattle.pnp_model.specs.Keyed.{those, without_first}
 use Rattle.pnp_model.specs.Tests.{has, is_started}
 use Rattle.pnp_model.specs.Walks.{walk_of, is_bad, has_ended}
 use Rattle.pnp_model.specs.Cores.{node_at, serials_of, set_problem}
@@ -18,13 +19,14 @@ use Rattle.pnp_labels.specs.declared.label.OpKind.{OpKind}
 use Rattle.pnp_labels.specs.declared.label.OpEnd.{OpEnd}
 
 -- what the machine has to do: nothing; put the surprise task of a device at the head; or close the
--- operation, after which the target has an activity before its START walk, before its REMOVE walk, or none
+-- operation, after which the target of a rebalance has an activity before its START walk, before its REMOVE walk, or none
 pub data RebalanceBeside : Type 0 where
   On : RebalanceBeside
   FailedRestart : (serial : ℕ) → RebalanceBeside
   OverStart : RebalanceBeside
   OverUndo : RebalanceBeside
   OverDropped : RebalanceBeside
+  OverChange : RebalanceBeside
 
 abbrev pub RebalanceMove : Type 0
 RebalanceMove = Move Rebalance RebalanceBeside
@@ -34,13 +36,30 @@ moves label c r = record { label = label; core = c; frame = r; beside = Rebalanc
 
 -- what comes next, by the devices that are still to do
 
-abbrev pub ask_on : Rebalance → List ℕ → Rebalance
-ask_on r [] = record r { todo = []; stage = Searching }
-ask_on r (k ∷ ks) = record r { todo = k ∷ ks; stage = Asking (walk_of Minor.QueryStop) }
+-- after a search without an assignment a rebalance owes its target a problem; a change leaves all as it was
+abbrev pub cancelled : Option Reqs → RebalanceStage
+cancelled None = Stuck
+cancelled (Some wanted) = Ending
 
 abbrev pub cancel_on : Rebalance → List ℕ → Rebalance
-cancel_on r [] = record r { todo = []; stage = Stuck }
+cancel_on r [] = record r { todo = []; stage = cancelled r.wanted }
 cancel_on r (k ∷ ks) = record r { todo = k ∷ ks; stage = Cancelling (walk_of Minor.CancelStop) }
+
+-- has the target of a change not agreed?
+abbrev pub has_refused_in : Option Reqs → Bool → Bool
+has_refused_in None agreed = false
+has_refused_in (Some wanted) agreed = not agreed
+
+abbrev pub has_refused : Rebalance → Bool
+has_refused r = has_refused_in r.wanted (has r.agreed r.target)
+
+abbrev pub search_on : Rebalance → Bool → Rebalance
+search_on r false = record r { todo = []; stage = Searching }
+search_on r true = cancel_on r r.agreed
+
+abbrev pub ask_on : Rebalance → List ℕ → Rebalance
+ask_on r [] = search_on r (has_refused r)
+ask_on r (k ∷ ks) = record r { todo = k ∷ ks; stage = Asking (walk_of Minor.QueryStop) }
 
 abbrev pub stop_on : Rebalance → List ℕ → Rebalance
 stop_on r [] = record r { todo = []; stage = Committing }
@@ -63,11 +82,17 @@ restart_on nodes r todo = restart_from r (startable nodes todo)
 abbrev pub is_asked : Node → Bool
 is_asked n = is_started n.state && not (n.serial == 0)
 
-abbrev pub begun_rebalance : Core → Node → Rebalance
-begun_rebalance c node =
+abbrev pub begun_with : Core → Node → Option Reqs → Rebalance
+begun_with c node wanted =
     ask_on
-    (record { target = node.serial; path = node.path; todo = []; agreed = []; refused = []; found = no_fit; stage = Searching })
+    (record { target = node.serial; path = node.path; wanted = wanted; todo = []; agreed = []; refused = []; found = no_fit; stage = Searching })
     (reverse (serials_of (those is_asked c.nodes)))
+
+abbrev pub begun_rebalance : Core → Node → Rebalance
+begun_rebalance c node = begun_with c node None
+
+abbrev pub begun_change : Core → Node → Reqs → Rebalance
+begun_change c node wanted = begun_with c node (Some wanted)
 
 -- asking
 
@@ -102,12 +127,26 @@ abbrev pub reqs_of : Option Node → Reqs
 reqs_of None = []
 reqs_of (Some n) = n.reqs
 
+-- all that agreed but the target
+abbrev pub others : Rebalance → List ℕ
+others r = without_first (λ j. j == r.target) r.agreed
+
 abbrev pub movers : Rebalance → List ℕ
-movers r = r.target ∷ r.agreed
+movers r = r.target ∷ others r
+
+abbrev pub reqs_or : Option Reqs → Reqs → Reqs
+reqs_or None own = own
+reqs_or (Some wanted) own = wanted
+
+abbrev pub target_reqs : Core → Rebalance → Reqs
+target_reqs c r = reqs_or r.wanted (reqs_of (node_at r.target c.nodes))
 
 abbrev pub group_problem : Core → Rebalance → SearchProblem
 group_problem c r =
-    record { fixed = fixed_beside c (movers r); movers = map (λ k. reqs_of (node_at k c.nodes)) (movers r) }
+    record {
+      fixed = fixed_beside c (movers r);
+      movers = target_reqs c r ∷ map (λ k. reqs_of (node_at k c.nodes)) (others r);
+    }
 
 abbrev pub searched : Core → Rebalance → Found → RebalanceMove
 searched c r (assignment plan) =
@@ -150,11 +189,17 @@ plan_of (assignment plan) = plan
 plan_of no_fit = []
 plan_of spent = []
 
-abbrev pub committed : List ℕ → List (List Res) → Node → Node
-committed serials plan n = record n { holds = part_for n.serial serials plan n.holds }
+-- the target of a change requires from now on what it wanted
+abbrev pub reqs_after : Option Reqs → ℕ → Node → Reqs
+reqs_after None target n = n.reqs
+reqs_after (Some wanted) target n = if n.serial == target then wanted else n.reqs
+
+abbrev pub committed : Option Reqs → ℕ → List ℕ → List (List Res) → Node → Node
+committed wanted target serials plan n =
+    record n { reqs = reqs_after wanted target n; holds = part_for n.serial serials plan n.holds }
 
 abbrev pub commit : Core → Rebalance → Core
-commit c r = record c { nodes = map (committed (movers r) (plan_of r.found)) c.nodes }
+commit c r = record c { nodes = map (committed r.wanted r.target (movers r) (plan_of r.found)) c.nodes }
 
 abbrev pub commit_step : Core → Rebalance → RebalanceMove
 commit_step c r = moves (Label.Commit (length (movers r))) (commit c r) (restart_on c.nodes r r.agreed)
@@ -186,18 +231,33 @@ end_of (assignment plan) = OpEnd.Moved
 end_of no_fit = OpEnd.NoFit
 end_of spent = OpEnd.Spent
 
+-- did the target of a change refuse?
+abbrev pub result : Found → Bool → OpEnd
+result found true = OpEnd.Refused
+result found false = end_of found
+
+abbrev pub kind_of : Option Reqs → OpKind
+kind_of None = OpKind.Rebalance
+kind_of (Some wanted) = OpKind.Change
+
 abbrev pub moved_on : Bool → RebalanceBeside
 moved_on true = RebalanceBeside.OverStart
 moved_on false = RebalanceBeside.OverDropped
 
-abbrev pub over : Core → Rebalance → Found → RebalanceBeside
-over c r (assignment plan) = moved_on (stands_up c.nodes r.target)
-over c r no_fit = RebalanceBeside.OverUndo
-over c r spent = RebalanceBeside.OverUndo
+abbrev pub over : Core → Rebalance → Found → Option Reqs → RebalanceBeside
+over c r (assignment plan) None = moved_on (stands_up c.nodes r.target)
+over c r no_fit None = RebalanceBeside.OverUndo
+over c r spent None = RebalanceBeside.OverUndo
+over c r found (Some wanted) = RebalanceBeside.OverChange
 
 abbrev pub close : Core → Rebalance → RebalanceMove
 close c r =
-    record { label = Label.End OpKind.Rebalance r.path (end_of r.found); core = c; frame = r; beside = over c r r.found }
+    record {
+      label = Label.End (kind_of r.wanted) r.path (result r.found (has_refused r));
+      core = c;
+      frame = r;
+      beside = over c r r.found r.wanted;
+    }
 
 -- the device whose walk runs stands first; without it there is no step
 abbrev pub rebalance_step : Core → Rebalance → RebalanceStage → Option Node → Option (Doing RebalanceMove)

@@ -97,9 +97,11 @@ pub data RebalanceStage : Type 0 where
   Failed : RebalanceStage  -- problem 10 is due
   Ending : RebalanceStage
 
+-- a rebalance, or the change of its target
 pub record Rebalance : Type 0 where
   pub target : ℕ
   pub path : Text  -- of the target
+  pub wanted : Option Reqs  -- in a change: what the target requires from the commit on
   pub todo : List ℕ
   pub agreed : List ℕ  -- in ascending order
   pub refused : List ℕ

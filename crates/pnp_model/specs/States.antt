@@ -3,7 +3,7 @@ use Rattle.std.specs.Prelude.{ℕ, ◌+◌, ◌==◌, Bool, true, false, not, �
 use Rattle.std.specs.List.{list_any}
 use Rattle.pnp_model.specs.Keyed.{changed_first, without_first, put_before}
 use Rattle.device_ids.specs.Folding.{same}
-use Rattle.resource_reqs.specs.Resources.{Res}
+use Rattle.resource_reqs.specs.Resources.{Res, Reqs}
 use Rattle.pnp_model.specs.Tests.{has}
 use Rattle.pnp_model.specs.Cores.{new_node, add_node}
 use Rattle.pnp_model.specs.Windows.{clip}
@@ -95,11 +95,23 @@ node_born born nodes = find (λ n. n.born == born) nodes
 abbrev pub node_of : Text → List Node → Option Node
 node_of path nodes = find (λ n. same n.path path) nodes
 
+-- the device requires this
+abbrev pub requires : Reqs → Device → Device
+requires reqs d = record d { reqs = reqs }
+
+-- the device of the birth number requires something else from now on
+abbrev pub change_device : ℕ → Reqs → State → State
+change_device born reqs s = record s { world = changed_first (λ d. d.born == born) (requires reqs) s.world }
+
+-- what comes through to a device below this parent of what it requires in the world
+abbrev pub let_through : ℕ → Device → State → Reqs
+let_through parent d s = clip s.windows s.core.nodes parent d.reqs
+
 -- the node of a device of the world that joins below a parent, under the next serial: what it requires is cut to what
 -- the devices above it pass on
 abbrev pub new_child : ℕ → Device → State → Node
 new_child parent d s =
-    new_node s.next_serial parent (record d { reqs = clip s.windows s.core.nodes parent d.reqs })
+    new_node s.next_serial parent (requires (let_through parent d s) d)
 
 abbrev pub join_node : ℕ → Device → State → State
 join_node parent d s = record s { core = add_node (new_child parent d s) s.core; next_serial = s.next_serial + 1 }

@@ -6,9 +6,9 @@ use Rattle.pnp_model.specs.Tests.{has_same, is_surprise_task, task_word}
 use Rattle.pnp_model.specs.Books.{name_of, driver_named}
 use Rattle.pnp_model.specs.Cores.{set_problem}
 use Rattle.pnp_model.specs.Trees.{children}
-use Rattle.pnp_model.specs.States.{append_task, drop_task, activity_at, begin_activity, set_operation, with_core, join_node, is_in_world}
+use Rattle.pnp_model.specs.States.{append_task, drop_task, activity_at, begin_activity, set_operation, with_core, join_node, is_in_world, device_born, let_through}
 use Rattle.pnp_model.specs.Starts.{adding}
-use Rattle.pnp_model.specs.Rebalances.{begun_rebalance}
+use Rattle.pnp_model.specs.Rebalances.{begun_rebalance, begun_change}
 use Rattle.pnp_model.specs.Removals.{begun_removal}
 use Rattle.pnp_model.specs.Surprises.{begun_surprise}
 use Rattle.pnp_model.specs.Records.{Node, Device, Driver, Task, State, Step, Operation, Activity, Settings, Choice, Duty}
@@ -154,9 +154,20 @@ abbrev pub disable_task : State → Node → Bool → Step
 disable_task s node true = skip (Begins OpKind.Disable) node.serial s
 disable_task s node false = begin s OpKind.Disable node (Removing (begun_removal s.core OpKind.Disable node))
 
+-- is its device in the world still? What is wanted is what that device requires now
+abbrev pub change_born : State → Node → Option Device → Step
+change_born s node None = skip (Begins OpKind.Change) node.serial s
+change_born s node (Some d) =
+    begin s OpKind.Change node (Rebalancing (begun_change s.core node (let_through node.parent d s)))
+
+abbrev pub change_task : State → Node → DevState → Step
+change_task s node Started = change_born s node (device_born node.born s.world)
+change_task s node _ = skip (Begins OpKind.Change) node.serial s
+
 abbrev pub begin_step : State → OpKind → ℕ → Option Node → Step
 begin_step s kind k None = skip (Begins kind) k s
 begin_step s OpKind.Rebalance k (Some node) = rebalance_task s node node.state
 begin_step s OpKind.Disable k (Some node) = disable_task s node (has_same node.path s.disabled)
 begin_step s OpKind.Eject k (Some node) = begin s OpKind.Eject node (Removing (begun_removal s.core OpKind.Eject node))
 begin_step s OpKind.Surprise k (Some node) = begin s OpKind.Surprise node (Surprising (begun_surprise s.core node))
+begin_step s OpKind.Change k (Some node) = change_task s node node.state

@@ -86,6 +86,7 @@ operation_word OpKind.Rebalance = TaskKind.Rebalance
 operation_word OpKind.Disable = TaskKind.Disable
 operation_word OpKind.Eject = TaskKind.Eject
 operation_word OpKind.Surprise = TaskKind.Surprise
+operation_word OpKind.Change = TaskKind.Change
 
 -- the word that a label has for a task
 abbrev pub task_word : Duty → TaskKind
