@@ -27,15 +27,15 @@ pub record Begun (s : State) (kind : OpKind) (path : Text) (t : State) : Type 0 
   pub at : node_at node.serial s.core.nodes ≡ Some node
   pub named : node.path ≡ path
   pub idle : s.operation ≡ None
-  pub is : t ≡ (begin s kind node (begun s.core kind node)).state
+  pub is : t ≡ (begin s kind node (begun s kind node)).state
 
 begun_way : (s t : State) (kind : OpKind) (path : Text) → Way s (record { label = Label.Begin kind path; state = t }) → Begun s kind path t
 begun_way s t kind path (Way.idles none after beside) = absurd beside
 begun_way s t kind path (Way.begins own node none at is) =
     let label : Label.Begin kind path ≡ Label.Begin own node.path = ap (λ (x : Step). x.label) is in
     let kinds : own ≡ kind = cc in
-    let state : t ≡ (begin s own node (begun s.core own node)).state = ap (λ (x : Step). x.state) is in
-    record { node = node; at = at; named = cc; idle = none; is = subst (λ (x : OpKind). t ≡ (begin s x node (begun s.core x node)).state) kinds state }
+    let state : t ≡ (begin s own node (begun s own node)).state = ap (λ (x : Step). x.state) is in
+    record { node = node; at = at; named = cc; idle = none; is = subst (λ (x : OpKind). t ≡ (begin s x node (begun s x node)).state) kinds state }
 begun_way s t kind path (Way.goes o p runs after work (inl beside)) = absurd beside
 begun_way s t kind path (Way.goes o p runs after work (inr (kinds, label))) = absurd (cc)
 begun_way s t kind path (Way.ends o result runs after label by) = absurd (cc)

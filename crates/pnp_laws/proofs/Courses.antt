@@ -22,7 +22,7 @@ use Rattle.pnp_model.specs.Events as ev
 -- no operation runs; or one begins, goes on, or ends
 pub data Way (s : State) (step : Step) : Type 0 where
   idles : s.operation ≡ None → step.state.operation ≡ None → IsBeside step.label → Way s step
-  begins : (kind : OpKind) (node : Node) → s.operation ≡ None → node_at node.serial s.core.nodes ≡ Some node → step ≡ begin s kind node (begun s.core kind node) → Way s step
+  begins : (kind : OpKind) (node : Node) → s.operation ≡ None → node_at node.serial s.core.nodes ≡ Some node → step ≡ begin s kind node (begun s kind node) → Way s step
   goes : (o p : Operation) → s.operation ≡ Some o → step.state.operation ≡ Some p → SameWork o p →
       IsBeside step.label ⊎ ((kind_of o ≡ OpKind.Rebalance) × (step.label ≡ Label.Trouble (path_of o) Problem.NormalConflict)) → Way s step
   ends : (o : Operation) (result : OpEnd) → s.operation ≡ Some o → step.state.operation ≡ None → step.label ≡ Label.End (kind_of o) (path_of o) result → EndsBy (is_removal o) result → Way s step

@@ -99,7 +99,7 @@ pub data Origin (s : State) (label : Label) (t : State) (k : ℕ) : Node → Typ
   assigned : (n : Node) (phase : Phase) (plan : List (List Res)) → node_at k s.core.nodes ≡ Some n → Acting s k phase → IsSearch phase → Assigned s n plan
       → t.activities ≡ changed_first (is_activity k) (with_phase (Phase.Starting (walk_of Minor.Start))) s.activities → Origin s label t k (with_holds (own_part plan) n)
   stripped : (n : Node) (w : Walk) → node_at k s.core.nodes ≡ Some n → Request s n Minor.Remove w → label ≡ Label.State n.path NoStack → Origin s label t k (bare n)
-  commits : (r : Rebalance) (n : Node) → s.operation ≡ Some (Operation.Rebalancing r) → r.stage ≡ RebalanceStage.Committing → node_at k s.core.nodes ≡ Some n → Origin s label t k (committed (movers r) (plan_of r.found) n)
+  commits : (r : Rebalance) (n : Node) → s.operation ≡ Some (Operation.Rebalancing r) → r.stage ≡ RebalanceStage.Committing → node_at k s.core.nodes ≡ Some n → Origin s label t k (committed r.wanted r.target (movers r) (plan_of r.found) n)
   joins : (node : Node) (d : Device) → joining node.born s.core.nodes s.world ≡ Some d → node_at k s.core.nodes ≡ None → s.next_serial ≡ k → Origin s label t k (new_child node.serial d s)
 
 module _ (s : State) (label : Label) (t : State) where
@@ -131,7 +131,7 @@ module _ (s : State) (label : Label) (t : State) where
         (λ n q. subst (λ (x : Node). Origin s label t node.serial (bare x)) (some_same (node_at node.serial s.core.nodes) node n there q) (Origin.stripped node w there request prints))
         (subst (λ (x : List Node). node_at k x ≡ Some m) e now)
     origin (NodeEffect.commits r runs is e rest) now =
-        let old = map_from k (committed (movers r) (plan_of r.found)) s.core.nodes m (λ x. refl) (subst (λ (x : List Node). node_at k x ≡ Some m) e now) in
+        let old = map_from k (committed r.wanted r.target (movers r) (plan_of r.found)) s.core.nodes m (λ x. refl) (subst (λ (x : List Node). node_at k x ≡ Some m) e now) in
         subst (λ (z : Node). Origin s label t k z) (sym old.2) (Origin.commits r old.0 runs is old.1)
     origin (NodeEffect.joins node d none there up below is) now =
         elim (joined_from k s.core.nodes (new_child node.serial d s) m (subst (λ (x : Step). node_at k x.state.core.nodes ≡ Some m) is now)) [
@@ -224,7 +224,7 @@ gone_left s label t (NodeEffect.same e rest) k n at gone = absurd (let now = ap 
 gone_left s label t (NodeEffect.changed j f alters e rest) k n at gone = absurd (let was = node_missing j k f s.core.nodes (alters_keeps s label t j f alters).serial (sym (ap (node_at k) e) ∙ gone) in cc)
 gone_left s label t (NodeEffect.stripped node w there request over prints e rest) k n at gone = absurd (let was = node_missing node.serial k bare s.core.nodes (λ x. refl) (sym (ap (node_at k) e) ∙ gone) in cc)
 gone_left s label t (NodeEffect.commits r runs is e rest) k n at gone =
-    absurd (let now = sym gone ∙ ap (node_at k) e ∙ node_at-map k (committed (movers r) (plan_of r.found)) s.core.nodes (λ x. refl) ∙ ap (option_map (committed (movers r) (plan_of r.found))) at in cc)
+    absurd (let now = sym gone ∙ ap (node_at k) e ∙ node_at-map k (committed r.wanted r.target (movers r) (plan_of r.found)) s.core.nodes (λ x. refl) ∙ ap (option_map (committed r.wanted r.target (movers r) (plan_of r.found))) at in cc)
 gone_left s label t (NodeEffect.joins node d idle there up below is) k n at gone =
     absurd (let now = sym gone ∙ ap (λ (x : Step). node_at k x.state.core.nodes) is ∙ joined_keeps k s.core.nodes (new_child node.serial d s) n at in cc)
 gone_left s label t (NodeEffect.left node o runs first e rest) k n at gone =

@@ -97,7 +97,7 @@ module _ (s : State) (none : s.operation ≡ None) where
 
   -- an operation begins
   begins : (kind : OpKind) (node : Node) → First s (Duty.Begins kind) node.serial → s.activities ≡ [] → node_at node.serial s.core.nodes ≡ Some node → BeginsFor s kind node
-      → Surprises s (record { kind = Duty.Begins kind; serial = node.serial }) (begin s kind node (begun s.core kind node)).state → Steps s (begin s kind node (begun s.core kind node))
+      → Surprises s (record { kind = Duty.Begins kind; serial = node.serial }) (begin s kind node (begun s kind node)).state → Steps s (begin s kind node (begun s kind node))
   begins kind node first alone at fits surprises =
       inside s _ _ refl refl refl refl refl refl (still s _ _ tt refl (NodeEffect.same refl refl)) (OpEffect.begins kind node none alone at fits refl) (ActivityEffect.same refl) (TaskEffect.dropped _ none first surprises refl)
 

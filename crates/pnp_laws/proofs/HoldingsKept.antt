@@ -93,13 +93,13 @@ mover_up r nodes k n keeps at h e =
           cc
     ]
 
-committed_well : (r : Rebalance) (reserved : List Res) (nodes : List Node) (k : ℕ) (n : Node) → RebalanceKeeps r RebalanceStage.Committing nodes → PlanFits r reserved nodes → node_at k nodes ≡ Some n → HeldWell n → HeldWell (committed (movers r) (plan_of r.found) n)
+committed_well : (r : Rebalance) (reserved : List Res) (nodes : List Node) (k : ℕ) (n : Node) → RebalanceKeeps r RebalanceStage.Committing nodes → PlanFits r reserved nodes → node_at k nodes ≡ Some n → HeldWell n → HeldWell (committed r.wanted r.target (movers r) (plan_of r.found) n)
 committed_well r reserved nodes k n keeps fits at well =
     elim (member (movers r) k) [
       | inl h ↦ record { up = λ e. mover_whole r reserved nodes k n fits at h; bare = λ e. absurd (mover_up r nodes k n keeps at h e) }
       | inr h ↦
           let own = own_serial k n nodes at in
-          let same : (committed (movers r) (plan_of r.found) n).holds ≡ n.holds = part_not n.serial (movers r) (plan_of r.found) n.holds (subst (λ (i : ℕ). has (movers r) i ≡ false) (sym own) h) in
+          let same : (committed r.wanted r.target (movers r) (plan_of r.found) n).holds ≡ n.holds = part_not n.serial (movers r) (plan_of r.found) n.holds (subst (λ (i : ℕ). has (movers r) i ≡ false) (sym own) h) in
           record { up = λ e. subst (λ (x : List Res). Whole n.reqs x) (sym same) (well.up e); bare = λ e. same ∙ well.bare e }
     ]
 

@@ -56,7 +56,7 @@ pub data TaskStep (s : State) : Step → Type 0 where
   troubles : (node : Node) (problem : Problem) → Bare s node → NotTwelve problem → TaskStep s (tk.begin_trouble s node problem)
   installs : (node : Node) (rank driver : ℕ) (drivers : List ℕ) → Bare s node → Chosen s node.serial drivers → TaskStep s (tk.install s node rank driver drivers)
   begins : (kind : OpKind) (node : Node) → First s (Duty.Begins kind) node.serial → s.activities ≡ [] → node_at node.serial s.core.nodes ≡ Some node → BeginsFor s kind node
-      → TaskStep s (tk.begin s kind node (begun s.core kind node))
+      → TaskStep s (tk.begin s kind node (begun s kind node))
 
 -- the child that is found gone
 pub gone_is : (s : State) (k : ℕ) (child : Node) → Ascending 0 s.core.nodes → tk.gone_child s k ≡ Some child

@@ -299,7 +299,7 @@ module _ (s : State) (r : Rebalance) (alone : s.activities ≡ []) (good : Good 
       (λ k x d h. rest_stopping r.todo r.agreed k x (rest_has j k r.todo work.head d) h) keeps.each)
       (waits_changed r.target j (with_state Stopped) s.core.nodes node (λ x. refl) work.at (λ e. let z = state in cc) keeps.waits))
   lawful_rebalance stage m keeps RebalanceStep.commits =
-      let f = committed (movers r) (plan_of r.found) in
+      let f = committed r.wanted r.target (movers r) (plan_of r.found) in
       let fits = fits_restart_on s.core.nodes r r.agreed (map f s.core.nodes) keeps.agreed keeps.agreed keeps.no_root keeps.no_root
       (Each_mapped (stopped_state r.agreed) (stopped_state r.agreed) f s.core.nodes (λ x. refl) (λ x. refl) (λ k x h. h) keeps.each)
       (waits_mapped r.target f s.core.nodes (λ x. refl) (λ x. refl) keeps.waits) in

@@ -95,7 +95,7 @@ work_on settings rack entries s entry t p q o runs after now work within goes h 
 goes_on : (settings : Settings) (rack : List Driver) (entries : List Entry) (s : State) (entry : Entry) (t : State) → Reaches settings rack entries s → Goes settings s entry t → Way s (record { label = printed entry; state = t }) → RunsBegun settings rack entries s → RunsBegun settings rack (entries ++ entry ∷ []) t
 goes_on settings rack entries s entry t reaches goes (Way.idles none after beside) h o now = absurd (cc)
 goes_on settings rack entries s entry t reaches goes (Way.begins kind node none at is) h o now =
-    let first = begun s.core kind node in
+    let first = begun s kind node in
     let runs : t.operation ≡ Some first = ap (λ (x : Step). x.state.operation) is in
     let same : o ≡ first = cc in
     let work = begun_work s.core kind node in

@@ -60,7 +60,7 @@ module _ (s : State) (label : Label) (t : State) (order : Ascending 0 s.core.nod
       let fits = subst (λ (x : RebalanceStage). StagePlan r x s.core.reserved s.core.nodes) is (subst (λ (x : Option Operation). PlanKept x s.core.reserved s.core.nodes) runs planned) in
       elim (member (movers r) k) [
         | inl h ↦ inr (mover_whole r s.core.reserved s.core.nodes k n fits at h)
-        | inr h ↦ part_same n (committed (movers r) (plan_of r.found) n) refl (part_not n.serial (movers r) (plan_of r.found) n.holds (subst (λ (i : ℕ). has (movers r) i ≡ false) (sym (own_serial k n s.core.nodes at)) h)) (old k n at)
+        | inr h ↦ part_same n (committed r.wanted r.target (movers r) (plan_of r.found) n) refl (part_not n.serial (movers r) (plan_of r.found) n.holds (subst (λ (i : ℕ). has (movers r) i ≡ false) (sym (own_serial k n s.core.nodes at)) h)) (old k n at)
       ]
   part_from k _ (Origin.joins node d below gone own) = inl refl
 

@@ -72,7 +72,7 @@ above_stays s label t kept first follows (NodeEffect.changed j f alters a b) k n
 above_stays s label t kept first follows (NodeEffect.stripped node w there request ends prints a b) k n m at now =
     above_same s.core.nodes t.core.nodes (nodes_kept s.core.nodes t.core.nodes node.serial bare a (λ x. refl) (λ x. refl)) k
 above_stays s label t kept first follows (NodeEffect.commits r runs is a b) k n m at now =
-    above_same s.core.nodes t.core.nodes (nodes_mapped s.core.nodes t.core.nodes (committed (movers r) (plan_of r.found)) a (λ x. refl) (λ x. refl)) k
+    above_same s.core.nodes t.core.nodes (nodes_mapped s.core.nodes t.core.nodes (committed r.wanted r.target (movers r) (plan_of r.found)) a (λ x. refl) (λ x. refl)) k
 above_stays s label t kept first follows (NodeEffect.joins node d none there up joining is) k n m at now =
     ap (λ (x : Step). above x.state.core.nodes k) is ∙ above_joined k s.core (new_child node.serial d s) kept.stands.tree.rooted kept.stands.tree.root k n at
 above_stays s label t kept first follows (NodeEffect.left node o runs head a b) k n m at now =

@@ -105,7 +105,7 @@ removal_since : (s : State) (kind : OpKind) (node : Node) (t : State) → t ≡ 
 removal_since s kind node t is =
     let o = begun_removal s.core kind node in
     let first : VetoSince s.core (begin s kind node (Operation.Removing o)).state =
-    record { op = o; runs = refl; since = since_begun s.core kind node (leaving s.core node.serial) } in
+    record { op = o; runs = refl; since = since_begun s kind node (leaving s.core node.serial) } in
     subst (λ (x : State). VetoSince s.core x) (sym is) first
 
 other_runs : (s : State) (kind : OpKind) (node : Node) (t : State) (o : Operation) → is_removal o ≡ false → t ≡ (begin s kind node o).state → Unvetoed t

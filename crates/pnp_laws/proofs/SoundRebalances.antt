@@ -186,7 +186,7 @@ module _ (s : State) (r : Rebalance) (good : Good s.next_serial s.core.nodes [] 
       (due_changed r.agreed r.agreed s.tasks s.tasks s.core.nodes t.core.nodes node.serial (with_state Stopped) node refl (λ x. refl) work.at (nodes_same s.core t.core same) (leads_same s.tasks)
       (λ q. inr (keeps.asks node.serial here)) (λ k q. inl q) due)) h
   sound_rebalance stage m keeps order there due RebalanceStep.commits =
-      let f = committed (movers r) (plan_of r.found) in
+      let f = committed r.wanted r.target (movers r) (plan_of r.found) in
       let t = (rebalance_lifted s (commit_step s.core r)).state in
       let same = same_mapped s.core t.core f refl refl (commits_alike (movers r) r) in
       let ks = startable s.core.nodes r.agreed in

@@ -124,7 +124,7 @@ module _ (s : State) (label : Label) (t : State) (good : IsGood s) (whole : IsWh
       grind (arith)
 
   committed_from : (r : Rebalance) → s.operation ≡ Some (Operation.Rebalancing r) → r.stage ≡ RebalanceStage.Committing → (k : ℕ) (n m : Node) → node_at k s.core.nodes ≡ Some n
-      → m ≡ committed (movers r) (plan_of r.found) n → From s t k m
+      → m ≡ committed r.wanted r.target (movers r) (plan_of r.found) n → From s t k m
   committed_from r runs is k n m at e =
       by_test (has (r.target ∷ []) k) (has r.agreed k) refl refl
     where
@@ -147,7 +147,7 @@ module _ (s : State) (label : Label) (t : State) (good : IsGood s) (whole : IsWh
       elim (stacked_cases n.state) [ inl none ↦ From.emptied (bare_holds k n at none) | inr stays ↦ From.unchanged n at (λ q. sym stays ∙ q) refl ]
   by_origin k _ (Origin.assigned n phase plan at acts search part now) = placed_from k phase acts now (with_holds (own_part plan) n)
   by_origin k _ (Origin.stripped n w at request prints) = From.emptied refl
-  by_origin k _ (Origin.commits r n runs is at) = committed_from r runs is k n (committed (movers r) (plan_of r.found) n) at refl
+  by_origin k _ (Origin.commits r n runs is at) = committed_from r runs is k n (committed r.wanted r.target (movers r) (plan_of r.found) n) at refl
   by_origin k _ (Origin.joins node d below gone own) = From.emptied refl
 
   pub from : NodeEffect s label t → (k : ℕ) (m : Node) → node_at k t.core.nodes ≡ Some m → From s t k m

@@ -1,7 +1,8 @@
 -- What a step of the machine, or an event, can do to a state: the one account that laws over steps read.
 use Rattle.std.specs.Prelude.{ℕ, ◌+◌, ◌≡◌, ◌≢◌, ◌⊎◌, ◌==◌, ◌&&◌, Bool, true, false, List, [], ◌∷◌, ◌++◌, Option, Some, None, length, map, find, drop, nat_le, slice_get, option_map}
 use Rattle.std.specs.List.{list_any}
-use Rattle.resource_reqs.specs.Resources.{Res, clashes}
+use Rattle.std.specs.Option.{is_some}
+use Rattle.resource_reqs.specs.Resources.{Res, Reqs, clashes}
 use Rattle.resource_reqs.specs.Spelling.{IsAnswer}
 use Rattle.resource_reqs.specs.Spelling.Answer.{assignment}
 use Rattle.pnp_labels.specs.Texts.{Text}
@@ -23,10 +24,10 @@ use Rattle.pnp_model.specs.Trees.{children, dependents, stands_up}
 use Rattle.pnp_model.specs.Walks.{walk_of, may_fail, is_bad, has_ended, state_after}
 use Rattle.pnp_model.specs.Cores.{is_node, node_at, forget, bare, stacked, with_state, with_problem, with_stack, with_holds}
 use Rattle.pnp_model.specs.Frames.{first_node, fixed_beside, held_by, next_driver}
-use Rattle.pnp_model.specs.States.{is_activity, activity_at, device_of, entered, has_below, node_born, node_of, with_phase, without_those}
+use Rattle.pnp_model.specs.States.{is_activity, activity_at, device_born, device_of, entered, has_below, is_in_world, let_through, node_born, node_of, requires, with_phase, without_those}
 use Rattle.pnp_model.specs.Windows.{is_window_on}
 use Rattle.pnp_model.specs.Starts.{adding, own_part}
-use Rattle.pnp_model.specs.Rebalances.{begun_rebalance, committed, movers, plan_of}
+use Rattle.pnp_model.specs.Rebalances.{begun_rebalance, begun_change, committed, movers, plan_of}
 use Rattle.pnp_model.specs.Removals.{begun_removal}
 use Rattle.pnp_model.specs.Surprises.{begun_surprise}
 use Rattle.pnp_model.specs.Tasks.{begin, is_gone, join_step, joining, numbered}
@@ -176,9 +177,9 @@ pub data NodeEffect (s : State) (label : Label) (t : State) : Type 0 where
   stripped : (node : Node) (w : Walk) → node_at node.serial s.core.nodes ≡ Some node → Request s node Minor.Remove w → has_ended w (length node.stack) ≡ true
       → label ≡ Label.State node.path (state_after Minor.Remove false node.state)
       → t.core.nodes ≡ changed_first (is_node node.serial) bare s.core.nodes → t.core.relations ≡ forget node.serial s.core.relations → NodeEffect s label t
-  -- the plan of a rebalance is used
+  -- the plan of a rebalance or a change is used
   commits : (r : Rebalance) → s.operation ≡ Some (Operation.Rebalancing r) → r.stage ≡ RebalanceStage.Committing
-      → t.core.nodes ≡ map (committed (movers r) (plan_of r.found)) s.core.nodes → t.core.relations ≡ s.core.relations → NodeEffect s label t
+      → t.core.nodes ≡ map (committed r.wanted r.target (movers r) (plan_of r.found)) s.core.nodes → t.core.relations ≡ s.core.relations → NodeEffect s label t
   joins : (node : Node) (d : Device) → s.operation ≡ None → node_at node.serial s.core.nodes ≡ Some node → node.state ≡ Started
       → joining node.born s.core.nodes s.world ≡ Some d → record { label = label; state = t } ≡ join_step s node d → NodeEffect s label t
   left : (node : Node) (o : Operation) → s.operation ≡ Some o → first_node s.core.nodes (to_leave o) ≡ Some node
@@ -256,6 +257,8 @@ Unplugs s (Did label) born = (node : Node) × (o : Removal) × (s.operation ≡ 
 pub data WorldEffect (s : State) (entry : Entry) (t : State) : Type 0 where
   same : t.world ≡ s.world → t.next_born ≡ s.next_born → WorldEffect s entry t
   plugged : (d : Device) → Plugged s entry d → t.world ≡ s.world ++ d ∷ [] → t.next_born ≡ s.next_born + 1 → WorldEffect s entry t
+  requires : (node : Node) (path : Text) (reqs : Reqs) (label : Label) → node_of path s.core.nodes ≡ Some node → (node.serial == 0) ≡ false → node.state ≡ Started → is_in_world s.world node.born ≡ true
+      → entry ≡ Happens (Event.Change path reqs) label → t.world ≡ changed_first (λ d. d.born == node.born) (requires reqs) s.world → t.next_born ≡ s.next_born → WorldEffect s entry t
   unplugged : (born : ℕ) → Unplugs s entry born → t.world ≡ without_those (born ∷ []) s.world → t.next_born ≡ s.next_born → WorldEffect s entry t
 
 pub data PathEffect (s : State) (label : Label) (t : State) : Type 0 where
@@ -281,17 +284,24 @@ pub data WindowEffect (s : State) (entry : Entry) (t : State) : Type 0 where
 
 -- The operation ------------------------------------------------------------------------
 
+-- what the device of a node requires in the world now, as it comes through to the node
+abbrev pub required : State → Node → Option Device → Reqs
+required s node None = []
+required s node (Some d) = let_through node.parent d s
+
 -- the operation of a kind, as it begins
-abbrev pub begun : Core → OpKind → Node → Operation
-begun c OpKind.Rebalance node = Operation.Rebalancing (begun_rebalance c node)
-begun c OpKind.Disable node = Operation.Removing (begun_removal c OpKind.Disable node)
-begun c OpKind.Eject node = Operation.Removing (begun_removal c OpKind.Eject node)
-begun c OpKind.Surprise node = Operation.Surprising (begun_surprise c node)
+abbrev pub begun : State → OpKind → Node → Operation
+begun s OpKind.Rebalance node = Operation.Rebalancing (begun_rebalance s.core node)
+begun s OpKind.Disable node = Operation.Removing (begun_removal s.core OpKind.Disable node)
+begun s OpKind.Eject node = Operation.Removing (begun_removal s.core OpKind.Eject node)
+begun s OpKind.Surprise node = Operation.Surprising (begun_surprise s.core node)
+begun s OpKind.Change node = Operation.Rebalancing (begun_change s.core node (required s node (device_born node.born s.world)))
 
 -- what is tested before it begins
 abbrev pub BeginsFor : State → OpKind → Node → Type 0
 BeginsFor s OpKind.Rebalance node = (node.state ≡ NotStarted) × (activity_at node.serial s.activities ≡ None)
 BeginsFor s OpKind.Disable node = has_same node.path s.disabled ≡ false
+BeginsFor s OpKind.Change node = (node.state ≡ Started) × (is_some (device_born node.born s.world) ≡ true)
 BeginsFor s _ node = Unit {0}
 
 pub record SameWork (o p : Operation) : Type 0 where
@@ -317,11 +327,16 @@ pub data AnswerEffect (s : State) (label : Label) (t : State) : Type 0 where
       → t.activities ≡ changed_first (is_activity k) (with_phase (completed_phase (answer_of ok) a.phase)) s.activities → t.operation ≡ s.operation → AnswerEffect s label t
   answered : IsWord label → t.core.nodes ≡ s.core.nodes → t.activities ≡ s.activities → (ok : Bool) (o : Operation) → s.operation ≡ Some o → t.operation ≡ Some (completed (answer_of ok) o) → AnswerEffect s label t
 
--- with the end of a rebalance its device has an activity again, or a device above it is not up; a surprise removal ends
--- where all have left, or at its target, which comes last
-abbrev pub Closes : State → Operation → State → Type 0
-Closes s (Operation.Rebalancing r) t =
+-- with the end of a rebalance its target has an activity again, or a device above it is not up; with that of a change
+-- nothing begins
+abbrev pub ClosesRebalance : State → Rebalance → State → Option Reqs → Type 0
+ClosesRebalance s r t None =
     ((phase : Phase) × (t.activities ≡ entered (record { serial = r.target; phase = phase }) s.activities)) ⊎ (stands_up t.core.nodes r.target ≡ false)
+ClosesRebalance s r t (Some wanted) = Unit {0}
+
+-- a surprise removal ends where all have left, or at its target, which comes last
+abbrev pub Closes : State → Operation → State → Type 0
+Closes s (Operation.Rebalancing r) t = ClosesRebalance s r t r.wanted
 Closes s (Operation.Surprising o) t =
     (o.stage ≡ SurpriseStage.Ending) ⊎ ((o.stage ≡ SurpriseStage.Settling) × (node : Node) × (first_node s.core.nodes o.todo ≡ Some node) × (node.serial ≡ o.target))
 Closes s _ t = Unit {0}
@@ -330,7 +345,7 @@ Closes s _ t = Unit {0}
 pub data OpEffect (s : State) (label : Label) (t : State) : Type 0 where
   idles : s.operation ≡ None → t.operation ≡ None → IsBeside label ⊎ Owes s label → OpEffect s label t
   begins : (kind : OpKind) (node : Node) → s.operation ≡ None → s.activities ≡ [] → node_at node.serial s.core.nodes ≡ Some node → BeginsFor s kind node
-      → record { label = label; state = t } ≡ begin s kind node (begun s.core kind node) → OpEffect s label t
+      → record { label = label; state = t } ≡ begin s kind node (begun s kind node) → OpEffect s label t
   goes : (o p : Operation) → s.operation ≡ Some o → t.operation ≡ Some p → SameWork o p
       → IsBeside label ⊎ ((kind_of o ≡ OpKind.Rebalance) × (label ≡ Label.Trouble (path_of o) Problem.NormalConflict)) → OpEffect s label t
   ends : (o : Operation) (result : OpEnd) → s.operation ≡ Some o → t.operation ≡ None → label ≡ Label.End (kind_of o) (path_of o) result → EndsBy (is_removal o) result → Closes s o t

@@ -1,5 +1,6 @@
 -- Words of operations, labels and activities that several laws share.
 use Rattle.std.specs.Prelude.{ℕ, Bool, true, false, List, [], ◌∷◌}
+use Rattle.pnp_model.specs.Rebalances as rebalances
 use Rattle.pnp_model.specs.Records.{Activity, Phase, Operation}
 use Rattle.pnp_model.specs.Records.Phase.{Due}
 use Rattle.pnp_labels.specs.Texts.{Text}
@@ -22,7 +23,7 @@ joined _ = 0
 -- Operations ---------------------------------------------------------------------------
 
 abbrev pub kind_of : Operation → OpKind
-kind_of (Operation.Rebalancing r) = OpKind.Rebalance
+kind_of (Operation.Rebalancing r) = rebalances.kind_of r.wanted
 kind_of (Operation.Removing o) = o.kind
 kind_of (Operation.Surprising o) = OpKind.Surprise
 
@@ -35,7 +36,7 @@ abbrev pub is_removal : Operation → Bool
 is_removal (Operation.Removing o) = true
 is_removal _ = false
 
--- who may hold something as long as the operation runs, though nothing else is to come of it: the device of a rebalance,
+-- who may hold something as long as the operation runs, though nothing else is to come of it: the target of a rebalance,
 -- and those that a surprise removal takes
 abbrev pub spared : Operation → List ℕ
 spared (Operation.Rebalancing r) = r.target ∷ []
