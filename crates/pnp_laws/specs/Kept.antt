@@ -2,6 +2,7 @@
 use Rattle.std.specs.Prelude.{ℕ, suc, ◌≡◌, ◌≢◌, ◌<◌, ◌≤◌, ◌==◌, Bool, true, false, List, [], ◌∷◌, Option, Some, None, if◌then◌else◌}
 use Rattle.pnp_model.specs.Tests.{has, is_started, is_no_stack, is_told}
 use Rattle.std.specs.List.{slice_get}
+use Rattle.resource_reqs.specs.Resources.{Reqs}
 use Rattle.pnp_model.specs.Trees.{leaving}
 use Rattle.pnp_model.specs.Cores.{node_at}
 use Rattle.pnp_model.specs.States.{activity_at}
@@ -149,10 +150,26 @@ IsLast k (j ∷ i ∷ ks) = (j ≢ k) × IsLast k (i ∷ ks)
 abbrev pub Waits : ℕ → List Node → Type 0
 Waits k nodes = (n : Node) × (node_at k nodes ≡ Some n) × (n.state ≡ NotStarted)
 
+-- it was started, and has not lost its drivers since
+abbrev pub is_changing : DevState → Bool
+is_changing Started = true
+is_changing StopPending = true
+is_changing Stopped = true
+is_changing _ = false
+
+-- the target of a change was up at the begin
+abbrev pub Changes : ℕ → List Node → Type 0
+Changes k nodes = (n : Node) × (node_at k nodes ≡ Some n) × (is_changing n.state ≡ true)
+
+abbrev pub TargetFits : Option Reqs → ℕ → List Node → Type 0
+TargetFits None k nodes = Waits k nodes
+TargetFits (Some wanted) k nodes = Changes k nodes
+
 abbrev pub RebalanceAsks : Rebalance → RebalanceStage → Type 0
 RebalanceAsks r (RebalanceStage.Asking w) = Apart r.todo r.agreed
 RebalanceAsks r (RebalanceStage.TakingBack w) = Apart r.todo r.agreed
 RebalanceAsks r (RebalanceStage.Stopping w) = Within r.todo r.agreed
+RebalanceAsks r RebalanceStage.Stuck = r.wanted ≡ None
 RebalanceAsks r _ = Unit {0}
 
 pub record RebalanceKeeps (r : Rebalance) (stage : RebalanceStage) (nodes : List Node) : Type 0 where
@@ -162,7 +179,7 @@ pub record RebalanceKeeps (r : Rebalance) (stage : RebalanceStage) (nodes : List
   pub no_root : has r.agreed 0 ≡ false
   pub asks : RebalanceAsks r stage
   pub each : Each (rebalance_state r stage) nodes
-  pub waits : Waits r.target nodes
+  pub waits : TargetFits r.wanted r.target nodes
 
 abbrev pub RemovalAsks : Removal → RemovalStage → Type 0
 RemovalAsks o (RemovalStage.Asking w) = Apart o.todo o.agreed × Within o.agreed o.set × Within o.todo o.set
