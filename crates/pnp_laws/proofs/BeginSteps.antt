@@ -1,6 +1,6 @@
 -- Where a step prints the begin of an operation, that operation began.
-use Rattle.std.proofs.Common.{◌≡◌, inl, inr, List, Some, None, ap, subst}
-use Rattle.pnp_model.specs.Records.{Node, Driver, State, Step, Settings}
+use Rattle.std.proofs.Common.{◌≡◌, inl, inr, List, Option, Some, None, ap, subst}
+use Rattle.pnp_model.specs.Records.{Node, Driver, Operation, Rebalance, RebalanceStage, State, Step, Settings}
 use Rattle.pnp_model.specs.Cores.{node_at}
 use Rattle.pnp_model.specs.Machine.{Steps}
 use Rattle.pnp_model.specs.Tasks.{begin}
@@ -11,16 +11,27 @@ use Rattle.pnp_labels.specs.declared.label.Label.{Label}
 use Rattle.pnp_labels.specs.declared.label.OpKind.{OpKind}
 use Rattle.pnp_laws.specs.Words.{IsBeside, IsWord, DuesFine}
 use Rattle.pnp_laws.specs.Effects.{begun}
+use Rattle.pnp_laws.specs.Kept.{IsGood, OperationFits, RebalanceAsks}
 use Rattle.pnp_laws.specs.Reached.{IsReached}
 use Rattle.pnp_laws.proofs.EffectsOf.{effect_goes}
 use Rattle.pnp_laws.proofs.Reaching.{kept}
 use Rattle.pnp_laws.proofs.EventChanges.{beside_word, happens_outside}
-use Rattle.pnp_laws.proofs.Courses.{Way, dues_effect, way_goes}
+use Rattle.pnp_laws.proofs.Reached.{reached_is_good}
+use Rattle.pnp_laws.proofs.Courses.{Fine, Way, dues_effect, way_goes}
 
 -- in no reached state an activity owes problem 12
-pub reached_dues : (settings : Settings) (rack : List Driver) (s : State) → IsReached settings rack s → DuesFine s.activities
+reached_dues : (settings : Settings) (rack : List Driver) (s : State) → IsReached settings rack s → DuesFine s.activities
 reached_dues settings rack s reached =
     kept (λ (x : State). DuesFine x.activities) settings rack (λ old entry new before dues goes. dues_effect old new (effect_goes settings old entry new goes).activities dues) tt s reached
+
+stuck_plain : (s : State) → IsGood s → (r : Rebalance) → s.operation ≡ Some (Operation.Rebalancing r) → r.stage ≡ RebalanceStage.Stuck → r.wanted ≡ None
+stuck_plain s good r runs is =
+    let keeps = subst (λ (x : Option Operation). OperationFits x s.core.nodes) runs good.fits in
+    subst (λ (x : RebalanceStage). RebalanceAsks r x) is keeps.asks
+
+-- nor does a change
+pub reached_fine : (settings : Settings) (rack : List Driver) (s : State) → IsReached settings rack s → Fine s
+reached_fine settings rack s reached = (reached_dues settings rack s reached, stuck_plain s (reached_is_good settings rack s reached))
 
 pub record Begun (s : State) (kind : OpKind) (path : Text) (t : State) : Type 0 where
   pub node : Node
@@ -40,8 +51,8 @@ begun_way s t kind path (Way.goes o p runs after work (inl beside)) = absurd bes
 begun_way s t kind path (Way.goes o p runs after work (inr (kinds, label))) = absurd (cc)
 begun_way s t kind path (Way.ends o result runs after label by) = absurd (cc)
 
-pub begins_right : (settings : Settings) (s t : State) (kind : OpKind) (path : Text) → DuesFine s.activities → Steps settings s (Label.Begin kind path) t → Begun s kind path t
-begins_right settings s t kind path dues h = begun_way s t kind path (way_goes settings s (Did (Label.Begin kind path)) t dues h)
+pub begins_right : (settings : Settings) (s t : State) (kind : OpKind) (path : Text) → Fine s → Steps settings s (Label.Begin kind path) t → Begun s kind path t
+begins_right settings s t kind path fine h = begun_way s t kind path (way_goes settings s (Did (Label.Begin kind path)) t fine h)
 
 -- what is no word of an event was printed by a step
 pub step_did : (settings : Settings) (s : State) (entry : Entry) (t : State) → Goes settings s entry t → (IsBeside (printed entry) → ⊥) → Goes settings s (Did (printed entry)) t

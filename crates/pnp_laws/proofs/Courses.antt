@@ -1,23 +1,24 @@
 -- What a step or an event does to the operation and prints of it, where no activity owes problem 12.
-use Rattle.std.proofs.Common.{ℕ, ◌≡◌, ◌⊎◌, inl, inr, List, [], ◌∷◌, Option, Some, None, refl, sym, ◌∙◌, subst}
+use Rattle.std.proofs.Common.{ℕ, ◌≡◌, ◌⊎◌, inl, inr, List, [], ◌∷◌, Option, Some, None, refl, sym, ap, ◌∙◌, subst}
 use Rattle.pnp_labels.specs.declared.states.Problem.{Problem}
 use Rattle.pnp_labels.specs.declared.label.Label.{Label}
 use Rattle.pnp_labels.specs.declared.label.OpKind.{OpKind}
 use Rattle.pnp_labels.specs.declared.label.OpEnd.{OpEnd}
 use Rattle.pnp_model.specs.Cores.{node_at}
 use Rattle.pnp_model.specs.Machine.{is_ready}
-use Rattle.pnp_model.specs.Records.{Node, Operation, Phase, Settings, State, Step}
+use Rattle.pnp_model.specs.Records.{Node, Operation, Phase, Rebalance, RebalanceStage, Settings, State, Step}
 use Rattle.pnp_model.specs.Runs.{Entry, Goes, printed}
 use Rattle.pnp_model.specs.Runs.Entry.{Happens, Did}
 use Rattle.pnp_model.specs.Starts.{adding}
 use Rattle.pnp_model.specs.Tasks.{begin}
-use Rattle.pnp_laws.specs.Effects.{ActivityEffect, AnswerEffect, Enters, OpEffect, PhaseStep, SameWork, begun}
+use Rattle.pnp_laws.specs.Effects.{ActivityEffect, AnswerEffect, Conflicts, Enters, OpEffect, PhaseStep, SameWork, begun}
 use Rattle.pnp_laws.specs.Words.{IsBeside, DueFine, DuesFine, EndsBy, is_removal, kind_of, path_of}
 use Rattle.pnp_laws.proofs.Phases.{phase_found, phases_after}
 use Rattle.pnp_laws.proofs.EffectsOf.{effect_goes}
 use Rattle.pnp_laws.proofs.EffectsOfOperations.{completed_work}
 use Rattle.pnp_laws.proofs.EventChanges.{answered_fine, beside_word}
 use Rattle.pnp_model.specs.Events as ev
+use Rattle.pnp_model.specs.Rebalances as re
 
 -- no operation runs; or one begins, goes on, or ends
 pub data Way (s : State) (step : Step) : Type 0 where
@@ -27,27 +28,37 @@ pub data Way (s : State) (step : Step) : Type 0 where
       IsBeside step.label ⊎ ((kind_of o ≡ OpKind.Rebalance) × (step.label ≡ Label.Trouble (path_of o) Problem.NormalConflict)) → Way s step
   ends : (o : Operation) (result : OpEnd) → s.operation ≡ Some o → step.state.operation ≡ None → step.label ≡ Label.End (kind_of o) (path_of o) result → EndsBy (is_removal o) result → Way s step
 
-way_step : (s : State) (label : Label) (t : State) → DuesFine s.activities → OpEffect s label t → Way s (record { label = label; state = t })
-way_step s label t dues (OpEffect.idles none now (inl beside)) = Way.idles none now beside
-way_step s label t dues (OpEffect.idles none now (inr owes)) =
-    let fine = subst (λ (x : Phase). DueFine x) owes.is (phase_found DueFine is_ready s.activities owes.activity owes.ready dues) in
-    Way.idles none now (subst (λ (x : Label). IsBeside x) (sym owes.prints) fine)
-way_step s label t dues (OpEffect.begins kind node none alone at fits is) = Way.begins kind node none at is
-way_step s label t dues (OpEffect.goes o p runs now work prints) = Way.goes o p runs now work prints
-way_step s label t dues (OpEffect.ends o result runs now prints by over) = Way.ends o result runs now prints by
+-- no activity owes problem 12, and a change that found nothing owes no problem
+abbrev pub Fine : State → Type 0
+Fine s = DuesFine s.activities × ((r : Rebalance) → s.operation ≡ Some (Operation.Rebalancing r) → r.stage ≡ RebalanceStage.Stuck → r.wanted ≡ None)
+
+way_on : (s : State) (label : Label) (t : State) (o p : Operation) → Fine s → s.operation ≡ Some o → t.operation ≡ Some p → SameWork o p → IsBeside label ⊎ Conflicts o label → Way s (record { label = label; state = t })
+way_on s label t o p fine runs now work (inl beside) = Way.goes o p runs now work (inl beside)
+way_on s label t (Operation.Rebalancing r) p fine runs now work (inr conflicts) = Way.goes (Operation.Rebalancing r) p runs now work (inr (ap re.kind_of (fine.1 r runs conflicts.0), conflicts.1))
+way_on s label t (Operation.Removing o) p fine runs now work (inr conflicts) = absurd conflicts
+way_on s label t (Operation.Surprising o) p fine runs now work (inr conflicts) = absurd conflicts
+
+way_step : (s : State) (label : Label) (t : State) → Fine s → OpEffect s label t → Way s (record { label = label; state = t })
+way_step s label t fine (OpEffect.idles none now (inl beside)) = Way.idles none now beside
+way_step s label t fine (OpEffect.idles none now (inr owes)) =
+    let due = subst (λ (x : Phase). DueFine x) owes.is (phase_found DueFine is_ready s.activities owes.activity owes.ready fine.0) in
+    Way.idles none now (subst (λ (x : Label). IsBeside x) (sym owes.prints) due)
+way_step s label t fine (OpEffect.begins kind node none alone at fits is) = Way.begins kind node none at is
+way_step s label t fine (OpEffect.goes o p runs now work prints) = way_on s label t o p fine runs now work prints
+way_step s label t fine (OpEffect.ends o result runs now prints by over) = Way.ends o result runs now prints by
 
 way_still : (s : State) (label : Label) (t : State) (o : Option Operation) → s.operation ≡ o → t.operation ≡ s.operation → IsBeside label → Way s (record { label = label; state = t })
 way_still s label t None e now beside = Way.idles e (now ∙ e) beside
-way_still s label t (Some o) e now beside = Way.goes o o e (now ∙ e) (record { sort = refl; kind = refl; path = refl; spared = refl; own = λ own. own }) (inl beside)
+way_still s label t (Some o) e now beside = Way.goes o o e (now ∙ e) (record { sort = refl; kind = refl; path = refl; spared = refl; wanted = refl; own = λ own. own }) (inl beside)
 
 way_event : (s : State) (label : Label) (t : State) → AnswerEffect s label t → Way s (record { label = label; state = t })
 way_event s label t (AnswerEffect.stays word nodes acts now) = way_still s label t s.operation refl now (beside_word label word)
 way_event s label t (AnswerEffect.answers word nodes k a ok at acts now) = way_still s label t s.operation refl now (beside_word label word)
 way_event s label t (AnswerEffect.answered word nodes acts ok o runs now) = Way.goes o (ev.completed (ev.answer_of ok) o) runs now (completed_work (ev.answer_of ok) o) (inl (beside_word label word))
 
-pub way_goes : (settings : Settings) (s : State) (entry : Entry) (t : State) → DuesFine s.activities → Goes settings s entry t → Way s (record { label = printed entry; state = t })
-way_goes settings s (Happens event label) t dues h = way_event s label t (effect_goes settings s (Happens event label) t h).operation
-way_goes settings s (Did label) t dues h = way_step s label t dues (effect_goes settings s (Did label) t h).operation
+pub way_goes : (settings : Settings) (s : State) (entry : Entry) (t : State) → Fine s → Goes settings s entry t → Way s (record { label = printed entry; state = t })
+way_goes settings s (Happens event label) t fine h = way_event s label t (effect_goes settings s (Happens event label) t h).operation
+way_goes settings s (Did label) t fine h = way_step s label t fine (effect_goes settings s (Did label) t h).operation
 
 -- No activity owes problem 12 ------------------------------------------------------------
 
@@ -57,8 +68,8 @@ adding_fine (d ∷ ds) = tt
 
 entered_fine : (s : State) (k : ℕ) (t : State) (phase : Phase) → Enters s k t phase → DueFine phase
 entered_fine s k t phase (Enters.installs drivers chosen drops clears) = adding_fine drivers
-entered_fine s k t phase (Enters.restarts r plan runs is target found nodes) = tt
-entered_fine s k t phase (Enters.undoes r runs target) = tt
+entered_fine s k t phase (Enters.restarts r plan runs plain is target found nodes) = tt
+entered_fine s k t phase (Enters.undoes r runs plain target) = tt
 
 stepped_fine : (s : State) (k : ℕ) (t : State) (old new : Phase) → DueFine old → PhaseStep s k t old new → DueFine new
 stepped_fine s k t old new fine (PhaseStep.added d ds acts) = adding_fine ds

@@ -177,8 +177,8 @@ pub data StartOrigin (s t : State) (k : ℕ) : Option Activity → Type 0 where
 module _ (s t : State) (good : IsGood s) (k : ℕ) where
   free : (phase : Phase) → Enters s k t phase → activity_at k s.activities ≡ None
   free phase (Enters.installs drivers chosen drops clears) = chosen.free
-  free phase (Enters.restarts r plan runs is target found nodes) = ap (activity_at k) (alone s (Operation.Rebalancing r) good runs)
-  free phase (Enters.undoes r runs target) = ap (activity_at k) (alone s (Operation.Rebalancing r) good runs)
+  free phase (Enters.restarts r plan runs plain is target found nodes) = ap (activity_at k) (alone s (Operation.Rebalancing r) good runs)
+  free phase (Enters.undoes r runs plain target) = ap (activity_at k) (alone s (Operation.Rebalancing r) good runs)
 
   kept_as : (o p : Option Activity) → p ≡ o → StartOrigin s t k o → StartOrigin s t k p
   kept_as o p e h = subst (StartOrigin s t k) (sym e) h

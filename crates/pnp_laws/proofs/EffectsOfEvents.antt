@@ -16,12 +16,13 @@ use Rattle.pnp_model.specs.Books.{is_named, is_unnamed}
 use Rattle.pnp_model.specs.Frames.{held_by}
 use Rattle.pnp_model.specs.Records.{Activity, Core, Device, Driver, Duty, Node, Operation, State, Step, Task}
 use Rattle.pnp_model.specs.Runs.Entry.{Happens}
-use Rattle.pnp_model.specs.States.{activity_at, device_of, enable_path, has_below, list_node, node_born, node_of, plug, unplug}
+use Rattle.pnp_model.specs.States.{activity_at, device_of, enable_path, has_below, is_in_world, list_node, node_born, node_of, plug, unplug}
 use Rattle.pnp_model.specs.Tests.{has, is_started}
 use Rattle.pnp_model.specs.Windows.{is_window_on}
 use Rattle.pnp_model.specs.Trees.{dependents}
 use Rattle.pnp_laws.specs.Words.{IsWord, joined}
 use Rattle.pnp_laws.specs.Effects.{ActivityEffect, AnswerEffect, DriverEffect, Effect, JoinEffect, NodeEffect, PathEffect, PhaseStep, RangeEffect, Related, CommandEffect, WindowEffect, Windowed, WorldEffect}
+use Rattle.pnp_laws.proofs.OpSteps.{is_Started}
 use Rattle.pnp_laws.proofs.EffectsOfStarts.{lasting, quiet_label, same_paths, same_windows}
 use Rattle.pnp_laws.proofs.Truths.{and_both, or_neither}
 use Rattle.device_ids.specs.Folding as folding
@@ -69,6 +70,7 @@ module _ (s : State) (event : Event) where
       by_world : WorldEffect s (Happens event (Label.Did word what)) u → WorldEffect s (Happens event (Label.Did word what)) (list_node (Some n) u)
       by_world (WorldEffect.same a b) = WorldEffect.same a b
       by_world (WorldEffect.plugged d plugs a b) = WorldEffect.plugged d plugs a b
+      by_world (WorldEffect.changed n path reqs label at up is there e a b) = WorldEffect.changed n path reqs label at up is there e a b
       by_world (WorldEffect.unplugged born unplugs a b) = WorldEffect.unplugged born unplugs a b
 
   pull_device : (d : Device) (path : Text) (b : Bool) → device_of path s.world ≡ Some d → (d.born == 0) ≡ b → Happened s event (ev.pull_device s d b)
@@ -211,6 +213,26 @@ module _ (s : State) (event : Event) where
   window_at path res None e is = nothing _ _
   window_at path res (Some d) e is = window_device path res d e is _ refl
 
+  -- a device requires something else
+  module _ (path : Text) (reqs : Reqs) (node : Node) (at : node_of path s.core.nodes ≡ Some node) (is : event ≡ Event.Change path reqs) where
+    change_up : (b : Bool) → is_in_world s.world node.born ≡ true → (node.serial == 0) ≡ false → is_started node.state ≡ b → Happened s event (ev.change_up s reqs node b)
+    change_up false there below e = nothing _ _
+    change_up true there below e =
+        outside _ _ tt refl refl refl refl refl (NodeEffect.same refl refl) (DriverEffect.same tt refl) (RangeEffect.same refl) (CommandEffect.begins OpKind.Change node path at below refl)
+        (WorldEffect.changed node path reqs (Label.Did EventWord.Change node.path) at below (is_Started node.state e) there (ap (λ (x : Event). Happens x (Label.Did EventWord.Change node.path)) is) refl refl) (PathEffect.same refl) (WindowEffect.same refl)
+
+    change_below : (b : Bool) → is_in_world s.world node.born ≡ true → (node.serial == 0) ≡ b → Happened s event (ev.change_below s reqs node b)
+    change_below true there e = nothing _ _
+    change_below false there e = change_up _ there e refl
+
+    change_there : (b : Bool) → is_in_world s.world node.born ≡ b → Happened s event (ev.change_there s reqs node b)
+    change_there false e = nothing _ _
+    change_there true e = change_below _ e refl
+
+  change_at : (path : Text) (reqs : Reqs) (o : Option Node) → node_of path s.core.nodes ≡ o → event ≡ Event.Change path reqs → Happened s event (ev.change_at s reqs o)
+  change_at path reqs None e is = nothing _ _
+  change_at path reqs (Some node) e is = change_there path reqs node e is _ refl
+
   complete_activity : (node : Node) (minor : Minor) (ok : Bool) (a : Activity) (b : Bool) → activity_at node.serial s.activities ≡ Some a → Happened s event (ev.complete_activity s node minor ok a b)
   complete_activity node minor ok a false at = nothing _ _
   complete_activity node minor ok a true at =
@@ -286,3 +308,4 @@ event_effect s (Event.Relate kind owner member) = relate_at s (Event.Relate kind
 event_effect s (Event.Reserve res) = reserve_idle s (Event.Reserve res) res s.operation refl
 event_effect s (Event.Complete path minor ok) = complete_at s (Event.Complete path minor ok) minor ok (node_of path s.core.nodes)
 event_effect s (Event.Window path res) = window_at s (Event.Window path res) path res (device_of path s.world) refl refl
+event_effect s (Event.Change path reqs) = change_at s (Event.Change path reqs) path reqs (node_of path s.core.nodes) refl refl

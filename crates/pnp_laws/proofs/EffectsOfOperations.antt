@@ -1,7 +1,7 @@
 -- What a step of an operation does.
 use Rattle.std.proofs.lemmas.Bool.Decides.{nat_tests}
-use Rattle.std.proofs.Common.{ℕ, ◌≡◌, ◌≢◌, ◌⊎◌, inl, inr, Bool, true, false, List, [], ◌∷◌, ◌++◌, length, reverse, Some, None, refl, ap, ◌∙◌, arith, ◌==◌, sym, subst}
-use Rattle.resource_reqs.specs.Resources.{Res}
+use Rattle.std.proofs.Common.{ℕ, ◌≡◌, ◌≢◌, ◌⊎◌, inl, inr, Bool, true, false, List, [], ◌∷◌, ◌++◌, length, reverse, Option, Some, None, refl, ap, ◌∙◌, arith, ◌==◌, sym, subst}
+use Rattle.resource_reqs.specs.Resources.{Res, Reqs}
 use Rattle.resource_reqs.specs.Spelling.Answer.{assignment, no_fit, spent}
 use Rattle.pnp_labels.specs.Texts.{Text}
 use Rattle.pnp_labels.specs.declared.states.Problem.{Problem}
@@ -15,11 +15,11 @@ use Rattle.pnp_model.specs.Frames.{ended, first_node, rest}
 use Rattle.pnp_model.specs.Keyed.{changed_first, those, without_first}
 use Rattle.pnp_model.specs.Records.{Core, Duty, Found, Node, Operation, Phase, Rebalance, RebalanceStage, Removal, RemovalStage, State, Step, Surprise, SurpriseStage, Task, Walk}
 use Rattle.pnp_model.specs.Runs.Entry.{Did}
-use Rattle.pnp_model.specs.States.{relist, set_operation, unplug, with_core}
+use Rattle.pnp_model.specs.States.{begin_activity, device_born, relist, set_operation, unplug, with_core}
 use Rattle.pnp_model.specs.Trees.{is_up, leaving, stands_up}
 use Rattle.pnp_model.specs.Walks.{has_ended, state_after, walk_of}
 use Rattle.pnp_laws.specs.Words.{IsBeside, NoVeto, EndsBy, is_removal, joined, kind_of, path_of, spared}
-use Rattle.pnp_laws.specs.Effects.{ActivityEffect, Alters, DriverEffect, Effect, Enters, IsUnasked, JoinEffect, NodeEffect, OpEffect, Origin, PathEffect, RangeEffect, Request, TaskEffect, WindowEffect, WorldEffect, to_leave, todo_of, begun, ends_bad, operation_minor, rebalance_minor, removal_minor, surprise_minor, Closes, IsOwn, OperationOwn, SameWork, removal_leaves, surprise_leaves}
+use Rattle.pnp_laws.specs.Effects.{ActivityEffect, Alters, DriverEffect, Effect, Enters, IsUnasked, JoinEffect, NodeEffect, OpEffect, Origin, PathEffect, RangeEffect, Request, TaskEffect, WindowEffect, WorldEffect, to_leave, todo_of, begun, required, ends_bad, operation_minor, rebalance_minor, removal_minor, surprise_minor, Closes, ClosesRebalance, Conflicts, IsOwn, OperationOwn, SameWork, removal_leaves, surprise_leaves}
 use Rattle.pnp_laws.proofs.EffectsOfStarts.{Changes, Steps, asks, inside, lasting, quiet_label, same_paths, same_windows, still, strips, walks}
 use Rattle.pnp_laws.proofs.Finishing.{Listed, relist_only}
 use Rattle.pnp_laws.proofs.Lists.{head_found}
@@ -32,57 +32,65 @@ use Rattle.pnp_model.specs.Surprises as su
 
 -- Kind and path stay ------------------------------------------------------------------
 
--- the same device, by the same path, and a walk of its own request
+-- the same device, by the same path, a walk of its own request, and the same that is wanted
 abbrev pub SameFrame : Rebalance → Rebalance → Type 0
-SameFrame r p = (p.path ≡ r.path) × (p.target ≡ r.target) × OperationOwn (Operation.Rebalancing p)
+SameFrame r p = (p.path ≡ r.path) × (p.target ≡ r.target) × OperationOwn (Operation.Rebalancing p) × (p.wanted ≡ r.wanted)
 
 -- and the same devices refused
 abbrev pub SameRefused : Rebalance → Rebalance → Type 0
 SameRefused r p = SameFrame r p × (p.refused ≡ r.refused)
 
-pub re_ask_on : (r : Rebalance) (ks : List ℕ) → SameRefused r (re.ask_on r ks)
-re_ask_on r [] = ((refl, refl, refl), refl)
-re_ask_on r (k ∷ ks) = ((refl, refl, refl), refl)
+re_cancelled : (r : Rebalance) (wanted : Option Reqs) → SameRefused r (record r { todo = []; stage = re.cancelled wanted })
+re_cancelled r None = ((refl, refl, refl, refl), refl)
+re_cancelled r (Some wanted) = ((refl, refl, refl, refl), refl)
 
 pub re_cancel_on : (r : Rebalance) (ks : List ℕ) → SameRefused r (re.cancel_on r ks)
-re_cancel_on r [] = ((refl, refl, refl), refl)
-re_cancel_on r (k ∷ ks) = ((refl, refl, refl), refl)
+re_cancel_on r [] = re_cancelled r r.wanted
+re_cancel_on r (k ∷ ks) = ((refl, refl, refl, refl), refl)
+
+re_search_on : (r : Rebalance) (refused : Bool) → SameRefused r (re.search_on r refused)
+re_search_on r false = ((refl, refl, refl, refl), refl)
+re_search_on r true = re_cancel_on r r.agreed
+
+pub re_ask_on : (r : Rebalance) (ks : List ℕ) → SameRefused r (re.ask_on r ks)
+re_ask_on r [] = re_search_on r (re.has_refused r)
+re_ask_on r (k ∷ ks) = ((refl, refl, refl, refl), refl)
 
 pub re_stop_on : (r : Rebalance) (ks : List ℕ) → SameRefused r (re.stop_on r ks)
-re_stop_on r [] = ((refl, refl, refl), refl)
-re_stop_on r (k ∷ ks) = ((refl, refl, refl), refl)
+re_stop_on r [] = ((refl, refl, refl, refl), refl)
+re_stop_on r (k ∷ ks) = ((refl, refl, refl, refl), refl)
 
 pub re_restart : (r : Rebalance) (ks : List ℕ) → SameRefused r (re.restart_from r ks)
-re_restart r [] = ((refl, refl, refl), refl)
-re_restart r (k ∷ ks) = ((refl, refl, refl), refl)
+re_restart r [] = ((refl, refl, refl, refl), refl)
+re_restart r (k ∷ ks) = ((refl, refl, refl, refl), refl)
 
 rm_finish_with : (o : Removal) (todo stack : List ℕ) → SameWork (Operation.Removing o) (Operation.Removing (rm.finish_with o todo stack))
-rm_finish_with o todo [] = record { sort = refl; kind = refl; path = refl; spared = refl; own = λ own. refl }
-rm_finish_with o todo (d ∷ ds) = record { sort = refl; kind = refl; path = refl; spared = refl; own = λ own. refl }
+rm_finish_with o todo [] = record { sort = refl; kind = refl; path = refl; spared = refl; wanted = refl; own = λ own. refl }
+rm_finish_with o todo (d ∷ ds) = record { sort = refl; kind = refl; path = refl; spared = refl; wanted = refl; own = λ own. refl }
 
 rm_finish_on : (nodes : List Node) (o : Removal) (ks : List ℕ) → SameWork (Operation.Removing o) (Operation.Removing (rm.finish_on nodes o ks))
-rm_finish_on nodes o [] = record { sort = refl; kind = refl; path = refl; spared = refl; own = λ own. refl }
+rm_finish_on nodes o [] = record { sort = refl; kind = refl; path = refl; spared = refl; wanted = refl; own = λ own. refl }
 rm_finish_on nodes o (k ∷ ks) = rm_finish_with o (k ∷ ks) (stack_of (node_at k nodes))
 
 rm_ask_on : (nodes : List Node) (o : Removal) (ks : List ℕ) → SameWork (Operation.Removing o) (Operation.Removing (rm.ask_on nodes o ks))
 rm_ask_on nodes o [] = rm_finish_on nodes o o.set
-rm_ask_on nodes o (k ∷ ks) = record { sort = refl; kind = refl; path = refl; spared = refl; own = λ own. refl }
+rm_ask_on nodes o (k ∷ ks) = record { sort = refl; kind = refl; path = refl; spared = refl; wanted = refl; own = λ own. refl }
 
 rm_cancel_on : (o : Removal) (ks : List ℕ) → SameWork (Operation.Removing o) (Operation.Removing (rm.cancel_on o ks))
-rm_cancel_on o [] = record { sort = refl; kind = refl; path = refl; spared = refl; own = λ own. refl }
-rm_cancel_on o (k ∷ ks) = record { sort = refl; kind = refl; path = refl; spared = refl; own = λ own. refl }
+rm_cancel_on o [] = record { sort = refl; kind = refl; path = refl; spared = refl; wanted = refl; own = λ own. refl }
+rm_cancel_on o (k ∷ ks) = record { sort = refl; kind = refl; path = refl; spared = refl; wanted = refl; own = λ own. refl }
 
 su_finish_with : (o : Surprise) (todo stack : List ℕ) → SameWork (Operation.Surprising o) (Operation.Surprising (su.finish_with o todo stack))
-su_finish_with o todo [] = record { sort = refl; kind = refl; path = refl; spared = refl; own = λ own. refl }
-su_finish_with o todo (d ∷ ds) = record { sort = refl; kind = refl; path = refl; spared = refl; own = λ own. refl }
+su_finish_with o todo [] = record { sort = refl; kind = refl; path = refl; spared = refl; wanted = refl; own = λ own. refl }
+su_finish_with o todo (d ∷ ds) = record { sort = refl; kind = refl; path = refl; spared = refl; wanted = refl; own = λ own. refl }
 
 su_finish_on : (nodes : List Node) (o : Surprise) (ks : List ℕ) → SameWork (Operation.Surprising o) (Operation.Surprising (su.finish_on nodes o ks))
-su_finish_on nodes o [] = record { sort = refl; kind = refl; path = refl; spared = refl; own = λ own. refl }
+su_finish_on nodes o [] = record { sort = refl; kind = refl; path = refl; spared = refl; wanted = refl; own = λ own. refl }
 su_finish_on nodes o (k ∷ ks) = su_finish_with o (k ∷ ks) (stack_of (node_at k nodes))
 
 su_tell_on : (nodes : List Node) (o : Surprise) (ks : List ℕ) → SameWork (Operation.Surprising o) (Operation.Surprising (su.tell_on nodes o ks))
 su_tell_on nodes o [] = su_finish_on nodes o o.set
-su_tell_on nodes o (k ∷ ks) = record { sort = refl; kind = refl; path = refl; spared = refl; own = λ own. refl }
+su_tell_on nodes o (k ∷ ks) = record { sort = refl; kind = refl; path = refl; spared = refl; wanted = refl; own = λ own. refl }
 
 abbrev BegunFor : OpKind → Node → Operation → Type 0
 BegunFor kind node o = (kind_of o ≡ kind) × (path_of o ≡ node.path) × OperationOwn o
@@ -93,6 +101,11 @@ removal_work c kind node set =
     let work = rm_ask_on c.nodes o (those (λ k. is_up (node_at k c.nodes)) set) in
     (work.kind, work.path, work.own refl)
 
+rebalance_work : (c : Core) (node : Node) (wanted : Option Reqs) → BegunFor (re.kind_of wanted) node (Operation.Rebalancing (re.begun_with c node wanted))
+rebalance_work c node wanted =
+    let frame = (re_ask_on (record { target = node.serial; path = node.path; wanted = wanted; todo = []; agreed = []; refused = []; found = no_fit; stage = RebalanceStage.Searching }) (reverse (serials_of (those re.is_asked c.nodes)))).0 in
+    (ap re.kind_of frame.3, frame.0, frame.2)
+
 abbrev surprise_begins : Core → Node → Surprise
 surprise_begins c node = record { target = node.serial; path = node.path; set = leaving c node.serial; todo = []; stage = SurpriseStage.Ending }
 
@@ -100,13 +113,12 @@ surprise_work : (c : Core) (node : Node) → SameWork (Operation.Surprising (sur
 surprise_work c node = su_tell_on c.nodes (surprise_begins c node) (those (λ k. su.is_told_node (node_at k c.nodes)) (leaving c node.serial))
 
 -- The operation that begins is of its kind, for its device, and asks the request of its stage
-pub begun_work : (c : Core) (kind : OpKind) (node : Node) → BegunFor kind node (begun c kind node)
-begun_work c OpKind.Rebalance node =
-    let frame = (re_ask_on (record { target = node.serial; path = node.path; todo = []; agreed = []; refused = []; found = no_fit; stage = RebalanceStage.Searching }) (reverse (serials_of (those re.is_asked c.nodes)))).0 in
-    (refl, frame.0, frame.2)
-begun_work c OpKind.Disable node = removal_work c OpKind.Disable node (leaving c node.serial)
-begun_work c OpKind.Eject node = removal_work c OpKind.Eject node (leaving c node.serial)
-begun_work c OpKind.Surprise node = let work = surprise_work c node in (refl, work.path, work.own refl)
+pub begun_work : (s : State) (kind : OpKind) (node : Node) → BegunFor kind node (begun s kind node)
+begun_work s OpKind.Rebalance node = rebalance_work s.core node None
+begun_work s OpKind.Disable node = removal_work s.core OpKind.Disable node (leaving s.core node.serial)
+begun_work s OpKind.Eject node = removal_work s.core OpKind.Eject node (leaving s.core node.serial)
+begun_work s OpKind.Surprise node = let work = surprise_work s.core node in (refl, work.path, work.own refl)
+begun_work s OpKind.Change node = rebalance_work s.core node (Some (required s node (device_born node.born s.world)))
 
 -- A surprise removal begins for the device with all that depends on it
 pub begun_spared : (c : Core) (node : Node) → spared (Operation.Surprising (su.begun_surprise c node)) ≡ leaving c node.serial
@@ -151,6 +163,7 @@ module _ (s u : State) (o p : Operation) (runs : s.operation ≡ Some o) (node :
   by_world : (t : State) → t.world ≡ u.world → t.next_born ≡ u.next_born → WorldEffect s (Did label) u → WorldEffect s (Did label) t
   by_world t a b (WorldEffect.same c d) = WorldEffect.same (a ∙ c) (b ∙ d)
   by_world t a b (WorldEffect.plugged d plug c e) = WorldEffect.plugged d plug (a ∙ c) (b ∙ e)
+  by_world t a b (WorldEffect.changed n path reqs label at up is there event c d) = WorldEffect.changed n path reqs label at up is there event (a ∙ c) (b ∙ d)
   by_world t a b (WorldEffect.unplugged born unplug c d) = WorldEffect.unplugged born unplug (a ∙ c) (b ∙ d)
 
   listed : (t : State) → Listed u.tasks t.tasks → TaskEffect s t
@@ -197,9 +210,9 @@ surprise_completed answer (SurpriseStage.Removing w) own = answered_own w answer
 surprise_completed answer _ own = refl
 
 pub completed_work : (answer : Answer) (o : Operation) → SameWork o (ev.completed answer o)
-completed_work answer (Operation.Rebalancing r) = record { sort = refl; kind = refl; path = refl; spared = refl; own = rebalance_completed answer r.stage }
-completed_work answer (Operation.Removing o) = record { sort = refl; kind = refl; path = refl; spared = refl; own = removal_completed answer o.stage }
-completed_work answer (Operation.Surprising o) = record { sort = refl; kind = refl; path = refl; spared = refl; own = surprise_completed answer o.stage }
+completed_work answer (Operation.Rebalancing r) = record { sort = refl; kind = refl; path = refl; spared = refl; wanted = refl; own = rebalance_completed answer r.stage }
+completed_work answer (Operation.Removing o) = record { sort = refl; kind = refl; path = refl; spared = refl; wanted = refl; own = removal_completed answer o.stage }
+completed_work answer (Operation.Surprising o) = record { sort = refl; kind = refl; path = refl; spared = refl; wanted = refl; own = surprise_completed answer o.stage }
 
 -- Rebalance -----------------------------------------------------------------------------
 
@@ -207,37 +220,49 @@ module _ (s : State) (r : Rebalance) (runs : s.operation ≡ Some (Operation.Reb
   re_on : (label : Label) (c : Core) (p : Rebalance) → c.reserved ≡ s.core.reserved → SameFrame r p → IsBeside label → joined label ≡ 0 → Changes s label (ma.after_rebalance p re.RebalanceBeside.On (with_core c s))
       → Steps s (ma.rebalance_lifted s (record { label = label; core = c; frame = p; beside = re.RebalanceBeside.On }))
   re_on label c p ranges frame beside quiet nodes =
-      on s (Operation.Rebalancing r) runs label _ (Operation.Rebalancing p) refl refl refl ranges refl refl refl (record { sort = refl; kind = refl; path = frame.0; spared = ap (λ (k : ℕ). k ∷ []) frame.1; own = λ own. frame.2 }) beside quiet nodes (TaskEffect.same refl)
+      on s (Operation.Rebalancing r) runs label _ (Operation.Rebalancing p) refl refl refl ranges refl refl refl (record { sort = refl; kind = ap re.kind_of frame.3; path = frame.0; spared = ap (λ (k : ℕ). k ∷ []) frame.1; wanted = frame.3; own = λ own. frame.2 }) beside quiet nodes (TaskEffect.same refl)
 
   re_searches : (found : Found) → Steps s (ma.rebalance_lifted s (re.searched s.core r found))
   re_searches (assignment plan) = re_on _ _ _ refl (re_stop_on (record r { found = assignment plan }) (reverse r.agreed)).0 tt refl (still s _ _ tt refl (NodeEffect.same refl refl))
   re_searches no_fit = re_on _ _ _ refl (re_cancel_on (record r { found = no_fit }) r.agreed).0 tt refl (still s _ _ tt refl (NodeEffect.same refl refl))
   re_searches spent = re_on _ _ _ refl (re_cancel_on (record r { found = spent }) r.agreed).0 tt refl (still s _ _ tt refl (NodeEffect.same refl refl))
 
-  -- problem 12 is printed for the device of a rebalance, or its budget is spent
-  stuck_label : (found : Found) → IsBeside (Label.Trouble r.path (re.trouble_of found)) ⊎ ((OpKind.Rebalance ≡ OpKind.Rebalance) × (Label.Trouble r.path (re.trouble_of found) ≡ Label.Trouble r.path Problem.NormalConflict))
-  stuck_label (assignment plan) = inr (refl, refl)
-  stuck_label no_fit = inr (refl, refl)
-  stuck_label spent = inl tt
+  -- where nothing is found, problem 12 is printed, or that the budget is spent
+  stuck_label : r.stage ≡ RebalanceStage.Stuck → (found : Found) → IsBeside (Label.Trouble r.path (re.trouble_of found)) ⊎ Conflicts (Operation.Rebalancing r) (Label.Trouble r.path (re.trouble_of found))
+  stuck_label is (assignment plan) = inr (is, refl)
+  stuck_label is no_fit = inr (is, refl)
+  stuck_label is spent = inl tt
 
   module _ (is : r.stage ≡ RebalanceStage.Ending) where
-    closes_moved : (plan : List (List Res)) (result : OpEnd) (up : Bool) → stands_up s.core.nodes r.target ≡ up → r.found ≡ assignment plan → NoVeto result
-        → Steps s (ma.rebalance_lifted s (record { label = Label.End OpKind.Rebalance r.path result; core = s.core; frame = r; beside = re.moved_on up }))
-    closes_moved plan result true up found by =
-        closes s (Operation.Rebalancing r) runs _ _ result refl refl refl refl refl refl refl refl by tt refl (inl (_, refl)) (ActivityEffect.enters r.target (Phase.Starting (walk_of Minor.Start)) (Enters.restarts r plan runs is refl found refl) refl)
-    closes_moved plan result false down found by = closes s (Operation.Rebalancing r) runs _ _ result refl refl refl refl refl refl refl refl by tt refl (inr down) (ActivityEffect.same refl)
+    over : (t : State) (wanted : Option Reqs) → r.wanted ≡ wanted → ClosesRebalance s r t wanted → Closes s (Operation.Rebalancing r) t
+    over t wanted e h = subst (λ (x : Option Reqs). ClosesRebalance s r t x) (sym e) h
 
-    re_closes : (found : Found) (result : OpEnd) → r.found ≡ found → NoVeto result → Steps s (ma.rebalance_lifted s (record { label = Label.End OpKind.Rebalance r.path result; core = s.core; frame = r; beside = re.over s.core r found }))
-    re_closes (assignment plan) result e by = closes_moved plan result (stands_up s.core.nodes r.target) refl e by
-    re_closes no_fit result e by =
-        closes s (Operation.Rebalancing r) runs _ _ result refl refl refl refl refl refl refl refl by tt refl (inl (_, refl)) (ActivityEffect.enters r.target (Phase.Removing (walk_of Minor.Remove)) (Enters.undoes r runs refl) refl)
-    re_closes spent result e by =
-        closes s (Operation.Rebalancing r) runs _ _ result refl refl refl refl refl refl refl refl by tt refl (inl (_, refl)) (ActivityEffect.enters r.target (Phase.Removing (walk_of Minor.Remove)) (Enters.undoes r runs refl) refl)
+    -- after a change nothing begins
+    changed : (wanted : Reqs) (result : OpEnd) → r.wanted ≡ Some wanted → NoVeto result → Steps s (ma.rebalance_lifted s (record { label = Label.End (re.kind_of r.wanted) r.path result; core = s.core; frame = r; beside = re.RebalanceBeside.OverChange }))
+    changed wanted result e by = closes s (Operation.Rebalancing r) runs _ _ result refl refl refl refl refl refl refl refl by tt refl (over (set_operation None s) (Some wanted) e tt) (ActivityEffect.same refl)
 
-  found_end : (found : Found) → NoVeto (re.end_of found)
-  found_end (assignment plan) = tt
-  found_end no_fit = tt
-  found_end spent = tt
+    closes_moved : (plan : List (List Res)) (result : OpEnd) (up : Bool) → r.wanted ≡ None → stands_up s.core.nodes r.target ≡ up → r.found ≡ assignment plan → NoVeto result
+        → Steps s (ma.rebalance_lifted s (record { label = Label.End (re.kind_of r.wanted) r.path result; core = s.core; frame = r; beside = re.moved_on up }))
+    closes_moved plan result true plain up found by =
+        closes s (Operation.Rebalancing r) runs _ _ result refl refl refl refl refl refl refl refl by tt refl (over (begin_activity r.target (Phase.Starting (walk_of Minor.Start)) (set_operation None s)) None plain (inl (_, refl))) (ActivityEffect.enters r.target (Phase.Starting (walk_of Minor.Start)) (Enters.restarts r plan runs plain is refl found refl) refl)
+    closes_moved plan result false plain down found by = closes s (Operation.Rebalancing r) runs _ _ result refl refl refl refl refl refl refl refl by tt refl (over (set_operation None s) None plain (inr down)) (ActivityEffect.same refl)
+
+    re_closes : (found : Found) (wanted : Option Reqs) (result : OpEnd) → r.found ≡ found → r.wanted ≡ wanted → NoVeto result
+        → Steps s (ma.rebalance_lifted s (record { label = Label.End (re.kind_of r.wanted) r.path result; core = s.core; frame = r; beside = re.over s.core r found wanted }))
+    re_closes (assignment plan) None result e plain by = closes_moved plan result (stands_up s.core.nodes r.target) plain refl e by
+    re_closes no_fit None result e plain by =
+        closes s (Operation.Rebalancing r) runs _ _ result refl refl refl refl refl refl refl refl by tt refl (over (begin_activity r.target (Phase.Removing (walk_of Minor.Remove)) (set_operation None s)) None plain (inl (_, refl))) (ActivityEffect.enters r.target (Phase.Removing (walk_of Minor.Remove)) (Enters.undoes r runs plain refl) refl)
+    re_closes spent None result e plain by =
+        closes s (Operation.Rebalancing r) runs _ _ result refl refl refl refl refl refl refl refl by tt refl (over (begin_activity r.target (Phase.Removing (walk_of Minor.Remove)) (set_operation None s)) None plain (inl (_, refl))) (ActivityEffect.enters r.target (Phase.Removing (walk_of Minor.Remove)) (Enters.undoes r runs plain refl) refl)
+    re_closes (assignment plan) (Some wanted) result e changes by = changed wanted result changes by
+    re_closes no_fit (Some wanted) result e changes by = changed wanted result changes by
+    re_closes spent (Some wanted) result e changes by = changed wanted result changes by
+
+  found_end : (found : Found) (refused : Bool) → NoVeto (re.result found refused)
+  found_end found true = tt
+  found_end (assignment plan) false = tt
+  found_end no_fit false = tt
+  found_end spent false = tt
 
   -- the walk of a stage ends
   walked_by : (stage : RebalanceStage) (minor : Minor) (bad : Bool) (node : Node) (w : Walk) → r.stage ≡ stage → Ends s.core r.todo node w → ma.rebalance_walk stage ≡ Some w → rebalance_minor stage ≡ Some minor → minor ≢ Minor.Remove → ends_bad minor w ≡ bad
@@ -249,26 +274,26 @@ module _ (s : State) (r : Rebalance) (runs : s.operation ≡ Some (Operation.Reb
   rebalance_effect : (stage : RebalanceStage) (m : re.RebalanceMove) → r.stage ≡ stage → RebalanceStep s.core r stage m → Steps s (ma.rebalance_lifted s m)
   rebalance_effect stage m is (RebalanceStep.agrees node w e good) =
       re_on _ _ _ refl (re_ask_on (record r { agreed = node.serial ∷ r.agreed }) (rest r.todo)).0 tt refl (walked_by (RebalanceStage.Asking w) Minor.QueryStop false node w is e refl refl (λ q. cc) good _ _ refl refl refl refl)
-  rebalance_effect stage m is (RebalanceStep.refuses node w e bad) = re_on _ _ _ refl (refl, refl, refl) tt refl (walked_by (RebalanceStage.Asking w) Minor.QueryStop true node w is e refl refl (λ q. cc) bad _ _ refl refl refl refl)
+  rebalance_effect stage m is (RebalanceStep.refuses node w e bad) = re_on _ _ _ refl (refl, refl, refl, refl) tt refl (walked_by (RebalanceStage.Asking w) Minor.QueryStop true node w is e refl refl (λ q. cc) bad _ _ refl refl refl refl)
   rebalance_effect stage m is (RebalanceStep.takes_back node w e) =
       re_on _ _ _ refl (re_ask_on r (those (re.is_not_above s.core.nodes node.serial) (rest r.todo))).0 tt refl (walked_by (RebalanceStage.TakingBack w) Minor.CancelStop false node w is e refl refl (λ q. cc) refl _ _ refl refl refl refl)
   rebalance_effect stage m is (RebalanceStep.searches found budget answer) = re_searches found
   rebalance_effect stage m is (RebalanceStep.cancels node w e) = re_on _ _ _ refl (re_cancel_on r (rest r.todo)).0 tt refl (walked_by (RebalanceStage.Cancelling w) Minor.CancelStop false node w is e refl refl (λ q. cc) refl _ _ refl refl refl refl)
   rebalance_effect stage m is RebalanceStep.sticks =
       inside s _ _ refl refl refl refl refl refl (still s _ _ tt refl (NodeEffect.changed r.target _ (Alters.troubled r.target (Some (re.trouble_of r.found))) refl refl))
-      (OpEffect.goes (Operation.Rebalancing r) (Operation.Rebalancing (record r { stage = RebalanceStage.Ending })) runs refl (record { sort = refl; kind = refl; path = refl; spared = refl; own = λ own. refl }) (stuck_label r.found))
+      (OpEffect.goes (Operation.Rebalancing r) (Operation.Rebalancing (record r { stage = RebalanceStage.Ending })) runs refl (record { sort = refl; kind = refl; path = refl; spared = refl; wanted = refl; own = λ own. refl }) (stuck_label is r.found))
       (ActivityEffect.same refl) (TaskEffect.same refl)
   rebalance_effect stage m is (RebalanceStep.stops node w e) = re_on _ _ _ refl (re_stop_on r (rest r.todo)).0 tt refl (walked_by (RebalanceStage.Stopping w) Minor.Stop false node w is e refl refl (λ q. cc) refl _ _ refl refl refl refl)
   rebalance_effect stage m is RebalanceStep.commits = re_on _ _ _ refl (re_restart r (re.startable s.core.nodes r.agreed)).0 tt refl (still s _ _ tt refl (NodeEffect.commits r runs is refl refl))
   rebalance_effect stage m is (RebalanceStep.restarts node w e good) =
       re_on _ _ _ refl (re_restart r (re.startable (ended s.core node Minor.Start false).nodes (rest r.todo))).0 tt refl (walked_by (RebalanceStage.Restarting w) Minor.Start false node w is e refl refl (λ q. cc) good _ _ refl refl refl refl)
-  rebalance_effect stage m is (RebalanceStep.fails node w e bad) = re_on _ _ _ refl (refl, refl, refl) tt refl (walked_by (RebalanceStage.Restarting w) Minor.Start true node w is e refl refl (λ q. cc) bad _ _ refl refl refl refl)
+  rebalance_effect stage m is (RebalanceStep.fails node w e bad) = re_on _ _ _ refl (refl, refl, refl, refl) tt refl (walked_by (RebalanceStage.Restarting w) Minor.Start true node w is e refl refl (λ q. cc) bad _ _ refl refl refl refl)
   rebalance_effect stage m is (RebalanceStep.failed node first) =
       let p = re.restart_on s.core.nodes r (rest r.todo) in
       let frame = (re_restart r (re.startable s.core.nodes (rest r.todo))).0 in
-      on s (Operation.Rebalancing r) runs _ _ (Operation.Rebalancing p) refl refl refl refl refl refl refl (record { sort = refl; kind = refl; path = frame.0; spared = ap (λ (k : ℕ). k ∷ []) frame.1; own = λ own. frame.2 }) tt refl
+      on s (Operation.Rebalancing r) runs _ _ (Operation.Rebalancing p) refl refl refl refl refl refl refl (record { sort = refl; kind = ap re.kind_of frame.3; path = frame.0; spared = ap (λ (k : ℕ). k ∷ []) frame.1; wanted = frame.3; own = λ own. frame.2 }) tt refl
       (still s _ _ tt refl (NodeEffect.changed node.serial _ (Alters.troubled node.serial (Some Problem.FailedStart)) refl refl)) (TaskEffect.put_first node r runs is first refl)
-  rebalance_effect stage m is RebalanceStep.closes = re_closes is r.found (re.end_of r.found) refl (found_end r.found)
+  rebalance_effect stage m is RebalanceStep.closes = re_closes is r.found r.wanted (re.result r.found (re.has_refused r)) refl refl (found_end r.found (re.has_refused r))
 
 -- Removal -------------------------------------------------------------------------------
 
@@ -290,13 +315,13 @@ module _ (s : State) (o : Removal) (runs : s.operation ≡ Some (Operation.Remov
   removal_effect : (stage : RemovalStage) (m : rm.RemovalMove) → o.stage ≡ stage → RemovalStep s.core o stage m → Steps s (ma.removal_lifted s m)
   removal_effect stage m is (RemovalStep.agrees node w e good) =
       let work = rm_ask_on s.core.nodes (record o { agreed = node.serial ∷ o.agreed }) (rest o.todo) in
-      rm_on _ _ _ refl (record { sort = work.sort; kind = work.kind; path = work.path; spared = work.spared; own = work.own }) tt refl (asked_by (RemovalStage.Asking w) Minor.QueryRemove false node w is e refl refl (λ q. cc) good _ _ refl refl refl refl)
+      rm_on _ _ _ refl (record { sort = work.sort; kind = work.kind; path = work.path; spared = work.spared; wanted = work.wanted; own = work.own }) tt refl (asked_by (RemovalStage.Asking w) Minor.QueryRemove false node w is e refl refl (λ q. cc) good _ _ refl refl refl refl)
   removal_effect stage m is (RemovalStep.refuses node w e bad) =
-      rm_on _ _ _ refl (record { sort = refl; kind = refl; path = refl; spared = refl; own = λ own. refl }) tt refl (asked_by (RemovalStage.Asking w) Minor.QueryRemove true node w is e refl refl (λ q. cc) bad _ _ refl refl refl refl)
+      rm_on _ _ _ refl (record { sort = refl; kind = refl; path = refl; spared = refl; wanted = refl; own = λ own. refl }) tt refl (asked_by (RemovalStage.Asking w) Minor.QueryRemove true node w is e refl refl (λ q. cc) bad _ _ refl refl refl refl)
   removal_effect stage m is (RemovalStep.takes_back node w e) = rm_on _ _ _ refl (rm_cancel_on o o.agreed) tt refl (asked_by (RemovalStage.TakingBack w) Minor.CancelRemove false node w is e refl refl (λ q. cc) refl _ _ refl refl refl refl)
   removal_effect stage m is (RemovalStep.cancels node w e) = rm_on _ _ _ refl (rm_cancel_on o (rest o.todo)) tt refl (asked_by (RemovalStage.Cancelling w) Minor.CancelRemove false node w is e refl refl (λ q. cc) refl _ _ refl refl refl refl)
   removal_effect stage m is (RemovalStep.removes node w e) =
-      rm_on _ _ _ refl (record { sort = refl; kind = refl; path = refl; spared = refl; own = λ own. refl }) tt refl
+      rm_on _ _ _ refl (record { sort = refl; kind = refl; path = refl; spared = refl; wanted = refl; own = λ own. refl }) tt refl
       (stripped s (Operation.Removing o) runs node e.first w (ap ma.removal_walk is) (ap removal_minor is) e.ended _ _ refl refl refl refl)
   removal_effect stage m is (RemovalStep.leaves node first inside) =
       let m = rm.leaves s.core o node (Label.Leave node.path) (rm.RemoveBeside.Left node.path node.born) in
@@ -340,7 +365,7 @@ module _ (s : State) (o : Surprise) (runs : s.operation ≡ Some (Operation.Surp
       su_on _ _ _ refl (su_tell_on s.core.nodes o (rest o.todo)) tt refl
       (walked s (Operation.Surprising o) runs node e.first Minor.SurpriseRemoval w (ap ma.surprise_walk is) (ap surprise_minor is) false (λ q. cc) e.ended refl _ _ refl refl refl refl)
   surprise_effect in_world stage m is (SurpriseStep.removes node w e) =
-      su_on _ _ _ refl (record { sort = refl; kind = refl; path = refl; spared = refl; own = λ own. refl }) tt refl
+      su_on _ _ _ refl (record { sort = refl; kind = refl; path = refl; spared = refl; wanted = refl; own = λ own. refl }) tt refl
       (stripped s (Operation.Surprising o) runs node e.first w (ap ma.surprise_walk is) (ap surprise_minor is) e.ended _ _ refl refl refl refl)
   surprise_effect in_world stage m is (SurpriseStep.leaves node first why) =
       let m = su.leaves s.core o node in

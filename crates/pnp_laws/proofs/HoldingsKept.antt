@@ -15,7 +15,7 @@ use Rattle.pnp_model.specs.Cores.{is_node, node_at, stacked, with_holds, with_st
 use Rattle.pnp_model.specs.Frames.{fixed_beside}
 use Rattle.pnp_model.specs.Keyed.{changed_first}
 use Rattle.pnp_model.specs.Laws.{is_up_to_now, HoldsWhole}
-use Rattle.pnp_model.specs.Rebalances.{committed, movers, plan_of}
+use Rattle.pnp_model.specs.Rebalances.{committed, movers, others, plan_of}
 use Rattle.pnp_model.specs.Records.{Activity, Node, Operation, Phase, Rebalance, RebalanceStage, State, Walk}
 use Rattle.pnp_model.specs.Starts.{adding, own_part}
 use Rattle.pnp_model.specs.States.{activity_at, with_phase}
@@ -29,10 +29,10 @@ use Rattle.pnp_laws.proofs.Kept.{none_acts}
 use Rattle.pnp_laws.proofs.Asked.{operation_asks}
 use Rattle.pnp_laws.proofs.EffectViews.{Origin, StartOrigin, acting_at, acting_fits, origin, start_origin}
 use Rattle.pnp_laws.proofs.EventChanges.{starting_still}
-use Rattle.pnp_laws.proofs.Lists.{member}
+use Rattle.pnp_laws.proofs.Lists.{member, not_head, without_has}
 use Rattle.pnp_laws.proofs.Lookups.{found_self, node_from, own_serial, some_same}
-use Rattle.pnp_laws.proofs.OpSteps.{is_Stopped}
-use Rattle.pnp_laws.proofs.PlansKept.{mover_whole}
+use Rattle.pnp_laws.proofs.OpSteps.{is_Stopped, target_up}
+use Rattle.pnp_laws.proofs.PlansKept.{mover_whole, other_after}
 use Rattle.pnp_laws.proofs.Sharing.{part_not}
 use Rattle.pnp_laws.proofs.StartSteps.{search_fits, stacked_idle}
 use Rattle.pnp_model.specs.Events as ev
@@ -81,12 +81,9 @@ waiting_well n e = record { up = λ h. absurd (let z = ap is_up_to_now e in cc);
 mover_up : (r : Rebalance) (nodes : List Node) (k : ℕ) (n : Node) → RebalanceKeeps r RebalanceStage.Committing nodes → node_at k nodes ≡ Some n → has (movers r) k ≡ true → n.state ≢ NoStack
 mover_up r nodes k n keeps at h e =
     elim (cases_eq r.target k) [
-      | inl z ↦
-          let there = subst (λ (i : ℕ). node_at i nodes ≡ Some keeps.waits.0) z keeps.waits.1 in
-          let same = some_same (node_at k nodes) keeps.waits.0 n there at in
-          let state = subst (λ (x : Node). x.state ≡ NotStarted) same keeps.waits.2 in
-          cc
+      | inl z ↦ target_up r.wanted r.target nodes n keeps.waits (subst (λ (i : ℕ). node_at i nodes ≡ Some n) (sym z) at) e
       | inr d ↦
+          let more = without_has r.target k r.agreed d in
           let in_agreed : has r.agreed k ≡ true = grind (arith, nat_tests) in
           let test = keeps.each k n at in
           let state : n.state ≡ Stopped = is_Stopped n.state (grind (arith)) in
@@ -98,9 +95,13 @@ committed_well r reserved nodes k n keeps fits at well =
     elim (member (movers r) k) [
       | inl h ↦ record { up = λ e. mover_whole r reserved nodes k n fits at h; bare = λ e. absurd (mover_up r nodes k n keeps at h e) }
       | inr h ↦
-          let own = own_serial k n nodes at in
-          let same : (committed r.wanted r.target (movers r) (plan_of r.found) n).holds ≡ n.holds = part_not n.serial (movers r) (plan_of r.found) n.holds (subst (λ (i : ℕ). has (movers r) i ≡ false) (sym own) h) in
-          record { up = λ e. subst (λ (x : List Res). Whole n.reqs x) (sym same) (well.up e); bare = λ e. same ∙ well.bare e }
+          let out = subst (λ (i : ℕ). has (movers r) i ≡ false) (sym (own_serial k n nodes at)) h in
+          let same : (committed r.wanted r.target (movers r) (plan_of r.found) n).holds ≡ n.holds = part_not n.serial (movers r) (plan_of r.found) n.holds out in
+          let needs = other_after r.wanted r.target n (not_head r.target n.serial (others r) out) in
+          record {
+            up = λ e. subst (λ (x : Reqs). Whole x (committed r.wanted r.target (movers r) (plan_of r.found) n).holds) (sym needs) (subst (λ (x : List Res). Whole n.reqs x) (sym same) (well.up e));
+            bare = λ e. same ∙ well.bare e;
+          }
     ]
 
 -- A step or an event ------------------------------------------------------------------------------
@@ -174,8 +175,8 @@ module _ (s : State) (label : Label) (good : IsGood s) (planned : IsPlanned s) (
 
   entered_starts : (t : State) (k : ℕ) (phase : Phase) → Enters s k t phase → is_starting phase ≡ true → WholeAt k t.core.nodes
   entered_starts t k phase (Enters.installs drivers chosen drops clears) starts = absurd (let quiet = adding_quiet drivers in cc)
-  entered_starts t k phase (Enters.restarts r plan runs is target found nodes) starts = subst (λ (i : ℕ). WholeAt i t.core.nodes) target (restarted t r plan runs is found nodes)
-  entered_starts t k phase (Enters.undoes r runs target) starts = absurd (cc)
+  entered_starts t k phase (Enters.restarts r plan runs plain is target found nodes) starts = subst (λ (i : ℕ). WholeAt i t.core.nodes) target (restarted t r plan runs is found nodes)
+  entered_starts t k phase (Enters.undoes r runs plain target) starts = absurd (cc)
 
   fitted : (t : State) (k : ℕ) (node : Node) (plan : List (List Res)) → Assigned s node plan → node.serial ≡ k → t.core.nodes ≡ changed_first (is_node k) (with_holds (own_part plan)) s.core.nodes → WholeAt k t.core.nodes
   fitted t k node plan part own nodes m g =

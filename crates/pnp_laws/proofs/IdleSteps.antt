@@ -1,6 +1,7 @@
 -- What a step is where no operation runs, end by end: the one list that laws over tasks and starts read; with it what each step of the machine is.
-use Rattle.std.proofs.Common.{ℕ, ◌+◌, ◌≡◌, ◌==◌, Bool, true, false, not, ◌&&◌, List, [], ◌∷◌, length, nat_le, Option, Some, None, refl, sym, ◌∙◌, subst, arith}
+use Rattle.std.proofs.Common.{ℕ, ◌+◌, ◌≡◌, ◌==◌, Bool, true, false, not, ◌&&◌, List, [], ◌∷◌, length, nat_le, Option, Some, None, refl, sym, ap, ◌∙◌, subst, arith}
 use Rattle.std.specs.List.{find, slice_get}
+use Rattle.std.specs.Option.{is_some}
 use Rattle.std.proofs.lemmas.Bool.Decides.{nat_tests}
 use Rattle.resource_reqs.specs.Resources.{Res}
 use Rattle.resource_reqs.specs.Spelling.{IsAnswer}
@@ -18,11 +19,12 @@ use Rattle.pnp_model.specs.Cores.{node_at, set_problem}
 use Rattle.pnp_model.specs.Frames.{asked, core_after}
 use Rattle.pnp_model.specs.Records.{Activity, Choice, Core, Device, Duty, Found, Node, Operation, Phase, Settings, State, Step, Task, Walk, doing_map}
 use Rattle.pnp_model.specs.Records.Phase.{Adding, Searching, Starting, Removing, Due}
-use Rattle.pnp_model.specs.States.{activity_at}
+use Rattle.pnp_model.specs.Rebalances.{begun_change}
+use Rattle.pnp_model.specs.States.{activity_at, device_born}
 use Rattle.pnp_model.specs.Tests.{has_same, is_surprise_task}
 use Rattle.pnp_model.specs.Trees.{is_child}
 use Rattle.pnp_model.specs.Walks.{has_ended, is_bad}
-use Rattle.pnp_laws.specs.Effects.{Acting, BeginsFor, Chosen, IsSearch, begun}
+use Rattle.pnp_laws.specs.Effects.{Acting, BeginsFor, Chosen, IsSearch, begun, required}
 use Rattle.pnp_laws.specs.Kept.{Ascending}
 use Rattle.pnp_laws.specs.Words.{NotTwelve}
 use Rattle.pnp_laws.proofs.Lookups.{find_passes, find_those, found_self, node_found, own_serial}
@@ -163,6 +165,16 @@ module _ (s : State) where
     disables true first e = TaskStep.skips _ node.serial node.serial first refl
     disables false first e = TaskStep.begins OpKind.Disable node first alone at e
 
+    changes_born : (o : Option Device) → First s (Duty.Begins OpKind.Change) node.serial → node.state ≡ Started → device_born node.born s.world ≡ o → TaskStep s (tk.change_born s node o)
+    changes_born None first state e = TaskStep.skips _ node.serial node.serial first refl
+    changes_born (Some d) first state e =
+        subst (λ (x : Option Device). TaskStep s (tk.begin s OpKind.Change node (Operation.Rebalancing (begun_change s.core node (required s node x))))) e
+        (TaskStep.begins OpKind.Change node first alone at (state, ap is_some e))
+
+    changes : (x : DevState) → First s (Duty.Begins OpKind.Change) node.serial → node.state ≡ x → TaskStep s (tk.change_task s node x)
+    changes Started first state = changes_born (device_born node.born s.world) first state refl
+    changes _ first state = TaskStep.skips _ node.serial node.serial first refl
+
   begin_step : (kind : OpKind) (k : ℕ) (o : Option Node) → First s (Duty.Begins kind) k → s.activities ≡ [] → node_at k s.core.nodes ≡ o → TaskStep s (tk.begin_step s kind k o)
   begin_step OpKind.Surprise k None first alone e = TaskStep.misses k first e
   begin_step kind k None first alone e = TaskStep.skips (Duty.Begins kind) k k first refl
@@ -170,6 +182,7 @@ module _ (s : State) where
   begin_step OpKind.Disable k (Some node) first alone e = disables alone node (found_self k s.core.nodes node e) (has_same node.path s.disabled) (own_first _ k node e first) refl
   begin_step OpKind.Eject k (Some node) first alone e = TaskStep.begins OpKind.Eject node (own_first _ k node e first) alone (found_self k s.core.nodes node e) tt
   begin_step OpKind.Surprise k (Some node) first alone e = TaskStep.begins OpKind.Surprise node (own_first _ k node e first) alone (found_self k s.core.nodes node e) tt
+  begin_step OpKind.Change k (Some node) first alone e = changes alone node (found_self k s.core.nodes node e) node.state (own_first _ k node e first) refl
 
 -- Starts -------------------------------------------------------------------------------
 

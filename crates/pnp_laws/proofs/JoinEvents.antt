@@ -6,18 +6,33 @@ use Rattle.pnp_model.specs.Records.{Node, Device, State, Duty}
 use Rattle.pnp_model.specs.Cores.{node_at}
 use Rattle.pnp_model.specs.Runs.{Entry}
 use Rattle.pnp_model.specs.Runs.Entry.{Happens}
-use Rattle.pnp_model.specs.States.{plug}
+use Rattle.resource_reqs.specs.Resources.{Reqs}
+use Rattle.pnp_model.specs.States.{change_device, plug}
 use Rattle.pnp_labels.specs.declared.event.Event.{Event}
 use Rattle.pnp_laws.specs.Effects.{CommandEffect, WorldEffect}
 use Rattle.pnp_laws.specs.Kept.{IsGood}
 use Rattle.pnp_laws.proofs.EffectsOfEvents.{event_effect}
 use Rattle.pnp_laws.proofs.EventChanges.{happens_outside, still_serial}
 use Rattle.pnp_laws.proofs.Lookups.{node_found}
-use Rattle.pnp_laws.proofs.Joins.{In, Sub, sub_same, sub_in, sub_without, Grows, Born, HasRoom, starts, unborn}
+use Rattle.pnp_laws.proofs.Joins.{In, Sub, in_named, sub_same, sub_in, sub_without, Grows, Born, HasRoom, grows_changed, room_changed, starts, unborn}
 use Rattle.pnp_laws.proofs.JoinBirths.{grows_sub}
 use Rattle.pnp_laws.proofs.JoinRooms.{event_room}
 use Rattle.pnp_laws.proofs.JoinSteps.{in_find, starts_pushed}
 use Rattle.pnp_model.specs.Events as ev
+
+-- a device requires something else
+born_requires : (s : State) (born : ℕ) (reqs : Reqs) → Born s → Born (change_device born reqs s)
+born_requires s born reqs b =
+    record {
+      room = room_changed born reqs s.world b.room;
+      grows = grows_changed 0 born reqs s.world b.grows;
+      fresh = λ d there. let x = in_named born reqs s.world d there in subst (λ (i : ℕ). i < s.next_born) x.2 (b.fresh x.0 x.1);
+      apart = b.apart;
+      first = b.first;
+      known = b.known;
+      soon = b.soon;
+      links = λ k n p d at there in_world e. let x = in_named born reqs s.world d in_world in b.links k n p x.0 at there x.1 (x.2 ∙ e) ∙ x.3;
+    }
 
 born_calm : (s t : State) → Sub t.world s.world → t.next_born ≡ s.next_born → t.core.nodes ≡ s.core.nodes → t.next_serial ≡ s.next_serial → starts (unborn s.next_serial) t.tasks ≡ 0 → HasRoom t.world → Born s → Born t
 born_calm s t world next nodes serial soon room b =
@@ -86,6 +101,9 @@ born_world s entry t (WorldEffect.plugged d why world next) nodes serial soon ro
     let own = why.born in
     let under = why.under in
     born_calm (plug d s) t (subst (λ (w : List Device). Sub w (s.world ++ d ∷ [])) (sym world) (sub_same (s.world ++ d ∷ []))) next nodes serial soon room (born_plug s d why.born (omega arith) (subst HasRoom world room) born)
+born_world s entry t (WorldEffect.changed n path reqs prints at up is there e world next) nodes serial soon room born =
+    let mid = change_device n.born reqs s in
+    born_calm mid t (subst (λ (w : List Device). Sub w mid.world) (sym world) (sub_same mid.world)) next nodes serial soon room (born_requires s n.born reqs born)
 born_world s entry t (WorldEffect.unplugged gone why world next) nodes serial soon room born =
     born_calm s t (subst (λ (w : List Device). Sub w s.world) (sym world) (sub_without (gone ∷ []) s.world)) next nodes serial soon room born
 

@@ -8,7 +8,7 @@ use Rattle.pnp_model.specs.States.{without_those}
 use Rattle.pnp_labels.specs.declared.event.Event.{Event}
 use Rattle.pnp_labels.specs.declared.label.Label.{Label}
 use Rattle.pnp_laws.specs.Effects.{WorldEffect}
-use Rattle.pnp_laws.proofs.Joins.{Grows, Born, Flows, HasRoom}
+use Rattle.pnp_laws.proofs.Joins.{Grows, Born, Flows, HasRoom, room_changed}
 use Rattle.pnp_laws.proofs.Truths.{neither}
 
 -- Worlds -----------------------------------------------------------------------------------------------------
@@ -56,6 +56,7 @@ room_flows s t born f =
 pub event_room : (s : State) (event : Event) (label : Label) (t : State) → WorldEffect s (Happens event label) t → Born s → HasRoom t.world
 event_room s event label t (WorldEffect.same world next) born = subst HasRoom (sym world) born.room
 event_room s event label t (WorldEffect.plugged d plug world next) born = subst HasRoom (sym world) (room_plugged s.world d plug.room born.room)
+event_room s event label t (WorldEffect.changed n path reqs prints at up is there e world next) born = subst HasRoom (sym world) (room_changed n.born reqs s.world born.room)
 event_room s event label t (WorldEffect.unplugged gone (d, path, there, own, up) world next) born =
     subst HasRoom (sym world) (room_without gone s.world born.grows (λ e. not_root d.born up (own ∙ e)) born.room)
   where

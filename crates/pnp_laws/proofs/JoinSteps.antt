@@ -184,6 +184,7 @@ module _ (s : State) (label : Label) (t : State) (kept : Kept s) (knows : Knows 
   world_stays : WorldEffect s (Did label) t → Stays s t × (t.next_born ≡ s.next_born)
   world_stays (WorldEffect.same world next) = (inl world, next)
   world_stays (WorldEffect.plugged d plug world next) = absurd (let e = plug.event in cc)
+  world_stays (WorldEffect.changed n path reqs prints at up is there e world next) = absurd (cc)
   world_stays (WorldEffect.unplugged born (node, o, runs, is, first, own) world next) =
       let there = (head_found s.core.nodes o.todo node first).1 in
       (inr (node, there, not_root node o runs is first, subst (λ (b : ℕ). t.world ≡ without_those (b ∷ []) s.world) (sym own) world), next)
@@ -247,8 +248,8 @@ module _ (s : State) (label : Label) (t : State) (kept : Kept s) (knows : Knows 
   entering (ActivityEffect.ends j phase acts over e) =
       none_begins (λ k m at h. inl (active_ended j k s.activities kept.good.order (ap (λ (x : List Activity). some_there (activity_at k x)) (sym e) ∙ h)))
   entering (ActivityEffect.enters j _ (Enters.installs drivers chosen drops clears) e) = installed j _ drivers chosen drops e
-  entering (ActivityEffect.enters j _ (Enters.restarts r plan runs is target found nodes) e) = reentered j _ e (λ x fits. ap is_bare fits)
-  entering (ActivityEffect.enters j _ (Enters.undoes r runs target) e) = reentered j _ e (λ x fits. ap is_bare fits)
+  entering (ActivityEffect.enters j _ (Enters.restarts r plan runs plain is target found nodes) e) = reentered j _ e (λ x fits. ap is_bare fits)
+  entering (ActivityEffect.enters j _ (Enters.undoes r runs plain target) e) = reentered j _ e (λ x fits. ap is_bare fits)
 
   lives_on : (b : Entering s t) (k : ℕ) (n m : Node) → node_at k s.core.nodes ≡ Some n → node_at k t.core.nodes ≡ Some m → is_live t m ≡ true → (is_live s n ≡ true) ⊎ (b.start ≡ Some n)
   lives_on b k n m was at live =

@@ -3,10 +3,12 @@ use Rattle.std.proofs.Common.{ℕ, suc, ◌+◌, ◌<◌, ◌≤◌, ◌≡◌, 
 use Rattle.std.specs.List.{list_any}
 use Rattle.std.proofs.lemmas.Bool.{cases_eq}
 use Rattle.std.proofs.lemmas.Bool.Decides.{nat_tests}
+use Rattle.resource_reqs.specs.Resources.{Reqs}
+use Rattle.pnp_model.specs.Keyed.{changed_first}
 use Rattle.pnp_model.specs.Tests.{has}
 use Rattle.pnp_model.specs.Records.{Node, Device, Task, Activity, State, Operation, Removal, RemovalStage, Duty}
 use Rattle.pnp_model.specs.Cores.{node_at}
-use Rattle.pnp_model.specs.States.{activity_at, without_those}
+use Rattle.pnp_model.specs.States.{activity_at, requires, without_those}
 use Rattle.pnp_model.specs.Tasks.{has_born}
 use Rattle.pnp_labels.specs.declared.states.DevState.{DevState}
 use Rattle.pnp_labels.specs.declared.states.DevState.TheVariants.{NoStack, NotStarted, Started, StopPending, Stopped, RemovePending, SurpriseRemoved}
@@ -96,6 +98,35 @@ sub_in _ _ (keep x xs ys sub) d (inl e) = inl e
 sub_in _ _ (keep x xs ys sub) d (inr h) = inr (sub_in xs ys sub d h)
 sub_in _ _ (skip x xs ys sub) d h = inr (sub_in xs ys sub d h)
 
+-- where one device requires something else, each device is as it was, or is that one
+pub in_changed : (born : ℕ) (reqs : Reqs) (ds : List Device) (d : Device) → In d (changed_first (λ x. x.born == born) (requires reqs) ds) → (x : Device) × In x ds × ((x ≡ d) ⊎ ((requires reqs x ≡ d) × (x.born ≡ born)))
+in_changed born reqs [] d h = absurd h
+in_changed born reqs (x ∷ xs) d h = by_test (x.born == born) refl h (λ more. in_changed born reqs xs d more)
+  where
+    by_test : (b : Bool) → (x.born == born) ≡ b → In d (cond b (requires reqs x ∷ xs) (x ∷ changed_first (λ y. y.born == born) (requires reqs) xs))
+        → (In d (changed_first (λ y. y.born == born) (requires reqs) xs) → (y : Device) × In y xs × ((y ≡ d) ⊎ ((requires reqs y ≡ d) × (y.born ≡ born)))) → (y : Device) × In y (x ∷ xs) × ((y ≡ d) ⊎ ((requires reqs y ≡ d) × (y.born ≡ born)))
+    by_test true e (inl is) later = (x, inl refl, inr (is, grind (arith, nat_tests)))
+    by_test true e (inr more) later = (d, inr more, inl refl)
+    by_test false e (inl is) later = (x, inl refl, inl is)
+    by_test false e (inr more) later = let r = later more in (r.0, inr r.1, r.2)
+
+-- with its birth number and that of its parent
+pub in_named : (born : ℕ) (reqs : Reqs) (ds : List Device) (d : Device) → In d (changed_first (λ x. x.born == born) (requires reqs) ds) → (x : Device) × In x ds × (x.born ≡ d.born) × (x.parent ≡ d.parent)
+in_named born reqs ds d h =
+    let r = in_changed born reqs ds d h in
+    elim r.2 [
+      | inl same ↦ (r.0, r.1, ap (λ (z : Device). z.born) same, ap (λ (z : Device). z.parent) same)
+      | inr (changed, own) ↦ (r.0, r.1, ap (λ (z : Device). z.born) changed, ap (λ (z : Device). z.parent) changed)
+    ]
+
+pub length_changed : (born : ℕ) (reqs : Reqs) (ds : List Device) → length (changed_first (λ x. x.born == born) (requires reqs) ds) ≡ length ds
+length_changed born reqs [] = refl
+length_changed born reqs (x ∷ xs) = by_test (x.born == born) (length_changed born reqs xs)
+  where
+    by_test : (b : Bool) → length (changed_first (λ y. y.born == born) (requires reqs) xs) ≡ length xs → length (cond b (requires reqs x ∷ xs) (x ∷ changed_first (λ y. y.born == born) (requires reqs) xs)) ≡ suc (length xs)
+    by_test true h = refl
+    by_test false h = ap suc h
+
 pub starts_less : (cost was : ℕ → ℕ) (tasks : List Task) → ((k : ℕ) → cost k ≤ was k) → starts cost tasks ≤ starts was tasks
 starts_less cost was [] h = omega arith
 starts_less cost was (t ∷ ts) h = let more = starts_less cost was ts h in let here = by_kind t.kind t.serial in omega arith
@@ -144,6 +175,22 @@ pub record Born (s : State) : Type 0 where
   pub known : (k : ℕ) (n : Node) → node_at k s.core.nodes ≡ Some n → n.born < s.next_born
   pub soon : starts (unborn s.next_serial) s.tasks ≡ 0
   pub links : (k : ℕ) (n p : Node) (d : Device) → node_at k s.core.nodes ≡ Some n → node_at n.parent s.core.nodes ≡ Some p → In d s.world → d.born ≡ n.born → p.born ≡ d.parent
+
+pub grows_changed : (lo born : ℕ) (reqs : Reqs) (ds : List Device) → Grows lo ds → Grows lo (changed_first (λ x. x.born == born) (requires reqs) ds)
+grows_changed lo born reqs [] h = tt
+grows_changed lo born reqs (x ∷ xs) h = by_test (x.born == born) (grows_changed (suc x.born) born reqs xs h.2)
+  where
+    by_test : (b : Bool) → Grows (suc x.born) (changed_first (λ y. y.born == born) (requires reqs) xs) → Grows lo (cond b (requires reqs x ∷ xs) (x ∷ changed_first (λ y. y.born == born) (requires reqs) xs))
+    by_test true more = h
+    by_test false more = (h.0, h.1, more)
+
+pub room_changed : (born : ℕ) (reqs : Reqs) (ds : List Device) → HasRoom ds → HasRoom (changed_first (λ x. x.born == born) (requires reqs) ds)
+room_changed born reqs [] h = h
+room_changed born reqs (x ∷ xs) h = by_test (x.born == born)
+  where
+    by_test : (b : Bool) → HasRoom (cond b (requires reqs x ∷ xs) (x ∷ changed_first (λ y. y.born == born) (requires reqs) xs))
+    by_test true = h
+    by_test false = (h.0, let l = length_changed born reqs xs in let few = h.1 in omega arith)
 
 -- What a step but a join does ----------------------------------------------------------------------------
 

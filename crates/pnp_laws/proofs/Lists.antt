@@ -1,8 +1,8 @@
 -- Lists of serials: what stands first, what follows.
-use Rattle.std.proofs.Common.{ℕ, suc, ◌<◌, ◌≤◌, ◌≡◌, ◌≢◌, ◌⊎◌, inl, inr, Bool, true, false, cond, List, [], ◌∷◌, ◌++◌, Some, refl, sym, subst, arith}
+use Rattle.std.proofs.Common.{ℕ, suc, ◌<◌, ◌≤◌, ◌≡◌, ◌≢◌, ◌==◌, ◌⊎◌, inl, inr, Bool, true, false, cond, List, [], ◌∷◌, ◌++◌, Some, refl, sym, ap, ◌∙◌, subst, arith}
 use Rattle.std.proofs.lemmas.Bool.{cases_eq}
 use Rattle.std.proofs.lemmas.Bool.Decides.{nat_tests}
-use Rattle.pnp_model.specs.Keyed.{those}
+use Rattle.pnp_model.specs.Keyed.{those, without_first}
 use Rattle.pnp_model.specs.Tests.{has}
 use Rattle.pnp_model.specs.Frames.{first_node, rest}
 use Rattle.pnp_model.specs.Records.{Node}
@@ -134,3 +134,20 @@ member ks k = by_test (has ks k) refl
     by_test : (b : Bool) → has ks k ≡ b → (has ks k ≡ true) ⊎ (has ks k ≡ false)
     by_test true h = inl h
     by_test false h = inr h
+
+-- the head is not outside
+pub not_head : (j k : ℕ) (ks : List ℕ) → has (j ∷ ks) k ≡ false → j ≢ k
+not_head j k ks h e = let here = subst (λ (i : ℕ). has (j ∷ ks) i ≡ true) e (cons_here j ks) in cc
+
+-- where one is left out, the others stay
+pub without_has : (j k : ℕ) (ks : List ℕ) → j ≢ k → has (without_first (λ i. i == j) ks) k ≡ has ks k
+without_has j k [] d = refl
+without_has j k (i ∷ is) d = grind (arith, nat_tests, without_has j k is d)
+
+-- one that is not there is not left out
+pub without_none : (j : ℕ) (ks : List ℕ) → has ks j ≡ false → without_first (λ i. i == j) ks ≡ ks
+without_none j [] h = refl
+without_none j (i ∷ is) h =
+    let other : (i == j) ≡ false = grind (arith, nat_tests) in
+    let more : has is j ≡ false = grind (arith, nat_tests) in
+    ap (λ (b : Bool). cond b is (i ∷ without_first (λ k. k == j) is)) other ∙ ap (λ (xs : List ℕ). i ∷ xs) (without_none j is more)

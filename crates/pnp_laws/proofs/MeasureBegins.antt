@@ -1,10 +1,11 @@
 -- Each task but a join lowers what is still to begin, to do, or to answer.
-use Rattle.std.proofs.Common.{ℕ, drop, ◌+◌, ◌<◌, ◌≤◌, ◌≡◌, ◌==◌, ◌⊎◌, inl, inr, Bool, true, false, not, ◌&&◌, ◌||◌, cond, List, [], ◌∷◌, ◌++◌, length, Option, Some, None, refl, sym, ap, ◌∙◌, subst, arith, reverse}
+use Rattle.std.proofs.Common.{ℕ, drop, ◌+◌, ◌*◌, ◌<◌, ◌≤◌, ◌≡◌, ◌==◌, ◌⊎◌, inl, inr, Bool, true, false, not, ◌&&◌, ◌||◌, cond, List, [], ◌∷◌, ◌++◌, length, Option, Some, None, refl, sym, ap, ◌∙◌, subst, arith, reverse}
 use Rattle.std.specs.List.{list_any, slice_get}
 use Rattle.std.proofs.lemmas.Bool.{cases_eq}
 use Rattle.std.proofs.lemmas.Bool.Decides.{nat_tests}
 use Rattle.std.proofs.lemmas.List.{length-reverse}
 use Rattle.resource_reqs.specs.Spelling.Answer.{no_fit}
+use Rattle.resource_reqs.specs.Resources.{Reqs}
 use Rattle.pnp_model.specs.Keyed.{those}
 use Rattle.pnp_model.specs.Tests.{has, is_surprise_task}
 use Rattle.pnp_model.specs.Records.{Node, Task, Activity, State, Step, Operation, Rebalance, RebalanceStage, Surprise, SurpriseStage, Duty}
@@ -133,16 +134,18 @@ begins s kind node o task first surprise target none less =
     lower_so s _ (task_falls s (begin s kind node o).state task first (births_same s.core.nodes s.core.nodes refl) refl refl
     (λ k h. open_dropped s.tasks task s.operation (Some o) k first surprise (target k ∙ sym (ap (λ (x : Option Operation). is_target x k) none)) h) (omega arith))
 
-lowers_rebalance : (s : State) (node : Node) → First s (Duty.Begins OpKind.Rebalance) node.serial → s.operation ≡ None → Lowers s (begin s OpKind.Rebalance node (Operation.Rebalancing (re.begun_rebalance s.core node)))
-lowers_rebalance s node first none =
-    let r : Rebalance = record { target = node.serial; path = node.path; todo = []; agreed = []; refused = []; found = no_fit; stage = RebalanceStage.Searching } in
+-- a rebalance or a change, of which each may ask all
+lowers_rebalance : (s : State) (kind : OpKind) (node : Node) (wanted : Option Reqs) → First s (Duty.Begins kind) node.serial → is_surprise_task (Duty.Begins kind) ≡ false → duty_cost (length (serials_of s.core.nodes)) (born_in s node.serial) (Duty.Begins kind) ≡ 7 * length (serials_of s.core.nodes) + 7
+    → s.operation ≡ None → Lowers s (begin s kind node (Operation.Rebalancing (re.begun_with s.core node wanted)))
+lowers_rebalance s kind node wanted first surprise costs none =
+    let r : Rebalance = record { target = node.serial; path = node.path; wanted = wanted; todo = []; agreed = []; refused = []; found = no_fit; stage = RebalanceStage.Searching } in
     let asked = those re.is_asked s.core.nodes in
     let most = (ask_most r (reverse (serials_of asked))).cost in
     let a = length-reverse (serials_of asked) in
     let b = length_serials asked in
     let c = those_shorter re.is_asked s.core.nodes in
     let d = length_serials s.core.nodes in
-    begins s OpKind.Rebalance node _ _ first refl (λ i. refl) none (omega arith)
+    begins s kind node _ _ first surprise (λ i. refl) none (omega arith)
 
 -- a surprise begins: its device is the target, so no more can be found gone
 open_surprise : (tasks : List Task) (o q : Option Operation) (k i : ℕ) → slice_get tasks 0 ≡ Some (record { kind = Duty.Begins OpKind.Surprise; serial = k }) → o ≡ None → is_target q i ≡ (k == i) → is_open (drop 1 tasks) q i ≡ true → is_open tasks o i ≡ true
@@ -204,7 +207,8 @@ lowers_task s _ none order (TaskStep.finds_gone node child gone) = let is = gone
 lowers_task s _ none order (TaskStep.joins node d at up below) = record { lowers = λ n. absurd n }
 lowers_task s _ none order (TaskStep.troubles node problem b fine) = lower_so s _ (drops s _ _ b.first refl (births_changed node.serial (with_problem (Some problem)) s.core.nodes _ refl (λ x. refl) (λ x. refl)) refl refl refl refl)
 lowers_task s _ none order (TaskStep.installs node rank driver drivers b chosen) = lowers_install s node rank driver drivers b.first none (chosen_named s node.serial drivers chosen).0
-lowers_task s _ none order (TaskStep.begins OpKind.Rebalance node first alone at fits) = lowers_rebalance s node first none
+lowers_task s _ none order (TaskStep.begins OpKind.Rebalance node first alone at fits) = lowers_rebalance s OpKind.Rebalance node None first refl refl none
 lowers_task s _ none order (TaskStep.begins OpKind.Disable node first alone at fits) = begins s OpKind.Disable node _ _ first refl (λ i. refl) none (omega arith)
 lowers_task s _ none order (TaskStep.begins OpKind.Eject node first alone at fits) = begins s OpKind.Eject node _ _ first refl (λ i. refl) none (omega arith)
 lowers_task s _ none order (TaskStep.begins OpKind.Surprise node first alone at fits) = lowers_surprise s node node.serial at first none
+lowers_task s _ none order (TaskStep.begins OpKind.Change node first alone at fits) = lowers_rebalance s OpKind.Change node (Some _) first refl refl none

@@ -1,7 +1,8 @@
 -- Each step of an operation lowers what is still to begin, to do, or to answer.
-use Rattle.std.proofs.Common.{ℕ, ◌+◌, ◌*◌, ◌<◌, ◌≤◌, ◌≡◌, ◌==◌, inl, inr, Bool, true, false, cond, List, [], ◌∷◌, length, Option, Some, None, refl, sym, ap, subst, arith, reverse}
+use Rattle.std.proofs.Common.{ℕ, ◌+◌, ◌*◌, ◌<◌, ◌≤◌, ◌≡◌, ◌==◌, ◌⊎◌, inl, inr, Bool, true, false, cond, List, [], ◌∷◌, length, Option, Some, None, refl, sym, ap, subst, arith, reverse}
 use Rattle.std.proofs.lemmas.Bool.Decides.{nat_tests}
 use Rattle.resource_reqs.specs.Spelling.Answer.{assignment, no_fit, spent}
+use Rattle.resource_reqs.specs.Resources.{Reqs}
 use Rattle.pnp_model.specs.Keyed.{changed_first, those}
 use Rattle.pnp_model.specs.Records.{Node, Task, Phase, State, Step, Found, Operation, Rebalance, RebalanceStage, Removal, RemovalStage, Surprise, SurpriseStage, Duty}
 use Rattle.pnp_model.specs.Cores.{drop_node, is_node, node_at, serials_of, stack_of, with_problem}
@@ -26,39 +27,54 @@ use Rattle.pnp_model.specs.Surprises as su
 
 -- Rebalance ----------------------------------------------------------------------------------------------
 
--- costs and ranks of a rebalance are at most these
+-- its cost is at most this, and so are its rank and what is left to do, or its rank is lower
 pub record AtMost (r : Rebalance) (a b c : ℕ) : Type 0 where
   pub cost : rebalance_cost r r.stage ≤ a
-  pub rank : rebalance_rank r.stage ≤ b
-  pub left : rebalance_left r.todo r.stage ≤ c
+  pub low : (rebalance_rank r.stage < b) ⊎ ((rebalance_rank r.stage ≤ b) × (rebalance_left r.todo r.stage ≤ c))
 
-pub ask_most : (r : Rebalance) (ks : List ℕ) → AtMost (re.ask_on r ks) (7 * (length ks + length r.agreed) + 6) 6 (2 * length ks + 1)
-ask_most r [] = record { cost = omega arith; rank = omega arith; left = omega arith }
-ask_most r (k ∷ ks) = record { cost = omega arith; rank = omega arith; left = omega arith }
+cancelled_most : (r : Rebalance) (wanted : Option Reqs) → AtMost (record r { todo = []; stage = re.cancelled wanted }) 6 4 0
+cancelled_most r None = record { cost = omega arith; low = inr (omega arith, omega arith) }
+cancelled_most r (Some wanted) = record { cost = omega arith; low = inr (omega arith, omega arith) }
 
 cancel_most : (r : Rebalance) (ks : List ℕ) → AtMost (re.cancel_on r ks) 6 4 (2 * length ks)
-cancel_most r [] = record { cost = omega arith; rank = omega arith; left = omega arith }
-cancel_most r (k ∷ ks) = record { cost = omega arith; rank = omega arith; left = omega arith }
+cancel_most r [] = cancelled_most r r.wanted
+cancel_most r (k ∷ ks) = record { cost = omega arith; low = inr (omega arith, omega arith) }
+
+below_six : (x c y : ℕ) → (x < 4) ⊎ ((x ≤ 4) × (y ≤ c)) → x < 6
+below_six x c y (inl l) = omega arith
+below_six x c y (inr (l, m)) = omega arith
+
+search_most : (r : Rebalance) (refused : Bool) → AtMost (re.search_on r refused) (7 * length r.agreed + 6) 6 1
+search_most r false = record { cost = omega arith; low = inl (omega arith) }
+search_most r true =
+    let q = re.cancel_on r r.agreed in
+    let most = cancel_most r r.agreed in
+    record { cost = let c = most.cost in omega arith; low = inl (below_six (rebalance_rank q.stage) (2 * length r.agreed) (rebalance_left q.todo q.stage) most.low) }
+
+pub ask_most : (r : Rebalance) (ks : List ℕ) → AtMost (re.ask_on r ks) (7 * (length ks + length r.agreed) + 6) 6 (2 * length ks + 1)
+ask_most r [] = let most = search_most r (re.has_refused r) in record { cost = let c = most.cost in omega arith; low = most.low }
+ask_most r (k ∷ ks) = record { cost = omega arith; low = inr (omega arith, omega arith) }
 
 stop_most : (r : Rebalance) (ks : List ℕ) → AtMost (re.stop_on r ks) (7 * length r.agreed + 6) 4 (2 * length ks)
-stop_most r [] = record { cost = omega arith; rank = omega arith; left = omega arith }
-stop_most r (k ∷ ks) = record { cost = omega arith; rank = omega arith; left = omega arith }
+stop_most r [] = record { cost = omega arith; low = inr (omega arith, omega arith) }
+stop_most r (k ∷ ks) = record { cost = omega arith; low = inr (omega arith, omega arith) }
 
 restart_most : (r : Rebalance) (ks : List ℕ) → AtMost (re.restart_from r ks) (7 * length ks + 6) 2 (2 * length ks + 1)
-restart_most r [] = record { cost = omega arith; rank = omega arith; left = omega arith }
-restart_most r (k ∷ ks) = record { cost = omega arith; rank = omega arith; left = omega arith }
+restart_most r [] = record { cost = omega arith; low = inr (omega arith, omega arith) }
+restart_most r (k ∷ ks) = record { cost = omega arith; low = inr (omega arith, omega arith) }
 
 re_falls : (s t : State) (r q : Rebalance) (stage : RebalanceStage) (a b c : ℕ) → s.operation ≡ Some (Operation.Rebalancing r) → r.stage ≡ stage → t.operation ≡ Some (Operation.Rebalancing q) → SameBirths s.core.nodes t.core.nodes → t.world ≡ s.world → t.tasks ≡ s.tasks → t.activities ≡ s.activities →
     AtMost q a b c → a ≤ rebalance_cost r stage → Down b (rebalance_rank stage) c (rebalance_left r.todo stage) → Falls s t
 re_falls s t r q stage a b c runs is now same world tasks acts most cost down =
     let p = most.cost in
-    let l = most.rank in
-    let m = most.left in
     let e = ap (rebalance_cost r) is in
     let f = ap rebalance_rank is in
     let g = ap (rebalance_left r.todo) is in
     falls_on s t (Operation.Rebalancing r) (Operation.Rebalancing q) runs now same world tasks acts (λ k. refl) (omega arith)
-    (elim down [ inl h ↦ inl (omega arith) | inr (h, less) ↦ inr (omega arith, omega arith) ])
+    (elim most.low [
+      | inl l ↦ elim down [ inl h ↦ inl (omega arith) | inr (h, less) ↦ inl (omega arith) ]
+      | inr (l, m) ↦ elim down [ inl h ↦ inl (omega arith) | inr (h, less) ↦ inr (omega arith, omega arith) ]
+    ])
 
 begin_most : (n : ℕ) (b : Bool) → duty_cost n b (Duty.Begins OpKind.Surprise) ≤ 6
 begin_most n true = omega arith
@@ -75,14 +91,21 @@ re_enters s r phase runs is less =
     let c = ap (rebalance_cost r) is in
     falls_close s _ (Operation.Rebalancing r) runs (λ k. refl) refl refl refl refl (omega arith)
 
-re_closes : (s : State) (r : Rebalance) (found : Found) (label : Label) → s.operation ≡ Some (Operation.Rebalancing r) → r.stage ≡ RebalanceStage.Ending → Falls s (rebalance_lifted s (record { label = label; core = s.core; frame = r; beside = re.over s.core r found })).state
-re_closes s r (assignment plan) label runs is = by_test (stands_up s.core.nodes r.target)
+re_drops : (s : State) (r : Rebalance) → s.operation ≡ Some (Operation.Rebalancing r) → r.stage ≡ RebalanceStage.Ending → Falls s (set_operation None s)
+re_drops s r runs is = falls_close s _ (Operation.Rebalancing r) runs (λ k. refl) refl refl refl refl (let c = ap (rebalance_cost r) is in omega arith)
+
+re_closes : (s : State) (r : Rebalance) (found : Found) (wanted : Option Reqs) (label : Label) → s.operation ≡ Some (Operation.Rebalancing r) → r.stage ≡ RebalanceStage.Ending
+    → Falls s (rebalance_lifted s (record { label = label; core = s.core; frame = r; beside = re.over s.core r found wanted })).state
+re_closes s r (assignment plan) None label runs is = by_test (stands_up s.core.nodes r.target)
   where
     by_test : (up : Bool) → Falls s (rebalance_lifted s (record { label = label; core = s.core; frame = r; beside = re.moved_on up })).state
     by_test true = re_enters s r (Phase.Starting (walk_of Minor.Start)) runs is (omega arith)
-    by_test false = falls_close s _ (Operation.Rebalancing r) runs (λ k. refl) refl refl refl refl (let c = ap (rebalance_cost r) is in omega arith)
-re_closes s r no_fit label runs is = re_enters s r (Phase.Removing (walk_of Minor.Remove)) runs is (omega arith)
-re_closes s r spent label runs is = re_enters s r (Phase.Removing (walk_of Minor.Remove)) runs is (omega arith)
+    by_test false = re_drops s r runs is
+re_closes s r no_fit None label runs is = re_enters s r (Phase.Removing (walk_of Minor.Remove)) runs is (omega arith)
+re_closes s r spent None label runs is = re_enters s r (Phase.Removing (walk_of Minor.Remove)) runs is (omega arith)
+re_closes s r (assignment plan) (Some wanted) label runs is = re_drops s r runs is
+re_closes s r no_fit (Some wanted) label runs is = re_drops s r runs is
+re_closes s r spent (Some wanted) label runs is = re_drops s r runs is
 
 falls_rebalance : (s : State) (r : Rebalance) (stage : RebalanceStage) (m : re.RebalanceMove) → s.operation ≡ Some (Operation.Rebalancing r) → r.stage ≡ stage → RebalanceStep s.core r stage m → Falls s (rebalance_lifted s m).state
 falls_rebalance s r stage m runs is (RebalanceStep.agrees node w e good) =
@@ -91,7 +114,7 @@ falls_rebalance s r stage m runs is (RebalanceStep.agrees node w e good) =
 falls_rebalance s r stage m runs is (RebalanceStep.refuses node w e bad) =
     let q = record r { refused = node.serial ∷ r.refused; stage = RebalanceStage.TakingBack (walk_of Minor.CancelStop) } in
     re_falls s _ r q (RebalanceStage.Asking w) (7 * (length r.todo + length r.agreed) + 6) 6 (2 * length r.todo) runs is refl (births_changed node.serial _ s.core.nodes _ refl (λ x. refl) (λ x. refl)) refl refl refl
-    (record { cost = omega arith; rank = omega arith; left = omega arith }) (omega arith) (inr (omega arith, omega arith))
+    (record { cost = omega arith; low = inr (omega arith, omega arith) }) (omega arith) (inr (omega arith, omega arith))
 falls_rebalance s r stage m runs is (RebalanceStep.takes_back node w e) =
     let more = those (re.is_not_above s.core.nodes node.serial) (rest r.todo) in
     let l = rest_shorter s.core.nodes r.todo node e.first in
@@ -108,7 +131,7 @@ falls_rebalance s r stage m runs is (RebalanceStep.cancels node w e) =
     re_falls s _ r _ (RebalanceStage.Cancelling w) _ _ _ runs is refl (births_changed node.serial _ s.core.nodes _ refl (λ x. refl) (λ x. refl)) refl refl refl (cancel_most r (rest r.todo)) (omega arith) (inr (omega arith, omega arith))
 falls_rebalance s r stage m runs is RebalanceStep.sticks =
     re_falls s _ r (record r { stage = RebalanceStage.Ending }) RebalanceStage.Stuck 6 1 0 runs is refl (births_changed r.target _ s.core.nodes _ refl (λ x. refl) (λ x. refl)) refl refl refl
-    (record { cost = omega arith; rank = omega arith; left = omega arith }) (omega arith) (inl (omega arith))
+    (record { cost = omega arith; low = inr (omega arith, omega arith) }) (omega arith) (inl (omega arith))
 falls_rebalance s r stage m runs is (RebalanceStep.stops node w e) =
     let l = rest_shorter s.core.nodes r.todo node e.first in
     re_falls s _ r _ (RebalanceStage.Stopping w) _ _ _ runs is refl (births_changed node.serial _ s.core.nodes _ refl (λ x. refl) (λ x. refl)) refl refl refl (stop_most r (rest r.todo)) (omega arith) (inr (omega arith, omega arith))
@@ -122,7 +145,7 @@ falls_rebalance s r stage m runs is (RebalanceStep.restarts node w e good) =
     re_falls s _ r _ (RebalanceStage.Restarting w) _ _ _ runs is refl (births_changed node.serial _ s.core.nodes _ refl (λ x. refl) (λ x. refl)) refl refl refl (restart_most r (re.startable nodes (rest r.todo))) (omega arith) (inr (omega arith, omega arith))
 falls_rebalance s r stage m runs is (RebalanceStep.fails node w e bad) =
     re_falls s _ r (record r { stage = RebalanceStage.Failed }) (RebalanceStage.Restarting w) (7 * length r.todo + 6) 2 (2 * length r.todo) runs is refl (births_changed node.serial _ s.core.nodes _ refl (λ x. refl) (λ x. refl)) refl refl refl
-    (record { cost = omega arith; rank = omega arith; left = omega arith }) (omega arith) (inr (omega arith, omega arith))
+    (record { cost = omega arith; low = inr (omega arith, omega arith) }) (omega arith) (inr (omega arith, omega arith))
 falls_rebalance s r stage m runs is (RebalanceStep.failed node first) =
     let t = (rebalance_lifted s (re.failed s.core r node)).state in
     let task : Task = record { kind = Duty.Begins OpKind.Surprise; serial = node.serial } in
@@ -134,7 +157,7 @@ falls_rebalance s r stage m runs is (RebalanceStep.failed node first) =
     let d = ap (rebalance_cost r) is in
     falls_coarse s t (coarse_by s t (births_changed node.serial _ s.core.nodes _ refl (λ x. refl) (λ x. refl)) refl
     (λ k h. open_first task s.tasks s.operation t.operation k (sym (ap (λ (x : Option Operation). is_target x k) runs)) h) (omega arith))
-falls_rebalance s r stage m runs is RebalanceStep.closes = re_closes s r r.found (Label.End OpKind.Rebalance r.path (re.end_of r.found)) runs is
+falls_rebalance s r stage m runs is RebalanceStep.closes = re_closes s r r.found r.wanted (Label.End (re.kind_of r.wanted) r.path (re.result r.found (re.has_refused r))) runs is
 
 -- Removal ------------------------------------------------------------------------------------------------
 

@@ -26,6 +26,7 @@ begin_cost n born OpKind.Rebalance = 7 * n + 7
 begin_cost n born OpKind.Disable = 2
 begin_cost n born OpKind.Eject = 2
 begin_cost n born OpKind.Surprise = cond born 6 2
+begin_cost n born OpKind.Change = 7 * n + 7
 
 abbrev pub duty_cost : ℕ → Bool → Duty → ℕ
 duty_cost n born Duty.Listing = 1

@@ -11,7 +11,7 @@ use Rattle.pnp_model.specs.Starts.{adding}
 use Rattle.pnp_laws.specs.Effects.{Enters, OperationOwn, PhaseOwn, PhaseStep}
 use Rattle.pnp_laws.specs.Reached.{IsReached}
 use Rattle.pnp_laws.specs.Words.{EachPhase}
-use Rattle.pnp_laws.proofs.BeginSteps.{reached_dues}
+use Rattle.pnp_laws.proofs.BeginSteps.{reached_fine}
 use Rattle.pnp_laws.proofs.Courses.{Way, way_goes}
 use Rattle.pnp_laws.proofs.EffectsOf.{effect_goes}
 use Rattle.pnp_laws.proofs.EffectsOfOperations.{begun_work}
@@ -33,8 +33,8 @@ adding_own (d ∷ ds) = refl
 
 entered_own : (s : State) (k : ℕ) (t : State) (phase : Phase) → Enters s k t phase → PhaseOwn phase
 entered_own s k t phase (Enters.installs drivers chosen drops clears) = adding_own drivers
-entered_own s k t phase (Enters.restarts r plan runs is target found nodes) = refl
-entered_own s k t phase (Enters.undoes r runs target) = refl
+entered_own s k t phase (Enters.restarts r plan runs plain is target found nodes) = refl
+entered_own s k t phase (Enters.undoes r runs plain target) = refl
 
 completed_own : (answer : Answer) (phase : Phase) → PhaseOwn phase → PhaseOwn (completed_phase answer phase)
 completed_own answer (Starting w) own = answered_own w answer Minor.Start own
@@ -51,14 +51,14 @@ stepped_own s k t old new own (PhaseStep.answered a ok at nodes) = completed_own
 
 runs_own : (s : State) (step : Step) → Way s step → RunsOwn s.operation → RunsOwn step.state.operation
 runs_own s step (Way.idles none now beside) own = subst RunsOwn (sym now) tt
-runs_own s step (Way.begins kind node none at is) own = subst (λ (x : Step). RunsOwn x.state.operation) (sym is) (begun_work s.core kind node).2
+runs_own s step (Way.begins kind node none at is) own = subst (λ (x : Step). RunsOwn x.state.operation) (sym is) (begun_work s kind node).2
 runs_own s step (Way.goes o p runs now work prints) own = subst RunsOwn (sym now) (work.own (subst RunsOwn runs own))
 runs_own s step (Way.ends o result runs now prints by) own = subst RunsOwn (sym now) tt
 
 own_goes : (settings : Settings) (rack : List Driver) (old : State) (entry : Entry) (new : State) → IsReached settings rack old → HasOwn old → Goes settings old entry new → HasOwn new
 own_goes settings rack old entry new reached own goes =
     record {
-      operation = runs_own old (record { label = printed entry; state = new }) (way_goes settings old entry new (reached_dues settings rack old reached) goes) own.operation;
+      operation = runs_own old (record { label = printed entry; state = new }) (way_goes settings old entry new (reached_fine settings rack old reached) goes) own.operation;
       starts = phases_after PhaseOwn old new (λ k phase why. entered_own old k new phase why) (λ k before after own step. stepped_own old k new before after own step) (effect_goes settings old entry new goes).activities own.starts;
     }
 

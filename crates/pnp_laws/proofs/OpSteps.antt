@@ -1,5 +1,5 @@
 -- What all operations' steps share.
-use Rattle.std.proofs.Common.{ℕ, ◌≡◌, ◌≢◌, inl, inr, true, false, List, [], ◌∷◌, ◌++◌, map, Some, None, refl, sym, ap, ◌∙◌, subst, arith, reverse}
+use Rattle.std.proofs.Common.{ℕ, ◌≡◌, ◌≢◌, inl, inr, true, false, List, [], ◌∷◌, ◌++◌, map, Option, Some, None, refl, sym, ap, ◌∙◌, subst, arith, reverse}
 use Rattle.std.proofs.lemmas.Bool.{cases_eq}
 use Rattle.std.proofs.lemmas.Bool.Decides.{nat_tests}
 use Rattle.std.proofs.lemmas.List.{reverse-append}
@@ -7,10 +7,12 @@ use Rattle.pnp_model.specs.Keyed.{changed_first}
 use Rattle.pnp_model.specs.Records.{Node, State, Operation}
 use Rattle.pnp_model.specs.Cores.{is_node, node_at}
 use Rattle.pnp_model.specs.Tests.{has, is_started}
-use Rattle.pnp_laws.specs.Kept.{Good, Lawful, Each, HasStackOf, OperationFits, Distinct, Waits, is_calm, is_stopped, is_stop_pending, is_remove_pending}
+use Rattle.pnp_laws.specs.Kept.{Good, Lawful, Each, HasStackOf, OperationFits, Distinct, Waits, Changes, TargetFits, is_changing, is_calm, is_stopped, is_stop_pending, is_remove_pending}
 use Rattle.pnp_labels.specs.declared.states.DevState.{DevState}
 use Rattle.pnp_labels.specs.declared.states.DevState.TheVariants.{NoStack, NotStarted, Started, StopPending, Stopped, RemovePending}
-use Rattle.pnp_laws.proofs.Lookups.{node_changed_other, node_at-map}
+use Rattle.std.specs.Option.{is_some, option_map}
+use Rattle.resource_reqs.specs.Resources.{Reqs}
+use Rattle.pnp_laws.proofs.Lookups.{node_changed_same, node_changed_other, node_at-map}
 use Rattle.pnp_laws.proofs.Kept.{lawful_by, Good_changed, Good_nodes}
 use Rattle.pnp_laws.proofs.Lists.{has-append}
 
@@ -42,7 +44,7 @@ pub up_stack : (j : ℕ) (x y : DevState) (stack : List ℕ) → HasStackOf j x 
 up_stack j x y stack old d e up =
     record { none = λ h. absurd (e h); some = λ z h. absurd (d (old.some z h)); root = λ z. absurd (up z) }
 
--- the device of a rebalance waits on
+-- the target of a rebalance waits on
 
 pub waits_changed : (k j : ℕ) (f : Node → Node) (nodes : List Node) (n : Node) → ((x : Node) → (f x).serial ≡ x.serial) → node_at j nodes ≡ Some n → n.state ≢ NotStarted →
     Waits k nodes → Waits k (changed_first (is_node j) f nodes)
@@ -60,6 +62,46 @@ pub waits_mapped : (k : ℕ) (f : Node → Node) (nodes : List Node) → ((x : N
 waits_mapped k f nodes keeps state w =
     let there = w.1 in
     (f w.0, node_at-map k f nodes keeps ∙ (grind (arith)), state w.0 ∙ w.2)
+
+-- the target of a change is up, pending or stopped
+
+changes_changed : (k j : ℕ) (f : Node → Node) (nodes : List Node) (n : Node) → ((x : Node) → (f x).serial ≡ x.serial) → node_at j nodes ≡ Some n → is_changing (f n).state ≡ true →
+    Changes k nodes → Changes k (changed_first (is_node j) f nodes)
+changes_changed k j f nodes n keeps at up w =
+    elim (cases_eq j k) [
+      | inl e ↦
+          let at_k = subst (λ (i : ℕ). node_at i nodes ≡ Some n) e at in
+          (f n, subst (λ (i : ℕ). node_at k (changed_first (is_node i) f nodes) ≡ Some (f n)) (sym e) (node_changed_same k f nodes keeps ∙ ap (option_map f) at_k), up, w.3)
+      | inr d ↦ (w.0, node_changed_other j k f nodes keeps d ∙ w.1, w.2, w.3)
+    ]
+
+changes_mapped : (k : ℕ) (f : Node → Node) (nodes : List Node) → ((x : Node) → (f x).serial ≡ x.serial) → ((x : Node) → (f x).state ≡ x.state) → Changes k nodes → Changes k (map f nodes)
+changes_mapped k f nodes keeps state w =
+    let there = w.1 in
+    (f w.0, node_at-map k f nodes keeps ∙ (grind (arith)), ap is_changing (state w.0) ∙ w.2, w.3)
+
+pub target_changed : (wanted : Option Reqs) (k j : ℕ) (f : Node → Node) (nodes : List Node) (n : Node) → ((x : Node) → (f x).serial ≡ x.serial) → node_at j nodes ≡ Some n → n.state ≢ NotStarted → is_changing (f n).state ≡ true →
+    TargetFits wanted k nodes → TargetFits wanted k (changed_first (is_node j) f nodes)
+target_changed None k j f nodes n keeps at other up w = waits_changed k j f nodes n keeps at other w
+target_changed (Some wanted) k j f nodes n keeps at other up w = changes_changed k j f nodes n keeps at up w
+
+pub target_mapped : (wanted : Option Reqs) (k : ℕ) (f : Node → Node) (nodes : List Node) → ((x : Node) → (f x).serial ≡ x.serial) → ((x : Node) → (f x).state ≡ x.state) → TargetFits wanted k nodes → TargetFits wanted k (map f nodes)
+target_mapped None k f nodes keeps state w = waits_mapped k f nodes keeps state w
+target_mapped (Some wanted) k f nodes keeps state w = changes_mapped k f nodes keeps state w
+
+-- it has drivers
+pub target_up : (wanted : Option Reqs) (k : ℕ) (nodes : List Node) (n : Node) → TargetFits wanted k nodes → node_at k nodes ≡ Some n → n.state ≢ NoStack
+target_up None k nodes n w at e = let there = w.1 in let state = w.2 in let same : w.0 ≡ n = cc in let is = ap (λ (x : Node). x.state) same in cc
+target_up (Some wanted) k nodes n w at e = let there = w.1 in let state = w.2 in let same : w.0 ≡ n = cc in let is = ap (λ (x : Node). is_changing x.state) same in let none = ap is_changing e in cc
+
+-- that of a change was started
+pub change_up : (wanted : Option Reqs) (k : ℕ) (nodes : List Node) (n : Node) → is_some wanted ≡ true → TargetFits wanted k nodes → node_at k nodes ≡ Some n → n.state ≢ NotStarted
+change_up None k nodes n some w at e = absurd (cc)
+change_up (Some wanted) k nodes n some w at e = let there = w.1 in let state = w.2 in let same : w.0 ≡ n = cc in let is = ap (λ (x : Node). is_changing x.state) same in let none = ap is_changing e in cc
+
+pub target_there : (wanted : Option Reqs) (k : ℕ) (nodes : List Node) → TargetFits wanted k nodes → (n : Node) × (node_at k nodes ≡ Some n)
+target_there None k nodes w = (w.0, w.1)
+target_there (Some wanted) k nodes w = (w.0, w.1)
 
 -- states
 

@@ -1,5 +1,5 @@
--- A plan that was found fits until it is used, and then the device of the rebalance holds its part: what each stage of a rebalance keeps.
-use Rattle.std.proofs.Common.{ℕ, ◌≡◌, inl, inr, Bool, true, false, not, cond, List, [], ◌∷◌, ◌++◌, map, Option, Some, None, refl, sym, ap, ◌∙◌, subst, arith, reverse}
+-- A plan that was found fits until it is used, and then the target holds its part: what each stage of a rebalance keeps.
+use Rattle.std.proofs.Common.{ℕ, ◌≡◌, ◌≢◌, ◌==◌, inl, inr, Bool, true, false, not, cond, List, [], ◌∷◌, ◌++◌, map, Option, Some, None, refl, sym, ap, ap₂, ◌∙◌, subst, arith, reverse}
 use Rattle.std.specs.List.{AllZip}
 use Rattle.std.specs.Option.{option_map}
 use Rattle.std.proofs.lemmas.Bool.{cases_eq}
@@ -25,7 +25,7 @@ use Rattle.pnp_model.specs.Tests.{has}
 use Rattle.pnp_model.specs.Trees.{stands_up}
 use Rattle.pnp_laws.specs.Effects.{AnswerEffect, OpEffect, RangeEffect, SameWork, begun}
 use Rattle.pnp_laws.specs.Holdings.{KeepsReqs, has_plan, WholeAt}
-use Rattle.pnp_laws.specs.Plans.{IsPlanned, PlanFits, PlanKept, StagePlan}
+use Rattle.pnp_laws.specs.Plans.{IsPlanned, PlanFits, PlanKept, StagePlan, moving_reqs}
 use Rattle.pnp_laws.specs.Reached.{IsReached}
 use Rattle.pnp_laws.proofs.EffectsOf.{effect_goes}
 use Rattle.pnp_laws.proofs.EventChanges.{ranges_stay}
@@ -82,8 +82,10 @@ held_state y = record { reqs = keeps_state y; holds = λ n. refl }
 
 fits_changed : (r : Rebalance) (j : ℕ) (f : Node → Node) (reserved : List Res) (nodes : List Node) → KeepsHeld f → PlanFits r reserved nodes → PlanFits r reserved (changed_first (is_node j) f nodes)
 fits_changed r j f reserved nodes keeps h =
-    subst (λ (xs : List Reqs). IsAssignment (reserved ++ held_by (those (is_beside (re.movers r)) (changed_first (is_node j) f nodes))) xs (re.plan_of r.found)) (sym (all_reqs_changed j f nodes (re.movers r) keeps.reqs))
-    (subst (λ (xs : List Res). IsAssignment (reserved ++ xs) (map (λ k. re.reqs_of (node_at k nodes)) (re.movers r)) (re.plan_of r.found)) (sym (beside_changed j f (re.movers r) nodes keeps.reqs.serial keeps.holds)) h)
+    let same : moving_reqs r (changed_first (is_node j) f nodes) ≡ moving_reqs r nodes =
+    ap₂ (λ (x : Reqs) (xs : List Reqs). re.reqs_or r.wanted x ∷ xs) (reqs_changed j r.target f nodes keeps.reqs) (all_reqs_changed j f nodes (re.others r) keeps.reqs) in
+    subst (λ (xs : List Reqs). IsAssignment (reserved ++ held_by (those (is_beside (re.movers r)) (changed_first (is_node j) f nodes))) xs (re.plan_of r.found)) (sym same)
+    (subst (λ (xs : List Res). IsAssignment (reserved ++ xs) (moving_reqs r nodes) (re.plan_of r.found)) (sym (beside_changed j f (re.movers r) nodes keeps.reqs.serial keeps.holds)) h)
 
 pub whole_changed : (k j : ℕ) (f : Node → Node) (nodes : List Node) → KeepsHeld f → WholeAt k nodes → WholeAt k (changed_first (is_node j) f nodes)
 whole_changed k j f nodes keeps h m g =
@@ -109,30 +111,65 @@ part_whole reqs k (j ∷ js) (holds ∷ plan) held all h =
           subst (λ (x : List Res). Whole (reqs k) x) (sym same) (part_whole reqs k js plan held all.1 (grind (arith, nat_tests)))
     ]
 
+-- the part of the target is whole for what is wanted, and that of another mover for its own requirements
+moved_whole : (own want : Reqs) (target k : ℕ) (reqs : ℕ → Reqs) (js : List ℕ) (plan : List (List Res)) (held : List Res) → AllZip Whole (own ∷ map reqs js) plan → (target ≡ k → own ≡ want) → (target ≢ k → reqs k ≡ want)
+    → has (target ∷ js) k ≡ true → Whole want (re.part_for k (target ∷ js) plan held)
+moved_whole own want target k reqs js [] held all first rest h = absurd all
+moved_whole own want target k reqs js (holds ∷ plan) held all first rest h =
+    elim (cases_eq target k) [
+      | inl e ↦
+          let same : re.part_for k (target ∷ js) (holds ∷ plan) held ≡ holds = grind (arith, nat_tests) in
+          subst (λ (x : List Res). Whole want x) (sym same) (subst (λ (x : Reqs). Whole x holds) (first e) all.0)
+      | inr d ↦
+          let same : re.part_for k (target ∷ js) (holds ∷ plan) held ≡ re.part_for k js plan held = grind (arith, nat_tests) in
+          subst (λ (x : List Res). Whole want x) (sym same) (subst (λ (x : Reqs). Whole x (re.part_for k js plan held)) (rest d) (part_whole reqs k js plan held all.1 (grind (arith, nat_tests))))
+    ]
+
+-- what a node requires from the commit on
+target_after : (wanted : Option Reqs) (target : ℕ) (n : Node) → target ≡ n.serial → re.reqs_or wanted n.reqs ≡ re.reqs_after wanted target n
+target_after None target n e = refl
+target_after (Some wanted) target n e = let same : (n.serial == target) ≡ true = grind (arith, nat_tests) in sym (ap (λ (b : Bool). cond b wanted n.reqs) same)
+
+pub other_after : (wanted : Option Reqs) (target : ℕ) (n : Node) → target ≢ n.serial → re.reqs_after wanted target n ≡ n.reqs
+other_after None target n d = refl
+other_after (Some wanted) target n d = let other : (n.serial == target) ≡ false = grind (arith, nat_tests) in ap (λ (b : Bool). cond b wanted n.reqs) other
+
 -- the part of a mover that is there
 pub mover_whole : (r : Rebalance) (reserved : List Res) (nodes : List Node) (k : ℕ) (n : Node) → PlanFits r reserved nodes → node_at k nodes ≡ Some n → has (re.movers r) k ≡ true
-    → Whole n.reqs (re.committed (re.movers r) (re.plan_of r.found) n).holds
+    → Whole (re.reqs_after r.wanted r.target n) (re.committed r.wanted r.target (re.movers r) (re.plan_of r.found) n).holds
 mover_whole r reserved nodes k n fits at h =
     let own = own_serial k n nodes at in
-    let part = part_whole (λ i. re.reqs_of (node_at i nodes)) k (re.movers r) (re.plan_of r.found) n.holds fits.whole h in
-    let part2 = subst (λ (x : Reqs). Whole x (re.part_for k (re.movers r) (re.plan_of r.found) n.holds)) (ap re.reqs_of at) part in
-    subst (λ (i : ℕ). Whole n.reqs (re.part_for i (re.movers r) (re.plan_of r.found) n.holds)) (sym own) part2
+    let want = re.reqs_after r.wanted r.target n in
+    let here : re.reqs_of (node_at k nodes) ≡ n.reqs = ap re.reqs_of at in
+    let part =
+    moved_whole (re.reqs_or r.wanted (re.reqs_of (node_at r.target nodes))) want r.target k (λ i. re.reqs_of (node_at i nodes)) (re.others r) (re.plan_of r.found) n.holds fits.whole
+    (λ e. ap (λ (i : ℕ). re.reqs_or r.wanted (re.reqs_of (node_at i nodes))) e ∙ ap (re.reqs_or r.wanted) here ∙ target_after r.wanted r.target n (e ∙ sym own))
+    (λ d. here ∙ sym (other_after r.wanted r.target n (λ z. d (z ∙ own)))) h in
+    subst (λ (i : ℕ). Whole want (re.part_for i (re.movers r) (re.plan_of r.found) n.holds)) (sym own) part
 
-target_whole : (r : Rebalance) (reserved : List Res) (nodes : List Node) → PlanFits r reserved nodes → WholeAt r.target (map (re.committed (re.movers r) (re.plan_of r.found)) nodes)
+target_whole : (r : Rebalance) (reserved : List Res) (nodes : List Node) → PlanFits r reserved nodes → WholeAt r.target (map (re.committed r.wanted r.target (re.movers r) (re.plan_of r.found)) nodes)
 target_whole r reserved nodes fits m g =
-    let from = map_from r.target (re.committed (re.movers r) (re.plan_of r.found)) nodes m (λ x. refl) g in
+    let from = map_from r.target (re.committed r.wanted r.target (re.movers r) (re.plan_of r.found)) nodes m (λ x. refl) g in
     subst (λ (z : Node). Whole z.reqs z.holds) (sym from.2) (mover_whole r reserved nodes r.target from.0 fits from.1 (grind (arith, nat_tests)))
 
 -- What comes next ---------------------------------------------------------------------------------
 
 module _ (r : Rebalance) (reserved : List Res) (nodes : List Node) where
-  asks_on : (ks : List ℕ) → PlanKept (Some (Operation.Rebalancing (re.ask_on r ks))) reserved nodes
-  asks_on [] = tt
-  asks_on (k ∷ ks) = tt
+  cancelled_on : (wanted : Option Reqs) → has_plan r.found ≡ false → PlanKept (Some (Operation.Rebalancing (record r { todo = []; stage = re.cancelled wanted }))) reserved nodes
+  cancelled_on None h = h
+  cancelled_on (Some wanted) h = λ e. absurd (cc)
 
   cancels_on : (ks : List ℕ) → has_plan r.found ≡ false → PlanKept (Some (Operation.Rebalancing (re.cancel_on r ks))) reserved nodes
-  cancels_on [] h = h
+  cancels_on [] h = cancelled_on r.wanted h
   cancels_on (k ∷ ks) h = h
+
+  searches_on : (refused : Bool) → has_plan r.found ≡ false → PlanKept (Some (Operation.Rebalancing (re.search_on r refused))) reserved nodes
+  searches_on false h = h
+  searches_on true h = cancels_on r.agreed h
+
+  asks_on : (ks : List ℕ) → has_plan r.found ≡ false → PlanKept (Some (Operation.Rebalancing (re.ask_on r ks))) reserved nodes
+  asks_on [] h = searches_on (re.has_refused r) h
+  asks_on (k ∷ ks) h = h
 
   stops_on : (ks : List ℕ) → PlanFits r reserved nodes → PlanKept (Some (Operation.Rebalancing (re.stop_on r ks))) reserved nodes
   stops_on [] h = h
@@ -155,15 +192,18 @@ module _ (s : State) (r : Rebalance) where
   closes_moved label true = tt
   closes_moved label false = tt
 
-  closes : (label : Label) (found : Found) → IsPlanned (rebalance_lifted s (record { label = label; core = s.core; frame = r; beside = re.over s.core r found })).state
-  closes label (assignment plan) = closes_moved label (stands_up s.core.nodes r.target)
-  closes label no_fit = tt
-  closes label spent = tt
+  closes : (label : Label) (found : Found) (wanted : Option Reqs) → IsPlanned (rebalance_lifted s (record { label = label; core = s.core; frame = r; beside = re.over s.core r found wanted })).state
+  closes label (assignment plan) None = closes_moved label (stands_up s.core.nodes r.target)
+  closes label no_fit None = tt
+  closes label spent None = tt
+  closes label (assignment plan) (Some wanted) = tt
+  closes label no_fit (Some wanted) = tt
+  closes label spent (Some wanted) = tt
 
   planned : (stage : RebalanceStage) (m : re.RebalanceMove) → StagePlan r stage s.core.reserved s.core.nodes → RebalanceStep s.core r stage m → IsPlanned (rebalance_lifted s m).state
-  planned stage m h (RebalanceStep.agrees node w e good) = asks_on (record r { agreed = node.serial ∷ r.agreed }) _ _ (rest r.todo)
-  planned stage m h (RebalanceStep.refuses node w e bad) = tt
-  planned stage m h (RebalanceStep.takes_back node w e) = asks_on r _ _ (those (re.is_not_above s.core.nodes node.serial) (rest r.todo))
+  planned stage m h (RebalanceStep.agrees node w e good) = asks_on (record r { agreed = node.serial ∷ r.agreed }) _ _ (rest r.todo) h
+  planned stage m h (RebalanceStep.refuses node w e bad) = h
+  planned stage m h (RebalanceStep.takes_back node w e) = asks_on r _ _ (those (re.is_not_above s.core.nodes node.serial) (rest r.todo)) h
   planned stage m h (RebalanceStep.searches found budget answer) = searches budget found answer
   planned stage m h (RebalanceStep.cancels node w e) = cancels_on r _ _ (rest r.todo) h
   planned stage m h RebalanceStep.sticks = λ e. absurd (cc)
@@ -175,12 +215,12 @@ module _ (s : State) (r : Rebalance) where
   planned stage m h (RebalanceStep.failed node first) =
       restarts_on r _ _ (re.startable s.core.nodes (rest r.todo))
       (whole_changed r.target node.serial (with_problem _) s.core.nodes (record { reqs = record { serial = λ n. refl; reqs = λ n. refl }; holds = λ n. refl }) h)
-  planned stage m h RebalanceStep.closes = closes (Label.End OpKind.Rebalance r.path (re.end_of r.found)) r.found
+  planned stage m h RebalanceStep.closes = closes (Label.End (re.kind_of r.wanted) r.path (re.result r.found (re.has_refused r))) r.found r.wanted
 
 -- an answer leaves its walk where it is
 answered_stage : (answer : Answer) (r : Rebalance) (stage : RebalanceStage) (reserved : List Res) (nodes : List Node) → StagePlan r stage reserved nodes
     → StagePlan (record r { stage = ev.completed_rebalance answer stage }) (ev.completed_rebalance answer stage) reserved nodes
-answered_stage answer r (RebalanceStage.Asking w) reserved nodes h = tt
+answered_stage answer r (RebalanceStage.Asking w) reserved nodes h = h
 answered_stage answer r _ reserved nodes h = h
 
 answered_plan : (answer : Answer) (o : Operation) (reserved : List Res) (nodes : List Node) → PlanKept (Some o) reserved nodes → PlanKept (Some (ev.completed answer o)) reserved nodes
@@ -200,19 +240,28 @@ planned_operation s _ step h _ = absurd h
 -- Steps and events ------------------------------------------------------------------------------------
 
 -- an operation that begins has found nothing yet
-begun_plan : (c : Core) (kind : OpKind) (node : Node) → PlanKept (Some (begun c kind node)) c.reserved c.nodes
-begun_plan c OpKind.Rebalance node =
-    asks_on (record { target = node.serial; path = node.path; todo = []; agreed = []; refused = []; found = no_fit; stage = RebalanceStage.Searching }) c.reserved c.nodes (reverse (serials_of (those re.is_asked c.nodes)))
-begun_plan c _ node = tt
+begun_with_plan : (c : Core) (node : Node) (wanted : Option Reqs) → PlanKept (Some (Operation.Rebalancing (re.begun_with c node wanted))) c.reserved c.nodes
+begun_with_plan c node wanted =
+    asks_on (record { target = node.serial; path = node.path; wanted = wanted; todo = []; agreed = []; refused = []; found = no_fit; stage = RebalanceStage.Searching }) c.reserved c.nodes (reverse (serials_of (those re.is_asked c.nodes))) refl
+
+begun_plan : (s : State) (kind : OpKind) (node : Node) → PlanKept (Some (begun s kind node)) s.core.reserved s.core.nodes
+begun_plan s OpKind.Rebalance node = begun_with_plan s.core node None
+begun_plan s OpKind.Change node = begun_with_plan s.core node (Some _)
+begun_plan s _ node = tt
 
 -- what goes on and is no rebalance becomes none
 abbrev IsOther : Operation → Type 0
 IsOther (Operation.Rebalancing r) = ⊥
 IsOther _ = Unit {0}
 
+no_surprise : (wanted : Option Reqs) → re.kind_of wanted ≢ OpKind.Surprise
+no_surprise None e = cc
+no_surprise (Some wanted) e = cc
+
 other_plan : (o p : Operation) (reserved : List Res) (nodes : List Node) → IsOther o → SameWork o p → PlanKept (Some p) reserved nodes
 other_plan (Operation.Rebalancing q) p reserved nodes other work = absurd other
-other_plan _ (Operation.Rebalancing r) reserved nodes other work = absurd (let a = work.sort in let b = work.kind in cc)
+other_plan (Operation.Removing o) (Operation.Rebalancing r) reserved nodes other work = absurd (let a = work.sort in cc)
+other_plan (Operation.Surprising o) (Operation.Rebalancing r) reserved nodes other work = absurd (no_surprise r.wanted work.kind)
 other_plan _ _ reserved nodes other work = tt
 
 planned_as : (t : State) (o : Option Operation) (reserved : List Res) (nodes : List Node) → t.operation ≡ o → t.core.reserved ≡ reserved → t.core.nodes ≡ nodes → PlanKept o reserved nodes → IsPlanned t
@@ -240,7 +289,7 @@ event_plan s label t ranges (AnswerEffect.answered word nodes acts ok o runs now
 step_plan : (settings : Settings) (s : State) (label : Label) (t : State) → OpEffect s label t → Goes settings s (Did label) t → IsPlanned s → IsPlanned t
 step_plan settings s label t (OpEffect.idles none now prints) goes h = planned_as t None t.core.reserved t.core.nodes now refl refl tt
 step_plan settings s label t (OpEffect.begins kind node none alone at fits is) goes h =
-    subst (λ (x : Step). IsPlanned x.state) (sym is) (begun_plan s.core kind node)
+    subst (λ (x : Step). IsPlanned x.state) (sym is) (begun_plan s kind node)
 step_plan settings s label t (OpEffect.goes o p runs now work prints) goes h = goes_plan settings s label t o p runs now work goes h
 step_plan settings s label t (OpEffect.ends o result runs now prints by over) goes h = planned_as t None t.core.reserved t.core.nodes now refl refl tt
 

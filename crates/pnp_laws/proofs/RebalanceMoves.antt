@@ -1,5 +1,6 @@
 -- Each step of a rebalance: what it would restore, and whom it asked.
-use Rattle.std.proofs.Common.{ℕ, ◌≡◌, ◌⊎◌, inl, inr, Bool, true, false, not, ◌||◌, List, [], ◌∷◌, map, length, Some, refl, sym, ap, ◌∙◌, subst, arith, reverse, nat_le}
+use Rattle.std.proofs.Common.{ℕ, ◌≡◌, ◌⊎◌, inl, inr, Bool, true, false, not, ◌||◌, List, [], ◌∷◌, map, length, Option, Some, None, refl, sym, ap, ◌∙◌, subst, arith, reverse, nat_le}
+use Rattle.resource_reqs.specs.Resources.{Reqs, Fits}
 use Rattle.resource_reqs.specs.Spelling.{IsAnswer}
 use Rattle.resource_reqs.specs.Spelling.Answer.{assignment, no_fit, spent}
 use Rattle.resource_reqs.proofs.Answering.{no_fit_means}
@@ -18,11 +19,12 @@ use Rattle.pnp_labels.specs.declared.words.Answer.{Answer}
 use Rattle.pnp_labels.specs.declared.words.Answer.TheVariants.{Ok, Fail, Pend}
 use Rattle.pnp_labels.specs.declared.label.Label.{Label}
 use Rattle.pnp_labels.specs.declared.states.DevState.TheVariants.{Started, StopPending}
-use Rattle.pnp_laws.specs.Kept.{RebalanceKeeps, asking_state}
+use Rattle.pnp_laws.specs.Kept.{RebalanceKeeps, TargetFits, Waits, asking_state}
 use Rattle.pnp_laws.specs.Holdings.{has_plan}
-use Rattle.pnp_laws.specs.Rebalanced.{Paused, Undone, Asks, EndsBad, IsHopeless, AskedSince, Refusing}
-use Rattle.pnp_laws.proofs.Lists.{HeadIs, cons_here, cons_there, has_cases, head_found, head_has}
+use Rattle.pnp_laws.specs.Rebalanced.{EndsUndone, Moves, Paused, Undone, Asks, EndsBad, IsHopeless, AskedSince, Refusing}
+use Rattle.pnp_laws.proofs.Lists.{HeadIs, cons_here, cons_there, has_cases, head_found, head_has, member, without_none}
 use Rattle.pnp_laws.proofs.OpSteps.{is_Started}
+use Rattle.pnp_laws.proofs.RebalanceSteps.{head_pending}
 use Rattle.pnp_laws.proofs.Stages.{RebalanceStep, reply}
 use Rattle.pnp_laws.proofs.EffectsOfOperations.{SameRefused, re_ask_on, re_cancel_on, re_restart, re_stop_on}
 use Rattle.pnp_laws.proofs.Pauses.{above_low, above_paused, hopeless_before}
@@ -49,6 +51,7 @@ NoConflict _ = Unit {0}
 pub record SameDevice (r f : Rebalance) : Type 0 where
   pub target : f.target ≡ r.target
   pub path : f.path ≡ r.path
+  pub wanted : f.wanted ≡ r.wanted
 
 pub record MovesOn (before c : Core) (r : Rebalance) (stage : RebalanceStage) (m : re.RebalanceMove) : Type 0 where
   pub within : IsWithin m.label
@@ -76,7 +79,7 @@ asks_nobody before c r stage m none within on same undone asked quiet =
     record {
       within = within;
       on = on;
-      device = record { target = same.0.1; path = same.0.0 };
+      device = record { target = same.0.1; path = same.0.0; wanted = same.0.3 };
       undone = undone;
       asked = asked;
       told = λ k h. inl (subst (λ (x : List ℕ). has x k ≡ true) same.1 h);
@@ -87,29 +90,51 @@ asks_nobody before c r stage m none within on same undone asked quiet =
 
 -- What comes next -----------------------------------------------------------------------
 
-pub undone_ask_on : (before now : Core) (r : Rebalance) (ks : List ℕ) → Paused before now r.agreed → Undone before now (re.ask_on r ks) (re.ask_on r ks).stage
-undone_ask_on before now r [] h = h
-undone_ask_on before now r (k ∷ ks) h = h
+undone_cancelled : (before now : Core) (r : Rebalance) (wanted : Option Reqs) → r.wanted ≡ wanted → Paused before now [] → has_plan r.found ≡ false → Undone before now (record r { todo = []; stage = re.cancelled wanted }) (re.cancelled wanted)
+undone_cancelled before now r None is h e = (h, e)
+undone_cancelled before now r (Some wanted) is h e = subst (λ (x : Option Reqs). EndsUndone before now (record r { todo = []; stage = Ending }) x) (sym is) (inr h)
 
 undone_cancel_on : (before now : Core) (r : Rebalance) (ks : List ℕ) → Paused before now ks → has_plan r.found ≡ false → Undone before now (re.cancel_on r ks) (re.cancel_on r ks).stage
-undone_cancel_on before now r [] h e = (h, e)
+undone_cancel_on before now r [] h e = undone_cancelled before now r r.wanted refl h e
 undone_cancel_on before now r (k ∷ ks) h e = (h, e)
 
-undone_stop_on : (before now : Core) (r : Rebalance) (ks : List ℕ) → has_plan r.found ≡ true → Undone before now (re.stop_on r ks) (re.stop_on r ks).stage
+undone_search_on : (before now : Core) (r : Rebalance) (refused : Bool) → re.has_refused r ≡ refused → Paused before now r.agreed → has_plan r.found ≡ false → Undone before now (re.search_on r refused) (re.search_on r refused).stage
+undone_search_on before now r false is h e = (h, is)
+undone_search_on before now r true is h e = undone_cancel_on before now r r.agreed h e
+
+pub undone_ask_on : (before now : Core) (r : Rebalance) (ks : List ℕ) → Paused before now r.agreed → has_plan r.found ≡ false → Undone before now (re.ask_on r ks) (re.ask_on r ks).stage
+undone_ask_on before now r [] h e = undone_search_on before now r (re.has_refused r) refl h e
+undone_ask_on before now r (k ∷ ks) h e = (h, e)
+
+undone_stop_on : (before now : Core) (r : Rebalance) (ks : List ℕ) → Moves r → Undone before now (re.stop_on r ks) (re.stop_on r ks).stage
 undone_stop_on before now r [] h = h
 undone_stop_on before now r (k ∷ ks) h = h
 
-undone_restart : (before now : Core) (r : Rebalance) (ks : List ℕ) → has_plan r.found ≡ true → Undone before now (re.restart_from r ks) (re.restart_from r ks).stage
-undone_restart before now r [] h = inl h
+ends_moved : (before now : Core) (r : Rebalance) (wanted : Option Reqs) → Moves r → EndsUndone before now r wanted
+ends_moved before now r None h = inl h.0
+ends_moved before now r (Some wanted) h = inl h
+
+undone_restart : (before now : Core) (r : Rebalance) (ks : List ℕ) → Moves r → Undone before now (re.restart_from r ks) (re.restart_from r ks).stage
+undone_restart before now r [] h = ends_moved before now (record r { todo = []; stage = Ending }) r.wanted h
 undone_restart before now r (k ∷ ks) h = h
 
-pub asked_ask_on : (before : Core) (r : Rebalance) (ks : List ℕ) → Asks before.nodes ks r.agreed r.refused → AskedSince before (re.ask_on r ks) (re.ask_on r ks).stage
-asked_ask_on before r [] h = h
-asked_ask_on before r (k ∷ ks) h = (h, λ e. absurd (cc))
+asked_cancelled : (before : Core) (r : Rebalance) (wanted : Option Reqs) → Asks before.nodes [] r.agreed r.refused → IsHopeless before r → AskedSince before (record r { todo = []; stage = re.cancelled wanted }) (re.cancelled wanted)
+asked_cancelled before r None h g = (h, g)
+asked_cancelled before r (Some wanted) h g = tt
 
 asked_cancel_on : (before : Core) (r : Rebalance) (ks : List ℕ) → Asks before.nodes [] r.agreed r.refused → IsHopeless before r → AskedSince before (re.cancel_on r ks) (re.cancel_on r ks).stage
-asked_cancel_on before r [] h g = (h, g)
+asked_cancel_on before r [] h g = asked_cancelled before r r.wanted h g
 asked_cancel_on before r (k ∷ ks) h g = (h, g)
+
+asked_search_on : (before : Core) (r : Rebalance) (refused : Bool) → re.has_refused r ≡ refused → Asks before.nodes [] r.agreed r.refused → AskedSince before (re.search_on r refused) (re.search_on r refused).stage
+asked_search_on before r false is h = h
+asked_search_on before r true is h =
+    asked_cancel_on before r r.agreed h
+    (λ plain e. absurd (let none : true ≡ false = sym is ∙ ap (λ (x : Option Reqs). re.has_refused_in x (has r.agreed r.target)) plain in cc))
+
+pub asked_ask_on : (before : Core) (r : Rebalance) (ks : List ℕ) → Asks before.nodes ks r.agreed r.refused → AskedSince before (re.ask_on r ks) (re.ask_on r ks).stage
+asked_ask_on before r [] h = asked_search_on before r (re.has_refused r) refl h
+asked_ask_on before r (k ∷ ks) h = (h, λ e. absurd (cc))
 
 asked_stop_on : (before : Core) (r : Rebalance) (ks : List ℕ) → AskedSince before (re.stop_on r ks) (re.stop_on r ks).stage
 asked_stop_on before r [] = tt
@@ -133,16 +158,16 @@ record AtHead (c : Core) (r : Rebalance) (node : Node) : Type 0 where
   at : node_at node.serial c.nodes ≡ Some node
   state : node.state ≡ Started
 
-on_agreed : (before c : Core) (r : Rebalance) (node : Node) (w : Walk) → is_bad w ≡ false → AtHead c r node → Paused before c r.agreed → Asks before.nodes r.todo r.agreed r.refused → MovesOn before c r (Asking w) (re.end_ask c r node false)
-on_agreed before c r node w good head paused asks =
+on_agreed : (before c : Core) (r : Rebalance) (node : Node) (w : Walk) → is_bad w ≡ false → AtHead c r node → Paused before c r.agreed → has_plan r.found ≡ false → Asks before.nodes r.todo r.agreed r.refused → MovesOn before c r (Asking w) (re.end_ask c r node false)
+on_agreed before c r node w good head paused none asks =
     let f = record r { agreed = node.serial ∷ r.agreed } in
     let frame = re_ask_on f (rest r.todo) in
     let asks2 = asks_agreed before.nodes node.serial (rest r.todo) r.agreed r.refused (subst (λ (x : List ℕ). Asks before.nodes x r.agreed r.refused) head.form asks) in
     record {
       within = tt;
       on = tt;
-      device = record { target = frame.0.1; path = frame.0.0 };
-      undone = undone_ask_on before _ f (rest r.todo) (held_agreed StopPending before c node.serial r.agreed node head.at head.state paused);
+      device = record { target = frame.0.1; path = frame.0.0; wanted = frame.0.3 };
+      undone = undone_ask_on before _ f (rest r.todo) (held_agreed StopPending before c node.serial r.agreed node head.at head.state paused) none;
       asked = asked_ask_on before f (rest r.todo) asks2;
       told = λ k h. inl (subst (λ (x : List ℕ). has x k ≡ true) frame.1 h);
       keeps = λ k h. subst (λ (x : List ℕ). has x k ≡ true) (sym frame.1) h;
@@ -150,13 +175,13 @@ on_agreed before c r node w good head paused asks =
       quiet = inl tt;
     }
 
-on_refused : (before c : Core) (r : Rebalance) (node : Node) (w : Walk) → is_bad w ≡ true → AtHead c r node → Paused before c r.agreed → Asks before.nodes r.todo r.agreed r.refused → MovesOn before c r (Asking w) (re.end_ask c r node true)
-on_refused before c r node w bad head paused asks =
+on_refused : (before c : Core) (r : Rebalance) (node : Node) (w : Walk) → is_bad w ≡ true → AtHead c r node → Paused before c r.agreed → has_plan r.found ≡ false → Asks before.nodes r.todo r.agreed r.refused → MovesOn before c r (Asking w) (re.end_ask c r node true)
+on_refused before c r node w bad head paused none asks =
     record {
       within = tt;
       on = tt;
-      device = record { target = refl; path = refl };
-      undone = held_same StopPending before c node.serial node.state r.agreed node head.at refl paused;
+      device = record { target = refl; path = refl; wanted = refl };
+      undone = (held_same StopPending before c node.serial node.state r.agreed node head.at refl paused, none);
       asked = (node.serial, r.refused, refl, head.form, asks);
       told =
           λ k h. elim (has_cases node.serial k r.refused h) [
@@ -190,20 +215,29 @@ after_ends w Pend h e = absurd (cc)
 -- An ask of any stage --------------------------------------------------------------------------------
 
 -- nodes, relations and ranges stay
+ends_still : (before c d : Core) (r : Rebalance) (wanted : Option Reqs) → d.nodes ≡ c.nodes → d.relations ≡ c.relations → d.reserved ≡ c.reserved → EndsUndone before c r wanted → EndsUndone before d r wanted
+ends_still before c d r None a b e (inl h) = inl h
+ends_still before c d r None a b e (inr h) = inr (record { nodes = a ∙ h.nodes; relations = b ∙ h.relations; reserved = e ∙ h.reserved })
+ends_still before c d r (Some wanted) a b e (inl h) = inl h
+ends_still before c d r (Some wanted) a b e (inr h) = inr (held_still StopPending before c d [] a b e h)
+
 pub undone_still : (before c d : Core) (r : Rebalance) (stage : RebalanceStage) → d.nodes ≡ c.nodes → d.relations ≡ c.relations → d.reserved ≡ c.reserved → Undone before c r stage → Undone before d r stage
-undone_still before c d r (Asking w) a b e h = held_still StopPending before c d r.agreed a b e h
-undone_still before c d r (TakingBack w) a b e h = held_still StopPending before c d r.agreed a b e h
-undone_still before c d r Searching a b e h = held_still StopPending before c d r.agreed a b e h
+undone_still before c d r (Asking w) a b e h = (held_still StopPending before c d r.agreed a b e h.0, h.1)
+undone_still before c d r (TakingBack w) a b e h = (held_still StopPending before c d r.agreed a b e h.0, h.1)
+undone_still before c d r Searching a b e h = (held_still StopPending before c d r.agreed a b e h.0, h.1)
 undone_still before c d r (Cancelling w) a b e h = (held_still StopPending before c d r.todo a b e h.0, h.1)
 undone_still before c d r Stuck a b e h = (held_still StopPending before c d [] a b e h.0, h.1)
-undone_still before c d r Ending a b e (inl h) = inl h
-undone_still before c d r Ending a b e (inr h) = inr (record { nodes = a ∙ h.nodes; relations = b ∙ h.relations; reserved = e ∙ h.reserved })
+undone_still before c d r Ending a b e h = ends_still before c d r r.wanted a b e h
 undone_still before c d r _ a b e h = h
+
+ends_as : (before c : Core) (r : Rebalance) (wanted : Option Reqs) → EndsUndone before c r wanted → EndsUndone before c (record r { stage = Ending }) wanted
+ends_as before c r None (inl h) = inl h
+ends_as before c r None (inr h) = inr (record { nodes = h.nodes; relations = h.relations; reserved = h.reserved })
+ends_as before c r (Some wanted) h = h
 
 pub answered_undone : (before c : Core) (answer : Answer) (r : Rebalance) (stage : RebalanceStage) → Undone before c r stage →
     Undone before c (record r { stage = ev.completed_rebalance answer stage }) (ev.completed_rebalance answer stage)
-answered_undone before c answer r Ending (inl h) = inl h
-answered_undone before c answer r Ending (inr h) = inr (record { nodes = h.nodes; relations = h.relations; reserved = h.reserved })
+answered_undone before c answer r Ending h = ends_as before c r r.wanted h
 answered_undone before c answer r _ h = h
 
 -- who was asked, where a walk that is bad does not wait for its next answer
@@ -221,7 +255,7 @@ on_asks before c r stage node w walk more first undone since =
     record {
       within = tt;
       on = tt;
-      device = record { target = refl; path = refl };
+      device = record { target = refl; path = refl; wanted = refl };
       undone = answered_undone before now answer r stage (undone_still before c now r stage refl refl refl undone);
       asked = answered_asked before answer r stage (λ v is. subst (λ (x : Walk). EndsBad (after x answer)) (same_walk stage v w is walk) (after_ends w answer good)) since;
       told = λ k h. inl h;
@@ -235,8 +269,8 @@ on_asks before c r stage node w walk more first undone since =
 
 -- Taking back ------------------------------------------------------------------------------------------
 
-on_take_back : (next : ℕ) (before c : Core) (r : Rebalance) (node : Node) (w : Walk) → Tree next before → AtHead c r node → Paused before c r.agreed → AskedSince before r (TakingBack w) → MovesOn before c r (TakingBack w) (re.take_back c r node w true)
-on_take_back next before c r node w tree head paused (j, more, refused, form, asks) =
+on_take_back : (next : ℕ) (before c : Core) (r : Rebalance) (node : Node) (w : Walk) → Tree next before → AtHead c r node → Paused before c r.agreed → has_plan r.found ≡ false → AskedSince before r (TakingBack w) → MovesOn before c r (TakingBack w) (re.take_back c r node w true)
+on_take_back next before c r node w tree head paused none (j, more, refused, form, asks) =
     let test = re.is_not_above c.nodes node.serial in
     let own : j ≡ node.serial = let f = head.form in cc in
     let up : above c.nodes node.serial ≡ above before.nodes node.serial =
@@ -247,25 +281,42 @@ on_take_back next before c r node w tree head paused (j, more, refused, form, as
     let asks3 = subst (λ (x : List ℕ). Asks before.nodes (those (λ i. not (has x i)) (rest r.todo)) r.agreed (node.serial ∷ more)) (sym up) asks2 in
     let asks4 = subst (λ (x : List ℕ). Asks before.nodes (those test (rest r.todo)) r.agreed x) (ap (λ (i : ℕ). i ∷ more) (sym own) ∙ sym refused) asks3 in
     asks_nobody before c r (TakingBack w) _ tt tt tt (re_ask_on r (those test (rest r.todo)))
-    (undone_ask_on before _ r (those test (rest r.todo)) (held_same StopPending before c node.serial Started r.agreed node head.at head.state paused))
+    (undone_ask_on before _ r (those test (rest r.todo)) (held_same StopPending before c node.serial Started r.agreed node head.at head.state paused) none)
     (asked_ask_on before r (those test (rest r.todo)) asks4) (inl tt)
 
 -- The search ------------------------------------------------------------------------------------
 
-on_searched : (before c : Core) (r : Rebalance) (budget : ℕ) (found : Found) → IsAnswer (fixed_beside c (re.movers r)) (map (λ k. re.reqs_of (node_at k c.nodes)) (re.movers r)) budget found → Paused before c r.agreed → Asks before.nodes [] r.agreed r.refused →
+-- the device of a rebalance is none of those that agreed
+target_not : (c : Core) (r : Rebalance) → RebalanceKeeps r Searching c.nodes → r.wanted ≡ None → has r.agreed r.target ≡ false
+target_not c r keeps plain =
+    let waits : Waits r.target c.nodes = subst (λ (x : Option Reqs). TargetFits x r.target c.nodes) plain keeps.waits in
+    elim (member r.agreed r.target) [
+      | inl h ↦ absurd (let state = head_pending r.agreed r.target waits.0.state h (keeps.each r.target waits.0 waits.1) in let up = waits.2 in cc)
+      | inr h ↦ h
+    ]
+
+-- so where nothing was found for it, nothing fits it and them
+nothing_fits : (c : Core) (r : Rebalance) (budget : ℕ) → RebalanceKeeps r Searching c.nodes → IsAnswer (re.group_problem c r).fixed (re.group_problem c r).movers budget no_fit → r.wanted ≡ None → NothingFits c (r.target ∷ r.agreed)
+nothing_fits c r budget keeps answer plain fits =
+    let alone : re.movers r ≡ r.target ∷ r.agreed = ap (λ (ks : List ℕ). r.target ∷ ks) (without_none r.target r.agreed (target_not c r keeps plain)) in
+    let own : re.target_reqs c r ≡ re.reqs_of (node_at r.target c.nodes) = ap (λ (x : Option Reqs). re.reqs_or x (re.reqs_of (node_at r.target c.nodes))) plain in
+    ((no_fit_means (re.group_problem c r).fixed (re.group_problem c r).movers budget).0 answer).0
+    (subst (λ (x : Reqs). Fits (fixed_beside c (re.movers r)) (x ∷ map (λ k. re.reqs_of (node_at k c.nodes)) (re.others r))) (sym own)
+    (subst (λ (ks : List ℕ). Fits (fixed_beside c ks) (map (λ k. re.reqs_of (node_at k c.nodes)) ks)) (sym alone) fits))
+
+on_searched : (before c : Core) (r : Rebalance) (budget : ℕ) (found : Found) → RebalanceKeeps r Searching c.nodes → IsAnswer (re.group_problem c r).fixed (re.group_problem c r).movers budget found → Undone before c r Searching → Asks before.nodes [] r.agreed r.refused →
     MovesOn before c r Searching (re.searched c r found)
-on_searched before c r budget (assignment plan) answer paused asks =
+on_searched before c r budget (assignment plan) keeps answer undone asks =
     let f = record r { found = assignment plan } in
-    asks_nobody before c r Searching _ tt tt tt (re_stop_on f (reverse r.agreed)) (undone_stop_on before c f (reverse r.agreed) refl) (asked_stop_on before f (reverse r.agreed)) (inl tt)
-on_searched before c r budget no_fit answer paused asks =
+    asks_nobody before c r Searching _ tt tt tt (re_stop_on f (reverse r.agreed)) (undone_stop_on before c f (reverse r.agreed) (refl, undone.1)) (asked_stop_on before f (reverse r.agreed)) (inl tt)
+on_searched before c r budget no_fit keeps answer undone asks =
     let f = record r { found = no_fit } in
-    let none : NothingFits c (re.movers r) = ((no_fit_means (fixed_beside c (re.movers r)) (map (λ k. re.reqs_of (node_at k c.nodes)) (re.movers r)) budget).0 answer).0 in
-    asks_nobody before c r Searching _ tt tt tt (re_cancel_on f r.agreed) (undone_cancel_on before c f r.agreed paused refl)
-    (asked_cancel_on before f r.agreed asks (λ e. hopeless_before before c r.agreed (re.movers r) paused none)) (inl tt)
-on_searched before c r budget spent answer paused asks =
+    asks_nobody before c r Searching _ tt tt tt (re_cancel_on f r.agreed) (undone_cancel_on before c f r.agreed undone.0 refl)
+    (asked_cancel_on before f r.agreed asks (λ plain e. hopeless_before before c r.agreed (r.target ∷ r.agreed) undone.0 (nothing_fits c r budget keeps answer plain))) (inl tt)
+on_searched before c r budget spent keeps answer undone asks =
     let f = record r { found = spent } in
-    asks_nobody before c r Searching _ tt tt tt (re_cancel_on f r.agreed) (undone_cancel_on before c f r.agreed paused refl)
-    (asked_cancel_on before f r.agreed asks (λ e. absurd (cc))) (inl tt)
+    asks_nobody before c r Searching _ tt tt tt (re_cancel_on f r.agreed) (undone_cancel_on before c f r.agreed undone.0 refl)
+    (asked_cancel_on before f r.agreed asks (λ plain e. absurd (cc))) (inl tt)
 
 -- Nothing was found -------------------------------------------------------------------------------
 
@@ -275,30 +326,31 @@ on_cancel before c r node w form undone asked =
     asks_nobody before c r (Cancelling w) _ tt tt tt (re_cancel_on r (rest r.todo)) (undone_cancel_on before _ r (rest r.todo) back undone.1)
     (asked_cancel_on before r (rest r.todo) asked.0 asked.1) (inl tt)
 
-on_stuck : (before c : Core) (r : Rebalance) → Undone before c r Stuck → MovesOn before c r Stuck (re.stuck c r)
-on_stuck before c r undone =
-    asks_nobody before c r Stuck _ tt tt tt ((refl, refl, refl), refl)
-    (inr (record { nodes = ap (λ (x : List Node). changed_first (is_node r.target) (with_problem (Some (re.trouble_of r.found))) x) undone.0.nodes; relations = undone.0.relations; reserved = undone.0.reserved }))
-    tt (inr (refl, refl))
+on_stuck : (before c : Core) (r : Rebalance) → r.wanted ≡ None → Undone before c r Stuck → MovesOn before c r Stuck (re.stuck c r)
+on_stuck before c r plain undone =
+    let f = record r { stage = Ending } in
+    let troubled : EndsUndone before (re.stuck c r).core f None =
+    inr (record { nodes = ap (λ (x : List Node). changed_first (is_node r.target) (with_problem (Some (re.trouble_of r.found))) x) undone.0.nodes; relations = undone.0.relations; reserved = undone.0.reserved }) in
+    asks_nobody before c r Stuck _ tt tt tt ((refl, refl, refl, refl), refl) (subst (λ (x : Option Reqs). EndsUndone before (re.stuck c r).core f x) (sym plain) troubled) tt (inr (refl, refl))
 
 -- A plan was found ----------------------------------------------------------------------------------
 
-on_stop : (before c : Core) (r : Rebalance) (node : Node) (w : Walk) → has_plan r.found ≡ true → MovesOn before c r (Stopping w) (re.stop_step c r node w true)
+on_stop : (before c : Core) (r : Rebalance) (node : Node) (w : Walk) → Moves r → MovesOn before c r (Stopping w) (re.stop_step c r node w true)
 on_stop before c r node w h =
     asks_nobody before c r (Stopping w) _ tt tt tt (re_stop_on r (rest r.todo)) (undone_stop_on before _ r (rest r.todo) h) (asked_stop_on before r (rest r.todo)) (inl tt)
 
-on_commit : (before c : Core) (r : Rebalance) → has_plan r.found ≡ true → MovesOn before c r Committing (re.commit_step c r)
+on_commit : (before c : Core) (r : Rebalance) → Moves r → MovesOn before c r Committing (re.commit_step c r)
 on_commit before c r h =
     let ks = re.startable c.nodes r.agreed in
     asks_nobody before c r Committing _ tt tt tt (re_restart r ks) (undone_restart before _ r ks h) (asked_restart before r ks) (inl tt)
 
-on_end_restart : (before c : Core) (r : Rebalance) (node : Node) (w : Walk) (bad : Bool) → has_plan r.found ≡ true → MovesOn before c r (Restarting w) (re.end_restart c r node bad)
-on_end_restart before c r node w true h = asks_nobody before c r (Restarting w) _ tt tt tt ((refl, refl, refl), refl) h tt (inl tt)
+on_end_restart : (before c : Core) (r : Rebalance) (node : Node) (w : Walk) (bad : Bool) → Moves r → MovesOn before c r (Restarting w) (re.end_restart c r node bad)
+on_end_restart before c r node w true h = asks_nobody before c r (Restarting w) _ tt tt tt ((refl, refl, refl, refl), refl) h tt (inl tt)
 on_end_restart before c r node w false h =
     let ks = re.startable (ended c node Minor.Start false).nodes (rest r.todo) in
     asks_nobody before c r (Restarting w) _ tt tt tt (re_restart r ks) (undone_restart before _ r ks h) (asked_restart before r ks) (inl tt)
 
-on_failed : (before c : Core) (r : Rebalance) (node : Node) → has_plan r.found ≡ true → MovesOn before c r Failed (re.failed c r node)
+on_failed : (before c : Core) (r : Rebalance) (node : Node) → Moves r → MovesOn before c r Failed (re.failed c r node)
 on_failed before c r node h =
     let ks = re.startable c.nodes (rest r.todo) in
     asks_nobody before c r Failed _ tt tt tt (re_restart r ks) (undone_restart before _ r ks h) (asked_restart before r ks) (inl tt)
@@ -317,13 +369,13 @@ started_head c r node first each =
     record { first = first; form = head_form node.serial r.todo h.0; at = h.1; state = is_Started node.state (grind (arith)) }
 
 pub rebalance_moves : (next : ℕ) (before c : Core) (r : Rebalance) (stage : RebalanceStage) (m : re.RebalanceMove) → Tree next before → RebalanceKeeps r stage c.nodes → Undone before c r stage → AskedSince before r stage → RebalanceStep c r stage m → OnOrOver before c r stage m
-rebalance_moves next before c r stage m tree keeps undone asked (RebalanceStep.agrees node w e good) = inl (on_agreed before c r node w good (started_head c r node e.first keeps.each) undone asked.0)
-rebalance_moves next before c r stage m tree keeps undone asked (RebalanceStep.refuses node w e bad) = inl (on_refused before c r node w bad (started_head c r node e.first keeps.each) undone asked.0)
-rebalance_moves next before c r stage m tree keeps undone asked (RebalanceStep.takes_back node w e) = inl (on_take_back next before c r node w tree (started_head c r node e.first keeps.each) undone asked)
-rebalance_moves next before c r stage m tree keeps undone asked (RebalanceStep.searches found budget answer) = inl (on_searched before c r budget found answer undone asked)
+rebalance_moves next before c r stage m tree keeps undone asked (RebalanceStep.agrees node w e good) = inl (on_agreed before c r node w good (started_head c r node e.first keeps.each) undone.0 undone.1 asked.0)
+rebalance_moves next before c r stage m tree keeps undone asked (RebalanceStep.refuses node w e bad) = inl (on_refused before c r node w bad (started_head c r node e.first keeps.each) undone.0 undone.1 asked.0)
+rebalance_moves next before c r stage m tree keeps undone asked (RebalanceStep.takes_back node w e) = inl (on_take_back next before c r node w tree (started_head c r node e.first keeps.each) undone.0 undone.1 asked)
+rebalance_moves next before c r stage m tree keeps undone asked (RebalanceStep.searches found budget answer) = inl (on_searched before c r budget found keeps answer undone asked)
 rebalance_moves next before c r stage m tree keeps undone asked (RebalanceStep.cancels node w e) =
     inl (on_cancel before c r node w (head_form node.serial r.todo (head_found c.nodes r.todo node e.first).0) undone asked)
-rebalance_moves next before c r stage m tree keeps undone asked RebalanceStep.sticks = inl (on_stuck before c r undone)
+rebalance_moves next before c r stage m tree keeps undone asked RebalanceStep.sticks = inl (on_stuck before c r keeps.asks undone)
 rebalance_moves next before c r stage m tree keeps undone asked (RebalanceStep.stops node w e) = inl (on_stop before c r node w undone)
 rebalance_moves next before c r stage m tree keeps undone asked RebalanceStep.commits = inl (on_commit before c r undone)
 rebalance_moves next before c r stage m tree keeps undone asked (RebalanceStep.restarts node w e good) = inl (on_end_restart before c r node w false undone)

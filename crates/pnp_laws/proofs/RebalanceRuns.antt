@@ -1,6 +1,7 @@
 -- A rebalance from its begin on: what it would restore, and who refused, in each state until its end.
 use Rattle.std.proofs.Common.{ℕ, ◌≡◌, ◌⊎◌, inl, inr, Bool, true, false, List, [], ◌∷◌, Option, Some, None, refl, sym, ap, ◌∙◌, subst, reverse}
 use Rattle.std.specs.Option.{option_map}
+use Rattle.resource_reqs.specs.Resources.{Reqs}
 use Rattle.resource_reqs.specs.Spelling.Answer.{no_fit}
 use Rattle.pnp_model.specs.Keyed.{those}
 use Rattle.pnp_model.specs.Records.{Node, Core, Driver, Walk, State, Step, Settings, Operation, Rebalance, RebalanceStage, Doing, doing_map}
@@ -15,6 +16,7 @@ use Rattle.pnp_model.specs.Runs.Entry.{Happens, Did}
 use Rattle.pnp_model.specs.Laws.{IsWithin, AllWithin, Refuses, RefusedSince}
 use Rattle.pnp_labels.specs.declared.label.Label.{Label}
 use Rattle.pnp_labels.specs.declared.label.OpKind.{OpKind}
+use Rattle.pnp_laws.specs.Effects.{begun}
 use Rattle.pnp_laws.specs.Kept.{Ascending, IsGood, OperationFits, RebalanceKeeps}
 use Rattle.pnp_laws.specs.Reached.{IsReached}
 use Rattle.pnp_laws.specs.Rebalanced.{Undone, EndsBad, AskedSince, Refusing, Underway}
@@ -75,6 +77,7 @@ record Follows (path : List ℕ) (before : Core) (s : State) (r : Rebalance) (t 
   told : (k : ℕ) → has under.frame.refused k ≡ true → (has r.refused k ≡ true) ⊎ Refuses s k
   keeps : (k : ℕ) → has r.refused k ≡ true → has under.frame.refused k ≡ true
   tells : (k : ℕ) → Refuses s k → has under.frame.refused k ≡ true
+  wanted : under.frame.wanted ≡ r.wanted
 
 pub after_core : (r : Rebalance) (beside : re.RebalanceBeside) (c : Core) (s : State) → (ma.after_rebalance r beside (with_core c s)).core ≡ c
 after_core r re.RebalanceBeside.On c s = refl
@@ -116,6 +119,7 @@ follows_step path before s label t u h =
       told = λ k g. elim (on.told k g) [ inl e ↦ inl e | inr e ↦ inr (refuses s r k u.runs e) ];
       keeps = on.keeps;
       tells = λ k g. on.tells k (refusing s r k u.runs g);
+      wanted = on.device.wanted;
     }
 
 -- An event -----------------------------------------------------------------------------------------
@@ -150,6 +154,7 @@ follows_answer path before settings s t label u quiet out (inl e) =
       told = λ k h. inl h;
       keeps = λ k h. h;
       tells = λ k h. absurd (not_quiet settings s r k u.runs (λ w z. asking_ends before r r.stage w z u.asked) (refusing s r k u.runs h) quiet);
+      wanted = refl;
     }
 follows_answer path before settings s t label u quiet out (inr (ok, o, e, q)) =
     let r = u.frame in
@@ -167,6 +172,7 @@ follows_answer path before settings s t label u quiet out (inr (ok, o, e, q)) =
       told = λ k h. inl h;
       keeps = λ k h. h;
       tells = λ k h. absurd (not_quiet settings s r k u.runs (λ w z. asking_ends before r r.stage w z u.asked) (refusing s r k u.runs h) quiet);
+      wanted = refl;
     }
 
 -- One entry of a run -------------------------------------------------------------------------------
@@ -192,6 +198,7 @@ pub record Lasts (settings : Settings) (path : List ℕ) (before : Core) (s : St
   pub told : (k : ℕ) → has under.frame.refused k ≡ true → (has r.refused k ≡ true) ⊎ RefusedSince settings s entries t k
   pub keeps : (k : ℕ) → has r.refused k ≡ true → has under.frame.refused k ≡ true
   pub tells : (k : ℕ) → Refuses s k → Refuses t k ⊎ (has under.frame.refused k ≡ true)
+  pub wanted : under.frame.wanted ≡ r.wanted
 
 -- what was refused later was refused since
 refused_later : (settings : Settings) (s mid t : State) (entry : Entry) (rest : List Entry) (k : ℕ) → Goes settings s entry mid → RefusedSince settings mid rest t k → RefusedSince settings s (entry ∷ rest) t k
@@ -201,7 +208,7 @@ refused_later settings s mid t entry rest k goes (x, (xs, ys, e, run, more), h) 
 pub lasts : (settings : Settings) (rack : List Driver) (path : List ℕ) (next : ℕ) (before : Core) → Tree next before →
     (s : State) (entries : List Entry) (t : State) → IsReached settings rack s → (u : Underway path before s) → AllWithin entries → Run settings s entries t → Lasts settings path before s u.frame entries t
 lasts settings rack path next before tree s [] t reached u within run =
-    let here : Lasts settings path before s u.frame [] s = record { under = u; told = λ k h. inl h; keeps = λ k h. h; tells = λ k h. inl h } in
+    let here : Lasts settings path before s u.frame [] s = record { under = u; told = λ k h. inl h; keeps = λ k h. h; tells = λ k h. inl h; wanted = refl } in
     subst (λ (x : State). Lasts settings path before s u.frame [] x) (sym run) here
 lasts settings rack path next before tree s (entry ∷ rest) t reached u within (mid, goes, run) =
     let after = follows path next before settings s entry mid u tree (reached_is_good settings rack s reached) within.0 goes in
@@ -218,29 +225,33 @@ lasts settings rack path next before tree s (entry ∷ rest) t reached u within 
           ];
       keeps = λ k h. more.keeps k (after.keeps k h);
       tells = λ k h. inr (more.keeps k (after.tells k h));
+      wanted = more.wanted ∙ after.wanted;
     }
 
 -- The begin -----------------------------------------------------------------------------------------
 
-abbrev fresh : Node → Rebalance
-fresh node = record { target = node.serial; path = node.path; todo = []; agreed = []; refused = []; found = no_fit; stage = Searching }
+abbrev fresh : Node → Option Reqs → Rebalance
+fresh node wanted = record { target = node.serial; path = node.path; wanted = wanted; todo = []; agreed = []; refused = []; found = no_fit; stage = Searching }
 
-pub underway_begun : (path : List ℕ) (s t : State) (b : Begun s OpKind.Rebalance path t) → Ascending 0 s.core.nodes →
-    (u : Underway path s.core t) × (u.frame.refused ≡ [])
-underway_begun path s t b order =
+-- one that began is under way
+pub underway_begun : (path : List ℕ) (kind : OpKind) (wanted : Option Reqs) (s t : State) (b : Begun s kind path t) → begun s kind b.node ≡ Operation.Rebalancing (re.begun_with s.core b.node wanted) → Ascending 0 s.core.nodes →
+    (u : Underway path s.core t) × (u.frame.refused ≡ []) × (u.frame.wanted ≡ wanted)
+underway_begun path kind wanted s t b form order =
     let node = b.node in
+    let first = fresh node wanted in
     let ks = reverse (serials_of (those re.is_asked s.core.nodes)) in
-    let r = re.begun_rebalance s.core node in
-    let same : SameRefused (fresh node) r = re_ask_on (fresh node) ks in
+    let r = re.begun_with s.core node wanted in
+    let same : SameRefused first r = re_ask_on first ks in
     let core : t.core ≡ s.core = ap (λ (x : State). x.core) b.is in (
       record {
         frame = r;
-        runs = ap (λ (x : State). x.operation) b.is;
+        runs = ap (λ (x : State). x.operation) b.is ∙ ap Some form;
         named = same.0.0 ∙ b.named;
         target = (node, subst (λ (i : ℕ). node_at i s.core.nodes ≡ Some node) (sym same.0.1) b.at, b.named);
         undone = subst (λ (c : Core). Undone s.core c r r.stage) (sym core)
-            (undone_ask_on s.core s.core (fresh node) ks (record { nodes = refl; back = tt; relations = refl; reserved = refl }));
-        asked = asked_ask_on s.core (fresh node) ks (asks_begun s.core.nodes order);
+            (undone_ask_on s.core s.core first ks (record { nodes = refl; back = tt; relations = refl; reserved = refl }) refl);
+        asked = asked_ask_on s.core first ks (asks_begun s.core.nodes order);
       },
       same.1,
+      same.0.3,
     )

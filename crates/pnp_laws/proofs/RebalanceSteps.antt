@@ -12,13 +12,13 @@ use Rattle.pnp_model.specs.Walks.{walk_of}
 use Rattle.pnp_model.specs.Tests.{has, is_started}
 use Rattle.pnp_model.specs.Trees.{stands_up}
 use Rattle.pnp_model.specs.Frames.{rest}
-use Rattle.pnp_model.specs.Rebalances.{RebalanceMove, ask_on, cancel_on, stop_on, startable, restart_from, restart_on, is_asked, begun_rebalance, is_not_above, searched, trouble_of, committed, movers, plan_of, end_of, moved_on, over}
+use Rattle.resource_reqs.specs.Resources.{Reqs}
+use Rattle.pnp_model.specs.Rebalances.{RebalanceMove, ask_on, cancelled, cancel_on, has_refused, search_on, stop_on, startable, restart_from, restart_on, is_asked, begun_with, begun_rebalance, begun_change, is_not_above, searched, trouble_of, committed, kind_of, movers, plan_of, moved_on, over, result}
 use Rattle.pnp_model.specs.Machine.{rebalance_lifted}
-use Rattle.pnp_laws.specs.Kept.{Good, Lawful, Each, OperationFits, Distinct, Apart, Within, Waits, RebalanceKeeps, asking_state, pending_state, stopping_state, stopped_state, Fits, is_calm, is_stopped}
+use Rattle.pnp_laws.specs.Kept.{Good, Lawful, Each, OperationFits, Distinct, Apart, Within, Waits, Changes, TargetFits, is_changing, RebalanceKeeps, asking_state, pending_state, stopping_state, stopped_state, Fits, is_calm, is_stopped}
 use Rattle.pnp_labels.specs.declared.states.DevState.{DevState}
 use Rattle.pnp_labels.specs.declared.words.Minor.{Minor}
 use Rattle.pnp_labels.specs.declared.label.Label.{Label}
-use Rattle.pnp_labels.specs.declared.label.OpKind.{OpKind}
 use Rattle.pnp_labels.specs.declared.states.Problem.{Problem}
 use Rattle.pnp_labels.specs.declared.states.DevState.TheVariants.{NotStarted, Started, StopPending, Stopped}
 use Rattle.pnp_laws.proofs.Lookups.{own_serial, found_self, node_changed_same, node_changed_other}
@@ -27,7 +27,7 @@ use Rattle.pnp_model.specs.Records.Phase.{Starting, Removing}
 use Rattle.pnp_laws.proofs.Diagrams.{Each_changed, Each_same, Each_mapped}
 use Rattle.pnp_laws.proofs.Kept.{lawful_by, Good_nodes, Good_mapped}
 use Rattle.pnp_laws.proofs.Lists.{HeadIs, head_has, rest_has, rest_not, rest_distinct, rest_within, those_has, those_not, those_distinct, those_found, serials_distinct}
-use Rattle.pnp_laws.proofs.OpSteps.{lawful_walked, lawful_still, lawful_close, waits_changed, waits_mapped, is_Started, is_StopPending, is_Stopped, started_calm, stopped_calm, has-reverse, Distinct-reverse}
+use Rattle.pnp_laws.proofs.OpSteps.{lawful_walked, lawful_still, lawful_close, target_changed, target_mapped, target_there, is_Started, is_StopPending, is_Stopped, started_calm, stopped_calm, has-reverse, Distinct-reverse}
 use Rattle.pnp_laws.proofs.Truths.{and_both}
 use Rattle.pnp_laws.proofs.FinishSteps.{at_work, lawful_ended}
 use Rattle.pnp_laws.proofs.RemovalSteps.{asked_apart}
@@ -35,23 +35,33 @@ use Rattle.pnp_laws.proofs.Stages.{RebalanceStep}
 
 -- What comes next keeps the facts ------------------------------------------------
 
-fits_ask_on : (r : Rebalance) (ks : List ℕ) (nodes : List Node) → Distinct ks → Distinct r.agreed → has ks 0 ≡ false → has r.agreed 0 ≡ false → Apart ks r.agreed →
-    Each (asking_state ks r.agreed) nodes → Waits r.target nodes → OperationFits (Some (Operation.Rebalancing (ask_on r ks))) nodes
-fits_ask_on r [] nodes a b c d e each waits = record { todo = tt; agreed = b; rootless = refl; no_root = d; asks = tt; each = each; waits = waits }
-fits_ask_on r (k ∷ ks) nodes a b c d e each waits = record { todo = a; agreed = b; rootless = c; no_root = d; asks = e; each = each; waits = waits }
+fits_cancelled : (r : Rebalance) (wanted : Option Reqs) (nodes : List Node) → r.wanted ≡ wanted → Distinct r.agreed → has r.agreed 0 ≡ false →
+    Each (λ k x. is_calm x) nodes → TargetFits r.wanted r.target nodes → OperationFits (Some (Operation.Rebalancing (record r { todo = []; stage = cancelled wanted }))) nodes
+fits_cancelled r None nodes e b d each waits = record { todo = tt; agreed = b; rootless = refl; no_root = d; asks = e; each = each; waits = waits }
+fits_cancelled r (Some wanted) nodes e b d each waits = record { todo = tt; agreed = b; rootless = refl; no_root = d; asks = tt; each = each; waits = waits }
 
 fits_cancel_on : (r : Rebalance) (ks : List ℕ) (nodes : List Node) → Distinct ks → Distinct r.agreed → has ks 0 ≡ false → has r.agreed 0 ≡ false →
-    Each (pending_state ks) nodes → Waits r.target nodes → OperationFits (Some (Operation.Rebalancing (cancel_on r ks))) nodes
-fits_cancel_on r [] nodes a b c d each waits = record { todo = tt; agreed = b; rootless = refl; no_root = d; asks = tt; each = each; waits = waits }
+    Each (pending_state ks) nodes → TargetFits r.wanted r.target nodes → OperationFits (Some (Operation.Rebalancing (cancel_on r ks))) nodes
+fits_cancel_on r [] nodes a b c d each waits = fits_cancelled r r.wanted nodes refl b d each waits
 fits_cancel_on r (k ∷ ks) nodes a b c d each waits = record { todo = a; agreed = b; rootless = c; no_root = d; asks = tt; each = each; waits = waits }
 
+fits_search_on : (r : Rebalance) (refused : Bool) (nodes : List Node) → Distinct r.agreed → has r.agreed 0 ≡ false →
+    Each (pending_state r.agreed) nodes → TargetFits r.wanted r.target nodes → OperationFits (Some (Operation.Rebalancing (search_on r refused))) nodes
+fits_search_on r false nodes b d each waits = record { todo = tt; agreed = b; rootless = refl; no_root = d; asks = tt; each = each; waits = waits }
+fits_search_on r true nodes b d each waits = fits_cancel_on r r.agreed nodes b b d d each waits
+
+fits_ask_on : (r : Rebalance) (ks : List ℕ) (nodes : List Node) → Distinct ks → Distinct r.agreed → has ks 0 ≡ false → has r.agreed 0 ≡ false → Apart ks r.agreed →
+    Each (asking_state ks r.agreed) nodes → TargetFits r.wanted r.target nodes → OperationFits (Some (Operation.Rebalancing (ask_on r ks))) nodes
+fits_ask_on r [] nodes a b c d e each waits = fits_search_on r (has_refused r) nodes b d each waits
+fits_ask_on r (k ∷ ks) nodes a b c d e each waits = record { todo = a; agreed = b; rootless = c; no_root = d; asks = e; each = each; waits = waits }
+
 fits_stop_on : (r : Rebalance) (ks : List ℕ) (nodes : List Node) → Distinct ks → Distinct r.agreed → has ks 0 ≡ false → has r.agreed 0 ≡ false → Within ks r.agreed →
-    Each (stopping_state ks r.agreed) nodes → Waits r.target nodes → OperationFits (Some (Operation.Rebalancing (stop_on r ks))) nodes
+    Each (stopping_state ks r.agreed) nodes → TargetFits r.wanted r.target nodes → OperationFits (Some (Operation.Rebalancing (stop_on r ks))) nodes
 fits_stop_on r [] nodes a b c d e each waits = record { todo = tt; agreed = b; rootless = refl; no_root = d; asks = tt; each = each; waits = waits }
 fits_stop_on r (k ∷ ks) nodes a b c d e each waits = record { todo = a; agreed = b; rootless = c; no_root = d; asks = e; each = each; waits = waits }
 
 fits_restart_from : (r : Rebalance) (ks : List ℕ) (nodes : List Node) → Distinct ks → Distinct r.agreed → has ks 0 ≡ false → has r.agreed 0 ≡ false →
-    Each (stopped_state ks) nodes → Waits r.target nodes → OperationFits (Some (Operation.Rebalancing (restart_from r ks))) nodes
+    Each (stopped_state ks) nodes → TargetFits r.wanted r.target nodes → OperationFits (Some (Operation.Rebalancing (restart_from r ks))) nodes
 fits_restart_from r [] nodes a b c d each waits = record { todo = tt; agreed = b; rootless = refl; no_root = d; asks = tt; each = each; waits = waits }
 fits_restart_from r (k ∷ ks) nodes a b c d each waits = record { todo = a; agreed = b; rootless = c; no_root = d; asks = tt; each = each; waits = waits }
 
@@ -77,7 +87,7 @@ fewer_stopped ks js k x within h =
     by_two (has ks k) (has js k) within h
 
 fits_restart_on : (others : List Node) (r : Rebalance) (ks : List ℕ) (nodes : List Node) → Distinct ks → Distinct r.agreed → has ks 0 ≡ false → has r.agreed 0 ≡ false →
-    Each (stopped_state ks) nodes → Waits r.target nodes → OperationFits (Some (Operation.Rebalancing (restart_on others r ks))) nodes
+    Each (stopped_state ks) nodes → TargetFits r.wanted r.target nodes → OperationFits (Some (Operation.Rebalancing (restart_on others r ks))) nodes
 fits_restart_on others r ks nodes a b c d each waits =
     fits_restart_from r (startable others ks) nodes (startable_distinct others ks a) b (startable_has others ks 0 c) d
     (Each_same (stopped_state ks) (stopped_state (startable others ks)) nodes
@@ -144,6 +154,20 @@ problem_waits k j problem nodes w =
       | inr d ↦ (w.0, node_changed_other j k (with_problem problem) nodes (λ x. refl) d ∙ w.1, w.2)
     ]
 
+problem_changes : (k j : ℕ) (problem : Option Problem) (nodes : List Node) → Changes k nodes → Changes k (changed_first (is_node j) (with_problem problem) nodes)
+problem_changes k j problem nodes w =
+    elim (cases_eq j k) [
+      | inl e ↦
+          let same = node_changed_same k (with_problem problem) nodes (λ x. refl) in
+          let there = w.1 in
+          (with_problem problem w.0, subst (λ (i : ℕ). node_at k (changed_first (is_node i) (with_problem problem) nodes) ≡ Some (with_problem problem w.0)) (sym e) (same ∙ ap (option_map (with_problem problem)) there), w.2, w.3)
+      | inr d ↦ (w.0, node_changed_other j k (with_problem problem) nodes (λ x. refl) d ∙ w.1, w.2, w.3)
+    ]
+
+problem_target : (wanted : Option Reqs) (k j : ℕ) (problem : Option Problem) (nodes : List Node) → TargetFits wanted k nodes → TargetFits wanted k (changed_first (is_node j) (with_problem problem) nodes)
+problem_target None k j problem nodes w = problem_waits k j problem nodes w
+problem_target (Some wanted) k j problem nodes w = problem_changes k j problem nodes w
+
 stop_here : (todo agreed : List ℕ) (j : ℕ) → has todo j ≡ false → has agreed j ≡ true → stopping_state todo agreed j Stopped ≡ true
 stop_here todo agreed j h g = grind (arith)
 
@@ -157,20 +181,20 @@ calm_stopped : (todo : List ℕ) (k : ℕ) (x : DevState) → has todo k ≡ fal
 calm_stopped todo k x h g = grind (arith)
 
 lawful_then : (s t : State) (r : Rebalance) (phase : Phase) → t.next_serial ≡ s.next_serial → t.core.nodes ≡ s.core.nodes → t.activities ≡ entered (record { serial = r.target; phase = phase }) s.activities → t.operation ≡ None →
-    s.activities ≡ [] → Fits phase NotStarted → RebalanceKeeps r Ending s.core.nodes → Good s.next_serial s.core.nodes [] (Some (Operation.Rebalancing r)) → Lawful t
-lawful_then s t r phase a b c d alone fit keeps good =
-    let node = keeps.waits.0 in
+    s.activities ≡ [] → Fits phase NotStarted → Waits r.target s.core.nodes → RebalanceKeeps r Ending s.core.nodes → Good s.next_serial s.core.nodes [] (Some (Operation.Rebalancing r)) → Lawful t
+lawful_then s t r phase a b c d alone fit waits keeps good =
+    let node = waits.0 in
     let x : Activity = record { serial = r.target; phase = phase } in
     lawful_by t s.next_serial s.core.nodes (x ∷ []) None a b (c ∙ ap (entered x) alone) d
     (Good_nodes s.next_serial s.core.nodes [] (x ∷ []) (Some (Operation.Rebalancing r)) None (omega arith, tt)
     (λ k y g.
-    let at = keeps.waits.1 in
+    let at = waits.1 in
     let e : r.target ≡ k = grind (arith, nat_tests) in
     let same : x ≡ y = grind (arith, nat_tests) in (
       node,
       subst (λ (i : ℕ). node_at i s.core.nodes ≡ Some node) e at,
-      (λ z. let up = (good.stacks r.target node at).root (e ∙ z) in let w = keeps.waits.2 in cc),
-      subst (λ (v : Activity). Fits v.phase node.state) same (subst (λ (v : DevState). Fits phase v) (sym keeps.waits.2) fit),
+      (λ z. let up = (good.stacks r.target node at).root (e ∙ z) in let w = waits.2 in cc),
+      subst (λ (v : Activity). Fits v.phase node.state) same (subst (λ (v : DevState). Fits phase v) (sym waits.2) fit),
     ))
     tt keeps.each good)
 
@@ -192,14 +216,18 @@ module _ (s : State) (r : Rebalance) (alone : s.activities ≡ []) (good : Good 
       lawful_still s _ (Operation.Rebalancing r) _ refl refl alone refl
       (fits_cancel_on (record r { found = spent }) r.agreed s.core.nodes keeps.agreed keeps.agreed keeps.no_root keeps.no_root keeps.each keeps.waits) good
 
-  re_closes : (found : Found) (label : Label) → RebalanceKeeps r Ending s.core.nodes → Lawful (rebalance_lifted s (record { label = label; core = s.core; frame = r; beside = over s.core r found })).state
-  re_closes (assignment plan) label keeps = by_test (stands_up s.core.nodes r.target)
-    where
-      by_test : (up : Bool) → Lawful (rebalance_lifted s (record { label = label; core = s.core; frame = r; beside = moved_on up })).state
-      by_test true = lawful_then s _ r (Starting (walk_of Minor.Start)) refl refl refl refl alone refl keeps good
-      by_test false = lawful_close s _ (Operation.Rebalancing r) refl refl alone refl keeps.each good
-  re_closes no_fit label keeps = lawful_then s _ r (Removing (walk_of Minor.Remove)) refl refl refl refl alone refl keeps good
-  re_closes spent label keeps = lawful_then s _ r (Removing (walk_of Minor.Remove)) refl refl refl refl alone refl keeps good
+  re_moved : (up : Bool) (label : Label) → Waits r.target s.core.nodes → RebalanceKeeps r Ending s.core.nodes → Lawful (rebalance_lifted s (record { label = label; core = s.core; frame = r; beside = moved_on up })).state
+  re_moved true label waits keeps = lawful_then s _ r (Starting (walk_of Minor.Start)) refl refl refl refl alone refl waits keeps good
+  re_moved false label waits keeps = lawful_close s _ (Operation.Rebalancing r) refl refl alone refl keeps.each good
+
+  re_closes : (found : Found) (wanted : Option Reqs) (label : Label) → TargetFits wanted r.target s.core.nodes → RebalanceKeeps r Ending s.core.nodes
+      → Lawful (rebalance_lifted s (record { label = label; core = s.core; frame = r; beside = over s.core r found wanted })).state
+  re_closes (assignment plan) None label waits keeps = re_moved (stands_up s.core.nodes r.target) label waits keeps
+  re_closes no_fit None label waits keeps = lawful_then s _ r (Removing (walk_of Minor.Remove)) refl refl refl refl alone refl waits keeps good
+  re_closes spent None label waits keeps = lawful_then s _ r (Removing (walk_of Minor.Remove)) refl refl refl refl alone refl waits keeps good
+  re_closes (assignment plan) (Some wanted) label waits keeps = lawful_close s _ (Operation.Rebalancing r) refl refl alone refl keeps.each good
+  re_closes no_fit (Some wanted) label waits keeps = lawful_close s _ (Operation.Rebalancing r) refl refl alone refl keeps.each good
+  re_closes spent (Some wanted) label waits keeps = lawful_close s _ (Operation.Rebalancing r) refl refl alone refl keeps.each good
 
   pub lawful_rebalance : (stage : RebalanceStage) (m : RebalanceMove) → RebalanceKeeps r stage s.core.nodes → RebalanceStep s.core r stage m → Lawful (rebalance_lifted s m).state
   lawful_rebalance stage m keeps (RebalanceStep.agrees node w e ok) =
@@ -218,7 +246,7 @@ module _ (s : State) (r : Rebalance) (alone : s.activities ≡ []) (good : Good 
       (Each_changed (asking_state r.todo r.agreed) (asking_state (rest r.todo) (j ∷ r.agreed)) j (with_state StopPending) s.core.nodes node (λ x. refl) work.at
       (asked_here (rest r.todo) r.agreed j not_rest)
       (λ k x d h. asked_there r.todo (rest r.todo) r.agreed j k x d (rest_has j k r.todo work.head d) h) keeps.each)
-      (waits_changed r.target j (with_state StopPending) s.core.nodes node (λ x. refl) work.at (λ e. let z = state in cc) keeps.waits))
+      (target_changed r.wanted r.target j (with_state StopPending) s.core.nodes node (λ x. refl) work.at (λ e. let z = state in cc) refl keeps.waits))
   lawful_rebalance stage m keeps (RebalanceStep.refuses node w e bad) =
       let work = at_work s (Operation.Rebalancing r) node alone e.first good in
       let here = head_has node.serial r.todo work.head in
@@ -234,7 +262,7 @@ module _ (s : State) (r : Rebalance) (alone : s.activities ≡ []) (good : Good 
         each =
             Each_changed (asking_state r.todo r.agreed) (asking_state r.todo r.agreed) j (with_state node.state) s.core.nodes node (λ x. refl) work.at
             (keeps.each j node work.at) (λ k x d h. h) keeps.each;
-        waits = waits_changed r.target j (with_state node.state) s.core.nodes node (λ x. refl) work.at (λ e. let z = state in cc) keeps.waits;
+        waits = target_changed r.wanted r.target j (with_state node.state) s.core.nodes node (λ x. refl) work.at (λ e. let z = state in cc) (ap is_changing state) keeps.waits;
       })
   lawful_rebalance stage m keeps (RebalanceStep.takes_back node w e) =
       let work = at_work s (Operation.Rebalancing r) node alone e.first good in
@@ -254,7 +282,7 @@ module _ (s : State) (r : Rebalance) (alone : s.activities ≡ []) (good : Good 
       (Each_changed (asking_state r.todo r.agreed) (asking_state more r.agreed) j (with_state Started) s.core.nodes node (λ x. refl) work.at
       (back_here r.todo r.agreed more j here not_more keeps.asks)
       (λ k x d h. fewer_asked r.todo more r.agreed k x (within k) (keeps.asks k) h) keeps.each)
-      (waits_changed r.target j (with_state Started) s.core.nodes node (λ x. refl) work.at (λ e. let z = state in cc) keeps.waits))
+      (target_changed r.wanted r.target j (with_state Started) s.core.nodes node (λ x. refl) work.at (λ e. let z = state in cc) refl keeps.waits))
   lawful_rebalance stage m keeps (RebalanceStep.searches found budget answer) = re_searched found keeps
   lawful_rebalance stage m keeps (RebalanceStep.cancels node w e) =
       let work = at_work s (Operation.Rebalancing r) node alone e.first good in
@@ -267,11 +295,12 @@ module _ (s : State) (r : Rebalance) (alone : s.activities ≡ []) (good : Good 
       (Each_changed (pending_state r.todo) (pending_state (rest r.todo)) j (with_state Started) s.core.nodes node (λ x. refl) work.at
       (calm_pending (rest r.todo) j (rest_not j r.todo work.head keeps.todo))
       (λ k x d h. rest_pending r.todo k x (rest_has j k r.todo work.head d) h) keeps.each)
-      (waits_changed r.target j (with_state Started) s.core.nodes node (λ x. refl) work.at (λ e. let z = state in cc) keeps.waits))
+      (target_changed r.wanted r.target j (with_state Started) s.core.nodes node (λ x. refl) work.at (λ e. let z = state in cc) refl keeps.waits))
   lawful_rebalance stage m keeps RebalanceStep.sticks =
-      let node = keeps.waits.0 in
-      let own = own_serial r.target node s.core.nodes keeps.waits.1 in
-      let at = found_self r.target s.core.nodes node keeps.waits.1 in
+      let there = target_there r.wanted r.target s.core.nodes keeps.waits in
+      let node = there.0 in
+      let own = own_serial r.target node s.core.nodes there.1 in
+      let at = found_self r.target s.core.nodes node there.1 in
       let f = with_problem (Some (trouble_of r.found)) in
       lawful_walked s _ f node (Operation.Rebalancing r) (Operation.Rebalancing (record r { stage = Ending })) refl
       (ap (λ (i : ℕ). changed_first (is_node i) f s.core.nodes) (sym own)) alone refl (λ x. refl) at (good.stacks node.serial node at)
@@ -282,7 +311,7 @@ module _ (s : State) (r : Rebalance) (alone : s.activities ≡ []) (good : Good 
         no_root = keeps.no_root;
         asks = tt;
         each = problem_each (λ k x. is_calm x) node.serial (Some (trouble_of r.found)) s.core.nodes node at keeps.each;
-        waits = problem_waits r.target node.serial (Some (trouble_of r.found)) s.core.nodes keeps.waits;
+        waits = problem_target r.wanted r.target node.serial (Some (trouble_of r.found)) s.core.nodes keeps.waits;
       })
       good
   lawful_rebalance stage m keeps (RebalanceStep.stops node w e) =
@@ -297,12 +326,12 @@ module _ (s : State) (r : Rebalance) (alone : s.activities ≡ []) (good : Good 
       (Each_changed (stopping_state r.todo r.agreed) (stopping_state (rest r.todo) r.agreed) j (with_state Stopped) s.core.nodes node (λ x. refl) work.at
       (stop_here (rest r.todo) r.agreed j (rest_not j r.todo work.head keeps.todo) (keeps.asks j here))
       (λ k x d h. rest_stopping r.todo r.agreed k x (rest_has j k r.todo work.head d) h) keeps.each)
-      (waits_changed r.target j (with_state Stopped) s.core.nodes node (λ x. refl) work.at (λ e. let z = state in cc) keeps.waits))
+      (target_changed r.wanted r.target j (with_state Stopped) s.core.nodes node (λ x. refl) work.at (λ e. let z = state in cc) refl keeps.waits))
   lawful_rebalance stage m keeps RebalanceStep.commits =
       let f = committed r.wanted r.target (movers r) (plan_of r.found) in
       let fits = fits_restart_on s.core.nodes r r.agreed (map f s.core.nodes) keeps.agreed keeps.agreed keeps.no_root keeps.no_root
       (Each_mapped (stopped_state r.agreed) (stopped_state r.agreed) f s.core.nodes (λ x. refl) (λ x. refl) (λ k x h. h) keeps.each)
-      (waits_mapped r.target f s.core.nodes (λ x. refl) (λ x. refl) keeps.waits) in
+      (target_mapped r.wanted r.target f s.core.nodes (λ x. refl) (λ x. refl) keeps.waits) in
       lawful_by _ s.next_serial (map f s.core.nodes) [] (Some (Operation.Rebalancing (restart_on s.core.nodes r r.agreed))) refl refl alone refl
       (Good_mapped s.next_serial f s.core.nodes (Some (Operation.Rebalancing r)) (Some (Operation.Rebalancing (restart_on s.core.nodes r r.agreed))) (λ x. refl) (λ x. refl) (λ x. refl) fits refl good)
   lawful_rebalance stage m keeps (RebalanceStep.restarts node w e ok) =
@@ -317,7 +346,7 @@ module _ (s : State) (r : Rebalance) (alone : s.activities ≡ []) (good : Good 
       (Each_changed (stopped_state r.todo) (stopped_state (rest r.todo)) j (with_state Started) s.core.nodes node (λ x. refl) work.at
       (calm_stopped (rest r.todo) j Started (rest_not j r.todo work.head keeps.todo) refl)
       (λ k x d h. rest_stopped r.todo k x (rest_has j k r.todo work.head d) h) keeps.each)
-      (waits_changed r.target j (with_state Started) s.core.nodes node (λ x. refl) work.at (λ e. let z = state in cc) keeps.waits))
+      (target_changed r.wanted r.target j (with_state Started) s.core.nodes node (λ x. refl) work.at (λ e. let z = state in cc) refl keeps.waits))
   lawful_rebalance stage m keeps (RebalanceStep.fails node w e bad) =
       let work = at_work s (Operation.Rebalancing r) node alone e.first good in
       let here = head_has node.serial r.todo work.head in
@@ -333,7 +362,7 @@ module _ (s : State) (r : Rebalance) (alone : s.activities ≡ []) (good : Good 
         each =
             Each_changed (stopped_state r.todo) (stopped_state r.todo) j (with_state node.state) s.core.nodes node (λ x. refl) work.at
             (keeps.each j node work.at) (λ k x d h. h) keeps.each;
-        waits = waits_changed r.target j (with_state node.state) s.core.nodes node (λ x. refl) work.at (λ e. let z = state in cc) keeps.waits;
+        waits = target_changed r.wanted r.target j (with_state node.state) s.core.nodes node (λ x. refl) work.at (λ e. let z = state in cc) (ap is_changing state) keeps.waits;
       })
   lawful_rebalance stage m keeps (RebalanceStep.failed node first) =
       let work = at_work s (Operation.Rebalancing r) node alone first good in
@@ -348,9 +377,9 @@ module _ (s : State) (r : Rebalance) (alone : s.activities ≡ []) (good : Good 
       (Each_changed (stopped_state r.todo) (stopped_state (rest r.todo)) j (with_problem (Some Problem.FailedStart)) s.core.nodes node (λ x. refl) work.at
       (calm_stopped (rest r.todo) j node.state (rest_not j r.todo work.head keeps.todo) (ap is_calm state))
       (λ k x d h. rest_stopped r.todo k x (rest_has j k r.todo work.head d) h) keeps.each)
-      (problem_waits r.target j (Some Problem.FailedStart) s.core.nodes keeps.waits))
+      (problem_target r.wanted r.target j (Some Problem.FailedStart) s.core.nodes keeps.waits))
       work.good
-  lawful_rebalance stage m keeps RebalanceStep.closes = re_closes r.found (Label.End OpKind.Rebalance r.path (end_of r.found)) keeps
+  lawful_rebalance stage m keeps RebalanceStep.closes = re_closes r.found r.wanted (Label.End (kind_of r.wanted) r.path (result r.found (has_refused r))) keeps.waits keeps
 
 -- The begin ---------------------------------------------------------------------------
 
@@ -369,13 +398,13 @@ begun_each nodes ks up each k n at =
     ] in
     by_test (has ks k) refl
 
-pub fits_begun_rebalance : (s : State) (node : Node) → node_at node.serial s.core.nodes ≡ Some node → node.state ≡ NotStarted → Good s.next_serial s.core.nodes s.activities None →
-    OperationFits (Some (Operation.Rebalancing (begun_rebalance s.core node))) s.core.nodes
-fits_begun_rebalance s node at e good =
+fits_begun : (s : State) (node : Node) (wanted : Option Reqs) → TargetFits wanted node.serial s.core.nodes → Good s.next_serial s.core.nodes s.activities None →
+    OperationFits (Some (Operation.Rebalancing (begun_with s.core node wanted))) s.core.nodes
+fits_begun s node wanted target good =
     let ks = serials_of (those is_asked s.core.nodes) in
     let found : (k : ℕ) → has (reverse ks) k ≡ true → (n : Node) × (node_at k s.core.nodes ≡ Some n) × (is_asked n ≡ true) =
     λ k h. those_found 0 is_asked s.core.nodes k good.serials (sym (has-reverse ks k) ∙ h) in
-    fits_ask_on (record { target = node.serial; path = node.path; todo = []; agreed = []; refused = []; found = no_fit; stage = Searching }) (reverse ks) s.core.nodes
+    fits_ask_on (record { target = node.serial; path = node.path; wanted = wanted; todo = []; agreed = []; refused = []; found = no_fit; stage = Searching }) (reverse ks) s.core.nodes
     (Distinct-reverse ks (serials_distinct 0 is_asked s.core.nodes good.serials)) tt
     (let by_test : (b : Bool) → has (reverse ks) 0 ≡ b → b ≡ false =
     λ b. elim b as (λ b. has (reverse ks) 0 ≡ b → b ≡ false) [
@@ -389,4 +418,12 @@ fits_begun_rebalance s node at e good =
     (begun_each s.core.nodes (reverse ks)
     (λ k n h g. let f = found k h in let same : f.0 ≡ n = let q = f.1 in cc in subst (λ (z : Node). z.state ≡ Started) same (asked_up f.0 f.2).0)
     good.fits)
-    (node, at, e)
+    target
+
+pub fits_begun_rebalance : (s : State) (node : Node) → node_at node.serial s.core.nodes ≡ Some node → node.state ≡ NotStarted → Good s.next_serial s.core.nodes s.activities None →
+    OperationFits (Some (Operation.Rebalancing (begun_rebalance s.core node))) s.core.nodes
+fits_begun_rebalance s node at e good = fits_begun s node None (node, at, e) good
+
+pub fits_begun_change : (s : State) (node : Node) (wanted : Reqs) → node_at node.serial s.core.nodes ≡ Some node → node.state ≡ Started → node.serial ≢ 0 → Good s.next_serial s.core.nodes s.activities None →
+    OperationFits (Some (Operation.Rebalancing (begun_change s.core node wanted))) s.core.nodes
+fits_begun_change s node wanted at e up good = fits_begun s node (Some wanted) (node, at, ap is_changing e, up) good

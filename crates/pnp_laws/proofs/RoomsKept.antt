@@ -36,19 +36,19 @@ use Rattle.pnp_laws.proofs.RunsStrays.{above_stays}
 
 -- Where a node comes from --------------------------------------------------------------------------
 
--- it was there, with the same birth, parent and needs; or it joined
-pub data From (s : State) (k : ℕ) (m : Node) : Type 0 where
-  was : (n : Node) → node_at k s.core.nodes ≡ Some n → m.born ≡ n.born → m.parent ≡ n.parent → m.reqs ≡ n.reqs → From s k m
+-- it was there, with the same birth and parent; or it joined
+data From (s : State) (k : ℕ) (m : Node) : Type 0 where
+  was : (n : Node) → node_at k s.core.nodes ≡ Some n → m.born ≡ n.born → m.parent ≡ n.parent → From s k m
   joined : (node : Node) (d : Device) → node_at k s.core.nodes ≡ None → s.next_serial ≡ k → m ≡ new_child node.serial d s → From s k m
 
 by_origin : (s : State) (label : Label) (t : State) (k : ℕ) (m : Node) → Origin s label t k m → From s k m
-by_origin s label t k _ (Origin.was n at) = From.was n at refl refl refl
-by_origin s label t k _ (Origin.walked n minor w bad at request other ends verdict prints) = From.was n at refl refl refl
-by_origin s label t k _ (Origin.troubled n problem at) = From.was n at refl refl refl
-by_origin s label t k _ (Origin.stacks n d ds name at acts prints) = From.was n at refl refl refl
-by_origin s label t k _ (Origin.assigned n phase plan at acts search part now) = From.was n at refl refl refl
-by_origin s label t k _ (Origin.stripped n w at request prints) = From.was n at refl refl refl
-by_origin s label t k _ (Origin.commits r n runs is at) = From.was n at refl refl refl
+by_origin s label t k _ (Origin.was n at) = From.was n at refl refl
+by_origin s label t k _ (Origin.walked n minor w bad at request other ends verdict prints) = From.was n at refl refl
+by_origin s label t k _ (Origin.troubled n problem at) = From.was n at refl refl
+by_origin s label t k _ (Origin.stacks n d ds name at acts prints) = From.was n at refl refl
+by_origin s label t k _ (Origin.assigned n phase plan at acts search part now) = From.was n at refl refl
+by_origin s label t k _ (Origin.stripped n w at request prints) = From.was n at refl refl
+by_origin s label t k _ (Origin.commits r n runs is at) = From.was n at refl refl
 by_origin s label t k _ (Origin.joins node d below gone own) = From.joined node d gone own refl
 
 -- Births ------------------------------------------------------------------------------------------
@@ -140,11 +140,11 @@ not_on kind bs w none = neither (same_kind w.res.kind kind) (has bs w.born) none
 -- A step or an event -------------------------------------------------------------------------------
 
 module _ (s : State) (entry : Entry) (t : State) (was : Kept s) (now : Kept t) (nodes : NodeEffect s (printed entry) t) where
-  pub came : (k : ℕ) (m : Node) → node_at k t.core.nodes ≡ Some m → From s k m
+  came : (k : ℕ) (m : Node) → node_at k t.core.nodes ≡ Some m → From s k m
   came k m at = by_origin s (printed entry) t k m (origin s (printed entry) t was.good.serials k m nodes at)
 
   same_born : (j : ℕ) (n m : Node) → node_at j s.core.nodes ≡ Some n → From s j m → m.born ≡ n.born
-  same_born j n m at (From.was x there born parent reqs) = born ∙ ap (λ (z : Node). z.born) (some_same (node_at j s.core.nodes) x n there at)
+  same_born j n m at (From.was x there born parent) = born ∙ ap (λ (z : Node). z.born) (some_same (node_at j s.core.nodes) x n there at)
   same_born j n m at (From.joined node d gone own is) = absurd (cc)
 
   -- the parent of a node was there
@@ -155,11 +155,11 @@ module _ (s : State) (entry : Entry) (t : State) (was : Kept s) (now : Kept t) (
       over = now.stands.tree.rooted k m at up
 
       not_new : s.next_serial ≡ m.parent → From s k m → ⊥
-      not_new own (From.was n there born parent reqs) = let below = was.good.below k n there in let low = over.0 in omega arith
+      not_new own (From.was n there born parent) = let below = was.good.below k n there in let low = over.0 in omega arith
       not_new own (From.joined node d gone new is) = let low = over.0 in omega arith
 
       by_parent : From s m.parent over.1.0 → (x : Node) × (node_at m.parent s.core.nodes ≡ Some x)
-      by_parent (From.was x there born parent reqs) = (x, there)
+      by_parent (From.was x there born parent) = (x, there)
       by_parent (From.joined node d gone own is) = absurd (not_new own (came k m at))
 
   module _ (first : DependentsFirst (printed entry) s.core t.core) (follows : FollowsDiagram (printed entry) s.core.nodes t.core.nodes) where
@@ -210,8 +210,3 @@ rooms_stay settings rack s entry t (entries, run) goes k m at up =
     let first = dependents_go_first settings rack entries s entry t run goes in
     let follows = (every_run_follows settings rack entries s entry t run goes).0 in
     room_stays s entry t was now effect.nodes first follows (reaches_born settings rack entries s run).apart k m at up effect.windows
-
--- and where the node comes from
-pub came_from : (settings : Settings) (rack : List Driver) (s : State) (entry : Entry) (t : State) → IsReached settings rack s → Goes settings s entry t → (k : ℕ) (m : Node) → node_at k t.core.nodes ≡ Some m → From s k m
-came_from settings rack s entry t (entries, run) goes k m at =
-    by_origin s (printed entry) t k m (origin s (printed entry) t (reaches_kept settings rack entries s run).good.serials k m (effect_goes settings s entry t goes).nodes at)

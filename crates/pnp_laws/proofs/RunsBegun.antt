@@ -15,7 +15,7 @@ use Rattle.pnp_laws.specs.Effects.{SameWork, begun}
 use Rattle.pnp_laws.proofs.Courses.{Way, way_goes}
 use Rattle.pnp_laws.proofs.EventChanges.{beside_word, happens_outside}
 use Rattle.pnp_laws.proofs.EffectsOfOperations.{begun_work}
-use Rattle.pnp_laws.proofs.BeginSteps.{reached_dues}
+use Rattle.pnp_laws.proofs.BeginSteps.{reached_fine}
 
 -- the operation that runs has begun
 abbrev RunsBegun : Settings → List Driver → List Entry → State → Type 0
@@ -98,7 +98,7 @@ goes_on settings rack entries s entry t reaches goes (Way.begins kind node none 
     let first = begun s kind node in
     let runs : t.operation ≡ Some first = ap (λ (x : Step). x.state.operation) is in
     let same : o ≡ first = cc in
-    let work = begun_work s.core kind node in
+    let work = begun_work s kind node in
     let did = begin_did settings s entry t kind node.path goes (ap (λ (x : Step). x.label) is) in
     same_begun settings rack (entries ++ entry ∷ []) t kind (kind_of o) node.path (path_of o) (ap kind_of same ∙ work.0) (ap path_of same ∙ work.1)
     (begun_now settings rack entries s entry t kind node.path did reaches goes)
@@ -114,7 +114,7 @@ begun_along : (settings : Settings) (rack : List Driver) (entries : List Entry) 
 begun_along settings rack entries s [] t reaches h run =
     subst (λ (l : List Entry). RunsBegun settings rack l t) (sym (append-nil entries)) (subst (λ (x : State). RunsBegun settings rack entries x) (sym run) h)
 begun_along settings rack entries s (entry ∷ rest) t reaches h (mid, goes, run) =
-    let way = (way_goes settings s entry mid (reached_dues settings rack s (entries, reaches)) goes) in
+    let way = (way_goes settings s entry mid (reached_fine settings rack s (entries, reaches)) goes) in
     let on = run_on settings (opening rack) s mid entries (entry ∷ []) reaches (mid, goes, refl) in
     subst (λ (l : List Entry). RunsBegun settings rack l t) (append_assoc entries (entry ∷ []) rest)
     (begun_along settings rack (entries ++ entry ∷ []) mid rest t on (goes_on settings rack entries s entry mid reaches goes way h) run)
@@ -136,4 +136,4 @@ belongs_way settings rack entries s label t (Way.ends o result runs after is by)
 -- where an operation ends or prints problem 12, it began before and has not ended since
 pub operations_begin : BegunLaw
 operations_begin settings rack entries s entry t reaches goes =
-    belongs_way settings rack entries s (printed entry) t (way_goes settings s entry t (reached_dues settings rack s (entries, reaches)) goes) (runs_begun settings rack entries s reaches)
+    belongs_way settings rack entries s (printed entry) t (way_goes settings s entry t (reached_fine settings rack s (entries, reaches)) goes) (runs_begun settings rack entries s reaches)

@@ -31,7 +31,7 @@ use Rattle.pnp_laws.specs.Begun.{HasBegun, Belongs, EachConflictLaw}
 use Rattle.pnp_laws.proofs.BeginSteps.{step_did}
 use Rattle.pnp_laws.proofs.RunsBegun.{operations_begin}
 use Rattle.pnp_laws.proofs.Reaching.{reached_after}
-use Rattle.pnp_laws.proofs.RunsFutile.{Since, since_begin}
+use Rattle.pnp_laws.proofs.RunsFutile.{Since, since_rebalance, plain_since}
 use Rattle.pnp_laws.proofs.Ascents.{has_from_contains, contains_from_has, rising_from_increasing, increasing_from_rising, same_ascent}
 use Rattle.pnp_laws.proofs.RebalanceSteps.{asked_up}
 
@@ -149,7 +149,7 @@ nothing_fits_still c d ms a b none fits =
     none (subst (λ (x : List Res). Fits x (map (λ k. reqs_of (node_at k c.nodes)) ms)) fixed (subst (λ (x : List Reqs). Fits (fixed_beside d ms) x) reqs fits))
 
 -- whoever refused since the begin is told at the end
-refusers_told : (settings : Settings) (rack : List Driver) (path : Text) (before begun : State) (entries : List Entry) (last : State) → Tree before.next_serial before.core → Since settings rack path before begun entries last → AllWithin entries →
+refusers_told : (settings : Settings) (rack : List Driver) (path : Text) (before begun : State) (entries : List Entry) (last : State) → Tree before.next_serial before.core → Since OpKind.Rebalance settings rack path before begun entries last → AllWithin entries →
     (u : Underway path before.core last) → u.frame.stage ≡ Stuck → (k : ℕ) → RefusedSince settings begun entries last k → has u.frame.refused k ≡ true
 refusers_told settings rack path before begun entries last tree since within u stage k (s, (xs, ys, e, run, more), refuses) =
     let split = within_split xs ys (subst (λ (l : List Entry). AllWithin l) e within) in
@@ -173,14 +173,14 @@ record AtConflict (settings : Settings) (rack : List Driver) (begin_path path : 
   under : Underway begin_path before.core last
   stuck : AtStuck settings rack begin_path before begun entries last under
   device : path ≡ begin_path
-  none : NothingFits last.core (movers under.frame)
+  none : NothingFits last.core (under.frame.target ∷ under.frame.agreed)
 
 at_conflict : (settings : Settings) (rack : List Driver) (earlier entries : List Entry) (before begun last after : State) (begin_path path : Text) →
     Reaches settings rack earlier before → Goes settings before (Did (Label.Begin OpKind.Rebalance begin_path)) begun → Run settings begun entries last → AllWithin entries →
     Goes settings last (Did (Label.Trouble path Problem.NormalConflict)) after → AtConflict settings rack begin_path path before begun entries last
 at_conflict settings rack earlier entries before begun last after begin_path path reaches goes run within ends =
     let tree = reached_tree settings rack before (earlier, reaches) in
-    let since = since_begin settings rack earlier entries before begun last begin_path reaches goes run within in
+    let since = since_rebalance settings rack earlier entries before begun last begin_path reaches goes run within in
     let good = reached_is_good settings rack last (reached_after settings rack begun entries last since.reached run) in
     let u = since.lasts.under in
     let r = u.frame in
@@ -199,7 +199,7 @@ at_conflict settings rack earlier entries before begun last after begin_path pat
         tells = refusers_told settings rack begin_path before begun entries last tree since within u is_stuck.stage;
       };
       device = is_stuck.device ∙ u.named;
-      none = nothing_fits_still before.core last.core (movers r) undone.0.nodes undone.0.reserved (asked.1 found);
+      none = nothing_fits_still before.core last.core (r.target ∷ r.agreed) undone.0.nodes undone.0.reserved (asked.1 (plain_since settings rack begin_path before begun entries last since) found);
     }
 
 -- problem 12 comes only where no assignment exists for the device and all that can move

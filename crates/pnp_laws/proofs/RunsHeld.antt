@@ -12,7 +12,7 @@ use Rattle.resource_reqs.proofs.Answering.{plan_is}
 use Rattle.pnp_labels.specs.declared.label.Label.{Label}
 use Rattle.pnp_model.specs.Cores.{node_at}
 use Rattle.pnp_model.specs.Frames.{fixed_beside, held_by}
-use Rattle.pnp_model.specs.Rebalances.{committed, movers, plan_of}
+use Rattle.pnp_model.specs.Rebalances.{committed, movers, others, plan_of}
 use Rattle.pnp_model.specs.Records.{Driver, Node, Operation, RebalanceStage, Settings, State}
 use Rattle.pnp_model.specs.Runs.{Entry, Goes, Run, opening, printed}
 use Rattle.pnp_model.specs.Runs.Entry.{Happens, Did}
@@ -30,9 +30,9 @@ use Rattle.pnp_laws.proofs.EffectsOf.{effect_goes}
 use Rattle.pnp_laws.proofs.HoldingsKept.{own_whole}
 use Rattle.pnp_laws.proofs.JoinMachine.{reaches_born}
 use Rattle.pnp_laws.proofs.Joins.{Born}
-use Rattle.pnp_laws.proofs.Lists.{member}
+use Rattle.pnp_laws.proofs.Lists.{member, not_head}
 use Rattle.pnp_laws.proofs.Lookups.{own_serial}
-use Rattle.pnp_laws.proofs.PlansKept.{mover_whole, reached_is_planned}
+use Rattle.pnp_laws.proofs.PlansKept.{mover_whole, other_after, reached_is_planned}
 use Rattle.pnp_laws.proofs.Reached.{reached_is_good}
 use Rattle.pnp_laws.proofs.Reaching.{kept}
 use Rattle.pnp_laws.proofs.Runs.{root_is}
@@ -60,7 +60,9 @@ module _ (s : State) (label : Label) (t : State) (order : Ascending 0 s.core.nod
       let fits = subst (λ (x : RebalanceStage). StagePlan r x s.core.reserved s.core.nodes) is (subst (λ (x : Option Operation). PlanKept x s.core.reserved s.core.nodes) runs planned) in
       elim (member (movers r) k) [
         | inl h ↦ inr (mover_whole r s.core.reserved s.core.nodes k n fits at h)
-        | inr h ↦ part_same n (committed r.wanted r.target (movers r) (plan_of r.found) n) refl (part_not n.serial (movers r) (plan_of r.found) n.holds (subst (λ (i : ℕ). has (movers r) i ≡ false) (sym (own_serial k n s.core.nodes at)) h)) (old k n at)
+        | inr h ↦
+            let out = subst (λ (i : ℕ). has (movers r) i ≡ false) (sym (own_serial k n s.core.nodes at)) h in
+            part_same n (committed r.wanted r.target (movers r) (plan_of r.found) n) (other_after r.wanted r.target n (not_head r.target n.serial (others r) out)) (part_not n.serial (movers r) (plan_of r.found) n.holds out) (old k n at)
       ]
   part_from k _ (Origin.joins node d below gone own) = inl refl
 

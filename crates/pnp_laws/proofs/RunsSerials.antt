@@ -17,6 +17,7 @@ record Counted (old : State) (entry : Entry) (new : State) : Type 0 where
 births : (s : State) (entry : Entry) (t : State) → WorldEffect s entry t → t.next_born ≤ s.next_born + events (entry ∷ [])
 births s entry t (WorldEffect.same world born) = omega arith
 births s entry t (WorldEffect.plugged d plug world born) = subst (λ (x : Entry). t.next_born ≤ s.next_born + events (x ∷ [])) (sym plug.event) (omega arith)
+births s entry t (WorldEffect.changed n path reqs prints at up is there e world born) = omega arith
 births s entry t (WorldEffect.unplugged gone why world born) = omega arith
 
 counted : (settings : Settings) (old : State) (entry : Entry) (new : State) → Goes settings old entry new → Counted old entry new

@@ -1,6 +1,7 @@
 -- In each state of a run without an operation, who was stopped, and who holds something and is not up, is due to go.
 use Rattle.std.proofs.Common.{ℕ, ◌≡◌, ◌≢◌, ◌⊎◌, inl, inr, true, false, List, [], ◌∷◌, drop, map, Option, Some, None, refl, sym, ap, ◌∙◌, subst, arith}
-use Rattle.std.specs.Option.{option_map}
+use Rattle.std.specs.Option.{is_some, option_map}
+use Rattle.resource_reqs.specs.Resources.{Reqs}
 use Rattle.std.proofs.lemmas.Bool.{cases_eq}
 use Rattle.std.proofs.lemmas.Bool.Decides.{nat_tests}
 use Rattle.pnp_labels.specs.declared.label.Label.{Label}
@@ -11,15 +12,15 @@ use Rattle.pnp_model.specs.Cores.{bare, node_at, serials_of}
 use Rattle.pnp_model.specs.Diagram.{FollowsDiagram}
 use Rattle.pnp_model.specs.Laws.{DependentsFirst}
 use Rattle.pnp_model.specs.Rebalances.{committed, movers, plan_of}
-use Rattle.pnp_model.specs.Records.{Activity, Driver, Duty, Node, Operation, Settings, State, Step, Surprise, SurpriseStage, Task}
+use Rattle.pnp_model.specs.Records.{Activity, Driver, Duty, Node, Operation, Rebalance, Settings, State, Step, Surprise, SurpriseStage, Task}
 use Rattle.pnp_model.specs.Runs.{Entry, Goes, opening, printed}
 use Rattle.pnp_model.specs.Runs.Entry.{Happens, Did}
 use Rattle.pnp_model.specs.States.{activity_at, entered, new_child}
 use Rattle.pnp_model.specs.Tests.{has}
 use Rattle.pnp_model.specs.Trees.{above, children, is_child, leaving, set_of, stands_up}
 use Rattle.pnp_laws.specs.Due.{is_due, leads}
-use Rattle.pnp_laws.specs.Effects.{AnswerEffect, Closes, CommandEffect, NodeEffect, OpEffect, OperationEffect, TaskEffect, TasksEffect, to_leave}
-use Rattle.pnp_laws.specs.Kept.{Ascending, OperationFits, SurpriseKeeps}
+use Rattle.pnp_laws.specs.Effects.{AnswerEffect, Closes, ClosesRebalance, CommandEffect, NodeEffect, OpEffect, OperationEffect, TaskEffect, TasksEffect, to_leave}
+use Rattle.pnp_laws.specs.Kept.{Ascending, OperationFits, RebalanceKeeps, SurpriseKeeps}
 use Rattle.pnp_laws.specs.Reached.{IsReached}
 use Rattle.pnp_laws.specs.Strays.{IsStray, StraysLaw}
 use Rattle.pnp_laws.specs.Words.{spared}
@@ -33,6 +34,7 @@ use Rattle.pnp_laws.proofs.Finishes.{leaving_all, set_is_closed}
 use Rattle.pnp_laws.proofs.Finishing.{head_bare}
 use Rattle.pnp_laws.proofs.Lists.{HeadIs, has_cases, head_found, rest_has}
 use Rattle.pnp_laws.proofs.Lookups.{entered_same, left_from, left_same, map_from, node_at-map, own_serial}
+use Rattle.pnp_laws.proofs.OpSteps.{change_up}
 use Rattle.pnp_laws.proofs.Reaching.{kept, reached_on}
 use Rattle.pnp_laws.proofs.Restarts.{over_stopped}
 use Rattle.pnp_laws.proofs.Runs.{root_is}
@@ -173,17 +175,21 @@ module _ (s t : State) (was : Kept s) (now : Kept t) (k : ℕ) (n m : Node) (at 
 
   module _ (idle : activity_at k s.activities ≡ None) (still : activity_at k t.activities ≡ None) where
     ends_spared : (o : Operation) → s.operation ≡ Some o → t.operation ≡ None → Closes s o t → has (spared o) k ≡ true → IsSeen t k
-    ends_spared (Operation.Rebalancing r) runs none closes h = by_end closes (target_is h)
+    ends_spared (Operation.Rebalancing r) runs none closes h = by_end r.wanted refl closes (target_is h)
       where
         target_is : has (r.target ∷ []) k ≡ true → r.target ≡ k
         target_is q = elim (has_cases r.target k [] q) [ inl e ↦ e | inr none ↦ absurd (cc) ]
 
-        by_end : Closes s (Operation.Rebalancing r) t → r.target ≡ k → IsSeen t k
-        by_end (inl (phase, e)) own =
+        fits : RebalanceKeeps r r.stage s.core.nodes
+        fits = subst (λ (x : Option Operation). OperationFits x s.core.nodes) runs was.good.fits
+
+        by_end : (wanted : Option Reqs) → r.wanted ≡ wanted → ClosesRebalance s r t wanted → r.target ≡ k → IsSeen t k
+        by_end (Some wanted) changes closed own = absurd (change_up r.wanted r.target s.core.nodes n (ap is_some changes) fits.waits (subst (λ (i : ℕ). node_at i s.core.nodes ≡ Some n) (sym own) at) waits)
+        by_end None plain (inl (phase, e)) own =
             let new : Activity = record { serial = r.target; phase = phase } in
             let found : activity_at r.target (entered new s.activities) ≡ Some new = entered_same new s.activities (subst (λ (i : ℕ). activity_at i s.activities ≡ None) (sym own) idle) in
             absurd (let here = subst (λ (i : ℕ). activity_at i t.activities ≡ Some new) own (subst (λ (x : List Activity). activity_at r.target x ≡ Some new) (sym e) found) in cc)
-        by_end (inr down) own = inl (below_down none (subst (λ (i : ℕ). stands_up t.core.nodes i ≡ false) own down))
+        by_end None plain (inr down) own = inl (below_down none (subst (λ (i : ℕ). stands_up t.core.nodes i ≡ false) own down))
     ends_spared (Operation.Surprising o) runs none closes h = absurd (let bare_state = surprise_ends o runs closes h in cc)
     ends_spared _ runs none closes h = absurd (cc)
 

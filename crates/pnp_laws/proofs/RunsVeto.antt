@@ -17,7 +17,7 @@ use Rattle.pnp_laws.specs.Reached.{IsReached}
 use Rattle.pnp_laws.proofs.Reached.{reached_is_good}
 use Rattle.pnp_laws.proofs.Reaching.{kept_within, reached_after, reached_on}
 use Rattle.pnp_laws.proofs.Courses.{Way, way_goes}
-use Rattle.pnp_laws.proofs.BeginSteps.{Begun, begins_right, reached_dues}
+use Rattle.pnp_laws.proofs.BeginSteps.{Begun, begins_right, reached_fine}
 use Rattle.pnp_laws.proofs.Vetoes.{since_begun, veto_restores}
 use Rattle.pnp_laws.proofs.VetoSteps.{VetoSince, Closed, veto_step, veto_happens}
 use Rattle.pnp_laws.specs.Effects as ef
@@ -97,15 +97,15 @@ veto_since before settings rack begun last after entries end_kind end_path q rea
 unvetoed : (settings : Settings) (rack : List Driver) (begun last after : State) (entries : List Entry) (end_kind : OpKind) (end_path q : Text) → IsReached settings rack begun → Unvetoed begun → Run settings begun entries last → AllWithin entries →
     Goes settings last (Did (Label.End end_kind end_path (OpEnd.Veto q))) after → ⊥
 unvetoed settings rack begun last after entries end_kind end_path q reached h run within ends =
-    let still = kept_within Unvetoed settings rack (λ old entry new there w h goes. unvetoed_way old new (printed entry) (way_goes settings old entry new (reached_dues settings rack old there) goes) w h) begun entries last reached within h run in
-    no_veto last after end_kind end_path q (way_goes settings last (Did (Label.End end_kind end_path (OpEnd.Veto q))) after (reached_dues settings rack last (reached_after settings rack begun entries last reached run)) ends) still
+    let still = kept_within Unvetoed settings rack (λ old entry new there w h goes. unvetoed_way old new (printed entry) (way_goes settings old entry new (reached_fine settings rack old there) goes) w h) begun entries last reached within h run in
+    no_veto last after end_kind end_path q (way_goes settings last (Did (Label.End end_kind end_path (OpEnd.Veto q))) after (reached_fine settings rack last (reached_after settings rack begun entries last reached run)) ends) still
 
 -- a removal of the kind began
 removal_since : (s : State) (kind : OpKind) (node : Node) (t : State) → t ≡ (begin s kind node (Operation.Removing (begun_removal s.core kind node))).state → VetoSince s.core t
 removal_since s kind node t is =
     let o = begun_removal s.core kind node in
     let first : VetoSince s.core (begin s kind node (Operation.Removing o)).state =
-    record { op = o; runs = refl; since = since_begun s kind node (leaving s.core node.serial) } in
+    record { op = o; runs = refl; since = since_begun s.core kind node (leaving s.core node.serial) } in
     subst (λ (x : State). VetoSince s.core x) (sym is) first
 
 other_runs : (s : State) (kind : OpKind) (node : Node) (t : State) (o : Operation) → is_removal o ≡ false → t ≡ (begin s kind node o).state → Unvetoed t
@@ -118,11 +118,11 @@ by_begin settings rack before begun last after entries OpKind.Disable end_kind p
 by_begin settings rack before begun last after entries OpKind.Eject end_kind path end_path q b reached run within ends =
     veto_since before.core settings rack begun last after entries end_kind end_path q reached (removal_since before OpKind.Eject b.node begun b.is) run within ends
 by_begin settings rack before begun last after entries kind end_kind path end_path q b reached run within ends =
-    absurd (unvetoed settings rack begun last after entries end_kind end_path q reached (other_runs before kind b.node begun (ef.begun before.core kind b.node) refl b.is) run within ends)
+    absurd (unvetoed settings rack begun last after entries end_kind end_path q reached (other_runs before kind b.node begun (ef.begun before kind b.node) refl b.is) run within ends)
 
 pub a_veto_restores : VetoLaw
 a_veto_restores settings rack earlier entries before begun last after kind end_kind path end_path refuser reaches goes run within ends =
     let at_before : IsReached settings rack before = (earlier, reaches) in
     by_begin settings rack before begun last after entries kind end_kind path end_path refuser
-    (begins_right settings before begun kind path (reached_dues settings rack before at_before) goes)
+    (begins_right settings before begun kind path (reached_fine settings rack before at_before) goes)
     (reached_on settings rack before (Did (Label.Begin kind path)) begun at_before goes) run within ends

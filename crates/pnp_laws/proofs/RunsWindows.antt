@@ -22,29 +22,18 @@ use Rattle.pnp_laws.proofs.Due.{RootIsOwn, above_zero}
 use Rattle.pnp_laws.proofs.Lists.{cons_here, cons_there, has_cases, has-append}
 use Rattle.pnp_laws.proofs.Ranks.{Rooted}
 use Rattle.pnp_laws.proofs.Reached.{reached_tree}
-use Rattle.pnp_laws.proofs.Reaching.{kept}
-use Rattle.pnp_laws.proofs.RoomsKept.{From, came_from, rooms_stay}
-use Rattle.pnp_laws.proofs.Runs.{root_is}
+use Rattle.pnp_laws.proofs.NodesPlugged.{nodes_are_plugged}
 use Rattle.pnp_laws.proofs.RunsHeld.{each_holds_a_part}
 use Rattle.pnp_laws.proofs.Sharing.{same_kind_self}
 use Rattle.pnp_laws.proofs.Truths.{both_true, by_test}
 
 -- What is needed ----------------------------------------------------------------------------------
 
--- a node that was there needs what it needed, and one that joins is clipped as it joins
-clipped_from : (s : State) (k : ℕ) (m : Node) → AreClipped s → k ≢ 0 → From s k m → clip s.windows s.core.nodes m.parent m.reqs ≡ m.reqs
-clipped_from s k m old up (From.was n at born parent reqs) = ap₂ (λ (p : ℕ) (r : Reqs). clip s.windows s.core.nodes p r) parent reqs ∙ old k n at up ∙ sym reqs
-clipped_from s k m old up (From.joined node d gone own is) =
-    subst (λ (x : Node). clip s.windows s.core.nodes x.parent x.reqs ≡ x.reqs) (sym is) (clip_twice (room s.windows s.core.nodes node.serial) d.reqs)
-
-clipped_goes : (settings : Settings) (rack : List Driver) (s : State) (entry : Entry) (t : State) → IsReached settings rack s → AreClipped s → Goes settings s entry t → AreClipped t
-clipped_goes settings rack s entry t reached old goes k m at up =
-    ap (λ rooms. clip_by rooms m.reqs) (rooms_stay settings rack s entry t reached goes k m at up)
-    ∙ clipped_from s k m old up (came_from settings rack s entry t reached goes k m at)
-
+-- it is what was said, clipped by the same rooms
 pub needs_are_clipped : ClippedLaw
-needs_are_clipped settings rack entries s run =
-    kept AreClipped settings rack (clipped_goes settings rack) (λ k n at up. absurd (up (root_is k n at).1)) s (entries, run)
+needs_are_clipped settings rack entries s run k n at up =
+    let (said, is, clipped) = nodes_are_plugged settings rack entries s run k n at in
+    ap (clip s.windows s.core.nodes n.parent) clipped ∙ clip_twice (room s.windows s.core.nodes n.parent) said ∙ sym clipped
 
 -- What is held ------------------------------------------------------------------------------------
 

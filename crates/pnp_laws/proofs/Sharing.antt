@@ -1,5 +1,5 @@
 -- What changes of a core leave clear.
-use Rattle.std.proofs.Common.{ℕ, ◌≤◌, ◌≡◌, ◌≢◌, ◌⊎◌, inl, inr, Bool, true, false, not, ◌&&◌, List, [], ◌∷◌, ◌++◌, map, length, Some, refl, sym, ap, ◌∙◌, subst, arith, nat_le}
+use Rattle.std.proofs.Common.{ℕ, ◌≤◌, ◌≡◌, ◌≢◌, ◌⊎◌, inl, inr, Bool, true, false, not, ◌&&◌, List, [], ◌∷◌, ◌++◌, map, length, Option, Some, refl, sym, ap, ◌∙◌, subst, arith, nat_le}
 use Rattle.std.specs.Prelude.{Contains}
 use Rattle.std.specs.List.{list_any, AllByRecursion}
 use Rattle.std.proofs.lemmas.Bool.{cases_eq}
@@ -196,17 +196,17 @@ part_two i k (j ∷ js) (holds ∷ plan) p q d (inr (d1, h)) (inl (e2, s2)) all 
     λ a b ca cb clash. no_clash_across holds (flat plan) all a b (part_flat i js plan p a h ca) (subst (λ (x : List Res). Contains x b) s2 cb) clash
 part_two i k (j ∷ js) (holds ∷ plan) p q d (inr (d1, h)) (inr (d2, g)) all = part_two i k js plan p q d h g (no_clash_back holds (flat plan) all)
 
-pub Clear_committed : (c : Core) (serials : List ℕ) (reqs : List Reqs) (plan : List (List Res)) → IsAssignment (fixed_beside c serials) reqs plan → length reqs ≡ length serials → Clear c.reserved c.nodes →
-    Clear c.reserved (map (committed serials plan) c.nodes)
-Clear_committed c serials reqs plan found l old =
+pub Clear_committed : (c : Core) (wanted : Option Reqs) (target : ℕ) (serials : List ℕ) (reqs : List Reqs) (plan : List (List Res)) → IsAssignment (fixed_beside c serials) reqs plan → length reqs ≡ length serials → Clear c.reserved c.nodes →
+    Clear c.reserved (map (committed wanted target serials plan) c.nodes)
+Clear_committed c wanted target serials reqs plan found l old =
     let len : length plan ≡ length serials = AllZip-long Whole reqs plan found.whole ∙ l in
-    let mine : (k : ℕ) (n m : Node) → node_at k c.nodes ≡ Some n → m ≡ committed serials plan n → has serials k ≡ true → PartAt k serials plan m.holds =
+    let mine : (k : ℕ) (n m : Node) → node_at k c.nodes ≡ Some n → m ≡ committed wanted target serials plan n → has serials k ≡ true → PartAt k serials plan m.holds =
     λ k n m at e h.
     let own = own_serial k n c.nodes at in
     let part = part_is k serials plan n.holds len h in
     let same : m.holds ≡ part_for k serials plan n.holds = ap (λ (z : Node). z.holds) e ∙ ap (λ (i : ℕ). part_for i serials plan n.holds) own in
     subst (λ (p : List Res). PartAt k serials plan p) (sym same) part in
-    let kept : (k : ℕ) (n m : Node) → node_at k c.nodes ≡ Some n → m ≡ committed serials plan n → has serials k ≡ false → m.holds ≡ n.holds =
+    let kept : (k : ℕ) (n m : Node) → node_at k c.nodes ≡ Some n → m ≡ committed wanted target serials plan n → has serials k ≡ false → m.holds ≡ n.holds =
     λ k n m at e h.
     let own = own_serial k n c.nodes at in
     ap (λ (z : Node). z.holds) e ∙ part_not n.serial serials plan n.holds (subst (λ (i : ℕ). has serials i ≡ false) (sym own) h) in
@@ -216,15 +216,15 @@ Clear_committed c serials reqs plan found l old =
     record {
       own =
           λ k m g.
-          let f = map_from k (committed serials plan) c.nodes m (λ x. refl) g in
+          let f = map_from k (committed wanted target serials plan) c.nodes m (λ x. refl) g in
           elim (member serials k) [
             | inl h ↦ part_own k serials plan m.holds (mine k f.0 m f.1 f.2 h) found.apart
             | inr h ↦ subst (λ (x : List Res). NoClash x) (sym (kept k f.0 m f.1 f.2 h)) (old.own k f.0 f.1)
           ];
       two =
           λ i k n m d g h.
-          let f = map_from i (committed serials plan) c.nodes n (λ x. refl) g in
-          let e = map_from k (committed serials plan) c.nodes m (λ x. refl) h in
+          let f = map_from i (committed wanted target serials plan) c.nodes n (λ x. refl) g in
+          let e = map_from k (committed wanted target serials plan) c.nodes m (λ x. refl) h in
           elim (member serials i) [
             | inl a ↦
                 elim (member serials k) [
@@ -243,7 +243,7 @@ Clear_committed c serials reqs plan found l old =
       taken = old.taken;
       beside =
           λ k m g.
-          let f = map_from k (committed serials plan) c.nodes m (λ x. refl) g in
+          let f = map_from k (committed wanted target serials plan) c.nodes m (λ x. refl) g in
           elim (member serials k) [
             | inl h ↦
                 let part = mine k f.0 m f.1 f.2 h in

@@ -8,7 +8,7 @@ use Rattle.pnp_labels.specs.declared.label.Label.{Label}
 use Rattle.pnp_model.specs.Cores.{bare, is_node, node_at}
 use Rattle.pnp_model.specs.Frames.{fixed_beside}
 use Rattle.pnp_model.specs.Keyed.{changed_first}
-use Rattle.pnp_model.specs.Rebalances.{movers, plan_of, reqs_of}
+use Rattle.pnp_model.specs.Rebalances.{movers, others, plan_of, reqs_of}
 use Rattle.pnp_model.specs.Records.{Node, Operation, RebalanceStage, State, Step}
 use Rattle.pnp_model.specs.Runs.{Entry}
 use Rattle.pnp_model.specs.Sharing.{Clear}
@@ -16,7 +16,7 @@ use Rattle.pnp_model.specs.Starts.{own_part}
 use Rattle.pnp_model.specs.States.{new_child}
 use Rattle.pnp_laws.specs.Effects.{Alters, NodeEffect, RangeEffect}
 use Rattle.pnp_laws.specs.Kept.{Ascending}
-use Rattle.pnp_laws.specs.Plans.{IsPlanned, PlanKept, StagePlan}
+use Rattle.pnp_laws.specs.Plans.{IsPlanned, PlanKept, StagePlan, moving_reqs}
 use Rattle.pnp_laws.proofs.Lookups.{joined_from, left_from, node_from}
 use Rattle.pnp_laws.proofs.Sharing.{Clear_assigned, Clear_committed, Clear_no_more, Clear_reserved, NoMore}
 
@@ -67,9 +67,9 @@ module _ (s : State) (label : Label) (order : Ascending 0 s.core.nodes) (planned
   clear_nodes t (NodeEffect.stripped node w at request ends prints e relations) = subst (λ (x : List Node). Clear s.core.reserved x) (sym e) (less _ (no_more_bare node.serial s.core.nodes))
   clear_nodes t (NodeEffect.commits r runs is e relations) =
       let plan = subst (λ (x : RebalanceStage). StagePlan r x s.core.reserved s.core.nodes) is (subst (λ (x : Option Operation). PlanKept x s.core.reserved s.core.nodes) runs planned) in
-      let reqs = map (λ k. reqs_of (node_at k s.core.nodes)) (movers r) in
+      let more = length-map (others r) (λ k. reqs_of (node_at k s.core.nodes)) in
       subst (λ (x : List Node). Clear s.core.reserved x) (sym e)
-      (Clear_committed s.core (movers r) reqs (plan_of r.found) plan (length-map (movers r) (λ k. reqs_of (node_at k s.core.nodes))) clear)
+      (Clear_committed s.core r.wanted r.target (movers r) (moving_reqs r s.core.nodes) (plan_of r.found) plan (omega arith) clear)
   clear_nodes t (NodeEffect.joins node d none at up there is) =
       let new = new_child node.serial d s in
       subst (λ (x : Step). Clear s.core.reserved x.state.core.nodes) (sym is) (less (s.core.nodes ++ new ∷ []) (no_more_joined s.core.nodes new refl))

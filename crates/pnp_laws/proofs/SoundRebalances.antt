@@ -1,9 +1,10 @@
 -- Each step of a rebalance keeps the tree and what is due.
-use Rattle.std.proofs.Common.{ℕ, ◌≡◌, ◌≢◌, inl, inr, Bool, true, false, List, [], ◌∷◌, length, Option, Some, refl, sym, ap, ◌∙◌, subst, arith, reverse}
+use Rattle.std.proofs.Common.{ℕ, ◌≡◌, ◌≢◌, inl, inr, Bool, true, false, List, [], ◌∷◌, length, Option, Some, None, refl, sym, ap, ◌∙◌, subst, arith, reverse}
 use Rattle.std.specs.Option.{option_map}
 use Rattle.std.proofs.lemmas.Bool.{cases_eq}
 use Rattle.std.proofs.lemmas.Bool.Decides.{nat_tests}
 use Rattle.resource_reqs.specs.Spelling.Answer.{assignment, no_fit, spent}
+use Rattle.resource_reqs.specs.Resources.{Reqs}
 use Rattle.pnp_model.specs.Keyed.{changed_first, those}
 use Rattle.pnp_model.specs.Tests.{has}
 use Rattle.pnp_model.specs.Records.{Node, Task, State, Operation, Rebalance, RebalanceStage, Found, Duty}
@@ -11,7 +12,7 @@ use Rattle.pnp_model.specs.Records.RebalanceStage.{Searching}
 use Rattle.pnp_model.specs.Cores.{is_node, node_at, with_state, with_problem}
 use Rattle.pnp_model.specs.Trees.{stands_up}
 use Rattle.pnp_model.specs.Frames.{first_node, rest}
-use Rattle.pnp_model.specs.Rebalances.{RebalanceMove, ask_on, cancel_on, stop_on, startable, restart_from, is_not_above, searched, trouble_of, stuck, stop_step, committed, movers, plan_of, commit_step, end_restart, failed, end_of, over, moved_on}
+use Rattle.pnp_model.specs.Rebalances.{RebalanceMove, cancelled, has_refused, search_on, ask_on, cancel_on, stop_on, startable, restart_from, is_not_above, searched, trouble_of, stuck, stop_step, committed, movers, plan_of, commit_step, end_restart, failed, kind_of, over, moved_on, result}
 use Rattle.pnp_model.specs.Machine.{rebalance_lifted}
 use Rattle.pnp_model.specs.Diagram.{Row}
 use Rattle.pnp_model.specs.Diagram.Row.{query_stop, query_stop_bad, cancel_stop_refused, cancel_stop, stop, restart, restart_bad}
@@ -25,7 +26,7 @@ use Rattle.pnp_laws.specs.Kept.{Good, Each, RebalanceKeeps, stopped_state, is_ca
 use Rattle.pnp_laws.specs.Due.{leads, is_due}
 use Rattle.pnp_laws.proofs.Lookups.{node_changed_same, some_same, node_from, map_from}
 use Rattle.pnp_laws.proofs.Lists.{head_found, head_has, rest_has}
-use Rattle.pnp_laws.proofs.OpSteps.{stopped_calm}
+use Rattle.pnp_laws.proofs.OpSteps.{stopped_calm, target_there}
 use Rattle.pnp_laws.proofs.RebalanceSteps.{head_started, head_pending, head_stopping, head_stopped, rootless_head}
 use Rattle.pnp_laws.proofs.Aboves.{due_more}
 use Rattle.pnp_laws.specs.Rebalanced.{Rising}
@@ -43,21 +44,37 @@ use Rattle.pnp_laws.proofs.SoundRemovals.{started_stays}
 abbrev pub RebalanceKept : Rebalance → List Node → Type 0
 RebalanceKept r nodes = OrderKept r r.stage × RebalanceThere r r.stage nodes
 
-pub order_ask_on : (r : Rebalance) (ks : List ℕ) (nodes : List Node) → Ordered ks r.agreed → AllThere ks nodes → AllThere r.agreed nodes → RebalanceKept (ask_on r ks) nodes
-order_ask_on r [] nodes g there all = (g.rising, all)
-order_ask_on r (k ∷ ks) nodes g there all = (g, (goes_on k ks nodes there, all))
+order_cancelled : (r : Rebalance) (wanted : Option Reqs) (nodes : List Node) → OrderKept r (cancelled wanted) × RebalanceThere r (cancelled wanted) nodes
+order_cancelled r None nodes = (tt, tt)
+order_cancelled r (Some wanted) nodes = (tt, tt)
 
-pub waits_ask_on : (r : Rebalance) (ks : List ℕ) → waiting (Some (Operation.Rebalancing (ask_on r ks))) ≡ []
-waits_ask_on r [] = refl
-waits_ask_on r (k ∷ ks) = refl
+waits_cancelled : (r : Rebalance) (wanted : Option Reqs) → rebalance_waiting r (cancelled wanted) ≡ []
+waits_cancelled r None = refl
+waits_cancelled r (Some wanted) = refl
 
 order_cancel_on : (r : Rebalance) (ks : List ℕ) (nodes : List Node) → AllThere ks nodes → RebalanceKept (cancel_on r ks) nodes
-order_cancel_on r [] nodes there = (tt, tt)
+order_cancel_on r [] nodes there = order_cancelled (record r { todo = []; stage = cancelled r.wanted }) r.wanted nodes
 order_cancel_on r (k ∷ ks) nodes there = (tt, goes_on k ks nodes there)
 
 waits_cancel_on : (r : Rebalance) (ks : List ℕ) → waiting (Some (Operation.Rebalancing (cancel_on r ks))) ≡ []
-waits_cancel_on r [] = refl
+waits_cancel_on r [] = waits_cancelled (record r { todo = []; stage = cancelled r.wanted }) r.wanted
 waits_cancel_on r (k ∷ ks) = refl
+
+order_search_on : (r : Rebalance) (refused : Bool) (nodes : List Node) → Rising r.agreed → AllThere r.agreed nodes → RebalanceKept (search_on r refused) nodes
+order_search_on r false nodes g all = (g, all)
+order_search_on r true nodes g all = order_cancel_on r r.agreed nodes all
+
+waits_search_on : (r : Rebalance) (refused : Bool) → waiting (Some (Operation.Rebalancing (search_on r refused))) ≡ []
+waits_search_on r false = refl
+waits_search_on r true = waits_cancel_on r r.agreed
+
+pub order_ask_on : (r : Rebalance) (ks : List ℕ) (nodes : List Node) → Ordered ks r.agreed → AllThere ks nodes → AllThere r.agreed nodes → RebalanceKept (ask_on r ks) nodes
+order_ask_on r [] nodes g there all = order_search_on r (has_refused r) nodes g.rising all
+order_ask_on r (k ∷ ks) nodes g there all = (g, (goes_on k ks nodes there, all))
+
+pub waits_ask_on : (r : Rebalance) (ks : List ℕ) → waiting (Some (Operation.Rebalancing (ask_on r ks))) ≡ []
+waits_ask_on r [] = waits_search_on r (has_refused r)
+waits_ask_on r (k ∷ ks) = refl
 
 order_stop_on : (r : Rebalance) (ks : List ℕ) (nodes : List Node) → Rising r.agreed → AllThere ks nodes → AllThere r.agreed nodes → RebalanceKept (stop_on r ks) nodes
 order_stop_on r [] nodes g there all = (g, all)
@@ -97,7 +114,7 @@ all_calm todo nodes each k n at = by_test (has todo k) refl
 not_root : (s : State) (next : ℕ) (p : Option Operation) → Good next s.core.nodes [] p → (k : ℕ) (n : Node) → node_at k s.core.nodes ≡ Some n → n.state ≡ Stopped → k ≢ 0
 not_root s next p good k n at e = λ z. let root = (good.stacks k n at).root z in cc
 
-commits_alike : (serials : List ℕ) (r : Rebalance) (n : Node) → Alike n (committed serials (plan_of r.found) n)
+commits_alike : (serials : List ℕ) (r : Rebalance) (n : Node) → Alike n (committed r.wanted r.target serials (plan_of r.found) n)
 commits_alike serials r n = record { serial = refl; parent = refl; path = refl; born = refl; idle = λ h. h }
 
 -- the states of others as the head is started again
@@ -131,14 +148,17 @@ module _ (s : State) (r : Rebalance) (good : Good s.next_serial s.core.nodes [] 
   re_searched no_fit order there due = op_still s _ _ [] tt refl refl refl refl (λ same. order_cancel_on (record r { found = no_fit }) r.agreed _ there) (waits_cancel_on (record r { found = no_fit }) r.agreed) due h
   re_searched spent order there due = op_still s _ _ [] tt refl refl refl refl (λ same. order_cancel_on (record r { found = spent }) r.agreed _ there) (waits_cancel_on (record r { found = spent }) r.agreed) due h
 
-  re_closes : (found : Found) (label : Label) → IsPlain label → DueBut [] s.tasks s.core.nodes → Sound s (rebalance_lifted s (record { label = label; core = s.core; frame = r; beside = over s.core r found }))
-  re_closes (assignment plan) label plain due = by_test (stands_up s.core.nodes r.target)
+  re_closes : (found : Found) (wanted : Option Reqs) (label : Label) → IsPlain label → DueBut [] s.tasks s.core.nodes → Sound s (rebalance_lifted s (record { label = label; core = s.core; frame = r; beside = over s.core r found wanted }))
+  re_closes (assignment plan) None label plain due = by_test (stands_up s.core.nodes r.target)
     where
       by_test : (up : Bool) → Sound s (rebalance_lifted s (record { label = label; core = s.core; frame = r; beside = moved_on up }))
       by_test true = op_still s _ label [] plain refl refl refl refl (λ same. tt) refl due h
       by_test false = op_still s _ label [] plain refl refl refl refl (λ same. tt) refl due h
-  re_closes no_fit label plain due = op_still s _ label [] plain refl refl refl refl (λ same. tt) refl due h
-  re_closes spent label plain due = op_still s _ label [] plain refl refl refl refl (λ same. tt) refl due h
+  re_closes no_fit None label plain due = op_still s _ label [] plain refl refl refl refl (λ same. tt) refl due h
+  re_closes spent None label plain due = op_still s _ label [] plain refl refl refl refl (λ same. tt) refl due h
+  re_closes (assignment plan) (Some wanted) label plain due = op_still s _ label [] plain refl refl refl refl (λ same. tt) refl due h
+  re_closes no_fit (Some wanted) label plain due = op_still s _ label [] plain refl refl refl refl (λ same. tt) refl due h
+  re_closes spent (Some wanted) label plain due = op_still s _ label [] plain refl refl refl refl (λ same. tt) refl due h
 
   pub sound_rebalance : (stage : RebalanceStage) (m : RebalanceMove) → RebalanceKeeps r stage s.core.nodes → OrderKept r stage → RebalanceThere r stage s.core.nodes → DueBut (rebalance_waiting r stage) s.tasks s.core.nodes → RebalanceStep s.core r stage m → Sound s (rebalance_lifted s m)
   sound_rebalance stage m keeps order there due (RebalanceStep.agrees node w e ok) =
@@ -168,12 +188,14 @@ module _ (s : State) (r : Rebalance) (good : Good s.next_serial s.core.nodes [] 
       op_walk s _ node r.todo [] Minor.CancelStop false StopPending Started work state refl refl refl refl (λ q. absurd (cc)) (λ q. cc) (λ q. cc) cancel_stop
       (λ same. order_cancel_on r (rest r.todo) _ (same_there (rest r.todo) s.core _ same (rest_there r.todo s.core.nodes there.there))) (waits_cancel_on r (rest r.todo)) due h
   sound_rebalance stage m keeps order there due RebalanceStep.sticks =
-      let at = keeps.waits.1 in
+      let there = target_there r.wanted r.target s.core.nodes keeps.waits in
+      let node = there.0 in
+      let at = there.1 in
       let f = with_problem (Some (trouble_of r.found)) in
       let t = (rebalance_lifted s (stuck s.core r)).state in
-      let same = same_changed s.core t.core r.target f keeps.waits.0 refl refl (λ x. refl) at (problem_alike keeps.waits.0 (Some (trouble_of r.found))) in
+      let same = same_changed s.core t.core r.target f node refl refl (λ x. refl) at (problem_alike node (Some (trouble_of r.found))) in
       sound_same s t (Label.Trouble r.path (trouble_of r.found)) tt same refl h.up (tt, tt)
-      (due_changed [] [] s.tasks s.tasks s.core.nodes t.core.nodes r.target f keeps.waits.0 refl (λ x. refl) at (nodes_same s.core t.core same) (leads_same s.tasks) (λ q. inl q) (λ k q. inl q) due) h
+      (due_changed [] [] s.tasks s.tasks s.core.nodes t.core.nodes r.target f node refl (λ x. refl) at (nodes_same s.core t.core same) (leads_same s.tasks) (λ q. inl q) (λ k q. inl q) due) h
   sound_rebalance stage m keeps order there due (RebalanceStep.stops node w e) =
       let work = re_work node e.first keeps.rootless in
       let here = head_has node.serial r.todo work.head in
@@ -247,4 +269,4 @@ module _ (s : State) (r : Rebalance) (good : Good s.next_serial s.core.nodes [] 
       (order_restart_from r todo t.core.nodes (rising_startable s.core.nodes ks (rising_rest r.todo order)) (same_there todo s.core t.core same (startable_there s.core.nodes ks s.core.nodes (rest_there r.todo s.core.nodes there.there))))
       (subst (λ (x : List ℕ). DueBut x t.tasks t.core.nodes) (sym (waits_restart_from r todo))
       (due_changed todo todo t.tasks t.tasks s.core.nodes t.core.nodes node.serial f node refl (λ x. refl) work.at (nodes_same s.core t.core same) (leads_same t.tasks) (λ q. inl q) (λ k q. inl q) now)) h
-  sound_rebalance stage m keeps order there due RebalanceStep.closes = re_closes r.found (Label.End OpKind.Rebalance r.path (end_of r.found)) tt due
+  sound_rebalance stage m keeps order there due RebalanceStep.closes = re_closes r.found r.wanted (Label.End (kind_of r.wanted) r.path (result r.found (has_refused r))) tt due

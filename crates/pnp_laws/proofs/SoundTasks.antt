@@ -2,6 +2,8 @@
 use Rattle.std.proofs.Common.{ℕ, drop, ◌≡◌, ◌≢◌, ◌==◌, inl, inr, true, false, not, List, [], ◌∷◌, Option, Some, None, refl, sym, ap, ◌∙◌, subst, arith, reverse}
 use Rattle.std.specs.List.{slice_get}
 use Rattle.std.proofs.lemmas.Bool.Decides.{nat_tests}
+use Rattle.resource_reqs.specs.Resources.{Reqs}
+use Rattle.resource_reqs.specs.Resources.{Reqs}
 use Rattle.pnp_model.specs.Keyed.{changed_first, those}
 use Rattle.pnp_model.specs.Tests.{has, is_surprise_task}
 use Rattle.pnp_model.specs.Records.{Node, Core, Device, Task, State, Step, Operation, Duty, Rebalance, RebalanceStage, Removal, RemovalStage, Surprise, SurpriseStage}
@@ -119,11 +121,12 @@ sound_begin s kind node o task first surprise none stage waits h =
     (subst (λ (ks : List ℕ). DueBut ks (drop 1 s.tasks) s.core.nodes) (sym waits)
     (due_still [] [] s.tasks (drop 1 s.tasks) s.core.nodes s.core.nodes refl (leads_none s.tasks (drop 1 s.tasks) task first surprise) (λ k q. q) (calm_none s none h))) h
 
-sound_rebalance : (s : State) (node : Node) → First s (Duty.Begins OpKind.Rebalance) node.serial → s.operation ≡ None → Good s.next_serial s.core.nodes s.activities None → Stands s → Sound s (begin s OpKind.Rebalance node (Operation.Rebalancing (re.begun_rebalance s.core node)))
-sound_rebalance s node first none good h =
-    let r : Rebalance = record { target = node.serial; path = node.path; todo = []; agreed = []; refused = []; found = no_fit; stage = RebalanceStage.Searching } in
+sound_rebalance : (s : State) (kind : OpKind) (node : Node) (wanted : Option Reqs) → First s (Duty.Begins kind) node.serial → is_surprise_task (Duty.Begins kind) ≡ false → s.operation ≡ None → Good s.next_serial s.core.nodes s.activities None → Stands s
+    → Sound s (begin s kind node (Operation.Rebalancing (re.begun_with s.core node wanted)))
+sound_rebalance s kind node wanted first surprise none good h =
+    let r : Rebalance = record { target = node.serial; path = node.path; wanted = wanted; todo = []; agreed = []; refused = []; found = no_fit; stage = RebalanceStage.Searching } in
     let ks = reverse (serials_of (those re.is_asked s.core.nodes)) in
-    sound_begin s OpKind.Rebalance node _ _ first refl none
+    sound_begin s kind node _ _ first surprise none
     (sre.order_ask_on r ks s.core.nodes (ordered_begun re.is_asked s.core.nodes good.serials)
     (reverse_there (serials_of (those re.is_asked s.core.nodes)) s.core.nodes (λ i q. let f = those_found 0 re.is_asked s.core.nodes i good.serials q in (f.0, f.1)))
     (none_there s.core.nodes))
@@ -179,7 +182,8 @@ sound_task s _ none good h (TaskStep.finds_gone node child gone) =
 sound_task s _ none good h (TaskStep.joins node d at up below) = sound_join s node d (find_passes (joins node.born s.core.nodes) s.world d below) at up none good h
 sound_task s _ none good h (TaskStep.troubles node problem b fine) = sound_started s _ (Label.Trouble node.path problem) node (Some problem) tt refl refl refl refl refl none b h
 sound_task s _ none good h (TaskStep.installs node rank driver drivers b chosen) = sound_started s _ _ node None tt refl refl refl refl refl none b h
-sound_task s _ none good h (TaskStep.begins OpKind.Rebalance node first alone at fits) = sound_rebalance s node first none good h
+sound_task s _ none good h (TaskStep.begins OpKind.Rebalance node first alone at fits) = sound_rebalance s OpKind.Rebalance node None first refl none good h
 sound_task s _ none good h (TaskStep.begins OpKind.Disable node first alone at fits) = sound_removal s OpKind.Disable node _ first refl at none good h
 sound_task s _ none good h (TaskStep.begins OpKind.Eject node first alone at fits) = sound_removal s OpKind.Eject node _ first refl at none good h
 sound_task s _ none good h (TaskStep.begins OpKind.Surprise node first alone at fits) = sound_surprise s node node.serial first at none good h
+sound_task s _ none good h (TaskStep.begins OpKind.Change node first alone at fits) = sound_rebalance s OpKind.Change node (Some _) first refl none good h

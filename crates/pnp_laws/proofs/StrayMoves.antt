@@ -13,7 +13,7 @@ use Rattle.pnp_model.specs.Starts.{own_part}
 use Rattle.pnp_model.specs.Cores.{bare, is_node, node_at, stacked, with_holds, with_problem, with_state}
 use Rattle.pnp_model.specs.Events.{answer_of, completed_phase}
 use Rattle.pnp_model.specs.Keyed.{changed_first}
-use Rattle.pnp_model.specs.Rebalances.{committed, movers, plan_of}
+use Rattle.pnp_model.specs.Rebalances.{committed, movers, others, plan_of}
 use Rattle.pnp_model.specs.Records.{Activity, Node, Operation, Phase, Rebalance, RebalanceStage, State}
 use Rattle.pnp_model.specs.Records.Phase.{Adding, Searching, Starting, Removing, Due}
 use Rattle.pnp_model.specs.States.{activity_at, is_activity, with_phase}
@@ -27,6 +27,7 @@ use Rattle.pnp_laws.specs.Strays.{IsStray}
 use Rattle.pnp_laws.specs.Words.{spared}
 use Rattle.pnp_laws.proofs.Kept.{none_acts}
 use Rattle.pnp_laws.proofs.EffectViews.{Origin, StartOrigin, acting_at, origin, start_origin}
+use Rattle.pnp_laws.proofs.Lists.{not_head, without_has}
 use Rattle.pnp_laws.proofs.Lookups.{node_from, own_serial, phase_set_same, some_same}
 use Rattle.pnp_laws.proofs.Sharing.{part_not}
 
@@ -131,7 +132,7 @@ module _ (s : State) (label : Label) (t : State) (good : IsGood s) (whole : IsWh
       by_test : (a b : Bool) → has (r.target ∷ []) k ≡ a → has r.agreed k ≡ b → From s t k m
       by_test true b h g = From.moved (Operation.Rebalancing r) n runs at (λ q. (sym (ap (λ (x : Node). x.state) e) ∙ q, h))
       by_test false true h g = From.moved (Operation.Rebalancing r) n runs at (λ q. absurd (mover_is r k n runs is at g (sym (ap (λ (x : Node). x.state) e) ∙ q)))
-      by_test false false h g = From.unchanged n at (λ q. sym (ap (λ (x : Node). x.state) e) ∙ q) (ap (λ (x : Node). x.holds) e ∙ part_not n.serial (movers r) (plan_of r.found) n.holds (subst (λ (i : ℕ). has (movers r) i ≡ false) (sym (own_serial k n s.core.nodes at)) (not_mover r.target r.agreed k h g)))
+      by_test false false h g = From.unchanged n at (λ q. sym (ap (λ (x : Node). x.state) e) ∙ q) (ap (λ (x : Node). x.holds) e ∙ part_not n.serial (movers r) (plan_of r.found) n.holds (subst (λ (i : ℕ). has (movers r) i ≡ false) (sym (own_serial k n s.core.nodes at)) (not_mover r.target (others r) k h (without_has r.target k r.agreed (not_head r.target k [] h) ∙ g))))
 
   placed_from : (k : ℕ) (phase : Phase) → Acting s k phase → t.activities ≡ changed_first (is_activity k) (with_phase (Starting (walk_of Minor.Start))) s.activities → (m : Node) → From s t k m
   placed_from k phase acts now m =
@@ -174,8 +175,8 @@ module _ (s : State) (label : Label) (t : State) (good : IsGood s) (whole : IsWh
 
   entered_begun : (k : ℕ) (phase : Phase) → Enters s k t phase → is_unplaced phase ≡ true → Begun k
   entered_begun k phase (Enters.installs drivers chosen drops clears) h = Begun.begins chosen.node chosen.at chosen.bare clears
-  entered_begun k phase (Enters.restarts r plan runs is target found nodes) h = absurd (cc)
-  entered_begun k phase (Enters.undoes r runs target) h = absurd (cc)
+  entered_begun k phase (Enters.restarts r plan runs plain is target found nodes) h = absurd (cc)
+  entered_begun k phase (Enters.undoes r runs plain target) h = absurd (cc)
 
   went_begun : (k : ℕ) (was now : Phase) → PhaseStep s k t was now → is_unplaced now ≡ true → Begun k
   went_begun k was now (PhaseStep.added d ds acts) h = let here = acting_at s k (Adding (d ∷ ds)) good.order acts in Begun.before here.activity here.at (ap is_unplaced here.is)

@@ -16,7 +16,7 @@ use Rattle.pnp_laws.proofs.Lookups.{entered_same, entered_other, InOrder-entered
 use Rattle.pnp_laws.proofs.Diagrams.{Each_joined}
 use Rattle.pnp_laws.proofs.Kept.{lawful_by, Good_joined, Good_nodes}
 use Rattle.pnp_laws.proofs.StartSteps.{lawful_changed}
-use Rattle.pnp_laws.proofs.RebalanceSteps.{fits_begun_rebalance}
+use Rattle.pnp_laws.proofs.RebalanceSteps.{fits_begun_change, fits_begun_rebalance}
 use Rattle.pnp_laws.proofs.RemovalSteps.{fits_begun_removal}
 use Rattle.pnp_laws.proofs.SurpriseSteps.{fits_begun_surprise}
 
@@ -71,6 +71,7 @@ module _ (s : State) (none : s.operation ≡ None) (good : Good s.next_serial s.
   lawful_task _ g well (TaskStep.installs node rank driver drivers b chosen) =
       installs node rank driver drivers b (subst (λ (ds : List ℕ). Fits (adding ds) NoStack) (sym chosen.all) (drivers_fit chosen.lower chosen.driver chosen.upper))
   lawful_task _ g well (TaskStep.begins OpKind.Rebalance node first alone at (waits, free)) = begins OpKind.Rebalance node _ alone (fits_begun_rebalance s node at waits good)
+  lawful_task _ g well (TaskStep.begins OpKind.Change node first alone at (state, there)) = begins OpKind.Change node _ alone (fits_begun_change s node _ at state (well.up OpKind.Change node.serial first) good)
   lawful_task _ g well (TaskStep.begins OpKind.Disable node first alone at enabled) = removes OpKind.Disable node alone (well.orders node.serial node at (well.up OpKind.Disable node.serial first)) (well.settled OpKind.Disable node.serial first refl)
   lawful_task _ g well (TaskStep.begins OpKind.Eject node first alone at h) = removes OpKind.Eject node alone (well.orders node.serial node at (well.up OpKind.Eject node.serial first)) (well.settled OpKind.Eject node.serial first refl)
   lawful_task _ g well (TaskStep.begins OpKind.Surprise node first alone at h) =

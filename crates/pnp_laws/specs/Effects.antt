@@ -36,7 +36,7 @@ use Rattle.pnp_model.specs.Events.{answer_of, completed, completed_phase, has_ch
 use Rattle.pnp_model.specs.Runs.{Entry, Goes, printed}
 use Rattle.pnp_model.specs.Runs.Entry.{Happens, Did}
 use Rattle.pnp_model.specs.Records.{Node, Core, Device, Relation, Walk, Activity, Phase, Task, Duty, State, Operation, Rebalance, RebalanceStage, Removal, RemovalStage, Settings, SurpriseStage}
-use Rattle.pnp_laws.specs.Words.{IsBeside, IsNoJoin, IsWord, NotTwelve, EndsBy, is_removal, kind_of, path_of, spared, joined}
+use Rattle.pnp_laws.specs.Words.{IsBeside, IsNoJoin, IsWord, NotTwelve, EndsBy, is_removal, kind_of, path_of, spared, wanted_by, joined}
 use Rattle.device_ids.specs.Folding as folding
 
 -- Who does it ----------------------------------------------------------------------
@@ -257,7 +257,7 @@ Unplugs s (Did label) born = (node : Node) × (o : Removal) × (s.operation ≡ 
 pub data WorldEffect (s : State) (entry : Entry) (t : State) : Type 0 where
   same : t.world ≡ s.world → t.next_born ≡ s.next_born → WorldEffect s entry t
   plugged : (d : Device) → Plugged s entry d → t.world ≡ s.world ++ d ∷ [] → t.next_born ≡ s.next_born + 1 → WorldEffect s entry t
-  requires : (node : Node) (path : Text) (reqs : Reqs) (label : Label) → node_of path s.core.nodes ≡ Some node → (node.serial == 0) ≡ false → node.state ≡ Started → is_in_world s.world node.born ≡ true
+  changed : (node : Node) (path : Text) (reqs : Reqs) (label : Label) → node_of path s.core.nodes ≡ Some node → (node.serial == 0) ≡ false → node.state ≡ Started → is_in_world s.world node.born ≡ true
       → entry ≡ Happens (Event.Change path reqs) label → t.world ≡ changed_first (λ d. d.born == node.born) (requires reqs) s.world → t.next_born ≡ s.next_born → WorldEffect s entry t
   unplugged : (born : ℕ) → Unplugs s entry born → t.world ≡ without_those (born ∷ []) s.world → t.next_born ≡ s.next_born → WorldEffect s entry t
 
@@ -309,6 +309,7 @@ pub record SameWork (o p : Operation) : Type 0 where
   pub kind : kind_of p ≡ kind_of o
   pub path : path_of p ≡ path_of o
   pub spared : spared p ≡ spared o
+  pub wanted : wanted_by p ≡ wanted_by o
   pub own : OperationOwn o → OperationOwn p
 
 -- an activity prints the problem that it owes
@@ -341,13 +342,18 @@ Closes s (Operation.Surprising o) t =
     (o.stage ≡ SurpriseStage.Ending) ⊎ ((o.stage ≡ SurpriseStage.Settling) × (node : Node) × (first_node s.core.nodes o.todo ≡ Some node) × (node.serial ≡ o.target))
 Closes s _ t = Unit {0}
 
+-- problem 12, where nothing is found
+abbrev pub Conflicts : Operation → Label → Type 0
+Conflicts (Operation.Rebalancing r) label = (r.stage ≡ RebalanceStage.Stuck) × (label ≡ Label.Trouble r.path Problem.NormalConflict)
+Conflicts _ label = ⊥
+
 -- in a step none runs; or one begins, goes on, or ends
 pub data OpEffect (s : State) (label : Label) (t : State) : Type 0 where
   idles : s.operation ≡ None → t.operation ≡ None → IsBeside label ⊎ Owes s label → OpEffect s label t
   begins : (kind : OpKind) (node : Node) → s.operation ≡ None → s.activities ≡ [] → node_at node.serial s.core.nodes ≡ Some node → BeginsFor s kind node
       → record { label = label; state = t } ≡ begin s kind node (begun s kind node) → OpEffect s label t
   goes : (o p : Operation) → s.operation ≡ Some o → t.operation ≡ Some p → SameWork o p
-      → IsBeside label ⊎ ((kind_of o ≡ OpKind.Rebalance) × (label ≡ Label.Trouble (path_of o) Problem.NormalConflict)) → OpEffect s label t
+      → IsBeside label ⊎ Conflicts o label → OpEffect s label t
   ends : (o : Operation) (result : OpEnd) → s.operation ≡ Some o → t.operation ≡ None → label ≡ Label.End (kind_of o) (path_of o) result → EndsBy (is_removal o) result → Closes s o t
       → OpEffect s label t
 
@@ -360,9 +366,9 @@ OperationEffect s (Did label) t = OpEffect s label t
 -- why the start of a device begins in a phase: its drivers were chosen; or the rebalance for it closes
 pub data Enters (s : State) (k : ℕ) (t : State) : Phase → Type 0 where
   installs : (drivers : List ℕ) → Chosen s k drivers → t.tasks ≡ drop 1 s.tasks → t.core.nodes ≡ changed_first (is_node k) (with_problem None) s.core.nodes → Enters s k t (adding drivers)
-  restarts : (r : Rebalance) (plan : List (List Res)) → s.operation ≡ Some (Operation.Rebalancing r) → r.stage ≡ RebalanceStage.Ending → r.target ≡ k → r.found ≡ assignment plan → t.core.nodes ≡ s.core.nodes
+  restarts : (r : Rebalance) (plan : List (List Res)) → s.operation ≡ Some (Operation.Rebalancing r) → r.wanted ≡ None → r.stage ≡ RebalanceStage.Ending → r.target ≡ k → r.found ≡ assignment plan → t.core.nodes ≡ s.core.nodes
       → Enters s k t (Phase.Starting (walk_of Minor.Start))
-  undoes : (r : Rebalance) → s.operation ≡ Some (Operation.Rebalancing r) → r.target ≡ k → Enters s k t (Phase.Removing (walk_of Minor.Remove))
+  undoes : (r : Rebalance) → s.operation ≡ Some (Operation.Rebalancing r) → r.wanted ≡ None → r.target ≡ k → Enters s k t (Phase.Removing (walk_of Minor.Remove))
 
 -- how the start of device k goes on
 pub data PhaseStep (s : State) (k : ℕ) (t : State) : Phase → Phase → Type 0 where

@@ -157,9 +157,9 @@ is_changing StopPending = true
 is_changing Stopped = true
 is_changing _ = false
 
--- the target of a change was up at the begin
+-- the target of a change was up at the begin, and is not the root
 abbrev pub Changes : ℕ → List Node → Type 0
-Changes k nodes = (n : Node) × (node_at k nodes ≡ Some n) × (is_changing n.state ≡ true)
+Changes k nodes = (n : Node) × (node_at k nodes ≡ Some n) × (is_changing n.state ≡ true) × (k ≢ 0)
 
 abbrev pub TargetFits : Option Reqs → ℕ → List Node → Type 0
 TargetFits None k nodes = Waits k nodes

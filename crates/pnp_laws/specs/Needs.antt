@@ -1,6 +1,7 @@
 -- Whence what a device needs comes, and that no alternative has more groups than those that are plugged.
-use Rattle.std.specs.Prelude.{ℕ, ◌≡◌, ◌⊎◌, Contains, List, [], Some}
+use Rattle.std.specs.Prelude.{ℕ, ◌≡◌, ◌⊎◌, Contains, true, List, [], Some}
 use Rattle.std.specs.List.{AllByRecursion}
+use Rattle.device_ids.specs.Folding.{same}
 use Rattle.resource_reqs.specs.Resources.{Reqs}
 use Rattle.pnp_labels.specs.Texts.{Text}
 use Rattle.pnp_labels.specs.declared.event.Event.{Event}
@@ -20,9 +21,18 @@ pub record IsRoot (path : Text) (hw compat : List Text) (reqs : Reqs) : Type 0 w
   pub compat_is : compat ≡ []
   pub reqs_are : reqs ≡ []
 
--- it is the root that has this path, these IDs and these requirements, or an event plugs a device with them
+-- an event plugs a device with this path, these IDs and these requirements
+abbrev pub IsPlugged : List Entry → Text → List Text → List Text → Reqs → Type 0
+IsPlugged entries path hw compat reqs = (parent : Text) × (label : Label) × Contains entries (Happens (Event.Plug parent path hw compat reqs) label)
+
+-- an event says that the device of this path, in whatever case it is written, requires this from then on
+abbrev pub IsChanged : List Entry → Text → Reqs → Type 0
+IsChanged entries path reqs = (named : Text) × (same path named ≡ true) × (label : Label) × Contains entries (Happens (Event.Change named reqs) label)
+
+-- the root; or a device with the path and the IDs of one event that plugs, and the requirements of that event, or of one that
+-- changes those of its path
 abbrev pub IsSaid : List Entry → Text → List Text → List Text → Reqs → Type 0
-IsSaid entries path hw compat reqs = IsRoot path hw compat reqs ⊎ ((parent : Text) × (label : Label) × Contains entries (Happens (Event.Plug parent path hw compat reqs) label))
+IsSaid entries path hw compat reqs = IsRoot path hw compat reqs ⊎ (IsPlugged entries path hw compat reqs ⊎ ((first : Reqs) × IsPlugged entries path hw compat first × IsChanged entries path reqs))
 
 -- in each state of a run so it is with each node, but that its requirements are cut to what comes through to it in this state
 abbrev pub PluggedLaw : Type 0
@@ -30,16 +40,17 @@ PluggedLaw =
     (settings : Settings) (rack : List Driver) (entries : List Entry) (s : State) → Reaches settings rack entries s
     → (k : ℕ) (n : Node) → node_at k s.core.nodes ≡ Some n → (said : Reqs) × IsSaid entries n.path n.hw n.compat said × (n.reqs ≡ clip s.windows s.core.nodes n.parent said)
 
--- where a device is plugged, no alternative of its requirements has more groups
+-- where a device is plugged or changed, no alternative of its requirements has more groups
 abbrev pub IsEventWithin : ℕ → Event → Type 0
 IsEventWithin most (Event.Plug parent path hw compat reqs) = AreWithin most reqs
+IsEventWithin most (Event.Change path reqs) = AreWithin most reqs
 IsEventWithin most _ = Unit {0}
 
 abbrev pub IsEntryWithin : ℕ → Entry → Type 0
 IsEntryWithin most (Happens event label) = IsEventWithin most event
 IsEntryWithin most (Did label) = Unit {0}
 
--- so where no event of a run plugs more, no node of it needs more
+-- so where no event of a run says more, no node of it needs more
 abbrev pub NeedsLaw : Type 0
 NeedsLaw =
     (settings : Settings) (rack : List Driver) (entries : List Entry) (s : State) → Reaches settings rack entries s

@@ -1,5 +1,6 @@
--- What a rebalance keeps since its begin: what it restores where it finds nothing, and who was asked.
-use Rattle.std.specs.Prelude.{ℕ, ◌≡◌, ◌<◌, ◌⊎◌, true, false, List, [], ◌∷◌, Some}
+-- What a rebalance or a change keeps since its begin: what it restores where it finds nothing, and who was asked.
+use Rattle.std.specs.Prelude.{ℕ, ◌≡◌, ◌<◌, ◌⊎◌, true, false, List, [], ◌∷◌, Option, Some, None}
+use Rattle.resource_reqs.specs.Resources.{Reqs}
 use Rattle.resource_reqs.specs.Spelling.Answer.{no_fit}
 use Rattle.pnp_model.specs.Keyed.{changed_first}
 use Rattle.pnp_model.specs.Tests.{has}
@@ -7,7 +8,7 @@ use Rattle.pnp_model.specs.Cores.{is_node, node_at, with_problem}
 use Rattle.pnp_model.specs.Trees.{above}
 use Rattle.pnp_model.specs.Walks.{is_bad}
 use Rattle.pnp_model.specs.Frames.{first_node, rest}
-use Rattle.pnp_model.specs.Rebalances.{is_asked, movers, trouble_of}
+use Rattle.pnp_model.specs.Rebalances.{has_refused, is_asked, trouble_of}
 use Rattle.pnp_model.specs.Laws.{NothingFits}
 use Rattle.pnp_model.specs.Records.{Node, Core, Walk, State, Operation, Rebalance, RebalanceStage}
 use Rattle.pnp_model.specs.Records.RebalanceStage.{Asking, TakingBack, Searching, Cancelling, Stuck, Stopping, Committing, Restarting, Failed, Ending}
@@ -21,23 +22,32 @@ use Rattle.pnp_laws.specs.Holdings.{has_plan}
 abbrev pub Paused : Core → Core → List ℕ → Type 0
 Paused before now agreed = Held StopPending before now agreed
 
--- nothing has changed since but for the problem of the device
+-- nothing has changed since but for the problem of the target
 pub record Troubled (before now : Core) (r : Rebalance) : Type 0 where
   pub nodes : now.nodes ≡ changed_first (is_node r.target) (with_problem (Some (trouble_of r.found))) before.nodes
   pub relations : now.relations ≡ before.relations
   pub reserved : now.reserved ≡ before.reserved
 
+-- a plan was found, for which the target of a change had agreed
+abbrev pub Moves : Rebalance → Type 0
+Moves r = (has_plan r.found ≡ true) × (has_refused r ≡ false)
+
+-- in the end, by what is wanted: without a plan a rebalance leaves a problem, and a change nothing
+abbrev pub EndsUndone : Core → Core → Rebalance → Option Reqs → Type 0
+EndsUndone before now r None = (has_plan r.found ≡ true) ⊎ Troubled before now r
+EndsUndone before now r (Some wanted) = Moves r ⊎ Paused before now []
+
 abbrev pub Undone : Core → Core → Rebalance → RebalanceStage → Type 0
-Undone before now r (Asking w) = Paused before now r.agreed
-Undone before now r (TakingBack w) = Paused before now r.agreed
-Undone before now r Searching = Paused before now r.agreed
+Undone before now r (Asking w) = Paused before now r.agreed × (has_plan r.found ≡ false)
+Undone before now r (TakingBack w) = Paused before now r.agreed × (has_plan r.found ≡ false)
+Undone before now r Searching = Paused before now r.agreed × (has_refused r ≡ false)
 Undone before now r (Cancelling w) = Paused before now r.todo × (has_plan r.found ≡ false)
 Undone before now r Stuck = Paused before now [] × (has_plan r.found ≡ false)
-Undone before now r (Stopping w) = has_plan r.found ≡ true
-Undone before now r Committing = has_plan r.found ≡ true
-Undone before now r (Restarting w) = has_plan r.found ≡ true
-Undone before now r Failed = has_plan r.found ≡ true
-Undone before now r Ending = (has_plan r.found ≡ true) ⊎ Troubled before now r
+Undone before now r (Stopping w) = Moves r
+Undone before now r Committing = Moves r
+Undone before now r (Restarting w) = Moves r
+Undone before now r Failed = Moves r
+Undone before now r Ending = EndsUndone before now r r.wanted
 
 -- Who was asked --------------------------------------------------------------------
 
@@ -72,9 +82,9 @@ pub record Asks (nodes : List Node) (todo agreed refused : List ℕ) : Type 0 wh
 abbrev pub EndsBad : Walk → Type 0
 EndsBad w = is_bad w ≡ true → w.waits ≡ false
 
--- nothing fits the device and those that agreed, as all was before
+-- nothing fits the device of a rebalance and those that agreed, as all was before
 abbrev pub IsHopeless : Core → Rebalance → Type 0
-IsHopeless before r = r.found ≡ no_fit → NothingFits before (movers r)
+IsHopeless before r = r.wanted ≡ None → r.found ≡ no_fit → NothingFits before (r.target ∷ r.agreed)
 
 abbrev pub AskedSince : Core → Rebalance → RebalanceStage → Type 0
 AskedSince before r (Asking w) = Asks before.nodes r.todo r.agreed r.refused × EndsBad w
@@ -89,7 +99,7 @@ abbrev pub Refusing : Core → Rebalance → RebalanceStage → ℕ → Type 0
 Refusing c r stage k =
     (w : Walk) × (node : Node) × (stage ≡ Asking w) × (first_node c.nodes r.todo ≡ Some node) × (node.serial ≡ k) × (is_bad w ≡ true)
 
--- a rebalance for the device of this path runs
+-- a rebalance or a change for the device of this path runs
 pub record Underway (path : List ℕ) (before : Core) (s : State) : Type 0 where
   pub frame : Rebalance
   pub runs : s.operation ≡ Some (Operation.Rebalancing frame)

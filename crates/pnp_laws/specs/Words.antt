@@ -1,5 +1,6 @@
 -- Words of operations, labels and activities that several laws share.
-use Rattle.std.specs.Prelude.{ℕ, Bool, true, false, List, [], ◌∷◌}
+use Rattle.std.specs.Prelude.{ℕ, Bool, true, false, List, [], ◌∷◌, Option, None}
+use Rattle.resource_reqs.specs.Resources.{Reqs}
 use Rattle.pnp_model.specs.Rebalances as rebalances
 use Rattle.pnp_model.specs.Records.{Activity, Phase, Operation}
 use Rattle.pnp_model.specs.Records.Phase.{Due}
@@ -42,6 +43,11 @@ abbrev pub spared : Operation → List ℕ
 spared (Operation.Rebalancing r) = r.target ∷ []
 spared (Operation.Surprising o) = o.set
 spared _ = []
+
+-- what the target of a change requires from the commit on
+abbrev pub wanted_by : Operation → Option Reqs
+wanted_by (Operation.Rebalancing r) = r.wanted
+wanted_by _ = None
 
 -- it is not problem 12
 abbrev pub NotTwelve : Problem → Type 0
