@@ -161,10 +161,11 @@ twins_goes s label entry t order b old nodes world k m d at there own =
         (sym path ∙ twin.0 ∙ sym name.path, sym hw ∙ twin.1 ∙ sym name.hw, sym compat ∙ twin.2 ∙ sym name.compat)
     by_two (Named.stays n was name) (inr new) = absurd (let l = b.known k n was in let e = name.born in omega arith)
     by_two (Named.joined node j in_world gone is) (inl (x, x_there, born, path, hw, compat)) =
-        let twin : x ≡ j = grows_apart 0 s.world x j b.grows x_there in_world (born ∙ own ∙ ap (λ (z : Node). z.born) is) in
-        (sym path ∙ ap (λ (z : Device). z.path) twin ∙ sym (ap (λ (z : Node). z.path) is),
-         sym hw ∙ ap (λ (z : Device). z.hw) twin ∙ sym (ap (λ (z : Node). z.hw) is),
-         sym compat ∙ ap (λ (z : Device). z.compat) twin ∙ sym (ap (λ (z : Node). z.compat) is))
+        let twin : x ≡ j = grows_apart 0 s.world x j b.grows x_there in_world (born ∙ own ∙ ap (λ (z : Node). z.born) is) in (
+          sym path ∙ ap (λ (z : Device). z.path) twin ∙ sym (ap (λ (z : Node). z.path) is),
+          sym hw ∙ ap (λ (z : Device). z.hw) twin ∙ sym (ap (λ (z : Node). z.hw) is),
+          sym compat ∙ ap (λ (z : Device). z.compat) twin ∙ sym (ap (λ (z : Node). z.compat) is),
+        )
     by_two (Named.joined node j in_world gone is) (inr new) = absurd (let l = b.fresh j in_world in let e = ap (λ (z : Node). z.born) is in omega arith)
 
 world_says : (Q : Says) (s : State) (entry : Entry) (t : State) (rest : List Entry) → EventsSay Q (entry ∷ rest) → Ascending 0 s.core.nodes → Born s → Twins s → WorldSays Q s.world → WorldEffect s entry t → WorldSays Q t.world
@@ -254,11 +255,12 @@ module _ (Q : Says) (s : State) (label : Label) (t : State) (old : AllSay Q s) (
             let a = name.parent in
             let b = name.path in
             let c = name.hw in
-            let d = name.compat in
-            (h2.0,
-             subst (λ (p : Text). Q m.born p m.hw m.compat h2.0) (sym b)
-             (subst (λ (i : ℕ). Q i x.path m.hw m.compat h2.0) (sym e) (subst (λ (xs : List Text). Q x.born x.path xs m.compat h2.0) (sym c) (subst (λ (xs : List Text). Q x.born x.path x.hw xs h2.0) (sym d) h2.1))),
-             h2.2 ∙ ap (λ (p : ℕ). clip s.windows s.core.nodes p h2.0) (sym a) ∙ ap (λ (y : Kind → Room). clip_by y h2.0) (sym (rooms k m now up)))
+            let d = name.compat in (
+              h2.0,
+              subst (λ (p : Text). Q m.born p m.hw m.compat h2.0) (sym b)
+                  (subst (λ (i : ℕ). Q i x.path m.hw m.compat h2.0) (sym e) (subst (λ (xs : List Text). Q x.born x.path xs m.compat h2.0) (sym c) (subst (λ (xs : List Text). Q x.born x.path x.hw xs h2.0) (sym d) h2.1))),
+              h2.2 ∙ ap (λ (p : ℕ). clip s.windows s.core.nodes p h2.0) (sym a) ∙ ap (λ (y : Kind → Room). clip_by y h2.0) (sym (rooms k m now up)),
+            )
 
     -- the change goes on
     goes_say : (r p : Rebalance) → s.operation ≡ Some (Operation.Rebalancing r) → p.target ≡ r.target → p.wanted ≡ r.wanted → NodeEffect s label t
@@ -293,11 +295,12 @@ module _ (Q : Says) (s : State) (entry : Entry) (t : State) (old : AllSay Q s) (
   change_begins node (Some d) e some at =
       let found = device_in node.born s.world d e in
       let twin = old.twins node.serial node d at found.0 found.1 in
-      let a = old.world d found.0 in
-      (d.reqs,
-       subst (λ (i : ℕ). Q i node.path node.hw node.compat d.reqs) found.1
-       (subst (λ (p : Text). Q d.born p node.hw node.compat d.reqs) twin.0 (subst (λ (xs : List Text). Q d.born d.path xs node.compat d.reqs) twin.1 (subst (λ (xs : List Text). Q d.born d.path d.hw xs d.reqs) twin.2 a))),
-       refl)
+      let a = old.world d found.0 in (
+        d.reqs,
+        subst (λ (i : ℕ). Q i node.path node.hw node.compat d.reqs) found.1
+            (subst (λ (p : Text). Q d.born p node.hw node.compat d.reqs) twin.0 (subst (λ (xs : List Text). Q d.born d.path xs node.compat d.reqs) twin.1 (subst (λ (xs : List Text). Q d.born d.path d.hw xs d.reqs) twin.2 a))),
+        refl,
+      )
 
   begins_say : (kind : OpKind) (node : Node) → node_at node.serial s.core.nodes ≡ Some node → BeginsFor s kind node → WantsSay Q (begin s kind node (begun s kind node)).state
   begins_say OpKind.Change node at (up, some) r wanted run is n there =

@@ -10,7 +10,7 @@ use Rattle.pnp_model.specs.Cores.{node_at}
 use Rattle.pnp_model.specs.Tests.{has, is_started}
 use Rattle.pnp_model.specs.Trees.{above}
 use Rattle.pnp_model.specs.Frames.{held_by, is_beside, fixed_beside}
-use Rattle.pnp_model.specs.Rebalances.{is_asked, reqs_of, trouble_of, movers}
+use Rattle.pnp_model.specs.Rebalances.{is_asked, reqs_of, trouble_of}
 use Rattle.pnp_model.specs.Runs.{Entry, Goes, Run}
 use Rattle.pnp_model.specs.Runs.Entry.{Did}
 use Rattle.pnp_model.specs.Laws.{Reaches, AllWithin, Refuses, RefusedSince, StaysSince, AreFree, NothingFits, ConflictLaw}

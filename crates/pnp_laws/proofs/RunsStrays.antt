@@ -12,7 +12,7 @@ use Rattle.pnp_model.specs.Cores.{bare, node_at, serials_of}
 use Rattle.pnp_model.specs.Diagram.{FollowsDiagram}
 use Rattle.pnp_model.specs.Laws.{DependentsFirst}
 use Rattle.pnp_model.specs.Rebalances.{committed, movers, plan_of}
-use Rattle.pnp_model.specs.Records.{Activity, Driver, Duty, Node, Operation, Rebalance, Settings, State, Step, Surprise, SurpriseStage, Task}
+use Rattle.pnp_model.specs.Records.{Activity, Driver, Duty, Node, Operation, Settings, State, Step, Surprise, SurpriseStage, Task}
 use Rattle.pnp_model.specs.Runs.{Entry, Goes, opening, printed}
 use Rattle.pnp_model.specs.Runs.Entry.{Happens, Did}
 use Rattle.pnp_model.specs.States.{activity_at, entered, new_child}

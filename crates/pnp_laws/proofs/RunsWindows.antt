@@ -1,5 +1,5 @@
 -- In each state of a run what each device needs and holds passes through the windows of all bridges above it.
-use Rattle.std.proofs.Common.{ℕ, zero, suc, ◌≡◌, ◌≢◌, ◌≤◌, inl, inr, Bool, true, false, cond, List, [], ◌∷◌, ◌++◌, Contains, Option, Some, refl, sym, ap, ap₂, ◌∙◌, subst, arith}
+use Rattle.std.proofs.Common.{ℕ, zero, suc, ◌≡◌, ◌≢◌, ◌≤◌, inl, inr, Bool, true, false, cond, List, [], ◌∷◌, ◌++◌, Contains, Option, Some, refl, sym, ap, ◌∙◌, subst, arith}
 use Rattle.std.proofs.Math.Nat.{le-max_left, le-max_right, min-le_left, min-le_right}
 use Rattle.std.proofs.lemmas.Bool.{cases_eq}
 use Rattle.std.proofs.lemmas.List.Elements.{All-contains}
@@ -8,14 +8,12 @@ use Rattle.resource_reqs.proofs.Counts.{contains_cons, contains_nil}
 use Rattle.pnp_model.specs.Clips.{IsInRoom}
 use Rattle.pnp_model.specs.Cores.{node_at}
 use Rattle.pnp_model.specs.Keyed.{those}
-use Rattle.pnp_model.specs.Records.{Core, Driver, Node, Settings, State, Window}
-use Rattle.pnp_model.specs.Runs.{Entry, Goes}
+use Rattle.pnp_model.specs.Records.{Core, Node, Window}
 use Rattle.pnp_model.specs.Tests.{has}
 use Rattle.pnp_model.specs.Trees.{above, above_in}
-use Rattle.pnp_model.specs.Windows.{birth_of, births, clip, clip_by, is_window_on, narrowed, room}
+use Rattle.pnp_model.specs.Windows.{birth_of, births, clip, is_window_on, narrowed, room}
 use Rattle.pnp_model.proofs.Clips.{clip_is_whole, clip_twice}
-use Rattle.pnp_laws.specs.Reached.{IsReached}
-use Rattle.pnp_laws.specs.Windows.{AreClipped, ClippedLaw, WindowsLaw}
+use Rattle.pnp_laws.specs.Windows.{ClippedLaw, WindowsLaw}
 use Rattle.pnp_laws.proofs.Aboves.{above_any, above_step}
 use Rattle.pnp_laws.proofs.Decides.{contains_here, contains_later}
 use Rattle.pnp_laws.proofs.Due.{RootIsOwn, above_zero}

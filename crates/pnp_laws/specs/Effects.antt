@@ -35,7 +35,7 @@ use Rattle.pnp_model.specs.Machine.{is_ready, operation_walk, phase_walk}
 use Rattle.pnp_model.specs.Events.{answer_of, completed, completed_phase, has_children, with_rule}
 use Rattle.pnp_model.specs.Runs.{Entry, Goes, printed}
 use Rattle.pnp_model.specs.Runs.Entry.{Happens, Did}
-use Rattle.pnp_model.specs.Records.{Node, Core, Device, Relation, Walk, Activity, Phase, Task, Duty, State, Operation, Rebalance, RebalanceStage, Removal, RemovalStage, Settings, SurpriseStage}
+use Rattle.pnp_model.specs.Records.{Node, Device, Relation, Walk, Activity, Phase, Task, Duty, State, Operation, Rebalance, RebalanceStage, Removal, RemovalStage, Settings, SurpriseStage}
 use Rattle.pnp_laws.specs.Words.{IsBeside, IsNoJoin, IsWord, NotTwelve, EndsBy, is_removal, kind_of, path_of, spared, wanted_by, joined}
 use Rattle.device_ids.specs.Folding as folding
 
