@@ -1,6 +1,6 @@
 //! What holds of every run of the device machine, for every rack of drivers and whatever happens.
 
-ghost use Rattle.pnp_laws.specs.Begun.{BegunLaw, EachConflictLaw, EachEndLaw};
+ghost use Rattle.pnp_laws.specs.Begun.{BegunLaw, EachConflictLaw, EachEndLaw, UnchangedLaw};
 ghost use Rattle.pnp_laws.specs.Effects.{EffectLaw};
 ghost use Rattle.pnp_laws.specs.Ends.{SettlesLaw, JoinsLaw, FewJoinLaw};
 ghost use Rattle.pnp_laws.specs.Held.{FewHeldLaw, PartsLaw};
@@ -92,6 +92,13 @@ pub fn all_hold_whole()
 /// and the reserved ranges are as before its begin, but for the problem of the device that it was for.
 pub fn futile_restores()
     ensures { FutileLaw }
+{}
+
+/// Where a change ends because nothing fitted, the budget was spent, or its device would not stop, all nodes with all
+/// their fields, the relations and the reserved ranges are as before its begin, whatever happened in between.
+#[tactic(auto, using(crate::proofs::RunsUnchanged::unchanged_restores))]
+pub fn unchanged_restores()
+    ensures { UnchangedLaw }
 {}
 
 /// Where problem 12 is printed in a rebalance, no assignment exists for its device together with all Started devices
