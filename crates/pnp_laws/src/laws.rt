@@ -122,8 +122,9 @@ pub fn each_conflict_is_real()
     ensures { EachConflictLaw }
 {}
 
-/// Each end with a veto restores all that was before the operation began, which did begin; and each end of a rebalance
-/// with `nofit` or `spent` all but the problem of its device.
+/// Each end with a veto restores all that was before the operation began, which did begin, and so does each end of a
+/// change with `nofit`, `spent` or `refused`; each end of a rebalance with `nofit` or `spent` all but the problem of its
+/// device.
 pub fn each_end_restores()
     ensures { EachEndLaw }
 {}
@@ -212,14 +213,16 @@ pub fn few_held()
     ensures { FewHeldLaw }
 {}
 
-/// In each state of each run each node but the root has the path, the identifiers and the requirements that an event of
-/// the run plugged together.
+/// In each state of each run each node but the root has the path and the identifiers that an event of the run plugged
+/// together, and the requirements of that event, or of one that changed those of its path, cut to what comes through the
+/// windows above it now.
 #[tactic(auto, using(crate::proofs::NodesPlugged::nodes_are_plugged))]
 pub fn nodes_are_plugged()
     ensures { PluggedLaw }
 {}
 
-/// So where no event of a run plugs an alternative of more than some number of groups, no node needs more.
+/// So where no event of a run plugs an alternative of more than some number of groups, or changes to one, no node needs
+/// more.
 pub fn needs_are_within()
     ensures { NeedsLaw }
 {}
