@@ -214,8 +214,8 @@ pub fn few_held()
 {}
 
 /// In each state of each run each node but the root has the path and the identifiers that an event of the run plugged
-/// together, and the requirements of that event, or of one that changed those of its path, cut to what comes through the
-/// windows above it now.
+/// together, and the requirements of that event, or of a later one that changed those of its path, cut to what comes
+/// through the windows above it now.
 #[tactic(auto, using(crate::proofs::NodesPlugged::nodes_are_plugged))]
 pub fn nodes_are_plugged()
     ensures { PluggedLaw }
