@@ -68,6 +68,7 @@ pub mod RunsBegun
 pub mod RebalanceRuns
 pub mod Ascents
 pub mod RunsFutile
+pub mod RunsUnchanged
 pub mod RunsConflict
 pub mod RunsStep
 pub mod RunsEnds

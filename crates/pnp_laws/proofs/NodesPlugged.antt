@@ -1,8 +1,8 @@
 -- In each state of a run a node is the root, or one whose device was plugged with the path and the IDs that it has, and with requirements, of then or of a later change, that are cut to what comes through to it.
-use Rattle.std.proofs.Common.{ℕ, suc, ◌<◌, ◌≤◌, ◌≡◌, ◌≢◌, ◌==◌, ◌⊎◌, inl, inr, Bool, true, false, cond, List, [], ◌∷◌, ◌++◌, length, map, reverse, Option, Some, None, Contains, refl, sym, subst, ap, ◌∙◌, arith}
+use Rattle.std.proofs.Common.{ℕ, suc, ◌<◌, ◌≤◌, ◌≡◌, ◌≢◌, ◌==◌, ◌⊎◌, inl, inr, Bool, true, false, cond, List, [], ◌∷◌, ◌++◌, length, map, reverse, Option, Some, None, Contains, refl, sym, subst, ap, ◌∙◌, arith, append_assoc, append-nil}
 use Rattle.std.specs.List.{AllByRecursion}
 use Rattle.std.specs.Option.{is_some}
-use Rattle.std.proofs.lemmas.List.Elements.{All-contains, All-from_recursion, Contains-append_right}
+use Rattle.std.proofs.lemmas.List.Elements.{All-contains, All-from_recursion, Contains-append_left, Contains-append_right}
 use Rattle.std.proofs.lemmas.Bool.{cases_eq}
 use Rattle.std.proofs.lemmas.Bool.Decides.{nat_tests}
 use Rattle.std.proofs.lemmas.List.{length-map}
@@ -16,6 +16,7 @@ use Rattle.pnp_labels.specs.declared.event.Event.{Event}
 use Rattle.pnp_labels.specs.declared.label.Label.{Label}
 use Rattle.pnp_labels.specs.declared.label.OpKind.{OpKind}
 use Rattle.pnp_model.specs.Cores.{node_at, serials_of}
+use Rattle.pnp_model.specs.Laws.{Reaches}
 use Rattle.pnp_model.specs.Events.{answer_of, completed}
 use Rattle.pnp_model.specs.Keyed.{those}
 use Rattle.pnp_model.specs.Rebalances.{begun_change, begun_rebalance, is_asked, reqs_after}
@@ -29,7 +30,6 @@ use Rattle.pnp_laws.specs.Effects.{AnswerEffect, BeginsFor, NodeEffect, OpEffect
 use Rattle.pnp_laws.specs.Held.{AreWithin}
 use Rattle.pnp_laws.specs.Kept.{Ascending, IsGood, OperationFits, RebalanceKeeps, TargetFits}
 use Rattle.pnp_laws.specs.Needs.{IsChanged, IsEntryWithin, IsPlugged, IsRoot, IsSaid, NeedsLaw, PluggedLaw}
-use Rattle.pnp_laws.specs.Reached.{IsReached}
 use Rattle.pnp_laws.proofs.EffectViews.{Origin, origin}
 use Rattle.pnp_laws.proofs.EffectsOf.{effect_goes}
 use Rattle.pnp_laws.proofs.EffectsOfOperations.{completed_work, re_ask_on}
@@ -38,7 +38,7 @@ use Rattle.pnp_laws.proofs.JoinSteps.{in_find}
 use Rattle.pnp_laws.proofs.Joins.{Born, Grows, In, in_changed, sub_in, sub_without}
 use Rattle.pnp_laws.proofs.Lookups.{find_passes, node_found, own_serial, some_same}
 use Rattle.pnp_laws.proofs.Reached.{reached_is_good}
-use Rattle.pnp_laws.proofs.Reaching.{reached_on}
+use Rattle.pnp_laws.proofs.Reaching.{run_on}
 use Rattle.pnp_laws.proofs.RoomsKept.{rooms_stay}
 use Rattle.pnp_laws.proofs.Runs.{root_is}
 
@@ -69,11 +69,12 @@ abbrev WantsSay : Says → State → Type 0
 WantsSay Q s =
     (r : Rebalance) (wanted : Reqs) → s.operation ≡ Some (Operation.Rebalancing r) → r.wanted ≡ Some wanted → (n : Node) → node_at r.target s.core.nodes ≡ Some n → OfReqs Q s n wanted
 
--- and of what the events plug and change
-record EventsSay (Q : Says) (entries : List Entry) : Type 0 where
-  plugs : (born : ℕ) (parent path : Text) (hw compat : List Text) (reqs : Reqs) (label : Label) → Contains entries (Happens (Event.Plug parent path hw compat reqs) label) → Q born path hw compat reqs
-  changes : (born : ℕ) (path : Text) (hw compat : List Text) (first : Reqs) (named : Text) (reqs : Reqs) (label : Label) → born ≢ 0 → Q born path hw compat first → same path named ≡ true
-      → Contains entries (Happens (Event.Change named reqs) label) → Q born path hw compat reqs
+-- it holds of more after an entry of a run: of what an event plugs and changes
+record SaysOn (Q R : Says) (entry : Entry) : Type 0 where
+  stays : (born : ℕ) (path : Text) (hw compat : List Text) (reqs : Reqs) → Q born path hw compat reqs → R born path hw compat reqs
+  plugs : (born : ℕ) (parent path : Text) (hw compat : List Text) (reqs : Reqs) (label : Label) → entry ≡ Happens (Event.Plug parent path hw compat reqs) label → R born path hw compat reqs
+  changes : (born : ℕ) (path : Text) (hw compat : List Text) (first : Reqs) (by : Text) (reqs : Reqs) (label : Label) → entry ≡ Happens (Event.Change by reqs) label → born ≢ 0 → Q born path hw compat first → same path by ≡ true
+      → R born path hw compat reqs
 
 -- a device of the world has the path and the IDs of its node
 abbrev Twins : State → Type 0
@@ -168,30 +169,36 @@ twins_goes s label entry t order b old nodes world k m d at there own =
         )
     by_two (Named.joined node j in_world gone is) (inr new) = absurd (let l = b.fresh j in_world in let e = ap (λ (z : Node). z.born) is in omega arith)
 
-world_says : (Q : Says) (s : State) (entry : Entry) (t : State) (rest : List Entry) → EventsSay Q (entry ∷ rest) → Ascending 0 s.core.nodes → Born s → Twins s → WorldSays Q s.world → WorldEffect s entry t → WorldSays Q t.world
-world_says Q s entry t rest events order b twins old (WorldEffect.same e born) = subst (λ (x : List Device). WorldSays Q x) (sym e) old
-world_says Q s entry t rest events order b twins old (WorldEffect.plugged d plug e born) =
-    subst (λ (x : List Device). WorldSays Q x) (sym e)
-    (λ x h. elim (in_more s.world d x h) [
-      | inl q ↦ old x q
-      | inr is ↦ subst (λ (y : Device). OfDevice Q y) is (events.plugs d.born plug.parent d.path d.hw d.compat d.reqs plug.label (0, omega arith, plug.event))
-    ])
-world_says Q s entry t rest events order b twins old (WorldEffect.changed n path reqs label at up started known is e born) =
-    subst (λ (x : List Device). WorldSays Q x) (sym e)
-    (λ d h.
-    let was = in_changed n.born reqs s.world d h in
-    let found = node_found (λ m. same m.path path) 0 s.core.nodes n order at in
-    let high : n.born ≢ 0 = λ z. let zero = b.first n.serial n found.1 z in grind (arith, nat_tests) in
-    elim was.2 [
-      | inl q ↦ subst (λ (y : Device). OfDevice Q y) q (old was.0 was.1)
-      | inr (q, own) ↦
-          let twin = twins n.serial n was.0 found.1 was.1 own in
-          let names : same was.0.path path ≡ true = ap (λ (x : Text). same x path) twin.0 ∙ find_passes (λ m. same m.path path) s.core.nodes n at in
-          subst (λ (y : Device). OfDevice Q y) q
-          (events.changes was.0.born was.0.path was.0.hw was.0.compat was.0.reqs path reqs label (λ z. high (sym own ∙ z)) (old was.0 was.1) names (0, omega arith, is))
-    ])
-world_says Q s entry t rest events order b twins old (WorldEffect.unplugged born why e next) =
-    subst (λ (x : List Device). WorldSays Q x) (sym e) (λ x h. old x (sub_in (without_those (born ∷ []) s.world) s.world (sub_without (born ∷ []) s.world) x h))
+world_says : (Q R : Says) (s : State) (entry : Entry) (t : State) → SaysOn Q R entry → Ascending 0 s.core.nodes → Born s → Twins s → WorldSays Q s.world → WorldEffect s entry t → WorldSays R t.world
+world_says Q R s entry t on order b twins old effect = by_effect effect
+  where
+    still : (x : Device) → In x s.world → OfDevice R x
+    still x h = on.stays x.born x.path x.hw x.compat x.reqs (old x h)
+
+    by_effect : WorldEffect s entry t → WorldSays R t.world
+    by_effect (WorldEffect.same e born) = subst (λ (x : List Device). WorldSays R x) (sym e) still
+    by_effect (WorldEffect.plugged d plug e born) =
+        subst (λ (x : List Device). WorldSays R x) (sym e)
+        (λ x h. elim (in_more s.world d x h) [
+          | inl q ↦ still x q
+          | inr is ↦ subst (λ (y : Device). OfDevice R y) is (on.plugs d.born plug.parent d.path d.hw d.compat d.reqs plug.label plug.event)
+        ])
+    by_effect (WorldEffect.changed n path reqs label at up started known is e born) =
+        subst (λ (x : List Device). WorldSays R x) (sym e)
+        (λ d h.
+        let was = in_changed n.born reqs s.world d h in
+        let found = node_found (λ m. same m.path path) 0 s.core.nodes n order at in
+        let high : n.born ≢ 0 = λ z. let zero = b.first n.serial n found.1 z in grind (arith, nat_tests) in
+        elim was.2 [
+          | inl q ↦ subst (λ (y : Device). OfDevice R y) q (still was.0 was.1)
+          | inr (q, own) ↦
+              let twin = twins n.serial n was.0 found.1 was.1 own in
+              let names : same was.0.path path ≡ true = ap (λ (x : Text). same x path) twin.0 ∙ find_passes (λ m. same m.path path) s.core.nodes n at in
+              subst (λ (y : Device). OfDevice R y) q
+              (on.changes was.0.born was.0.path was.0.hw was.0.compat was.0.reqs path reqs label is (λ z. high (sym own ∙ z)) (old was.0 was.1) names)
+        ])
+    by_effect (WorldEffect.unplugged born why e next) =
+        subst (λ (x : List Device). WorldSays R x) (sym e) (λ x h. still x (sub_in (without_those (born ∷ []) s.world) s.world (sub_without (born ∷ []) s.world) x h))
 
 -- Nodes ---------------------------------------------------------------------------------------
 
@@ -201,6 +208,16 @@ record AllSay (Q : Says) (s : State) : Type 0 where
   world : WorldSays Q s.world
   twins : Twins s
   wants : WantsSay Q s
+
+-- after an entry it holds of all that it held of
+all_stay : (Q R : Says) (entry : Entry) (s : State) → SaysOn Q R entry → AllSay Q s → AllSay R s
+all_stay Q R entry s on all =
+    record {
+      nodes = λ k n at. let h = all.nodes k n at in (h.0, on.stays n.born n.path n.hw n.compat h.0 h.1, h.2, h.3);
+      world = λ d i. on.stays d.born d.path d.hw d.compat d.reqs (all.world d i);
+      twins = all.twins;
+      wants = λ r wanted run is n at. let h = all.wants r wanted run is n at in (h.0, on.stays n.born n.path n.hw n.compat h.0 h.1, h.2);
+    }
 
 module _ (Q : Says) (s : State) (label : Label) (t : State) (old : AllSay Q s) (good : IsGood s) where
   -- at the commit of a change its target requires what was wanted
@@ -342,41 +359,48 @@ wants_goes Q s (Did label) t old good nodes rooms effect = step_wants Q s (Did l
 
 -- Runs ----------------------------------------------------------------------------------------
 
-later_say : (Q : Says) (entry : Entry) (rest : List Entry) → EventsSay Q (entry ∷ rest) → EventsSay Q rest
-later_say Q entry rest events =
-    record {
-      plugs = λ born parent path hw compat reqs label there. events.plugs born parent path hw compat reqs label (Contains-append_right (entry ∷ []) rest (Happens (Event.Plug parent path hw compat reqs) label) there);
-      changes = λ born path hw compat first by reqs label up was names there. events.changes born path hw compat first by reqs label up was names (Contains-append_right (entry ∷ []) rest (Happens (Event.Change by reqs) label) there);
-    }
+-- what holds of how a device was plugged, by the entries so far
+abbrev SaysBy : Type 1
+SaysBy = List Entry → Says
 
-run_says : (Q : Says) (settings : Settings) (rack : List Driver) (old : State) (entries : List Entry) (new : State) → IsReached settings rack old → Run settings old entries new → EventsSay Q entries → AllSay Q old → NodesSay Q new
-run_says Q settings rack old [] new reached run events all = subst (λ (s : State). NodesSay Q s) (sym run) all.nodes
-run_says Q settings rack old (entry ∷ rest) new reached (mid, goes, run) events all =
+abbrev SaysAlong : SaysBy → Type 0
+SaysAlong P = (entries : List Entry) (entry : Entry) → SaysOn (P entries) (P (entries ++ entry ∷ [])) entry
+
+run_says : (P : SaysBy) → SaysAlong P → (settings : Settings) (rack : List Driver) (before : List Entry) (old : State) (entries : List Entry) (new : State) → Reaches settings rack before old → Run settings old entries new → AllSay (P before) old → NodesSay (P (before ++ entries)) new
+run_says P along settings rack before old [] new reaches run all =
+    subst (λ (es : List Entry). NodesSay (P es) new) (sym (append-nil before)) (subst (λ (s : State). NodesSay (P before) s) (sym run) all.nodes)
+run_says P along settings rack before old (entry ∷ rest) new reaches (mid, goes, run) all =
     let effect = effect_goes settings old entry mid goes in
-    let good = reached_is_good settings rack old reached in
-    let births = reaches_born settings rack reached.0 old reached.1 in
-    let rooms = rooms_stay settings rack old entry mid reached goes in
-    run_says Q settings rack mid rest new (reached_on settings rack old entry mid reached goes) run (later_say Q entry rest events)
+    let good = reached_is_good settings rack old (before, reaches) in
+    let births = reaches_born settings rack before old reaches in
+    let rooms = rooms_stay settings rack old entry mid (before, reaches) goes in
+    let Q = P before in
+    let R = P (before ++ entry ∷ []) in
+    let on = along before entry in
+    let stay = all_stay Q R entry old on all in
+    let later = run_on settings (opening rack) old mid before (entry ∷ []) reaches (mid, goes, refl) in
+    subst (λ (es : List Entry). NodesSay (P es) new) (append_assoc before (entry ∷ []) rest)
+    (run_says P along settings rack (before ++ entry ∷ []) mid rest new later run
     (record {
-      nodes = nodes_say Q old (printed entry) mid all good rooms effect.nodes;
-      world = world_says Q old entry mid rest events good.serials births all.twins all.world effect.world;
+      nodes = nodes_say R old (printed entry) mid stay good rooms effect.nodes;
+      world = world_says Q R old entry mid on good.serials births all.twins all.world effect.world;
       twins = twins_goes old (printed entry) entry mid good.serials births all.twins effect.nodes effect.world;
-      wants = wants_goes Q old entry mid all good effect.nodes rooms effect.operation;
-    })
+      wants = wants_goes R old entry mid stay good effect.nodes rooms effect.operation;
+    }))
 
 -- what holds of the root, and of all that is plugged or changed, holds of each node
-says_all : (Q : Says) (settings : Settings) (rack : List Driver) (entries : List Entry) (s : State) → Run settings (opening rack) entries s → Q 0 root_path [] [] [] → EventsSay Q entries → NodesSay Q s
-says_all Q settings rack entries s run root events =
-    run_says Q settings rack (opening rack) entries s ([], refl) run events
+says_all : (P : SaysBy) → SaysAlong P → (settings : Settings) (rack : List Driver) (entries : List Entry) (s : State) → Run settings (opening rack) entries s → P [] 0 root_path [] [] [] → NodesSay (P entries) s
+says_all P along settings rack entries s run root =
+    run_says P along settings rack [] (opening rack) entries s refl run
     (record {
-      nodes = λ k n at. subst (λ (x : Node). OfNode Q (opening rack) k x) (root_is k n at).0 ([], root, refl, λ z. refl);
+      nodes = λ k n at. subst (λ (x : Node). OfNode (P []) (opening rack) k x) (root_is k n at).0 ([], root, refl, λ z. refl);
       world = of_root;
       twins = twins_root;
       wants = λ r wanted run is n at. absurd (cc);
     })
   where
-    of_root : WorldSays Q (opening rack).world
-    of_root d (inl e) = subst (λ (x : Device). OfDevice Q x) e root
+    of_root : WorldSays (P []) (opening rack).world
+    of_root d (inl e) = subst (λ (x : Device). OfDevice (P []) x) e root
     of_root d (inr none) = absurd none
 
     twins_root : Twins (opening rack)
@@ -386,32 +410,77 @@ says_all Q settings rack entries s run root events =
     twins_root k n d at (inr none) own = absurd none
 
 -- the root has birth number 0
-abbrev Said : List Entry → Says
-Said entries born path hw compat reqs = ((born ≡ 0) × IsRoot path hw compat reqs) ⊎ (IsPlugged entries path hw compat reqs ⊎ ((first : Reqs) × IsPlugged entries path hw compat first × IsChanged entries path reqs))
+abbrev Said : SaysBy
+Said entries born path hw compat reqs = ((born ≡ 0) × IsRoot path hw compat reqs) ⊎ (IsPlugged entries path hw compat reqs ⊎ IsChanged entries path hw compat reqs)
 
-all_said : (entries : List Entry) → EventsSay (Said entries) entries
-all_said entries =
+module _ (entries : List Entry) (entry : Entry) where
+  plugged_still : (path : Text) (hw compat : List Text) (reqs : Reqs) → IsPlugged entries path hw compat reqs → IsPlugged (entries ++ entry ∷ []) path hw compat reqs
+  plugged_still path hw compat reqs (parent, label, there) = (parent, label, Contains-append_left entries (entry ∷ []) (Happens (Event.Plug parent path hw compat reqs) label) there)
+
+  changed_still : (path : Text) (hw compat : List Text) (reqs : Reqs) → IsChanged entries path hw compat reqs → IsChanged (entries ++ entry ∷ []) path hw compat reqs
+  changed_still path hw compat reqs c =
+      record {
+        earlier = c.earlier;
+        later = c.later ++ entry ∷ [];
+        named = c.named;
+        label = c.label;
+        all = ap (λ (es : List Entry). es ++ entry ∷ []) c.all ∙ append_assoc c.earlier (Happens (Event.Change c.named reqs) c.label ∷ c.later) (entry ∷ []);
+        names = c.names;
+        first = c.first;
+        plugged = c.plugged;
+      }
+
+  said_still : (born : ℕ) (path : Text) (hw compat : List Text) (reqs : Reqs) → Said entries born path hw compat reqs → Said (entries ++ entry ∷ []) born path hw compat reqs
+  said_still born path hw compat reqs (inl root) = inl root
+  said_still born path hw compat reqs (inr (inl plugged)) = inr (inl (plugged_still path hw compat reqs plugged))
+  said_still born path hw compat reqs (inr (inr changed)) = inr (inr (changed_still path hw compat reqs changed))
+
+  said_plugged : (parent path : Text) (hw compat : List Text) (reqs : Reqs) (label : Label) → entry ≡ Happens (Event.Plug parent path hw compat reqs) label → IsPlugged (entries ++ entry ∷ []) path hw compat reqs
+  said_plugged parent path hw compat reqs label is =
+      (parent, label, Contains-append_right entries (entry ∷ []) (Happens (Event.Plug parent path hw compat reqs) label) (0, omega arith, is))
+
+  said_changed : (path : Text) (hw compat : List Text) (first : Reqs) (by : Text) (reqs : Reqs) (label : Label) → entry ≡ Happens (Event.Change by reqs) label → same path by ≡ true → IsPlugged entries path hw compat first
+      → IsChanged (entries ++ entry ∷ []) path hw compat reqs
+  said_changed path hw compat first by reqs label is names plugged =
+      record { earlier = entries; later = []; named = by; label = label; all = ap (λ (e : Entry). entries ++ e ∷ []) is; names = names; first = first; plugged = plugged }
+
+-- who was changed was plugged before
+changed_plugged : (entries : List Entry) (path : Text) (hw compat : List Text) (reqs : Reqs) (c : IsChanged entries path hw compat reqs) → IsPlugged entries path hw compat c.first
+changed_plugged entries path hw compat reqs c =
+    let (parent, label, there) = c.plugged in (
+      parent,
+      label,
+      subst (λ (es : List Entry). Contains es (Happens (Event.Plug parent path hw compat c.first) label)) (sym c.all)
+          (Contains-append_left c.earlier (Happens (Event.Change c.named reqs) c.label ∷ c.later) (Happens (Event.Plug parent path hw compat c.first) label) there),
+    )
+
+said_along : SaysAlong Said
+said_along entries entry =
     record {
-      plugs = λ born parent path hw compat reqs label there. inr (inl (parent, label, there));
-      changes = λ born path hw compat first by reqs label up was names there. changed born path hw compat first reqs up was (by, names, label, there);
+      stays = said_still entries entry;
+      plugs = λ born parent path hw compat reqs label is. inr (inl (said_plugged entries entry parent path hw compat reqs label is));
+      changes = λ born path hw compat first by reqs label is up was names. inr (inr (changed born path hw compat first by reqs label is names up was));
     }
   where
-    changed : (born : ℕ) (path : Text) (hw compat : List Text) (first reqs : Reqs) → born ≢ 0 → Said entries born path hw compat first → IsChanged entries path reqs → Said entries born path hw compat reqs
-    changed born path hw compat first reqs up (inl (zero, root)) by = absurd (up zero)
-    changed born path hw compat first reqs up (inr (inl plugged)) by = inr (inr (first, plugged, by))
-    changed born path hw compat first reqs up (inr (inr (other, plugged, before))) by = inr (inr (other, plugged, by))
+    changed : (born : ℕ) (path : Text) (hw compat : List Text) (first : Reqs) (by : Text) (reqs : Reqs) (label : Label) → entry ≡ Happens (Event.Change by reqs) label → same path by ≡ true → born ≢ 0 → Said entries born path hw compat first
+        → IsChanged (entries ++ entry ∷ []) path hw compat reqs
+    changed born path hw compat first by reqs label is names up (inl (zero, root)) = absurd (up zero)
+    changed born path hw compat first by reqs label is names up (inr (inl plugged)) = said_changed entries entry path hw compat first by reqs label is names plugged
+    changed born path hw compat first by reqs label is names up (inr (inr before)) = said_changed entries entry path hw compat before.first by reqs label is names (changed_plugged entries path hw compat first before)
 
 pub nodes_are_plugged : PluggedLaw
 nodes_are_plugged settings rack entries s run k n at =
-    let says = says_all (Said entries) settings rack entries s run (inl (refl, record { path_is = refl; hw_is = refl; compat_is = refl; reqs_are = refl })) (all_said entries) k n at in
+    let says = says_all Said said_along settings rack entries s run (inl (refl, record { path_is = refl; hw_is = refl; compat_is = refl; reqs_are = refl })) k n at in
     (says.0, elim says.1 [ inl (zero, root) ↦ inl root | inr said ↦ inr said ], says.2)
 
 said_within : (most : ℕ) (entries : List Entry) → AllByRecursion (IsEntryWithin most) entries → (path : Text) (hw compat : List Text) (reqs : Reqs) → IsSaid entries path hw compat reqs → AreWithin most reqs
 said_within most entries within path hw compat reqs (inl root) = subst (λ (x : Reqs). AreWithin most x) (sym root.reqs_are) (λ list there. let less : there.0 < 0 = there.1 in omega arith)
 said_within most entries within path hw compat reqs (inr (inl (parent, label, there))) =
     All-contains (IsEntryWithin most) entries (Happens (Event.Plug parent path hw compat reqs) label) (All-from_recursion (IsEntryWithin most) entries within) there
-said_within most entries within path hw compat reqs (inr (inr (first, plugged, (by, names, label, there)))) =
-    All-contains (IsEntryWithin most) entries (Happens (Event.Change by reqs) label) (All-from_recursion (IsEntryWithin most) entries within) there
+said_within most entries within path hw compat reqs (inr (inr c)) =
+    All-contains (IsEntryWithin most) entries (Happens (Event.Change c.named reqs) c.label) (All-from_recursion (IsEntryWithin most) entries within)
+    (subst (λ (es : List Entry). Contains es (Happens (Event.Change c.named reqs) c.label)) (sym c.all)
+    (Contains-append_right c.earlier (Happens (Event.Change c.named reqs) c.label ∷ c.later) (Happens (Event.Change c.named reqs) c.label) (0, omega arith, refl)))
 
 -- clipping keeps the number of groups
 clip_within : (most : ℕ) (rooms : Kind → Room) (reqs : Reqs) → AreWithin most reqs → AreWithin most (clip_by rooms reqs)

@@ -56,7 +56,7 @@ pub since_rebalance : (settings : Settings) (rack : List Driver) (earlier entrie
 since_rebalance settings rack earlier entries before begun last path = since_begin OpKind.Rebalance (λ node. None) settings rack earlier entries before begun last path (λ node. refl) (λ node. refl)
 
 -- what runs still is a rebalance, or a change
-kind_since : (kind : OpKind) (settings : Settings) (rack : List Driver) (path : Text) (before begun : State) (entries : List Entry) (last : State) (since : Since kind settings rack path before begun entries last) → kind_of since.lasts.under.frame.wanted ≡ kind
+pub kind_since : (kind : OpKind) (settings : Settings) (rack : List Driver) (path : Text) (before begun : State) (entries : List Entry) (last : State) (since : Since kind settings rack path before begun entries last) → kind_of since.lasts.under.frame.wanted ≡ kind
 kind_since kind settings rack path before begun entries last since = ap kind_of since.lasts.wanted ∙ since.kinds
 
 no_change : (wanted : Option Reqs) → kind_of wanted ≡ OpKind.Rebalance → wanted ≡ None
@@ -68,7 +68,7 @@ plain_since settings rack path before begun entries last since = no_change since
 
 -- its end ----------------------------------------------------------------------------------
 
-end_is_over : (op : OpKind) (settings : Settings) (rack : List Driver) (path : Text) (before begun : State) (entries : List Entry) (last after : State) (kind : OpKind) (end_path : Text) (result : OpEnd) →
+pub end_is_over : (op : OpKind) (settings : Settings) (rack : List Driver) (path : Text) (before begun : State) (entries : List Entry) (last after : State) (kind : OpKind) (end_path : Text) (result : OpEnd) →
     IsReached settings rack before → Since op settings rack path before begun entries last → Run settings begun entries last → (u : Underway path before.core last) → Goes settings last (Did (Label.End kind end_path result)) after →
     IsOver last u.frame (record { label = Label.End kind end_path result; state = after })
 end_is_over op settings rack path before begun entries last after kind end_path result at_before since run u goes =
@@ -80,7 +80,7 @@ end_is_over op settings rack path before begun entries last after kind end_path 
     ]
 
 -- it ends with what it found, or since the target of a change refused
-end_found : (s : State) (r : Rebalance) (kind : OpKind) (path : Text) (end_result : OpEnd) (t : State) → IsOver s r (record { label = Label.End kind path end_result; state = t }) → end_result ≡ re.result r.found (has_refused r)
+pub end_found : (s : State) (r : Rebalance) (kind : OpKind) (path : Text) (end_result : OpEnd) (t : State) → IsOver s r (record { label = Label.End kind path end_result; state = t }) → end_result ≡ re.result r.found (has_refused r)
 end_found s r kind path end_result t h =
     let label : Label.End kind path end_result ≡ Label.End (kind_of r.wanted) r.path (re.result r.found (has_refused r)) = ap (λ (x : Step). x.label) h.is in
     cc

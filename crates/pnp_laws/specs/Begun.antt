@@ -1,5 +1,5 @@
 -- Operations begin before they end: where an end or problem 12 is printed, its operation began and has not ended since.
-use Rattle.std.specs.Prelude.{ℕ, ◌≡◌, List, ◌∷◌, ◌++◌, Some}
+use Rattle.std.specs.Prelude.{ℕ, ◌≡◌, ◌≢◌, List, ◌∷◌, ◌++◌, Some}
 use Rattle.pnp_model.specs.Cores.{node_at}
 use Rattle.pnp_model.specs.Records.{Driver, Node, State, Settings}
 use Rattle.pnp_model.specs.Runs.{Entry, Goes, Run, printed}
@@ -52,11 +52,24 @@ EachConflictLaw =
     → Reaches settings rack entries s → Goes settings s entry t → printed entry ≡ Label.Trouble path Problem.NormalConflict
     → Conflicts settings rack entries s path
 
--- what an end restores: a veto all that was before the begin, a rebalance that found nothing all but the problem of its device
+-- a change that found nothing, or whose device would not stop, restores everything
+abbrev pub UnchangedLaw : Type 0
+UnchangedLaw =
+    (settings : Settings) (rack : List Driver) (earlier entries : List Entry) (before begun last after : State) (path end_path : Text) (result : OpEnd)
+    → Reaches settings rack earlier before → Goes settings before (Did (Label.Begin OpKind.Change path)) begun
+    → Run settings begun entries last → AllWithin entries
+    → Goes settings last (Did (Label.End OpKind.Change end_path result)) after → result ≢ OpEnd.Moved
+    → Restores before.core after.core
+
+-- what an end restores: a veto, or that of a change that was not made, all that was before the begin; a rebalance that found nothing
+-- all but the problem of its device
 abbrev pub Restoring : Settings → List Driver → List Entry → State → State → Label → Type 0
 Restoring settings rack entries s t (Label.End kind path (OpEnd.Veto refuser)) = (b : HasBegun settings rack entries s kind path) × Restores b.before.core t.core
 Restoring settings rack entries s t (Label.End OpKind.Rebalance path OpEnd.NoFit) = (b : HasBegun settings rack entries s OpKind.Rebalance path) × RestoresBut path b.before.core t.core
 Restoring settings rack entries s t (Label.End OpKind.Rebalance path OpEnd.Spent) = (b : HasBegun settings rack entries s OpKind.Rebalance path) × RestoresBut path b.before.core t.core
+Restoring settings rack entries s t (Label.End OpKind.Change path OpEnd.NoFit) = (b : HasBegun settings rack entries s OpKind.Change path) × Restores b.before.core t.core
+Restoring settings rack entries s t (Label.End OpKind.Change path OpEnd.Spent) = (b : HasBegun settings rack entries s OpKind.Change path) × Restores b.before.core t.core
+Restoring settings rack entries s t (Label.End OpKind.Change path OpEnd.Refused) = (b : HasBegun settings rack entries s OpKind.Change path) × Restores b.before.core t.core
 Restoring settings rack entries s t _ = Unit {0}
 
 -- each such end that is printed restores

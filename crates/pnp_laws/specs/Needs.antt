@@ -1,5 +1,5 @@
 -- Whence what a device needs comes, and that no alternative has more groups than those that are plugged.
-use Rattle.std.specs.Prelude.{ℕ, ◌≡◌, ◌⊎◌, Contains, true, List, [], Some}
+use Rattle.std.specs.Prelude.{ℕ, ◌≡◌, ◌⊎◌, Contains, true, List, [], ◌∷◌, ◌++◌, Some}
 use Rattle.std.specs.List.{AllByRecursion}
 use Rattle.device_ids.specs.Folding.{same}
 use Rattle.resource_reqs.specs.Resources.{Reqs}
@@ -25,14 +25,22 @@ pub record IsRoot (path : Text) (hw compat : List Text) (reqs : Reqs) : Type 0 w
 abbrev pub IsPlugged : List Entry → Text → List Text → List Text → Reqs → Type 0
 IsPlugged entries path hw compat reqs = (parent : Text) × (label : Label) × Contains entries (Happens (Event.Plug parent path hw compat reqs) label)
 
--- an event says that the device of this path, in whatever case it is written, requires this from then on
-abbrev pub IsChanged : List Entry → Text → Reqs → Type 0
-IsChanged entries path reqs = (named : Text) × (same path named ≡ true) × (label : Label) × Contains entries (Happens (Event.Change named reqs) label)
+-- an event plugs a device with this path and these IDs, and a later one says that the device of this path, in whatever case it
+-- is written, requires this from then on
+pub record IsChanged (entries : List Entry) (path : Text) (hw compat : List Text) (reqs : Reqs) : Type 0 where
+  pub earlier : List Entry
+  pub later : List Entry
+  pub named : Text
+  pub label : Label
+  pub all : entries ≡ earlier ++ Happens (Event.Change named reqs) label ∷ later
+  pub names : same path named ≡ true
+  pub first : Reqs
+  pub plugged : IsPlugged earlier path hw compat first
 
--- the root; or a device with the path and the IDs of one event that plugs, and the requirements of that event, or of one that
--- changes those of its path
+-- the root; or a device with the path and the IDs of one event that plugs, and the requirements of that event, or of a later one
+-- that changes those of its path
 abbrev pub IsSaid : List Entry → Text → List Text → List Text → Reqs → Type 0
-IsSaid entries path hw compat reqs = IsRoot path hw compat reqs ⊎ (IsPlugged entries path hw compat reqs ⊎ ((first : Reqs) × IsPlugged entries path hw compat first × IsChanged entries path reqs))
+IsSaid entries path hw compat reqs = IsRoot path hw compat reqs ⊎ (IsPlugged entries path hw compat reqs ⊎ IsChanged entries path hw compat reqs)
 
 -- in each state of a run so it is with each node, but that its requirements are cut to what comes through to it in this state
 abbrev pub PluggedLaw : Type 0

@@ -1,6 +1,6 @@
 //! What holds of every run of the device machine, for every rack of drivers and whatever happens.
 
-ghost use Rattle.pnp_laws.specs.Begun.{BegunLaw, EachConflictLaw, EachEndLaw};
+ghost use Rattle.pnp_laws.specs.Begun.{BegunLaw, EachConflictLaw, EachEndLaw, UnchangedLaw};
 ghost use Rattle.pnp_laws.specs.Effects.{EffectLaw};
 ghost use Rattle.pnp_laws.specs.Ends.{SettlesLaw, JoinsLaw, FewJoinLaw};
 ghost use Rattle.pnp_laws.specs.Held.{FewHeldLaw, PartsLaw};
@@ -94,6 +94,13 @@ pub fn futile_restores()
     ensures { FutileLaw }
 {}
 
+/// Where a change ends because nothing fitted, the budget was spent, or its device would not stop, all nodes with all
+/// their fields, the relations and the reserved ranges are as before its begin, whatever happened in between.
+#[tactic(auto, using(crate::proofs::RunsUnchanged::unchanged_restores))]
+pub fn unchanged_restores()
+    ensures { UnchangedLaw }
+{}
+
 /// Where problem 12 is printed in a rebalance, no assignment exists for its device together with all Started devices
 /// that can move, beside what all others hold and what is reserved. The root cannot move, nor can a device that
 /// refused to be stopped since the begin, nor one that stands above such a device.
@@ -115,8 +122,9 @@ pub fn each_conflict_is_real()
     ensures { EachConflictLaw }
 {}
 
-/// Each end with a veto restores all that was before the operation began, which did begin; and each end of a rebalance
-/// with `nofit` or `spent` all but the problem of its device.
+/// Each end with a veto restores all that was before the operation began, which did begin, and so does each end of a
+/// change with `nofit`, `spent` or `refused`; each end of a rebalance with `nofit` or `spent` all but the problem of its
+/// device.
 pub fn each_end_restores()
     ensures { EachEndLaw }
 {}
@@ -205,14 +213,16 @@ pub fn few_held()
     ensures { FewHeldLaw }
 {}
 
-/// In each state of each run each node but the root has the path, the identifiers and the requirements that an event of
-/// the run plugged together.
+/// In each state of each run each node but the root has the path and the identifiers that an event of the run plugged
+/// together, and the requirements of that event, or of a later one that changed those of its path, cut to what comes
+/// through the windows above it now.
 #[tactic(auto, using(crate::proofs::NodesPlugged::nodes_are_plugged))]
 pub fn nodes_are_plugged()
     ensures { PluggedLaw }
 {}
 
-/// So where no event of a run plugs an alternative of more than some number of groups, no node needs more.
+/// So where no event of a run plugs an alternative of more than some number of groups, or changes to one, no node needs
+/// more.
 pub fn needs_are_within()
     ensures { NeedsLaw }
 {}

@@ -14,6 +14,8 @@ mod RowsReturns
 mod RowsBoard
 mod RowsBuses
 mod RowsWindows
+mod RowsChanges
+mod RowsChangesMore
 mod RowsKept
 mod RowsMixed
 mod RowsMixedMore
