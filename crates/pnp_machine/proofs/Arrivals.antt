@@ -1,14 +1,15 @@
 -- What an arrival does to the world, and what is kept of devices and nodes.
-use Rattle.std.proofs.Common.{◌≡◌, ℕ, ◌+◌, ◌<◌, ◌↔◌, ◌==◌, ◌||◌, Bool, true, List, [], ◌∷◌, ◌++◌, length, Option, Some, None, Result, Ok, Err, IfSome, OnOk, OnErr, IsErrOf, IsSome, nat_le, refl, sym, ap, subst, arith}
+use Rattle.std.proofs.Common.{◌≡◌, ℕ, ◌+◌, ◌<◌, ◌↔◌, ◌==◌, ◌||◌, Bool, true, cond, List, [], ◌∷◌, ◌++◌, length, Option, Some, None, Result, Ok, Err, IfSome, OnOk, OnErr, IsErrOf, IsSome, nat_le, refl, sym, ◌∙◌, ap, subst, arith}
 use Rattle.std.specs.List.{AllByRecursion, list_any}
 use Rattle.std.proofs.lemmas.Bool.Decides.{nat_tests}
 use Rattle.resource_reqs.specs.Resources.{Res, Reqs}
 use Rattle.pnp_labels.specs.Texts.{Text}
 use Rattle.pnp_model.specs.Records.{Device, Node}
-use Rattle.pnp_model.specs.States.{device_of, is_in_world}
+use Rattle.pnp_model.specs.Keyed.{changed_first}
+use Rattle.pnp_model.specs.States.{device_of, is_in_world, requires}
 use Rattle.script_bus.proofs.Unplugs.{by_bool}
 use Rattle.devnode_tree.specs.Trees.{Tree}
-use Rattle.script_bus.specs.Worlds.{World, plugged}
+use Rattle.script_bus.specs.Worlds.{World, changed, plugged}
 use Rattle.script_bus.specs.declared.error.PlugError.{PlugError}
 use Rattle.script_bus.specs.declared.error.PlugError.TheVariants.{NoParent, SameId, WorldFull, WantOfMemory}
 use Rattle.trial_journal.specs.ByKind.{Arbiters}
@@ -120,3 +121,30 @@ module _ (w : World) (t : Tree) (reserved : List Res) (arbiters : Arbiters) (ove
   kept_arrival w' parent path hw compat reqs (Err SameId) (d, at, there, is) = same w' is
   kept_arrival w' parent path hw compat reqs (Err WorldFull) (d, at, free, full, is) = same w' is
   kept_arrival w' parent path hw compat reqs (Err WantOfMemory) is = same w' is
+
+-- A device requires something else ---------------------------------------------------
+
+pub still_in_world : (k born : ℕ) (reqs : Reqs) (ds : List Device) → is_in_world (changed_first (λ d. d.born == k) (requires reqs) ds) born ≡ is_in_world ds born
+still_in_world k born reqs [] = refl
+still_in_world k born reqs (d ∷ ds) =
+    by_bool (λ b. list_any (λ x. x.born == born) (cond b (requires reqs d ∷ ds) (d ∷ changed_first (λ x. x.born == k) (requires reqs) ds)) ≡ list_any (λ x. x.born == born) (d ∷ ds)) (d.born == k)
+    (λ e. refl)
+    (λ e. ap (λ (b : Bool). (d.born == born) || b) (still_in_world k born reqs ds))
+
+still_not_joining : (over from : ℕ) (nodes : List Node) (k : ℕ) (reqs : Reqs) (ds : List Device) → AllByRecursion (NotJoining over from nodes) ds
+    → AllByRecursion (NotJoining over from nodes) (changed_first (λ d. d.born == k) (requires reqs) ds)
+still_not_joining over from nodes k reqs [] all = tt
+still_not_joining over from nodes k reqs (d ∷ ds) all =
+    by_bool (λ b. AllByRecursion (NotJoining over from nodes) (cond b (requires reqs d ∷ ds) (d ∷ changed_first (λ x. x.born == k) (requires reqs) ds))) (d.born == k)
+    (λ e. (all.0, all.1))
+    (λ e. (all.0, still_not_joining over from nodes k reqs ds all.1))
+
+pub kept_changed : (w : World) (tree : Tree) (reserved : List Res) (arbiters : Arbiters) (over from : ℕ) (whole : Option ℕ) (k : ℕ) (reqs : Reqs)
+    → IsKept w tree reserved arbiters over from whole → IsKept (changed k reqs w) tree reserved arbiters over from whole
+kept_changed w tree reserved arbiters over from whole k reqs h =
+    record {
+      listed = still_not_joining over from tree.nodes k reqs w.devices h.listed;
+      within = h.within;
+      here = λ j e. all_of (IsHere j w.devices) (IsHere j (changed k reqs w).devices) (λ n here child. still_in_world k n.born reqs w.devices ∙ here child) tree.nodes (h.here j e);
+      mirrors = h.mirrors;
+    }

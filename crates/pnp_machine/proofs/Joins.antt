@@ -1,5 +1,5 @@
 -- Which device joins next, and what is kept when it does.
-use Rattle.std.proofs.Common.{◌≡◌, ℕ, ◌+◌, ◌<◌, ◌≤◌, ◌==◌, Bool, true, false, not, ◌&&◌, ◌||◌, cond, List, [], ◌∷◌, ◌++◌, find, Option, Some, None, IfSome, IsTrue, nat_le, refl, sym, ◌∙◌, ap, ap₂, subst, arith, option_map}
+use Rattle.std.proofs.Common.{◌≡◌, ℕ, ◌+◌, ◌<◌, ◌≤◌, ◌==◌, Bool, true, false, not, ◌&&◌, ◌||◌, cond, List, [], ◌∷◌, ◌++◌, find, Option, Some, None, IfSome, IsSome, IsTrue, inl, inr, nat_le, refl, sym, ◌∙◌, ap, ap₂, subst, arith, option_map}
 use Rattle.std.specs.List.{AllByRecursion, list_any}
 use Rattle.std.proofs.lemmas.Bool.Decides.{nat_tests}
 use Rattle.device_ids.specs.Folding.{same}
@@ -11,7 +11,9 @@ use Rattle.pnp_model.specs.States.{device_born, is_in_world}
 use Rattle.pnp_model.specs.Windows.{clip}
 use Rattle.pnp_model.specs.Tasks.{joins, joining, has_born, has_path}
 use Rattle.devnode_tree.specs.Identities.{Identity, identity, identities}
-use Rattle.devnode_tree.specs.Trees.{Tree, with_node, Ascends}
+use Rattle.devnode_tree.specs.Trees.{Tree, IsTree, with_node, Ascends}
+use Rattle.devnode_tree.proofs.Facts.{parent_there, root_there}
+use Rattle.std.proofs.lemmas.Bool.{cases_eq}
 use Rattle.devnode_tree.specs.declared.error.JoinError.{JoinError}
 use Rattle.devnode_tree.specs.declared.error.JoinError.TheVariants as errors
 use Rattle.script_bus.specs.Differences.{joins_from}
@@ -319,3 +321,13 @@ pub memory_alone : (e : JoinError) → (e ≡ errors.NoParent → ⊥) → (e �
 memory_alone errors.NoParent a b = absurd (a refl)
 memory_alone errors.SamePath a b = absurd (b refl)
 memory_alone errors.WantOfMemory a b = refl
+
+-- The parent of a node that is there is there; that of the root is the root
+pub above_there : (t : Tree) → IsTree t → (k : ℕ) (n : Node) → Some n ≡ node_at k t.nodes → IsSome (node_at n.parent t.nodes)
+above_there t h k n at = elim (cases_eq k 0) [
+  | inl e ↦
+      (let own : node_at 0 t.nodes ≡ Some n = subst (λ (i : ℕ). node_at i t.nodes ≡ Some n) e (sym at) in
+      let root : Some n.parent ≡ Some 0 = sym (ap (option_map (λ (m : Node). m.parent)) own) ∙ h.root in
+      subst (λ (i : ℕ). IsSome (node_at i t.nodes)) (let z : n.parent ≡ 0 = cc in sym z) (root_there t h))
+  | inr d ↦ (parent_there t h k n (sym at) d).1
+]

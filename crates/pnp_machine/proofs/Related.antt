@@ -75,10 +75,10 @@ changed_up j f nodes keeps up k (n, at, h) =
 bare_up : (j : ℕ) (nodes : List Node) (k : ℕ) → j ≢ k → IsUpAt nodes k → IsUpAt (changed_first (is_node j) bare nodes) k
 bare_up j nodes k d (n, at, h) = (n, node_changed_other j k bare nodes (λ m. refl) d ∙ at, h)
 
-mapped_up : (movers : List ℕ) (plan : List (List Res)) (nodes : List Node) (k : ℕ) → IsUpAt nodes k → IsUpAt (map (committed movers plan) nodes) k
-mapped_up movers plan nodes k (n, at, h) =
-    let same = node_at-map k (committed movers plan) nodes (λ m. refl) in
-    (committed movers plan n, cc, h)
+mapped_up : (f : Node → Node) → ((n : Node) → (f n).serial ≡ n.serial) → ((n : Node) → (f n).state ≡ n.state) → (nodes : List Node) (k : ℕ) → IsUpAt nodes k → IsUpAt (map f nodes) k
+mapped_up f serial state nodes k (n, at, h) =
+    let same = node_at-map k f nodes serial in
+    (f n, cc, ap is_idle (state n) ∙ h)
 
 joined_up : (nodes : List Node) (new : Node) (k : ℕ) → IsUpAt nodes k → IsUpAt (nodes ++ new ∷ []) k
 joined_up nodes new k (n, at, h) = (n, joined_keeps k nodes new n at, h)
@@ -127,7 +127,8 @@ effect_up s label t (NodeEffect.changed j f alters a b) order follows h =
 effect_up s label t (NodeEffect.stripped node w at request ends prints a b) order follows h =
     from_parts t.core (changed_first (is_node node.serial) bare s.core.nodes) (forget node.serial s.core.relations) a b (others_up s.core.nodes _ node.serial (bare_up node.serial s.core.nodes) s.core.relations h)
 effect_up s label t (NodeEffect.commits r runs is a b) order follows h =
-    from_parts t.core (map (committed (movers r) (plan_of r.found)) s.core.nodes) s.core.relations a b (all_up s.core.nodes _ (mapped_up (movers r) (plan_of r.found) s.core.nodes) s.core.relations h)
+    from_parts t.core (map (committed r.wanted r.target (movers r) (plan_of r.found)) s.core.nodes) s.core.relations a b
+    (all_up s.core.nodes _ (mapped_up (committed r.wanted r.target (movers r) (plan_of r.found)) (λ n. refl) (λ n. refl) s.core.nodes) s.core.relations h)
 effect_up s label t (NodeEffect.joins node d none at up there is) order follows h =
     subst (λ (x : Step). RelatedUp x.state.core) (sym is) (all_up s.core.nodes _ (joined_up s.core.nodes (new_child node.serial d s)) s.core.relations h)
 effect_up s label t (NodeEffect.left node o runs first a b) order follows h =

@@ -195,9 +195,9 @@ impl<R: Drivers> Machine<R> {
             return Ok(refusal(word, Reason::NoDevice));
         };
         let what = self.path_and_range(own, &res)?;
-        match self.devices.set_window(path, res)? {
-            Some(reason) => Ok(refusal(word, reason)),
-            None => Ok(Label::Did { word, what }),
+        if let Some(reason) = self.devices.set_window(path, res)? {
+            return Ok(refusal(word, reason));
         }
+        Ok(Label::Did { word, what })
     }
 }
