@@ -1,6 +1,5 @@
 -- What of a node never changes, whatever is done with its device.
 use Rattle.std.specs.Prelude.{ℕ, List, map}
-use Rattle.resource_reqs.specs.Resources.{Reqs}
 use Rattle.pnp_labels.specs.Texts.{Text}
 use Rattle.pnp_model.specs.Records.{Node}
 
@@ -11,10 +10,9 @@ pub record Identity : Type 0 where
   pub path : Text
   pub hw : List Text
   pub compat : List Text
-  pub reqs : Reqs
 
 abbrev pub identity : Node → Identity
-identity n = record { serial = n.serial; parent = n.parent; born = n.born; path = n.path; hw = n.hw; compat = n.compat; reqs = n.reqs }
+identity n = record { serial = n.serial; parent = n.parent; born = n.born; path = n.path; hw = n.hw; compat = n.compat }
 
 abbrev pub identities : List Node → List Identity
 identities nodes = map identity nodes

@@ -1,6 +1,7 @@
 -- The tree as a list of nodes, and what holds of every tree.
 use Rattle.std.specs.Prelude.{◌≡◌, ℕ, ◌+◌, ◌<◌, ◌≤◌, ◌^◌, ◌⊎◌, List, [], ◌∷◌, ◌++◌, Some, IsTrue, ◌≢◌, option_map, ⊤}
 use Rattle.std.specs.List.{AllByRecursion}
+use Rattle.resource_reqs.specs.Resources.{Reqs}
 use Rattle.pnp_model.specs.Cores.{is_node, node_at, serials_of}
 use Rattle.pnp_model.specs.Keyed.{changed_first, without_first}
 use Rattle.pnp_model.specs.Records.{Node}
@@ -43,3 +44,7 @@ pub record IsTree (t : Tree) : Type 0 where
   pub few : t.next ≤ 2 ^ 63
   pub root : option_map (λ n. n.parent) (node_at 0 t.nodes) ≡ Some 0
   pub parents : AllByRecursion (HasParent (serials_of t.nodes)) t.nodes
+
+-- it requires this
+abbrev pub with_reqs : Reqs → Node → Node
+with_reqs reqs n = record n { reqs = reqs }

@@ -1,12 +1,12 @@
 ghost use Rattle.std.specs.Prelude.{◌≡◌, ◌++◌, [], ◌∷◌, OnOk, OnErr};
 ghost use Rattle.pnp_model.specs.Cores.{with_state, with_problem, with_holds, with_drivers, with_stack, bare};
 ghost use Rattle.devnode_tree.specs.Entries.{with_child, without_child, changed_node};
-ghost use Rattle.devnode_tree.specs.Trees.{Ascends};
+ghost use Rattle.devnode_tree.specs.Trees.{Ascends, with_reqs};
 
 use crate::node::Node;
 use device_ids::WantOfMemory;
 use pnp_labels::{DevState, Problem, Stack};
-use resource_reqs::ResList;
+use resource_reqs::{Reqs, ResList};
 use std::alloc::Global;
 use std::marker::Model;
 use std::mem;
@@ -76,6 +76,14 @@ impl Entry {
         ensures old { result ≡ self.old.node.holds }
     {
         mem::replace(&mut self.node.holds, holds)
+    }
+
+    /// Gives back the requirements that were there.
+    pub(crate) fn swap_reqs(&mut self, reqs: Reqs) -> Reqs
+        ensures new { self.new ≡ changed_node (with_reqs reqs) self.old }
+        ensures old { result ≡ self.old.node.reqs }
+    {
+        mem::replace(&mut self.node.reqs, reqs)
     }
 
     /// Gives back the drivers that were there.

@@ -5,7 +5,7 @@ ghost use Rattle.pnp_model.specs.Tasks.{has_path};
 ghost use Rattle.pnp_model.specs.Trees.{children, is_up};
 ghost use Rattle.pnp_model.specs.Runs.{root_node};
 ghost use Rattle.devnode_tree.specs.Entries.{child_serials};
-ghost use Rattle.devnode_tree.specs.Trees.{changed, with_node, without_node, CanLeave, IsTree};
+ghost use Rattle.devnode_tree.specs.Trees.{changed, with_node, without_node, CanLeave, IsTree, with_reqs};
 
 use crate::births::Births;
 use crate::entries::{add, forget_child, place_of};
@@ -153,6 +153,19 @@ impl Tree {
         match place_of(&self.entries, serial) {
             Some(place) => self.entries[place].swap_holds(holds),
             None => holds,
+        }
+    }
+
+    /// A node requires this from now on and what it required is given back, and all else stays. Where no node has the
+    /// serial, nothing changes and these come back. It takes no memory. Cost: the logarithm of the number of nodes.
+    pub fn swap_reqs(&mut self, serial: u64, reqs: Reqs) -> Reqs
+        ensures set { self.new ≡ changed serial (with_reqs reqs) self.old }
+        ensures old { result ≡ unwrap_or (option_map (λ n. n.reqs) (node_at serial self.old.nodes)) reqs }
+        ensures tree { IsTree self.old }
+    {
+        match place_of(&self.entries, serial) {
+            Some(place) => self.entries[place].swap_reqs(reqs),
+            None => reqs,
         }
     }
 
