@@ -1,23 +1,24 @@
 -- What a device that comes or goes changes.
-use Rattle.std.proofs.Common.{◌≡◌, ◌≢◌, ℕ, ◌+◌, ◌<◌, ◌==◌, true, false, cond, List, [], ◌∷◌, ◌++◌, map, Option, Some, None, nat_eq, refl, sym, ap, ap₂, ◌∙◌, arith, option_map, IsTrue, is_some, inl, inr}
+use Rattle.std.proofs.Common.{◌≡◌, ◌≢◌, ℕ, ◌+◌, ◌<◌, ◌==◌, Bool, true, false, cond, List, [], ◌∷◌, ◌++◌, map, Option, Some, None, nat_eq, refl, sym, ap, ap₂, ◌∙◌, arith, option_map, IsTrue, is_some, inl, inr}
 use Rattle.std.specs.List.{AllByRecursion}
 use Rattle.std.specs.HashMap.{HashMap, get}
 use Rattle.std.proofs.lemmas.Bool.Decides.{nat_tests}
 use Rattle.std.proofs.lemmas.List.{map-append}
+use Rattle.resource_reqs.specs.Resources.{Reqs}
 use Rattle.resource_reqs.proofs.Counts.{all_push}
 use Rattle.pnp_labels.specs.declared.states.DevState.TheVariants.{NoStack}
 use Rattle.pnp_model.specs.Cores.{is_node, node_at, serials_of, path_of}
-use Rattle.pnp_model.specs.Keyed.{without_first}
+use Rattle.pnp_model.specs.Keyed.{changed_first, without_first}
 use Rattle.pnp_model.specs.Runs.{root_node, root_path}
 use Rattle.pnp_model.specs.Records.{Device, Node}
-use Rattle.pnp_model.specs.States.{is_in_world}
+use Rattle.pnp_model.specs.States.{is_in_world, requires}
 use Rattle.pnp_model.specs.Trees as trees
 use Rattle.devnode_tree.specs.Trees.{Tree, IsTree, Ascends, CanLeave, with_node, without_node}
 use Rattle.devnode_tree.proofs.KeyedMaps.{map-without_first}
 use Rattle.devnode_tree.proofs.Leaves.{tree_left}
 use Rattle.script_bus.specs.declared.device.Device as shown
 use Rattle.script_bus.specs.Kept.{device_with, device_at, world_of, HasPart, IsBare, IsKept}
-use Rattle.script_bus.specs.Worlds.{child_births, without_leaf}
+use Rattle.script_bus.specs.Worlds.{child_births, without_leaf, changed}
 use Rattle.script_bus.proofs.Places.{born_is, children_are, in_world_is, no_map, all_found, found_passes}
 use Rattle.script_bus.proofs.Unplugs.{by_cond, all_both, all_without}
 
@@ -104,6 +105,68 @@ module _ {S : Type 0} (old new : HashMap ℕ shown.Device S) where
         bare = all_push IsBare places.nodes n h.bare (inr state);
         parts_are = all_push (HasPart new) places.nodes n (parts_same places.nodes (all_unchanged places.nodes below_next) h.parts_are) (ap (option_map (λ (d : shown.Device). d.path)) its_part ∙ ap Some path);
       }
+
+    -- a device requires something else
+    module _ (reqs : Reqs) (d : shown.Device) (was : get nat_eq old k ≡ Some d) (given : w ≡ Some (record d { reqs = reqs })) where
+      its_new : get nat_eq new k ≡ Some (record d { reqs = reqs })
+      its_new = change k ∙ (ap (λ b. cond b w (get nat_eq old k)) (let test : nat_eq k k ≡ true = grind (arith, nat_tests) in test) ∙ given)
+
+      at_it : (n : Node) → n.serial ≡ k → device_at new n ≡ requires reqs (device_at old n)
+      at_it n e = ap (device_with n) (ap (get nat_eq new) e ∙ its_new) ∙ sym (ap (λ o. requires reqs (device_with n o)) (ap (get nat_eq old) e ∙ was))
+
+      devices_changed : (low : ℕ) (nodes : List Node) → Ascends low (serials_of nodes) → map (device_at new) nodes ≡ changed_first (λ d. d.born == k) (requires reqs) (map (device_at old) nodes)
+      devices_changed low [] asc = refl
+      devices_changed low (n ∷ nodes) asc = by_test (n.serial == k) refl (devices_changed (n.serial + 1) nodes asc.1)
+        where
+          test_is : (b : Bool) → (n.serial == k) ≡ b → ((device_at old n).born == k) ≡ b
+          test_is b t = ap (λ i. i == k) (born_is n (get nat_eq old n.serial)) ∙ t
+
+          by_test : (b : Bool) → (n.serial == k) ≡ b → map (device_at new) nodes ≡ changed_first (λ d. d.born == k) (requires reqs) (map (device_at old) nodes)
+              → map (device_at new) (n ∷ nodes) ≡ changed_first (λ d. d.born == k) (requires reqs) (map (device_at old) (n ∷ nodes))
+          by_test true t more =
+              let same : n.serial ≡ k = grind (arith, nat_tests) in
+              ap₂ ◌∷◌ (at_it n same) (devices_same nodes (all_unchanged nodes (different_from k (n.serial + 1) nodes (omega arith) asc.1)))
+              ∙ sym (ap (λ b. cond b (requires reqs (device_at old n) ∷ map (device_at old) nodes) (device_at old n ∷ changed_first (λ d. d.born == k) (requires reqs) (map (device_at old) nodes))) (test_is true t))
+          by_test false t more =
+              ap₂ ◌∷◌ (ap (device_with n) (unchanged n (λ e. grind (arith, nat_tests)))) more
+              ∙ sym (ap (λ b. cond b (requires reqs (device_at old n) ∷ map (device_at old) nodes) (device_at old n ∷ changed_first (λ d. d.born == k) (requires reqs) (map (device_at old) nodes))) (test_is false t))
+
+      pub world_changed : (places : Tree) → IsTree places → world_of places new ≡ changed k reqs (world_of places old)
+      world_changed places h = ap (λ ds. record { devices = ds; next = places.next }) (devices_changed 0 places.nodes h.ascends)
+
+      part_changed : (n : Node) → HasPart old n → HasPart new n
+      part_changed n part = by_test (n.serial == k) refl
+        where
+          by_test : (b : Bool) → (n.serial == k) ≡ b → HasPart new n
+          by_test true t =
+              let same : n.serial ≡ k = grind (arith, nat_tests) in
+              ap (option_map (λ (d : shown.Device). d.path)) (ap (get nat_eq new) same ∙ its_new) ∙ (sym (ap (option_map (λ (d : shown.Device). d.path)) (ap (get nat_eq old) same ∙ was)) ∙ part)
+          by_test false t = ap (option_map (λ (d : shown.Device). d.path)) (unchanged n (λ e. grind (arith, nat_tests))) ∙ part
+
+      pub kept_changed : (places : Tree) → IsKept places old → IsKept places new
+      kept_changed places h = record {
+        tree = h.tree;
+        bare = h.bare;
+        parts_are = all_both (HasPart old) (HasPart old) (HasPart new) (λ n part _. part_changed n part) places.nodes h.parts_are h.parts_are;
+      }
+
+-- or nothing has the number
+pub none_changed : {S : Type 0} (parts : HashMap ℕ shown.Device S) (k : ℕ) (reqs : Reqs) → get nat_eq parts k ≡ None → (places : Tree) → IsKept places parts → world_of places parts ≡ changed k reqs (world_of places parts)
+none_changed parts k reqs gone places h = ap (λ ds. record { devices = ds; next = places.next }) (by places.nodes h.parts_are)
+  where
+    by : (nodes : List Node) → AllByRecursion (HasPart parts) nodes → map (device_at parts) nodes ≡ changed_first (λ d. d.born == k) (requires reqs) (map (device_at parts) nodes)
+    by [] all = refl
+    by (n ∷ nodes) all = by_test (n.serial == k) refl (by nodes all.1)
+      where
+        by_test : (b : Bool) → (n.serial == k) ≡ b → map (device_at parts) nodes ≡ changed_first (λ d. d.born == k) (requires reqs) (map (device_at parts) nodes)
+            → map (device_at parts) (n ∷ nodes) ≡ changed_first (λ d. d.born == k) (requires reqs) (map (device_at parts) (n ∷ nodes))
+        by_test true t more =
+            let same : n.serial ≡ k = grind (arith, nat_tests) in
+            let part : option_map (λ (d : shown.Device). d.path) (get nat_eq parts k) ≡ Some n.path = ap (λ i. option_map (λ (d : shown.Device). d.path) (get nat_eq parts i)) (sym same) ∙ all.0 in
+            absurd (let no : None ≡ Some n.path = sym (ap (option_map (λ (d : shown.Device). d.path)) gone) ∙ part in cc)
+        by_test false t more =
+            ap (λ l. device_at parts n ∷ l) more
+            ∙ sym (ap (λ b. cond b (requires reqs (device_at parts n) ∷ map (device_at parts) nodes) (device_at parts n ∷ changed_first (λ d. d.born == k) (requires reqs) (map (device_at parts) nodes))) (ap (λ i. i == k) (born_is n (get nat_eq parts n.serial)) ∙ t))
 
 -- a place may be left
 module _ {S : Type 0} (parts : HashMap ℕ shown.Device S) (places : Tree) (h : IsKept places parts) (born : ℕ) (other : born ≢ 0) where

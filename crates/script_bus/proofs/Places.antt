@@ -73,6 +73,7 @@ some_those f p (x ∷ xs) = by_test (p x) (some_those f p xs)
   where
     more : (length (map f (x ∷ those p xs)) == 0) ≡ false
     more = grind (arith, nat_tests)
+
     by_test : (b : Bool) → not (length (map f (those p xs)) == 0) ≡ list_any p xs → not (length (map f (cond b (x ∷ those p xs) (those p xs))) == 0) ≡ (b || list_any p xs)
     by_test true e = ap not more
     by_test false e = e

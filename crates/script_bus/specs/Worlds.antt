@@ -3,9 +3,9 @@ use Rattle.std.specs.Prelude.{◌≡◌, ℕ, ◌+◌, ◌<◌, ◌≤◌, ◌^�
 use Rattle.std.specs.List.{AllByRecursion}
 use Rattle.pnp_labels.specs.Texts.{Text}
 use Rattle.resource_reqs.specs.Resources.{Reqs}
-use Rattle.pnp_model.specs.Keyed.{those, without_first}
+use Rattle.pnp_model.specs.Keyed.{changed_first, those, without_first}
 use Rattle.pnp_model.specs.Records.{Device}
-use Rattle.pnp_model.specs.States.{device_born, without_those}
+use Rattle.pnp_model.specs.States.{device_born, without_those, requires}
 use Rattle.pnp_model.specs.Tests.{has}
 use Rattle.devnode_tree.specs.Trees.{Ascends}
 use Rattle.script_bus.specs.declared.device.Device as shown
@@ -29,6 +29,10 @@ without_device born w = record w { devices = without_those (born ∷ []) w.devic
 -- a device alone is gone
 abbrev pub without_leaf : ℕ → World → World
 without_leaf born w = record w { devices = without_first (λ d. d.born == born) w.devices }
+
+-- a device requires something else
+abbrev pub changed : ℕ → Reqs → World → World
+changed born reqs w = record w { devices = changed_first (λ d. d.born == born) (requires reqs) w.devices }
 
 -- what a device shows
 abbrev pub part_of : Device → shown.Device

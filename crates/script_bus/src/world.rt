@@ -1,7 +1,7 @@
 ghost use Rattle.std.specs.Prelude.{◌≡◌, ◌≢◌, ◌+◌, ◌<◌, ◌≤◌, ◌^◌, ◌↔◌, [], ◌∷◌, None, IfOk, IfSome, OnOk, OnErr, IsErrOf, IsSome, IsTrue, Bool, true, ℕ, length, option_map, option_copied};
 ghost use Rattle.pnp_model.specs.Runs.{root_device};
 ghost use Rattle.pnp_model.specs.States.{device_born, device_of, has_below, is_in_world};
-ghost use Rattle.script_bus.specs.Worlds.{with_device, without_device, plugged, part_of, parent_in, child_births, IsWorld, PassesDown, without_leaf};
+ghost use Rattle.script_bus.specs.Worlds.{with_device, without_device, plugged, changed, part_of, parent_in, child_births, IsWorld, PassesDown, without_leaf};
 
 use crate::device::Device;
 use crate::error::{PlugError, PullError};
@@ -160,6 +160,17 @@ impl World {
             at = self.parent_of(leaf).unwrap_or(born);
             self.take_leaf(leaf);
         }
+    }
+
+    /// A device requires this from now on; nothing changes where no device has the birth number. It takes no memory. Cost:
+    /// constant on average.
+    pub fn change_reqs(&mut self, born: u64, reqs: Reqs)
+        ensures { self.new ≡ changed born reqs self.old }
+    {
+        let Some(device) = self.parts.get_mut(&born) else {
+            return;
+        };
+        device.reqs = reqs;
     }
 
     /// From a device downwards, the last child of each, to one without children.
