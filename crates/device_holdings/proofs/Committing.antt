@@ -7,9 +7,9 @@ use Rattle.trial_journal.specs.ByKind.{Arbiters}
 use Rattle.pnp_model.specs.Keyed.{changed_first}
 use Rattle.pnp_model.specs.Cores.{is_node, node_at, serials_of, with_holds}
 use Rattle.pnp_model.specs.Records.{Node}
-use Rattle.pnp_model.specs.Rebalances.{part_for, committed}
+use Rattle.pnp_model.specs.Rebalances.{part_for}
 use Rattle.devnode_tree.specs.Trees.{Ascends, IsTree, Tree, changed}
-use Rattle.device_holdings.specs.Giving.{given}
+use Rattle.device_holdings.specs.Giving.{given, with_part}
 use Rattle.device_holdings.specs.Mirrors.{HasRoom}
 
 -- Room ----------------------------------------------------------------------------------
@@ -63,23 +63,23 @@ none_from (y ∷ xs) (suc i) h = none_from xs i h
 
 -- The nodes -------------------------------------------------------------------------------
 
-map_none : (serials : List ℕ) (nodes : List Node) → map (committed serials []) nodes ≡ nodes
+map_none : (serials : List ℕ) (nodes : List Node) → map (with_part serials []) nodes ≡ nodes
 map_none serials [] = refl
 map_none [] (n ∷ ns) = ap (λ l. n ∷ l) (map_none [] ns)
 map_none (k ∷ ks) (n ∷ ns) = ap (λ l. n ∷ l) (map_none (k ∷ ks) ns)
 
-pub none_yet : (serials : List ℕ) (rest : List (List Res)) (nodes : List Node) → rest ≡ [] → nodes ≡ map (committed serials rest) nodes
-none_yet serials rest nodes e = sym (ap (λ l. map (committed serials l) nodes) e ∙ map_none serials nodes)
+pub none_yet : (serials : List ℕ) (rest : List (List Res)) (nodes : List Node) → rest ≡ [] → nodes ≡ map (with_part serials rest) nodes
+none_yet serials rest nodes e = sym (ap (λ l. map (with_part serials l) nodes) e ∙ map_none serials nodes)
 
-pub nobody : (plan : List (List Res)) (nodes : List Node) → map (committed [] plan) nodes ≡ nodes
+pub nobody : (plan : List (List Res)) (nodes : List Node) → map (with_part [] plan) nodes ≡ nodes
 nobody plan [] = refl
 nobody plan (n ∷ ns) = ap (λ l. n ∷ l) (nobody plan ns)
 
 module _ (k : ℕ) (h : List Res) (js : List ℕ) (ps : List (List Res)) where
-  other : (n : Node) → (k == n.serial) ≡ false → committed (k ∷ js) (h ∷ ps) n ≡ committed js ps n
+  other : (n : Node) → (k == n.serial) ≡ false → with_part (k ∷ js) (h ∷ ps) n ≡ with_part js ps n
   other n e = ap (λ b. record n { holds = cond b h (part_for n.serial js ps n.holds) }) e
 
-  others : (lo : ℕ) (nodes : List Node) → k < lo → Ascends lo (serials_of nodes) → map (committed js ps) nodes ≡ map (committed (k ∷ js) (h ∷ ps)) nodes
+  others : (lo : ℕ) (nodes : List Node) → k < lo → Ascends lo (serials_of nodes) → map (with_part js ps) nodes ≡ map (with_part (k ∷ js) (h ∷ ps)) nodes
   others lo [] less up = refl
   others lo (n ∷ ns) less up =
       let low = up.0 in
@@ -87,16 +87,16 @@ module _ (k : ℕ) (h : List Res) (js : List ℕ) (ps : List (List Res)) where
       let rest = others (n.serial + 1) ns (omega arith) up.1 in
       λ t. sym (other n here) t ∷ rest t
 
-  same_serials : (nodes : List Node) → serials_of (map (committed js ps) nodes) ≡ serials_of nodes
+  same_serials : (nodes : List Node) → serials_of (map (with_part js ps) nodes) ≡ serials_of nodes
   same_serials [] = refl
   same_serials (n ∷ ns) = ap (λ l. n.serial ∷ l) (same_serials ns)
 
   one_by : (n : Node) (ns : List Node) (b : Bool) → (n.serial == k) ≡ b → Ascends (n.serial + 1) (serials_of ns)
-      → changed_first (is_node k) (with_holds h) (map (committed js ps) ns) ≡ map (committed (k ∷ js) (h ∷ ps)) ns
-      → cond b (with_holds h (committed js ps n) ∷ map (committed js ps) ns) (committed js ps n ∷ changed_first (is_node k) (with_holds h) (map (committed js ps) ns)) ≡ map (committed (k ∷ js) (h ∷ ps)) (n ∷ ns)
+      → changed_first (is_node k) (with_holds h) (map (with_part js ps) ns) ≡ map (with_part (k ∷ js) (h ∷ ps)) ns
+      → cond b (with_holds h (with_part js ps n) ∷ map (with_part js ps) ns) (with_part js ps n ∷ changed_first (is_node k) (with_holds h) (map (with_part js ps) ns)) ≡ map (with_part (k ∷ js) (h ∷ ps)) (n ∷ ns)
   one_by n ns true e up more =
       let turned : (k == n.serial) ≡ true = grind (arith, nat_tests) in
-      let here : with_holds h (committed js ps n) ≡ committed (k ∷ js) (h ∷ ps) n = sym (ap (λ b. record n { holds = cond b h (part_for n.serial js ps n.holds) }) turned) in
+      let here : with_holds h (with_part js ps n) ≡ with_part (k ∷ js) (h ∷ ps) n = sym (ap (λ b. record n { holds = cond b h (part_for n.serial js ps n.holds) }) turned) in
       let rest = others (n.serial + 1) ns (grind (arith, nat_tests)) up in
       λ t. here t ∷ rest t
   one_by n ns false e up more =
@@ -105,7 +105,7 @@ module _ (k : ℕ) (h : List Res) (js : List ℕ) (ps : List (List Res)) where
 
   -- the first device with the serial gets its part: there is one at most
   pub one_more : (lo : ℕ) (nodes : List Node) → Ascends lo (serials_of nodes)
-      → changed_first (is_node k) (with_holds h) (map (committed js ps) nodes) ≡ map (committed (k ∷ js) (h ∷ ps)) nodes
+      → changed_first (is_node k) (with_holds h) (map (with_part js ps) nodes) ≡ map (with_part (k ∷ js) (h ∷ ps)) nodes
   one_more lo [] up = refl
   one_more lo (n ∷ ns) up = one_by n ns (n.serial == k) refl up.1 (one_more (n.serial + 1) ns up.1)
 
@@ -115,27 +115,27 @@ unchanged k f [] e = refl
 unchanged k f (n ∷ ns) e = grind (arith, unchanged k f ns)
 
 module _ (serials : List ℕ) (plan : List (List Res)) (i : ℕ) (h : List Res) (before now : List Node)
-    (so_far : now ≡ map (committed (drop (suc i) serials) (drop (suc i) plan)) before) (part : drop i plan ≡ h ∷ drop (suc i) plan) where
-  pub got_part : (k : ℕ) → slice_get serials i ≡ Some k → Ascends 0 (serials_of now) → changed_first (is_node k) (with_holds h) now ≡ map (committed (drop i serials) (drop i plan)) before
+    (so_far : now ≡ map (with_part (drop (suc i) serials) (drop (suc i) plan)) before) (part : drop i plan ≡ h ∷ drop (suc i) plan) where
+  pub got_part : (k : ℕ) → slice_get serials i ≡ Some k → Ascends 0 (serials_of now) → changed_first (is_node k) (with_holds h) now ≡ map (with_part (drop i serials) (drop i plan)) before
   got_part k at up =
       ap (changed_first (is_node k) (with_holds h)) so_far
       ∙ (one_more k h (drop (suc i) serials) (drop (suc i) plan) 0 before (subst (Ascends 0) (ap serials_of so_far ∙ same_serials k h (drop (suc i) serials) (drop (suc i) plan) before) up)
-      ∙ (ap (λ js. map (committed js (h ∷ drop (suc i) plan)) before) (sym (split_off serials i k at)) ∙ ap (λ ps. map (committed (drop i serials) ps) before) (sym part)))
+      ∙ (ap (λ js. map (with_part js (h ∷ drop (suc i) plan)) before) (sym (split_off serials i k at)) ∙ ap (λ ps. map (with_part (drop i serials) ps) before) (sym part)))
 
-  pub no_serial : slice_get serials i ≡ None → now ≡ map (committed (drop i serials) (drop i plan)) before
+  pub no_serial : slice_get serials i ≡ None → now ≡ map (with_part (drop i serials) (drop i plan)) before
   no_serial at =
       let none = none_from serials i at in
       so_far
-      ∙ (ap (λ js. map (committed js (drop (suc i) plan)) before) none.1
+      ∙ (ap (λ js. map (with_part js (drop (suc i) plan)) before) none.1
       ∙ (nobody (drop (suc i) plan) before
-      ∙ (sym (nobody (drop i plan) before) ∙ ap (λ js. map (committed js (drop i plan)) before) (sym none.0))))
+      ∙ (sym (nobody (drop i plan) before) ∙ ap (λ js. map (with_part js (drop i plan)) before) (sym none.0))))
 
 -- the device at place i gets the last part that is left
-pub given_part : (serials : List ℕ) (plan : List (List Res)) (i : ℕ) (h : List Res) (before : List Node) (t : Tree) → t.nodes ≡ map (committed (drop (suc i) serials) (drop (suc i) plan)) before
-    → drop i plan ≡ h ∷ drop (suc i) plan → (IsSome (slice_get serials i) → IsTree t) → given (slice_get serials i) h t ≡ record t { nodes = map (committed (drop i serials) (drop i plan)) before }
+pub given_part : (serials : List ℕ) (plan : List (List Res)) (i : ℕ) (h : List Res) (before : List Node) (t : Tree) → t.nodes ≡ map (with_part (drop (suc i) serials) (drop (suc i) plan)) before
+    → drop i plan ≡ h ∷ drop (suc i) plan → (IsSome (slice_get serials i) → IsTree t) → given (slice_get serials i) h t ≡ record t { nodes = map (with_part (drop i serials) (drop i plan)) before }
 given_part serials plan i h before t so_far part up = by_place (slice_get serials i) refl
   where
-    by_place : (o : Option ℕ) → slice_get serials i ≡ o → given o h t ≡ record t { nodes = map (committed (drop i serials) (drop i plan)) before }
+    by_place : (o : Option ℕ) → slice_get serials i ≡ o → given o h t ≡ record t { nodes = map (with_part (drop i serials) (drop i plan)) before }
     by_place None at = ap (λ (ns : List Node). record t { nodes = ns }) (no_serial serials plan i h before t.nodes so_far part at)
     by_place (Some k) at = ap (λ (ns : List Node). record t { nodes = ns }) (got_part serials plan i h before t.nodes so_far part k at (up (subst (λ (o : Option ℕ). IsSome o) (sym at) refl)).ascends)
 

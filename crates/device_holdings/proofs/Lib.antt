@@ -1,6 +1,7 @@
 pub mod Putting
 pub mod Apart
 pub mod Clashing
+pub mod Asking
 pub mod Beside
 pub mod RowOrder
 pub mod TieLemmas

@@ -1,10 +1,9 @@
 ghost use Rattle.std.specs.Prelude.{◌≡◌, ℕ, ◌+◌, ◌++◌, [], ◌∷◌, List, length, map, min, sum_by, slice_get, IsSome, IfOk, OnOk, OnErr};
 ghost use Rattle.pnp_model.specs.Records.{Node};
 ghost use Rattle.pnp_model.specs.Cores.{node_at, bare, with_holds};
-ghost use Rattle.pnp_model.specs.Rebalances.{committed};
 ghost use Rattle.trial_journal.specs.ByKind.{lists_of};
 ghost use Rattle.devnode_tree.specs.Trees.{changed, IsTree};
-ghost use Rattle.device_holdings.specs.Giving.{given};
+ghost use Rattle.device_holdings.specs.Giving.{given, with_part};
 ghost use Rattle.device_holdings.specs.Mirrors.{Mirrors, IsMirrored, KeepsMirror, HasRoom};
 
 use crate::pairs::{make_room, put_all, take_all};
@@ -131,7 +130,7 @@ pub fn assign_all(
     plan: &Plan,
 ) -> Result<(), WantOfMemory>
     requires { IsMirrored tree.old.nodes arbiters.old }
-    ensures assigned { OnOk result (tree.new ≡ record tree.old { nodes = map (committed serials.now plan.now) tree.old.nodes }) }
+    ensures assigned { OnOk result (tree.new ≡ record tree.old { nodes = map (with_part serials.now plan.now) tree.old.nodes }) }
     ensures mirrors { KeepsMirror tree.old.nodes arbiters.old tree.new.nodes arbiters.new }
     ensures tree { OnErr result (tree.new ≡ tree.old) }
     ensures held { OnErr result (lists_of arbiters.new ≡ lists_of arbiters.old) }

@@ -6,6 +6,6 @@ mod holding;
 mod pairs;
 mod rows;
 
-pub use finding::{is_in_use, search};
+pub use finding::{is_in_use, search, search_for};
 pub use holding::{assign, assign_all, release, reserve};
 pub use rows::map_rows;

@@ -9,7 +9,8 @@ use Rattle.pnp_model.specs.Cores.{is_node, node_at, with_state, with_problem, wi
 use Rattle.pnp_labels.specs.declared.states.DevState.{DevState}
 use Rattle.pnp_labels.specs.declared.states.Problem.{Problem}
 use Rattle.pnp_labels.specs.declared.states.DevState.TheVariants.{NoStack}
-use Rattle.devnode_tree.specs.Trees.{CanLeave}
+use Rattle.resource_reqs.specs.Resources.{Reqs}
+use Rattle.devnode_tree.specs.Trees.{CanLeave, with_reqs}
 use Rattle.operation_frame.specs.Nodes.{HoldsNothing}
 use Rattle.device_holdings.specs.Mirrors.{pairs_of, node_pairs, lists_with, KeepsMirror}
 
@@ -27,12 +28,15 @@ module _ (k : ℕ) (f : Node → Node) (serial : (n : Node) → (f n).serial ≡
       ] in
       by_test (is_node k n)
 
--- a state or a problem changes
+-- a state or a problem changes, or what is required
 pub mirror_state : (k : ℕ) (nodes : List Node) (a : Arbiters) → (state : DevState) → KeepsMirror nodes a (changed_first (is_node k) (with_state state) nodes) a
 mirror_state k nodes a state = mirror_same nodes (changed_first (is_node k) (with_state state) nodes) a (pairs_changed k (with_state state) (λ n. refl) (λ n. refl) nodes)
 
 pub mirror_problem : (k : ℕ) (nodes : List Node) (a : Arbiters) → (problem : Option Problem) → KeepsMirror nodes a (changed_first (is_node k) (with_problem problem) nodes) a
 mirror_problem k nodes a problem = mirror_same nodes (changed_first (is_node k) (with_problem problem) nodes) a (pairs_changed k (with_problem problem) (λ n. refl) (λ n. refl) nodes)
+
+pub mirror_reqs : (k : ℕ) (nodes : List Node) (a : Arbiters) → (reqs : Reqs) → KeepsMirror nodes a (changed_first (is_node k) (with_reqs reqs) nodes) a
+mirror_reqs k nodes a reqs = mirror_same nodes (changed_first (is_node k) (with_reqs reqs) nodes) a (pairs_changed k (with_reqs reqs) (λ n. refl) (λ n. refl) nodes)
 
 pub mirror_stack : (k : ℕ) (nodes : List Node) (a : Arbiters) → (stack : List ℕ) (state : DevState) → KeepsMirror nodes a (changed_first (is_node k) (with_stack stack state) nodes) a
 mirror_stack k nodes a stack state = mirror_same nodes (changed_first (is_node k) (with_stack stack state) nodes) a (pairs_changed k (with_stack stack state) (λ n. refl) (λ n. refl) nodes)

@@ -1,5 +1,6 @@
 ghost use Rattle.std.specs.Prelude.{◌≡◌, ◌∷◌, ◌++◌, [], IfOk, OnOk, OnErr, Some, IsSome, is_none, drop, slice_get};
 ghost use Rattle.pnp_model.specs.Frames.{rest};
+ghost use Rattle.pnp_model.specs.Tests.{has};
 ghost use Rattle.operation_frame.specs.Queues.{all_after, filled};
 
 use device_ids::WantOfMemory;
@@ -114,6 +115,13 @@ impl SerialQueue {
         ensures { result ≡ slice_get self.now at }
     {
         self.serials.get(at as usize).copied()
+    }
+
+    /// Whether a device is one of these. Cost: their number.
+    pub fn has(&self, serial: u64) -> bool
+        ensures { result ≡ has self.now serial }
+    {
+        self.serials.contains(&serial)
     }
 
     /// Where none is to do, these are; whether none was is told.

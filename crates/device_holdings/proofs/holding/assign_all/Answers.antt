@@ -1,11 +1,10 @@
 use Rattle.std.proofs.Common.{◌≡◌, ℕ, suc, length-append, ◌+◌, ◌-◌, ◌^◌, ◌∙◌, [], ◌∷◌, List, length, take, drop, map, min, sum_by, slice_get, IsSome, ap, sym, subst, arith}
 use Rattle.std.proofs.Math.ListN.{drop_of_length-le}
 use Rattle.std.proofs.lemmas.List.{take_all}
-use Rattle.pnp_model.specs.Rebalances.{committed}
 use Rattle.pnp_model.specs.Records.{Node}
 use Rattle.resource_reqs.specs.Resources.{Res}
 use Rattle.devnode_tree.specs.Trees.{IsTree, Tree}
-use Rattle.device_holdings.specs.Giving.{given}
+use Rattle.device_holdings.specs.Giving.{given, with_part}
 use Rattle.device_holdings.specs.Mirrors.{HasRoom}
 use Rattle.device_holdings.proofs.Apart.{mirrors_same}
 use Rattle.device_holdings.proofs.Committing.{room_for_all, room_next, last_part, none_yet, given_part}
@@ -36,8 +35,8 @@ parts-preserved c =
     let last = last_part xs h plan (sym pop ∙ (c.parts.invariant.left ∙ ap (λ (l : List (List Res)). take (length l) plan) pop)) in
     let place : c.len.result ≡ length xs = omega (arith, c.pop.new.self.ok.0, c.len.ensures) in
     let count : length c.parts.parts.items ≡ suc (length xs) = omega (arith, ap length pop, length-append xs (h ∷ [])) in
-    let so_far : c.parts.tree.nodes ≡ map (committed (drop (suc (length xs)) serials) (drop (suc (length xs)) plan)) before =
-    ap (λ (t : Tree). t.nodes) c.parts.invariant.so_far ∙ ap (λ (n : ℕ). map (committed (drop n serials) (drop n plan)) before) count in
+    let so_far : c.parts.tree.nodes ≡ map (with_part (drop (suc (length xs)) serials) (drop (suc (length xs)) plan)) before =
+    ap (λ (t : Tree). t.nodes) c.parts.invariant.so_far ∙ ap (λ (n : ℕ). map (with_part (drop n serials) (drop n plan)) before) count in
     let next : c.parts.tree.next ≡ c.args.tree.now.next = ap (λ (t : Tree). t.next) c.parts.invariant.so_far in
     let room : HasRoom c.parts.arbiters (length h + sum_by length xs) = room_next c.parts.arbiters xs h (subst (λ (l : List (List Res)). HasRoom c.parts.arbiters (sum_by length l)) pop c.parts.invariant.room) in
     let tree = subst (λ (n : ℕ). IsSome (slice_get serials n) → IsTree c.parts.tree) place c.give.ensures.tree in
@@ -47,7 +46,7 @@ parts-preserved c =
           c.give.ensures.given
           ∙ (ap (λ (n : ℕ). given (slice_get serials n) h c.parts.tree) place
           ∙ (given_part serials plan (length xs) h before c.parts.tree so_far last.1 tree
-          ∙ ap (λ (n : ℕ). record { nodes = map (committed (drop (length xs) serials) (drop (length xs) plan)) before; next = n }) next));
+          ∙ ap (λ (n : ℕ). record { nodes = map (with_part (drop (length xs) serials) (drop (length xs) plan)) before; next = n }) next));
       mirrors = λ reserved m. c.give.ensures.mirrors reserved (c.parts.invariant.mirrors reserved m);
       room = c.give.ensures.room (sum_by length xs) room;
     }
