@@ -6,4 +6,5 @@ pub mod Whole
 pub mod Moving
 pub mod Stepping
 pub mod Acting
+pub mod Requiring
 pub mod Given

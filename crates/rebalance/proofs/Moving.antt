@@ -1,5 +1,5 @@
 -- The ends of requests are moves of the machine.
-use Rattle.std.proofs.Common.{◌≡◌, ℕ, Bool, true, false, List, [], ◌∷◌, drop, Option, Some, None, IfOk, Result, Ok, Err, refl, sym, ap, ◌∙◌, subst}
+use Rattle.std.proofs.Common.{◌≡◌, ℕ, Bool, true, false, List, [], ◌∷◌, drop, is_some, slice_get, Option, Some, refl, sym, ap, ◌∙◌, subst}
 use Rattle.pnp_labels.specs.Texts.{Text}
 use Rattle.pnp_labels.specs.declared.label.Label.{Label}
 use Rattle.pnp_labels.specs.declared.words.Minor.{Minor}
@@ -9,8 +9,8 @@ use Rattle.pnp_model.specs.Walks.{walk_of, state_after}
 use Rattle.pnp_model.specs.Cores.{is_node, node_at, with_state, set_state}
 use Rattle.pnp_model.specs.Frames.{rest, state_label, ended}
 use Rattle.pnp_model.specs.Records as Records
-use Rattle.pnp_model.specs.Records.{Node, Core, Walk, Rebalance}
-use Rattle.pnp_model.specs.Rebalances.{RebalanceMove, RebalanceBeside, moves, ask_on, cancel_on, stop_on, startable, restart_from, restart_on, is_not_above, end_ask, take_back, cancel_step, stop_step, end_restart, close}
+use Rattle.pnp_model.specs.Records.{Node, Core, Walk, Found, Rebalance}
+use Rattle.pnp_model.specs.Rebalances.{RebalanceMove, RebalanceBeside, moves, ask_on, cancel_on, search_on, has_refused, stop_on, startable, restart_from, restart_on, is_not_above, end_ask, take_back, cancel_step, stop_step, end_restart}
 use Rattle.pnp_laws.proofs.Lookups.{own_serial}
 use Rattle.devnode_tree.specs.Cores.{at_nodes}
 use Rattle.operation_frame.specs.Steps.{MovesFor}
@@ -28,13 +28,17 @@ use Rattle.rebalance.proofs.Taking.{drop_first}
 
 -- What comes next does not read what was to do ---------------------------------------------
 
-pub ask_same : (r : Rebalance) (t todo : List ℕ) → ask_on (record r { todo = t }) todo ≡ ask_on r todo
-ask_same r t [] = refl
-ask_same r t (k ∷ ks) = refl
-
 pub cancel_same : (r : Rebalance) (t todo : List ℕ) → cancel_on (record r { todo = t }) todo ≡ cancel_on r todo
 cancel_same r t [] = refl
 cancel_same r t (k ∷ ks) = refl
+
+search_same : (r : Rebalance) (t : List ℕ) (b : Bool) → search_on (record r { todo = t }) b ≡ search_on r b
+search_same r t true = cancel_same r t r.agreed
+search_same r t false = refl
+
+pub ask_same : (r : Rebalance) (t todo : List ℕ) → ask_on (record r { todo = t }) todo ≡ ask_on r todo
+ask_same r t [] = search_same r t (has_refused r)
+ask_same r t (k ∷ ks) = refl
 
 pub stop_same : (r : Rebalance) (t todo : List ℕ) → stop_on (record r { todo = t }) todo ≡ stop_on r todo
 stop_same r t [] = refl
@@ -44,10 +48,35 @@ pub restart_same : (r : Rebalance) (t todo : List ℕ) → restart_from (record 
 restart_same r t [] = refl
 restart_same r t (k ∷ ks) = refl
 
--- with the next one done
-pub asks_rest : (r : Rebalance) (t : List ℕ) → t ≡ drop 1 r.todo → ask_on (record r { todo = t }) t ≡ ask_on r (rest r.todo)
-asks_rest r t e = ask_same r t t ∙ ap (ask_on r) (e ∙ drop_first r.todo)
+-- nor does the way back read what was found
+pub cancel_found : (r : Rebalance) (found : Found) (todo : List ℕ) → record (cancel_on r todo) { found = found } ≡ cancel_on (record r { found = found }) todo
+cancel_found r found [] = refl
+cancel_found r found (k ∷ ks) = refl
 
+-- who is asked next, or nobody
+pub asks_first : (r : Rebalance) (t : List ℕ) → is_some (slice_get t 0) ≡ true → record r { todo = t; stage = Records.RebalanceStage.Asking (walk_of Minor.QueryStop) } ≡ ask_on r t
+asks_first r [] h = absurd (cc)
+asks_first r (k ∷ ks) h = refl
+
+pub asks_none : (r : Rebalance) (t : List ℕ) (b : Bool) → is_some (slice_get t 0) ≡ false → has_refused r ≡ b → search_on r b ≡ ask_on r t
+asks_none r [] b none e = ap (search_on r) (sym e)
+asks_none r (k ∷ ks) b none e = absurd (cc)
+
+pub asks_second : (r : Rebalance) (t : List ℕ) → is_some (slice_get r.todo 1) ≡ true → t ≡ drop 1 r.todo → record r { todo = t; stage = Records.RebalanceStage.Asking (walk_of Minor.QueryStop) } ≡ ask_on r (rest r.todo)
+asks_second r t h e = by r.todo h (e ∙ drop_first r.todo)
+  where
+    by : (todo : List ℕ) → is_some (slice_get todo 1) ≡ true → t ≡ rest todo → record r { todo = t; stage = Records.RebalanceStage.Asking (walk_of Minor.QueryStop) } ≡ ask_on r (rest todo)
+    by [] h e = absurd (cc)
+    by (j ∷ []) h e = absurd (cc)
+    by (j ∷ k ∷ ks) h e = ap (λ l. record r { todo = l; stage = Records.RebalanceStage.Asking (walk_of Minor.QueryStop) }) e
+
+-- the one that was asked was the last
+pub none_second : (todo : List ℕ) → is_some (slice_get todo 1) ≡ false → rest todo ≡ []
+none_second [] h = refl
+none_second (j ∷ []) h = refl
+none_second (j ∷ k ∷ ks) h = absurd (cc)
+
+-- with the next one done
 pub cancels_rest : (r : Rebalance) (t : List ℕ) → t ≡ drop 1 r.todo → cancel_on (record r { todo = t }) t ≡ cancel_on r (rest r.todo)
 cancels_rest r t e = cancel_same r t t ∙ ap (cancel_on r) (e ∙ drop_first r.todo)
 

@@ -1,13 +1,11 @@
 -- Devices that are taken from a queue one after another.
-use Rattle.std.proofs.Common.{◌≡◌, ℕ, zero, suc, ◌+◌, ◌<◌, Bool, true, false, not, cond, List, [], ◌∷◌, ◌++◌, length, drop, reverse, slice_get, Option, Some, None, option_to_list, refl, sym, ap, ◌∙◌, subst, arith}
+use Rattle.std.proofs.Common.{◌≡◌, ℕ, ◌<◌, ◌==◌, Bool, true, false, not, ◌&&◌, cond, List, [], ◌∷◌, ◌++◌, length, drop, reverse, slice_get, Some, None, refl, sym, ap, ◌∙◌, arith}
 use Rattle.std.proofs.lemmas.List.{append_assoc, append-nil, reverse-append}
-use Rattle.pnp_model.specs.Cores.{node_at}
-use Rattle.pnp_model.specs.Keyed.{those}
+use Rattle.pnp_model.specs.Keyed.{those, without_first}
 use Rattle.pnp_model.specs.Records.{Node}
-use Rattle.pnp_model.specs.Tests.{has}
-use Rattle.pnp_model.specs.Trees.{above, stands_up}
+use Rattle.pnp_model.specs.Trees.{stands_up}
 use Rattle.pnp_model.specs.Frames.{rest}
-use Rattle.pnp_model.specs.Rebalances.{is_not_above, startable}
+use Rattle.pnp_model.specs.Rebalances.{startable}
 
 pub first_cut : (ks : List ℕ) (k : ℕ) → slice_get ks 0 ≡ Some k → ks ≡ k ∷ drop 1 ks
 first_cut [] k e = absurd (cc)
@@ -36,6 +34,30 @@ turn_start ks = append-nil (reverse ks)
 -- in order
 pub move_more : (done old new all : List ℕ) (k : ℕ) → old ≡ k ∷ new → done ++ old ≡ all → (done ++ k ∷ []) ++ new ≡ all
 move_more done old new all k e h = append_assoc done (k ∷ []) new ∙ (ap (λ l. done ++ l) (sym e) ∙ h)
+
+-- but for the first that is the device in front
+abbrev pub others_after : ℕ → Bool → List ℕ → List ℕ
+others_after first true ks = ks
+others_after first false ks = without_first (λ j. j == first) ks
+
+pub leave_more : (first : ℕ) (is_left_out : Bool) (done old new all : List ℕ) (k : ℕ) → (k == first) ≡ true → is_left_out ≡ false → old ≡ k ∷ new → done ++ others_after first is_left_out old ≡ all → done ++ others_after first true new ≡ all
+leave_more first true done old new all k same still e h = absurd (cc)
+leave_more first false done old new all k same still e h =
+    ap (λ l. done ++ l) (sym (ap (without_first (λ j. j == first)) e ∙ ap (λ b. cond b new (k ∷ without_first (λ j. j == first) new)) same)) ∙ h
+
+take_along : (first : ℕ) (is_left_out : Bool) (old new : List ℕ) (k : ℕ) → ((k == first) && not is_left_out) ≡ false → old ≡ k ∷ new → k ∷ others_after first is_left_out new ≡ others_after first is_left_out old
+take_along first true old new k other e = sym e
+take_along first false old new k other e =
+    let differ : (k == first) ≡ false = grind arith in
+    sym (ap (without_first (λ j. j == first)) e ∙ ap (λ b. cond b new (k ∷ without_first (λ j. j == first) new)) differ)
+
+pub others_more : (first : ℕ) (is_left_out : Bool) (done old new all : List ℕ) (k : ℕ) → ((k == first) && not is_left_out) ≡ false → old ≡ k ∷ new → done ++ others_after first is_left_out old ≡ all → (done ++ k ∷ []) ++ others_after first is_left_out new ≡ all
+others_more first is_left_out done old new all k other e h =
+    append_assoc done (k ∷ []) (others_after first is_left_out new) ∙ (ap (λ l. done ++ l) (take_along first is_left_out old new k other e) ∙ h)
+
+pub others_end : (first : ℕ) (is_left_out : Bool) (done left all : List ℕ) → left ≡ [] → done ++ others_after first is_left_out left ≡ all → done ≡ all
+others_end first true done left all e h = sym (append-nil done) ∙ (ap (λ l. done ++ l) (sym e) ∙ h)
+others_end first false done left all e h = sym (append-nil done) ∙ (ap (λ l. done ++ without_first (λ j. j == first) l) (sym e) ∙ h)
 
 -- the last one first
 pub last_more : (done old new all : List ℕ) (k : ℕ) → old ≡ new ++ k ∷ [] → done ++ reverse old ≡ all → (done ++ k ∷ []) ++ reverse new ≡ all

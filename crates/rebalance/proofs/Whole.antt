@@ -1,12 +1,11 @@
 -- Changes that leave who is there and what is held.
-use Rattle.std.proofs.Common.{◌≡◌, ℕ, Bool, List, [], ◌∷◌, map, Option, Some, None, Result, Ok, Err, OnErr, refl, sym, ap, ◌∙◌, subst}
-use Rattle.resource_reqs.specs.Resources.{Res}
+use Rattle.std.proofs.Common.{◌≡◌, ℕ, Bool, List, [], ◌∷◌, map, Option, Some, None, refl, sym, ap, ◌∙◌, subst}
+use Rattle.resource_reqs.specs.Resources.{Res, Reqs}
 use Rattle.pnp_labels.specs.Texts.{Text}
 use Rattle.pnp_labels.specs.declared.label.Label.{Label}
 use Rattle.pnp_labels.specs.declared.words.Minor.{Minor}
 use Rattle.pnp_labels.specs.declared.states.Problem.{Problem}
-use Rattle.pnp_model.specs.Keyed.{changed_first}
-use Rattle.pnp_model.specs.Cores.{is_node, node_at, with_problem}
+use Rattle.pnp_model.specs.Cores.{node_at, with_problem}
 use Rattle.pnp_model.specs.Walks.{state_after}
 use Rattle.pnp_model.specs.Rebalances.{committed}
 use Rattle.pnp_model.specs.Records.{Node}
@@ -39,7 +38,7 @@ problem_whole t t' k problem is = record {
   mirrors = λ arbiters. subst (λ (u : Tree). KeepsMirror t.nodes arbiters u.nodes arbiters) (sym is) (mirror_problem k t.nodes arbiters problem);
 }
 
--- new holdings
-pub commit_keeps : (serials : List ℕ) (plan : List (List Res)) (nodes : List Node) → identities (map (committed serials plan) nodes) ≡ identities nodes
-commit_keeps serials plan [] = refl
-commit_keeps serials plan (n ∷ ns) = ap (λ l. identity n ∷ l) (commit_keeps serials plan ns)
+-- new holdings and requirements
+pub commit_keeps : (wanted : Option Reqs) (target : ℕ) (serials : List ℕ) (plan : List (List Res)) (nodes : List Node) → identities (map (committed wanted target serials plan) nodes) ≡ identities nodes
+commit_keeps wanted target serials plan [] = refl
+commit_keeps wanted target serials plan (n ∷ ns) = ap (λ l. identity n ∷ l) (commit_keeps wanted target serials plan ns)

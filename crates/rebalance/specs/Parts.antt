@@ -1,13 +1,14 @@
 -- The parts of a step of a rebalance.
-use Rattle.std.specs.Prelude.{◌≡◌, ℕ, Bool, true, List, is_some, reverse}
+use Rattle.std.specs.Prelude.{◌≡◌, ℕ, Bool, true, List, Option, is_some, reverse}
+use Rattle.resource_reqs.specs.Resources.{Reqs}
 use Rattle.resource_reqs.specs.Spelling.{IsAnswer}
 use Rattle.resource_reqs.specs.Spelling.Answer.{assignment, no_fit, spent}
 use Rattle.pnp_labels.specs.Texts.{Text}
 use Rattle.pnp_labels.specs.declared.label.Label.{Label}
 use Rattle.pnp_model.specs.Machine.{rebalance_walk}
 use Rattle.pnp_model.specs.Records.{Node, Core, Found, Rebalance, RebalanceStage}
-use Rattle.pnp_model.specs.Records.RebalanceStage.{Asking, TakingBack, Searching, Cancelling, Stuck, Stopping, Committing, Restarting, Failed, Ending}
-use Rattle.pnp_model.specs.Rebalances.{RebalanceMove, end_ask, take_back, cancel_step, stop_step, end_restart, close, stop_on, cancel_on, group_problem, searched}
+use Rattle.pnp_model.specs.Records.RebalanceStage.{Asking, TakingBack, Cancelling, Stopping, Restarting}
+use Rattle.pnp_model.specs.Rebalances.{RebalanceMove, end_ask, take_back, cancel_step, stop_step, end_restart, close, stop_on, cancel_on, group_problem, searched, reqs_after}
 use Rattle.devnode_tree.specs.Cores.{at_nodes}
 use Rattle.devnode_tree.specs.Trees.{Tree}
 use Rattle.devnode_tree.specs.Identities.{identities}
@@ -57,3 +58,7 @@ Searched nodes arbiters r budget label r' =
     (around : Core) → Mirrors around.reserved nodes arbiters
     → (found : Found) × IsAnswer (group_problem (at_nodes nodes around) r).fixed (group_problem (at_nodes nodes around) r).movers budget found
     × Moved (searched (at_nodes nodes around) r found) (steps.Did label) (at_nodes nodes around) r'
+
+-- the target of a change requires from now on what it wanted
+abbrev pub required : Option Reqs → ℕ → Node → Node
+required wanted target n = record n { reqs = reqs_after wanted target n }

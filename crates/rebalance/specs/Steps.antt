@@ -1,4 +1,4 @@
--- One step of a rebalance, as the machine has it.
+-- One step of a rebalance, or of a change, as the machine has it.
 use Rattle.std.specs.Prelude.{ℕ, List, Option, Some, None, IsSome}
 use Rattle.resource_reqs.specs.Spelling.{IsAnswer}
 use Rattle.pnp_model.specs.Frames.{first_node}
@@ -21,6 +21,7 @@ Moved m (steps.FailedRestart label serial) core r = StepIs m (RebalanceBeside.Fa
 Moved m (steps.OverStart label) core r = StepIs m RebalanceBeside.OverStart label core r
 Moved m (steps.OverUndo label) core r = StepIs m RebalanceBeside.OverUndo label core r
 Moved m (steps.OverDropped label) core r = StepIs m RebalanceBeside.OverDropped label core r
+Moved m (steps.OverChange label) core r = StepIs m RebalanceBeside.OverChange label core r
 
 -- the move is done, by the answer of its search where it searches
 abbrev pub MovedBy : ℕ → Option (Doing RebalanceMove) → RebalanceStep → Core → Rebalance → Type 0

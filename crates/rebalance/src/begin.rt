@@ -1,4 +1,4 @@
-ghost use Rattle.std.specs.Prelude.{IfOk, IsSome};
+ghost use Rattle.std.specs.Prelude.{Some, None, IfOk, IsSome};
 ghost use Rattle.pnp_model.specs.Cores.{node_at};
 ghost use Rattle.rebalance.specs.Begins.{BegunFor};
 
@@ -9,7 +9,8 @@ use device_ids::{Text, WantOfMemory};
 use device_stack::Walk;
 use devnode_tree::Tree;
 use operation_frame::SerialQueue;
-use pnp_labels::{Label, Minor, OpKind};
+use pnp_labels::{Label, Minor};
+use resource_reqs::Reqs;
 use std::alloc::Global;
 
 impl Rebalance {
@@ -21,7 +22,35 @@ impl Rebalance {
         serial: u64,
     ) -> Result<(Label, Rebalance), WantOfMemory>
         requires { IsSome (node_at serial tree.now.nodes) }
-        ensures { IfOk result (λ begun. BegunFor (node_at serial tree.now.nodes) tree.now.nodes begun.0 begun.1) }
+        ensures { IfOk result (λ begun. BegunFor None (node_at serial tree.now.nodes) tree.now.nodes begun.0 begun.1) }
+    {
+        Rebalance::begin_with(alloc, tree, serial, None)
+    }
+
+    /// The change of a device begins: it is to require what is wanted, and is asked to stop as all others are. Where it
+    /// does not agree, or nothing is found, it goes on with what it has. The line is that of the begin. Condition: the
+    /// device is there. Cost: as `begin`. This project's own.
+    pub fn begin_change(
+        alloc: Global,
+        tree: &Tree,
+        serial: u64,
+        wanted: Reqs,
+    ) -> Result<(Label, Rebalance), WantOfMemory>
+        requires { IsSome (node_at serial tree.now.nodes) }
+        ensures { IfOk result (λ begun. BegunFor (Some wanted) (node_at serial tree.now.nodes) tree.now.nodes begun.0 begun.1) }
+    {
+        Rebalance::begin_with(alloc, tree, serial, Some(wanted))
+    }
+
+    /// A rebalance begins, or the change to what is wanted.
+    fn begin_with(
+        alloc: Global,
+        tree: &Tree,
+        serial: u64,
+        wanted: Option<Reqs>,
+    ) -> Result<(Label, Rebalance), WantOfMemory>
+        requires { IsSome (node_at serial tree.now.nodes) }
+        ensures { IfOk result (λ begun. BegunFor wanted (node_at serial tree.now.nodes) tree.now.nodes begun.0 begun.1) }
     {
         let node = tree.at(serial);
         let target = node.serial;
@@ -31,20 +60,16 @@ impl Rebalance {
         let mut rebalance = Rebalance {
             target,
             path,
-            todo,
+            wanted,
+            todo: SerialQueue::new(alloc),
             agreed: SerialQueue::new(alloc),
             refused: SerialQueue::new(alloc),
             found: Found::NoFit,
             stage: Stage::Searching,
             walk: Walk::begin(Minor::QueryStop),
         };
-        rebalance.ask_next();
-        Ok((
-            Label::Begin {
-                op: OpKind::Rebalance,
-                path: line,
-            },
-            rebalance,
-        ))
+        let op = rebalance.kind();
+        rebalance.ask_all(alloc, todo)?;
+        Ok((Label::Begin { op, path: line }, rebalance))
     }
 }

@@ -1,15 +1,21 @@
-ghost use Rattle.std.specs.Prelude.{◌≡◌, slice_get, option_map};
+ghost use Rattle.std.specs.Prelude.{◌≡◌, ℕ, slice_get, option_map, OnOk, OnErr};
 ghost use Rattle.pnp_model.specs.Machine.{rebalance_walk};
-ghost use Rattle.pnp_model.specs.Rebalances.{ask_on, cancel_on, stop_on, restart_from, restart_on};
+ghost use Rattle.pnp_model.specs.Frames.{rest};
+ghost use Rattle.pnp_model.specs.Records as Records;
+ghost use Rattle.pnp_model.specs.Rebalances.{ask_on, cancel_on, cancelled, stop_on, restart_from, restart_on, has_refused, kind_of};
+ghost use Rattle.pnp_model.specs.Walks.{walk_of};
 ghost use Rattle.rebalance.specs.Frames.{minor_that_waits, Completed};
+ghost use Rattle.rebalance.specs.Stages.{stage_of};
 
 use crate::above::pass_over;
 use assign_search::Found;
-use device_ids::Text;
+use device_ids::{Text, WantOfMemory};
 use device_stack::{NoSuchRequest, Walk};
 use devnode_tree::Tree;
 use operation_frame::SerialQueue;
-use pnp_labels::Minor;
+use pnp_labels::{Minor, OpKind};
+use resource_reqs::Reqs;
+use std::alloc::Global;
 use std::marker::Model;
 
 /// What is done next: this project's own.
@@ -39,11 +45,14 @@ pub(crate) enum Stage {
 
 /// A rebalance: devices are asked to stop, and all that agreed get new resources together with the one that lacks them
 /// (the driver kit, IRP_MN_QUERY_STOP_DEVICE and IRP_MN_STOP_DEVICE; that each step is one of the machine's is this
-/// project's own). A contract sees the record of where it stands.
+/// project's own). Or the change of a running device that is to require something else, which stops and starts again as
+/// the others do. A contract sees the record of where it stands.
 #[derive(Drop)]
 pub struct Rebalance {
     pub(crate) target: u64,
     pub(crate) path: Text,
+    /// In a change what the target requires from the commit on.
+    pub(crate) wanted: Option<Reqs>,
     pub(crate) todo: SerialQueue,
     pub(crate) agreed: SerialQueue,
     pub(crate) refused: SerialQueue,
@@ -59,7 +68,7 @@ impl Model for Rebalance {
 
     ghost Value = { Rebalance };
 
-    ghost view = { λ r. record { target = r.target; path = r.path; todo = r.todo; agreed = r.agreed; refused = r.refused; found = answer_of r.found; stage = stage_of r.stage r.walk.walk } };
+    ghost view = { λ r. record { target = r.target; path = r.path; wanted = r.wanted; todo = r.todo; agreed = r.agreed; refused = r.refused; found = answer_of r.found; stage = stage_of r.stage r.walk.walk } };
 }
 
 impl Rebalance {
@@ -120,19 +129,77 @@ impl Rebalance {
         self.todo.get(0)
     }
 
-    /// The device that is next is asked, and where none is next resources are searched for.
-    pub(crate) fn ask_next(&mut self)
-        ensures { self.new ≡ ask_on self.old self.old.todo }
+    /// What it is: a rebalance, or a change.
+    pub(crate) fn kind(&self) -> OpKind
+        ensures { result ≡ kind_of self.now.wanted }
     {
-        if self.todo.get(0).is_some() {
-            self.stage = Stage::Asking;
-            self.walk = Walk::begin(Minor::QueryStop);
-        } else {
-            self.stage = Stage::Searching;
+        match &self.wanted {
+            Some(_) => OpKind::Change,
+            None => OpKind::Rebalance,
         }
     }
 
-    /// The device that is next is told that it goes on, and where none is next the target gets a problem.
+    /// Whether the target of a change is none of those that agreed. Cost: how many agreed.
+    pub(crate) fn has_refused(&self) -> bool
+        ensures { result ≡ has_refused self.now }
+    {
+        match &self.wanted {
+            Some(_) => !self.agreed.has(self.target),
+            None => false,
+        }
+    }
+
+    /// The device that is next is asked.
+    fn ask_first(&mut self)
+        ensures { self.new ≡ record self.old { stage = Records.RebalanceStage.Asking (walk_of Minor.QueryStop) } }
+    {
+        self.stage = Stage::Asking;
+        self.walk = Walk::begin(Minor::QueryStop);
+    }
+
+    /// These are asked from now on. Where there are none, resources are searched for; but where the target of a change has
+    /// not agreed, all that agreed are told that they go on.
+    pub(crate) fn ask_all(&mut self, alloc: Global, todo: SerialQueue) -> Result<(), WantOfMemory>
+        ensures asks { OnOk result (self.new ≡ ask_on self.old todo) }
+        ensures err { OnErr result (self.new ≡ self.old) }
+    {
+        if todo.get(0).is_some() {
+            self.todo = todo;
+            self.ask_first();
+        } else if self.has_refused() {
+            self.cancel_agreed(alloc)?;
+        } else {
+            self.todo = todo;
+            self.stage = Stage::Searching;
+        }
+        Ok(())
+    }
+
+    /// The device that is next was asked: those after it are asked from now on.
+    pub(crate) fn ask_rest(&mut self, alloc: Global) -> Result<(), WantOfMemory>
+        ensures asks { OnOk result (self.new ≡ ask_on self.old (rest self.old.todo)) }
+        ensures err { OnErr result (self.new ≡ self.old) }
+    {
+        if self.todo.get(1).is_none() {
+            return self.ask_all(alloc, SerialQueue::new(alloc));
+        }
+        self.todo.drop_first();
+        self.ask_first();
+        Ok(())
+    }
+
+    /// What is next when nobody is left to be told that it goes on: the target of a rebalance gets a problem, and a change
+    /// ends.
+    fn cancelled(&self) -> Stage
+        ensures { (w : Records.Walk) → stage_of result w ≡ cancelled self.now.wanted }
+    {
+        match &self.wanted {
+            Some(_) => Stage::Ending,
+            None => Stage::Stuck,
+        }
+    }
+
+    /// The device that is next is told that it goes on, and where none is next the target of a rebalance gets a problem.
     pub(crate) fn cancel_next(&mut self)
         ensures { self.new ≡ cancel_on self.old self.old.todo }
     {
@@ -140,8 +207,18 @@ impl Rebalance {
             self.stage = Stage::Cancelling;
             self.walk = Walk::begin(Minor::CancelStop);
         } else {
-            self.stage = Stage::Stuck;
+            self.stage = self.cancelled();
         }
+    }
+
+    /// All that agreed are told that they go on, the least serial first.
+    pub(crate) fn cancel_agreed(&mut self, alloc: Global) -> Result<(), WantOfMemory>
+        ensures cancels { OnOk result (self.new ≡ cancel_on self.old self.old.agreed) }
+        ensures err { OnErr result (self.new ≡ self.old) }
+    {
+        self.todo = self.agreed.copy(alloc)?;
+        self.cancel_next();
+        Ok(())
     }
 
     /// The device that is next is stopped, and where none is next all get what was found.

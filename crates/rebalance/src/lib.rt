@@ -1,4 +1,5 @@
-//! The rebalance: devices stop, so that one more can have its resources.
+//! The rebalance: devices stop, so that one more can have its resources. The change: they stop, so that one of them can
+//! have what it requires now.
 #![tactic(auto)]
 
 mod above;

@@ -19,7 +19,7 @@ use pnp_labels::Label;
 use std::alloc::Global;
 use trial_journal::Arbiters;
 
-/// A step of a rebalance, with what the machine has to do beside it. This project's own.
+/// A step of a rebalance or of a change, with what the machine has to do beside it. This project's own.
 #[derive(Debug, Drop)]
 pub enum RebalanceStep {
     /// Nothing: the rebalance goes on.
@@ -32,6 +32,8 @@ pub enum RebalanceStep {
     OverUndo(Label),
     /// The rebalance is over, and nothing is done with the target.
     OverDropped(Label),
+    /// The change is over.
+    OverChange(Label),
 }
 
 impl Rebalance {
@@ -65,14 +67,15 @@ impl Rebalance {
         }
     }
 
-    /// The next step of a rebalance that does not wait: a driver is asked, a request ends, resources are searched for or
+    /// The next step of a rebalance or change that does not wait: a driver is asked, a request ends, resources are searched for or
     /// given, a device gets a problem, or the rebalance ends. The step tells the line that is printed and what the machine
-    /// has to do; after the three that begin with `Over` the rebalance is over. Conditions: where the step is one for a
+    /// has to do; after the four that begin with `Over` the rebalance is over. Conditions: where the step is one for a
     /// device, the device that is next is there; the arbiters hold just what is reserved and what devices hold, which is
     /// kept; and the budget, which is the most prefixes that a search may try, is at most 1,000,000. After want of memory
     /// rebalance, tree and rack are as before, and no driver was asked. Cost: the rules of one book, and the logarithm of
     /// the number of nodes; once for each device that refused the number of devices still to ask; for each device that is
-    /// started again or passed over how deep it stands; and once that of `device_holdings::search` and `assign_all`.
+    /// started again or passed over how deep it stands; and once the number of devices that agreed, and that of
+    /// `device_holdings::search_for` and `assign_all`.
     pub fn next<R: Drivers>(
         &mut self,
         alloc: Global,

@@ -1,4 +1,5 @@
-ghost use Rattle.std.specs.Prelude.{◌≡◌, [], ◌∷◌, ◌++◌, reverse, IfOk, IfNone, option_to_list};
+ghost use Rattle.std.specs.Prelude.{◌≡◌, ◌==◌, [], ◌∷◌, ◌++◌, reverse, IfOk, IfNone, option_to_list};
+ghost use Rattle.pnp_model.specs.Keyed.{without_first};
 
 use device_ids::WantOfMemory;
 use operation_frame::SerialQueue;
@@ -26,19 +27,24 @@ pub(crate) fn reversed(alloc: Global, queue: &SerialQueue) -> Result<SerialQueue
     Ok(turned)
 }
 
-/// A device, and then these.
+/// A device, and then these without it.
 pub(crate) fn with_first(
     alloc: Global,
     first: u64,
     queue: &SerialQueue,
 ) -> Result<Vec<u64>, WantOfMemory>
-    ensures { IfOk result (λ all. all.items ≡ first ∷ queue.now) }
+    ensures { IfOk result (λ all. all.items ≡ first ∷ without_first (λ j. j == first) queue.now) }
 {
     let mut left = queue.copy(alloc)?;
     let mut all = Vec::new(alloc);
     all.push(first)?;
+    let mut is_left_out = false;
     'left: while let Some(serial) = take_first(&mut left) {
-        all.push(serial)?;
+        if serial == first && !is_left_out {
+            is_left_out = true;
+        } else {
+            all.push(serial)?;
+        }
     }
     Ok(all)
 }

@@ -29,7 +29,13 @@ fn end(minor: Minor, refused: bool, path: Text, serial: u64, tree: &mut Tree) ->
 
 impl Rebalance {
     /// The device that is next agreed.
-    fn agree(&mut self, serial: u64, path: Text, tree: &mut Tree) -> Result<Label, WantOfMemory>
+    fn agree(
+        &mut self,
+        alloc: Global,
+        serial: u64,
+        path: Text,
+        tree: &mut Tree,
+    ) -> Result<Label, WantOfMemory>
         requires path { PathIs (node_at serial tree.old.nodes) path }
         ensures agreed { IfOk result (λ label. MovesFor Moved (node_at serial tree.old.nodes) (λ c n. end_ask c self.old n false) tree.old.nodes (steps.Did label) tree.new.nodes self.new) }
         ensures whole { StaysWhole tree.old tree.new }
@@ -37,8 +43,10 @@ impl Rebalance {
         ensures tree { OnErr result (tree.new ≡ tree.old) }
     {
         self.agreed.push_front(serial)?;
-        self.todo.drop_first();
-        self.ask_next();
+        if let Err(error) = self.ask_rest(alloc) {
+            self.agreed.drop_first();
+            return Err(error);
+        }
         Ok(end(Minor::QueryStop, false, path, serial, tree))
     }
 
@@ -70,8 +78,8 @@ impl Rebalance {
         ensures rebalance { OnErr result (self.new ≡ self.old) }
         ensures tree { OnErr result (tree.new ≡ tree.old) }
     {
-        self.todo = left_to_ask(alloc, tree, serial, &self.todo)?;
-        self.ask_next();
+        let left = left_to_ask(alloc, tree, serial, &self.todo)?;
+        self.ask_all(alloc, left)?;
         Ok(end(Minor::CancelStop, false, path, serial, tree))
     }
 
@@ -140,7 +148,7 @@ impl Rebalance {
                 if refused {
                     self.refuse(serial, path, tree)
                 } else {
-                    self.agree(serial, path, tree)
+                    self.agree(alloc, serial, path, tree)
                 }
             }
             Stage::TakingBack => self.take_back(alloc, serial, path, tree),

@@ -9,7 +9,7 @@ ghost use Rattle.rebalance.specs.Parts.{Searched, found_label, found_frame};
 use crate::frame::Rebalance;
 use crate::queues::{reversed, with_first};
 use assign_search::{Found, Plan};
-use device_holdings::search;
+use device_holdings::search_for;
 use device_ids::{Text, WantOfMemory};
 use devnode_tree::Tree;
 use pnp_labels::Label;
@@ -17,7 +17,7 @@ use std::alloc::Global;
 use trial_journal::Arbiters;
 
 impl Rebalance {
-    /// The target and all that agreed.
+    /// The target, and then all others that agreed.
     pub(crate) fn movers(&self, alloc: Global) -> Result<Vec<u64>, WantOfMemory>
         ensures { IfOk result (λ all. all.items ≡ movers self.now) }
     {
@@ -40,9 +40,8 @@ impl Rebalance {
         ensures cancels { OnOk result (self.new ≡ cancel_on (record self.old { found = answer_of found }) self.old.agreed) }
         ensures err { OnErr result (self.new ≡ self.old) }
     {
-        self.todo = self.agreed.copy(alloc)?;
+        self.cancel_agreed(alloc)?;
         self.found = found;
-        self.cancel_next();
         Ok(())
     }
 
@@ -68,7 +67,8 @@ impl Rebalance {
         }
     }
 
-    /// Resources are searched for, for the target and all that agreed.
+    /// Resources are searched for, for the target and all others that agreed; the target of a change asks for what it
+    /// wants.
     pub(crate) fn look(
         &mut self,
         alloc: Global,
@@ -84,7 +84,8 @@ impl Rebalance {
     {
         let path = self.path.copy(alloc)?;
         let movers = self.movers(alloc)?;
-        let found = search(alloc, tree, arbiters, &movers, budget)?;
+        let wanted = self.wanted.as_ref();
+        let found = search_for(alloc, tree, arbiters, wanted, &movers, budget)?;
         self.take_found(alloc, found, path)
     }
 }

@@ -1,13 +1,15 @@
 ghost use Rattle.std.specs.Prelude.{◌≡◌, length, map, IfOk, OnOk, OnErr, IsSome};
 ghost use Rattle.assign_search.specs.Fixed.{answer_of};
 ghost use Rattle.pnp_model.specs.Frames.{first_node};
-ghost use Rattle.pnp_model.specs.Rebalances.{trouble_of, end_of, movers, plan_of, committed, stuck, commit_step, failed, close};
+ghost use Rattle.pnp_model.specs.Rebalances.{trouble_of, end_of, has_refused, movers, plan_of, committed, stuck, commit_step, failed, close};
+ghost use Rattle.pnp_model.specs.Rebalances as Rebalances;
 ghost use Rattle.devnode_tree.specs.Identities.{identities};
+ghost use Rattle.device_holdings.specs.Giving.{with_part};
 ghost use Rattle.device_holdings.specs.Mirrors.{IsMirrored, KeepsMirror};
 ghost use Rattle.rebalance.specs.declared.next.RebalanceStep.TheVariants as steps;
 ghost use Rattle.operation_frame.specs.Steps.{MovesFor};
 ghost use Rattle.rebalance.specs.Steps.{Moved};
-ghost use Rattle.rebalance.specs.Parts.{Moves, StaysWhole};
+ghost use Rattle.rebalance.specs.Parts.{Moves, StaysWhole, required};
 
 use crate::above::{pass_over, stands_up};
 use crate::frame::{Rebalance, Stage};
@@ -16,7 +18,8 @@ use assign_search::Found;
 use device_holdings::assign_all;
 use device_ids::{Text, WantOfMemory};
 use devnode_tree::Tree;
-use pnp_labels::{Label, OpEnd, OpKind, Problem};
+use pnp_labels::{Label, OpEnd, Problem};
+use resource_reqs::Reqs;
 use std::alloc::Global;
 use trial_journal::Arbiters;
 
@@ -30,7 +33,7 @@ fn trouble_of(found: &Found) -> Problem
     }
 }
 
-/// How a rebalance ends.
+/// How it ends by what was found.
 fn end_of(found: &Found) -> OpEnd
     ensures { result ≡ end_of (answer_of found.now) }
 {
@@ -38,6 +41,26 @@ fn end_of(found: &Found) -> OpEnd
         Found::Assignment(_) => OpEnd::Moved,
         Found::NoFit => OpEnd::NoFit,
         Found::Spent => OpEnd::Spent,
+    }
+}
+
+/// What is wanted once more.
+fn copied(alloc: Global, wanted: &Option<Reqs>) -> Result<Option<Reqs>, WantOfMemory>
+    ensures { IfOk result (λ copy. copy ≡ wanted.now) }
+{
+    match wanted {
+        Some(reqs) => Ok(Some(reqs.copy(alloc)?)),
+        None => Ok(None),
+    }
+}
+
+/// A device requires from now on what is wanted, if something is.
+fn require(tree: &mut Tree, serial: u64, wanted: Option<Reqs>)
+    ensures required { tree.new ≡ record tree.old { nodes = map (required wanted serial) tree.old.nodes } }
+    ensures mirrors { (arbiters : Arbiters) → KeepsMirror tree.old.nodes arbiters tree.new.nodes arbiters }
+{
+    if let Some(reqs) = wanted {
+        let _ = tree.swap_reqs(serial, reqs);
     }
 }
 
@@ -56,7 +79,27 @@ impl Rebalance {
         Ok(Label::Trouble { path, problem })
     }
 
-    /// The target and all that agreed get what was found, at once; how many they are is told.
+    /// These devices get what was found, all at once.
+    fn give_found(
+        &self,
+        alloc: Global,
+        tree: &mut Tree,
+        arbiters: &mut Arbiters,
+        movers: &[u64],
+    ) -> Result<(), WantOfMemory>
+        requires { IsMirrored tree.old.nodes arbiters.old }
+        ensures given { OnOk result (tree.new ≡ record tree.old { nodes = map (with_part movers.now (plan_of self.now.found)) tree.old.nodes }) }
+        ensures mirrors { KeepsMirror tree.old.nodes arbiters.old tree.new.nodes arbiters.new }
+        ensures tree { OnErr result (tree.new ≡ tree.old) }
+    {
+        match &self.found {
+            Found::Assignment(plan) => assign_all(alloc, tree, arbiters, movers, plan),
+            _ => Ok(()),
+        }
+    }
+
+    /// The target and all others that agreed get what was found, and the target of a change requires what it wants, at
+    /// once; how many they are is told.
     fn give(
         &self,
         alloc: Global,
@@ -65,17 +108,15 @@ impl Rebalance {
     ) -> Result<u64, WantOfMemory>
         requires { IsMirrored tree.old.nodes arbiters.old }
         ensures count { IfOk result (λ count. count ≡ length (movers self.now)) }
-        ensures given { OnOk result (tree.new ≡ record tree.old { nodes = map (committed (movers self.now) (plan_of self.now.found)) tree.old.nodes }) }
+        ensures given { OnOk result (tree.new ≡ record tree.old { nodes = map (committed self.now.wanted self.now.target (movers self.now) (plan_of self.now.found)) tree.old.nodes }) }
         ensures mirrors { KeepsMirror tree.old.nodes arbiters.old tree.new.nodes arbiters.new }
         ensures tree { OnErr result (tree.new ≡ tree.old) }
     {
         let movers = self.movers(alloc)?;
-        let count = movers.len() as u64;
-        let Found::Assignment(plan) = &self.found else {
-            return Ok(count);
-        };
-        assign_all(alloc, tree, arbiters, &movers, plan)?;
-        Ok(count)
+        let wanted = copied(alloc, &self.wanted)?;
+        self.give_found(alloc, tree, arbiters, &movers)?;
+        require(tree, self.target, wanted);
+        Ok(movers.len() as u64)
     }
 
     /// All movers get what was found; then those that stopped are started again, the least serial first.
@@ -124,15 +165,28 @@ impl Rebalance {
         Ok(RebalanceStep::FailedRestart { label, serial })
     }
 
-    /// The rebalance ends.
+    /// How it ends.
+    fn result(&self) -> OpEnd
+        ensures { result ≡ Rebalances.result self.now.found (has_refused self.now) }
+    {
+        if self.has_refused() {
+            return OpEnd::Refused;
+        }
+        end_of(&self.found)
+    }
+
+    /// The rebalance ends, or the change.
     pub(crate) fn close(&self, alloc: Global, tree: &Tree) -> Result<RebalanceStep, WantOfMemory>
         ensures { IfOk result (λ step. Moves (λ c. close c self.now) tree.now.nodes step tree.now.nodes self.now) }
     {
         let label = Label::End {
-            op: OpKind::Rebalance,
+            op: self.kind(),
             path: self.path.copy(alloc)?,
-            result: end_of(&self.found),
+            result: self.result(),
         };
+        if self.wanted.is_some() {
+            return Ok(RebalanceStep::OverChange(label));
+        }
         match &self.found {
             Found::Assignment(_) => {
                 if stands_up(tree, self.target) {

@@ -7,4 +7,4 @@ use Rattle.rebalance.proofs.frame.Rebalance.commit.Goals as goal
 
 pub returns-clause-keeps : goal.returns-clause-keeps
 returns-clause-keeps c =
-    let r = c.args.self.now in ap (λ (t : Tree). identities t.nodes) c.in_ok-movers.ensures.given ∙ commit_keeps (movers r) (plan_of r.found) c.args.tree.now.nodes
+    let r = c.args.self.now in ap (λ (t : Tree). identities t.nodes) c.in_ok-movers.ensures.given ∙ commit_keeps r.wanted r.target (movers r) (plan_of r.found) c.args.tree.now.nodes
