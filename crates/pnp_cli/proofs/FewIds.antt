@@ -13,7 +13,7 @@ use Rattle.script_reader.specs.Numbers.{◌>>=◌, only_if}
 use Rattle.script_reader.specs.Tables.{keyword_of, driver_kind_of, rel_kind_of, minor_of, ok_of}
 use Rattle.script_reader.specs.Wants.{at_most, all_of, group_of, list_of, id_of, ids_of}
 use Rattle.script_reader.specs.Words.{is_name, words_of}
-use Rattle.script_reader.specs.Lines.{event_of, event_by, plug_of, plugged, path_of, name_of, once, hw_of, compat_of, reqs_from, reqs_of, values, is_attribute, uses_by, rule_of, res_of, window_res_of}
+use Rattle.script_reader.specs.Lines.{event_of, event_by, plug_of, plugged, path_of, name_of, once, hw_of, compat_of, reqs_from, reqs_of, values, is_attribute, is_need, uses_by, rule_of, res_of, window_res_of}
 use Rattle.script_reader.specs.Script.{Meaning, nothing, means, bad, event_or_bad, is_comment, meaning_of, whole_line, last_line, Trace, gives, waits, ends, stops, onward, at_end, of_lines, trace}
 use Rattle.resource_reqs.specs.Resources.{AltList, Reqs}
 use Rattle.pnp_laws.specs.Held.{AreWithin}
@@ -172,6 +172,11 @@ few_by words.Complete (path ∷ minor ∷ ok ∷ []) =
 few_by words.Window (path ∷ res ∷ []) =
     few_bind (path_of path) (λ path. window_res_of res >>= (λ res. Some (events.Window path res)))
     (λ path. few_bind (window_res_of res) (λ res. Some (events.Window path res)) (λ res. (tt, tt, tt)))
+few_by words.Change (path ∷ needs) =
+    few_bind (path_of path) (λ path. reqs_of needs >>= (λ reqs. only_if (list_all is_need needs) (events.Change path reqs)))
+    (λ path. few_within (reqs_of needs) (λ reqs. only_if (list_all is_need needs) (events.Change path reqs))
+    (reqs_within (values (codes "reqs=") needs) (values (codes "need=") needs))
+    (λ reqs within. few_if (list_all is_need needs) (events.Change path reqs) (tt, tt, within)))
 few_by _ _ = tt
 
 few_event : (ws : List (List ℕ)) → Few (event_of ws)

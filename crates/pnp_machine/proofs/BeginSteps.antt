@@ -1,19 +1,23 @@
 -- The task that begins an operation, as the machine's step.
-use Rattle.std.proofs.Common.{◌≡◌, ℕ, Bool, true, false, Option, Some, None, refl, sym, ◌∙◌, ap, subst}
+use Rattle.std.proofs.Common.{◌≡◌, ℕ, Bool, true, false, cond, List, Option, Some, None, IsSome, refl, sym, ◌∙◌, ap, subst}
 use Rattle.pnp_labels.specs.declared.label.Label.{Label}
 use Rattle.pnp_labels.specs.declared.label.OpKind.{OpKind}
 use Rattle.pnp_labels.specs.declared.states.DevState.{DevState}
 use Rattle.pnp_labels.specs.declared.states.DevState.TheVariants.{NoStack, NotStarted, Started, StopPending, Stopped, RemovePending, SurpriseRemoved}
 use Rattle.pnp_model.specs.Cores.{node_at}
-use Rattle.pnp_model.specs.Rebalances.{begun_rebalance}
+use Rattle.pnp_model.specs.Rebalances.{begun_rebalance, begun_change}
 use Rattle.pnp_model.specs.Records as machines
-use Rattle.pnp_model.specs.Records.{Node, Rebalance, Removal, Surprise, State}
+use Rattle.pnp_model.specs.Records.{Device, Node, Rebalance, Removal, Surprise, State}
 use Rattle.pnp_model.specs.Records.Duty.{Begins}
 use Rattle.pnp_model.specs.Removals.{begun_removal}
 use Rattle.pnp_model.specs.Surprises.{begun_surprise}
-use Rattle.pnp_model.specs.States.{set_operation, drop_task}
-use Rattle.pnp_model.specs.Tasks.{begin, begin_step, skip, rebalance_task, disable_task}
-use Rattle.pnp_model.specs.Tests.{is_not_started}
+use Rattle.pnp_model.specs.States.{set_operation, drop_task, device_born, let_through}
+use Rattle.pnp_model.specs.Windows.{clip}
+use Rattle.pnp_model.specs.Tasks.{begin, begin_step, change_born, change_task, skip, rebalance_task, disable_task}
+use Rattle.pnp_model.specs.Tests.{is_not_started, is_started}
+use Rattle.resource_reqs.specs.Resources.{Reqs}
+use Rattle.script_bus.proofs.Unplugs.{by_bool}
+use Rattle.pnp_machine.specs.Devices.{Devices, wanted_at, wanted_of}
 use Rattle.pnp_laws.proofs.Lookups.{own_serial}
 use Rattle.rebalance.specs.Begins as rebalances
 use Rattle.query_remove.specs.Begins as removals
@@ -22,11 +26,41 @@ use Rattle.pnp_machine.specs.Machines.{IsDone, DoneFor, begun_with, can_rebalanc
 use Rattle.pnp_machine.specs.declared.operation.Operation.TheVariants as declared
 
 module _ (s t : State) (label line : Label) (own : label ≡ line) where
-  pub rebalance_begun : (r : Rebalance) (o : Option Node) → rebalances.BegunFor o s.core.nodes line r → t ≡ begun_with (declared.Rebalancing r) s
+  pub rebalance_begun : (r : Rebalance) (o : Option Node) → rebalances.BegunFor None o s.core.nodes line r → t ≡ begun_with (declared.Rebalancing r) s
       → DoneFor o (λ n. begin s OpKind.Rebalance n (machines.Operation.Rebalancing (begun_rebalance s.core n))) label t
   rebalance_begun r None h is = absurd h
   rebalance_begun r (Some n) (e, f) is =
       (own ∙ e, is ∙ ap (λ x. set_operation (Some (machines.Operation.Rebalancing x)) (drop_task s)) (f s.core))
+
+  -- what the world's device requires, as it comes through, is what the change wants
+  pub change_begun : (ds : Devices) (wanted : Reqs) (r : Rebalance) (o : Option Node) → ds.world.devices ≡ s.world → ds.tree.nodes ≡ s.core.nodes → ds.windows ≡ s.windows → Some wanted ≡ wanted_at ds o
+      → rebalances.BegunFor (Some wanted) o s.core.nodes line r → t ≡ begun_with (declared.Rebalancing r) s → DoneFor o (λ n. change_task s n n.state) label t
+  change_begun ds wanted r None a b c w h is = absurd h
+  change_begun ds wanted r (Some n) a b c w (e, f) is = by_state n.state refl
+    where
+      told : (d : Device) → device_born n.born s.world ≡ Some d → wanted ≡ let_through n.parent d s → IsDone (change_born s n (device_born n.born s.world)) label t
+      told d at same =
+          subst (λ (x : Option Device). IsDone (change_born s n x) label t) (sym at)
+          (own ∙ e, is ∙ ap (λ x. set_operation (Some (machines.Operation.Rebalancing x)) (drop_task s)) (f s.core ∙ ap (begun_change s.core n) same))
+
+      by_device : (o : Option Device) → device_born n.born ds.world.devices ≡ o → Some wanted ≡ wanted_of ds n o → IsDone (change_born s n (device_born n.born s.world)) label t
+      by_device None at q = absurd (cc)
+      by_device (Some d) at q =
+          told d (ap (device_born n.born) (sym a) ∙ at)
+          ((let same : wanted ≡ clip ds.windows ds.tree.nodes n.parent d.reqs = cc in same) ∙ ap (λ x. clip x ds.tree.nodes n.parent d.reqs) c ∙ ap (λ x. clip s.windows x n.parent d.reqs) b)
+
+      up : (state : DevState) → n.state ≡ state → is_started state ≡ true → IsDone (change_task s n state) label t
+      up Started q h =
+          by_device (device_born n.born ds.world.devices) refl
+          (w ∙ ap (λ x. cond (is_started x) (wanted_of ds n (device_born n.born ds.world.devices)) None) q)
+      up _ q h = absurd (cc)
+
+      by_state : (state : DevState) → n.state ≡ state → IsDone (change_task s n state) label t
+      by_state state q =
+          by_bool (λ b. Some wanted ≡ cond b (wanted_of ds n (device_born n.born ds.world.devices)) None → is_started state ≡ b → IsDone (change_task s n state) label t) (is_started state)
+          (λ e h g. up state q g)
+          (λ e h g. absurd (cc))
+          (w ∙ ap (λ x. cond (is_started x) (wanted_of ds n (device_born n.born ds.world.devices)) None) q) refl
 
   pub removal_begun : (kind : OpKind) (r : Removal) (o : Option Node) → removals.BegunFor o s.core.nodes s.core.relations kind line r → t ≡ begun_with (declared.Removing r) s
       → DoneFor o (λ n. begin s kind n (machines.Operation.Removing (begun_removal s.core kind n))) label t
@@ -72,3 +106,30 @@ module _ (s : State) (k : ℕ) (label : Label) (t : State) where
       by_node (Some n) e b =
           subst (λ (x : Bool). IsDone (disable_task s n x) label t) (sym b)
           (subst (λ i. IsDone (skip (Begins OpKind.Disable) i s) label t) (sym (own_serial k n s.core.nodes e)) h)
+
+  -- a device that is not Started, or in the world no more, is not changed
+  pub not_changed : (ds : Devices) → ds.world.devices ≡ s.world → ds.tree.nodes ≡ s.core.nodes → IsSome (node_at k s.core.nodes) → None ≡ wanted_at ds (node_at k s.core.nodes)
+      → IsDone (skip (Begins OpKind.Change) k s) label t → DoneFor (node_at k s.core.nodes) (λ n. change_task s n n.state) label t
+  not_changed ds a b there w h = by_node (node_at k s.core.nodes) refl there w
+    where
+      by_node : (o : Option Node) → node_at k s.core.nodes ≡ o → IsSome o → None ≡ wanted_at ds o → DoneFor o (λ n. change_task s n n.state) label t
+      by_node None e there w = absurd (cc)
+      by_node (Some n) e there w = by_state n.state refl
+        where
+          skipped : IsDone (skip (Begins OpKind.Change) n.serial s) label t
+          skipped = subst (λ i. IsDone (skip (Begins OpKind.Change) i s) label t) (sym (own_serial k n s.core.nodes e)) h
+
+          by_device : (o : Option Device) → device_born n.born ds.world.devices ≡ o → None ≡ wanted_of ds n o → IsDone (change_born s n o) label t
+          by_device None at q = skipped
+          by_device (Some d) at q = absurd (cc)
+
+          by_state : (state : DevState) → n.state ≡ state → IsDone (change_task s n state) label t
+          by_state NoStack q = skipped
+          by_state NotStarted q = skipped
+          by_state Started q =
+              subst (λ (x : List Device). IsDone (change_born s n (device_born n.born x)) label t) a
+              (by_device (device_born n.born ds.world.devices) refl (w ∙ ap (λ x. cond (is_started x) (wanted_of ds n (device_born n.born ds.world.devices)) None) q))
+          by_state StopPending q = skipped
+          by_state Stopped q = skipped
+          by_state RemovePending q = skipped
+          by_state SurpriseRemoved q = skipped

@@ -1,5 +1,5 @@
 -- What an operator commands, as what happens by the definition.
-use Rattle.std.proofs.Common.{◌≡◌, ℕ, ◌==◌, false, List, [], ◌∷◌, ◌++◌, Option, Some, None, Result, Ok, Err, is_some, refl, sym, ◌∙◌, ap, subst, arith, option_map}
+use Rattle.std.proofs.Common.{◌≡◌, ℕ, ◌==◌, Bool, true, false, IfSome, List, [], ◌∷◌, ◌++◌, Option, Some, None, Result, Ok, Err, is_some, refl, sym, ◌∙◌, ap, subst, arith, option_map}
 use Rattle.std.proofs.lemmas.Bool.Decides.{nat_tests}
 use Rattle.pnp_labels.specs.Texts.{Text, spaced}
 use Rattle.pnp_labels.specs.declared.event.Event.{Event}
@@ -9,10 +9,13 @@ use Rattle.pnp_labels.specs.declared.label.OpKind.{OpKind}
 use Rattle.pnp_labels.specs.declared.label.Reason.{Reason}
 use Rattle.pnp_labels.specs.declared.words.RelKind.{RelKind}
 use Rattle.pnp_model.specs.Cores.{node_at, path_of, serials_of}
-use Rattle.pnp_model.specs.Events.{happens, disable_at, disable_below, disable_enabled, eject_at, eject_below, relate_at, relate_idle, relate_two, refused}
-use Rattle.pnp_model.specs.Records.{Driver, Activity, Operation, State, Step, Task, Duty}
+use Rattle.pnp_model.specs.Events.{change_at, change_below, change_there, change_up, happens, disable_at, disable_below, disable_enabled, eject_at, eject_below, relate_at, relate_idle, relate_two, refused}
+use Rattle.pnp_model.specs.Machine.{is_born}
+use Rattle.pnp_model.specs.Records.{Node, Driver, Activity, Operation, State, Step, Task, Duty}
 use Rattle.pnp_model.specs.States.{node_of}
-use Rattle.pnp_model.specs.Tests.{has_same}
+use Rattle.pnp_model.specs.Tests.{has_same, is_started}
+use Rattle.resource_reqs.specs.Resources.{Reqs}
+use Rattle.script_bus.specs.Worlds.{changed}
 use Rattle.devnode_tree.specs.Trees.{Ascends}
 use Rattle.relations.specs.Relating.{Relates, RelatesFor}
 use Rattle.relations.specs.declared.error.RelateError.{RelateError}
@@ -72,6 +75,53 @@ module _ (ds : Devices) (rack : List Driver) (paths : List Text) (works : List A
         done_of (Event.Eject path) (Label.Did EventWord.Eject what) t (eject_below s n.node false)
         (ap (eject_at s) n.found ∙ ap (eject_below s n.node) (not_root n.node.serial k n.own up))
         (ap (Label.Did EventWord.Eject) (spelled ∙ path_is path k n), more_is (Duty.Begins OpKind.Eject) more)
+
+  -- A device requires something else --------------------------------------------------------
+
+  module _ (reqs : Reqs) (path : Text) (k : ℕ) (found : Some k ≡ option_map (λ n. n.serial) (node_of path ds.tree.nodes)) where
+    m : FoundAt path k ds.tree.nodes
+    m = here path k found
+
+    abbrev Changed : Label → State → Type 0
+    Changed label t = IsDone (happens s0 (Event.Change path reqs)) label t
+
+    -- the step, by whether the device is in the world
+    there : (b : Bool) → b ≡ is_born ds.world.devices (node_at k ds.tree.nodes) → happens s (Event.Change path reqs) ≡ change_there s reqs m.node b
+    there b e = ap (change_at s reqs) m.found ∙ ap (change_there s reqs m.node) (sym (ap (is_born ds.world.devices) m.at) ∙ sym e)
+
+    pub change_absent : false ≡ is_born ds.world.devices (node_at k ds.tree.nodes) → Changed (Label.Refused EventWord.Change Reason.NoDevice) s0
+    change_absent e = done_of (Event.Change path reqs) (Label.Refused EventWord.Change Reason.NoDevice) s0 (refused EventWord.Change Reason.NoDevice s) (there false e) (refl, sym is)
+
+    module _ (e : true ≡ is_born ds.world.devices (node_at k ds.tree.nodes)) where
+      pub change_of_root : k ≡ 0 → Changed (Label.Refused EventWord.Change Reason.RootStays) s0
+      change_of_root z =
+          let root : (m.node.serial == 0) ≡ true = (let own = m.own in grind (arith, nat_tests)) in
+          done_of (Event.Change path reqs) (Label.Refused EventWord.Change Reason.RootStays) s0 (refused EventWord.Change Reason.RootStays s) (there true e ∙ ap (change_below s reqs m.node) root) (refl, sym is)
+
+      module _ (up : k ≡ 0 → ⊥) (x : Node) (at : Some x ≡ node_at k ds.tree.nodes) where
+        same_node : x ≡ m.node
+        same_node = let own = m.at in cc
+
+        started : (b : Bool) → is_started x.state ≡ b → happens s (Event.Change path reqs) ≡ change_up s reqs m.node b
+        started b h =
+            there true e ∙ ap (change_below s reqs m.node) (not_root m.node.serial k m.own up)
+            ∙ ap (change_up s reqs m.node) (sym (ap (λ (y : Node). is_started y.state) same_node) ∙ h)
+
+        pub change_down : is_started x.state ≡ false → Changed (Label.Refused EventWord.Change Reason.NotStarted) s0
+        change_down h = done_of (Event.Change path reqs) (Label.Refused EventWord.Change Reason.NotStarted) s0 (refused EventWord.Change Reason.NotStarted s) (started false h) (refl, sym is)
+
+        pub changes : (ds' : Devices) (tasks' : List Task) (what : Text) → is_started x.state ≡ true → what ≡ path_of (node_at k s0.core.nodes)
+            → IfSome (node_at k ds.tree.nodes) (λ n. ds' ≡ record ds { world = changed n.born reqs ds.world }) → tasks' ≡ tasks ++ record { kind = Duty.Begins OpKind.Change; serial = k } ∷ []
+            → Changed (Label.Did EventWord.Change what) (state_of ds' rack paths works operation tasks')
+        changes ds' tasks' what h spelled now more =
+            let own : ds' ≡ record ds { world = changed m.node.born reqs ds.world } =
+            subst (λ (o : Option Node). IfSome o (λ n. ds' ≡ record ds { world = changed n.born reqs ds.world })) m.at now in
+            done_of (Event.Change path reqs) (Label.Did EventWord.Change what) (state_of ds' rack paths works operation tasks') (change_up s reqs m.node true) (started true h)
+            (
+              ap (Label.Did EventWord.Change) (spelled ∙ path_is path k m),
+              ap (λ d. state_of d rack paths works operation tasks') own
+              ∙ ap (state_of (record ds { world = changed m.node.born reqs ds.world }) rack paths works operation) (more ∙ ap (λ i. tasks ++ record { kind = Duty.Begins OpKind.Change; serial = i } ∷ []) (sym m.own)),
+            )
 
   -- Two devices are related ------------------------------------------------------------------
 

@@ -168,7 +168,7 @@ begun_fresh c disabled kind node set h =
     (record { kind = kind; target = node.serial; path = node.path; set = set; ejecting = ejecting c set; todo = []; agreed = []; refuser = None; stage = RemovalStage.Ending }) _ h
 
 -- a disable begins where the path is not disabled
-begins_fresh : (s : State) (kind : OpKind) (node : Node) → node_at node.serial s.core.nodes ≡ Some node → BeginsFor s kind node → FreshWhile (Some (begun s.core kind node)) s.core.nodes s.disabled
+begins_fresh : (s : State) (kind : OpKind) (node : Node) → node_at node.serial s.core.nodes ≡ Some node → BeginsFor s kind node → FreshWhile (Some (begun s kind node)) s.core.nodes s.disabled
 begins_fresh s OpKind.Disable node at fits =
     begun_fresh s.core s.disabled OpKind.Disable node (leaving s.core node.serial)
     (λ e m there. ap (λ (x : Node). has_same x.path s.disabled) (some_same (node_at node.serial s.core.nodes) m node there at) ∙ fits)

@@ -1,25 +1,26 @@
 -- What a state of a run gives to each step.
-use Rattle.std.proofs.Common.{Contains, ℕ, suc, ◌<◌, ◌≡◌, ◌≢◌, inl, inr, true, false, List, [], ◌∷◌, ◌++◌, map, Option, Some, None, IsSome, refl, sym, ap, ◌∙◌, subst, arith, add-one}
+use Rattle.std.proofs.lemmas.Bool.Decides.{nat_tests}
+use Rattle.std.proofs.Common.{Contains, ℕ, ◌==◌, Bool, cond, suc, ◌<◌, ◌≡◌, ◌≢◌, inl, inr, true, false, List, [], ◌∷◌, ◌++◌, map, Option, Some, None, IsSome, refl, sym, ap, ◌∙◌, subst, arith, add-one}
 use Rattle.resource_reqs.specs.Resources.{Res, Reqs, Whole}
 use Rattle.pnp_labels.specs.declared.label.Label.{Label}
 use Rattle.pnp_labels.specs.declared.states.DevState.{DevState}
 use Rattle.pnp_labels.specs.declared.states.DevState.TheVariants.{NotStarted}
 use Rattle.pnp_model.specs.Keyed.{changed_first}
-use Rattle.pnp_model.specs.Records.{Node, Core, Driver, Activity, Phase, State, Step, Settings, Operation, Removal, Surprise, Doing}
+use Rattle.pnp_model.specs.Records.{Node, Core, Driver, Activity, Phase, State, Step, Settings, Operation, Rebalance, Removal, Surprise, Doing}
 use Rattle.pnp_model.specs.Records.Phase.{Adding, Searching, Starting, Removing, Due}
 use Rattle.pnp_model.specs.Cores.{is_node, node_at, bare, forget, serials_of}
 use Rattle.pnp_model.specs.Laws.{Reaches, is_up_to_now}
 use Rattle.pnp_model.specs.Machine.{is_waiting, next, next_of, operation_next, operation_walk}
-use Rattle.pnp_model.specs.Rebalances.{committed, movers, plan_of}
+use Rattle.pnp_model.specs.Rebalances.{reqs_after}
 use Rattle.pnp_model.specs.Runs.{Entry, Goes, printed}
 use Rattle.pnp_model.specs.States.{activity_at}
-use Rattle.pnp_laws.specs.Kept.{Alone, Ascending, Fits, is_idle}
+use Rattle.pnp_laws.specs.Kept.{Alone, Ascending, Fits, IsGood, OperationFits, RebalanceKeeps, TargetFits, is_idle}
 use Rattle.pnp_laws.specs.Quiet.{RestsWith}
 use Rattle.pnp_laws.specs.Reached.{IsReached}
 use Rattle.pnp_laws.specs.Effects.{NodeEffect}
 use Rattle.pnp_laws.proofs.EffectViews.{Origin, origin}
 use Rattle.pnp_laws.proofs.EffectsOf.{effect_goes}
-use Rattle.pnp_laws.proofs.Lookups.{joined_from, left_from, map_from, node_from}
+use Rattle.pnp_laws.proofs.Lookups.{joined_from, left_from, map_from, node_from, own_serial}
 use Rattle.pnp_laws.proofs.Reached.{reached_is_good}
 use Rattle.pnp_laws.proofs.Reaching.{kept}
 use Rattle.pnp_laws.proofs.Runs.{root_is}
@@ -40,22 +41,35 @@ use Rattle.pnp_machine.proofs.Related.{related_up, no_relations}
 abbrev pub RootNeedsNothing : List Node → Type 0
 RootNeedsNothing nodes = (n : Node) → node_at 0 nodes ≡ Some n → n.reqs ≡ []
 
-needs_from : (s : State) (label : Label) (t : State) (m : Node) → 0 < s.next_serial → RootNeedsNothing s.core.nodes → Origin s label t 0 m → m.reqs ≡ []
-needs_from s label t _ begun h (Origin.was n at) = h n at
-needs_from s label t _ begun h (Origin.walked n minor w bad at request other ends verdict prints) = h n at
-needs_from s label t _ begun h (Origin.troubled n problem at) = h n at
-needs_from s label t _ begun h (Origin.stacks n d ds name at acts prints) = h n at
-needs_from s label t _ begun h (Origin.assigned n phase plan at acts search part now) = h n at
-needs_from s label t _ begun h (Origin.stripped n w at request prints) = h n at
-needs_from s label t _ begun h (Origin.commits r n runs is at) = h n at
+-- a change is not of the root
+not_changed : (wanted : Option Reqs) (target : ℕ) (n : Node) → target ≢ 0 → n.serial ≡ 0 → reqs_after wanted target n ≡ n.reqs
+not_changed None target n up own = refl
+not_changed (Some wanted) target n up own =
+    let apart : (n.serial == target) ≡ false = grind (arith, nat_tests, up) in
+    ap (λ (b : Bool). cond b wanted n.reqs) apart
+
+needs_committed : (r : Rebalance) (n : Node) (nodes : List Node) (wanted : Option Reqs) → r.wanted ≡ wanted → TargetFits wanted r.target nodes → node_at 0 nodes ≡ Some n → reqs_after r.wanted r.target n ≡ n.reqs
+needs_committed r n nodes None e fits at = ap (λ w. reqs_after w r.target n) e
+needs_committed r n nodes (Some wanted) e fits at = not_changed r.wanted r.target n fits.3 (own_serial 0 n nodes at)
+
+needs_from : (s : State) (label : Label) (t : State) (m : Node) → IsGood s → RootNeedsNothing s.core.nodes → Origin s label t 0 m → m.reqs ≡ []
+needs_from s label t _ good h (Origin.was n at) = h n at
+needs_from s label t _ good h (Origin.walked n minor w bad at request other ends verdict prints) = h n at
+needs_from s label t _ good h (Origin.troubled n problem at) = h n at
+needs_from s label t _ good h (Origin.stacks n d ds name at acts prints) = h n at
+needs_from s label t _ good h (Origin.assigned n phase plan at acts search part now) = h n at
+needs_from s label t _ good h (Origin.stripped n w at request prints) = h n at
+needs_from s label t _ good h (Origin.commits r n runs is at) =
+    let fits : RebalanceKeeps r r.stage s.core.nodes = subst (λ (o : Option Operation). OperationFits o s.core.nodes) runs good.fits in
+    needs_committed r n s.core.nodes r.wanted refl fits.waits at ∙ h n at
 -- what joins is not the root
-needs_from s label t _ begun h (Origin.joins node d below gone own) = absurd (omega arith)
+needs_from s label t _ good h (Origin.joins node d below gone own) = absurd (let begun = good.begun in omega arith)
 
 goes_needs : (settings : Settings) (rack : List Driver) (old : State) (entry : Entry) (new : State) → IsReached settings rack old → RootNeedsNothing old.core.nodes → Goes settings old entry new
     → RootNeedsNothing new.core.nodes
 goes_needs settings rack old entry new reached h goes =
     let good = reached_is_good settings rack old reached in
-    λ m at. needs_from old (printed entry) new m good.begun h (origin old (printed entry) new good.serials 0 m (effect_goes settings old entry new goes).nodes at)
+    λ m at. needs_from old (printed entry) new m good h (origin old (printed entry) new good.serials 0 m (effect_goes settings old entry new goes).nodes at)
 
 -- a device that needs nothing holds nothing where it holds one whole alternative
 nothing_held : (reqs : Reqs) (holds : List Res) → reqs ≡ [] → Whole reqs holds → holds ≡ []

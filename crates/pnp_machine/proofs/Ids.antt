@@ -7,7 +7,7 @@ use Rattle.pnp_model.specs.Records.{Device, Node, Core, Driver, State, Step, Set
 use Rattle.pnp_model.specs.Cores.{is_node, node_at, bare}
 use Rattle.pnp_model.specs.Rebalances.{committed, movers, plan_of}
 use Rattle.pnp_model.specs.Runs.{Entry, Goes, opening, printed}
-use Rattle.pnp_model.specs.States.{new_child, without_those}
+use Rattle.pnp_model.specs.States.{new_child, requires, without_those}
 use Rattle.pnp_model.specs.Tasks.{joins}
 use Rattle.pnp_model.specs.Tests.{has}
 use Rattle.pnp_laws.specs.Effects.{NodeEffect, WorldEffect}
@@ -79,7 +79,7 @@ few_nodes s label t (NodeEffect.changed j f alters a b) h =
 few_nodes s label t (NodeEffect.stripped node w at request ends prints a b) h =
     from_nodes t.core _ a (changed_have IsFewNode (is_node node.serial) bare (λ n few. record { hw = few.hw; compat = few.compat }) s.core.nodes h.0)
 few_nodes s label t (NodeEffect.commits r runs is a b) h =
-    from_nodes t.core _ a (mapped_have IsFewNode (committed (movers r) (plan_of r.found)) (λ n few. record { hw = few.hw; compat = few.compat }) s.core.nodes h.0)
+    from_nodes t.core _ a (mapped_have IsFewNode (committed r.wanted r.target (movers r) (plan_of r.found)) (λ n few. record { hw = few.hw; compat = few.compat }) s.core.nodes h.0)
 few_nodes s label t (NodeEffect.joins node d none at up there is) h =
     let few = found_has IsFewDevice (joins node.born s.core.nodes) s.world d h.1 there in
     subst (λ (x : Step). AllByRecursion IsFewNode x.state.core.nodes) (sym is)
@@ -92,6 +92,9 @@ few_world s entry t (WorldEffect.same e born) few h = subst (AllByRecursion IsFe
 few_world s entry t (WorldEffect.plugged d plug e born) few h =
     let ids = subst (λ (x : Entry). IsFewEntry x) plug.event few in
     subst (AllByRecursion IsFewDevice) (sym e) (one_more_has IsFewDevice d (record { hw = ids.0; compat = ids.1 }) s.world h)
+few_world s entry t (WorldEffect.changed node path reqs label at other up there event e next) few h =
+    subst (AllByRecursion IsFewDevice) (sym e)
+    (changed_have IsFewDevice (λ d. d.born == node.born) (requires reqs) (λ d few. record { hw = few.hw; compat = few.compat }) s.world h)
 few_world s entry t (WorldEffect.unplugged born why e next) few h = subst (AllByRecursion IsFewDevice) (sym e) (fewer_have IsFewDevice (born ∷ []) s.world h)
 
 pub few_opening : (rack : List Driver) → AreFewIds (opening rack)

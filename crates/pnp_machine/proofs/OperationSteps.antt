@@ -172,6 +172,7 @@ running (rebalances.FailedRestart label serial) o = Some o
 running (rebalances.OverStart label) o = None
 running (rebalances.OverUndo label) o = None
 running (rebalances.OverDropped label) o = None
+running (rebalances.OverChange label) o = None
 
 running_is : (step : RebalanceStep) (r : Rebalance) → running step (Operation.Rebalancing r) ≡ moved.operation_after step r
 running_is (rebalances.Did label) r = refl
@@ -179,6 +180,7 @@ running_is (rebalances.FailedRestart label serial) r = refl
 running_is (rebalances.OverStart label) r = refl
 running_is (rebalances.OverUndo label) r = refl
 running_is (rebalances.OverDropped label) r = refl
+running_is (rebalances.OverChange label) r = refl
 
 module _ (infs : List Inf) (budget : ℕ) (ds ds' : Devices) (rack rack' : List Driver) (disabled : List Text) (works : List Activity) (tasks : List Task) (step : RebalanceStep) (k : ℕ) where
   pub rebalanced_moves : (o o' : Operation) (s : State) (works' : List Activity) (operation' : Option Operation) (tasks' : List Task) → state_of ds rack disabled works (Some o) tasks ≡ s

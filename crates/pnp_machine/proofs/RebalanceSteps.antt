@@ -28,6 +28,7 @@ label_of (steps.FailedRestart label serial) = label
 label_of (steps.OverStart label) = label
 label_of (steps.OverUndo label) = label
 label_of (steps.OverDropped label) = label
+label_of (steps.OverChange label) = label
 
 -- what runs after it, which starts there are, and which tasks
 abbrev pub operation_after : RebalanceStep → Rebalance → Option Operation
@@ -36,6 +37,7 @@ operation_after (steps.FailedRestart label serial) r = Some (Operation.Rebalanci
 operation_after (steps.OverStart label) r = None
 operation_after (steps.OverUndo label) r = None
 operation_after (steps.OverDropped label) r = None
+operation_after (steps.OverChange label) r = None
 
 abbrev pub works_after : RebalanceStep → ℕ → List Activity → List Activity
 works_after (steps.Did label) k works = works
@@ -43,6 +45,7 @@ works_after (steps.FailedRestart label serial) k works = works
 works_after (steps.OverStart label) k works = entered (record { serial = k; phase = Starting (walk_of Minor.Start) }) works
 works_after (steps.OverUndo label) k works = entered (record { serial = k; phase = Removing (walk_of Minor.Remove) }) works
 works_after (steps.OverDropped label) k works = works
+works_after (steps.OverChange label) k works = works
 
 abbrev pub tasks_after : RebalanceStep → List Task → List Task
 tasks_after (steps.Did label) tasks = tasks
@@ -50,6 +53,7 @@ tasks_after (steps.FailedRestart label serial) tasks = record { kind = Duty.Begi
 tasks_after (steps.OverStart label) tasks = tasks
 tasks_after (steps.OverUndo label) tasks = tasks
 tasks_after (steps.OverDropped label) tasks = tasks
+tasks_after (steps.OverChange label) tasks = tasks
 
 module _ (ds ds' : Devices) (rack rack' : List Driver) (disabled : List Text) (works : List Activity) (tasks : List Task) (r r' : Rebalance)
     (stays : ds' ≡ with_nodes ds ds'.tree.nodes) where
@@ -97,6 +101,8 @@ module _ (ds ds' : Devices) (rack rack' : List Driver) (disabled : List Text) (w
       (after_is m RebalanceBeside.OverUndo (λ x. entered (record { serial = x.target; phase = Removing (walk_of Minor.Remove) }) works) (λ x. None) tasks (λ c f. refl) (λ c f. refl) c f)
   by_step (steps.OverDropped label) m (b, l, c, f) =
       lifted_is m RebalanceBeside.OverDropped label _ b l (after_is m RebalanceBeside.OverDropped (λ x. works) (λ x. None) tasks (λ c f. refl) (λ c f. refl) c f)
+  by_step (steps.OverChange label) m (b, l, c, f) =
+      lifted_is m RebalanceBeside.OverChange label _ b l (after_is m RebalanceBeside.OverChange (λ x. works) (λ x. None) tasks (λ c f. refl) (λ c f. refl) c f)
 
   module _ (infs : List Inf) (budget : ℕ) (step : RebalanceStep) where
     by_move : (x : Option (Doing RebalanceMove)) → rebalances.MovedBy budget x step c' r'

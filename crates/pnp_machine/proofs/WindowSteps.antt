@@ -1,7 +1,8 @@
 -- A bridge gets a window, as what happens by the definition.
 use Rattle.std.proofs.Common.{◌≡◌, ◌↔◌, ℕ, ◌==◌, Bool, true, false, not, ◌||◌, cond, IsTrue, Result, Ok, Err, arith, List, [], ◌∷◌, ◌++◌, length, Option, Some, None, refl, sym, ◌∙◌, ap, subst, option_map}
 use Rattle.std.specs.List.{list_any}
-use Rattle.std.specs.Result.{IsErrOf}
+use Rattle.std.specs.Result.{IsErrOf, OnOk, OnErr, IfOk}
+use Rattle.std.specs.declared.alloc.AllocError.{AllocError}
 use Rattle.std.proofs.lemmas.Bool.Decides.{nat_tests}
 use Rattle.resource_reqs.specs.Resources.{Res}
 use Rattle.pnp_labels.specs.Texts.{Text, spaced, res_text}
@@ -17,8 +18,8 @@ use Rattle.devnode_tree.specs.Entries.{child_serials}
 use Rattle.script_bus.proofs.Places.{some_those}
 use Rattle.script_bus.proofs.Unplugs.{by_bool}
 use Rattle.bridge_windows.specs.declared.error.WindowError.{WindowError}
-use Rattle.bridge_windows.specs.declared.error.WindowError.TheVariants.{SameWindow}
-use Rattle.pnp_machine.specs.Devices.{Devices, has_any_below, serial_born, window_refusal, with_window}
+use Rattle.bridge_windows.specs.declared.error.WindowError.TheVariants.{SameWindow, WantOfMemory}
+use Rattle.pnp_machine.specs.Devices.{Devices, has_any_below, serial_born, window_refusal, with_window, IsTold}
 use Rattle.pnp_machine.specs.Machines.{state_of, IsDone}
 
 -- who is refused a window keeps what there is
@@ -181,6 +182,38 @@ module _ (ds : Devices) (res : Res) where
             }
 
 -- a window that was set was not there
-pub not_there : (there : Bool) → IsErrOf {T = Unit {0}} {E = WindowError} (Ok tt) SameWindow ↔ IsTrue there → there ≡ false
+not_there : (there : Bool) → IsErrOf {T = Unit {0}} {E = WindowError} (Ok tt) SameWindow ↔ IsTrue there → there ≡ false
 not_there true h = absurd (let e = h.1 refl in cc)
 not_there false h = refl
+
+-- where only the windows of the device may refuse it
+module _ (ds : Devices) (res : Res) (born : ℕ) (up : born ≡ 0 → ⊥) (alone : has_any_below ds born ≡ false) (o : Option Device) (found : Some born ≡ option_map (λ d. d.born) o) (windows : List Window) where
+  pub bridged_told : (set : Result (Unit {0}) WindowError) (r : Result (Option Reason) AllocError) → IsTold set r → OnOk set (windows ≡ ds.windows ++ record { born = born; res = res } ∷ [])
+      → IsErrOf set SameWindow ↔ IsTrue (list_any (is_window_on res.kind (born ∷ [])) ds.windows) → OnErr set (windows ≡ ds.windows) → IfOk r (λ refused. Bridged ds res o refused (record ds { windows = windows }))
+  bridged_told (Ok done) (Ok refused) tells put same stays =
+      subst (λ x. Bridged ds res o x (record ds { windows = windows })) (sym tells)
+      (bridged_set ds res born up alone o found (not_there (list_any (is_window_on res.kind (born ∷ [])) ds.windows) same) windows put)
+  bridged_told (Ok done) (Err want) tells put same stays = tt
+  bridged_told (Err SameWindow) (Ok refused) tells put same stays =
+      subst (λ x. Bridged ds res o x (record ds { windows = windows })) (sym tells)
+      (subst (λ (ws : List Window). Bridged ds res o (Some Reason.SameWindow) (record ds { windows = ws })) (sym stays) (bridged_same ds res born up alone o found (same.0 refl)))
+  bridged_told (Err SameWindow) (Err want) tells put same stays = tt
+  bridged_told (Err WantOfMemory) (Ok refused) tells put same stays = absurd tells
+  bridged_told (Err WantOfMemory) (Err want) tells put same stays = tt
+
+  pub stays_told : (set : Result (Unit {0}) WindowError) (r : Result (Option Reason) AllocError) → IsTold set r → OnErr set (windows ≡ ds.windows) → OnErr r (record ds { windows = windows } ≡ ds)
+  stays_told (Ok done) (Ok refused) tells stays = tt
+  stays_told (Ok done) (Err want) tells stays = absurd tells
+  stays_told (Err SameWindow) (Ok refused) tells stays = tt
+  stays_told (Err SameWindow) (Err want) tells stays = absurd tells
+  stays_told (Err WantOfMemory) (Ok refused) tells stays = absurd tells
+  stays_told (Err WantOfMemory) (Err want) tells stays = ap (λ (ws : List Window). record ds { windows = ws }) stays
+
+-- the two parts of what is told
+pub why_told : (ds : Devices) (res : Res) (o : Option Device) (ds' : Devices) (r : Result (Option Reason) AllocError) → IfOk r (λ refused. Bridged ds res o refused ds') → IfOk r (λ refused. refused ≡ window_refusal ds res o)
+why_told ds res o ds' (Ok refused) h = h.why
+why_told ds res o ds' (Err want) h = tt
+
+pub after_told : (ds : Devices) (res : Res) (o : Option Device) (ds' : Devices) (r : Result (Option Reason) AllocError) → IfOk r (λ refused. Bridged ds res o refused ds') → IfOk r (λ refused. ds' ≡ with_window ds res o refused)
+after_told ds res o ds' (Ok refused) h = h.after
+after_told ds res o ds' (Err want) h = tt

@@ -5,7 +5,8 @@ use Rattle.pnp_labels.specs.Texts.{Text}
 use Rattle.pnp_model.specs.Cores.{new_node, node_at}
 use Rattle.pnp_model.specs.Records.{Device, Node, Relation, Task, Window}
 use Rattle.pnp_model.specs.Runs.{root_device, root_node}
-use Rattle.pnp_model.specs.States.{is_in_world, has_below, device_of, node_born}
+use Rattle.pnp_model.specs.States.{is_in_world, has_below, device_born, device_of, node_born}
+use Rattle.pnp_model.specs.Tests.{is_started}
 use Rattle.pnp_model.specs.Tasks.{joins, joining, is_surprise_of}
 use Rattle.pnp_model.specs.Trees.{children, is_child}
 use Rattle.pnp_model.specs.Windows.{clip, is_window_on}
@@ -15,6 +16,9 @@ use Rattle.resource_reqs.specs.Resources.{Res, Reqs}
 use Rattle.script_bus.specs.Worlds.{World, plugged, without_device}
 use Rattle.script_bus.specs.declared.error.PlugError.{PlugError}
 use Rattle.script_bus.specs.declared.error.PlugError.TheVariants.{NoParent, SameId, WorldFull, WantOfMemory}
+use Rattle.bridge_windows.specs.declared.error.WindowError.{WindowError}
+use Rattle.bridge_windows.specs.declared.error.WindowError.TheVariants as windows
+use Rattle.std.specs.declared.alloc.AllocError.{AllocError}
 use Rattle.script_bus.specs.declared.error.PullError.{PullError}
 use Rattle.script_bus.specs.declared.error.PullError.TheVariants as pulls
 use Rattle.pnp_labels.specs.declared.label.Reason.{Reason}
@@ -128,6 +132,16 @@ is_gone_at ds tasks k = is_gone_node ds.world.devices tasks (node_at k ds.tree.n
 abbrev pub has_any_below : Devices → ℕ → Bool
 has_any_below ds born = has_below born ds.world.devices || has_children ds.tree.nodes (node_born born ds.tree.nodes)
 
+-- what the device of a node requires in the world now, as far as it comes through to the node; None: it is in the world no more
+abbrev pub wanted_of : Devices → Node → Option Device → Option Reqs
+wanted_of ds n None = None
+wanted_of ds n (Some d) = Some (clip ds.windows ds.tree.nodes n.parent d.reqs)
+
+-- the same where the device is Started
+abbrev pub wanted_at : Devices → Option Node → Option Reqs
+wanted_at ds None = None
+wanted_at ds (Some n) = if is_started n.state then wanted_of ds n (device_born n.born ds.world.devices) else None
+
 -- why a device gets no window of this range; None: it gets it
 abbrev pub window_refusal : Devices → Res → Option Device → Option Reason
 window_refusal ds res None = Some Reason.NoDevice
@@ -141,3 +155,10 @@ window_refusal ds res (Some d) =
 abbrev pub with_window : Devices → Res → Option Device → Option Reason → Devices
 with_window ds res (Some d) None = record ds { windows = ds.windows ++ record { born = d.born; res = res } ∷ [] }
 with_window ds res device refused = ds
+
+-- what is told where all but the windows of the device allows it: that it has one of the kind, or that it was set
+abbrev pub IsTold : Result (Unit {0}) WindowError → Result (Option Reason) AllocError → Type 0
+IsTold (Ok done) (Ok refused) = refused ≡ None
+IsTold (Err windows.SameWindow) (Ok refused) = refused ≡ Some Reason.SameWindow
+IsTold (Err windows.WantOfMemory) (Err want) = Unit {0}
+IsTold _ _ = ⊥

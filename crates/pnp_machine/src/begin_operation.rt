@@ -5,7 +5,7 @@ ghost use Rattle.pnp_model.specs.Records.Duty.{Begins};
 ghost use Rattle.pnp_model.specs.Records as machines;
 ghost use Rattle.pnp_model.specs.Removals.{begun_removal};
 ghost use Rattle.pnp_model.specs.Surprises.{begun_surprise};
-ghost use Rattle.pnp_model.specs.Tasks.{begin, begin_step, skip};
+ghost use Rattle.pnp_model.specs.Tasks.{begin, begin_step, change_task, skip};
 ghost use Rattle.pnp_model.specs.Tests.{operation_word};
 ghost use Rattle.pnp_machine.specs.Machines.{IsDone, DoneFor, can_rebalance, begun_with};
 
@@ -24,6 +24,7 @@ fn word_of(kind: OpKind) -> TaskKind
         OpKind::Disable => TaskKind::Disable,
         OpKind::Eject => TaskKind::Eject,
         OpKind::Surprise => TaskKind::Surprise,
+        OpKind::Change => TaskKind::Change,
     }
 }
 
@@ -87,6 +88,19 @@ impl<R: Drivers> Machine<R> {
         Ok(self.run(label, Operation::Surprising(surprise)))
     }
 
+    /// The change of a device begins, or there is nothing to do: the device is not Started, or in the world no more.
+    fn begin_change(&mut self, serial: u64) -> Result<Label, WantOfMemory>
+        requires { IsSome (node_at serial self.old.core.nodes) }
+        ensures done { IfOk result (λ label. DoneFor (node_at serial self.old.core.nodes) (λ n. change_task self.old n n.state) label self.new) }
+        ensures err { OnErr result (self.new ≡ self.old) }
+    {
+        let Some(wanted) = self.devices.wanted(self.alloc, serial)? else {
+            return Ok(self.skip_begin(OpKind::Change, serial));
+        };
+        let (label, change) = self.devices.begin_change(self.alloc, serial, wanted)?;
+        Ok(self.run(label, Operation::Rebalancing(change)))
+    }
+
     /// The task that begins an operation: it begins, or there is nothing to do. Condition: no device is being started.
     /// After want of memory all is as before.
     pub(crate) fn begin(&mut self, kind: OpKind, serial: u64) -> Result<Label, WantOfMemory>
@@ -103,6 +117,7 @@ impl<R: Drivers> Machine<R> {
             OpKind::Disable if self.is_disabled(serial) => Ok(self.skip_begin(kind, serial)),
             OpKind::Disable | OpKind::Eject => self.begin_removal(kind, serial),
             OpKind::Surprise => self.begin_surprise(serial),
+            OpKind::Change => self.begin_change(serial),
         }
     }
 }

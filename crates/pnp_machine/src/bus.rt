@@ -7,7 +7,7 @@ ghost use Rattle.pnp_model.specs.Cores.{node_at};
 ghost use Rattle.pnp_model.specs.Windows.{clip};
 ghost use Rattle.pnp_model.specs.States.{device_of};
 ghost use Rattle.script_bus.specs.Worlds.{without_device};
-ghost use Rattle.pnp_machine.specs.Devices.{Arrives, Departs, JoinedFor, joins_next, serial_born, relisted, gone_below, has_any_below, is_gone_at, window_refusal, with_window, IsHere};
+ghost use Rattle.pnp_machine.specs.Devices.{Arrives, Departs, JoinedFor, joins_next, serial_born, relisted, gone_below, has_any_below, is_gone_at, window_refusal, with_window, IsHere, IsTold};
 
 use crate::devices::Devices;
 use crate::tasks::Tasks;
@@ -45,6 +45,17 @@ fn only_memory(error: JoinError) -> WantOfMemory
     match error {
         JoinError::WantOfMemory => AllocError,
         JoinError::NoParent | JoinError::SamePath => unreachable!(),
+    }
+}
+
+/// Whether a window was refused because the device has one of the kind, or was set.
+fn told(set: Result<(), WindowError>) -> Result<Option<Reason>, WantOfMemory>
+    ensures { IsTold set result }
+{
+    match set {
+        Ok(()) => Ok(None),
+        Err(WindowError::SameWindow) => Ok(Some(Reason::SameWindow)),
+        Err(WindowError::WantOfMemory) => Err(AllocError),
     }
 }
 
@@ -149,11 +160,8 @@ impl Devices {
         if self.has_any_below(born) {
             return Ok(Some(Reason::HasChildren));
         }
-        match self.bridges.set(born, res) {
-            Ok(()) => Ok(None),
-            Err(WindowError::SameWindow) => Ok(Some(Reason::SameWindow)),
-            Err(WindowError::WantOfMemory) => Err(AllocError),
-        }
+        let set = self.bridges.set(born, res);
+        told(set)
     }
 
     /// Where the world has another device of a path than the one with the birth number, the node of its parent. Cost: the

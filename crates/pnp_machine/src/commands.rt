@@ -7,6 +7,7 @@ ghost use Rattle.devnode_tree.specs.Trees.{Ascends};
 ghost use Rattle.pnp_machine.specs.Machines.{IsDone};
 
 use crate::events::refusal;
+use crate::listing::is_started;
 use crate::machine::Machine;
 use crate::tasks::Duty;
 use device_ids::{InstancePath, Text, WantOfMemory};
@@ -14,7 +15,7 @@ use driver_rack::Drivers;
 use pnp_labels::spaced::two;
 use pnp_labels::{EventWord, Label, OpKind, Reason, RelKind, res_text};
 use relations::RelateError;
-use resource_reqs::Res;
+use resource_reqs::{Reqs, Res};
 use std::alloc::AllocError;
 
 impl<R: Drivers> Machine<R> {
@@ -73,6 +74,35 @@ impl<R: Drivers> Machine<R> {
         let what = self.own_path(serial)?;
         self.tasks.make_room()?;
         self.tasks.append(Duty::Begin(OpKind::Eject), serial);
+        Ok(Label::Did { word, what })
+    }
+
+    /// A device that runs requires something else from now on.
+    pub(crate) fn change(
+        &mut self,
+        path: &InstancePath,
+        reqs: Reqs,
+    ) -> Result<Label, WantOfMemory>
+        ensures done { IfOk result (λ label. IsDone (happens self.old (Event.Change path.now reqs)) label self.new) }
+        ensures err { OnErr result (self.new ≡ self.old) }
+    {
+        let word = EventWord::Change;
+        let Some(serial) = self.devices.tree().find(path) else {
+            return Ok(refusal(word, Reason::NoDevice));
+        };
+        if !self.devices.is_in_world(serial) {
+            return Ok(refusal(word, Reason::NoDevice));
+        }
+        if serial == 0 {
+            return Ok(refusal(word, Reason::RootStays));
+        }
+        if !is_started(self.devices.tree().at(serial).state) {
+            return Ok(refusal(word, Reason::NotStarted));
+        }
+        let what = self.own_path(serial)?;
+        self.tasks.make_room()?;
+        self.devices.require(serial, reqs);
+        self.tasks.append(Duty::Begin(OpKind::Change), serial);
         Ok(Label::Did { word, what })
     }
 

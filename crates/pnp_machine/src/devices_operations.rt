@@ -1,4 +1,4 @@
-ghost use Rattle.std.specs.Prelude.{◌≡◌, ◌≤◌, ℕ, IfOk, IfSome, OnErr, IsSome, Bool, false, length};
+ghost use Rattle.std.specs.Prelude.{◌≡◌, ◌≤◌, ℕ, IfOk, IfSome, OnErr, IsSome, Some, None, Bool, false, length};
 ghost use Rattle.devnode_tree.specs.Trees.{IsTree};
 ghost use Rattle.pnp_model.specs.Cores.{node_at};
 ghost use Rattle.pnp_model.specs.Machine.{phase_walk, rebalance_walk, removal_walk, surprise_walk, is_waiting, is_born};
@@ -19,6 +19,7 @@ use inf_reader::Inf;
 use pnp_labels::{Label, OpKind, RemoveStep};
 use query_remove::Removal;
 use rebalance::{Rebalance, RebalanceStep};
+use resource_reqs::Reqs;
 use start_sequence::{StartStep, StartWork};
 use std::alloc::Global;
 use surprise_remove::Surprise;
@@ -71,9 +72,22 @@ impl Devices {
         serial: u64,
     ) -> Result<(Label, Rebalance), WantOfMemory>
         requires { IsSome (node_at serial self.now.tree.nodes) }
-        ensures { IfOk result (λ begun. rebalanced.BegunFor (node_at serial self.now.tree.nodes) self.now.tree.nodes begun.0 begun.1) }
+        ensures { IfOk result (λ begun. rebalanced.BegunFor None (node_at serial self.now.tree.nodes) self.now.tree.nodes begun.0 begun.1) }
     {
         Rebalance::begin(alloc, &self.tree, serial)
+    }
+
+    /// The change of a device begins, as `Rebalance::begin_change` says.
+    pub(crate) fn begin_change(
+        &self,
+        alloc: Global,
+        serial: u64,
+        wanted: Reqs,
+    ) -> Result<(Label, Rebalance), WantOfMemory>
+        requires { IsSome (node_at serial self.now.tree.nodes) }
+        ensures { IfOk result (λ begun. rebalanced.BegunFor (Some wanted) (node_at serial self.now.tree.nodes) self.now.tree.nodes begun.0 begun.1) }
+    {
+        Rebalance::begin_change(alloc, &self.tree, serial, wanted)
     }
 
     /// The next step of a rebalance, as `Rebalance::next` says.

@@ -182,6 +182,7 @@ impl<R: Drivers> Machine<R> {
             Event::Reserve { res } => self.reserve(res),
             Event::Complete { path, minor, ok } => self.complete(&path, minor, ok),
             Event::Window { path, res } => self.window(&path, res),
+            Event::Change { path, reqs } => self.change(&path, reqs),
         }
     }
 }

@@ -3,6 +3,7 @@
 
 mod begin_operation;
 mod bus;
+mod changes;
 mod commands;
 mod devices;
 mod devices_operations;

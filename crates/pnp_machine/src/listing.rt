@@ -14,7 +14,7 @@ use driver_rack::Drivers;
 use pnp_labels::{DevState, Label, OpKind, TaskKind};
 
 /// Whether a device is up.
-fn is_started(state: DevState) -> bool
+pub(crate) fn is_started(state: DevState) -> bool
     ensures { result ≡ is_started state }
 {
     matches!(state, DevState::Started)

@@ -14,11 +14,11 @@ fn groups_are_few(reqs: &Reqs)
     }
 }
 
-/// The same of a device that an event plugs.
+/// The same of what an event says that a device requires.
 pub(crate) fn needs_are_few(event: &Event)
     ensures { IsEventWithin 16 event.now }
 {
-    if let Event::Plug { reqs, .. } = event {
+    if let Event::Plug { reqs, .. } | Event::Change { reqs, .. } = event {
         groups_are_few(reqs);
     }
 }

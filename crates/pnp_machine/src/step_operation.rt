@@ -132,7 +132,7 @@ impl<R: Drivers> Machine<R> {
         ))
     }
 
-    /// The next step of the rebalance that runs.
+    /// The next step of the rebalance, or the change, that runs.
     fn rebalance(&mut self, budget: u64) -> Result<Label, WantOfMemory>
         requires run { IsOfRun self.old }
         requires turn { IsTurn turns.Operate self.old }
@@ -165,6 +165,10 @@ impl<R: Drivers> Machine<R> {
                 Ok(label)
             }
             RebalanceStep::OverDropped(label) => {
+                self.operation = None;
+                Ok(label)
+            }
+            RebalanceStep::OverChange(label) => {
                 self.operation = None;
                 Ok(label)
             }

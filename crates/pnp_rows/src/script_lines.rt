@@ -516,10 +516,56 @@ const WINDOWS: [(&[u8], &[u8]); 26] = [
     (b"windows OWN\\DEV\\B port:0-7", b"bad "),
 ];
 
-/// The tables; those of what a device needs, of bus numbers and of windows apart, since a constant has at most 10,000 parts.
+const CHANGES: [(&[u8], &[u8]); 22] = [
+    (b"change A\\B\\1", b"Change A\\B\\1 "),
+    (b"change a\\b\\1 need=irq:5", b"Change a\\b\\1 list group Irq 5-5 1 1 false "),
+    (
+        b"change HTREE\\ROOT\\0 need=irq:5 need=port:0-7/8@8;irq:3|irq:4:shared",
+        b"Change HTREE\\ROOT\\0 list group Irq 5-5 1 1 false list group Port 0-7 8 8 false group Irq 3-3 1 1 false Irq 4-4 1 1 true ",
+    ),
+    (
+        b"change A\\B\\1 reqs=480000000000000000000000000000000000000000000000000000000100000001000100010000000002010000000000050000000500000000000000000000000000000000000000",
+        b"Change A\\B\\1 list group Irq 5-5 1 1 false ",
+    ),
+    (b"\tchange  A\\B\\1\tneed=bus:0-255/4 ", b"Change A\\B\\1 list group Bus 0-255 4 1 false "),
+    (
+        b"change A\\B\\1 need=irq:1 need=irq:1 need=irq:1 need=irq:1 need=irq:1 need=irq:1 need=irq:1 need=irq:1",
+        b"Change A\\B\\1 list group Irq 1-1 1 1 false list group Irq 1-1 1 1 false list group Irq 1-1 1 1 false list group Irq 1-1 1 1 false list group Irq 1-1 1 1 false list group Irq 1-1 1 1 false list group Irq 1-1 1 1 false list group Irq 1-1 1 1 false ",
+    ),
+    (
+        b"change A\\B\\1 need=irq:1 need=irq:1 need=irq:1 need=irq:1 need=irq:1 need=irq:1 need=irq:1 need=irq:1 need=irq:1",
+        b"bad ",
+    ),
+    (b"change", b"bad "),
+    (b"change A\\B", b"bad "),
+    (b"change * need=irq:5", b"bad "),
+    (b"change A\\B\\1 irq:5", b"bad "),
+    (b"change A\\B\\1 hw=A\\B", b"bad "),
+    (b"change A\\B\\1 compat=A\\B", b"bad "),
+    (b"change A\\B\\1 need=irq:5 hw=A\\B", b"bad "),
+    (b"change A\\B\\1 need=bus:256", b"bad "),
+    (b"change A\\B\\1 need=", b"bad "),
+    (
+        b"change A\\B\\1 reqs=480000000000000000000000000000000000000000000000000000000100000001000100010000000002010000000000050000000500000000000000000000000000000000000000 need=irq:5",
+        b"bad ",
+    ),
+    (
+        b"change A\\B\\1 reqs=480000000000000000000000000000000000000000000000000000000100000001000100010000000002010000000000050000000500000000000000000000000000000000000000 reqs=480000000000000000000000000000000000000000000000000000000100000001000100010000000002010000000000050000000500000000000000000000000000000000000000",
+        b"bad ",
+    ),
+    (
+        b"change A\\B\\1 reqs=4800000000000000000000000000000000000000000000000000000001000000010001000100000000020100000000000500000005000000000000000000000000000000000000",
+        b"bad ",
+    ),
+    (b"change A\\B\\1 A\\B\\2", b"bad "),
+    (b"Change A\\B\\1", b"bad "),
+    (b"changes A\\B\\1", b"bad "),
+];
+
+/// The tables; those of what a device needs, of bus numbers, of windows and of changes apart, since a constant has at most 10,000 parts.
 const LINES: [&[(&[u8], &[u8])]; 4] = [&DRIVERS, &OTHERS, &LESSONS, &RELATIONS];
 
-const RANGES: [&[(&[u8], &[u8])]; 4] = [&PLUGS, &WANTS, &BUSES, &WINDOWS];
+const RANGES: [&[(&[u8], &[u8])]; 5] = [&PLUGS, &WANTS, &BUSES, &WINDOWS, &CHANGES];
 
 #[test]
 fn lines(rt: HostRuntime) -> Result<(), Fail> {

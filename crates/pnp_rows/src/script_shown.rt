@@ -128,6 +128,10 @@ pub fn shown(alloc: Global, event: &Event) -> Result<Vec<u8>, AllocError> {
             put_words(&mut text, &[b"Window", path.bytes()])?;
             put_res(alloc, &mut text, res)?;
         }
+        Event::Change { path, reqs } => {
+            put_words(&mut text, &[b"Change", path.bytes()])?;
+            put_reqs(alloc, &mut text, reqs)?;
+        }
         _ => put_operation(&mut text, event)?,
     }
     Ok(text)

@@ -36,8 +36,12 @@ value_at name word = only_if (bytes_eq (take (length name) word) name) (drop (le
 abbrev pub values : List ℕ → List (List ℕ) → List (List ℕ)
 values name words = filter_map (value_at name) words
 
+-- it says what the device requires
+abbrev pub is_need : List ℕ → Bool
+is_need word = is_some (value_at (codes "need=") word) || is_some (value_at (codes "reqs=") word)
+
 abbrev pub is_attribute : List ℕ → Bool
-is_attribute word = is_some (value_at (codes "hw=") word) || is_some (value_at (codes "compat=") word) || is_some (value_at (codes "need=") word) || is_some (value_at (codes "reqs=") word)
+is_attribute word = is_some (value_at (codes "hw=") word) || is_some (value_at (codes "compat=") word) || is_need word
 
 -- what the one value is, or this where there is none
 abbrev pub once : {A : Type 0} → (List ℕ → Option A) → A → List (List ℕ) → Option A
@@ -78,6 +82,14 @@ plug_of (parent ∷ device ∷ instance ∷ attributes) = do
   path ← path_of (joined device instance)
   plugged parent device path attributes
 plug_of _ = None
+
+-- what the device of a path requires from now on
+abbrev pub change_of : List (List ℕ) → Option Event
+change_of (path ∷ needs) = do
+  path ← path_of path
+  reqs ← reqs_of needs
+  only_if (list_all is_need needs) (events.Change path reqs)
+change_of _ = None
 
 abbrev pub pull_of : List (List ℕ) → Option Event
 pull_of (path ∷ []) = do
@@ -214,6 +226,7 @@ event_by EventWord.Relate words = relate_of words
 event_by EventWord.Reserve words = reserve_of words
 event_by EventWord.Complete words = complete_of words
 event_by EventWord.Window words = window_of words
+event_by EventWord.Change words = change_of words
 
 -- the event of a line's words, its keyword and the words after it
 abbrev pub event_of : List (List ℕ) → Option Event

@@ -28,7 +28,8 @@ keyword_of word = among (
     (codes "relate", EventWord.Relate) ∷
     (codes "reserve", EventWord.Reserve) ∷
     (codes "complete", EventWord.Complete) ∷
-    (codes "window", EventWord.Window) ∷ []) word
+    (codes "window", EventWord.Window) ∷
+    (codes "change", EventWord.Change) ∷ []) word
 
 abbrev pub driver_kind_of : List ℕ → Option DriverKind
 driver_kind_of word = among (

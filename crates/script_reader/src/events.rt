@@ -7,7 +7,7 @@ use crate::lines::{
     complete_of, disable_of, driver_of, eject_of, enable_of, pull_of, relate_of, reserve_of,
     teach_of, window_of,
 };
-use crate::plug::plug_of;
+use crate::plug::{change_of, plug_of};
 use crate::tables::keyword_of;
 use pnp_labels::{Event, EventWord};
 use std::alloc::Global;
@@ -28,6 +28,7 @@ fn event_by(alloc: Global, keyword: EventWord, words: &[&[u8]]) -> Result<Event,
         EventWord::Reserve => reserve_of(words),
         EventWord::Complete => complete_of(alloc, words),
         EventWord::Window => window_of(alloc, words),
+        EventWord::Change => change_of(alloc, words),
     }
 }
 

@@ -3,7 +3,7 @@ ghost use Rattle.std.specs.Option.{option_map};
 ghost use Rattle.std.specs.List.{list_all};
 ghost use Rattle.script_reader.specs.Faults.{Gives};
 ghost use Rattle.script_reader.specs.Wants.{all_of, at_most, list_of, ids_of};
-ghost use Rattle.script_reader.specs.Lines.{value_at, values, is_attribute, hw_of, compat_of, reqs_from, reqs_of, plugged, plug_of};
+ghost use Rattle.script_reader.specs.Lines.{value_at, values, is_need, is_attribute, hw_of, compat_of, reqs_from, reqs_of, plugged, plug_of, change_of};
 
 use crate::bytes::reqs_by_bytes;
 use crate::fault::LineError;
@@ -34,6 +34,19 @@ fn values<'a>(alloc: Global, name: &[u8], words: &[&'a [u8]]) -> Result<Vec<&'a 
     Ok(found)
 }
 
+/// Whether the word says what the device requires.
+fn is_need(word: &[u8]) -> bool
+    ensures { result ≡ is_need word.now }
+{
+    if let Some(_) = value_at(b"need=", word) {
+        return true;
+    }
+    match value_at(b"reqs=", word) {
+        Some(_) => true,
+        None => false,
+    }
+}
+
 /// Whether the word is an attribute of `plug`.
 fn is_attribute(word: &[u8]) -> bool
     ensures { result ≡ is_attribute word.now }
@@ -44,13 +57,19 @@ fn is_attribute(word: &[u8]) -> bool
     if let Some(_) = value_at(b"compat=", word) {
         return true;
     }
-    if let Some(_) = value_at(b"need=", word) {
-        return true;
+    is_need(word)
+}
+
+/// Whether each word says what the device requires.
+fn are_needs(words: &[&[u8]]) -> bool
+    ensures { result ≡ list_all is_need (map (λ w. w.now) words.now) }
+{
+    for word in words {
+        if !is_need(word) {
+            return false;
+        }
     }
-    match value_at(b"reqs=", word) {
-        Some(_) => true,
-        None => false,
-    }
+    true
 }
 
 /// Whether each word is an attribute of `plug`.
@@ -169,4 +188,19 @@ pub fn plug_of(alloc: Global, words: &[&[u8]]) -> Result<Event, LineError>
     let instance = id_of(alloc, instance)?;
     let path = InstancePath::join(alloc, &device, &instance)?;
     plugged(alloc, parent, &device, path, attributes)
+}
+
+/// `change PATH` and what the device requires from now on.
+pub fn change_of(alloc: Global, words: &[&[u8]]) -> Result<Event, LineError>
+    ensures { Gives result (change_of (map (λ w. w.now) words.now)) }
+{
+    let [path, needs @ ..] = words else {
+        return Err(LineError::Bad);
+    };
+    let path = path_of(alloc, path)?;
+    let reqs = reqs_of(alloc, needs)?;
+    if !are_needs(needs) {
+        return Err(LineError::Bad);
+    }
+    Ok(Event::Change { path, reqs })
 }

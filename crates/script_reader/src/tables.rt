@@ -4,7 +4,7 @@ ghost use Rattle.script_reader.specs.Tables.{among, keyword_of, driver_kind_of, 
 use pnp_labels::{Answer, AskWhat, DriverKind, EventWord, Minor, RelKind};
 use resource_reqs::Kind;
 
-const KEYWORDS: [(&[u8], EventWord); 11] = [
+const KEYWORDS: [(&[u8], EventWord); 12] = [
     (b"plug", EventWord::Plug),
     (b"pull", EventWord::Pull),
     (b"driver", EventWord::Name),
@@ -16,6 +16,7 @@ const KEYWORDS: [(&[u8], EventWord); 11] = [
     (b"reserve", EventWord::Reserve),
     (b"complete", EventWord::Complete),
     (b"window", EventWord::Window),
+    (b"change", EventWord::Change),
 ];
 
 const DRIVER_KINDS: [(&[u8], DriverKind); 3] = [

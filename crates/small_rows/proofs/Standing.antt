@@ -1,5 +1,5 @@
 -- Which places stand in a chain once a value was put in, and when it is gone through.
-use Rattle.std.proofs.Common.{◌≡◌, ℕ, zero, suc, Bool, true, false, ◌<◌, cond, eqb, List, [], ◌∷◌, length, map, Option, Some, None, Contains, IfSome, get_or, set, refl, sym, subst, arith}
+use Rattle.std.proofs.Common.{◌≡◌, ℕ, zero, suc, Bool, true, false, cond, eqb, List, [], ◌∷◌, length, Option, Some, None, Contains, IfSome, get_or, set, refl, sym, subst, arith}
 use Rattle.node_pool.specs.Chains.{Chains, Stands, chain, places, first_of, after_of, inserted_behind, inserted}
 use Rattle.node_pool.specs.Places.{place_number}
 use Rattle.node_pool.specs.declared.pool.Place.{Place}
@@ -73,11 +73,7 @@ module _ {T : Type 0} where
       let new = the_chain u.chains w.chains (inserted (place_number at) v (chain u 0)) one e in
       (omega (arith, new.0), subst (λ (l : List (ℕ × T)). Contains (places l) p.node) (sym new.1) (still_behind (place_number at) v (chain u 0) p.node is.1))
 
-  -- the places that the chain is gone through by
-  pub first_in : (at : Option Place) (u : Chains T) → length u.chains ≡ 1 → IfSome at (λ p. first_of (chain u 0) ≡ Some p.node) → IfSome at (λ p. Stands u 0 p.node)
-  first_in None u one is = is
-  first_in (Some p) u one is = (omega (arith, one), stands_first (chain u 0) p.node is)
-
+  -- the place that comes after one
   pub next_in : (at : Option Place) (u : Chains T) (k : ℕ) → length u.chains ≡ 1 → IfSome at (λ p. after_of k (chain u 0) ≡ Some p.node) → IfSome at (λ p. Stands u 0 p.node)
   next_in None u k one is = is
   next_in (Some p) u k one is = (omega (arith, one), stands_after (chain u 0) k p.node is)

@@ -97,3 +97,16 @@ returns-in-OverDropped-clause-done g c = λ infs.
     rebalanced_moves infs c.args.budget s.devices c.rebalance.new.devices rack later s.disabled.paths s.starts.works s.tasks.tasks (steps.OverDropped c.in-OverDropped.label) c.target-target.result o o2 c.args.self.now
     c.make_room.new.self.works None c.make_room-2.new.self.tasks is c.requires.turn (subst B c.in-OverDropped.is c.in_ok-step.ensures.rebalances) c.target-target.ensures
     c.in_ok-make_room.ensures.same refl c.in_ok-make_room-2.ensures.tasks
+
+pub returns-in-OverChange-clause-done : goal.returns-in-OverChange-clause-done
+returns-in-OverChange-clause-done g c = λ infs.
+    let s = c.self.inside in
+    let rack = g.R.Drivers.rows s.rack in
+    let later = g.R.Drivers.rows c.rebalance.new.rack in
+    let o = operation_of c.in-Some.operation in
+    let o2 = operation_of c.rebalance.new.self in
+    let is = ap (λ x. state_of s.devices rack s.disabled.paths s.starts.works (option_map operation_of x) s.tasks.tasks) (sym c.in-Some.is) ∙ c.self.view_is in
+    let B : RebalanceStep → Type 0 = λ x. RebalancesBy c.args.budget s.devices rack o x c.rebalance.new.devices later o2 in
+    rebalanced_moves infs c.args.budget s.devices c.rebalance.new.devices rack later s.disabled.paths s.starts.works s.tasks.tasks (steps.OverChange c.in-OverChange.label) c.target-target.result o o2 c.args.self.now
+    c.make_room.new.self.works None c.make_room-2.new.self.tasks is c.requires.turn (subst B c.in-OverChange.is c.in_ok-step.ensures.rebalances) c.target-target.ensures
+    c.in_ok-make_room.ensures.same refl c.in_ok-make_room-2.ensures.tasks
