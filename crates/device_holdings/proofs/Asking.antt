@@ -1,5 +1,5 @@
 -- What movers ask for, one after another.
-use Rattle.std.proofs.Common.{◌≡◌, ℕ, List, [], ◌∷◌, ◌++◌, map, Option, None, refl, ap}
+use Rattle.std.proofs.Common.{◌≡◌, ℕ, List, [], ◌∷◌, ◌++◌, Option, None, refl, ap}
 use Rattle.std.proofs.lemmas.List.{map-append}
 use Rattle.resource_reqs.specs.Resources.{Reqs}
 use Rattle.pnp_model.specs.Cores.{node_at}

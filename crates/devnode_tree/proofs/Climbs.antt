@@ -44,6 +44,7 @@ module _ (t : Tree) (tree : IsTree t) where
     where
       found : HasParent (serials_of t.nodes) n × (n.serial ≡ k)
       found = all_at (HasParent (serials_of t.nodes)) k t.nodes n tree.parents at
+
       by : HasParent (serials_of t.nodes) n → (n.parent < k) × ((p : Node) × (node_at n.parent t.nodes ≡ Some p))
       by (inl z) = absurd (up (sym found.1 ∙ z))
       by (inr (low, there)) = (subst (λ i. n.parent < i) found.1 low, there_at n.parent t.nodes there)

@@ -1,5 +1,5 @@
 -- The changes of a node that leave its identity.
-use Rattle.std.proofs.Common.{◌≡◌, ℕ, List, [], Option, refl}
+use Rattle.std.proofs.Common.{◌≡◌, ℕ, List, Option, refl}
 use Rattle.pnp_labels.specs.declared.states.DevState.{DevState}
 use Rattle.pnp_labels.specs.declared.states.Problem.{Problem}
 use Rattle.resource_reqs.specs.Resources.{Res, Reqs}

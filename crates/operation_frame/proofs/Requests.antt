@@ -1,5 +1,5 @@
 -- What is known of the device that is next, and of its request, where a step of an operation is put together.
-use Rattle.std.proofs.Common.{◌≡◌, ℕ, Bool, List, [], Option, Some, None, IfSome, IfOk, Result, Ok, Err, OnErr, slice_get, refl, sym, ap, ◌∙◌, subst}
+use Rattle.std.proofs.Common.{◌≡◌, ℕ, Bool, List, [], Option, Some, None, IfSome, IfOk, Result, Ok, Err, OnErr, slice_get, sym, ap, ◌∙◌, subst}
 use Rattle.pnp_labels.specs.Texts.{Text}
 use Rattle.pnp_model.specs.Cores.{core_of, node_at, set_rack}
 use Rattle.pnp_model.specs.Frames.{first_node}
@@ -8,7 +8,7 @@ use Rattle.pnp_laws.proofs.Lookups.{own_serial}
 use Rattle.devnode_tree.specs.Trees.{CanLeave}
 use Rattle.operation_frame.specs.Nodes.{PathIs, HoldsNothing, IsStripped}
 use Rattle.operation_frame.specs.Walks.{WalksFor}
-use Rattle.operation_frame.specs.declared.walking.Walked.TheVariants.{On, Ended}
+use Rattle.operation_frame.specs.declared.walking.Walked.TheVariants.{Ended}
 use Rattle.operation_frame.proofs.Queues.{first_is}
 
 pub on_err : {T E : Type 0} (P : Type 0) (r : Result T E) → P → OnErr r P

@@ -1,7 +1,6 @@
 -- The steps without a request are those of the machine.
-use Rattle.std.proofs.Common.{◌≡◌, ℕ, ◌≤◌, Bool, true, false, List, [], ◌∷◌, length, map, drop, reverse, slice_get, Option, Some, None, is_some, IfOk, Result, Ok, Err, refl, sym, ap, ◌∙◌, subst}
+use Rattle.std.proofs.Common.{◌≡◌, ℕ, true, false, List, [], length, map, reverse, slice_get, Option, Some, None, is_some, IfOk, Result, Ok, Err, refl, sym, ap, ◌∙◌, subst}
 use Rattle.resource_reqs.specs.Resources.{Res, Reqs}
-use Rattle.resource_reqs.specs.Spelling.{IsAnswer}
 use Rattle.resource_reqs.specs.Spelling.Answer.{assignment, no_fit, spent}
 use Rattle.pnp_labels.specs.Texts.{Text}
 use Rattle.pnp_labels.specs.declared.label.Label.{Label}
@@ -13,14 +12,12 @@ use Rattle.pnp_model.specs.Trees.{stands_up}
 use Rattle.pnp_model.specs.Records as Records
 use Rattle.pnp_model.specs.Records.{Node, Core, Driver, Doing, Found, Rebalance}
 use Rattle.pnp_model.specs.Records.Doing.{Does, Searches}
-use Rattle.pnp_model.specs.Rebalances.{RebalanceMove, RebalanceBeside, moves, rebalance_step, rebalanced, movers, plan_of, committed, startable, restart_from, restart_on, stuck, trouble_of, commit_step, failed, close, result, has_refused, kind_of, over, moved_on, searched, group_problem, stop_on, cancel_on}
-use Rattle.pnp_laws.proofs.Lookups.{own_serial}
+use Rattle.pnp_model.specs.Rebalances.{RebalanceMove, RebalanceBeside, moves, rebalance_step, movers, plan_of, committed, startable, restart_from, restart_on, stuck, trouble_of, commit_step, failed, close, result, has_refused, kind_of, over, moved_on, searched, stop_on}
 use Rattle.devnode_tree.specs.Cores.{at_nodes}
 use Rattle.trial_journal.specs.ByKind.{Arbiters}
 use Rattle.assign_search.specs.Fixed.{answer_of}
 use Rattle.assign_search.specs.declared.plan.Found.{Found as Answer}
 use Rattle.assign_search.specs.declared.plan.Found.TheVariants.{Assignment, NoFit, Spent}
-use Rattle.device_holdings.specs.Mirrors.{Mirrors}
 use Rattle.device_holdings.specs.Answers.{asked_for, AnswersTo}
 use Rattle.operation_frame.specs.Steps.{MovesFor}
 use Rattle.operation_frame.proofs.Queues.{first_is}

@@ -1,5 +1,5 @@
 -- A rebalance or a change begins as the machine has it.
-use Rattle.std.proofs.Common.{◌≡◌, ℕ, List, [], ◌∷◌, reverse, Option, Some, None, refl, sym, ap, ◌∙◌, subst}
+use Rattle.std.proofs.Common.{◌≡◌, ℕ, List, [], reverse, Option, Some, ap, ◌∙◌, subst}
 use Rattle.resource_reqs.specs.Resources.{Reqs}
 use Rattle.resource_reqs.specs.Spelling.Answer.{no_fit}
 use Rattle.pnp_labels.specs.Texts.{Text}

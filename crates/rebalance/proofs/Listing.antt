@@ -1,5 +1,5 @@
 -- All nodes are printed: so the devices that are asked are found among those.
-use Rattle.std.proofs.Common.{◌≡◌, ◌≢◌, ℕ, zero, suc, ◌==◌, ◌+◌, ◌<◌, ◌≤◌, ◌⊎◌, inl, inr, Bool, true, false, not, ◌&&◌, ◌||◌, cond, List, [], ◌∷◌, ◌++◌, map, take, reverse, slice_get, Option, Some, None, nat_lt, IsTrue, refl, sym, ap, ◌∙◌, subst, arith}
+use Rattle.std.proofs.Common.{◌≡◌, ◌≢◌, ℕ, zero, suc, ◌==◌, ◌+◌, ◌<◌, ◌≤◌, ◌⊎◌, inl, inr, Bool, true, false, ◌&&◌, ◌||◌, cond, List, [], ◌∷◌, ◌++◌, map, Option, Some, None, nat_lt, refl, sym, ap, ◌∙◌, subst, arith}
 use Rattle.std.specs.BTreeSet.{insert_key}
 use Rattle.std.specs.Ordering.{nat_cmp, match_ordering}
 use Rattle.std.specs.declared.cmp.Ordering.{Ordering}
@@ -9,7 +9,7 @@ use Rattle.pnp_model.specs.Cores.{node_at, serials_of}
 use Rattle.pnp_model.specs.Keyed.{those}
 use Rattle.pnp_model.specs.Records.{Node}
 use Rattle.pnp_model.specs.Tests.{has}
-use Rattle.pnp_model.specs.Trees.{is_child, children}
+use Rattle.pnp_model.specs.Trees.{is_child}
 use Rattle.pnp_model.specs.Endings.{Placed, print_order}
 use Rattle.pnp_model.specs.Rebalances.{is_asked}
 use Rattle.pnp_laws.specs.Kept.{Ascending}

@@ -1,5 +1,5 @@
 -- The ends of requests are moves of the machine.
-use Rattle.std.proofs.Common.{◌≡◌, ℕ, Bool, true, false, List, [], ◌∷◌, drop, is_some, slice_get, Option, Some, None, IfOk, Result, Ok, Err, refl, sym, ap, ◌∙◌, subst}
+use Rattle.std.proofs.Common.{◌≡◌, ℕ, Bool, true, false, List, [], ◌∷◌, drop, is_some, slice_get, Option, Some, refl, sym, ap, ◌∙◌, subst}
 use Rattle.pnp_labels.specs.Texts.{Text}
 use Rattle.pnp_labels.specs.declared.label.Label.{Label}
 use Rattle.pnp_labels.specs.declared.words.Minor.{Minor}
@@ -10,7 +10,7 @@ use Rattle.pnp_model.specs.Cores.{is_node, node_at, with_state, set_state}
 use Rattle.pnp_model.specs.Frames.{rest, state_label, ended}
 use Rattle.pnp_model.specs.Records as Records
 use Rattle.pnp_model.specs.Records.{Node, Core, Walk, Found, Rebalance}
-use Rattle.pnp_model.specs.Rebalances.{RebalanceMove, RebalanceBeside, moves, ask_on, cancel_on, search_on, has_refused, stop_on, startable, restart_from, restart_on, is_not_above, end_ask, take_back, cancel_step, stop_step, end_restart, close}
+use Rattle.pnp_model.specs.Rebalances.{RebalanceMove, RebalanceBeside, moves, ask_on, cancel_on, search_on, has_refused, stop_on, startable, restart_from, restart_on, is_not_above, end_ask, take_back, cancel_step, stop_step, end_restart}
 use Rattle.pnp_laws.proofs.Lookups.{own_serial}
 use Rattle.devnode_tree.specs.Cores.{at_nodes}
 use Rattle.operation_frame.specs.Steps.{MovesFor}

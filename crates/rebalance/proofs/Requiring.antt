@@ -1,8 +1,7 @@
 -- The target of a change requires something else, beside the new holdings of all movers.
-use Rattle.std.proofs.Common.{◌≡◌, ℕ, ◌+◌, ◌<◌, ◌==◌, Bool, true, false, cond, List, [], ◌∷◌, map, Option, Some, None, refl, sym, ap, ◌∙◌, arith}
+use Rattle.std.proofs.Common.{◌≡◌, ℕ, ◌+◌, ◌<◌, ◌==◌, Bool, true, false, cond, List, [], ◌∷◌, map, Option, Some, None, refl, sym, ap, arith}
 use Rattle.std.proofs.lemmas.Bool.Decides.{nat_tests}
 use Rattle.resource_reqs.specs.Resources.{Res, Reqs}
-use Rattle.trial_journal.specs.ByKind.{Arbiters}
 use Rattle.pnp_model.specs.Keyed.{changed_first}
 use Rattle.pnp_model.specs.Cores.{is_node, serials_of}
 use Rattle.pnp_model.specs.Records.{Node}

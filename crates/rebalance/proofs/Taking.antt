@@ -1,13 +1,11 @@
 -- Devices that are taken from a queue one after another.
-use Rattle.std.proofs.Common.{◌≡◌, ℕ, zero, suc, ◌+◌, ◌<◌, ◌==◌, Bool, true, false, not, ◌&&◌, cond, List, [], ◌∷◌, ◌++◌, length, drop, reverse, slice_get, Option, Some, None, option_to_list, refl, sym, ap, ◌∙◌, subst, arith}
+use Rattle.std.proofs.Common.{◌≡◌, ℕ, ◌<◌, ◌==◌, Bool, true, false, not, ◌&&◌, cond, List, [], ◌∷◌, ◌++◌, length, drop, reverse, slice_get, Some, None, refl, sym, ap, ◌∙◌, arith}
 use Rattle.std.proofs.lemmas.List.{append_assoc, append-nil, reverse-append}
-use Rattle.pnp_model.specs.Cores.{node_at}
 use Rattle.pnp_model.specs.Keyed.{those, without_first}
 use Rattle.pnp_model.specs.Records.{Node}
-use Rattle.pnp_model.specs.Tests.{has}
-use Rattle.pnp_model.specs.Trees.{above, stands_up}
+use Rattle.pnp_model.specs.Trees.{stands_up}
 use Rattle.pnp_model.specs.Frames.{rest}
-use Rattle.pnp_model.specs.Rebalances.{is_not_above, startable}
+use Rattle.pnp_model.specs.Rebalances.{startable}
 
 pub first_cut : (ks : List ℕ) (k : ℕ) → slice_get ks 0 ≡ Some k → ks ≡ k ∷ drop 1 ks
 first_cut [] k e = absurd (cc)

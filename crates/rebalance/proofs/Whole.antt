@@ -1,12 +1,11 @@
 -- Changes that leave who is there and what is held.
-use Rattle.std.proofs.Common.{◌≡◌, ℕ, Bool, List, [], ◌∷◌, map, Option, Some, None, Result, Ok, Err, OnErr, refl, sym, ap, ◌∙◌, subst}
+use Rattle.std.proofs.Common.{◌≡◌, ℕ, Bool, List, [], ◌∷◌, map, Option, Some, None, refl, sym, ap, ◌∙◌, subst}
 use Rattle.resource_reqs.specs.Resources.{Res, Reqs}
 use Rattle.pnp_labels.specs.Texts.{Text}
 use Rattle.pnp_labels.specs.declared.label.Label.{Label}
 use Rattle.pnp_labels.specs.declared.words.Minor.{Minor}
 use Rattle.pnp_labels.specs.declared.states.Problem.{Problem}
-use Rattle.pnp_model.specs.Keyed.{changed_first}
-use Rattle.pnp_model.specs.Cores.{is_node, node_at, with_problem}
+use Rattle.pnp_model.specs.Cores.{node_at, with_problem}
 use Rattle.pnp_model.specs.Walks.{state_after}
 use Rattle.pnp_model.specs.Rebalances.{committed}
 use Rattle.pnp_model.specs.Records.{Node}

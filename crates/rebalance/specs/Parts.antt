@@ -7,7 +7,7 @@ use Rattle.pnp_labels.specs.Texts.{Text}
 use Rattle.pnp_labels.specs.declared.label.Label.{Label}
 use Rattle.pnp_model.specs.Machine.{rebalance_walk}
 use Rattle.pnp_model.specs.Records.{Node, Core, Found, Rebalance, RebalanceStage}
-use Rattle.pnp_model.specs.Records.RebalanceStage.{Asking, TakingBack, Searching, Cancelling, Stuck, Stopping, Committing, Restarting, Failed, Ending}
+use Rattle.pnp_model.specs.Records.RebalanceStage.{Asking, TakingBack, Cancelling, Stopping, Restarting}
 use Rattle.pnp_model.specs.Rebalances.{RebalanceMove, end_ask, take_back, cancel_step, stop_step, end_restart, close, stop_on, cancel_on, group_problem, searched, reqs_after}
 use Rattle.devnode_tree.specs.Cores.{at_nodes}
 use Rattle.devnode_tree.specs.Trees.{Tree}

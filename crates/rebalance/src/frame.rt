@@ -199,7 +199,8 @@ impl Rebalance {
         }
     }
 
-    /// The device that is next is told that it goes on, and where none is next the target of a rebalance gets a problem.
+    /// The device that is next is told that it goes on. Where none is next the target of a rebalance gets a problem, and a
+    /// change ends.
     pub(crate) fn cancel_next(&mut self)
         ensures { self.new ≡ cancel_on self.old self.old.todo }
     {

@@ -1,4 +1,4 @@
-use Rattle.std.proofs.Common.{List, ℕ, [], drop, sym, ap, ◌∙◌}
+use Rattle.std.proofs.Common.{drop, sym, ap, ◌∙◌}
 use Rattle.pnp_model.specs.Rebalances.{startable}
 use Rattle.rebalance.proofs.Taking.{first_cut, none_first, stands_first}
 use Rattle.rebalance.proofs.above.pass_over.Goals as goal

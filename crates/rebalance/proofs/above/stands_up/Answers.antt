@@ -1,4 +1,4 @@
-use Rattle.std.proofs.Common.{◌≡◌, ◌<◌, ℕ, ◌&&◌, ◌∙◌, sym, ap, subst}
+use Rattle.std.proofs.Common.{◌<◌, ℕ, ◌&&◌, ◌∙◌, sym, ap, subst}
 use Rattle.pnp_model.specs.Cores.{node_at}
 use Rattle.pnp_model.specs.Records.{Node}
 use Rattle.pnp_model.specs.Trees.{is_up, stands_up}

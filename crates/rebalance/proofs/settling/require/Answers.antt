@@ -1,4 +1,4 @@
-use Rattle.std.proofs.Common.{◌≡◌, ◌∙◌, List, map, Option, ap, sym, subst}
+use Rattle.std.proofs.Common.{◌∙◌, List, map, Option, ap, sym, subst}
 use Rattle.resource_reqs.specs.Resources.{Reqs}
 use Rattle.pnp_model.specs.Records.{Node}
 use Rattle.devnode_tree.specs.Trees.{Tree}

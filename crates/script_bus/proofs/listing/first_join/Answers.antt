@@ -1,4 +1,4 @@
-use Rattle.std.proofs.Common.{◌≡◌, ◌&&◌, ◌∙◌, ap, sym, subst, arith, find, get_or}
+use Rattle.std.proofs.Common.{◌&&◌, ◌∙◌, ap, sym, subst, arith, find, get_or}
 use Rattle.std.proofs.lemmas.List.{get_or_default}
 use Rattle.std.specs.Bool.{nat_le}
 use Rattle.devnode_tree.specs.Trees.{Ascends}

@@ -1,4 +1,4 @@
-use Rattle.std.proofs.Common.{true, false, ◌∙◌, ap, sym}
+use Rattle.std.proofs.Common.{true, ◌∙◌, ap, sym}
 use Rattle.pnp_model.specs.Records as Records
 use Rattle.pnp_model.specs.Records.{Rebalance}
 use Rattle.pnp_model.specs.Cores.{node_at}

@@ -1,4 +1,4 @@
-use Rattle.std.proofs.Common.{◌≡◌, ◌∙◌, ℕ, List, map, Option, ap}
+use Rattle.std.proofs.Common.{◌∙◌, ℕ, List, map, Option, ap}
 use Rattle.resource_reqs.specs.Resources.{Reqs}
 use Rattle.pnp_model.specs.Rebalances.{movers, plan_of, committed}
 use Rattle.pnp_model.specs.Records.{Node, Rebalance}

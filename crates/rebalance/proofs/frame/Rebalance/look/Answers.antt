@@ -1,8 +1,7 @@
-use Rattle.std.proofs.Common.{◌≡◌, ◌∙◌, ℕ, List, ap, sym, option_copied}
+use Rattle.std.proofs.Common.{◌≡◌, ◌∙◌, ap, option_copied}
 use Rattle.assign_search.specs.Fixed.{answer_of}
-use Rattle.pnp_model.specs.Rebalances.{movers}
 use Rattle.pnp_model.specs.Records.{Rebalance}
-use Rattle.rebalance.specs.Parts.{Searched, found_label, found_frame}
+use Rattle.rebalance.specs.Parts.{found_label, found_frame}
 use Rattle.rebalance.proofs.Acting.{ok_both, found_is}
 use Rattle.rebalance.proofs.frame.Rebalance.look.Goals as goal
 

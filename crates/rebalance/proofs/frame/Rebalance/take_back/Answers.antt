@@ -3,7 +3,6 @@ use Rattle.pnp_model.specs.Keyed.{those}
 use Rattle.pnp_model.specs.Frames.{rest}
 use Rattle.pnp_model.specs.Records.{Rebalance}
 use Rattle.pnp_model.specs.Rebalances.{ask_on, is_not_above}
-use Rattle.rebalance.specs.contracts.frame.Rebalance.{the_view}
 use Rattle.rebalance.proofs.Moving.{taken_is}
 use Rattle.rebalance.proofs.frame.Rebalance.take_back.Goals as goal
 

@@ -1,8 +1,5 @@
-use Rattle.std.proofs.Common.{◌≡◌, ◌∙◌, sym, ap, subst, refl, nat_eq, Option, IsSome}
-use Rattle.std.specs.HashMap.{HashMap, get}
+use Rattle.std.proofs.Common.{sym, subst, refl, Option, IsSome}
 use Rattle.script_bus.specs.declared.device.Device as shown
-use Rattle.script_bus.specs.Kept.{IsKept, world_of}
-use Rattle.script_bus.specs.Worlds.{changed}
 use Rattle.script_bus.proofs.Changes.{none_changed, kept_changed, world_changed}
 use Rattle.script_bus.proofs.world.World.change_reqs.Goals as goal
 
