@@ -116,11 +116,10 @@ module _ (ds : Devices) (rack : List Driver) (paths : List Text) (works : List A
         changes ds' tasks' what h spelled now more =
             let own : ds' ≡ record ds { world = changed m.node.born reqs ds.world } =
             subst (λ (o : Option Node). IfSome o (λ n. ds' ≡ record ds { world = changed n.born reqs ds.world })) m.at now in
-            done_of (Event.Change path reqs) (Label.Did EventWord.Change what) (state_of ds' rack paths works operation tasks') (change_up s reqs m.node true) (started true h)
-            (
+            done_of (Event.Change path reqs) (Label.Did EventWord.Change what) (state_of ds' rack paths works operation tasks') (change_up s reqs m.node true) (started true h) (
               ap (Label.Did EventWord.Change) (spelled ∙ path_is path k m),
               ap (λ d. state_of d rack paths works operation tasks') own
-              ∙ ap (state_of (record ds { world = changed m.node.born reqs ds.world }) rack paths works operation) (more ∙ ap (λ i. tasks ++ record { kind = Duty.Begins OpKind.Change; serial = i } ∷ []) (sym m.own)),
+                  ∙ ap (state_of (record ds { world = changed m.node.born reqs ds.world }) rack paths works operation) (more ∙ ap (λ i. tasks ++ record { kind = Duty.Begins OpKind.Change; serial = i } ∷ []) (sym m.own)),
             )
 
   -- Two devices are related ------------------------------------------------------------------

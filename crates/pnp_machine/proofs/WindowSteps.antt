@@ -72,9 +72,10 @@ module _ (ds : Devices) (rack : List Driver) (paths : List Text) (works : List A
   window_taken None ds' own what why set path text = absurd (cc)
   window_taken (Some d) ds' own what why set path text =
       let step = subst (λ r. Comes d r (window_at s res (Some d))) (sym why) (comes d) in
-      let same : own ≡ d.path = cc in
-      (ap (Label.Did EventWord.Window) (text ∙ ap (λ p. spaced (p ∷ res_text res ∷ [])) same) ∙ sym (ap (λ (x : Step). x.label) step),
-       ap with_devices set ∙ sym (ap (λ (x : Step). x.state) step))
+      let same : own ≡ d.path = cc in (
+        ap (Label.Did EventWord.Window) (text ∙ ap (λ p. spaced (p ∷ res_text res ∷ [])) same) ∙ sym (ap (λ (x : Step). x.label) step),
+        ap with_devices set ∙ sym (ap (λ (x : Step). x.state) step),
+      )
 
 -- Whether a device stands below ---------------------------------------------------
 

@@ -78,11 +78,7 @@ impl<R: Drivers> Machine<R> {
     }
 
     /// A device that runs requires something else from now on.
-    pub(crate) fn change(
-        &mut self,
-        path: &InstancePath,
-        reqs: Reqs,
-    ) -> Result<Label, WantOfMemory>
+    pub(crate) fn change(&mut self, path: &InstancePath, reqs: Reqs) -> Result<Label, WantOfMemory>
         ensures done { IfOk result (λ label. IsDone (happens self.old (Event.Change path.now reqs)) label self.new) }
         ensures err { OnErr result (self.new ≡ self.old) }
     {

@@ -518,7 +518,10 @@ const WINDOWS: [(&[u8], &[u8]); 26] = [
 
 const CHANGES: [(&[u8], &[u8]); 22] = [
     (b"change A\\B\\1", b"Change A\\B\\1 "),
-    (b"change a\\b\\1 need=irq:5", b"Change a\\b\\1 list group Irq 5-5 1 1 false "),
+    (
+        b"change a\\b\\1 need=irq:5",
+        b"Change a\\b\\1 list group Irq 5-5 1 1 false ",
+    ),
     (
         b"change HTREE\\ROOT\\0 need=irq:5 need=port:0-7/8@8;irq:3|irq:4:shared",
         b"Change HTREE\\ROOT\\0 list group Irq 5-5 1 1 false list group Port 0-7 8 8 false group Irq 3-3 1 1 false Irq 4-4 1 1 true ",
@@ -527,7 +530,10 @@ const CHANGES: [(&[u8], &[u8]); 22] = [
         b"change A\\B\\1 reqs=480000000000000000000000000000000000000000000000000000000100000001000100010000000002010000000000050000000500000000000000000000000000000000000000",
         b"Change A\\B\\1 list group Irq 5-5 1 1 false ",
     ),
-    (b"\tchange  A\\B\\1\tneed=bus:0-255/4 ", b"Change A\\B\\1 list group Bus 0-255 4 1 false "),
+    (
+        b"\tchange  A\\B\\1\tneed=bus:0-255/4 ",
+        b"Change A\\B\\1 list group Bus 0-255 4 1 false ",
+    ),
     (
         b"change A\\B\\1 need=irq:1 need=irq:1 need=irq:1 need=irq:1 need=irq:1 need=irq:1 need=irq:1 need=irq:1",
         b"Change A\\B\\1 list group Irq 1-1 1 1 false list group Irq 1-1 1 1 false list group Irq 1-1 1 1 false list group Irq 1-1 1 1 false list group Irq 1-1 1 1 false list group Irq 1-1 1 1 false list group Irq 1-1 1 1 false list group Irq 1-1 1 1 false ",
