@@ -2,6 +2,8 @@
 use crate::runs::{ended, ends, files_of, rack_of, words_of};
 use pnp_cli::Status;
 use pnp_io::MemSink;
+use std::alloc::Global;
+use std::process::Abort;
 use std::test::Fail;
 
 /// A script, its status and what it writes over a Scripted driver, a Steady one and a Stubborn one: an empty script; devices
@@ -41,27 +43,34 @@ fn small_scripts(rt: HostRuntime) -> Result<(), Fail> {
     Ok(())
 }
 
+/// A run without drivers, over a sink with room for eight bytes: its status, and what the sink took.
+fn leaves_a_front(
+    rt: &impl Abort,
+    alloc: Global,
+    words: &[&str],
+    named: &[(&str, &[u8])],
+    (status, taken): (Status, &[u8]),
+) -> Result<(), Fail> {
+    let words = words_of(alloc, words)?;
+    let mut files = files_of(alloc, named)?;
+    let mut sink = MemSink::new(alloc, 8)?;
+    let answer = ended(rt, alloc, &words, Vec::new(alloc), &mut files, &mut sink);
+    assert_eq!(rt; answer, status);
+    assert!(rt; sink.taken() == taken, "{:?}", sink.taken());
+    Ok(())
+}
+
 /// No words; no file; an empty one and a sink with room for eight bytes.
 #[test]
 fn faults_leave_a_front(rt: HostRuntime) -> Result<(), Fail> {
     let alloc = rt.alloc();
-    let rows: [(&[&str], &[(&str, &[u8])], Status, &[u8]); 3] = [
-        (&[], &[], Status::BadWords, b""),
-        (&["pnpmgr", "s"], &[], Status::ReadFault, b""),
-        (
-            &["pnpmgr", "s"],
-            &[("s", b"")],
-            Status::WriteFault,
-            b"tree\n0 H",
-        ),
-    ];
-    for (words, named, status, taken) in rows {
-        let words = words_of(alloc, words)?;
-        let mut files = files_of(alloc, named)?;
-        let mut sink = MemSink::new(alloc, 8)?;
-        let answer = ended(&rt, alloc, &words, Vec::new(alloc), &mut files, &mut sink);
-        assert_eq!(rt; answer, status);
-        assert!(rt; sink.taken() == taken, "{:?}", sink.taken());
-    }
-    Ok(())
+    leaves_a_front(&rt, alloc, &[], &[], (Status::BadWords, b""))?;
+    leaves_a_front(&rt, alloc, &["pnpmgr", "s"], &[], (Status::ReadFault, b""))?;
+    leaves_a_front(
+        &rt,
+        alloc,
+        &["pnpmgr", "s"],
+        &[("s", b"")],
+        (Status::WriteFault, b"tree\n0 H"),
+    )
 }
