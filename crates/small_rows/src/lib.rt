@@ -6,6 +6,8 @@ mod bridges;
 #[cfg(test)]
 mod places;
 #[cfg(test)]
+mod ports;
+#[cfg(test)]
 mod reading;
 #[cfg(test)]
 mod searches;
