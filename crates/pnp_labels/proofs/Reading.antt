@@ -1,5 +1,5 @@
 -- A list read one place after another.
-use Rattle.std.proofs.Common.{◌≡◌, ℕ, zero, suc, ◌+◌, List, [], ◌∷◌, ◌++◌, drop, map, slice_get, Some, refl, sym, ◌∙◌, ap, arith, add-one, append_assoc}
+use Rattle.std.proofs.Common.{◌≡◌, ℕ, zero, suc, ◌+◌, List, [], ◌∷◌, ◌++◌, drop, map, slice_get, Some, sym, ◌∙◌, ap, add-one, append_assoc}
 use Rattle.resource_reqs.specs.Resources.{Res}
 use Rattle.pnp_labels.specs.Texts.{after_spaces, res_text}
 

@@ -1,29 +1,20 @@
 -- The printed words, and the line of each label.
-use Rattle.std.specs.Prelude.{ℕ, ◌-◌, Bool, true, false, List, [], ◌∷◌, ◌++◌, codes, length, map, replicate}
+use Rattle.std.specs.Prelude.{ℕ, ◌-◌, Bool, true, false, List, [], ◌∷◌, ◌++◌, Option, Some, None, codes, length, map, replicate}
 use Rattle.std.specs.Fmt.{decimal, digits}
 use Rattle.resource_reqs.specs.Resources.{Res}
 use Rattle.resource_reqs.specs.declared.kind.Kind.{Kind}
 use Rattle.resource_reqs.specs.declared.kind.Kind.TheVariants as kinds
 use Rattle.pnp_labels.specs.declared.words.Minor.{Minor}
-use Rattle.pnp_labels.specs.declared.words.Minor.TheVariants as Minor
 use Rattle.pnp_labels.specs.declared.states.DevState.{DevState}
-use Rattle.pnp_labels.specs.declared.states.DevState.TheVariants as DevState
 use Rattle.pnp_labels.specs.declared.states.Problem.{Problem}
-use Rattle.pnp_labels.specs.declared.states.Problem.TheVariants as Problem
 use Rattle.pnp_labels.specs.declared.label.EventWord.{EventWord}
-use Rattle.pnp_labels.specs.declared.label.EventWord.TheVariants as EventWord
 use Rattle.pnp_labels.specs.declared.label.Reason.{Reason}
-use Rattle.pnp_labels.specs.declared.label.Reason.TheVariants as Reason
+use Rattle.pnp_labels.specs.declared.label.NoticeKind.{NoticeKind}
 use Rattle.pnp_labels.specs.declared.label.Shown.{Shown}
-use Rattle.pnp_labels.specs.declared.label.Shown.TheVariants as Shown
 use Rattle.pnp_labels.specs.declared.label.TaskKind.{TaskKind}
-use Rattle.pnp_labels.specs.declared.label.TaskKind.TheVariants as TaskKind
 use Rattle.pnp_labels.specs.declared.label.OpKind.{OpKind}
-use Rattle.pnp_labels.specs.declared.label.OpKind.TheVariants as OpKind
 use Rattle.pnp_labels.specs.declared.label.OpEnd.{OpEnd}
-use Rattle.pnp_labels.specs.declared.label.OpEnd.TheVariants as OpEnd
 use Rattle.pnp_labels.specs.declared.label.Label.{Label}
-use Rattle.pnp_labels.specs.declared.label.Label.TheVariants as Label
 
 -- a text is its bytes
 abbrev pub Text : Type 0
@@ -84,6 +75,7 @@ op_text OpKind.Rebalance = codes "rebalance"
 op_text OpKind.Disable = codes "disable"
 op_text OpKind.Eject = codes "eject"
 op_text OpKind.Surprise = codes "surprise"
+op_text OpKind.Finish = codes "finish"
 op_text OpKind.Change = codes "change"
 
 abbrev pub task_text : TaskKind → Text
@@ -93,6 +85,7 @@ task_text TaskKind.Rebalance = codes "rebalance"
 task_text TaskKind.Disable = codes "disable"
 task_text TaskKind.Eject = codes "eject"
 task_text TaskKind.Surprise = codes "surprise"
+task_text TaskKind.Finish = codes "finish"
 task_text TaskKind.Change = codes "change"
 
 abbrev pub end_text : OpEnd → Text
@@ -101,6 +94,7 @@ end_text OpEnd.NoFit = codes "nofit"
 end_text OpEnd.Spent = codes "spent"
 end_text OpEnd.Refused = codes "refused"
 end_text OpEnd.Done = codes "done"
+end_text OpEnd.Waiting = codes "waiting"
 end_text (OpEnd.Veto path) = codes "veto " ++ path
 
 abbrev pub word_text : EventWord → Text
@@ -114,8 +108,12 @@ word_text EventWord.Eject = codes "eject"
 word_text EventWord.Relate = codes "relate"
 word_text EventWord.Reserve = codes "reserve"
 word_text EventWord.Complete = codes "complete"
+word_text EventWord.HandleOpen = codes "open"
+word_text EventWord.HandleClose = codes "close"
 word_text EventWord.Window = codes "window"
 word_text EventWord.Change = codes "change"
+word_text EventWord.Watch = codes "watch"
+word_text EventWord.Unwatch = codes "unwatch"
 
 abbrev pub reason_text : Reason → Text
 reason_text Reason.NoParent = codes "NoParent"
@@ -137,8 +135,22 @@ reason_text Reason.RelationCycle = codes "RelationCycle"
 reason_text Reason.NotStarted = codes "NotStarted"
 reason_text Reason.InUse = codes "InUse"
 reason_text Reason.NoSuchRequest = codes "NoSuchRequest"
+reason_text Reason.NoHandle = codes "NoHandle"
 reason_text Reason.HasChildren = codes "HasChildren"
 reason_text Reason.SameWindow = codes "SameWindow"
+reason_text Reason.SameWatch = codes "SameWatch"
+reason_text Reason.NoWatch = codes "NoWatch"
+
+abbrev pub notice_text : NoticeKind → Text
+notice_text NoticeKind.QueryRemove = codes "QUERY_REMOVE"
+notice_text NoticeKind.RemoveCancelled = codes "REMOVE_CANCELLED"
+notice_text NoticeKind.RemoveComplete = codes "REMOVE_COMPLETE"
+
+-- what a client answered, where it was asked
+abbrev pub agrees_text : Option Bool → Text
+agrees_text None = []
+agrees_text (Some true) = codes " ok"
+agrees_text (Some false) = codes " refuse"
 
 abbrev pub hex : ℕ → Text
 hex n = codes "0x" ++ digits 16 false n
@@ -182,4 +194,9 @@ label_line (Label.Begin op path) = spaced (codes "begin" ∷ op_text op ∷ path
 label_line (Label.Commit movers) = spaced (codes "commit" ∷ decimal movers ∷ [])
 label_line (Label.Leave path) = spaced (codes "leave" ∷ path ∷ [])
 label_line (Label.Ejected path) = spaced (codes "ejected" ∷ path ∷ [])
+label_line (Label.Handles path) = spaced (codes "handles" ∷ path ∷ [])
+label_line (Label.Waits path) = spaced (codes "waits" ∷ path ∷ [])
 label_line (Label.End op path result) = spaced (codes "end" ∷ op_text op ∷ path ∷ end_text result ∷ [])
+label_line (Label.Notice what client path agrees) =
+    spaced (codes "notice" ∷ notice_text what ∷ client ∷ path ∷ []) ++ agrees_text agrees
+label_line (Label.Declined op path client) = spaced (codes "declined" ∷ op_text op ∷ path ∷ client ∷ [])

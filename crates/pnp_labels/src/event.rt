@@ -79,6 +79,14 @@ pub enum Event {
         minor: Minor,
         ok: bool,
     },
+    /// Somebody opens a handle to a device.
+    OpenHandle {
+        path: InstancePath,
+    },
+    /// A handle to a device is closed.
+    CloseHandle {
+        path: InstancePath,
+    },
     /// To the devices below this one only ports, or memory, of this range are passed on from now on.
     Window {
         path: InstancePath,
@@ -88,5 +96,16 @@ pub enum Event {
     Change {
         path: InstancePath,
         reqs: Reqs,
+    },
+    /// A client is to be asked before a device is removed, and to hear how that ended; it agrees, or refuses.
+    Watch {
+        client: Text,
+        path: InstancePath,
+        agrees: bool,
+    },
+    /// A client is to hear no more of a device.
+    Unwatch {
+        client: Text,
+        path: InstancePath,
     },
 }

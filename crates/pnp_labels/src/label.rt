@@ -16,8 +16,12 @@ pub enum EventWord {
     Relate,
     Reserve,
     Complete,
+    HandleOpen,
+    HandleClose,
     Window,
     Change,
+    Watch,
+    Unwatch,
 }
 
 /// Why an event was refused: this project's own.
@@ -61,10 +65,16 @@ pub enum Reason {
     InUse,
     /// No request of that minor waits at the device.
     NoSuchRequest,
+    /// No handle to the device is open.
+    NoHandle,
     /// The world or the tree has a device below it.
     HasChildren,
     /// It has a window of the kind.
     SameWindow,
+    /// The client is registered on the device.
+    SameWatch,
+    /// The client is not registered on the device.
+    NoWatch,
 }
 
 /// What an ask or a completion shows: an answer, or a failure that must not be (this project's own name
@@ -90,6 +100,7 @@ pub enum TaskKind {
     Disable,
     Eject,
     Surprise,
+    Finish,
     Change,
 }
 
@@ -104,6 +115,8 @@ pub enum OpKind {
     Eject,
     /// A device has gone without a word.
     Surprise,
+    /// Devices that stayed behind when they had gone lose their drivers, as no handle holds them any more.
+    Finish,
     /// A running device requires something else: it and others stop so that it can have it.
     Change,
 }
@@ -119,10 +132,23 @@ pub enum OpEnd {
     Spent,
     /// Nothing is left to do.
     Done,
+    /// A device stayed behind, as a handle is open.
+    Waiting,
     /// The device that is to change would not stop.
     Refused,
     /// The device of this path refused.
     Veto(Text),
+}
+
+/// What a client is told of a removal: after the driver kit's notices of a target device.
+#[derive(Clone, Copy, Debug, PartialEq, Eq)]
+pub enum NoticeKind {
+    /// Whether the device may be removed.
+    QueryRemove,
+    /// The device stays.
+    RemoveCancelled,
+    /// The device was removed.
+    RemoveComplete,
 }
 
 /// What a step of the machine prints: one line of the trace. This project's own.
@@ -219,15 +245,36 @@ pub enum Label {
     Ejected {
         path: Text,
     },
+    /// A device refuses to be removed unasked, as a handle to it is open or it waits to be finished.
+    Handles {
+        path: Text,
+    },
+    /// A device that has gone keeps its drivers until no handle holds it any more.
+    Waits {
+        path: Text,
+    },
     /// An operation ended.
     End {
         op: OpKind,
         path: Text,
         result: OpEnd,
     },
+    /// A client was told of a removal, or was asked and then agreed or not.
+    Notice {
+        what: NoticeKind,
+        client: Text,
+        path: Text,
+        agrees: Option<bool>,
+    },
+    /// A client refused, so what was due does not begin.
+    Declined {
+        op: OpKind,
+        path: Text,
+        client: Text,
+    },
 }
 
-/// A step of a removal or of a surprise removal, with what the machine has to do beside it: this project's own.
+/// A step of an operation that removes devices, with what the machine has to do beside it: this project's own.
 #[derive(Debug, Drop)]
 pub enum RemoveStep {
     /// Nothing.

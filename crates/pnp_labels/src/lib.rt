@@ -11,7 +11,7 @@ mod texts;
 mod words;
 
 pub use event::{Ask, Event, Rule};
-pub use label::{EventWord, Label, OpEnd, OpKind, Reason, RemoveStep, Shown, TaskKind};
+pub use label::{EventWord, Label, NoticeKind, OpEnd, OpKind, Reason, RemoveStep, Shown, TaskKind};
 pub use line::{decimal, label_line, res_text};
 pub use lists::{BornList, SerialList, Stack};
 pub use states::{DevState, Problem, Verdict};

@@ -2,10 +2,11 @@ ghost use Rattle.std.specs.Prelude.{◌≡◌, ◌++◌, ◌∷◌, [], IfOk, On
 ghost use Rattle.std.specs.Fmt.{decimal, digits};
 ghost use Rattle.pnp_labels.specs.Texts.{label_line, res_text, spaced, range_text, rank_text, ok_text, end_text};
 
-use crate::label::{Label, OpEnd, OpKind, TaskKind};
+use crate::label::{Label, NoticeKind, OpEnd, OpKind, TaskKind};
 use crate::spaced::{four, three, two};
 use crate::texts::{
-    minor_text, op_text, problem_text, reason_text, shown_text, state_text, task_text, word_text,
+    minor_text, notice_text, op_text, problem_text, reason_text, shown_text, state_text, task_text,
+    word_text,
 };
 use device_ids::WantOfMemory;
 use resource_reqs::{Kind, Res, ResList};
@@ -79,6 +80,7 @@ fn end_text(alloc: Global, end: &OpEnd) -> Result<Vec<u8>, WantOfMemory>
         OpEnd::Spent => Vec::from_slice(alloc, b"spent"),
         OpEnd::Refused => Vec::from_slice(alloc, b"refused"),
         OpEnd::Done => Vec::from_slice(alloc, b"done"),
+        OpEnd::Waiting => Vec::from_slice(alloc, b"waiting"),
         OpEnd::Veto(path) => two(alloc, b"veto", path.bytes()),
     }
 }
@@ -135,6 +137,25 @@ fn end_line(alloc: Global, op: OpKind, path: &[u8], end: &OpEnd) -> Result<Vec<u
     four(alloc, b"end", op_text(op), path, &end)
 }
 
+/// A notice, and where it asks, what the client answered.
+fn notice_line(
+    alloc: Global,
+    what: NoticeKind,
+    client: &[u8],
+    path: &[u8],
+    agrees: Option<bool>,
+) -> Result<Vec<u8>, WantOfMemory>
+    ensures { IfOk result (λ line. line.items ≡ label_line (Label.Notice what client.now path.now agrees)) }
+{
+    let mut line = four(alloc, b"notice", notice_text(what), client, path)?;
+    match agrees {
+        None => {}
+        Some(true) => line.extend_from_slice(b" ok")?,
+        Some(false) => line.extend_from_slice(b" refuse")?,
+    }
+    Ok(line)
+}
+
 /// The words of a label with a space between any two.
 fn words_of(alloc: Global, label: &Label) -> Result<Vec<u8>, WantOfMemory>
     ensures { IfOk result (λ line. line.items ≡ label_line label.now) }
@@ -175,7 +196,24 @@ fn words_of(alloc: Global, label: &Label) -> Result<Vec<u8>, WantOfMemory>
         Label::Commit { movers } => commit_line(alloc, *movers),
         Label::Leave { path } => two(alloc, b"leave", path.bytes()),
         Label::Ejected { path } => two(alloc, b"ejected", path.bytes()),
+        Label::Handles { path } => two(alloc, b"handles", path.bytes()),
+        Label::Waits { path } => two(alloc, b"waits", path.bytes()),
         Label::End { op, path, result } => end_line(alloc, *op, path.bytes(), result),
+        Label::Notice {
+            what,
+            client,
+            path,
+            agrees,
+        } => notice_line(alloc, *what, client.bytes(), path.bytes(), *agrees),
+        Label::Declined { op, path, client } => {
+            four(
+                alloc,
+                b"declined",
+                op_text(*op),
+                path.bytes(),
+                client.bytes(),
+            )
+        }
     }
 }
 

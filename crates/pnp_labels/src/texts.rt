@@ -1,7 +1,7 @@
 ghost use Rattle.std.specs.Prelude.{◌≡◌};
-ghost use Rattle.pnp_labels.specs.Texts.{minor_text, shown_text, state_text, problem_text, op_text, task_text, word_text, reason_text};
+ghost use Rattle.pnp_labels.specs.Texts.{minor_text, shown_text, state_text, problem_text, op_text, task_text, word_text, reason_text, notice_text};
 
-use crate::label::{EventWord, OpKind, Reason, Shown, TaskKind};
+use crate::label::{EventWord, NoticeKind, OpKind, Reason, Shown, TaskKind};
 use crate::states::{DevState, Problem};
 use crate::words::Minor;
 
@@ -74,6 +74,7 @@ pub fn op_text(op: OpKind) -> &'static [u8]
         OpKind::Disable => b"disable",
         OpKind::Eject => b"eject",
         OpKind::Surprise => b"surprise",
+        OpKind::Finish => b"finish",
         OpKind::Change => b"change",
     }
 }
@@ -89,6 +90,7 @@ pub fn task_text(task: TaskKind) -> &'static [u8]
         TaskKind::Disable => b"disable",
         TaskKind::Eject => b"eject",
         TaskKind::Surprise => b"surprise",
+        TaskKind::Finish => b"finish",
         TaskKind::Change => b"change",
     }
 }
@@ -108,8 +110,12 @@ pub fn word_text(word: EventWord) -> &'static [u8]
         EventWord::Relate => b"relate",
         EventWord::Reserve => b"reserve",
         EventWord::Complete => b"complete",
+        EventWord::HandleOpen => b"open",
+        EventWord::HandleClose => b"close",
         EventWord::Window => b"window",
         EventWord::Change => b"change",
+        EventWord::Watch => b"watch",
+        EventWord::Unwatch => b"unwatch",
     }
 }
 
@@ -137,7 +143,21 @@ pub fn reason_text(reason: Reason) -> &'static [u8]
         Reason::NotStarted => b"NotStarted",
         Reason::InUse => b"InUse",
         Reason::NoSuchRequest => b"NoSuchRequest",
+        Reason::NoHandle => b"NoHandle",
         Reason::HasChildren => b"HasChildren",
         Reason::SameWindow => b"SameWindow",
+        Reason::SameWatch => b"SameWatch",
+        Reason::NoWatch => b"NoWatch",
+    }
+}
+
+/// The printed name of a notice.
+pub fn notice_text(what: NoticeKind) -> &'static [u8]
+    ensures { result.now ≡ notice_text what }
+{
+    match what {
+        NoticeKind::QueryRemove => b"QUERY_REMOVE",
+        NoticeKind::RemoveCancelled => b"REMOVE_CANCELLED",
+        NoticeKind::RemoveComplete => b"REMOVE_COMPLETE",
     }
 }

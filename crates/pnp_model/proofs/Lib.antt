@@ -1,6 +1,7 @@
 pub mod Keyed
 pub mod Determined
 pub mod Clips
+pub mod Due
 mod RowBase
 mod RowsStarts
 mod RowsChoices
@@ -14,8 +15,19 @@ mod RowsReturns
 mod RowsBoard
 mod RowsBuses
 mod RowsWindows
+mod RowsWindowsMore
 mod RowsChanges
+mod RowsChangesBeside
 mod RowsChangesMore
+mod RowsHandles
+mod RowsHandlesMore
+mod RowsBehind
+mod RowsFinishes
 mod RowsKept
 mod RowsMixed
 mod RowsMixedMore
+mod RowsWideA
+mod RowsWideB
+mod RowsWideC
+mod RowsWideD
+mod RowsWideE

@@ -1,20 +1,21 @@
 -- What an event does to a quiet machine: a label, and the state after it.
-use Rattle.std.specs.Prelude.{ℕ, ◌==◌, Bool, true, false, ◌&&◌, ◌||◌, List, [], ◌∷◌, ◌++◌, Option, Some, None, nat_le, nat_lt, find, length}
+use Rattle.std.specs.Prelude.{ℕ, ◌==◌, Bool, true, false, not, ◌&&◌, ◌||◌, List, [], ◌∷◌, ◌++◌, Option, Some, None, nat_le, nat_lt, find, length}
 use Rattle.std.specs.List.{list_any}
 use Rattle.resource_reqs.specs.Resources.{Res, Reqs, clashes}
 use Rattle.pnp_model.specs.Keyed.{changed_first}
 use Rattle.device_ids.specs.Folding.{same}
-use Rattle.pnp_model.specs.Tests.{has_same, has, is_scripted, is_started, same_minor, same_rel}
+use Rattle.pnp_model.specs.Tests.{has_same, has, is_scripted, is_started, is_surprise_removed, same_minor, same_rel}
 use Rattle.pnp_model.specs.Books.{is_named, is_unnamed, with_name, printed_name}
 use Rattle.pnp_model.specs.Walks.{after, shown_of}
 use Rattle.pnp_model.specs.Cores.{set_rack}
 use Rattle.pnp_model.specs.Trees.{dependents, is_child}
 use Rattle.pnp_model.specs.Windows.{is_window_on}
+use Rattle.pnp_model.specs.Handles.{is_handle_of, opened, closed_with}
 use Rattle.pnp_model.specs.Frames.{held_by}
 use Rattle.pnp_model.specs.States.{with_core, append_task, list_node, node_born, node_of, device_of, has_below, add_window, is_in_world, change_device, plug, unplug, enable_path, activity_at, set_phase, set_operation}
 use Rattle.pnp_model.specs.Machine.{phase_walk, operation_walk}
 use Rattle.pnp_labels.specs.Texts.{spaced, minor_text, shown_text, res_text, Text}
-use Rattle.pnp_model.specs.Records.{Node, Core, Walk, Device, Driver, Relation, Activity, Phase, State, Step, Operation, RebalanceStage, RemovalStage, SurpriseStage, Duty}
+use Rattle.pnp_model.specs.Records.{Node, Core, Walk, Device, Driver, Relation, Activity, Phase, State, Step, Operation, RebalanceStage, RemovalStage, SurpriseStage, FinishStage, Handle, Duty}
 use Rattle.pnp_model.specs.Records.Phase.{Starting, Removing}
 use Rattle.pnp_labels.specs.declared.words.Minor.{Minor}
 use Rattle.pnp_labels.specs.declared.words.Answer.{Answer}
@@ -181,6 +182,47 @@ reserve_idle s res (Some o) = refused EventWord.Reserve Reason.Busy s
 reserve_idle s res None =
     reserve_free s res (list_any (clashes res) (s.core.reserved ++ held_by s.core.nodes))
 
+-- open and close --------------------------------------------------------------
+
+abbrev pub with_handles : List Handle → State → State
+with_handles handles s = record s { handles = handles }
+
+abbrev pub open_up : State → Node → Bool → Step
+open_up s node false = refused EventWord.HandleOpen Reason.NotStarted s
+open_up s node true = did EventWord.HandleOpen node.path (with_handles (opened node.serial s.handles) s)
+
+abbrev pub open_idle : State → Node → Option Operation → Step
+open_idle s node (Some o) = refused EventWord.HandleOpen Reason.Busy s
+open_idle s node None = open_up s node (is_started node.state)
+
+-- is it the root?
+abbrev pub open_below : State → Node → Bool → Step
+open_below s node true = refused EventWord.HandleOpen Reason.RootStays s
+open_below s node false = open_idle s node s.operation
+
+abbrev pub open_at : State → Option Node → Step
+open_at s None = refused EventWord.HandleOpen Reason.NoDevice s
+open_at s (Some node) = open_below s node (node.serial == 0)
+
+-- was it the last one of a device that waits to be finished?
+abbrev pub finish_due : Node → Bool → State → State
+finish_due node true s = append_task (Duty.Begins OpKind.Finish) node.serial s
+finish_due node false s = s
+
+-- is another one open?
+abbrev pub close_handle : State → Node → Bool → Step
+close_handle s node more =
+    did EventWord.HandleClose node.path
+    (finish_due node (not more && is_surprise_removed node.state) (with_handles (closed_with node.serial s.handles more) s))
+
+abbrev pub close_open : State → Node → Option Handle → Step
+close_open s node None = refused EventWord.HandleClose Reason.NoHandle s
+close_open s node (Some h) = close_handle s node (nat_lt 1 h.count)
+
+abbrev pub close_at : State → Option Node → Step
+close_at s None = refused EventWord.HandleClose Reason.NoDevice s
+close_at s (Some node) = close_open s node (find (is_handle_of node.serial) s.handles)
+
 -- change ----------------------------------------------------------------------
 
 abbrev pub change_up : State → Reqs → Node → Bool → Step
@@ -262,11 +304,16 @@ completed_surprise answer (SurpriseStage.Telling w) = SurpriseStage.Telling (aft
 completed_surprise answer (SurpriseStage.Removing w) = SurpriseStage.Removing (after w answer)
 completed_surprise answer stage = stage
 
+abbrev pub completed_finish : Answer → FinishStage → FinishStage
+completed_finish answer (FinishStage.Removing w) = FinishStage.Removing (after w answer)
+completed_finish answer stage = stage
+
 abbrev pub completed : Answer → Operation → Operation
 completed answer (Operation.Rebalancing r) =
     Operation.Rebalancing (record r { stage = completed_rebalance answer r.stage })
 completed answer (Operation.Removing o) = Operation.Removing (record o { stage = completed_removal answer o.stage })
 completed answer (Operation.Surprising o) = Operation.Surprising (record o { stage = completed_surprise answer o.stage })
+completed answer (Operation.Finishing f) = Operation.Finishing (record f { stage = completed_finish answer f.stage })
 
 -- the device of the operation's walk
 abbrev pub front : List ℕ → Option ℕ
@@ -277,6 +324,7 @@ abbrev pub operation_at : Operation → Option ℕ
 operation_at (Operation.Rebalancing r) = front r.todo
 operation_at (Operation.Removing o) = front o.todo
 operation_at (Operation.Surprising o) = front o.todo
+operation_at (Operation.Finishing f) = front f.todo
 
 abbrev pub is_number : ℕ → Option ℕ → Bool
 is_number k None = false
@@ -328,5 +376,10 @@ happens s (Event.Eject path) = eject_at s (node_of path s.core.nodes)
 happens s (Event.Relate kind owner member) = relate_at s kind (node_of owner s.core.nodes) (node_of member s.core.nodes)
 happens s (Event.Reserve res) = reserve_idle s res s.operation
 happens s (Event.Complete path minor ok) = complete_at s minor ok (node_of path s.core.nodes)
+happens s (Event.OpenHandle path) = open_at s (node_of path s.core.nodes)
+happens s (Event.CloseHandle path) = close_at s (node_of path s.core.nodes)
 happens s (Event.Change path reqs) = change_at s reqs (node_of path s.core.nodes)
 happens s (Event.Window path res) = window_at s res (device_of path s.world)
+-- the machine knows no clients: what stands before it does
+happens s (Event.Watch client path agrees) = refused EventWord.Watch Reason.NoDevice s
+happens s (Event.Unwatch client path) = refused EventWord.Unwatch Reason.NoDevice s

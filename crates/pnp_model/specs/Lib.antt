@@ -7,11 +7,13 @@ pub mod Cores
 pub mod Trees
 pub mod Windows
 pub mod Clips
+pub mod Handles
 pub mod Frames
 pub mod Starts
 pub mod Rebalances
 pub mod Removals
 pub mod Surprises
+pub mod Finishes
 pub mod States
 pub mod Tasks
 pub mod Machine

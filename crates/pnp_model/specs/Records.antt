@@ -35,6 +35,11 @@ pub record Node : Type 0 where
   pub stack : List ℕ
   pub holds : List Res
 
+-- how many handles to the device are open: at least one
+pub record Handle : Type 0 where
+  pub serial : ℕ
+  pub count : ℕ
+
 -- the device of this birth number passes on only what lies in this range of its kind
 pub record Window : Type 0 where
   pub born : ℕ
@@ -109,6 +114,7 @@ pub record Rebalance : Type 0 where
   pub stage : RebalanceStage
 
 pub data RemovalStage : Type 0 where
+  Next : RemovalStage  -- the head of `todo` is asked next, or refuses unasked
   Asking : (walk : Walk) → RemovalStage  -- QUERY_REMOVE
   TakingBack : (walk : Walk) → RemovalStage  -- CANCEL_REMOVE of the one that refused
   Cancelling : (walk : Walk) → RemovalStage  -- CANCEL_REMOVE of one that agreed
@@ -129,6 +135,7 @@ pub record Removal : Type 0 where
 
 pub data SurpriseStage : Type 0 where
   Telling : (walk : Walk) → SurpriseStage  -- SURPRISE_REMOVAL
+  Next : SurpriseStage  -- the head of `todo` is finished next, or stays behind
   Removing : (walk : Walk) → SurpriseStage
   Settling : SurpriseStage
   Ending : SurpriseStage
@@ -137,13 +144,29 @@ pub record Surprise : Type 0 where
   pub target : ℕ
   pub path : Text  -- of the target, which may leave before the end
   pub set : List ℕ  -- in leaving order
+  pub told : List ℕ  -- those of the set that were SurpriseRemoved at begin
+  pub behind : List ℕ  -- those that stayed behind, the last one first
   pub todo : List ℕ
   pub stage : SurpriseStage
+
+pub data FinishStage : Type 0 where
+  Next : FinishStage  -- the ready device of the greatest serial is next, or the end
+  Removing : (walk : Walk) → FinishStage
+  Leaving : FinishStage  -- its node is to leave
+  Holding : FinishStage  -- its problem is due
+
+-- devices that stayed behind when they had gone lose their drivers
+pub record Finish : Type 0 where
+  pub target : ℕ
+  pub path : Text  -- of the target, which may leave before the end
+  pub todo : List ℕ  -- the device that is being finished, if any
+  pub stage : FinishStage
 
 pub data Operation : Type 0 where
   Rebalancing : (frame : Rebalance) → Operation
   Removing : (frame : Removal) → Operation
   Surprising : (frame : Surprise) → Operation
+  Finishing : (frame : Finish) → Operation
 
 -- what a task is for: to list the children of a device, to start it, or to begin an operation for it
 pub data Duty : Type 0 where
@@ -166,6 +189,12 @@ pub record State : Type 0 where
   pub operation : Option Operation
   pub tasks : List Task
   pub windows : List Window
+  pub handles : List Handle
+
+-- an operation, and the device that it is for
+pub record Beginning : Type 0 where
+  pub kind : OpKind
+  pub serial : ℕ
 
 -- the drivers that the INFs name for a device
 pub record Choice : Type 0 where

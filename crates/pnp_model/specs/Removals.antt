@@ -1,16 +1,18 @@
 -- The removal in order, with veto: disable and eject.
-use Rattle.std.specs.Prelude.{ℕ, ◌==◌, Bool, true, false, ◌&&◌, List, [], ◌∷◌, Option, Some, None, length, map}
+use Rattle.std.specs.Prelude.{ℕ, ◌==◌, Bool, true, false, ◌&&◌, ◌||◌, List, [], ◌∷◌, Option, Some, None, length, map}
 use Rattle.pnp_model.specs.Keyed.{those}
-use Rattle.pnp_model.specs.Tests.{has, is_eject, same_rel}
+use Rattle.pnp_model.specs.Tests.{has, is_eject, is_started, is_surprise_removed, same_rel}
 use Rattle.pnp_model.specs.Walks.{walk_of, is_bad, has_ended}
 use Rattle.pnp_model.specs.Cores.{node_at, set_problem, drop_node, stack_of, path_of}
-use Rattle.pnp_model.specs.Trees.{leaving, is_up}
+use Rattle.pnp_model.specs.Trees.{leaving}
+use Rattle.pnp_model.specs.Handles.{is_open}
 use Rattle.pnp_model.specs.Frames.{Move, Ask, asked, state_label, ended, first_node, rest}
-use Rattle.pnp_model.specs.Records.{Node, Core, Walk, Relation, Removal, RemovalStage}
-use Rattle.pnp_model.specs.Records.RemovalStage.{Asking, TakingBack, Cancelling, Removing, Settling, Ending}
+use Rattle.pnp_model.specs.Records.{Node, Core, Walk, Handle, Relation, Removal, RemovalStage}
+use Rattle.pnp_model.specs.Records.RemovalStage.{Next, Asking, TakingBack, Cancelling, Removing, Settling, Ending}
 use Rattle.pnp_labels.specs.Texts.{Text}
 use Rattle.pnp_labels.specs.declared.label.Label.{Label}
 use Rattle.pnp_labels.specs.declared.words.Minor.{Minor}
+use Rattle.pnp_labels.specs.declared.states.DevState.{DevState}
 use Rattle.pnp_labels.specs.declared.states.Problem.{Problem}
 use Rattle.pnp_labels.specs.declared.label.OpKind.{OpKind}
 use Rattle.pnp_labels.specs.declared.label.OpEnd.{OpEnd}
@@ -44,7 +46,7 @@ finish_on nodes o (k ∷ ks) = finish_with o (k ∷ ks) (stack_of (node_at k nod
 
 abbrev pub ask_on : List Node → Removal → List ℕ → Removal
 ask_on nodes o [] = finish_on nodes o o.set
-ask_on nodes o (k ∷ ks) = record o { todo = k ∷ ks; stage = Asking (walk_of Minor.QueryRemove) }
+ask_on nodes o (k ∷ ks) = record o { todo = k ∷ ks; stage = Next }
 
 abbrev pub cancel_on : Removal → List ℕ → Removal
 cancel_on o [] = record o { todo = []; stage = Ending }
@@ -58,11 +60,19 @@ is_ejecting set r = same_rel RelKind.Ejection r.kind && has set r.owner
 abbrev pub ejecting : Core → List ℕ → List ℕ
 ejecting c set = map (λ r. r.member) (those (is_ejecting set) c.relations)
 
+-- such a device is asked, or refuses unasked
+abbrev pub is_queried : DevState → Bool
+is_queried state = is_started state || is_surprise_removed state
+
+abbrev pub is_queried_node : Option Node → Bool
+is_queried_node None = false
+is_queried_node (Some n) = is_queried n.state
+
 abbrev pub begun_with : Core → OpKind → Node → List ℕ → Removal
 begun_with c kind node set =
     ask_on c.nodes
     (record { kind = kind; target = node.serial; path = node.path; set = set; ejecting = ejecting c set; todo = []; agreed = []; refuser = None; stage = Ending })
-    (those (λ k. is_up (node_at k c.nodes)) set)
+    (those (λ k. is_queried_node (node_at k c.nodes)) set)
 
 abbrev pub begun_removal : Core → OpKind → Node → Removal
 begun_removal c kind node = begun_with c kind node (leaving c node.serial)
@@ -83,6 +93,17 @@ end_ask c o node true =
 abbrev pub ask_step : Core → Removal → Node → Walk → Bool → RemovalMove
 ask_step c o node w true = end_ask c o node (is_bad w)
 ask_step c o node w false = asks o Asking (asked c node w)
+
+-- a handle to it is open, or it waits to be finished
+abbrev pub refuses_unasked : List Handle → Node → Bool
+refuses_unasked handles node = is_open handles node.serial || is_surprise_removed node.state
+
+-- does it refuse unasked? Then nothing is taken back from it
+abbrev pub query : Core → Removal → Node → Bool → RemovalMove
+query c o node true =
+    moves (Label.Handles node.path) c (cancel_on (record o { refuser = Some node.serial }) o.agreed)
+query c o node false =
+    ask_step c o node (walk_of Minor.QueryRemove) (has_ended (walk_of Minor.QueryRemove) (length node.stack))
 
 -- a veto
 
@@ -146,14 +167,15 @@ abbrev pub close : Core → Removal → RemovalMove
 close c o = record { label = Label.End o.kind o.path (end_of c o.refuser); core = c; frame = o; beside = RemoveBeside.Over }
 
 -- the device that is next stands first; without it there is no step
-abbrev pub removal_step : Core → Removal → RemovalStage → Option Node → Option RemovalMove
-removal_step c o Ending n = Some (close c o)
-removal_step c o (Asking w) (Some node) = Some (ask_step c o node w (has_ended w (length node.stack)))
-removal_step c o (TakingBack w) (Some node) = Some (take_back c o node w (has_ended w (length node.stack)))
-removal_step c o (Cancelling w) (Some node) = Some (cancel_step c o node w (has_ended w (length node.stack)))
-removal_step c o (Removing w) (Some node) = Some (remove_step c o node w (has_ended w (length node.stack)))
-removal_step c o Settling (Some node) = Some (settle c o node (has o.set node.parent))
-removal_step c o _ None = None
+abbrev pub removal_step : Core → Removal → List Handle → RemovalStage → Option Node → Option RemovalMove
+removal_step c o handles Ending n = Some (close c o)
+removal_step c o handles Next (Some node) = Some (query c o node (refuses_unasked handles node))
+removal_step c o handles (Asking w) (Some node) = Some (ask_step c o node w (has_ended w (length node.stack)))
+removal_step c o handles (TakingBack w) (Some node) = Some (take_back c o node w (has_ended w (length node.stack)))
+removal_step c o handles (Cancelling w) (Some node) = Some (cancel_step c o node w (has_ended w (length node.stack)))
+removal_step c o handles (Removing w) (Some node) = Some (remove_step c o node w (has_ended w (length node.stack)))
+removal_step c o handles Settling (Some node) = Some (settle c o node (has o.set node.parent))
+removal_step c o handles _ None = None
 
-abbrev pub removed : Core → Removal → Option RemovalMove
-removed c o = removal_step c o o.stage (first_node c.nodes o.todo)
+abbrev pub removed : Core → Removal → List Handle → Option RemovalMove
+removed c o handles = removal_step c o handles o.stage (first_node c.nodes o.todo)

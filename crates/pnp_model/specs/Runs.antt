@@ -1,6 +1,6 @@
 -- Whole runs, and what they print.
 use Rattle.std.specs.Prelude.{ℕ, zero, suc, ◌≡◌, List, [], ◌∷◌, ◌++◌, Some, None, codes}
-use Rattle.pnp_model.specs.Machine.{next, Steps, IsQuiet}
+use Rattle.pnp_model.specs.Machine.{next, Steps, IsQuiet, IsDeclined}
 use Rattle.pnp_model.specs.Events.{happens}
 use Rattle.pnp_model.specs.Records.{Device, Node, Driver, State, Settings, Found, SearchProblem}
 use Rattle.pnp_model.specs.Records.Doing.{Does, Searches}
@@ -9,16 +9,18 @@ use Rattle.pnp_labels.specs.declared.states.DevState.{DevState}
 use Rattle.pnp_labels.specs.declared.event.Event.{Event}
 use Rattle.pnp_labels.specs.declared.label.Label.{Label}
 
--- what happens from outside, and what the machine does
+-- what happens from outside, what the machine does, and that a client declines what is due
 pub data Entry : Type 0 where
   Happens : (event : Event) (label : Label) → Entry
   Did : (label : Label) → Entry
+  Declines : (label : Label) → Entry
 
 -- events come at quiet states only
 abbrev pub Goes : Settings → State → Entry → State → Type 0
 Goes settings old (Happens event label) new =
     IsQuiet settings old × (happens old event ≡ record { label = label; state = new })
 Goes settings old (Did label) new = Steps settings old label new
+Goes settings old (Declines label) new = IsDeclined old label new
 
 -- the entries lead from old to new, one after another
 abbrev pub Run : Settings → State → List Entry → State → Type 0
@@ -28,6 +30,7 @@ Run settings old (entry ∷ rest) new = (mid : State) × Goes settings old entry
 abbrev pub printed : Entry → Label
 printed (Happens event label) = label
 printed (Did label) = label
+printed (Declines label) = label
 
 abbrev pub root_path : Text
 root_path = codes "HTREE\\ROOT\\0"
@@ -64,6 +67,7 @@ opening rack =
       operation = None;
       tasks = [];
       windows = [];
+      handles = [];
     }
 
 -- A run that computes, where the answers of its searches are given in their order ------------------

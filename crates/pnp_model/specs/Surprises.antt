@@ -1,14 +1,16 @@
 -- The surprise removal.
-use Rattle.std.specs.Prelude.{ℕ, ◌==◌, Bool, true, false, List, [], ◌∷◌, Option, Some, None, length}
+use Rattle.std.specs.Prelude.{ℕ, ◌==◌, Bool, true, false, ◌||◌, List, [], ◌∷◌, Option, Some, None, length}
+use Rattle.std.specs.List.{list_any}
 use Rattle.pnp_model.specs.Keyed.{those}
 use Rattle.pnp_model.specs.Tests.{has, is_told}
 use Rattle.pnp_model.specs.Walks.{walk_of, has_ended}
-use Rattle.pnp_model.specs.Cores.{node_at, set_problem, drop_node, stack_of}
-use Rattle.pnp_model.specs.Trees.{leaving}
+use Rattle.pnp_model.specs.Cores.{node_at, set_problem, drop_node}
+use Rattle.pnp_model.specs.Trees.{leaving, dependents}
+use Rattle.pnp_model.specs.Handles.{is_open, was_told}
 use Rattle.pnp_model.specs.Frames.{Move, Ask, asked, state_label, ended, first_node, rest}
 use Rattle.pnp_model.specs.Removals.{RemoveBeside}
-use Rattle.pnp_model.specs.Records.{Node, Core, Walk, Surprise, SurpriseStage}
-use Rattle.pnp_model.specs.Records.SurpriseStage.{Telling, Removing, Settling, Ending}
+use Rattle.pnp_model.specs.Records.{Node, Core, Walk, Handle, Surprise, SurpriseStage}
+use Rattle.pnp_model.specs.Records.SurpriseStage.{Telling, Next, Removing, Settling, Ending}
 use Rattle.pnp_labels.specs.declared.label.Label.{Label}
 use Rattle.pnp_labels.specs.declared.words.Minor.{Minor}
 use Rattle.pnp_labels.specs.declared.states.Problem.{Problem}
@@ -23,17 +25,13 @@ moves label c o = record { label = label; core = c; frame = o; beside = RemoveBe
 
 -- what comes next, by the devices that are still to do
 
-abbrev pub finish_with : Surprise → List ℕ → List ℕ → Surprise
-finish_with o todo [] = record o { todo = todo; stage = Settling }
-finish_with o todo (d ∷ ds) = record o { todo = todo; stage = Removing (walk_of Minor.Remove) }
+abbrev pub finish_on : Surprise → List ℕ → Surprise
+finish_on o [] = record o { todo = []; stage = Ending }
+finish_on o (k ∷ ks) = record o { todo = k ∷ ks; stage = Next }
 
-abbrev pub finish_on : List Node → Surprise → List ℕ → Surprise
-finish_on nodes o [] = record o { todo = []; stage = Ending }
-finish_on nodes o (k ∷ ks) = finish_with o (k ∷ ks) (stack_of (node_at k nodes))
-
-abbrev pub tell_on : List Node → Surprise → List ℕ → Surprise
-tell_on nodes o [] = finish_on nodes o o.set
-tell_on nodes o (k ∷ ks) = record o { todo = k ∷ ks; stage = Telling (walk_of Minor.SurpriseRemoval) }
+abbrev pub tell_on : Surprise → List ℕ → Surprise
+tell_on o [] = finish_on o o.set
+tell_on o (k ∷ ks) = record o { todo = k ∷ ks; stage = Telling (walk_of Minor.SurpriseRemoval) }
 
 abbrev pub is_told_node : Option Node → Bool
 is_told_node None = false
@@ -41,7 +39,8 @@ is_told_node (Some n) = is_told n.state
 
 abbrev pub begun_with : Core → Node → List ℕ → Surprise
 begun_with c node set =
-    tell_on c.nodes (record { target = node.serial; path = node.path; set = set; todo = []; stage = Ending })
+    tell_on
+    (record { target = node.serial; path = node.path; set = set; told = those (λ k. was_told (node_at k c.nodes)) set; behind = []; todo = []; stage = Ending })
     (those (λ k. is_told_node (node_at k c.nodes)) set)
 
 abbrev pub begun_surprise : Core → Node → Surprise
@@ -52,7 +51,7 @@ asks o stage ask = moves ask.label ask.core (record o { stage = stage ask.walk }
 
 abbrev pub tell_step : Core → Surprise → Node → Walk → Bool → SurpriseMove
 tell_step c o node w true =
-    moves (state_label node Minor.SurpriseRemoval false) (ended c node Minor.SurpriseRemoval false) (tell_on c.nodes o (rest o.todo))
+    moves (state_label node Minor.SurpriseRemoval false) (ended c node Minor.SurpriseRemoval false) (tell_on o (rest o.todo))
 tell_step c o node w false = asks o Telling (asked c node w)
 
 abbrev pub remove_step : Core → Surprise → Node → Walk → Bool → SurpriseMove
@@ -60,16 +59,21 @@ remove_step c o node w true =
     moves (state_label node Minor.Remove false) (ended c node Minor.Remove false) (record o { stage = Settling })
 remove_step c o node w false = asks o Removing (asked c node w)
 
+-- did a device stay behind?
+abbrev pub end_of : List ℕ → OpEnd
+end_of [] = OpEnd.Done
+end_of (k ∷ ks) = OpEnd.Waiting
+
 abbrev pub close : Core → Surprise → SurpriseMove
 close c o =
-    record { label = Label.End OpKind.Surprise o.path OpEnd.Done; core = c; frame = o; beside = RemoveBeside.Over }
+    record { label = Label.End OpKind.Surprise o.path (end_of o.behind); core = c; frame = o; beside = RemoveBeside.Over }
 
 abbrev pub leaves : Core → Surprise → Node → SurpriseMove
 leaves c o node =
     record {
       label = Label.Leave node.path;
       core = drop_node node.serial c;
-      frame = finish_on c.nodes o (rest o.todo);
+      frame = finish_on o (rest o.todo);
       beside = RemoveBeside.Left node.path node.born;
     }
 
@@ -83,20 +87,44 @@ abbrev pub settle_other : Core → Surprise → Node → Bool → SurpriseMove
 settle_other c o node true = leaves c o node
 settle_other c o node false =
     moves (Label.Trouble node.path Problem.Held) (set_problem node.serial (Some Problem.Held) c)
-    (finish_on c.nodes o (rest o.todo))
+    (finish_on o (rest o.todo))
 
 -- is it the target?
 abbrev pub settle : Core → Surprise → Node → Bool → Bool → SurpriseMove
 settle c o node in_world true = settle_target c o node in_world
 settle c o node in_world false = settle_other c o node (has o.set node.parent)
 
--- `in_world` says whether the target's birth number is in the world
-abbrev pub surprise_step : Core → Surprise → Bool → SurpriseStage → Option Node → Option SurpriseMove
-surprise_step c o in_world Ending n = Some (close c o)
-surprise_step c o in_world (Telling w) (Some node) = Some (tell_step c o node w (has_ended w (length node.stack)))
-surprise_step c o in_world (Removing w) (Some node) = Some (remove_step c o node w (has_ended w (length node.stack)))
-surprise_step c o in_world Settling (Some node) = Some (settle c o node in_world (node.serial == o.target))
-surprise_step c o in_world _ None = None
+abbrev pub settled : Core → Surprise → Node → Bool → SurpriseMove
+settled c o node in_world = settle c o node in_world (node.serial == o.target)
 
-abbrev pub surprised : Core → Surprise → Bool → Option SurpriseMove
-surprised c o in_world = surprise_step c o in_world o.stage (first_node c.nodes o.todo)
+-- it was told before, a handle to it is open, or what depends on it stayed behind
+abbrev pub stays_behind : Core → Surprise → List Handle → ℕ → Bool
+stays_behind c o handles k = has o.told k || (is_open handles k || list_any (λ j. has o.behind j) (dependents c k))
+
+abbrev pub wait : Core → Surprise → Node → SurpriseMove
+wait c o node =
+    moves (Label.Waits node.path) c (finish_on (record o { behind = node.serial ∷ o.behind }) (rest o.todo))
+
+-- where it has a stack it gets a REMOVE walk first
+abbrev pub finish_with : Core → Surprise → Node → Bool → List ℕ → SurpriseMove
+finish_with c o node in_world [] = settled c o node in_world
+finish_with c o node in_world (d ∷ ds) =
+    remove_step c o node (walk_of Minor.Remove) (has_ended (walk_of Minor.Remove) (length node.stack))
+
+-- does it stay behind?
+abbrev pub finish : Core → Surprise → Node → Bool → Bool → SurpriseMove
+finish c o node in_world true = wait c o node
+finish c o node in_world false = finish_with c o node in_world node.stack
+
+-- `in_world` says whether the target's birth number is in the world
+abbrev pub surprise_step : Core → Surprise → Bool → List Handle → SurpriseStage → Option Node → Option SurpriseMove
+surprise_step c o in_world handles Ending n = Some (close c o)
+surprise_step c o in_world handles (Telling w) (Some node) = Some (tell_step c o node w (has_ended w (length node.stack)))
+surprise_step c o in_world handles Next (Some node) = Some (finish c o node in_world (stays_behind c o handles node.serial))
+surprise_step c o in_world handles (Removing w) (Some node) =
+    Some (remove_step c o node w (has_ended w (length node.stack)))
+surprise_step c o in_world handles Settling (Some node) = Some (settled c o node in_world)
+surprise_step c o in_world handles _ None = None
+
+abbrev pub surprised : Core → Surprise → Bool → List Handle → Option SurpriseMove
+surprised c o in_world handles = surprise_step c o in_world handles o.stage (first_node c.nodes o.todo)

@@ -2,7 +2,7 @@
 use Rattle.std.specs.Prelude.{ℕ, ◌+◌, ◌==◌, Bool, true, false, not, ◌&&◌, List, [], ◌∷◌, ◌++◌, Option, Some, None, nat_le, find, length}
 use Rattle.std.specs.List.{list_any}
 use Rattle.device_ids.specs.Folding.{same}
-use Rattle.pnp_model.specs.Tests.{has_same, is_surprise_task, task_word}
+use Rattle.pnp_model.specs.Tests.{has_same, is_surprise_removed, is_surprise_task, task_word}
 use Rattle.pnp_model.specs.Books.{name_of, driver_named}
 use Rattle.pnp_model.specs.Cores.{set_problem}
 use Rattle.pnp_model.specs.Trees.{children}
@@ -11,14 +11,16 @@ use Rattle.pnp_model.specs.Starts.{adding}
 use Rattle.pnp_model.specs.Rebalances.{begun_rebalance, begun_change}
 use Rattle.pnp_model.specs.Removals.{begun_removal}
 use Rattle.pnp_model.specs.Surprises.{begun_surprise}
+use Rattle.pnp_model.specs.Finishes.{begun_finish}
+use Rattle.pnp_model.specs.Handles.{is_ready_device}
 use Rattle.pnp_model.specs.Records.{Node, Device, Driver, Task, State, Step, Operation, Activity, Settings, Choice, Duty}
-use Rattle.pnp_model.specs.Records.Operation.{Rebalancing, Removing, Surprising}
+use Rattle.pnp_model.specs.Records.Operation.{Rebalancing, Removing, Surprising, Finishing}
 use Rattle.pnp_labels.specs.Texts.{Text}
 use Rattle.pnp_labels.specs.declared.states.DevState.{DevState}
 use Rattle.pnp_labels.specs.declared.states.Problem.{Problem}
 use Rattle.pnp_labels.specs.declared.label.OpKind.{OpKind}
 use Rattle.pnp_labels.specs.declared.label.Label.{Label}
-use Rattle.pnp_labels.specs.declared.states.DevState.TheVariants.{NoStack, NotStarted, Started}
+use Rattle.pnp_labels.specs.declared.states.DevState.TheVariants.{NoStack, NotStarted, Started, SurpriseRemoved}
 use Rattle.pnp_model.specs.Records.Duty.{Listing, Starting, Begins}
 
 abbrev pub skip : Duty → ℕ → State → Step
@@ -42,9 +44,10 @@ joining born nodes world = find (joins born nodes) world
 abbrev pub is_surprise_of : ℕ → Task → Bool
 is_surprise_of k task = is_surprise_task task.kind && task.serial == k
 
--- a child whose birth number is not in the world, without a surprise task
+-- a child that was not told so yet and whose birth number is not in the world, without a surprise task
 abbrev pub is_gone : State → Node → Bool
-is_gone s n = not (is_in_world s.world n.born) && not (list_any (is_surprise_of n.serial) s.tasks)
+is_gone s n =
+    not (is_surprise_removed n.state) && (not (is_in_world s.world n.born) && not (list_any (is_surprise_of n.serial) s.tasks))
 
 abbrev pub gone_child : State → ℕ → Option Node
 gone_child s k = find (is_gone s) (children k s.core.nodes)
@@ -154,6 +157,15 @@ abbrev pub disable_task : State → Node → Bool → Step
 disable_task s node true = skip (Begins OpKind.Disable) node.serial s
 disable_task s node false = begin s OpKind.Disable node (Removing (begun_removal s.core OpKind.Disable node))
 
+abbrev pub surprise_task : State → Node → DevState → Step
+surprise_task s node SurpriseRemoved = skip (Begins OpKind.Surprise) node.serial s
+surprise_task s node _ = begin s OpKind.Surprise node (Surprising (begun_surprise s.core node))
+
+-- is it ready?
+abbrev pub finish_task : State → Node → Bool → Step
+finish_task s node false = skip (Begins OpKind.Finish) node.serial s
+finish_task s node true = begin s OpKind.Finish node (Finishing (begun_finish node))
+
 -- is its device in the world still? What is wanted is what that device requires now
 abbrev pub change_born : State → Node → Option Device → Step
 change_born s node None = skip (Begins OpKind.Change) node.serial s
@@ -169,5 +181,6 @@ begin_step s kind k None = skip (Begins kind) k s
 begin_step s OpKind.Rebalance k (Some node) = rebalance_task s node node.state
 begin_step s OpKind.Disable k (Some node) = disable_task s node (has_same node.path s.disabled)
 begin_step s OpKind.Eject k (Some node) = begin s OpKind.Eject node (Removing (begun_removal s.core OpKind.Eject node))
-begin_step s OpKind.Surprise k (Some node) = begin s OpKind.Surprise node (Surprising (begun_surprise s.core node))
+begin_step s OpKind.Surprise k (Some node) = surprise_task s node node.state
+begin_step s OpKind.Finish k (Some node) = finish_task s node (is_ready_device s.core s.handles node)
 begin_step s OpKind.Change k (Some node) = change_task s node node.state

@@ -1,5 +1,3 @@
-use Rattle.std.proofs.Common.{◌≡◌, ◌++◌, ◌∷◌, [], refl, subst, sym, map, drop, ◌+◌, ap, ◌∙◌}
-use Rattle.pnp_labels.specs.Texts.{after_spaces, spaced, res_text}
 use Rattle.pnp_labels.proofs.Reading.{spaced_next}
 use Rattle.pnp_labels.proofs.line.assign_line.Goals as goal
 
