@@ -16,7 +16,7 @@ use Rattle.pnp_laws.proofs.Lookups.{none_below, found_self}
 use Rattle.pnp_laws.proofs.TreeMoves.{Childless}
 use Rattle.pnp_laws.proofs.Finishes.{head_childless}
 use Rattle.pnp_laws.proofs.Standing.{Tree, Finishes, Goes, StageKept}
-use Rattle.pnp_laws.proofs.RunsStand.{Kept}
+use Rattle.pnp_laws.proofs.Standing.{Kept}
 use Rattle.operation_frame.specs.Nodes.{IsStripped}
 
 -- a node is found by its own serial

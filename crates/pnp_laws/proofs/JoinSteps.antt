@@ -23,7 +23,7 @@ use Rattle.pnp_laws.specs.Kept.{Fits, InOrder, IsGood, OperationFits, RemovalKee
 use Rattle.pnp_laws.proofs.EffectViews.{Turns, acting_at, entered_either, state_from}
 use Rattle.pnp_laws.proofs.Lists.{head_found, head_has}
 use Rattle.pnp_laws.proofs.Lookups.{some_same, own_serial, found_self, phase_from, ended_same, ended_other, first_is}
-use Rattle.pnp_laws.proofs.RunsStand.{Kept}
+use Rattle.pnp_laws.proofs.Standing.{Kept}
 use Rattle.pnp_laws.proofs.Standing.{Sound}
 use Rattle.pnp_laws.proofs.Joins.{starts, start_cost, start_of, closed, removal_closed, is_bare, some_there, is_live, In, Gone, Stays, sub_stays, Flows}
 use Rattle.pnp_model.specs.Events as ev

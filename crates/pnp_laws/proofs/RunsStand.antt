@@ -16,15 +16,10 @@ use Rattle.pnp_laws.proofs.DiagramSteps.{follows_effect}
 use Rattle.pnp_laws.proofs.EffectsOf.{effect_goes}
 use Rattle.pnp_laws.proofs.Runs.{lawful_goes, opening_is_good, root_is}
 use Rattle.pnp_laws.proofs.TreeMoves.{edge_cases}
-use Rattle.pnp_laws.proofs.Standing.{Stands}
+use Rattle.pnp_laws.proofs.Standing.{Stands, Kept}
 use Rattle.pnp_laws.proofs.Sounds.{IsPlain, walked_plain, first_stays}
 use Rattle.pnp_laws.proofs.EventChanges.{Outside, happens_outside}
 use Rattle.pnp_laws.proofs.SoundMachine.{sound_step, stands_happens, begins_well}
-
--- what each state of a run keeps
-pub record Kept (s : State) : Type 0 where
-  pub good : IsGood s
-  pub stands : Stands s
 
 pub may_begin : (s : State) → Kept s → MayBegin s
 may_begin s kept none = begins_well s none kept.good kept.stands

@@ -1,12 +1,13 @@
 -- What each state of a run keeps.
 use Rattle.std.specs.Prelude.{ℕ, suc, ◌≡◌, ◌≢◌, ◌<◌, ◌≤◌, ◌==◌, Bool, true, false, List, [], ◌∷◌, Option, Some, None, if◌then◌else◌}
-use Rattle.pnp_model.specs.Tests.{has, is_started, is_no_stack, is_told}
+use Rattle.pnp_model.specs.Tests.{has, is_started, is_no_stack, is_told, is_surprise_removed}
+use Rattle.pnp_model.specs.Removals.{is_queried}
 use Rattle.std.specs.List.{slice_get}
 use Rattle.resource_reqs.specs.Resources.{Reqs}
 use Rattle.pnp_model.specs.Trees.{leaving}
 use Rattle.pnp_model.specs.Cores.{node_at}
 use Rattle.pnp_model.specs.States.{activity_at}
-use Rattle.pnp_model.specs.Records.{Node, Core, Task, Activity, Phase, State, Operation, Rebalance, RebalanceStage, Removal, RemovalStage, Surprise, SurpriseStage, Duty}
+use Rattle.pnp_model.specs.Records.{Node, Core, Task, Activity, Phase, State, Operation, Rebalance, RebalanceStage, Removal, RemovalStage, Surprise, SurpriseStage, Finish, FinishStage, Duty}
 use Rattle.pnp_model.specs.Records.Phase.{Adding, Searching, Starting, Removing, Due}
 use Rattle.pnp_labels.specs.declared.states.DevState.{DevState}
 use Rattle.pnp_labels.specs.declared.label.OpKind.{OpKind}
@@ -26,12 +27,17 @@ abbrev pub is_remove_pending : DevState → Bool
 is_remove_pending RemovePending = true
 is_remove_pending _ = false
 
+abbrev pub is_not_pending : DevState → Bool
+is_not_pending RemovePending = false
+is_not_pending _ = true
+
 -- outside operations
 abbrev pub is_calm : DevState → Bool
 is_calm NoStack = true
 is_calm NotStarted = true
 is_calm Started = true
 is_calm Stopped = true
+is_calm SurpriseRemoved = true
 is_calm _ = false
 
 -- it was never up
@@ -85,13 +91,18 @@ rebalance_state r (RebalanceStage.Restarting w) k x = stopped_state r.todo k x
 rebalance_state r RebalanceStage.Failed k x = stopped_state r.todo k x
 rebalance_state r RebalanceStage.Ending k x = is_calm x
 
--- the devices still to ask are Started, those that agreed are pending, others of the set were never up
+-- the devices still to ask are Started or wait to be finished, those that agreed are pending, others of the set were never up
+abbrev pub turn_state : List ℕ → List ℕ → List ℕ → ℕ → DevState → Bool
+turn_state todo agreed set k x =
+    if has todo k then is_queried x else (if has agreed k then is_remove_pending x else (if has set k then is_idle x else is_calm x))
+
+-- the same, where the first of them is Started
 abbrev pub querying_state : List ℕ → List ℕ → List ℕ → ℕ → DevState → Bool
-querying_state todo agreed set k x =
-    if has todo k then is_started x else (if has agreed k then is_remove_pending x else (if has set k then is_idle x else is_calm x))
+querying_state todo agreed set k x = if at_head todo k then is_started x else turn_state todo agreed set k x
 
 abbrev pub refusing_state : List ℕ → List ℕ → ℕ → DevState → Bool
-refusing_state todo agreed k x = if has todo k then is_started x else (if has agreed k then is_remove_pending x else is_calm x)
+refusing_state todo agreed k x =
+    if at_head todo k then is_started x else (if has agreed k then is_remove_pending x else is_calm x)
 
 abbrev pub restoring_state : List ℕ → ℕ → DevState → Bool
 restoring_state todo k x = if has todo k then is_remove_pending x else is_calm x
@@ -106,6 +117,7 @@ abbrev pub settling_state : List ℕ → ℕ → DevState → Bool
 settling_state todo k x = if at_head todo k then is_no_stack x else (if has todo k then is_removable x else is_calm x)
 
 abbrev pub removal_state : Removal → RemovalStage → ℕ → DevState → Bool
+removal_state o RemovalStage.Next k x = turn_state o.todo o.agreed o.set k x
 removal_state o (RemovalStage.Asking w) k x = querying_state o.todo o.agreed o.set k x
 removal_state o (RemovalStage.TakingBack w) k x = refusing_state o.todo o.agreed k x
 removal_state o (RemovalStage.Cancelling w) k x = restoring_state o.todo k x
@@ -119,9 +131,23 @@ telling_state todo set k x = if has todo k then is_told x else (if has set k the
 
 abbrev pub surprise_state : Surprise → SurpriseStage → ℕ → DevState → Bool
 surprise_state o (SurpriseStage.Telling w) k x = telling_state o.todo o.set k x
+surprise_state o SurpriseStage.Next k x = finishing_state o.todo k x
 surprise_state o (SurpriseStage.Removing w) k x = removing_state o.todo k x
 surprise_state o SurpriseStage.Settling k x = settling_state o.todo k x
 surprise_state o SurpriseStage.Ending k x = is_calm x
+
+-- the device that is being finished is SurpriseRemoved, and then has no drivers
+abbrev pub taken_state : List ℕ → ℕ → DevState → Bool
+taken_state todo k x = if at_head todo k then is_surprise_removed x else is_calm x
+
+abbrev pub emptied_state : List ℕ → ℕ → DevState → Bool
+emptied_state todo k x = if at_head todo k then is_no_stack x else is_calm x
+
+abbrev pub finish_state : Finish → FinishStage → ℕ → DevState → Bool
+finish_state f FinishStage.Next k x = is_calm x
+finish_state f (FinishStage.Removing w) k x = taken_state f.todo k x
+finish_state f FinishStage.Leaving k x = emptied_state f.todo k x
+finish_state f FinishStage.Holding k x = emptied_state f.todo k x
 
 -- each device passes its test
 abbrev pub Each : (ℕ → DevState → Bool) → List Node → Type 0
@@ -182,6 +208,7 @@ pub record RebalanceKeeps (r : Rebalance) (stage : RebalanceStage) (nodes : List
   pub waits : TargetFits r.wanted r.target nodes
 
 abbrev pub RemovalAsks : Removal → RemovalStage → Type 0
+RemovalAsks o RemovalStage.Next = Apart o.todo o.agreed × Within o.agreed o.set × Within o.todo o.set
 RemovalAsks o (RemovalStage.Asking w) = Apart o.todo o.agreed × Within o.agreed o.set × Within o.todo o.set
 RemovalAsks o (RemovalStage.TakingBack w) = Apart o.todo o.agreed × Within o.agreed o.set × Within o.todo o.set
 RemovalAsks o _ = Within o.todo o.set
@@ -207,12 +234,23 @@ pub record SurpriseKeeps (o : Surprise) (stage : SurpriseStage) (nodes : List No
   pub inside : Within o.todo o.set
   pub ends : SurpriseEnds o stage
   pub each : Each (surprise_state o stage) nodes
+  pub calm : Each (λ k x. is_not_pending x) nodes
+
+-- one device is being finished, and it is not the root
+abbrev pub OneIsNext : Finish → FinishStage → Type 0
+OneIsNext f FinishStage.Next = f.todo ≡ []
+OneIsNext f _ = (k : ℕ) × (f.todo ≡ k ∷ []) × (k ≢ 0)
+
+pub record FinishKeeps (f : Finish) (stage : FinishStage) (nodes : List Node) : Type 0 where
+  pub one : OneIsNext f stage
+  pub each : Each (finish_state f stage) nodes
 
 abbrev pub OperationFits : Option Operation → List Node → Type 0
 OperationFits None nodes = Each (λ k x. is_calm x) nodes
 OperationFits (Some (Operation.Rebalancing r)) nodes = RebalanceKeeps r r.stage nodes
 OperationFits (Some (Operation.Removing o)) nodes = RemovalKeeps o o.stage nodes
 OperationFits (Some (Operation.Surprising o)) nodes = SurpriseKeeps o o.stage nodes
+OperationFits (Some (Operation.Finishing f)) nodes = FinishKeeps f f.stage nodes
 
 -- which state a device has in a phase of its start
 abbrev pub Fits : Phase → DevState → Type 0

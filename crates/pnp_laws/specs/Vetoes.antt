@@ -27,6 +27,7 @@ pub record Held (state : DevState) (before now : Core) (agreed : List ℕ) : Typ
   pub reserved : now.reserved ≡ before.reserved
 
 abbrev pub Since : Core → Core → Removal → RemovalStage → Type 0
+Since before now o RemovalStage.Next = Held RemovePending before now o.agreed × (o.refuser ≡ None)
 Since before now o (RemovalStage.Asking w) = Held RemovePending before now o.agreed × (o.refuser ≡ None)
 Since before now o (RemovalStage.TakingBack w) = Held RemovePending before now o.agreed
 Since before now o (RemovalStage.Cancelling w) = Held RemovePending before now o.todo

@@ -27,11 +27,13 @@ abbrev pub kind_of : Operation → OpKind
 kind_of (Operation.Rebalancing r) = rebalances.kind_of r.wanted
 kind_of (Operation.Removing o) = o.kind
 kind_of (Operation.Surprising o) = OpKind.Surprise
+kind_of (Operation.Finishing f) = OpKind.Finish
 
 abbrev pub path_of : Operation → Text
 path_of (Operation.Rebalancing r) = r.path
 path_of (Operation.Removing o) = o.path
 path_of (Operation.Surprising o) = o.path
+path_of (Operation.Finishing f) = f.path
 
 abbrev pub is_removal : Operation → Bool
 is_removal (Operation.Removing o) = true

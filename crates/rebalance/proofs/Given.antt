@@ -2,7 +2,7 @@
 use Rattle.std.proofs.Common.{◌≡◌, List, Some}
 use Rattle.pnp_model.specs.Records.{Node, State, Operation, Rebalance, RebalanceStage}
 use Rattle.pnp_laws.proofs.Standing.{RebalanceThere}
-use Rattle.pnp_laws.proofs.RunsStand.{Kept}
+use Rattle.pnp_laws.proofs.Standing.{Kept}
 use Rattle.operation_frame.proofs.Given.{running, first_there}
 use Rattle.rebalance.specs.Steps.{HasNext}
 

@@ -4,7 +4,7 @@ use Rattle.pnp_model.specs.Laws.{HoldsWhole}
 use Rattle.pnp_model.specs.Records.{Node, Core, State, Operation, Surprise, SurpriseStage}
 use Rattle.pnp_laws.specs.Kept.{Ascending, SurpriseKeeps}
 use Rattle.pnp_laws.proofs.Standing.{Tree, SurpriseOrder, SurpriseThere}
-use Rattle.pnp_laws.proofs.RunsStand.{Kept}
+use Rattle.pnp_laws.proofs.Standing.{Kept}
 use Rattle.operation_frame.proofs.Given.{running, first_there, next_may_leave}
 use Rattle.surprise_remove.specs.Steps.{HasNext, SettlesStripped}
 
