@@ -29,6 +29,10 @@ next_on f = record f { todo = []; stage = Next }
 abbrev pub asks : Finish → Ask → FinishMove
 asks f ask = moves ask.label ask.core (record f { stage = Removing ask.walk })
 
+-- this device is taken, and its REMOVE walk begins
+abbrev pub taken : Finish → Node → Finish
+taken f node = record f { todo = node.serial ∷ []; stage = Removing (walk_of Minor.Remove) }
+
 abbrev pub close : Core → Finish → FinishMove
 close c f =
     record { label = Label.End OpKind.Finish f.path OpEnd.Done; core = c; frame = f; beside = RemoveBeside.Over }
@@ -36,7 +40,7 @@ close c f =
 -- a ready device has drivers, which are asked at once
 abbrev pub take : Core → Finish → Option Node → FinishMove
 take c f None = close c f
-take c f (Some node) = asks (record f { todo = node.serial ∷ [] }) (asked c node (walk_of Minor.Remove))
+take c f (Some node) = asks (taken f node) (asked c node (walk_of Minor.Remove))
 
 abbrev pub node_of_ready : List Node → Option ℕ → Option Node
 node_of_ready nodes None = None

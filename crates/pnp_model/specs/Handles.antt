@@ -42,8 +42,8 @@ abbrev pub was_told : Option Node → Bool
 was_told None = false
 was_told (Some n) = is_surprise_removed n.state
 
--- a device is ready to be finished where it was told that it has gone, no handle to it is open, and nothing that hangs on
--- it has drivers
+-- a device is ready to be finished where it was told that it has gone and has its drivers still, no handle to it is open,
+-- and nothing that hangs on it has drivers
 
 abbrev pub has_drivers : List ℕ → Bool
 has_drivers [] = false
@@ -54,7 +54,8 @@ holds_back c k n = hangs_on c (k ∷ []) n && has_drivers n.stack
 
 abbrev pub is_ready_device : Core → List Handle → Node → Bool
 is_ready_device c handles n =
-    is_surprise_removed n.state && (not (is_open handles n.serial) && not (list_any (holds_back c n.serial) c.nodes))
+    is_surprise_removed n.state
+    && (has_drivers n.stack && (not (is_open handles n.serial) && not (list_any (holds_back c n.serial) c.nodes)))
 
 -- the ready device of the greatest serial
 abbrev pub ready_device : Core → List Handle → Option ℕ

@@ -98,12 +98,16 @@ ask_step c o node w false = asks o Asking (asked c node w)
 abbrev pub refuses_unasked : List Handle → Node → Bool
 refuses_unasked handles node = is_open handles node.serial || is_surprise_removed node.state
 
+-- its query begins
+abbrev pub queried : Removal → Removal
+queried o = record o { stage = Asking (walk_of Minor.QueryRemove) }
+
 -- does it refuse unasked? Then nothing is taken back from it
 abbrev pub query : Core → Removal → Node → Bool → RemovalMove
 query c o node true =
     moves (Label.Handles node.path) c (cancel_on (record o { refuser = Some node.serial }) o.agreed)
 query c o node false =
-    ask_step c o node (walk_of Minor.QueryRemove) (has_ended (walk_of Minor.QueryRemove) (length node.stack))
+    ask_step c (queried o) node (walk_of Minor.QueryRemove) (has_ended (walk_of Minor.QueryRemove) (length node.stack))
 
 -- a veto
 

@@ -105,11 +105,14 @@ abbrev pub wait : Core → Surprise → Node → SurpriseMove
 wait c o node =
     moves (Label.Waits node.path) c (finish_on (record o { behind = node.serial ∷ o.behind }) (rest o.todo))
 
--- where it has a stack it gets a REMOVE walk first
+-- its REMOVE walk begins, which it gets where it has a stack
+abbrev pub removing : Surprise → Surprise
+removing o = record o { stage = Removing (walk_of Minor.Remove) }
+
 abbrev pub finish_with : Core → Surprise → Node → Bool → List ℕ → SurpriseMove
-finish_with c o node in_world [] = settled c o node in_world
+finish_with c o node in_world [] = settled c (record o { stage = Settling }) node in_world
 finish_with c o node in_world (d ∷ ds) =
-    remove_step c o node (walk_of Minor.Remove) (has_ended (walk_of Minor.Remove) (length node.stack))
+    remove_step c (removing o) node (walk_of Minor.Remove) (has_ended (walk_of Minor.Remove) (length node.stack))
 
 -- does it stay behind?
 abbrev pub finish : Core → Surprise → Node → Bool → Bool → SurpriseMove
