@@ -8,7 +8,7 @@ use Rattle.resource_reqs.specs.Spelling.{IsAnswer}
 use Rattle.resource_reqs.specs.Spelling.Answer.{assignment, no_fit, spent}
 use Rattle.pnp_labels.specs.Texts.{Text}
 use Rattle.pnp_labels.specs.declared.states.DevState.{DevState}
-use Rattle.pnp_labels.specs.declared.states.DevState.TheVariants.{NoStack, NotStarted, Started}
+use Rattle.pnp_labels.specs.declared.states.DevState.TheVariants.{NoStack, NotStarted, Started, SurpriseRemoved}
 use Rattle.pnp_labels.specs.declared.states.Problem.{Problem}
 use Rattle.pnp_labels.specs.declared.words.AskWhat.{AskWhat}
 use Rattle.pnp_labels.specs.declared.words.Answer.{Answer}
@@ -21,7 +21,8 @@ use Rattle.pnp_model.specs.Records.{Activity, Choice, Core, Device, Duty, Found,
 use Rattle.pnp_model.specs.Records.Phase.{Adding, Searching, Starting, Removing, Due}
 use Rattle.pnp_model.specs.Rebalances.{begun_change}
 use Rattle.pnp_model.specs.States.{activity_at, device_born}
-use Rattle.pnp_model.specs.Tests.{has_same, is_surprise_task}
+use Rattle.pnp_model.specs.Tests.{has_same, is_surprise_removed, is_surprise_task}
+use Rattle.pnp_model.specs.Handles.{is_ready_device}
 use Rattle.pnp_model.specs.Trees.{is_child}
 use Rattle.pnp_model.specs.Walks.{has_ended, is_bad}
 use Rattle.pnp_laws.specs.Effects.{Acting, BeginsFor, Chosen, IsSearch, begun, required}
@@ -29,7 +30,7 @@ use Rattle.pnp_laws.specs.Kept.{Ascending}
 use Rattle.pnp_laws.specs.Words.{NotTwelve}
 use Rattle.pnp_laws.proofs.Lookups.{find_passes, find_those, found_self, node_found, own_serial}
 use Rattle.pnp_laws.proofs.Passing.{AllBy, AllNext, all_step}
-use Rattle.pnp_laws.proofs.Stages.{OperationStep, operation_step}
+use Rattle.pnp_laws.proofs.Stages.{TakenStep, operation_step}
 use Rattle.pnp_laws.proofs.Truths.{and_both, by_test, not_true}
 use Rattle.pnp_model.specs.Machine as ma
 use Rattle.pnp_model.specs.Starts as st
@@ -52,6 +53,8 @@ pub data TaskStep (s : State) : Step → Type 0 where
   skips : (kind : Duty) (k j : ℕ) → First s kind k → is_surprise_task kind ≡ false → TaskStep s (tk.skip kind j s)
   -- a surprise removal of a device that is not there
   misses : (k : ℕ) → First s (Duty.Begins OpKind.Surprise) k → node_at k s.core.nodes ≡ None → TaskStep s (tk.skip (Duty.Begins OpKind.Surprise) k s)
+  -- or that was told already
+  told : (node : Node) → First s (Duty.Begins OpKind.Surprise) node.serial → node_at node.serial s.core.nodes ≡ Some node → node.state ≡ SurpriseRemoved → TaskStep s (tk.skip (Duty.Begins OpKind.Surprise) node.serial s)
   lists : (k : ℕ) (node : Node) → First s Duty.Listing k → TaskStep s (tk.gone_or_listed s node None)
   finds_gone : (node child : Node) → tk.gone_child s node.serial ≡ Some child → TaskStep s (tk.gone_or_listed s node (Some child))
   joins : (node : Node) (d : Device) → node_at node.serial s.core.nodes ≡ Some node → node.state ≡ Started → tk.joining node.born s.core.nodes s.world ≡ Some d → TaskStep s (tk.join_step s node d)
@@ -165,6 +168,14 @@ module _ (s : State) where
     disables true first e = TaskStep.skips _ node.serial node.serial first refl
     disables false first e = TaskStep.begins OpKind.Disable node first alone at e
 
+    surprises : (x : DevState) → First s (Duty.Begins OpKind.Surprise) node.serial → node.state ≡ x → TaskStep s (tk.surprise_task s node x)
+    surprises SurpriseRemoved first state = TaskStep.told node first at state
+    surprises _ first state = TaskStep.begins OpKind.Surprise node first alone at (ap is_surprise_removed state)
+
+    finishes : (ready : Bool) → First s (Duty.Begins OpKind.Finish) node.serial → is_ready_device s.core s.handles node ≡ ready → TaskStep s (tk.finish_task s node ready)
+    finishes true first e = TaskStep.begins OpKind.Finish node first alone at e
+    finishes false first e = TaskStep.skips _ node.serial node.serial first refl
+
     changes_born : (o : Option Device) → First s (Duty.Begins OpKind.Change) node.serial → node.state ≡ Started → device_born node.born s.world ≡ o → TaskStep s (tk.change_born s node o)
     changes_born None first state e = TaskStep.skips _ node.serial node.serial first refl
     changes_born (Some d) first state e =
@@ -181,7 +192,8 @@ module _ (s : State) where
   begin_step OpKind.Rebalance k (Some node) first alone e = rebalances alone node (found_self k s.core.nodes node e) node.state (own_first _ k node e first) refl
   begin_step OpKind.Disable k (Some node) first alone e = disables alone node (found_self k s.core.nodes node e) (has_same node.path s.disabled) (own_first _ k node e first) refl
   begin_step OpKind.Eject k (Some node) first alone e = TaskStep.begins OpKind.Eject node (own_first _ k node e first) alone (found_self k s.core.nodes node e) tt
-  begin_step OpKind.Surprise k (Some node) first alone e = TaskStep.begins OpKind.Surprise node (own_first _ k node e first) alone (found_self k s.core.nodes node e) tt
+  begin_step OpKind.Surprise k (Some node) first alone e = surprises alone node (found_self k s.core.nodes node e) node.state (own_first _ k node e first) refl
+  begin_step OpKind.Finish k (Some node) first alone e = finishes alone node (found_self k s.core.nodes node e) (is_ready_device s.core s.handles node) (own_first _ k node e first) refl
   begin_step OpKind.Change k (Some node) first alone e = changes alone node (found_self k s.core.nodes node e) node.state (own_first _ k node e first) refl
 
 -- Starts -------------------------------------------------------------------------------
@@ -204,7 +216,7 @@ pub data ActivityStep (c : Core) (node : Node) : Phase → st.StartMove → Type
 -- What a step of the machine is ----------------------------------------------------------
 
 pub data MachineStep (s : State) : Step → Type 0 where
-  operates : (o : Operation) (step : Step) → s.operation ≡ Some o → OperationStep s o step → MachineStep s step
+  operates : (o : Operation) (step : Step) → s.operation ≡ Some o → TakenStep s o step → MachineStep s step
   starts : (node : Node) (phase : Phase) (m : st.StartMove) → node_at node.serial s.core.nodes ≡ Some node → Acting s node.serial phase → ActivityStep s.core node phase m → MachineStep s (ma.start_lifted s node.serial m)
   does : (step : Step) → s.operation ≡ None → TaskStep s step → MachineStep s step
 

@@ -46,6 +46,7 @@ pub mod MachineSteps
 pub mod Runs
 pub mod Sharing
 pub mod Passing
+pub mod Readies
 pub mod PlansKept
 pub mod SharingEffects
 pub mod RunsShare

@@ -54,7 +54,7 @@ closed_rootless c set g free none =
 
 -- The selection ------------------------------------------------------------------------
 
-greatest_some : (x : ℕ) (xs : List ℕ) → (k : ℕ) × (greatest (x ∷ xs) ≡ Some k) × (has (x ∷ xs) k ≡ true)
+pub greatest_some : (x : ℕ) (xs : List ℕ) → (k : ℕ) × (greatest (x ∷ xs) ≡ Some k) × (has (x ∷ xs) k ≡ true)
 greatest_some x [] = (x, refl, grind (arith, nat_tests))
 greatest_some x (y ∷ ys) =
     let more = greatest_some y ys in
@@ -68,7 +68,7 @@ greatest_some x (y ∷ ys) =
     let chosen = by_test (nat_lt x more.0) in
     (chosen.0, ap (λ (o : Option ℕ). Some (greater x o)) e ∙ chosen.1, chosen.2)
 
-picked : (xs : List ℕ) (j : ℕ) → has xs j ≡ true → (k : ℕ) × (greatest xs ≡ Some k) × (has xs k ≡ true)
+pub picked : (xs : List ℕ) (j : ℕ) → has xs j ≡ true → (k : ℕ) × (greatest xs ≡ Some k) × (has xs k ≡ true)
 picked [] j h = absurd (cc)
 picked (x ∷ xs) j h = greatest_some x xs
 

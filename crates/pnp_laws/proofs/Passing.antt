@@ -17,3 +17,9 @@ pub all_step : (P : Step → Type 0) (settings : Settings) (o : Option (Doing St
 all_step P settings None step h is = absurd is
 all_step P settings (Some (Does one)) step h is = subst P (sym is) h
 all_step P settings (Some (Searches problem by_answer)) step h is = subst P (sym is.2) (h is.0 is.1)
+
+-- what follows from it holds of them as well
+pub all_by : (P Q : Step → Type 0) (budget : ℕ) (o : Option (Doing Step)) → ((step : Step) → P step → Q step) → AllNext budget P o → AllNext budget Q o
+all_by P Q budget None f h = tt
+all_by P Q budget (Some (Does step)) f h = f step h
+all_by P Q budget (Some (Searches problem by_answer)) f h = λ found answer. f (by_answer found) (h found answer)

@@ -1,12 +1,12 @@
 -- What a step of the machine, or an event, can do to a state: the one account that laws over steps read.
-use Rattle.std.specs.Prelude.{ℕ, ◌+◌, ◌≡◌, ◌≢◌, ◌⊎◌, ◌==◌, ◌&&◌, Bool, true, false, List, [], ◌∷◌, ◌++◌, Option, Some, None, length, map, find, drop, nat_le, slice_get, option_map}
+use Rattle.std.specs.Prelude.{ℕ, ◌+◌, ◌≡◌, ◌≢◌, ◌⊎◌, ◌==◌, ◌&&◌, Bool, true, false, List, [], ◌∷◌, ◌++◌, Option, Some, None, length, map, find, drop, nat_le, nat_lt, slice_get, option_map}
 use Rattle.std.specs.List.{list_any}
 use Rattle.std.specs.Option.{is_some}
 use Rattle.resource_reqs.specs.Resources.{Res, Reqs, clashes}
 use Rattle.resource_reqs.specs.Spelling.{IsAnswer}
 use Rattle.resource_reqs.specs.Spelling.Answer.{assignment}
 use Rattle.pnp_labels.specs.Texts.{Text}
-use Rattle.pnp_labels.specs.declared.states.DevState.TheVariants.{NoStack, NotStarted, Started}
+use Rattle.pnp_labels.specs.declared.states.DevState.TheVariants.{NoStack, NotStarted, Started, SurpriseRemoved}
 use Rattle.pnp_labels.specs.declared.states.Problem.{Problem}
 use Rattle.pnp_labels.specs.declared.words.AskWhat.{AskWhat}
 use Rattle.pnp_labels.specs.declared.words.DriverKind.{DriverKind}
@@ -19,23 +19,26 @@ use Rattle.pnp_labels.specs.declared.label.Label.{Label}
 use Rattle.pnp_labels.specs.declared.label.Shown.{Shown}
 use Rattle.pnp_model.specs.Books.{driver_named, is_named, is_unnamed, name_of, rack_after, with_name}
 use Rattle.pnp_model.specs.Keyed.{changed_first, without_first}
-use Rattle.pnp_model.specs.Tests.{has, has_same, is_started, is_surprise_task}
+use Rattle.pnp_model.specs.Tests.{has, has_same, is_started, is_surprise_removed, is_surprise_task}
 use Rattle.pnp_model.specs.Trees.{children, dependents, stands_up}
 use Rattle.pnp_model.specs.Walks.{walk_of, may_fail, is_bad, has_ended, state_after}
 use Rattle.pnp_model.specs.Cores.{is_node, node_at, forget, bare, stacked, with_state, with_problem, with_stack, with_holds}
 use Rattle.pnp_model.specs.Frames.{first_node, fixed_beside, held_by, next_driver}
 use Rattle.pnp_model.specs.States.{is_activity, activity_at, device_born, device_of, entered, has_below, is_in_world, let_through, node_born, node_of, requires, with_phase, without_those}
 use Rattle.pnp_model.specs.Windows.{is_window_on}
+use Rattle.pnp_model.specs.Handles.{closed_with, is_handle_of, is_open, is_ready_device, opened, ready_device}
 use Rattle.pnp_model.specs.Starts.{adding, own_part}
 use Rattle.pnp_model.specs.Rebalances.{begun_rebalance, begun_change, committed, movers, plan_of}
-use Rattle.pnp_model.specs.Removals.{begun_removal}
-use Rattle.pnp_model.specs.Surprises.{begun_surprise}
+use Rattle.pnp_model.specs.Removals.{begun_removal, queried, refuses_unasked}
+use Rattle.pnp_model.specs.Surprises.{begun_surprise, removing, stays_behind}
+use Rattle.pnp_model.specs.Finishes.{begun_finish, taken}
 use Rattle.pnp_model.specs.Tasks.{begin, is_gone, join_step, joining, numbered}
 use Rattle.pnp_model.specs.Machine.{is_ready, operation_walk, phase_walk}
 use Rattle.pnp_model.specs.Events.{answer_of, completed, completed_phase, has_children, with_rule}
 use Rattle.pnp_model.specs.Runs.{Entry, Goes, printed}
-use Rattle.pnp_model.specs.Runs.Entry.{Happens, Did}
-use Rattle.pnp_model.specs.Records.{Node, Device, Relation, Walk, Activity, Phase, Task, Duty, State, Operation, Rebalance, RebalanceStage, Removal, RemovalStage, Settings, SurpriseStage}
+use Rattle.pnp_model.specs.Runs.Entry.{Happens, Did, Declines}
+use Rattle.pnp_model.specs.Records.{Node, Device, Relation, Walk, Activity, Phase, Task, Duty, State, Operation, Rebalance, RebalanceStage, Removal, RemovalStage, Settings, Surprise, SurpriseStage, Finish, FinishStage, Handle}
+use Rattle.pnp_laws.specs.Kept.{Ascending}
 use Rattle.pnp_laws.specs.Words.{IsBeside, IsNoJoin, IsWord, NotTwelve, EndsBy, is_removal, kind_of, path_of, spared, wanted_by, joined}
 use Rattle.device_ids.specs.Folding as folding
 
@@ -54,6 +57,7 @@ abbrev pub todo_of : Operation → List ℕ
 todo_of (Operation.Rebalancing r) = r.todo
 todo_of (Operation.Removing o) = o.todo
 todo_of (Operation.Surprising o) = o.todo
+todo_of (Operation.Finishing f) = f.todo
 
 -- those of them that may leave: where the operation settles who stays
 abbrev pub removal_leaves : RemovalStage → List ℕ → List ℕ
@@ -64,9 +68,14 @@ abbrev pub surprise_leaves : SurpriseStage → List ℕ → List ℕ
 surprise_leaves SurpriseStage.Settling todo = todo
 surprise_leaves _ todo = []
 
+abbrev pub finish_leaves : FinishStage → List ℕ → List ℕ
+finish_leaves FinishStage.Leaving todo = todo
+finish_leaves _ todo = []
+
 abbrev pub to_leave : Operation → List ℕ
 to_leave (Operation.Removing o) = removal_leaves o.stage o.todo
 to_leave (Operation.Surprising o) = surprise_leaves o.stage o.todo
+to_leave (Operation.Finishing f) = finish_leaves f.stage f.todo
 to_leave _ = []
 
 -- what is asked in a stage
@@ -90,10 +99,15 @@ surprise_minor (SurpriseStage.Telling w) = Some Minor.SurpriseRemoval
 surprise_minor (SurpriseStage.Removing w) = Some Minor.Remove
 surprise_minor _ = None
 
+abbrev pub finish_minor : FinishStage → Option Minor
+finish_minor (FinishStage.Removing w) = Some Minor.Remove
+finish_minor _ = None
+
 abbrev pub operation_minor : Operation → Option Minor
 operation_minor (Operation.Rebalancing r) = rebalance_minor r.stage
 operation_minor (Operation.Removing o) = removal_minor o.stage
 operation_minor (Operation.Surprising o) = surprise_minor o.stage
+operation_minor (Operation.Finishing f) = finish_minor f.stage
 
 -- and in a phase of a start
 abbrev pub phase_minor : Phase → Option Minor
@@ -111,10 +125,28 @@ PhaseOwn phase = IsOwn (phase_walk phase) (phase_minor phase)
 abbrev pub OperationOwn : Operation → Type 0
 OperationOwn o = IsOwn (operation_walk o) (operation_minor o)
 
+-- An operation as it is where its next device is taken: as it was, or at the request or the settling that begins for the device
+pub data Turn (s : State) : Operation → Operation → Type 0 where
+  same : (o : Operation) → Turn s o o
+  queries : (o : Removal) (node : Node) → o.stage ≡ RemovalStage.Next → first_node s.core.nodes o.todo ≡ Some node → refuses_unasked s.handles node ≡ false
+      → Turn s (Operation.Removing o) (Operation.Removing (queried o))
+  removes : (o : Surprise) (node : Node) (d : ℕ) (ds : List ℕ) → o.stage ≡ SurpriseStage.Next → first_node s.core.nodes o.todo ≡ Some node → stays_behind s.core o s.handles node.serial ≡ false
+      → node.stack ≡ d ∷ ds → Turn s (Operation.Surprising o) (Operation.Surprising (removing o))
+  settles : (o : Surprise) (node : Node) → o.stage ≡ SurpriseStage.Next → first_node s.core.nodes o.todo ≡ Some node → stays_behind s.core o s.handles node.serial ≡ false
+      → node.stack ≡ [] → Turn s (Operation.Surprising o) (Operation.Surprising (record o { stage = SurpriseStage.Settling }))
+  finishes : (f : Finish) (k : ℕ) (node : Node) → f.stage ≡ FinishStage.Next → ready_device s.core s.handles ≡ Some k → node_at k s.core.nodes ≡ Some node
+      → Turn s (Operation.Finishing f) (Operation.Finishing (taken f node))
+
+-- this operation runs, its next device taken
+pub record Running (s : State) (o : Operation) : Type 0 where
+  pub before : Operation
+  pub runs : s.operation ≡ Some before
+  pub turn : Turn s before o
+
 -- a walk of the operation that runs, at its first device
 pub record Asking (s : State) (node : Node) (minor : Minor) (w : Walk) : Type 0 where
   pub operation : Operation
-  pub runs : s.operation ≡ Some operation
+  pub runs : Running s operation
   pub first : first_node s.core.nodes (todo_of operation) ≡ Some node
   pub walk : operation_walk operation ≡ Some w
   pub minor_is : operation_minor operation ≡ Some minor
@@ -182,7 +214,7 @@ pub data NodeEffect (s : State) (label : Label) (t : State) : Type 0 where
       → t.core.nodes ≡ map (committed r.wanted r.target (movers r) (plan_of r.found)) s.core.nodes → t.core.relations ≡ s.core.relations → NodeEffect s label t
   joins : (node : Node) (d : Device) → s.operation ≡ None → node_at node.serial s.core.nodes ≡ Some node → node.state ≡ Started
       → joining node.born s.core.nodes s.world ≡ Some d → record { label = label; state = t } ≡ join_step s node d → NodeEffect s label t
-  left : (node : Node) (o : Operation) → s.operation ≡ Some o → first_node s.core.nodes (to_leave o) ≡ Some node
+  left : (node : Node) (o : Operation) → Running s o → first_node s.core.nodes (to_leave o) ≡ Some node
       → t.core.nodes ≡ without_first (is_node node.serial) s.core.nodes → t.core.relations ≡ s.core.relations → NodeEffect s label t
   related : (r : Relation) → Related s r → t.core.nodes ≡ s.core.nodes → t.core.relations ≡ s.core.relations ++ r ∷ [] → NodeEffect s label t
 
@@ -201,7 +233,7 @@ pub data DriverEffect (s : State) (entry : Entry) (t : State) : Type 0 where
   ended : (node : Node) (minor : Minor) (w : Walk) (bad : Bool) → node_at node.serial s.core.nodes ≡ Some node → Request s node minor w
       → has_ended w (length node.stack) ≡ true → ends_bad minor w ≡ bad → printed entry ≡ Label.State node.path (state_after minor bad node.state)
       → t.core.rack ≡ s.core.rack → DriverEffect s entry t
-  asked : (node : Node) (w : Walk) (shown : Shown) → node_at node.serial s.core.nodes ≡ Some node → has_ended w (length node.stack) ≡ false
+  asked : (node : Node) (w : Walk) (shown : Shown) → node_at node.serial s.core.nodes ≡ Some node → (Ascending 0 s.core.nodes → has_ended w (length node.stack) ≡ false)
       → printed entry ≡ Label.Asked w.minor node.path (name_of s.core.rack (next_driver node w)) shown
       → t.core.rack ≡ rack_after (AskWhat.Irp w.minor) node.path s.core.rack (next_driver node w) → DriverEffect s entry t
   added : (node : Node) (d : ℕ) (ds : List ℕ) → Acting s node.serial (Phase.Adding (d ∷ ds)) → printed entry ≡ Label.Add node.path (name_of t.core.rack d) true
@@ -252,6 +284,7 @@ pub record Plugged (s : State) (entry : Entry) (d : Device) : Type 0 where
 -- what leaves the world: in an event a device that is not the root, in a step the device of a node that leaves
 abbrev pub Unplugs : State → Entry → ℕ → Type 0
 Unplugs s (Happens event label) born = (d : Device) × (path : Text) × (device_of path s.world ≡ Some d) × (d.born ≡ born) × ((d.born == 0) ≡ false)
+Unplugs s (Declines label) born = ⊥
 Unplugs s (Did label) born = (node : Node) × (o : Removal) × (s.operation ≡ Some (Operation.Removing o)) × (o.stage ≡ RemovalStage.Settling) × (first_node s.core.nodes o.todo ≡ Some node) × (node.born ≡ born)
 
 pub data WorldEffect (s : State) (entry : Entry) (t : State) : Type 0 where
@@ -295,12 +328,15 @@ begun s OpKind.Rebalance node = Operation.Rebalancing (begun_rebalance s.core no
 begun s OpKind.Disable node = Operation.Removing (begun_removal s.core OpKind.Disable node)
 begun s OpKind.Eject node = Operation.Removing (begun_removal s.core OpKind.Eject node)
 begun s OpKind.Surprise node = Operation.Surprising (begun_surprise s.core node)
+begun s OpKind.Finish node = Operation.Finishing (begun_finish node)
 begun s OpKind.Change node = Operation.Rebalancing (begun_change s.core node (required s node (device_born node.born s.world)))
 
 -- what is tested before it begins
 abbrev pub BeginsFor : State → OpKind → Node → Type 0
 BeginsFor s OpKind.Rebalance node = (node.state ≡ NotStarted) × (activity_at node.serial s.activities ≡ None)
 BeginsFor s OpKind.Disable node = has_same node.path s.disabled ≡ false
+BeginsFor s OpKind.Surprise node = is_surprise_removed node.state ≡ false
+BeginsFor s OpKind.Finish node = is_ready_device s.core s.handles node ≡ true
 BeginsFor s OpKind.Change node = (node.state ≡ Started) × (is_some (device_born node.born s.world) ≡ true)
 BeginsFor s _ node = Unit {0}
 
@@ -354,12 +390,13 @@ pub data OpEffect (s : State) (label : Label) (t : State) : Type 0 where
       → record { label = label; state = t } ≡ begin s kind node (begun s kind node) → OpEffect s label t
   goes : (o p : Operation) → s.operation ≡ Some o → t.operation ≡ Some p → SameWork o p
       → IsBeside label ⊎ Conflicts o label → OpEffect s label t
-  ends : (o : Operation) (result : OpEnd) → s.operation ≡ Some o → t.operation ≡ None → label ≡ Label.End (kind_of o) (path_of o) result → EndsBy (is_removal o) result → Closes s o t
+  ends : (o : Operation) (result : OpEnd) → Running s o → t.operation ≡ None → label ≡ Label.End (kind_of o) (path_of o) result → EndsBy (is_removal o) result → Closes s o t
       → OpEffect s label t
 
 abbrev pub OperationEffect : State → Entry → State → Type 0
 OperationEffect s (Happens event label) t = AnswerEffect s label t
 OperationEffect s (Did label) t = OpEffect s label t
+OperationEffect s (Declines label) t = OpEffect s label t
 
 -- Activities -----------------------------------------------------------------------------
 
@@ -413,15 +450,19 @@ pub data CommandEffect (s t : State) : Type 0 where
   same : t.tasks ≡ s.tasks → CommandEffect s t
   lists : (k : ℕ) → t.tasks ≡ s.tasks ++ record { kind = Duty.Listing; serial = k } ∷ [] → CommandEffect s t
   starts : (path : Text) (n : Node) → Enabled s t path n → t.tasks ≡ s.tasks ++ record { kind = Duty.Starting; serial = n.serial } ∷ [] → CommandEffect s t
+  -- no handle is open any more to a device that has gone
+  finishes : (n : Node) (path : Text) → node_of path s.core.nodes ≡ Some n → n.state ≡ SurpriseRemoved → is_open t.handles n.serial ≡ false
+      → t.tasks ≡ s.tasks ++ record { kind = Duty.Begins OpKind.Finish; serial = n.serial } ∷ [] → CommandEffect s t
   begins : (kind : OpKind) (n : Node) (path : Text) → node_of path s.core.nodes ≡ Some n → (n.serial == 0) ≡ false
       → t.tasks ≡ s.tasks ++ record { kind = Duty.Begins kind; serial = n.serial } ∷ [] → CommandEffect s t
 
--- where the task of a surprise removal is dropped, its device is gone, or its removal begins
+-- where the task of a surprise removal is dropped, its device is not there, or was told already, or its removal begins
 abbrev pub Surprises : State → Task → State → Type 0
 Surprises s task t =
     is_surprise_task task.kind ≡ true
     → (node_at task.serial s.core.nodes ≡ None)
-    ⊎ ((node : Node) × (node_at task.serial s.core.nodes ≡ Some node) × (t.operation ≡ Some (Operation.Surprising (begun_surprise s.core node))))
+    ⊎ (((node : Node) × (node_at task.serial s.core.nodes ≡ Some node) × (node.state ≡ SurpriseRemoved))
+    ⊎ ((node : Node) × (node_at task.serial s.core.nodes ≡ Some node) × (t.operation ≡ Some (Operation.Surprising (begun_surprise s.core node)))))
 
 pub data TaskEffect (s t : State) : Type 0 where
   same : t.tasks ≡ s.tasks → TaskEffect s t
@@ -436,6 +477,17 @@ pub data TaskEffect (s t : State) : Type 0 where
 abbrev pub TasksEffect : State → Entry → State → Type 0
 TasksEffect s (Happens event label) t = CommandEffect s t
 TasksEffect s (Did label) t = TaskEffect s t
+TasksEffect s (Declines label) t = TaskEffect s t
+
+-- Handles ----------------------------------------------------------------------------------
+
+-- a handle is opened to a device that is up, while no operation runs, or one is closed
+pub data HandleEffect (s : State) (entry : Entry) (t : State) : Type 0 where
+  same : t.handles ≡ s.handles → HandleEffect s entry t
+  opens : (node : Node) (path : Text) (label : Label) → s.operation ≡ None → node_of path s.core.nodes ≡ Some node → (node.serial == 0) ≡ false → node.state ≡ Started
+      → entry ≡ Happens (Event.OpenHandle path) label → t ≡ record s { handles = opened node.serial s.handles } → HandleEffect s entry t
+  closes : (node : Node) (path : Text) (label : Label) (handle : Handle) → node_of path s.core.nodes ≡ Some node → find (is_handle_of node.serial) s.handles ≡ Some handle
+      → entry ≡ Happens (Event.CloseHandle path) label → t ≡ record s { handles = t.handles; tasks = t.tasks } → t.handles ≡ closed_with node.serial s.handles (nat_lt 1 handle.count) → HandleEffect s entry t
 
 -- Joins ------------------------------------------------------------------------------------
 
@@ -456,6 +508,7 @@ pub record Effect (s : State) (entry : Entry) (t : State) : Type 0 where
   pub world : WorldEffect s entry t
   pub paths : PathEffect s (printed entry) t
   pub windows : WindowEffect s entry t
+  pub handles : HandleEffect s entry t
   pub joins : JoinEffect s (printed entry) t
   pub serial : t.next_serial ≡ s.next_serial + joined (printed entry)
 

@@ -3,7 +3,7 @@ use Rattle.std.specs.Prelude.{ℕ, ◌+◌, ◌*◌, ◌≤◌, List, [], ◌∷
 use Rattle.pnp_model.specs.Records.{Driver, Task, State, Settings, Duty}
 use Rattle.pnp_model.specs.Laws.{Reaches}
 use Rattle.pnp_model.specs.Runs.{Entry, Run, printed}
-use Rattle.pnp_model.specs.Runs.Entry.{Happens, Did}
+use Rattle.pnp_model.specs.Runs.Entry.{Happens, Did, Declines}
 use Rattle.pnp_laws.specs.Quiet.{Rests}
 use Rattle.pnp_laws.specs.Words.{joined}
 
@@ -12,6 +12,7 @@ abbrev pub AllSteps : List Entry → Type 0
 AllSteps [] = Unit {0}
 AllSteps (Happens event label ∷ rest) = ⊥
 AllSteps (Did label ∷ rest) = AllSteps rest
+AllSteps (Declines label ∷ rest) = ⊥
 
 -- where nothing happens, the machine comes to rest, and after so many steps at most
 pub record Settles (settings : Settings) (s : State) : Type 0 where
@@ -33,6 +34,7 @@ abbrev pub events : List Entry → ℕ
 events [] = 0
 events (Happens event label ∷ rest) = 1 + events rest
 events (Did label ∷ rest) = events rest
+events (Declines label ∷ rest) = events rest
 
 -- how many nodes joined
 abbrev pub joins : List Entry → ℕ

@@ -10,7 +10,7 @@ use Rattle.pnp_model.specs.Cores.{node_at}
 use Rattle.pnp_model.specs.Laws.{Reaches}
 use Rattle.pnp_model.specs.Records.{Driver, Node, Settings, State}
 use Rattle.pnp_model.specs.Runs.{Entry, root_path}
-use Rattle.pnp_model.specs.Runs.Entry.{Happens, Did}
+use Rattle.pnp_model.specs.Runs.Entry.{Happens, Did, Declines}
 use Rattle.pnp_model.specs.Windows.{clip}
 use Rattle.pnp_laws.specs.Held.{AreWithin, NodesWithin}
 
@@ -57,6 +57,7 @@ IsEventWithin most _ = Unit {0}
 abbrev pub IsEntryWithin : ℕ → Entry → Type 0
 IsEntryWithin most (Happens event label) = IsEventWithin most event
 IsEntryWithin most (Did label) = Unit {0}
+IsEntryWithin most (Declines label) = Unit {0}
 
 -- so where no event of a run says more, no node of it needs more
 abbrev pub NeedsLaw : Type 0
