@@ -33,6 +33,7 @@ unborn next k = cond (nat_lt k next) 0 1
 
 -- the operation takes the drivers of these devices
 abbrev pub removal_closed : Removal → RemovalStage → ℕ → Bool
+removal_closed o RemovalStage.Next k = false
 removal_closed o (RemovalStage.Asking w) k = false
 removal_closed o (RemovalStage.TakingBack w) k = false
 removal_closed o (RemovalStage.Cancelling w) k = false

@@ -84,6 +84,7 @@ pub mod JoinFalls
 pub mod JoinRooms
 pub mod JoinLimits
 mod JoinTwice
+pub mod Weights
 pub mod Measures
 pub mod MeasureOps
 pub mod MeasureStages
