@@ -30,6 +30,7 @@ pub mod Theres
 pub mod Tolds
 pub mod SoundRemovals
 pub mod ToldSteps
+pub mod TurnsKept
 pub mod Restarts
 pub mod SoundRebalances
 pub mod SoundTasks

@@ -1,10 +1,8 @@
 -- What the steps of all operations share: a walk that ended, an ask, a device that stays or leaves.
 use Rattle.std.proofs.Common.{ℕ, ◌≡◌, ◌≢◌, ◌⊎◌, inl, inr, Bool, true, false, List, [], ◌∷◌, ◌++◌, Option, Some, refl, sym, ap, ◌∙◌, subst}
 use Rattle.pnp_model.specs.Keyed.{changed_first}
-use Rattle.pnp_model.specs.Tests.{has}
 use Rattle.pnp_model.specs.Records.{Node, Core, Task, State, Duty}
 use Rattle.pnp_model.specs.Cores.{is_node, node_at, with_state, with_problem, strip, drop_node}
-use Rattle.pnp_model.specs.Trees.{hangs_on}
 use Rattle.pnp_model.specs.Diagram.{Row}
 use Rattle.pnp_labels.specs.declared.states.DevState.{DevState}
 use Rattle.pnp_labels.specs.declared.words.Minor.{Minor}
@@ -13,14 +11,13 @@ use Rattle.pnp_labels.specs.declared.label.Label.{Label}
 use Rattle.pnp_labels.specs.declared.states.DevState.TheVariants.{NoStack, Stopped}
 use Rattle.pnp_laws.specs.Kept.{Ascending, is_idle}
 use Rattle.pnp_laws.proofs.Lookups.{node_from, Ascending-changed}
-use Rattle.pnp_laws.proofs.Lists.{HeadIs, head_has}
+use Rattle.pnp_laws.proofs.Lists.{HeadIs}
 use Rattle.pnp_laws.proofs.Finishing.{Listed, StacksFit}
-use Rattle.pnp_laws.proofs.Standing.{IsNoLeave, TasksUp, DutyUp, DueBut, waiting, StageKept, Stands, Sound, Finishes}
+use Rattle.pnp_laws.proofs.Standing.{IsNoLeave, TasksUp, DutyUp, DueBut, waiting, StageKept, Stands, Sound, IsFree}
 use Rattle.pnp_laws.proofs.TreeChanges.{Alike, SameTree, same_still, same_changed, nodes_same}
-use Rattle.pnp_laws.proofs.TreeMoves.{Childless, was_stripped}
+use Rattle.pnp_laws.proofs.TreeMoves.{Childless}
 use Rattle.pnp_laws.proofs.SoundStarts.{child_hangs, no_dependents}
 use Rattle.pnp_laws.proofs.Sounds.{IsPlain, LeadsMore, leads_same, leads_pushed, up_append, due_still, due_changed, due_stripped, due_left, sound_same, sound_still, sound_walk, sound_strip, sound_left}
-use Rattle.pnp_laws.proofs.Finishes.{dependents_bare, dependents_done, head_childless}
 
 -- the device of a step, which stands first of what is to do
 pub record Work (s : State) (node : Node) (todo : List ℕ) : Type 0 where
@@ -58,21 +55,6 @@ op_still s t label rest plain a b next tasks stage waits due h =
     sound_still s t label plain a b next (subst (λ (ts : List Task). TasksUp ts) (sym tasks) h.up) (stage (same_still s.core t.core a b))
     (subst (λ (ks : List ℕ). DueBut ks t.tasks t.core.nodes) (sym waits)
     (due_still rest rest s.tasks t.tasks s.core.nodes t.core.nodes a (subst (λ (ts : List Task). LeadsMore s.tasks ts) (sym tasks) (leads_same s.tasks)) (λ k q. q) due)) h
-
--- the head lost its drivers
-pub op_strip : (s t : State) (node : Node) (todo set rest : List ℕ) → Work s node todo → has set node.serial ≡ true → Finishes s.core set todo → t.core ≡ strip node.serial s.core → t.next_serial ≡ s.next_serial → t.tasks ≡ s.tasks → Row node.state Minor.Remove false NoStack →
-    StageKept t.operation t.core → waiting t.operation ≡ rest → DueBut rest s.tasks s.core.nodes → Stands s → Sound s (record { label = Label.State node.path NoStack; state = t })
-op_strip s t node todo set rest w own order is next tasks row stage waits due h =
-    sound_strip s t node is next w.at row (head_childless s.next_serial s.core set todo node.serial w.order h.tree w.head own order)
-    (λ j m dep there.
-    let there2 = subst (λ (c : Core). node_at j c.nodes ≡ Some m) is there in
-    let was = was_stripped node.serial j s.core m there2 in
-    let other : node.serial ≢ j = λ e. dependents_done s.next_serial s.core set todo node.serial w.order h.tree w.head order j dep (subst (λ (i : ℕ). has todo i ≡ true) e (head_has node.serial todo w.head)) in
-    let state = dependents_bare s.next_serial s.core set todo node.serial w.order h.tree w.head own order j was.node dep was.at in
-    ap (λ (x : Node). x.stack) (was.other other) ∙ (w.stacks j was.node was.at).none state)
-    (subst (λ (ts : List Task). TasksUp ts) (sym tasks) h.up) stage
-    (subst (λ (ks : List ℕ). DueBut ks t.tasks t.core.nodes) (sym waits)
-    (due_stripped rest s.tasks t.tasks s.core t.core node.serial node is w.at (subst (λ (ts : List Task). LeadsMore s.tasks ts) (sym tasks) (leads_same s.tasks)) due)) h
 
 -- the head stays, with a problem
 
@@ -119,27 +101,15 @@ pub more_listed : (tasks more : List Task) → Listed tasks more → MoreTasks t
 more_listed tasks more (inl e) = subst (λ (ts : List Task). MoreTasks tasks ts) (sym e) (more_same tasks)
 more_listed tasks more (inr (k, e)) = subst (λ (ts : List Task). MoreTasks tasks ts) (sym e) (more_pushed tasks (record { kind = Duty.Listing; serial = k }) (inl refl))
 
--- the head left
-pub op_left : (s t : State) (node : Node) (todo set rest : List ℕ) (label : Label) → Work s node todo → IsPlain label → (IsNoLeave label → ⊥) → has set node.serial ≡ true → Finishes s.core set todo → t.core ≡ drop_node node.serial s.core → t.next_serial ≡ s.next_serial → MoreTasks s.tasks t.tasks →
-    StageKept t.operation t.core → waiting t.operation ≡ rest → DueBut rest s.tasks s.core.nodes → Stands s → Sound s (record { label = label; state = t })
-op_left s t node todo set rest label w plain leaves own order is next tasks stage waits due h =
-    let alone = head_childless s.next_serial s.core set todo node.serial w.order h.tree w.head own order in
-    sound_left s t label node plain leaves is next w.order alone (tasks.up h.up) stage
-    (subst (λ (ks : List ℕ). DueBut ks t.tasks t.core.nodes) (sym waits)
-    (due_left rest s.tasks t.tasks s.core t.core node.serial is w.order alone h.tree.root w.up tasks.leads due)) h
-
 -- The head, on which nothing hangs ----------------------------------------------------------------
-
-abbrev pub IsFree : Core → ℕ → Type 0
-IsFree c k = (i : ℕ) (m : Node) → node_at i c.nodes ≡ Some m → hangs_on c (k ∷ []) m ≡ true → ⊥
 
 free_childless : (c : Core) (k : ℕ) → IsFree c k → Childless k c.nodes
 free_childless c k free i m at up e = free i m at (child_hangs c k i m at up e)
 
 -- it lost its drivers
-pub op_strip_free : (s t : State) (node : Node) (todo rest : List ℕ) → Work s node todo → IsFree s.core node.serial → t.core ≡ strip node.serial s.core → t.next_serial ≡ s.next_serial → t.tasks ≡ s.tasks → Row node.state Minor.Remove false NoStack →
+pub op_strip : (s t : State) (node : Node) (todo rest : List ℕ) → Work s node todo → IsFree s.core node.serial → t.core ≡ strip node.serial s.core → t.next_serial ≡ s.next_serial → t.tasks ≡ s.tasks → Row node.state Minor.Remove false NoStack →
     StageKept t.operation t.core → waiting t.operation ≡ rest → DueBut rest s.tasks s.core.nodes → Stands s → Sound s (record { label = Label.State node.path NoStack; state = t })
-op_strip_free s t node todo rest w free is next tasks row stage waits due h =
+op_strip s t node todo rest w free is next tasks row stage waits due h =
     sound_strip s t node is next w.at row (free_childless s.core node.serial free)
     (λ j m dep there. absurd (no_dependents s.core node.serial w.order free j dep))
     (subst (λ (ts : List Task). TasksUp ts) (sym tasks) h.up) stage
@@ -147,9 +117,9 @@ op_strip_free s t node todo rest w free is next tasks row stage waits due h =
     (due_stripped rest s.tasks t.tasks s.core t.core node.serial node is w.at (subst (λ (ts : List Task). LeadsMore s.tasks ts) (sym tasks) (leads_same s.tasks)) due)) h
 
 -- it left
-pub op_left_free : (s t : State) (node : Node) (todo rest : List ℕ) (label : Label) → Work s node todo → IsPlain label → (IsNoLeave label → ⊥) → IsFree s.core node.serial → t.core ≡ drop_node node.serial s.core → t.next_serial ≡ s.next_serial → MoreTasks s.tasks t.tasks →
+pub op_left : (s t : State) (node : Node) (todo rest : List ℕ) (label : Label) → Work s node todo → IsPlain label → (IsNoLeave label → ⊥) → IsFree s.core node.serial → t.core ≡ drop_node node.serial s.core → t.next_serial ≡ s.next_serial → MoreTasks s.tasks t.tasks →
     StageKept t.operation t.core → waiting t.operation ≡ rest → DueBut rest s.tasks s.core.nodes → Stands s → Sound s (record { label = label; state = t })
-op_left_free s t node todo rest label w plain leaves free is next tasks stage waits due h =
+op_left s t node todo rest label w plain leaves free is next tasks stage waits due h =
     let alone = free_childless s.core node.serial free in
     sound_left s t label node plain leaves is next w.order alone (tasks.up h.up) stage
     (subst (λ (ks : List ℕ). DueBut ks t.tasks t.core.nodes) (sym waits)
