@@ -37,6 +37,8 @@ pub mod OpSteps
 pub mod StartSteps
 pub mod RebalanceSteps
 pub mod FinishSteps
+pub mod FinishingSteps
+pub mod Turns
 pub mod RemovalSteps
 pub mod SurpriseSteps
 pub mod Asked
