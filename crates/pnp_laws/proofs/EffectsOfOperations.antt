@@ -134,7 +134,7 @@ own_number j k h = grind (arith, nat_tests)
 
 -- An operation that runs, its next device taken -------------------------------------------
 
-turn_work : (s : State) (o p : Operation) → Turn s o p → SameWork o p
+pub turn_work : (s : State) (o p : Operation) → Turn s o p → SameWork o p
 turn_work s o _ (Turn.same p) = record { sort = refl; kind = refl; path = refl; spared = refl; wanted = refl; own = λ own. own }
 turn_work s _ _ (Turn.queries o node is first asked) = record { sort = refl; kind = refl; path = refl; spared = refl; wanted = refl; own = λ own. refl }
 turn_work s _ _ (Turn.removes o node d ds is first goes stack) = record { sort = refl; kind = refl; path = refl; spared = refl; wanted = refl; own = λ own. refl }

@@ -4,7 +4,7 @@ use Rattle.std.proofs.lemmas.Bool.Decides.{nat_tests}
 use Rattle.pnp_model.specs.Keyed.{changed_first, without_first}
 use Rattle.pnp_model.specs.Records.{Node, Handle, State, Operation, Finish, FinishStage}
 use Rattle.pnp_model.specs.Cores.{bare, drop_node, is_node, node_at, with_problem}
-use Rattle.pnp_model.specs.Tests.{is_no_stack, is_surprise_removed}
+use Rattle.pnp_model.specs.Tests.{is_no_stack}
 use Rattle.pnp_model.specs.States.{set_operation, with_core}
 use Rattle.pnp_model.specs.Finishes.{FinishMove, begun_finish, is_leaving, next_on, settle_on}
 use Rattle.pnp_model.specs.Machine.{finish_lifted}
@@ -15,16 +15,12 @@ use Rattle.pnp_laws.specs.Kept.{Good, Lawful, Each, OperationFits, FinishKeeps, 
 use Rattle.pnp_laws.proofs.Diagrams.{Each_changed, Each_left, Each_same}
 use Rattle.pnp_laws.proofs.Kept.{lawful_by, Good_left}
 use Rattle.pnp_laws.proofs.Lists.{HeadIs}
-use Rattle.pnp_laws.proofs.OpSteps.{lawful_walked, lawful_close}
+use Rattle.pnp_laws.proofs.OpSteps.{is_SurpriseRemoved, lawful_walked, lawful_close}
 use Rattle.pnp_laws.proofs.Finishing.{is_NoStack, relist_only}
 use Rattle.pnp_laws.proofs.FinishSteps.{at_work}
 use Rattle.pnp_laws.proofs.Stages.{FinishStep}
 
 -- states of the device that is being finished, and of others
-
-pub is_SurpriseRemoved : (x : DevState) → is_surprise_removed x ≡ true → x ≡ SurpriseRemoved
-is_SurpriseRemoved SurpriseRemoved h = refl
-is_SurpriseRemoved _ h = cc
 
 pub head_taken : (todo : List ℕ) (j : ℕ) (x : DevState) → HeadIs j todo → taken_state todo j x ≡ true → x ≡ SurpriseRemoved
 head_taken [] j x h g = absurd h

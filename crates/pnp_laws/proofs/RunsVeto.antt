@@ -4,8 +4,9 @@ use Rattle.pnp_model.specs.Records.{Node, Core, Driver, State, Step, Settings, O
 use Rattle.pnp_model.specs.Trees.{leaving}
 use Rattle.pnp_model.specs.Removals.{begun_removal, end_of}
 use Rattle.pnp_model.specs.Tasks.{begin}
+use Rattle.pnp_model.proofs.Due.{due_is_first}
 use Rattle.pnp_model.specs.Runs.{Entry, Goes, Run, printed}
-use Rattle.pnp_model.specs.Runs.Entry.{Happens, Did}
+use Rattle.pnp_model.specs.Runs.Entry.{Happens, Did, Declines}
 use Rattle.pnp_model.specs.Laws.{IsWithin, AllWithin, Restores, VetoLaw}
 use Rattle.pnp_labels.specs.Texts.{Text}
 use Rattle.pnp_labels.specs.declared.label.Label.{Label}
@@ -34,6 +35,7 @@ veto_goes before settings s (Did label) t good w g h =
       | inl next ↦ next.1
       | inr closed ↦ absurd (not_closed before s (record { label = label; state = t }) w closed)
     ]
+veto_goes before settings s (Declines label) t good w g h = let idle = (due_is_first s g.first g.is_due).idle in let runs = h.runs in absurd (cc)
 
 -- the end
 

@@ -16,7 +16,7 @@ use Rattle.pnp_laws.specs.Effects.{Running, Turn}
 use Rattle.pnp_laws.specs.Kept.{Ascending, Each, FinishKeeps, Good, HasStackOf, IsGood, OperationFits, RemovalKeeps, SurpriseKeeps, finishing_state, is_calm, querying_state, removing_state, settling_state, taken_state, turn_state}
 use Rattle.pnp_laws.proofs.Finishing.{StacksFit, remove_each, settle_each}
 use Rattle.pnp_laws.proofs.FinishSteps.{not_root}
-use Rattle.pnp_laws.proofs.FinishingSteps.{is_SurpriseRemoved}
+use Rattle.pnp_laws.proofs.OpSteps.{is_SurpriseRemoved}
 use Rattle.pnp_laws.proofs.Kept.{Good_nodes}
 use Rattle.pnp_laws.proofs.Lists.{HeadIs, head_found, head_has}
 use Rattle.pnp_laws.proofs.Lookups.{found_self, own_serial, some_same}
