@@ -149,6 +149,12 @@ work_after a b c h g =
 pub turns_from : (s : State) (p : Operation) (r : Rebalance) → Turn s p (Operation.Rebalancing r) → p ≡ Operation.Rebalancing r
 turns_from s _ r (Turn.same _) = refl
 
+pub rebalance_stays : (s : State) (r : Rebalance) (p : Operation) → Turn s (Operation.Rebalancing r) p → p ≡ Operation.Rebalancing r
+rebalance_stays s r _ (Turn.same _) = refl
+
+pub rebalance_step_is : (s : State) (r : Rebalance) (step : Step) → TakenStep s (Operation.Rebalancing r) step → OperationStep s (Operation.Rebalancing r) step
+rebalance_step_is s r step taken = subst (λ (x : Operation). OperationStep s x step) (rebalance_stays s r taken.now taken.turn) taken.is
+
 pub turns_settling : (s : State) (p : Operation) (o : Removal) → o.stage ≡ RemovalStage.Settling → Turn s p (Operation.Removing o) → p ≡ Operation.Removing o
 turns_settling s _ o is (Turn.same _) = refl
 turns_settling s _ _ is (Turn.queries o node next first asked) = absurd (cc)

@@ -49,6 +49,8 @@ pub mod Runs
 pub mod Sharing
 pub mod Passing
 pub mod Readies
+mod Declined
+mod WalkEnds
 pub mod PlansKept
 pub mod SharingEffects
 pub mod RunsShare
