@@ -3,7 +3,7 @@ use Rattle.std.proofs.Common.{ℕ, ◌≡◌, ◌≢◌, Bool, true, false, List
 use Rattle.std.proofs.lemmas.Bool.Decides.{nat_tests}
 use Rattle.pnp_model.specs.Keyed.{changed_first, without_first}
 use Rattle.pnp_model.specs.Records.{Node, Handle, State, Operation, Finish, FinishStage}
-use Rattle.pnp_model.specs.Cores.{bare, drop_node, is_node, node_at, with_problem}
+use Rattle.pnp_model.specs.Cores.{bare, drop_node, is_node, with_problem}
 use Rattle.pnp_model.specs.Tests.{is_no_stack}
 use Rattle.pnp_model.specs.States.{set_operation, with_core}
 use Rattle.pnp_model.specs.Finishes.{FinishMove, begun_finish, is_leaving, next_on, settle_on}

@@ -11,22 +11,22 @@ use Rattle.pnp_model.specs.Tests.{has}
 use Rattle.pnp_model.specs.States.{with_core}
 use Rattle.pnp_model.specs.Walks.{after}
 use Rattle.pnp_model.specs.Frames.{asked, first_node}
-use Rattle.pnp_model.proofs.Due.{due_is_first}
 use Rattle.pnp_model.specs.Runs.{Entry, Goes, Run, printed}
 use Rattle.pnp_model.specs.Runs.Entry.{Happens, Did, Declines}
 use Rattle.pnp_model.specs.Laws.{IsWithin, AllWithin, Refuses, RefusedSince}
 use Rattle.pnp_labels.specs.declared.label.Label.{Label}
 use Rattle.pnp_labels.specs.declared.label.OpKind.{OpKind}
-use Rattle.pnp_laws.specs.Effects.{Turn, begun}
+use Rattle.pnp_laws.specs.Effects.{begun}
 use Rattle.pnp_laws.specs.Kept.{Ascending, IsGood, OperationFits, RebalanceKeeps}
 use Rattle.pnp_laws.specs.Reached.{IsReached}
 use Rattle.pnp_laws.specs.Rebalanced.{Undone, EndsBad, AskedSince, Refusing, Underway}
 use Rattle.pnp_laws.proofs.Reaching.{reached_on}
 use Rattle.pnp_laws.proofs.Reached.{reached_is_good}
+use Rattle.pnp_laws.proofs.Declined.{idle_before}
 use Rattle.pnp_laws.proofs.EventChanges.{Outside, Answered, happens_outside}
 use Rattle.pnp_laws.proofs.Askings.{asks_begun}
 use Rattle.pnp_laws.proofs.BeginSteps.{Begun}
-use Rattle.pnp_laws.proofs.EffectsOfOperations.{SameRefused, re_ask_on}
+use Rattle.pnp_laws.proofs.EffectsOfOperations.{SameRefused, re_ask_on, rebalance_step_is}
 use Rattle.pnp_laws.proofs.Standing.{Tree}
 use Rattle.pnp_laws.proofs.RebalanceMoves.{GoesOn, MovesOn, answered_asked, answered_undone, on_asks, undone_ask_on, undone_still, asked_ask_on, rebalance_moves}
 use Rattle.pnp_laws.proofs.Stages.{OperationStep, RebalanceStep, operation_step, reply}
@@ -65,16 +65,11 @@ by_step next before s p step tree order h (OperationStep.rebalances r stage m is
     ]
 by_step next before s _ step tree order h _ = h
 
--- a rebalance takes no device before its step
-by_turn : (next : ℕ) (before : Core) (s : State) (o p : Operation) (step : Step) → Tree next before → Ascending 0 s.core.nodes → Holds before s o → Turn s o p → OperationStep s p step → StepOf before s o step
-by_turn next before s _ _ step tree order h (Turn.same o) is = by_step next before s o step tree order h is
-by_turn next before s _ _ step tree order h _ is = h
-
 pub rebalance_stepped : (path : List ℕ) (next : ℕ) (before : Core) (settings : Settings) (s : State) (step : Step) (u : Underway path before s) → Tree next before → IsGood s → ma.IsStep settings (ma.next settings s) step →
     Stepped before s u.frame step ⊎ IsOver s u.frame step
 rebalance_stepped path next before settings s step u tree good h =
-    let taken = operation_step settings s (Operation.Rebalancing u.frame) step u.runs h in
-    by_turn next before s (Operation.Rebalancing u.frame) taken.now step tree good.serials (subst (λ (x : Option Operation). OperationFits x s.core.nodes) u.runs good.fits, u.undone, u.asked) taken.turn taken.is
+    by_step next before s (Operation.Rebalancing u.frame) step tree good.serials (subst (λ (x : Option Operation). OperationFits x s.core.nodes) u.runs good.fits, u.undone, u.asked)
+    (rebalance_step_is s u.frame step (operation_step settings s (Operation.Rebalancing u.frame) step u.runs h))
 
 -- The next state ------------------------------------------------------------------------------
 
@@ -196,7 +191,7 @@ follows path next before settings s (Did label) t u tree good within goes =
       | inl h ↦ follows_step path before s label t u h
       | inr over ↦ absurd (not_over s u.frame label t within over)
     ]
-follows path next before settings s (Declines label) t u tree good within goes = let idle = (due_is_first s goes.first goes.is_due).idle in let runs = u.runs in absurd (cc)
+follows path next before settings s (Declines label) t u tree good within goes = let idle = idle_before s label t goes in let runs = u.runs in absurd (cc)
 
 -- A run ---------------------------------------------------------------------------------------------
 

@@ -1,25 +1,25 @@
 -- Where the next device of an operation is taken, the operation keeps what a run keeps.
-use Rattle.std.proofs.Common.{ℕ, ◌≡◌, ◌≢◌, inl, inr, Bool, true, false, List, [], ◌∷◌, Option, Some, refl, sym, ap, ◌∙◌, subst, arith}
+use Rattle.std.proofs.Common.{ℕ, ◌≡◌, ◌≢◌, inl, inr, true, false, List, [], ◌∷◌, Option, Some, refl, sym, ap, ◌∙◌, subst, arith}
 use Rattle.std.proofs.lemmas.Bool.{cases_eq}
 use Rattle.std.proofs.lemmas.Bool.Decides.{nat_tests}
 use Rattle.pnp_model.specs.Cores.{node_at, stack_of}
 use Rattle.pnp_model.specs.Finishes.{taken}
 use Rattle.pnp_model.specs.Frames.{first_node}
-use Rattle.pnp_model.specs.Handles.{is_open, is_ready_device, ready_device}
-use Rattle.pnp_model.specs.Records.{Activity, Node, State, Operation, Removal, RemovalStage, Surprise, SurpriseStage, Finish, FinishStage}
+use Rattle.pnp_model.specs.Handles.{is_open, ready_device}
+use Rattle.pnp_model.specs.Records.{Node, State, Operation, Removal, RemovalStage, Surprise, SurpriseStage, Finish, FinishStage}
 use Rattle.pnp_model.specs.Removals.{is_queried, queried, refuses_unasked}
 use Rattle.pnp_model.specs.Surprises.{removing}
 use Rattle.pnp_model.specs.Tests.{has, is_started, is_surprise_removed}
 use Rattle.pnp_labels.specs.declared.states.DevState.{DevState}
 use Rattle.pnp_labels.specs.declared.states.DevState.TheVariants.{Started, SurpriseRemoved}
 use Rattle.pnp_laws.specs.Effects.{Running, Turn}
-use Rattle.pnp_laws.specs.Kept.{Ascending, Each, FinishKeeps, Good, HasStackOf, IsGood, OperationFits, RemovalKeeps, SurpriseKeeps, finishing_state, is_calm, querying_state, removing_state, settling_state, taken_state, turn_state}
+use Rattle.pnp_laws.specs.Kept.{Ascending, Each, FinishKeeps, Good, IsGood, OperationFits, RemovalKeeps, SurpriseKeeps, finishing_state, is_calm, querying_state, removing_state, settling_state, taken_state, turn_state}
 use Rattle.pnp_laws.proofs.Finishing.{StacksFit, remove_each, settle_each}
 use Rattle.pnp_laws.proofs.FinishSteps.{not_root}
 use Rattle.pnp_laws.proofs.OpSteps.{is_SurpriseRemoved}
 use Rattle.pnp_laws.proofs.Kept.{Good_nodes}
 use Rattle.pnp_laws.proofs.Lists.{HeadIs, head_found, head_has}
-use Rattle.pnp_laws.proofs.Lookups.{found_self, own_serial, some_same}
+use Rattle.pnp_laws.proofs.Lookups.{found_self, some_same}
 use Rattle.pnp_laws.proofs.Readies.{ready_is}
 use Rattle.pnp_laws.proofs.Truths.{and_both, or_neither}
 
