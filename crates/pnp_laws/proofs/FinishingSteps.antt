@@ -46,7 +46,7 @@ emptied_calm [] k x h = h
 emptied_calm (i ∷ is) k x h = grind (arith, nat_tests, bare_calm x)
 
 -- it is not the root
-finished_up : (todo : List ℕ) (j : ℕ) → (k : ℕ) × (todo ≡ k ∷ []) × (k ≢ 0) → HeadIs j todo → j ≢ 0
+pub finished_up : (todo : List ℕ) (j : ℕ) → (k : ℕ) × (todo ≡ k ∷ []) × (k ≢ 0) → HeadIs j todo → j ≢ 0
 finished_up todo j (k, is, up) head z = let own : k ≡ j = subst (λ (ks : List ℕ). HeadIs j ks) is head in up (cc)
 
 -- its drivers are removed, and it is to leave, to be held, or settled
