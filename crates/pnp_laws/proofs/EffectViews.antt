@@ -21,7 +21,7 @@ use Rattle.pnp_model.specs.Starts.{own_part}
 use Rattle.pnp_model.specs.States.{activity_at, entered, is_activity, new_child, with_phase}
 use Rattle.pnp_model.specs.Tasks.{joining}
 use Rattle.pnp_model.specs.Walks.{has_ended, state_after, walk_of}
-use Rattle.pnp_laws.specs.Effects.{Acting, ActivityEffect, Alters, Assigned, Enters, IsSearch, NodeEffect, Over, PhaseStep, Request, ends_bad, to_leave}
+use Rattle.pnp_laws.specs.Effects.{Acting, ActivityEffect, Alters, Assigned, Enters, IsSearch, NodeEffect, Over, PhaseStep, Request, Running, ends_bad, to_leave}
 use Rattle.pnp_laws.specs.Kept.{Ascending, Fits, InOrder, IsGood, is_idle}
 use Rattle.pnp_laws.proofs.Kept.{alone}
 use Rattle.pnp_laws.proofs.Lists.{head_found}
@@ -219,7 +219,7 @@ module _ (s t : State) (good : IsGood s) (k : ℕ) where
 
 -- Who is gone stood first of those that may leave ------------------------------------------------------
 
-pub gone_left : (s : State) (label : Label) (t : State) → NodeEffect s label t → (k : ℕ) (n : Node) → node_at k s.core.nodes ≡ Some n → node_at k t.core.nodes ≡ None → (o : Operation) × (s.operation ≡ Some o) × (first_node s.core.nodes (to_leave o) ≡ Some n)
+pub gone_left : (s : State) (label : Label) (t : State) → NodeEffect s label t → (k : ℕ) (n : Node) → node_at k s.core.nodes ≡ Some n → node_at k t.core.nodes ≡ None → (o : Operation) × Running s o × (first_node s.core.nodes (to_leave o) ≡ Some n)
 gone_left s label t (NodeEffect.same e rest) k n at gone = absurd (let now = ap (node_at k) e in cc)
 gone_left s label t (NodeEffect.changed j f alters e rest) k n at gone = absurd (let was = node_missing j k f s.core.nodes (alters_keeps s label t j f alters).serial (sym (ap (node_at k) e) ∙ gone) in cc)
 gone_left s label t (NodeEffect.stripped node w there request over prints e rest) k n at gone = absurd (let was = node_missing node.serial k bare s.core.nodes (λ x. refl) (sym (ap (node_at k) e) ∙ gone) in cc)

@@ -1,5 +1,5 @@
 -- What an event does.
-use Rattle.std.proofs.Common.{◌≡◌, ◌==◌, ◌&&◌, ◌||◌, Bool, true, false, List, [], ◌∷◌, ◌++◌, length, nat_le, Option, Some, None, refl, ap, arith}
+use Rattle.std.proofs.Common.{◌≡◌, ◌==◌, ◌&&◌, ◌||◌, Bool, true, false, not, List, [], ◌∷◌, ◌++◌, ◌∙◌, length, nat_le, nat_lt, Option, Some, None, refl, sym, ap, arith}
 use Rattle.std.specs.List.{find, list_any}
 use Rattle.resource_reqs.specs.Resources.{Res, Reqs, clashes}
 use Rattle.pnp_labels.specs.Texts.{Text, res_text, spaced}
@@ -14,16 +14,17 @@ use Rattle.pnp_labels.specs.declared.label.Reason.{Reason}
 use Rattle.pnp_labels.specs.declared.label.Label.{Label}
 use Rattle.pnp_model.specs.Books.{is_named, is_unnamed}
 use Rattle.pnp_model.specs.Frames.{held_by}
-use Rattle.pnp_model.specs.Records.{Activity, Core, Device, Driver, Duty, Node, Operation, State, Step, Task}
+use Rattle.pnp_model.specs.Records.{Activity, Core, Device, Driver, Duty, Handle, Node, Operation, State, Step, Task}
 use Rattle.pnp_model.specs.Runs.Entry.{Happens}
 use Rattle.pnp_model.specs.States.{activity_at, device_of, enable_path, has_below, is_in_world, list_node, node_born, node_of, plug, unplug}
-use Rattle.pnp_model.specs.Tests.{has, is_started}
+use Rattle.pnp_model.specs.Tests.{has, is_started, is_surprise_removed}
 use Rattle.pnp_model.specs.Windows.{is_window_on}
+use Rattle.pnp_model.specs.Handles.{closed_with, is_handle_of}
 use Rattle.pnp_model.specs.Trees.{dependents}
 use Rattle.pnp_laws.specs.Words.{IsWord, joined}
-use Rattle.pnp_laws.specs.Effects.{ActivityEffect, AnswerEffect, DriverEffect, Effect, JoinEffect, NodeEffect, PathEffect, PhaseStep, RangeEffect, Related, CommandEffect, WindowEffect, Windowed, WorldEffect}
-use Rattle.pnp_laws.proofs.OpSteps.{is_Started}
-use Rattle.pnp_laws.proofs.EffectsOfStarts.{lasting, quiet_label, same_paths, same_windows}
+use Rattle.pnp_laws.specs.Effects.{ActivityEffect, AnswerEffect, DriverEffect, Effect, HandleEffect, JoinEffect, NodeEffect, PathEffect, PhaseStep, RangeEffect, Related, CommandEffect, WindowEffect, Windowed, WorldEffect}
+use Rattle.pnp_laws.proofs.OpSteps.{is_Started, is_SurpriseRemoved}
+use Rattle.pnp_laws.proofs.EffectsOfStarts.{lasting, quiet_label, same_handles, same_paths, same_windows}
 use Rattle.pnp_laws.proofs.Truths.{and_both, or_neither}
 use Rattle.device_ids.specs.Folding as folding
 use Rattle.pnp_model.specs.Events as ev
@@ -34,8 +35,8 @@ Happened s event step = Effect s (Happens event step.label) step.state
 module _ (s : State) (event : Event) where
   -- nodes, serials and activities stay
   outside : (label : Label) (t : State) → IsWord label → joined label ≡ 0 → t.next_serial ≡ s.next_serial → t.operation ≡ s.operation → t.activities ≡ s.activities → t.core.nodes ≡ s.core.nodes → NodeEffect s label t → DriverEffect s (Happens event label) t → RangeEffect s (Happens event label) t → CommandEffect s t
-      → WorldEffect s (Happens event label) t → PathEffect s label t → WindowEffect s (Happens event label) t → Happened s event (record { label = label; state = t })
-  outside label t word quiet serial operation activities same nodes drivers ranges tasks world paths windows =
+      → WorldEffect s (Happens event label) t → PathEffect s label t → WindowEffect s (Happens event label) t → HandleEffect s (Happens event label) t → Happened s event (record { label = label; state = t })
+  outside label t word quiet serial operation activities same nodes drivers ranges tasks world paths windows handles =
       record {
         nodes = nodes;
         drivers = drivers;
@@ -46,6 +47,7 @@ module _ (s : State) (event : Event) where
         world = world;
         paths = paths;
         windows = windows;
+        handles = handles;
         joins = JoinEffect.none (quiet_label label quiet);
         serial = omega arith;
       }
@@ -54,7 +56,7 @@ module _ (s : State) (event : Event) where
   kept : (label : Label) (t : State) → IsWord label → joined label ≡ 0 → t.next_serial ≡ s.next_serial → t.operation ≡ s.operation → t.activities ≡ s.activities → t.core.nodes ≡ s.core.nodes → t.core.relations ≡ s.core.relations
       → t.core.reserved ≡ s.core.reserved → t.world ≡ s.world → t.next_born ≡ s.next_born → lasting t ≡ lasting s → DriverEffect s (Happens event label) t → CommandEffect s t → Happened s event (record { label = label; state = t })
   kept label t word quiet serial operation activities nodes relations ranges world born last drivers tasks =
-      outside label t word quiet serial operation activities nodes (NodeEffect.same nodes relations) drivers (RangeEffect.same ranges) tasks (WorldEffect.same world born) (PathEffect.same (same_paths s t last)) (WindowEffect.same (same_windows s t last))
+      outside label t word quiet serial operation activities nodes (NodeEffect.same nodes relations) drivers (RangeEffect.same ranges) tasks (WorldEffect.same world born) (PathEffect.same (same_paths s t last)) (WindowEffect.same (same_windows s t last)) (HandleEffect.same (same_handles s t last))
 
   nothing : (word : EventWord) (reason : Reason) → Happened s event (ev.refused word reason s)
   nothing word reason = kept _ s tt refl refl refl refl refl refl refl refl refl refl (DriverEffect.same tt refl) (CommandEffect.same refl)
@@ -62,10 +64,10 @@ module _ (s : State) (event : Event) where
   listed : (word : EventWord) (what : Text) (u : State) (o : Option Node) → u.next_serial ≡ s.next_serial → u.operation ≡ s.operation → u.activities ≡ s.activities → u.core ≡ s.core → u.tasks ≡ s.tasks → lasting u ≡ lasting s
       → WorldEffect s (Happens event (Label.Did word what)) u → Happened s event (ev.did word what (list_node o u))
   listed word what u None serial operation activities core tasks last world =
-      outside _ u tt refl serial operation activities (ap (λ (c : Core). c.nodes) core) (NodeEffect.same (ap (λ (c : Core). c.nodes) core) (ap (λ (c : Core). c.relations) core)) (DriverEffect.same tt (ap (λ (c : Core). c.rack) core)) (RangeEffect.same (ap (λ (c : Core). c.reserved) core)) (CommandEffect.same tasks) world (PathEffect.same (same_paths s u last)) (WindowEffect.same (same_windows s u last))
+      outside _ u tt refl serial operation activities (ap (λ (c : Core). c.nodes) core) (NodeEffect.same (ap (λ (c : Core). c.nodes) core) (ap (λ (c : Core). c.relations) core)) (DriverEffect.same tt (ap (λ (c : Core). c.rack) core)) (RangeEffect.same (ap (λ (c : Core). c.reserved) core)) (CommandEffect.same tasks) world (PathEffect.same (same_paths s u last)) (WindowEffect.same (same_windows s u last)) (HandleEffect.same (same_handles s u last))
   listed word what u (Some n) serial operation activities core tasks last world =
       outside _ (list_node (Some n) u) tt refl serial operation activities (ap (λ (c : Core). c.nodes) core) (NodeEffect.same (ap (λ (c : Core). c.nodes) core) (ap (λ (c : Core). c.relations) core)) (DriverEffect.same tt (ap (λ (c : Core). c.rack) core)) (RangeEffect.same (ap (λ (c : Core). c.reserved) core))
-      (CommandEffect.lists n.serial (ap (λ (ts : List Task). ts ++ record { kind = Duty.Listing; serial = n.serial } ∷ []) tasks)) (by_world world) (PathEffect.same (same_paths s u last)) (WindowEffect.same (same_windows s u last))
+      (CommandEffect.lists n.serial (ap (λ (ts : List Task). ts ++ record { kind = Duty.Listing; serial = n.serial } ∷ []) tasks)) (by_world world) (PathEffect.same (same_paths s u last)) (WindowEffect.same (same_windows s u last)) (HandleEffect.same (same_handles s u last))
     where
       by_world : WorldEffect s (Happens event (Label.Did word what)) u → WorldEffect s (Happens event (Label.Did word what)) (list_node (Some n) u)
       by_world (WorldEffect.same a b) = WorldEffect.same a b
@@ -126,10 +128,10 @@ module _ (s : State) (event : Event) where
   eject_at path (Some node) e = eject_below path node e _ refl
 
   started : (path own : Text) (o : Option Node) → node_of path s.core.nodes ≡ o → Happened s event (ev.did EventWord.Enable own (ev.start_node o (enable_path path s)))
-  started path own None e = outside _ _ tt refl refl refl refl refl (NodeEffect.same refl refl) (DriverEffect.same tt refl) (RangeEffect.same refl) (CommandEffect.same refl) (WorldEffect.same refl refl) (PathEffect.enables path refl) (WindowEffect.same refl)
+  started path own None e = outside _ _ tt refl refl refl refl refl (NodeEffect.same refl refl) (DriverEffect.same tt refl) (RangeEffect.same refl) (CommandEffect.same refl) (WorldEffect.same refl refl) (PathEffect.enables path refl) (WindowEffect.same refl) (HandleEffect.same refl)
   started path own (Some n) e =
       outside _ _ tt refl refl refl refl refl (NodeEffect.same refl refl) (DriverEffect.same tt refl) (RangeEffect.same refl) (CommandEffect.starts path n (record { at = e; stays = refl }) refl)
-      (WorldEffect.same refl refl) (PathEffect.enables path refl) (WindowEffect.same refl)
+      (WorldEffect.same refl refl) (PathEffect.enables path refl) (WindowEffect.same refl) (HandleEffect.same refl)
 
   enable_at : (path : Text) (o : Option Text) → Happened s event (ev.enable_at s path o)
   enable_at path None = nothing _ _
@@ -157,7 +159,7 @@ module _ (s : State) (event : Event) where
           apart = apart;
           free = free;
         } in
-        outside _ _ tt refl refl refl refl refl (NodeEffect.related (record { kind = kind; owner = a.serial; member = b.serial }) related refl refl) (DriverEffect.same tt refl) (RangeEffect.same refl) (CommandEffect.same refl) (WorldEffect.same refl refl) (PathEffect.same refl) (WindowEffect.same refl)
+        outside _ _ tt refl refl refl refl refl (NodeEffect.related (record { kind = kind; owner = a.serial; member = b.serial }) related refl refl) (DriverEffect.same tt refl) (RangeEffect.same refl) (CommandEffect.same refl) (WorldEffect.same refl refl) (PathEffect.same refl) (WindowEffect.same refl) (HandleEffect.same refl)
 
     relate_free : (x : Bool) → (a.serial == b.serial) ≡ false → has (dependents s.core b.serial) a.serial ≡ x → Happened s event (ev.relate_free s kind a b x)
     relate_free true apart e = nothing _ _
@@ -183,7 +185,7 @@ module _ (s : State) (event : Event) where
   reserve_free : (res : Res) (b : Bool) → s.operation ≡ None → list_any (clashes res) (s.core.reserved ++ held_by s.core.nodes) ≡ b → Happened s event (ev.reserve_free s res b)
   reserve_free res true none e = nothing _ _
   reserve_free res false none e =
-      outside _ _ tt refl refl refl refl refl (NodeEffect.same refl refl) (DriverEffect.same tt refl) (RangeEffect.reserves res none e refl refl event _ refl) (CommandEffect.same refl) (WorldEffect.same refl refl) (PathEffect.same refl) (WindowEffect.same refl)
+      outside _ _ tt refl refl refl refl refl (NodeEffect.same refl refl) (DriverEffect.same tt refl) (RangeEffect.reserves res none e refl refl event _ refl) (CommandEffect.same refl) (WorldEffect.same refl refl) (PathEffect.same refl) (WindowEffect.same refl) (HandleEffect.same refl)
 
   reserve_idle : (res : Res) (o : Option Operation) → s.operation ≡ o → Happened s event (ev.reserve_idle s res o)
   reserve_idle res (Some o) e = nothing _ _
@@ -199,7 +201,7 @@ module _ (s : State) (event : Event) where
         let label = Label.Did EventWord.Window (spaced (d.path ∷ res_text res ∷ [])) in
         let windowed : Windowed s (Happens event label) d res =
         record { path = path; label = label; there = there; root_stays = low; no_device = neither.0; no_node = neither.1; first = e; event = ap (λ (x : Event). Happens x label) is } in
-        outside _ _ tt refl refl refl refl refl (NodeEffect.same refl refl) (DriverEffect.same tt refl) (RangeEffect.same refl) (CommandEffect.same refl) (WorldEffect.same refl refl) (PathEffect.same refl) (WindowEffect.sets d res windowed refl refl)
+        outside _ _ tt refl refl refl refl refl (NodeEffect.same refl refl) (DriverEffect.same tt refl) (RangeEffect.same refl) (CommandEffect.same refl) (WorldEffect.same refl refl) (PathEffect.same refl) (WindowEffect.sets d res windowed refl refl) (HandleEffect.same refl)
 
     window_childless : (b : Bool) → (d.born == 0) ≡ false → (has_below d.born s.world || ev.has_children s.core.nodes (node_born d.born s.core.nodes)) ≡ b → Happened s event (ev.window_childless s res d b)
     window_childless true low e = nothing _ _
@@ -213,13 +215,62 @@ module _ (s : State) (event : Event) where
   window_at path res None e is = nothing _ _
   window_at path res (Some d) e is = window_device path res d e is _ refl
 
+  -- a handle is opened
+  module _ (path : Text) (node : Node) (at : node_of path s.core.nodes ≡ Some node) (is : event ≡ Event.OpenHandle path) where
+    open_up : (b : Bool) → s.operation ≡ None → (node.serial == 0) ≡ false → is_started node.state ≡ b → Happened s event (ev.open_up s node b)
+    open_up false none below e = nothing _ _
+    open_up true none below e =
+        outside _ _ tt refl refl refl refl refl (NodeEffect.same refl refl) (DriverEffect.same tt refl) (RangeEffect.same refl) (CommandEffect.same refl) (WorldEffect.same refl refl) (PathEffect.same refl) (WindowEffect.same refl)
+        (HandleEffect.opens node path _ none at below (is_Started node.state e) (ap (λ (x : Event). Happens x (Label.Did EventWord.HandleOpen node.path)) is) refl)
+
+    open_idle : (o : Option Operation) → (node.serial == 0) ≡ false → s.operation ≡ o → Happened s event (ev.open_idle s node o)
+    open_idle (Some o) below e = nothing _ _
+    open_idle None below e = open_up _ e below refl
+
+    open_below : (b : Bool) → (node.serial == 0) ≡ b → Happened s event (ev.open_below s node b)
+    open_below true e = nothing _ _
+    open_below false e = open_idle _ e refl
+
+  open_at : (path : Text) (o : Option Node) → node_of path s.core.nodes ≡ o → event ≡ Event.OpenHandle path → Happened s event (ev.open_at s o)
+  open_at path None e is = nothing _ _
+  open_at path (Some node) e is = open_below path node e is _ refl
+
+  -- a handle is closed
+  module _ (path : Text) (node : Node) (at : node_of path s.core.nodes ≡ Some node) (is : event ≡ Event.CloseHandle path) (h : Handle) (found : find (is_handle_of node.serial) s.handles ≡ Some h) where
+    closed : (more due : Bool) → nat_lt 1 h.count ≡ more → (not more && is_surprise_removed node.state) ≡ due → CommandEffect s (ev.finish_due node due (ev.with_handles (closed_with node.serial s.handles more) s))
+        → Happened s event (ev.did EventWord.HandleClose node.path (ev.finish_due node due (ev.with_handles (closed_with node.serial s.handles more) s)))
+    closed more false e is_due tasks =
+        outside _ _ tt refl refl refl refl refl (NodeEffect.same refl refl) (DriverEffect.same tt refl) (RangeEffect.same refl) tasks (WorldEffect.same refl refl) (PathEffect.same refl) (WindowEffect.same refl)
+        (HandleEffect.closes node path _ h at found (ap (λ (x : Event). Happens x (Label.Did EventWord.HandleClose node.path)) is) (ap (closed_with node.serial s.handles) (sym e))
+        (ap (λ b. ev.finish_due node b (ev.with_handles (closed_with node.serial s.handles more) s)) (sym is_due ∙ ap (λ b. not b && is_surprise_removed node.state) (sym e))))
+    closed more true e is_due tasks =
+        outside _ _ tt refl refl refl refl refl (NodeEffect.same refl refl) (DriverEffect.same tt refl) (RangeEffect.same refl) tasks (WorldEffect.same refl refl) (PathEffect.same refl) (WindowEffect.same refl)
+        (HandleEffect.closes node path _ h at found (ap (λ (x : Event). Happens x (Label.Did EventWord.HandleClose node.path)) is) (ap (closed_with node.serial s.handles) (sym e))
+        (ap (λ b. ev.finish_due node b (ev.with_handles (closed_with node.serial s.handles more) s)) (sym is_due ∙ ap (λ b. not b && is_surprise_removed node.state) (sym e))))
+
+    close_handle : (more : Bool) → nat_lt 1 h.count ≡ more → Happened s event (ev.close_handle s node more)
+    close_handle true e = closed true false e refl (CommandEffect.same refl)
+    close_handle false e = by_state (is_surprise_removed node.state) refl
+      where
+        by_state : (b : Bool) → is_surprise_removed node.state ≡ b → Happened s event (ev.did EventWord.HandleClose node.path (ev.finish_due node b (ev.with_handles (closed_with node.serial s.handles false) s)))
+        by_state false calm = closed false false e calm (CommandEffect.same refl)
+        by_state true told = closed false true e told (CommandEffect.finishes node path at (is_SurpriseRemoved node.state told) refl)
+
+  close_open : (path : Text) (node : Node) (o : Option Handle) → node_of path s.core.nodes ≡ Some node → find (is_handle_of node.serial) s.handles ≡ o → event ≡ Event.CloseHandle path → Happened s event (ev.close_open s node o)
+  close_open path node None at found is = nothing _ _
+  close_open path node (Some h) at found is = close_handle path node at is h found _ refl
+
+  close_at : (path : Text) (o : Option Node) → node_of path s.core.nodes ≡ o → event ≡ Event.CloseHandle path → Happened s event (ev.close_at s o)
+  close_at path None e is = nothing _ _
+  close_at path (Some node) e is = close_open path node (find (is_handle_of node.serial) s.handles) e refl is
+
   -- a device requires something else
   module _ (path : Text) (reqs : Reqs) (node : Node) (at : node_of path s.core.nodes ≡ Some node) (is : event ≡ Event.Change path reqs) where
     change_up : (b : Bool) → is_in_world s.world node.born ≡ true → (node.serial == 0) ≡ false → is_started node.state ≡ b → Happened s event (ev.change_up s reqs node b)
     change_up false there below e = nothing _ _
     change_up true there below e =
         outside _ _ tt refl refl refl refl refl (NodeEffect.same refl refl) (DriverEffect.same tt refl) (RangeEffect.same refl) (CommandEffect.begins OpKind.Change node path at below refl)
-        (WorldEffect.changed node path reqs (Label.Did EventWord.Change node.path) at below (is_Started node.state e) there (ap (λ (x : Event). Happens x (Label.Did EventWord.Change node.path)) is) refl refl) (PathEffect.same refl) (WindowEffect.same refl)
+        (WorldEffect.changed node path reqs (Label.Did EventWord.Change node.path) at below (is_Started node.state e) there (ap (λ (x : Event). Happens x (Label.Did EventWord.Change node.path)) is) refl refl) (PathEffect.same refl) (WindowEffect.same refl) (HandleEffect.same refl)
 
     change_below : (b : Bool) → is_in_world s.world node.born ≡ true → (node.serial == 0) ≡ b → Happened s event (ev.change_below s reqs node b)
     change_below true there e = nothing _ _
@@ -246,6 +297,7 @@ module _ (s : State) (event : Event) where
         world = WorldEffect.same refl refl;
         paths = PathEffect.same refl;
         windows = WindowEffect.same refl;
+        handles = HandleEffect.same refl;
         joins = JoinEffect.none tt;
         serial = omega arith;
       }
@@ -266,6 +318,7 @@ module _ (s : State) (event : Event) where
         world = WorldEffect.same refl refl;
         paths = PathEffect.same refl;
         windows = WindowEffect.same refl;
+        handles = HandleEffect.same refl;
         joins = JoinEffect.none tt;
         serial = omega arith;
       }
@@ -309,3 +362,7 @@ event_effect s (Event.Reserve res) = reserve_idle s (Event.Reserve res) res s.op
 event_effect s (Event.Complete path minor ok) = complete_at s (Event.Complete path minor ok) minor ok (node_of path s.core.nodes)
 event_effect s (Event.Window path res) = window_at s (Event.Window path res) path res (device_of path s.world) refl refl
 event_effect s (Event.Change path reqs) = change_at s (Event.Change path reqs) path reqs (node_of path s.core.nodes) refl refl
+event_effect s (Event.OpenHandle path) = open_at s (Event.OpenHandle path) path (node_of path s.core.nodes) refl refl
+event_effect s (Event.CloseHandle path) = close_at s (Event.CloseHandle path) path (node_of path s.core.nodes) refl refl
+event_effect s (Event.Watch client path agrees) = nothing s (Event.Watch client path agrees) _ _
+event_effect s (Event.Unwatch client path) = nothing s (Event.Unwatch client path) _ _

@@ -12,15 +12,16 @@ use Rattle.pnp_model.specs.Cores.{bare, forget, is_node, node_at, with_state}
 use Rattle.pnp_model.specs.Frames.{next_driver}
 use Rattle.pnp_model.specs.Keyed.{changed_first, without_first}
 use Rattle.pnp_model.specs.Machine.{start_lifted}
-use Rattle.pnp_model.specs.Records.{Core, Duty, Node, Phase, State, Step, Walk, Window}
+use Rattle.pnp_model.specs.Records.{Core, Duty, Handle, Node, Phase, State, Step, Walk, Window}
 use Rattle.pnp_model.specs.Records.Phase.{Adding, Starting, Removing, Due}
 use Rattle.pnp_model.specs.Runs.Entry.{Did}
 use Rattle.pnp_model.specs.Starts.{adding}
 use Rattle.pnp_model.specs.States.{drop_task, is_activity, set_phase, with_core}
 use Rattle.pnp_model.specs.Tasks.{begin}
 use Rattle.pnp_model.specs.Walks.{has_ended, state_after, walk_of}
+use Rattle.pnp_laws.specs.Kept.{Ascending}
 use Rattle.pnp_laws.specs.Words.{IsBeside, IsNoJoin, joined}
-use Rattle.pnp_laws.specs.Effects.{ActivityEffect, Acting, Alters, Assigned, BeginsFor, DriverEffect, Effect, Enters, IsUnasked, JoinEffect, NodeEffect, OpEffect, Origin, Owes, PathEffect, PhaseStep, RangeEffect, Request, TaskEffect, WindowEffect, WorldEffect, begun, ends_bad, Over, Surprises}
+use Rattle.pnp_laws.specs.Effects.{ActivityEffect, Acting, Alters, Assigned, BeginsFor, DriverEffect, Effect, Enters, HandleEffect, IsUnasked, JoinEffect, NodeEffect, OpEffect, Origin, Owes, PathEffect, PhaseStep, RangeEffect, Request, TaskEffect, WindowEffect, WorldEffect, begun, ends_bad, Over, Surprises}
 use Rattle.pnp_laws.proofs.IdleSteps.{ActivityStep, First, TaskStep}
 use Rattle.pnp_laws.proofs.Stages.{after_minor, reply}
 use Rattle.pnp_model.specs.Starts as st
@@ -36,7 +37,7 @@ pub still : (s : State) (label : Label) (t : State) → IsUnasked label → t.co
 still s label t unasked rack nodes = (nodes, DriverEffect.same unasked rack)
 
 -- a driver is asked
-pub asks : (s : State) (node : Node) (w : Walk) → node_at node.serial s.core.nodes ≡ Some node → has_ended w (length node.stack) ≡ false → (label : Label) (shown : Shown) (t : State)
+pub asks : (s : State) (node : Node) (w : Walk) → node_at node.serial s.core.nodes ≡ Some node → (Ascending 0 s.core.nodes → has_ended w (length node.stack) ≡ false) → (label : Label) (shown : Shown) (t : State)
     → label ≡ Label.Asked w.minor node.path (name_of s.core.rack (next_driver node w)) shown → t.core.rack ≡ rack_after (AskWhat.Irp w.minor) node.path s.core.rack (next_driver node w)
     → t.core.nodes ≡ s.core.nodes → t.core.relations ≡ s.core.relations → Changes s label t
 asks s node w at on label shown t prints rack nodes relations = (NodeEffect.same nodes relations, DriverEffect.asked node w shown at on prints rack)
@@ -60,16 +61,19 @@ quiet_label (Label.Join k path) e = absurd (cc)
 quiet_label _ e = tt
 
 -- what only events change, and the end of a disable
-abbrev pub lasting : State → List Text × List Window
-lasting s = (s.disabled, s.windows)
+abbrev pub lasting : State → List Text × List Window × List Handle
+lasting s = (s.disabled, s.windows, s.handles)
 
 pub same_paths : (s t : State) → lasting t ≡ lasting s → t.disabled ≡ s.disabled
-same_paths s t e = ap (λ (x : List Text × List Window). x.0) e
+same_paths s t e = ap (λ (x : List Text × List Window × List Handle). x.0) e
 
 pub same_windows : (s t : State) → lasting t ≡ lasting s → t.windows ≡ s.windows
-same_windows s t e = ap (λ (x : List Text × List Window). x.1) e
+same_windows s t e = ap (λ (x : List Text × List Window × List Handle). x.1) e
 
--- world, ranges, paths, windows and serials stay
+pub same_handles : (s t : State) → lasting t ≡ lasting s → t.handles ≡ s.handles
+same_handles s t e = ap (λ (x : List Text × List Window × List Handle). x.2) e
+
+-- world, ranges, paths, windows, handles and serials stay
 pub inside : (s : State) (label : Label) (t : State) → t.world ≡ s.world → t.next_born ≡ s.next_born → lasting t ≡ lasting s → t.core.reserved ≡ s.core.reserved → t.next_serial ≡ s.next_serial → joined label ≡ 0
     → Changes s label t → OpEffect s label t → ActivityEffect s t → TaskEffect s t → Effect s (Did label) t
 inside s label t world born last ranges serial quiet (nodes, drivers) operation activities tasks =
@@ -83,6 +87,7 @@ inside s label t world born last ranges serial quiet (nodes, drivers) operation 
       world = WorldEffect.same world born;
       paths = PathEffect.same (same_paths s t last);
       windows = WindowEffect.same (same_windows s t last);
+      handles = HandleEffect.same (same_handles s t last);
       joins = JoinEffect.none (quiet_label label quiet);
       serial = omega arith;
     }
@@ -104,6 +109,7 @@ module _ (s : State) (none : s.operation ≡ None) where
   pub task_effect : (step : Step) → TaskStep s step → Steps s step
   task_effect _ (TaskStep.skips kind k j first calm) = drops _ kind k first tt tt refl (λ is. absurd (cc))
   task_effect _ (TaskStep.misses k first gone) = drops _ _ k first tt tt refl (λ is. inl gone)
+  task_effect _ (TaskStep.told node first at state) = drops _ _ node.serial first tt tt refl (λ is. inr (inl (node, at, state)))
   task_effect _ (TaskStep.lists k node first) = drops _ _ k first tt tt refl (λ is. absurd (cc))
   task_effect _ (TaskStep.finds_gone node child gone) =
       inside s _ _ refl refl refl refl refl refl (still s _ _ tt refl (NodeEffect.same refl refl)) (OpEffect.idles none none (inl tt)) (ActivityEffect.same refl)
@@ -119,6 +125,7 @@ module _ (s : State) (none : s.operation ≡ None) where
         world = WorldEffect.same refl refl;
         paths = PathEffect.same refl;
         windows = WindowEffect.same refl;
+        handles = HandleEffect.same refl;
         joins = JoinEffect.joins node d none at up e refl;
         serial = refl;
       }
@@ -128,7 +135,7 @@ module _ (s : State) (none : s.operation ≡ None) where
   task_effect _ (TaskStep.installs node rank driver drivers b chosen) =
       inside s _ _ refl refl refl refl refl refl (still s _ _ tt refl (NodeEffect.changed node.serial _ (Alters.troubled node.serial None) refl refl)) (OpEffect.idles none none (inl tt))
       (ActivityEffect.enters node.serial (adding drivers) (Enters.installs drivers chosen refl refl) refl) (TaskEffect.dropped _ none b.first (λ is. absurd (cc)) refl)
-  task_effect _ (TaskStep.begins OpKind.Surprise node first alone at fits) = begins OpKind.Surprise node first alone at fits (λ is. inr (node, at, refl))
+  task_effect _ (TaskStep.begins OpKind.Surprise node first alone at fits) = begins OpKind.Surprise node first alone at fits (λ is. inr (inr (node, at, refl)))
   task_effect _ (TaskStep.begins kind node first alone at fits) = begins kind node first alone at fits (λ is. absurd (cc))
 
 -- Starts ---------------------------------------------------------------------------------
@@ -163,13 +170,13 @@ module _ (s : State) (node : Node) (at : node_at node.serial s.core.nodes ≡ So
       (TaskEffect.appended (record { kind = Duty.Begins OpKind.Rebalance; serial = node.serial }) (Origin.needs node.serial phase acts) refl)
   start_effect phase _ acts (ActivityStep.tires _ search) =
       goes _ _ phase (Due Problem.Budget) refl (inl tt) refl acts (still s _ _ tt refl (NodeEffect.same refl refl)) (PhaseStep.fails phase Problem.Budget acts tt)
-  start_effect _ _ acts (ActivityStep.asks_start w waits more) = goes _ _ (Starting w) (Starting _) refl (inl tt) refl acts (asks s node w at more _ _ _ refl refl refl refl) (PhaseStep.asked w _ acts (after_minor w (reply s.core node w)) refl)
+  start_effect _ _ acts (ActivityStep.asks_start w waits more) = goes _ _ (Starting w) (Starting _) refl (inl tt) refl acts (asks s node w at (λ order. more) _ _ _ refl refl refl refl) (PhaseStep.asked w _ acts (after_minor w (reply s.core node w)) refl)
   start_effect _ _ acts (ActivityStep.fails w ended bad) =
       goes _ _ (Starting w) (Due Problem.FailedStart) refl (inl tt) refl acts (walks s node Minor.Start w true at (Request.starts w acts) (λ e. cc) ended bad _ _ refl refl refl refl) (PhaseStep.fails (Starting w) Problem.FailedStart acts tt)
   start_effect _ _ acts (ActivityStep.starts w ended well) =
       ends _ _ (Starting w) refl refl refl refl refl refl refl (inl tt) refl acts (walks s node Minor.Start w false at (Request.starts w acts) (λ e. cc) ended well _ _ refl refl refl refl) (Over.up w refl)
       (TaskEffect.appended (record { kind = Duty.Listing; serial = node.serial }) (Origin.lists node.serial) refl)
-  start_effect _ _ acts (ActivityStep.asks_remove w waits more) = goes _ _ (Removing w) (Removing _) refl (inl tt) refl acts (asks s node w at more _ _ _ refl refl refl refl) (PhaseStep.undoes (Removing w) _ acts (λ own. ap Some (after_minor w (reply s.core node w)) ∙ own))
+  start_effect _ _ acts (ActivityStep.asks_remove w waits more) = goes _ _ (Removing w) (Removing _) refl (inl tt) refl acts (asks s node w at (λ order. more) _ _ _ refl refl refl refl) (PhaseStep.undoes (Removing w) _ acts (λ own. ap Some (after_minor w (reply s.core node w)) ∙ own))
   start_effect _ _ acts (ActivityStep.strips w ended) =
       ends _ _ (Removing w) refl refl refl refl refl refl refl (inl tt) refl acts (strips s node w at (Request.undoes w acts) ended _ _ refl refl refl refl) (Over.stripped w refl) (TaskEffect.same refl)
   start_effect _ _ acts (ActivityStep.empty problem none_left) =

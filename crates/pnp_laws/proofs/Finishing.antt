@@ -133,14 +133,15 @@ pub record OnlyTasks (s t : State) : Type 0 where
   pub births : t.next_born ≡ s.next_born
   pub paths : t.disabled ≡ s.disabled
   pub windows : t.windows ≡ s.windows
+  pub handles : t.handles ≡ s.handles
   pub tasks : Listed s.tasks t.tasks
 
 same_only : (s : State) → OnlyTasks s s
-same_only s = record { serial = refl; core = refl; nodes = refl; activities = refl; operation = refl; world = refl; births = refl; paths = refl; windows = refl; tasks = inl refl }
+same_only s = record { serial = refl; core = refl; nodes = refl; activities = refl; operation = refl; world = refl; births = refl; paths = refl; windows = refl; handles = refl; tasks = inl refl }
 
 pub list_only : (o : Option Node) (s : State) → OnlyTasks s (list_node o s)
 list_only None s = same_only s
-list_only (Some n) s = record { serial = refl; core = refl; nodes = refl; activities = refl; operation = refl; world = refl; births = refl; paths = refl; windows = refl; tasks = inr (n.serial, refl) }
+list_only (Some n) s = record { serial = refl; core = refl; nodes = refl; activities = refl; operation = refl; world = refl; births = refl; paths = refl; windows = refl; handles = refl; tasks = inr (n.serial, refl) }
 
 pub relist_only : (path : List ℕ) (born : ℕ) (s : State) → OnlyTasks s (relist path born s)
 relist_only path born s = by_device (device_of path s.world)

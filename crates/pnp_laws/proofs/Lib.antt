@@ -40,6 +40,8 @@ pub mod OpSteps
 pub mod StartSteps
 pub mod RebalanceSteps
 pub mod FinishSteps
+pub mod FinishingSteps
+pub mod Turns
 pub mod RemovalSteps
 pub mod SurpriseSteps
 pub mod Asked
@@ -50,6 +52,8 @@ pub mod Runs
 pub mod Sharing
 pub mod Passing
 pub mod Readies
+mod Declined
+mod WalkEnds
 pub mod PlansKept
 pub mod SharingEffects
 pub mod RunsShare

@@ -6,10 +6,10 @@ use Rattle.std.proofs.lemmas.List.{reverse-append}
 use Rattle.pnp_model.specs.Keyed.{changed_first}
 use Rattle.pnp_model.specs.Records.{Node, State, Operation}
 use Rattle.pnp_model.specs.Cores.{is_node, node_at}
-use Rattle.pnp_model.specs.Tests.{has, is_started}
+use Rattle.pnp_model.specs.Tests.{has, is_started, is_surprise_removed}
 use Rattle.pnp_laws.specs.Kept.{Good, Lawful, Each, HasStackOf, OperationFits, Distinct, Waits, Changes, TargetFits, is_changing, is_calm, is_stopped, is_stop_pending, is_remove_pending}
 use Rattle.pnp_labels.specs.declared.states.DevState.{DevState}
-use Rattle.pnp_labels.specs.declared.states.DevState.TheVariants.{NoStack, NotStarted, Started, StopPending, Stopped, RemovePending}
+use Rattle.pnp_labels.specs.declared.states.DevState.TheVariants.{NoStack, NotStarted, Started, StopPending, Stopped, RemovePending, SurpriseRemoved}
 use Rattle.std.specs.Option.{is_some, option_map}
 use Rattle.resource_reqs.specs.Resources.{Reqs}
 use Rattle.pnp_laws.proofs.Lookups.{node_changed_same, node_changed_other, node_at-map}
@@ -116,6 +116,10 @@ is_StopPending _ h = cc
 pub is_Stopped : (x : DevState) → is_stopped x ≡ true → x ≡ Stopped
 is_Stopped Stopped h = refl
 is_Stopped _ h = cc
+
+pub is_SurpriseRemoved : (x : DevState) → is_surprise_removed x ≡ true → x ≡ SurpriseRemoved
+is_SurpriseRemoved SurpriseRemoved h = refl
+is_SurpriseRemoved _ h = cc
 
 pub is_RemovePending : (x : DevState) → is_remove_pending x ≡ true → x ≡ RemovePending
 is_RemovePending RemovePending h = refl

@@ -14,7 +14,7 @@ use Rattle.pnp_model.specs.Laws.{DependentsFirst}
 use Rattle.pnp_model.specs.Rebalances.{committed, movers, plan_of}
 use Rattle.pnp_model.specs.Records.{Activity, Driver, Duty, Node, Operation, Settings, State, Step, Surprise, SurpriseStage, Task}
 use Rattle.pnp_model.specs.Runs.{Entry, Goes, opening, printed}
-use Rattle.pnp_model.specs.Runs.Entry.{Happens, Did}
+use Rattle.pnp_model.specs.Runs.Entry.{Happens, Did, Declines}
 use Rattle.pnp_model.specs.States.{activity_at, entered, new_child}
 use Rattle.pnp_model.specs.Tests.{has}
 use Rattle.pnp_model.specs.Trees.{above, children, is_child, leaving, set_of, stands_up}
@@ -92,6 +92,7 @@ command_leads : (s t : State) → CommandEffect s t → LeadsMore s.tasks t.task
 command_leads s t (CommandEffect.same e) = subst (λ (ts : List Task). LeadsMore s.tasks ts) (sym e) (leads_same s.tasks)
 command_leads s t (CommandEffect.lists k e) = subst (λ (ts : List Task). LeadsMore s.tasks ts) (sym e) (leads_pushed s.tasks (record { kind = Duty.Listing; serial = k }))
 command_leads s t (CommandEffect.starts path n found e) = subst (λ (ts : List Task). LeadsMore s.tasks ts) (sym e) (leads_pushed s.tasks (record { kind = Duty.Starting; serial = n.serial }))
+command_leads s t (CommandEffect.finishes n path found state e) = subst (λ (ts : List Task). LeadsMore s.tasks ts) (sym e) (leads_pushed s.tasks (record { kind = Duty.Begins OpKind.Finish; serial = n.serial }))
 command_leads s t (CommandEffect.begins kind n path found up e) = subst (λ (ts : List Task). LeadsMore s.tasks ts) (sym e) (leads_pushed s.tasks (record { kind = Duty.Begins kind; serial = n.serial }))
 
 -- it is due, or the operation that runs is to see to it
@@ -213,6 +214,8 @@ module _ (s t : State) (was : Kept s) (now : Kept t) (k : ℕ) (n m : Node) (at 
     seen_on (Happens event label) tasks operation (inr h) = spared_after label operation h
     seen_on (Did label) tasks operation (inl h) = due_task tasks h
     seen_on (Did label) tasks operation (inr h) = spared_on label operation h
+    seen_on (Declines label) tasks operation (inl h) = due_task tasks h
+    seen_on (Declines label) tasks operation (inr h) = spared_on label operation h
 
 -- In each state of a run -------------------------------------------------------------------------------
 

@@ -1,5 +1,5 @@
 -- What a step of the machine, or an event, can do to a state: the one account that laws over steps read.
-use Rattle.std.specs.Prelude.{ℕ, ◌+◌, ◌≡◌, ◌≢◌, ◌⊎◌, ◌==◌, ◌&&◌, Bool, true, false, List, [], ◌∷◌, ◌++◌, Option, Some, None, length, map, find, drop, nat_le, nat_lt, slice_get, option_map}
+use Rattle.std.specs.Prelude.{ℕ, ◌+◌, ◌≡◌, ◌≢◌, ◌⊎◌, ◌==◌, ◌&&◌, Bool, true, false, not, List, [], ◌∷◌, ◌++◌, Option, Some, None, length, map, find, drop, nat_le, nat_lt, slice_get, option_map}
 use Rattle.std.specs.List.{list_any}
 use Rattle.std.specs.Option.{is_some}
 use Rattle.resource_reqs.specs.Resources.{Res, Reqs, clashes}
@@ -26,7 +26,7 @@ use Rattle.pnp_model.specs.Cores.{is_node, node_at, forget, bare, stacked, with_
 use Rattle.pnp_model.specs.Frames.{first_node, fixed_beside, held_by, next_driver}
 use Rattle.pnp_model.specs.States.{is_activity, activity_at, device_born, device_of, entered, has_below, is_in_world, let_through, node_born, node_of, requires, with_phase, without_those}
 use Rattle.pnp_model.specs.Windows.{is_window_on}
-use Rattle.pnp_model.specs.Handles.{closed_with, is_handle_of, is_open, is_ready_device, opened, ready_device}
+use Rattle.pnp_model.specs.Handles.{closed_with, is_handle_of, is_ready_device, opened, ready_device}
 use Rattle.pnp_model.specs.Starts.{adding, own_part}
 use Rattle.pnp_model.specs.Rebalances.{begun_rebalance, begun_change, committed, movers, plan_of}
 use Rattle.pnp_model.specs.Removals.{begun_removal, queried, refuses_unasked}
@@ -34,7 +34,7 @@ use Rattle.pnp_model.specs.Surprises.{begun_surprise, removing, stays_behind}
 use Rattle.pnp_model.specs.Finishes.{begun_finish, taken}
 use Rattle.pnp_model.specs.Tasks.{begin, is_gone, join_step, joining, numbered}
 use Rattle.pnp_model.specs.Machine.{is_ready, operation_walk, phase_walk}
-use Rattle.pnp_model.specs.Events.{answer_of, completed, completed_phase, has_children, with_rule}
+use Rattle.pnp_model.specs.Events.{answer_of, completed, completed_phase, finish_due, has_children, with_handles, with_rule}
 use Rattle.pnp_model.specs.Runs.{Entry, Goes, printed}
 use Rattle.pnp_model.specs.Runs.Entry.{Happens, Did, Declines}
 use Rattle.pnp_model.specs.Records.{Node, Device, Relation, Walk, Activity, Phase, Task, Duty, State, Operation, Rebalance, RebalanceStage, Removal, RemovalStage, Settings, Surprise, SurpriseStage, Finish, FinishStage, Handle}
@@ -450,8 +450,8 @@ pub data CommandEffect (s t : State) : Type 0 where
   same : t.tasks ≡ s.tasks → CommandEffect s t
   lists : (k : ℕ) → t.tasks ≡ s.tasks ++ record { kind = Duty.Listing; serial = k } ∷ [] → CommandEffect s t
   starts : (path : Text) (n : Node) → Enabled s t path n → t.tasks ≡ s.tasks ++ record { kind = Duty.Starting; serial = n.serial } ∷ [] → CommandEffect s t
-  -- no handle is open any more to a device that has gone
-  finishes : (n : Node) (path : Text) → node_of path s.core.nodes ≡ Some n → n.state ≡ SurpriseRemoved → is_open t.handles n.serial ≡ false
+  -- a handle to a device that has gone was the last one
+  finishes : (n : Node) (path : Text) → node_of path s.core.nodes ≡ Some n → n.state ≡ SurpriseRemoved
       → t.tasks ≡ s.tasks ++ record { kind = Duty.Begins OpKind.Finish; serial = n.serial } ∷ [] → CommandEffect s t
   begins : (kind : OpKind) (n : Node) (path : Text) → node_of path s.core.nodes ≡ Some n → (n.serial == 0) ≡ false
       → t.tasks ≡ s.tasks ++ record { kind = Duty.Begins kind; serial = n.serial } ∷ [] → CommandEffect s t
@@ -487,7 +487,8 @@ pub data HandleEffect (s : State) (entry : Entry) (t : State) : Type 0 where
   opens : (node : Node) (path : Text) (label : Label) → s.operation ≡ None → node_of path s.core.nodes ≡ Some node → (node.serial == 0) ≡ false → node.state ≡ Started
       → entry ≡ Happens (Event.OpenHandle path) label → t ≡ record s { handles = opened node.serial s.handles } → HandleEffect s entry t
   closes : (node : Node) (path : Text) (label : Label) (handle : Handle) → node_of path s.core.nodes ≡ Some node → find (is_handle_of node.serial) s.handles ≡ Some handle
-      → entry ≡ Happens (Event.CloseHandle path) label → t ≡ record s { handles = t.handles; tasks = t.tasks } → t.handles ≡ closed_with node.serial s.handles (nat_lt 1 handle.count) → HandleEffect s entry t
+      → entry ≡ Happens (Event.CloseHandle path) label → t.handles ≡ closed_with node.serial s.handles (nat_lt 1 handle.count)
+      → t ≡ finish_due node (not (nat_lt 1 handle.count) && is_surprise_removed node.state) (with_handles t.handles s) → HandleEffect s entry t
 
 -- Joins ------------------------------------------------------------------------------------
 
