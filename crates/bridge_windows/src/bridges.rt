@@ -59,6 +59,13 @@ impl Bridges {
         }
     }
 
+    /// Whether no window was set. It takes no memory. Cost: constant.
+    pub fn is_empty(&self) -> bool
+        ensures { IsTrue result ↔ (self.now ≡ []) }
+    {
+        self.list.is_empty()
+    }
+
     /// The device of a birth number has a window from now on. Errors, the first that holds: `SameWindow` exactly where
     /// it has one of the kind; and `WantOfMemory`. After an error all is as before. Cost: constant, over a run. This
     /// project's own.

@@ -80,7 +80,7 @@ fn clipped_reqs(alloc: Global, rooms: &Rooms, reqs: &Reqs) -> Result<Reqs, ReqEr
 /// nothing may come from. Lists, groups and wants stay one for one, and what may be held of the result is what may be held of
 /// the requirements and lies in the rooms of its kinds. Condition: the node is there. Cost: how deep the node
 /// stands, with the logarithm of the number of nodes for each level, and the number of wants: where no window was set,
-/// one climb more than a copy. This project's own.
+/// that of a copy. This project's own.
 pub fn clip(
     alloc: Global,
     tree: &Tree,

@@ -115,11 +115,15 @@ impl Rooms {
     }
 
     /// What comes through to the children of a node: the node and those above it are the bridges. It takes no memory.
-    /// Cost: how deep the node stands, with the logarithm of the number of nodes for each level.
+    /// Cost: how deep the node stands, with the logarithm of the number of nodes for each level; constant where no
+    /// window was set.
     pub(crate) fn below(tree: &Tree, bridges: &Bridges, parent: u64) -> Rooms
         ensures { (kind : Kind) → room_in result kind ≡ room bridges.now tree.now.nodes parent kind }
     {
         let mut rooms = Rooms::all();
+        if bridges.is_empty() {
+            return rooms;
+        }
         rooms.pass(tree, bridges, parent);
         let mut at = parent;
         'levels: while at != 0 {

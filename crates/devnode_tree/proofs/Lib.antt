@@ -10,3 +10,4 @@ pub mod Printing
 pub mod Facts
 pub mod Identities
 pub mod Climbs
+pub mod Counting

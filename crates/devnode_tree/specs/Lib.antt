@@ -2,4 +2,5 @@ pub mod Entries
 pub mod Trees
 pub mod Rows
 pub mod Identities
+pub mod Counts
 pub mod Cores

@@ -5,11 +5,13 @@ mod births;
 mod entries;
 mod entry;
 mod error;
+mod handles;
 mod node;
 mod print;
 mod tree;
 
 pub use error::JoinError;
+pub use handles::{HandleRow, Handles};
 pub use node::Node;
 pub use print::PrintRow;
 pub use tree::Tree;

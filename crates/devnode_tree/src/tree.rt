@@ -266,6 +266,16 @@ impl Tree {
         Some(self.entries[place].serial())
     }
 
+    /// The node at a place, in the order in which they joined, and none exactly past the last. It takes no memory. Cost:
+    /// constant.
+    pub fn get(&self, at: usize) -> Option<&Node>
+        ensures node { option_copied result ≡ slice_get self.now.nodes at }
+        ensures tree { IsTree self.now }
+    {
+        let entry = self.entries.get(at)?;
+        Some(&entry.node)
+    }
+
     /// How many nodes there are, the root among them.
     pub fn len(&self) -> usize
         ensures len { result ≡ length self.now.nodes }

@@ -3,6 +3,7 @@ use Rattle.std.proofs.Common.{◌≡◌, ℕ, Bool, List, [], Option, Some, None
 use Rattle.pnp_labels.specs.Texts.{Text}
 use Rattle.pnp_model.specs.Cores.{core_of, node_at, set_rack}
 use Rattle.pnp_model.specs.Frames.{first_node}
+use Rattle.pnp_model.specs.Walks.{is_bad}
 use Rattle.pnp_model.specs.Records.{Node, Core, Driver, Walk}
 use Rattle.pnp_laws.proofs.Lookups.{own_serial}
 use Rattle.devnode_tree.specs.Trees.{CanLeave}
@@ -34,6 +35,13 @@ module _ (x : Option Node) (rack rack' : List Driver) (w w' : Walk) (path : Text
       by : (x : Option Node) → WalksFor x (core_of [] [] rack []) w (Ended path refused) (core_of [] [] rack' []) w' → (rack' ≡ rack) × (w' ≡ w)
       by None h = absurd h
       by (Some node) h = (ap (λ (c : Core). c.rack) h.3, h.4)
+
+  pub ended_refused : refused ≡ is_bad w
+  ended_refused = by x alone
+    where
+      by : (x : Option Node) → WalksFor x (core_of [] [] rack []) w (Ended path refused) (core_of [] [] rack' []) w' → refused ≡ is_bad w
+      by None h = absurd h
+      by (Some node) h = h.1
 
 -- the device that is next may leave, and holds nothing
 pub stripped_at : (nodes : List Node) (todo : List ℕ) (k : ℕ) (node : Node) → Some k ≡ slice_get todo 0 → Some node ≡ node_at k nodes → IfSome (first_node nodes todo) (IsStripped nodes)

@@ -1,5 +1,5 @@
 -- The device that is asked has the state for the request, and the device that leaves has no drivers.
-use Rattle.std.proofs.Common.{◌≡◌, ◌≢◌, ◌&&◌, Bool, true, false, List, Option, Some, refl, sym, ap, ◌∙◌, subst}
+use Rattle.std.proofs.Common.{◌≡◌, ◌≢◌, ◌&&◌, Bool, true, false, List, Some, refl, sym, ap, ◌∙◌, subst}
 use Rattle.pnp_labels.specs.declared.states.DevState.{DevState}
 use Rattle.pnp_labels.specs.declared.states.DevState.TheVariants.{NoStack, NotStarted, Started, StopPending, Stopped, RemovePending}
 use Rattle.pnp_labels.specs.declared.words.Minor.{Minor}
@@ -7,17 +7,19 @@ use Rattle.pnp_model.specs.Cores.{node_at}
 use Rattle.pnp_model.specs.Diagram.{Row}
 use Rattle.pnp_model.specs.Frames.{first_node}
 use Rattle.pnp_model.specs.Laws.{is_up_to_now}
-use Rattle.pnp_model.specs.Records.{Node, Operation, Phase, Rebalance, RebalanceStage, Removal, RemovalStage, State, Surprise, SurpriseStage, Walk}
+use Rattle.pnp_model.specs.Records.{Node, Operation, Phase, Rebalance, RebalanceStage, Removal, RemovalStage, State, Surprise, SurpriseStage, Finish, FinishStage, Walk}
 use Rattle.pnp_model.specs.Tests.{is_told}
 use Rattle.pnp_model.specs.Walks.{may_fail, state_after}
-use Rattle.pnp_laws.specs.Effects.{Request, operation_minor, rebalance_minor, removal_leaves, removal_minor, surprise_leaves, surprise_minor, to_leave, todo_of}
-use Rattle.pnp_laws.specs.Kept.{IsGood, OperationFits, RebalanceKeeps, RemovalKeeps, SurpriseKeeps}
+use Rattle.pnp_laws.specs.Effects.{Request, finish_leaves, finish_minor, operation_minor, rebalance_minor, removal_leaves, removal_minor, surprise_leaves, surprise_minor, to_leave, todo_of}
+use Rattle.pnp_laws.specs.Kept.{IsGood, OperationFits, RebalanceKeeps, RemovalKeeps, SurpriseKeeps, FinishKeeps, is_stripped_next}
 use Rattle.pnp_laws.proofs.EffectViews.{acting_fits}
 use Rattle.pnp_laws.proofs.Finishing.{head_bare, head_stripped, strips}
+use Rattle.pnp_laws.proofs.FinishingSteps.{head_emptied, head_taken}
 use Rattle.pnp_laws.proofs.Lists.{HeadIs, head_found, head_has}
 use Rattle.pnp_laws.proofs.RebalanceSteps.{head_pending, head_started, head_stopped, head_stopping}
 use Rattle.pnp_laws.proofs.RemovalSteps.{head_querying, head_refusing, head_restoring}
 use Rattle.pnp_laws.proofs.SurpriseSteps.{head_told, told_or}
+use Rattle.pnp_laws.proofs.Turns.{running_good}
 
 -- the row of a request, by how it ends, of a device in this state: only requests that may fail end badly
 abbrev pub Rows : Minor → DevState → Type 0
@@ -78,34 +80,39 @@ module _ (nodes : List Node) (node : Node) (minor : Minor) (at : node_at node.se
 
   by_removal : (o : Removal) (stage : RemovalStage) → RemovalKeeps o stage nodes → HeadIs node.serial o.todo → removal_minor stage ≡ Some minor → Asked minor node.state
   by_removal o (RemovalStage.Asking w) keeps head is =
-      asked_in Minor.QueryRemove minor is node.state Started (head_querying o.todo o.agreed o.set node.serial node.state (head_has node.serial o.todo head) (keeps.each node.serial node at)) refl query_remove_rows
+      asked_in Minor.QueryRemove minor is node.state Started (head_querying o.todo o.agreed o.set node.serial node.state head (keeps.each node.serial node at)) refl query_remove_rows
   by_removal o (RemovalStage.TakingBack w) keeps head is =
-      asked_in Minor.CancelRemove minor is node.state Started (head_refusing o.todo o.agreed node.serial node.state (head_has node.serial o.todo head) (keeps.each node.serial node at)) refl (λ bad. Row.cancel_remove_refused)
+      asked_in Minor.CancelRemove minor is node.state Started (head_refusing o.todo o.agreed node.serial node.state head (keeps.each node.serial node at)) refl (λ bad. Row.cancel_remove_refused)
   by_removal o (RemovalStage.Cancelling w) keeps head is =
       asked_in Minor.CancelRemove minor is node.state RemovePending (head_restoring o.todo node.serial node.state (head_has node.serial o.todo head) (keeps.each node.serial node at)) refl (λ bad. Row.cancel_remove)
   by_removal o (RemovalStage.Removing w) keeps head is = removes minor node.state is (strips node.state (head_stripped o.todo node.serial node.state head (keeps.each node.serial node at)))
-  by_removal o RemovalStage.Settling keeps head is = absurd (cc)
-  by_removal o RemovalStage.Ending keeps head is = absurd (cc)
+  by_removal o _ keeps head is = absurd (cc)
 
   by_surprise : (o : Surprise) (stage : SurpriseStage) → SurpriseKeeps o stage nodes → HeadIs node.serial o.todo → surprise_minor stage ≡ Some minor → Asked minor node.state
   by_surprise o (SurpriseStage.Telling w) keeps head is =
       let told = head_told o.todo o.set node.serial node.state (head_has node.serial o.todo head) (keeps.each node.serial node at) in
       asked Minor.SurpriseRemoval minor is node.state (record { rows = λ bad. (told_or node.state told).0; up = λ other. told_up node.state told })
   by_surprise o (SurpriseStage.Removing w) keeps head is = removes minor node.state is (strips node.state (head_stripped o.todo node.serial node.state head (keeps.each node.serial node at)))
-  by_surprise o SurpriseStage.Settling keeps head is = absurd (cc)
-  by_surprise o SurpriseStage.Ending keeps head is = absurd (cc)
+  by_surprise o _ keeps head is = absurd (cc)
+
+  by_finish : (f : Finish) (stage : FinishStage) → FinishKeeps f stage nodes → HeadIs node.serial f.todo → finish_minor stage ≡ Some minor → Asked minor node.state
+  by_finish f (FinishStage.Removing w) keeps head is =
+      let told = head_taken f.todo node.serial node.state head (keeps.each node.serial node at) in
+      removes minor node.state is (strips node.state (ap is_stripped_next told))
+  by_finish f _ keeps head is = absurd (cc)
 
 pub operation_asks : (o : Operation) (nodes : List Node) (node : Node) (minor : Minor) → OperationFits (Some o) nodes → first_node nodes (todo_of o) ≡ Some node → operation_minor o ≡ Some minor → Asked minor node.state
 operation_asks (Operation.Rebalancing r) nodes node minor fits first is = let h = head_found nodes r.todo node first in by_rebalance nodes node minor h.1 r r.stage fits h.0 is
 operation_asks (Operation.Removing o) nodes node minor fits first is = let h = head_found nodes o.todo node first in by_removal nodes node minor h.1 o o.stage fits h.0 is
 operation_asks (Operation.Surprising o) nodes node minor fits first is = let h = head_found nodes o.todo node first in by_surprise nodes node minor h.1 o o.stage fits h.0 is
+operation_asks (Operation.Finishing f) nodes node minor fits first is = let h = head_found nodes f.todo node first in by_finish nodes node minor h.1 f f.stage fits h.0 is
 
 -- a request that is made of a device fits its state
 pub request_rows : (s : State) → IsGood s → (node : Node) → node_at node.serial s.core.nodes ≡ Some node → (minor : Minor) (w : Walk) → Request s node minor w → Rows minor node.state
 request_rows s good node at _ _ (Request.starts w acts) = rows_as Minor.Start NotStarted node.state (acting_fits s node.serial node (Phase.Starting w) at acts good).1 start_rows
 request_rows s good node at _ _ (Request.undoes w acts) = rows_as Minor.Remove NotStarted node.state (acting_fits s node.serial node (Phase.Removing w) at acts good).1 (λ bad. Row.remove)
 request_rows s good node at _ _ (Request.operates minor w asks) =
-    (operation_asks asks.operation s.core.nodes node minor (subst (λ (x : Option Operation). OperationFits x s.core.nodes) asks.runs good.fits) asks.first asks.minor_is).rows
+    (operation_asks asks.operation s.core.nodes node minor (running_good s asks.operation asks.runs good).fits asks.first asks.minor_is).rows
 
 -- who may leave has no drivers
 pub left_bare : (o : Operation) (nodes : List Node) (node : Node) → OperationFits (Some o) nodes → first_node nodes (to_leave o) ≡ Some node → node.state ≡ NoStack
@@ -119,4 +126,9 @@ left_bare (Operation.Surprising o) nodes node fits first = by_stage o.stage fits
     by_stage : (stage : SurpriseStage) → SurpriseKeeps o stage nodes → first_node nodes (surprise_leaves stage o.todo) ≡ Some node → node.state ≡ NoStack
     by_stage SurpriseStage.Settling keeps head = let h = head_found nodes o.todo node head in head_bare o.todo node.serial node.state h.0 (keeps.each node.serial node h.1)
     by_stage _ keeps head = absurd (cc)
-left_bare _ nodes node fits first = absurd (cc)
+left_bare (Operation.Finishing f) nodes node fits first = by_stage f.stage fits first
+  where
+    by_stage : (stage : FinishStage) → FinishKeeps f stage nodes → first_node nodes (finish_leaves stage f.todo) ≡ Some node → node.state ≡ NoStack
+    by_stage FinishStage.Leaving keeps head = let h = head_found nodes f.todo node head in head_emptied f.todo node.serial node.state h.0 (keeps.each node.serial node h.1)
+    by_stage _ keeps head = absurd (cc)
+left_bare (Operation.Rebalancing r) nodes node fits first = absurd (cc)

@@ -1,11 +1,11 @@
 -- Where a step prints the begin of an operation, that operation began.
-use Rattle.std.proofs.Common.{◌≡◌, inl, inr, List, Option, Some, None, ap, subst}
+use Rattle.std.proofs.Common.{◌≡◌, inl, inr, List, Option, Some, None, ap, sym, subst}
 use Rattle.pnp_model.specs.Records.{Node, Driver, Operation, Rebalance, RebalanceStage, State, Step, Settings}
 use Rattle.pnp_model.specs.Cores.{node_at}
 use Rattle.pnp_model.specs.Machine.{Steps}
 use Rattle.pnp_model.specs.Tasks.{begin}
 use Rattle.pnp_model.specs.Runs.{Entry, Goes, printed}
-use Rattle.pnp_model.specs.Runs.Entry.{Happens, Did}
+use Rattle.pnp_model.specs.Runs.Entry.{Happens, Did, Declines}
 use Rattle.pnp_labels.specs.Texts.{Text}
 use Rattle.pnp_labels.specs.declared.label.Label.{Label}
 use Rattle.pnp_labels.specs.declared.label.OpKind.{OpKind}
@@ -58,3 +58,4 @@ begins_right settings s t kind path fine h = begun_way s t kind path (way_goes s
 pub step_did : (settings : Settings) (s : State) (entry : Entry) (t : State) → Goes settings s entry t → (IsBeside (printed entry) → ⊥) → Goes settings s (Did (printed entry)) t
 step_did settings s (Happens event label) t goes other = absurd (other (beside_word label (subst (λ (x : Step). IsWord x.label) goes.1 (happens_outside s event).word)))
 step_did settings s (Did label) t goes other = goes
+step_did settings s (Declines label) t goes other = absurd (other (subst (λ (x : Label). IsBeside x) (sym goes.says) tt))

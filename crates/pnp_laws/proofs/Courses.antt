@@ -1,5 +1,6 @@
 -- What a step or an event does to the operation and prints of it, where no activity owes problem 12.
-use Rattle.std.proofs.Common.{ℕ, ◌≡◌, ◌⊎◌, inl, inr, List, [], ◌∷◌, Option, Some, None, refl, sym, ap, ◌∙◌, subst}
+use Rattle.std.proofs.Common.{ℕ, ◌≡◌, ◌⊎◌, inl, inr, Bool, List, [], ◌∷◌, Option, Some, None, refl, sym, ap, ◌∙◌, subst}
+use Rattle.pnp_labels.specs.Texts.{Text}
 use Rattle.pnp_labels.specs.declared.states.Problem.{Problem}
 use Rattle.pnp_labels.specs.declared.label.Label.{Label}
 use Rattle.pnp_labels.specs.declared.label.OpKind.{OpKind}
@@ -8,14 +9,14 @@ use Rattle.pnp_model.specs.Cores.{node_at}
 use Rattle.pnp_model.specs.Machine.{is_ready}
 use Rattle.pnp_model.specs.Records.{Node, Operation, Phase, Rebalance, RebalanceStage, Settings, State, Step}
 use Rattle.pnp_model.specs.Runs.{Entry, Goes, printed}
-use Rattle.pnp_model.specs.Runs.Entry.{Happens, Did}
+use Rattle.pnp_model.specs.Runs.Entry.{Happens, Did, Declines}
 use Rattle.pnp_model.specs.Starts.{adding}
 use Rattle.pnp_model.specs.Tasks.{begin}
-use Rattle.pnp_laws.specs.Effects.{ActivityEffect, AnswerEffect, Conflicts, Enters, OpEffect, PhaseStep, SameWork, begun}
+use Rattle.pnp_laws.specs.Effects.{ActivityEffect, AnswerEffect, Conflicts, Enters, OpEffect, PhaseStep, Running, SameWork, begun}
 use Rattle.pnp_laws.specs.Words.{IsBeside, DueFine, DuesFine, EndsBy, is_removal, kind_of, path_of}
 use Rattle.pnp_laws.proofs.Phases.{phase_found, phases_after}
 use Rattle.pnp_laws.proofs.EffectsOf.{effect_goes}
-use Rattle.pnp_laws.proofs.EffectsOfOperations.{completed_work}
+use Rattle.pnp_laws.proofs.EffectsOfOperations.{completed_work, turn_work}
 use Rattle.pnp_laws.proofs.EventChanges.{answered_fine, beside_word}
 use Rattle.pnp_model.specs.Events as ev
 use Rattle.pnp_model.specs.Rebalances as re
@@ -37,6 +38,14 @@ way_on s label t o p fine runs now work (inl beside) = Way.goes o p runs now wor
 way_on s label t (Operation.Rebalancing r) p fine runs now work (inr conflicts) = Way.goes (Operation.Rebalancing r) p runs now work (inr (ap re.kind_of (fine.1 r runs conflicts.0), conflicts.1))
 way_on s label t (Operation.Removing o) p fine runs now work (inr conflicts) = absurd conflicts
 way_on s label t (Operation.Surprising o) p fine runs now work (inr conflicts) = absurd conflicts
+way_on s label t (Operation.Finishing f) p fine runs now work (inr conflicts) = absurd conflicts
+
+-- the operation that ends was this one before its next device was taken
+way_over : (s : State) (label : Label) (t : State) (o : Operation) (result : OpEnd) → Running s o → t.operation ≡ None → label ≡ Label.End (kind_of o) (path_of o) result → EndsBy (is_removal o) result → Way s (record { label = label; state = t })
+way_over s label t o result now after prints by =
+    let work = turn_work s now.before o now.turn in
+    Way.ends now.before result now.runs after
+    (prints ∙ ap (λ (k : OpKind). Label.End k (path_of o) result) work.kind ∙ ap (λ (p : Text). Label.End (kind_of now.before) p result) work.path) (subst (λ (b : Bool). EndsBy b result) work.sort by)
 
 way_step : (s : State) (label : Label) (t : State) → Fine s → OpEffect s label t → Way s (record { label = label; state = t })
 way_step s label t fine (OpEffect.idles none now (inl beside)) = Way.idles none now beside
@@ -45,7 +54,7 @@ way_step s label t fine (OpEffect.idles none now (inr owes)) =
     Way.idles none now (subst (λ (x : Label). IsBeside x) (sym owes.prints) due)
 way_step s label t fine (OpEffect.begins kind node none alone at fits is) = Way.begins kind node none at is
 way_step s label t fine (OpEffect.goes o p runs now work prints) = way_on s label t o p fine runs now work prints
-way_step s label t fine (OpEffect.ends o result runs now prints by over) = Way.ends o result runs now prints by
+way_step s label t fine (OpEffect.ends o result runs now prints by over) = way_over s label t o result runs now prints by
 
 way_still : (s : State) (label : Label) (t : State) (o : Option Operation) → s.operation ≡ o → t.operation ≡ s.operation → IsBeside label → Way s (record { label = label; state = t })
 way_still s label t None e now beside = Way.idles e (now ∙ e) beside
@@ -59,6 +68,7 @@ way_event s label t (AnswerEffect.answered word nodes acts ok o runs now) = Way.
 pub way_goes : (settings : Settings) (s : State) (entry : Entry) (t : State) → Fine s → Goes settings s entry t → Way s (record { label = printed entry; state = t })
 way_goes settings s (Happens event label) t fine h = way_event s label t (effect_goes settings s (Happens event label) t h).operation
 way_goes settings s (Did label) t fine h = way_step s label t fine (effect_goes settings s (Did label) t h).operation
+way_goes settings s (Declines label) t fine h = way_step s label t fine (effect_goes settings s (Declines label) t h).operation
 
 -- No activity owes problem 12 ------------------------------------------------------------
 

@@ -1,19 +1,20 @@
 -- Each step and each event follows the diagram: by where its devices come from.
-use Rattle.std.proofs.Common.{ℕ, ◌≡◌, ◌⊎◌, inl, inr, Bool, false, ◌∷◌, Option, Some, None, refl, sym, subst}
+use Rattle.std.proofs.Common.{ℕ, ◌≡◌, ◌⊎◌, inl, inr, Bool, false, ◌∷◌, Some, None, refl, sym, subst}
 use Rattle.pnp_labels.specs.declared.label.Label.{Label}
 use Rattle.pnp_labels.specs.declared.states.DevState.TheVariants.{NoStack}
 use Rattle.pnp_labels.specs.declared.words.Minor.{Minor}
 use Rattle.pnp_model.specs.Cores.{node_at, stacked}
 use Rattle.pnp_model.specs.Diagram.{Change, FollowsDiagram, Row}
-use Rattle.pnp_model.specs.Records.{Node, Operation, Phase, State, Walk}
+use Rattle.pnp_model.specs.Records.{Node, Phase, State, Walk}
 use Rattle.pnp_model.specs.Walks.{is_bad, state_after}
 use Rattle.pnp_laws.specs.Effects.{NodeEffect, Request, ends_bad}
-use Rattle.pnp_laws.specs.Kept.{IsGood, OperationFits}
+use Rattle.pnp_laws.specs.Kept.{IsGood}
 use Rattle.pnp_laws.proofs.Asked.{left_bare, request_rows}
 use Rattle.pnp_laws.proofs.Diagrams.{Change-same}
 use Rattle.pnp_laws.proofs.EffectViews.{Origin, acting_fits, gone_left, origin}
 use Rattle.pnp_laws.proofs.Lookups.{found_self, some_same}
 use Rattle.pnp_laws.proofs.StartSteps.{add_changes}
+use Rattle.pnp_laws.proofs.Turns.{running_good}
 
 module _ (s : State) (label : Label) (t : State) (good : IsGood s) where
   -- a request of a device has ended
@@ -50,5 +51,5 @@ module _ (s : State) (label : Label) (t : State) (good : IsGood s) where
         leaves =
             λ k n at gone.
             let left = gone_left s label t effect k n at gone in
-            left_bare left.0 s.core.nodes n (subst (λ (x : Option Operation). OperationFits x s.core.nodes) left.1 good.fits) left.2;
+            left_bare left.0 s.core.nodes n (running_good s left.0 left.1 good).fits left.2;
       }

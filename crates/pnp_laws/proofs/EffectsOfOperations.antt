@@ -134,7 +134,7 @@ own_number j k h = grind (arith, nat_tests)
 
 -- An operation that runs, its next device taken -------------------------------------------
 
-turn_work : (s : State) (o p : Operation) → Turn s o p → SameWork o p
+pub turn_work : (s : State) (o p : Operation) → Turn s o p → SameWork o p
 turn_work s o _ (Turn.same p) = record { sort = refl; kind = refl; path = refl; spared = refl; wanted = refl; own = λ own. own }
 turn_work s _ _ (Turn.queries o node is first asked) = record { sort = refl; kind = refl; path = refl; spared = refl; wanted = refl; own = λ own. refl }
 turn_work s _ _ (Turn.removes o node d ds is first goes stack) = record { sort = refl; kind = refl; path = refl; spared = refl; wanted = refl; own = λ own. refl }
@@ -148,6 +148,12 @@ work_after a b c h g =
 -- a rebalance takes no turn, and no removal turns to one that settles
 pub turns_from : (s : State) (p : Operation) (r : Rebalance) → Turn s p (Operation.Rebalancing r) → p ≡ Operation.Rebalancing r
 turns_from s _ r (Turn.same _) = refl
+
+pub rebalance_stays : (s : State) (r : Rebalance) (p : Operation) → Turn s (Operation.Rebalancing r) p → p ≡ Operation.Rebalancing r
+rebalance_stays s r _ (Turn.same _) = refl
+
+pub rebalance_step_is : (s : State) (r : Rebalance) (step : Step) → TakenStep s (Operation.Rebalancing r) step → OperationStep s (Operation.Rebalancing r) step
+rebalance_step_is s r step taken = subst (λ (x : Operation). OperationStep s x step) (rebalance_stays s r taken.now taken.turn) taken.is
 
 pub turns_settling : (s : State) (p : Operation) (o : Removal) → o.stage ≡ RemovalStage.Settling → Turn s p (Operation.Removing o) → p ≡ Operation.Removing o
 turns_settling s _ o is (Turn.same _) = refl

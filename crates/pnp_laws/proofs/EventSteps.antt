@@ -1,13 +1,13 @@
 -- Each event keeps what a run keeps.
 use Rattle.std.proofs.Common.{ℕ, ◌≡◌, ◌≢◌, inl, inr, List, ◌∷◌, Option, Some, None, sym, ap, subst}
 use Rattle.pnp_model.specs.Keyed.{changed_first}
-use Rattle.pnp_model.specs.Records.{Node, Activity, Phase, State, Operation, Rebalance, RebalanceStage, Removal, RemovalStage, Surprise, SurpriseStage}
+use Rattle.pnp_model.specs.Records.{Node, Activity, Phase, State, Operation, Rebalance, RebalanceStage, Removal, RemovalStage, Surprise, SurpriseStage, Finish, FinishStage}
 use Rattle.pnp_model.specs.Records.Phase.{Adding}
 use Rattle.pnp_model.specs.Cores.{node_at}
 use Rattle.pnp_model.specs.States.{is_activity, with_phase}
-use Rattle.pnp_model.specs.Events.{answer_of, completed, completed_phase, completed_rebalance, completed_removal, completed_surprise, happens}
+use Rattle.pnp_model.specs.Events.{answer_of, completed, completed_phase, completed_rebalance, completed_removal, completed_surprise, completed_finish, happens}
 use Rattle.pnp_laws.specs.Effects.{AnswerEffect}
-use Rattle.pnp_laws.specs.Kept.{Good, IsGood, Lawful, Fits, OperationFits, Alone, RebalanceKeeps, RemovalKeeps, SurpriseKeeps}
+use Rattle.pnp_laws.specs.Kept.{Good, IsGood, Lawful, Fits, OperationFits, Alone, RebalanceKeeps, RemovalKeeps, SurpriseKeeps, FinishKeeps}
 use Rattle.pnp_labels.specs.declared.states.DevState.{DevState}
 use Rattle.pnp_labels.specs.declared.words.Answer.{Answer}
 use Rattle.pnp_labels.specs.declared.event.Event.{Event}
@@ -31,13 +31,18 @@ keeps_removal answer o (RemovalStage.Asking w) nodes k = record { set = k.set; r
 keeps_removal answer o _ nodes k = record { set = k.set; rootless = k.rootless; todo = k.todo; agreed = k.agreed; asks = k.asks; each = k.each }
 
 keeps_surprise : (answer : Answer) (o : Surprise) (stage : SurpriseStage) (nodes : List Node) → SurpriseKeeps o stage nodes → SurpriseKeeps (record o { stage = completed_surprise answer stage }) (completed_surprise answer stage) nodes
-keeps_surprise answer o (SurpriseStage.Telling w) nodes k = record { set = k.set; rootless = k.rootless; last = k.last; todo = k.todo; inside = k.inside; ends = k.ends; each = k.each }
-keeps_surprise answer o _ nodes k = record { set = k.set; rootless = k.rootless; last = k.last; todo = k.todo; inside = k.inside; ends = k.ends; each = k.each }
+keeps_surprise answer o (SurpriseStage.Telling w) nodes k = record { set = k.set; rootless = k.rootless; last = k.last; todo = k.todo; inside = k.inside; ends = k.ends; each = k.each; calm = k.calm }
+keeps_surprise answer o _ nodes k = record { set = k.set; rootless = k.rootless; last = k.last; todo = k.todo; inside = k.inside; ends = k.ends; each = k.each; calm = k.calm }
+
+keeps_finish : (answer : Answer) (f : Finish) (stage : FinishStage) (nodes : List Node) → FinishKeeps f stage nodes → FinishKeeps (record f { stage = completed_finish answer stage }) (completed_finish answer stage) nodes
+keeps_finish answer f (FinishStage.Removing w) nodes k = record { one = k.one; each = k.each }
+keeps_finish answer f _ nodes k = record { one = k.one; each = k.each }
 
 pub completed_operation : (answer : Answer) (o : Operation) (nodes : List Node) → OperationFits (Some o) nodes → OperationFits (Some (completed answer o)) nodes
 completed_operation answer (Operation.Rebalancing r) nodes h = keeps_rebalance answer r r.stage nodes h
 completed_operation answer (Operation.Removing o) nodes h = keeps_removal answer o o.stage nodes h
 completed_operation answer (Operation.Surprising o) nodes h = keeps_surprise answer o o.stage nodes h
+completed_operation answer (Operation.Finishing f) nodes h = keeps_finish answer f f.stage nodes h
 
 still_alone : (o : Option Operation) (acts : List Activity) (k : ℕ) (phase : Phase) → Alone o acts → Alone o (changed_first (is_activity k) (with_phase phase) acts)
 still_alone None acts k phase h = tt

@@ -30,6 +30,7 @@ use Rattle.pnp_laws.proofs.Asked.{operation_asks}
 use Rattle.pnp_laws.proofs.EffectViews.{Origin, StartOrigin, acting_at, acting_fits, origin, start_origin}
 use Rattle.pnp_laws.proofs.EventChanges.{starting_still}
 use Rattle.pnp_laws.proofs.Lists.{member, not_head, without_has}
+use Rattle.pnp_laws.proofs.Turns.{running_good}
 use Rattle.pnp_laws.proofs.Lookups.{found_self, node_from, own_serial, some_same}
 use Rattle.pnp_laws.proofs.OpSteps.{is_Stopped, target_up}
 use Rattle.pnp_laws.proofs.PlansKept.{mover_whole, other_after}
@@ -117,7 +118,7 @@ module _ (s : State) (label : Label) (good : IsGood s) (planned : IsPlanned s) (
       old.starts node.serial here.activity here.at (ap is_starting here.is) node at
   asked_whole node _ w other at (Request.undoes v acts) = absurd (other refl)
   asked_whole node minor w other at (Request.operates m v asks) =
-      let fits = subst (λ (x : Option Operation). OperationFits x s.core.nodes) asks.runs good.fits in
+      let fits = (running_good s asks.operation asks.runs good).fits in
       (well node.serial node at).up ((operation_asks asks.operation s.core.nodes node minor fits asks.first asks.minor_is).up other)
 
   well_from : (t : State) (k : ℕ) (m : Node) → Origin s label t k m → HeldWell m
@@ -151,7 +152,7 @@ module _ (s : State) (label : Label) (good : IsGood s) (planned : IsPlanned s) (
     not_stripped : (n : Node) (minor : Minor) (w : Walk) → n.serial ≡ k → minor ≡ Minor.Remove → Request s n minor w → ⊥
     not_stripped n _ w own is (Request.starts v acts) = cc
     not_stripped n _ w own is (Request.undoes v acts) = not_acting (Phase.Removing v) (subst (λ (i : ℕ). Acting s i (Phase.Removing v)) own acts) refl
-    not_stripped n minor w own is (Request.operates i v asks) = none_acts s asks.operation k a good asks.runs under
+    not_stripped n minor w own is (Request.operates i v asks) = none_acts s asks.runs.before k a good asks.runs.runs under
 
     starts_from : (t : State) (m : Node) → Origin s label t k m → Whole m.reqs m.holds
     starts_from t _ (Origin.was n at) = before n at

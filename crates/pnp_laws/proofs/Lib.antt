@@ -27,7 +27,10 @@ pub mod SoundStarts
 pub mod Finishes
 pub mod SoundOps
 pub mod Theres
+pub mod Tolds
 pub mod SoundRemovals
+pub mod ToldSteps
+pub mod TurnsKept
 pub mod Restarts
 pub mod SoundRebalances
 pub mod SoundTasks
@@ -37,6 +40,8 @@ pub mod OpSteps
 pub mod StartSteps
 pub mod RebalanceSteps
 pub mod FinishSteps
+pub mod FinishingSteps
+pub mod Turns
 pub mod RemovalSteps
 pub mod SurpriseSteps
 pub mod Asked
@@ -47,6 +52,8 @@ pub mod Runs
 pub mod Sharing
 pub mod Passing
 pub mod Readies
+mod Declined
+mod WalkEnds
 pub mod PlansKept
 pub mod SharingEffects
 pub mod RunsShare

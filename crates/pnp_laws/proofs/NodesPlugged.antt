@@ -22,7 +22,7 @@ use Rattle.pnp_model.specs.Keyed.{those}
 use Rattle.pnp_model.specs.Rebalances.{begun_change, begun_rebalance, is_asked, reqs_after}
 use Rattle.pnp_model.specs.Records.{Device, Driver, Node, Operation, Rebalance, RebalanceStage, Settings, State, Step}
 use Rattle.pnp_model.specs.Runs.{Entry, Run, opening, printed, root_path}
-use Rattle.pnp_model.specs.Runs.Entry.{Happens, Did}
+use Rattle.pnp_model.specs.Runs.Entry.{Happens, Did, Declines}
 use Rattle.pnp_model.specs.States.{device_born, new_child, without_those}
 use Rattle.pnp_model.specs.Tasks.{begin, joins}
 use Rattle.pnp_model.specs.Windows.{Room, clip, clip_by, clipped_want, room}
@@ -305,6 +305,7 @@ module _ (Q : Says) (s : State) (entry : Entry) (t : State) (old : AllSay Q s) (
       by_old (Operation.Rebalancing q) runs work = goes_say Q s (printed entry) t old good rooms q r runs (let spared = work.spared in cc) work.wanted nodes wanted is n at
       by_old (Operation.Removing q) runs work = absurd (let none = work.wanted in cc)
       by_old (Operation.Surprising q) runs work = absurd (let none = work.wanted in cc)
+      by_old (Operation.Finishing q) runs work = absurd (let none = work.wanted in cc)
 
   -- a change begins for what its device requires in the world
   change_begins : (node : Node) (o : Option Device) → device_born node.born s.world ≡ o → is_some o ≡ true → node_at node.serial s.core.nodes ≡ Some node → OfReqs Q s node (required s node o)
@@ -337,6 +338,7 @@ module _ (Q : Says) (s : State) (entry : Entry) (t : State) (old : AllSay Q s) (
   begins_say OpKind.Disable node at h r wanted run is n there = absurd (cc)
   begins_say OpKind.Eject node at h r wanted run is n there = absurd (cc)
   begins_say OpKind.Surprise node at h r wanted run is n there = absurd (cc)
+  begins_say OpKind.Finish node at h r wanted run is n there = absurd (cc)
 
   step_wants : (label : Label) → OpEffect s label t → WantsSay Q t
   step_wants label (OpEffect.idles none now prints) r wanted run is n at = absurd (cc)
@@ -356,6 +358,7 @@ wants_goes : (Q : Says) (s : State) (entry : Entry) (t : State) → AllSay Q s �
     → ((k : ℕ) (m : Node) → node_at k t.core.nodes ≡ Some m → k ≢ 0 → room t.windows t.core.nodes m.parent ≡ room s.windows s.core.nodes m.parent) → OperationEffect s entry t → WantsSay Q t
 wants_goes Q s (Happens event label) t old good nodes rooms effect = event_wants Q s (Happens event label) t old good nodes rooms label effect
 wants_goes Q s (Did label) t old good nodes rooms effect = step_wants Q s (Did label) t old good nodes rooms label effect
+wants_goes Q s (Declines label) t old good nodes rooms effect = step_wants Q s (Declines label) t old good nodes rooms label effect
 
 -- Runs ----------------------------------------------------------------------------------------
 

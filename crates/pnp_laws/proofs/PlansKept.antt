@@ -20,14 +20,16 @@ use Rattle.pnp_model.specs.Keyed.{changed_first, those}
 use Rattle.pnp_model.specs.Machine.{rebalance_lifted}
 use Rattle.pnp_model.specs.Records.{Core, Driver, Found, Node, Operation, Rebalance, RebalanceStage, Settings, State, Step}
 use Rattle.pnp_model.specs.Runs.{Entry, Goes}
-use Rattle.pnp_model.specs.Runs.Entry.{Happens, Did}
+use Rattle.pnp_model.specs.Runs.Entry.{Happens, Did, Declines}
 use Rattle.pnp_model.specs.Tests.{has}
 use Rattle.pnp_model.specs.Trees.{stands_up}
 use Rattle.pnp_laws.specs.Effects.{AnswerEffect, OpEffect, RangeEffect, SameWork, begun}
 use Rattle.pnp_laws.specs.Holdings.{KeepsReqs, has_plan, WholeAt}
 use Rattle.pnp_laws.specs.Plans.{IsPlanned, PlanFits, PlanKept, StagePlan, moving_reqs}
 use Rattle.pnp_laws.specs.Reached.{IsReached}
+use Rattle.pnp_laws.proofs.Declined.{idle_after}
 use Rattle.pnp_laws.proofs.EffectsOf.{effect_goes}
+use Rattle.pnp_laws.proofs.EffectsOfOperations.{rebalance_step_is}
 use Rattle.pnp_laws.proofs.EventChanges.{ranges_stay}
 use Rattle.pnp_laws.proofs.Lookups.{map_from, node_changed_other, node_changed_same, node_from, own_serial}
 use Rattle.pnp_laws.proofs.Reaching.{kept}
@@ -258,11 +260,18 @@ no_surprise : (wanted : Option Reqs) → re.kind_of wanted ≢ OpKind.Surprise
 no_surprise None e = cc
 no_surprise (Some wanted) e = cc
 
+no_finish : (wanted : Option Reqs) → re.kind_of wanted ≢ OpKind.Finish
+no_finish None e = cc
+no_finish (Some wanted) e = cc
+
 other_plan : (o p : Operation) (reserved : List Res) (nodes : List Node) → IsOther o → SameWork o p → PlanKept (Some p) reserved nodes
 other_plan (Operation.Rebalancing q) p reserved nodes other work = absurd other
 other_plan (Operation.Removing o) (Operation.Rebalancing r) reserved nodes other work = absurd (let a = work.sort in cc)
 other_plan (Operation.Surprising o) (Operation.Rebalancing r) reserved nodes other work = absurd (no_surprise r.wanted work.kind)
-other_plan _ _ reserved nodes other work = tt
+other_plan (Operation.Finishing f) (Operation.Rebalancing r) reserved nodes other work = absurd (no_finish r.wanted work.kind)
+other_plan _ (Operation.Removing o) reserved nodes other work = tt
+other_plan _ (Operation.Surprising o) reserved nodes other work = tt
+other_plan _ (Operation.Finishing f) reserved nodes other work = tt
 
 planned_as : (t : State) (o : Option Operation) (reserved : List Res) (nodes : List Node) → t.operation ≡ o → t.core.reserved ≡ reserved → t.core.nodes ≡ nodes → PlanKept o reserved nodes → IsPlanned t
 planned_as t o reserved nodes a b c h =
@@ -276,7 +285,7 @@ stays_plan s t (Some o) runs now nodes ranges h = planned_as t s.operation s.cor
 goes_plan : (settings : Settings) (s : State) (label : Label) (t : State) (o p : Operation) → s.operation ≡ Some o → t.operation ≡ Some p → SameWork o p → Goes settings s (Did label) t → IsPlanned s → IsPlanned t
 goes_plan settings s label t (Operation.Rebalancing r) p runs now work goes h =
     planned_operation s (Operation.Rebalancing r) (record { label = label; state = t }) (subst (λ (x : Option Operation). PlanKept x s.core.reserved s.core.nodes) runs h)
-    (operation_step settings s (Operation.Rebalancing r) (record { label = label; state = t }) runs goes)
+    (rebalance_step_is s r (record { label = label; state = t }) (operation_step settings s (Operation.Rebalancing r) (record { label = label; state = t }) runs goes))
 goes_plan settings s label t o p runs now work goes h = planned_as t (Some p) t.core.reserved t.core.nodes now refl refl (other_plan o p t.core.reserved t.core.nodes tt work)
 
 event_plan : (s : State) (label : Label) (t : State) {entry : Entry} → RangeEffect s entry t → AnswerEffect s label t → IsPlanned s → IsPlanned t
@@ -295,6 +304,7 @@ step_plan settings s label t (OpEffect.ends o result runs now prints by over) go
 
 planned_goes : (settings : Settings) (s : State) (entry : Entry) (t : State) → IsPlanned s → Goes settings s entry t → IsPlanned t
 planned_goes settings s (Happens event label) t h goes = let effect = effect_goes settings s (Happens event label) t goes in event_plan s label t effect.ranges effect.operation h
+planned_goes settings s (Declines label) t h goes = planned_as t None t.core.reserved t.core.nodes (idle_after s label t goes) refl refl tt
 planned_goes settings s (Did label) t h goes = step_plan settings s label t (effect_goes settings s (Did label) t goes).operation goes h
 
 pub reached_is_planned : (settings : Settings) (rack : List Driver) (s : State) → IsReached settings rack s → IsPlanned s

@@ -1,5 +1,5 @@
 -- A device that is ready to be finished.
-use Rattle.std.proofs.Common.{ℕ, ◌≡◌, Bool, true, false, not, ◌&&◌, List, [], ◌∷◌, length, Option, Some, None, refl, sym, ap, ◌∙◌, subst, arith}
+use Rattle.std.proofs.Common.{ℕ, ◌≡◌, ◌≢◌, Bool, true, false, not, ◌&&◌, List, [], ◌∷◌, length, Option, Some, None, refl, sym, ap, ◌∙◌, subst, arith}
 use Rattle.std.specs.List.{list_any}
 use Rattle.std.proofs.lemmas.Bool.Decides.{nat_tests}
 use Rattle.pnp_labels.specs.declared.words.Minor.{Minor}
@@ -33,6 +33,11 @@ ready_is c handles k node order e at =
 fresh : (stack : List ℕ) → has_drivers stack ≡ true → has_ended (walk_of Minor.Remove) (length stack) ≡ false
 fresh [] h = absurd (cc)
 fresh (d ∷ ds) h = grind (arith, nat_tests)
+
+-- a device with drivers is asked first
+pub asks_fresh : (minor : Minor) (stack : List ℕ) → stack ≢ [] → has_ended (walk_of minor) (length stack) ≡ false
+asks_fresh minor [] some = absurd (some refl)
+asks_fresh minor (d ∷ ds) some = grind (arith, nat_tests)
 
 pub ready_fresh : (c : Core) (handles : List Handle) (k : ℕ) (node : Node) → Ascending 0 c.nodes → ready_device c handles ≡ Some k → node_at k c.nodes ≡ Some node → has_ended (walk_of Minor.Remove) (length node.stack) ≡ false
 ready_fresh c handles k node order e at =

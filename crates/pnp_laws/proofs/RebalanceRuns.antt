@@ -12,7 +12,7 @@ use Rattle.pnp_model.specs.States.{with_core}
 use Rattle.pnp_model.specs.Walks.{after}
 use Rattle.pnp_model.specs.Frames.{asked, first_node}
 use Rattle.pnp_model.specs.Runs.{Entry, Goes, Run, printed}
-use Rattle.pnp_model.specs.Runs.Entry.{Happens, Did}
+use Rattle.pnp_model.specs.Runs.Entry.{Happens, Did, Declines}
 use Rattle.pnp_model.specs.Laws.{IsWithin, AllWithin, Refuses, RefusedSince}
 use Rattle.pnp_labels.specs.declared.label.Label.{Label}
 use Rattle.pnp_labels.specs.declared.label.OpKind.{OpKind}
@@ -22,10 +22,11 @@ use Rattle.pnp_laws.specs.Reached.{IsReached}
 use Rattle.pnp_laws.specs.Rebalanced.{Undone, EndsBad, AskedSince, Refusing, Underway}
 use Rattle.pnp_laws.proofs.Reaching.{reached_on}
 use Rattle.pnp_laws.proofs.Reached.{reached_is_good}
+use Rattle.pnp_laws.proofs.Declined.{idle_before}
 use Rattle.pnp_laws.proofs.EventChanges.{Outside, Answered, happens_outside}
 use Rattle.pnp_laws.proofs.Askings.{asks_begun}
 use Rattle.pnp_laws.proofs.BeginSteps.{Begun}
-use Rattle.pnp_laws.proofs.EffectsOfOperations.{SameRefused, re_ask_on}
+use Rattle.pnp_laws.proofs.EffectsOfOperations.{SameRefused, re_ask_on, rebalance_step_is}
 use Rattle.pnp_laws.proofs.Standing.{Tree}
 use Rattle.pnp_laws.proofs.RebalanceMoves.{GoesOn, MovesOn, answered_asked, answered_undone, on_asks, undone_ask_on, undone_still, asked_ask_on, rebalance_moves}
 use Rattle.pnp_laws.proofs.Stages.{OperationStep, RebalanceStep, operation_step, reply}
@@ -53,21 +54,22 @@ abbrev StepOf : Core → State → Operation → Step → Type 0
 StepOf before s (Operation.Rebalancing r) step = Stepped before s r step ⊎ IsOver s r step
 StepOf before s _ step = ⊥
 
-by_step : (next : ℕ) (before : Core) (s : State) (o : Operation) (step : Step) → Tree next before → Holds before s o → OperationStep s o step → StepOf before s o step
-by_step next before s p step tree h (OperationStep.asks (Operation.Rebalancing r) node w asks) =
-    inl (record { move = re.moves (asked s.core node w).label (asked s.core node w).core (record r { stage = ev.completed_rebalance (reply s.core node w) r.stage }); is = refl; moves = on_asks before s.core r r.stage node w asks.walk asks.more asks.first h.1 h.2 })
-by_step next before s p step tree h (OperationStep.rebalances r stage m is x) =
+by_step : (next : ℕ) (before : Core) (s : State) (o : Operation) (step : Step) → Tree next before → Ascending 0 s.core.nodes → Holds before s o → OperationStep s o step → StepOf before s o step
+by_step next before s p step tree order h (OperationStep.asks (Operation.Rebalancing r) node w asks) =
+    inl (record { move = re.moves (asked s.core node w).label (asked s.core node w).core (record r { stage = ev.completed_rebalance (reply s.core node w) r.stage }); is = refl; moves = on_asks before s.core r r.stage node w asks.walk (asks.more order) asks.first h.1 h.2 })
+by_step next before s p step tree order h (OperationStep.rebalances r stage m is x) =
     let all = rebalance_moves next before s.core r r.stage m tree h.0 h.1 h.2 (subst (λ (y : RebalanceStage). RebalanceStep s.core r y m) (sym is) x) in
     elim all [
       | inl on ↦ inl (record { move = m; is = refl; moves = on })
       | inr (ending, close) ↦ inr (record { ending = ending; is = ap (ma.rebalance_lifted s) close })
     ]
-by_step next before s _ step tree h _ = h
+by_step next before s _ step tree order h _ = h
 
 pub rebalance_stepped : (path : List ℕ) (next : ℕ) (before : Core) (settings : Settings) (s : State) (step : Step) (u : Underway path before s) → Tree next before → IsGood s → ma.IsStep settings (ma.next settings s) step →
     Stepped before s u.frame step ⊎ IsOver s u.frame step
 rebalance_stepped path next before settings s step u tree good h =
-    by_step next before s (Operation.Rebalancing u.frame) step tree (subst (λ (x : Option Operation). OperationFits x s.core.nodes) u.runs good.fits, u.undone, u.asked) (operation_step settings s (Operation.Rebalancing u.frame) step u.runs h)
+    by_step next before s (Operation.Rebalancing u.frame) step tree good.serials (subst (λ (x : Option Operation). OperationFits x s.core.nodes) u.runs good.fits, u.undone, u.asked)
+    (rebalance_step_is s u.frame step (operation_step settings s (Operation.Rebalancing u.frame) step u.runs h))
 
 -- The next state ------------------------------------------------------------------------------
 
@@ -189,6 +191,7 @@ follows path next before settings s (Did label) t u tree good within goes =
       | inl h ↦ follows_step path before s label t u h
       | inr over ↦ absurd (not_over s u.frame label t within over)
     ]
+follows path next before settings s (Declines label) t u tree good within goes = let idle = idle_before s label t goes in let runs = u.runs in absurd (cc)
 
 -- A run ---------------------------------------------------------------------------------------------
 

@@ -6,20 +6,19 @@ use Rattle.pnp_model.specs.Keyed.{changed_first, without_first, those}
 use Rattle.pnp_model.specs.Records.{Node, State, Operation, Removal, RemovalStage}
 use Rattle.pnp_model.specs.Records.RemovalStage.{Settling, Ending}
 use Rattle.pnp_model.specs.Cores.{drop_node, is_node, node_at, with_state, with_problem, stack_of}
-use Rattle.pnp_model.specs.Tests.{has, is_started}
-use Rattle.pnp_model.specs.Trees.{is_up}
+use Rattle.pnp_model.specs.Tests.{has}
 use Rattle.pnp_model.specs.States.{relist, unplug, set_operation, with_core}
 use Rattle.pnp_model.specs.Frames.{first_node, rest}
-use Rattle.pnp_model.specs.Removals.{RemovalMove, ejecting, finish_with, finish_on, ask_on, cancel_on, begun_with}
+use Rattle.pnp_model.specs.Removals.{RemovalMove, ejecting, finish_with, finish_on, ask_on, cancel_on, begun_with, is_queried, is_queried_node}
 use Rattle.pnp_model.specs.Machine.{removal_lifted}
-use Rattle.pnp_laws.specs.Kept.{Good, Lawful, Each, OperationFits, Distinct, Apart, Within, RemovalKeeps, querying_state, refusing_state, restoring_state, finishing_state, is_calm, is_idle, is_stopped}
+use Rattle.pnp_laws.specs.Kept.{Good, Lawful, Each, OperationFits, Distinct, Apart, Within, RemovalKeeps, turn_state, querying_state, refusing_state, restoring_state, finishing_state, is_calm, is_idle, is_stopped}
 use Rattle.pnp_labels.specs.declared.states.DevState.{DevState}
 use Rattle.pnp_labels.specs.declared.states.Problem.{Problem}
 use Rattle.pnp_labels.specs.declared.label.OpKind.{OpKind}
-use Rattle.pnp_labels.specs.declared.states.DevState.TheVariants.{NoStack, NotStarted, Started, RemovePending}
+use Rattle.pnp_labels.specs.declared.states.DevState.TheVariants.{NoStack, NotStarted, Started, RemovePending, SurpriseRemoved}
 use Rattle.pnp_laws.proofs.Diagrams.{Each_changed, Each_same}
-use Rattle.pnp_laws.proofs.Lists.{head_has, rest_has, rest_not, rest_distinct, rest_within, those_has, those_distinct}
-use Rattle.pnp_laws.proofs.OpSteps.{lawful_close, is_Started, is_RemovePending, started_calm}
+use Rattle.pnp_laws.proofs.Lists.{HeadIs, head_has, rest_has, rest_not, rest_distinct, rest_within, those_has, those_distinct}
+use Rattle.pnp_laws.proofs.OpSteps.{lawful_close, lawful_still, is_Started, is_RemovePending, started_calm}
 use Rattle.pnp_laws.proofs.Stages.{RemovalStep}
 use Rattle.pnp_laws.proofs.StartSteps.{idle_calm}
 use Rattle.pnp_laws.proofs.Finishing.{StacksFit, settle_each, remove_each, stack_kept, relist_only}
@@ -43,15 +42,15 @@ fits_finish_on others o (k ∷ ks) nodes same a b c d within stacks each =
     fits_with o k ks (stack_of (node_at k others)) nodes (same k (grind (arith, nat_tests))) a b c d within stacks each
 
 -- all were asked: those of the set may lose their drivers
-queried_over : (agreed set : List ℕ) (k : ℕ) (x : DevState) → (has agreed k ≡ true → has set k ≡ true) → querying_state [] agreed set k x ≡ true → finishing_state set k x ≡ true
+queried_over : (agreed set : List ℕ) (k : ℕ) (x : DevState) → (has agreed k ≡ true → has set k ≡ true) → turn_state [] agreed set k x ≡ true → finishing_state set k x ≡ true
 queried_over agreed set k NoStack within h = grind (arith)
 queried_over agreed set k _ within h = grind (arith)
 
 fits_ask_on : (others : List Node) (o : Removal) (ks : List ℕ) (nodes : List Node) → ((k : ℕ) → stack_of (node_at k nodes) ≡ stack_of (node_at k others)) → Distinct o.set → has o.set 0 ≡ false → Distinct ks → Distinct o.agreed → Apart ks o.agreed → Within o.agreed o.set → Within ks o.set →
-    StacksFit nodes → Each (querying_state ks o.agreed o.set) nodes → OperationFits (Some (Operation.Removing (ask_on others o ks))) nodes
+    StacksFit nodes → Each (turn_state ks o.agreed o.set) nodes → OperationFits (Some (Operation.Removing (ask_on others o ks))) nodes
 fits_ask_on others o [] nodes same a b c d apart within inside stacks each =
     fits_finish_on others o o.set nodes (λ k h. same k) a b a d (λ k h. h) stacks
-    (Each_same (querying_state [] o.agreed o.set) (finishing_state o.set) nodes (λ k x h. queried_over o.agreed o.set k x (within k) h) each)
+    (Each_same (turn_state [] o.agreed o.set) (finishing_state o.set) nodes (λ k x h. queried_over o.agreed o.set k x (within k) h) each)
 fits_ask_on others o (k ∷ ks) nodes same a b c d apart within inside stacks each = record { set = a; rootless = b; todo = c; agreed = d; asks = (apart, within, inside); each = each }
 
 fits_cancel_on : (o : Removal) (ks : List ℕ) (nodes : List Node) → Distinct o.set → has o.set 0 ≡ false → Distinct ks → Distinct o.agreed → Within ks o.set →
@@ -61,20 +60,31 @@ fits_cancel_on o (k ∷ ks) nodes a b c d within each = record { set = a; rootle
 
 -- states as lists change
 
-asked_here : (todo agreed set : List ℕ) (j : ℕ) → has todo j ≡ false → querying_state todo (j ∷ agreed) set j RemovePending ≡ true
+asked_here : (todo agreed set : List ℕ) (j : ℕ) → has todo j ≡ false → turn_state todo (j ∷ agreed) set j RemovePending ≡ true
 asked_here todo agreed set j h = grind (arith, nat_tests)
 
-asked_there : (todo more agreed set : List ℕ) (j k : ℕ) (x : DevState) → j ≢ k → has more k ≡ has todo k → querying_state todo agreed set k x ≡ true → querying_state more (j ∷ agreed) set k x ≡ true
-asked_there todo more agreed set j k x d e h = grind (arith, nat_tests)
+asked_there : (todo more agreed set : List ℕ) (j k : ℕ) (x : DevState) → HeadIs j todo → j ≢ k → has more k ≡ has todo k → querying_state todo agreed set k x ≡ true → turn_state more (j ∷ agreed) set k x ≡ true
+asked_there [] more agreed set j k x head d e h = absurd head
+asked_there (i ∷ is) more agreed set j k x head d e h = grind (arith, nat_tests)
 
-refused_state : (todo agreed set : List ℕ) (k : ℕ) (x : DevState) → querying_state todo agreed set k x ≡ true → refusing_state todo agreed k x ≡ true
-refused_state todo agreed set k x h = grind (arith, idle_calm x)
+queried_calm : (x : DevState) → is_queried x ≡ true → is_calm x ≡ true
+queried_calm Started h = refl
+queried_calm SurpriseRemoved h = refl
+queried_calm _ h = cc
+
+-- the first of them refuses unasked
+declined : (todo agreed set : List ℕ) (k : ℕ) (x : DevState) → (has todo k ≡ true → has agreed k ≡ false) → turn_state todo agreed set k x ≡ true → restoring_state agreed k x ≡ true
+declined todo agreed set k x apart h = grind (arith, idle_calm x, queried_calm x)
+
+refused_state : (todo agreed set : List ℕ) (k : ℕ) (x : DevState) → (has todo k ≡ true → has agreed k ≡ false) → querying_state todo agreed set k x ≡ true → refusing_state todo agreed k x ≡ true
+refused_state todo agreed set k x apart h = grind (arith, idle_calm x, queried_calm x)
 
 back_here : (todo agreed : List ℕ) (j : ℕ) → has todo j ≡ true → (has todo j ≡ true → has agreed j ≡ false) → restoring_state agreed j Started ≡ true
 back_here todo agreed j h apart = let a = apart h in grind (arith)
 
 back_there : (todo agreed : List ℕ) (k : ℕ) (x : DevState) → (has todo k ≡ true → has agreed k ≡ false) → refusing_state todo agreed k x ≡ true → restoring_state agreed k x ≡ true
-back_there todo agreed k x apart h = grind (arith, started_calm x)
+back_there [] agreed k x apart h = grind (arith)
+back_there (i ∷ is) agreed k x apart h = grind (arith, nat_tests, started_calm x)
 
 rest_restoring : (todo : List ℕ) (k : ℕ) (x : DevState) → has (rest todo) k ≡ has todo k → restoring_state todo k x ≡ true → restoring_state (rest todo) k x ≡ true
 rest_restoring todo k x e h = grind (arith)
@@ -82,11 +92,13 @@ rest_restoring todo k x e h = grind (arith)
 calm_restoring : (todo : List ℕ) (k : ℕ) → has todo k ≡ false → restoring_state todo k Started ≡ true
 calm_restoring todo k h = grind (arith)
 
-pub head_querying : (todo agreed set : List ℕ) (j : ℕ) (x : DevState) → has todo j ≡ true → querying_state todo agreed set j x ≡ true → x ≡ Started
-head_querying todo agreed set j x h g = is_Started x (grind (arith))
+pub head_querying : (todo agreed set : List ℕ) (j : ℕ) (x : DevState) → HeadIs j todo → querying_state todo agreed set j x ≡ true → x ≡ Started
+head_querying [] agreed set j x h g = absurd h
+head_querying (i ∷ is) agreed set j x h g = is_Started x (grind (arith, nat_tests))
 
-pub head_refusing : (todo agreed : List ℕ) (j : ℕ) (x : DevState) → has todo j ≡ true → refusing_state todo agreed j x ≡ true → x ≡ Started
-head_refusing todo agreed j x h g = is_Started x (grind (arith))
+pub head_refusing : (todo agreed : List ℕ) (j : ℕ) (x : DevState) → HeadIs j todo → refusing_state todo agreed j x ≡ true → x ≡ Started
+head_refusing [] agreed j x h g = absurd h
+head_refusing (i ∷ is) agreed j x h g = is_Started x (grind (arith, nat_tests))
 
 pub head_restoring : (todo : List ℕ) (j : ℕ) (x : DevState) → has todo j ≡ true → restoring_state todo j x ≡ true → x ≡ RemovePending
 head_restoring todo j x h g = is_RemovePending x (grind (arith))
@@ -122,11 +134,16 @@ module _ (s : State) (o : Removal) (alone : s.activities ≡ []) (good : Good s.
       (next_fits (without_first (is_node node.serial) s.core.nodes) keeps)
 
   pub lawful_removal : (stage : RemovalStage) (m : RemovalMove) → RemovalKeeps o stage s.core.nodes → RemovalStep s.core o stage m → Lawful (removal_lifted s m).state
+  lawful_removal stage m keeps (RemovalStep.declines node first) =
+      lawful_still s _ (Operation.Removing o) _ refl refl alone refl
+      (fits_cancel_on (record o { refuser = Some node.serial }) o.agreed s.core.nodes keeps.set keeps.rootless keeps.agreed keeps.agreed keeps.asks.1
+      (Each_same (turn_state o.todo o.agreed o.set) (restoring_state o.agreed) s.core.nodes (λ k x h. declined o.todo o.agreed o.set k x (keeps.asks.0 k) h) keeps.each))
+      good
   lawful_removal stage m keeps (RemovalStep.agrees node w e ok) =
       let work = at_work s (Operation.Removing o) node alone e.first good in
       let j = node.serial in
       let here = head_has j o.todo work.head in
-      let state = head_querying o.todo o.agreed o.set j node.state here (keeps.each j node work.at) in
+      let state = head_querying o.todo o.agreed o.set j node.state work.head (keeps.each j node work.at) in
       let not_rest = rest_not j o.todo work.head keeps.todo in
       lawful_ended s _ node (Operation.Removing o) _ Started RemovePending work state (not_root o.set o.todo j keeps.rootless keeps.asks.2 here) refl refl refl refl (λ e. cc) (λ e. cc)
       (λ stacks. fits_ask_on s.core.nodes (record o { agreed = j ∷ o.agreed }) (rest o.todo) (changed_first (is_node j) (with_state RemovePending) s.core.nodes)
@@ -138,14 +155,14 @@ module _ (s : State) (o : Removal) (alone : s.activities ≡ []) (good : Good s.
       (asked_within o.agreed o.set j (keeps.asks.2 j here) keeps.asks.1)
       (λ k h. keeps.asks.2 k (rest_within k o.todo h))
       stacks
-      (Each_changed (querying_state o.todo o.agreed o.set) (querying_state (rest o.todo) (j ∷ o.agreed) o.set) j (with_state RemovePending) s.core.nodes node (λ x. refl) work.at
+      (Each_changed (querying_state o.todo o.agreed o.set) (turn_state (rest o.todo) (j ∷ o.agreed) o.set) j (with_state RemovePending) s.core.nodes node (λ x. refl) work.at
       (asked_here (rest o.todo) o.agreed o.set j not_rest)
-      (λ k x d h. asked_there o.todo (rest o.todo) o.agreed o.set j k x d (rest_has j k o.todo work.head d) h) keeps.each))
+      (λ k x d h. asked_there o.todo (rest o.todo) o.agreed o.set j k x work.head d (rest_has j k o.todo work.head d) h) keeps.each))
   lawful_removal stage m keeps (RemovalStep.refuses node w e bad) =
       let work = at_work s (Operation.Removing o) node alone e.first good in
       let j = node.serial in
       let here = head_has j o.todo work.head in
-      let state = head_querying o.todo o.agreed o.set j node.state here (keeps.each j node work.at) in
+      let state = head_querying o.todo o.agreed o.set j node.state work.head (keeps.each j node work.at) in
       lawful_ended s _ node (Operation.Removing o) _ Started node.state work state (not_root o.set o.todo j keeps.rootless keeps.asks.2 here) refl refl refl refl (λ e. cc) (λ e. let z = state in cc)
       (λ stacks. record {
         set = keeps.set;
@@ -155,13 +172,13 @@ module _ (s : State) (o : Removal) (alone : s.activities ≡ []) (good : Good s.
         asks = keeps.asks;
         each =
             Each_changed (querying_state o.todo o.agreed o.set) (refusing_state o.todo o.agreed) j (with_state node.state) s.core.nodes node (λ x. refl) work.at
-            (refused_state o.todo o.agreed o.set j node.state (keeps.each j node work.at)) (λ k x d h. refused_state o.todo o.agreed o.set k x h) keeps.each;
+            (refused_state o.todo o.agreed o.set j node.state (keeps.asks.0 j) (keeps.each j node work.at)) (λ k x d h. refused_state o.todo o.agreed o.set k x (keeps.asks.0 k) h) keeps.each;
       })
   lawful_removal stage m keeps (RemovalStep.takes_back node w e) =
       let work = at_work s (Operation.Removing o) node alone e.first good in
       let j = node.serial in
       let here = head_has j o.todo work.head in
-      let state = head_refusing o.todo o.agreed j node.state here (keeps.each j node work.at) in
+      let state = head_refusing o.todo o.agreed j node.state work.head (keeps.each j node work.at) in
       lawful_ended s _ node (Operation.Removing o) _ Started Started work state (not_root o.set o.todo j keeps.rootless keeps.asks.2 here) refl refl refl refl (λ e. cc) (λ e. cc)
       (λ stacks. fits_cancel_on o o.agreed (changed_first (is_node j) (with_state Started) s.core.nodes) keeps.set keeps.rootless keeps.agreed keeps.agreed keeps.asks.1
       (Each_changed (refusing_state o.todo o.agreed) (restoring_state o.agreed) j (with_state Started) s.core.nodes node (λ x. refl) work.at
@@ -192,7 +209,7 @@ module _ (s : State) (o : Removal) (alone : s.activities ≡ []) (good : Good s.
 
 -- The begin: no device of the set is Stopped -----------------------------------------------
 
-idle_or_up : (x : DevState) → is_calm x ≡ true → is_stopped x ≡ false → is_started x ≡ false → is_idle x ≡ true
+idle_or_up : (x : DevState) → is_calm x ≡ true → is_stopped x ≡ false → is_queried x ≡ false → is_idle x ≡ true
 idle_or_up NoStack a b c = refl
 idle_or_up NotStarted a b c = refl
 idle_or_up _ a b c = cc
@@ -206,7 +223,7 @@ pub record SetFits (set : List ℕ) (nodes : List Node) : Type 0 where
 pub fits_begun_removal : (s : State) (kind : OpKind) (node : Node) (set : List ℕ) → SetFits set s.core.nodes → Good s.next_serial s.core.nodes s.activities None →
     OperationFits (Some (Operation.Removing (begun_with s.core kind node set))) s.core.nodes
 fits_begun_removal s kind node set fits good =
-    let up : ℕ → Bool = λ k. is_up (node_at k s.core.nodes) in
+    let up : ℕ → Bool = λ k. is_queried_node (node_at k s.core.nodes) in
     fits_ask_on s.core.nodes (record { kind = kind; target = node.serial; path = node.path; set = set; ejecting = ejecting s.core set; todo = []; agreed = []; refuser = None; stage = Ending }) (those up set) s.core.nodes (λ k. refl) fits.distinct fits.rootless (those_distinct up set fits.distinct) tt (λ k h. refl) (λ k h. absurd {0} (cc))
     (λ k h. (those_has up set k h).0) good.stacks
-    (λ k n at. begun_one up set k (is_started n.state) (is_idle n.state) (is_calm n.state) (ap is_up at) (λ h off. idle_or_up n.state (good.fits k n at) (fits.none_stopped k n h at) off) (good.fits k n at))
+    (λ k n at. begun_one up set k (is_queried n.state) (is_idle n.state) (is_calm n.state) (ap is_queried_node at) (λ h off. idle_or_up n.state (good.fits k n at) (fits.none_stopped k n h at) off) (good.fits k n at))

@@ -2,7 +2,7 @@
 use Rattle.std.proofs.Common.{◌≡◌, inl, inr, List, [], ◌∷◌, ◌++◌, Some, refl, sym, ap, ◌∙◌, subst, append_assoc, append-nil}
 use Rattle.pnp_model.specs.Records.{Driver, State, Step, Settings, Operation}
 use Rattle.pnp_model.specs.Runs.{Entry, Goes, Run, printed, opening}
-use Rattle.pnp_model.specs.Runs.Entry.{Happens, Did}
+use Rattle.pnp_model.specs.Runs.Entry.{Happens, Did, Declines}
 use Rattle.pnp_model.specs.Laws.{Reaches, IsWithin, AllWithin}
 use Rattle.pnp_labels.specs.Texts.{Text}
 use Rattle.pnp_labels.specs.declared.states.Problem.{Problem}
@@ -79,6 +79,7 @@ begin_did settings s (Happens event label) t kind path goes e =
     let beside = beside_word label (subst (λ (x : Step). IsWord x.label) goes.1 (happens_outside s event).word) in
     absurd (subst (λ (x : Label). IsBeside x) e beside)
 begin_did settings s (Did label) t kind path goes e = ap (λ (x : Label). Did x) e
+begin_did settings s (Declines label) t kind path goes e = let says = goes.says in absurd (cc)
 
 same_begun : (settings : Settings) (rack : List Driver) (entries : List Entry) (s : State) (kind own : OpKind) (path named : Text) → own ≡ kind → named ≡ path → HasBegun settings rack entries s kind path → HasBegun settings rack entries s own named
 same_begun settings rack entries s kind own path named e q h =

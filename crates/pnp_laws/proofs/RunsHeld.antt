@@ -15,7 +15,7 @@ use Rattle.pnp_model.specs.Frames.{fixed_beside, held_by}
 use Rattle.pnp_model.specs.Rebalances.{committed, movers, others, plan_of}
 use Rattle.pnp_model.specs.Records.{Driver, Node, Operation, RebalanceStage, Settings, State}
 use Rattle.pnp_model.specs.Runs.{Entry, Goes, Run, opening, printed}
-use Rattle.pnp_model.specs.Runs.Entry.{Happens, Did}
+use Rattle.pnp_model.specs.Runs.Entry.{Happens, Did, Declines}
 use Rattle.pnp_model.specs.Tests.{has}
 use Rattle.pnp_laws.specs.Effects.{NodeEffect, RangeEffect}
 use Rattle.pnp_laws.specs.Ends.{events}
@@ -148,6 +148,7 @@ ranges_counted s entry t (RangeEffect.reserves res none free same e event label 
 ranges_first : (n m k : ℕ) (entry : Entry) (rest : List Entry) → m ≤ n + events (entry ∷ []) → k ≤ m + events rest → k ≤ n + events (entry ∷ rest)
 ranges_first n m k (Happens event label) rest a b = omega arith
 ranges_first n m k (Did label) rest a b = omega arith
+ranges_first n m k (Declines label) rest a b = omega arith
 
 ranges_run : (settings : Settings) (s : State) (entries : List Entry) (t : State) → Run settings s entries t → length t.core.reserved ≤ length s.core.reserved + events entries
 ranges_run settings s [] t run = let l = ap (λ (x : State). length x.core.reserved) run in omega arith

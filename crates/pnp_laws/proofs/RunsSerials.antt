@@ -2,7 +2,7 @@
 use Rattle.std.proofs.Common.{◌+◌, ◌≤◌, ◌≡◌, List, [], ◌∷◌, sym, subst, arith}
 use Rattle.pnp_model.specs.Records.{State, Settings}
 use Rattle.pnp_model.specs.Runs.{Entry, Goes, Run, printed, opening}
-use Rattle.pnp_model.specs.Runs.Entry.{Happens, Did}
+use Rattle.pnp_model.specs.Runs.Entry.{Happens, Did, Declines}
 use Rattle.pnp_laws.specs.Words.{joined}
 use Rattle.pnp_laws.specs.Ends.{events, joins}
 use Rattle.pnp_laws.specs.Serials.{SerialsLaw, FewSerialsLaw, FewBirthsLaw}
@@ -28,6 +28,7 @@ AllCounted old entries new = (new.next_serial ≡ old.next_serial + joins entrie
 
 counted_first : (old mid new : State) (entry : Entry) (rest : List Entry) → Counted old entry mid → AllCounted mid rest new → AllCounted old (entry ∷ rest) new
 counted_first old mid new (Happens event label) rest h more = let a = h.serials in let b = h.births in let c = more.0 in let d = more.1 in (omega arith, omega arith)
+counted_first old mid new (Declines label) rest h more = let a = h.serials in let b = h.births in let c = more.0 in let d = more.1 in (omega arith, omega arith)
 counted_first old mid new (Did label) rest h more = let a = h.serials in let b = h.births in let c = more.0 in let d = more.1 in (omega arith, omega arith)
 
 counted_run : (settings : Settings) (old : State) (entries : List Entry) (new : State) → Run settings old entries new → AllCounted old entries new

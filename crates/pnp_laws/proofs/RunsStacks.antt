@@ -244,7 +244,7 @@ module _ (s : State) (entry : Entry) (t : State) (good : IsGood s) (old : Stacke
   names_printed (DriverEffect.ended node minor w bad at request ends verdict prints rack) = subst (λ (l : Label). NamesDriver l t.core.rack) (sym prints) tt
   names_printed (DriverEffect.asked node w shown at on prints rack) =
       let d = next_driver node w in
-      let named = named_at s.core.rack node.stack (place_of w.minor (length node.stack) w.asked) (old.fits node.serial node at).1 (place_below w (length node.stack) on) in
+      let named = named_at s.core.rack node.stack (place_of w.minor (length node.stack) w.asked) (old.fits node.serial node at).1 (place_below w (length node.stack) (on good.serials)) in
       subst (λ (l : Label). NamesDriver l t.core.rack) (sym prints) (d, more d (name_of s.core.rack d) (name_printed s.core.rack d named))
   names_printed (DriverEffect.added node d ds acts prints rack activities) = subst (λ (l : Label). NamesDriver l t.core.rack) (sym prints) (d, added_name node.serial d ds acts)
   names_printed (DriverEffect.refused node d ds acts prints rack) = subst (λ (l : Label). NamesDriver l t.core.rack) (sym prints) (d, added_name node.serial d ds acts)

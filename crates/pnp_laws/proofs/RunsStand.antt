@@ -16,7 +16,8 @@ use Rattle.pnp_laws.proofs.DiagramSteps.{follows_effect}
 use Rattle.pnp_laws.proofs.EffectsOf.{effect_goes}
 use Rattle.pnp_laws.proofs.Runs.{lawful_goes, opening_is_good, root_is}
 use Rattle.pnp_laws.proofs.TreeMoves.{edge_cases}
-use Rattle.pnp_laws.proofs.Standing.{Stands, Kept}
+use Rattle.pnp_laws.proofs.Standing.{Stands}
+pub use Rattle.pnp_laws.proofs.Standing.{Kept}
 use Rattle.pnp_laws.proofs.Sounds.{IsPlain, walked_plain, first_stays}
 use Rattle.pnp_laws.proofs.EventChanges.{Outside, happens_outside}
 use Rattle.pnp_laws.proofs.SoundMachine.{sound_step, stands_happens, begins_well}

@@ -3,7 +3,7 @@ use Rattle.std.proofs.Common.{ℕ, ◌≡◌, ◌≢◌, ◌⊎◌, inl, inr, Bo
 use Rattle.std.specs.List.{find, slice_get}
 use Rattle.std.proofs.lemmas.Bool.Decides.{nat_tests}
 use Rattle.std.specs.Option.{option_map}
-use Rattle.pnp_model.specs.Records.{Node, Activity, Task, State, Step, Settings, Operation, Rebalance, RebalanceStage, Removal, RemovalStage, Surprise, SurpriseStage, Doing, Duty, doing_map}
+use Rattle.pnp_model.specs.Records.{Node, Activity, Task, State, Step, Settings, Operation, Rebalance, RebalanceStage, Removal, RemovalStage, Surprise, SurpriseStage, Finish, FinishStage, Doing, Duty, doing_map}
 use Rattle.pnp_model.specs.Records.Doing.{Does, Searches}
 use Rattle.pnp_model.specs.Cores.{node_at}
 use Rattle.pnp_model.specs.Frames.{first_node}
@@ -13,12 +13,13 @@ use Rattle.pnp_labels.specs.declared.label.OpKind.{OpKind}
 use Rattle.pnp_laws.specs.Quiet.{Delays, NoTask, RestsWith, QuietLaw, OneStep, StepLaw}
 use Rattle.pnp_laws.proofs.Lookups.{ready_found}
 use Rattle.pnp_laws.proofs.AnswerThere.{answer_some}
-use Rattle.pnp_laws.proofs.Standing.{Goes, StageKept, RebalanceThere, RemovalThere, SurpriseThere}
-use Rattle.pnp_laws.proofs.RunsStand.{Kept, reaches_kept}
+use Rattle.pnp_laws.proofs.Standing.{Goes, Kept, StageKept, RebalanceThere, RemovalThere, SurpriseThere, FinishThere}
+use Rattle.pnp_laws.proofs.RunsStand.{reaches_kept}
 use Rattle.pnp_model.specs.Machine as ma
 use Rattle.pnp_model.specs.Rebalances as re
 use Rattle.pnp_model.specs.Removals as rm
 use Rattle.pnp_model.specs.Surprises as su
+use Rattle.pnp_model.specs.Finishes as fi
 
 abbrev IsSome : {A : Type 0} → Option A → Type 0
 IsSome {A} o = (x : A) × (o ≡ Some x)
@@ -41,24 +42,33 @@ rebalance_goes s r (RebalanceStage.Restarting w) there = let n = first_there r.t
 rebalance_goes s r RebalanceStage.Failed there = let n = first_there r.todo s.core.nodes there in (_, ap (re.rebalance_step s.core r RebalanceStage.Failed) n.1)
 rebalance_goes s r _ there = (_, refl)
 
-removal_goes : (s : State) (o : Removal) (stage : RemovalStage) → RemovalThere o stage s.core.nodes → IsSome (rm.removal_step s.core o stage (first_node s.core.nodes o.todo))
+removal_goes : (s : State) (o : Removal) (stage : RemovalStage) → RemovalThere o stage s.core.nodes → IsSome (rm.removal_step s.core o s.handles stage (first_node s.core.nodes o.todo))
 removal_goes s o RemovalStage.Ending there = (_, refl)
-removal_goes s o (RemovalStage.Asking w) there = let n = first_there o.todo s.core.nodes there.0 in (_, ap (rm.removal_step s.core o (RemovalStage.Asking w)) n.1)
-removal_goes s o (RemovalStage.TakingBack w) there = let n = first_there o.todo s.core.nodes there.0 in (_, ap (rm.removal_step s.core o (RemovalStage.TakingBack w)) n.1)
-removal_goes s o (RemovalStage.Cancelling w) there = let n = first_there o.todo s.core.nodes there in (_, ap (rm.removal_step s.core o (RemovalStage.Cancelling w)) n.1)
-removal_goes s o (RemovalStage.Removing w) there = let n = first_there o.todo s.core.nodes there in (_, ap (rm.removal_step s.core o (RemovalStage.Removing w)) n.1)
-removal_goes s o RemovalStage.Settling there = let n = first_there o.todo s.core.nodes there in (_, ap (rm.removal_step s.core o RemovalStage.Settling) n.1)
+removal_goes s o RemovalStage.Next there = let n = first_there o.todo s.core.nodes there.0 in (_, ap (rm.removal_step s.core o s.handles RemovalStage.Next) n.1)
+removal_goes s o (RemovalStage.Asking w) there = let n = first_there o.todo s.core.nodes there.0 in (_, ap (rm.removal_step s.core o s.handles (RemovalStage.Asking w)) n.1)
+removal_goes s o (RemovalStage.TakingBack w) there = let n = first_there o.todo s.core.nodes there.0 in (_, ap (rm.removal_step s.core o s.handles (RemovalStage.TakingBack w)) n.1)
+removal_goes s o (RemovalStage.Cancelling w) there = let n = first_there o.todo s.core.nodes there in (_, ap (rm.removal_step s.core o s.handles (RemovalStage.Cancelling w)) n.1)
+removal_goes s o (RemovalStage.Removing w) there = let n = first_there o.todo s.core.nodes there in (_, ap (rm.removal_step s.core o s.handles (RemovalStage.Removing w)) n.1)
+removal_goes s o RemovalStage.Settling there = let n = first_there o.todo s.core.nodes there in (_, ap (rm.removal_step s.core o s.handles RemovalStage.Settling) n.1)
 
-surprise_goes : (s : State) (o : Surprise) (in_world : Bool) (stage : SurpriseStage) → SurpriseThere o stage s.core.nodes → IsSome (su.surprise_step s.core o in_world stage (first_node s.core.nodes o.todo))
+surprise_goes : (s : State) (o : Surprise) (in_world : Bool) (stage : SurpriseStage) → SurpriseThere o stage s.core.nodes → IsSome (su.surprise_step s.core o in_world s.handles stage (first_node s.core.nodes o.todo))
 surprise_goes s o in_world SurpriseStage.Ending there = (_, refl)
-surprise_goes s o in_world (SurpriseStage.Telling w) there = let n = first_there o.todo s.core.nodes there.0 in (_, ap (su.surprise_step s.core o in_world (SurpriseStage.Telling w)) n.1)
-surprise_goes s o in_world (SurpriseStage.Removing w) there = let n = first_there o.todo s.core.nodes there.0 in (_, ap (su.surprise_step s.core o in_world (SurpriseStage.Removing w)) n.1)
-surprise_goes s o in_world SurpriseStage.Settling there = let n = first_there o.todo s.core.nodes there.0 in (_, ap (su.surprise_step s.core o in_world SurpriseStage.Settling) n.1)
+surprise_goes s o in_world (SurpriseStage.Telling w) there = let n = first_there o.todo s.core.nodes there.0 in (_, ap (su.surprise_step s.core o in_world s.handles (SurpriseStage.Telling w)) n.1)
+surprise_goes s o in_world SurpriseStage.Next there = let n = first_there o.todo s.core.nodes there.0 in (_, ap (su.surprise_step s.core o in_world s.handles SurpriseStage.Next) n.1)
+surprise_goes s o in_world (SurpriseStage.Removing w) there = let n = first_there o.todo s.core.nodes there.0 in (_, ap (su.surprise_step s.core o in_world s.handles (SurpriseStage.Removing w)) n.1)
+surprise_goes s o in_world SurpriseStage.Settling there = let n = first_there o.todo s.core.nodes there.0 in (_, ap (su.surprise_step s.core o in_world s.handles SurpriseStage.Settling) n.1)
+
+finish_goes : (s : State) (f : Finish) (in_world : Bool) (stage : FinishStage) → FinishThere f stage s.core.nodes → IsSome (fi.finish_step s.core f in_world s.handles stage (first_node s.core.nodes f.todo))
+finish_goes s f in_world FinishStage.Next there = (_, refl)
+finish_goes s f in_world (FinishStage.Removing w) there = let n = first_there f.todo s.core.nodes there in (_, ap (fi.finish_step s.core f in_world s.handles (FinishStage.Removing w)) n.1)
+finish_goes s f in_world FinishStage.Leaving there = let n = first_there f.todo s.core.nodes there in (_, ap (fi.finish_step s.core f in_world s.handles FinishStage.Leaving) n.1)
+finish_goes s f in_world FinishStage.Holding there = let n = first_there f.todo s.core.nodes there in (_, ap (fi.finish_step s.core f in_world s.handles FinishStage.Holding) n.1)
 
 operation_goes : (s : State) (o : Operation) → StageKept (Some o) s.core → IsSome (ma.operation_next s o false)
 operation_goes s (Operation.Rebalancing r) stage = mapped (doing_map (ma.rebalance_lifted s)) (re.rebalanced s.core r) (rebalance_goes s r r.stage stage.1)
-operation_goes s (Operation.Removing o) stage = mapped (λ m. Does (ma.removal_lifted s m)) (rm.removed s.core o) (removal_goes s o o.stage stage.1)
-operation_goes s (Operation.Surprising o) stage = mapped (λ m. Does (ma.surprise_lifted s m)) (su.surprised s.core o (ma.is_target_in_world s o)) (surprise_goes s o (ma.is_target_in_world s o) o.stage stage.1)
+operation_goes s (Operation.Removing o) stage = mapped (λ m. Does (ma.removal_lifted s m)) (rm.removed s.core o s.handles) (removal_goes s o o.stage stage.1)
+operation_goes s (Operation.Surprising o) stage = mapped (λ m. Does (ma.surprise_lifted s m)) (su.surprised s.core o (ma.is_target_in_world s o) s.handles) (surprise_goes s o (ma.is_target_in_world s o) o.stage stage.1)
+operation_goes s (Operation.Finishing f) stage = mapped (λ m. Does (ma.finish_lifted s m)) (fi.finished s.core f (ma.is_current_in_world s f) s.handles) (finish_goes s f (ma.is_current_in_world s f) f.stage stage.1)
 
 -- A state rests, or something is next -----------------------------------------------------------------
 

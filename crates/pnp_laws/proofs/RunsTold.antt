@@ -24,6 +24,7 @@ use Rattle.pnp_laws.proofs.EffectViews.{Turns, acting_at, state_from}
 use Rattle.pnp_laws.proofs.Lookups.{own_serial, some_same}
 use Rattle.pnp_laws.proofs.Minors.{HasOwn, RunsOwn, reaches_own}
 use Rattle.pnp_laws.proofs.Phases.{phase_found}
+use Rattle.pnp_laws.proofs.WalkEnds.{ended_runs}
 use Rattle.pnp_laws.proofs.RunsStand.{Kept, reaches_kept}
 
 -- the first device of an operation
@@ -52,16 +53,17 @@ module _ (s : State) (good : IsGood s) (owns : HasOwn s) (node : Node) (there : 
         own = cc;
       }
 
-  under_way : (minor : Minor) (w : Walk) → Request s node minor w → UnderWay s node minor w
-  under_way _ _ (Request.starts w acts) = by_start (Starting w) w Minor.Start acts refl refl
-  under_way _ _ (Request.undoes w acts) = by_start (Removing w) w Minor.Remove acts refl refl
-  under_way _ _ (Request.operates minor w asks) =
+  under_way : (minor : Minor) (w : Walk) → Request s node minor w → has_ended w (length node.stack) ≡ true → UnderWay s node minor w
+  under_way _ _ (Request.starts w acts) ends = by_start (Starting w) w Minor.Start acts refl refl
+  under_way _ _ (Request.undoes w acts) ends = by_start (Removing w) w Minor.Remove acts refl refl
+  under_way _ _ (Request.operates minor w asks) ends =
+      let runs = ended_runs s asks.operation node w good asks.runs asks.first asks.walk ends in
       let at_front : operation_at asks.operation ≡ Some node.serial = operation_front asks.operation ∙ front_is s.core.nodes (todo_of asks.operation) node asks.first in
-      let own : OperationOwn asks.operation = subst RunsOwn asks.runs owns.operation in
+      let own : OperationOwn asks.operation = subst RunsOwn runs owns.operation in
       let of_walk : Some w.minor ≡ operation_minor asks.operation = ap (λ (o : Option Walk). option_map (λ (v : Walk). v.minor) o) (sym asks.walk) ∙ own in
       let minor_is = asks.minor_is in
       record {
-        walk = IsWalkOf.operates asks.operation asks.runs at_front asks.walk;
+        walk = IsWalkOf.operates asks.operation runs at_front asks.walk;
         own = cc;
       }
 
@@ -96,7 +98,7 @@ module _ (s : State) (entry : Entry) (t : State) (all : Kept s) (path : Text) (s
       let same_after : state_after minor bad node.state ≡ state = cc in
       let k_is : node.serial ≡ k = all.stands.tree.paths node.serial k node n there at (sym same_path ∙ sym own) in
       let one : node ≡ n = some_same (node_at k s.core.nodes) node n (subst (λ (i : ℕ). node_at i s.core.nodes ≡ Some node) k_is there) at in
-      let way = under_way s all.good owns node there minor w request in
+      let way = under_way s all.good owns node there minor w request ends in
       let ends_so : is_bad w ≡ bad = sym (ends_by_walk w minor way.own) ∙ verdict in
       let after : state_after w.minor (is_bad w) node.state ≡ state = ap (λ (m : Minor). state_after m (is_bad w) node.state) way.own ∙ ap (λ (b : Bool). state_after minor b node.state) ends_so ∙ same_after in
       let rows : Rows w.minor node.state = subst (λ (m : Minor). Rows m node.state) (sym way.own) (request_rows s all.good node there minor w request) in (

@@ -5,7 +5,7 @@ use Rattle.pnp_model.specs.Trees.{leaving}
 use Rattle.pnp_model.specs.Removals.{begun_removal, end_of}
 use Rattle.pnp_model.specs.Tasks.{begin}
 use Rattle.pnp_model.specs.Runs.{Entry, Goes, Run, printed}
-use Rattle.pnp_model.specs.Runs.Entry.{Happens, Did}
+use Rattle.pnp_model.specs.Runs.Entry.{Happens, Did, Declines}
 use Rattle.pnp_model.specs.Laws.{IsWithin, AllWithin, Restores, VetoLaw}
 use Rattle.pnp_labels.specs.Texts.{Text}
 use Rattle.pnp_labels.specs.declared.label.Label.{Label}
@@ -16,6 +16,7 @@ use Rattle.pnp_laws.specs.Kept.{IsGood}
 use Rattle.pnp_laws.specs.Reached.{IsReached}
 use Rattle.pnp_laws.proofs.Reached.{reached_is_good}
 use Rattle.pnp_laws.proofs.Reaching.{kept_within, reached_after, reached_on}
+use Rattle.pnp_laws.proofs.Declined.{idle_before}
 use Rattle.pnp_laws.proofs.Courses.{Way, way_goes}
 use Rattle.pnp_laws.proofs.BeginSteps.{Begun, begins_right, reached_fine}
 use Rattle.pnp_laws.proofs.Vetoes.{since_begun, veto_restores}
@@ -34,6 +35,7 @@ veto_goes before settings s (Did label) t good w g h =
       | inl next ↦ next.1
       | inr closed ↦ absurd (not_closed before s (record { label = label; state = t }) w closed)
     ]
+veto_goes before settings s (Declines label) t good w g h = let idle = idle_before s label t g in let runs = h.runs in absurd (cc)
 
 -- the end
 

@@ -262,7 +262,7 @@ module _ (budget : ℕ) (s : State) where
           now = Operation.Finishing (fi.taken f node);
           turn = Turn.finishes f k node is ready at;
           is = OperationStep.asks (Operation.Finishing (fi.taken f node)) node (walk_of Minor.Remove)
-            (record { first = found_self k s.core.nodes node at; walk = refl; waits = refl; more = λ order. ready_fresh s.core s.handles k node order ready at });
+              (record { first = found_self k s.core.nodes node at; walk = refl; waits = refl; more = λ order. ready_fresh s.core s.handles k node order ready at });
         }
 
     fi_readies : (o : Option ℕ) → f.stage ≡ FinishStage.Next → ready_device s.core s.handles ≡ o → TakenStep s (Operation.Finishing f) (fi_does f (fi.take s.core f (fi.node_of_ready s.core.nodes o)))

@@ -16,6 +16,7 @@ use Rattle.pnp_laws.proofs.Lookups.{entered_same, entered_other, InOrder-entered
 use Rattle.pnp_laws.proofs.Diagrams.{Each_joined}
 use Rattle.pnp_laws.proofs.Kept.{lawful_by, Good_joined, Good_nodes}
 use Rattle.pnp_laws.proofs.StartSteps.{lawful_changed}
+use Rattle.pnp_laws.proofs.FinishingSteps.{fits_begun_finish}
 use Rattle.pnp_laws.proofs.RebalanceSteps.{fits_begun_change, fits_begun_rebalance}
 use Rattle.pnp_laws.proofs.RemovalSteps.{fits_begun_removal}
 use Rattle.pnp_laws.proofs.SurpriseSteps.{fits_begun_surprise}
@@ -62,6 +63,7 @@ module _ (s : State) (none : s.operation ≡ None) (good : Good s.next_serial s.
   pub lawful_task : (step : Step) → IsGood s → BeginsWell s.core s.tasks → TaskStep s step → Lawful step.state
   lawful_task _ g well (TaskStep.skips kind k j first calm) = unchanged s _ refl refl refl refl g
   lawful_task _ g well (TaskStep.misses k first gone) = unchanged s _ refl refl refl refl g
+  lawful_task _ g well (TaskStep.told node first at told) = unchanged s _ refl refl refl refl g
   lawful_task _ g well (TaskStep.lists k node first) = unchanged s _ refl refl refl refl g
   lawful_task _ g well (TaskStep.finds_gone node child gone) = unchanged s _ refl refl refl refl g
   lawful_task _ g well (TaskStep.joins node d at up below) = joins node d
@@ -74,6 +76,7 @@ module _ (s : State) (none : s.operation ≡ None) (good : Good s.next_serial s.
   lawful_task _ g well (TaskStep.begins OpKind.Change node first alone at (state, there)) = begins OpKind.Change node _ alone (fits_begun_change s node _ at state (well.up OpKind.Change node.serial first) good)
   lawful_task _ g well (TaskStep.begins OpKind.Disable node first alone at enabled) = removes OpKind.Disable node alone (well.orders node.serial node at (well.up OpKind.Disable node.serial first)) (well.settled OpKind.Disable node.serial first refl)
   lawful_task _ g well (TaskStep.begins OpKind.Eject node first alone at h) = removes OpKind.Eject node alone (well.orders node.serial node at (well.up OpKind.Eject node.serial first)) (well.settled OpKind.Eject node.serial first refl)
+  lawful_task _ g well (TaskStep.begins OpKind.Finish node first alone at h) = begins OpKind.Finish node _ alone (fits_begun_finish s node good)
   lawful_task _ g well (TaskStep.begins OpKind.Surprise node first alone at h) =
       let order = well.orders node.serial node at (well.up OpKind.Surprise node.serial first) in
       begins OpKind.Surprise node _ alone (fits_begun_surprise s node (leaving s.core node.serial) order.distinct order.rootless order.last good)

@@ -1,12 +1,13 @@
 -- What a veto restores is kept by each step and event of a removal.
 use Rattle.std.proofs.Common.{◌≡◌, ◌⊎◌, inl, inr, [], Option, Some, refl, sym, ap, ◌∙◌, subst}
 use Rattle.pnp_model.specs.Records.{Node, Core, State, Step, Settings, Operation, Removal, RemovalStage, Walk}
-use Rattle.pnp_model.specs.Records.RemovalStage.{Asking, TakingBack, Cancelling, Removing, Settling, Ending}
+use Rattle.pnp_model.specs.Records.RemovalStage.{Next, Asking, TakingBack, Cancelling, Removing, Settling, Ending}
 use Rattle.pnp_model.specs.States.{unplug, set_operation, with_core}
 use Rattle.pnp_model.specs.Removals.{RemovalMove, RemoveBeside}
 use Rattle.pnp_model.specs.Machine.{removal_lifted, after_remove, next, IsStep}
 use Rattle.pnp_laws.specs.Kept.{IsGood, OperationFits, RemovalKeeps}
 use Rattle.pnp_model.specs.Laws.{IsWithin}
+use Rattle.pnp_laws.specs.Effects.{Turn}
 use Rattle.pnp_laws.specs.Vetoes.{Since}
 use Rattle.pnp_labels.specs.declared.words.Answer.{Answer}
 use Rattle.pnp_labels.specs.declared.label.Label.{Label}
@@ -16,6 +17,7 @@ use Rattle.pnp_labels.specs.declared.states.DevState.TheVariants.{RemovePending}
 use Rattle.pnp_laws.proofs.Vetoes.{IsOn, held_still, since_step}
 use Rattle.pnp_laws.proofs.EventChanges.{Answered, happens_outside}
 use Rattle.pnp_laws.proofs.Finishing.{relist_only}
+use Rattle.pnp_laws.proofs.Turns.{running_good}
 use Rattle.pnp_model.specs.Removals as rm
 use Rattle.pnp_model.specs.Events as ev
 
@@ -28,6 +30,7 @@ pub record VetoSince (before : Core) (s : State) : Type 0 where
 -- What is kept ---------------------------------------------------------------------------
 
 moved : (before c d : Core) (o : Removal) (stage : RemovalStage) → d.nodes ≡ c.nodes → d.relations ≡ c.relations → d.reserved ≡ c.reserved → Since before c o stage → Since before d o stage
+moved before c d o Next a b e h = (held_still RemovePending before c d o.agreed a b e h.0, h.1)
 moved before c d o (Asking w) a b e h = (held_still RemovePending before c d o.agreed a b e h.0, h.1)
 moved before c d o (TakingBack w) a b e h = held_still RemovePending before c d o.agreed a b e h
 moved before c d o (Cancelling w) a b e h = held_still RemovePending before c d o.todo a b e h
@@ -91,9 +94,18 @@ by_step before s p step h (OperationStep.removes o stage m is x) =
     ]
 by_step before s _ step h _ = absurd h
 
+-- where the next device is taken, it is held as before
+turn_since : (before : Core) (s : State) (o p : Operation) → Turn s o p → OperationFits (Some p) s.core.nodes → Holds before s.core o → Holds before s.core p
+turn_since before s _ _ (Turn.same o) fits h = h
+turn_since before s _ _ (Turn.queries o node is first asks) fits h = (fits, subst (λ (y : RemovalStage). Since before s.core o y) is h.1)
+turn_since before s _ _ _ fits h = absurd h
+
 pub veto_step : (before : Core) (settings : Settings) (s : State) (step : Step) → IsGood s → VetoSince before s → IsStep settings (next settings s) step → (IsWithin step.label × VetoSince before step.state) ⊎ Closed before s step
 veto_step before settings s step good h is =
-    by_step before s (Operation.Removing h.op) step (subst (λ (x : Option Operation). OperationFits x s.core.nodes) h.runs good.fits, h.since) (operation_step settings s (Operation.Removing h.op) step h.runs is)
+    let o = Operation.Removing h.op in
+    let taken = operation_step settings s o step h.runs is in
+    let fits = (running_good s taken.now (record { before = o; runs = h.runs; turn = taken.turn }) good).fits in
+    by_step before s taken.now step (turn_since before s o taken.now taken.turn fits (subst (λ (x : Option Operation). OperationFits x s.core.nodes) h.runs good.fits, h.since)) taken.is
 
 -- An event --------------------------------------------------------------------------------------
 

@@ -6,17 +6,16 @@ use Rattle.pnp_model.specs.Keyed.{those}
 use Rattle.pnp_model.specs.Records.{Node, Core, Removal, RemovalStage}
 use Rattle.pnp_model.specs.Records.RemovalStage.{Ending}
 use Rattle.pnp_model.specs.Cores.{node_at, with_state, stack_of}
-use Rattle.pnp_model.specs.Trees.{is_up}
 use Rattle.pnp_model.specs.Frames.{first_node, rest}
 use Rattle.pnp_model.specs.Laws.{IsWithin}
-use Rattle.pnp_model.specs.Removals.{RemovalMove, RemoveBeside, finish_with, finish_on, ask_on, cancel_on, begun_with, ejecting, close}
+use Rattle.pnp_model.specs.Removals.{RemovalMove, RemoveBeside, finish_with, finish_on, ask_on, cancel_on, begun_with, ejecting, is_queried_node, close}
 use Rattle.pnp_laws.specs.Kept.{RemovalKeeps}
 use Rattle.pnp_laws.specs.Vetoes.{turned, marked, Held, Since}
 use Rattle.pnp_labels.specs.declared.states.DevState.{DevState}
 use Rattle.pnp_labels.specs.declared.label.OpKind.{OpKind}
 use Rattle.pnp_labels.specs.declared.states.DevState.TheVariants.{Started, RemovePending}
 use Rattle.pnp_laws.proofs.Lookups.{own_serial}
-use Rattle.pnp_laws.proofs.Lists.{head_found, head_has}
+use Rattle.pnp_laws.proofs.Lists.{head_found}
 use Rattle.pnp_laws.proofs.RemovalSteps.{head_querying, head_refusing}
 use Rattle.pnp_laws.proofs.Stages.{RemovalStep}
 
@@ -122,15 +121,17 @@ module _ (before c : Core) (o : Removal) where
 
   -- only the last stage closes
   pub since_step : (stage : RemovalStage) (m : RemovalMove) → RemovalKeeps o stage c.nodes → Since before c o stage → RemovalStep c o stage m → SinceOn before m ⊎ ((stage ≡ Ending) × (m ≡ close c o))
+  since_step stage m keeps since (RemovalStep.declines node first) =
+      inl (record { within = tt; on = tt; since = since_cancel_on before c (record o { refuser = Some node.serial }) o.agreed since.0 })
   since_step stage m keeps since (RemovalStep.agrees node w e good) =
       let h = head_found c.nodes o.todo node e.first in
-      let state = head_querying o.todo o.agreed o.set node.serial node.state (head_has node.serial o.todo h.0) (keeps.each node.serial node h.1) in
+      let state = head_querying o.todo o.agreed o.set node.serial node.state h.0 (keeps.each node.serial node h.1) in
       inl (record { within = tt; on = tt; since = since_ask_on before _ c.nodes (record o { agreed = node.serial ∷ o.agreed }) (rest o.todo) (held_agreed RemovePending before c node.serial o.agreed node h.1 state since.0) since.1 })
   since_step stage m keeps since (RemovalStep.refuses node w e bad) =
       inl (record { within = tt; on = tt; since = held_same RemovePending before c node.serial node.state o.agreed node (head_found c.nodes o.todo node e.first).1 refl since.0 })
   since_step stage m keeps since (RemovalStep.takes_back node w e) =
       let h = head_found c.nodes o.todo node e.first in
-      let state = head_refusing o.todo o.agreed node.serial node.state (head_has node.serial o.todo h.0) (keeps.each node.serial node h.1) in
+      let state = head_refusing o.todo o.agreed node.serial node.state h.0 (keeps.each node.serial node h.1) in
       inl (record { within = tt; on = tt; since = since_cancel_on before _ o o.agreed (held_same RemovePending before c node.serial Started o.agreed node h.1 state since) })
   since_step stage m keeps since (RemovalStep.cancels node w e) = inl (record { within = tt; on = tt; since = since_cancel_head before c o o.todo node e.first since })
   since_step stage m keeps since (RemovalStep.removes node w e) = inl (record { within = tt; on = tt; since = since })
@@ -143,7 +144,7 @@ module _ (before c : Core) (o : Removal) where
 -- the begin
 pub since_begun : (c : Core) (kind : OpKind) (node : Node) (set : List ℕ) → Since c c (begun_with c kind node set) (begun_with c kind node set).stage
 since_begun c kind node set =
-    since_ask_on c c c.nodes (record { kind = kind; target = node.serial; path = node.path; set = set; ejecting = ejecting c set; todo = []; agreed = []; refuser = None; stage = Ending }) (those (λ k. is_up (node_at k c.nodes)) set)
+    since_ask_on c c c.nodes (record { kind = kind; target = node.serial; path = node.path; set = set; ejecting = ejecting c set; todo = []; agreed = []; refuser = None; stage = Ending }) (those (λ k. is_queried_node (node_at k c.nodes)) set)
     (record { nodes = refl; back = tt; relations = refl; reserved = refl }) refl
 
 -- a veto restores
