@@ -1,15 +1,12 @@
 -- The device that leaves in a finish is not in the world, or goes with a parent that was told so: by each step and each event.
-use Rattle.std.proofs.Common.{ℕ, ◌<◌, ◌≡◌, ◌≢◌, ◌⊎◌, inl, inr, Bool, true, false, not, ◌||◌, List, [], ◌∷◌, Option, Some, None, refl, sym, ap, ◌∙◌, subst, arith}
+use Rattle.std.proofs.Common.{ℕ, ◌≡◌, ◌≢◌, ◌⊎◌, inl, inr, Bool, true, false, not, List, [], ◌∷◌, Option, Some, None, refl, sym, ap, ◌∙◌, subst, arith}
 use Rattle.std.specs.Option.{option_map}
-use Rattle.resource_reqs.specs.Resources.{Reqs}
-use Rattle.pnp_labels.specs.Texts.{Text}
 use Rattle.pnp_labels.specs.declared.label.Label.{Label}
 use Rattle.pnp_labels.specs.declared.label.OpKind.{OpKind}
 use Rattle.pnp_labels.specs.declared.states.Problem.{Problem}
 use Rattle.pnp_labels.specs.declared.words.Answer.{Answer}
-use Rattle.pnp_labels.specs.declared.words.Minor.{Minor}
 use Rattle.pnp_model.specs.Cores.{bare, is_node, node_at}
-use Rattle.pnp_model.specs.Frames.{ended, first_node}
+use Rattle.pnp_model.specs.Frames.{first_node}
 use Rattle.pnp_model.specs.Handles.{was_told}
 use Rattle.pnp_model.specs.Keyed.{changed_first}
 use Rattle.pnp_model.specs.Machine.{after_rebalance, after_remove, finish_lifted, finish_walk, is_born, is_current_in_world, operation_walk}
@@ -17,7 +14,6 @@ use Rattle.pnp_model.specs.Rebalances.{RebalanceBeside}
 use Rattle.pnp_model.specs.Records.{Device, Finish, FinishStage, Node, Operation, Rebalance, State, Step, Walk}
 use Rattle.pnp_model.specs.Removals.{RemoveBeside}
 use Rattle.pnp_model.specs.States.{is_in_world, set_operation, with_core}
-use Rattle.pnp_model.specs.Tasks.{begin}
 use Rattle.pnp_laws.specs.Effects.{OpEffect, begun}
 use Rattle.pnp_laws.specs.Kept.{FinishKeeps, OperationFits}
 use Rattle.pnp_laws.proofs.EventChanges.{Answered}
@@ -27,7 +23,7 @@ use Rattle.pnp_laws.proofs.Joins.{Leaving, stage_leaving}
 use Rattle.pnp_laws.proofs.Lists.{HeadIs, head_found}
 use Rattle.pnp_laws.proofs.Lookups.{node_changed_other, node_changed_same, some_same}
 use Rattle.pnp_laws.proofs.Ranks.{Rooted}
-use Rattle.pnp_laws.proofs.Stages.{Ends, FinishStep, OperationStep, asking}
+use Rattle.pnp_laws.proofs.Stages.{FinishStep, OperationStep}
 use Rattle.pnp_laws.proofs.Truths.{not_true, or_cases}
 use Rattle.pnp_model.specs.Events as ev
 use Rattle.pnp_model.specs.Finishes as fi

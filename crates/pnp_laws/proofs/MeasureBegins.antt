@@ -8,7 +8,7 @@ use Rattle.resource_reqs.specs.Spelling.Answer.{no_fit}
 use Rattle.resource_reqs.specs.Resources.{Reqs}
 use Rattle.pnp_model.specs.Keyed.{those}
 use Rattle.pnp_model.specs.Tests.{is_surprise_removed, is_surprise_task}
-use Rattle.pnp_model.specs.Records.{Node, Task, Activity, State, Step, Operation, Rebalance, RebalanceStage, Surprise, SurpriseStage, Duty}
+use Rattle.pnp_model.specs.Records.{Node, Task, Activity, State, Step, Operation, Rebalance, RebalanceStage, Duty}
 use Rattle.pnp_model.specs.Cores.{node_at, with_problem, serials_of}
 use Rattle.pnp_model.specs.States.{drop_task, is_in_world}
 use Rattle.pnp_model.specs.Starts.{adding}
@@ -22,7 +22,7 @@ use Rattle.pnp_laws.proofs.Lookups.{own_serial}
 use Rattle.pnp_laws.proofs.Closures.{length_serials}
 use Rattle.pnp_laws.proofs.DriverNames.{chosen_named}
 use Rattle.pnp_laws.proofs.IdleSteps.{First, TaskStep, gone_is}
-use Rattle.pnp_laws.proofs.Measures.{Falls, falls_coarse, coarse_by, coarse_weighed, tasks_cost, tasks_pushed, duty_cost, sum, sum_entered, phase_cost, is_open, is_target, born_in, operation_cost, SameBirths, births_same, births_changed, weight_in, weight_less}
+use Rattle.pnp_laws.proofs.Measures.{Falls, falls_coarse, coarse_by, tasks_cost, tasks_pushed, duty_cost, sum, sum_entered, phase_cost, is_open, is_target, born_in, operation_cost, SameBirths, births_same, births_changed, weight_in, weight_less}
 use Rattle.pnp_laws.proofs.Weights.{Lighter, found_drop, lighter_same, node_weight, serial_in, state_weight, told_weight, weigh_drop, weigh_less}
 use Rattle.pnp_laws.proofs.MeasureOps.{those_shorter, Lowers, lower_so}
 use Rattle.pnp_laws.proofs.MeasureStages.{ask_most, begun_target}

@@ -36,7 +36,7 @@ tasks_cost n born [] = 0
 tasks_cost n born (task ∷ tasks) = duty_cost n (born task.serial) task.kind + tasks_cost n born tasks
 
 abbrev pub phase_cost : ℕ → Phase → ℕ
--- the first of them makes the device heavier
+-- with its first driver the device weighs 4 more
 phase_cost n (Phase.Adding drivers) = 7 * n + 9 + 5 * length drivers
 phase_cost n Phase.Searching = 7 * n + 8
 phase_cost n (Phase.Starting w) = 5
@@ -71,10 +71,11 @@ abbrev pub is_target : Option Operation → ℕ → Bool
 is_target (Some (Operation.Surprising o)) k = o.target == k
 is_target _ k = false
 
--- it may still be found gone
+-- it may still be found gone: no surprise removal of it waits or runs
 abbrev pub is_open : List Task → Option Operation → ℕ → Bool
 is_open tasks operation k = not (list_any (is_surprise_of k) tasks) && not (is_target operation k)
 
+-- what the device of a serial weighs
 abbrev pub weight_in : State → ℕ → ℕ
 weight_in s k = node_weight (is_open s.tasks s.operation k) (node_at k s.core.nodes)
 
@@ -119,7 +120,7 @@ surprise_rank (SurpriseStage.Removing w) = 2
 surprise_rank SurpriseStage.Settling = 2
 surprise_rank SurpriseStage.Ending = 1
 
--- where the drivers of a device are removed, it becomes lighter
+-- once its drivers are removed, the device is lighter, so the stage may be higher then
 abbrev pub finish_rank : FinishStage → ℕ
 finish_rank FinishStage.Next = 2
 finish_rank (FinishStage.Removing w) = 1

@@ -16,7 +16,7 @@ use Rattle.pnp_laws.specs.Words.{IsNoJoin}
 use Rattle.pnp_laws.proofs.FinishingSteps.{head_taken}
 use Rattle.pnp_laws.proofs.IdleSteps.{MachineStep, TaskStep, machine_step}
 use Rattle.pnp_laws.proofs.Lists.{head_found}
-use Rattle.pnp_laws.proofs.Stages.{OperationStep, TakenStep}
+use Rattle.pnp_laws.proofs.Stages.{TakenStep}
 use Rattle.pnp_laws.proofs.Turns.{running_good}
 use Rattle.pnp_laws.proofs.TurnsKept.{running_stage, running_told}
 use Rattle.pnp_laws.proofs.Weights.{IsNoAdd, Lighter, lighter_follows}

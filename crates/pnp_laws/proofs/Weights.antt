@@ -1,5 +1,5 @@
 -- What devices weigh, by their states: with drivers more, and less where they cannot be found gone.
-use Rattle.std.proofs.Common.{ℕ, suc, ◌+◌, ◌<◌, ◌≤◌, ◌≡◌, ◌≢◌, ◌==◌, inl, inr, Bool, true, false, cond, List, [], ◌∷◌, Option, Some, None, refl, sym, ap, ◌∙◌, subst, arith}
+use Rattle.std.proofs.Common.{ℕ, suc, ◌+◌, ◌≤◌, ◌≡◌, ◌≢◌, inl, inr, Bool, true, false, cond, List, [], ◌∷◌, Option, Some, None, refl, sym, subst, arith}
 use Rattle.std.specs.Option.{option_map}
 use Rattle.std.proofs.lemmas.Bool.{cases_eq}
 use Rattle.std.proofs.lemmas.Bool.Decides.{nat_tests}
@@ -9,18 +9,18 @@ use Rattle.pnp_model.specs.Records.{Node}
 use Rattle.pnp_model.specs.Cores.{bare, is_node, node_at, serials_of}
 use Rattle.pnp_model.specs.Diagram.{Change, FollowsDiagram, Row}
 use Rattle.pnp_labels.specs.declared.states.DevState.{DevState}
-use Rattle.pnp_labels.specs.declared.states.DevState.TheVariants.{NoStack, NotStarted, Started, StopPending, Stopped, RemovePending, SurpriseRemoved}
+use Rattle.pnp_labels.specs.declared.states.DevState.TheVariants.{NoStack, SurpriseRemoved}
 use Rattle.pnp_labels.specs.declared.words.Minor.{Minor}
 use Rattle.pnp_labels.specs.declared.label.Label.{Label}
 use Rattle.pnp_laws.specs.Kept.{Ascending}
 use Rattle.pnp_laws.proofs.Lookups.{none_below}
 use Rattle.pnp_laws.proofs.Standing.{FromThose}
 
--- it may still be found gone
+-- 3, if it may still be found gone
 abbrev pub found_weight : Bool → ℕ
 found_weight findable = cond findable 3 0
 
--- one that was told so is not found gone again before its drivers are removed
+-- with drivers 4 more; one that was told that it has gone is not found gone while it has drivers, and is lighter without them
 abbrev pub state_weight : Bool → DevState → ℕ
 state_weight findable NoStack = found_weight findable
 state_weight findable SurpriseRemoved = 4
@@ -61,7 +61,7 @@ node_more a b o = let l = node_less a true o (λ e. refl) in let m = by_node o i
     by_node None = omega arith
     by_node (Some n) = by_state n.state
 
--- a device that was told weighs the same, whether it may be found gone or not
+-- a device that was told weighs the same, whether a surprise removal of it waits or not
 pub told_weight : (a b : Bool) (o : Option Node) (n : Node) → o ≡ Some n → n.state ≡ SurpriseRemoved → node_weight a o ≤ node_weight b o
 told_weight a b o n at told =
     subst (λ (x : Option Node). node_weight a x ≤ node_weight b x) (sym at) (subst (λ (x : DevState). state_weight a x ≤ state_weight b x) (sym told) (omega arith))
@@ -75,7 +75,7 @@ told_drop a b new old n now at told =
     by_found true = omega arith
     by_found false = omega arith
 
--- one that was not told can be found gone, and then weighs less
+-- one that was not told weighs less once it is found gone
 pub found_drop : (x : DevState) → x ≢ SurpriseRemoved → state_weight false x + 3 ≤ state_weight true x
 found_drop SurpriseRemoved d = absurd (d refl)
 found_drop NoStack d = omega arith
