@@ -83,6 +83,7 @@ pub mod RunsEnds
 pub mod Joins
 pub mod JoinSteps
 pub mod JoinRemovals
+pub mod JoinFinishes
 pub mod JoinBirths
 pub mod JoinEvents
 pub mod JoinMachine
