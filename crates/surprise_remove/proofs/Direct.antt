@@ -15,19 +15,27 @@ use Rattle.relations.proofs.Graphs.{ends, below_same}
 use Rattle.relations.proofs.Sums.{any_same, any_agree}
 use Rattle.surprise_remove.specs.Steps.{has_behind, stays}
 
--- one of those that pass the first test passes the second
-any_both : (p q : ℕ → Bool) (es : List Edge) → list_any (λ e. p e.to && q e.to) es ≡ list_any q (those p (ends es))
-any_both p q [] = refl
-any_both p q (e ∷ es) =
-    elim (p e.to) as (λ b. ((b && q e.to) || list_any (λ e. p e.to && q e.to) es) ≡ list_any q (cond b (e.to ∷ those p (ends es)) (those p (ends es)))) [
-      | true ↦ ap (λ b. q e.to || b) (any_both p q es)
-      | false ↦ any_both p q es
+and_true : (b : Bool) → (b && true) ≡ b
+and_true true = refl
+and_true false = refl
+
+and_false : (b : Bool) → (b && false) ≡ false
+and_false true = refl
+and_false false = refl
+
+-- one passes the first test that passes the second
+any_both : (q p : ℕ → Bool) (es : List Edge) → list_any (λ e. q e.to && p e.to) es ≡ list_any q (those p (ends es))
+any_both q p [] = refl
+any_both q p (e ∷ es) =
+    elim (p e.to) as (λ b. ((q e.to && b) || list_any (λ e. q e.to && p e.to) es) ≡ list_any q (cond b (e.to ∷ those p (ends es)) (those p (ends es)))) [
+      | true ↦ ap (λ b. b || list_any (λ e. q e.to && p e.to) es) (and_true (q e.to)) ∙ ap (λ b. q e.to || b) (any_both q p es)
+      | false ↦ ap (λ b. b || list_any (λ e. q e.to && p e.to) es) (and_false (q e.to)) ∙ any_both q p es
     ]
 
 pub any_below : (nodes : List Node) (rs : List Relation) (q : ℕ → Bool) (k : ℕ) (es : List Edge) → SameSums es (filter (λ e. e.from == k) (map to_member rs))
-    → (list_any q (child_serials nodes k) || list_any (λ e. is_there nodes e.to && q e.to) es) ≡ list_any q (below nodes rs k)
+    → (list_any q (child_serials nodes k) || list_any (λ e. q e.to && is_there nodes e.to) es) ≡ list_any q (below nodes rs k)
 any_below nodes rs q k es same =
-    ap (λ b. list_any q (child_serials nodes k) || b) (any_both (is_there nodes) q es)
+    ap (λ b. list_any q (child_serials nodes k) || b) (any_both q (is_there nodes) es)
     ∙ (sym (list_any-append q (child_serials nodes k) (those (is_there nodes) (ends es)))
     ∙ any_same q (child_serials nodes k ++ those (is_there nodes) (ends es)) (below nodes rs k) (below_same nodes rs k (child_serials nodes k) es same))
 

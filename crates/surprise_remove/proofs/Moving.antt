@@ -1,5 +1,5 @@
 -- The parts of a step of a surprise removal are moves of the machine.
-use Rattle.std.proofs.Common.{◌≡◌, ℕ, ◌==◌, Bool, true, false, List, [], ◌∷◌, drop, Option, Some, None, refl, sym, ap, ◌∙◌, subst}
+use Rattle.std.proofs.Common.{◌≡◌, ℕ, ◌==◌, Bool, true, false, List, [], ◌∷◌, drop, Option, Some, refl, sym, ap, ◌∙◌, subst}
 use Rattle.pnp_labels.specs.Texts.{Text}
 use Rattle.pnp_labels.specs.declared.label.Label.{Label}
 use Rattle.pnp_labels.specs.declared.label.OpKind.{OpKind}
@@ -10,7 +10,6 @@ use Rattle.pnp_model.specs.Keyed.{changed_first, without_first}
 use Rattle.pnp_model.specs.Tests.{has}
 use Rattle.pnp_model.specs.Cores.{is_node, node_at, with_problem}
 use Rattle.pnp_model.specs.Frames.{first_node, rest}
-use Rattle.pnp_model.specs.Records as Records
 use Rattle.pnp_model.specs.Records.{Node, Walk, Surprise}
 use Rattle.pnp_model.specs.Removals.{RemoveBeside}
 use Rattle.pnp_model.specs.Surprises.{end_of, finish_on, tell_on, tell_step, settle, settle_target, settle_other}
@@ -31,9 +30,6 @@ use Rattle.surprise_remove.specs.declared.frame.Stage.TheVariants.{Telling, Next
 finish_same : (o : Surprise) (t todo : List ℕ) → finish_on (record o { todo = t }) todo ≡ finish_on o todo
 finish_same o t [] = refl
 finish_same o t (k ∷ ks) = refl
-
-pub finish_frame : (o : Surprise) (t : List ℕ) → t ≡ drop 1 o.todo → finish_on (record o { todo = t }) t ≡ finish_on o (rest o.todo)
-finish_frame o t e = finish_same o t t ∙ ap (λ (t : List ℕ). finish_on o t) (e ∙ rest_is o.todo)
 
 pub tell_same : (o : Surprise) (t todo : List ℕ) → tell_on (record o { todo = t }) todo ≡ tell_on o todo
 tell_same o t [] = finish_same o t o.set

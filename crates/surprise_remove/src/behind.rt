@@ -30,18 +30,19 @@ fn has_one(set: &SerialSet, serials: &[u64]) -> bool
     serials.iter().any(|serial| set.has(*serial))
 }
 
-/// Whether one to which an edge leads is there and in a set. It takes no memory. Cost: for each the logarithm of the number of
-/// nodes.
+/// Whether one to which an edge leads is in a set and there. It takes no memory. Cost: their number, and for each in the set
+/// the logarithm of the number of nodes.
 fn has_end(set: &SerialSet, tree: &Tree, edges: &[Edge]) -> bool
-    ensures { result ≡ list_any (λ e. is_there tree.now.nodes e.to && has set.now e.to) edges.now }
+    ensures { result ≡ list_any (λ e. has set.now e.to && is_there tree.now.nodes e.to) edges.now }
 {
     edges
         .iter()
-        .any(|edge| tree.node(edge.to).is_some() && set.has(edge.to))
+        .any(|edge| set.has(edge.to) && tree.node(edge.to).is_some())
 }
 
 /// Whether one that depends on a device directly is in a set: a child of it, or a related member that is there. It takes no
-/// memory. Cost: the number of children, and for each member the logarithm of the number of nodes.
+/// memory. Cost: how many these are, the logarithms of the numbers of nodes and relations, and for each member in the set
+/// that of the number of nodes.
 fn has_below(set: &SerialSet, tree: &Tree, relations: &Relations, serial: u64) -> bool
     ensures { result ≡ list_any (λ j. has set.now j) (below tree.now.nodes relations.now serial) }
 {
@@ -54,7 +55,9 @@ impl Surprise {
     fn stays(&self, tree: &Tree, relations: &Relations, handles: &Handles, serial: u64) -> bool
         ensures { result ≡ stays tree.now.nodes relations.now self.now handles.now serial }
     {
-        self.told.has(serial) || handles.is_open(serial) || has_below(&self.behind, tree, relations, serial)
+        self.told.has(serial)
+            || handles.is_open(serial)
+            || has_below(&self.behind, tree, relations, serial)
     }
 
     /// The device that is next stays behind.

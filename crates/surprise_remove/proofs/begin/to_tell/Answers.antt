@@ -1,6 +1,5 @@
 use Rattle.std.proofs.Common.{◌∙◌, true, false, sym}
 use Rattle.pnp_model.specs.Cores.{node_at}
-use Rattle.pnp_model.specs.Keyed.{those}
 use Rattle.pnp_model.specs.Surprises.{is_told_node}
 use Rattle.operation_frame.proofs.Queues.{passes_more}
 use Rattle.surprise_remove.proofs.begin.to_tell.Goals as goal
