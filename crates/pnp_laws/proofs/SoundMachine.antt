@@ -191,7 +191,7 @@ event_tasks : (s t : State) → IsGood s → CommandEffect s t → MoreTasks s.t
 event_tasks s t good (CommandEffect.same e) = subst (λ (ts : List Task). MoreTasks s.tasks ts) (sym e) (more_same s.tasks)
 event_tasks s t good (CommandEffect.lists k e) = subst (λ (ts : List Task). MoreTasks s.tasks ts) (sym e) (more_pushed s.tasks (record { kind = Duty.Listing; serial = k }) (inl refl))
 event_tasks s t good (CommandEffect.starts path n found e) = subst (λ (ts : List Task). MoreTasks s.tasks ts) (sym e) (more_pushed s.tasks (record { kind = Duty.Starting; serial = n.serial }) (inr refl))
-event_tasks s t good (CommandEffect.finishes n path found told shut e) =
+event_tasks s t good (CommandEffect.finishes n path found told e) =
     let at = (node_found (λ m. same m.path path) 0 s.core.nodes n good.serials found).1 in
     let up : n.serial ≢ 0 = λ z. let root = (good.stacks n.serial n at).root z in cc in
     subst (λ (ts : List Task). MoreTasks s.tasks ts) (sym e) (more_begins s.tasks OpKind.Finish n.serial up)
