@@ -35,6 +35,10 @@ pub mod Restarts
 pub mod SoundRebalances
 pub mod SoundTasks
 pub mod SoundMachine
+pub mod ToldMachine
+pub mod ShutSteps
+pub mod HandlesKept
+pub mod WaitsSteps
 pub mod Finishing
 pub mod OpSteps
 pub mod StartSteps

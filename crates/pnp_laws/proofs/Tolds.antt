@@ -203,6 +203,14 @@ told_fades c d less from told k n at state i m there on =
     let same = some_same (node_at i c.nodes) old.0 now.0 old.1 now.1 in
     now.2 ∙ subst (λ (x : Node). x.state ≡ SurpriseRemoved) same (told k was.0 was.1 (sym was.2 ∙ state) i old.0 old.1 old.2)
 
+-- a device changes, but not its state
+pub kept_states : (c : Core) (j : ℕ) (f : Node → Node) → ((x : Node) → (f x).serial ≡ x.serial) → ((x : Node) → (f x).state ≡ x.state) → FromStates c (change_node j f c)
+kept_states c j f serial state k m at =
+    elim (node_from j k f c.nodes m serial at) [
+      | inl (e, (y, q, r)) ↦ (y, q, ap (λ (x : Node). x.state) r ∙ state y)
+      | inr (d, q) ↦ (m, q, refl)
+    ]
+
 pub still_states : (c d : Core) → d.nodes ≡ c.nodes → FromStates c d
 still_states c d e k m at = (m, subst (λ (x : List Node). node_at k x ≡ Some m) e at, refl)
 
