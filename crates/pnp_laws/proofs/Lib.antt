@@ -118,3 +118,5 @@ pub mod NamesGiven
 pub mod NodesPlugged
 pub mod RoomsKept
 pub mod RunsWindows
+pub mod OpenHandles
+pub mod DependentsTold
