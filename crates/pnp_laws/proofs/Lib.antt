@@ -87,6 +87,7 @@ pub mod RunsEnds
 pub mod Joins
 pub mod JoinSteps
 pub mod JoinRemovals
+pub mod JoinFinishes
 pub mod JoinBirths
 pub mod JoinEvents
 pub mod JoinMachine
@@ -95,6 +96,7 @@ pub mod JoinFalls
 pub mod JoinRooms
 pub mod JoinLimits
 mod JoinTwice
+pub mod Weights
 pub mod Measures
 pub mod MeasureOps
 pub mod MeasureStages
