@@ -3,7 +3,6 @@ use Rattle.std.proofs.Common.{ℕ, ◌≡◌, ◌≢◌, ◌&&◌, ◌||◌, Boo
 use Rattle.std.specs.List.{list_any}
 use Rattle.std.proofs.lemmas.Bool.Decides.{nat_tests}
 use Rattle.pnp_model.specs.Cores.{node_at}
-use Rattle.pnp_model.specs.Finishes.{taken}
 use Rattle.pnp_model.specs.Frames.{first_node}
 use Rattle.pnp_model.specs.Handles.{has_drivers, holds_back, is_open, is_ready_device}
 use Rattle.pnp_model.specs.Records.{Core, FinishStage, Handle, Node, Operation, RemovalStage, State, Surprise, SurpriseStage}
