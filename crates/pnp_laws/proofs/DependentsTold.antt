@@ -1,10 +1,10 @@
 -- In each state of a run in which neither a surprise removal nor a finish runs, all that depends on a device that was told that it
 -- has gone was told so as well.
-use Rattle.std.proofs.Common.{ℕ, ◌≡◌, true, List, [], ◌∷◌, Option, Some, None, sym, ap, ◌∙◌, subst}
+use Rattle.std.proofs.Common.{ℕ, ◌≡◌, true, List, [], ◌∷◌, Option, Some, None, ap, subst}
 use Rattle.pnp_labels.specs.declared.states.DevState.TheVariants.{SurpriseRemoved}
 use Rattle.pnp_model.specs.Cores.{node_at, serials_of}
 use Rattle.pnp_model.specs.Keyed.{those}
-use Rattle.pnp_model.specs.Records.{Core, Node, Operation, Removal, RemovalStage, State}
+use Rattle.pnp_model.specs.Records.{Core, Node, Operation, RemovalStage, State}
 use Rattle.pnp_model.specs.Tests.{has, is_surprise_removed}
 use Rattle.pnp_model.specs.Trees.{direct, hangs_on}
 use Rattle.pnp_laws.specs.Kept.{Ascending, Within}

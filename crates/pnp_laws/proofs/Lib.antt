@@ -120,3 +120,8 @@ pub mod RoomsKept
 pub mod RunsWindows
 pub mod OpenHandles
 pub mod DependentsTold
+pub mod Readied
+pub mod FirstFinish
+pub mod ReadyEffects
+pub mod ReadySteps
+pub mod RunsReady

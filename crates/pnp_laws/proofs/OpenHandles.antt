@@ -1,11 +1,11 @@
 -- In each state of a run the list of open handles stands in order of serial, and of each device in it at least one is open.
-use Rattle.std.proofs.Common.{ℕ, suc, ◌≡◌, ◌≤◌, ◌<◌, Bool, true, false, nat_lt, List, [], ◌∷◌, Option, Some, refl, sym, subst, arith}
+use Rattle.std.proofs.Common.{ℕ, suc, ◌≡◌, ◌≤◌, Bool, true, false, nat_lt, List, [], ◌∷◌, Some, refl, sym, subst, arith}
 use Rattle.std.specs.List.{find}
 use Rattle.std.proofs.lemmas.Bool.Decides.{nat_tests}
 use Rattle.pnp_model.specs.Handles.{closed_with, comes_after, is_handle_of, is_open, one_less, one_more, opened, opened_with}
 use Rattle.pnp_model.specs.Keyed.{changed_first, put_before, without_first}
 use Rattle.pnp_model.specs.Records.{Driver, Handle, Settings, State}
-use Rattle.pnp_model.specs.Runs.{Entry, Goes}
+use Rattle.pnp_model.specs.Runs.{Entry}
 use Rattle.pnp_laws.specs.Effects.{HandleEffect}
 use Rattle.pnp_laws.specs.Reached.{IsReached}
 use Rattle.pnp_laws.specs.Waiting.{HandlesInOrder, HandlesLaw}

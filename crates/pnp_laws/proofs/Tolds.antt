@@ -274,7 +274,7 @@ idle_unheld NoStack h e = cc
 idle_unheld NotStarted h e = cc
 idle_unheld _ h e = cc
 
-any_of : (test : ℕ → Bool) (ks : List ℕ) → list_any test ks ≡ true → (k : ℕ) × (has ks k ≡ true)
+pub any_of : (test : ℕ → Bool) (ks : List ℕ) → list_any test ks ≡ true → (k : ℕ) × (has ks k ≡ true)
 any_of test [] h = absurd (cc)
 any_of test (k ∷ ks) h = (k, grind (arith, nat_tests))
 
