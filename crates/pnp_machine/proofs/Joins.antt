@@ -44,26 +44,15 @@ joins_same over nodes nodes' d e =
     (born_by d.born nodes' ∙ ap (list_any (λ i. i.born == d.born)) e ∙ sym (born_by d.born nodes))
     (path_by d.path nodes' ∙ ap (list_any (λ i. same i.path d.path)) e ∙ sym (path_by d.path nodes))
 
-here_same : (k : ℕ) (ds : List Device) (nodes nodes' : List Node) → identities nodes' ≡ identities nodes → AllByRecursion (IsHere k ds) nodes → AllByRecursion (IsHere k ds) nodes'
-here_same k ds [] [] e all = tt
-here_same k ds [] (n ∷ ns) e all = absurd (cc)
-here_same k ds (m ∷ ms) [] e all = absurd (cc)
-here_same k ds (m ∷ ms) (n ∷ ns) e all =
-    let head : identity n ≡ identity m = cc in
-    let tail : identities ns ≡ identities ms = cc in (
-      subst (λ (i : Identity). (i.parent == k && not (i.serial == 0)) ≡ true → is_in_world ds i.born ≡ true) (sym head) all.0,
-      here_same k ds ms ns tail all.1,
-    )
-
 -- a step that leaves who a node is
-pub kept_acted : (w : World) (t t' : Tree) (reserved : List Res) (arbiters arbiters' : Arbiters) (over from : ℕ) (whole : Option ℕ) → IsKept w t reserved arbiters over from whole → identities t'.nodes ≡ identities t.nodes
-    → Mirrors reserved t'.nodes arbiters' → IsKept w t' reserved arbiters' over from whole
-kept_acted w t t' reserved arbiters arbiters' over from whole kept e mirrors =
+pub kept_acted : (w : World) (t t' : Tree) (reserved : List Res) (arbiters arbiters' : Arbiters) (over from : ℕ) (whole whole' : Option ℕ) → IsKept w t reserved arbiters over from whole → identities t'.nodes ≡ identities t.nodes
+    → ((k : ℕ) → whole' ≡ Some k → AllByRecursion (IsHere k w.devices) t'.nodes) → Mirrors reserved t'.nodes arbiters' → IsKept w t' reserved arbiters' over from whole'
+kept_acted w t t' reserved arbiters arbiters' over from whole whole' kept e here mirrors =
     record {
       listed =
           all_of (NotJoining over from t.nodes) (NotJoining over from t'.nodes) (λ d h less. joins_same over t.nodes t'.nodes d e ∙ h less) w.devices kept.listed;
       within = kept.within;
-      here = λ k is. here_same k w.devices t.nodes t'.nodes e (kept.here k is);
+      here = here;
       mirrors = mirrors;
     }
 

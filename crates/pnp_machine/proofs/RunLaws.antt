@@ -8,7 +8,7 @@ use Rattle.pnp_model.specs.Machine.{IsQuiet}
 use Rattle.pnp_model.specs.Records.{Driver, Settings, State, Step}
 use Rattle.pnp_model.specs.Runs.{Entry, Goes, opening, printed}
 use Rattle.pnp_model.specs.Laws.{Reaches}
-use Rattle.pnp_model.specs.Runs.Entry.{Happens, Did}
+use Rattle.pnp_model.specs.Runs.Entry.{Happens, Did, Declines}
 use Rattle.pnp_laws.specs.Ends.{events}
 use Rattle.pnp_laws.specs.Kept.{IsGood}
 use Rattle.pnp_laws.specs.Needs.{IsEntryWithin, IsEventWithin}
@@ -42,11 +42,13 @@ events_more : (xs : List Entry) (event : Event) (label : Label) → events (xs +
 events_more [] event label = refl
 events_more (Happens e l ∷ xs) event label = let more = events_more xs event label in omega arith
 events_more (Did l ∷ xs) event label = events_more xs event label
+events_more (Declines l ∷ xs) event label = events_more xs event label
 
 events_same : (xs : List Entry) (label : Label) → events (xs ++ Did label ∷ []) ≡ events xs
 events_same [] label = refl
 events_same (Happens e l ∷ xs) label = ap (λ n. 1 + n) (events_same xs label)
 events_same (Did l ∷ xs) label = events_same xs label
+events_same (Declines l ∷ xs) label = events_same xs label
 
 events_on : (xs : List Entry) (entry : Entry) → events (xs ++ entry ∷ []) ≡ events xs + events (entry ∷ [])
 events_on xs (Happens event label) = events_more xs event label
