@@ -1,5 +1,6 @@
 -- The task that begins an operation, as the machine's step.
-use Rattle.std.proofs.Common.{◌≡◌, ℕ, Bool, true, false, cond, List, Option, Some, None, IsSome, refl, sym, ◌∙◌, ap, subst}
+use Rattle.std.proofs.Common.{◌≡◌, ℕ, Bool, true, false, cond, List, Option, Some, None, Result, Ok, Err, IfOk, IsSome, refl, sym, ◌∙◌, ap, subst}
+use Rattle.std.specs.declared.alloc.AllocError.{AllocError}
 use Rattle.pnp_labels.specs.declared.label.Label.{Label}
 use Rattle.pnp_labels.specs.declared.label.OpKind.{OpKind}
 use Rattle.pnp_labels.specs.declared.states.DevState.{DevState}
@@ -161,7 +162,7 @@ module _ (s : State) (k : ℕ) (label : Label) (t : State) where
           by_state RemovePending q = absurd (let up = ap is_surprise_removed q in cc)
 
   -- any other is
-  pub surprises_it : was_told (node_at k s.core.nodes) ≡ false → DoneFor (node_at k s.core.nodes) (λ n. begin s OpKind.Surprise n (machines.Operation.Surprising (begun_surprise s.core n))) label t
+  surprises_it : was_told (node_at k s.core.nodes) ≡ false → DoneFor (node_at k s.core.nodes) (λ n. begin s OpKind.Surprise n (machines.Operation.Surprising (begun_surprise s.core n))) label t
       → IsDone (begin_step s OpKind.Surprise k (node_at k s.core.nodes)) label t
   surprises_it untold h = by_node (node_at k s.core.nodes) untold h
     where
@@ -190,7 +191,7 @@ module _ (s : State) (k : ℕ) (label : Label) (t : State) where
           (subst (λ i. IsDone (skip (Begins OpKind.Finish) i s) label t) (sym (own_serial k n s.core.nodes e)) h)
 
   -- one that is ready is
-  pub finishes_it : is_ready_at s.core s.handles (node_at k s.core.nodes) ≡ true → DoneFor (node_at k s.core.nodes) (λ n. begin s OpKind.Finish n (machines.Operation.Finishing (begun_finish n))) label t
+  finishes_it : is_ready_at s.core s.handles (node_at k s.core.nodes) ≡ true → DoneFor (node_at k s.core.nodes) (λ n. begin s OpKind.Finish n (machines.Operation.Finishing (begun_finish n))) label t
       → IsDone (begin_step s OpKind.Finish k (node_at k s.core.nodes)) label t
   finishes_it ready h = by_node (node_at k s.core.nodes) ready h
     where
@@ -198,3 +199,10 @@ module _ (s : State) (k : ℕ) (label : Label) (t : State) where
           → IsDone (begin_step s OpKind.Finish k o) label t
       by_node None b h = absurd h
       by_node (Some n) b h = subst (λ (x : Bool). IsDone (finish_task s n x) label t) (sym b) h
+
+-- the same where memory may be wanting
+pub finish_taken : (s : State) (k : ℕ) (t : State) (result : Result Label AllocError) → true ≡ is_ready_at s.core s.handles (node_at k s.core.nodes)
+    → IfOk result (λ label. DoneFor (node_at k s.core.nodes) (λ n. begin s OpKind.Finish n (machines.Operation.Finishing (begun_finish n))) label t)
+    → IfOk result (λ label. IsDone (begin_step s OpKind.Finish k (node_at k s.core.nodes)) label t)
+finish_taken s k t (Ok label) ready h = finishes_it s k label t (sym ready) h
+finish_taken s k t (Err refused) ready h = tt

@@ -148,15 +148,50 @@ own_nodes low (n ∷ ns) asc = (
     differs : (m : Node) → m.serial ≢ n.serial → (n.serial == m.serial) ≡ false
     differs m apart = grind (arith, nat_tests)
 
+-- what is here is not gone
+stays : (told there due : Bool) → (told || there) ≡ true → (not told && (not there && not due)) ≡ false
+stays true there due h = by_rest (not there && not due)
+  where
+    by_rest : (b : Bool) → (not true && b) ≡ false
+    by_rest true = refl
+    by_rest false = refl
+stays false true due h = by_rest (not due)
+  where
+    by_rest : (b : Bool) → (not false && (not true && b)) ≡ false
+    by_rest true = refl
+    by_rest false = refl
+stays false false due h = absurd (cc)
+
+neither : (told there rest : Bool) → (not (told || there) && rest) ≡ (not told && (not there && rest))
+neither true true true = refl
+neither true true false = refl
+neither true false true = refl
+neither true false false = refl
+neither false true true = refl
+neither false true false = refl
+neither false false true = refl
+neither false false false = refl
+
+-- where the device does not stay it is gone unless its surprise removal is due
+pub gone_unless : (here due gone : Bool) → here ≡ false → (not here && not due) ≡ gone → not due ≡ gone
+gone_unless false true gone e h = h
+gone_unless false false gone e h = h
+gone_unless true due gone e h = absurd (cc)
+
 module _ (ds : Devices) (tasks : List Task) where
-  -- whether the device of a node is gone, by what was asked
-  pub gone_here : (k : ℕ) (n : Node) (told there due : Bool) → Some n ≡ node_at k ds.tree.nodes → told ≡ is_surprise_removed n.state → there ≡ is_in_world ds.world.devices n.born
-      → due ≡ list_any (is_surprise_of k) tasks → (not told && (not there && not due)) ≡ is_gone_at ds tasks k
-  gone_here k n told there due at t w d =
-      let here : due ≡ list_any (is_surprise_of n.serial) tasks = d ∙ sym (ap (λ i. list_any (is_surprise_of i) tasks) (own_serial k n ds.tree.nodes (sym at))) in
-      ap (λ b. not b && (not there && not due)) t ∙ ap (λ b. not (is_surprise_removed n.state) && (not b && not due)) w
-      ∙ ap (λ b. not (is_surprise_removed n.state) && (not (is_in_world ds.world.devices n.born) && not b)) here
+  -- whether the device of a node is gone, by whether it stays and its surprise removal is due
+  pub gone_here : (k : ℕ) (n : Node) (here due : Bool) → Some n ≡ node_at k ds.tree.nodes → here ≡ is_here ds.world.devices n
+      → due ≡ list_any (is_surprise_of k) tasks → (not here && not due) ≡ is_gone_at ds tasks k
+  gone_here k n here due at stays d =
+      let own : due ≡ list_any (is_surprise_of n.serial) tasks = d ∙ sym (ap (λ i. list_any (is_surprise_of i) tasks) (own_serial k n ds.tree.nodes (sym at))) in
+      ap (λ b. not b && not due) stays ∙ ap (λ b. not (is_here ds.world.devices n) && not b) own
+      ∙ neither (is_surprise_removed n.state) (is_in_world ds.world.devices n.born) (not (list_any (is_surprise_of n.serial) tasks))
       ∙ ap (is_gone_node ds.world.devices tasks) at
+
+  -- what stays is not gone
+  pub stays_here : (k : ℕ) (n : Node) (here : Bool) → Some n ≡ node_at k ds.tree.nodes → here ≡ is_here ds.world.devices n → here ≡ true → not here ≡ is_gone_at ds tasks k
+  stays_here k n here at is e =
+      ap not e ∙ sym (stays (is_surprise_removed n.state) (is_in_world ds.world.devices n.born) (list_any (is_surprise_of n.serial) tasks) (sym is ∙ e)) ∙ ap (is_gone_node ds.world.devices tasks) at
 
   first_by : (b c : Bool) (n : Node) (ns : List Node) → c ≡ b → option_map (λ (n : Node). n.serial) (find (is_gone_from ds.world.devices tasks) ns) ≡ find (is_gone_at ds tasks) (serials_of ns)
       → option_map (λ (n : Node). n.serial) (cond b (Some n) (find (is_gone_from ds.world.devices tasks) ns)) ≡ cond c (Some n.serial) (find (is_gone_at ds tasks) (serials_of ns))
@@ -196,20 +231,6 @@ not_not false e = absurd (cc)
 -- the node is not there, or its device is neither in the world nor told that it has gone
 abbrev pub is_lost : Devices → ℕ → Bool
 is_lost ds k = not (is_here_at ds.world.devices (node_at k ds.tree.nodes))
-
--- what is here is not gone
-stays : (told there due : Bool) → (told || there) ≡ true → (not told && (not there && not due)) ≡ false
-stays true there due h = by_rest (not there && not due)
-  where
-    by_rest : (b : Bool) → (not true && b) ≡ false
-    by_rest true = refl
-    by_rest false = refl
-stays false true due h = by_rest (not due)
-  where
-    by_rest : (b : Bool) → (not false && (not true && b)) ≡ false
-    by_rest true = refl
-    by_rest false = refl
-stays false false due h = absurd (cc)
 
 -- then none of them is gone
 pub none_of_whole : (ds : Devices) (tasks : List Task) (k : ℕ) → AllByRecursion (IsHere k ds.world.devices) ds.tree.nodes → None ≡ option_map (λ (n : Node). n.serial) (gone_below ds tasks k)

@@ -6,7 +6,7 @@ use Rattle.device_ids.specs.Folding.{same}
 use Rattle.resource_reqs.specs.Resources.{Res, Reqs}
 use Rattle.pnp_labels.specs.Texts.{Text}
 use Rattle.pnp_model.specs.Cores.{node_at, new_node, fresh_node}
-use Rattle.pnp_model.specs.Records.{Device, Node, Relation, Window}
+use Rattle.pnp_model.specs.Records.{Device, Handle, Node, Relation, Window}
 use Rattle.pnp_model.specs.States.{device_born, is_in_world}
 use Rattle.pnp_model.specs.Windows.{clip}
 use Rattle.pnp_model.specs.Tasks.{joins, joining, has_born, has_path}
@@ -248,12 +248,12 @@ pub record JoinsAt (w : World) (t : Tree) (k born : ℕ) : Type 0 where
   pub there : node_at k t.nodes ≡ Some node
   pub joining : Joining w t node.born born
 
-pub joins_at : (w : World) (t : Tree) (relations : List Relation) (reserved : List Res) (windows : List Window) (ds : Devices) (k born : ℕ) → record { world = w; tree = t; relations = relations; reserved = reserved; windows = windows } ≡ ds → IsWorld w
+pub joins_at : (w : World) (t : Tree) (relations : List Relation) (reserved : List Res) (windows : List Window) (handles : List Handle) (ds : Devices) (k born : ℕ) → record { world = w; tree = t; relations = relations; reserved = reserved; windows = windows; handles = handles } ≡ ds → IsWorld w
     → Some born ≡ joins_next (node_at k ds.tree.nodes) ds → JoinsAt w t k born
-joins_at w t relations reserved windows ds k born e h next =
+joins_at w t relations reserved windows handles ds k born e h next =
     by_node (node_at k t.nodes) refl (subst (λ (x : Devices). Some born ≡ joins_next (node_at k x.tree.nodes) x) (sym e) next)
   where
-    by_node : (o : Option Node) → node_at k t.nodes ≡ o → Some born ≡ joins_next o (record { world = w; tree = t; relations = relations; reserved = reserved; windows = windows }) → JoinsAt w t k born
+    by_node : (o : Option Node) → node_at k t.nodes ≡ o → Some born ≡ joins_next o (record { world = w; tree = t; relations = relations; reserved = reserved; windows = windows; handles = handles }) → JoinsAt w t k born
     by_node None at n = absurd (cc)
     by_node (Some node) at n = record { node = node; there = at; joining = joining_of w t node.born born h n }
 
@@ -296,9 +296,9 @@ module _ (w : World) (t t' : Tree) (k born serial : ℕ) (j : JoinsAt w t k born
       (subst (λ (x : Tree). IsKept w x reserved arbiters j.node.born (born + 1) whole) (sym tree_is)
       (kept_joined w t reserved arbiters j.node.born (cond (j.node.born == last) from 0) t.next j.node.serial born whole h (kept_at w t reserved arbiters last from j.node.born whole kept) j.joining (reqs_below j.node.serial)))
 
-  module _ (relations : List Relation) (reserved : List Res) where
+  module _ (relations : List Relation) (reserved : List Res) (handles : List Handle) where
     abbrev a_devices : Tree → Devices
-    a_devices x = record { world = w; tree = x; relations = relations; reserved = reserved; windows = windows }
+    a_devices x = record { world = w; tree = x; relations = relations; reserved = reserved; windows = windows; handles = handles }
 
     pub joined_is : (ds ds' : Devices) (path : Text) → a_devices t ≡ ds → ds' ≡ a_devices t' → path ≡ d.path → JoinedFor (node_at k ds.tree.nodes) (Some (serial, path)) ds ds'
     joined_is ds ds' path e e' path_is =

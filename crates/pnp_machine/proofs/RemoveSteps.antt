@@ -99,7 +99,7 @@ module _ (c : Core) (o : Removal) where
   unfolding Kinds
   kinds_of handles RemovalStage.Ending n m s f e = of_plain (close c o) m e IsPlain.over
   kinds_of handles RemovalStage.Next (Some node) m s f e = of_plain _ m e (query_plain node (refuses_unasked handles node))
-  kinds_of handles (RemovalStage.Asking w) (Some node) m s f e = of_plain _ m e (ask_plain node w (has_ended w (length node.stack)))
+  kinds_of handles (RemovalStage.Asking w) (Some node) m s f e = of_plain _ m e (ask_plain c o node w (has_ended w (length node.stack)))
   kinds_of handles (RemovalStage.TakingBack w) (Some node) m s f e = of_plain _ m e (back_plain node w (has_ended w (length node.stack)))
   kinds_of handles (RemovalStage.Cancelling w) (Some node) m s f e = of_plain _ m e (cancel_plain node w (has_ended w (length node.stack)))
   kinds_of handles (RemovalStage.Removing w) (Some node) m s f e = of_plain _ m e (remove_plain node w (has_ended w (length node.stack)))

@@ -50,9 +50,16 @@ events_same (Happens e l ∷ xs) label = ap (λ n. 1 + n) (events_same xs label)
 events_same (Did l ∷ xs) label = events_same xs label
 events_same (Declines l ∷ xs) label = events_same xs label
 
+events_declined : (xs : List Entry) (label : Label) → events (xs ++ Declines label ∷ []) ≡ events xs
+events_declined [] label = refl
+events_declined (Happens e l ∷ xs) label = ap (λ n. 1 + n) (events_declined xs label)
+events_declined (Did l ∷ xs) label = events_declined xs label
+events_declined (Declines l ∷ xs) label = events_declined xs label
+
 events_on : (xs : List Entry) (entry : Entry) → events (xs ++ entry ∷ []) ≡ events xs + events (entry ∷ [])
 events_on xs (Happens event label) = events_more xs event label
 events_on xs (Did label) = let same = events_same xs label in omega arith
+events_on xs (Declines label) = let same = events_declined xs label in omega arith
 
 module _ (told : Settings) (s t : State) where
   more_entries : (rack : List Driver) (xs : List Entry) (entry : Entry) → Reaches told rack xs s → Goes told s entry t → Reaches told rack (xs ++ entry ∷ []) t

@@ -9,6 +9,7 @@ ghost use Rattle.pnp_model.specs.Removals.{begun_removal};
 ghost use Rattle.pnp_model.specs.Surprises.{begun_surprise};
 ghost use Rattle.pnp_model.specs.Tasks.{begin, begin_step, change_task, skip};
 ghost use Rattle.pnp_model.specs.Tests.{operation_word};
+ghost use Rattle.surprise_remove.specs.Ready.{is_ready_at};
 ghost use Rattle.pnp_machine.specs.Machines.{IsDone, DoneFor, can_rebalance, begun_with};
 
 use crate::listing::is_surprise_removed;
@@ -70,6 +71,13 @@ impl<R: Drivers> Machine<R> {
             Some(node) => is_surprise_removed(node.state),
             None => false,
         }
+    }
+
+    /// Whether a device is there and ready to be finished.
+    fn is_ready(&self, serial: u64) -> bool
+        ensures { result ≡ is_ready_at self.now.core self.now.handles (node_at serial self.now.core.nodes) }
+    {
+        self.devices.is_ready(serial)
     }
 
     /// The rebalance for a device begins.
@@ -142,7 +150,7 @@ impl<R: Drivers> Machine<R> {
             OpKind::Disable | OpKind::Eject => self.begin_removal(kind, serial),
             OpKind::Surprise if self.was_told(serial) => Ok(self.skip_begin(kind, serial)),
             OpKind::Surprise => self.begin_surprise(serial),
-            OpKind::Finish if self.devices.is_ready(serial) => self.begin_finish(serial),
+            OpKind::Finish if self.is_ready(serial) => self.begin_finish(serial),
             OpKind::Finish => Ok(self.skip_begin(kind, serial)),
             OpKind::Change => self.begin_change(serial),
         }

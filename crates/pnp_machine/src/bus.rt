@@ -7,14 +7,14 @@ ghost use Rattle.pnp_model.specs.Cores.{node_at};
 ghost use Rattle.pnp_model.specs.Windows.{clip};
 ghost use Rattle.pnp_model.specs.States.{device_of};
 ghost use Rattle.script_bus.specs.Worlds.{without_device};
-ghost use Rattle.pnp_machine.specs.Devices.{Arrives, Departs, JoinedFor, joins_next, serial_born, relisted, gone_below, has_any_below, is_gone_at, window_refusal, with_window, IsHere, IsTold};
+ghost use Rattle.pnp_machine.specs.Devices.{Arrives, Departs, JoinedFor, joins_next, serial_born, relisted, gone_below, has_any_below, is_gone_at, is_here, is_here_at, window_refusal, with_window, IsHere, IsTold};
 
 use crate::devices::Devices;
 use crate::listing::is_surprise_removed;
 use crate::tasks::Tasks;
 use bridge_windows::{Bridges, WindowError, clip};
 use device_ids::{IdList, InstancePath, Text, WantOfMemory};
-use devnode_tree::{JoinError, Tree};
+use devnode_tree::{JoinError, Node, Tree};
 use pnp_labels::Reason;
 use resource_reqs::{Reqs, Res};
 use script_bus::{Device, PlugError, PullError, next_join};
@@ -231,17 +231,20 @@ impl Devices {
         }
     }
 
+    /// Whether the device of a node is in the world, or was told that it has gone.
+    fn stays(&self, node: &Node) -> bool
+        ensures { result ≡ is_here self.now.world.devices node.now }
+    {
+        is_surprise_removed(node.state) || self.world.has(node.born)
+    }
+
     /// Whether the device of a node is gone from the world, was not told so, and no surprise removal of it is due.
     fn is_gone(&self, tasks: &Tasks, serial: u64) -> bool
         ensures gone { result ≡ is_gone_at self.now tasks.now.tasks serial }
         ensures tree { IsTree self.now.tree }
     {
         match self.tree.node(serial) {
-            Some(node) => {
-                !is_surprise_removed(node.state)
-                    && !self.world.has(node.born)
-                    && !tasks.has_surprise(serial)
-            }
+            Some(node) => !self.stays(node) && !tasks.has_surprise(serial),
             None => false,
         }
     }
@@ -258,10 +261,11 @@ impl Devices {
 
     /// Whether a node is there and its device is in the world or SurpriseRemoved.
     fn is_here(&self, serial: u64) -> bool
-        ensures { result ≡ is_here_at self.now.world.devices (node_at serial self.now.tree.nodes) }
+        ensures here { result ≡ is_here_at self.now.world.devices (node_at serial self.now.tree.nodes) }
+        ensures tree { IsTree self.now.tree }
     {
         match self.tree.node(serial) {
-            Some(node) => is_surprise_removed(node.state) || self.world.has(node.born),
+            Some(node) => self.stays(node),
             None => false,
         }
     }

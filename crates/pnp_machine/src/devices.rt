@@ -76,6 +76,13 @@ impl Devices {
         &self.tree
     }
 
+    /// The handles that are open.
+    pub(crate) fn handles(&self) -> &Handles
+        ensures { result.now ≡ self.now.handles }
+    {
+        &self.handles
+    }
+
     /// A member is related to an owner, as `Relations::relate` says.
     pub(crate) fn relate(
         &mut self,

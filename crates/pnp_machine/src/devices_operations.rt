@@ -233,8 +233,7 @@ impl Devices {
 
     /// Whether the device that is being finished, if one is, is in the world.
     fn is_current_in_world(&self, finish: &Finish) -> bool
-        ensures born { result ≡ is_born self.now.world.devices (first_node self.now.tree.nodes finish.now.todo) }
-        ensures tree { IsTree self.now.tree }
+        ensures { result ≡ is_born self.now.world.devices (first_node self.now.tree.nodes finish.now.todo) }
     {
         match finish.current() {
             Some(serial) => self.is_in_world(serial),

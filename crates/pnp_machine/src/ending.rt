@@ -263,7 +263,7 @@ impl<R: Drivers> Machine<R> {
         out.extend_from_slice(b"outstanding\n")?;
         add_operation(alloc, &mut out, tree, &self.rack, &self.operation)?;
         add_works(alloc, &mut out, tree, &self.rack, self.starts.works())?;
-        add_handles(alloc, &mut out, tree, &self.devices.handles)?;
+        add_handles(alloc, &mut out, tree, self.devices.handles())?;
         Ok(out)
     }
 }

@@ -1,3 +1,6 @@
+use Rattle.std.proofs.Common.{◌≡◌, false, sym, subst}
+use Rattle.pnp_model.specs.Cores.{node_at}
+use Rattle.pnp_model.specs.Handles.{was_told}
 use Rattle.operation_frame.proofs.Requests.{ok_then}
 use Rattle.start_sequence.specs.Steps as starts
 use Rattle.pnp_machine.specs.Devices.{Devices}
@@ -11,7 +14,7 @@ pub invariant_of-self : goal.invariant_of-self
 invariant_of-self g c =
     let s = c.self.inside in
     kept_acted s.world s.tree c.next.new.tree s.reserved s.arbiters c.next.new.arbiters s.over s.from s.whole s.whole c.self.invariant c.next.ensures.keeps
-    (λ k e. here_acted s.world.devices k s.reserved s.arbiters c.args.work.now.serial s.tree c.next.new.tree ? (c.self.invariant.here k e) c.args.budget (g.R.Drivers.rows c.args.rack.now) (g.R.Drivers.rows c.next.new.rack)
+    (λ k e. here_acted s.world.devices k s.reserved s.arbiters c.args.work.now.serial s.tree c.next.new.tree (subst (λ (d : Devices). was_told (node_at c.args.work.now.serial d.tree.nodes) ≡ false) (sym c.self.view_is) c.requires.untold) (c.self.invariant.here k e) c.args.budget (g.R.Drivers.rows c.args.rack.now) (g.R.Drivers.rows c.next.new.rack)
     c.args.work.now.phase c.next.new.self.phase c.next.result c.self.invariant.mirrors c.next.ensures.acts c.next.ensures.tree)
     (c.next.ensures.mirrors s.reserved c.self.invariant.mirrors)
 

@@ -20,4 +20,4 @@ returns g c =
     (c.in_ok-rows.ensures s.core refl refl (orderly run.told run.rack run.entries s run.reaches)) c.in_ok-out.ensures.items (rw c.tree-tree.ensures at c.in_ok-add_tree.ensures)
     c.in_ok-extend_from_slice.ensures.items (rw (c.tree-tree.ensures, c.deref.ensures.value) at c.in_ok-add_rows.ensures) c.in_ok-extend_from_slice-2.ensures.items
     (rw c.tree-tree.ensures at c.in_ok-add_operation.ensures) (rw (c.tree-tree.ensures, c.works.ensures.works) at c.in_ok-add_works.ensures)
-    (rw c.tree-tree.ensures at c.in_ok-add_handles.ensures))
+    (rw (c.tree-tree.ensures, c.handles.ensures) at c.in_ok-add_handles.ensures))
