@@ -1,10 +1,11 @@
 -- A step of a start, as the machine's step.
-use Rattle.std.proofs.Common.{◌≡◌, ℕ, List, [], ◌∷◌, ◌++◌, find, Option, Some, None, refl, sym, ◌∙◌, ap, subst, option_map, IsSome, is_some}
+use Rattle.std.proofs.Common.{◌≡◌, ℕ, false, List, [], ◌∷◌, ◌++◌, find, Option, Some, None, refl, sym, ◌∙◌, ap, subst, option_map, IsSome, is_some}
 use Rattle.pnp_labels.specs.Texts.{Text}
 use Rattle.pnp_labels.specs.declared.label.Label.{Label}
 use Rattle.pnp_labels.specs.declared.label.OpKind.{OpKind}
 use Rattle.inf_reader.specs.declared.parts.Inf.{Inf}
 use Rattle.pnp_model.specs.Cores.{node_at, forget}
+use Rattle.pnp_model.specs.Handles.{was_told}
 use Rattle.pnp_model.specs.Machine.{Steps, IsStep, idle_next, activity_next, start_lifted, is_ready}
 use Rattle.pnp_model.specs.Records.{Node, Core, Driver, Relation, Activity, Phase, State, Settings, Operation, Task, Doing, doing_map, Duty}
 use Rattle.pnp_model.specs.Records.Doing.{Does, Searches}
@@ -23,7 +24,7 @@ use Rattle.pnp_machine.specs.Machines.{state_of, IsTurn}
 use Rattle.pnp_machine.specs.Managers.{IsOfRun}
 use Rattle.pnp_machine.specs.Starts.{works_after, ActsFor}
 use Rattle.pnp_machine.specs.declared.turn.Turn.TheVariants as turns
-use Rattle.pnp_machine.proofs.Givens.{start_unrelated}
+use Rattle.pnp_machine.proofs.Givens.{start_unrelated, start_untold}
 use Rattle.pnp_machine.proofs.RunLaws.{of_run_good}
 use Rattle.pnp_machine.proofs.Turns.{act_moves}
 
@@ -150,3 +151,15 @@ ready_is s k run (none, first) = by_found (find is_ready s.activities) refl firs
         let at = (ready_found is_ready 0 s.activities a good.order e).1 in
         let here = good.phases a.serial a at in
         ap is_some (subst (λ i. node_at i s.core.nodes ≡ Some here.0) is here.1)
+
+-- and was not told that it has gone
+pub ready_untold : (s : State) (k : ℕ) → IsOfRun s → IsTurn (turns.Act k) s → was_told (node_at k s.core.nodes) ≡ false
+ready_untold s k run (none, first) = by_found (find is_ready s.activities) refl first
+  where
+    by_found : (o : Option Activity) → find is_ready s.activities ≡ o → option_map (λ a. a.serial) o ≡ Some k → was_told (node_at k s.core.nodes) ≡ false
+    by_found None e f = absurd (cc)
+    by_found (Some a) e f =
+        let good = of_run_good s run in
+        let is : a.serial ≡ k = cc in
+        let at = (ready_found is_ready 0 s.activities a good.order e).1 in
+        subst (λ i. was_told (node_at i s.core.nodes) ≡ false) is (start_untold run.told run.rack run.entries s run.reaches a.serial a at)

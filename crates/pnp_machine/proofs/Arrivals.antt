@@ -1,11 +1,12 @@
 -- What an arrival does to the world, and what is kept of devices and nodes.
-use Rattle.std.proofs.Common.{◌≡◌, ℕ, ◌+◌, ◌<◌, ◌↔◌, ◌==◌, ◌||◌, Bool, true, cond, List, [], ◌∷◌, ◌++◌, length, Option, Some, None, Result, Ok, Err, IfSome, OnOk, OnErr, IsErrOf, IsSome, nat_le, refl, sym, ◌∙◌, ap, subst, arith}
+use Rattle.std.proofs.Common.{◌≡◌, ℕ, ◌+◌, ◌<◌, ◌↔◌, ◌==◌, ◌||◌, Bool, true, false, cond, List, [], ◌∷◌, ◌++◌, length, Option, Some, None, Result, Ok, Err, IfSome, OnOk, OnErr, IsErrOf, IsSome, nat_le, refl, sym, ◌∙◌, ap, subst, arith}
 use Rattle.std.specs.List.{AllByRecursion, list_any}
 use Rattle.std.proofs.lemmas.Bool.Decides.{nat_tests}
 use Rattle.resource_reqs.specs.Resources.{Res, Reqs}
 use Rattle.pnp_labels.specs.Texts.{Text}
 use Rattle.pnp_model.specs.Records.{Device, Node}
 use Rattle.pnp_model.specs.Keyed.{changed_first}
+use Rattle.pnp_model.specs.Tests.{is_surprise_removed}
 use Rattle.pnp_model.specs.States.{device_of, is_in_world, requires}
 use Rattle.script_bus.proofs.Unplugs.{by_bool}
 use Rattle.devnode_tree.specs.Trees.{Tree}
@@ -90,6 +91,11 @@ pub kept_anew : (w w' : World) (t t' : Tree) (reserved reserved' : List Res) (ar
 kept_anew w w' t t' reserved reserved' arbiters arbiters' over from whole other kept mirrors =
     record { listed = none_before other t'.nodes w'.devices; within = omega arith; here = λ k e. absurd (cc); mirrors = mirrors }
 
+-- one of two holds where the second holds whenever another did
+pub or_more : (a b c : Bool) → (b ≡ true → c ≡ true) → (a || b) ≡ true → (a || c) ≡ true
+or_more true b c f h = refl
+or_more false b c f h = f h
+
 -- the world with one device more
 any_more : {A : Type 0} (p : A → Bool) (xs : List A) (y : A) → list_any p xs ≡ true → list_any p (xs ++ y ∷ []) ≡ true
 any_more p [] y h = absurd (cc)
@@ -105,7 +111,9 @@ module _ (w : World) (t : Tree) (reserved : List Res) (arbiters : Arbiters) (ove
         within = let le = kept.within in omega arith;
         here = λ k e.
             all_of (IsHere k w.devices) (IsHere k w'.devices)
-            (λ n h child. subst (λ ds. is_in_world ds n.born ≡ true) (sym devices) (any_more (λ x. x.born == n.born) w.devices d (h child)))
+            (λ n h child.
+                or_more (is_surprise_removed n.state) (is_in_world w.devices n.born) (is_in_world w'.devices n.born)
+                (λ there. subst (λ ds. is_in_world ds n.born ≡ true) (sym devices) (any_more (λ x. x.born == n.born) w.devices d there)) (h child))
             t.nodes (kept.here k e);
         mirrors = kept.mirrors;
       }
@@ -145,6 +153,6 @@ kept_changed w tree reserved arbiters over from whole k reqs h =
     record {
       listed = still_not_joining over from tree.nodes k reqs w.devices h.listed;
       within = h.within;
-      here = λ j e. all_of (IsHere j w.devices) (IsHere j (changed k reqs w).devices) (λ n here child. still_in_world k n.born reqs w.devices ∙ here child) tree.nodes (h.here j e);
+      here = λ j e. all_of (IsHere j w.devices) (IsHere j (changed k reqs w).devices) (λ n here child. ap (λ (b : Bool). is_surprise_removed n.state || b) (still_in_world k n.born reqs w.devices) ∙ here child) tree.nodes (h.here j e);
       mirrors = h.mirrors;
     }

@@ -1,5 +1,6 @@
 -- The task that begins an operation, as the machine's step.
-use Rattle.std.proofs.Common.{◌≡◌, ℕ, Bool, true, false, cond, List, Option, Some, None, IsSome, refl, sym, ◌∙◌, ap, subst}
+use Rattle.std.proofs.Common.{◌≡◌, ℕ, Bool, true, false, cond, List, Option, Some, None, Result, Ok, Err, IfOk, IsSome, refl, sym, ◌∙◌, ap, subst}
+use Rattle.std.specs.declared.alloc.AllocError.{AllocError}
 use Rattle.pnp_labels.specs.declared.label.Label.{Label}
 use Rattle.pnp_labels.specs.declared.label.OpKind.{OpKind}
 use Rattle.pnp_labels.specs.declared.states.DevState.{DevState}
@@ -7,14 +8,16 @@ use Rattle.pnp_labels.specs.declared.states.DevState.TheVariants.{NoStack, NotSt
 use Rattle.pnp_model.specs.Cores.{node_at}
 use Rattle.pnp_model.specs.Rebalances.{begun_rebalance, begun_change}
 use Rattle.pnp_model.specs.Records as machines
-use Rattle.pnp_model.specs.Records.{Device, Node, Rebalance, Removal, Surprise, State}
+use Rattle.pnp_model.specs.Records.{Device, Driver, Finish, Node, Rebalance, Removal, Surprise, State}
 use Rattle.pnp_model.specs.Records.Duty.{Begins}
 use Rattle.pnp_model.specs.Removals.{begun_removal}
 use Rattle.pnp_model.specs.Surprises.{begun_surprise}
+use Rattle.pnp_model.specs.Finishes.{begun_finish}
+use Rattle.pnp_model.specs.Handles.{is_ready_device, was_told}
 use Rattle.pnp_model.specs.States.{set_operation, drop_task, device_born, let_through}
 use Rattle.pnp_model.specs.Windows.{clip}
-use Rattle.pnp_model.specs.Tasks.{begin, begin_step, change_born, change_task, skip, rebalance_task, disable_task}
-use Rattle.pnp_model.specs.Tests.{is_not_started, is_started}
+use Rattle.pnp_model.specs.Tasks.{begin, begin_step, change_born, change_task, skip, rebalance_task, disable_task, surprise_task, finish_task}
+use Rattle.pnp_model.specs.Tests.{is_not_started, is_started, is_surprise_removed}
 use Rattle.resource_reqs.specs.Resources.{Reqs}
 use Rattle.script_bus.proofs.Unplugs.{by_bool}
 use Rattle.pnp_machine.specs.Devices.{Devices, wanted_at, wanted_of}
@@ -22,6 +25,8 @@ use Rattle.pnp_laws.proofs.Lookups.{own_serial}
 use Rattle.rebalance.specs.Begins as rebalances
 use Rattle.query_remove.specs.Begins as removals
 use Rattle.surprise_remove.specs.Begins as surprises
+use Rattle.surprise_remove.specs.FinishFrames as finishes
+use Rattle.surprise_remove.specs.Ready.{is_ready_at}
 use Rattle.pnp_machine.specs.Machines.{IsDone, DoneFor, begun_with, can_rebalance, is_disabled, is_disabled_node}
 use Rattle.pnp_machine.specs.declared.operation.Operation.TheVariants as declared
 
@@ -73,6 +78,11 @@ module _ (s t : State) (label line : Label) (own : label ≡ line) where
   surprise_begun o None h is = absurd h
   surprise_begun o (Some n) (e, f) is =
       (own ∙ e, is ∙ ap (λ x. set_operation (Some (machines.Operation.Surprising x)) (drop_task s)) (f s.core))
+
+  pub finish_begun : (f : Finish) (x : Option Node) → finishes.BegunFor x line f → t ≡ begun_with (declared.Finishing f) s
+      → DoneFor x (λ n. begin s OpKind.Finish n (machines.Operation.Finishing (begun_finish n))) label t
+  finish_begun f None h is = absurd h
+  finish_begun f (Some n) (e, same) is = (own ∙ e, is ∙ ap (λ x. set_operation (Some (machines.Operation.Finishing x)) (drop_task s)) same)
 
 module _ (s : State) (k : ℕ) (label : Label) (t : State) where
   -- a device that is not there or not NotStarted needs none
@@ -133,3 +143,66 @@ module _ (s : State) (k : ℕ) (label : Label) (t : State) where
           by_state Stopped q = skipped
           by_state RemovePending q = skipped
           by_state SurpriseRemoved q = skipped
+
+  -- one that was told that it has gone is not told again
+  pub not_surprised : was_told (node_at k s.core.nodes) ≡ true → IsDone (skip (Begins OpKind.Surprise) k s) label t → IsDone (begin_step s OpKind.Surprise k (node_at k s.core.nodes)) label t
+  not_surprised told h = by_node (node_at k s.core.nodes) refl told
+    where
+      by_node : (o : Option Node) → node_at k s.core.nodes ≡ o → was_told o ≡ true → IsDone (begin_step s OpKind.Surprise k o) label t
+      by_node None e b = h
+      by_node (Some n) e b = by_state n.state refl
+        where
+          by_state : (state : DevState) → n.state ≡ state → IsDone (surprise_task s n state) label t
+          by_state SurpriseRemoved q = subst (λ i. IsDone (skip (Begins OpKind.Surprise) i s) label t) (sym (own_serial k n s.core.nodes e)) h
+          by_state NoStack q = absurd (let up = ap is_surprise_removed q in cc)
+          by_state NotStarted q = absurd (let up = ap is_surprise_removed q in cc)
+          by_state Started q = absurd (let up = ap is_surprise_removed q in cc)
+          by_state StopPending q = absurd (let up = ap is_surprise_removed q in cc)
+          by_state Stopped q = absurd (let up = ap is_surprise_removed q in cc)
+          by_state RemovePending q = absurd (let up = ap is_surprise_removed q in cc)
+
+  -- any other is
+  surprises_it : was_told (node_at k s.core.nodes) ≡ false → DoneFor (node_at k s.core.nodes) (λ n. begin s OpKind.Surprise n (machines.Operation.Surprising (begun_surprise s.core n))) label t
+      → IsDone (begin_step s OpKind.Surprise k (node_at k s.core.nodes)) label t
+  surprises_it untold h = by_node (node_at k s.core.nodes) untold h
+    where
+      by_node : (o : Option Node) → was_told o ≡ false → DoneFor o (λ n. begin s OpKind.Surprise n (machines.Operation.Surprising (begun_surprise s.core n))) label t
+          → IsDone (begin_step s OpKind.Surprise k o) label t
+      by_node None b h = absurd h
+      by_node (Some n) b h = by_state n.state refl
+        where
+          by_state : (state : DevState) → n.state ≡ state → IsDone (surprise_task s n state) label t
+          by_state SurpriseRemoved q = absurd (let up = ap is_surprise_removed q in cc)
+          by_state NoStack q = h
+          by_state NotStarted q = h
+          by_state Started q = h
+          by_state StopPending q = h
+          by_state Stopped q = h
+          by_state RemovePending q = h
+
+  -- a device that is not ready is not finished
+  pub not_finished : is_ready_at s.core s.handles (node_at k s.core.nodes) ≡ false → IsDone (skip (Begins OpKind.Finish) k s) label t → IsDone (begin_step s OpKind.Finish k (node_at k s.core.nodes)) label t
+  not_finished busy h = by_node (node_at k s.core.nodes) refl busy
+    where
+      by_node : (o : Option Node) → node_at k s.core.nodes ≡ o → is_ready_at s.core s.handles o ≡ false → IsDone (begin_step s OpKind.Finish k o) label t
+      by_node None e b = h
+      by_node (Some n) e b =
+          subst (λ (x : Bool). IsDone (finish_task s n x) label t) (sym b)
+          (subst (λ i. IsDone (skip (Begins OpKind.Finish) i s) label t) (sym (own_serial k n s.core.nodes e)) h)
+
+  -- one that is ready is
+  finishes_it : is_ready_at s.core s.handles (node_at k s.core.nodes) ≡ true → DoneFor (node_at k s.core.nodes) (λ n. begin s OpKind.Finish n (machines.Operation.Finishing (begun_finish n))) label t
+      → IsDone (begin_step s OpKind.Finish k (node_at k s.core.nodes)) label t
+  finishes_it ready h = by_node (node_at k s.core.nodes) ready h
+    where
+      by_node : (o : Option Node) → is_ready_at s.core s.handles o ≡ true → DoneFor o (λ n. begin s OpKind.Finish n (machines.Operation.Finishing (begun_finish n))) label t
+          → IsDone (begin_step s OpKind.Finish k o) label t
+      by_node None b h = absurd h
+      by_node (Some n) b h = subst (λ (x : Bool). IsDone (finish_task s n x) label t) (sym b) h
+
+-- the same where memory may be wanting
+pub finish_taken : (s : State) (k : ℕ) (t : State) (result : Result Label AllocError) → true ≡ is_ready_at s.core s.handles (node_at k s.core.nodes)
+    → IfOk result (λ label. DoneFor (node_at k s.core.nodes) (λ n. begin s OpKind.Finish n (machines.Operation.Finishing (begun_finish n))) label t)
+    → IfOk result (λ label. IsDone (begin_step s OpKind.Finish k (node_at k s.core.nodes)) label t)
+finish_taken s k t (Ok label) ready h = finishes_it s k label t (sym ready) h
+finish_taken s k t (Err refused) ready h = tt

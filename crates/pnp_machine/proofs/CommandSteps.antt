@@ -1,5 +1,5 @@
 -- What an operator commands, as what happens by the definition.
-use Rattle.std.proofs.Common.{◌≡◌, ℕ, ◌==◌, Bool, true, false, IfSome, List, [], ◌∷◌, ◌++◌, Option, Some, None, Result, Ok, Err, is_some, refl, sym, ◌∙◌, ap, subst, arith, option_map}
+use Rattle.std.proofs.Common.{◌≡◌, ℕ, ◌==◌, Bool, true, false, not, ◌&&◌, cond, find, nat_lt, IfSome, List, [], ◌∷◌, ◌++◌, Option, Some, None, Result, Ok, Err, is_some, refl, sym, ◌∙◌, ap, subst, arith, option_map}
 use Rattle.std.proofs.lemmas.Bool.Decides.{nat_tests}
 use Rattle.pnp_labels.specs.Texts.{Text, spaced}
 use Rattle.pnp_labels.specs.declared.event.Event.{Event}
@@ -9,14 +9,17 @@ use Rattle.pnp_labels.specs.declared.label.OpKind.{OpKind}
 use Rattle.pnp_labels.specs.declared.label.Reason.{Reason}
 use Rattle.pnp_labels.specs.declared.words.RelKind.{RelKind}
 use Rattle.pnp_model.specs.Cores.{node_at, path_of, serials_of}
-use Rattle.pnp_model.specs.Events.{change_at, change_below, change_there, change_up, happens, disable_at, disable_below, disable_enabled, eject_at, eject_below, relate_at, relate_idle, relate_two, refused}
+use Rattle.pnp_model.specs.Events.{open_at, open_below, open_idle, open_up, close_at, close_open, close_handle, finish_due, with_handles, change_at, change_below, change_there, change_up, happens, disable_at, disable_below, disable_enabled, eject_at, eject_below, relate_at, relate_idle, relate_two, refused}
+use Rattle.pnp_model.specs.Handles.{closed_with, is_handle_of, opened}
 use Rattle.pnp_model.specs.Machine.{is_born}
-use Rattle.pnp_model.specs.Records.{Node, Driver, Activity, Operation, State, Step, Task, Duty}
+use Rattle.pnp_model.specs.Records.{Node, Driver, Handle, Activity, Operation, State, Step, Task, Duty}
 use Rattle.pnp_model.specs.States.{node_of}
-use Rattle.pnp_model.specs.Tests.{has_same, is_started}
+use Rattle.pnp_model.specs.Tests.{has_same, is_started, is_surprise_removed}
 use Rattle.resource_reqs.specs.Resources.{Reqs}
 use Rattle.script_bus.specs.Worlds.{changed}
+use Rattle.devnode_tree.specs.Counts.{count_of, handle_with}
 use Rattle.devnode_tree.specs.Trees.{Ascends}
+use Rattle.script_bus.proofs.Unplugs.{by_bool}
 use Rattle.relations.specs.Relating.{Relates, RelatesFor}
 use Rattle.relations.specs.declared.error.RelateError.{RelateError}
 use Rattle.pnp_machine.specs.Devices.{Devices}
@@ -29,6 +32,17 @@ use Rattle.pnp_machine.proofs.EventSteps.{FoundAt, found_at}
 pub idle_if : (o : Option declared.Operation) → is_some o ≡ false → is_some (option_map operation_of o) ≡ false
 idle_if None e = refl
 idle_if (Some o) e = absurd (cc)
+
+none_if : (o : Option Operation) → is_some o ≡ false → o ≡ None
+none_if None e = refl
+none_if (Some o) e = absurd (cc)
+
+-- a handle is open where the count is not 0
+some_handle : (k n : ℕ) → (n ≡ 0 → ⊥) → handle_with k n ≡ Some (record { serial = k; count = n })
+some_handle k n some = ap (λ b. cond b None (Some (record { serial = k; count = n }))) (apart n some)
+  where
+    apart : (n : ℕ) → (n ≡ 0 → ⊥) → (n == 0) ≡ false
+    apart n some = grind (arith, nat_tests, some)
 
 not_root : (n k : ℕ) → n ≡ k → (k ≡ 0 → ⊥) → (n == 0) ≡ false
 not_root n k own up = grind (arith, nat_tests, up)
@@ -122,6 +136,62 @@ module _ (ds : Devices) (rack : List Driver) (paths : List Text) (works : List A
                   ∙ ap (state_of (record ds { world = changed m.node.born reqs ds.world }) rack paths works operation) (more ∙ ap (λ i. tasks ++ record { kind = Duty.Begins OpKind.Change; serial = i } ∷ []) (sym m.own)),
             )
 
+  -- A handle is opened or closed -------------------------------------------------------------
+
+  module _ (path : Text) (k : ℕ) (found : Some k ≡ option_map (λ n. n.serial) (node_of path ds.tree.nodes)) (x : Node) (at : Some x ≡ node_at k ds.tree.nodes) where
+    o : FoundAt path k ds.tree.nodes
+    o = here path k found
+
+    own_node : x ≡ o.node
+    own_node = let own = o.at in cc
+
+    module _ (idle : is_some operation ≡ false) (up : k ≡ 0 → ⊥) where
+      opens_by : (b : Bool) → is_started x.state ≡ b → happens s (Event.OpenHandle path) ≡ open_up s o.node b
+      opens_by b h =
+          ap (open_at s) o.found ∙ ap (open_below s o.node) (not_root o.node.serial k o.own up) ∙ ap (open_idle s o.node) (none_if operation idle)
+          ∙ ap (open_up s o.node) (sym (ap (λ (y : Node). is_started y.state) own_node) ∙ h)
+
+      pub open_down : is_started x.state ≡ false → IsDone (happens s0 (Event.OpenHandle path)) (Label.Refused EventWord.HandleOpen Reason.NotStarted) s0
+      open_down h =
+          done_of (Event.OpenHandle path) (Label.Refused EventWord.HandleOpen Reason.NotStarted) s0 (refused EventWord.HandleOpen Reason.NotStarted s) (opens_by false h) (refl, sym is)
+
+      pub opens : (ds' : Devices) (what : Text) → is_started x.state ≡ true → what ≡ path_of (node_at k s0.core.nodes) → ds' ≡ record ds { handles = opened k ds.handles }
+          → IsDone (happens s0 (Event.OpenHandle path)) (Label.Did EventWord.HandleOpen what) (state_of ds' rack paths works operation tasks)
+      opens ds' what h spelled now =
+          done_of (Event.OpenHandle path) (Label.Did EventWord.HandleOpen what) (state_of ds' rack paths works operation tasks) (open_up s o.node true) (opens_by true h) (
+            ap (Label.Did EventWord.HandleOpen) (spelled ∙ path_is path k o),
+            ap (λ d. state_of d rack paths works operation tasks) (now ∙ ap (λ i. record ds { handles = opened i ds.handles }) (sym o.own)),
+          )
+
+    module _ (count : ℕ) (some : count ≡ 0 → ⊥) (held : find (is_handle_of k) ds.handles ≡ handle_with k count) where
+      -- is another one open?
+      abbrev more : Bool
+      more = nat_lt 1 count
+
+      closes_it : happens s (Event.CloseHandle path) ≡ close_handle s o.node more
+      closes_it =
+          ap (close_at s) o.found
+          ∙ ap (close_open s o.node) (ap (λ i. find (is_handle_of i) ds.handles) o.own ∙ held ∙ some_handle k count some)
+
+      abbrev less : Devices
+      less = record ds { handles = closed_with o.node.serial ds.handles more }
+
+      -- what is due then
+      due_is : (b : Bool) (tasks' : List Task) → tasks' ≡ cond b (tasks ++ record { kind = Duty.Begins OpKind.Finish; serial = k } ∷ []) tasks
+          → state_of less rack paths works operation tasks' ≡ finish_due o.node b (with_handles (closed_with o.node.serial ds.handles more) s)
+      due_is true tasks' e = ap (state_of less rack paths works operation) (e ∙ ap (λ i. tasks ++ record { kind = Duty.Begins OpKind.Finish; serial = i } ∷ []) (sym o.own))
+      due_is false tasks' e = ap (state_of less rack paths works operation) e
+
+      pub closes : (ds' : Devices) (tasks' : List Task) (what : Text) → what ≡ path_of (node_at k s0.core.nodes) → ds' ≡ record ds { handles = closed_with k ds.handles more }
+          → tasks' ≡ cond (not more && is_surprise_removed x.state) (tasks ++ record { kind = Duty.Begins OpKind.Finish; serial = k } ∷ []) tasks
+          → IsDone (happens s0 (Event.CloseHandle path)) (Label.Did EventWord.HandleClose what) (state_of ds' rack paths works operation tasks')
+      closes ds' tasks' what spelled now due =
+          done_of (Event.CloseHandle path) (Label.Did EventWord.HandleClose what) (state_of ds' rack paths works operation tasks') (close_handle s o.node more) closes_it (
+            ap (Label.Did EventWord.HandleClose) (spelled ∙ path_is path k o),
+            ap (λ d. state_of d rack paths works operation tasks') (now ∙ ap (λ i. record ds { handles = closed_with i ds.handles more }) (sym o.own))
+                ∙ due_is (not more && is_surprise_removed o.node.state) tasks' (due ∙ ap (λ (y : Node). cond (not more && is_surprise_removed y.state) (tasks ++ record { kind = Duty.Begins OpKind.Finish; serial = k } ∷ []) tasks) own_node),
+          )
+
   -- Two devices are related ------------------------------------------------------------------
 
   module _ (ds' : Devices) (kind : RelKind) (owner member : Text) (i j : ℕ) (found_owner : Some i ≡ option_map (λ n. n.serial) (node_of owner ds.tree.nodes))
@@ -141,10 +211,6 @@ module _ (ds : Devices) (rack : List Driver) (paths : List Text) (works : List A
 
     abbrev two : Step
     two = relate_two s kind a.node b.node (a.node.serial == b.node.serial)
-
-    none_if : (o : Option Operation) → is_some o ≡ false → o ≡ None
-    none_if None e = refl
-    none_if (Some o) e = absurd (cc)
 
     step : happens s (Event.Relate kind owner member) ≡ two
     step =

@@ -1,5 +1,5 @@
 -- The devices at the opening, one that is found by its path, one that goes with all below it, and the children that are gone.
-use Rattle.std.proofs.Common.{◌≡◌, ◌≢◌, ℕ, ◌+◌, ◌<◌, ◌≤◌, ◌==◌, ◌↔◌, Bool, true, false, not, ◌&&◌, cond, List, [], ◌∷◌, length, find, Option, Some, None, Ok, Err, IfSome, IsErrOf, unwrap_or, refl, sym, ◌∙◌, ap, subst, arith, option_map}
+use Rattle.std.proofs.Common.{◌≡◌, ◌≢◌, ℕ, ◌+◌, ◌<◌, ◌≤◌, ◌==◌, ◌↔◌, Bool, true, false, not, ◌&&◌, ◌||◌, cond, List, [], ◌∷◌, length, find, Option, Some, None, Ok, Err, IfSome, IsErrOf, unwrap_or, refl, sym, ◌∙◌, ap, subst, arith, option_map}
 use Rattle.std.specs.List.{AllByRecursion, list_any}
 use Rattle.std.proofs.lemmas.Bool.Decides.{nat_tests}
 use Rattle.device_ids.specs.Folding.{same}
@@ -8,11 +8,11 @@ use Rattle.resource_reqs.specs.Resources.{Res}
 use Rattle.pnp_labels.specs.Texts.{Text}
 use Rattle.pnp_model.specs.Cores.{node_at, serials_of}
 use Rattle.pnp_model.specs.Keyed.{those}
-use Rattle.pnp_model.specs.Machine.{is_born}
 use Rattle.pnp_model.specs.Records.{Device, Node, Task}
 use Rattle.pnp_model.specs.Runs.{root_node}
 use Rattle.pnp_model.specs.States.{device_born, device_of, is_in_world}
 use Rattle.pnp_model.specs.Tasks.{is_surprise_of}
+use Rattle.pnp_model.specs.Tests.{is_surprise_removed}
 use Rattle.pnp_model.specs.Trees.{children, is_child}
 use Rattle.devnode_tree.specs.Entries.{child_serials}
 use Rattle.devnode_tree.specs.Trees.{Tree, Ascends, IsTree}
@@ -26,7 +26,7 @@ use Rattle.pnp_laws.proofs.Lookups.{own_serial}
 use Rattle.script_bus.proofs.Found.{found_again}
 use Rattle.script_bus.proofs.Places.{all_found}
 use Rattle.script_bus.proofs.Unplugs.{by_cond, all_both, root_rule, same_self}
-use Rattle.pnp_machine.specs.Devices.{Devices, Departs, IsKept, serial_born, relisted_device, is_gone_from, is_gone_node, is_gone_at, gone_below, IsHere}
+use Rattle.pnp_machine.specs.Devices.{Devices, Departs, IsKept, serial_born, relisted_device, is_gone_from, is_gone_node, is_gone_at, gone_below, is_here, is_here_at, IsHere}
 use Rattle.pnp_machine.proofs.Arrivals.{none_before}
 
 -- The opening ---------------------------------------------------------------------
@@ -148,15 +148,50 @@ own_nodes low (n ∷ ns) asc = (
     differs : (m : Node) → m.serial ≢ n.serial → (n.serial == m.serial) ≡ false
     differs m apart = grind (arith, nat_tests)
 
+-- what is here is not gone
+stays : (told there due : Bool) → (told || there) ≡ true → (not told && (not there && not due)) ≡ false
+stays true there due h = by_rest (not there && not due)
+  where
+    by_rest : (b : Bool) → (not true && b) ≡ false
+    by_rest true = refl
+    by_rest false = refl
+stays false true due h = by_rest (not due)
+  where
+    by_rest : (b : Bool) → (not false && (not true && b)) ≡ false
+    by_rest true = refl
+    by_rest false = refl
+stays false false due h = absurd (cc)
+
+neither : (told there rest : Bool) → (not (told || there) && rest) ≡ (not told && (not there && rest))
+neither true true true = refl
+neither true true false = refl
+neither true false true = refl
+neither true false false = refl
+neither false true true = refl
+neither false true false = refl
+neither false false true = refl
+neither false false false = refl
+
+-- where the device does not stay it is gone unless its surprise removal is due
+pub gone_unless : (here due gone : Bool) → here ≡ false → (not here && not due) ≡ gone → not due ≡ gone
+gone_unless false true gone e h = h
+gone_unless false false gone e h = h
+gone_unless true due gone e h = absurd (cc)
+
 module _ (ds : Devices) (tasks : List Task) where
-  -- the device of a node is not in the world
-  pub gone_here : (k born : ℕ) (n : Node) (b : Bool) → Some n ≡ node_at k ds.tree.nodes → n.born ≡ born → false ≡ is_in_world ds.world.devices born → b ≡ list_any (is_surprise_of k) tasks
-      → not b ≡ is_gone_at ds tasks k
-  gone_here k born n b at is none due =
-      let lost : is_in_world ds.world.devices n.born ≡ false = ap (is_in_world ds.world.devices) is ∙ sym none in
-      ap not (due ∙ sym (ap (λ i. list_any (is_surprise_of i) tasks) (own_serial k n ds.tree.nodes (sym at))))
-      ∙ sym (ap (λ b. not b && not (list_any (is_surprise_of n.serial) tasks)) lost)
+  -- whether the device of a node is gone, by whether it stays and its surprise removal is due
+  pub gone_here : (k : ℕ) (n : Node) (here due : Bool) → Some n ≡ node_at k ds.tree.nodes → here ≡ is_here ds.world.devices n
+      → due ≡ list_any (is_surprise_of k) tasks → (not here && not due) ≡ is_gone_at ds tasks k
+  gone_here k n here due at stays d =
+      let own : due ≡ list_any (is_surprise_of n.serial) tasks = d ∙ sym (ap (λ i. list_any (is_surprise_of i) tasks) (own_serial k n ds.tree.nodes (sym at))) in
+      ap (λ b. not b && not due) stays ∙ ap (λ b. not (is_here ds.world.devices n) && not b) own
+      ∙ neither (is_surprise_removed n.state) (is_in_world ds.world.devices n.born) (not (list_any (is_surprise_of n.serial) tasks))
       ∙ ap (is_gone_node ds.world.devices tasks) at
+
+  -- what stays is not gone
+  pub stays_here : (k : ℕ) (n : Node) (here : Bool) → Some n ≡ node_at k ds.tree.nodes → here ≡ is_here ds.world.devices n → here ≡ true → not here ≡ is_gone_at ds tasks k
+  stays_here k n here at is e =
+      ap not e ∙ sym (stays (is_surprise_removed n.state) (is_in_world ds.world.devices n.born) (list_any (is_surprise_of n.serial) tasks) (sym is ∙ e)) ∙ ap (is_gone_node ds.world.devices tasks) at
 
   first_by : (b c : Bool) (n : Node) (ns : List Node) → c ≡ b → option_map (λ (n : Node). n.serial) (find (is_gone_from ds.world.devices tasks) ns) ≡ find (is_gone_at ds tasks) (serials_of ns)
       → option_map (λ (n : Node). n.serial) (cond b (Some n) (find (is_gone_from ds.world.devices tasks) ns)) ≡ cond c (Some n.serial) (find (is_gone_at ds tasks) (serials_of ns))
@@ -193,9 +228,9 @@ not_not : (b : Bool) → not b ≡ false → b ≡ true
 not_not true e = refl
 not_not false e = absurd (cc)
 
--- the node is not there, or its device is not in the world
+-- the node is not there, or its device is neither in the world nor told that it has gone
 abbrev pub is_lost : Devices → ℕ → Bool
-is_lost ds k = not (is_born ds.world.devices (node_at k ds.tree.nodes))
+is_lost ds k = not (is_here_at ds.world.devices (node_at k ds.tree.nodes))
 
 -- then none of them is gone
 pub none_of_whole : (ds : Devices) (tasks : List Task) (k : ℕ) → AllByRecursion (IsHere k ds.world.devices) ds.tree.nodes → None ≡ option_map (λ (n : Node). n.serial) (gone_below ds tasks k)
@@ -205,7 +240,7 @@ none_of_whole ds tasks k all = sym (ap (option_map (λ (n : Node). n.serial)) (n
     none_from [] all = refl
     none_from (n ∷ ns) all =
         by_cond (λ l. find (is_gone_from ds.world.devices tasks) l ≡ None) (is_child k n) (n ∷ those (is_child k) ns) (those (is_child k) ns)
-        (λ e. ap (λ b. cond (not b && not (list_any (is_surprise_of n.serial) tasks)) (Some n) (find (is_gone_from ds.world.devices tasks) (those (is_child k) ns))) (all.0 e) ∙ none_from ns all.1)
+        (λ e. ap (λ b. cond b (Some n) (find (is_gone_from ds.world.devices tasks) (those (is_child k) ns))) (stays (is_surprise_removed n.state) (is_in_world ds.world.devices n.born) (list_any (is_surprise_of n.serial) tasks) (all.0 e)) ∙ none_from ns all.1)
         (λ e. none_from ns all.1)
 
 module _ (ds : Devices) (k : ℕ) where
@@ -221,7 +256,7 @@ module _ (ds : Devices) (k : ℕ) where
   not_lost : (n : Node) (ns : List Node) → node_at n.serial ds.tree.nodes ≡ Some n → (None ≡ find (is_lost ds) (serials_of (those (is_child k) ns)) → AllByRecursion (IsHere k ds.world.devices) ns)
       → (b : Bool) → is_lost ds n.serial ≡ b → None ≡ cond b (Some n.serial) (find (is_lost ds) (serials_of (those (is_child k) ns))) → AllByRecursion (IsHere k ds.world.devices) (n ∷ ns)
   not_lost n ns own rest true q none = absurd (cc)
-  not_lost n ns own rest false q none = (λ child. not_not (is_in_world ds.world.devices n.born) (sym (ap (λ o. not (is_born ds.world.devices o)) own) ∙ q), rest none)
+  not_lost n ns own rest false q none = (λ child. not_not (is_here ds.world.devices n) (sym (ap (λ o. not (is_here_at ds.world.devices o)) own) ∙ q), rest none)
 
   one_found : (n : Node) (ns : List Node) → node_at n.serial ds.tree.nodes ≡ Some n → (None ≡ find (is_lost ds) (serials_of (those (is_child k) ns)) → AllByRecursion (IsHere k ds.world.devices) ns)
       → (b : Bool) → is_child k n ≡ b → None ≡ find (is_lost ds) (serials_of (cond b (n ∷ those (is_child k) ns) (those (is_child k) ns))) → AllByRecursion (IsHere k ds.world.devices) (n ∷ ns)

@@ -1,4 +1,4 @@
--- The lines of the end of the output: the tree, what is held, and what is outstanding.
+-- The lines of the end of the output: the tree, what is held, what is outstanding, and the handles that are open.
 use Rattle.std.proofs.Common.{◌≡◌, ℕ, zero, suc, ◌+◌, ◌<◌, ◌≤◌, ◌==◌, Bool, true, false, cond, List, [], ◌∷◌, ◌++◌, Option, Some, None, map, length, refl, sym, ◌∙◌, ap, subst, arith, append_assoc, nat_lt}
 use Rattle.std.specs.List.{AllByRecursion}
 use Rattle.std.specs.Prelude.{codes, slice_get, drop}
@@ -7,17 +7,17 @@ use Rattle.range_arbiter.specs.Pairs.{Pair}
 use Rattle.device_holdings.specs.MapRows.{row_of as row_of_pair}
 use Rattle.pnp_labels.specs.Texts.{Text}
 use Rattle.pnp_model.specs.Cores.{node_at, serials_of, core_of}
-use Rattle.pnp_model.specs.Endings.{Placed, placed, print_order, root_of, map_rows, joined, tree_line, map_line, ending, outstanding_line, outstanding_text, outstanding, operation_rows, at_row, activity_rows, walk_row, waiting_row, serial_before, Outstanding}
+use Rattle.pnp_model.specs.Endings.{Placed, placed, print_order, root_of, map_rows, joined, tree_line, map_line, ending, outstanding_line, outstanding_text, outstanding, operation_rows, at_row, activity_rows, walk_row, waiting_row, serial_before, Outstanding, handles_part}
 use Rattle.pnp_model.specs.Events.{operation_at}
 use Rattle.pnp_model.specs.Keyed.{in_order, put_before, those}
 use Rattle.pnp_model.specs.Machine.{phase_walk, operation_walk}
-use Rattle.pnp_model.specs.Records.{Node, Core, Driver, Activity, Operation, State, Walk}
+use Rattle.pnp_model.specs.Records.{Node, Core, Driver, Handle, Activity, Operation, State, Walk}
 use Rattle.pnp_model.specs.Trees.{children, is_child}
 use Rattle.pnp_laws.specs.Kept.{InOrder}
 use Rattle.devnode_tree.specs.Rows.{row_of}
 use Rattle.devnode_tree.specs.Trees.{Ascends, Tree}
 use Rattle.devnode_tree.specs.declared.print.PrintRow.{PrintRow}
-use Rattle.pnp_machine.specs.Endings.{RowAdded, works_lines, operation_lines}
+use Rattle.pnp_machine.specs.Endings.{RowAdded, works_lines, operation_lines, handles_lines}
 use Rattle.pnp_machine.proofs.Texts.{joined_append}
 
 all_those : {A : Type 0} (P : A → Type 0) (test : A → Bool) (xs : List A) → AllByRecursion P xs → AllByRecursion P (those test xs)
@@ -195,6 +195,11 @@ rows_are (Some o) works order alone =
     ap (λ rows. in_order serial_before (at_row (operation_walk o) (operation_at o) ++ rows)) none ∙ one_row (operation_at o) (operation_walk o)
     ∙ sym (append_nothing (at_row (operation_walk o) (operation_at o))) ∙ ap (λ rows. at_row (operation_walk o) (operation_at o) ++ rows) (sym none)
 
+-- a line of handles says nothing of what is related, asked or reserved
+handles_same : (c : Core) (handles : List Handle) → joined (handles_part c handles) ≡ handles_lines c.nodes handles
+handles_same c [] = refl
+handles_same c (h ∷ hs) = refl
+
 -- The whole ---------------------------------------------------------------------------------------
 
 module _ (s : State) (order : InOrder 0 s.activities) (alone : (o : Operation) → s.operation ≡ Some o → s.activities ≡ []) where
@@ -218,26 +223,31 @@ module _ (s : State) (order : InOrder 0 s.activities) (alone : (o : Operation) �
       ∙ ap joined (map_append line (operation_rows s.operation) (activity_rows s.activities))
       ∙ joined_append (map line (operation_rows s.operation)) (map line (activity_rows s.activities))
 
-  whole_is : joined (ending s) ≡ codes "tree\n" ++ (trees ++ (codes "map\n" ++ (held ++ (codes "outstanding\n" ++ (operation_lines nodes rack s.operation ++ works_lines nodes rack s.activities)))))
+  whole_is : joined (ending s) ≡ codes "tree\n" ++ (trees ++ (codes "map\n" ++ (held ++ (codes "outstanding\n" ++ ((operation_lines nodes rack s.operation ++ works_lines nodes rack s.activities) ++ handles_lines nodes s.handles)))))
   whole_is =
-      let rows : List Text = map (outstanding_line s.core) (outstanding s) in
+      let part : List Text = handles_part s.core s.handles in
+      let waiting : List Text = map (outstanding_line s.core) (outstanding s) in
+      let rows : List Text = waiting ++ part in
       let maps : List Text = map map_line (map_rows s.core) in
       ap (λ x. codes "tree\n" ++ x) (joined_append (map tree_line (print_order nodes)) (codes "map" ∷ (maps ++ (codes "outstanding" ∷ rows))))
       ∙ ap (λ x. codes "tree\n" ++ (trees ++ (codes "map\n" ++ x))) (joined_append maps (codes "outstanding" ∷ rows))
-      ∙ ap (λ x. codes "tree\n" ++ (trees ++ (codes "map\n" ++ (held ++ (codes "outstanding\n" ++ x))))) outstanding_is
+      ∙ ap (λ x. codes "tree\n" ++ (trees ++ (codes "map\n" ++ (held ++ (codes "outstanding\n" ++ x))))) (joined_append waiting part ∙ ap (λ x. x ++ joined part) outstanding_is)
+      ∙ ap (λ x. codes "tree\n" ++ (trees ++ (codes "map\n" ++ (held ++ (codes "outstanding\n" ++ ((operation_lines nodes rack s.operation ++ works_lines nodes rack s.activities) ++ x)))))) (handles_same s.core s.handles)
 
-  pub ending_is : (rows : List Pair) (o0 o1 o2 o3 o4 o5 o6 : Text) → map (row_of_pair nodes) rows ≡ map_rows s.core → o0 ≡ codes "tree\n" → o1 ≡ o0 ++ trees → o2 ≡ o1 ++ codes "map\n"
+  pub ending_is : (rows : List Pair) (o0 o1 o2 o3 o4 o5 o6 o7 : Text) → map (row_of_pair nodes) rows ≡ map_rows s.core → o0 ≡ codes "tree\n" → o1 ≡ o0 ++ trees → o2 ≡ o1 ++ codes "map\n"
       → o3 ≡ o2 ++ joined (map map_line (map (row_of_pair nodes) rows)) → o4 ≡ o3 ++ codes "outstanding\n" → o5 ≡ o4 ++ operation_lines nodes rack s.operation
-      → o6 ≡ o5 ++ works_lines nodes rack s.activities → o6 ≡ joined (ending s)
-  ending_is rows o0 o1 o2 o3 o4 o5 o6 rows_is zero_is one two three four five six =
+      → o6 ≡ o5 ++ works_lines nodes rack s.activities → o7 ≡ o6 ++ handles_lines nodes s.handles → o7 ≡ joined (ending s)
+  ending_is rows o0 o1 o2 o3 o4 o5 o6 o7 rows_is zero_is one two three four five six seven =
       let ops : Text = operation_lines nodes rack s.operation in
       let works : Text = works_lines nodes rack s.activities in
+      let held_open : Text = handles_lines nodes s.handles in
+      let tail : Text = (ops ++ works) ++ held_open in
       let three_is : o3 ≡ o2 ++ held = three ∙ ap (λ r. o2 ++ joined (map map_line r)) rows_is in
-      six ∙ ap (λ x. x ++ works) five ∙ append_assoc o4 ops works
-      ∙ ap (λ x. x ++ (ops ++ works)) four ∙ append_assoc o3 (codes "outstanding\n") (ops ++ works)
-      ∙ ap (λ x. x ++ (codes "outstanding\n" ++ (ops ++ works))) three_is ∙ append_assoc o2 held (codes "outstanding\n" ++ (ops ++ works))
-      ∙ ap (λ x. x ++ (held ++ (codes "outstanding\n" ++ (ops ++ works)))) two ∙ append_assoc o1 (codes "map\n") (held ++ (codes "outstanding\n" ++ (ops ++ works)))
-      ∙ ap (λ x. x ++ (codes "map\n" ++ (held ++ (codes "outstanding\n" ++ (ops ++ works))))) one
-      ∙ append_assoc o0 trees (codes "map\n" ++ (held ++ (codes "outstanding\n" ++ (ops ++ works))))
-      ∙ ap (λ x. x ++ (trees ++ (codes "map\n" ++ (held ++ (codes "outstanding\n" ++ (ops ++ works)))))) zero_is
+      seven ∙ ap (λ x. x ++ held_open) (six ∙ ap (λ x. x ++ works) five ∙ append_assoc o4 ops works) ∙ append_assoc o4 (ops ++ works) held_open
+      ∙ ap (λ x. x ++ tail) four ∙ append_assoc o3 (codes "outstanding\n") tail
+      ∙ ap (λ x. x ++ (codes "outstanding\n" ++ tail)) three_is ∙ append_assoc o2 held (codes "outstanding\n" ++ tail)
+      ∙ ap (λ x. x ++ (held ++ (codes "outstanding\n" ++ tail))) two ∙ append_assoc o1 (codes "map\n") (held ++ (codes "outstanding\n" ++ tail))
+      ∙ ap (λ x. x ++ (codes "map\n" ++ (held ++ (codes "outstanding\n" ++ tail)))) one
+      ∙ append_assoc o0 trees (codes "map\n" ++ (held ++ (codes "outstanding\n" ++ tail)))
+      ∙ ap (λ x. x ++ (trees ++ (codes "map\n" ++ (held ++ (codes "outstanding\n" ++ tail))))) zero_is
       ∙ sym whole_is

@@ -27,7 +27,7 @@ use Rattle.pnp_model.specs.Records.{Activity, Choice, Core, Device, Doing, Drive
 use Rattle.pnp_model.specs.Records.Doing.{Does, Searches}
 use Rattle.pnp_model.specs.Removals.{RemovalMove, ask_on, begun_with, cancel_on, ejecting, finish_on, finish_with}
 use Rattle.pnp_model.specs.Runs.{Entry, Goes}
-use Rattle.pnp_model.specs.Runs.Entry.{Happens, Did}
+use Rattle.pnp_model.specs.Runs.Entry.{Happens, Did, Declines}
 use Rattle.pnp_model.specs.Starts.{StartBeside, StartMove, act}
 use Rattle.pnp_model.specs.States.{activity_at, device_of, drop_task, enable_path, node_of, relist, set_operation, unplug, with_core}
 use Rattle.pnp_model.specs.Tasks.{begin_step, disable_task, install_best, list_step, rebalance_idle, rebalance_task, start_step}
@@ -35,7 +35,7 @@ use Rattle.pnp_model.specs.Tests.{has, has_same, is_eject}
 use Rattle.pnp_model.specs.Trees.{leaving}
 use Rattle.pnp_model.specs.Walks.{is_bad}
 use Rattle.pnp_laws.specs.Words.{IsWord, is_removal}
-use Rattle.pnp_laws.specs.Effects.{BeginsFor, OpEffect, PathEffect, begun}
+use Rattle.pnp_laws.specs.Effects.{BeginsFor, OpEffect, PathEffect, Turn, begun}
 use Rattle.pnp_laws.specs.Kept.{Ascending, Distinct, IsGood, OperationFits}
 use Rattle.pnp_laws.specs.Reached.{IsReached}
 use Rattle.pnp_laws.proofs.EffectsOf.{effect_goes}
@@ -55,6 +55,7 @@ IsFreshAt k nodes disabled = (n : Node) → node_at k nodes ≡ Some n → has_s
 
 -- the target, while it is still to be finished
 abbrev pub FreshIn : Removal → RemovalStage → List Node → List Text → Type 0
+FreshIn o RemovalStage.Next nodes disabled = IsFreshAt o.target nodes disabled
 FreshIn o (RemovalStage.Asking w) nodes disabled = IsFreshAt o.target nodes disabled
 FreshIn o (RemovalStage.TakingBack w) nodes disabled = Unit {0}
 FreshIn o (RemovalStage.Cancelling w) nodes disabled = Unit {0}
@@ -143,6 +144,7 @@ module _ (s : State) (o : Removal) where
 
   removal_fresh : (stage : RemovalStage) (m : RemovalMove) → Ascending 0 s.core.nodes → Distinct o.todo → (is_eject o.kind ≡ false → FreshIn o stage s.core.nodes s.disabled) → RemovalStep s.core o stage m
       → IsTargetFresh (removal_lifted s m).state
+  removal_fresh stage m order distinct h (RemovalStep.declines node first) = cancels s.core.nodes _ s.disabled (record o { refuser = Some node.serial }) o.agreed
   removal_fresh stage m order distinct h (RemovalStep.agrees node w e good) =
       asks s.core.nodes _ s.disabled (record o { agreed = node.serial ∷ o.agreed }) (rest o.todo)
       (λ e. changed_fresh o.target node.serial (with_state RemovePending) s.core.nodes s.disabled (λ n. refl) (λ n. refl) (h e))
@@ -191,6 +193,14 @@ abbrev FreshOf : State → Operation → Type 0
 FreshOf s (Operation.Removing o) = Distinct o.todo × FreshFor o s.core.nodes s.disabled
 FreshOf s _ = ⊥
 
+-- so it is where its next device is taken
+turn_fresh : (s : State) (o p : Operation) → Turn s o p → FreshOf s o → FreshOf s p
+turn_fresh s o _ (Turn.same _) h = h
+turn_fresh s _ _ (Turn.queries o node is first asked) h = (h.0, λ e. subst (λ (x : RemovalStage). FreshIn o x s.core.nodes s.disabled) is (h.1 e))
+turn_fresh s _ _ (Turn.removes o node d ds is first goes stack) h = absurd h
+turn_fresh s _ _ (Turn.settles o node is first goes stack) h = absurd h
+turn_fresh s _ _ (Turn.finishes f k node is ready at) h = absurd h
+
 operation_fresh : (s : State) (o : Operation) (step : Step) → Ascending 0 s.core.nodes → FreshOf s o → OperationStep s o step → IsTargetFresh step.state
 operation_fresh s p step order h (OperationStep.asks (Operation.Removing o) node w asks) = answer_fresh s.core.nodes s.disabled (reply s.core node w) (Operation.Removing o) h.1
 operation_fresh s p step order h (OperationStep.removes o stage m is x) = removal_fresh s o stage m order h.0 (subst (λ (y : RemovalStage). is_eject o.kind ≡ false → FreshIn o y s.core.nodes s.disabled) is h.1) x
@@ -215,7 +225,8 @@ step_fresh settings s label t good (OpEffect.begins kind node none alone at fits
 step_fresh settings s label t good (OpEffect.goes (Operation.Removing o) p runs now work prints) goes h =
     let keeps = subst (λ (x : Option Operation). OperationFits x s.core.nodes) runs good.fits in
     let fresh = subst (λ (x : Option Operation). FreshWhile x s.core.nodes s.disabled) runs h in
-    operation_fresh s (Operation.Removing o) (record { label = label; state = t }) good.serials (keeps.todo, fresh) (operation_step settings s (Operation.Removing o) (record { label = label; state = t }) runs goes)
+    let taken = operation_step settings s (Operation.Removing o) (record { label = label; state = t }) runs goes in
+    operation_fresh s taken.now (record { label = label; state = t }) good.serials (turn_fresh s (Operation.Removing o) taken.now taken.turn (keeps.todo, fresh)) taken.is
 step_fresh settings s label t good (OpEffect.ends o result runs now prints by over) goes h = none_fresh t now
 step_fresh settings s label t good (OpEffect.goes _ p runs now work prints) goes h = other_fresh t p now work.sort
 
@@ -241,6 +252,7 @@ fewer_fresh : (nodes : List Node) (old new : List Text) → IsFewer old new → 
 fewer_fresh nodes old new fewer (Some (Operation.Removing o)) h = λ e. by_stage o.stage (h e)
   where
     by_stage : (stage : RemovalStage) → FreshIn o stage nodes old → FreshIn o stage nodes new
+    by_stage RemovalStage.Next g = λ n at. fewer n.path (g n at)
     by_stage (RemovalStage.Asking w) g = λ n at. fewer n.path (g n at)
     by_stage (RemovalStage.TakingBack w) g = tt
     by_stage (RemovalStage.Cancelling w) g = tt
@@ -268,6 +280,7 @@ goes_fresh : (settings : Settings) (rack : List Driver) (old : State) (entry : E
 goes_fresh settings rack old (Happens event label) new reached h goes = subst (λ (x : Step). IsTargetFresh x.state) goes.1 (event_fresh old event h)
 goes_fresh settings rack old (Did label) new reached h goes =
     step_fresh settings old label new (reached_is_good settings rack old reached) (effect_goes settings old (Did label) new goes).operation goes h
+goes_fresh settings rack old (Declines label) new reached h goes = subst (λ (x : State). IsTargetFresh x) (sym goes.dropped) h
 
 pub target_fresh : (settings : Settings) (rack : List Driver) (entries : List Entry) (s : State) → Reaches settings rack entries s → IsTargetFresh s
 target_fresh settings rack entries s run = kept IsTargetFresh settings rack (goes_fresh settings rack) tt s (entries, run)

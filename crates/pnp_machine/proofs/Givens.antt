@@ -4,16 +4,18 @@ use Rattle.std.proofs.Common.{Contains, ℕ, ◌==◌, Bool, cond, suc, ◌<◌,
 use Rattle.resource_reqs.specs.Resources.{Res, Reqs, Whole}
 use Rattle.pnp_labels.specs.declared.label.Label.{Label}
 use Rattle.pnp_labels.specs.declared.states.DevState.{DevState}
-use Rattle.pnp_labels.specs.declared.states.DevState.TheVariants.{NotStarted}
+use Rattle.pnp_labels.specs.declared.states.DevState.TheVariants.{NoStack, NotStarted, Started, StopPending, Stopped, RemovePending, SurpriseRemoved}
 use Rattle.pnp_model.specs.Keyed.{changed_first}
-use Rattle.pnp_model.specs.Records.{Node, Core, Driver, Activity, Phase, State, Step, Settings, Operation, Rebalance, Removal, Surprise, Doing}
+use Rattle.pnp_model.specs.Records.{Node, Core, Driver, Activity, Phase, State, Step, Settings, Operation, Rebalance, Removal, Surprise, Finish, Doing}
 use Rattle.pnp_model.specs.Records.Phase.{Adding, Searching, Starting, Removing, Due}
 use Rattle.pnp_model.specs.Cores.{is_node, node_at, bare, forget, serials_of}
+use Rattle.pnp_model.specs.Handles.{was_told}
 use Rattle.pnp_model.specs.Laws.{Reaches, is_up_to_now}
 use Rattle.pnp_model.specs.Machine.{is_waiting, next, next_of, operation_next, operation_walk}
 use Rattle.pnp_model.specs.Rebalances.{reqs_after}
 use Rattle.pnp_model.specs.Runs.{Entry, Goes, printed}
 use Rattle.pnp_model.specs.States.{activity_at}
+use Rattle.pnp_model.specs.Tests.{is_surprise_removed}
 use Rattle.pnp_laws.specs.Kept.{Alone, Ascending, Fits, IsGood, OperationFits, RebalanceKeeps, TargetFits, is_idle}
 use Rattle.pnp_laws.specs.Quiet.{RestsWith}
 use Rattle.pnp_laws.specs.Reached.{IsReached}
@@ -33,7 +35,9 @@ use Rattle.device_holdings.specs.MapRows.{IsOrderly}
 use Rattle.query_remove.specs.Steps as query
 use Rattle.query_remove.proofs.Given.{removal_ready}
 use Rattle.surprise_remove.specs.Steps as surprise
+use Rattle.surprise_remove.specs.FinishSteps as finish
 use Rattle.surprise_remove.proofs.Given.{surprise_ready}
+use Rattle.surprise_remove.proofs.FinishGiven.{finish_ready}
 use Rattle.pnp_machine.proofs.Related.{related_up, no_relations}
 
 -- The root needs nothing and holds nothing ---------------------------------------------------
@@ -81,6 +85,28 @@ ascends : (low : ℕ) (nodes : List Node) → Ascending low nodes → Ascends lo
 ascends low [] h = tt
 ascends low (n ∷ nodes) h = (h.0, subst (λ (k : ℕ). Ascends k (serials_of nodes)) (sym (add-one n.serial)) (ascends (suc n.serial) nodes h.1))
 
+-- The device of a start was never up -----------------------------------------------------------
+
+waits_idle : (x : DevState) → x ≡ NotStarted → is_idle x ≡ true
+waits_idle x e = ap is_idle e
+
+fits_idle : (phase : Phase) (x : DevState) → Fits phase x → is_idle x ≡ true
+fits_idle (Adding []) x h = waits_idle x h
+fits_idle (Adding (d ∷ drivers)) x h = h
+fits_idle Searching x h = waits_idle x h
+fits_idle (Starting w) x h = waits_idle x h
+fits_idle (Removing w) x h = waits_idle x h
+fits_idle (Due problem) x h = h
+
+idle_untold : (x : DevState) → is_idle x ≡ true → is_surprise_removed x ≡ false
+idle_untold NoStack h = refl
+idle_untold NotStarted h = refl
+idle_untold Started h = absurd (cc)
+idle_untold StopPending h = absurd (cc)
+idle_untold Stopped h = absurd (cc)
+idle_untold RemovePending h = absurd (cc)
+idle_untold SurpriseRemoved h = absurd (cc)
+
 -- What each step needs -----------------------------------------------------------------------
 
 module _ (settings : Settings) (rack : List Driver) (entries : List Entry) (s : State) (run : Reaches settings rack entries s) where
@@ -119,9 +145,14 @@ module _ (settings : Settings) (rack : List Driver) (entries : List Entry) (s : 
   pub removal_goes : (o : Removal) → s.operation ≡ Some (Operation.Removing o) → query.HasNext s.core.nodes o o.stage × query.SettlesStripped s.core.nodes o o.stage
   removal_goes o runs = removal_ready s o (reaches_kept settings rack entries s run) (all_hold_whole settings rack entries s run) runs
 
-  -- likewise a surprise removal
-  pub surprise_goes : (o : Surprise) → s.operation ≡ Some (Operation.Surprising o) → surprise.HasNext s.core.nodes o o.stage × surprise.SettlesStripped s.core.nodes o o.stage
-  surprise_goes o runs = surprise_ready s o (reaches_kept settings rack entries s run) (all_hold_whole settings rack entries s run) runs
+  -- likewise a surprise removal, where what depends on the device directly tells whether it stays behind
+  pub surprise_goes : (o : Surprise) → s.operation ≡ Some (Operation.Surprising o)
+      → surprise.HasNext s.core.nodes o o.stage × surprise.DirectSays s.core.nodes s.core.relations o o.stage × surprise.SettlesStripped s.core.nodes s.core.relations o s.handles o.stage
+  surprise_goes o runs = surprise_ready s o s.handles (reaches_kept settings rack entries s run) (all_hold_whole settings rack entries s run) runs
+
+  -- and the end of surprise removals
+  pub finish_goes : (f : Finish) → s.operation ≡ Some (Operation.Finishing f) → finish.HasCurrent s.core.nodes f f.stage × finish.LeavesStripped s.core.nodes f f.stage
+  finish_goes f runs = finish_ready s f (reaches_kept settings rack entries s run) (all_hold_whole settings rack entries s run) runs
 
   -- the device of a start is there, and not the root
   pub start_there : (k : ℕ) (a : Activity) → activity_at k s.activities ≡ Some a → (n : Node) × (node_at k s.core.nodes ≡ Some n) × (k ≢ 0) × Fits a.phase n.state
@@ -132,17 +163,10 @@ module _ (settings : Settings) (rack : List Driver) (entries : List Entry) (s : 
   start_unrelated k a at =
       let (n, there, up, fits) = start_there k a at in
       no_relations s.core k n (related_up settings rack entries s run) there (fits_idle a.phase n.state fits)
-    where
-      waits_idle : (x : DevState) → x ≡ NotStarted → is_idle x ≡ true
-      waits_idle x e = ap is_idle e
 
-      fits_idle : (phase : Phase) (x : DevState) → Fits phase x → is_idle x ≡ true
-      fits_idle (Adding []) x h = waits_idle x h
-      fits_idle (Adding (d ∷ drivers)) x h = h
-      fits_idle Searching x h = waits_idle x h
-      fits_idle (Starting w) x h = waits_idle x h
-      fits_idle (Removing w) x h = waits_idle x h
-      fits_idle (Due problem) x h = h
+  -- nor was it told that it has gone
+  pub start_untold : (k : ℕ) (a : Activity) → activity_at k s.activities ≡ Some a → was_told (node_at k s.core.nodes) ≡ false
+  start_untold k a at = let (n, there, up, fits) = start_there k a at in ap was_told there ∙ idle_untold n.state (fits_idle a.phase n.state fits)
 
   -- while an operation runs, no device starts
   pub alone : (o : Operation) → s.operation ≡ Some o → s.activities ≡ []

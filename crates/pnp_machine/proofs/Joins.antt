@@ -6,7 +6,7 @@ use Rattle.device_ids.specs.Folding.{same}
 use Rattle.resource_reqs.specs.Resources.{Res, Reqs}
 use Rattle.pnp_labels.specs.Texts.{Text}
 use Rattle.pnp_model.specs.Cores.{node_at, new_node, fresh_node}
-use Rattle.pnp_model.specs.Records.{Device, Node, Relation, Window}
+use Rattle.pnp_model.specs.Records.{Device, Handle, Node, Relation, Window}
 use Rattle.pnp_model.specs.States.{device_born, is_in_world}
 use Rattle.pnp_model.specs.Windows.{clip}
 use Rattle.pnp_model.specs.Tasks.{joins, joining, has_born, has_path}
@@ -44,26 +44,15 @@ joins_same over nodes nodes' d e =
     (born_by d.born nodes' ∙ ap (list_any (λ i. i.born == d.born)) e ∙ sym (born_by d.born nodes))
     (path_by d.path nodes' ∙ ap (list_any (λ i. same i.path d.path)) e ∙ sym (path_by d.path nodes))
 
-here_same : (k : ℕ) (ds : List Device) (nodes nodes' : List Node) → identities nodes' ≡ identities nodes → AllByRecursion (IsHere k ds) nodes → AllByRecursion (IsHere k ds) nodes'
-here_same k ds [] [] e all = tt
-here_same k ds [] (n ∷ ns) e all = absurd (cc)
-here_same k ds (m ∷ ms) [] e all = absurd (cc)
-here_same k ds (m ∷ ms) (n ∷ ns) e all =
-    let head : identity n ≡ identity m = cc in
-    let tail : identities ns ≡ identities ms = cc in (
-      subst (λ (i : Identity). (i.parent == k && not (i.serial == 0)) ≡ true → is_in_world ds i.born ≡ true) (sym head) all.0,
-      here_same k ds ms ns tail all.1,
-    )
-
 -- a step that leaves who a node is
-pub kept_acted : (w : World) (t t' : Tree) (reserved : List Res) (arbiters arbiters' : Arbiters) (over from : ℕ) (whole : Option ℕ) → IsKept w t reserved arbiters over from whole → identities t'.nodes ≡ identities t.nodes
-    → Mirrors reserved t'.nodes arbiters' → IsKept w t' reserved arbiters' over from whole
-kept_acted w t t' reserved arbiters arbiters' over from whole kept e mirrors =
+pub kept_acted : (w : World) (t t' : Tree) (reserved : List Res) (arbiters arbiters' : Arbiters) (over from : ℕ) (whole whole' : Option ℕ) → IsKept w t reserved arbiters over from whole → identities t'.nodes ≡ identities t.nodes
+    → ((k : ℕ) → whole' ≡ Some k → AllByRecursion (IsHere k w.devices) t'.nodes) → Mirrors reserved t'.nodes arbiters' → IsKept w t' reserved arbiters' over from whole'
+kept_acted w t t' reserved arbiters arbiters' over from whole whole' kept e here mirrors =
     record {
       listed =
           all_of (NotJoining over from t.nodes) (NotJoining over from t'.nodes) (λ d h less. joins_same over t.nodes t'.nodes d e ∙ h less) w.devices kept.listed;
       within = kept.within;
-      here = λ k is. here_same k w.devices t.nodes t'.nodes e (kept.here k is);
+      here = here;
       mirrors = mirrors;
     }
 
@@ -259,12 +248,12 @@ pub record JoinsAt (w : World) (t : Tree) (k born : ℕ) : Type 0 where
   pub there : node_at k t.nodes ≡ Some node
   pub joining : Joining w t node.born born
 
-pub joins_at : (w : World) (t : Tree) (relations : List Relation) (reserved : List Res) (windows : List Window) (ds : Devices) (k born : ℕ) → record { world = w; tree = t; relations = relations; reserved = reserved; windows = windows } ≡ ds → IsWorld w
+pub joins_at : (w : World) (t : Tree) (relations : List Relation) (reserved : List Res) (windows : List Window) (handles : List Handle) (ds : Devices) (k born : ℕ) → record { world = w; tree = t; relations = relations; reserved = reserved; windows = windows; handles = handles } ≡ ds → IsWorld w
     → Some born ≡ joins_next (node_at k ds.tree.nodes) ds → JoinsAt w t k born
-joins_at w t relations reserved windows ds k born e h next =
+joins_at w t relations reserved windows handles ds k born e h next =
     by_node (node_at k t.nodes) refl (subst (λ (x : Devices). Some born ≡ joins_next (node_at k x.tree.nodes) x) (sym e) next)
   where
-    by_node : (o : Option Node) → node_at k t.nodes ≡ o → Some born ≡ joins_next o (record { world = w; tree = t; relations = relations; reserved = reserved; windows = windows }) → JoinsAt w t k born
+    by_node : (o : Option Node) → node_at k t.nodes ≡ o → Some born ≡ joins_next o (record { world = w; tree = t; relations = relations; reserved = reserved; windows = windows; handles = handles }) → JoinsAt w t k born
     by_node None at n = absurd (cc)
     by_node (Some node) at n = record { node = node; there = at; joining = joining_of w t node.born born h n }
 
@@ -307,9 +296,9 @@ module _ (w : World) (t t' : Tree) (k born serial : ℕ) (j : JoinsAt w t k born
       (subst (λ (x : Tree). IsKept w x reserved arbiters j.node.born (born + 1) whole) (sym tree_is)
       (kept_joined w t reserved arbiters j.node.born (cond (j.node.born == last) from 0) t.next j.node.serial born whole h (kept_at w t reserved arbiters last from j.node.born whole kept) j.joining (reqs_below j.node.serial)))
 
-  module _ (relations : List Relation) (reserved : List Res) where
+  module _ (relations : List Relation) (reserved : List Res) (handles : List Handle) where
     abbrev a_devices : Tree → Devices
-    a_devices x = record { world = w; tree = x; relations = relations; reserved = reserved; windows = windows }
+    a_devices x = record { world = w; tree = x; relations = relations; reserved = reserved; windows = windows; handles = handles }
 
     pub joined_is : (ds ds' : Devices) (path : Text) → a_devices t ≡ ds → ds' ≡ a_devices t' → path ≡ d.path → JoinedFor (node_at k ds.tree.nodes) (Some (serial, path)) ds ds'
     joined_is ds ds' path e e' path_is =

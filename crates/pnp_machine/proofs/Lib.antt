@@ -11,6 +11,7 @@ pub mod Givens
 pub mod Arrivals
 pub mod Departures
 pub mod Joins
+pub mod OneNode
 pub mod RunLaws
 pub mod Groups
 pub mod Turns

@@ -6,9 +6,10 @@ use Rattle.pnp_labels.specs.declared.label.Label.{Label}
 use Rattle.pnp_labels.specs.declared.label.RemoveStep.{RemoveStep}
 use Rattle.pnp_labels.specs.declared.label.RemoveStep.TheVariants as removes
 use Rattle.pnp_model.specs.Machine.{Steps, operation_walk, is_waiting}
-use Rattle.pnp_model.specs.Records.{Core, Driver, Activity, Operation, Rebalance, Removal, Surprise, State, Settings, Task}
+use Rattle.pnp_model.specs.Records.{Core, Driver, Activity, Operation, Rebalance, Removal, Surprise, Finish, State, Settings, Task}
 use Rattle.pnp_model.specs.Removals.{RemovalMove, removed}
 use Rattle.pnp_model.specs.Surprises.{SurpriseMove}
+use Rattle.pnp_model.specs.Finishes.{FinishMove}
 use Rattle.pnp_model.specs.States.{activity_at}
 use Rattle.pnp_laws.proofs.JoinMachine.{reaches_born}
 use Rattle.pnp_laws.proofs.Lists.{head_found}
@@ -20,16 +21,17 @@ use Rattle.rebalance.proofs.Given.{rebalance_ready}
 use Rattle.operation_frame.specs.Nodes.{IsStripped}
 use Rattle.query_remove.specs.Steps as query
 use Rattle.surprise_remove.specs.Steps as surprise
+use Rattle.surprise_remove.specs.FinishSteps as finish
 use Rattle.pnp_machine.specs.Devices.{Devices}
 use Rattle.pnp_machine.specs.Machines.{state_of, beside, label_of, IsNoRoot, IsNew, IsNewPath, IsTurn, settled_path, settled_in}
 use Rattle.pnp_machine.specs.Managers.{IsOfRun}
 use Rattle.pnp_machine.specs.Operations.{IsRebalance, IsRemoving, IsTarget, MayRebalance, MayRemove, RebalancesBy, RemovesBy}
 use Rattle.pnp_machine.specs.declared.turn.Turn.TheVariants as turns
 use Rattle.pnp_machine.proofs.Fresh.{settles_new}
-use Rattle.pnp_machine.proofs.Givens.{alone, removal_goes, surprise_goes}
+use Rattle.pnp_machine.proofs.Givens.{alone, removal_goes, surprise_goes, finish_goes}
 use Rattle.pnp_machine.proofs.RebalanceSteps as moved
 use Rattle.pnp_machine.proofs.RebalanceSteps.{rebalance_done}
-use Rattle.pnp_machine.proofs.RemoveSteps.{Settles, disables, ejects, settled_is, removal_done, surprise_done}
+use Rattle.pnp_machine.proofs.RemoveSteps.{Settles, disables, ejects, settled_is, removal_done, surprise_done, finish_done}
 use Rattle.pnp_machine.proofs.Turns.{operate_moves}
 
 -- What a step needs -----------------------------------------------------------------------
@@ -48,14 +50,17 @@ module _ (s : State) (run : IsOfRun s) (turn : IsTurn turns.Operate s) where
       (rebalance_ready s r (reaches_kept run.told run.rack run.entries s run.reaches) runs, awake_is s (Operation.Rebalancing r) turn runs)
   may_rebalance _ runs sort = absurd sort
 
-  pub may_remove : (o : Operation) → s.operation ≡ Some o → IsRemoving (Some o) → MayRemove s.core.nodes o
+  pub may_remove : (o : Operation) → s.operation ≡ Some o → IsRemoving (Some o) → MayRemove s.core.nodes s.core.relations s.handles o
   may_remove (Operation.Rebalancing r) runs sort = absurd sort
   may_remove (Operation.Removing o) runs sort =
       let goes = removal_goes run.told run.rack run.entries s run.reaches o runs in
       (goes.0, goes.1, awake_is s (Operation.Removing o) turn runs)
   may_remove (Operation.Surprising o) runs sort =
       let goes = surprise_goes run.told run.rack run.entries s run.reaches o runs in
-      (goes.0, goes.1, awake_is s (Operation.Surprising o) turn runs)
+      (goes.0, goes.1, goes.2, awake_is s (Operation.Surprising o) turn runs)
+  may_remove (Operation.Finishing f) runs sort =
+      let goes = finish_goes run.told run.rack run.entries s run.reaches f runs in
+      (goes.0, goes.1, awake_is s (Operation.Finishing f) turn runs)
 
 -- while it runs no device starts
 pub none_starts : (s : State) → IsOfRun s → (o : Operation) → s.operation ≡ Some o → (k : ℕ) (works : List Activity) → works ≡ s.activities → activity_at k works ≡ None
@@ -73,29 +78,29 @@ module _ (s : State) (run : IsOfRun s) (o : Removal) (runs : s.operation ≡ Som
       let at = (head_found s.core.nodes o.todo h.node h.first).1 in
       stripped.0.no_root ((reaches_born run.told run.rack run.entries s run.reaches).first h.node.serial h.node at (sym own ∙ zero))
 
-  removal_no_root : (step : RemoveStep) → query.MovedBy (removed s.core o) step c' o' → IsNoRoot step
-  removal_no_root step h = by_move (removed s.core o) refl step h
+  removal_no_root : (step : RemoveStep) → query.MovedBy (removed s.core o s.handles) step c' o' → IsNoRoot step
+  removal_no_root step h = by_move (removed s.core o s.handles) refl step h
     where
-      by_move : (x : Option RemovalMove) → removed s.core o ≡ x → (step : RemoveStep) → query.MovedBy x step c' o' → IsNoRoot step
+      by_move : (x : Option RemovalMove) → removed s.core o s.handles ≡ x → (step : RemoveStep) → query.MovedBy x step c' o' → IsNoRoot step
       by_move None e step h = absurd h
       by_move (Some m) e (removes.Did label) h = tt
       by_move (Some m) e (removes.Left label path born) h = tt
       by_move (Some m) e (removes.Disabled label) h = tt
       by_move (Some m) e (removes.Ejected label path born) (b, l, c, f) =
-          let settled = ejects s.core o m path born e b in
+          let settled = ejects s.core o s.handles m path born e b in
           settled_born m born settled (settled.ejects path born b)
       by_move (Some m) e (removes.Over label) h = tt
 
   -- a path that is disabled was not
-  removal_new : (step : RemoveStep) (settled : Option Text) → settled ≡ settled_path o s.core.nodes → query.MovedBy (removed s.core o) step c' o' → IsNew step settled s.disabled
-  removal_new step settled set h = by_move (removed s.core o) refl step h
+  removal_new : (step : RemoveStep) (settled : Option Text) → settled ≡ settled_path o s.core.nodes → query.MovedBy (removed s.core o s.handles) step c' o' → IsNew step settled s.disabled
+  removal_new step settled set h = by_move (removed s.core o s.handles) refl step h
     where
-      by_move : (x : Option RemovalMove) → removed s.core o ≡ x → (step : RemoveStep) → query.MovedBy x step c' o' → IsNew step settled s.disabled
+      by_move : (x : Option RemovalMove) → removed s.core o s.handles ≡ x → (step : RemoveStep) → query.MovedBy x step c' o' → IsNew step settled s.disabled
       by_move None e step h = absurd h
       by_move (Some m) e (removes.Did label) h = tt
       by_move (Some m) e (removes.Left label path born) h = tt
       by_move (Some m) e (removes.Disabled label) (path, b, shows, l, c, f) =
-          let h = disables s.core o m path e b in
+          let h = disables s.core o s.handles m path e b in
           let is = h.disables path b in
           let own = set ∙ settled_is s.core o m.beside h in
           subst (λ x. IsNewPath x s.disabled) (sym own)
@@ -120,6 +125,23 @@ module _ (o' : Surprise) (c' : Core) where
   surprise_new (Some m) (removes.Ejected label path born) settled paths h = tt
   surprise_new (Some m) (removes.Over label) settled paths h = tt
 
+module _ (f' : Finish) (c' : Core) where
+  finish_no_root : (x : Option FinishMove) (step : RemoveStep) → finish.MovedBy x step c' f' → IsNoRoot step
+  finish_no_root None step h = absurd h
+  finish_no_root (Some m) (removes.Did label) h = tt
+  finish_no_root (Some m) (removes.Left label path born) h = tt
+  finish_no_root (Some m) (removes.Disabled label) h = tt
+  finish_no_root (Some m) (removes.Ejected label path born) h = absurd h
+  finish_no_root (Some m) (removes.Over label) h = tt
+
+  finish_new : (x : Option FinishMove) (step : RemoveStep) (settled : Option Text) (paths : List Text) → finish.MovedBy x step c' f' → IsNew step settled paths
+  finish_new None step settled paths h = absurd h
+  finish_new (Some m) (removes.Did label) settled paths h = tt
+  finish_new (Some m) (removes.Left label path born) settled paths h = tt
+  finish_new (Some m) (removes.Disabled label) settled paths h = absurd h
+  finish_new (Some m) (removes.Ejected label path born) settled paths h = tt
+  finish_new (Some m) (removes.Over label) settled paths h = tt
+
 module _ (ds ds' : Devices) (rack rack' : List Driver) (disabled : List Text) (works : List Activity) (tasks : List Task) (o o' : Operation) (s : State)
     (is : state_of ds rack disabled works (Some o) tasks ≡ s) where
   runs : s.operation ≡ Some o
@@ -131,6 +153,7 @@ module _ (ds ds' : Devices) (rack rack' : List Driver) (disabled : List Text) (w
       by_kind : (o o' : Operation) → IsOfRun (state_of ds rack disabled works (Some o) tasks) → RemovesBy ds rack o step ds' rack' o' → IsNoRoot step
       by_kind (Operation.Removing o) (Operation.Removing o') run h = removal_no_root (state_of ds rack disabled works (Some (Operation.Removing o)) tasks) run o refl _ o' step h.0
       by_kind (Operation.Surprising o) (Operation.Surprising o') run h = surprise_no_root o' _ _ step h.0
+      by_kind (Operation.Finishing f) (Operation.Finishing f') run h = finish_no_root f' _ _ step h.0
       by_kind _ _ run h = absurd h
 
   pub is_new : IsOfRun s → (step : RemoveStep) (settled : Option Text) → settled ≡ settled_in (Some o) ds.tree.nodes → RemovesBy ds rack o step ds' rack' o' → IsNew step settled disabled
@@ -141,6 +164,7 @@ module _ (ds ds' : Devices) (rack rack' : List Driver) (disabled : List Text) (w
       by_kind (Operation.Removing o) (Operation.Removing o') run set h =
           removal_new (state_of ds rack disabled works (Some (Operation.Removing o)) tasks) run o refl _ o' step settled set h.0
       by_kind (Operation.Surprising o) (Operation.Surprising o') run set h = surprise_new o' _ _ step settled disabled h.0
+      by_kind (Operation.Finishing f) (Operation.Finishing f') run set h = finish_new f' _ _ step settled disabled h.0
       by_kind _ _ run set h = absurd h
 
   -- The steps -----------------------------------------------------------------------------
@@ -163,6 +187,10 @@ module _ (ds ds' : Devices) (rack rack' : List Driver) (disabled : List Text) (w
           subst (λ x. Steps settings (state_of ds rack disabled works (Some (Operation.Surprising o)) tasks) (label_of step) (beside step x (state_of ds' rack' disabled works (Some (Operation.Surprising o')) tasks))) (sym set)
           (operate_moves settings (state_of ds rack disabled works (Some (Operation.Surprising o)) tasks) (Operation.Surprising o) refl _ _ awake
           (surprise_done ds ds' rack rack' disabled works tasks h.1 o o' step h.0 settings))
+      by_kind (Operation.Finishing f) (Operation.Finishing f') set awake h =
+          subst (λ x. Steps settings (state_of ds rack disabled works (Some (Operation.Finishing f)) tasks) (label_of step) (beside step x (state_of ds' rack' disabled works (Some (Operation.Finishing f')) tasks))) (sym set)
+          (operate_moves settings (state_of ds rack disabled works (Some (Operation.Finishing f)) tasks) (Operation.Finishing f) refl _ _ awake
+          (finish_done ds ds' rack rack' disabled works tasks h.1 f f' step h.0 settings))
       by_kind _ _ set awake h = absurd h
 
 -- of a rebalance; it runs on, or is over

@@ -8,7 +8,7 @@ use Rattle.pnp_model.specs.Machine.{IsQuiet}
 use Rattle.pnp_model.specs.Records.{Driver, Settings, State, Step}
 use Rattle.pnp_model.specs.Runs.{Entry, Goes, opening, printed}
 use Rattle.pnp_model.specs.Laws.{Reaches}
-use Rattle.pnp_model.specs.Runs.Entry.{Happens, Did}
+use Rattle.pnp_model.specs.Runs.Entry.{Happens, Did, Declines}
 use Rattle.pnp_laws.specs.Ends.{events}
 use Rattle.pnp_laws.specs.Kept.{IsGood}
 use Rattle.pnp_laws.specs.Needs.{IsEntryWithin, IsEventWithin}
@@ -29,6 +29,9 @@ use Rattle.pnp_laws.proofs.RunsStrays.{nobody_is_forgotten}
 use Rattle.pnp_laws.proofs.RunsTold.{states_are_told}
 use Rattle.pnp_laws.proofs.RunsWhole.{all_hold_whole}
 use Rattle.pnp_laws.proofs.RunsWindows.{held_inside_windows}
+use Rattle.pnp_laws.proofs.OpenHandles.{open_handles_fit}
+use Rattle.pnp_laws.proofs.DependentsTold.{dependents_are_told}
+use Rattle.pnp_laws.proofs.RunsReady.{ready_ones_are_due}
 use Rattle.pnp_laws.proofs.TreePrints.{each_node_is_printed_once}
 use Rattle.pnp_machine.specs.Machines.{IsDone, Moves}
 use Rattle.pnp_machine.specs.Ids.{AreFewIds}
@@ -42,15 +45,24 @@ events_more : (xs : List Entry) (event : Event) (label : Label) → events (xs +
 events_more [] event label = refl
 events_more (Happens e l ∷ xs) event label = let more = events_more xs event label in omega arith
 events_more (Did l ∷ xs) event label = events_more xs event label
+events_more (Declines l ∷ xs) event label = events_more xs event label
 
 events_same : (xs : List Entry) (label : Label) → events (xs ++ Did label ∷ []) ≡ events xs
 events_same [] label = refl
 events_same (Happens e l ∷ xs) label = ap (λ n. 1 + n) (events_same xs label)
 events_same (Did l ∷ xs) label = events_same xs label
+events_same (Declines l ∷ xs) label = events_same xs label
+
+events_declined : (xs : List Entry) (label : Label) → events (xs ++ Declines label ∷ []) ≡ events xs
+events_declined [] label = refl
+events_declined (Happens e l ∷ xs) label = ap (λ n. 1 + n) (events_declined xs label)
+events_declined (Did l ∷ xs) label = events_declined xs label
+events_declined (Declines l ∷ xs) label = events_declined xs label
 
 events_on : (xs : List Entry) (entry : Entry) → events (xs ++ entry ∷ []) ≡ events xs + events (entry ∷ [])
 events_on xs (Happens event label) = events_more xs event label
 events_on xs (Did label) = let same = events_same xs label in omega arith
+events_on xs (Declines label) = let same = events_declined xs label in omega arith
 
 module _ (told : Settings) (s t : State) where
   more_entries : (rack : List Driver) (xs : List Entry) (entry : Entry) → Reaches told rack xs s → Goes told s entry t → Reaches told rack (xs ++ entry ∷ []) t
@@ -73,6 +85,9 @@ module _ (told : Settings) (s t : State) where
             let count : events h.entries ≡ n = h.count in
             omega arith;
         inside = held_inside_windows told h.rack (h.entries ++ entry ∷ []) t more;
+        handles = open_handles_fit told h.rack (h.entries ++ entry ∷ []) t more;
+        together = dependents_are_told told h.rack (h.entries ++ entry ∷ []) t more;
+        ready = ready_ones_are_due told h.rack (h.entries ++ entry ∷ []) t more;
         states = states_are_told told h.rack h.entries s entry t h.reaches goes;
         first = dependents_go_first told h.rack h.entries s entry t h.reaches goes;
         keyed = keyed told h.rack (h.entries ++ entry ∷ []) t more;

@@ -3,10 +3,10 @@ use Rattle.std.specs.Prelude.{◌≡◌, ℕ, ◌<◌, ◌≤◌, ◌==◌, Bool
 use Rattle.std.specs.List.{AllByRecursion, list_any}
 use Rattle.pnp_labels.specs.Texts.{Text}
 use Rattle.pnp_model.specs.Cores.{new_node, node_at}
-use Rattle.pnp_model.specs.Records.{Device, Node, Relation, Task, Window}
+use Rattle.pnp_model.specs.Records.{Device, Handle, Node, Relation, Task, Window}
 use Rattle.pnp_model.specs.Runs.{root_device, root_node}
 use Rattle.pnp_model.specs.States.{is_in_world, has_below, device_born, device_of, node_born}
-use Rattle.pnp_model.specs.Tests.{is_started}
+use Rattle.pnp_model.specs.Tests.{is_started, is_surprise_removed}
 use Rattle.pnp_model.specs.Tasks.{joins, joining, is_surprise_of}
 use Rattle.pnp_model.specs.Trees.{children, is_child}
 use Rattle.pnp_model.specs.Windows.{clip, is_window_on}
@@ -31,6 +31,7 @@ pub record Devices : Type 0 where
   pub relations : List Relation
   pub reserved : List Res
   pub windows : List Window
+  pub handles : List Handle
 
 -- the root alone, in world and tree
 abbrev pub opening_devices : Devices
@@ -41,18 +42,28 @@ opening_devices =
       relations = [];
       reserved = [];
       windows = [];
+      handles = [];
     }
 
 -- a device that was born before another is not to join below this one
 abbrev pub NotJoining : ℕ → ℕ → List Node → Device → Type 0
 NotJoining over from nodes d = d.born < from → joins over nodes d ≡ false
 
--- a child of a node is in the world
+-- a device was told that it has gone, or is in the world
+abbrev pub is_here : List Device → Node → Bool
+is_here devices n = is_surprise_removed n.state || is_in_world devices n.born
+
+abbrev pub is_here_at : List Device → Option Node → Bool
+is_here_at devices None = false
+is_here_at devices (Some n) = is_here devices n
+
+-- so of a child of a node
 abbrev pub IsHere : ℕ → List Device → Node → Type 0
-IsHere k devices n = is_child k n ≡ true → is_in_world devices n.born ≡ true
+IsHere k devices n = is_child k n ≡ true → is_here devices n ≡ true
 
 -- below the device where one joined last none joins that was born before the one from which on it is looked; each child of
--- the node that is whole is in the world; and the arbiters hold just what is reserved and what devices hold
+-- the node that is whole is in the world or was told that it has gone; and the arbiters hold just what is reserved and what
+-- devices hold
 pub record IsKept (world : World) (tree : Tree) (reserved : List Res) (arbiters : Arbiters) (over from : ℕ) (whole : Option ℕ) : Type 0 where
   pub listed : AllByRecursion (NotJoining over from tree.nodes) world.devices
   pub within : from ≤ world.next
@@ -112,9 +123,10 @@ relisted_device born (Some d) nodes = if d.born == born then None else serial_bo
 abbrev pub relisted : Text → ℕ → Devices → Option ℕ
 relisted path born ds = relisted_device born (device_of path ds.world.devices) ds.tree.nodes
 
--- a child whose birth number is not in the world, without a surprise task
+-- a child that was not told so yet and whose birth number is not in the world, without a surprise task
 abbrev pub is_gone_from : List Device → List Task → Node → Bool
-is_gone_from world tasks n = not (is_in_world world n.born) && not (list_any (is_surprise_of n.serial) tasks)
+is_gone_from world tasks n =
+    not (is_surprise_removed n.state) && (not (is_in_world world n.born) && not (list_any (is_surprise_of n.serial) tasks))
 
 -- the first of them below a node
 abbrev pub gone_below : Devices → List Task → ℕ → Option Node

@@ -2,8 +2,8 @@
 use Rattle.std.specs.Prelude.{◌≡◌, ℕ, List, [], ◌∷◌, ◌++◌, Option, Some, map, length, slice_index}
 use Rattle.pnp_labels.specs.Texts.{Text}
 use Rattle.pnp_model.specs.Cores.{node_at, core_of}
-use Rattle.pnp_model.specs.Records.{Node, Driver, Walk, Activity, Operation}
-use Rattle.pnp_model.specs.Endings.{joined, tree_line, outstanding_line, activity_rows, operation_rows, walk_row}
+use Rattle.pnp_model.specs.Records.{Node, Driver, Handle, Walk, Activity, Operation}
+use Rattle.pnp_model.specs.Endings.{joined, tree_line, outstanding_line, activity_rows, operation_rows, walk_row, handle_line, handles_part}
 use Rattle.pnp_model.specs.Books.{name_of}
 use Rattle.pnp_model.specs.Walks.{place_of}
 use Rattle.pnp_labels.specs.Texts.{spaced, minor_text}
@@ -30,3 +30,10 @@ works_lines nodes rack works = joined (map (outstanding_line (core_of nodes [] r
 
 abbrev pub operation_lines : List Node → List Driver → Option Operation → Text
 operation_lines nodes rack operation = joined (map (outstanding_line (core_of nodes [] rack [])) (operation_rows operation))
+
+-- the lines of handles, without and with the word above them
+abbrev pub handle_lines : List Node → List Handle → Text
+handle_lines nodes handles = joined (map (handle_line (core_of nodes [] [] [])) handles)
+
+abbrev pub handles_lines : List Node → List Handle → Text
+handles_lines nodes handles = joined (handles_part (core_of nodes [] [] []) handles)

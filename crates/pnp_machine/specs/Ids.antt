@@ -4,7 +4,7 @@ use Rattle.std.specs.List.{AllByRecursion}
 use Rattle.pnp_labels.specs.Texts.{Text}
 use Rattle.pnp_model.specs.Records.{Device, Node, State}
 use Rattle.pnp_model.specs.Runs.{Entry}
-use Rattle.pnp_model.specs.Runs.Entry.{Happens, Did}
+use Rattle.pnp_model.specs.Runs.Entry.{Happens, Did, Declines}
 use Rattle.pnp_machine.specs.Machines.{HasFewIds}
 
 -- at most 64 hardware IDs and 64 compatible ones
@@ -25,3 +25,4 @@ AreFewIds s = AllByRecursion IsFewNode s.core.nodes × AllByRecursion IsFewDevic
 abbrev pub IsFewEntry : Entry → Type 0
 IsFewEntry (Happens event label) = HasFewIds event
 IsFewEntry (Did label) = Unit {0}
+IsFewEntry (Declines label) = Unit {0}

@@ -44,6 +44,7 @@ state_of devices rack disabled works operation tasks =
       operation = operation;
       tasks = tasks;
       windows = devices.windows;
+      handles = devices.handles;
     }
 
 -- what was printed and what is there now are those of the step

@@ -2,22 +2,25 @@
 use Rattle.std.specs.Prelude.{◌≡◌, ℕ, false, List, Option, Some, None}
 use Rattle.pnp_labels.specs.declared.label.RemoveStep.{RemoveStep}
 use Rattle.pnp_model.specs.Cores.{node_at}
-use Rattle.pnp_model.specs.Machine.{is_waiting, is_born, rebalance_walk, removal_walk, surprise_walk}
+use Rattle.pnp_model.specs.Frames.{first_node}
+use Rattle.pnp_model.specs.Machine.{is_waiting, is_born, rebalance_walk, removal_walk, surprise_walk, finish_walk}
 use Rattle.pnp_model.specs.Records as machines
-use Rattle.pnp_model.specs.Records.{Node, Driver}
+use Rattle.pnp_model.specs.Records.{Node, Driver, Handle, Relation}
 use Rattle.rebalance.specs.Steps as rebalances
 use Rattle.rebalance.specs.declared.next.RebalanceStep.{RebalanceStep}
 use Rattle.query_remove.specs.Steps as removes
 use Rattle.surprise_remove.specs.Steps as surprises
+use Rattle.surprise_remove.specs.FinishSteps as finishes
 use Rattle.pnp_machine.specs.Devices.{Devices}
-use Rattle.pnp_machine.specs.Doings.{Rebalances, Removes, Surprises}
+use Rattle.pnp_machine.specs.Doings.{Rebalances, Removes, Surprises, Finishes}
 use Rattle.pnp_machine.specs.declared.operation.Operation.{Operation}
-use Rattle.pnp_machine.specs.declared.operation.Operation.TheVariants.{Rebalancing, Removing, Surprising}
+use Rattle.pnp_machine.specs.declared.operation.Operation.TheVariants.{Rebalancing, Removing, Surprising, Finishing}
 
 abbrev pub operation_of : Operation → machines.Operation
 operation_of (Rebalancing r) = machines.Operation.Rebalancing r
 operation_of (Removing o) = machines.Operation.Removing o
 operation_of (Surprising o) = machines.Operation.Surprising o
+operation_of (Finishing f) = machines.Operation.Finishing f
 
 -- a rebalance runs
 abbrev pub IsRebalance : machines.Operation → Type 0
@@ -45,12 +48,15 @@ MayRebalance nodes (machines.Operation.Rebalancing r) = rebalances.HasNext nodes
 MayRebalance nodes _ = ⊥
 
 -- it removes devices and does not wait, the device that is next is there, and one that is settled may leave
-abbrev pub MayRemove : List Node → machines.Operation → Type 0
-MayRemove nodes (machines.Operation.Rebalancing r) = ⊥
-MayRemove nodes (machines.Operation.Removing o) =
+abbrev pub MayRemove : List Node → List Relation → List Handle → machines.Operation → Type 0
+MayRemove nodes relations handles (machines.Operation.Rebalancing r) = ⊥
+MayRemove nodes relations handles (machines.Operation.Removing o) =
     removes.HasNext nodes o o.stage × removes.SettlesStripped nodes o o.stage × (is_waiting (removal_walk o.stage) ≡ false)
-MayRemove nodes (machines.Operation.Surprising o) =
-    surprises.HasNext nodes o o.stage × surprises.SettlesStripped nodes o o.stage × (is_waiting (surprise_walk o.stage) ≡ false)
+MayRemove nodes relations handles (machines.Operation.Surprising o) =
+    surprises.HasNext nodes o o.stage × surprises.DirectSays nodes relations o o.stage × surprises.SettlesStripped nodes relations o handles o.stage
+    × (is_waiting (surprise_walk o.stage) ≡ false)
+MayRemove nodes relations handles (machines.Operation.Finishing f) =
+    finishes.HasCurrent nodes f f.stage × finishes.LeavesStripped nodes f f.stage × (is_waiting (finish_walk f.stage) ≡ false)
 
 -- the next step of a rebalance, for this budget
 abbrev pub RebalancesBy : ℕ → Devices → List Driver → machines.Operation → RebalanceStep → Devices → List Driver → machines.Operation → Type 0
@@ -62,4 +68,6 @@ abbrev pub RemovesBy : Devices → List Driver → machines.Operation → Remove
 RemovesBy ds rack (machines.Operation.Removing o) step ds' rack' (machines.Operation.Removing o') = Removes ds rack o step ds' rack' o'
 RemovesBy ds rack (machines.Operation.Surprising o) step ds' rack' (machines.Operation.Surprising o') =
     Surprises ds rack o (is_born ds.world.devices (node_at o.target ds.tree.nodes)) step ds' rack' o'
+RemovesBy ds rack (machines.Operation.Finishing f) step ds' rack' (machines.Operation.Finishing f') =
+    Finishes ds rack f (is_born ds.world.devices (first_node ds.tree.nodes f.todo)) step ds' rack' f'
 RemovesBy ds rack _ step ds' rack' _ = ⊥

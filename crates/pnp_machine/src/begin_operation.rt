@@ -3,12 +3,16 @@ ghost use Rattle.pnp_model.specs.Cores.{node_at};
 ghost use Rattle.pnp_model.specs.Rebalances.{begun_rebalance};
 ghost use Rattle.pnp_model.specs.Records.Duty.{Begins};
 ghost use Rattle.pnp_model.specs.Records as machines;
+ghost use Rattle.pnp_model.specs.Finishes.{begun_finish};
+ghost use Rattle.pnp_model.specs.Handles.{was_told};
 ghost use Rattle.pnp_model.specs.Removals.{begun_removal};
 ghost use Rattle.pnp_model.specs.Surprises.{begun_surprise};
 ghost use Rattle.pnp_model.specs.Tasks.{begin, begin_step, change_task, skip};
 ghost use Rattle.pnp_model.specs.Tests.{operation_word};
+ghost use Rattle.surprise_remove.specs.Ready.{is_ready_at};
 ghost use Rattle.pnp_machine.specs.Machines.{IsDone, DoneFor, can_rebalance, begun_with};
 
+use crate::listing::is_surprise_removed;
 use crate::machine::Machine;
 use crate::operation::Operation;
 use device_ids::WantOfMemory;
@@ -24,6 +28,7 @@ fn word_of(kind: OpKind) -> TaskKind
         OpKind::Disable => TaskKind::Disable,
         OpKind::Eject => TaskKind::Eject,
         OpKind::Surprise => TaskKind::Surprise,
+        OpKind::Finish => TaskKind::Finish,
         OpKind::Change => TaskKind::Change,
     }
 }
@@ -58,6 +63,23 @@ impl<R: Drivers> Machine<R> {
         }
     }
 
+    /// Whether a device is there and was told that it has gone.
+    fn was_told(&self, serial: u64) -> bool
+        ensures { result ≡ was_told (node_at serial self.now.core.nodes) }
+    {
+        match self.devices.tree().node(serial) {
+            Some(node) => is_surprise_removed(node.state),
+            None => false,
+        }
+    }
+
+    /// Whether a device is there and ready to be finished.
+    fn is_ready(&self, serial: u64) -> bool
+        ensures { result ≡ is_ready_at self.now.core self.now.handles (node_at serial self.now.core.nodes) }
+    {
+        self.devices.is_ready(serial)
+    }
+
     /// The rebalance for a device begins.
     fn begin_rebalance(&mut self, serial: u64) -> Result<Label, WantOfMemory>
         requires { IsSome (node_at serial self.old.core.nodes) }
@@ -88,6 +110,16 @@ impl<R: Drivers> Machine<R> {
         Ok(self.run(label, Operation::Surprising(surprise)))
     }
 
+    /// The end of surprise removals begins with a device that is ready.
+    fn begin_finish(&mut self, serial: u64) -> Result<Label, WantOfMemory>
+        requires { IsSome (node_at serial self.old.core.nodes) }
+        ensures done { IfOk result (λ label. DoneFor (node_at serial self.old.core.nodes) (λ n. begin self.old OpKind.Finish n (machines.Operation.Finishing (begun_finish n))) label self.new) }
+        ensures err { OnErr result (self.new ≡ self.old) }
+    {
+        let (label, finish) = self.devices.begin_finish(self.alloc, serial)?;
+        Ok(self.run(label, Operation::Finishing(finish)))
+    }
+
     /// The change of a device begins, or there is nothing to do: the device is not Started, or in the world no more.
     fn begin_change(&mut self, serial: u64) -> Result<Label, WantOfMemory>
         requires { IsSome (node_at serial self.old.core.nodes) }
@@ -116,7 +148,10 @@ impl<R: Drivers> Machine<R> {
             OpKind::Rebalance => Ok(self.skip_begin(kind, serial)),
             OpKind::Disable if self.is_disabled(serial) => Ok(self.skip_begin(kind, serial)),
             OpKind::Disable | OpKind::Eject => self.begin_removal(kind, serial),
+            OpKind::Surprise if self.was_told(serial) => Ok(self.skip_begin(kind, serial)),
             OpKind::Surprise => self.begin_surprise(serial),
+            OpKind::Finish if self.is_ready(serial) => self.begin_finish(serial),
+            OpKind::Finish => Ok(self.skip_begin(kind, serial)),
             OpKind::Change => self.begin_change(serial),
         }
     }

@@ -7,13 +7,14 @@ ghost use Rattle.pnp_model.specs.Cores.{node_at};
 ghost use Rattle.pnp_model.specs.Windows.{clip};
 ghost use Rattle.pnp_model.specs.States.{device_of};
 ghost use Rattle.script_bus.specs.Worlds.{without_device};
-ghost use Rattle.pnp_machine.specs.Devices.{Arrives, Departs, JoinedFor, joins_next, serial_born, relisted, gone_below, has_any_below, is_gone_at, window_refusal, with_window, IsHere, IsTold};
+ghost use Rattle.pnp_machine.specs.Devices.{Arrives, Departs, JoinedFor, joins_next, serial_born, relisted, gone_below, has_any_below, is_gone_at, is_here, is_here_at, window_refusal, with_window, IsHere, IsTold};
 
 use crate::devices::Devices;
+use crate::listing::is_surprise_removed;
 use crate::tasks::Tasks;
 use bridge_windows::{Bridges, WindowError, clip};
 use device_ids::{IdList, InstancePath, Text, WantOfMemory};
-use devnode_tree::{JoinError, Tree};
+use devnode_tree::{JoinError, Node, Tree};
 use pnp_labels::Reason;
 use resource_reqs::{Reqs, Res};
 use script_bus::{Device, PlugError, PullError, next_join};
@@ -230,18 +231,25 @@ impl Devices {
         }
     }
 
-    /// Whether the device of a node is gone from the world and no surprise removal of it is due.
+    /// Whether the device of a node is in the world, or was told that it has gone.
+    fn stays(&self, node: &Node) -> bool
+        ensures { result ≡ is_here self.now.world.devices node.now }
+    {
+        is_surprise_removed(node.state) || self.world.has(node.born)
+    }
+
+    /// Whether the device of a node is gone from the world, was not told so, and no surprise removal of it is due.
     fn is_gone(&self, tasks: &Tasks, serial: u64) -> bool
         ensures gone { result ≡ is_gone_at self.now tasks.now.tasks serial }
         ensures tree { IsTree self.now.tree }
     {
         match self.tree.node(serial) {
-            Some(node) => !self.world.has(node.born) && !tasks.has_surprise(serial),
+            Some(node) => !self.stays(node) && !tasks.has_surprise(serial),
             None => false,
         }
     }
 
-    /// Whether each child of a node is known to be in the world.
+    /// Whether each child of a node is known to be in the world or SurpriseRemoved.
     fn is_whole(&self, serial: u64) -> bool
         ensures { result ≡ true → AllByRecursion (IsHere serial self.now.world.devices) self.now.tree.nodes }
     {
@@ -251,19 +259,30 @@ impl Devices {
         }
     }
 
-    /// Whether a node has children, and each of them is in the world.
+    /// Whether a node is there and its device is in the world or SurpriseRemoved.
+    fn is_here(&self, serial: u64) -> bool
+        ensures here { result ≡ is_here_at self.now.world.devices (node_at serial self.now.tree.nodes) }
+        ensures tree { IsTree self.now.tree }
+    {
+        match self.tree.node(serial) {
+            Some(node) => self.stays(node),
+            None => false,
+        }
+    }
+
+    /// Whether a node has children, and each of them is in the world or SurpriseRemoved.
     fn has_all(&self, serial: u64) -> bool
         ensures { result ≡ true → AllByRecursion (IsHere serial self.now.world.devices) self.now.tree.nodes }
     {
         for child in self.tree.children(serial) {
-            if !self.is_in_world(*child) {
+            if !self.is_here(*child) {
                 return false;
             }
         }
         !self.tree.children(serial).is_empty()
     }
 
-    /// The first child of a node that is gone from the world and has no surprise task.
+    /// The first child of a node that is gone from the world, was not told so and has no surprise task.
     fn first_gone(&self, tasks: &Tasks, serial: u64) -> Option<u64>
         ensures { result ≡ option_map (λ n. n.serial) (gone_below self.now tasks.now.tasks serial) }
     {
@@ -275,7 +294,7 @@ impl Devices {
         None
     }
 
-    /// The first child of a node that is gone from the world and has no surprise task. It takes no memory. Cost: the number of
+    /// The first child of a node that is gone from the world, was not told so and has no surprise task. It takes no memory. Cost: the number of
     /// children; nothing for the node with children for which this was asked last, where none was gone and no device went since.
     pub(crate) fn gone_below(&mut self, tasks: &Tasks, serial: u64) -> Option<u64>
         ensures gone { result ≡ option_map (λ n. n.serial) (gone_below self.old tasks.now.tasks serial) }

@@ -103,7 +103,7 @@ impl<R: Drivers> Machine<R> {
     }
 
     /// The path of a node, as the tree spells it.
-    fn own_path(&self, serial: u64) -> Result<Text, WantOfMemory>
+    pub(crate) fn own_path(&self, serial: u64) -> Result<Text, WantOfMemory>
         requires { IsSome (node_at serial self.now.core.nodes) }
         ensures path { IfOk result (λ path. path ≡ path_of (node_at serial self.now.core.nodes)) }
         ensures order { Ascends 0 (serials_of self.now.core.nodes) }

@@ -12,7 +12,7 @@ ghost use Rattle.pnp_machine.specs.Devices.{opening_devices};
 use bridge_windows::Bridges;
 use device_holdings::{is_in_use, map_rows, reserve};
 use device_ids::WantOfMemory;
-use devnode_tree::Tree;
+use devnode_tree::{Handles, Tree};
 use pnp_labels::RelKind;
 use relations::{RelateError, Relations};
 use resource_reqs::{Owner, Res, ResList};
@@ -22,7 +22,7 @@ use std::marker::Model;
 use trial_journal::Arbiters;
 
 /// The devices of the world, their nodes in the tree, their relations, what is reserved, the arbiters that mirror what is
-/// held, and the windows of bridges. A contract sees all but the arbiters.
+/// held, the windows of bridges, and the handles that are open. A contract sees all but the arbiters.
 #[derive(Drop)]
 pub(crate) struct Devices {
     pub(crate) world: World,
@@ -31,11 +31,12 @@ pub(crate) struct Devices {
     pub(crate) reserved: ResList,
     pub(crate) arbiters: Arbiters,
     pub(crate) bridges: Bridges,
+    pub(crate) handles: Handles,
     /// The device below which one joined last, by its birth number.
     pub(crate) over: u64,
     /// Of its children none that was born before this one is to join.
     pub(crate) from: u64,
-    /// A node of which each child is known to be in the world, if one is.
+    /// A node of which each child is known to be in the world or SurpriseRemoved, if one is.
     pub(crate) whole: Option<u64>,
 }
 
@@ -44,7 +45,7 @@ impl Model for Devices {
 
     ghost Value = { Devices };
 
-    ghost view = { λ d. record { world = d.world; tree = d.tree; relations = d.relations; reserved = d.reserved; windows = d.bridges } };
+    ghost view = { λ d. record { world = d.world; tree = d.tree; relations = d.relations; reserved = d.reserved; windows = d.bridges; handles = d.handles } };
 
     ghost invariant = { λ d. IsKept d.world d.tree d.reserved d.arbiters d.over d.from d.whole };
 }
@@ -61,6 +62,7 @@ impl Devices {
             reserved: ResList::new(alloc),
             arbiters: Arbiters::new(alloc)?,
             bridges: Bridges::new(alloc),
+            handles: Handles::new(alloc),
             over: 0,
             from: 0,
             whole: None,
@@ -72,6 +74,13 @@ impl Devices {
         ensures { result.now ≡ self.now.tree }
     {
         &self.tree
+    }
+
+    /// The handles that are open.
+    pub(crate) fn handles(&self) -> &Handles
+        ensures { result.now ≡ self.now.handles }
+    {
+        &self.handles
     }
 
     /// A member is related to an owner, as `Relations::relate` says.

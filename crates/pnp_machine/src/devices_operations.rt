@@ -1,8 +1,10 @@
-ghost use Rattle.std.specs.Prelude.{◌≡◌, ◌≤◌, ℕ, IfOk, IfSome, OnErr, IsSome, Some, None, Bool, false, length};
+ghost use Rattle.std.specs.Prelude.{◌≡◌, ◌≤◌, ℕ, IfOk, IfSome, OnErr, IsSome, List, Some, None, false, length};
 ghost use Rattle.devnode_tree.specs.Trees.{IsTree};
 ghost use Rattle.pnp_model.specs.Cores.{node_at};
-ghost use Rattle.pnp_model.specs.Machine.{phase_walk, rebalance_walk, removal_walk, surprise_walk, is_waiting, is_born};
-ghost use Rattle.pnp_model.specs.Records.{State};
+ghost use Rattle.pnp_model.specs.Frames.{first_node};
+ghost use Rattle.pnp_model.specs.Handles.{was_told};
+ghost use Rattle.pnp_model.specs.Machine.{phase_walk, rebalance_walk, removal_walk, surprise_walk, finish_walk, is_waiting, is_born};
+ghost use Rattle.pnp_model.specs.Records.{Driver, State};
 ghost use Rattle.start_sequence.specs.Begins.{settings_of, BegunFor, HasFewIds};
 ghost use Rattle.rebalance.specs.Begins as rebalanced;
 ghost use Rattle.rebalance.specs.Steps as rebalances;
@@ -10,7 +12,10 @@ ghost use Rattle.query_remove.specs.Begins as removals;
 ghost use Rattle.query_remove.specs.Steps as removes;
 ghost use Rattle.surprise_remove.specs.Begins as surprised;
 ghost use Rattle.surprise_remove.specs.Steps as surprises;
-ghost use Rattle.pnp_machine.specs.Doings.{Acts, Rebalances, Removes, Surprises};
+ghost use Rattle.surprise_remove.specs.FinishFrames as finished;
+ghost use Rattle.surprise_remove.specs.FinishSteps as finishes;
+ghost use Rattle.surprise_remove.specs.Ready.{is_ready_at};
+ghost use Rattle.pnp_machine.specs.Doings.{Acts, Rebalances, Removes, Surprises, Finishes, core_with};
 
 use crate::devices::Devices;
 use device_ids::WantOfMemory;
@@ -22,7 +27,7 @@ use rebalance::{Rebalance, RebalanceStep};
 use resource_reqs::Reqs;
 use start_sequence::{StartStep, StartWork};
 use std::alloc::Global;
-use surprise_remove::Surprise;
+use surprise_remove::{Finish, Surprise, is_ready};
 
 impl Devices {
     /// The start of a device begins, as `StartWork::begin` says.
@@ -35,6 +40,7 @@ impl Devices {
         disabled: bool,
     ) -> Result<(Label, Option<StartWork>), WantOfMemory>
         requires there { IsSome (node_at serial self.old.tree.nodes) }
+        requires untold { was_told (node_at serial self.old.tree.nodes) ≡ false }
         requires ids { HasFewIds (node_at serial self.old.tree.nodes) }
         requires few { length infs.now ≤ 64 }
         ensures begun { IfOk result (λ r. (budget : ℕ) (s : State) → s.core.rack ≡ R.rows rack.now → s.core.nodes ≡ self.old.tree.nodes → BegunFor (settings_of infs.now budget) s (node_at serial self.old.tree.nodes) disabled r.0 r.1 self.new.tree.nodes) }
@@ -54,6 +60,7 @@ impl Devices {
         budget: u64,
     ) -> Result<StartStep, WantOfMemory>
         requires there { IsSome (node_at work.old.serial self.old.tree.nodes) }
+        requires untold { was_told (node_at work.old.serial self.old.tree.nodes) ≡ false }
         requires goes { is_waiting (phase_walk work.old.phase) ≡ false }
         requires budget { budget ≤ 1000000 }
         ensures acts { IfOk result (λ step. Acts budget self.old work.old.serial (R.rows rack.old) work.old.phase step self.new (R.rows rack.new) work.new.phase) }
@@ -106,6 +113,7 @@ impl Devices {
         ensures rack { OnErr result (R.rows rack.new ≡ R.rows rack.old) }
         ensures err { OnErr result (self.new ≡ self.old) }
     {
+        self.whole = None;
         rebalance.next(alloc, &mut self.tree, rack, &mut self.arbiters, budget)
     }
 
@@ -155,6 +163,7 @@ impl Devices {
             &mut self.relations,
             rack,
             &mut self.arbiters,
+            &self.handles,
         )?;
         self.from = 0;
         self.whole = None;
@@ -180,7 +189,8 @@ impl Devices {
         rack: &mut R,
     ) -> Result<RemoveStep, WantOfMemory>
         requires there { surprises.HasNext self.old.tree.nodes surprise.old surprise.old.stage }
-        requires settles { surprises.SettlesStripped self.old.tree.nodes surprise.old surprise.old.stage }
+        requires direct { surprises.DirectSays self.old.tree.nodes self.old.relations surprise.old surprise.old.stage }
+        requires settles { surprises.SettlesStripped self.old.tree.nodes self.old.relations surprise.old self.old.handles surprise.old.stage }
         requires goes { is_waiting (surprise_walk surprise.old.stage) ≡ false }
         ensures surprises { IfOk result (λ step. Surprises self.old (R.rows rack.old) surprise.old (is_born self.old.world.devices (node_at surprise.old.target self.old.tree.nodes)) step self.new (R.rows rack.new) surprise.new) }
         ensures surprise { OnErr result (surprise.new ≡ surprise.old) }
@@ -195,6 +205,66 @@ impl Devices {
             rack,
             &mut self.arbiters,
             in_world,
+            &self.handles,
+        )?;
+        self.from = 0;
+        self.whole = None;
+        Ok(step)
+    }
+
+    /// Whether a device is there and ready to be finished, as `surprise_remove::is_ready` says.
+    pub(crate) fn is_ready(&self, serial: u64) -> bool
+        ensures { (rack : List Driver) → result ≡ is_ready_at (core_with self.now rack) self.now.handles (node_at serial self.now.tree.nodes) }
+    {
+        is_ready(&self.tree, &self.relations, &self.handles, serial)
+    }
+
+    /// The end of surprise removals begins, as `Finish::begin` says.
+    pub(crate) fn begin_finish(
+        &self,
+        alloc: Global,
+        serial: u64,
+    ) -> Result<(Label, Finish), WantOfMemory>
+        requires { IsSome (node_at serial self.now.tree.nodes) }
+        ensures { IfOk result (λ begun. finished.BegunFor (node_at serial self.now.tree.nodes) begun.0 begun.1) }
+    {
+        Finish::begin(alloc, &self.tree, serial)
+    }
+
+    /// Whether the device that is being finished, if one is, is in the world.
+    fn is_current_in_world(&self, finish: &Finish) -> bool
+        ensures { result ≡ is_born self.now.world.devices (first_node self.now.tree.nodes finish.now.todo) }
+    {
+        match finish.current() {
+            Some(serial) => self.is_in_world(serial),
+            None => false,
+        }
+    }
+
+    /// The next step of the end of surprise removals, as `Finish::next` says.
+    pub(crate) fn finish<R: Drivers>(
+        &mut self,
+        alloc: Global,
+        finish: &mut Finish,
+        rack: &mut R,
+    ) -> Result<RemoveStep, WantOfMemory>
+        requires there { finishes.HasCurrent self.old.tree.nodes finish.old finish.old.stage }
+        requires leaves { finishes.LeavesStripped self.old.tree.nodes finish.old finish.old.stage }
+        requires goes { is_waiting (finish_walk finish.old.stage) ≡ false }
+        ensures finishes { IfOk result (λ step. Finishes self.old (R.rows rack.old) finish.old (is_born self.old.world.devices (first_node self.old.tree.nodes finish.old.todo)) step self.new (R.rows rack.new) finish.new) }
+        ensures finish { OnErr result (finish.new ≡ finish.old) }
+        ensures rack { OnErr result (R.rows rack.new ≡ R.rows rack.old) }
+        ensures err { OnErr result (self.new ≡ self.old) }
+    {
+        let in_world = self.is_current_in_world(finish);
+        let step = finish.next(
+            alloc,
+            &mut self.tree,
+            &mut self.relations,
+            rack,
+            &mut self.arbiters,
+            in_world,
+            &self.handles,
         )?;
         self.from = 0;
         self.whole = None;

@@ -3,7 +3,7 @@ ghost use Rattle.pnp_model.specs.Endings.{indent, tree_line, map_line, joined, p
 ghost use Rattle.pnp_labels.specs.Texts.{spaced, state_text};
 ghost use Rattle.std.specs.Fmt.{decimal};
 ghost use Rattle.device_holdings.specs.MapRows.{row_of};
-ghost use Rattle.pnp_machine.specs.Endings.{RowAdded, waiting_line, request_lines, works_lines, operation_lines};
+ghost use Rattle.pnp_machine.specs.Endings.{RowAdded, waiting_line, request_lines, works_lines, operation_lines, handle_lines, handles_lines};
 ghost use Rattle.pnp_machine.specs.Managers.{IsOfRun};
 ghost use Rattle.pnp_machine.specs.Operations.{operation_of};
 
@@ -11,7 +11,7 @@ use crate::machine::Machine;
 use crate::operation::Operation;
 use device_ids::WantOfMemory;
 use device_stack::{Walk, driver_name};
-use devnode_tree::{Node, PrintRow, Tree};
+use devnode_tree::{HandleRow, Handles, Node, PrintRow, Tree};
 use driver_rack::Drivers;
 use pnp_labels::spaced::{three, two};
 use pnp_labels::{DevState, Problem, decimal, minor_text, problem_text, res_text, state_text};
@@ -208,9 +208,48 @@ fn add_rows(
     Ok(())
 }
 
+/// Appends the line of a device to which handles are open.
+fn add_handle(
+    alloc: Global,
+    out: &mut Vec<u8>,
+    tree: &Tree,
+    row: &HandleRow,
+) -> Result<(), WantOfMemory>
+    ensures { OnOk result (out.new.items ≡ out.old.items ++ handle_lines tree.now.nodes (row.now ∷ [])) }
+{
+    let count = decimal(alloc, row.count)?;
+    let line = match tree.node(row.serial) {
+        Some(node) => two(alloc, node.path.bytes(), count.as_bytes())?,
+        None => two(alloc, b"", count.as_bytes())?,
+    };
+    out.extend_from_slice(&line)?;
+    out.push(b'\n')?;
+    Ok(())
+}
+
+/// Appends the handles that are open, in order of serial, where one is.
+fn add_handles(
+    alloc: Global,
+    out: &mut Vec<u8>,
+    tree: &Tree,
+    handles: &Handles,
+) -> Result<(), WantOfMemory>
+    ensures { OnOk result (out.new.items ≡ out.old.items ++ handles_lines tree.now.nodes handles.now) }
+{
+    let rows = handles.rows(alloc)?;
+    if rows.is_empty() {
+        return Ok(());
+    }
+    out.extend_from_slice(b"handles\n")?;
+    for row in &rows {
+        add_handle(alloc, out, tree, row)?;
+    }
+    Ok(())
+}
+
 impl<R: Drivers> Machine<R> {
-    /// The end of the output: the tree, what is held and reserved, and the requests that are outstanding. Condition: the state
-    /// is one of a run.
+    /// The end of the output: the tree, what is held and reserved, the requests that are outstanding, and the handles that are
+    /// open. Condition: the state is one of a run.
     pub(crate) fn ending(&self, alloc: Global) -> Result<Vec<u8>, WantOfMemory>
         requires { IsOfRun self.now }
         ensures { IfOk result (λ text. text.items ≡ joined (ending self.now)) }
@@ -224,6 +263,7 @@ impl<R: Drivers> Machine<R> {
         out.extend_from_slice(b"outstanding\n")?;
         add_operation(alloc, &mut out, tree, &self.rack, &self.operation)?;
         add_works(alloc, &mut out, tree, &self.rack, self.starts.works())?;
+        add_handles(alloc, &mut out, tree, self.devices.handles())?;
         Ok(out)
     }
 }

@@ -153,7 +153,8 @@ impl<R: Drivers> Machine<R> {
         }
     }
 
-    /// An event happens, as the machine's definition says; a refusal changes nothing and its label names the reason.
+    /// An event happens, as the machine's definition says; a refusal changes nothing and its label names the reason. The
+    /// machine knows no clients: what they ask is refused.
     /// Condition: fewer than 2^63 devices were born. After want of memory all is as before.
     pub(crate) fn apply(&mut self, event: Event) -> Result<Label, WantOfMemory>
         requires { self.old.next_born < 2 ^ 63 }
@@ -183,6 +184,10 @@ impl<R: Drivers> Machine<R> {
             Event::Complete { path, minor, ok } => self.complete(&path, minor, ok),
             Event::Window { path, res } => self.window(&path, res),
             Event::Change { path, reqs } => self.change(&path, reqs),
+            Event::OpenHandle { path } => self.open(&path),
+            Event::CloseHandle { path } => self.close(&path),
+            Event::Watch { .. } => Ok(refusal(EventWord::Watch, Reason::NoDevice)),
+            Event::Unwatch { .. } => Ok(refusal(EventWord::Unwatch, Reason::NoDevice)),
         }
     }
 }

@@ -1,24 +1,29 @@
-ghost use Rattle.std.specs.Prelude.{◌≡◌, ◌<◌, IfOk, OnOk, OnErr, nat_lt};
+ghost use Rattle.std.specs.Prelude.{◌≡◌, ◌<◌, ◌&&◌, ◌++◌, ◌∷◌, [], if◌then◌else◌, not, IfOk, IsTrue, OnOk, OnErr, find, nat_lt};
 ghost use Rattle.pnp_labels.specs.declared.event.Event.TheVariants as Event;
 ghost use Rattle.pnp_model.specs.Cores.{node_at};
 ghost use Rattle.pnp_model.specs.Events.{happens};
 ghost use Rattle.pnp_model.specs.Handles.{is_handle_of, is_open, opened, closed_with};
 ghost use Rattle.devnode_tree.specs.Counts.{count_of, handle_with};
+ghost use Rattle.pnp_model.specs.Tests.{is_surprise_removed};
 ghost use Rattle.pnp_machine.specs.Machines.{IsDone};
+ghost use Rattle.pnp_machine.specs.TaskLists.{task_of};
+ghost use Rattle.pnp_machine.specs.declared.tasks.Duty.TheVariants as duties;
 
 use crate::devices::Devices;
 use crate::events::refusal;
 use crate::listing::{is_started, is_surprise_removed};
 use crate::machine::Machine;
-use crate::tasks::Duty;
+use crate::tasks::{Duty, Tasks};
 use device_ids::{InstancePath, WantOfMemory};
 use driver_rack::Drivers;
-use pnp_labels::{EventWord, Label, OpKind, Reason};
+use pnp_labels::{DevState, EventWord, Label, OpKind, Reason};
 
 impl Devices {
     /// How many handles to a device are open. It takes no memory.
     pub(crate) fn handles_to(&self, serial: u64) -> u64
-        ensures { result ≡ count_of self.now.handles serial }
+        ensures count { result ≡ count_of self.now.handles serial }
+        ensures handle { find (is_handle_of serial) self.now.handles ≡ handle_with serial result }
+        ensures there { is_open self.now.handles serial ≡ nat_lt 0 result }
     {
         self.handles.count(serial)
     }
@@ -33,10 +38,28 @@ impl Devices {
 
     /// One handle less to a device is open. Condition: one is. It takes no memory.
     pub(crate) fn close(&mut self, serial: u64)
-        requires { 0 < count_of self.old.handles serial }
+        requires { IsTrue (is_open self.old.handles serial) }
         ensures { self.new ≡ record self.old { handles = closed_with serial self.old.handles (nat_lt 1 (count_of self.old.handles serial)) } }
     {
         self.handles.drop_one(serial);
+    }
+}
+
+/// Whether a device is to be finished as one of so many handles to it is closed: it was the last one, and the device was told
+/// that it has gone.
+fn is_due(count: u64, state: DevState) -> bool
+    ensures { result ≡ (not (nat_lt 1 count) && is_surprise_removed state) }
+{
+    count <= 1 && is_surprise_removed(state)
+}
+
+/// A device is to be finished, if it is due. Condition: there is room for a task. It takes no memory.
+fn finish_if(tasks: &mut Tasks, serial: u64, due: bool)
+    requires { 0 < tasks.old.room }
+    ensures { tasks.new.tasks ≡ (if due then tasks.old.tasks ++ task_of (duties.Begin OpKind.Finish, serial) ∷ [] else tasks.old.tasks) }
+{
+    if due {
+        tasks.append(Duty::Begin(OpKind::Finish), serial);
     }
 }
 
@@ -80,10 +103,9 @@ impl<R: Drivers> Machine<R> {
         }
         let what = self.own_path(serial)?;
         self.tasks.make_room()?;
+        let due = is_due(count, self.devices.tree().at(serial).state);
         self.devices.close(serial);
-        if count == 1 && is_surprise_removed(self.devices.tree().at(serial).state) {
-            self.tasks.append(Duty::Begin(OpKind::Finish), serial);
-        }
+        finish_if(&mut self.tasks, serial, due);
         Ok(Label::Did { word, what })
     }
 }

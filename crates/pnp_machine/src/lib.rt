@@ -10,6 +10,7 @@ mod devices_operations;
 mod disabled;
 mod ending;
 mod events;
+mod handles;
 mod listing;
 mod machine;
 mod manager;

@@ -4,7 +4,7 @@ ghost use Rattle.pnp_model.specs.Cores.{node_at};
 ghost use Rattle.pnp_model.specs.Records.{Settings};
 ghost use Rattle.pnp_model.specs.Records.Duty.{Listing};
 ghost use Rattle.pnp_model.specs.Tasks.{list_step, skip};
-ghost use Rattle.pnp_model.specs.Tests.{is_started};
+ghost use Rattle.pnp_model.specs.Tests.{is_started, is_surprise_removed};
 ghost use Rattle.pnp_machine.specs.Machines.{IsDone, gone_or_listed_at};
 
 use crate::machine::Machine;
@@ -18,6 +18,13 @@ pub(crate) fn is_started(state: DevState) -> bool
     ensures { result ≡ is_started state }
 {
     matches!(state, DevState::Started)
+}
+
+/// Whether a device was told that it has gone, and has its drivers still.
+pub(crate) fn is_surprise_removed(state: DevState) -> bool
+    ensures { result ≡ is_surprise_removed state }
+{
+    matches!(state, DevState::SurpriseRemoved)
 }
 
 impl<R: Drivers> Machine<R> {

@@ -13,7 +13,7 @@ use pnp_labels::{Minor, RemoveStep};
 use query_remove::Removal;
 use rebalance::{Rebalance, RebalanceStep};
 use std::alloc::Global;
-use surprise_remove::Surprise;
+use surprise_remove::{Finish, Surprise};
 
 /// The operation that runs: this project's own.
 #[derive(Drop)]
@@ -24,6 +24,8 @@ pub(crate) enum Operation {
     Removing(Removal),
     /// A device is gone from its bus.
     Surprising(Surprise),
+    /// Devices that stayed behind when they had gone lose their drivers.
+    Finishing(Finish),
 }
 
 impl Operation {
@@ -35,6 +37,7 @@ impl Operation {
             Operation::Rebalancing(rebalance) => rebalance.first(),
             Operation::Removing(removal) => removal.first(),
             Operation::Surprising(surprise) => surprise.first(),
+            Operation::Finishing(finish) => finish.current(),
         }
     }
 
@@ -46,6 +49,7 @@ impl Operation {
             Operation::Rebalancing(rebalance) => rebalance.walk(),
             Operation::Removing(removal) => removal.walk(),
             Operation::Surprising(surprise) => surprise.walk(),
+            Operation::Finishing(finish) => finish.walk(),
         }
     }
 
@@ -57,6 +61,7 @@ impl Operation {
             Operation::Rebalancing(rebalance) => rebalance.waits(),
             Operation::Removing(removal) => removal.waits(),
             Operation::Surprising(surprise) => surprise.waits(),
+            Operation::Finishing(finish) => finish.waits(),
         }
     }
 
@@ -75,6 +80,7 @@ impl Operation {
             Operation::Rebalancing(rebalance) => rebalance.complete(ok),
             Operation::Removing(removal) => removal.complete(ok),
             Operation::Surprising(surprise) => surprise.complete(ok),
+            Operation::Finishing(finish) => finish.complete(ok),
         }
     }
 
@@ -97,7 +103,9 @@ impl Operation {
     {
         match self {
             Operation::Rebalancing(rebalance) => rebalance.target(),
-            Operation::Removing(_) | Operation::Surprising(_) => unreachable!(),
+            Operation::Removing(_) | Operation::Surprising(_) | Operation::Finishing(_) => {
+                unreachable!()
+            }
         }
     }
 
@@ -118,19 +126,21 @@ impl Operation {
     {
         match self {
             Operation::Rebalancing(rebalance) => devices.rebalance(alloc, rebalance, rack, budget),
-            Operation::Removing(_) | Operation::Surprising(_) => unreachable!(),
+            Operation::Removing(_) | Operation::Surprising(_) | Operation::Finishing(_) => {
+                unreachable!()
+            }
         }
     }
 
-    /// The next step of an operation that removes devices, as `Removal::next` and `Surprise::next` say. Conditions: it is
-    /// one, and does not wait.
+    /// The next step of an operation that removes devices, as `Removal::next`, `Surprise::next` and `Finish::next` say.
+    /// Conditions: it is one, and does not wait.
     pub(crate) fn remove<R: Drivers>(
         &mut self,
         alloc: Global,
         devices: &mut Devices,
         rack: &mut R,
     ) -> Result<RemoveStep, WantOfMemory>
-        requires may { MayRemove devices.old.tree.nodes (operation_of self.old) }
+        requires may { MayRemove devices.old.tree.nodes devices.old.relations devices.old.handles (operation_of self.old) }
         ensures removes { IfOk result (λ step. RemovesBy devices.old (R.rows rack.old) (operation_of self.old) step devices.new (R.rows rack.new) (operation_of self.new)) }
         ensures operation { OnErr result (operation_of self.new ≡ operation_of self.old) }
         ensures rack { OnErr result (R.rows rack.new ≡ R.rows rack.old) }
@@ -139,6 +149,7 @@ impl Operation {
         match self {
             Operation::Removing(removal) => devices.remove(alloc, removal, rack),
             Operation::Surprising(surprise) => devices.surprise(alloc, surprise, rack),
+            Operation::Finishing(finish) => devices.finish(alloc, finish, rack),
             Operation::Rebalancing(_) => unreachable!(),
         }
     }

@@ -1,5 +1,6 @@
-ghost use Rattle.std.specs.Prelude.{◌≡◌, if◌then◌else◌, remove, vec_len, vec_capacity, ◌<◌, ◌≤◌, ◌+◌, ℕ, [], IfOk, OnOk, OnErr, IsSome, Some, None, insert, length, option_copied, position, slice_get, nat_lt};
+ghost use Rattle.std.specs.Prelude.{◌≡◌, if◌then◌else◌, remove, vec_len, vec_capacity, ◌<◌, ◌≤◌, ◌+◌, ℕ, [], IfOk, OnOk, OnErr, IsSome, Some, None, false, insert, length, option_copied, position, slice_get, nat_lt};
 ghost use Rattle.pnp_model.specs.Cores.{node_at};
+ghost use Rattle.pnp_model.specs.Handles.{was_told};
 ghost use Rattle.pnp_model.specs.Keyed.{put_before};
 ghost use Rattle.pnp_model.specs.Records.{Activity};
 ghost use Rattle.pnp_model.specs.States.{activity_at, is_activity, is_above, entered};
@@ -215,6 +216,7 @@ impl Starts {
     ) -> Result<StartStep, WantOfMemory>
         requires first { first_ready self.old.works ≡ Some serial }
         requires there { IsSome (node_at serial devices.old.tree.nodes) }
+        requires untold { was_told (node_at serial devices.old.tree.nodes) ≡ false }
         requires budget { budget ≤ 1000000 }
         ensures acts { IfOk result (λ step. ActsFor budget (activity_at serial self.old.works) self.old.works devices.old (R.rows rack.old) step self.new.works devices.new (R.rows rack.new)) }
         ensures starts { OnErr result (self.new.works ≡ self.old.works) }

@@ -103,7 +103,10 @@ impl<R: Drivers> Machine<R> {
             Some(Operation::Removing(removal)) => {
                 settled_path(self.alloc, &self.devices, removal)
             }
-            Some(Operation::Rebalancing(_) | Operation::Surprising(_)) | None => Ok(None),
+            Some(
+                Operation::Rebalancing(_) | Operation::Surprising(_) | Operation::Finishing(_),
+            )
+            | None => Ok(None),
         }
     }
 
@@ -185,7 +188,9 @@ impl<R: Drivers> Machine<R> {
     {
         match &self.operation {
             Some(Operation::Rebalancing(_)) => self.rebalance(budget),
-            Some(Operation::Removing(_) | Operation::Surprising(_)) => self.remove(),
+            Some(
+                Operation::Removing(_) | Operation::Surprising(_) | Operation::Finishing(_),
+            ) => self.remove(),
             None => unreachable!(),
         }
     }

@@ -12,6 +12,6 @@ returns-clause-finishes g c =
     let later = g.R.Drivers.rows c.next.new.rack in
     let new : Devices = record { world = s.world; tree = c.next.new.tree; relations = c.next.new.relations; reserved = s.reserved; windows = s.bridges; handles = s.handles } in
     let old = c.args.self.now in
-    subst (λ (b : Bool). Finishes old rack c.args.finish.now b c.in_ok-step.step new later c.next.new.self) c.is_current_in_world-in_world.ensures.born
+    subst (λ (b : Bool). Finishes old rack c.args.finish.now b c.in_ok-step.step new later c.next.new.self) c.is_current_in_world-in_world.ensures
     (subst (λ (d : Devices). Finishes d rack c.args.finish.now c.is_current_in_world-in_world.result c.in_ok-step.step new later c.next.new.self) c.self.view_is
     (c.in_ok-step.ensures.finishes (core_with ds rack), beside_stays ds c.next.new.tree c.next.new.relations c.next.ensures.next))

@@ -9,7 +9,7 @@ use Rattle.pnp_machine.proofs.devices.Devices.join_next.Goals as goal
 pub unreachable-requires-in_default-part : goal.unreachable-requires-in_default-part
 unreachable-requires-in_default-part c =
     let s = c.self.inside in
-    let j = joins_at s.world s.tree s.relations s.reserved s.bridges c.args.self.now c.args.serial c.in-Some.born c.self.view_is c.part.ensures.world c.in-Some.ensures in
+    let j = joins_at s.world s.tree s.relations s.reserved s.bridges s.handles c.args.self.now c.args.serial c.in-Some.born c.self.view_is c.part.ensures.world c.in-Some.ensures in
     let there = part_there s.world s.tree j.node.born c.in-Some.born (option_copied c.part.result) j.joining c.part.ensures.part in
     let none = ap option_copied c.in_default-part.is in
     cc
@@ -17,7 +17,7 @@ unreachable-requires-in_default-part c =
 pub overflow_add-self : goal.overflow_add-self
 overflow_add-self c =
     let s = c.self.inside in
-    let j = joins_at s.world s.tree s.relations s.reserved s.bridges c.args.self.now c.args.serial c.in-Some.born c.self.view_is c.part.ensures.world c.in-Some.ensures in
+    let j = joins_at s.world s.tree s.relations s.reserved s.bridges s.handles c.args.self.now c.args.serial c.in-Some.born c.self.view_is c.part.ensures.world c.in-Some.ensures in
     let below = joins_below s.world s.tree j.node.born c.in-Some.born c.part.ensures.world j.joining in
     let few = c.part.ensures.world.few in
     omega arith
@@ -25,7 +25,7 @@ overflow_add-self c =
 pub invariant_of-self : goal.invariant_of-self
 invariant_of-self c =
     let s = c.self.inside in
-    let j = joins_at s.world s.tree s.relations s.reserved s.bridges c.args.self.now c.args.serial c.in-Some.born c.self.view_is c.part.ensures.world c.in-Some.ensures in
+    let j = joins_at s.world s.tree s.relations s.reserved s.bridges s.handles c.args.self.now c.args.serial c.in-Some.born c.self.view_is c.part.ensures.world c.in-Some.ensures in
     let own = part_is s.world s.tree j.node.born c.in-Some.born c.in-Some-part.part.now j.joining c.in-Some-part.ensures.part in
     let part = c.in_ok-device.ensures ∙ ap (λ (x : shown.Device). record x { reqs = clip s.bridges s.tree.nodes c.args.serial x.reqs }) own in
     kept_after s.world s.tree c.join-joined.new.self c.args.serial c.in-Some.born c.in-Ok.joined j s.bridges c.in_ok-device.device part c.in-Ok.ensures.serial
@@ -35,7 +35,7 @@ invariant_of-self c =
 pub only_memory-requires : goal.only_memory-requires
 only_memory-requires c =
     let s = c.self.inside in
-    let j = joins_at s.world s.tree s.relations s.reserved s.bridges c.args.self.now c.args.serial c.in-Some.born c.self.view_is c.part.ensures.world c.in-Some.ensures in
+    let j = joins_at s.world s.tree s.relations s.reserved s.bridges s.handles c.args.self.now c.args.serial c.in-Some.born c.self.view_is c.part.ensures.world c.in-Some.ensures in
     let own = part_is s.world s.tree j.node.born c.in-Some.born c.in-Some-part.part.now j.joining c.in-Some-part.ensures.part in
     let part = c.in_ok-device.ensures ∙ ap (λ (x : shown.Device). record x { reqs = clip s.bridges s.tree.nodes c.args.serial x.reqs }) own in
     memory_alone c.in-Err.error
@@ -46,9 +46,9 @@ only_memory-requires c =
 pub returns-in-Ok-clause-joined : goal.returns-in-Ok-clause-joined
 returns-in-Ok-clause-joined c =
     let s = c.self.inside in
-    let j = joins_at s.world s.tree s.relations s.reserved s.bridges c.args.self.now c.args.serial c.in-Some.born c.self.view_is c.part.ensures.world c.in-Some.ensures in
+    let j = joins_at s.world s.tree s.relations s.reserved s.bridges s.handles c.args.self.now c.args.serial c.in-Some.born c.self.view_is c.part.ensures.world c.in-Some.ensures in
     let own = part_is s.world s.tree j.node.born c.in-Some.born c.in-Some-part.part.now j.joining c.in-Some-part.ensures.part in
     let part = c.in_ok-device.ensures ∙ ap (λ (x : shown.Device). record x { reqs = clip s.bridges s.tree.nodes c.args.serial x.reqs }) own in
     joined_is s.world s.tree c.join-joined.new.self c.args.serial c.in-Some.born c.in-Ok.joined j s.bridges c.in_ok-device.device part c.in-Ok.ensures.serial
-    c.in-Ok.ensures.joined s.relations s.reserved c.args.self.now _ c.in_ok-path.path c.self.view_is refl
+    c.in-Ok.ensures.joined s.relations s.reserved s.handles c.args.self.now _ c.in_ok-path.path c.self.view_is refl
     (c.in_ok-path.ensures ∙ c.bytes.ensures.bytes ∙ ap (λ (x : shown.Device). x.path) (sym c.in_ok-device.ensures))

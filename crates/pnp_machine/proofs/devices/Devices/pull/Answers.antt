@@ -8,7 +8,7 @@ use Rattle.pnp_machine.proofs.devices.Devices.pull.Goals as goal
 pub returns-in_err-parent : goal.returns-in_err-parent
 returns-in_err-parent c =
     let s = c.self.inside in
-    let ds : Devices = record { world = s.world; tree = s.tree; relations = s.relations; reserved = s.reserved; windows = s.bridges } in
+    let ds : Devices = record { world = s.world; tree = s.tree; relations = s.relations; reserved = s.reserved; windows = s.bridges; handles = s.handles } in
     let e = c.in_err-parent.ensures in
     let p = err_from_is_err_and c.from_residual.result c.from_residual.ensures.1 in
     rw (p.1, p.2)
@@ -23,7 +23,7 @@ invariant_of-self-2 c =
 pub returns : goal.returns
 returns c =
     let s = c.self.inside in
-    let ds : Devices = record { world = s.world; tree = s.tree; relations = s.relations; reserved = s.reserved; windows = s.bridges } in
+    let ds : Devices = record { world = s.world; tree = s.tree; relations = s.relations; reserved = s.reserved; windows = s.bridges; handles = s.handles } in
     let e = c.in_ok-parent.ensures in
     rw (← c.self.view_is)
     (departs ds c.args.path.now c.pull.new.self c.in_ok-parent.parent c.find_born.result e.pulled e.no_device e.root_stays c.find_born.ensures)

@@ -1,6 +1,7 @@
-use Rattle.std.proofs.Common.{◌∙◌, ◌++◌, ◌∷◌, [], sym, subst, ap, IsSome, option_map}
+use Rattle.std.proofs.Common.{◌≡◌, ◌∙◌, false, ◌++◌, ◌∷◌, [], sym, subst, ap, IsSome, option_map}
 use Rattle.pnp_labels.specs.declared.label.OpKind.{OpKind}
 use Rattle.pnp_model.specs.Cores.{node_at}
+use Rattle.pnp_model.specs.Handles.{was_told}
 use Rattle.pnp_model.specs.Records.{State}
 use Rattle.pnp_model.specs.States.{activity_at}
 use Rattle.start_sequence.specs.declared.next.StartStep.{StartStep}
@@ -14,12 +15,16 @@ use Rattle.pnp_machine.specs.Starts.{ActsFor}
 use Rattle.pnp_machine.specs.TaskLists.{task_of}
 use Rattle.pnp_machine.specs.declared.tasks.Duty.TheVariants as duties
 use Rattle.pnp_machine.specs.declared.turn.Turn.TheVariants as turns
-use Rattle.pnp_machine.proofs.ActSteps.{acted, ready_is}
+use Rattle.pnp_machine.proofs.ActSteps.{acted, ready_is, ready_untold}
 use Rattle.pnp_machine.proofs.machine.Machine.act.Goals as goal
 
 pub act-requires-clause-there : goal.act-requires-clause-there
 act-requires-clause-there g c =
     subst (λ (s : State). IsSome (node_at c.args.serial s.core.nodes)) (sym c.self.view_is) (ready_is c.args.self.now c.args.serial c.requires.run c.requires.turn)
+
+pub act-requires-clause-untold : goal.act-requires-clause-untold
+act-requires-clause-untold g c =
+    subst (λ (s : State). was_told (node_at c.args.serial s.core.nodes) ≡ false) (sym c.self.view_is) (ready_untold c.args.self.now c.args.serial c.requires.run c.requires.turn)
 
 pub returns-in-Did-clause-done : goal.returns-in-Did-clause-done
 returns-in-Did-clause-done g c = λ infs.

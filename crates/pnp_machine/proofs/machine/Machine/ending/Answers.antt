@@ -14,9 +14,10 @@ returns g c =
     let s : State = state_of c.self.inside.devices (g.R.Drivers.rows c.self.inside.rack) c.self.inside.disabled.paths c.self.inside.starts.works (option_map operation_of c.self.inside.operation) c.self.inside.tasks.tasks in
     let run : IsOfRun s = subst (λ (x : State). IsOfRun x) (sym c.self.view_is) c.requires in
     let order : InOrder 0 s.activities = c.works.ensures.order in
-    subst (λ (x : State). c.add_works.new.out.items ≡ joined (ending x)) c.self.view_is
+    subst (λ (x : State). c.add_handles.new.out.items ≡ joined (ending x)) c.self.view_is
     (ending_is s order (alone run.told run.rack run.entries s run.reaches) c.in_ok-rows.rows.items c.in_ok-out.out.items c.add_tree.new.out.items c.extend_from_slice.new.self.items
-    c.add_rows.new.out.items c.extend_from_slice-2.new.self.items c.add_operation.new.out.items c.add_works.new.out.items
+    c.add_rows.new.out.items c.extend_from_slice-2.new.self.items c.add_operation.new.out.items c.add_works.new.out.items c.add_handles.new.out.items
     (c.in_ok-rows.ensures s.core refl refl (orderly run.told run.rack run.entries s run.reaches)) c.in_ok-out.ensures.items (rw c.tree-tree.ensures at c.in_ok-add_tree.ensures)
     c.in_ok-extend_from_slice.ensures.items (rw (c.tree-tree.ensures, c.deref.ensures.value) at c.in_ok-add_rows.ensures) c.in_ok-extend_from_slice-2.ensures.items
-    (rw c.tree-tree.ensures at c.in_ok-add_operation.ensures) (rw (c.tree-tree.ensures, c.works.ensures.works) at c.in_ok-add_works.ensures))
+    (rw c.tree-tree.ensures at c.in_ok-add_operation.ensures) (rw (c.tree-tree.ensures, c.works.ensures.works) at c.in_ok-add_works.ensures)
+    (rw (c.tree-tree.ensures, c.handles.ensures) at c.in_ok-add_handles.ensures))

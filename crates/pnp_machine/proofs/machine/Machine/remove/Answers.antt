@@ -10,7 +10,7 @@ remove-requires g c =
     let o = operation_of c.in-Some.operation in
     let runs = ap (λ (s : State). s.operation) (sym c.self.view_is) ∙ ap (option_map operation_of) c.in-Some.is in
     let sort = subst IsRemoving runs c.requires.kind in
-    record { may = subst (λ (s : State). MayRemove s.core.nodes o) (sym c.self.view_is) (may_remove c.args.self.now c.requires.run c.requires.turn o runs sort) }
+    record { may = subst (λ (s : State). MayRemove s.core.nodes s.core.relations s.handles o) (sym c.self.view_is) (may_remove c.args.self.now c.requires.run c.requires.turn o runs sort) }
 
 pub apply_effect-requires-clause-root : goal.apply_effect-requires-clause-root
 apply_effect-requires-clause-root g c =

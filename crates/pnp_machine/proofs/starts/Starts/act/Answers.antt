@@ -1,6 +1,7 @@
-use Rattle.std.proofs.Common.{◌≡◌, ◌∙◌, sym, ap, subst, arith, length, position, Some}
+use Rattle.std.proofs.Common.{◌≡◌, ◌∙◌, sym, ap, subst, arith, length, position, Some, false}
 use Rattle.std.specs.Option.{IsSome}
 use Rattle.pnp_model.specs.Cores.{node_at}
+use Rattle.pnp_model.specs.Handles.{was_told}
 use Rattle.pnp_model.specs.States.{is_activity, with_phase}
 use Rattle.pnp_model.specs.Machine.{phase_walk, is_waiting, is_ready}
 use Rattle.pnp_model.proofs.Keyed.{find_from_position, find_from_none}
@@ -23,6 +24,13 @@ act-requires-clause-there g c =
     let place : position (is_activity c.args.serial) c.self.inside.works.items ≡ Some c.in-Some.place = rw c.deref.ensures.value at (sym {b = position (is_activity c.args.serial) c.deref.result.now} c.in-Some.ensures) in
     let held = find_from_position (is_activity c.args.serial) xs c.in-Some.place c.index_mut-work.result.now place ∙ sym (ap Some c.index_mut-work.ensures.value) in
     subst (λ k. IsSome (node_at k c.args.devices.now.tree.nodes)) (sym (own_activity c.args.serial c.index_mut-work.result.now xs held)) c.requires.there
+
+pub act-requires-clause-untold : goal.act-requires-clause-untold
+act-requires-clause-untold g c =
+    let xs = c.self.inside.works.items in
+    let place : position (is_activity c.args.serial) c.self.inside.works.items ≡ Some c.in-Some.place = rw c.deref.ensures.value at (sym {b = position (is_activity c.args.serial) c.deref.result.now} c.in-Some.ensures) in
+    let held = find_from_position (is_activity c.args.serial) xs c.in-Some.place c.index_mut-work.result.now place ∙ sym (ap Some c.index_mut-work.ensures.value) in
+    subst (λ k. was_told (node_at k c.args.devices.now.tree.nodes) ≡ false) (sym (own_activity c.args.serial c.index_mut-work.result.now xs held)) c.requires.untold
 
 pub act-requires-clause-goes : goal.act-requires-clause-goes
 act-requires-clause-goes g c =
