@@ -112,8 +112,8 @@ module _ (w : World) (t : Tree) (reserved : List Res) (arbiters : Arbiters) (ove
         here = λ k e.
             all_of (IsHere k w.devices) (IsHere k w'.devices)
             (λ n h child.
-                or_more (is_surprise_removed n.state) (is_in_world w.devices n.born) (is_in_world w'.devices n.born)
-                (λ there. subst (λ ds. is_in_world ds n.born ≡ true) (sym devices) (any_more (λ x. x.born == n.born) w.devices d there)) (h child))
+            or_more (is_surprise_removed n.state) (is_in_world w.devices n.born) (is_in_world w'.devices n.born)
+            (λ there. subst (λ ds. is_in_world ds n.born ≡ true) (sym devices) (any_more (λ x. x.born == n.born) w.devices d there)) (h child))
             t.nodes (kept.here k e);
         mirrors = kept.mirrors;
       }

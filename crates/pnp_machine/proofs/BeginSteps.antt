@@ -13,7 +13,7 @@ use Rattle.pnp_model.specs.Records.Duty.{Begins}
 use Rattle.pnp_model.specs.Removals.{begun_removal}
 use Rattle.pnp_model.specs.Surprises.{begun_surprise}
 use Rattle.pnp_model.specs.Finishes.{begun_finish}
-use Rattle.pnp_model.specs.Handles.{is_ready_device, was_told}
+use Rattle.pnp_model.specs.Handles.{was_told}
 use Rattle.pnp_model.specs.States.{set_operation, drop_task, device_born, let_through}
 use Rattle.pnp_model.specs.Windows.{clip}
 use Rattle.pnp_model.specs.Tasks.{begin, begin_step, change_born, change_task, skip, rebalance_task, disable_task, surprise_task, finish_task}

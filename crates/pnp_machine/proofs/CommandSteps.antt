@@ -12,14 +12,13 @@ use Rattle.pnp_model.specs.Cores.{node_at, path_of, serials_of}
 use Rattle.pnp_model.specs.Events.{open_at, open_below, open_idle, open_up, close_at, close_open, close_handle, finish_due, with_handles, change_at, change_below, change_there, change_up, happens, disable_at, disable_below, disable_enabled, eject_at, eject_below, relate_at, relate_idle, relate_two, refused}
 use Rattle.pnp_model.specs.Handles.{closed_with, is_handle_of, opened}
 use Rattle.pnp_model.specs.Machine.{is_born}
-use Rattle.pnp_model.specs.Records.{Node, Driver, Handle, Activity, Operation, State, Step, Task, Duty}
+use Rattle.pnp_model.specs.Records.{Node, Driver, Activity, Operation, State, Step, Task, Duty}
 use Rattle.pnp_model.specs.States.{node_of}
 use Rattle.pnp_model.specs.Tests.{has_same, is_started, is_surprise_removed}
 use Rattle.resource_reqs.specs.Resources.{Reqs}
 use Rattle.script_bus.specs.Worlds.{changed}
-use Rattle.devnode_tree.specs.Counts.{count_of, handle_with}
+use Rattle.devnode_tree.specs.Counts.{handle_with}
 use Rattle.devnode_tree.specs.Trees.{Ascends}
-use Rattle.script_bus.proofs.Unplugs.{by_bool}
 use Rattle.relations.specs.Relating.{Relates, RelatesFor}
 use Rattle.relations.specs.declared.error.RelateError.{RelateError}
 use Rattle.pnp_machine.specs.Devices.{Devices}

@@ -1,39 +1,26 @@
 -- In each state of a run a device that a disable is about to finish is not disabled yet.
 use Rattle.std.proofs.Common.{ℕ, ◌≡◌, ◌==◌, inl, inr, Bool, true, false, List, [], ◌∷◌, ◌++◌, Option, Some, None, refl, sym, ap, ◌∙◌, subst, arith}
-use Rattle.std.specs.List.{find, slice_get}
-use Rattle.std.specs.Option.{option_map}
 use Rattle.std.proofs.lemmas.Bool.Decides.{nat_tests}
-use Rattle.resource_reqs.specs.Resources.{Res, Reqs}
 use Rattle.device_ids.specs.Folding.{same}
 use Rattle.pnp_labels.specs.Texts.{Text}
-use Rattle.pnp_labels.specs.declared.states.DevState.{DevState}
-use Rattle.pnp_labels.specs.declared.states.DevState.TheVariants.{NoStack, NotStarted, Started, StopPending, Stopped, RemovePending, SurpriseRemoved}
+use Rattle.pnp_labels.specs.declared.states.DevState.TheVariants.{RemovePending}
 use Rattle.pnp_labels.specs.declared.states.Problem.{Problem}
-use Rattle.pnp_labels.specs.declared.words.Minor.{Minor}
 use Rattle.pnp_labels.specs.declared.words.Answer.{Answer}
-use Rattle.pnp_labels.specs.declared.words.DriverKind.{DriverKind}
-use Rattle.pnp_labels.specs.declared.words.RelKind.{RelKind}
 use Rattle.pnp_labels.specs.declared.event.Event.{Event}
-use Rattle.pnp_labels.specs.declared.event.Rule.{Rule}
 use Rattle.pnp_labels.specs.declared.label.OpKind.{OpKind}
 use Rattle.pnp_labels.specs.declared.label.Label.{Label}
-use Rattle.pnp_model.specs.Books.{is_named}
 use Rattle.pnp_model.specs.Cores.{drop_node, is_node, node_at, bare, with_state, with_problem, stack_of}
 use Rattle.pnp_model.specs.Frames.{first_node, rest}
 use Rattle.pnp_model.specs.Keyed.{changed_first, without_first}
 use Rattle.pnp_model.specs.Laws.{Reaches}
-use Rattle.pnp_model.specs.Machine.{begin_alone, activity_next, idle_next, is_ready, is_waiting, next, next_of, operation_next, operation_walk, after_start, removal_lifted, start_lifted, task_next, task_of, IsStep}
-use Rattle.pnp_model.specs.Records.{Activity, Choice, Core, Device, Doing, Driver, Duty, Found, Node, Operation, Phase, Removal, RemovalStage, Settings, State, Step, Task, Walk, doing_map}
-use Rattle.pnp_model.specs.Records.Doing.{Does, Searches}
+use Rattle.pnp_model.specs.Machine.{removal_lifted}
+use Rattle.pnp_model.specs.Records.{Core, Driver, Node, Operation, Removal, RemovalStage, Settings, State, Step}
 use Rattle.pnp_model.specs.Removals.{RemovalMove, ask_on, begun_with, cancel_on, ejecting, finish_on, finish_with}
 use Rattle.pnp_model.specs.Runs.{Entry, Goes}
 use Rattle.pnp_model.specs.Runs.Entry.{Happens, Did, Declines}
-use Rattle.pnp_model.specs.Starts.{StartBeside, StartMove, act}
-use Rattle.pnp_model.specs.States.{activity_at, device_of, drop_task, enable_path, node_of, relist, set_operation, unplug, with_core}
-use Rattle.pnp_model.specs.Tasks.{begin_step, disable_task, install_best, list_step, rebalance_idle, rebalance_task, start_step}
+use Rattle.pnp_model.specs.States.{relist, set_operation, unplug, with_core}
 use Rattle.pnp_model.specs.Tests.{has, has_same, is_eject}
 use Rattle.pnp_model.specs.Trees.{leaving}
-use Rattle.pnp_model.specs.Walks.{is_bad}
 use Rattle.pnp_laws.specs.Words.{IsWord, is_removal}
 use Rattle.pnp_laws.specs.Effects.{BeginsFor, OpEffect, PathEffect, Turn, begun}
 use Rattle.pnp_laws.specs.Kept.{Ascending, Distinct, IsGood, OperationFits}
@@ -43,7 +30,7 @@ use Rattle.pnp_laws.proofs.EffectsOfEvents.{event_effect}
 use Rattle.pnp_laws.proofs.EventChanges.{Answered, happens_outside}
 use Rattle.pnp_laws.proofs.Finishing.{relist_only}
 use Rattle.pnp_laws.proofs.Lists.{HeadIs, head_found, head_has, rest_not, rest_within}
-use Rattle.pnp_laws.proofs.Lookups.{found_self, left_from, node_from, some_same}
+use Rattle.pnp_laws.proofs.Lookups.{left_from, node_from, some_same}
 use Rattle.pnp_laws.proofs.Reached.{reached_is_good}
 use Rattle.pnp_laws.proofs.Reaching.{kept}
 use Rattle.pnp_laws.proofs.Stages.{OperationStep, RemovalStep, operation_step, reply}

@@ -1,14 +1,13 @@
 -- What a state of a run gives to each step.
 use Rattle.std.proofs.lemmas.Bool.Decides.{nat_tests}
-use Rattle.std.proofs.Common.{Contains, ℕ, ◌==◌, Bool, cond, suc, ◌<◌, ◌≡◌, ◌≢◌, inl, inr, true, false, List, [], ◌∷◌, ◌++◌, map, Option, Some, None, IsSome, refl, sym, ap, ◌∙◌, subst, arith, add-one}
+use Rattle.std.proofs.Common.{Contains, ℕ, ◌==◌, Bool, cond, suc, ◌≡◌, ◌≢◌, inl, inr, true, false, List, [], ◌∷◌, Option, Some, None, IsSome, refl, sym, ap, ◌∙◌, subst, arith, add-one}
 use Rattle.resource_reqs.specs.Resources.{Res, Reqs, Whole}
 use Rattle.pnp_labels.specs.declared.label.Label.{Label}
 use Rattle.pnp_labels.specs.declared.states.DevState.{DevState}
 use Rattle.pnp_labels.specs.declared.states.DevState.TheVariants.{NoStack, NotStarted, Started, StopPending, Stopped, RemovePending, SurpriseRemoved}
-use Rattle.pnp_model.specs.Keyed.{changed_first}
-use Rattle.pnp_model.specs.Records.{Node, Core, Driver, Activity, Phase, State, Step, Settings, Operation, Rebalance, Removal, Surprise, Finish, Doing}
+use Rattle.pnp_model.specs.Records.{Node, Driver, Activity, Phase, State, Step, Settings, Operation, Rebalance, Removal, Surprise, Finish, Doing}
 use Rattle.pnp_model.specs.Records.Phase.{Adding, Searching, Starting, Removing, Due}
-use Rattle.pnp_model.specs.Cores.{is_node, node_at, bare, forget, serials_of}
+use Rattle.pnp_model.specs.Cores.{node_at, bare, forget, serials_of}
 use Rattle.pnp_model.specs.Handles.{was_told}
 use Rattle.pnp_model.specs.Laws.{Reaches, is_up_to_now}
 use Rattle.pnp_model.specs.Machine.{is_waiting, next, next_of, operation_next, operation_walk}
@@ -19,10 +18,9 @@ use Rattle.pnp_model.specs.Tests.{is_surprise_removed}
 use Rattle.pnp_laws.specs.Kept.{Alone, Ascending, Fits, IsGood, OperationFits, RebalanceKeeps, TargetFits, is_idle}
 use Rattle.pnp_laws.specs.Quiet.{RestsWith}
 use Rattle.pnp_laws.specs.Reached.{IsReached}
-use Rattle.pnp_laws.specs.Effects.{NodeEffect}
 use Rattle.pnp_laws.proofs.EffectViews.{Origin, origin}
 use Rattle.pnp_laws.proofs.EffectsOf.{effect_goes}
-use Rattle.pnp_laws.proofs.Lookups.{joined_from, left_from, map_from, node_from, own_serial}
+use Rattle.pnp_laws.proofs.Lookups.{own_serial}
 use Rattle.pnp_laws.proofs.Reached.{reached_is_good}
 use Rattle.pnp_laws.proofs.Reaching.{kept}
 use Rattle.pnp_laws.proofs.Runs.{root_is}

@@ -10,7 +10,7 @@ use Rattle.pnp_model.specs.Records.{Device, Handle, Node, Relation, Window}
 use Rattle.pnp_model.specs.States.{device_born, is_in_world}
 use Rattle.pnp_model.specs.Windows.{clip}
 use Rattle.pnp_model.specs.Tasks.{joins, joining, has_born, has_path}
-use Rattle.devnode_tree.specs.Identities.{Identity, identity, identities}
+use Rattle.devnode_tree.specs.Identities.{identities}
 use Rattle.devnode_tree.specs.Trees.{Tree, IsTree, with_node, Ascends}
 use Rattle.devnode_tree.proofs.Facts.{parent_there, root_there}
 use Rattle.std.proofs.lemmas.Bool.{cases_eq}

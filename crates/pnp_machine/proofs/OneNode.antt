@@ -10,7 +10,6 @@ use Rattle.pnp_labels.specs.declared.states.Problem.{Problem}
 use Rattle.pnp_labels.specs.declared.words.Answer.{Answer}
 use Rattle.pnp_labels.specs.declared.words.Answer.TheVariants as answers
 use Rattle.pnp_labels.specs.declared.words.AskWhat.{AskWhat}
-use Rattle.pnp_labels.specs.declared.words.Minor.{Minor}
 use Rattle.pnp_model.specs.Books.{driver_named, rack_reply}
 use Rattle.pnp_model.specs.Cores.{is_node, node_at, with_state, with_problem, with_stack, with_holds, bare, core_of}
 use Rattle.pnp_model.specs.Frames.{core_after}
@@ -37,7 +36,7 @@ use Rattle.start_sequence.specs.Begins.{BegunFor, begun, settings_of}
 use Rattle.start_sequence.specs.Steps.{Acts, Done, DoneFor, Moved}
 use Rattle.start_sequence.specs.declared.next.StartStep.{StartStep}
 use Rattle.start_sequence.specs.declared.next.StartStep.TheVariants as steps
-use Rattle.pnp_machine.specs.Devices.{IsHere, is_here}
+use Rattle.pnp_machine.specs.Devices.{IsHere}
 
 -- a node stays where it stands
 pub record KeepsPlace (f : Node → Node) : Type 0 where

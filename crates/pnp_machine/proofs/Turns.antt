@@ -1,5 +1,5 @@
 -- Which step is next, and when none is.
-use Rattle.std.proofs.Common.{◌≡◌, ℕ, Bool, true, false, List, find, Option, Some, None, IsSome, refl, sym, ◌∙◌, ap, subst, option_map, slice_get}
+use Rattle.std.proofs.Common.{◌≡◌, ℕ, Bool, true, false, find, Option, Some, None, IsSome, refl, sym, ◌∙◌, ap, subst, option_map, slice_get}
 use Rattle.pnp_labels.specs.declared.label.Label.{Label}
 use Rattle.pnp_labels.specs.declared.label.OpKind.{OpKind}
 use Rattle.pnp_labels.specs.declared.words.Minor.{Minor}

@@ -118,9 +118,9 @@ impl<R: Drivers> Manager<R> {
         self.machine.devices.tree()
     }
 
-    /// The end of the output: the tree, what is held, and the requests that are outstanding. Under the tree each node has
-    /// one line, and each line is of a node. Cost: the number of nodes times its logarithm, and the number of pairs that are
-    /// held or reserved.
+    /// The end of the output: the tree, what is held, the requests that are outstanding, and the handles that are open. Under
+    /// the tree each node has one line, and each line is of a node. Cost: the number of nodes times its logarithm, the number
+    /// of pairs that are held or reserved, and that of devices with an open handle.
     pub fn ending(&self, alloc: Global) -> Result<Vec<u8>, WantOfMemory>
         ensures text { IfOk result (λ text. text.items ≡ joined (ending self.now.state)) }
         ensures tree { TreeIsPrinted self.now.state.core.nodes }

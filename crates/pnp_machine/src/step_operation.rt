@@ -103,9 +103,7 @@ impl<R: Drivers> Machine<R> {
             Some(Operation::Removing(removal)) => {
                 settled_path(self.alloc, &self.devices, removal)
             }
-            Some(
-                Operation::Rebalancing(_) | Operation::Surprising(_) | Operation::Finishing(_),
-            )
+            Some(Operation::Rebalancing(_) | Operation::Surprising(_) | Operation::Finishing(_))
             | None => Ok(None),
         }
     }
@@ -188,9 +186,8 @@ impl<R: Drivers> Machine<R> {
     {
         match &self.operation {
             Some(Operation::Rebalancing(_)) => self.rebalance(budget),
-            Some(
-                Operation::Removing(_) | Operation::Surprising(_) | Operation::Finishing(_),
-            ) => self.remove(),
+            Some(Operation::Removing(_) | Operation::Surprising(_) | Operation::Finishing(_)) =>
+                self.remove(),
             None => unreachable!(),
         }
     }

@@ -1,7 +1,5 @@
-use Rattle.std.proofs.Common.{◌≡◌, ◌==◌, ◌∙◌, ap, sym, not, length, List, ℕ, Some, None, subst}
-use Rattle.std.specs.Option.{option_copied}
-use Rattle.devnode_tree.specs.Entries.{child_serials}
-use Rattle.pnp_machine.specs.Devices.{Devices, has_any_below, serial_born}
+use Rattle.std.proofs.Common.{◌==◌, ◌∙◌, ap, sym, not, length, List, ℕ}
+use Rattle.pnp_machine.specs.Devices.{Devices}
 use Rattle.pnp_machine.proofs.WindowSteps.{below_in_world, below_no_node, below_node}
 use Rattle.pnp_machine.proofs.devices.Devices.has_any_below.Goals as goal
 

@@ -1,4 +1,4 @@
-use Rattle.std.proofs.Common.{◌≡◌, ◌∙◌, Bool, ap}
+use Rattle.std.proofs.Common.{◌∙◌, ap}
 use Rattle.pnp_model.specs.Cores.{node_at}
 use Rattle.pnp_machine.specs.Devices.{Devices, is_gone_at}
 use Rattle.pnp_machine.proofs.Departures.{gone_here, gone_unless, stays_here}

@@ -1,4 +1,4 @@
-use Rattle.std.proofs.Common.{◌≡◌, Bool, subst}
+use Rattle.std.proofs.Common.{◌≡◌, subst}
 use Rattle.pnp_model.specs.Cores.{node_at}
 use Rattle.surprise_remove.specs.Ready.{is_ready_at}
 use Rattle.pnp_machine.specs.Devices.{Devices}

@@ -1,13 +1,12 @@
-use Rattle.std.proofs.Common.{◌≡◌, ◌++◌, ◌∷◌, [], Bool, not, ◌&&◌, cond, nat_lt, Some, IsSome, sym, ap, subst, ◌∙◌, option_map}
+use Rattle.std.proofs.Common.{◌≡◌, ◌++◌, ◌∷◌, [], not, ◌&&◌, cond, nat_lt, Some, IsSome, sym, ap, subst, ◌∙◌, option_map}
 use Rattle.device_ids.specs.Folding.{same}
 use Rattle.pnp_labels.specs.declared.label.OpKind.{OpKind}
-use Rattle.pnp_model.specs.Cores.{node_at, serials_of}
+use Rattle.pnp_model.specs.Cores.{node_at}
 use Rattle.pnp_model.specs.Handles.{closed_with}
 use Rattle.pnp_model.specs.Records.{Node, State}
 use Rattle.pnp_model.specs.States.{node_of}
 use Rattle.pnp_model.specs.Tests.{is_surprise_removed}
-use Rattle.devnode_tree.specs.Trees.{Tree, Ascends}
-use Rattle.pnp_machine.specs.Devices.{Devices}
+use Rattle.devnode_tree.specs.Trees.{Tree}
 use Rattle.pnp_machine.specs.Operations.{operation_of}
 use Rattle.pnp_machine.specs.TaskLists.{task_of}
 use Rattle.pnp_machine.specs.declared.tasks.Duty.TheVariants as Duty

@@ -1,4 +1,4 @@
-use Rattle.std.proofs.Common.{◌≡◌, ◌∙◌, ap, sym, option_map}
+use Rattle.std.proofs.Common.{◌∙◌, ap, sym, option_map}
 use Rattle.pnp_model.specs.States.{device_of}
 use Rattle.pnp_machine.specs.Devices.{with_window}
 use Rattle.pnp_machine.specs.Operations.{operation_of}
