@@ -169,6 +169,8 @@ few_by words.Complete (path ∷ minor ∷ ok ∷ []) =
     few_bind (path_of path) (λ path. minor_of minor >>= (λ minor. ok_of ok >>= (λ ok. Some (events.Complete path minor ok))))
     (λ path. few_bind (minor_of minor) (λ minor. ok_of ok >>= (λ ok. Some (events.Complete path minor ok)))
     (λ minor. few_bind (ok_of ok) (λ ok. Some (events.Complete path minor ok)) (λ ok. (tt, tt, tt))))
+few_by words.HandleOpen (path ∷ []) = few_bind (path_of path) (λ path. Some (events.OpenHandle path)) (λ path. (tt, tt, tt))
+few_by words.HandleClose (path ∷ []) = few_bind (path_of path) (λ path. Some (events.CloseHandle path)) (λ path. (tt, tt, tt))
 few_by words.Window (path ∷ res ∷ []) =
     few_bind (path_of path) (λ path. window_res_of res >>= (λ res. Some (events.Window path res)))
     (λ path. few_bind (window_res_of res) (λ res. Some (events.Window path res)) (λ res. (tt, tt, tt)))

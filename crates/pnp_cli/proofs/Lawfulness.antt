@@ -13,7 +13,7 @@ use Rattle.pnp_model.specs.Records as machines
 use Rattle.pnp_model.specs.Records.{Driver, State}
 use Rattle.pnp_model.specs.Machine.{IsQuiet}
 use Rattle.pnp_model.specs.Runs.{Entry, Run, printed, opening}
-use Rattle.pnp_model.specs.Runs.Entry.{Happens, Did}
+use Rattle.pnp_model.specs.Runs.Entry.{Happens, Did, Declines}
 use Rattle.pnp_laws.specs.Stacks.{HasName, NamesDriver}
 use Rattle.pnp_laws.proofs.NamesGiven.{names_are_given}
 use Rattle.pnp_laws.proofs.Reaching.{run_on}
@@ -24,6 +24,9 @@ use Rattle.pnp_laws.proofs.RunsStacks.{keyed, names_are_known, stacks_fit}
 use Rattle.pnp_laws.proofs.RunsTold.{states_are_told}
 use Rattle.pnp_laws.proofs.RunsWhole.{all_hold_whole}
 use Rattle.pnp_laws.proofs.RunsWindows.{held_inside_windows}
+use Rattle.pnp_laws.proofs.OpenHandles.{open_handles_fit}
+use Rattle.pnp_laws.proofs.DependentsTold.{dependents_are_told}
+use Rattle.pnp_laws.proofs.RunsReady.{ready_ones_are_due}
 use Rattle.pnp_laws.proofs.RunsStand.{every_run_follows, dependents_go_first}
 use Rattle.pnp_laws.proofs.RunsStrays.{nobody_is_forgotten}
 use Rattle.pnp_laws.proofs.RunsBegun.{operations_begin}
@@ -44,7 +47,7 @@ use Rattle.pnp_cli.specs.Infs.{infs_in}
 use Rattle.pnp_cli.specs.Runs.{IsOutput, IsOutputBy, IsOutputFor, IsScriptOutput, IsSummaryBy, machine}
 use Rattle.pnp_cli.specs.Contents.{events_of}
 use Rattle.pnp_cli.specs.Words.{settings_of}
-use Rattle.pnp_cli.specs.Lawful.{happened, events_in, IsStep, IsTold, Said, SomeRun, OfRun, EachPassed, EachState, EachStep, OfScript, OfInfs, OfMade, OfSource, OfOutput, ByDiagram, NothingClashes, AllHoldWhole, OperationsBegan, EndsRestore, DependentsGoFirst, ConflictsAreReal, FewJoin, AllStatesTold, NodesAreKeyed, NothingOnItself, MapIsClear, AllStacksFit, NamesAreKnown, NobodyIsForgotten, EachHoldsPart, HeldInsideWindows, FewAreHeld, NamesAreShown, ShowsName, TreeIsWhole}
+use Rattle.pnp_cli.specs.Lawful.{happened, events_in, IsStep, IsTold, Said, SomeRun, OfRun, EachPassed, EachState, EachStep, OfScript, OfInfs, OfMade, OfSource, OfOutput, ByDiagram, NothingClashes, AllHoldWhole, OperationsBegan, EndsRestore, DependentsGoFirst, ConflictsAreReal, FewJoin, AllStatesTold, NodesAreKeyed, NothingOnItself, MapIsClear, AllStacksFit, NamesAreKnown, NobodyIsForgotten, EachHoldsPart, HeldInsideWindows, HandlesAreKept, FewAreHeld, NamesAreShown, ShowsName, TreeIsWhole}
 use Rattle.pnp_cli.specs.declared.infs.InfsError.{InfsError}
 use Rattle.pnp_cli.proofs.FewIds.{NamesByWord, names_by_words, script_within}
 use Rattle.pnp_cli.specs.declared.parts.Settings.{Settings}
@@ -260,11 +263,21 @@ unfolding Holds
 output_inside_windows words contents rack =
     of_output (EachState HeldInsideWindows) rack (λ settings script report text shows entries last told s state. held_inside_windows settings rack state.earlier s state.before) words contents
 
+pub output_handles : (words : List Text) (contents : Option (Text → Option (List ℕ))) (rack : List Driver) → OfOutput (EachState HandlesAreKept) words contents rack
+unfolding Holds
+output_handles words contents rack =
+    of_output (EachState HandlesAreKept) rack
+    (λ settings script report text shows entries last told s state. (
+      open_handles_fit settings rack state.earlier s state.before,
+      λ neither. (dependents_are_told settings rack state.earlier s state.before neither, ready_ones_are_due settings rack state.earlier s state.before neither),
+    )) words contents
+
 -- what the events of a run plug is within the limits of the script
 entries_within : (entries : List Entry) → AllByRecursion (IsEventWithin 16) (happened entries) → AllByRecursion (IsEntryWithin 16) entries
 entries_within [] h = tt
 entries_within (Happens event label ∷ rest) h = (h.0, entries_within rest h.1)
 entries_within (Did label ∷ rest) h = (tt, entries_within rest h)
+entries_within (Declines label ∷ rest) h = (tt, entries_within rest h)
 
 front_within : (xs ys : List Entry) → AllByRecursion (IsEntryWithin 16) (xs ++ ys) → AllByRecursion (IsEntryWithin 16) xs
 front_within [] ys h = tt
@@ -300,11 +313,13 @@ nameless kind book (x ∷ xs) (suc d) name h = nameless kind book xs d name h
 abbrev EntryByWord : Entry → Type 0
 EntryByWord (Happens event label) = NamesByWord event
 EntryByWord (Did label) = Unit {0}
+EntryByWord (Declines label) = Unit {0}
 
 entries_by_words : (entries : List Entry) → AllByRecursion NamesByWord (happened entries) → AllByRecursion EntryByWord entries
 entries_by_words [] h = tt
 entries_by_words (Happens event label ∷ rest) h = (h.0, entries_by_words rest h.1)
 entries_by_words (Did label ∷ rest) h = (tt, entries_by_words rest h)
+entries_by_words (Declines label ∷ rest) h = (tt, entries_by_words rest h)
 
 -- a name of the rack in a run of a script
 name_shown : (settings : machines.Settings) (rack : List Driver) (script : List ℕ) (report : Report) (text : Text) (entries : List Entry) (last : State) (earlier : List Entry) (old : State) (entry : Entry) (new : State)

@@ -12,7 +12,7 @@ use Rattle.pnp_model.specs.Records.{Driver, State, Step}
 use Rattle.pnp_model.specs.Machine.{IsQuiet}
 use Rattle.pnp_model.specs.Events.{happens}
 use Rattle.pnp_model.specs.Runs.{Entry, Run, printed, opening}
-use Rattle.pnp_model.specs.Runs.Entry.{Happens, Did}
+use Rattle.pnp_model.specs.Runs.Entry.{Happens, Did, Declines}
 use Rattle.pnp_laws.specs.Ends as laws
 use Rattle.pnp_laws.specs.Ends.{AllSteps}
 use Rattle.pnp_laws.specs.Reached.{IsReached}
@@ -63,6 +63,7 @@ settles_by : (settings : machines.Settings) (s last : State) (steps : List Entry
 settles_by settings s last [] alone run quiet = (run, subst (λ (x : State). IsQuiet settings x) run quiet)
 settles_by settings s last (Did label ∷ rest) alone (mid, steps, run) quiet = (mid, steps, settles_by settings mid last rest alone run quiet)
 settles_by settings s last (Happens event label ∷ rest) alone run quiet = absurd alone
+settles_by settings s last (Declines label ∷ rest) alone run quiet = absurd alone
 
 -- a quiet state of a run
 record Resting (settings : machines.Settings) (rack : List Driver) (s : State) : Type 0 where

@@ -8,7 +8,7 @@ use Rattle.pnp_model.specs.Records as machines
 use Rattle.pnp_model.specs.Records.{Driver, State}
 use Rattle.pnp_model.specs.Machine.{IsQuiet}
 use Rattle.pnp_model.specs.Runs.{Entry, Goes, Run, printed}
-use Rattle.pnp_model.specs.Runs.Entry.{Happens, Did}
+use Rattle.pnp_model.specs.Runs.Entry.{Happens, Did, Declines}
 use Rattle.pnp_model.specs.Diagram.{FollowsDiagram, Walked}
 use Rattle.pnp_model.specs.Sharing.{Clear}
 use Rattle.pnp_model.specs.Laws.{Reaches, HoldsWhole, DependentsFirst}
@@ -20,6 +20,7 @@ use Rattle.pnp_laws.specs.Printed.{TreeIsPrinted}
 use Rattle.pnp_laws.specs.Stacks.{NamesDriver, StacksFit}
 use Rattle.pnp_laws.specs.Strays.{NobodyForgotten}
 use Rattle.pnp_laws.specs.Told.{StatesTold}
+use Rattle.pnp_laws.specs.Waiting.{DependentsTold, NeitherRuns, OpenHandles, ReadyDue}
 use Rattle.pnp_laws.specs.Windows.{InsideWindows}
 use Rattle.script_reader.specs.Script.{Trace, gives, waits, ends, stops}
 use Rattle.inf_reader.specs.declared.parts.Inf.{Inf}
@@ -40,6 +41,7 @@ abbrev pub happened : List Entry → List Event
 happened [] = []
 happened (Happens event label ∷ rest) = event ∷ happened rest
 happened (Did label ∷ rest) = happened rest
+happened (Declines label ∷ rest) = happened rest
 
 -- the events of a script, up to its end or its first bad line
 abbrev pub events_in : Trace → List Event
@@ -200,6 +202,11 @@ EachHoldsPart s = AllHoldParts s.core.nodes
 -- what a device holds lies inside the windows of every device above it
 abbrev pub HeldInsideWindows : State → Type 0
 HeldInsideWindows s = InsideWindows s
+
+-- who has an open handle is up or waits to be finished; and where neither a surprise removal nor a finish runs, what depends on
+-- a device that waits to be finished waits as well, and one that is ready has a task that finishes it
+abbrev pub HandlesAreKept : State → Type 0
+HandlesAreKept s = OpenHandles s × (NeitherRuns s.operation → DependentsTold s.core × ReadyDue s)
 
 -- no alternative of a device has more than 16 groups; and where none has more than some number, at most one more than that
 -- number is held or reserved for each event, and for the root

@@ -7,7 +7,7 @@ ghost use Rattle.pnp_cli.specs.Contents.{script_status};
 ghost use Rattle.pnp_cli.specs.Pieces.{answer_by};
 ghost use Rattle.pnp_cli.specs.Turns.{Awaits};
 ghost use Rattle.pnp_machine.specs.Managers.{settings};
-ghost use Rattle.pnp_cli.specs.Lawful.{OfOutput, SomeRun, OfRun, EachState, EachStep, ByDiagram, NothingClashes, AllHoldWhole, OperationsBegan, EndsRestore, DependentsGoFirst, ConflictsAreReal, FewJoin, AllStatesTold, NodesAreKeyed, NothingOnItself, MapIsClear, AllStacksFit, NamesAreKnown, NobodyIsForgotten, EachPassed, EachHoldsPart, HeldInsideWindows, FewAreHeld, NamesAreShown, TreeIsWhole};
+ghost use Rattle.pnp_cli.specs.Lawful.{OfOutput, SomeRun, OfRun, EachState, EachStep, ByDiagram, NothingClashes, AllHoldWhole, OperationsBegan, EndsRestore, DependentsGoFirst, ConflictsAreReal, FewJoin, AllStatesTold, NodesAreKeyed, NothingOnItself, MapIsClear, AllStacksFit, NamesAreKnown, NobodyIsForgotten, EachPassed, EachHoldsPart, HeldInsideWindows, HandlesAreKept, FewAreHeld, NamesAreShown, TreeIsWhole};
 ghost use Rattle.pnp_cli.specs.Limits.{IsWithin};
 ghost use Rattle.driver_rack.specs.Rows.{unnamed};
 
@@ -271,6 +271,7 @@ pub fn run<F: Files, K: Sink>(
     ensures forgotten { OfOutput (EachState NobodyIsForgotten) (texts words.now) (F.contents files.old) (map (λ b. unnamed (kind_of b) (book b)) rack.items) }
     ensures parts { OfOutput (EachState EachHoldsPart) (texts words.now) (F.contents files.old) (map (λ b. unnamed (kind_of b) (book b)) rack.items) }
     ensures windows { OfOutput (EachState HeldInsideWindows) (texts words.now) (F.contents files.old) (map (λ b. unnamed (kind_of b) (book b)) rack.items) }
+    ensures handles { OfOutput (EachState HandlesAreKept) (texts words.now) (F.contents files.old) (map (λ b. unnamed (kind_of b) (book b)) rack.items) }
     ensures few { OfOutput (EachPassed FewAreHeld) (texts words.now) (F.contents files.old) (map (λ b. unnamed (kind_of b) (book b)) rack.items) }
     ensures shown { OfOutput (EachStep NamesAreShown) (texts words.now) (F.contents files.old) (map (λ b. unnamed (kind_of b) (book b)) rack.items) }
     ensures tree { OfOutput (EachState TreeIsWhole) (texts words.now) (F.contents files.old) (map (λ b. unnamed (kind_of b) (book b)) rack.items) }

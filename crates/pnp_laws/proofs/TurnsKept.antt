@@ -49,7 +49,7 @@ ready_parts c handles node h =
     let last = and_both (not (is_open handles node.serial)) (not (list_any (holds_back c node.serial) c.nodes)) more.1 in
     record { shut = not_true (is_open handles node.serial) last.0; lone = not_true (list_any (holds_back c node.serial) c.nodes) last.1 }
 
-ready_bare : (next : ℕ) (c : Core) (handles : List Handle) (node : Node) → StacksFit c.nodes → Tree next c → IsReady c handles node → (i : ℕ) (m : Node) → node_at i c.nodes ≡ Some m → hangs_on c (node.serial ∷ []) m ≡ true → m.state ≡ NoStack
+pub ready_bare : (next : ℕ) (c : Core) (handles : List Handle) (node : Node) → StacksFit c.nodes → Tree next c → IsReady c handles node → (i : ℕ) (m : Node) → node_at i c.nodes ≡ Some m → hangs_on c (node.serial ∷ []) m ≡ true → m.state ≡ NoStack
 ready_bare next c handles node stacks tree ready i m at on =
     let stack = no_stack m.stack (both_false (hangs_on c (node.serial ∷ []) m) (has_drivers m.stack) on (none_of (holds_back c node.serial) c.nodes i m ready.lone at)) in
     let up : i ≢ 0 = λ z. tree.free node.serial m (subst (λ (x : ℕ). node_at x c.nodes ≡ Some m) z at) on in

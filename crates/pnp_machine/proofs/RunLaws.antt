@@ -29,6 +29,9 @@ use Rattle.pnp_laws.proofs.RunsStrays.{nobody_is_forgotten}
 use Rattle.pnp_laws.proofs.RunsTold.{states_are_told}
 use Rattle.pnp_laws.proofs.RunsWhole.{all_hold_whole}
 use Rattle.pnp_laws.proofs.RunsWindows.{held_inside_windows}
+use Rattle.pnp_laws.proofs.OpenHandles.{open_handles_fit}
+use Rattle.pnp_laws.proofs.DependentsTold.{dependents_are_told}
+use Rattle.pnp_laws.proofs.RunsReady.{ready_ones_are_due}
 use Rattle.pnp_laws.proofs.TreePrints.{each_node_is_printed_once}
 use Rattle.pnp_machine.specs.Machines.{IsDone, Moves}
 use Rattle.pnp_machine.specs.Ids.{AreFewIds}
@@ -82,6 +85,9 @@ module _ (told : Settings) (s t : State) where
             let count : events h.entries ≡ n = h.count in
             omega arith;
         inside = held_inside_windows told h.rack (h.entries ++ entry ∷ []) t more;
+        handles = open_handles_fit told h.rack (h.entries ++ entry ∷ []) t more;
+        together = dependents_are_told told h.rack (h.entries ++ entry ∷ []) t more;
+        ready = ready_ones_are_due told h.rack (h.entries ++ entry ∷ []) t more;
         states = states_are_told told h.rack h.entries s entry t h.reaches goes;
         first = dependents_go_first told h.rack h.entries s entry t h.reaches goes;
         keyed = keyed told h.rack (h.entries ++ entry ∷ []) t more;

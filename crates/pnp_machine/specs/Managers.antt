@@ -17,6 +17,7 @@ use Rattle.pnp_laws.specs.Needs.{IsEntryWithin}
 use Rattle.pnp_laws.specs.Stacks.{NamesDriver, StacksFit}
 use Rattle.pnp_laws.specs.Strays.{NobodyForgotten}
 use Rattle.pnp_laws.specs.Told.{StatesTold}
+use Rattle.pnp_laws.specs.Waiting.{DependentsTold, NeitherRuns, OpenHandles, ReadyDue}
 use Rattle.pnp_laws.specs.Windows.{InsideWindows}
 use Rattle.pnp_laws.specs.Ends as ends
 use Rattle.start_sequence.specs.Begins.{settings_of}
@@ -61,7 +62,8 @@ pub record IsManager (infs : List Inf) (budget events : ℕ) (s : State) : Type 
 
 -- what holds of each step and each event: states change by rows of the diagram, at the printed path alone and by the
 -- request that has just ended there; nothing clashes, devices that are up hold one whole alternative and all others one or
--- nothing, so that fewer than 2^29 resources are held or reserved, and each inside the windows above; dependents go first; nodes are told apart, nothing
+-- nothing, so that fewer than 2^29 resources are held or reserved, and each inside the windows above; who has an open handle is up or waits to be finished, what depends on a device that waits
+-- waits as well, and one that is ready has a task; dependents go first; nodes are told apart, nothing
 -- depends on itself, no two of the printed resources clash, stacks are short and of drivers with names, and such a name is
 -- printed where a driver is asked; where no operation runs, who was stopped, or holds something and is not up, is being
 -- started or is due to go; and whatever run leads to it, what ends has begun in it, a veto and a futile rebalance restore,
@@ -74,6 +76,9 @@ pub record KeepsLaws (told : Settings) (label : Label) (old new : State) : Type 
   pub parts : AllHoldParts new.core.nodes
   pub few : how_many new.core < 2 ^ 29
   pub inside : InsideWindows new
+  pub handles : OpenHandles new
+  pub together : NeitherRuns new.operation → DependentsTold new.core
+  pub ready : NeitherRuns new.operation → ReadyDue new
   pub states : StatesTold label old new
   pub first : DependentsFirst label old.core new.core
   pub keyed : Keyed new

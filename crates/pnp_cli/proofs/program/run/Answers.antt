@@ -1,5 +1,5 @@
 use Rattle.pnp_cli.specs.Words.{texts, settings_of}
-use Rattle.pnp_cli.proofs.Lawfulness.{output_tells, output_by_diagram, output_shares, output_holds_whole, output_restores, output_dependents, output_conflicts, output_begins, output_joins, output_told, output_keyed, output_acyclic, output_map_clear, output_stacks, output_names, output_remembers, output_holds_parts, output_inside_windows, output_holds_few, output_shown, output_tree}
+use Rattle.pnp_cli.proofs.Lawfulness.{output_tells, output_by_diagram, output_shares, output_holds_whole, output_restores, output_dependents, output_conflicts, output_begins, output_joins, output_told, output_keyed, output_acyclic, output_map_clear, output_stacks, output_names, output_remembers, output_holds_parts, output_inside_windows, output_handles, output_holds_few, output_shown, output_tree}
 use Rattle.pnp_cli.proofs.OneOutput.{one_front}
 use Rattle.pnp_cli.proofs.program.run.Goals as goal
 
@@ -59,6 +59,9 @@ returns-clause-parts g c = output_holds_parts (texts c.args.words.now) (g.F.File
 
 pub returns-clause-windows : goal.returns-clause-windows
 returns-clause-windows g c = output_inside_windows (texts c.args.words.now) (g.F.Files.contents c.args.files.now) _
+
+pub returns-clause-handles : goal.returns-clause-handles
+returns-clause-handles g c = output_handles (texts c.args.words.now) (g.F.Files.contents c.args.files.now) _
 
 pub returns-clause-few : goal.returns-clause-few
 returns-clause-few g c = output_holds_few (texts c.args.words.now) (g.F.Files.contents c.args.files.now) _
