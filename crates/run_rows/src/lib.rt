@@ -6,6 +6,8 @@ mod faults;
 #[cfg(test)]
 mod generated;
 #[cfg(test)]
+mod held_scripts;
+#[cfg(test)]
 mod large_runs;
 #[cfg(test)]
 mod live;

@@ -51,7 +51,7 @@ pub fn ended_into(
 }
 
 /// A script with these INFs over those drivers ends with this status and writes this.
-fn runs(
+pub fn runs(
     rt: &impl Abort,
     alloc: Global,
     infs: &[&[u8]],
