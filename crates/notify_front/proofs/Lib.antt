@@ -1,0 +1,2 @@
+mod RowBase
+mod RowsNotices
