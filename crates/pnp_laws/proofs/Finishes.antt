@@ -1,25 +1,29 @@
 -- Devices are finished in leaving order: nothing hangs on the one that is next but what is done.
-use Rattle.std.proofs.Common.{ℕ, suc, ◌<◌, ◌≡◌, ◌≢◌, inl, inr, Bool, true, false, cond, List, [], ◌∷◌, length, Some, refl, sym, ap, ◌∙◌, subst, arith}
+use Rattle.std.specs.List.{list_any}
+use Rattle.std.proofs.Common.{ℕ, suc, ◌<◌, ◌≡◌, ◌≢◌, ◌||◌, inl, inr, Bool, true, false, cond, List, [], ◌∷◌, length, Some, refl, sym, ap, ◌∙◌, subst, arith}
 use Rattle.std.proofs.lemmas.Bool.{cases_eq}
 use Rattle.std.proofs.lemmas.Bool.Decides.{nat_tests}
 use Rattle.pnp_model.specs.Keyed.{those}
 use Rattle.pnp_model.specs.Tests.{has}
-use Rattle.pnp_model.specs.Records.{Node, Core}
+use Rattle.pnp_model.specs.Records.{Node, Core, Handle, Surprise}
 use Rattle.pnp_model.specs.Cores.{node_at, strip, drop_node}
 use Rattle.pnp_model.specs.Frames.{rest}
+use Rattle.pnp_model.specs.Handles.{is_open}
+use Rattle.pnp_model.specs.Surprises.{stays_behind}
 use Rattle.pnp_model.specs.Trees.{hangs_on, set_of, dependents, direct, leaving}
 use Rattle.pnp_labels.specs.declared.states.DevState.TheVariants.{NoStack}
-use Rattle.pnp_laws.specs.Kept.{Ascending}
-use Rattle.pnp_laws.proofs.Lookups.{Ascending-changed, Ascending-without, left_from}
-use Rattle.pnp_laws.proofs.Lists.{HeadIs, rest_has, those_found}
-use Rattle.pnp_laws.proofs.Closures.{Closed, is_in, closed_keeps, closed_within, hangs_some, hangs_more, those_serial}
-use Rattle.pnp_laws.proofs.Orders.{Ranked, dependents_rank, order_has, order_all}
+use Rattle.pnp_laws.specs.Kept.{Ascending, Distinct}
+use Rattle.pnp_laws.proofs.Lookups.{Ascending-changed, Ascending-without, left_from, some_same}
+use Rattle.pnp_laws.proofs.Lists.{HeadIs, cons_here, cons_there, has_cases, not_head, rest_has, rest_not}
+use Rattle.pnp_laws.proofs.Closures.{Closed, is_in, closed_keeps, hangs_some, hangs_more, those_serial}
+use Rattle.pnp_laws.proofs.Orders.{Ranked, any_some, dependents_rank, order_has, order_all}
 use Rattle.pnp_laws.proofs.Ranks.{NoNewEdge, edges_stripped, edges_left}
 use Rattle.pnp_laws.proofs.Due.{Sorted, set_closed, order_sorted, dependents_less}
-use Rattle.pnp_laws.proofs.Standing.{Tree, Finishes}
+use Rattle.pnp_laws.proofs.Standing.{Tree, Finishes, FinishesBut, HeadAlone, IsFree}
 use Rattle.pnp_laws.proofs.TreeChanges.{SameTree, edges_same}
 use Rattle.pnp_laws.proofs.TreeMoves.{Childless, was_stripped}
 use Rattle.pnp_laws.proofs.SoundStarts.{child_hangs}
+use Rattle.pnp_laws.proofs.Truths.{by_test, or_neither, untrue}
 
 -- The begin -------------------------------------------------------------------------------------
 
@@ -104,31 +108,7 @@ sorted_less c d (k ∷ ks) fades h =
 pub finishes_all : (c d : Core) (set : List ℕ) → Fades c d → Finishes c set set → Finishes d set set
 finishes_all c d set fades h = finishes_whole d set (closed_less c d set fades h.closed) (sorted_less c d set fades h.sorted)
 
--- the same nodes, with the same states
-pub finishes_still : (c d : Core) (set todo : List ℕ) → Fades c d → d.nodes ≡ c.nodes → Finishes c set todo → Finishes d set todo
-finishes_still c d set todo fades e h =
-    record {
-      closed = closed_less c d set fades h.closed;
-      bare = λ k n at. h.bare k n (subst (λ (x : List Node). node_at k x ≡ Some n) e at);
-      below = λ j m at. h.below j m (subst (λ (x : List Node). node_at j x ≡ Some m) e at);
-      sorted = sorted_less c d todo fades h.sorted;
-    }
-
--- the head loses its drivers
-pub finishes_strip : (c : Core) (set todo : List ℕ) (j : ℕ) → Ascending 0 c.nodes → has todo j ≡ true → Finishes c set todo → Finishes (strip j c) set todo
-finishes_strip c set todo j order here h =
-    let fades = fades_strip j c order in
-    record {
-      closed = closed_less c (strip j c) set fades h.closed;
-      bare = λ k n at a b.
-          let was = was_stripped j k c n at in
-          let other : j ≢ k = λ e. let z = subst (λ (i : ℕ). has todo i ≡ true) e here in cc in
-          subst (λ (x : Node). x.state ≡ NoStack) (sym (was.other other)) (h.bare k was.node was.at a b);
-      below = λ i m at up a.
-          let was = was_stripped j i c m at in
-          h.below i was.node was.at up (subst (λ (p : ℕ). has set p ≡ true) was.parent a);
-      sorted = sorted_less c (strip j c) todo fades h.sorted;
-    }
+-- What is finished --------------------------------------------------------------------------------
 
 sorted_rest : (c : Core) (todo : List ℕ) → Sorted c todo → Sorted c (rest todo)
 sorted_rest c [] h = tt
@@ -137,45 +117,129 @@ sorted_rest c (k ∷ ks) h = h.1
 not_rest : (todo : List ℕ) (j k : ℕ) → HeadIs j todo → j ≢ k → has (rest todo) k ≡ false → has todo k ≡ false
 not_rest todo j k head d h = sym (rest_has j k todo head d) ∙ h
 
--- the head is done, and stays
+rest_out : (todo : List ℕ) (k : ℕ) → has todo k ≡ false → has (rest todo) k ≡ false
+rest_out [] k h = h
+rest_out (i ∷ is) k h = grind (arith, nat_tests)
+
+out_cons : (j k : ℕ) (ks : List ℕ) → has (j ∷ ks) k ≡ false → has ks k ≡ false
+out_cons j k ks h = elim (cases_eq j k) [ inl e ↦ absurd (not_head j k ks h e) | inr d ↦ grind (arith, nat_tests) ]
+
+-- nobody stayed behind, or none that did
+pub but_none : (c : Core) (set todo : List ℕ) → Finishes c set todo → FinishesBut c set [] todo
+but_none c set todo h = record { closed = h.closed; bare = λ k n at a b d. h.bare k n at a b; below = λ j m at up a. inl (h.below j m at up a); sorted = h.sorted; apart = λ k b. absurd (cc) }
+
+none_but : (c : Core) (set todo : List ℕ) → FinishesBut c set [] todo → Finishes c set todo
+none_but c set todo h =
+    record {
+      closed = h.closed;
+      bare = λ k n at a b. h.bare k n at a b refl;
+      below = λ j m at up a. elim (h.below j m at up a) [ inl e ↦ e | inr e ↦ absurd (cc) ];
+      sorted = h.sorted;
+    }
+
+module _ (c : Core) (set behind todo : List ℕ) where
+  -- the same nodes, with the same states
+  pub but_still : (d : Core) → Fades c d → d.nodes ≡ c.nodes → FinishesBut c set behind todo → FinishesBut d set behind todo
+  but_still d fades e h =
+      record {
+        closed = closed_less c d set fades h.closed;
+        bare = λ k n at. h.bare k n (subst (λ (x : List Node). node_at k x ≡ Some n) e at);
+        below = λ j m at. h.below j m (subst (λ (x : List Node). node_at j x ≡ Some m) e at);
+        sorted = sorted_less c d todo fades h.sorted;
+        apart = h.apart;
+      }
+
+  -- the head loses its drivers
+  pub but_strip : (j : ℕ) → Ascending 0 c.nodes → has todo j ≡ true → FinishesBut c set behind todo → FinishesBut (strip j c) set behind todo
+  but_strip j order here h =
+      let fades = fades_strip j c order in
+      record {
+        closed = closed_less c (strip j c) set fades h.closed;
+        bare = λ k n at a b d.
+            let was = was_stripped j k c n at in
+            let other : j ≢ k = λ e. let z = subst (λ (i : ℕ). has todo i ≡ true) e here in cc in
+            subst (λ (x : Node). x.state ≡ NoStack) (sym (was.other other)) (h.bare k was.node was.at a b d);
+        below = λ i m at up a.
+            let was = was_stripped j i c m at in
+            h.below i was.node was.at up (subst (λ (p : ℕ). has set p ≡ true) was.parent a);
+        sorted = sorted_less c (strip j c) todo fades h.sorted;
+        apart = h.apart;
+      }
+
+  -- the head is done, and stays
+  pub but_stays : (d : Core) (j : ℕ) (node : Node) → Fades c d → HeadIs j todo → node_at j c.nodes ≡ Some node → has set node.parent ≡ false →
+      ((k : ℕ) (m : Node) → node_at k d.nodes ≡ Some m → (n : Node) × (node_at k c.nodes ≡ Some n) × (m.parent ≡ n.parent) × (m.state ≡ n.state)) → node.state ≡ NoStack →
+      FinishesBut c set behind todo → FinishesBut d set behind (rest todo)
+  but_stays d j node fades head at over from bare h =
+      record {
+        closed = closed_less c d set fades h.closed;
+        bare = λ k n there a b e.
+            let was = from k n there in
+            elim (cases_eq j k) [
+              | inl q ↦
+                  let one = some_same (node_at k c.nodes) node was.0 (subst (λ (i : ℕ). node_at i c.nodes ≡ Some node) q at) was.1 in
+                  was.3 ∙ ap (λ (x : Node). x.state) (sym one) ∙ bare
+              | inr d ↦ was.3 ∙ h.bare k was.0 was.1 a (not_rest todo j k head d b) e
+            ];
+        below = λ i m there up a.
+            let was = from i m there in
+            let a2 = subst (λ (p : ℕ). has set p ≡ true) was.2 a in
+            elim (cases_eq j i) [
+              | inl q ↦
+                  let one = some_same (node_at i c.nodes) node was.0 (subst (λ (x : ℕ). node_at x c.nodes ≡ Some node) q at) was.1 in
+                  absurd (let a3 = subst (λ (x : Node). has set x.parent ≡ true) (sym one) a2 in cc)
+              | inr d ↦ elim (h.below i was.0 was.1 up a2) [ inl e ↦ inl (rest_has j i todo head d ∙ e) | inr e ↦ inr e ]
+            ];
+        sorted = sorted_less c d (rest todo) fades (sorted_rest c todo h.sorted);
+        apart = λ k b. rest_out todo k (h.apart k b);
+      }
+
+  -- the head is done, and left
+  pub but_left : (j : ℕ) → Ascending 0 c.nodes → HeadIs j todo → FinishesBut c set behind todo → FinishesBut (drop_node j c) set behind (rest todo)
+  but_left j order head h =
+      let fades = fades_left j c order in
+      record {
+        closed = closed_less c (drop_node j c) set fades h.closed;
+        bare = λ k n there a b d. let from = left_from j k c.nodes n order there in h.bare k n from.1 a (not_rest todo j k head from.0 b) d;
+        below = λ i m there up a.
+            let from = left_from j i c.nodes m order there in
+            elim (h.below i m from.1 up a) [ inl e ↦ inl (rest_has j i todo head from.0 ∙ e) | inr e ↦ inr e ];
+        sorted = sorted_less c (drop_node j c) (rest todo) fades (sorted_rest c todo h.sorted);
+        apart = λ k b. rest_out todo k (h.apart k b);
+      }
+
+  -- the head stays behind
+  pub but_waits : (j : ℕ) → HeadIs j todo → Distinct todo → FinishesBut c set behind todo → FinishesBut c set (j ∷ behind) (rest todo)
+  but_waits j head apart h =
+      record {
+        closed = h.closed;
+        bare = λ k n at a b d. h.bare k n at a (not_rest todo j k head (not_head j k behind d) b) (out_cons j k behind d);
+        below = λ i m at up a.
+            elim (h.below i m at up a) [
+              | inl e ↦ elim (cases_eq j i) [ inl q ↦ inr (subst (λ (x : ℕ). has (j ∷ behind) x ≡ true) q (cons_here j behind)) | inr d ↦ inl (rest_has j i todo head d ∙ e) ]
+              | inr e ↦ inr (cons_there j behind i e)
+            ];
+        sorted = sorted_rest c todo h.sorted;
+        apart = λ k b.
+            elim (has_cases j k behind b) [
+              | inl e ↦ subst (λ (x : ℕ). has (rest todo) x ≡ false) e (rest_not j todo head apart)
+              | inr q ↦ rest_out todo k (h.apart k q)
+            ];
+      }
+
+pub finishes_still : (c d : Core) (set todo : List ℕ) → Fades c d → d.nodes ≡ c.nodes → Finishes c set todo → Finishes d set todo
+finishes_still c d set todo fades e h = none_but d set todo (but_still c set [] todo d fades e (but_none c set todo h))
+
+pub finishes_strip : (c : Core) (set todo : List ℕ) (j : ℕ) → Ascending 0 c.nodes → has todo j ≡ true → Finishes c set todo → Finishes (strip j c) set todo
+finishes_strip c set todo j order here h = none_but (strip j c) set todo (but_strip c set [] todo j order here (but_none c set todo h))
+
 pub finishes_stays : (c d : Core) (set todo : List ℕ) (j : ℕ) (node : Node) → Fades c d → HeadIs j todo → node_at j c.nodes ≡ Some node → has set node.parent ≡ false →
     ((k : ℕ) (m : Node) → node_at k d.nodes ≡ Some m → (n : Node) × (node_at k c.nodes ≡ Some n) × (m.parent ≡ n.parent) × (m.state ≡ n.state)) → node.state ≡ NoStack →
     Finishes c set todo → Finishes d set (rest todo)
-finishes_stays c d set todo j node fades head at over from bare h =
-    record {
-      closed = closed_less c d set fades h.closed;
-      bare = λ k n there a b.
-          let was = from k n there in
-          elim (cases_eq j k) [
-            | inl e ↦
-                let at_k = subst (λ (i : ℕ). node_at i c.nodes ≡ Some node) e at in
-                let one : node ≡ was.0 = let q = was.1 in cc in
-                was.3 ∙ ap (λ (x : Node). x.state) (sym one) ∙ bare
-            | inr q ↦ was.3 ∙ h.bare k was.0 was.1 a (not_rest todo j k head q b)
-          ];
-      below = λ i m there up a.
-          let was = from i m there in
-          let a2 = subst (λ (p : ℕ). has set p ≡ true) was.2 a in
-          elim (cases_eq j i) [
-            | inl e ↦
-                let at_i = subst (λ (x : ℕ). node_at x c.nodes ≡ Some node) e at in
-                let one : node ≡ was.0 = let q = was.1 in cc in
-                absurd (let a3 = subst (λ (x : Node). has set x.parent ≡ true) (sym one) a2 in cc)
-            | inr q ↦ rest_has j i todo head q ∙ h.below i was.0 was.1 up a2
-          ];
-      sorted = sorted_less c d (rest todo) fades (sorted_rest c todo h.sorted);
-    }
+finishes_stays c d set todo j node fades head at over from bare h = none_but d set (rest todo) (but_stays c set [] todo d j node fades head at over from bare (but_none c set todo h))
 
--- the head is done, and left
 pub finishes_left : (c : Core) (set todo : List ℕ) (j : ℕ) → Ascending 0 c.nodes → HeadIs j todo → Finishes c set todo → Finishes (drop_node j c) set (rest todo)
-finishes_left c set todo j order head h =
-    let fades = fades_left j c order in
-    record {
-      closed = closed_less c (drop_node j c) set fades h.closed;
-      bare = λ k n there a b. let from = left_from j k c.nodes n order there in h.bare k n from.1 a (not_rest todo j k head from.0 b);
-      below = λ i m there up a. let from = left_from j i c.nodes m order there in rest_has j i todo head from.0 ∙ h.below i m from.1 up a;
-      sorted = sorted_less c (drop_node j c) (rest todo) fades (sorted_rest c todo h.sorted);
-    }
+finishes_left c set todo j order head h = none_but (drop_node j c) set (rest todo) (but_left c set [] todo j order head (but_none c set todo h))
 
 -- What hangs on the head ---------------------------------------------------------------------------
 
@@ -184,34 +248,45 @@ sorted_head c [] j head h i a b = absurd head
 sorted_head c (k ∷ ks) j head h i a b = h.0 i a (subst (λ (x : ℕ). has (dependents c x) i ≡ true) (sym head) b)
 
 -- the dependents of the head are not among what is to do
-pub dependents_done : (next : ℕ) (c : Core) (set todo : List ℕ) (j : ℕ) → Ascending 0 c.nodes → Tree next c → HeadIs j todo → Finishes c set todo → (i : ℕ) → has (dependents c j) i ≡ true → has todo i ≡ true → ⊥
-dependents_done next c set todo j order tree head h i dep in_todo =
-    elim (cases_eq j i) [
+dependents_done : (next : ℕ) (c : Core) (todo : List ℕ) (j : ℕ) → Ascending 0 c.nodes → Tree next c → HeadIs j todo → Sorted c todo → (i : ℕ) → has (dependents c j) i ≡ true → has todo i ≡ false
+dependents_done next c todo j order tree head sorted i dep =
+    untrue (has todo i)
+    (λ in_todo. elim (cases_eq j i) [
       | inl e ↦ (let low = dependents_rank tree.rank c j order tree.ranked i dep in let same = ap tree.rank e in absurd (omega arith))
-      | inr d ↦ sorted_head c todo j head h.sorted i (rest_has j i todo head d ∙ in_todo) dep
-    ]
+      | inr d ↦ sorted_head c todo j head sorted i (rest_has j i todo head d ∙ in_todo) dep
+    ])
 
--- they are in the set
-pub dependents_in : (c : Core) (set : List ℕ) (j : ℕ) → Ascending 0 c.nodes → Closed c set → has set j ≡ true → (i : ℕ) → has (dependents c j) i ≡ true → has set i ≡ true
-dependents_in c set j order closed own i dep =
-    closed_within c (direct c j) set order closed
-    (λ k h. let f = those_found 0 (hangs_on c (j ∷ [])) c.nodes k order h in closed k f.0 f.1 (hangs_more c j set f.0 own f.2))
-    i dep
+pub hung_dependent : (c : Core) (k j : ℕ) (m : Node) → Ascending 0 c.nodes → node_at j c.nodes ≡ Some m → hangs_on c (k ∷ []) m ≡ true → has (dependents c k) j ≡ true
+hung_dependent c k j m g at h = closed_keeps c (direct c k) j m g at (those_serial 0 (hangs_on c (k ∷ [])) c.nodes j m g at h)
 
--- so they have no drivers
-pub dependents_bare : (next : ℕ) (c : Core) (set todo : List ℕ) (j : ℕ) → Ascending 0 c.nodes → Tree next c → HeadIs j todo → has set j ≡ true → Finishes c set todo → (i : ℕ) (m : Node) → has (dependents c j) i ≡ true → node_at i c.nodes ≡ Some m → m.state ≡ NoStack
-dependents_bare next c set todo j order tree head own h i m dep at =
-    h.bare i m at (dependents_in c set j order h.closed own i dep) (none (has todo i) refl)
-  where
-    none : (b : Bool) → has todo i ≡ b → has todo i ≡ false
-    none true e = absurd (dependents_done next c set todo j order tree head h i dep e)
-    none false e = e
+-- what hangs on the head stayed behind: done, it would have no drivers, and so be a child of the head
+pub hung_behind : (next : ℕ) (c : Core) (set behind todo : List ℕ) (j : ℕ) → Ascending 0 c.nodes → Tree next c → HeadIs j todo → has set j ≡ true → FinishesBut c set behind todo → (i : ℕ) (m : Node) → node_at i c.nodes ≡ Some m → hangs_on c (j ∷ []) m ≡ true → has behind i ≡ true
+hung_behind next c set behind todo j order tree head own h i m at on =
+    by_test (λ b. b ≡ true) (has behind i) (λ e. refl)
+    (λ e.
+    let done = dependents_done next c todo j order tree head h.sorted i (hung_dependent c j i m order at on) in
+    let bare = h.bare i m at (h.closed i m at (hangs_more c j set m own on)) done e in
+    let under = tree.only j i m at bare on in
+    elim (h.below i m at under.1 (subst (λ (x : ℕ). has set x ≡ true) (sym under.0) own)) [ inl a ↦ absurd (cc) | inr b ↦ absurd (cc) ])
 
-child_dependent : (c : Core) (k j : ℕ) (m : Node) → Ascending 0 c.nodes → node_at j c.nodes ≡ Some m → hangs_on c (k ∷ []) m ≡ true → has (dependents c k) j ≡ true
-child_dependent c k j m g at h = closed_keeps c (direct c k) j m g at (those_serial 0 (hangs_on c (k ∷ [])) c.nodes j m g at h)
+-- where nobody stays behind, nothing hangs on it
+pub head_free : (next : ℕ) (c : Core) (set todo : List ℕ) (j : ℕ) → Ascending 0 c.nodes → Tree next c → HeadIs j todo → has set j ≡ true → Finishes c set todo → IsFree c j
+head_free next c set todo j order tree head own h i m at on = (let none = hung_behind next c set [] todo j order tree head own (but_none c set todo h) i m at on in cc)
 
--- and the head has no children
 pub head_childless : (next : ℕ) (c : Core) (set todo : List ℕ) (j : ℕ) → Ascending 0 c.nodes → Tree next c → HeadIs j todo → has set j ≡ true → Finishes c set todo → Childless j c.nodes
-head_childless next c set todo j order tree head own h i m at up e =
-    dependents_done next c set todo j order tree head h i (child_dependent c j i m order at (child_hangs c j i m at up e))
-    (h.below i m at up (subst (λ (p : ℕ). has set p ≡ true) (sym e) own))
+head_childless next c set todo j order tree head own h i m at up e = head_free next c set todo j order tree head own h i m at (child_hangs c j i m at up e)
+
+-- nor on one that does not stay behind
+pub goes_free : (next : ℕ) (c : Core) (o : Surprise) (handles : List Handle) (todo : List ℕ) (j : ℕ) → Ascending 0 c.nodes → Tree next c → HeadIs j todo → has o.set j ≡ true → FinishesBut c o.set o.behind todo → stays_behind c o handles j ≡ false → IsFree c j
+goes_free next c o handles todo j order tree head own f goes i m at on =
+    let left = hung_behind next c o.set o.behind todo j order tree head own f i m at on in
+    let any = any_some o.behind (dependents c j) i (hung_dependent c j i m order at on) left in
+    let none = (or_neither (is_open handles j) (list_any (λ i. has o.behind i) (dependents c j)) (or_neither (has o.told j) (is_open handles j || list_any (λ i. has o.behind i) (dependents c j)) goes).1).1 in
+    cc
+
+pub head_alone : (c : Core) (todo : List ℕ) (j : ℕ) → HeadIs j todo → IsFree c j → HeadAlone c todo
+head_alone c [] j head free k h = absurd h
+head_alone c (i ∷ is) j head free k h = subst (λ (x : ℕ). IsFree c x) (sym head ∙ h) free
+
+pub alone_less : (c d : Core) (todo : List ℕ) → NoNewEdge c d → HeadAlone c todo → HeadAlone d todo
+alone_less c d todo less h k head i m at on = let old = less k i m at on in h k head i old.0 old.1 old.2

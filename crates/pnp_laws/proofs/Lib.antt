@@ -27,7 +27,10 @@ pub mod SoundStarts
 pub mod Finishes
 pub mod SoundOps
 pub mod Theres
+pub mod Tolds
 pub mod SoundRemovals
+pub mod ToldSteps
+pub mod TurnsKept
 pub mod Restarts
 pub mod SoundRebalances
 pub mod SoundTasks

@@ -3,14 +3,14 @@ use Rattle.std.proofs.Common.{ℕ, ◌≡◌, ◌⊎◌, ◌∙◌, ◌≢◌, �
 use Rattle.std.proofs.lemmas.Bool.Decides.{nat_tests}
 use Rattle.device_ids.specs.Folding.{same}
 use Rattle.pnp_model.specs.Tests.{has}
-use Rattle.pnp_model.specs.Records.{Node, Core, Relation, Activity, Task, State, Step, Settings, Operation, Rebalance, RebalanceStage, Removal, RemovalStage, Surprise, SurpriseStage, Duty}
+use Rattle.pnp_model.specs.Records.{Node, Core, Relation, Activity, Task, State, Step, Settings, Operation, Rebalance, RebalanceStage, Removal, RemovalStage, Surprise, SurpriseStage, Finish, FinishStage, Duty}
 use Rattle.pnp_model.specs.Cores.{node_at}
 use Rattle.pnp_model.specs.Trees.{dependents}
 use Rattle.pnp_model.specs.States.{set_operation, with_core}
 use Rattle.pnp_labels.specs.declared.words.Answer.{Answer}
 use Rattle.pnp_labels.specs.declared.event.Event.{Event}
 use Rattle.pnp_labels.specs.declared.label.OpKind.{OpKind}
-use Rattle.pnp_laws.specs.Kept.{Ascending, Good, IsGood, BeginsWell, is_idle, RebalanceKeeps, RemovalKeeps, SurpriseKeeps}
+use Rattle.pnp_laws.specs.Kept.{Ascending, Good, IsGood, BeginsWell, is_idle, RebalanceKeeps, RemovalKeeps, SurpriseKeeps, FinishKeeps}
 use Rattle.pnp_laws.specs.Due.{AllDue}
 use Rattle.pnp_labels.specs.declared.label.Label.{Label}
 use Rattle.pnp_laws.specs.Effects.{AnswerEffect, CommandEffect, NodeEffect, Related}
@@ -22,16 +22,18 @@ use Rattle.pnp_laws.proofs.Lookups.{node_found}
 use Rattle.pnp_laws.proofs.OpSteps.{is_Started}
 use Rattle.pnp_laws.proofs.Orders.{leaving_fits}
 use Rattle.pnp_laws.proofs.Due.{settled_from_due}
-use Rattle.pnp_laws.proofs.Standing.{Tree, DueBut, waiting, rebalance_waiting, StageKept, OrderKept, RemovalOrder, SurpriseOrder, Stands, Sound, Finishes, RebalanceThere, RemovalThere, SurpriseThere}
-use Rattle.pnp_laws.proofs.TreeChanges.{same_still, tree_same}
+use Rattle.pnp_laws.proofs.Standing.{Tree, DueBut, waiting, rebalance_waiting, StageKept, ToldKept, OrderKept, RemovalOrder, SurpriseOrder, SurpriseTold, FinishOrder, Stands, Sound, Finishes, FinishesBut, HeadAlone, RebalanceThere, RemovalThere, SurpriseThere, FinishThere}
+use Rattle.pnp_laws.proofs.TreeChanges.{edges_same, same_still, tree_same}
 use Rattle.pnp_laws.proofs.TreeMoves.{tree_related}
 use Rattle.pnp_laws.proofs.Sounds.{leads_pushed, up_append, up_first, due_still}
-use Rattle.pnp_laws.proofs.Finishes.{fades_same, finishes_still}
+use Rattle.pnp_laws.proofs.Finishes.{alone_less, but_still, fades_same, finishes_still}
 use Rattle.pnp_laws.proofs.SoundOps.{MoreTasks, more_same, more_pushed, op_still}
 use Rattle.pnp_laws.proofs.IdleSteps.{MachineStep, machine_step}
 use Rattle.pnp_laws.proofs.SoundStarts.{sound_act, stage_none}
 use Rattle.pnp_laws.proofs.SoundRebalances.{sound_rebalance}
-use Rattle.pnp_laws.proofs.SoundRemovals.{sound_removal, sound_surprise}
+use Rattle.pnp_laws.proofs.SoundRemovals.{sound_removal, sound_surprise, sound_finish}
+use Rattle.pnp_laws.proofs.Turns.{turn_good}
+use Rattle.pnp_laws.proofs.TurnsKept.{turn_stage, turn_told, turn_waiting}
 use Rattle.pnp_laws.proofs.Stages.{OperationStep, asking, reply}
 use Rattle.pnp_laws.proofs.SoundTasks.{sound_task}
 use Rattle.pnp_model.specs.Machine as ma
@@ -48,6 +50,7 @@ stage_same (Some (Operation.Removing o)) c d order a b h = (by_stage o.stage h.0
     moved todo f = finishes_still c d o.set todo (fades_same c d order (subst (λ (x : List Node). Ascending 0 x) (sym a) order) (same_still c d a b)) a f
 
     by_stage : (stage : RemovalStage) → RemovalOrder c o stage → RemovalOrder d o stage
+    by_stage RemovalStage.Next h = moved o.set h
     by_stage (RemovalStage.Asking w) h = moved o.set h
     by_stage (RemovalStage.TakingBack w) h = tt
     by_stage (RemovalStage.Cancelling w) h = tt
@@ -59,11 +62,25 @@ stage_same (Some (Operation.Surprising o)) c d order a b h = (by_stage o.stage h
     moved : (todo : List ℕ) → Finishes c o.set todo → Finishes d o.set todo
     moved todo f = finishes_still c d o.set todo (fades_same c d order (subst (λ (x : List Node). Ascending 0 x) (sym a) order) (same_still c d a b)) a f
 
+    but : (todo : List ℕ) → FinishesBut c o.set o.behind todo → FinishesBut d o.set o.behind todo
+    but todo f = but_still c o.set o.behind todo d (fades_same c d order (subst (λ (x : List Node). Ascending 0 x) (sym a) order) (same_still c d a b)) a f
+
+    alone : HeadAlone c o.todo → HeadAlone d o.todo
+    alone f = alone_less c d o.todo (edges_same c d (same_still c d a b)) f
+
     by_stage : (stage : SurpriseStage) → SurpriseOrder c o stage → SurpriseOrder d o stage
     by_stage (SurpriseStage.Telling w) h = moved o.set h
-    by_stage (SurpriseStage.Removing w) h = moved o.todo h
-    by_stage SurpriseStage.Settling h = moved o.todo h
-    by_stage SurpriseStage.Ending h = moved [] h
+    by_stage SurpriseStage.Next h = but o.todo h
+    by_stage (SurpriseStage.Removing w) h = (but o.todo h.0, alone h.1)
+    by_stage SurpriseStage.Settling h = (but o.todo h.0, alone h.1)
+    by_stage SurpriseStage.Ending h = but [] h
+stage_same (Some (Operation.Finishing f)) c d order a b h = (by_stage f.stage h.0, subst (λ (x : List Node). FinishThere f f.stage x) (sym a) h.1)
+  where
+    by_stage : (stage : FinishStage) → FinishOrder c f stage → FinishOrder d f stage
+    by_stage FinishStage.Next h = tt
+    by_stage (FinishStage.Removing w) h = alone_less c d f.todo (edges_same c d (same_still c d a b)) h
+    by_stage FinishStage.Leaving h = alone_less c d f.todo (edges_same c d (same_still c d a b)) h
+    by_stage FinishStage.Holding h = tt
 stage_same _ c d order a b h = tt
 
 -- an answer leaves them as they are, and who waits
@@ -83,10 +100,16 @@ completed_surprise : (answer : Answer) (c : Core) (o : Surprise) (stage : Surpri
 completed_surprise answer c o (SurpriseStage.Telling w) h = h
 completed_surprise answer c o _ h = h
 
+completed_finish : (answer : Answer) (c : Core) (f : Finish) (stage : FinishStage) → FinishOrder c f stage × FinishThere f stage c.nodes →
+    FinishOrder c (record f { stage = ev.completed_finish answer stage }) (ev.completed_finish answer stage) × FinishThere (record f { stage = ev.completed_finish answer stage }) (ev.completed_finish answer stage) c.nodes
+completed_finish answer c f (FinishStage.Removing w) h = h
+completed_finish answer c f _ h = h
+
 completed_stage : (answer : Answer) (o : Operation) (c : Core) → StageKept (Some o) c → StageKept (Some (ev.completed answer o)) c
 completed_stage answer (Operation.Rebalancing r) c h = (completed_rebalance answer c.nodes r r.stage).0 h
 completed_stage answer (Operation.Removing o) c h = completed_removal answer c o o.stage h
 completed_stage answer (Operation.Surprising o) c h = completed_surprise answer c o o.stage h
+completed_stage answer (Operation.Finishing f) c h = completed_finish answer c f f.stage h
 
 completed_waiting : (answer : Answer) (nodes : List Node) (o : Operation) → waiting (Some (ev.completed answer o)) ≡ waiting (Some o)
 completed_waiting answer nodes (Operation.Rebalancing r) = (completed_rebalance answer nodes r r.stage).1
@@ -94,37 +117,44 @@ completed_waiting answer nodes _ = refl
 
 -- Steps --------------------------------------------------------------------------------------------
 
-sound_operation : (s : State) (o : Operation) (step : Step) → Good s.next_serial s.core.nodes s.activities (Some o) → StageKept (Some o) s.core → DueBut (waiting (Some o)) s.tasks s.core.nodes → Stands s → OperationStep s o step → Sound s step
-sound_operation s p step good kept due h (OperationStep.asks o node w asks) =
+sound_operation : (s : State) (o : Operation) (step : Step) → Good s.next_serial s.core.nodes s.activities (Some o) → ToldKept (Some o) s.core → StageKept (Some o) s.core → DueBut (waiting (Some o)) s.tasks s.core.nodes → Stands s → OperationStep s o step → Sound s step
+sound_operation s p step good told kept due h (OperationStep.asks o node w asks) =
     let answer = reply s.core node w in
     let t = (asking s o node w).state in
     op_still s t _ (waiting (Some o)) tt refl refl refl refl (λ same. stage_same (Some (ev.completed answer o)) s.core t.core good.serials refl refl (completed_stage answer o s.core kept)) (completed_waiting answer s.core.nodes o) due h
-sound_operation s p step good kept due h (OperationStep.rebalances r stage m is x) =
+sound_operation s p step good told kept due h (OperationStep.rebalances r stage m is x) =
     let g = subst (λ (acts : List Activity). Good s.next_serial s.core.nodes acts (Some (Operation.Rebalancing r))) good.alone good in
-    sound_rebalance s r g h stage m (subst (λ (y : RebalanceStage). RebalanceKeeps r y s.core.nodes) is good.fits) (subst (λ (y : RebalanceStage). OrderKept r y) is kept.0) (subst (λ (y : RebalanceStage). RebalanceThere r y s.core.nodes) is kept.1)
+    sound_rebalance s r g told h stage m (subst (λ (y : RebalanceStage). RebalanceKeeps r y s.core.nodes) is good.fits) (subst (λ (y : RebalanceStage). OrderKept r y) is kept.0) (subst (λ (y : RebalanceStage). RebalanceThere r y s.core.nodes) is kept.1)
     (subst (λ (y : RebalanceStage). DueBut (rebalance_waiting r y) s.tasks s.core.nodes) is due) x
-sound_operation s p step good kept due h (OperationStep.removes o stage m is x) =
+sound_operation s p step good told kept due h (OperationStep.removes o stage m is x) =
     let g = subst (λ (acts : List Activity). Good s.next_serial s.core.nodes acts (Some (Operation.Removing o))) good.alone good in
     sound_removal s o g due h stage m (subst (λ (y : RemovalStage). RemovalKeeps o y s.core.nodes) is good.fits) (subst (λ (y : RemovalStage). RemovalOrder s.core o y) is kept.0) (subst (λ (y : RemovalStage). RemovalThere o y s.core.nodes) is kept.1) x
-sound_operation s p step good kept due h (OperationStep.surprises o stage m is x) =
+sound_operation s p step good told kept due h (OperationStep.surprises o stage m is x) =
     let g = subst (λ (acts : List Activity). Good s.next_serial s.core.nodes acts (Some (Operation.Surprising o))) good.alone good in
-    sound_surprise s o g due h (ma.is_target_in_world s o) stage m (subst (λ (y : SurpriseStage). SurpriseKeeps o y s.core.nodes) is good.fits) (subst (λ (y : SurpriseStage). SurpriseOrder s.core o y) is kept.0)
-    (subst (λ (y : SurpriseStage). SurpriseThere o y s.core.nodes) is kept.1) x
+    sound_surprise s o g due h (ma.is_target_in_world s o) s.handles stage m (subst (λ (y : SurpriseStage). SurpriseKeeps o y s.core.nodes) is good.fits) (subst (λ (y : SurpriseStage). SurpriseOrder s.core o y) is kept.0)
+    (subst (λ (y : SurpriseStage). SurpriseThere o y s.core.nodes) is kept.1) (subst (λ (y : SurpriseStage). SurpriseTold s.core o y) is told) x
+sound_operation s p step good told kept due h (OperationStep.finishes f stage m is x) =
+    let g = subst (λ (acts : List Activity). Good s.next_serial s.core.nodes acts (Some (Operation.Finishing f))) good.alone good in
+    sound_finish s f g due h (ma.is_current_in_world s f) s.handles stage m (subst (λ (y : FinishStage). FinishKeeps f y s.core.nodes) is good.fits) (subst (λ (y : FinishStage). FinishOrder s.core f y) is kept.0)
+    (subst (λ (y : FinishStage). FinishThere f y s.core.nodes) is kept.1) x
 
-pub sound_step : (settings : Settings) (s : State) (step : Step) → IsGood s → Stands s → ma.IsStep settings (ma.next settings s) step → Sound s step
-sound_step settings s step good h is = by_step step (machine_step settings s step is)
+pub sound_step : (settings : Settings) (s : State) (step : Step) → IsGood s → ToldKept s.operation s.core → Stands s → ma.IsStep settings (ma.next settings s) step → Sound s step
+sound_step settings s step good told h is = by_step step (machine_step settings s step is)
   where
     calm : s.operation ≡ None → Good s.next_serial s.core.nodes s.activities None
     calm none = subst (λ (x : Option Operation). Good s.next_serial s.core.nodes s.activities x) none good
 
     by_step : (x : Step) → MachineStep s x → Sound s x
-    by_step _ (MachineStep.operates o x runs is) =
-        sound_operation s o x (subst (λ (y : Option Operation). Good s.next_serial s.core.nodes s.activities y) runs good) (subst (λ (y : Option Operation). StageKept y s.core) runs h.stage)
-        (subst (λ (y : Option Operation). DueBut (waiting y) s.tasks s.core.nodes) runs h.due) h is
+    by_step _ (MachineStep.operates o x runs taken) =
+        let p = taken.now in
+        let g = subst (λ (y : Option Operation). Good s.next_serial s.core.nodes s.activities y) runs good in
+        let w = subst (λ (y : Option Operation). ToldKept y s.core) runs told in
+        sound_operation s p x (turn_good s o p taken.turn g) (turn_told s o p taken.turn w) (turn_stage s h.tree o p taken.turn g w (subst (λ (y : Option Operation). StageKept y s.core) runs h.stage))
+        (subst (λ (ks : List ℕ). DueBut ks s.tasks s.core.nodes) (sym (turn_waiting s o p taken.turn)) (subst (λ (y : Option Operation). DueBut (waiting y) s.tasks s.core.nodes) runs h.due)) h taken.is
     by_step _ (MachineStep.starts node phase m at acting is) =
         let fit = acting_fits s node.serial node phase at acting good in
         sound_act s node acting.none at fit.0 h phase m fit.1 good.serials is
-    by_step _ (MachineStep.does x none is) = sound_task s x none (calm none) h is
+    by_step _ (MachineStep.does x none is) = sound_task s x none (calm none) (subst (λ (y : Option Operation). ToldKept y s.core) none told) h is
 
 -- What the begin of an operation needs -------------------------------------------------------------
 
@@ -157,11 +187,15 @@ outside s t order a b next op tasks h =
 more_begins : (tasks : List Task) (kind : OpKind) (k : ℕ) → k ≢ 0 → MoreTasks tasks (tasks ++ record { kind = Duty.Begins kind; serial = k } ∷ [])
 more_begins tasks kind k up = record { up = λ h. up_append tasks (record { kind = Duty.Begins kind; serial = k }) up h; leads = leads_pushed tasks (record { kind = Duty.Begins kind; serial = k }) }
 
-event_tasks : (s t : State) → CommandEffect s t → MoreTasks s.tasks t.tasks
-event_tasks s t (CommandEffect.same e) = subst (λ (ts : List Task). MoreTasks s.tasks ts) (sym e) (more_same s.tasks)
-event_tasks s t (CommandEffect.lists k e) = subst (λ (ts : List Task). MoreTasks s.tasks ts) (sym e) (more_pushed s.tasks (record { kind = Duty.Listing; serial = k }) (inl refl))
-event_tasks s t (CommandEffect.starts path n found e) = subst (λ (ts : List Task). MoreTasks s.tasks ts) (sym e) (more_pushed s.tasks (record { kind = Duty.Starting; serial = n.serial }) (inr refl))
-event_tasks s t (CommandEffect.begins kind n path found up e) = subst (λ (ts : List Task). MoreTasks s.tasks ts) (sym e) (more_begins s.tasks kind n.serial (grind (arith, nat_tests)))
+event_tasks : (s t : State) → IsGood s → CommandEffect s t → MoreTasks s.tasks t.tasks
+event_tasks s t good (CommandEffect.same e) = subst (λ (ts : List Task). MoreTasks s.tasks ts) (sym e) (more_same s.tasks)
+event_tasks s t good (CommandEffect.lists k e) = subst (λ (ts : List Task). MoreTasks s.tasks ts) (sym e) (more_pushed s.tasks (record { kind = Duty.Listing; serial = k }) (inl refl))
+event_tasks s t good (CommandEffect.starts path n found e) = subst (λ (ts : List Task). MoreTasks s.tasks ts) (sym e) (more_pushed s.tasks (record { kind = Duty.Starting; serial = n.serial }) (inr refl))
+event_tasks s t good (CommandEffect.finishes n path found told shut e) =
+    let at = (node_found (λ m. same m.path path) 0 s.core.nodes n good.serials found).1 in
+    let up : n.serial ≢ 0 = λ z. let root = (good.stacks n.serial n at).root z in cc in
+    subst (λ (ts : List Task). MoreTasks s.tasks ts) (sym e) (more_begins s.tasks OpKind.Finish n.serial up)
+event_tasks s t good (CommandEffect.begins kind n path found up e) = subst (λ (ts : List Task). MoreTasks s.tasks ts) (sym e) (more_begins s.tasks kind n.serial (grind (arith, nat_tests)))
 
 -- two devices are related
 related_stands : (s : State) (r : Relation) → Related s r → IsGood s → Stands s → Stands (with_core (ev.add_relation r s.core) s)
@@ -173,7 +207,7 @@ related_stands s r rel good h =
     let free = subst (λ (i : ℕ). has (dependents s.core i) r.owner ≡ false) (sym rel.member_is) (subst (λ (i : ℕ). has (dependents s.core rel.member.serial) i ≡ false) (sym rel.owner_is) rel.free) in
     record {
       tree = tree_related s.next_serial s.core r rel.owner rel.member good.serials good.below (subst (λ (i : ℕ). node_at i s.core.nodes ≡ Some rel.owner) (sym rel.owner_is) owner)
-          (subst (λ (i : ℕ). node_at i s.core.nodes ≡ Some rel.member) (sym rel.member_is) member) (ap is_idle up) (λ e. apart (sym rel.owner_is ∙ e ∙ rel.member_is)) free h.tree;
+          (subst (λ (i : ℕ). node_at i s.core.nodes ≡ Some rel.member) (sym rel.member_is) member) (ap is_idle up) (λ e. let q = is_Started rel.member.state rel.member_up in cc) (λ e. apart (sym rel.owner_is ∙ e ∙ rel.member_is)) free h.tree;
       up = h.up;
       stage = stage_none s.operation _ rel.none;
       due = h.due;
@@ -211,10 +245,10 @@ stands_still s t good nodes serial now tasks (inl e) h = outside s t good.serial
 stands_still s t good nodes serial now tasks (inr (r, rel, e)) h = outside (with_core (ev.add_relation r s.core) s) t good.serials nodes e serial now tasks (related_stands s r rel good h)
 
 stands_event : (s : State) (label : Label) (t : State) → IsGood s → t.next_serial ≡ s.next_serial → NodeEffect s label t → CommandEffect s t → AnswerEffect s label t → Stands s → Stands t
-stands_event s label t good serial nodes tasks (AnswerEffect.stays word same acts now) h = stands_still s t good same serial now (event_tasks s t tasks) (event_relations s label t word nodes) h
-stands_event s label t good serial nodes tasks (AnswerEffect.answers word same k a ok at acts now) h = stands_still s t good same serial now (event_tasks s t tasks) (event_relations s label t word nodes) h
+stands_event s label t good serial nodes tasks (AnswerEffect.stays word same acts now) h = stands_still s t good same serial now (event_tasks s t good tasks) (event_relations s label t word nodes) h
+stands_event s label t good serial nodes tasks (AnswerEffect.answers word same k a ok at acts now) h = stands_still s t good same serial now (event_tasks s t good tasks) (event_relations s label t word nodes) h
 stands_event s label t good serial nodes tasks (AnswerEffect.answered word same acts ok o runs now) h =
-    outside (set_operation (Some (ev.completed (ev.answer_of ok) o)) s) t good.serials same (relations_stay s label t o word runs nodes) serial now (event_tasks s t tasks) (answered_stands s ok o runs h)
+    outside (set_operation (Some (ev.completed (ev.answer_of ok) o)) s) t good.serials same (relations_stay s label t o word runs nodes) serial now (event_tasks s t good tasks) (answered_stands s ok o runs h)
 
 pub stands_happens : (s : State) (event : Event) → IsGood s → Stands s → Stands (ev.happens s event).state
 stands_happens s event good h =

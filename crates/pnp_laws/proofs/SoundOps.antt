@@ -1,7 +1,6 @@
 -- What the steps of all operations share: a walk that ended, an ask, a device that stays or leaves.
 use Rattle.std.proofs.Common.{ℕ, ◌≡◌, ◌≢◌, ◌⊎◌, inl, inr, Bool, true, false, List, [], ◌∷◌, ◌++◌, Option, Some, refl, sym, ap, ◌∙◌, subst}
 use Rattle.pnp_model.specs.Keyed.{changed_first}
-use Rattle.pnp_model.specs.Tests.{has}
 use Rattle.pnp_model.specs.Records.{Node, Core, Task, State, Duty}
 use Rattle.pnp_model.specs.Cores.{is_node, node_at, with_state, with_problem, strip, drop_node}
 use Rattle.pnp_model.specs.Diagram.{Row}
@@ -12,13 +11,13 @@ use Rattle.pnp_labels.specs.declared.label.Label.{Label}
 use Rattle.pnp_labels.specs.declared.states.DevState.TheVariants.{NoStack, Stopped}
 use Rattle.pnp_laws.specs.Kept.{Ascending, is_idle}
 use Rattle.pnp_laws.proofs.Lookups.{node_from, Ascending-changed}
-use Rattle.pnp_laws.proofs.Lists.{HeadIs, head_has}
+use Rattle.pnp_laws.proofs.Lists.{HeadIs}
 use Rattle.pnp_laws.proofs.Finishing.{Listed, StacksFit}
-use Rattle.pnp_laws.proofs.Standing.{IsNoLeave, TasksUp, DutyUp, DueBut, waiting, StageKept, Stands, Sound, Finishes}
+use Rattle.pnp_laws.proofs.Standing.{IsNoLeave, TasksUp, DutyUp, DueBut, waiting, StageKept, Stands, Sound, IsFree}
 use Rattle.pnp_laws.proofs.TreeChanges.{Alike, SameTree, same_still, same_changed, nodes_same}
-use Rattle.pnp_laws.proofs.TreeMoves.{was_stripped}
+use Rattle.pnp_laws.proofs.TreeMoves.{Childless}
+use Rattle.pnp_laws.proofs.SoundStarts.{child_hangs, no_dependents}
 use Rattle.pnp_laws.proofs.Sounds.{IsPlain, LeadsMore, leads_same, leads_pushed, up_append, due_still, due_changed, due_stripped, due_left, sound_same, sound_still, sound_walk, sound_strip, sound_left}
-use Rattle.pnp_laws.proofs.Finishes.{dependents_bare, dependents_done, head_childless}
 
 -- the device of a step, which stands first of what is to do
 pub record Work (s : State) (node : Node) (todo : List ℕ) : Type 0 where
@@ -28,12 +27,12 @@ pub record Work (s : State) (node : Node) (todo : List ℕ) : Type 0 where
   pub order : Ascending 0 s.core.nodes
   pub stacks : StacksFit s.core.nodes
 
-state_alike : (node : Node) (y : DevState) → (is_idle y ≡ true → is_idle node.state ≡ true) → Alike node (with_state y node)
-state_alike node y idle = record { serial = refl; parent = refl; path = refl; born = refl; idle = idle }
+state_alike : (node : Node) (y : DevState) → (is_idle y ≡ true → is_idle node.state ≡ true) → (y ≡ NoStack → node.state ≡ NoStack) → Alike node (with_state y node)
+state_alike node y idle bare = record { serial = refl; parent = refl; path = refl; born = refl; idle = idle; bare = bare }
 
 pub same_state : (s t : State) (node : Node) (todo : List ℕ) (y : DevState) → Work s node todo → t.core.nodes ≡ changed_first (is_node node.serial) (with_state y) s.core.nodes → t.core.relations ≡ s.core.relations →
-    (is_idle y ≡ true → is_idle node.state ≡ true) → SameTree s.core t.core
-same_state s t node todo y w a b idle = same_changed s.core t.core node.serial (with_state y) node a b (λ x. refl) w.at (state_alike node y idle)
+    (is_idle y ≡ true → is_idle node.state ≡ true) → (y ≡ NoStack → node.state ≡ NoStack) → SameTree s.core t.core
+same_state s t node todo y w a b idle bare = same_changed s.core t.core node.serial (with_state y) node a b (λ x. refl) w.at (state_alike node y idle bare)
 
 pub now_ascending : (s t : State) (node : Node) (todo : List ℕ) (f : Node → Node) → Work s node todo → t.core.nodes ≡ changed_first (is_node node.serial) f s.core.nodes → ((x : Node) → (f x).serial ≡ x.serial) → Ascending 0 t.core.nodes
 now_ascending s t node todo f w a keeps = subst (λ (x : List Node). Ascending 0 x) (sym a) (Ascending-changed 0 node.serial f s.core.nodes keeps w.order)
@@ -43,7 +42,7 @@ pub op_walk : (s t : State) (node : Node) (todo rest : List ℕ) (minor : Minor)
     (is_idle y ≡ true → is_idle x ≡ true) → y ≢ NoStack → y ≢ Stopped → Row x minor bad y → (SameTree s.core t.core → StageKept t.operation t.core) → waiting t.operation ≡ rest → DueBut rest s.tasks s.core.nodes →
     Stands s → Sound s (record { label = Label.State node.path y; state = t })
 op_walk s t node todo rest minor bad x y w e a b next tasks idle full stopped row stage waits due h =
-    let same = same_state s t node todo y w a b (λ q. ap is_idle e ∙ idle q) in
+    let same = same_state s t node todo y w a b (λ q. ap is_idle e ∙ idle q) (λ q. absurd (full q)) in
     sound_walk s t node minor bad y a same next w.at full (subst (λ (z : DevState). Row z minor bad y) (sym e) row) (subst (λ (ts : List Task). TasksUp ts) (sym tasks) h.up) (stage same)
     (subst (λ (ks : List ℕ). DueBut ks t.tasks t.core.nodes) (sym waits)
     (due_changed rest rest s.tasks t.tasks s.core.nodes t.core.nodes node.serial (with_state y) node a (λ z. refl) w.at (nodes_same s.core t.core same) (subst (λ (ts : List Task). LeadsMore s.tasks ts) (sym tasks) (leads_same s.tasks))
@@ -57,25 +56,10 @@ op_still s t label rest plain a b next tasks stage waits due h =
     (subst (λ (ks : List ℕ). DueBut ks t.tasks t.core.nodes) (sym waits)
     (due_still rest rest s.tasks t.tasks s.core.nodes t.core.nodes a (subst (λ (ts : List Task). LeadsMore s.tasks ts) (sym tasks) (leads_same s.tasks)) (λ k q. q) due)) h
 
--- the head lost its drivers
-pub op_strip : (s t : State) (node : Node) (todo set rest : List ℕ) → Work s node todo → has set node.serial ≡ true → Finishes s.core set todo → t.core ≡ strip node.serial s.core → t.next_serial ≡ s.next_serial → t.tasks ≡ s.tasks → Row node.state Minor.Remove false NoStack →
-    StageKept t.operation t.core → waiting t.operation ≡ rest → DueBut rest s.tasks s.core.nodes → Stands s → Sound s (record { label = Label.State node.path NoStack; state = t })
-op_strip s t node todo set rest w own order is next tasks row stage waits due h =
-    sound_strip s t node is next w.at row (head_childless s.next_serial s.core set todo node.serial w.order h.tree w.head own order)
-    (λ j m dep there.
-    let there2 = subst (λ (c : Core). node_at j c.nodes ≡ Some m) is there in
-    let was = was_stripped node.serial j s.core m there2 in
-    let other : node.serial ≢ j = λ e. dependents_done s.next_serial s.core set todo node.serial w.order h.tree w.head order j dep (subst (λ (i : ℕ). has todo i ≡ true) e (head_has node.serial todo w.head)) in
-    let state = dependents_bare s.next_serial s.core set todo node.serial w.order h.tree w.head own order j was.node dep was.at in
-    ap (λ (x : Node). x.stack) (was.other other) ∙ (w.stacks j was.node was.at).none state)
-    (subst (λ (ts : List Task). TasksUp ts) (sym tasks) h.up) stage
-    (subst (λ (ks : List ℕ). DueBut ks t.tasks t.core.nodes) (sym waits)
-    (due_stripped rest s.tasks t.tasks s.core t.core node.serial node is w.at (subst (λ (ts : List Task). LeadsMore s.tasks ts) (sym tasks) (leads_same s.tasks)) due)) h
-
 -- the head stays, with a problem
 
 pub problem_alike : (node : Node) (problem : Option Problem) → Alike node (with_problem problem node)
-problem_alike node problem = record { serial = refl; parent = refl; path = refl; born = refl; idle = λ h. h }
+problem_alike node problem = record { serial = refl; parent = refl; path = refl; born = refl; idle = λ h. h; bare = λ h. h }
 
 pub op_trouble : (s t : State) (node : Node) (todo rest : List ℕ) (label : Label) (problem : Option Problem) → Work s node todo → IsPlain label → t.core.nodes ≡ changed_first (is_node node.serial) (with_problem problem) s.core.nodes → t.core.relations ≡ s.core.relations → t.next_serial ≡ s.next_serial → t.tasks ≡ s.tasks →
     (SameTree s.core t.core → StageKept t.operation t.core) → waiting t.operation ≡ rest → DueBut rest s.tasks s.core.nodes → Stands s → Sound s (record { label = label; state = t })
@@ -117,11 +101,26 @@ pub more_listed : (tasks more : List Task) → Listed tasks more → MoreTasks t
 more_listed tasks more (inl e) = subst (λ (ts : List Task). MoreTasks tasks ts) (sym e) (more_same tasks)
 more_listed tasks more (inr (k, e)) = subst (λ (ts : List Task). MoreTasks tasks ts) (sym e) (more_pushed tasks (record { kind = Duty.Listing; serial = k }) (inl refl))
 
--- the head left
-pub op_left : (s t : State) (node : Node) (todo set rest : List ℕ) (label : Label) → Work s node todo → IsPlain label → (IsNoLeave label → ⊥) → has set node.serial ≡ true → Finishes s.core set todo → t.core ≡ drop_node node.serial s.core → t.next_serial ≡ s.next_serial → MoreTasks s.tasks t.tasks →
+-- The head, on which nothing hangs ----------------------------------------------------------------
+
+free_childless : (c : Core) (k : ℕ) → IsFree c k → Childless k c.nodes
+free_childless c k free i m at up e = free i m at (child_hangs c k i m at up e)
+
+-- it lost its drivers
+pub op_strip : (s t : State) (node : Node) (todo rest : List ℕ) → Work s node todo → IsFree s.core node.serial → t.core ≡ strip node.serial s.core → t.next_serial ≡ s.next_serial → t.tasks ≡ s.tasks → Row node.state Minor.Remove false NoStack →
+    StageKept t.operation t.core → waiting t.operation ≡ rest → DueBut rest s.tasks s.core.nodes → Stands s → Sound s (record { label = Label.State node.path NoStack; state = t })
+op_strip s t node todo rest w free is next tasks row stage waits due h =
+    sound_strip s t node is next w.at row (free_childless s.core node.serial free)
+    (λ j m dep there. absurd (no_dependents s.core node.serial w.order free j dep))
+    (subst (λ (ts : List Task). TasksUp ts) (sym tasks) h.up) stage
+    (subst (λ (ks : List ℕ). DueBut ks t.tasks t.core.nodes) (sym waits)
+    (due_stripped rest s.tasks t.tasks s.core t.core node.serial node is w.at (subst (λ (ts : List Task). LeadsMore s.tasks ts) (sym tasks) (leads_same s.tasks)) due)) h
+
+-- it left
+pub op_left : (s t : State) (node : Node) (todo rest : List ℕ) (label : Label) → Work s node todo → IsPlain label → (IsNoLeave label → ⊥) → IsFree s.core node.serial → t.core ≡ drop_node node.serial s.core → t.next_serial ≡ s.next_serial → MoreTasks s.tasks t.tasks →
     StageKept t.operation t.core → waiting t.operation ≡ rest → DueBut rest s.tasks s.core.nodes → Stands s → Sound s (record { label = label; state = t })
-op_left s t node todo set rest label w plain leaves own order is next tasks stage waits due h =
-    let alone = head_childless s.next_serial s.core set todo node.serial w.order h.tree w.head own order in
+op_left s t node todo rest label w plain leaves free is next tasks stage waits due h =
+    let alone = free_childless s.core node.serial free in
     sound_left s t label node plain leaves is next w.order alone (tasks.up h.up) stage
     (subst (λ (ks : List ℕ). DueBut ks t.tasks t.core.nodes) (sym waits)
     (due_left rest s.tasks t.tasks s.core t.core node.serial is w.order alone h.tree.root w.up tasks.leads due)) h

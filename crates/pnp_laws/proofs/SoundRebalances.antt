@@ -30,7 +30,8 @@ use Rattle.pnp_laws.proofs.OpSteps.{stopped_calm, target_there}
 use Rattle.pnp_laws.proofs.RebalanceSteps.{head_started, head_pending, head_stopping, head_stopped, rootless_head}
 use Rattle.pnp_laws.proofs.Aboves.{due_more}
 use Rattle.pnp_laws.specs.Rebalanced.{Rising}
-use Rattle.pnp_laws.proofs.Standing.{DueBut, waiting, rebalance_waiting, OrderKept, Stands, Sound, Ordered, RebalanceThere, AllThere}
+use Rattle.pnp_laws.proofs.Tolds.{told_walked}
+use Rattle.pnp_laws.proofs.Standing.{Told, DueBut, waiting, rebalance_waiting, OrderKept, Stands, Sound, Ordered, RebalanceThere, AllThere}
 use Rattle.pnp_laws.proofs.Theres.{goes_on, rest_there, those_there, reverse_there, startable_there, more_there, same_there, same_goes}
 use Rattle.pnp_laws.proofs.TreeChanges.{Alike, same_changed, same_mapped, nodes_same, tree_same}
 use Rattle.pnp_laws.proofs.Sounds.{IsPlain, LeadsMore, leads_same, leads_first, due_still, due_same, due_changed, sound_same, sound_walk}
@@ -115,7 +116,7 @@ not_root : (s : State) (next : ℕ) (p : Option Operation) → Good next s.core.
 not_root s next p good k n at e = λ z. let root = (good.stacks k n at).root z in cc
 
 commits_alike : (serials : List ℕ) (r : Rebalance) (n : Node) → Alike n (committed r.wanted r.target serials (plan_of r.found) n)
-commits_alike serials r n = record { serial = refl; parent = refl; path = refl; born = refl; idle = λ h. h }
+commits_alike serials r n = record { serial = refl; parent = refl; path = refl; born = refl; idle = λ h. h; bare = λ h. h }
 
 -- the states of others as the head is started again
 rest_calm : (todo : List ℕ) (nodes : List Node) → Each (stopped_state todo) nodes → (j : ℕ) (f : Node → Node) (node : Node) → ((x : Node) → (f x).serial ≡ x.serial) → node_at j nodes ≡ Some node → is_calm (f node).state ≡ true → Each (λ k x. is_calm x) (changed_first (is_node j) f nodes)
@@ -135,7 +136,7 @@ first_leads k tasks = grind (arith, nat_tests)
 own_due : (tasks : List Task) (nodes : List Node) (k : ℕ) → has (leads tasks) k ≡ true → is_due tasks nodes k ≡ true
 own_due tasks nodes k h = grind (arith, nat_tests)
 
-module _ (s : State) (r : Rebalance) (good : Good s.next_serial s.core.nodes [] (Some (Operation.Rebalancing r))) (h : Stands s) where
+module _ (s : State) (r : Rebalance) (good : Good s.next_serial s.core.nodes [] (Some (Operation.Rebalancing r))) (told : Told s.core) (h : Stands s) where
   re_work : (node : Node) → first_node s.core.nodes r.todo ≡ Some node → has r.todo 0 ≡ false → Work s node r.todo
   re_work node first rootless =
       let found = head_found s.core.nodes r.todo node first in
@@ -201,7 +202,7 @@ module _ (s : State) (r : Rebalance) (good : Good s.next_serial s.core.nodes [] 
       let here = head_has node.serial r.todo work.head in
       let state = head_stopping r.todo r.agreed node.serial node.state here (keeps.each node.serial node work.at) in
       let t = (rebalance_lifted s (stop_step s.core r node w true)).state in
-      let same = same_state s t node r.todo Stopped work refl refl (λ q. absurd (cc)) in
+      let same = same_state s t node r.todo Stopped work refl refl (λ q. absurd (cc)) (λ q. absurd (cc)) in
       sound_walk s t node Minor.Stop false Stopped refl same refl work.at (λ q. cc) (subst (λ (x : DevState). Row x Minor.Stop false Stopped) (sym state) stop) h.up
       (order_stop_on r (rest r.todo) t.core.nodes order (same_there (rest r.todo) s.core t.core same (rest_there r.todo s.core.nodes there.0.there)) (same_there r.agreed s.core t.core same there.1))
       (subst (λ (ks : List ℕ). DueBut ks s.tasks t.core.nodes) (sym (waits_stop_on r (rest r.todo)))
@@ -212,7 +213,7 @@ module _ (s : State) (r : Rebalance) (good : Good s.next_serial s.core.nodes [] 
       let t = (rebalance_lifted s (commit_step s.core r)).state in
       let same = same_mapped s.core t.core f refl refl (commits_alike (movers r) r) in
       let ks = startable s.core.nodes r.agreed in
-      let now = due_restart s.tasks s.core r.agreed h.tree.root h.tree.rooted h.tree.idle (all_calm r.agreed s.core.nodes keeps.each) (not_root s s.next_serial _ good) order due in
+      let now = due_restart s.tasks s.core r.agreed h.tree.root h.tree.rooted h.tree.idle told (all_calm r.agreed s.core.nodes keeps.each) (not_root s s.next_serial _ good) order due in
       sound_same s t (Label.Commit (length (movers r))) tt same refl h.up (order_restart_from r ks t.core.nodes (rising_startable s.core.nodes r.agreed order) (same_there ks s.core t.core same (startable_there s.core.nodes r.agreed s.core.nodes there)))
       (subst (λ (x : List ℕ). DueBut x s.tasks t.core.nodes) (sym (waits_restart_from r ks))
       (due_same ks ks s.tasks s.tasks s.core.nodes t.core.nodes (nodes_same s.core t.core same) (leads_same s.tasks)
@@ -225,14 +226,14 @@ module _ (s : State) (r : Rebalance) (good : Good s.next_serial s.core.nodes [] 
       let work = re_work node e.first keeps.rootless in
       let state = head_stopped r.todo node.serial node.state (head_has node.serial r.todo work.head) (keeps.each node.serial node work.at) in
       let t = (rebalance_lifted s (end_restart s.core r node true)).state in
-      let same = same_state s t node r.todo node.state work refl refl (λ q. q) in
+      let same = same_state s t node r.todo node.state work refl refl (λ q. q) (λ q. q) in
       sound_walk s t node Minor.Start true node.state refl same refl work.at (λ q. let z = state in cc) (subst (λ (x : DevState). Row x Minor.Start true x) (sym state) restart_bad) h.up (order, same_goes r.todo s.core t.core same there)
       (due_changed r.todo r.todo s.tasks s.tasks s.core.nodes t.core.nodes node.serial (with_state node.state) node refl (λ x. refl) work.at (nodes_same s.core t.core same) (leads_same s.tasks) (λ q. inl q) (λ k q. inl q) due) h
   sound_rebalance stage m keeps order there due (RebalanceStep.restarts node w e ok) =
       let work = re_work node e.first keeps.rootless in
       let state = head_stopped r.todo node.serial node.state (head_has node.serial r.todo work.head) (keeps.each node.serial node work.at) in
       let t = (rebalance_lifted s (end_restart s.core r node false)).state in
-      let same = same_state s t node r.todo Started work refl refl (λ q. absurd (cc)) in
+      let same = same_state s t node r.todo Started work refl refl (λ q. absurd (cc)) (λ q. absurd (cc)) in
       let tree = tree_same s.next_serial s.core t.core same h.tree in
       let ks = rest r.todo in
       let left : DueBut ks s.tasks t.core.nodes =
@@ -243,7 +244,8 @@ module _ (s : State) (r : Rebalance) (good : Good s.next_serial s.core.nodes [] 
         | inl (q, (y, z, u)) ↦ absurd (let v = ap (λ (x : Node). x.state) u in cc)
         | inr (d, q) ↦ not_root s s.next_serial _ good k n q e
       ] in
-      let now = due_restart s.tasks t.core ks tree.root tree.rooted tree.idle (rest_calm r.todo s.core.nodes keeps.each node.serial (with_state Started) node (λ x. refl) work.at refl) up (rising_rest r.todo order) left in
+      let told_now = told_walked s.core node.serial Started node told work.at (λ q. let z = state in cc) (λ q. cc) in
+      let now = due_restart s.tasks t.core ks tree.root tree.rooted tree.idle told_now (rest_calm r.todo s.core.nodes keeps.each node.serial (with_state Started) node (λ x. refl) work.at refl) up (rising_rest r.todo order) left in
       sound_walk s t node Minor.Start false Started refl same refl work.at (λ q. cc) (subst (λ (x : DevState). Row x Minor.Start false Started) (sym state) restart) h.up
       (order_restart_from r (startable t.core.nodes ks) t.core.nodes (rising_startable t.core.nodes ks (rising_rest r.todo order)) (startable_there t.core.nodes ks t.core.nodes (same_there ks s.core t.core same (rest_there r.todo s.core.nodes there.there))))
       (subst (λ (x : List ℕ). DueBut x s.tasks t.core.nodes) (sym (waits_restart_from r (startable t.core.nodes ks))) now) h
@@ -263,7 +265,7 @@ module _ (s : State) (r : Rebalance) (good : Good s.next_serial s.core.nodes [] 
           | inr d ↦ inr (rest_has node.serial k r.todo work.head d ∙ q)
         ]
       ] in
-      let now = due_restart t.tasks s.core ks h.tree.root h.tree.rooted h.tree.idle (all_calm r.todo s.core.nodes keeps.each) (not_root s s.next_serial _ good) (rising_rest r.todo order) left in
+      let now = due_restart t.tasks s.core ks h.tree.root h.tree.rooted h.tree.idle told (all_calm r.todo s.core.nodes keeps.each) (not_root s s.next_serial _ good) (rising_rest r.todo order) left in
       let todo = startable s.core.nodes ks in
       sound_same s t (Label.Trouble node.path Problem.FailedStart) tt same refl (work.up, h.up)
       (order_restart_from r todo t.core.nodes (rising_startable s.core.nodes ks (rising_rest r.todo order)) (same_there todo s.core t.core same (startable_there s.core.nodes ks s.core.nodes (rest_there r.todo s.core.nodes there.there))))

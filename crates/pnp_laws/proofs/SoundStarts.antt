@@ -59,7 +59,7 @@ calm_walk : (s t : State) (node : Node) (minor : Minor) (bad : Bool) (y : DevSta
     node_at node.serial s.core.nodes ≡ Some node → (is_idle y ≡ true → is_idle node.state ≡ true) → (y ≡ Stopped → ⊥) → y ≢ NoStack → Row node.state minor bad y → TasksUp t.tasks → LeadsMore s.tasks t.tasks →
     Stands s → Sound s (record { label = Label.State node.path y; state = t })
 calm_walk s t node minor bad y a b next now none at idle stopped full row up leads stands =
-    let same = same_changed s.core t.core node.serial (with_state y) node a b (λ x. refl) at (record { serial = refl; parent = refl; path = refl; born = refl; idle = idle }) in
+    let same = same_changed s.core t.core node.serial (with_state y) node a b (λ x. refl) at (record { serial = refl; parent = refl; path = refl; born = refl; idle = idle; bare = λ q. absurd (full q) }) in
     sound_walk s t node minor bad y a same next at full row up (stage_none t.operation t.core now)
     (due_changed (waiting s.operation) (waiting t.operation) s.tasks t.tasks s.core.nodes t.core.nodes node.serial (with_state y) node a (λ x. refl) at (nodes_same s.core t.core same) leads (λ e. absurd (stopped e))
     (λ k h. inl (calm_due s.operation t.operation none now k h)) stands.due) stands
@@ -83,7 +83,7 @@ no_dependents c k order none j h =
 -- The cases ------------------------------------------------------------------------------------
 
 pub plain_alike : (f : Node → Node) (node : Node) → (f node).serial ≡ node.serial → (f node).parent ≡ node.parent → (f node).path ≡ node.path → (f node).state ≡ node.state → (f node).born ≡ node.born → Alike node (f node)
-plain_alike f node a b c d e = record { serial = a; parent = b; path = c; born = e; idle = λ h. ap is_idle (sym d) ∙ h }
+plain_alike f node a b c d e = record { serial = a; parent = b; path = c; born = e; idle = λ h. ap is_idle (sym d) ∙ h; bare = λ h. sym d ∙ h }
 
 module _ (s : State) (node : Node) (none : s.operation ≡ None) (at : node_at node.serial s.core.nodes ≡ Some node) (up : node.serial ≢ 0) (h : Stands s) where
   -- the start goes on
@@ -99,7 +99,7 @@ module _ (s : State) (node : Node) (none : s.operation ≡ None) (at : node_at n
 
   pub sound_act : (phase : Phase) (m : StartMove) → Fits phase node.state → Ascending 0 s.core.nodes → ActivityStep s.core node phase m → Sound s (start_lifted s node.serial m)
   sound_act _ _ idle order (ActivityStep.adds d ds) =
-      calm_changed s _ _ (with_stack (node.stack ++ d ∷ []) (stacked node.state)) node tt refl refl refl none none (λ x. refl) at (record { serial = refl; parent = refl; path = refl; born = refl; idle = λ q. idle })
+      calm_changed s _ _ (with_stack (node.stack ++ d ∷ []) (stacked node.state)) node tt refl refl refl none none (λ x. refl) at (record { serial = refl; parent = refl; path = refl; born = refl; idle = λ q. idle; bare = λ e. absurd (let q = stacked_idle node.state idle in cc) })
       (λ e. absurd (let q = stacked_idle node.state idle in cc)) h.up (leads_same s.tasks) h
   sound_act _ _ idle order (ActivityStep.refused d ds) = goes _ _ _ tt refl refl
   sound_act _ _ fit order (ActivityStep.fits phase plan budget search answer) = sets _ (Label.Assign node.path (own_part plan)) (with_holds (own_part plan)) tt refl refl refl refl refl (λ x. refl) refl refl refl refl

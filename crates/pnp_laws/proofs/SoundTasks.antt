@@ -3,34 +3,34 @@ use Rattle.std.proofs.Common.{ℕ, drop, ◌≡◌, ◌≢◌, ◌==◌, inl, in
 use Rattle.std.specs.List.{slice_get}
 use Rattle.std.proofs.lemmas.Bool.Decides.{nat_tests}
 use Rattle.resource_reqs.specs.Resources.{Reqs}
-use Rattle.resource_reqs.specs.Resources.{Reqs}
 use Rattle.pnp_model.specs.Keyed.{changed_first, those}
 use Rattle.pnp_model.specs.Tests.{has, is_surprise_task}
 use Rattle.pnp_model.specs.Records.{Node, Core, Device, Task, State, Step, Operation, Duty, Rebalance, RebalanceStage, Removal, RemovalStage, Surprise, SurpriseStage}
 use Rattle.pnp_model.specs.Cores.{is_node, node_at, with_problem, add_node, serials_of}
 use Rattle.pnp_model.specs.States.{drop_task, new_child}
-use Rattle.pnp_model.specs.Trees.{above, leaving, is_up, set_of}
-use Rattle.pnp_model.specs.Tasks.{joins, join_step, begin}
+use Rattle.pnp_model.specs.Trees.{above, leaving, set_of}
+use Rattle.pnp_model.specs.Handles.{was_told}
+use Rattle.pnp_model.specs.Tasks.{joins, join_step, begin, skip}
 use Rattle.pnp_labels.specs.declared.states.Problem.{Problem}
 use Rattle.pnp_labels.specs.declared.label.OpKind.{OpKind}
 use Rattle.pnp_labels.specs.declared.label.Label.{Label}
-use Rattle.pnp_labels.specs.declared.states.DevState.TheVariants.{NoStack, Started, Stopped}
+use Rattle.pnp_labels.specs.declared.states.DevState.TheVariants.{NoStack, Started, Stopped, SurpriseRemoved}
 use Rattle.resource_reqs.specs.Spelling.Answer.{no_fit}
 use Rattle.pnp_laws.specs.Kept.{Good, is_idle}
 use Rattle.pnp_laws.specs.Due.{leads}
-use Rattle.pnp_laws.proofs.Lookups.{own_serial, found_self, joined_from, joined_keeps, find_passes}
+use Rattle.pnp_laws.proofs.Lookups.{own_serial, found_self, joined_from, joined_keeps, find_passes, some_same}
 use Rattle.pnp_laws.proofs.Lists.{has_cases, those_found}
 use Rattle.pnp_laws.proofs.Closures.{closed_keeps}
 use Rattle.pnp_laws.proofs.Due.{below_in_set}
 use Rattle.pnp_laws.proofs.Aboves.{is_above_in, due_more}
-use Rattle.pnp_laws.proofs.Standing.{Tree, DueBut, waiting, StageKept, Stands, Sound, TasksUp}
+use Rattle.pnp_laws.proofs.Standing.{Tree, DueBut, waiting, StageKept, Stands, Sound, TasksUp, Told}
 use Rattle.pnp_laws.proofs.IdleSteps.{Bare, First, TaskStep, gone_is, joins_is}
 use Rattle.pnp_laws.proofs.TreeMoves.{tree_joined, above_joined}
 use Rattle.pnp_laws.proofs.Sounds.{IsPlain, LeadsMore, leads_none, leads_pushed, up_append, up_drop, due_still, sound_still, first_stays, due_less}
 use Rattle.pnp_laws.proofs.SoundStarts.{stage_none, calm_still, calm_changed, plain_alike}
 use Rattle.pnp_laws.proofs.Theres.{none_there, those_there, reverse_there, leaving_there}
 use Rattle.pnp_laws.proofs.Finishes.{set_is_closed, leaving_all, finishes_begun}
-use Rattle.pnp_laws.proofs.Restarts.{ordered_begun}
+use Rattle.pnp_laws.proofs.Restarts.{above_told, ordered_begun}
 use Rattle.pnp_model.specs.Rebalances as re
 use Rattle.pnp_model.specs.Removals as rm
 use Rattle.pnp_model.specs.Surprises as su
@@ -138,8 +138,8 @@ sound_removal s kind node task first surprise at none good h =
     let set = leaving s.core node.serial in
     let o : Removal = record { kind = kind; target = node.serial; path = node.path; set = set; ejecting = rm.ejecting s.core set; todo = []; agreed = []; refuser = None; stage = RemovalStage.Ending } in
     sound_begin s kind node _ task first surprise none
-    (srm.order_ask_on s.core.nodes o (those (λ k. is_up (node_at k s.core.nodes)) set) s.core (finishes_begun s.next_serial s.core node.serial node good.serials h.tree at)
-    (those_there (λ k. is_up (node_at k s.core.nodes)) set s.core.nodes (leaving_there s.next_serial s.core node.serial node good.serials h.tree at))
+    (srm.order_ask_on s.core.nodes o (those (λ k. rm.is_queried_node (node_at k s.core.nodes)) set) s.core (finishes_begun s.next_serial s.core node.serial node good.serials h.tree at)
+    (those_there (λ k. rm.is_queried_node (node_at k s.core.nodes)) set s.core.nodes (leaving_there s.next_serial s.core node.serial node good.serials h.tree at))
     (leaving_there s.next_serial s.core node.serial node good.serials h.tree at)) refl h
 
 -- what stands below the device of a surprise is in its set
@@ -158,32 +158,52 @@ sound_surprise : (s : State) (node : Node) (k : ℕ) → slice_get s.tasks 0 ≡
 sound_surprise s node k first at none good h =
     let own = own_serial k node s.core.nodes at in
     let set = leaving s.core node.serial in
-    let o : Surprise = record { target = node.serial; path = node.path; set = set; todo = []; stage = SurpriseStage.Ending } in
+    let o : Surprise = record { target = node.serial; path = node.path; set = set; told = those (λ k. was_told (node_at k s.core.nodes)) set; behind = []; todo = []; stage = SurpriseStage.Ending } in
     let told = those (λ k. su.is_told_node (node_at k s.core.nodes)) set in
     sound_still s _ (Label.Begin OpKind.Surprise node.path) tt refl refl refl (up_drop s.tasks h.up)
-    (srm.order_tell_on s.core.nodes o told s.core (finishes_begun s.next_serial s.core node.serial node good.serials h.tree (found_self k s.core.nodes node at))
+    (srm.order_tell_on o told s.core refl (finishes_begun s.next_serial s.core node.serial node good.serials h.tree (found_self k s.core.nodes node at))
     (those_there (λ k. su.is_told_node (node_at k s.core.nodes)) set s.core.nodes (leaving_there s.next_serial s.core node.serial node good.serials h.tree (found_self k s.core.nodes node at)))
     (leaving_there s.next_serial s.core node.serial node good.serials h.tree (found_self k s.core.nodes node at))
     (leaving_all h.tree.rank s.core node.serial node.serial good.serials h.tree.ranked (closed_keeps s.core (node.serial ∷ []) node.serial node good.serials (found_self k s.core.nodes node at) (grind (arith, nat_tests)))))
-    (subst (λ (ks : List ℕ). DueBut ks (drop 1 s.tasks) s.core.nodes) (sym (srm.waits_tell_on s.core.nodes o told))
+    (subst (λ (ks : List ℕ). DueBut ks (drop 1 s.tasks) s.core.nodes) (sym (srm.waits_tell_on o told))
     (due_dropped s.tasks k set s.core.nodes first
     (λ i n there stopped below. subst (λ (x : ℕ). has (leaving s.core x) i ≡ true) (sym own) (below_it s k node at good h i n there stopped below)) (calm_none s none h))) h
 
+-- a device that waits to be finished has no Stopped device below it
+none_below_told : (s : State) (node : Node) (k : ℕ) → node_at k s.core.nodes ≡ Some node → node.state ≡ SurpriseRemoved → Told s.core → Stands s → (i : ℕ) (n : Node) → node_at i s.core.nodes ≡ Some n → n.state ≡ Stopped → has (i ∷ above s.core.nodes i) k ≡ true → has [] i ≡ true
+none_below_told s node k at state told h i n there stopped below =
+    elim (has_cases i k (above s.core.nodes i) below) [
+      | inl e ↦ absurd (
+          let one = some_same (node_at k s.core.nodes) node n at (subst (λ (x : ℕ). node_at x s.core.nodes ≡ Some n) e there) in
+          let other = subst (λ (x : Node). x.state ≡ SurpriseRemoved) one state in
+          cc)
+      | inr q ↦ absurd (above_told i s.core i k n h.tree.root h.tree.rooted told there (λ z. cc) q node at state)
+    ]
+
+-- the surprise of a device that was told already is dropped
+sound_told : (s : State) (node : Node) → First s (Duty.Begins OpKind.Surprise) node.serial → node_at node.serial s.core.nodes ≡ Some node → node.state ≡ SurpriseRemoved → s.operation ≡ None → Told s.core → Stands s → Sound s (skip (Duty.Begins OpKind.Surprise) node.serial s)
+sound_told s node first at state none told h =
+    sound_still s _ _ tt refl refl refl (up_drop s.tasks h.up) (stage_none s.operation s.core none)
+    (subst (λ (ks : List ℕ). DueBut ks (drop 1 s.tasks) s.core.nodes) (sym (calm_waits s.operation none))
+    (due_dropped s.tasks node.serial [] s.core.nodes first (none_below_told s node node.serial at state told h) (calm_none s none h))) h
+
 -- The cases ------------------------------------------------------------------------------------
 
-pub sound_task : (s : State) (step : Step) → s.operation ≡ None → Good s.next_serial s.core.nodes s.activities None → Stands s → TaskStep s step → Sound s step
-sound_task s _ none good h (TaskStep.skips kind k j first calm) = sound_drop s _ _ tt first calm none h
-sound_task s _ none good h (TaskStep.misses k first gone) = sound_no_surprise s k _ tt gone first none good h
-sound_task s _ none good h (TaskStep.lists k node first) = sound_drop s _ _ tt first refl none h
-sound_task s _ none good h (TaskStep.finds_gone node child gone) =
+pub sound_task : (s : State) (step : Step) → s.operation ≡ None → Good s.next_serial s.core.nodes s.activities None → Told s.core → Stands s → TaskStep s step → Sound s step
+sound_task s _ none good told h (TaskStep.skips kind k j first calm) = sound_drop s _ _ tt first calm none h
+sound_task s _ none good told h (TaskStep.misses k first gone) = sound_no_surprise s k _ tt gone first none good h
+sound_task s _ none good told h (TaskStep.told node first at state) = sound_told s node first at state none told h
+sound_task s _ none good told h (TaskStep.lists k node first) = sound_drop s _ _ tt first refl none h
+sound_task s _ none good told h (TaskStep.finds_gone node child gone) =
     let is = (gone_is s node.serial child good.serials gone).1 in
     let up = (and_both (child.parent == node.serial) (not (child.serial == 0)) is).1 in
     calm_still s _ _ tt refl refl refl none none (up_append s.tasks (record { kind = Duty.Begins OpKind.Surprise; serial = child.serial }) (grind (arith, nat_tests)) h.up) (leads_pushed s.tasks _) h
-sound_task s _ none good h (TaskStep.joins node d at up below) = sound_join s node d (find_passes (joins node.born s.core.nodes) s.world d below) at up none good h
-sound_task s _ none good h (TaskStep.troubles node problem b fine) = sound_started s _ (Label.Trouble node.path problem) node (Some problem) tt refl refl refl refl refl none b h
-sound_task s _ none good h (TaskStep.installs node rank driver drivers b chosen) = sound_started s _ _ node None tt refl refl refl refl refl none b h
-sound_task s _ none good h (TaskStep.begins OpKind.Rebalance node first alone at fits) = sound_rebalance s OpKind.Rebalance node None first refl none good h
-sound_task s _ none good h (TaskStep.begins OpKind.Disable node first alone at fits) = sound_removal s OpKind.Disable node _ first refl at none good h
-sound_task s _ none good h (TaskStep.begins OpKind.Eject node first alone at fits) = sound_removal s OpKind.Eject node _ first refl at none good h
-sound_task s _ none good h (TaskStep.begins OpKind.Surprise node first alone at fits) = sound_surprise s node node.serial first at none good h
-sound_task s _ none good h (TaskStep.begins OpKind.Change node first alone at fits) = sound_rebalance s OpKind.Change node (Some _) first refl none good h
+sound_task s _ none good told h (TaskStep.joins node d at up below) = sound_join s node d (find_passes (joins node.born s.core.nodes) s.world d below) at up none good h
+sound_task s _ none good told h (TaskStep.troubles node problem b fine) = sound_started s _ (Label.Trouble node.path problem) node (Some problem) tt refl refl refl refl refl none b h
+sound_task s _ none good told h (TaskStep.installs node rank driver drivers b chosen) = sound_started s _ _ node None tt refl refl refl refl refl none b h
+sound_task s _ none good told h (TaskStep.begins OpKind.Rebalance node first alone at fits) = sound_rebalance s OpKind.Rebalance node None first refl none good h
+sound_task s _ none good told h (TaskStep.begins OpKind.Disable node first alone at fits) = sound_removal s OpKind.Disable node _ first refl at none good h
+sound_task s _ none good told h (TaskStep.begins OpKind.Eject node first alone at fits) = sound_removal s OpKind.Eject node _ first refl at none good h
+sound_task s _ none good told h (TaskStep.begins OpKind.Surprise node first alone at fits) = sound_surprise s node node.serial first at none good h
+sound_task s _ none good told h (TaskStep.begins OpKind.Finish node first alone at fits) = sound_begin s OpKind.Finish node _ _ first refl none (tt, tt) refl h
+sound_task s _ none good told h (TaskStep.begins OpKind.Change node first alone at fits) = sound_rebalance s OpKind.Change node (Some _) first refl none good h

@@ -115,9 +115,13 @@ RemovalOrder c o (RemovalStage.Removing w) = Finishes c o.set o.todo
 RemovalOrder c o RemovalStage.Settling = Finishes c o.set o.todo
 RemovalOrder c o RemovalStage.Ending = Unit {0}
 
--- nothing hangs on the device that is next
+-- nothing hangs on the device
+abbrev pub IsFree : Core → ℕ → Type 0
+IsFree c k = (j : ℕ) (m : Node) → node_at j c.nodes ≡ Some m → hangs_on c (k ∷ []) m ≡ true → ⊥
+
+-- nor on the one that is next
 abbrev pub HeadAlone : Core → List ℕ → Type 0
-HeadAlone c todo = (k : ℕ) → HeadIs k todo → (j : ℕ) (m : Node) → node_at j c.nodes ≡ Some m → hangs_on c (k ∷ []) m ≡ true → ⊥
+HeadAlone c todo = (k : ℕ) → HeadIs k todo → IsFree c k
 
 abbrev pub SurpriseOrder : Core → Surprise → SurpriseStage → Type 0
 SurpriseOrder c o (SurpriseStage.Telling w) = Finishes c o.set o.set
@@ -200,6 +204,16 @@ ToldBut j c =
 abbrev pub AllTold : List ℕ → List Node → Type 0
 AllTold ks nodes = (k : ℕ) (n : Node) → has ks k ≡ true → node_at k nodes ≡ Some n → n.state ≡ SurpriseRemoved
 
+-- of these none waits
+abbrev pub NoneTold : List ℕ → List Node → Type 0
+NoneTold ks nodes = (k : ℕ) (n : Node) → has ks k ≡ true → node_at k nodes ≡ Some n → n.state ≢ SurpriseRemoved
+
+-- in a removal, once all were asked, none of its set waits
+abbrev pub RemovalTold : Core → Removal → RemovalStage → Type 0
+RemovalTold c o (RemovalStage.Removing w) = Told c × NoneTold o.todo c.nodes
+RemovalTold c o RemovalStage.Settling = Told c × NoneTold o.todo c.nodes
+RemovalTold c o _ = Told c
+
 -- in a surprise: of its set, those that were told before, and those that stayed behind
 pub record ToldIn (c : Core) (set told behind : List ℕ) : Type 0 where
   pub were : AllTold told c.nodes
@@ -222,6 +236,7 @@ FinishTold c f FinishStage.Leaving = (k : ℕ) → HeadIs k f.todo → ToldBut k
 FinishTold c f _ = Told c
 
 abbrev pub ToldKept : Option Operation → Core → Type 0
+ToldKept (Some (Operation.Removing o)) c = RemovalTold c o o.stage
 ToldKept (Some (Operation.Surprising o)) c = SurpriseTold c o o.stage
 ToldKept (Some (Operation.Finishing f)) c = FinishTold c f f.stage
 ToldKept _ c = Told c

@@ -8,6 +8,7 @@ use Rattle.pnp_model.specs.Tests.{has}
 use Rattle.pnp_model.specs.Records.{Node, Core, Relation}
 use Rattle.pnp_model.specs.Cores.{is_node, node_at}
 use Rattle.pnp_model.specs.Trees.{hangs_on, above, above_in}
+use Rattle.pnp_labels.specs.declared.states.DevState.TheVariants.{NoStack}
 use Rattle.pnp_laws.specs.Kept.{is_idle}
 use Rattle.pnp_laws.proofs.Lookups.{some_same, node_from, node_changed_same, node_changed_other, map_from, node_at-map}
 use Rattle.pnp_laws.proofs.Ranks.{NoNewEdge, Ranked_less, RootFree_less, RelationsBelow, same_edge}
@@ -21,9 +22,10 @@ pub record Alike (n m : Node) : Type 0 where
   pub path : m.path ≡ n.path
   pub born : m.born ≡ n.born
   pub idle : is_idle m.state ≡ true → is_idle n.state ≡ true
+  pub bare : m.state ≡ NoStack → n.state ≡ NoStack
 
 pub alike_self : (n : Node) → Alike n n
-alike_self n = record { serial = refl; parent = refl; path = refl; born = refl; idle = λ h. h }
+alike_self n = record { serial = refl; parent = refl; path = refl; born = refl; idle = λ h. h; bare = λ h. h }
 
 pub record SameTree (c d : Core) : Type 0 where
   pub from : (k : ℕ) (m : Node) → node_at k d.nodes ≡ Some m → (n : Node) × (node_at k c.nodes ≡ Some n) × Alike n m
@@ -104,6 +106,11 @@ tree_same next c d same tree =
           let own = same.from k n at in
           let old = less k j m there h in
           tree.idle k own.0 own.1 (own.2.idle idle) j old.0 old.1 old.2;
+      only = λ k j m there bare h.
+          let own = same.from j m there in
+          let old = edge_back c d k own.0 m same.relations own.2.serial own.2.parent h in
+          let before = tree.only k j own.0 own.1 (own.2.bare bare) old in
+          (own.2.parent ∙ before.0, before.1);
       paths = λ j k n m at there e.
           let a = same.from j n at in
           let b = same.from k m there in
