@@ -1,2 +1,4 @@
 mod RowBase
 mod RowsNotices
+mod Runs
+mod Alone
