@@ -15,15 +15,10 @@ use Rattle.notify_front.specs.Notices.{FrontRun, FrontGoes}
 use Rattle.notify_front.specs.Laws.{HasNoClient, IsMachineAlone, AloneLaw}
 use Rattle.notify_front.proofs.Runs.{lifted_step}
 
--- nobody is registered, and nobody is told
-abbrev IsFree : Hand → Type 0
-IsFree Hand.Nothing = Unit {0}
-IsFree (Hand.Running told) = told ≡ []
-IsFree _ = ⊥
-
+-- nobody is registered, and nothing is at hand
 record Free (f : Front) : Type 0 where
   nobody : f.registrations ≡ []
-  hand : IsFree f.hand
+  hand : f.hand ≡ Hand.Nothing
 
 none_on : (ks : List ℕ) → on_each ks [] ≡ []
 none_on [] = refl
@@ -32,62 +27,37 @@ none_on (k ∷ ks) = none_on ks
 none_on_set : (f : Front) (k : ℕ) → f.registrations ≡ [] → on_set f k ≡ []
 none_on_set f k e = ap (λ (l : List Registration). on_each (leaving f.state.core k) l) e ∙ none_on (leaving f.state.core k)
 
-free_end : (result : OpEnd) → IsFree (fr.after_end result [])
-free_end (OpEnd.Veto path) = tt
-free_end OpEnd.Moved = tt
-free_end OpEnd.NoFit = tt
-free_end OpEnd.Spent = tt
-free_end OpEnd.Done = tt
-free_end OpEnd.Waiting = tt
-free_end OpEnd.Refused = tt
-
-free_still : (label : Label) → IsFree (fr.still label [])
-free_still (Label.End kind path result) = free_end result
-free_still _ = refl
-
-free_heard : (label : Label) (hand : Hand) → IsFree hand → IsFree (fr.heard label hand)
-free_heard label Hand.Nothing h = tt
-free_heard label (Hand.Running told) h = subst (λ (l : List Registration). IsFree (fr.still label l)) (sym h) (free_still label)
-free_heard label (Hand.Asking first agreed left) h = absurd h
-free_heard label (Hand.Cancelling first client left) h = absurd h
-free_heard label (Hand.Vetoed left) h = absurd h
-free_heard label (Hand.Ended left) h = absurd h
-
 -- a step of the machine alone
 record AloneStep (step : FrontStep) : Type 0 where
   free : Free step.front
   label : Label
   entry : step.entry ≡ FrontEntry.Passes (Entry.Did label)
 
-alone_machine : (settings : Settings) (f : Front) (hand : Hand) → f.registrations ≡ [] → IsFree hand → (step : FrontStep) → IsFrontStep settings (fr.machine_next settings f hand) step → AloneStep step
-alone_machine settings f hand nobody free step h =
-    let m = lifted_step settings f hand (ma.next settings f.state) step h in
-    let alone : AloneStep (fr.lifted f hand m.0) = record { free = record { nobody = nobody; hand = free_heard m.0.label hand free }; label = m.0.label; entry = refl } in
+alone_machine : (settings : Settings) (f : Front) (told : List Registration) → told ≡ [] → f.registrations ≡ [] → (step : FrontStep) → IsFrontStep settings (fr.machine_next settings f (fr.running told)) step → AloneStep step
+alone_machine settings f [] none nobody step h =
+    let m = lifted_step settings f Hand.Nothing (ma.next settings f.state) step h in
+    let alone : AloneStep (fr.lifted f Hand.Nothing m.0) = record { free = record { nobody = nobody; hand = refl }; label = m.0.label; entry = refl } in
     subst (λ (x : FrontStep). AloneStep x) (sym m.2) alone
+alone_machine settings f (r ∷ told) none nobody step h = absurd (cc)
 
 alone_ask : (settings : Settings) (f : Front) (first : Beginning) (all : List Registration) → all ≡ [] → f.registrations ≡ [] → (step : FrontStep) → IsFrontStep settings (fr.ask_next settings f first [] all) step → AloneStep step
-alone_ask settings f first [] none nobody step h = alone_machine settings f (Hand.Running []) nobody refl step h
+alone_ask settings f first [] none nobody step h = alone_machine settings f [] refl nobody step h
 alone_ask settings f first (r ∷ all) none nobody step h = absurd (cc)
 
 alone_begin : (settings : Settings) (f : Front) (first : Beginning) (kind : OpKind) → f.registrations ≡ [] → (step : FrontStep) → IsFrontStep settings (fr.begin_next settings f first kind) step → AloneStep step
 alone_begin settings f first OpKind.Disable nobody step h = alone_ask settings f first (on_set f first.serial) (none_on_set f first.serial nobody) nobody step h
 alone_begin settings f first OpKind.Eject nobody step h = alone_ask settings f first (on_set f first.serial) (none_on_set f first.serial nobody) nobody step h
-alone_begin settings f first OpKind.Surprise nobody step h = alone_machine settings f (Hand.Running (on_set f first.serial)) nobody (none_on_set f first.serial nobody) step h
-alone_begin settings f first OpKind.Rebalance nobody step h = alone_machine settings f Hand.Nothing nobody tt step h
-alone_begin settings f first OpKind.Finish nobody step h = alone_machine settings f Hand.Nothing nobody tt step h
-alone_begin settings f first OpKind.Change nobody step h = alone_machine settings f Hand.Nothing nobody tt step h
+alone_begin settings f first OpKind.Surprise nobody step h = alone_machine settings f (on_set f first.serial) (none_on_set f first.serial nobody) nobody step h
+alone_begin settings f first OpKind.Rebalance nobody step h = alone_machine settings f [] refl nobody step h
+alone_begin settings f first OpKind.Finish nobody step h = alone_machine settings f [] refl nobody step h
+alone_begin settings f first OpKind.Change nobody step h = alone_machine settings f [] refl nobody step h
 
 alone_idle : (settings : Settings) (f : Front) (o : Option Beginning) → f.registrations ≡ [] → (step : FrontStep) → IsFrontStep settings (fr.idle_next settings f o) step → AloneStep step
-alone_idle settings f None nobody step h = alone_machine settings f Hand.Nothing nobody tt step h
+alone_idle settings f None nobody step h = alone_machine settings f [] refl nobody step h
 alone_idle settings f (Some first) nobody step h = alone_begin settings f first first.kind nobody step h
 
-alone_hand : (settings : Settings) (f : Front) (hand : Hand) → f.registrations ≡ [] → IsFree hand → (step : FrontStep) → IsFrontStep settings (fr.hand_next settings f hand) step → AloneStep step
-alone_hand settings f Hand.Nothing nobody free step h = alone_idle settings f (ma.due f.state) nobody step h
-alone_hand settings f (Hand.Running told) nobody free step h = alone_machine settings f (Hand.Running told) nobody free step h
-alone_hand settings f (Hand.Asking first agreed left) nobody free step h = absurd free
-alone_hand settings f (Hand.Cancelling first client left) nobody free step h = absurd free
-alone_hand settings f (Hand.Vetoed left) nobody free step h = absurd free
-alone_hand settings f (Hand.Ended left) nobody free step h = absurd free
+alone_hand : (settings : Settings) (f : Front) → Free f → (step : FrontStep) → IsFrontStep settings (fr.front_next settings f) step → AloneStep step
+alone_hand settings f free step h = alone_idle settings f (ma.due f.state) free.nobody step (subst (λ (x : Hand). IsFrontStep settings (fr.hand_next settings f x) step) free.hand h)
 
 -- an event that is passed on
 free_event : (f : Front) (event : Event) (label : Label) (g : Front) → Free f → fr.front_happens f event ≡ record { entry = FrontEntry.Passes (Entry.Happens event label); front = g } → Free g
@@ -105,14 +75,14 @@ record Goes (entry : FrontEntry) (g : Front) (rest : List FrontEntry) : Type 0 w
 alone_goes : (settings : Settings) (f : Front) (entry : FrontEntry) (g : Front) (rest : List FrontEntry) → Free f → FrontGoes settings f entry g → HasNoClient (entry ∷ rest) → Goes entry g rest
 alone_goes settings f (FrontEntry.Passes (Entry.Happens event label)) g rest free goes none = record { free = free_event f event label g free goes.1; more = λ h. h }
 alone_goes settings f (FrontEntry.Passes (Entry.Did label)) g rest free goes none =
-    record { free = (alone_hand settings f f.hand free.nobody free.hand (record { entry = FrontEntry.Passes (Entry.Did label); front = g }) goes).free; more = λ h. h }
+    record { free = (alone_hand settings f free (record { entry = FrontEntry.Passes (Entry.Did label); front = g }) goes).free; more = λ h. h }
 alone_goes settings f (FrontEntry.Passes (Entry.Declines label)) g rest free goes none =
-    let step = alone_hand settings f f.hand free.nobody free.hand (record { entry = FrontEntry.Passes (Entry.Declines label); front = g }) goes in
+    let step = alone_hand settings f free (record { entry = FrontEntry.Passes (Entry.Declines label); front = g }) goes in
     let e = step.entry in
     absurd (cc)
 alone_goes settings f (FrontEntry.Watches event label) g rest free goes none = absurd none
 alone_goes settings f (FrontEntry.Tells label) g rest free goes none =
-    let step = alone_hand settings f f.hand free.nobody free.hand (record { entry = FrontEntry.Tells label; front = g }) goes in
+    let step = alone_hand settings f free (record { entry = FrontEntry.Tells label; front = g }) goes in
     let e = step.entry in
     absurd (cc)
 
@@ -128,4 +98,4 @@ alone_run settings f (entry ∷ rest) g free (mid, goes, run) none =
     next.more (alone_run settings mid rest g next.free run (no_client_after entry rest none))
 
 pub machine_alone : AloneLaw
-machine_alone settings rack entries f run none = alone_run settings (opening_front (opening rack)) entries f (record { nobody = refl; hand = tt }) run none
+machine_alone settings rack entries f run none = alone_run settings (opening_front (opening rack)) entries f (record { nobody = refl; hand = refl }) run none

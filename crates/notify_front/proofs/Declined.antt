@@ -18,7 +18,7 @@ use Rattle.notify_front.specs.Fronts.{Front, Hand, FrontEntry, FrontStep, IsFron
 use Rattle.notify_front.specs.Notices.{FrontRun, FrontGoes}
 use Rattle.notify_front.specs.Laws.{DeclinedLaw, asked, refused, cancelled}
 use Rattle.notify_front.proofs.Runs as rn
-use Rattle.notify_front.proofs.Runs.{Fits, IsCalm, lifted_step, quiet_hand}
+use Rattle.notify_front.proofs.Runs.{Fits, IsCalm, lifted_step, quiet_hand, running_calm}
 use Rattle.notify_front.proofs.Told.{Kept, Holds, Ends, kept_goes, opening_kept}
 
 -- a client refused, and of those that agreed these have heard of it, and the others are left
@@ -102,14 +102,14 @@ leaves_asked entries f first agreed r left false e all (earlier, is) =
 
 leaves_ask : (settings : Settings) (entries : List FrontEntry) (f : Front) (first : Beginning) (agreed left : List Registration) → reverse agreed ++ left ≡ on_set f first.serial → Ends entries (Hand.Asking first agreed left) →
     (step : FrontStep) → IsFrontStep settings (fr.ask_next settings f first agreed left) step → Leaves entries step
-leaves_ask settings entries f first agreed [] all ends step h = leaves_machine settings entries f (Hand.Running (reverse agreed)) tt step h
+leaves_ask settings entries f first agreed [] all ends step h = leaves_machine settings entries f (fr.running (reverse agreed)) (running_calm (reverse agreed)) step h
 leaves_ask settings entries f first agreed (r ∷ left) all ends step h =
     leaves_told entries step (fr.ask_one f first agreed r left r.agrees) (leaves_asked entries f first agreed r left r.agrees refl all ends) h
 
 leaves_begin : (settings : Settings) (entries : List FrontEntry) (f : Front) (first : Beginning) (kind : OpKind) (step : FrontStep) → IsFrontStep settings (fr.begin_next settings f first kind) step → Leaves entries step
 leaves_begin settings entries f first OpKind.Disable step h = leaves_ask settings entries f first [] (on_set f first.serial) refl (entries, sym (append-nil entries)) step h
 leaves_begin settings entries f first OpKind.Eject step h = leaves_ask settings entries f first [] (on_set f first.serial) refl (entries, sym (append-nil entries)) step h
-leaves_begin settings entries f first OpKind.Surprise step h = leaves_machine settings entries f (Hand.Running (on_set f first.serial)) tt step h
+leaves_begin settings entries f first OpKind.Surprise step h = leaves_machine settings entries f (fr.running (on_set f first.serial)) (running_calm (on_set f first.serial)) step h
 leaves_begin settings entries f first OpKind.Rebalance step h = leaves_machine settings entries f Hand.Nothing tt step h
 leaves_begin settings entries f first OpKind.Finish step h = leaves_machine settings entries f Hand.Nothing tt step h
 leaves_begin settings entries f first OpKind.Change step h = leaves_machine settings entries f Hand.Nothing tt step h
@@ -206,13 +206,13 @@ no_ask_one f first agreed r left true d = d
 no_ask_one f first agreed r left false d = d
 
 no_ask : (settings : Settings) (entries : List FrontEntry) (f : Front) (first : Beginning) (agreed left : List Registration) (step : FrontStep) → IsDecline step.entry → IsFrontStep settings (fr.ask_next settings f first agreed left) step → Declines f entries step
-no_ask settings entries f first agreed [] step d h = no_machine settings entries f (Hand.Running (reverse agreed)) step d h
+no_ask settings entries f first agreed [] step d h = no_machine settings entries f (fr.running (reverse agreed)) step d h
 no_ask settings entries f first agreed (r ∷ left) step d h = absurd (no_ask_one f first agreed r left r.agrees (subst (λ (x : FrontStep). IsDecline x.entry) h d))
 
 no_begin : (settings : Settings) (entries : List FrontEntry) (f : Front) (first : Beginning) (kind : OpKind) (step : FrontStep) → IsDecline step.entry → IsFrontStep settings (fr.begin_next settings f first kind) step → Declines f entries step
 no_begin settings entries f first OpKind.Disable step d h = no_ask settings entries f first [] (on_set f first.serial) step d h
 no_begin settings entries f first OpKind.Eject step d h = no_ask settings entries f first [] (on_set f first.serial) step d h
-no_begin settings entries f first OpKind.Surprise step d h = no_machine settings entries f (Hand.Running (on_set f first.serial)) step d h
+no_begin settings entries f first OpKind.Surprise step d h = no_machine settings entries f (fr.running (on_set f first.serial)) step d h
 no_begin settings entries f first OpKind.Rebalance step d h = no_machine settings entries f Hand.Nothing step d h
 no_begin settings entries f first OpKind.Finish step d h = no_machine settings entries f Hand.Nothing step d h
 no_begin settings entries f first OpKind.Change step d h = no_machine settings entries f Hand.Nothing step d h

@@ -54,6 +54,10 @@ calm_fits s (Hand.Ended left) calm = tt
 calm_fits s (Hand.Asking first agreed left) calm = absurd calm
 calm_fits s (Hand.Cancelling first client left) calm = absurd calm
 
+pub running_calm : (told : List Registration) → IsCalm (fr.running told)
+running_calm [] = tt
+running_calm (r ∷ told) = tt
+
 vetoed_fits : (s : State) (left : List Registration) → Fits s (fr.vetoed left)
 vetoed_fits s [] = tt
 vetoed_fits s (r ∷ left) = tt
@@ -110,13 +114,13 @@ part_asked settings f first agreed r left true ready = record { goes = refl; fit
 part_asked settings f first agreed r left false ready = record { goes = refl; fits = ready }
 
 part_ask : (settings : Settings) (f : Front) (first : Beginning) (agreed left : List Registration) → IsReady f.state first → (step : FrontStep) → IsFrontStep settings (fr.ask_next settings f first agreed left) step → Part settings f step
-part_ask settings f first agreed [] ready step h = part_machine settings f (Hand.Running (reverse agreed)) tt step h
+part_ask settings f first agreed [] ready step h = part_machine settings f (fr.running (reverse agreed)) (running_calm (reverse agreed)) step h
 part_ask settings f first agreed (r ∷ left) ready step h = part_told settings f step (fr.ask_one f first agreed r left r.agrees) (part_asked settings f first agreed r left r.agrees ready) h
 
 part_begin : (settings : Settings) (f : Front) (first : Beginning) (kind : OpKind) → first.kind ≡ kind → ma.due f.state ≡ Some first → (step : FrontStep) → IsFrontStep settings (fr.begin_next settings f first kind) step → Part settings f step
 part_begin settings f first OpKind.Disable kinds e step h = part_ask settings f first [] (fr.on_set f first.serial) (record { is_due = e; in_order = ap ma.is_in_order kinds }) step h
 part_begin settings f first OpKind.Eject kinds e step h = part_ask settings f first [] (fr.on_set f first.serial) (record { is_due = e; in_order = ap ma.is_in_order kinds }) step h
-part_begin settings f first OpKind.Surprise kinds e step h = part_machine settings f (Hand.Running (fr.on_set f first.serial)) tt step h
+part_begin settings f first OpKind.Surprise kinds e step h = part_machine settings f (fr.running (fr.on_set f first.serial)) (running_calm (fr.on_set f first.serial)) step h
 part_begin settings f first OpKind.Rebalance kinds e step h = part_machine settings f Hand.Nothing tt step h
 part_begin settings f first OpKind.Finish kinds e step h = part_machine settings f Hand.Nothing tt step h
 part_begin settings f first OpKind.Change kinds e step h = part_machine settings f Hand.Nothing tt step h
@@ -158,13 +162,13 @@ pub not_ready : (settings : Settings) (s : State) (first : Beginning) → IsRead
 not_ready settings s first ready none = let next = (due_begins settings s first ready.is_due).1 in absurd (cc)
 
 quiet_ask : (settings : Settings) (f : Front) (first : Beginning) (agreed left : List Registration) → fr.ask_next settings f first agreed left ≡ None → ma.next settings f.state ≡ None
-quiet_ask settings f first agreed [] h = machine_quiet f (Hand.Running (reverse agreed)) (ma.next settings f.state) h
+quiet_ask settings f first agreed [] h = machine_quiet f (fr.running (reverse agreed)) (ma.next settings f.state) h
 quiet_ask settings f first agreed (r ∷ left) h = absurd (cc)
 
 quiet_begin : (settings : Settings) (f : Front) (first : Beginning) (kind : OpKind) → fr.begin_next settings f first kind ≡ None → ma.next settings f.state ≡ None
 quiet_begin settings f first OpKind.Disable h = quiet_ask settings f first [] (fr.on_set f first.serial) h
 quiet_begin settings f first OpKind.Eject h = quiet_ask settings f first [] (fr.on_set f first.serial) h
-quiet_begin settings f first OpKind.Surprise h = machine_quiet f (Hand.Running (fr.on_set f first.serial)) (ma.next settings f.state) h
+quiet_begin settings f first OpKind.Surprise h = machine_quiet f (fr.running (fr.on_set f first.serial)) (ma.next settings f.state) h
 quiet_begin settings f first OpKind.Rebalance h = machine_quiet f Hand.Nothing (ma.next settings f.state) h
 quiet_begin settings f first OpKind.Finish h = machine_quiet f Hand.Nothing (ma.next settings f.state) h
 quiet_begin settings f first OpKind.Change h = machine_quiet f Hand.Nothing (ma.next settings f.state) h

@@ -26,7 +26,7 @@ use Rattle.notify_front.specs.Fronts.{Front, Hand, FrontEntry, FrontStep, IsFron
 use Rattle.notify_front.specs.Notices.{FrontRun, FrontGoes, machine_part}
 use Rattle.notify_front.specs.Laws.{AskedLaw, HeardLaw, asked, cancelled, completed, results, StartsWith, is_told_of}
 use Rattle.notify_front.proofs.Runs as rn
-use Rattle.notify_front.proofs.Runs.{Fits, IsCalm, IsReady, IsQuietFront, Part, Beside, lifted_step, part_goes, quiet_hand, watch_at, unwatch_at, due_begins}
+use Rattle.notify_front.proofs.Runs.{Fits, IsCalm, IsReady, IsQuietFront, Part, Beside, lifted_step, part_goes, quiet_hand, running_calm, watch_at, unwatch_at, due_begins}
 
 -- What is kept --------------------------------------------------------------------------
 
@@ -86,6 +86,11 @@ still_holds : (f : Front) (label : Label) (told : List Registration) → (IsWith
 still_holds f (Label.End kind path result) told works = end_holds f result told
 still_holds f _ told works = works tt
 
+-- where somebody is told of an operation, it runs
+running_holds : (f : Front) (label : Label) (told : List Registration) → (IsWithin label → Works f.state) → Holds f (fr.heard label (fr.running told))
+running_holds f label [] works = tt
+running_holds f label (r ∷ told) works = still_holds f label (r ∷ told) works
+
 still_ends : (entries : List FrontEntry) (label : Label) (told : List Registration) → Ends entries (fr.still label told)
 still_ends entries (Label.End kind path result) told = end_ends entries result told
 still_ends entries _ told = tt
@@ -141,10 +146,10 @@ told_keeps entries f step told keeps is = subst (λ (x : FrontStep). Keeps entri
 
 -- an operation that is due begins with this at hand
 begin_keeps : (settings : Settings) (rack : List Driver) (entries : List FrontEntry) (f : Front) (first : Beginning) (told : List Registration) → Run settings (opening rack) (machine_part entries) f.state → ma.due f.state ≡ Some first →
-    (step : FrontStep) → IsFrontStep settings (fr.machine_next settings f (Hand.Running told)) step → Keeps entries f step
+    (step : FrontStep) → IsFrontStep settings (fr.machine_next settings f (fr.running told)) step → Keeps entries f step
 begin_keeps settings rack entries f first told reached is_due step h =
-    machine_keeps settings entries f (Hand.Running told) tt
-    (λ m goes. still_holds (fr.lifted f (Hand.Running told) m).front m.label told
+    machine_keeps settings entries f (fr.running told) (running_calm told)
+    (λ m goes. running_holds (fr.lifted f (fr.running told) m).front m.label told
     (λ within. works_begun f.state m (way_of settings rack entries f m reached goes) (due_is_first f.state first is_due).idle (begins m goes))) step h
   where
     begins : (m : Step) → ma.IsStep settings (ma.next settings f.state) m → ma.is_begin m.label ≡ true
@@ -300,7 +305,7 @@ reached_kept settings rack entries f run = kept_run settings rack [] (opening_fr
 
 -- what is at hand after the begin: all on the set; and where they were asked, so just before
 pub record Began (entries : List FrontEntry) (f : Front) (first : Beginning) (step : FrontStep) : Type 0 where
-  pub hand : step.front.hand ≡ Hand.Running (on_set f first.serial)
+  pub hand : step.front.hand ≡ fr.running (on_set f first.serial)
   pub asked_all : ma.is_in_order first.kind ≡ true → (earlier : List FrontEntry) × (entries ≡ earlier ++ map asked (on_set f first.serial))
 
 -- the step is the machine's
@@ -308,19 +313,20 @@ abbrev pub IsMachines : FrontEntry → Type 0
 IsMachines (FrontEntry.Passes (Entry.Did label)) = Unit {0}
 IsMachines _ = ⊥
 
-begin_still : (label : Label) (told : List Registration) → ma.is_begin label ≡ true → fr.still label told ≡ Hand.Running told
-begin_still (Label.Begin kind path) told h = refl
-begin_still _ told h = absurd (cc)
+begin_heard : (label : Label) (told : List Registration) → ma.is_begin label ≡ true → fr.heard label (fr.running told) ≡ fr.running told
+begin_heard (Label.Begin kind path) [] h = refl
+begin_heard (Label.Begin kind path) (r ∷ told) h = refl
+begin_heard _ told h = absurd (cc)
 
 began_machine : (settings : Settings) (entries : List FrontEntry) (f : Front) (first : Beginning) (told : List Registration) → ma.due f.state ≡ Some first → told ≡ on_set f first.serial →
     (ma.is_in_order first.kind ≡ true → (earlier : List FrontEntry) × (entries ≡ earlier ++ map asked (on_set f first.serial))) →
-    (step : FrontStep) → IsFrontStep settings (fr.machine_next settings f (Hand.Running told)) step → Began entries f first step
+    (step : FrontStep) → IsFrontStep settings (fr.machine_next settings f (fr.running told)) step → Began entries f first step
 began_machine settings entries f first told is_due all ends step h =
-    let m = lifted_step settings f (Hand.Running told) (ma.next settings f.state) step h in
+    let m = lifted_step settings f (fr.running told) (ma.next settings f.state) step h in
     let due = due_begins settings f.state first is_due in
     let same : m.0 ≡ due.0 = subst (λ o. ma.IsStep settings o m.0) due.1 m.1 in
-    let began : Began entries f first (fr.lifted f (Hand.Running told) m.0) =
-    record { hand = begin_still m.0.label told (ap (λ (x : Step). ma.is_begin x.label) same ∙ due.2) ∙ ap (λ (l : List Registration). Hand.Running l) all; asked_all = ends } in
+    let began : Began entries f first (fr.lifted f (fr.running told) m.0) =
+    record { hand = begin_heard m.0.label told (ap (λ (x : Step). ma.is_begin x.label) same ∙ due.2) ∙ ap (λ (l : List Registration). fr.running l) all; asked_all = ends } in
     subst (λ (x : FrontStep). Began entries f first x) (sym m.2) began
 
 not_asked : (f : Front) (first : Beginning) (agreed : List Registration) (r : Registration) (left : List Registration) (b : Bool) → IsMachines (fr.ask_one f first agreed r left b).entry → ⊥
@@ -480,8 +486,23 @@ ended settings f told kind path result g at goes =
     let e : m.0.label ≡ Label.End kind path result = let q = ap (λ (x : FrontStep). x.entry) m.2 in cc in
     ap (λ (x : FrontStep). x.front.hand) m.2 ∙ ap (λ (x : Label). fr.still x told) e
 
+none_hear : (result : OpEnd) (more : List FrontEntry) → StartsWith (results result []) more
+none_hear (OpEnd.Veto path) more = tt
+none_hear OpEnd.Moved more = tt
+none_hear OpEnd.NoFit more = tt
+none_hear OpEnd.Spent more = tt
+none_hear OpEnd.Done more = tt
+none_hear OpEnd.Waiting more = tt
+none_hear OpEnd.Refused more = tt
+
+-- those that are to hear of an operation do so after its end
+told_hear : (settings : Settings) (told : List Registration) (during more : List FrontEntry) (g h i j : Front) (kind : OpKind) (path : Text) (result : OpEnd) → g.hand ≡ fr.running told → FrontRun settings g during h → AllWithin (machine_part during) →
+    FrontGoes settings h (FrontEntry.Passes (Entry.Did (Label.End kind path result))) i → FrontRun settings i more j → StartsWith (results result told) more
+told_hear settings [] during more g h i j kind path result at run within ends after = none_hear result more
+told_hear settings (r ∷ told) during more g h i j kind path result at run within ends after =
+    end_hear settings i result (r ∷ told) more j (ended settings h (r ∷ told) kind path result i (running_run settings g (r ∷ told) during h at run within) ends) after
+
 pub all_hear : HeardLaw
 all_hear settings rack earlier during more f g h i j label first kind path result run begins is_due told within_run within ends after =
-    let told_at = (began settings rack earlier f label g first (reached_kept settings rack earlier f run) begins is_due told).hand in
-    let still = running_run settings g (on_set f first.serial) during h told_at within_run within in
-    end_hear settings i result (on_set f first.serial) more j (ended settings h (on_set f first.serial) kind path result i still ends) after
+    let at = (began settings rack earlier f label g first (reached_kept settings rack earlier f run) begins is_due told).hand in
+    told_hear settings (on_set f first.serial) during more g h i j kind path result at within_run within ends after

@@ -1,9 +1,9 @@
 -- What stands before the machine: clients that are registered on devices are asked before a removal, and told of its end.
-use Rattle.std.specs.Prelude.{ℕ, zero, suc, ◌==◌, ◌≡◌, Bool, true, false, ◌&&◌, List, [], ◌∷◌, ◌++◌, Option, Some, None, find, option_map, reverse}
+use Rattle.std.specs.Prelude.{ℕ, zero, suc, ◌==◌, ◌≡◌, Bool, true, false, ◌&&◌, List, [], ◌∷◌, ◌++◌, Option, Some, None, find, option_map, reverse, nat_lt}
 use Rattle.std.specs.List.{list_any}
 use Rattle.std.specs.Str.{bytes_eq}
 use Rattle.resource_reqs.specs.Spelling.{IsAnswer}
-use Rattle.pnp_model.specs.Keyed.{without_first, those}
+use Rattle.pnp_model.specs.Keyed.{without_first, put_before, those}
 use Rattle.pnp_model.specs.Cores.{node_at, path_of}
 use Rattle.pnp_model.specs.Trees.{leaving}
 use Rattle.pnp_model.specs.Tests.{is_started}
@@ -37,13 +37,14 @@ pub data Hand : Type 0 where
   Asking : (first : Beginning) (agreed left : List Registration) → Hand
   -- the client refused, and these are still to hear it
   Cancelling : (first : Beginning) (client : Text) (left : List Registration) → Hand
-  -- an operation runs, of which these were told, or for a surprise are to be told
+  -- an operation runs, of whose end these are to hear
   Running : (told : List Registration) → Hand
   -- it ended with a veto, and these are still to hear it
   Vetoed : (left : List Registration) → Hand
   -- it ended otherwise, and these are still to hear it
   Ended : (left : List Registration) → Hand
 
+-- the registrations stand in order of their devices, those of one device as they were made
 pub record Front : Type 0 where
   pub state : State
   pub registrations : List Registration
@@ -76,7 +77,10 @@ is_on k r = r.device == k
 abbrev pub is_of : Text → ℕ → Registration → Bool
 is_of client k r = bytes_eq r.client client && r.device == k
 
--- those on these devices, in the order of the devices, and on one device as they were made
+abbrev pub comes_after : ℕ → Registration → Bool
+comes_after k r = nat_lt k r.device
+
+-- those on these devices, in the order of the devices
 abbrev pub on_each : List ℕ → List Registration → List Registration
 on_each [] registrations = []
 on_each (k ∷ ks) registrations = those (is_on k) registrations ++ on_each ks registrations
@@ -99,7 +103,12 @@ tells what r agrees f = record { entry = FrontEntry.Tells (notice what r agrees)
 abbrev pub without : Registration → Front → Front
 without r f = record f { registrations = without_first (is_of r.client r.device) f.registrations }
 
--- nothing is at hand once no result is left
+-- nothing is at hand where nobody is told, and once no result is left
+
+abbrev pub running : List Registration → Hand
+running [] = Hand.Nothing
+running (r ∷ rs) = Hand.Running (r ∷ rs)
+
 abbrev pub vetoed : List Registration → Hand
 vetoed [] = Hand.Nothing
 vetoed (r ∷ rs) = Hand.Vetoed (r ∷ rs)
@@ -142,7 +151,7 @@ ask_one f first agreed r left false =
 
 -- where all agreed the operation begins
 abbrev pub ask_next : Settings → Front → Beginning → List Registration → List Registration → Option (Doing FrontStep)
-ask_next settings f first agreed [] = machine_next settings f (Hand.Running (reverse agreed))
+ask_next settings f first agreed [] = machine_next settings f (running (reverse agreed))
 ask_next settings f first agreed (r ∷ left) = Some (Does (ask_one f first agreed r left r.agrees))
 
 abbrev pub decline : Front → Beginning → Text → FrontStep
@@ -160,7 +169,7 @@ cancel_next f first client (r ∷ left) = tells NoticeKind.RemoveCancelled r Non
 abbrev pub begin_next : Settings → Front → Beginning → OpKind → Option (Doing FrontStep)
 begin_next settings f first OpKind.Disable = ask_next settings f first [] (on_set f first.serial)
 begin_next settings f first OpKind.Eject = ask_next settings f first [] (on_set f first.serial)
-begin_next settings f first OpKind.Surprise = machine_next settings f (Hand.Running (on_set f first.serial))
+begin_next settings f first OpKind.Surprise = machine_next settings f (running (on_set f first.serial))
 begin_next settings f first _ = machine_next settings f Hand.Nothing
 
 abbrev pub idle_next : Settings → Front → Option Beginning → Option (Doing FrontStep)
@@ -214,7 +223,7 @@ watch_new f client node agrees true = refuses EventWord.Watch Reason.SameWatch f
 watch_new f client node agrees false =
     record {
       label = Label.Did EventWord.Watch (says client node);
-      front = record f { registrations = f.registrations ++ registration client node agrees ∷ [] };
+      front = record f { registrations = put_before (comes_after node.serial) (registration client node agrees) f.registrations };
     }
 
 -- is the device Started?
