@@ -74,6 +74,10 @@ remove_each k ks nodes d ds stacks full each j n at = remove_one k j ks nodes n 
 
 -- the head of what is to do
 
+pub head_same : (todo : List ℕ) (j k : ℕ) → HeadIs j todo → HeadIs k todo → j ≡ k
+head_same [] j k a b = absurd a
+head_same (i ∷ is) j k a b = sym a ∙ b
+
 pub head_stripped : (todo : List ℕ) (j : ℕ) (x : DevState) → HeadIs j todo → removing_state todo j x ≡ true → is_stripped_next x ≡ true
 head_stripped [] j x h g = absurd h
 head_stripped (i ∷ is) j x h g = grind (arith, nat_tests)

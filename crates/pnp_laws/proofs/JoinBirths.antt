@@ -9,9 +9,9 @@ use Rattle.pnp_labels.specs.declared.states.DevState.TheVariants.{Started}
 use Rattle.pnp_laws.specs.Kept.{IsGood}
 use Rattle.pnp_laws.proofs.IdleSteps.{joins_is}
 use Rattle.pnp_laws.proofs.Lookups.{some_same, joined_from, joined_keeps}
-use Rattle.pnp_laws.proofs.Standing.{Tree}
+use Rattle.pnp_laws.proofs.Standing.{Told, Tree}
 use Rattle.pnp_laws.proofs.JoinRooms.{room_flows}
-use Rattle.pnp_laws.proofs.Joins.{starts, starts_less, unborn, closed, is_bare, some_there, is_live, lives, In, Sub, sub_in, Grows, Born, Flows, any_from, any_at, parent_there}
+use Rattle.pnp_laws.proofs.Joins.{starts, starts_less, unborn, closed, is_barren, some_there, is_live, lives, In, Sub, sub_in, Grows, Born, Leaving, Flows, any_from, any_at, parent_there}
 use Rattle.pnp_laws.proofs.JoinSteps.{live_is, starts_pushed}
 use Rattle.pnp_laws.proofs.Truths.{and_both, both_true, not_true, untrue}
 
@@ -46,8 +46,8 @@ under lo (x ∷ xs) d h (inr there) = under (suc x.born) xs d h.2 there
 
 -- A step -----------------------------------------------------------------------------------------------------
 
-pub born_flows : (s t : State) → Born s → Flows s t → Born t
-born_flows s t b f =
+pub born_flows : (s t : State) → Born s → Flows s t → Leaving t.operation t.core.nodes t.world → Born t
+born_flows s t b f leaving =
     record {
       room = room_flows s t b f;
       grows = grows_sub 0 t.world s.world f.world b.grows;
@@ -72,6 +72,7 @@ born_flows s t b f =
           let y = f.from n.parent p there in
           let at_old : node_at x.0.parent s.core.nodes ≡ Some y.0 = subst (λ (i : ℕ). node_at i s.core.nodes ≡ Some y.0) x.3 y.1 in
           y.2 ∙ b.links k x.0 y.0 d x.1 at_old (sub_in t.world s.world f.world d in_world) (e ∙ x.2);
+      leaving = leaving;
     }
 
 -- A join -----------------------------------------------------------------------------------------------------
@@ -85,6 +86,7 @@ pub record Joining (s : State) (node : Node) (d : Device) : Type 0 where
   pub none : s.operation ≡ None
   pub good : IsGood s
   pub tree : Tree s.next_serial s.core
+  pub told : Told s.core
   pub born : Born s
 
 -- no node has the birth number
@@ -151,6 +153,7 @@ born_joins s node d h =
                 let same : node ≡ p = some_same (node_at node.serial (s.core.nodes ++ new ∷ [])) node p kept at_node in
                 ap (λ (z : Node). z.born) (sym same) ∙ sym u.0 ∙ ap (λ (z : Device). z.parent) (sym one)
           ];
+      leaving = subst (λ (o : Option Operation). Leaving o (join_step s node d).state.core.nodes s.world) (sym h.none) tt;
     }
   where
     now : (n : ℕ) → nat_lt n (n + 1) ≡ true
@@ -190,7 +193,7 @@ new_dead s node d h = by_tests (closed s.operation s.next_serial) (some_there (a
 pub could_join : (s : State) (node : Node) (d : Device) → Joining s node d → (lives s d.parent && not (has_born d.born s.core.nodes)) ≡ true
 could_join s node d h =
     let u = joins_is node.born s.core.nodes d h.join in
-    let live_node : is_live s node ≡ true = live_is s node (ap (λ (o : Option Operation). closed o node.serial) h.none) (inl (ap is_bare h.up)) in
+    let live_node : is_live s node ≡ true = live_is s node (ap (λ (o : Option Operation). closed o node.serial) h.none) (inl (ap is_barren h.up)) in
     both_true (lives s d.parent) (not (has_born d.born s.core.nodes))
     (any_from (λ n. n.born == d.parent && is_live s n) s.core.nodes node.serial node h.at (both_true (node.born == d.parent) (is_live s node) (let e = u.0 in grind (arith, nat_tests)) live_node)) (ap not u.1)
 

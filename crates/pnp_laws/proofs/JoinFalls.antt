@@ -7,12 +7,12 @@ use Rattle.pnp_model.specs.Cores.{node_at}
 use Rattle.pnp_model.specs.Tasks.{join_step, has_born}
 use Rattle.pnp_model.specs.States.{new_child}
 use Rattle.pnp_labels.specs.declared.states.DevState.{DevState}
-use Rattle.pnp_labels.specs.declared.states.DevState.TheVariants.{NoStack}
+use Rattle.pnp_labels.specs.declared.states.DevState.TheVariants.{NoStack, SurpriseRemoved}
 use Rattle.pnp_laws.specs.Kept.{IsGood, is_idle}
 use Rattle.pnp_laws.proofs.Lookups.{some_same, found_self, joined_from, joined_keeps}
 use Rattle.pnp_laws.proofs.SoundStarts.{child_hangs}
-use Rattle.pnp_laws.proofs.Standing.{Tree}
-use Rattle.pnp_laws.proofs.Joins.{starts_less, unborn, closed, is_bare, is_live, lives, In, sub_same, Grows, Born, any_from, any_at, parent_there}
+use Rattle.pnp_laws.proofs.Standing.{Told, Tree}
+use Rattle.pnp_laws.proofs.Joins.{starts_less, unborn, closed, is_barren, is_live, lives, In, sub_same, Grows, Born, any_from, any_at, parent_there}
 use Rattle.pnp_laws.proofs.JoinSteps.{Joined, live_is, starts_pushed}
 use Rattle.pnp_laws.proofs.IdleSteps.{joins_is}
 use Rattle.pnp_laws.proofs.JoinBirths.{Joining, born_joins, no_node, under, grows_in, new_there, new_dead, could_join, could_before, is_born_now}
@@ -127,31 +127,35 @@ spares_joined s node d h =
 
 -- Those that are up --------------------------------------------------------------------------------------------
 
--- a node with this birth number was started once
+-- a node with this birth number was started once, and not told since that it has gone
 abbrev IsUp : State → ℕ → Type 0
-IsUp s b = (n : Node) × (node_at n.serial s.core.nodes ≡ Some n) × (n.born ≡ b) × (is_idle n.state ≡ false)
+IsUp s b = (n : Node) × (node_at n.serial s.core.nodes ≡ Some n) × (n.born ≡ b) × (is_idle n.state ≡ false) × (is_barren n.state ≡ false)
 
-bare_less : (x : DevState) → is_idle x ≡ false → is_bare x ≡ false
-bare_less NoStack h = absurd (cc)
-bare_less _ h = refl
+not_barren : (x : DevState) → is_idle x ≡ false → (x ≡ SurpriseRemoved → ⊥) → is_barren x ≡ false
+not_barren NoStack h told = absurd (cc)
+not_barren SurpriseRemoved h told = absurd (told refl)
+not_barren _ h told = refl
 
 up_above : (s : State) (node : Node) (d x : Device) → Joining s node d → In x s.world → IsUp s x.born → IsUp s x.parent
-up_above s node d x h there (n, at, born, up) =
+up_above s node d x h there (n, at, born, up, bears) =
     let p = parent_there s.next_serial n.serial s n h.tree at in
     let link = h.born.links n.serial n p.0 x at p.1 there (sym born) in
-    (p.0, found_self n.parent s.core.nodes p.0 p.1, link, by_root (cases_eq n.serial 0) p.0 p.1)
+    let over = by_root (cases_eq n.serial 0) p.0 p.1 in
+    (p.0, found_self n.parent s.core.nodes p.0 p.1, link, over.0, over.1)
   where
-    by_root : (n.serial ≡ 0) ⊎ (n.serial ≢ 0) → (p : Node) → node_at n.parent s.core.nodes ≡ Some p → is_idle p.state ≡ false
+    by_root : (n.serial ≡ 0) ⊎ (n.serial ≢ 0) → (p : Node) → node_at n.parent s.core.nodes ≡ Some p → (is_idle p.state ≡ false) × (is_barren p.state ≡ false)
     by_root (inl at_root) p at_p =
         let at0 : node_at 0 s.core.nodes ≡ Some n = subst (λ (i : ℕ). node_at i s.core.nodes ≡ Some n) at_root at in
         let own = h.tree.root n at0 in
         let same : n ≡ p = some_same (node_at 0 s.core.nodes) n p at0 (subst (λ (i : ℕ). node_at i s.core.nodes ≡ Some p) own at_p) in
-        subst (λ (z : Node). is_idle z.state ≡ false) same up
+        subst (λ (z : Node). (is_idle z.state ≡ false) × (is_barren z.state ≡ false)) same (up, bears)
     by_root (inr not_zero) p at_p =
-        untrue (is_idle p.state) (λ idle. h.tree.idle n.parent p at_p idle n.serial n at (child_hangs s.core n.parent n.serial n at not_zero refl))
+        let hangs = child_hangs s.core n.parent n.serial n at not_zero refl in
+        let here = untrue (is_idle p.state) (λ idle. h.tree.idle n.parent p at_p idle n.serial n at hangs) in
+        (here, not_barren p.state here (λ told. let gone = ap is_barren (h.told n.parent p at_p told n.serial n at hangs) in cc))
 
 inside_out : (s : State) (node : Node) (d x : Device) → IsUp s x.born → is_outside (join_step s node d).state x ≡ false
-inside_out s node d x (n, at, born, up) =
+inside_out s node d x (n, at, born, up, bears) =
     let t = (join_step s node d).state in
     let kept = joined_keeps n.serial s.core.nodes (new_child node.serial d s) n at in
     let there : has_born x.born t.core.nodes ≡ true = any_from (λ n. n.born == x.born) t.core.nodes n.serial n kept (grind (arith, nat_tests)) in
@@ -159,7 +163,7 @@ inside_out s node d x (n, at, born, up) =
 
 -- none of those that are up is to start
 up_shut : (s : State) (node : Node) (d : Device) → IsGood (join_step s node d).state → Joining s node d → (b : ℕ) → IsUp s b → opens_at (join_step s node d).state b ≡ false
-up_shut s node d good_t h b (n, at, born, up) =
+up_shut s node d good_t h b (n, at, born, up, bears) =
     untrue (opens_at (join_step s node d).state b)
     (λ g.
     let t = (join_step s node d).state in
@@ -172,7 +176,7 @@ up_shut s node d good_t h b (n, at, born, up) =
       | inl old ↦
           let one = h.born.apart m.0.serial n.serial m.0 n old at same_born in
           let same : m.0 ≡ n = some_same (node_at m.0.serial s.core.nodes) m.0 n old (subst (λ (i : ℕ). node_at i s.core.nodes ≡ Some n) (sym one) at) in
-          let live : is_live s n ≡ true = live_is s n (ap (λ (o : Option Operation). closed o n.serial) h.none) (inl (bare_less n.state up)) in
+          let live : is_live s n ≡ true = live_is s n (ap (λ (o : Option Operation). closed o n.serial) h.none) (inl bears) in
           let now : live_at t m.0.serial ≡ true = ap (is_alive t) m.1 ∙ ap (λ (z : Node). is_live s z) same ∙ live in
           let dead = not_true (live_at t m.0.serial) start.0 in
           cc
@@ -203,7 +207,7 @@ join_price_falls : (s : State) (node : Node) (d : Device) → IsGood (join_step 
 join_price_falls s node d good_t h =
     let t = (join_step s node d).state in
     let u = joins_is node.born s.core.nodes d h.join in
-    let parent_up : IsUp s d.parent = (node, h.at, sym u.0, ap is_idle h.up) in
+    let parent_up : IsUp s d.parent = (node, h.at, sym u.0, ap is_idle h.up, ap is_barren h.up) in
     let not_root : d.born ≢ 0 = λ e. no_node s d.born node.serial node u.1 h.at (let low = under 0 s.world d h.born.grows h.there in let p = u.0 in omega arith) in
     let out : is_outside t d ≡ false = but_not (lives t d.parent) (has_born d.born t.core.nodes) (is_born_now s node d h) in
     let a = spares_joined s node d h in
@@ -211,9 +215,9 @@ join_price_falls s node d good_t h =
     (to_start_before s node d good_t h) (λ x i g. could_before s node d x good_t h g) (up_shut s node d good_t h) (λ x i g. (up_above s node d x h i g, inside_out s node d x g)) in
     omega arith
 
-pub join_goes : (s : State) (step : Step) → IsGood s → IsGood step.state → Tree s.next_serial s.core → Born s → Joined s step → Born step.state × (join_price step.state < join_price s)
-join_goes s step good good_t tree born j =
+pub join_goes : (s : State) (step : Step) → IsGood s → IsGood step.state → Tree s.next_serial s.core → Told s.core → Born s → Joined s step → Born step.state × (join_price step.state < join_price s)
+join_goes s step good good_t tree told born j =
     let t = join_step s j.node j.device in
     let good_j : IsGood t.state = subst (λ (x : Step). IsGood x.state) j.is good_t in
-    let h : Joining s j.node j.device = record { join = j.join; there = j.there; at = j.at; up = j.up; none = j.none; good = good; tree = tree; born = born } in
+    let h : Joining s j.node j.device = record { join = j.join; there = j.there; at = j.at; up = j.up; none = j.none; good = good; tree = tree; told = told; born = born } in
     (subst (λ (x : Step). Born x.state) (sym j.is) (born_joins s j.node j.device h), subst (λ (x : Step). join_price x.state < join_price s) (sym j.is) (join_price_falls s j.node j.device good_j h))

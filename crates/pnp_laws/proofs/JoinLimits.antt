@@ -5,11 +5,12 @@ use Rattle.std.proofs.lemmas.Bool.{cases_eq}
 use Rattle.std.proofs.lemmas.Bool.Decides.{nat_tests}
 use Rattle.pnp_model.specs.Records.{Device, Node, Driver, Task, State, Step, Settings, Operation, Duty}
 use Rattle.pnp_model.specs.Cores.{node_at}
-use Rattle.pnp_model.specs.States.{activity_at}
+use Rattle.pnp_model.specs.States.{activity_at, drop_task}
 use Rattle.pnp_model.specs.Runs.{Entry, Goes, Run, printed, opening}
-use Rattle.pnp_model.specs.Runs.Entry.{Happens, Did}
+use Rattle.pnp_model.specs.Runs.Entry.{Happens, Did, Declines}
 use Rattle.pnp_labels.specs.declared.event.Event.{Event}
 use Rattle.pnp_labels.specs.declared.label.Label.{Label}
+use Rattle.pnp_labels.specs.declared.label.OpKind.{OpKind}
 use Rattle.pnp_laws.specs.Words.{IsWord, joined}
 use Rattle.pnp_laws.specs.Ends.{AllSteps, events, joins, starts_one, waiting_starts, JoinsLaw, FewJoinLaw}
 use Rattle.pnp_laws.specs.Effects.{CommandEffect}
@@ -19,8 +20,8 @@ use Rattle.pnp_laws.proofs.EffectsOfEvents.{event_effect}
 use Rattle.pnp_laws.proofs.RunsStand.{Kept, kept_goes, opening_kept}
 use Rattle.pnp_laws.proofs.Joins.{starts, start_cost, closed, some_there, sub_is, any_from, any_at, Born, HasRoom}
 use Rattle.pnp_laws.proofs.JoinSteps.{answer_closed, cheaper_pushed, joined_none, live_is, live_from, some_is, starts_pushed}
-use Rattle.pnp_laws.proofs.JoinMachine.{born_goes, opening_born, step_goes}
-use Rattle.pnp_laws.proofs.JoinCounts.{reach_room, reach_less, is_alive, live_at, one_of, start_count, is_to_start, opens_at, is_outside, may_join, spare, total, spare_at, spares, join_price, total_less, spare_most, spare_less, spares_less, one_is, other_is}
+use Rattle.pnp_laws.proofs.JoinMachine.{born_goes, flows_dropped, opening_born, step_goes}
+use Rattle.pnp_laws.proofs.JoinCounts.{reach_room, reach_less, is_alive, live_at, one_of, start_count, is_to_start, opens_at, is_outside, may_join, spare, total, spare_at, spares, join_price, total_less, spare_most, spare_less, spares_less, one_is, other_is, flows_price}
 use Rattle.pnp_laws.proofs.JoinRooms.{event_room}
 use Rattle.pnp_laws.proofs.Truths.{and_both, both_true, not_true}
 use Rattle.pnp_model.specs.Events as ev
@@ -89,6 +90,8 @@ event_starts s t (CommandEffect.starts path n enabled e) =
       λ k. subst (λ (x : State). live_at x k ≡ live_at s k) (sym enabled.stays) refl,
       λ d. subst (λ (x : State). is_outside x d ≡ is_outside s d) (sym enabled.stays) refl,
     )
+event_starts s t (CommandEffect.finishes n path found gone e) =
+    inl (λ cost. let h = ap (starts cost) e in let g = cheaper_pushed s.tasks (record { kind = Duty.Begins OpKind.Finish; serial = n.serial }) (λ cost. refl) cost in omega arith)
 event_starts s t (CommandEffect.begins kind n path found up e) = inl (λ cost. let h = ap (starts cost) e in let g = cheaper_pushed s.tasks (record { kind = Duty.Begins kind; serial = n.serial }) (λ cost. refl) cost in omega arith)
 
 record More (s t : State) : Type 0 where
@@ -212,10 +215,16 @@ entry_price settings old (Did label) new l goes =
       | inl fewer ↦ let one = joined_one label in omega arith
       | inr (price, no_join) ↦ let none = joined_none label no_join in omega arith
     ]
+entry_price settings old (Declines label) new l goes =
+    let none : joined label ≡ 0 = ap joined goes.says in
+    let price = flows_price old (drop_task old) l.kept.good l.kept.good l.kept.stands.tree l.born (flows_dropped old) l.born.room in
+    let now = ap join_price goes.dropped in
+    omega arith
 
 events_first : (entry : Entry) (rest : List Entry) → events (entry ∷ rest) ≡ events (entry ∷ []) + events rest
 events_first (Happens event label) rest = omega arith
 events_first (Did label) rest = omega arith
+events_first (Declines label) rest = omega arith
 
 run_price : (settings : Settings) (old : State) (entries : List Entry) (new : State) → Limited old → Run settings old entries new → joins entries + join_price new ≤ 4096 * events entries + join_price old
 run_price settings old [] new l run = subst (λ (s : State). 0 + join_price s ≤ 4096 * 0 + join_price old) (sym run) (omega arith)
@@ -265,6 +274,7 @@ no_events : (more : List Entry) → AllSteps more → events more ≡ 0
 no_events [] all = refl
 no_events (Happens event label ∷ rest) all = absurd all
 no_events (Did label ∷ rest) all = no_events rest all
+no_events (Declines label ∷ rest) all = absurd all
 
 limited_run : (settings : Settings) (old : State) (entries : List Entry) (new : State) → Limited old → Run settings old entries new → Limited new
 limited_run settings old [] new l run = subst Limited (sym run) l

@@ -1,45 +1,49 @@
--- In a removal and a surprise removal who was to lose its drivers still is, or is dead, and what left does not join again.
+-- In an operation who was to lose its drivers still is, or is dead, and what left does not join again.
 use Rattle.std.proofs.Common.{ℕ, ◌≡◌, ◌≢◌, ◌==◌, ◌⊎◌, inl, inr, Bool, true, false, not, ◌&&◌, ◌||◌, cond, List, [], ◌∷◌, Option, Some, None, refl, sym, ap, ◌∙◌, subst, arith}
 use Rattle.std.proofs.lemmas.Bool.{cases_eq}
 use Rattle.std.proofs.lemmas.Bool.Decides.{nat_tests}
 use Rattle.pnp_model.specs.Keyed.{without_first}
-use Rattle.pnp_model.specs.Tests.{has}
-use Rattle.pnp_model.specs.Records.{Node, Device, Activity, Walk, State, Step, Operation, Removal, RemovalStage, Surprise, SurpriseStage}
+use Rattle.pnp_model.specs.Tests.{has, is_surprise_removed}
+use Rattle.pnp_model.specs.Records.{Node, Device, Activity, Walk, State, Step, Operation, Removal, RemovalStage, Surprise, SurpriseStage, Finish, FinishStage}
 use Rattle.pnp_model.specs.Diagram.{Change}
 use Rattle.pnp_labels.specs.declared.states.DevState.{DevState}
-use Rattle.pnp_model.specs.Cores.{node_at, is_node, stack_of}
+use Rattle.pnp_model.specs.Cores.{node_at, is_node, drop_node, stack_of}
+use Rattle.pnp_model.specs.Handles.{was_told}
 use Rattle.pnp_model.specs.Frames.{first_node, rest}
 use Rattle.pnp_model.specs.States.{activity_at, with_core, set_operation, relist, unplug, without_those, is_in_world}
 use Rattle.pnp_model.specs.Removals.{RemoveBeside}
-use Rattle.pnp_model.specs.Machine.{after_remove, removal_lifted, surprise_lifted, is_target_in_world, is_born}
-use Rattle.pnp_labels.specs.declared.states.DevState.TheVariants.{NoStack}
+use Rattle.pnp_model.specs.Machine.{after_remove, finish_lifted, removal_lifted, surprise_lifted, is_current_in_world, is_target_in_world, is_born}
+use Rattle.pnp_labels.specs.declared.states.DevState.TheVariants.{NoStack, SurpriseRemoved}
 use Rattle.pnp_labels.specs.declared.label.Label.{Label}
 use Rattle.pnp_laws.specs.Words.{IsNoJoin}
-use Rattle.pnp_laws.specs.Kept.{RemovalKeeps, SurpriseKeeps, settling_state, Each}
-use Rattle.pnp_laws.proofs.Lookups.{some_same, own_serial, left_missing}
+use Rattle.pnp_laws.specs.Effects.{Running, Turn}
+use Rattle.pnp_laws.specs.Kept.{Ascending, RemovalKeeps, SurpriseKeeps, settling_state, Each}
+use Rattle.pnp_laws.proofs.Lookups.{some_same, own_serial, left_from, left_missing}
 use Rattle.pnp_laws.proofs.Lists.{HeadIs, head_found, rest_has}
 use Rattle.pnp_laws.proofs.Finishing.{relist_only, head_bare}
 use Rattle.pnp_laws.proofs.SurpriseSteps.{last_alone}
-use Rattle.pnp_laws.proofs.Standing.{Finishes, IsNoLeave, RemovalOrder, SurpriseOrder}
+use Rattle.pnp_laws.proofs.Standing.{AllTold, Finishes, IsNoLeave, RemovalOrder, SurpriseOrder, SurpriseTold}
 use Rattle.pnp_laws.proofs.SoundRemovals.{waits_finish_on, waits_tell_on}
-use Rattle.pnp_laws.proofs.Joins.{closed, removal_closed, is_bare, some_there, is_live, In, Gone}
+use Rattle.pnp_laws.proofs.Joins.{closed, removal_closed, is_barren, some_there, is_live, stage_leaving, In, Gone}
 use Rattle.pnp_laws.proofs.JoinSteps.{Closes, Closing, Knows, answer_closed}
-use Rattle.pnp_laws.proofs.Stages.{RemovalStep, SurpriseStep, asking, reply}
+use Rattle.pnp_laws.proofs.Stages.{FinishStep, RemovalStep, SurpriseStep, asking, reply}
 use Rattle.pnp_laws.proofs.Truths.{or_right}
 use Rattle.pnp_model.specs.Removals as rm
 use Rattle.pnp_model.specs.Surprises as su
+use Rattle.pnp_model.specs.Finishes as fi
 
 -- The dead ------------------------------------------------------------------------------------------------
 
 dead_closed : (t : State) (m : Node) → closed t.operation m.serial ≡ true → is_live t m ≡ false
 dead_closed t m e = by_test (closed t.operation m.serial) e
   where
-    by_test : (b : Bool) → b ≡ true → (not b && (not (is_bare m.state) || some_there (activity_at m.serial t.activities))) ≡ false
+    by_test : (b : Bool) → b ≡ true → (not b && (not (is_barren m.state) || some_there (activity_at m.serial t.activities))) ≡ false
     by_test true e = refl
     by_test false e = absurd (cc)
 
-dead_bare : (t : State) (m : Node) → m.state ≡ NoStack → t.activities ≡ [] → is_live t m ≡ false
-dead_bare t m e empty = by_tests (closed t.operation m.serial) (is_bare m.state) (some_there (activity_at m.serial t.activities)) (ap is_bare e) (ap (λ (acts : List Activity). some_there (activity_at m.serial acts)) empty)
+-- nothing joins below a device without drivers, or one that was told that it has gone
+pub dead_barren : (t : State) (m : Node) → is_barren m.state ≡ true → t.activities ≡ [] → is_live t m ≡ false
+dead_barren t m e empty = by_tests (closed t.operation m.serial) (is_barren m.state) (some_there (activity_at m.serial t.activities)) e (ap (λ (acts : List Activity). some_there (activity_at m.serial acts)) empty)
   where
     by_tests : (a b c : Bool) → b ≡ true → c ≡ false → (not a && (not b || c)) ≡ false
     by_tests true b c e f = refl
@@ -69,19 +73,33 @@ one_leaves s t label node at nodes closes gone knows =
           subst (λ (x : Node). Gone s t x) same (gone knows);
     }
 
-pub asks_closing : (s : State) (o : Operation) (node : Node) (w : Walk) → s.operation ≡ Some o → ClosesStep s (asking s o node w)
-asks_closing s o node w runs =
-    all_stay s (asking s o node w) tt (λ knows k n at free. inl (ap (λ (x : Option Operation). closed x k) runs ∙ sym (answer_closed (reply s.core node w) o k) ∙ free))
+-- the operation takes the drivers of the same devices
+abbrev pub Shuts : State → Operation → Type 0
+Shuts s o = (k : ℕ) → closed s.operation k ≡ closed (Some o) k
+
+-- also where its next device is taken
+turn_closed : (s : State) (o p : Operation) → Turn s o p → (k : ℕ) → closed (Some o) k ≡ closed (Some p) k
+turn_closed s _ _ (Turn.same o) k = refl
+turn_closed s _ _ (Turn.queries o node is first asks) k = ap (λ (x : RemovalStage). removal_closed o x k) is
+turn_closed s _ _ (Turn.removes o node d ds is first goes full) k = refl
+turn_closed s _ _ (Turn.settles o node is first goes none) k = refl
+turn_closed s _ _ (Turn.finishes f i node is ready at) k = refl
+
+pub running_shuts : (s : State) (o : Operation) → Running s o → Shuts s o
+running_shuts s o now k = ap (λ (x : Option Operation). closed x k) now.runs ∙ turn_closed s now.before o now.turn k
+
+pub asks_closing : (s : State) (o : Operation) (node : Node) (w : Walk) → Shuts s o → ClosesStep s (asking s o node w)
+asks_closing s o node w shuts = all_stay s (asking s o node w) tt (λ knows k n at free. inl (shuts k ∙ sym (answer_closed (reply s.core node w) o k) ∙ free))
 
 -- Removals ---------------------------------------------------------------------------------------------------
 
 pub record InRemoval (s : State) (o : Removal) (stage : RemovalStage) : Type 0 where
-  pub runs : s.operation ≡ Some (Operation.Removing o)
+  pub shuts : Shuts s (Operation.Removing o)
   pub is : o.stage ≡ stage
   pub empty : s.activities ≡ []
 
 rm_closed : (s : State) (o : Removal) (stage : RemovalStage) → InRemoval s o stage → (k : ℕ) → closed s.operation k ≡ removal_closed o stage k
-rm_closed s o stage h k = ap (λ (x : Option Operation). closed x k) h.runs ∙ ap (λ (x : RemovalStage). removal_closed o x k) h.is
+rm_closed s o stage h k = h.shuts k ∙ ap (λ (x : RemovalStage). removal_closed o x k) h.is
 
 -- who is still to do is closed
 closed_rest : (nodes : List Node) (o : Removal) (js : List ℕ) (k : ℕ) → has o.set k ≡ true → (js ≡ []) ⊎ (removal_closed (rm.finish_on nodes o js) (rm.finish_on nodes o js).stage k ≡ true)
@@ -124,7 +142,7 @@ settled_dead s t o node label h u same no_join knows k m in_set at =
             | inl q ↦ head_bare o.todo k was.0.state (subst (λ (i : ℕ). HeadIs i o.todo) q h.head) (h.each k was.0 was.1)
             | inr d ↦ h.order.bare k was.0 was.1 in_set (sym (rest_has node.serial k o.todo h.head d) ∙ ap (λ (ks : List ℕ). has ks k) over)
           ] in
-          dead_bare t m (same was.0.state m.state (knows.diagram.stays k was.0 m was.1 at) ∙ bare) (u.acts ∙ h.in_it.empty)
+          dead_barren t m (ap is_barren (same was.0.state m.state (knows.diagram.stays k was.0 m was.1 at) ∙ bare)) (u.acts ∙ h.in_it.empty)
     ]
 
 settled_closes : (s t : State) (o : Removal) (node : Node) (label : Label) → Settles s o node → Settled s t o → ((a b : DevState) → Change label a b → b ≡ a) → IsNoJoin label → Knows s (record { label = label; state = t }) → Closes s t
@@ -178,27 +196,37 @@ removal_closing s o stage m h keeps order _ = all_stay s (removal_lifted s m) tt
 -- Surprises ---------------------------------------------------------------------------------------------------
 
 pub record InSurprise (s : State) (o : Surprise) : Type 0 where
-  pub runs : s.operation ≡ Some (Operation.Surprising o)
+  pub shuts : Shuts s (Operation.Surprising o)
   pub empty : s.activities ≡ []
-
-su_closed : (s : State) (o : Surprise) → InSurprise s o → (k : ℕ) → closed s.operation k ≡ has o.set k
-su_closed s o h k = ap (λ (x : Option Operation). closed x k) h.runs
 
 -- the operation goes on with the same set
 su_on : (s : State) (o : Surprise) (m : su.SurpriseMove) → InSurprise s o → m.frame.set ≡ o.set → IsNoLeave m.label → m.beside ≡ RemoveBeside.On → ClosesStep s (surprise_lifted s m)
 su_on s o m h same no_leave on =
     all_stay s (surprise_lifted s m) no_leave
-    (λ knows k n at free. inl (su_closed s o h k ∙ ap (λ (ks : List ℕ). has ks k) (sym same) ∙ subst (λ (b : RemoveBeside). closed (after_remove (Operation.Surprising m.frame) b (with_core m.core s)).operation k ≡ false) on free))
+    (λ knows k n at free. inl (h.shuts k ∙ ap (λ (ks : List ℕ). has ks k) (sym same) ∙ subst (λ (b : RemoveBeside). closed (after_remove (Operation.Surprising m.frame) b (with_core m.core s)).operation k ≡ false) on free))
 
--- the operation ends, and all of the set is bare
-su_over : (s : State) (o : Surprise) → InSurprise s o → ((k : ℕ) (n : Node) → node_at k s.core.nodes ≡ Some n → has o.set k ≡ true → n.state ≡ NoStack) → ClosesStep s (surprise_lifted s (su.close s.core o))
-su_over s o h bare =
+-- the operation ends, and of the set all have no drivers, or stayed behind
+su_over : (s : State) (o : Surprise) → InSurprise s o → AllTold o.behind s.core.nodes → ((k : ℕ) (n : Node) → node_at k s.core.nodes ≡ Some n → has o.set k ≡ true → has o.behind k ≡ false → n.state ≡ NoStack) → ClosesStep s (surprise_lifted s (su.close s.core o))
+su_over s o h stayed bare =
     let m = su.close s.core o in
     all_stay s (surprise_lifted s m) tt (λ knows k n at free. by_set k n at (has o.set k) refl)
   where
+    barren : (k : ℕ) (n : Node) → node_at k s.core.nodes ≡ Some n → has o.set k ≡ true → (b : Bool) → has o.behind k ≡ b → is_barren n.state ≡ true
+    barren k n at e true behind = ap is_barren (stayed k n behind at)
+    barren k n at e false done = ap is_barren (bare k n at e done)
+
     by_set : (k : ℕ) (n : Node) → node_at k s.core.nodes ≡ Some n → (b : Bool) → has o.set k ≡ b → (closed s.operation k ≡ false) ⊎ (is_live (after_remove (Operation.Surprising o) RemoveBeside.Over (with_core s.core s)) n ≡ false)
-    by_set k n at true e = inr (dead_bare (after_remove (Operation.Surprising o) RemoveBeside.Over (with_core s.core s)) n (bare k n at e) h.empty)
-    by_set k n at false e = inl (su_closed s o h k ∙ e)
+    by_set k n at true e = inr (dead_barren (after_remove (Operation.Surprising o) RemoveBeside.Over (with_core s.core s)) n (barren k n at e (has o.behind k) refl) h.empty)
+    by_set k n at false e = inl (h.shuts k ∙ e)
+
+-- no device of the world has this birth number
+outside_world : (s t : State) (b : ℕ) → t.world ≡ s.world → is_in_world s.world b ≡ false → (d : Device) → In d t.world → d.born ≢ b
+outside_world s t b world out d there e = let q = in_world s.world d (subst (λ (w : List Device). In d w) world there) e in absurd (cc)
+  where
+    in_world : (world : List Device) (d : Device) → In d world → d.born ≡ b → is_in_world world b ≡ true
+    in_world [] d there e = absurd there
+    in_world (x ∷ xs) d (inl is) e = let f = ap (λ (z : Device). z.born) is in grind (arith, nat_tests)
+    in_world (x ∷ xs) d (inr there) e = or_right (x.born == b) (is_in_world xs b) (in_world xs d there e)
 
 closes_leaves : (s : State) (o : Surprise) (node : Node) → InSurprise s o → node_at node.serial s.core.nodes ≡ Some node → (has o.set node.parent ≡ true) ⊎ (is_in_world s.world node.born ≡ false) → ClosesStep s (surprise_lifted s (su.leaves s.core o node))
 closes_leaves s o node h at why =
@@ -206,39 +234,68 @@ closes_leaves s o node h at why =
     let u = set_operation (Some (Operation.Surprising m.frame)) (with_core m.core s) in
     let t = relist node.path node.born u in
     let only = relist_only node.path node.born u in
-    let world : t.world ≡ s.world = only.world in
-    let set : m.frame.set ≡ o.set = waits_finish_on s.core.nodes o (rest o.todo) in
+    let set : m.frame.set ≡ o.set = waits_finish_on o (rest o.todo) in
     let shut : (k : ℕ) → closed t.operation k ≡ has o.set k = λ k. ap (λ (x : Option Operation). closed x k) only.operation ∙ ap (λ (ks : List ℕ). has ks k) set in
     one_leaves s t (Label.Leave node.path) node at only.nodes
-    (λ knows k n at_k free. inl (su_closed s o h k ∙ sym (shut k) ∙ free))
+    (λ knows k n at_k free. inl (h.shuts k ∙ sym (shut k) ∙ free))
     (λ knows. elim why [
       | inl inside ↦ inr (λ p at_p. dead_closed t p (ap (closed t.operation) (own_serial node.parent p t.core.nodes at_p) ∙ shut node.parent ∙ inside))
-      | inr out ↦ inl (λ d there e. let q = in_world s.world d node.born (subst (λ (w : List Device). In d w) world there) e in absurd (cc))
+      | inr out ↦ inl (outside_world s t node.born only.world out)
     ])
-  where
-    in_world : (world : List Device) (d : Device) (b : ℕ) → In d world → d.born ≡ b → is_in_world world b ≡ true
-    in_world [] d b there e = absurd there
-    in_world (x ∷ xs) d b (inl is) e = let f = ap (λ (z : Device). z.born) is in grind (arith, nat_tests)
-    in_world (x ∷ xs) d b (inr there) e = or_right (x.born == b) (is_in_world xs b) (in_world xs d b there e)
 
-pub surprise_closing : (s : State) (o : Surprise) (stage : SurpriseStage) (m : su.SurpriseMove) → InSurprise s o → SurpriseKeeps o stage s.core.nodes → SurpriseOrder s.core o stage → SurpriseStep s.core o (is_target_in_world s o) stage m
+pub surprise_closing : (s : State) (o : Surprise) (stage : SurpriseStage) (m : su.SurpriseMove) → InSurprise s o → SurpriseKeeps o stage s.core.nodes → SurpriseOrder s.core o stage → SurpriseTold s.core o stage → SurpriseStep s.core o (is_target_in_world s o) s.handles stage m
     → ClosesStep s (surprise_lifted s m)
-surprise_closing s o stage m h keeps order (SurpriseStep.tells node w e) = su_on s o m h (waits_tell_on s.core.nodes o (rest o.todo)) tt refl
-surprise_closing s o stage m h keeps order (SurpriseStep.removes node w e) = su_on s o m h refl tt refl
-surprise_closing s o stage m h keeps order (SurpriseStep.leaves node first (inl inside)) = closes_leaves s o node h (head_found s.core.nodes o.todo node first).1 (inl inside)
-surprise_closing s o stage m h keeps order (SurpriseStep.leaves node first (inr (target, gone))) =
+surprise_closing s o stage m h keeps order told (SurpriseStep.tells node w e) = su_on s o m h (waits_tell_on o (rest o.todo)) tt refl
+surprise_closing s o stage m h keeps order told (SurpriseStep.removes node w e) = su_on s o m h refl tt refl
+surprise_closing s o stage m h keeps order told (SurpriseStep.lags node first behind) = su_on s o m h (waits_finish_on (record o { behind = node.serial ∷ o.behind }) (rest o.todo)) tt refl
+surprise_closing s o stage m h keeps order told (SurpriseStep.leaves node first (inl inside)) = closes_leaves s o node h (head_found s.core.nodes o.todo node first).1 (inl inside)
+surprise_closing s o stage m h keeps order told (SurpriseStep.leaves node first (inr (target, gone))) =
     let at = (head_found s.core.nodes o.todo node first).1 in
     let own : node.serial ≡ o.target = grind (arith, nat_tests) in
     closes_leaves s o node h at (inr (ap (is_born s.world) (sym (subst (λ (i : ℕ). node_at i s.core.nodes ≡ Some node) own at)) ∙ gone))
-surprise_closing s o stage m h keeps order (SurpriseStep.remains node first other over) = su_on s o m h (waits_finish_on s.core.nodes o (rest o.todo)) tt refl
-surprise_closing s o stage m h keeps order (SurpriseStep.stays node first target back) =
+surprise_closing s o stage m h keeps order told (SurpriseStep.remains node first other over) = su_on s o m h (waits_finish_on o (rest o.todo)) tt refl
+surprise_closing s o stage m h keeps order told (SurpriseStep.stays node first target back) =
     let head = (head_found s.core.nodes o.todo node first).0 in
     let own : node.serial ≡ o.target = grind (arith, nat_tests) in
     let over = last_alone o.target o.todo (subst (λ (i : ℕ). HeadIs i o.todo) own head) keeps.ends in
-    su_over s o h
-    (λ k n there in_set.
+    su_over s o h told.stayed
+    (λ k n there in_set done.
     elim (cases_eq node.serial k) [
       | inl q ↦ head_bare o.todo k n.state (subst (λ (i : ℕ). HeadIs i o.todo) q head) (keeps.each k n there)
-      | inr d ↦ order.bare k n there in_set (sym (rest_has node.serial k o.todo head d) ∙ ap (λ (ks : List ℕ). has ks k) over)
+      | inr d ↦ order.0.bare k n there in_set (sym (rest_has node.serial k o.todo head d) ∙ ap (λ (ks : List ℕ). has ks k) over) done
     ])
-surprise_closing s o stage m h keeps order SurpriseStep.closes = su_over s o h (λ k m at in_set. order.bare k m at in_set refl)
+surprise_closing s o stage m h keeps order told SurpriseStep.closes = su_over s o h told.stayed (λ k m at in_set done. order.bare k m at in_set refl done)
+
+-- Finishes ----------------------------------------------------------------------------------------------------
+
+pub record InFinish (s : State) (f : Finish) (stage : FinishStage) : Type 0 where
+  pub shuts : Shuts s (Operation.Finishing f)
+  pub empty : s.activities ≡ []
+  pub order : Ascending 0 s.core.nodes
+  pub leaving : stage_leaving f stage s.core.nodes s.world
+
+-- a device that was told that it has gone
+is_told_parent : (o : Option Node) (n : Node) → o ≡ Some n → was_told o ≡ true → is_barren n.state ≡ true
+is_told_parent None n at told = absurd (cc)
+is_told_parent (Some m) n at told = let same : m ≡ n = cc in subst (λ (x : Node). is_barren x.state ≡ true) same (by_state m.state told)
+  where
+    by_state : (x : DevState) → is_surprise_removed x ≡ true → is_barren x ≡ true
+    by_state SurpriseRemoved told = refl
+    by_state _ told = absurd (cc)
+
+pub finish_closing : (s : State) (f : Finish) (stage : FinishStage) (m : fi.FinishMove) → InFinish s f stage → FinishStep s.core f (is_current_in_world s f) s.handles stage m → ClosesStep s (finish_lifted s m)
+finish_closing s f stage m h (FinishStep.leaves node first) =
+    let at = (head_found s.core.nodes f.todo node first).1 in
+    let u = set_operation (Some (Operation.Finishing (fi.next_on f))) (with_core (drop_node node.serial s.core) s) in
+    let t = relist node.path node.born u in
+    let only = relist_only node.path node.born u in
+    one_leaves s t (Label.Leave node.path) node at only.nodes (λ knows k n at_k free. inl (h.shuts k))
+    (λ knows. elim (h.leaving node first) [
+      | inl told ↦ inr (λ p at_p.
+          let was = (left_from node.serial node.parent s.core.nodes p h.order (subst (λ (x : List Node). node_at node.parent x ≡ Some p) only.nodes at_p)).1 in
+          dead_barren t p (is_told_parent (node_at node.parent s.core.nodes) p was told) (only.activities ∙ h.empty))
+      | inr out ↦ inl (outside_world s t node.born only.world out)
+    ])
+finish_closing s f stage m h (FinishStep.removes node w e) = all_stay s (finish_lifted s m) tt (λ knows k n at free. inl (h.shuts k))
+finish_closing s f stage m h (FinishStep.holds node first) = all_stay s (finish_lifted s m) tt (λ knows k n at free. inl (h.shuts k))
+finish_closing s f stage m h (FinishStep.closes none) = all_stay s (finish_lifted s m) tt (λ knows k n at free. inl (h.shuts k))

@@ -25,7 +25,7 @@ use Rattle.pnp_laws.proofs.Lists.{head_found, head_has}
 use Rattle.pnp_laws.proofs.Lookups.{some_same, own_serial, found_self, phase_from, ended_same, ended_other, first_is}
 use Rattle.pnp_laws.proofs.Standing.{Kept}
 use Rattle.pnp_laws.proofs.Standing.{Sound}
-use Rattle.pnp_laws.proofs.Joins.{starts, start_cost, start_of, closed, removal_closed, is_bare, some_there, is_live, In, Gone, Stays, sub_stays, Flows}
+use Rattle.pnp_laws.proofs.Joins.{starts, start_cost, start_of, closed, removal_closed, is_barren, some_there, is_live, In, Gone, Stays, sub_stays, Flows}
 use Rattle.pnp_model.specs.Events as ev
 
 pub joined_none : (label : Label) → IsNoJoin label → joined label ≡ 0
@@ -34,8 +34,8 @@ joined_none _ h = refl
 
 -- Whoever lives -----------------------------------------------------------------------------------------
 
-pub live_is : (s : State) (n : Node) → closed s.operation n.serial ≡ false → (is_bare n.state ≡ false) ⊎ (some_there (activity_at n.serial s.activities) ≡ true) → is_live s n ≡ true
-live_is s n e h = by_tests (closed s.operation n.serial) (is_bare n.state) (some_there (activity_at n.serial s.activities)) e h
+pub live_is : (s : State) (n : Node) → closed s.operation n.serial ≡ false → (is_barren n.state ≡ false) ⊎ (some_there (activity_at n.serial s.activities) ≡ true) → is_live s n ≡ true
+live_is s n e h = by_tests (closed s.operation n.serial) (is_barren n.state) (some_there (activity_at n.serial s.activities)) e h
   where
     by_tests : (a b c : Bool) → a ≡ false → (b ≡ false) ⊎ (c ≡ true) → (not a && (not b || c)) ≡ true
     by_tests true b c e h = absurd (cc)
@@ -44,18 +44,18 @@ live_is s n e h = by_tests (closed s.operation n.serial) (is_bare n.state) (some
     by_tests false true false e (inr f) = absurd (cc)
     by_tests false false c e h = refl
 
-pub live_from : (s : State) (n : Node) → is_live s n ≡ true → (closed s.operation n.serial ≡ false) × ((is_bare n.state ≡ false) ⊎ (some_there (activity_at n.serial s.activities) ≡ true))
-live_from s n h = by_tests (closed s.operation n.serial) (is_bare n.state) (some_there (activity_at n.serial s.activities)) h
+pub live_from : (s : State) (n : Node) → is_live s n ≡ true → (closed s.operation n.serial ≡ false) × ((is_barren n.state ≡ false) ⊎ (some_there (activity_at n.serial s.activities) ≡ true))
+live_from s n h = by_tests (closed s.operation n.serial) (is_barren n.state) (some_there (activity_at n.serial s.activities)) h
   where
     by_tests : (a b c : Bool) → (not a && (not b || c)) ≡ true → (a ≡ false) × ((b ≡ false) ⊎ (c ≡ true))
     by_tests true b c h = absurd (cc)
     by_tests false true c h = (refl, inr h)
     by_tests false false c h = (refl, inl refl)
 
--- a device without drivers gets none by a request
-row_up : (minor : Minor) (bad : Bool) (a b : DevState) → Row a minor bad b → is_bare a ≡ false
-row_up _ _ _ _ Row.start = refl
-row_up _ _ _ _ _ = refl
+-- a device without drivers gets none by a request, and one that was told is not up again
+row_up : (minor : Minor) (bad : Bool) (a b : DevState) → Row a minor bad b → is_barren b ≡ false → is_barren a ≡ false
+row_up _ _ _ _ Row.remove_surprised up = absurd (cc)
+row_up _ _ _ _ _ up = refl
 
 -- an answer closes nothing and opens nothing
 stage_closed : (answer : Answer) (o : Removal) (stage : RemovalStage) (k : ℕ) → removal_closed o (ev.completed_removal answer stage) k ≡ removal_closed o stage k
@@ -118,7 +118,7 @@ starts_pushed cost (t ∷ tasks) task = let more = starts_pushed cost tasks task
 pub cheaper_pushed : (tasks : List Task) (task : Task) → ((cost : ℕ → ℕ) → start_cost cost task.kind task.serial ≡ 0) → Cheaper tasks (tasks ++ task ∷ [])
 cheaper_pushed tasks task free cost = let a = starts_pushed cost tasks task in let b = free cost in omega arith
 
-dropped_cheaper : (tasks : List Task) → Cheaper tasks (drop 1 tasks)
+pub dropped_cheaper : (tasks : List Task) → Cheaper tasks (drop 1 tasks)
 dropped_cheaper [] cost = omega arith
 dropped_cheaper (t ∷ tasks) cost = omega arith
 
@@ -163,7 +163,7 @@ record Entering (s t : State) : Type 0 where
   started : (n : Node) → start ≡ Some n → node_at n.serial s.core.nodes ≡ Some n
   tasks : (cost : ℕ → ℕ) → starts cost t.tasks + start_of cost start ≤ starts cost s.tasks
   active : (k : ℕ) (n m : Node) → node_at k s.core.nodes ≡ Some n → node_at k t.core.nodes ≡ Some m → some_there (activity_at k t.activities) ≡ true
-      → ((some_there (activity_at k s.activities) ≡ true) ⊎ (is_bare m.state ≡ false)) ⊎ (start ≡ Some n)
+      → ((some_there (activity_at k s.activities) ≡ true) ⊎ (is_barren m.state ≡ false)) ⊎ (start ≡ Some n)
 
 -- A step that is no join -----------------------------------------------------------------------------------
 
@@ -190,19 +190,19 @@ module _ (s : State) (label : Label) (t : State) (kept : Kept s) (knows : Knows 
       (inr (node, there, not_root node o runs is first, subst (λ (b : ℕ). t.world ≡ without_those (b ∷ []) s.world) (sym own) world), next)
 
   -- who has drivers now had them, or was being started
-  had_drivers : (k : ℕ) (n m : Node) → node_at k s.core.nodes ≡ Some n → node_at k t.core.nodes ≡ Some m → is_bare m.state ≡ false → (is_bare n.state ≡ false) ⊎ (some_there (activity_at k s.activities) ≡ true)
+  had_drivers : (k : ℕ) (n m : Node) → node_at k s.core.nodes ≡ Some n → node_at k t.core.nodes ≡ Some m → is_barren m.state ≡ false → (is_barren n.state ≡ false) ⊎ (some_there (activity_at k s.activities) ≡ true)
   had_drivers k n m was at up = by_turn (state_from s label t kept.good.serials k n m was effect.nodes at)
     where
-      by_change : (y : DevState) → Change (Label.State n.path y) n.state m.state → is_bare n.state ≡ false
-      by_change y (inl same) = ap is_bare (sym same) ∙ up
-      by_change y (inr (own, (minor, bad, row))) = row_up minor bad n.state m.state row
+      by_change : (y : DevState) → Change (Label.State n.path y) n.state m.state → is_barren n.state ≡ false
+      by_change y (inl same) = ap is_barren (sym same) ∙ up
+      by_change y (inr (own, (minor, bad, row))) = row_up minor bad n.state m.state row up
 
-      by_turn : (m.state ≡ n.state) ⊎ Turns s label k n → (is_bare n.state ≡ false) ⊎ (some_there (activity_at k s.activities) ≡ true)
-      by_turn (inl same) = inl (ap is_bare (sym same) ∙ up)
+      by_turn : (m.state ≡ n.state) ⊎ Turns s label k n → (is_barren n.state ≡ false) ⊎ (some_there (activity_at k s.activities) ≡ true)
+      by_turn (inl same) = inl (ap is_barren (sym same) ∙ up)
       by_turn (inr (Turns.told y prints)) = inl (by_change y (subst (λ (l : Label). Change l n.state m.state) prints (knows.diagram.stays k n m was at)))
       by_turn (inr (Turns.added d ds name acts prints)) = inr (ap some_there (acting_at s k (Adding (d ∷ ds)) kept.good.order acts).at)
 
-  none_begins : ((k : ℕ) (m : Node) → node_at k t.core.nodes ≡ Some m → some_there (activity_at k t.activities) ≡ true → (some_there (activity_at k s.activities) ≡ true) ⊎ (is_bare m.state ≡ false)) → Entering s t
+  none_begins : ((k : ℕ) (m : Node) → node_at k t.core.nodes ≡ Some m → some_there (activity_at k t.activities) ≡ true → (some_there (activity_at k s.activities) ≡ true) ⊎ (is_barren m.state ≡ false)) → Entering s t
   none_begins active =
       record {
         start = None;
@@ -212,17 +212,17 @@ module _ (s : State) (label : Label) (t : State) (kept : Kept s) (knows : Knows 
       }
 
   -- the start at the end of a rebalance is that of a device with drivers
-  reentered : (j : ℕ) (phase : Phase) → t.activities ≡ entered (record { serial = j; phase = phase }) s.activities → ((x : DevState) → Fits phase x → is_bare x ≡ false) → Entering s t
+  reentered : (j : ℕ) (phase : Phase) → t.activities ≡ entered (record { serial = j; phase = phase }) s.activities → ((x : DevState) → Fits phase x → is_barren x ≡ false) → Entering s t
   reentered j phase e fits = none_begins (λ k m at h. by_entered k m at h (entered_either (record { serial = j; phase = phase }) k s.activities))
     where
       by_entered : (k : ℕ) (m : Node) → node_at k t.core.nodes ≡ Some m → some_there (activity_at k t.activities) ≡ true
           → (activity_at k (entered (record { serial = j; phase = phase }) s.activities) ≡ activity_at k s.activities) ⊎ ((j ≡ k) × (activity_at k (entered (record { serial = j; phase = phase }) s.activities) ≡ Some (record { serial = j; phase = phase })))
-          → (some_there (activity_at k s.activities) ≡ true) ⊎ (is_bare m.state ≡ false)
+          → (some_there (activity_at k s.activities) ≡ true) ⊎ (is_barren m.state ≡ false)
       by_entered k m at h (inl q) = inl (ap some_there (sym (ap (activity_at k) e ∙ q)) ∙ h)
       by_entered k m at h (inr (own, q)) =
           let there = knows.good.phases k (record { serial = j; phase = phase }) (ap (activity_at k) e ∙ q) in
           let same : there.0 ≡ m = some_same (node_at k t.core.nodes) there.0 m there.1 at in
-          inr (ap (λ (z : Node). is_bare z.state) (sym same) ∙ fits there.0.state there.3)
+          inr (ap (λ (z : Node). is_barren z.state) (sym same) ∙ fits there.0.state there.3)
 
   -- the start of a device without drivers uses up its task
   installed : (j : ℕ) (phase : Phase) (drivers : List ℕ) → Chosen s j drivers → t.tasks ≡ drop 1 s.tasks → t.activities ≡ entered (record { serial = j; phase = phase }) s.activities → Entering s t
@@ -248,24 +248,24 @@ module _ (s : State) (label : Label) (t : State) (kept : Kept s) (knows : Knows 
   entering (ActivityEffect.ends j phase acts over e) =
       none_begins (λ k m at h. inl (active_ended j k s.activities kept.good.order (ap (λ (x : List Activity). some_there (activity_at k x)) (sym e) ∙ h)))
   entering (ActivityEffect.enters j _ (Enters.installs drivers chosen drops clears) e) = installed j _ drivers chosen drops e
-  entering (ActivityEffect.enters j _ (Enters.restarts r plan runs plain is target found nodes) e) = reentered j _ e (λ x fits. ap is_bare fits)
-  entering (ActivityEffect.enters j _ (Enters.undoes r runs plain target) e) = reentered j _ e (λ x fits. ap is_bare fits)
+  entering (ActivityEffect.enters j _ (Enters.restarts r plan runs plain is target found nodes) e) = reentered j _ e (λ x fits. ap is_barren fits)
+  entering (ActivityEffect.enters j _ (Enters.undoes r runs plain target) e) = reentered j _ e (λ x fits. ap is_barren fits)
 
   lives_on : (b : Entering s t) (k : ℕ) (n m : Node) → node_at k s.core.nodes ≡ Some n → node_at k t.core.nodes ≡ Some m → is_live t m ≡ true → (is_live s n ≡ true) ⊎ (b.start ≡ Some n)
   lives_on b k n m was at live =
       let own : m.serial ≡ k = own_serial k m t.core.nodes at in
       let l = live_from t m live in
       elim (closing.closes k m at (ap (closed t.operation) (sym own) ∙ l.0)) [
-        | inl free ↦ by_live free (subst (λ (i : ℕ). (is_bare m.state ≡ false) ⊎ (some_there (activity_at i t.activities) ≡ true)) own l.1)
+        | inl free ↦ by_live free (subst (λ (i : ℕ). (is_barren m.state ≡ false) ⊎ (some_there (activity_at i t.activities) ≡ true)) own l.1)
         | inr dead ↦ absurd (cc)
       ]
     where
-      free_now : closed s.operation k ≡ false → (is_bare n.state ≡ false) ⊎ (some_there (activity_at k s.activities) ≡ true) → is_live s n ≡ true
+      free_now : closed s.operation k ≡ false → (is_barren n.state ≡ false) ⊎ (some_there (activity_at k s.activities) ≡ true) → is_live s n ≡ true
       free_now free h =
           let old : k ≡ n.serial = sym (own_serial k n s.core.nodes was) in
-          live_is s n (subst (λ (i : ℕ). closed s.operation i ≡ false) old free) (subst (λ (i : ℕ). (is_bare n.state ≡ false) ⊎ (some_there (activity_at i s.activities) ≡ true)) old h)
+          live_is s n (subst (λ (i : ℕ). closed s.operation i ≡ false) old free) (subst (λ (i : ℕ). (is_barren n.state ≡ false) ⊎ (some_there (activity_at i s.activities) ≡ true)) old h)
 
-      by_live : closed s.operation k ≡ false → (is_bare m.state ≡ false) ⊎ (some_there (activity_at k t.activities) ≡ true) → (is_live s n ≡ true) ⊎ (b.start ≡ Some n)
+      by_live : closed s.operation k ≡ false → (is_barren m.state ≡ false) ⊎ (some_there (activity_at k t.activities) ≡ true) → (is_live s n ≡ true) ⊎ (b.start ≡ Some n)
       by_live free (inl up) = inl (free_now free (had_drivers k n m was at up))
       by_live free (inr there) = elim (b.active k n m was at there) [
         | inl h ↦ inl (free_now free (elim h [ inl there ↦ inr there | inr up ↦ had_drivers k n m was at up ]))

@@ -6,9 +6,11 @@ use Rattle.std.proofs.lemmas.Bool.Decides.{nat_tests}
 use Rattle.resource_reqs.specs.Resources.{Reqs}
 use Rattle.pnp_model.specs.Keyed.{changed_first}
 use Rattle.pnp_model.specs.Tests.{has}
-use Rattle.pnp_model.specs.Records.{Node, Device, Task, Activity, State, Operation, Removal, RemovalStage, Duty}
+use Rattle.pnp_model.specs.Records.{Node, Device, Task, Activity, State, Operation, Removal, RemovalStage, Finish, FinishStage, Duty}
 use Rattle.pnp_model.specs.Cores.{node_at}
-use Rattle.pnp_model.specs.States.{activity_at, requires, without_those}
+use Rattle.pnp_model.specs.Frames.{first_node}
+use Rattle.pnp_model.specs.Handles.{was_told}
+use Rattle.pnp_model.specs.States.{activity_at, is_in_world, requires, without_those}
 use Rattle.pnp_model.specs.Tasks.{has_born}
 use Rattle.pnp_labels.specs.declared.states.DevState.{DevState}
 use Rattle.pnp_labels.specs.declared.states.DevState.TheVariants.{NoStack, NotStarted, Started, StopPending, Stopped, RemovePending, SurpriseRemoved}
@@ -33,6 +35,7 @@ unborn next k = cond (nat_lt k next) 0 1
 
 -- the operation takes the drivers of these devices
 abbrev pub removal_closed : Removal → RemovalStage → ℕ → Bool
+removal_closed o RemovalStage.Next k = false
 removal_closed o (RemovalStage.Asking w) k = false
 removal_closed o (RemovalStage.TakingBack w) k = false
 removal_closed o (RemovalStage.Cancelling w) k = false
@@ -45,14 +48,15 @@ closed (Some (Operation.Removing o)) k = removal_closed o o.stage k
 closed (Some (Operation.Surprising o)) k = has o.set k
 closed _ k = false
 
-abbrev pub is_bare : DevState → Bool
-is_bare NoStack = true
-is_bare NotStarted = false
-is_bare Started = false
-is_bare StopPending = false
-is_bare Stopped = false
-is_bare RemovePending = false
-is_bare SurpriseRemoved = false
+-- without drivers, or told that it has gone
+abbrev pub is_barren : DevState → Bool
+is_barren NoStack = true
+is_barren NotStarted = false
+is_barren Started = false
+is_barren StopPending = false
+is_barren Stopped = false
+is_barren RemovePending = false
+is_barren SurpriseRemoved = true
 
 abbrev pub some_there : Option Activity → Bool
 some_there None = false
@@ -60,7 +64,7 @@ some_there (Some a) = true
 
 -- devices may still join below it
 abbrev pub is_live : State → Node → Bool
-is_live s n = not (closed s.operation n.serial) && (not (is_bare n.state) || some_there (activity_at n.serial s.activities))
+is_live s n = not (closed s.operation n.serial) && (not (is_barren n.state) || some_there (activity_at n.serial s.activities))
 
 abbrev pub lives : State → ℕ → Bool
 lives s b = list_any (λ n. n.born == b && is_live s n) s.core.nodes
@@ -166,6 +170,16 @@ abbrev pub HasRoom : List Device → Type 0
 HasRoom [] = ⊥
 HasRoom (d ∷ ds) = (d.born ≡ 0) × (length ds ≤ 4096)
 
+-- the device that leaves in a finish is not in the world, or goes with a parent that was told so
+abbrev pub stage_leaving : Finish → FinishStage → List Node → List Device → Type 0
+stage_leaving f FinishStage.Leaving nodes world =
+    (n : Node) → first_node nodes f.todo ≡ Some n → (was_told (node_at n.parent nodes) ≡ true) ⊎ (is_in_world world n.born ≡ false)
+stage_leaving f _ nodes world = Unit {0}
+
+abbrev pub Leaving : Option Operation → List Node → List Device → Type 0
+Leaving (Some (Operation.Finishing f)) nodes world = stage_leaving f f.stage nodes world
+Leaving _ nodes world = Unit {0}
+
 pub record Born (s : State) : Type 0 where
   pub room : HasRoom s.world
   pub grows : Grows 0 s.world
@@ -175,6 +189,7 @@ pub record Born (s : State) : Type 0 where
   pub known : (k : ℕ) (n : Node) → node_at k s.core.nodes ≡ Some n → n.born < s.next_born
   pub soon : starts (unborn s.next_serial) s.tasks ≡ 0
   pub links : (k : ℕ) (n p : Node) (d : Device) → node_at k s.core.nodes ≡ Some n → node_at n.parent s.core.nodes ≡ Some p → In d s.world → d.born ≡ n.born → p.born ≡ d.parent
+  pub leaving : Leaving s.operation s.core.nodes s.world
 
 pub grows_changed : (lo born : ℕ) (reqs : Reqs) (ds : List Device) → Grows lo ds → Grows lo (changed_first (λ x. x.born == born) (requires reqs) ds)
 grows_changed lo born reqs [] h = tt

@@ -35,6 +35,10 @@ pub mod Restarts
 pub mod SoundRebalances
 pub mod SoundTasks
 pub mod SoundMachine
+pub mod ToldMachine
+pub mod ShutSteps
+pub mod HandlesKept
+pub mod WaitsSteps
 pub mod Finishing
 pub mod OpSteps
 pub mod StartSteps
@@ -83,6 +87,7 @@ pub mod RunsEnds
 pub mod Joins
 pub mod JoinSteps
 pub mod JoinRemovals
+pub mod JoinFinishes
 pub mod JoinBirths
 pub mod JoinEvents
 pub mod JoinMachine
@@ -91,6 +96,7 @@ pub mod JoinFalls
 pub mod JoinRooms
 pub mod JoinLimits
 mod JoinTwice
+pub mod Weights
 pub mod Measures
 pub mod MeasureOps
 pub mod MeasureStages

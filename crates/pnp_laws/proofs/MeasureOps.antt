@@ -6,25 +6,27 @@ use Rattle.std.proofs.lemmas.Bool.{cases_eq}
 use Rattle.std.proofs.lemmas.Bool.Decides.{nat_tests}
 use Rattle.pnp_model.specs.Keyed.{those, without_first}
 use Rattle.pnp_model.specs.Tests.{has}
-use Rattle.pnp_model.specs.Records.{Node, Device, Task, Activity, Walk, State, Step, Operation, RebalanceStage, RemovalStage, Surprise, SurpriseStage, Duty}
+use Rattle.pnp_model.specs.Records.{Node, Device, Task, Activity, Walk, State, Step, Operation, RebalanceStage, RemovalStage, Surprise, SurpriseStage, FinishStage, Duty}
 use Rattle.pnp_model.specs.Cores.{is_node, node_at, serials_of, stack_of}
 use Rattle.pnp_model.specs.Walks.{after, is_bad, has_ended}
 use Rattle.pnp_model.specs.Trees.{stands_up}
 use Rattle.pnp_model.specs.Frames.{first_node, rest}
-use Rattle.pnp_model.specs.States.{is_in_world, relist, without_those}
+use Rattle.pnp_model.specs.States.{is_in_world, relist, set_operation, without_those}
 use Rattle.pnp_model.specs.Tasks.{is_surprise_of}
-use Rattle.pnp_model.specs.Machine.{is_born, operation_walk, rebalance_walk, removal_walk, surprise_walk}
+use Rattle.pnp_model.specs.Machine.{finish_walk, is_born, operation_walk, rebalance_walk, removal_walk, surprise_walk}
 use Rattle.pnp_labels.specs.Texts.{Text}
+use Rattle.pnp_labels.specs.declared.states.DevState.TheVariants.{SurpriseRemoved}
 use Rattle.pnp_labels.specs.declared.words.Answer.{Answer}
 use Rattle.pnp_labels.specs.declared.words.Answer.TheVariants.{Ok, Fail, Pend}
-use Rattle.pnp_laws.specs.Effects.{todo_of}
+use Rattle.pnp_laws.specs.Effects.{Turn, todo_of}
 use Rattle.pnp_laws.specs.Kept.{Ascending}
 use Rattle.pnp_laws.specs.Words.{IsNoJoin}
 use Rattle.pnp_laws.proofs.Lists.{head_found}
-use Rattle.pnp_laws.proofs.Lookups.{left_from, none_below}
+use Rattle.pnp_laws.proofs.Lookups.{left_from}
 use Rattle.pnp_laws.proofs.Finishing.{Listed, relist_only}
 use Rattle.pnp_laws.proofs.Stages.{Asks, asking, reply}
-use Rattle.pnp_laws.proofs.Measures.{Falls, falls_coarse, coarse, coarse_on, coarse_by, coarse_most, count, count_less, tasks_less, tasks_cost, tasks_pushed, sum, phase_cost, phase_less, is_open, is_target, open_same, born_in, operation_cost, operation_less, rebalance_cost, rank_of, rebalance_rank, removal_rank, surprise_rank, left_of, rebalance_left, removal_left, surprise_left, answers, answers_of, SameBirths, births_same}
+use Rattle.pnp_laws.proofs.Measures.{Falls, falls_coarse, coarse, coarse_on, coarse_by, coarse_weighed, tasks_less, tasks_cost, tasks_pushed, sum, phase_cost, phase_less, is_open, is_target, open_same, born_in, operation_cost, operation_less, rebalance_cost, rank_of, rebalance_rank, removal_rank, surprise_rank, finish_rank, left_of, rebalance_left, removal_left, surprise_left, answers, answers_of, SameBirths, births_same, weight_in, weight_less}
+use Rattle.pnp_laws.proofs.Weights.{Lighter, lighter_same, node_more, node_weight, told_weight, weigh, weigh_left, weigh_less, weigh_more}
 use Rattle.pnp_model.specs.Events as ev
 use Rattle.pnp_model.specs.Rebalances as re
 
@@ -84,18 +86,16 @@ startable_shorter nodes (k ∷ ks) = let more = startable_shorter nodes ks in ei
 abbrev pub Down : ℕ → ℕ → ℕ → ℕ → Type 0
 Down a b x y = (a < b) ⊎ ((a ≤ b) × (x < y))
 
--- births, world, tasks and activities stay
-pub falls_on : (s t : State) (o p : Operation) → s.operation ≡ Some o → t.operation ≡ Some p → SameBirths s.core.nodes t.core.nodes → t.world ≡ s.world → t.tasks ≡ s.tasks → t.activities ≡ s.activities → ((k : ℕ) → is_target (Some p) k ≡ is_target (Some o) k) →
-    operation_cost (born_in s) (Some p) ≤ operation_cost (born_in s) (Some o) → Down (rank_of (Some p)) (rank_of (Some o)) (left_of (Some p)) (left_of (Some o)) → Falls s t
-falls_on s t o p runs now same world tasks acts target cost down =
-    let c = ap (operation_cost (born_in s)) runs in
+-- births, world, tasks and activities stay, and no device is heavier
+pub falls_on : (s t : State) (o p : Operation) → t.operation ≡ Some p → SameBirths s.core.nodes t.core.nodes → t.world ≡ s.world → Lighter s.core.nodes t.core.nodes → t.tasks ≡ s.tasks → t.activities ≡ s.activities → ((k : ℕ) → is_target (Some p) k ≡ is_target (Some o) k) →
+    operation_cost (born_in s) (Some p) ≤ operation_cost (born_in s) (Some o) → Down (rank_of (Some p)) (rank_of (Some o)) (left_of (Some p)) (left_of (Some o)) → Falls (set_operation (Some o) s) t
+falls_on s t o p now same world light tasks acts target cost down =
+    let u = set_operation (Some o) s in
     let d = ap (operation_cost (born_in s)) now in
-    let most = coarse_on s t same world tasks acts (λ k. ap (λ (x : Option Operation). is_target x k) now ∙ target k ∙ sym (ap (λ (x : Option Operation). is_target x k) runs)) (omega arith) in
-    let a = ap rank_of runs in
+    let most = coarse_on u t same world light tasks acts (λ k. ap (λ (x : Option Operation). is_target x k) now ∙ target k) (omega arith) in
     let b = ap rank_of now in
-    let x = ap left_of runs in
     let y = ap left_of now in
-    elim down [ inl l ↦ falls_rank s t most (omega arith) | inr (l, less) ↦ falls_left s t most (omega arith) (omega arith) ]
+    elim down [ inl l ↦ falls_rank u t most (omega arith) | inr (l, less) ↦ falls_left u t most (omega arith) (omega arith) ]
 
 -- an answer leaves all numbers but what is still to answer
 record SameNumbers (o p : Operation) (v : Walk) : Type 0 where
@@ -131,25 +131,65 @@ numbers_completed answer (Operation.Surprising o) w walk =
         × (surprise_walk (ev.completed_surprise answer stage) ≡ option_map (λ (v : Walk). after v answer) (surprise_walk stage))
     by_stage (SurpriseStage.Telling v) = (refl, refl, refl)
     by_stage _ = (refl, refl, refl)
+numbers_completed answer (Operation.Finishing f) w walk =
+    let same = by_stage f.stage in
+    record { rank = same.0; left = refl; cost = λ born. refl; target = λ k. refl; todo = refl; walk = same.1 ∙ ap (option_map (λ (v : Walk). after v answer)) walk }
+  where
+    by_stage : (stage : FinishStage) → (finish_rank (ev.completed_finish answer stage) ≡ finish_rank stage) × (finish_walk (ev.completed_finish answer stage) ≡ option_map (λ (v : Walk). after v answer) (finish_walk stage))
+    by_stage (FinishStage.Removing v) = (refl, refl)
+    by_stage _ = (refl, refl)
 
-pub falls_asking : (s : State) (o : Operation) (node : Node) (w : Walk) → s.operation ≡ Some o → Asks s o node w → Falls s (asking s o node w).state
-falls_asking s o node w runs asks =
+pub falls_asking : (s : State) (o : Operation) (node : Node) (w : Walk) → Ascending 0 s.core.nodes → Asks s o node w → Falls (set_operation (Some o) s) (asking s o node w).state
+falls_asking s o node w order asks =
+    let u = set_operation (Some o) s in
     let t = (asking s o node w).state in
     let p = ev.completed (reply s.core node w) o in
     let v = after w (reply s.core node w) in
     let same = numbers_completed (reply s.core node w) o w asks.walk in
-    let less = asked_less w (reply s.core node w) (length node.stack) asks.waits asks.more in
-    let old : answers_of s.core.nodes s.activities s.operation ≡ answers (Some w) (length node.stack) =
-    ap (λ (x : Option Operation). answers_of s.core.nodes s.activities x) runs ∙ ap (λ (x : Option Walk). answers x (length (stack_of (first_node s.core.nodes (todo_of o))))) asks.walk ∙ ap (λ (x : Option Node). answers (Some w) (length (stack_of x))) asks.first in
+    let less = asked_less w (reply s.core node w) (length node.stack) asks.waits (asks.more order) in
+    let old : answers_of u.core.nodes u.activities u.operation ≡ answers (Some w) (length node.stack) =
+    ap (λ (x : Option Walk). answers x (length (stack_of (first_node s.core.nodes (todo_of o))))) asks.walk ∙ ap (λ (x : Option Node). answers (Some w) (length (stack_of x))) asks.first in
     let new : answers_of t.core.nodes t.activities t.operation ≡ answers (Some v) (length node.stack) =
     ap (λ (x : Option Walk). answers x (length (stack_of (first_node s.core.nodes (todo_of p))))) same.walk ∙ ap (λ (x : List ℕ). answers (Some v) (length (stack_of (first_node s.core.nodes x)))) same.todo ∙ ap (λ (x : Option Node). answers (Some v) (length (stack_of x))) asks.first in
     let a = same.cost (born_in s) in
-    let b = ap (operation_cost (born_in s)) runs in
     let c = same.rank in
-    let d = ap rank_of runs in
     let e = same.left in
-    let f = ap left_of runs in
-    falls_answers s t (coarse_on s t (births_same s.core.nodes s.core.nodes refl) refl refl refl (λ k. same.target k ∙ sym (ap (λ (x : Option Operation). is_target x k) runs)) (omega arith)) (omega arith) (omega arith) (omega arith)
+    falls_answers u t (coarse_on u t (births_same s.core.nodes s.core.nodes refl) refl (lighter_same s.core.nodes s.core.nodes refl) refl refl same.target (omega arith)) (omega arith) (omega arith) (omega arith)
+
+-- Where the next device of an operation is taken -------------------------------------------------------
+
+-- what is lower than the operation after the turn is lower than before it
+sooner : (s t : State) (o p : Operation) → coarse (set_operation (Some p) s) ≤ coarse (set_operation (Some o) s) → Down (rank_of (Some p)) (rank_of (Some o)) (left_of (Some p)) (left_of (Some o)) → Falls (set_operation (Some p) s) t → Falls (set_operation (Some o) s) t
+sooner s t o p most down falls =
+    record {
+      lower = by_down (8 * coarse t + rank_of t.operation) (coarse (set_operation (Some p) s)) (coarse (set_operation (Some o) s)) (rank_of (Some p)) (rank_of (Some o)) (left_of t.operation) (left_of (Some p)) (left_of (Some o)) most down falls.lower;
+    }
+  where
+    by_down : {B C : Type 0} (a x y b c l m n : ℕ) → x ≤ y → Down b c m n → (a < 8 * x + b) ⊎ ((a ≤ 8 * x + b) × ((l < m) ⊎ ((l ≤ m) × B))) → (a < 8 * y + c) ⊎ ((a ≤ 8 * y + c) × ((l < n) ⊎ ((l ≤ n) × C)))
+    by_down a x y b c l m n h (inl less) (inl low) = inl (omega arith)
+    by_down a x y b c l m n h (inl less) (inr (low, rest)) = inl (omega arith)
+    by_down a x y b c l m n h (inr (same, less)) (inl low) = inl (omega arith)
+    by_down a x y b c l m n h (inr (same, less)) (inr (low, inl g)) = inr (omega arith, inl (omega arith))
+    by_down a x y b c l m n h (inr (same, less)) (inr (low, inr (g, rest))) = inr (omega arith, inl (omega arith))
+
+-- a turn leaves less to do
+pub falls_turned : (s t : State) (o p : Operation) → Turn s o p → Falls (set_operation (Some p) s) t → Falls (set_operation (Some o) s) t
+falls_turned s t _ _ (Turn.same o) falls = falls
+falls_turned s t _ _ (Turn.queries o node is first asks) falls =
+    let a = ap removal_rank is in
+    let b = ap (removal_left o.todo) is in
+    sooner s t (Operation.Removing o) _ (omega arith) (inr (omega arith, omega arith)) falls
+falls_turned s t _ _ (Turn.removes o node d ds is first goes full) falls =
+    let a = ap surprise_rank is in
+    let b = ap (surprise_left o.todo) is in
+    sooner s t (Operation.Surprising o) _ (omega arith) (inr (omega arith, omega arith)) falls
+falls_turned s t _ _ (Turn.settles o node is first goes none) falls =
+    let a = ap surprise_rank is in
+    let b = ap (surprise_left o.todo) is in
+    sooner s t (Operation.Surprising o) _ (omega arith) (inr (omega arith, omega arith)) falls
+falls_turned s t _ _ (Turn.finishes f k node is ready at) falls =
+    let a = ap finish_rank is in
+    sooner s t (Operation.Finishing f) _ (omega arith) (inl (omega arith)) falls
 
 -- A device leaves --------------------------------------------------------------------------------------
 
@@ -186,14 +226,6 @@ length_left j (x ∷ xs) n at =
           omega arith
     ]
 
-count_left : (test : ℕ → Bool) (j : ℕ) (nodes : List Node) → count test (serials_of (without_first (is_node j) nodes)) ≤ count test (serials_of nodes)
-count_left test j [] = omega arith
-count_left test j (x ∷ xs) = by_test (is_node j x) (count_left test j xs)
-  where
-    by_test : (b : Bool) → count test (serials_of (without_first (is_node j) xs)) ≤ count test (serials_of xs) → count test (serials_of (cond b xs (x ∷ without_first (is_node j) xs))) ≤ cond (test x.serial) 1 0 + count test (serials_of xs)
-    by_test true h = omega arith
-    by_test false h = omega arith
-
 born_left : (old : List Device) (new : List Device) (j k : ℕ) (nodes : List Node) → Ascending 0 nodes → ((o : Option Node) → is_born new o ≡ true → is_born old o ≡ true) → is_born new (node_at k (without_first (is_node j) nodes)) ≡ true → is_born old (node_at k nodes) ≡ true
 born_left old new j k nodes order world h = by_node (node_at k (without_first (is_node j) nodes)) refl (world (node_at k (without_first (is_node j) nodes)) h)
   where
@@ -223,15 +255,15 @@ listed_cost n born tasks more (inr (k, e)) =
     omega arith
 
 -- a device left, and its parent may be listed again
-coarse_left : (s t : State) (j : ℕ) (node : Node) → Ascending 0 s.core.nodes → node_at j s.core.nodes ≡ Some node → t.core.nodes ≡ without_first (is_node j) s.core.nodes → ((o : Option Node) → is_born t.world o ≡ true → is_born s.world o ≡ true) → Listed s.tasks t.tasks → t.activities ≡ s.activities →
+coarse_left : (s t : State) (j : ℕ) (node : Node) → Ascending 0 s.core.nodes → node_at j s.core.nodes ≡ Some node → t.core.nodes ≡ without_first (is_node j) s.core.nodes → Lighter s.core.nodes t.core.nodes → ((o : Option Node) → is_born t.world o ≡ true → is_born s.world o ≡ true) → Listed s.tasks t.tasks → t.activities ≡ s.activities →
     ((k : ℕ) → is_target t.operation k ≡ is_target s.operation k) → operation_cost (born_in s) t.operation ≤ operation_cost (born_in s) s.operation → coarse t < coarse s
-coarse_left s t j node order at nodes world tasks acts target cost =
+coarse_left s t j node order at nodes light world tasks acts target cost =
     let n = length_left j s.core.nodes node at in
     let m : length (serials_of t.core.nodes) ≡ length (serials_of (without_first (is_node j) s.core.nodes)) = ap (λ (x : List Node). length (serials_of x)) nodes in
     let born : (k : ℕ) → born_in t k ≡ true → born_in s k ≡ true = λ k h. born_left s.world t.world j k s.core.nodes order world (sym (ap (λ (x : List Node). is_born t.world (node_at k x)) nodes) ∙ h) in
-    let a0 = count_less (is_open t.tasks t.operation) (is_open s.tasks s.operation) (serials_of (without_first (is_node j) s.core.nodes)) (λ k h. open_listed s.tasks t.tasks s.operation t.operation k tasks (target k) h) in
-    let a1 = count_left (is_open s.tasks s.operation) j s.core.nodes in
-    let a2 = ap (λ (x : List Node). count (is_open t.tasks t.operation) (serials_of x)) nodes in
+    let a0 = weigh_less (weight_in t) (weight_in s) (serials_of (without_first (is_node j) s.core.nodes)) (λ k. weight_less s t light k (open_listed s.tasks t.tasks s.operation t.operation k tasks (target k))) in
+    let a1 = weigh_left (weight_in s) j s.core.nodes in
+    let a2 = ap (λ (x : List Node). weigh (weight_in t) (serials_of x)) nodes in
     let b0 = tasks_less (length (serials_of t.core.nodes)) (length (serials_of s.core.nodes)) (born_in t) (born_in s) t.tasks (omega arith) born in
     let b1 = listed_cost (length (serials_of s.core.nodes)) (born_in s) s.tasks t.tasks tasks in
     let c0 = sum_less (length (serials_of t.core.nodes)) (length (serials_of s.core.nodes)) t.activities (omega arith) in
@@ -239,11 +271,12 @@ coarse_left s t j node order at nodes world tasks acts target cost =
     let d = operation_less (born_in t) (born_in s) t.operation born in
     omega arith
 
-pub falls_leaves : (s t : State) (o p : Operation) (node : Node) → Ascending 0 s.core.nodes → first_node s.core.nodes (todo_of o) ≡ Some node → s.operation ≡ Some o → t.operation ≡ Some p → t.core.nodes ≡ without_first (is_node node.serial) s.core.nodes →
-    ((x : Option Node) → is_born t.world x ≡ true → is_born s.world x ≡ true) → Listed s.tasks t.tasks → t.activities ≡ s.activities → ((k : ℕ) → is_target (Some p) k ≡ is_target (Some o) k) → operation_cost (born_in s) (Some p) ≤ operation_cost (born_in s) (Some o) → Falls s t
-falls_leaves s t o p node order first runs now nodes world tasks acts target cost =
-    falls_coarse s t (coarse_left s t node.serial node order (head_found s.core.nodes (todo_of o) node first).1 nodes world tasks acts (λ k. ap (λ (x : Option Operation). is_target x k) now ∙ target k ∙ sym (ap (λ (x : Option Operation). is_target x k) runs))
-    (let a = ap (operation_cost (born_in s)) now in let b = ap (operation_cost (born_in s)) runs in omega arith))
+pub falls_leaves : (s t : State) (o p : Operation) (node : Node) → Ascending 0 s.core.nodes → first_node s.core.nodes (todo_of o) ≡ Some node → t.operation ≡ Some p → t.core.nodes ≡ without_first (is_node node.serial) s.core.nodes → Lighter s.core.nodes t.core.nodes →
+    ((x : Option Node) → is_born t.world x ≡ true → is_born s.world x ≡ true) → Listed s.tasks t.tasks → t.activities ≡ s.activities → ((k : ℕ) → is_target (Some p) k ≡ is_target (Some o) k) → operation_cost (born_in s) (Some p) ≤ operation_cost (born_in s) (Some o) → Falls (set_operation (Some o) s) t
+falls_leaves s t o p node order first now nodes light world tasks acts target cost =
+    let u = set_operation (Some o) s in
+    falls_coarse u t (coarse_left u t node.serial node order (head_found s.core.nodes (todo_of o) node first).1 nodes light world tasks acts (λ k. ap (λ (x : Option Operation). is_target x k) now ∙ target k)
+    (let a = ap (operation_cost (born_in s)) now in omega arith))
 
 -- the world of a state after which the parent was listed again
 pub same_in : (s u : State) (path : Text) (born : ℕ) → ((x : Option Node) → is_born u.world x ≡ true → is_born s.world x ≡ true) → (x : Option Node) → is_born (relist path born u).world x ≡ true → is_born s.world x ≡ true
@@ -256,80 +289,55 @@ fewer_in gone world (Some n) h = fewer_born gone world n.born h
 -- An operation closes ------------------------------------------------------------------------------------
 
 -- nobody more can be found gone, and what begins costs less than the operation
-pub falls_close : (s t : State) (o : Operation) → s.operation ≡ Some o → ((k : ℕ) → is_target (Some o) k ≡ false) → t.core.nodes ≡ s.core.nodes → t.world ≡ s.world → t.tasks ≡ s.tasks → t.operation ≡ None →
-    sum (λ a. phase_cost (length (serials_of s.core.nodes)) a.phase) t.activities < sum (λ a. phase_cost (length (serials_of s.core.nodes)) a.phase) s.activities + operation_cost (born_in s) (Some o) → Falls s t
-falls_close s t o runs target nodes world tasks none less =
+pub falls_close : (s t : State) (o : Operation) → ((k : ℕ) → is_target (Some o) k ≡ false) → t.core.nodes ≡ s.core.nodes → t.world ≡ s.world → t.tasks ≡ s.tasks → t.operation ≡ None →
+    sum (λ a. phase_cost (length (serials_of s.core.nodes)) a.phase) t.activities < sum (λ a. phase_cost (length (serials_of s.core.nodes)) a.phase) s.activities + operation_cost (born_in s) (Some o) → Falls (set_operation (Some o) s) t
+falls_close s t o target nodes world tasks none less =
+    let u = set_operation (Some o) s in
     let a = ap (tasks_cost (length (serials_of s.core.nodes)) (born_in s)) tasks in
     let b = ap (operation_cost (born_in s)) none in
-    let c = ap (operation_cost (born_in s)) runs in
-    falls_coarse s t (coarse_by s t (births_same s.core.nodes t.core.nodes nodes) world
-    (λ k h. open_same s.tasks t.tasks s.operation t.operation k tasks (ap (λ (x : Option Operation). is_target x k) none ∙ sym (target k) ∙ sym (ap (λ (x : Option Operation). is_target x k) runs)) h) (omega arith))
-
-pub count_none : (test was : ℕ → Bool) (j : ℕ) (nodes : List Node) → ((k : ℕ) → test k ≡ true → (was k ≡ true) ⊎ (k ≡ j)) → node_at j nodes ≡ None → count test (serials_of nodes) ≤ count was (serials_of nodes)
-count_none test was j [] h gone = omega arith
-count_none test was j (n ∷ ns) h gone =
-    let other : n.serial ≢ j = λ e. absurd (let here : node_at j (n ∷ ns) ≡ Some n = grind (arith, nat_tests) in cc) in
-    let more = count_none test was j ns h (grind (arith, nat_tests)) in
-    by_test (test n.serial) (was n.serial) (λ e. elim (h n.serial e) [ inl q ↦ q | inr q ↦ absurd (other q) ]) more
-  where
-    by_test : (a b : Bool) → (a ≡ true → b ≡ true) → count test (serials_of ns) ≤ count was (serials_of ns) → cond a 1 0 + count test (serials_of ns) ≤ cond b 1 0 + count was (serials_of ns)
-    by_test true b g l = subst (λ (x : Bool). 1 + count test (serials_of ns) ≤ cond x 1 0 + count was (serials_of ns)) (sym (g refl)) (omega arith)
-    by_test false true g l = omega arith
-    by_test false false g l = omega arith
-
--- one more at most
-count_one : (lo : ℕ) (test was : ℕ → Bool) (j : ℕ) (nodes : List Node) → Ascending lo nodes → ((k : ℕ) → test k ≡ true → (was k ≡ true) ⊎ (k ≡ j)) → count test (serials_of nodes) ≤ count was (serials_of nodes) + 1
-count_one lo test was j [] order h = omega arith
-count_one lo test was j (n ∷ ns) order h =
-    elim (cases_eq n.serial j) [
-      | inl e ↦
-          let more = count_none test was j ns h (none_below (suc n.serial) j ns (omega arith) order.1) in
-          one (test n.serial) (was n.serial) more
-      | inr d ↦
-          let more = count_one (suc n.serial) test was j ns order.1 h in
-          two (test n.serial) (was n.serial) (λ e. elim (h n.serial e) [ inl q ↦ q | inr q ↦ absurd (d q) ]) more
-    ]
-  where
-    one : (a b : Bool) → count test (serials_of ns) ≤ count was (serials_of ns) → cond a 1 0 + count test (serials_of ns) ≤ cond b 1 0 + count was (serials_of ns) + 1
-    one true true l = omega arith
-    one true false l = omega arith
-    one false true l = omega arith
-    one false false l = omega arith
-
-    two : (a b : Bool) → (a ≡ true → b ≡ true) → count test (serials_of ns) ≤ count was (serials_of ns) + 1 → cond a 1 0 + count test (serials_of ns) ≤ cond b 1 0 + count was (serials_of ns) + 1
-    two true b g l = subst (λ (x : Bool). 1 + count test (serials_of ns) ≤ cond x 1 0 + count was (serials_of ns) + 1) (sym (g refl)) (omega arith)
-    two false true g l = omega arith
-    two false false g l = omega arith
+    falls_coarse u t (coarse_by u t (births_same s.core.nodes t.core.nodes nodes) world (lighter_same s.core.nodes t.core.nodes nodes)
+    (λ k h. open_same s.tasks t.tasks (Some o) t.operation k tasks (ap (λ (x : Option Operation). is_target x k) none ∙ sym (target k)) h) (omega arith))
 
 -- only the target may be found gone again
-open_target : (s t : State) (o : Surprise) → s.operation ≡ Some (Operation.Surprising o) → t.operation ≡ None → t.tasks ≡ s.tasks → (k : ℕ) → is_open t.tasks t.operation k ≡ true → (is_open s.tasks s.operation k ≡ true) ⊎ (k ≡ o.target)
-open_target s t o runs none tasks k h =
-    elim (cases_eq o.target k) [
-      | inl e ↦ inr (sym e)
-      | inr d ↦ inl (let out : (o.target == k) ≡ false = grind (arith, nat_tests) in
-          let target : is_target t.operation k ≡ is_target s.operation k = ap (λ (x : Option Operation). is_target x k) none ∙ (sym out ∙ sym (ap (λ (x : Option Operation). is_target x k) runs)) in
-          ap (λ (b : Bool). not (list_any (is_surprise_of k) s.tasks) && not b) (sym target) ∙ (ap (λ (ts : List Task). not (list_any (is_surprise_of k) ts) && not (is_target t.operation k)) (sym tasks) ∙ h))
-    ]
+open_target : (s t : State) (o : Surprise) → t.operation ≡ None → t.tasks ≡ s.tasks → (k : ℕ) → k ≢ o.target → is_open t.tasks t.operation k ≡ true → is_open s.tasks (Some (Operation.Surprising o)) k ≡ true
+open_target s t o none tasks k other h =
+    let out : (o.target == k) ≡ false = grind (arith, nat_tests) in
+    let target : is_target t.operation k ≡ (o.target == k) = ap (λ (x : Option Operation). is_target x k) none ∙ sym out in
+    open_same s.tasks t.tasks (Some (Operation.Surprising o)) t.operation k tasks target h
 
--- the target is in the world, or has left
-pub falls_over : (s t : State) (o : Surprise) → Ascending 0 s.core.nodes → s.operation ≡ Some (Operation.Surprising o) → (born_in s o.target ≡ true) ⊎ (node_at o.target s.core.nodes ≡ None) → t.operation ≡ None → t.core.nodes ≡ s.core.nodes → t.world ≡ s.world → t.tasks ≡ s.tasks → t.activities ≡ s.activities → Falls s t
-falls_over s t o order runs target none nodes world tasks acts =
+-- the target is in the world, has left, or was told that it has gone
+abbrev pub TargetOver : State → ℕ → Type 0
+TargetOver s k = (born_in s k ≡ true) ⊎ ((node_at k s.core.nodes ≡ None) ⊎ ((n : Node) × (node_at k s.core.nodes ≡ Some n) × (n.state ≡ SurpriseRemoved)))
+
+pub falls_over : (s t : State) (o : Surprise) → Ascending 0 s.core.nodes → TargetOver s o.target → t.operation ≡ None → t.core.nodes ≡ s.core.nodes → t.world ≡ s.world → t.tasks ≡ s.tasks → t.activities ≡ s.activities → Falls (set_operation (Some (Operation.Surprising o)) s) t
+falls_over s t o order target none nodes world tasks acts =
+    let u = set_operation (Some (Operation.Surprising o)) s in
     let a = ap (tasks_cost (length (serials_of s.core.nodes)) (born_in s)) tasks in
     let b = ap (operation_cost (born_in s)) none in
     let c = ap (λ (xs : List Activity). sum (λ a. phase_cost (length (serials_of s.core.nodes)) a.phase) xs) acts in
-    let opens = open_target s t o runs none tasks in
+    let l = coarse_weighed u t (births_same s.core.nodes t.core.nodes nodes) world in
+    let d = some (born_in s o.target) in
     elim target [
       | inl born ↦
-          let l = coarse_most s t 1 (births_same s.core.nodes t.core.nodes nodes) world (count_one 0 (is_open t.tasks t.operation) (is_open s.tasks s.operation) o.target s.core.nodes order opens) in
-          let d : operation_cost (born_in s) s.operation ≡ 5 = ap (operation_cost (born_in s)) runs ∙ ap (λ (b : Bool). cond b 5 1) born in
-          falls_coarse s t (omega arith)
-      | inr gone ↦
-          let m = count_none (is_open t.tasks t.operation) (is_open s.tasks s.operation) o.target s.core.nodes opens gone in
-          let l = coarse_most s t 0 (births_same s.core.nodes t.core.nodes nodes) world (omega arith) in
-          let d : 1 ≤ operation_cost (born_in s) s.operation = subst (λ (x : Option Operation). 1 ≤ operation_cost (born_in s) x) (sym runs) (some (born_in s o.target)) in
-          falls_coarse s t (omega arith)
+          let w = weigh_more (weight_in t) (weight_in u) o.target 3 0 s.core.nodes order others (at_target 3 (node_more (is_open t.tasks t.operation o.target) (is_open s.tasks (Some (Operation.Surprising o)) o.target) (node_at o.target s.core.nodes))) in
+          let e : operation_cost (born_in s) (Some (Operation.Surprising o)) ≡ 5 = ap (λ (b : Bool). cond b 5 1) born in
+          falls_coarse u t (omega arith)
+      | inr (inl gone) ↦
+          let w = weigh_more (weight_in t) (weight_in u) o.target 0 0 s.core.nodes order others (at_target 0 (subst (λ (x : Option Node). node_weight (is_open t.tasks t.operation o.target) x ≤ node_weight (is_open s.tasks (Some (Operation.Surprising o)) o.target) x + 0) (sym gone) (omega arith))) in
+          falls_coarse u t (omega arith)
+      | inr (inr (n, at, told)) ↦
+          let m = told_weight (is_open t.tasks t.operation o.target) (is_open s.tasks (Some (Operation.Surprising o)) o.target) (node_at o.target s.core.nodes) n at told in
+          let w = weigh_more (weight_in t) (weight_in u) o.target 0 0 s.core.nodes order others (at_target 0 (omega arith)) in
+          falls_coarse u t (omega arith)
     ]
   where
+    at_target : (d : ℕ) → node_weight (is_open t.tasks t.operation o.target) (node_at o.target s.core.nodes) ≤ node_weight (is_open s.tasks (Some (Operation.Surprising o)) o.target) (node_at o.target s.core.nodes) + d
+        → weight_in t o.target ≤ node_weight (is_open s.tasks (Some (Operation.Surprising o)) o.target) (node_at o.target s.core.nodes) + d
+    at_target d h = subst (λ (x : List Node). node_weight (is_open t.tasks t.operation o.target) (node_at o.target x) ≤ node_weight (is_open s.tasks (Some (Operation.Surprising o)) o.target) (node_at o.target s.core.nodes) + d) (sym nodes) h
+
+    others : (k : ℕ) → k ≢ o.target → weight_in t k ≤ node_weight (is_open s.tasks (Some (Operation.Surprising o)) k) (node_at k s.core.nodes)
+    others k other = weight_less (set_operation (Some (Operation.Surprising o)) s) t (lighter_same s.core.nodes t.core.nodes nodes) k (open_target s t o none tasks k other)
+
     some : (b : Bool) → 1 ≤ cond b 5 1
     some true = omega arith
     some false = omega arith

@@ -5,7 +5,7 @@ use Rattle.std.specs.Option.{option_map}
 use Rattle.std.proofs.lemmas.Bool.{cases_eq}
 use Rattle.std.proofs.lemmas.Bool.Decides.{nat_tests}
 use Rattle.pnp_model.specs.Keyed.{changed_first, without_first}
-use Rattle.pnp_model.specs.Records.{Node, Device, Task, Activity, Phase, Walk, State, Operation, Rebalance, RebalanceStage, RemovalStage, SurpriseStage, Duty}
+use Rattle.pnp_model.specs.Records.{Node, Device, Task, Activity, Phase, Walk, State, Operation, Rebalance, RebalanceStage, RemovalStage, SurpriseStage, FinishStage, Duty}
 use Rattle.pnp_model.specs.Cores.{is_node, node_at, serials_of, stack_of}
 use Rattle.pnp_model.specs.States.{is_activity, activity_at, with_phase, is_above, entered, is_in_world}
 use Rattle.pnp_model.specs.Tasks.{is_surprise_of}
@@ -14,23 +14,21 @@ use Rattle.pnp_model.specs.Machine.{phase_walk, operation_walk, is_born}
 use Rattle.pnp_labels.specs.declared.label.OpKind.{OpKind}
 use Rattle.pnp_laws.specs.Effects.{todo_of}
 use Rattle.pnp_laws.proofs.Lookups.{node_changed_same, node_changed_other, node_at-map}
+use Rattle.pnp_laws.proofs.Weights.{Lighter, node_less, node_weight, weigh, weigh_less}
 
 -- What is still to begin ----------------------------------------------------------------------------
-
-abbrev pub count : (ℕ → Bool) → List ℕ → ℕ
-count test [] = 0
-count test (k ∷ ks) = cond (test k) 1 0 + count test ks
 
 abbrev pub begin_cost : ℕ → Bool → OpKind → ℕ
 begin_cost n born OpKind.Rebalance = 7 * n + 7
 begin_cost n born OpKind.Disable = 2
 begin_cost n born OpKind.Eject = 2
 begin_cost n born OpKind.Surprise = cond born 6 2
+begin_cost n born OpKind.Finish = 2
 begin_cost n born OpKind.Change = 7 * n + 7
 
 abbrev pub duty_cost : ℕ → Bool → Duty → ℕ
 duty_cost n born Duty.Listing = 1
-duty_cost n born Duty.Starting = 7 * n + 26
+duty_cost n born Duty.Starting = 7 * n + 90
 duty_cost n born (Duty.Begins kind) = begin_cost n born kind
 
 abbrev pub tasks_cost : ℕ → (ℕ → Bool) → List Task → ℕ
@@ -38,7 +36,8 @@ tasks_cost n born [] = 0
 tasks_cost n born (task ∷ tasks) = duty_cost n (born task.serial) task.kind + tasks_cost n born tasks
 
 abbrev pub phase_cost : ℕ → Phase → ℕ
-phase_cost n (Phase.Adding drivers) = 7 * n + 9 + length drivers
+-- with its first driver the device weighs 4 more
+phase_cost n (Phase.Adding drivers) = 7 * n + 9 + 5 * length drivers
 phase_cost n Phase.Searching = 7 * n + 8
 phase_cost n (Phase.Starting w) = 5
 phase_cost n (Phase.Due problem) = 4
@@ -65,26 +64,31 @@ operation_cost born None = 0
 operation_cost born (Some (Operation.Rebalancing r)) = rebalance_cost r r.stage
 operation_cost born (Some (Operation.Removing o)) = 1
 operation_cost born (Some (Operation.Surprising o)) = cond (born o.target) 5 1
+operation_cost born (Some (Operation.Finishing f)) = 1
 
 -- the device of the surprise removal that runs
 abbrev pub is_target : Option Operation → ℕ → Bool
 is_target (Some (Operation.Surprising o)) k = o.target == k
 is_target _ k = false
 
--- it may still be found gone
+-- it may still be found gone: no surprise removal of it waits or runs
 abbrev pub is_open : List Task → Option Operation → ℕ → Bool
 is_open tasks operation k = not (list_any (is_surprise_of k) tasks) && not (is_target operation k)
 
-abbrev pub coarse_of : List ℕ → (ℕ → Bool) → List Task → List Activity → Option Operation → ℕ
-coarse_of serials born tasks activities operation =
-    2 * length serials + (3 * count (is_open tasks operation) serials
+-- what the device of a serial weighs
+abbrev pub weight_in : State → ℕ → ℕ
+weight_in s k = node_weight (is_open s.tasks s.operation k) (node_at k s.core.nodes)
+
+abbrev pub coarse_of : (ℕ → ℕ) → List ℕ → (ℕ → Bool) → List Task → List Activity → Option Operation → ℕ
+coarse_of weight serials born tasks activities operation =
+    2 * length serials + (weigh weight serials
     + (tasks_cost (length serials) born tasks + (sum (λ a. phase_cost (length serials) a.phase) activities + operation_cost born operation)))
 
 abbrev pub born_in : State → ℕ → Bool
 born_in s k = is_born s.world (node_at k s.core.nodes)
 
 abbrev pub coarse : State → ℕ
-coarse s = coarse_of (serials_of s.core.nodes) (born_in s) s.tasks s.activities s.operation
+coarse s = coarse_of (weight_in s) (serials_of s.core.nodes) (born_in s) s.tasks s.activities s.operation
 
 -- What is still to do in an operation ----------------------------------------------------------------
 
@@ -101,6 +105,7 @@ rebalance_rank RebalanceStage.Failed = 2
 rebalance_rank RebalanceStage.Ending = 1
 
 abbrev pub removal_rank : RemovalStage → ℕ
+removal_rank RemovalStage.Next = 4
 removal_rank (RemovalStage.Asking w) = 4
 removal_rank (RemovalStage.TakingBack w) = 3
 removal_rank (RemovalStage.Cancelling w) = 2
@@ -110,15 +115,24 @@ removal_rank RemovalStage.Ending = 1
 
 abbrev pub surprise_rank : SurpriseStage → ℕ
 surprise_rank (SurpriseStage.Telling w) = 3
+surprise_rank SurpriseStage.Next = 2
 surprise_rank (SurpriseStage.Removing w) = 2
 surprise_rank SurpriseStage.Settling = 2
 surprise_rank SurpriseStage.Ending = 1
+
+-- once its drivers are removed, the device is lighter, so the stage may be higher then
+abbrev pub finish_rank : FinishStage → ℕ
+finish_rank FinishStage.Next = 2
+finish_rank (FinishStage.Removing w) = 1
+finish_rank FinishStage.Leaving = 3
+finish_rank FinishStage.Holding = 3
 
 abbrev pub rank_of : Option Operation → ℕ
 rank_of None = 0
 rank_of (Some (Operation.Rebalancing r)) = rebalance_rank r.stage
 rank_of (Some (Operation.Removing o)) = removal_rank o.stage
 rank_of (Some (Operation.Surprising o)) = surprise_rank o.stage
+rank_of (Some (Operation.Finishing f)) = finish_rank f.stage
 
 abbrev pub rebalance_left : List ℕ → RebalanceStage → ℕ
 rebalance_left todo (RebalanceStage.Asking w) = 2 * length todo + 1
@@ -133,6 +147,7 @@ rebalance_left todo RebalanceStage.Failed = 2 * length todo
 rebalance_left todo RebalanceStage.Ending = 0
 
 abbrev pub removal_left : List ℕ → RemovalStage → ℕ
+removal_left todo RemovalStage.Next = 2 * length todo + 1
 removal_left todo (RemovalStage.Asking w) = 2 * length todo
 removal_left todo (RemovalStage.TakingBack w) = 0
 removal_left todo (RemovalStage.Cancelling w) = 2 * length todo
@@ -142,8 +157,9 @@ removal_left todo RemovalStage.Ending = 0
 
 abbrev pub surprise_left : List ℕ → SurpriseStage → ℕ
 surprise_left todo (SurpriseStage.Telling w) = 2 * length todo
-surprise_left todo (SurpriseStage.Removing w) = 2 * length todo + 1
-surprise_left todo SurpriseStage.Settling = 2 * length todo
+surprise_left todo SurpriseStage.Next = 3 * length todo + 2
+surprise_left todo (SurpriseStage.Removing w) = 3 * length todo + 1
+surprise_left todo SurpriseStage.Settling = 3 * length todo
 surprise_left todo SurpriseStage.Ending = 0
 
 abbrev pub left_of : Option Operation → ℕ
@@ -151,6 +167,7 @@ left_of None = 0
 left_of (Some (Operation.Rebalancing r)) = rebalance_left r.todo r.stage
 left_of (Some (Operation.Removing o)) = removal_left o.todo o.stage
 left_of (Some (Operation.Surprising o)) = surprise_left o.todo o.stage
+left_of (Some (Operation.Finishing f)) = 0
 
 -- What is still to answer ----------------------------------------------------------------------------
 
@@ -198,6 +215,11 @@ rank_small (Some (Operation.Surprising o)) = by_stage o.stage
   where
     by_stage : (stage : SurpriseStage) → surprise_rank stage ≤ 7
     by_stage (SurpriseStage.Telling w) = omega arith
+    by_stage _ = omega arith
+rank_small (Some (Operation.Finishing f)) = by_stage f.stage
+  where
+    by_stage : (stage : FinishStage) → finish_rank stage ≤ 7
+    by_stage (FinishStage.Removing w) = omega arith
     by_stage _ = omega arith
 
 -- less is to begin
@@ -281,17 +303,6 @@ pub phase_less : (n m : ℕ) (phase : Phase) → n ≤ m → phase_cost n phase 
 phase_less n m (Phase.Adding drivers) l = omega arith
 phase_less n m _ l = omega arith
 
--- Counts -----------------------------------------------------------------------------------------------------
-
-pub count_less : (test was : ℕ → Bool) (ks : List ℕ) → ((k : ℕ) → test k ≡ true → was k ≡ true) → count test ks ≤ count was ks
-count_less test was [] h = omega arith
-count_less test was (k ∷ ks) h = by_test (test k) (was k) (h k) (count_less test was ks h)
-  where
-    by_test : (a b : Bool) → (a ≡ true → b ≡ true) → count test ks ≤ count was ks → cond a 1 0 + count test ks ≤ cond b 1 0 + count was ks
-    by_test true b g l = subst (λ (x : Bool). 1 + count test ks ≤ cond x 1 0 + count was ks) (sym (g refl)) (omega arith)
-    by_test false true g l = omega arith
-    by_test false false g l = omega arith
-
 -- The same births --------------------------------------------------------------------------------------------
 
 pub record SameBirths (old new : List Node) : Type 0 where
@@ -346,30 +357,40 @@ operation_less born was (Some (Operation.Surprising o)) h = by_test (born o.targ
     by_test false false g = omega arith
 operation_less born was _ h = omega arith
 
--- what tasks, activities and operation of a state cost by the births of another
+-- what tasks, activities and operation of a state cost by the births of another, and what the devices of another weigh in it
 abbrev pub costs : State → State → ℕ
 costs s t = tasks_cost (length (serials_of s.core.nodes)) (born_in s) t.tasks + (sum (λ a. phase_cost (length (serials_of s.core.nodes)) a.phase) t.activities + operation_cost (born_in s) t.operation)
 
--- births stay, and at most d more can be found gone
-pub coarse_most : (s t : State) (d : ℕ) → SameBirths s.core.nodes t.core.nodes → t.world ≡ s.world → count (is_open t.tasks t.operation) (serials_of s.core.nodes) ≤ count (is_open s.tasks s.operation) (serials_of s.core.nodes) + d
-    → coarse t + costs s s ≤ coarse s + costs s t + 3 * d
-coarse_most s t d same world opens =
+abbrev pub weights : State → State → ℕ
+weights s t = weigh (weight_in t) (serials_of s.core.nodes)
+
+-- where births stay, the rest tells
+pub coarse_weighed : (s t : State) → SameBirths s.core.nodes t.core.nodes → t.world ≡ s.world → coarse t + (costs s s + weights s s) ≤ coarse s + (costs s t + weights s t)
+coarse_weighed s t same world =
     let n : length (serials_of t.core.nodes) ≡ length (serials_of s.core.nodes) = ap (λ (ks : List ℕ). length ks) same.serials in
     let born : (k : ℕ) → born_in t k ≡ true → born_in s k ≡ true = λ k h. sym (ap (λ (w : List Device). is_born w (node_at k t.core.nodes)) world ∙ same.births s.world k) ∙ h in
-    let a = ap (λ (ks : List ℕ). count (is_open t.tasks t.operation) ks) same.serials in
+    let a = ap (λ (ks : List ℕ). weigh (weight_in t) ks) same.serials in
     let b = tasks_less (length (serials_of t.core.nodes)) (length (serials_of s.core.nodes)) (born_in t) (born_in s) t.tasks (omega arith) born in
     let c : sum (λ a. phase_cost (length (serials_of t.core.nodes)) a.phase) t.activities ≡ sum (λ a. phase_cost (length (serials_of s.core.nodes)) a.phase) t.activities =
     ap (λ (m : ℕ). sum (λ a. phase_cost m a.phase) t.activities) n in
     let e = operation_less (born_in t) (born_in s) t.operation born in
     omega arith
 
--- nobody more can be found gone
-pub coarse_no_more : (s t : State) → SameBirths s.core.nodes t.core.nodes → t.world ≡ s.world → ((k : ℕ) → is_open t.tasks t.operation k ≡ true → is_open s.tasks s.operation k ≡ true) → coarse t + costs s s ≤ coarse s + costs s t
-coarse_no_more s t same world opens =
-    let l = coarse_most s t 0 same world (let c = count_less (is_open t.tasks t.operation) (is_open s.tasks s.operation) (serials_of s.core.nodes) opens in omega arith) in omega arith
+-- no device is heavier, and none can be found gone that could not
+pub weight_less : (s t : State) → Lighter s.core.nodes t.core.nodes → (k : ℕ) → (is_open t.tasks t.operation k ≡ true → is_open s.tasks s.operation k ≡ true) → weight_in t k ≤ weight_in s k
+weight_less s t light k opens =
+    let a = light.each k (is_open t.tasks t.operation k) in
+    let b = node_less (is_open t.tasks t.operation k) (is_open s.tasks s.operation k) (node_at k s.core.nodes) opens in
+    omega arith
 
-pub coarse_by : (s t : State) → SameBirths s.core.nodes t.core.nodes → t.world ≡ s.world → ((k : ℕ) → is_open t.tasks t.operation k ≡ true → is_open s.tasks s.operation k ≡ true) → costs s t < costs s s → coarse t < coarse s
-coarse_by s t same world opens less = let l = coarse_no_more s t same world opens in omega arith
+pub coarse_no_more : (s t : State) → SameBirths s.core.nodes t.core.nodes → t.world ≡ s.world → Lighter s.core.nodes t.core.nodes → ((k : ℕ) → is_open t.tasks t.operation k ≡ true → is_open s.tasks s.operation k ≡ true) → coarse t + costs s s ≤ coarse s + costs s t
+coarse_no_more s t same world light opens =
+    let l = coarse_weighed s t same world in
+    let c = weigh_less (weight_in t) (weight_in s) (serials_of s.core.nodes) (λ k. weight_less s t light k (opens k)) in
+    omega arith
+
+pub coarse_by : (s t : State) → SameBirths s.core.nodes t.core.nodes → t.world ≡ s.world → Lighter s.core.nodes t.core.nodes → ((k : ℕ) → is_open t.tasks t.operation k ≡ true → is_open s.tasks s.operation k ≡ true) → costs s t < costs s s → coarse t < coarse s
+coarse_by s t same world light opens less = let l = coarse_no_more s t same world light opens in omega arith
 
 -- tasks stay, and the target of a surprise removal
 pub open_same : (tasks more : List Task) (o p : Option Operation) (k : ℕ) → more ≡ tasks → is_target p k ≡ is_target o k → is_open more p k ≡ true → is_open tasks o k ≡ true
@@ -377,10 +398,10 @@ open_same tasks more o p k e target h =
     ap (λ (b : Bool). not (list_any (is_surprise_of k) tasks) && not b) (sym target) ∙ (ap (λ (ts : List Task). not (list_any (is_surprise_of k) ts) && not (is_target p k)) (sym e) ∙ h)
 
 -- in an operation: births, tasks and activities stay, and the operation costs no more
-pub coarse_on : (s t : State) → SameBirths s.core.nodes t.core.nodes → t.world ≡ s.world → t.tasks ≡ s.tasks → t.activities ≡ s.activities → ((k : ℕ) → is_target t.operation k ≡ is_target s.operation k) →
+pub coarse_on : (s t : State) → SameBirths s.core.nodes t.core.nodes → t.world ≡ s.world → Lighter s.core.nodes t.core.nodes → t.tasks ≡ s.tasks → t.activities ≡ s.activities → ((k : ℕ) → is_target t.operation k ≡ is_target s.operation k) →
     operation_cost (born_in s) t.operation ≤ operation_cost (born_in s) s.operation → coarse t ≤ coarse s
-coarse_on s t same world tasks acts target cost =
-    let l = coarse_no_more s t same world (λ k h. open_same s.tasks t.tasks s.operation t.operation k tasks (target k) h) in
+coarse_on s t same world light tasks acts target cost =
+    let l = coarse_no_more s t same world light (λ k h. open_same s.tasks t.tasks s.operation t.operation k tasks (target k) h) in
     let a = ap (tasks_cost (length (serials_of s.core.nodes)) (born_in s)) tasks in
     let b = ap (λ (xs : List Activity). sum (λ a. phase_cost (length (serials_of s.core.nodes)) a.phase) xs) acts in
     omega arith

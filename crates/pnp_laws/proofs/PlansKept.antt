@@ -29,6 +29,7 @@ use Rattle.pnp_laws.specs.Plans.{IsPlanned, PlanFits, PlanKept, StagePlan, movin
 use Rattle.pnp_laws.specs.Reached.{IsReached}
 use Rattle.pnp_laws.proofs.Declined.{idle_after}
 use Rattle.pnp_laws.proofs.EffectsOf.{effect_goes}
+use Rattle.pnp_laws.proofs.EffectsOfOperations.{rebalance_step_is}
 use Rattle.pnp_laws.proofs.EventChanges.{ranges_stay}
 use Rattle.pnp_laws.proofs.Lookups.{map_from, node_changed_other, node_changed_same, node_from, own_serial}
 use Rattle.pnp_laws.proofs.Reaching.{kept}

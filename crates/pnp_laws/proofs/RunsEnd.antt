@@ -1,39 +1,103 @@
 -- Each step of a run lowers the numbers, so a machine that is left alone comes to rest.
-use Rattle.std.proofs.Common.{ℕ, zero, suc, ◌+◌, ◌*◌, ◌<◌, ◌≤◌, ◌≡◌, ◌⊎◌, inl, inr, List, [], ◌∷◌, length, Option, refl, sym, subst, arith}
+use Rattle.std.proofs.Common.{ℕ, zero, suc, ◌+◌, ◌*◌, ◌<◌, ◌≤◌, ◌≡◌, ◌⊎◌, inl, inr, List, [], ◌∷◌, length, Option, Some, None, true, refl, sym, subst, arith}
 use native.Mathlib.Decide.{dec_lt}
-use Rattle.pnp_model.specs.Records.{State, Step, Settings, Operation, Doing}
+use Rattle.pnp_model.specs.Records.{Node, State, Step, Settings, Operation, Surprise, SurpriseStage, Finish, FinishStage, Doing}
+use Rattle.pnp_model.specs.Cores.{node_at}
+use Rattle.pnp_model.specs.States.{set_operation}
 use Rattle.pnp_model.specs.Runs.{Entry, Run}
-use Rattle.pnp_model.specs.Runs.Entry.{Happens, Did}
+use Rattle.pnp_model.specs.Runs.Entry.{Happens, Did, Declines}
 use Rattle.pnp_labels.specs.declared.label.Label.{Label}
 use Rattle.pnp_laws.specs.Quiet.{Rests, RestsWith}
 use Rattle.pnp_laws.proofs.EffectViews.{acting_at}
-use Rattle.pnp_laws.proofs.IdleSteps.{MachineStep, machine_step}
-use Rattle.pnp_laws.proofs.Standing.{StageKept}
-use Rattle.pnp_laws.proofs.Measures.{coarse, rank_of, left_of, answers_of}
+use Rattle.pnp_laws.proofs.EffectsOf.{effect_of}
+use Rattle.pnp_laws.specs.Effects.{DriverEffect, IsUnasked, Running}
+use Rattle.pnp_laws.specs.Kept.{FinishKeeps}
+use Rattle.pnp_laws.specs.Words.{IsNoJoin}
+use Rattle.pnp_laws.proofs.FinishingSteps.{head_taken}
+use Rattle.pnp_laws.proofs.IdleSteps.{MachineStep, TaskStep, machine_step}
+use Rattle.pnp_laws.proofs.Lists.{head_found}
+use Rattle.pnp_laws.proofs.Stages.{TakenStep}
+use Rattle.pnp_laws.proofs.Turns.{running_good}
+use Rattle.pnp_laws.proofs.TurnsKept.{running_stage, running_told}
+use Rattle.pnp_laws.proofs.Weights.{IsNoAdd, Lighter, lighter_follows}
+use Rattle.pnp_laws.proofs.Standing.{SurpriseThere, SurpriseTold}
+use Rattle.pnp_laws.proofs.Measures.{Falls, coarse, rank_of, left_of, answers_of}
 use Rattle.pnp_laws.specs.Ends.{AllSteps, Settles, SettlesLaw}
 use Rattle.pnp_laws.proofs.RunsStep.{rests_or, nothing_next, doing_one}
 use Rattle.pnp_model.proofs.Determined.{one_state}
-use Rattle.pnp_laws.proofs.MeasureOps.{Lowers, lower_so}
-use Rattle.pnp_laws.proofs.MeasureStages.{falls_operation}
+use Rattle.pnp_laws.proofs.MeasureOps.{Lowers, TargetOver, falls_turned}
+use Rattle.pnp_laws.proofs.MeasureStages.{EndsOver, Ready, TakesTold, falls_operation}
 use Rattle.pnp_laws.proofs.MeasureTasks.{falls_act}
 use Rattle.pnp_laws.proofs.MeasureBegins.{lowers_task}
 use Rattle.pnp_laws.proofs.RunsStand.{Kept, kept_goes, reaches_kept}
 use Rattle.pnp_laws.proofs.JoinCounts.{join_price}
 use Rattle.pnp_laws.proofs.Joins.{Born}
-use Rattle.pnp_laws.proofs.JoinMachine.{step_goes, reaches_born}
+use Rattle.pnp_laws.proofs.JoinMachine.{knows_step, step_goes, reaches_born}
+use Rattle.pnp_laws.proofs.JoinSteps.{Knows}
 use Rattle.pnp_model.specs.Machine as ma
 
 -- Each step but a join ---------------------------------------------------------------------------------
 
-pub lowers_step : (settings : Settings) (s : State) (step : Step) → Kept s → ma.IsStep settings (ma.next settings s) step → Lowers s step
-lowers_step settings s step kept is = by_step step (machine_step settings s step is)
+-- no device is heavier but one that a driver is added to
+lighter_step : (s : State) (step : Step) → Knows s step → IsNoJoin step.label → IsNoAdd step.label → Lighter s.core.nodes step.state.core.nodes
+lighter_step s step knows no_join none = lighter_follows step.label s.core.nodes step.state.core.nodes none (knows.sound.births no_join) knows.diagram
+
+-- at the end of a surprise its target has left, or was told that it has gone
+target_over : (s : State) (o : Surprise) (stage : SurpriseStage) → SurpriseThere o stage s.core.nodes → SurpriseTold s.core o stage → EndsOver s o stage
+target_over s o SurpriseStage.Ending (inl gone) told = inr (inl gone)
+target_over s o SurpriseStage.Ending (inr behind) told = by_node (node_at o.target s.core.nodes) refl
   where
-    by_step : (x : Step) → MachineStep s x → Lowers s x
-    by_step _ (MachineStep.operates o x runs is) = lower_so s x (falls_operation s o x runs kept.good.serials (subst (λ (y : Option Operation). StageKept y s.core) runs kept.stands.stage) is)
-    by_step _ (MachineStep.starts node phase m at acting is) =
+    by_node : (x : Option Node) → node_at o.target s.core.nodes ≡ x → TargetOver s o.target
+    by_node None e = inr (inl e)
+    by_node (Some n) e = inr (inr (n, e, told.stayed o.target n behind e))
+target_over s o _ there told = tt
+
+-- the device whose drivers are removed in a finish was told that it has gone
+takes_told : (s : State) (f : Finish) (stage : FinishStage) → FinishKeeps f stage s.core.nodes → TakesTold s f stage
+takes_told s f (FinishStage.Removing w) keeps = λ node first. let head = head_found s.core.nodes f.todo node first in head_taken f.todo node.serial node.state head.0 (keeps.each node.serial node head.1)
+takes_told s f _ keeps = tt
+
+ready_for : (s : State) (o : Operation) → Kept s → Running s o → Ready s o
+ready_for s (Operation.Surprising o) kept runs = target_over s o o.stage (running_stage s (Operation.Surprising o) runs kept).1 (running_told s (Operation.Surprising o) runs kept)
+ready_for s (Operation.Finishing f) kept runs = takes_told s f f.stage (running_good s (Operation.Finishing f) runs kept.good).fits
+ready_for s _ kept runs = tt
+
+-- an operation goes on by what comes next after its next device was taken
+lowers_operation : (s : State) (o : Operation) (step : Step) → Kept s → s.operation ≡ Some o → Lighter s.core.nodes step.state.core.nodes → TakenStep s o step → Falls s step.state
+lowers_operation s o step kept runs light taken =
+    let now : Running s taken.now = record { before = o; runs = runs; turn = taken.turn } in
+    let falls = falls_operation s taken.now step kept.good.serials light (ready_for s taken.now kept now) taken.is in
+    subst (λ (x : Option Operation). Falls (set_operation x s) step.state) (sym runs) (falls_turned s step.state o taken.now taken.turn falls)
+
+-- where a driver is added, no operation runs
+unasked_adds : (label : Label) → IsUnasked label → IsNoAdd label
+unasked_adds (Label.Add path name true) none = absurd none
+unasked_adds _ none = tt
+
+adds_idle : (s : State) (label : Label) (t : State) (o : Operation) → s.operation ≡ Some o → DriverEffect s (Did label) t → IsNoAdd label
+adds_idle s label t o runs (DriverEffect.same none e) = unasked_adds label none
+adds_idle s label t o runs (DriverEffect.ended node minor w bad at request over verdict prints e) = subst IsNoAdd (sym prints) tt
+adds_idle s label t o runs (DriverEffect.asked node w shown at more prints e) = subst IsNoAdd (sym prints) tt
+adds_idle s label t o runs (DriverEffect.added node d ds acting prints e goes) = absurd (let none = acting.none in cc)
+adds_idle s label t o runs (DriverEffect.refused node d ds acting prints e) = subst IsNoAdd (sym prints) tt
+adds_idle s label t o runs (DriverEffect.named kind name other is none e) = unasked_adds label none
+adds_idle s label t o runs (DriverEffect.taught name rule none e) = unasked_adds label none
+
+task_adds : (s : State) (step : Step) → TaskStep s step → IsNoAdd step.label
+task_adds s _ (TaskStep.misses k first gone) = tt
+task_adds s _ _ = tt
+
+pub lowers_step : (settings : Settings) (s : State) (step : Step) → Kept s → ma.IsStep settings (ma.next settings s) step → Lowers s step
+lowers_step settings s step kept is = by_step step (knows_step settings s step kept is) (effect_of settings s step.label step.state is).drivers (machine_step settings s step is)
+  where
+    by_step : (x : Step) → Knows s x → DriverEffect s (Did x.label) x.state → MachineStep s x → Lowers s x
+    by_step _ knows drivers (MachineStep.operates o x runs taken) = record { lowers = λ no_join. lowers_operation s o x kept runs (lighter_step s x knows no_join (adds_idle s x.label x.state o runs drivers)) taken }
+    by_step _ knows drivers (MachineStep.starts node phase m at acting is) =
         let here = acting_at s node.serial phase kept.good.order acting in
-        lower_so s _ (falls_act s node phase m (record { none = acting.none; activity = here.activity; there = here.at; is = here.is; at = at }) is)
-    by_step _ (MachineStep.does x none is) = lowers_task s x none kept.good.serials is
+        record {
+          lowers = λ no_join. falls_act s node phase m (record { none = acting.none; activity = here.activity; there = here.at; is = here.is; at = at }) kept.good.serials (λ none. lighter_step s _ knows no_join none) is;
+        }
+    by_step _ knows drivers (MachineStep.does x none is) = lowers_task s x none kept.good.serials (λ no_join. lighter_step s x knows no_join (task_adds s x is)) is
 
 -- Numbers that fall come to an end ----------------------------------------------------------------------
 
@@ -107,6 +171,7 @@ settles_here settings s rests none = record { bound = 0; within = by_run; steps 
     by_run [] last all run = omega arith
     by_run (Happens event label ∷ rest) last all run = absurd all
     by_run (Did label ∷ rest) last all (mid, goes, run) = absurd (none label mid goes)
+    by_run (Declines label ∷ rest) last all run = absurd all
 
 one_follows : (settings : Settings) (s t : State) (label : Label) → ma.Steps settings s label t → Settles settings t → Settles settings s
 one_follows settings s t label step h = record { bound = suc h.bound; within = by_run; steps = Did label ∷ h.steps; last = h.last; alone = h.alone; run = (t, step, h.run); rests = h.rests }
@@ -118,6 +183,7 @@ one_follows settings s t label step h = record { bound = suc h.bound; within = b
         let same : mid ≡ t = one_state settings s other label mid t goes step in
         let l = h.within rest last all (subst (λ (x : State). Run settings x rest last) same run) in
         omega arith
+    by_run (Declines other ∷ rest) last all run = absurd all
 
 nothing_follows : (settings : Settings) (s : State) → RestsWith s s.operation → (label : Label) (t : State) → ma.Steps settings s label t → ⊥
 nothing_follows settings s rests label t steps = subst (λ (o : Option (Doing Step)). ma.IsStep settings o (record { label = label; state = t })) (nothing_next settings s s.operation rests) steps

@@ -1,12 +1,12 @@
 -- In each state of a run without an operation, who was stopped, and who holds something and is not up, is due to go.
-use Rattle.std.proofs.Common.{ℕ, ◌≡◌, ◌≢◌, ◌⊎◌, inl, inr, true, false, List, [], ◌∷◌, drop, map, Option, Some, None, refl, sym, ap, ◌∙◌, subst, arith}
+use Rattle.std.proofs.Common.{ℕ, ◌≡◌, ◌≢◌, ◌⊎◌, inl, inr, Bool, true, false, List, [], ◌∷◌, drop, map, Option, Some, None, refl, sym, ap, ◌∙◌, subst, arith}
 use Rattle.std.specs.Option.{is_some, option_map}
 use Rattle.resource_reqs.specs.Resources.{Reqs}
 use Rattle.std.proofs.lemmas.Bool.{cases_eq}
 use Rattle.std.proofs.lemmas.Bool.Decides.{nat_tests}
 use Rattle.pnp_labels.specs.declared.label.Label.{Label}
 use Rattle.pnp_labels.specs.declared.label.OpKind.{OpKind}
-use Rattle.pnp_labels.specs.declared.states.DevState.TheVariants.{NoStack, NotStarted}
+use Rattle.pnp_labels.specs.declared.states.DevState.TheVariants.{NoStack, NotStarted, SurpriseRemoved}
 use Rattle.pnp_model.specs.Events.{answer_of}
 use Rattle.pnp_model.specs.Cores.{bare, node_at, serials_of}
 use Rattle.pnp_model.specs.Diagram.{FollowsDiagram}
@@ -19,7 +19,7 @@ use Rattle.pnp_model.specs.States.{activity_at, entered, new_child}
 use Rattle.pnp_model.specs.Tests.{has}
 use Rattle.pnp_model.specs.Trees.{above, children, is_child, leaving, set_of, stands_up}
 use Rattle.pnp_laws.specs.Due.{is_due, leads}
-use Rattle.pnp_laws.specs.Effects.{AnswerEffect, Closes, ClosesRebalance, CommandEffect, NodeEffect, OpEffect, OperationEffect, TaskEffect, TasksEffect, to_leave}
+use Rattle.pnp_laws.specs.Effects.{AnswerEffect, Closes, ClosesRebalance, CommandEffect, NodeEffect, OpEffect, OperationEffect, Running, TaskEffect, TasksEffect, to_leave}
 use Rattle.pnp_laws.specs.Kept.{Ascending, OperationFits, RebalanceKeeps, SurpriseKeeps}
 use Rattle.pnp_laws.specs.Reached.{IsReached}
 use Rattle.pnp_laws.specs.Strays.{IsStray, StraysLaw}
@@ -29,22 +29,24 @@ use Rattle.pnp_laws.proofs.Closures.{closed_keeps, those_serial}
 use Rattle.pnp_laws.proofs.Due.{below_in_set}
 use Rattle.pnp_laws.proofs.EffectViews.{alters_keeps}
 use Rattle.pnp_laws.proofs.EffectsOf.{effect_goes}
-use Rattle.pnp_laws.proofs.EffectsOfOperations.{begun_spared, completed_work}
+use Rattle.pnp_laws.proofs.EffectsOfOperations.{begun_spared, completed_work, rebalance_runs, turn_work}
 use Rattle.pnp_laws.proofs.Finishes.{leaving_all, set_is_closed}
 use Rattle.pnp_laws.proofs.Finishing.{head_bare}
 use Rattle.pnp_laws.proofs.Lists.{HeadIs, has_cases, head_found, rest_has}
-use Rattle.pnp_laws.proofs.Lookups.{entered_same, left_from, left_same, map_from, node_at-map, own_serial}
+use Rattle.pnp_laws.proofs.Lookups.{entered_same, left_from, left_same, map_from, node_at-map, own_serial, some_same}
 use Rattle.pnp_laws.proofs.OpSteps.{change_up}
 use Rattle.pnp_laws.proofs.Reaching.{kept, reached_on}
-use Rattle.pnp_laws.proofs.Restarts.{over_stopped}
+use Rattle.pnp_laws.proofs.Restarts.{above_told, over_stopped}
 use Rattle.pnp_laws.proofs.Runs.{root_is}
 use Rattle.pnp_laws.proofs.RunsStand.{Kept, dependents_go_first, every_run_follows, reaches_kept}
 use Rattle.pnp_laws.proofs.RunsWhole.{reached_is_whole}
 use Rattle.pnp_laws.proofs.Sounds.{LeadsMore, leads_first, leads_pushed, leads_same, due_less}
-use Rattle.pnp_laws.proofs.Standing.{DueBut, StageKept, SurpriseOrder, waiting}
+use Rattle.pnp_laws.proofs.Standing.{AllTold, DueBut, SurpriseOrder, SurpriseTold, ToldKept, waiting}
 use Rattle.pnp_laws.proofs.SurpriseSteps.{last_alone}
 use Rattle.pnp_laws.proofs.TreeChanges.{SameNodes, above_same, nodes_kept}
 use Rattle.pnp_laws.proofs.TreeMoves.{Childless, above_joined, above_left}
+use Rattle.pnp_laws.proofs.Turns.{running_good}
+use Rattle.pnp_laws.proofs.TurnsKept.{running_stage, running_told}
 use Rattle.pnp_laws.proofs.StrayMoves.{From, Seen, from, none_from, over_none, spared_by, unplaced_now}
 
 -- Who stands above -----------------------------------------------------------------------------------
@@ -100,7 +102,7 @@ abbrev IsSeen : State → ℕ → Type 0
 IsSeen s k = (is_due s.tasks s.core.nodes k ≡ true) ⊎ (has (spared_by s.operation) k ≡ true)
 
 -- a device that is NotStarted before and after a step
-module _ (s t : State) (was : Kept s) (now : Kept t) (k : ℕ) (n m : Node) (at : node_at k s.core.nodes ≡ Some n) (there : node_at k t.core.nodes ≡ Some m) (waits : n.state ≡ NotStarted) (over : above t.core.nodes k ≡ above s.core.nodes k) where
+module _ (s t : State) (was : Kept s) (now : Kept t) (k : ℕ) (n m : Node) (at : node_at k s.core.nodes ≡ Some n) (there : node_at k t.core.nodes ≡ Some m) (waits : n.state ≡ NotStarted) (still_waits : m.state ≡ NotStarted) (over : above t.core.nodes k ≡ above s.core.nodes k) where
   up : k ≢ 0
   up z = let root = (was.good.stacks k n at).root z in cc
 
@@ -129,6 +131,17 @@ module _ (s t : State) (was : Kept s) (now : Kept t) (k : ℕ) (n m : Node) (at 
       own_has : (j : ℕ) → has (j ∷ []) j ≡ true
       own_has j = grind (arith, nat_tests)
 
+  -- neither it nor a device above it was told that it has gone
+  not_told : s.operation ≡ None → (j : ℕ) (node : Node) → node_at j s.core.nodes ≡ Some node → node.state ≡ SurpriseRemoved → has (k ∷ above s.core.nodes k) j ≡ true → ⊥
+  not_told none j node at_j gone h =
+      elim (has_cases k j (above s.core.nodes k) h) [
+        | inl e ↦ let same = some_same (node_at k s.core.nodes) n node at (subst (λ (i : ℕ). node_at i s.core.nodes ≡ Some node) (sym e) at_j) in let state = ap (λ (x : Node). x.state) same in cc
+        | inr q ↦
+            let tree = was.stands.tree in
+            let told = subst (λ (x : Option Operation). ToldKept x s.core) none was.waits.told in
+            above_told k s.core k j n tree.root tree.rooted told at (λ e. cc) q node at_j gone
+      ]
+
   due_task : TaskEffect s t → is_due s.tasks s.core.nodes k ≡ true → IsSeen t k
   due_task (TaskEffect.same e) h = due_on (subst (λ (ts : List Task). LeadsMore s.tasks ts) (sym e) (leads_same s.tasks)) h
   due_task (TaskEffect.appended task origin e) h = due_on (subst (λ (ts : List Task). LeadsMore s.tasks ts) (sym e) (leads_pushed s.tasks task)) h
@@ -138,29 +151,41 @@ module _ (s t : State) (was : Kept s) (now : Kept t) (k : ℕ) (n m : Node) (at 
         | inl q ↦ inl (due_more (drop 1 s.tasks) t.tasks s.core.nodes t.core.nodes k (subst (λ (ts : List Task). LeadsMore (drop 1 s.tasks) ts) (sym e) (leads_same (drop 1 s.tasks))) over q)
         | inr (surprise, below) ↦ elim (surprises surprise) [
           | inl gone ↦ absurd (none_below_it task.serial gone below)
-          | inr (node, found, begun) ↦
-              let own = own_serial task.serial node s.core.nodes found in
-              let leaves = subst (λ (i : ℕ). has (leaving s.core i) k ≡ true) (sym own) (leaves_with task.serial node found below) in
-              inr (subst (λ (o : Option Operation). has (spared_by o) k ≡ true) (sym begun) (subst (λ (ks : List ℕ). has ks k ≡ true) (sym (begun_spared s.core node)) leaves))
+          | inr rest ↦ elim rest [
+            | inl (node, found, told) ↦ absurd (not_told none task.serial node found told below)
+            | inr (node, found, begun) ↦
+                let own = own_serial task.serial node s.core.nodes found in
+                let leaves = subst (λ (i : ℕ). has (leaving s.core i) k ≡ true) (sym own) (leaves_with task.serial node found below) in
+                inr (subst (λ (o : Option Operation). has (spared_by o) k ≡ true) (sym begun) (subst (λ (ks : List ℕ). has ks k ≡ true) (sym (begun_spared s.core node)) leaves))
+          ]
         ]
       ]
   due_task (TaskEffect.put_first node r runs is first e) h =
       due_on (subst (λ (ts : List Task). LeadsMore s.tasks ts) (sym e) (leads_first s.tasks (record { kind = Duty.Begins OpKind.Surprise; serial = node.serial }) refl)) h
 
-  -- who is left when a surprise removal ends has no drivers
-  surprise_ends : (o : Surprise) → s.operation ≡ Some (Operation.Surprising o) → Closes s (Operation.Surprising o) t → has o.set k ≡ true → n.state ≡ NoStack
+  -- who is left when a surprise removal ends has no drivers, or stayed behind
+  left_bare : (behind : List ℕ) → AllTold behind s.core.nodes → (has behind k ≡ false → n.state ≡ NoStack) → ⊥
+  left_bare behind stayed bare = by_test (has behind k) refl
+    where
+      by_test : (b : Bool) → has behind k ≡ b → ⊥
+      by_test true e = let state = stayed k n e at in cc
+      by_test false e = let state = bare e in cc
+
+  surprise_ends : (o : Surprise) → Running s (Operation.Surprising o) → Closes s (Operation.Surprising o) t → has o.set k ≡ true → ⊥
   surprise_ends o runs (inl is) in_set =
-      let stage = subst (λ (x : Option Operation). StageKept x s.core) runs was.stands.stage in
-      (subst (λ (x : SurpriseStage). SurpriseOrder s.core o x) is stage.0).bare k n at in_set refl
+      let stage = running_stage s (Operation.Surprising o) runs was in
+      let told = subst (λ (x : SurpriseStage). SurpriseTold s.core o x) is (running_told s (Operation.Surprising o) runs was) in
+      left_bare o.behind told.stayed (λ none. (subst (λ (x : SurpriseStage). SurpriseOrder s.core o x) is stage.0).bare k n at in_set refl none)
   surprise_ends o runs (inr (is, node, first, last)) in_set =
-      let stage = subst (λ (x : Option Operation). StageKept x s.core) runs was.stands.stage in
-      let order = subst (λ (x : SurpriseStage). SurpriseOrder s.core o x) is stage.0 in
-      let keeps = subst (λ (x : SurpriseStage). SurpriseKeeps o x s.core.nodes) is (subst (λ (x : Option Operation). OperationFits x s.core.nodes) runs was.good.fits) in
+      let stage = running_stage s (Operation.Surprising o) runs was in
+      let told = subst (λ (x : SurpriseStage). SurpriseTold s.core o x) is (running_told s (Operation.Surprising o) runs was) in
+      let order = (subst (λ (x : SurpriseStage). SurpriseOrder s.core o x) is stage.0).0 in
+      let keeps = subst (λ (x : SurpriseStage). SurpriseKeeps o x s.core.nodes) is (running_good s (Operation.Surprising o) runs was.good).fits in
       let head = (head_found s.core.nodes o.todo node first).0 in
       let none = last_alone o.target o.todo (subst (λ (i : ℕ). HeadIs i o.todo) last head) keeps.ends in
       elim (cases_eq node.serial k) [
-        | inl q ↦ head_bare o.todo k n.state (subst (λ (i : ℕ). HeadIs i o.todo) q head) (keeps.each k n at)
-        | inr d ↦ order.bare k n at in_set (sym (rest_has node.serial k o.todo head d) ∙ ap (λ (ks : List ℕ). has ks k) none)
+        | inl q ↦ let state = head_bare o.todo k n.state (subst (λ (i : ℕ). HeadIs i o.todo) q head) (keeps.each k n at) in cc
+        | inr d ↦ left_bare o.behind told.stayed (order.bare k n at in_set (sym (rest_has node.serial k o.todo head d) ∙ ap (λ (ks : List ℕ). has ks k) none))
       ]
 
   -- who stands below a device that is not up is below one that is Stopped, which is due
@@ -168,16 +193,20 @@ module _ (s t : State) (was : Kept s) (now : Kept t) (k : ℕ) (n m : Node) (at 
   below_down none down =
       let tree = now.stands.tree in
       let calm = subst (λ (x : Option Operation). OperationFits x t.core.nodes) none now.good.fits in
-      let high = over_stopped t.core k m tree.root tree.rooted tree.idle calm there up down in
+      let told = subst (λ (x : Option Operation). ToldKept x t.core) none now.waits.told in
+      let high = over_stopped t.core k m tree.root tree.rooted tree.idle calm told (λ e. cc) there up down in
       elim (subst (λ (x : Option Operation). DueBut (waiting x) t.tasks t.core.nodes) none now.stands.due high.0 high.1 high.4 high.5) [
         | inl q ↦ due_below t.tasks t.core k high.0 m tree.root tree.rooted there up high.2 q
         | inr q ↦ absurd (cc)
       ]
 
   module _ (idle : activity_at k s.activities ≡ None) (still : activity_at k t.activities ≡ None) where
-    ends_spared : (o : Operation) → s.operation ≡ Some o → t.operation ≡ None → Closes s o t → has (spared o) k ≡ true → IsSeen t k
-    ends_spared (Operation.Rebalancing r) runs none closes h = by_end r.wanted refl closes (target_is h)
+    ends_spared : (o : Operation) → Running s o → t.operation ≡ None → Closes s o t → has (spared o) k ≡ true → IsSeen t k
+    ends_spared (Operation.Rebalancing r) running none closes h = by_end r.wanted refl closes (target_is h)
       where
+        runs : s.operation ≡ Some (Operation.Rebalancing r)
+        runs = rebalance_runs s r running
+
         target_is : has (r.target ∷ []) k ≡ true → r.target ≡ k
         target_is q = elim (has_cases r.target k [] q) [ inl e ↦ e | inr none ↦ absurd (cc) ]
 
@@ -191,7 +220,7 @@ module _ (s t : State) (was : Kept s) (now : Kept t) (k : ℕ) (n m : Node) (at 
             let found : activity_at r.target (entered new s.activities) ≡ Some new = entered_same new s.activities (subst (λ (i : ℕ). activity_at i s.activities ≡ None) (sym own) idle) in
             absurd (let here = subst (λ (i : ℕ). activity_at i t.activities ≡ Some new) own (subst (λ (x : List Activity). activity_at r.target x ≡ Some new) (sym e) found) in cc)
         by_end None plain (inr down) own = inl (below_down none (subst (λ (i : ℕ). stands_up t.core.nodes i ≡ false) own down))
-    ends_spared (Operation.Surprising o) runs none closes h = absurd (let bare_state = surprise_ends o runs closes h in cc)
+    ends_spared (Operation.Surprising o) runs none closes h = absurd (surprise_ends o runs closes h)
     ends_spared _ runs none closes h = absurd (cc)
 
     spared_on : (label : Label) → OpEffect s label t → has (spared_by s.operation) k ≡ true → IsSeen t k
@@ -200,7 +229,9 @@ module _ (s t : State) (was : Kept s) (now : Kept t) (k : ℕ) (n m : Node) (at 
     spared_on label (OpEffect.goes o p runs after work prints) h =
         inr (subst (λ (x : Option Operation). has (spared_by x) k ≡ true) (sym after)
         (subst (λ (ks : List ℕ). has ks k ≡ true) (sym work.spared) (subst (λ (x : Option Operation). has (spared_by x) k ≡ true) runs h)))
-    spared_on label (OpEffect.ends o result runs after prints by closes) h = ends_spared o runs after closes (subst (λ (x : Option Operation). has (spared_by x) k ≡ true) runs h)
+    spared_on label (OpEffect.ends o result runs after prints by closes) h =
+        ends_spared o runs after closes
+        (subst (λ (ks : List ℕ). has ks k ≡ true) (sym (turn_work s runs.before o runs.turn).spared) (subst (λ (x : Option Operation). has (spared_by x) k ≡ true) runs.runs h))
 
     spared_after : (label : Label) → AnswerEffect s label t → has (spared_by s.operation) k ≡ true → IsSeen t k
     spared_after label (AnswerEffect.stays word nodes acts after) h = inr (subst (λ (x : Option Operation). has (spared_by x) k ≡ true) (sym after) h)
@@ -228,16 +259,16 @@ seen_goes settings rack s entry t (entries, run) old goes =
     let effect = effect_goes settings s entry t goes in
     let first = dependents_go_first settings rack entries s entry t run goes in
     let follows = (every_run_follows settings rack entries s entry t run goes).0 in
-    let carry : (k : ℕ) (n m : Node) → node_at k s.core.nodes ≡ Some n → node_at k t.core.nodes ≡ Some m → n.state ≡ NotStarted → activity_at k s.activities ≡ None → activity_at k t.activities ≡ None → IsSeen s k → IsSeen t k =
-    λ k n m at there waits idle still seen.
-    seen_on s t was now k n m at there waits (above_stays s (printed entry) t was first follows effect.nodes k n m at there) idle still entry effect.tasks effect.operation seen in
+    let carry : (k : ℕ) (n m : Node) → node_at k s.core.nodes ≡ Some n → node_at k t.core.nodes ≡ Some m → n.state ≡ NotStarted → m.state ≡ NotStarted → activity_at k s.activities ≡ None → activity_at k t.activities ≡ None → IsSeen s k → IsSeen t k =
+    λ k n m at there waits still_waits idle still seen.
+    seen_on s t was now k n m at there waits still_waits (above_stays s (printed entry) t was first follows effect.nodes k n m at there) idle still entry effect.tasks effect.operation seen in
     let by_from : (k : ℕ) (m : Node) → node_at k t.core.nodes ≡ Some m → IsStray t k m → activity_at k s.activities ≡ None → From s t k m → IsSeen t k =
     λ k m there stray idle came.
     elim came [
-      | From.unchanged n at state holds ↦ carry k n m at there (state stray.waits) idle stray.idle (old.strays k n at (record { waits = state stray.waits; holds = λ e. stray.holds (holds ∙ e); idle = idle }))
+      | From.unchanged n at state holds ↦ carry k n m at there (state stray.waits) stray.waits idle stray.idle (old.strays k n at (record { waits = state stray.waits; holds = λ e. stray.holds (holds ∙ e); idle = idle }))
       | From.emptied none ↦ absurd (stray.holds none)
       | From.placed a found past ↦ absurd (let none = stray.idle in cc)
-      | From.moved o n runs at waits ↦ let own = waits stray.waits in carry k n m at there own.0 idle stray.idle (inr (subst (λ (x : Option Operation). has (spared_by x) k ≡ true) (sym runs) own.1))
+      | From.moved o n runs at waits ↦ let own = waits stray.waits in carry k n m at there own.0 stray.waits idle stray.idle (inr (subst (λ (x : Option Operation). has (spared_by x) k ≡ true) (sym runs) own.1))
     ] in
     record {
       unplaced = unplaced_now s (printed entry) t was.good whole effect.nodes effect.activities old;

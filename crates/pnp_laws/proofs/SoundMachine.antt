@@ -1,8 +1,9 @@
 -- Each step and each event of the machine keeps the tree and what is due.
-use Rattle.std.proofs.Common.{ℕ, ◌≡◌, ◌⊎◌, ◌∙◌, ◌≢◌, ◌==◌, inl, inr, Bool, false, List, [], ◌∷◌, ◌++◌, Option, Some, None, refl, sym, ap, subst, arith}
+use Rattle.std.proofs.Common.{ℕ, ◌≡◌, ◌⊎◌, ◌∙◌, ◌≢◌, ◌==◌, inl, inr, Bool, true, false, List, [], ◌∷◌, ◌++◌, Option, Some, None, refl, sym, ap, subst, arith}
 use Rattle.std.proofs.lemmas.Bool.Decides.{nat_tests}
 use Rattle.device_ids.specs.Folding.{same}
-use Rattle.pnp_model.specs.Tests.{has}
+use Rattle.pnp_model.specs.Tests.{has, is_surprise_task}
+use Rattle.pnp_model.proofs.Due.{due_is_first}
 use Rattle.pnp_model.specs.Records.{Node, Core, Relation, Activity, Task, State, Step, Settings, Operation, Rebalance, RebalanceStage, Removal, RemovalStage, Surprise, SurpriseStage, Finish, FinishStage, Duty}
 use Rattle.pnp_model.specs.Cores.{node_at}
 use Rattle.pnp_model.specs.Trees.{dependents}
@@ -25,7 +26,7 @@ use Rattle.pnp_laws.proofs.Due.{settled_from_due}
 use Rattle.pnp_laws.proofs.Standing.{Tree, DueBut, waiting, rebalance_waiting, StageKept, ToldKept, OrderKept, RemovalOrder, SurpriseOrder, SurpriseTold, FinishOrder, Stands, Sound, Finishes, FinishesBut, HeadAlone, RebalanceThere, RemovalThere, SurpriseThere, FinishThere}
 use Rattle.pnp_laws.proofs.TreeChanges.{edges_same, same_still, tree_same}
 use Rattle.pnp_laws.proofs.TreeMoves.{tree_related}
-use Rattle.pnp_laws.proofs.Sounds.{leads_pushed, up_append, up_first, due_still}
+use Rattle.pnp_laws.proofs.Sounds.{IsPlain, leads_pushed, up_append, up_first, due_still}
 use Rattle.pnp_laws.proofs.Finishes.{alone_less, but_still, fades_same, finishes_still}
 use Rattle.pnp_laws.proofs.SoundOps.{MoreTasks, more_same, more_pushed, op_still}
 use Rattle.pnp_laws.proofs.IdleSteps.{MachineStep, machine_step}
@@ -35,7 +36,7 @@ use Rattle.pnp_laws.proofs.SoundRemovals.{sound_removal, sound_surprise, sound_f
 use Rattle.pnp_laws.proofs.Turns.{turn_good}
 use Rattle.pnp_laws.proofs.TurnsKept.{turn_stage, turn_told, turn_waiting}
 use Rattle.pnp_laws.proofs.Stages.{OperationStep, asking, reply}
-use Rattle.pnp_laws.proofs.SoundTasks.{sound_task}
+use Rattle.pnp_laws.proofs.SoundTasks.{sound_drop, sound_task}
 use Rattle.pnp_model.specs.Machine as ma
 use Rattle.pnp_model.specs.Events as ev
 
@@ -156,6 +157,18 @@ sound_step settings s step good told h is = by_step step (machine_step settings 
         sound_act s node acting.none at fit.0 h phase m fit.1 good.serials is
     by_step _ (MachineStep.does x none is) = sound_task s x none (calm none) (subst (λ (y : Option Operation). ToldKept y s.core) none told) h is
 
+-- a client declines what is due, which is no surprise
+pub sound_declined : (s : State) (label : Label) (t : State) → ma.IsDeclined s label t → Stands s → Sound s (record { label = label; state = t })
+sound_declined s label t declines h =
+    let first = due_is_first s declines.first declines.is_due in
+    subst (λ (x : State). Sound s (record { label = label; state = x })) (sym declines.dropped)
+    (sound_drop s label (record { kind = Duty.Begins declines.first.kind; serial = declines.first.serial }) (subst IsPlain (sym declines.says) tt) first.task (in_order declines.first.kind declines.in_order) first.idle h)
+  where
+    in_order : (kind : OpKind) → ma.is_in_order kind ≡ true → is_surprise_task (Duty.Begins kind) ≡ false
+    in_order OpKind.Disable h = refl
+    in_order OpKind.Eject h = refl
+    in_order _ h = absurd (cc)
+
 -- What the begin of an operation needs -------------------------------------------------------------
 
 pub begins_well : (s : State) → s.operation ≡ None → IsGood s → Stands s → BeginsWell s.core s.tasks
@@ -191,7 +204,7 @@ event_tasks : (s t : State) → IsGood s → CommandEffect s t → MoreTasks s.t
 event_tasks s t good (CommandEffect.same e) = subst (λ (ts : List Task). MoreTasks s.tasks ts) (sym e) (more_same s.tasks)
 event_tasks s t good (CommandEffect.lists k e) = subst (λ (ts : List Task). MoreTasks s.tasks ts) (sym e) (more_pushed s.tasks (record { kind = Duty.Listing; serial = k }) (inl refl))
 event_tasks s t good (CommandEffect.starts path n found e) = subst (λ (ts : List Task). MoreTasks s.tasks ts) (sym e) (more_pushed s.tasks (record { kind = Duty.Starting; serial = n.serial }) (inr refl))
-event_tasks s t good (CommandEffect.finishes n path found told shut e) =
+event_tasks s t good (CommandEffect.finishes n path found told e) =
     let at = (node_found (λ m. same m.path path) 0 s.core.nodes n good.serials found).1 in
     let up : n.serial ≢ 0 = λ z. let root = (good.stacks n.serial n at).root z in cc in
     subst (λ (ts : List Task). MoreTasks s.tasks ts) (sym e) (more_begins s.tasks OpKind.Finish n.serial up)

@@ -103,7 +103,7 @@ more_listed tasks more (inr (k, e)) = subst (λ (ts : List Task). MoreTasks task
 
 -- The head, on which nothing hangs ----------------------------------------------------------------
 
-free_childless : (c : Core) (k : ℕ) → IsFree c k → Childless k c.nodes
+pub free_childless : (c : Core) (k : ℕ) → IsFree c k → Childless k c.nodes
 free_childless c k free i m at up e = free i m at (child_hangs c k i m at up e)
 
 -- it lost its drivers

@@ -115,7 +115,7 @@ all_calm todo nodes each k n at = by_test (has todo k) refl
 not_root : (s : State) (next : ℕ) (p : Option Operation) → Good next s.core.nodes [] p → (k : ℕ) (n : Node) → node_at k s.core.nodes ≡ Some n → n.state ≡ Stopped → k ≢ 0
 not_root s next p good k n at e = λ z. let root = (good.stacks k n at).root z in cc
 
-commits_alike : (serials : List ℕ) (r : Rebalance) (n : Node) → Alike n (committed r.wanted r.target serials (plan_of r.found) n)
+pub commits_alike : (serials : List ℕ) (r : Rebalance) (n : Node) → Alike n (committed r.wanted r.target serials (plan_of r.found) n)
 commits_alike serials r n = record { serial = refl; parent = refl; path = refl; born = refl; idle = λ h. h; bare = λ h. h }
 
 -- the states of others as the head is started again

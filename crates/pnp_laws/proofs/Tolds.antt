@@ -5,21 +5,23 @@ use Rattle.std.proofs.lemmas.Bool.{cases_eq}
 use Rattle.std.proofs.lemmas.Bool.Decides.{nat_tests}
 use Rattle.pnp_model.specs.Keyed.{those}
 use Rattle.pnp_model.specs.Tests.{has, is_surprise_removed}
-use Rattle.pnp_model.specs.Records.{Node, Core, Handle, Surprise}
-use Rattle.pnp_model.specs.Cores.{node_at, strip, drop_node, set_state, with_state, bare}
+use Rattle.pnp_model.specs.Records.{Node, Core, Relation, Handle, Surprise}
+use Rattle.pnp_model.specs.Cores.{add_node, change_node, node_at, strip, drop_node, set_state, with_state, bare}
+use Rattle.pnp_model.specs.Events.{add_relation}
 use Rattle.pnp_model.specs.Frames.{rest}
 use Rattle.pnp_model.specs.Trees.{hangs_on, dependents}
 use Rattle.pnp_model.specs.Handles.{is_open, was_told}
 use Rattle.pnp_model.specs.Surprises.{stays_behind}
 use Rattle.pnp_labels.specs.declared.states.DevState.{DevState}
 use Rattle.pnp_labels.specs.declared.states.DevState.TheVariants.{NoStack, NotStarted, SurpriseRemoved}
-use Rattle.pnp_laws.specs.Kept.{Ascending, is_idle}
+use Rattle.pnp_laws.specs.Kept.{AllBelow, Ascending, is_idle}
 use Rattle.pnp_laws.proofs.OpSteps.{is_SurpriseRemoved}
-use Rattle.pnp_laws.proofs.Lookups.{node_from, left_from, some_same}
+use Rattle.pnp_laws.proofs.Lookups.{joined_from, node_from, left_from, some_same}
 use Rattle.pnp_laws.proofs.Lists.{HeadIs, cons_there, has_cases, those_has, those_keeps}
-use Rattle.pnp_laws.proofs.Ranks.{NoNewEdge, edges_changed, edges_stripped}
+use Rattle.pnp_laws.proofs.Ranks.{NoNewEdge, edges_changed, edges_left, edges_stripped, new_edge, related_below}
 use Rattle.pnp_laws.proofs.Standing.{Tree, IdleFree, IsFree, BareOnly, FinishesBut, Told, ToldBut, AllTold, ToldIn, is_held}
-use Rattle.pnp_laws.proofs.TreeMoves.{was_stripped}
+use Rattle.pnp_laws.proofs.TreeMoves.{edge_cases, was_stripped}
+use Rattle.pnp_laws.proofs.TreeChanges.{edges_same, same_still}
 use Rattle.pnp_laws.proofs.Finishes.{hung_behind}
 use Rattle.pnp_laws.proofs.SoundStarts.{no_dependents}
 use Rattle.pnp_laws.proofs.Truths.{or_cases}
@@ -144,7 +146,7 @@ told_from c d set told behind less from h =
 -- Other steps ---------------------------------------------------------------------------------
 
 -- who waits after a device has lost its drivers, waited before, and is another one
-was_waiting : (c : Core) (j k : ℕ) (n : Node) → node_at k (strip j c).nodes ≡ Some n → n.state ≡ SurpriseRemoved → (j ≢ k) × (node_at k c.nodes ≡ Some n)
+pub was_waiting : (c : Core) (j k : ℕ) (n : Node) → node_at k (strip j c).nodes ≡ Some n → n.state ≡ SurpriseRemoved → (j ≢ k) × (node_at k c.nodes ≡ Some n)
 was_waiting c j k n at state =
     elim (node_from j k bare c.nodes n (λ x. refl) at) [
       | inl (e, (y, q, r)) ↦ absurd (let z : n.state ≡ NoStack = ap (λ (x : Node). x.state) r in cc)
@@ -167,23 +169,30 @@ told_other_stripped c j node told at other k n there state i m at_i on =
           subst (λ (x : Node). x.state ≡ SurpriseRemoved) (same ∙ sym (now.other d)) before
     ]
 
+-- a device changes, and waits just if it waited
+pub told_changed : (c : Core) (j : ℕ) (f : Node → Node) (node : Node) → ((x : Node) → (f x).serial ≡ x.serial) → ((x : Node) → (f x).parent ≡ x.parent) → node_at j c.nodes ≡ Some node → (node.state ≡ SurpriseRemoved → (f node).state ≡ SurpriseRemoved) → ((f node).state ≡ SurpriseRemoved → node.state ≡ SurpriseRemoved) →
+    Told c → Told (change_node j f c)
+told_changed c j f node serial parent at stays was told k n there state i m at_i on =
+    let old = edges_changed j f c serial parent k i m at_i on in
+    let before : old.0.state ≡ SurpriseRemoved =
+    elim (node_from j k f c.nodes n serial there) [
+      | inl (e, (y, q, r)) ↦
+          let same = some_same (node_at k c.nodes) y node q (subst (λ (x : ℕ). node_at x c.nodes ≡ Some node) e at) in
+          told k node (subst (λ (x : ℕ). node_at x c.nodes ≡ Some node) e at) (was (ap (λ (x : Node). (f x).state) (sym same) ∙ sym (ap (λ (x : Node). x.state) r) ∙ state)) i old.0 old.1 old.2
+      | inr (d, q) ↦ told k n q state i old.0 old.1 old.2
+    ] in
+    elim (node_from j i f c.nodes m serial at_i) [
+      | inl (e, (y, q, r)) ↦
+          let at_i2 = subst (λ (x : ℕ). node_at x c.nodes ≡ Some node) e at in
+          let own = some_same (node_at i c.nodes) y node q at_i2 in
+          let same = some_same (node_at i c.nodes) old.0 node old.1 at_i2 in
+          ap (λ (x : Node). x.state) r ∙ ap (λ (x : Node). (f x).state) own ∙ stays (subst (λ (x : Node). x.state ≡ SurpriseRemoved) same before)
+      | inr (d, q) ↦ subst (λ (x : Node). x.state ≡ SurpriseRemoved) (some_same (node_at i c.nodes) old.0 m old.1 q) before
+    ]
+
 -- a device that does not wait gets another state, and does not wait
 pub told_walked : (c : Core) (j : ℕ) (y : DevState) (node : Node) → Told c → node_at j c.nodes ≡ Some node → node.state ≢ SurpriseRemoved → y ≢ SurpriseRemoved → Told (set_state j y c)
-told_walked c j y node told at other new k n there state i m at_i on =
-    elim (node_from j k (with_state y) c.nodes n (λ x. refl) there) [
-      | inl (e, (z, q, r)) ↦ absurd (new (sym (ap (λ (x : Node). x.state) r) ∙ state))
-      | inr (d, q) ↦
-          let old = edges_changed j (with_state y) c (λ x. refl) (λ x. refl) k i m at_i on in
-          let before = told k n q state i old.0 old.1 old.2 in
-          elim (node_from j i (with_state y) c.nodes m (λ x. refl) at_i) [
-            | inl (e, (z, p, r)) ↦
-                let same = some_same (node_at i c.nodes) old.0 node old.1 (subst (λ (x : ℕ). node_at x c.nodes ≡ Some node) e at) in
-                absurd (other (subst (λ (x : Node). x.state ≡ SurpriseRemoved) same before))
-            | inr (d2, p) ↦
-                let same = some_same (node_at i c.nodes) old.0 m old.1 p in
-                subst (λ (x : Node). x.state ≡ SurpriseRemoved) same before
-          ]
-    ]
+told_walked c j y node told at other new = told_changed c j (with_state y) node (λ x. refl) (λ x. refl) at (λ e. absurd (other e)) (λ e. absurd (new e)) told
 
 -- nodes stay as they are, or leave, or hang on less
 pub told_fades : (c d : Core) → NoNewEdge c d → FromStates c d → Told c → Told d
@@ -193,6 +202,53 @@ told_fades c d less from told k n at state i m there on =
     let old = less k i m there on in
     let same = some_same (node_at i c.nodes) old.0 now.0 old.1 now.1 in
     now.2 ∙ subst (λ (x : Node). x.state ≡ SurpriseRemoved) same (told k was.0 was.1 (sym was.2 ∙ state) i old.0 old.1 old.2)
+
+-- a device changes, but not its state
+pub kept_states : (c : Core) (j : ℕ) (f : Node → Node) → ((x : Node) → (f x).serial ≡ x.serial) → ((x : Node) → (f x).state ≡ x.state) → FromStates c (change_node j f c)
+kept_states c j f serial state k m at =
+    elim (node_from j k f c.nodes m serial at) [
+      | inl (e, (y, q, r)) ↦ (y, q, ap (λ (x : Node). x.state) r ∙ state y)
+      | inr (d, q) ↦ (m, q, refl)
+    ]
+
+pub still_states : (c d : Core) → d.nodes ≡ c.nodes → FromStates c d
+still_states c d e k m at = (m, subst (λ (x : List Node). node_at k x ≡ Some m) e at, refl)
+
+pub told_still : (c d : Core) → d.nodes ≡ c.nodes → d.relations ≡ c.relations → Told c → Told d
+told_still c d a b told = told_fades c d (edges_same c d (same_still c d a b)) (still_states c d a) told
+
+pub told_left : (c : Core) (j : ℕ) → Ascending 0 c.nodes → Told c → Told (drop_node j c)
+told_left c j order told = told_fades c (drop_node j c) (edges_left j c order) (λ k m at. (m, (left_from j k c.nodes m order at).1, refl)) told
+
+-- a device joins, on which nothing hangs, below one that does not wait
+pub told_joined : (next : ℕ) (c : Core) (new p : Node) → Tree next c → AllBelow next c.nodes → new.serial ≡ next → node_at new.parent c.nodes ≡ Some p → p.state ≢ SurpriseRemoved → new.state ≢ SurpriseRemoved → Told c → Told (add_node new c)
+told_joined next c new p tree below e over up fresh told k n at state i m there on =
+    elim (joined_from i c.nodes new m there) [
+      | inl q ↦ elim (joined_from k c.nodes new n at) [
+        | inl w ↦ told k n w state i m q on
+        | inr (w, r, u) ↦ absurd (fresh (sym (ap (λ (x : Node). x.state) r) ∙ state))
+      ]
+      | inr (q, r, u) ↦ elim (edge_cases c k m on) [
+        | inl (par, d) ↦
+            let is : k ≡ new.parent = sym par ∙ ap (λ (x : Node). x.parent) r in
+            elim (joined_from k c.nodes new n at) [
+              | inl w ↦ absurd (up (subst (λ (x : Node). x.state ≡ SurpriseRemoved) (some_same (node_at new.parent c.nodes) n p (subst (λ (x : ℕ). node_at x c.nodes ≡ Some n) is w) over) state))
+              | inr (w, r2, u2) ↦ absurd (fresh (sym (ap (λ (x : Node). x.state) r2) ∙ state))
+            ]
+        | inr rel ↦ absurd (
+            let low = (related_below next k m.serial c.relations tree.related rel).1 in
+            let ser : m.serial ≡ next = ap (λ (x : Node). x.serial) r ∙ e in
+            omega arith)
+      ]
+    ]
+
+-- two are related, of which the owner does not wait
+pub told_related : (c : Core) (r : Relation) (owner : Node) → node_at r.owner c.nodes ≡ Some owner → owner.state ≢ SurpriseRemoved → Told c → Told (add_relation r c)
+told_related c r owner at up told k n there state i m at_i on =
+    elim (new_edge c r k m on) [
+      | inl old ↦ told k n there state i m at_i old
+      | inr (e, own) ↦ absurd (up (subst (λ (x : Node). x.state ≡ SurpriseRemoved) (some_same (node_at r.owner c.nodes) n owner (subst (λ (x : ℕ). node_at x c.nodes ≡ Some n) own there) at) state))
+    ]
 
 -- Who stays behind waits --------------------------------------------------------------------------
 

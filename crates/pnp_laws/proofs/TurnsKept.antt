@@ -1,5 +1,5 @@
 -- Where the next device of an operation is taken, the order is kept, and who waits, and who has no handle.
-use Rattle.std.proofs.Common.{ℕ, ◌≡◌, ◌≢◌, ◌&&◌, ◌||◌, Bool, true, false, not, List, [], ◌∷◌, Option, Some, refl, sym, ◌∙◌, subst, arith}
+use Rattle.std.proofs.Common.{ℕ, ◌≡◌, ◌≢◌, ◌&&◌, ◌||◌, Bool, true, false, not, List, [], ◌∷◌, Option, Some, refl, subst, arith}
 use Rattle.std.specs.List.{list_any}
 use Rattle.std.proofs.lemmas.Bool.Decides.{nat_tests}
 use Rattle.pnp_model.specs.Cores.{node_at}
@@ -14,7 +14,7 @@ use Rattle.pnp_labels.specs.declared.states.DevState.TheVariants.{NoStack}
 use Rattle.pnp_laws.specs.Effects.{Running, Turn}
 use Rattle.pnp_laws.specs.Kept.{Ascending, Good, SurpriseKeeps}
 use Rattle.pnp_laws.proofs.Finishes.{goes_free, head_alone}
-use Rattle.pnp_laws.proofs.Finishing.{StacksFit}
+use Rattle.pnp_laws.proofs.Finishing.{StacksFit, head_same}
 use Rattle.pnp_laws.proofs.Lists.{HeadIs, head_found, head_has}
 use Rattle.pnp_laws.proofs.Lookups.{found_self}
 use Rattle.pnp_laws.proofs.Readies.{ready_is}
@@ -57,10 +57,6 @@ ready_bare next c handles node stacks tree ready i m at on =
     (stacks i m at).some up stack
 
 -- A device that does not stay behind was not told before, and no handle to it is open ------------
-
-head_same : (todo : List ℕ) (j k : ℕ) → HeadIs j todo → HeadIs k todo → j ≡ k
-head_same [] j k a b = absurd a
-head_same (i ∷ is) j k a b = sym a ∙ b
 
 goes_new : (c : Core) (o : Surprise) (handles : List Handle) (j : ℕ) → stays_behind c o handles j ≡ false → HeadIs j o.todo → IsNew o.todo o.told
 goes_new c o handles j goes head k h =

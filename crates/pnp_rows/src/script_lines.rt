@@ -91,7 +91,7 @@ const OTHERS: [(&[u8], &[u8]); 37] = [
     (b"eject", b"bad "),
     (b"; note", b"bad "),
     (b"// note", b"bad "),
-    (b"open OWN\\DEV\\1", b"bad "),
+    (b"handle OWN\\DEV\\1", b"bad "),
     (b"restart OWN\\DEV\\1", b"bad "),
     (b"plag", b"bad "),
     (b"\0", b"bad "),

@@ -71,6 +71,23 @@ fn put_operation(text: &mut Vec<u8>, event: &Event) -> Result<(), AllocError> {
         Event::Disable { path } => put_words(text, &[b"Disable", path.bytes()]),
         Event::Enable { path } => put_words(text, &[b"Enable", path.bytes()]),
         Event::Eject { path } => put_words(text, &[b"Eject", path.bytes()]),
+        Event::OpenHandle { path } => put_words(text, &[b"OpenHandle", path.bytes()]),
+        Event::CloseHandle { path } => put_words(text, &[b"CloseHandle", path.bytes()]),
+        Event::Watch {
+            client,
+            path,
+            agrees,
+        } => {
+            let agrees = if *agrees {
+                b"true".as_slice()
+            } else {
+                b"false"
+            };
+            put_words(text, &[b"Watch", client.bytes(), path.bytes(), agrees])
+        }
+        Event::Unwatch { client, path } => {
+            put_words(text, &[b"Unwatch", client.bytes(), path.bytes()])
+        }
         _ => Ok(()),
     }
 }

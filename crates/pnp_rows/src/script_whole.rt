@@ -21,9 +21,11 @@ eject OWN\\DEV\\1
 pull OWN\\DEV\\1
 plug OWN\\X\\2 A B\\C compat=*PNP0501
 window A\\B\\C mem:0xE0000000-0xEFFFFFFF
+open OWN\\DEV\\1
+close OWN\\DEV\\1
 plag";
 
-const EVENTS: [(u64, &[u8]); 13] = [
+const EVENTS: [(u64, &[u8]); 15] = [
     (2, b"Name dev Scripted "),
     (
         3,
@@ -40,10 +42,12 @@ const EVENTS: [(u64, &[u8]); 13] = [
     (14, b"Pull OWN\\DEV\\1 "),
     (15, b"Plug OWN\\X\\2 A\\B\\C hw A compat *PNP0501 "),
     (16, b"Window A\\B\\C Mem 3758096384-4026531839 false "),
+    (17, b"OpenHandle OWN\\DEV\\1 "),
+    (18, b"CloseHandle OWN\\DEV\\1 "),
 ];
 
 fn assert_script(rt: &impl Abort, alloc: Global, script: &Script) -> Result<(), Fail> {
-    assert!(rt; script.ends == (ScriptEnd::Bad { line: 17 }));
+    assert!(rt; script.ends == (ScriptEnd::Bad { line: 19 }));
     assert_eq!(rt; script.lines.len(), EVENTS.len());
     let mut at = 0;
     for line in &script.lines {

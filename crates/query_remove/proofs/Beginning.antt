@@ -7,8 +7,8 @@ use Rattle.pnp_model.specs.Keyed.{those}
 use Rattle.pnp_model.specs.Cores.{node_at}
 use Rattle.pnp_model.specs.Records as Records
 use Rattle.pnp_model.specs.Records.{Node, Relation, Removal}
-use Rattle.pnp_model.specs.Trees.{is_up, leaving}
-use Rattle.pnp_model.specs.Removals.{ask_on}
+use Rattle.pnp_model.specs.Trees.{leaving}
+use Rattle.pnp_model.specs.Removals.{ask_on, is_queried_node}
 use Rattle.devnode_tree.specs.Cores.{at_related}
 use Rattle.relations.specs.Leaving.{IsLeaving}
 use Rattle.relations.specs.Relating.{ejected}
@@ -22,7 +22,7 @@ before kind node set members agreed =
 
 module _ (nodes : List Node) (rs : List Relation) (kind : OpKind) (k : ℕ) (node : Node) (at : Some node ≡ node_at k nodes) where
   pub begun_is : (line path : Text) (order set members todo agreed : List ℕ) (target : ℕ) (new : Removal)
-      → line ≡ node.path → path ≡ node.path → target ≡ node.serial → IsLeaving nodes rs target order → set ≡ order → members ≡ ejected rs set → todo ≡ those (λ j. is_up (node_at j nodes)) set → agreed ≡ []
+      → line ≡ node.path → path ≡ node.path → target ≡ node.serial → IsLeaving nodes rs target order → set ≡ order → members ≡ ejected rs set → todo ≡ those (λ j. is_queried_node (node_at j nodes)) set → agreed ≡ []
       → new ≡ ask_on nodes (record { kind = kind; target = target; path = path; set = set; ejecting = members; todo = todo; agreed = agreed; refuser = None; stage = Records.RemovalStage.Ending }) todo
       → BegunFor (node_at k nodes) nodes rs kind (Label.Begin kind line) new
   begun_is line path order set members todo agreed target new l p t leave s m d a n =
@@ -37,5 +37,5 @@ module _ (nodes : List Node) (rs : List Relation) (kind : OpKind) (k : ℕ) (nod
             ∙ (ask_same nodes (before kind node set members []) todo todo
             ∙ (ap (λ x. ask_on nodes (before kind node set x []) todo) m
             ∙ (ap (λ x. ask_on nodes (before kind node set (ejected rs set) []) x) d
-            ∙ ap (λ x. ask_on nodes (before kind node x (ejected rs x) []) (those (λ j. is_up (node_at j nodes)) x)) is))))))),
+            ∙ ap (λ x. ask_on nodes (before kind node x (ejected rs x) []) (those (λ j. is_queried_node (node_at j nodes)) x)) is))))))),
       )

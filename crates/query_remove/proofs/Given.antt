@@ -3,8 +3,7 @@ use Rattle.std.proofs.Common.{◌≡◌, ℕ, List, Some}
 use Rattle.pnp_model.specs.Laws.{HoldsWhole}
 use Rattle.pnp_model.specs.Records.{Node, Core, State, Operation, Removal, RemovalStage}
 use Rattle.pnp_laws.specs.Kept.{Ascending, RemovalKeeps}
-use Rattle.pnp_laws.proofs.Standing.{Tree, RemovalOrder, RemovalThere}
-use Rattle.pnp_laws.proofs.Standing.{Kept}
+use Rattle.pnp_laws.proofs.Standing.{Tree, RemovalOrder, RemovalThere, Kept}
 use Rattle.operation_frame.proofs.Given.{running, first_there, next_may_leave}
 use Rattle.query_remove.specs.Steps.{HasNext, SettlesStripped}
 
@@ -13,6 +12,7 @@ removal_settles next c o RemovalStage.Settling order tree whole keeps h = next_m
 removal_settles next c o _ order tree whole keeps h = tt
 
 removal_there : (nodes : List Node) (o : Removal) (stage : RemovalStage) → RemovalThere o stage nodes → HasNext nodes o stage
+removal_there nodes o RemovalStage.Next there = first_there o.todo nodes there.0
 removal_there nodes o (RemovalStage.Asking w) there = first_there o.todo nodes there.0
 removal_there nodes o (RemovalStage.TakingBack w) there = first_there o.todo nodes there.0
 removal_there nodes o (RemovalStage.Cancelling w) there = first_there o.todo nodes there

@@ -1,5 +1,5 @@
 -- The parts of a step of a removal are moves of the machine.
-use Rattle.std.proofs.Common.{◌≡◌, ℕ, ◌==◌, Bool, true, false, ◌&&◌, List, [], ◌∷◌, drop, Option, Some, None, refl, sym, ap, ◌∙◌, subst}
+use Rattle.std.proofs.Common.{◌≡◌, ℕ, ◌==◌, Bool, true, false, ◌&&◌, List, [], ◌∷◌, drop, Option, Some, refl, sym, ap, ◌∙◌, subst}
 use Rattle.pnp_labels.specs.Texts.{Text}
 use Rattle.pnp_labels.specs.declared.label.Label.{Label}
 use Rattle.pnp_labels.specs.declared.label.RemoveStep.{RemoveStep}
@@ -27,7 +27,7 @@ use Rattle.query_remove.specs.Stages.{stage_of, finishing}
 use Rattle.operation_frame.specs.Finishes.{finish_by, finish_of}
 use Rattle.operation_frame.specs.Nodes.{is_full}
 use Rattle.query_remove.specs.declared.frame.Stage.{Stage}
-use Rattle.query_remove.specs.declared.frame.Stage.TheVariants.{Asking, TakingBack, Cancelling, Removing, Settling, Ending}
+use Rattle.query_remove.specs.declared.frame.Stage.TheVariants.{Next, Asking, TakingBack, Cancelling, Removing, Settling, Ending}
 
 -- What comes next does not read what was done before ----------------------------------------
 
@@ -44,6 +44,11 @@ cancel_same o t (k ∷ ks) = refl
 pub ask_same : (nodes : List Node) (o : Removal) (t todo : List ℕ) → ask_on nodes (record o { todo = t }) todo ≡ ask_on nodes o todo
 ask_same nodes o t [] = sym (finish_is nodes (record o { todo = t }) o.set) ∙ finish_is nodes o o.set
 ask_same nodes o t (k ∷ ks) = refl
+
+-- nor how it was called
+pub ask_staged : (nodes : List Node) (o : Removal) (stage : Records.RemovalStage) (todo : List ℕ) → ask_on nodes (record o { stage = stage }) todo ≡ ask_on nodes o todo
+ask_staged nodes o stage [] = sym (finish_is nodes (record o { stage = stage }) o.set) ∙ finish_is nodes o o.set
+ask_staged nodes o stage (k ∷ ks) = refl
 
 -- A request ends -----------------------------------------------------------------------------
 
@@ -160,5 +165,6 @@ only_removing Asking w a b c h = absurd (a refl)
 only_removing TakingBack w a b c h = absurd (b refl)
 only_removing Cancelling w a b c h = absurd (c refl)
 only_removing Removing w a b c h = refl
+only_removing Next w a b c h = absurd (cc)
 only_removing Settling w a b c h = absurd (cc)
 only_removing Ending w a b c h = absurd (cc)

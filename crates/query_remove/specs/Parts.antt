@@ -7,13 +7,14 @@ use Rattle.pnp_model.specs.Cores.{node_at, path_of}
 use Rattle.pnp_labels.specs.declared.states.Problem.{Problem}
 use Rattle.pnp_model.specs.Machine.{removal_walk}
 use Rattle.pnp_model.specs.Records.{Node, Core, Removal, RemovalStage}
-use Rattle.pnp_model.specs.Records.RemovalStage.{Asking, TakingBack, Cancelling, Removing, Settling, Ending}
+use Rattle.pnp_model.specs.Records.RemovalStage.{Next, Asking, TakingBack, Cancelling, Removing, Settling, Ending}
 use Rattle.pnp_model.specs.Removals.{RemovalMove, end_ask, take_back, cancel_step, remove_step, close, settle}
 use Rattle.operation_frame.specs.Steps.{MovesFor}
 use Rattle.query_remove.specs.Steps.{Moved}
 
 -- the end of the request of a stage
 abbrev pub end_move : Removal → RemovalStage → Bool → Core → Node → RemovalMove
+end_move o Next refused c node = close c o
 end_move o (Asking w) refused c node = end_ask c o node refused
 end_move o (TakingBack w) refused c node = take_back c o node w true
 end_move o (Cancelling w) refused c node = cancel_step c o node w true

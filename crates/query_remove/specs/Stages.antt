@@ -4,9 +4,10 @@ use Rattle.pnp_model.specs.Records.{Walk, RemovalStage}
 use Rattle.operation_frame.specs.declared.leaving.Finish.{Finish}
 use Rattle.operation_frame.specs.declared.leaving.Finish.TheVariants as finishes
 use Rattle.query_remove.specs.declared.frame.Stage.{Stage}
-use Rattle.query_remove.specs.declared.frame.Stage.TheVariants.{Asking, TakingBack, Cancelling, Removing, Settling, Ending}
+use Rattle.query_remove.specs.declared.frame.Stage.TheVariants.{Next, Asking, TakingBack, Cancelling, Removing, Settling, Ending}
 
 abbrev pub stage_of : Stage → Walk → RemovalStage
+stage_of Next w = Records.RemovalStage.Next
 stage_of Asking w = Records.RemovalStage.Asking w
 stage_of TakingBack w = Records.RemovalStage.TakingBack w
 stage_of Cancelling w = Records.RemovalStage.Cancelling w

@@ -6,7 +6,7 @@ use Rattle.pnp_labels.specs.declared.label.RemoveStep.{RemoveStep}
 use Rattle.pnp_labels.specs.declared.label.RemoveStep.TheVariants as steps
 use Rattle.pnp_labels.specs.declared.states.Problem.{Problem}
 use Rattle.pnp_model.specs.Frames.{first_node}
-use Rattle.pnp_model.specs.Records.{Node, Core, Driver, Relation, Removal, RemovalStage}
+use Rattle.pnp_model.specs.Records.{Node, Core, Driver, Handle, Relation, Removal, RemovalStage}
 use Rattle.pnp_model.specs.Cores.{set_rack}
 use Rattle.pnp_model.specs.Removals.{RemovalMove, RemoveBeside, removed}
 use Rattle.devnode_tree.specs.Cores.{at_related}
@@ -28,9 +28,9 @@ abbrev pub MovedBy : Option RemovalMove → RemoveStep → Core → Removal → 
 MovedBy m step core o = frames.MovedBy Moved m step core o
 
 -- the step of the removal, whatever else there is
-abbrev pub Removes : List Node → List Relation → List Driver → Removal → RemoveStep → List Node → List Relation → List Driver → Removal → Type 0
-Removes nodes relations rack o step nodes' relations' rack' o' =
-    (around : Core) → MovedBy (removed (at_related nodes relations (set_rack rack around)) o) step (at_related nodes' relations' (set_rack rack' around)) o'
+abbrev pub Removes : List Node → List Relation → List Driver → List Handle → Removal → RemoveStep → List Node → List Relation → List Driver → Removal → Type 0
+Removes nodes relations rack handles o step nodes' relations' rack' o' =
+    (around : Core) → MovedBy (removed (at_related nodes relations (set_rack rack around)) o handles) step (at_related nodes' relations' (set_rack rack' around)) o'
 
 -- but for the end, the device that is next is there
 abbrev pub HasNext : List Node → Removal → RemovalStage → Type 0

@@ -1,7 +1,7 @@
 ghost use Rattle.std.specs.Prelude.{◌≡◌, IfOk, IsSome};
 ghost use Rattle.pnp_model.specs.Cores.{node_at};
 ghost use Rattle.pnp_model.specs.Keyed.{those};
-ghost use Rattle.pnp_model.specs.Trees.{is_up};
+ghost use Rattle.pnp_model.specs.Removals.{is_queried_node};
 ghost use Rattle.query_remove.specs.Begins.{BegunFor};
 
 use crate::frame::{Removal, Stage};
@@ -9,18 +9,28 @@ use device_ids::{Text, WantOfMemory};
 use device_stack::Walk;
 use devnode_tree::Tree;
 use operation_frame::SerialQueue;
-use pnp_labels::{Label, Minor, OpKind};
+use pnp_labels::{DevState, Label, Minor, OpKind};
 use relations::{Relations, SerialSet};
 use std::alloc::Global;
 
-/// Those of a set that are Started.
-fn started(alloc: Global, tree: &Tree, set: &SerialSet) -> Result<SerialQueue, WantOfMemory>
-    ensures { IfOk result (λ queue. queue ≡ those (λ k. is_up (node_at k tree.now.nodes)) set.now) }
+/// Whether a device is asked, or refuses unasked: it is Started, or waits to be finished.
+fn is_queried(tree: &Tree, serial: u64) -> bool
+    ensures { result ≡ is_queried_node (node_at serial tree.now.nodes) }
+{
+    match tree.node(serial) {
+        Some(node) => matches!(node.state, DevState::Started | DevState::SurpriseRemoved),
+        None => false,
+    }
+}
+
+/// Those of a set that are asked, or refuse unasked.
+fn queried(alloc: Global, tree: &Tree, set: &SerialSet) -> Result<SerialQueue, WantOfMemory>
+    ensures { IfOk result (λ queue. queue ≡ those (λ k. is_queried_node (node_at k tree.now.nodes)) set.now) }
 {
     let mut queue = SerialQueue::new(alloc);
     for at in 0..set.len() {
         let serial = set.get(at);
-        if tree.is_up(serial) {
+        if is_queried(tree, serial) {
             queue.push_back(serial)?;
         }
     }
@@ -28,7 +38,8 @@ fn started(alloc: Global, tree: &Tree, set: &SerialSet) -> Result<SerialQueue, W
 }
 
 impl Removal {
-    /// The removal of a device begins: its dependents and then it itself are to be asked. The line is that of the begin.
+    /// The removal of a device begins: its dependents and then it itself are to be asked, those that are Started or wait
+    /// to be finished. The line is that of the begin.
     /// Condition: the device is there. Cost: that of `Relations::leaving`.
     pub fn begin(
         alloc: Global,
@@ -47,7 +58,7 @@ impl Removal {
         let order = relations.leaving(alloc, tree, target)?;
         let set = SerialSet::of(alloc, &order)?;
         let ejecting = relations.ejected(alloc, &set)?;
-        let todo = started(alloc, tree, &set)?;
+        let todo = queried(alloc, tree, &set)?;
         let all = todo.all_where_none(alloc, &set)?;
         let mut removal = Removal {
             kind,

@@ -16,6 +16,8 @@ use std::marker::Model;
 /// What is done with the device that is next: this project's own.
 #[derive(Clone, Copy, Debug, PartialEq, Eq)]
 pub(crate) enum Stage {
+    /// It is asked next, or refuses unasked.
+    Next,
     /// It is asked whether its drivers may be removed.
     Asking,
     /// It refused, and is told that it stays.
@@ -62,7 +64,7 @@ impl Removal {
         ensures { result ≡ minor_that_waits self.now.stage }
     {
         match self.stage {
-            Stage::Settling | Stage::Ending => None,
+            Stage::Next | Stage::Settling | Stage::Ending => None,
             _ => self.walk.waiting_minor(),
         }
     }
@@ -80,7 +82,7 @@ impl Removal {
         ensures { Completed result self.old ok self.new }
     {
         match self.stage {
-            Stage::Settling | Stage::Ending => Err(NoSuchRequest),
+            Stage::Next | Stage::Settling | Stage::Ending => Err(NoSuchRequest),
             _ => self.walk.complete_waiting(ok),
         }
     }
@@ -97,7 +99,7 @@ impl Removal {
         ensures { option_map (λ w. w.now.walk) result ≡ removal_walk self.now.stage }
     {
         match self.stage {
-            Stage::Settling | Stage::Ending => None,
+            Stage::Next | Stage::Settling | Stage::Ending => None,
             _ => Some(&self.walk),
         }
     }

@@ -4,6 +4,7 @@
 mod begin;
 mod frame;
 mod next;
+mod query;
 mod settling;
 
 pub use frame::Removal;

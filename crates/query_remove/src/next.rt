@@ -1,4 +1,4 @@
-ghost use Rattle.std.specs.Prelude.{◌≡◌, IfOk, OnErr, IsSome, true, false};
+ghost use Rattle.std.specs.Prelude.{◌≡◌, List, IfOk, OnErr, IsSome, true, false};
 ghost use Rattle.pnp_model.specs.Cores.{node_at};
 ghost use Rattle.pnp_model.specs.Machine.{removal_walk, is_waiting};
 ghost use Rattle.pnp_model.specs.Removals.{ask_on, end_ask, take_back, cancel_step};
@@ -16,7 +16,7 @@ ghost use Rattle.operation_frame.specs.Steps.{MovesFor, MovesRelated};
 use crate::frame::{Removal, Stage};
 use device_ids::WantOfMemory;
 use device_stack::Walk;
-use devnode_tree::Tree;
+use devnode_tree::{Handles, Tree};
 use driver_rack::Drivers;
 use operation_frame::{Asked, SerialQueue, Walked, end_walk, pass_on, strip};
 use pnp_labels::{Label, Minor, RemoveStep};
@@ -25,7 +25,7 @@ use std::alloc::Global;
 use trial_journal::Arbiters;
 
 impl Removal {
-    /// The device that is next is asked, and where none is next all are finished.
+    /// The device that is next is asked next, or refuses unasked, and where none is next all are finished.
     pub(crate) fn ask_next(&mut self, tree: &Tree, all: SerialQueue)
         requires { all ≡ all_after self.old.set self.old.todo }
         ensures { self.new ≡ ask_on tree.now.nodes self.old self.old.todo }
@@ -33,12 +33,16 @@ impl Removal {
         if self.todo.fill(all) {
             return self.finish_next(tree);
         }
-        self.stage = Stage::Asking;
-        self.walk = Walk::begin(Minor::QueryRemove);
+        self.stage = Stage::Next;
     }
 
     /// The device that is next agreed; after the last one all are finished.
-    fn agree(&mut self, alloc: Global, asked: Asked, tree: &mut Tree) -> Result<Label, WantOfMemory>
+    pub(crate) fn agree(
+        &mut self,
+        alloc: Global,
+        asked: Asked,
+        tree: &mut Tree,
+    ) -> Result<Label, WantOfMemory>
         requires path { PathIs (node_at asked.serial tree.old.nodes) asked.path }
         ensures agreed { IfOk result (λ label. MovesFor Moved (node_at asked.serial tree.old.nodes) (λ c n. end_ask c self.old n false) tree.old.nodes (steps.Did label) tree.new.nodes self.new) }
         ensures next { tree.new.next ≡ tree.old.next }
@@ -105,7 +109,7 @@ impl Removal {
         requires walking { is_walking self.old.stage ≡ true }
         requires goes { is_waiting (removal_walk self.old.stage) ≡ false }
         requires mirrored { IsMirrored tree.old.nodes arbiters.old }
-        ensures removes { IfOk result (λ step. Removes tree.old.nodes relations.old (R.rows rack.old) self.old step tree.new.nodes relations.new (R.rows rack.new) self.new) }
+        ensures removes { IfOk result (λ step. (handles : List Records.Handle) → Removes tree.old.nodes relations.old (R.rows rack.old) handles self.old step tree.new.nodes relations.new (R.rows rack.new) self.new) }
         ensures removal { OnErr result (self.new ≡ self.old) }
         ensures tree { OnErr result (tree.new ≡ tree.old) }
         ensures relations { OnErr result (relations.new ≡ relations.old) }
@@ -165,13 +169,13 @@ impl Removal {
         }
     }
 
-    /// The next step of a removal that does not wait: a driver is asked, a request ends, a device leaves or remains, or
-    /// the removal ends. The step tells the line that is printed and what the machine has to do; after `Over` the removal
+    /// The next step of a removal that does not wait: a driver is asked, a device refuses unasked, a request ends, a device
+    /// leaves or remains, or the removal ends. The step tells the line that is printed and what the machine has to do; after `Over` the removal
     /// is over. Conditions: but for the end the device that is next is there; a device that is settled has no drivers, no
     /// holdings and no children, and is not the root; and the arbiters hold just what is reserved and what devices hold,
     /// which is kept. After want of memory all is as before, and no driver was asked. Cost: the rules of one book, the
-    /// logarithm of the number of nodes, and once the number of devices that are removed; where drivers are gone also the
-    /// number of relations, and where a node leaves the number of nodes.
+    /// logarithms of the numbers of nodes and of devices with an open handle, and once the number of devices that are
+    /// removed; where drivers are gone also the number of relations, and where a node leaves the number of nodes.
     pub fn next<R: Drivers>(
         &mut self,
         alloc: Global,
@@ -179,12 +183,13 @@ impl Removal {
         relations: &mut Relations,
         rack: &mut R,
         arbiters: &mut Arbiters,
+        handles: &Handles,
     ) -> Result<RemoveStep, WantOfMemory>
         requires there { HasNext tree.old.nodes self.old self.old.stage }
         requires settles { SettlesStripped tree.old.nodes self.old self.old.stage }
         requires goes { is_waiting (removal_walk self.old.stage) ≡ false }
         requires mirrored { IsMirrored tree.old.nodes arbiters.old }
-        ensures removes { IfOk result (λ step. Removes tree.old.nodes relations.old (R.rows rack.old) self.old step tree.new.nodes relations.new (R.rows rack.new) self.new) }
+        ensures removes { IfOk result (λ step. Removes tree.old.nodes relations.old (R.rows rack.old) handles.now self.old step tree.new.nodes relations.new (R.rows rack.new) self.new) }
         ensures next { tree.new.next ≡ tree.old.next }
         ensures mirrors { KeepsMirror tree.old.nodes arbiters.old tree.new.nodes arbiters.new }
         ensures removal { OnErr result (self.new ≡ self.old) }
@@ -195,6 +200,7 @@ impl Removal {
         match self.stage {
             Stage::Ending => Ok(RemoveStep::Over(self.end_line(alloc, tree)?)),
             Stage::Settling => self.settle(alloc, tree),
+            Stage::Next => Ok(RemoveStep::Did(self.query(alloc, tree, rack, handles)?)),
             _ => self.walk_on(alloc, tree, relations, rack, arbiters),
         }
     }

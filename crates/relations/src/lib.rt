@@ -10,6 +10,7 @@ mod relations;
 mod search;
 mod serial_set;
 
+pub use edges::Edge;
 pub use error::RelateError;
 pub use relations::Relations;
 pub use serial_set::SerialSet;

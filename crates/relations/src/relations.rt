@@ -102,7 +102,7 @@ impl Relations {
     }
 
     /// The edges from an owner to its members. Cost: the logarithm of the number of relations.
-    pub(crate) fn owned(&self, owner: u64) -> &[Edge]
+    pub fn owned(&self, owner: u64) -> &[Edge]
         ensures { SameSums result.now (filter (λ e. e.from == owner) (map to_member self.now)) }
     {
         edges_from(&self.by_owner, owner)

@@ -83,14 +83,6 @@ plug_of (parent ∷ device ∷ instance ∷ attributes) = do
   plugged parent device path attributes
 plug_of _ = None
 
--- what the device of a path requires from now on
-abbrev pub change_of : List (List ℕ) → Option Event
-change_of (path ∷ needs) = do
-  path ← path_of path
-  reqs ← reqs_of needs
-  only_if (list_all is_need needs) (events.Change path reqs)
-change_of _ = None
-
 abbrev pub pull_of : List (List ℕ) → Option Event
 pull_of (path ∷ []) = do
   path ← path_of path
@@ -196,6 +188,18 @@ abbrev pub complete_of : List (List ℕ) → Option Event
 complete_of (path ∷ minor ∷ ok ∷ []) = completed path minor ok
 complete_of _ = None
 
+abbrev pub open_of : List (List ℕ) → Option Event
+open_of (path ∷ []) = do
+  path ← path_of path
+  Some (events.OpenHandle path)
+open_of _ = None
+
+abbrev pub close_of : List (List ℕ) → Option Event
+close_of (path ∷ []) = do
+  path ← path_of path
+  Some (events.CloseHandle path)
+close_of _ = None
+
 -- bridges have windows of ports and of memory
 abbrev pub has_windows : Kind → Bool
 has_windows kinds.Port = true
@@ -214,6 +218,15 @@ window_of (path ∷ res ∷ []) = do
   Some (events.Window path res)
 window_of _ = None
 
+-- what the device of a path requires from now on
+abbrev pub change_of : List (List ℕ) → Option Event
+change_of (path ∷ needs) = do
+  path ← path_of path
+  reqs ← reqs_of needs
+  only_if (list_all is_need needs) (events.Change path reqs)
+change_of _ = None
+
+-- there is no line for clients
 abbrev pub event_by : EventWord → List (List ℕ) → Option Event
 event_by EventWord.Plug words = plug_of words
 event_by EventWord.Pull words = pull_of words
@@ -225,8 +238,12 @@ event_by EventWord.Eject words = eject_of words
 event_by EventWord.Relate words = relate_of words
 event_by EventWord.Reserve words = reserve_of words
 event_by EventWord.Complete words = complete_of words
+event_by EventWord.HandleOpen words = open_of words
+event_by EventWord.HandleClose words = close_of words
 event_by EventWord.Window words = window_of words
 event_by EventWord.Change words = change_of words
+event_by EventWord.Watch words = None
+event_by EventWord.Unwatch words = None
 
 -- the event of a line's words, its keyword and the words after it
 abbrev pub event_of : List (List ℕ) → Option Event

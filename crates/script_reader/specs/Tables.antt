@@ -28,6 +28,8 @@ keyword_of word = among (
     (codes "relate", EventWord.Relate) ∷
     (codes "reserve", EventWord.Reserve) ∷
     (codes "complete", EventWord.Complete) ∷
+    (codes "open", EventWord.HandleOpen) ∷
+    (codes "close", EventWord.HandleClose) ∷
     (codes "window", EventWord.Window) ∷
     (codes "change", EventWord.Change) ∷ []) word
 

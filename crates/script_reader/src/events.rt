@@ -4,10 +4,10 @@ ghost use Rattle.script_reader.specs.Lines.{event_of, event_by};
 
 use crate::fault::LineError;
 use crate::lines::{
-    complete_of, disable_of, driver_of, eject_of, enable_of, pull_of, relate_of, reserve_of,
-    teach_of, window_of,
+    change_of, close_of, complete_of, disable_of, driver_of, eject_of, enable_of, open_of, pull_of,
+    relate_of, reserve_of, teach_of, window_of,
 };
-use crate::plug::{change_of, plug_of};
+use crate::plug::plug_of;
 use crate::tables::keyword_of;
 use pnp_labels::{Event, EventWord};
 use std::alloc::Global;
@@ -27,8 +27,11 @@ fn event_by(alloc: Global, keyword: EventWord, words: &[&[u8]]) -> Result<Event,
         EventWord::Relate => relate_of(alloc, words),
         EventWord::Reserve => reserve_of(words),
         EventWord::Complete => complete_of(alloc, words),
+        EventWord::HandleOpen => open_of(alloc, words),
+        EventWord::HandleClose => close_of(alloc, words),
         EventWord::Window => window_of(alloc, words),
         EventWord::Change => change_of(alloc, words),
+        EventWord::Watch | EventWord::Unwatch => Err(LineError::Bad),
     }
 }
 

@@ -14,6 +14,7 @@
 //! | `relate removal OWNER MEMBER`, `relate ejection OWNER MEMBER` | two devices are related |
 //! | `reserve KIND:RANGE` | a range is taken for no device |
 //! | `complete PATH MINOR ok`, `complete PATH MINOR fail` | a pended request is completed |
+//! | `open PATH`, `close PATH` | a handle to a device is opened, or closed |
 //! | `window PATH KIND:RANGE` | a bridge passes on no other ports, or memory; KIND is `port` or `mem` |
 //!
 //! - NAME has 1 to 64 letters, digits, `_`, `-` and `.`. ASK is `add` or a request, ANSWER is `ok`, `fail` or
@@ -37,6 +38,7 @@ mod fault;
 mod first;
 mod line;
 mod lines;
+mod needs;
 mod next;
 mod numbers;
 mod plug;

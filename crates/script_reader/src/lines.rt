@@ -1,9 +1,10 @@
 ghost use Rattle.std.specs.Prelude.{◌≡◌, ◌<◌, length, map, IfOk, Some, None};
 ghost use Rattle.std.specs.Option.{option_map};
 ghost use Rattle.script_reader.specs.Faults.{Gives};
-ghost use Rattle.script_reader.specs.Lines.{path_of, name_of, rule_path_of, is_answerable, rule_of, uses_of, pull_of, disable_of, enable_of, eject_of, driver_of, uses_by, teach_of, related, relate_of, res_of, reserved, reserve_of, completed, complete_of, has_windows, window_res_of, window_of};
+ghost use Rattle.script_reader.specs.Lines.{path_of, name_of, rule_path_of, is_answerable, rule_of, uses_of, pull_of, disable_of, enable_of, eject_of, driver_of, uses_by, teach_of, related, relate_of, res_of, reserved, reserve_of, completed, complete_of, open_of, close_of, has_windows, window_res_of, window_of, change_of};
 
 use crate::fault::LineError;
+use crate::needs::{are_needs, reqs_of};
 use crate::numbers::{number_of, range_in};
 use crate::tables::{answer_of, ask_of, driver_kind_of, kind_of, minor_of, ok_of, rel_kind_of};
 use crate::words::is_name;
@@ -262,6 +263,28 @@ pub fn complete_of(alloc: Global, words: &[&[u8]]) -> Result<Event, LineError>
     completed(alloc, path, minor, ok)
 }
 
+/// `open PATH`.
+pub fn open_of(alloc: Global, words: &[&[u8]]) -> Result<Event, LineError>
+    ensures { Gives result (open_of (map (λ w. w.now) words.now)) }
+{
+    let [path] = words else {
+        return Err(LineError::Bad);
+    };
+    let path = path_of(alloc, path)?;
+    Ok(Event::OpenHandle { path })
+}
+
+/// `close PATH`.
+pub fn close_of(alloc: Global, words: &[&[u8]]) -> Result<Event, LineError>
+    ensures { Gives result (close_of (map (λ w. w.now) words.now)) }
+{
+    let [path] = words else {
+        return Err(LineError::Bad);
+    };
+    let path = path_of(alloc, path)?;
+    Ok(Event::CloseHandle { path })
+}
+
 /// Whether a bridge has windows of the kind: it has them of ports and of memory.
 fn has_windows(kind: Kind) -> bool
     ensures { result ≡ has_windows kind }
@@ -296,4 +319,19 @@ pub fn window_of(alloc: Global, words: &[&[u8]]) -> Result<Event, LineError>
         return Err(LineError::Bad);
     };
     Ok(Event::Window { path, res })
+}
+
+/// `change PATH` and what the device requires from now on.
+pub fn change_of(alloc: Global, words: &[&[u8]]) -> Result<Event, LineError>
+    ensures { Gives result (change_of (map (λ w. w.now) words.now)) }
+{
+    let [path, needs @ ..] = words else {
+        return Err(LineError::Bad);
+    };
+    let path = path_of(alloc, path)?;
+    let reqs = reqs_of(alloc, needs)?;
+    if !are_needs(needs) {
+        return Err(LineError::Bad);
+    }
+    Ok(Event::Change { path, reqs })
 }

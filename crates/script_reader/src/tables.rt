@@ -4,7 +4,7 @@ ghost use Rattle.script_reader.specs.Tables.{among, keyword_of, driver_kind_of, 
 use pnp_labels::{Answer, AskWhat, DriverKind, EventWord, Minor, RelKind};
 use resource_reqs::Kind;
 
-const KEYWORDS: [(&[u8], EventWord); 12] = [
+const KEYWORDS: [(&[u8], EventWord); 14] = [
     (b"plug", EventWord::Plug),
     (b"pull", EventWord::Pull),
     (b"driver", EventWord::Name),
@@ -15,6 +15,8 @@ const KEYWORDS: [(&[u8], EventWord); 12] = [
     (b"relate", EventWord::Relate),
     (b"reserve", EventWord::Reserve),
     (b"complete", EventWord::Complete),
+    (b"open", EventWord::HandleOpen),
+    (b"close", EventWord::HandleClose),
     (b"window", EventWord::Window),
     (b"change", EventWord::Change),
 ];

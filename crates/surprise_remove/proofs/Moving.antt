@@ -1,21 +1,18 @@
 -- The parts of a step of a surprise removal are moves of the machine.
-use Rattle.std.proofs.Common.{◌≡◌, ℕ, ◌==◌, Bool, true, false, List, [], ◌∷◌, drop, Option, Some, None, refl, sym, ap, ◌∙◌, subst}
+use Rattle.std.proofs.Common.{◌≡◌, ℕ, ◌==◌, Bool, true, false, List, [], ◌∷◌, drop, Option, Some, refl, sym, ap, ◌∙◌, subst}
 use Rattle.pnp_labels.specs.Texts.{Text}
 use Rattle.pnp_labels.specs.declared.label.Label.{Label}
 use Rattle.pnp_labels.specs.declared.label.OpKind.{OpKind}
-use Rattle.pnp_labels.specs.declared.label.OpEnd.{OpEnd}
 use Rattle.pnp_labels.specs.declared.label.RemoveStep.TheVariants as steps
 use Rattle.pnp_labels.specs.declared.words.Minor.{Minor}
 use Rattle.pnp_labels.specs.declared.states.Problem.{Problem}
 use Rattle.pnp_model.specs.Keyed.{changed_first, without_first}
 use Rattle.pnp_model.specs.Tests.{has}
-use Rattle.pnp_model.specs.Cores.{is_node, node_at, with_problem, stack_of}
+use Rattle.pnp_model.specs.Cores.{is_node, node_at, with_problem}
 use Rattle.pnp_model.specs.Frames.{first_node, rest}
-use Rattle.pnp_model.specs.Walks.{walk_of}
-use Rattle.pnp_model.specs.Records as Records
 use Rattle.pnp_model.specs.Records.{Node, Walk, Surprise}
 use Rattle.pnp_model.specs.Removals.{RemoveBeside}
-use Rattle.pnp_model.specs.Surprises.{finish_with, finish_on, tell_on, tell_step, settle, settle_target, settle_other}
+use Rattle.pnp_model.specs.Surprises.{end_of, finish_on, tell_on, tell_step, settle, settle_target, settle_other}
 use Rattle.devnode_tree.specs.Cores.{at_nodes}
 use Rattle.operation_frame.specs.Steps.{MovesFor}
 use Rattle.operation_frame.specs.Walks.{EndsFor}
@@ -24,38 +21,35 @@ use Rattle.operation_frame.proofs.Ends.{ended_is}
 use Rattle.operation_frame.proofs.Queues.{rest_is}
 use Rattle.surprise_remove.specs.Steps.{Moved}
 use Rattle.surprise_remove.specs.Parts.{SettlesFor, is_walking}
-use Rattle.surprise_remove.specs.Stages.{stage_of, finishing}
-use Rattle.operation_frame.specs.Finishes.{finish_by, finish_of}
-use Rattle.operation_frame.specs.Nodes.{is_full}
+use Rattle.surprise_remove.specs.Stages.{stage_of}
 use Rattle.surprise_remove.specs.declared.frame.Stage.{Stage}
-use Rattle.surprise_remove.specs.declared.frame.Stage.TheVariants.{Telling, Removing, Settling, Ending}
+use Rattle.surprise_remove.specs.declared.frame.Stage.TheVariants.{Telling, Next, Removing, Settling, Ending}
 
 -- What comes next does not read what was done before ----------------------------------------
 
--- the word for how a device is finished
-pub finish_is : (nodes : List Node) (o : Surprise) (todo : List ℕ) → record o { todo = todo; stage = stage_of (finishing (finish_of nodes todo)) (walk_of Minor.Remove) } ≡ finish_on nodes o todo
-finish_is nodes o [] = refl
-finish_is nodes o (k ∷ ks) =
-    elim (stack_of (node_at k nodes)) as (λ stack. record o { todo = k ∷ ks; stage = stage_of (finishing (finish_by (is_full stack))) (walk_of Minor.Remove) } ≡ finish_with o (k ∷ ks) stack) [ [] ↦ refl | d ∷ ds ↦ refl ]
+finish_same : (o : Surprise) (t todo : List ℕ) → finish_on (record o { todo = t }) todo ≡ finish_on o todo
+finish_same o t [] = refl
+finish_same o t (k ∷ ks) = refl
 
-pub tell_same : (nodes : List Node) (o : Surprise) (t todo : List ℕ) → tell_on nodes (record o { todo = t }) todo ≡ tell_on nodes o todo
-tell_same nodes o t [] = sym (finish_is nodes (record o { todo = t }) o.set) ∙ finish_is nodes o o.set
-tell_same nodes o t (k ∷ ks) = refl
+pub tell_same : (o : Surprise) (t todo : List ℕ) → tell_on (record o { todo = t }) todo ≡ tell_on o todo
+tell_same o t [] = finish_same o t o.set
+tell_same o t (k ∷ ks) = refl
 
-pub tell_frame : (nodes : List Node) (o : Surprise) (t : List ℕ) → t ≡ drop 1 o.todo → tell_on nodes (record o { todo = t }) t ≡ tell_on nodes o (rest o.todo)
-tell_frame nodes o t e = ap (λ (t : List ℕ). tell_on nodes (record o { todo = t }) t) (e ∙ rest_is o.todo) ∙ tell_same nodes o (rest o.todo) (rest o.todo)
+pub tell_frame : (o : Surprise) (t : List ℕ) → t ≡ drop 1 o.todo → tell_on (record o { todo = t }) t ≡ tell_on o (rest o.todo)
+tell_frame o t e = tell_same o t t ∙ ap (λ (t : List ℕ). tell_on o t) (e ∙ rest_is o.todo)
 
 -- A request ends -----------------------------------------------------------------------------
 
 module _ (nodes nodes' : List Node) (k : ℕ) (path : Text) (label : Label) (o o' : Surprise) where
-  pub told_is : (w : Walk) → PathIs (node_at k nodes) path → EndsFor (node_at k nodes) Minor.SurpriseRemoval false path nodes label nodes' → o' ≡ tell_on nodes o (rest o.todo)
+  pub told_is : (w : Walk) → PathIs (node_at k nodes) path → EndsFor (node_at k nodes) Minor.SurpriseRemoval false path nodes label nodes' → o' ≡ tell_on o (rest o.todo)
       → MovesFor Moved (node_at k nodes) (λ c n. tell_step c o n w true) nodes (steps.Did label) nodes' o'
   told_is w p e f =
-      ended_is Moved RemoveBeside.On (steps.Did label) label (λ m core frame h. h) nodes nodes' k path o' Minor.SurpriseRemoval false (λ c n. tell_step c o n w true) (λ n. tell_on nodes o (rest o.todo)) p e
+      ended_is Moved RemoveBeside.On (steps.Did label) label (λ m core frame h. h) nodes nodes' k path o' Minor.SurpriseRemoval false (λ c n. tell_step c o n w true) (λ n. tell_on o (rest o.todo)) p e
       (λ c n. refl) (λ around n. refl) (λ n at is. f)
 
 pub only_removing : (s : Stage) (w : Walk) → (s ≡ Telling → ⊥) → is_walking (stage_of s w) ≡ true → s ≡ Removing
 only_removing Telling w a h = absurd (a refl)
+only_removing Next w a h = absurd (cc)
 only_removing Removing w a h = refl
 only_removing Settling w a h = absurd (cc)
 only_removing Ending w a h = absurd (cc)
@@ -64,15 +58,15 @@ only_removing Ending w a h = absurd (cc)
 
 module _ (nodes : List Node) (o : Surprise) (in_world : Bool) (node : Node) (at : first_node nodes o.todo ≡ Some node) where
   pub settled_over : (path : Text) → path ≡ o.path → (node.serial == o.target) ≡ true → in_world ≡ true
-      → SettlesFor (first_node nodes o.todo) nodes o in_world (steps.Over (Label.End OpKind.Surprise path OpEnd.Done)) nodes o
+      → SettlesFor (first_node nodes o.todo) nodes o in_world (steps.Over (Label.End OpKind.Surprise path (end_of o.behind))) nodes o
   settled_over path p target there =
-      subst (λ (x : Option Node). SettlesFor x nodes o in_world (steps.Over (Label.End OpKind.Surprise path OpEnd.Done)) nodes o) (sym at)
+      subst (λ (x : Option Node). SettlesFor x nodes o in_world (steps.Over (Label.End OpKind.Surprise path (end_of o.behind))) nodes o) (sym at)
       (λ around.
-      subst (λ t. Moved (settle (at_nodes nodes around) o node in_world t) (steps.Over (Label.End OpKind.Surprise path OpEnd.Done)) (at_nodes nodes around) o) (sym target)
-      (subst (λ t. Moved (settle_target (at_nodes nodes around) o node t) (steps.Over (Label.End OpKind.Surprise path OpEnd.Done)) (at_nodes nodes around) o) (sym there)
-      (refl, ap (λ t. Label.End OpKind.Surprise t OpEnd.Done) p, refl, refl)))
+      subst (λ t. Moved (settle (at_nodes nodes around) o node in_world t) (steps.Over (Label.End OpKind.Surprise path (end_of o.behind))) (at_nodes nodes around) o) (sym target)
+      (subst (λ t. Moved (settle_target (at_nodes nodes around) o node t) (steps.Over (Label.End OpKind.Surprise path (end_of o.behind))) (at_nodes nodes around) o) (sym there)
+      (refl, ap (λ t. Label.End OpKind.Surprise t (end_of o.behind)) p, refl, refl)))
 
-  module _ (nodes' : List Node) (o' : Surprise) (line : Text) (named : line ≡ node.path) (goes : o' ≡ finish_on nodes o (rest o.todo)) where
+  module _ (nodes' : List Node) (o' : Surprise) (line : Text) (named : line ≡ node.path) (goes : o' ≡ finish_on o (rest o.todo)) where
     module _ (path : Text) (born : ℕ) (p : path ≡ node.path) (b : born ≡ node.born) (e : nodes' ≡ without_first (is_node node.serial) nodes) where
       pub settled_gone : (node.serial == o.target) ≡ true → in_world ≡ false → SettlesFor (first_node nodes o.todo) nodes o in_world (steps.Left (Label.Leave line) path born) nodes' o'
       settled_gone target gone =

@@ -1,6 +1,7 @@
 ghost use Rattle.std.specs.Prelude.{◌≡◌, IfOk, IsSome};
 ghost use Rattle.pnp_model.specs.Cores.{node_at};
 ghost use Rattle.pnp_model.specs.Keyed.{those};
+ghost use Rattle.pnp_model.specs.Handles.{was_told};
 ghost use Rattle.pnp_model.specs.Surprises.{is_told_node};
 ghost use Rattle.surprise_remove.specs.Begins.{BegunFor};
 
@@ -23,8 +24,18 @@ fn is_told(tree: &Tree, serial: u64) -> bool
     }
 }
 
+/// Whether a device is there, and SurpriseRemoved.
+fn was_told(tree: &Tree, serial: u64) -> bool
+    ensures { result ≡ was_told (node_at serial tree.now.nodes) }
+{
+    match tree.node(serial) {
+        Some(node) => node.state == DevState::SurpriseRemoved,
+        None => false,
+    }
+}
+
 /// Those of a set that are told that they are gone.
-fn told(alloc: Global, tree: &Tree, set: &SerialSet) -> Result<SerialQueue, WantOfMemory>
+fn to_tell(alloc: Global, tree: &Tree, set: &SerialSet) -> Result<SerialQueue, WantOfMemory>
     ensures { IfOk result (λ queue. queue ≡ those (λ k. is_told_node (node_at k tree.now.nodes)) set.now) }
 {
     let mut queue = SerialQueue::new(alloc);
@@ -37,9 +48,24 @@ fn told(alloc: Global, tree: &Tree, set: &SerialSet) -> Result<SerialQueue, Want
     Ok(queue)
 }
 
+/// Those of a set that were told before.
+fn told_before(alloc: Global, tree: &Tree, set: &SerialSet) -> Result<SerialSet, WantOfMemory>
+    ensures { IfOk result (λ told. told ≡ those (λ k. was_told (node_at k tree.now.nodes)) set.now) }
+{
+    let mut told = SerialSet::new(alloc);
+    for at in 0..set.len() {
+        let member = set.get(at);
+        if was_told(tree, member) {
+            told.push(member)?;
+        }
+    }
+    Ok(told)
+}
+
 impl Surprise {
-    /// The surprise removal of a device begins: its dependents and then it itself are to be told. The line is that of the
-    /// begin. Condition: the device is there. Cost: that of `Relations::leaving`.
+    /// The surprise removal of a device begins: of its dependents and then itself, who is Started or Stopped is to be told,
+    /// and who was told before will stay behind. The line is that of the begin. Condition: the device is there. Cost: that of
+    /// `Relations::leaving`.
     pub fn begin(
         alloc: Global,
         tree: &Tree,
@@ -55,17 +81,20 @@ impl Surprise {
         let path = Text::make(alloc, node.path.bytes())?;
         let order = relations.leaving(alloc, tree, target)?;
         let set = SerialSet::of(alloc, &order)?;
-        let todo = told(alloc, tree, &set)?;
+        let told = told_before(alloc, tree, &set)?;
+        let todo = to_tell(alloc, tree, &set)?;
         let all = todo.all_where_none(alloc, &set)?;
         let mut surprise = Surprise {
             target,
             path,
             set,
+            told,
+            behind: SerialSet::new(alloc),
             todo,
             stage: Stage::Ending,
             walk: Walk::begin(Minor::SurpriseRemoval),
         };
-        surprise.tell_next(tree, all);
+        surprise.tell_next(all);
         Ok((
             Label::Begin {
                 op: OpKind::Surprise,

@@ -4,12 +4,10 @@ ghost use Rattle.pnp_model.specs.Machine.{surprise_walk};
 ghost use Rattle.pnp_model.specs.Surprises.{finish_on, tell_on};
 ghost use Rattle.operation_frame.specs.Queues.{all_after};
 ghost use Rattle.surprise_remove.specs.Frames.{minor_that_waits, Completed};
-ghost use Rattle.surprise_remove.specs.Stages.{finishing};
 
 use device_ids::Text;
 use device_stack::{NoSuchRequest, Walk};
-use devnode_tree::Tree;
-use operation_frame::{Finish, SerialQueue, finish_of};
+use operation_frame::SerialQueue;
 use pnp_labels::Minor;
 use relations::SerialSet;
 use std::marker::Model;
@@ -19,6 +17,8 @@ use std::marker::Model;
 pub(crate) enum Stage {
     /// It is told that it is gone.
     Telling,
+    /// It stays behind, or is finished.
+    Next,
     /// Its drivers are being removed.
     Removing,
     /// It has no drivers: it leaves or remains.
@@ -34,18 +34,23 @@ pub struct Surprise {
     pub(crate) target: u64,
     pub(crate) path: Text,
     pub(crate) set: SerialSet,
+    /// Those of the set that were told before it began.
+    pub(crate) told: SerialSet,
+    /// Those that stayed behind, the first one first.
+    pub(crate) behind: SerialSet,
     pub(crate) todo: SerialQueue,
     pub(crate) stage: Stage,
     pub(crate) walk: Walk,
 }
 
 impl Model for Surprise {
+    ghost use Rattle.std.specs.Prelude.{reverse};
     ghost use Rattle.pnp_model.specs.Records.{Surprise};
     ghost use Rattle.surprise_remove.specs.Stages.{stage_of};
 
     ghost Value = { Surprise };
 
-    ghost view = { λ r. record { target = r.target; path = r.path; set = r.set; todo = r.todo; stage = stage_of r.stage r.walk.walk } };
+    ghost view = { λ r. record { target = r.target; path = r.path; set = r.set; told = r.told; behind = reverse r.behind; todo = r.todo; stage = stage_of r.stage r.walk.walk } };
 }
 
 impl Surprise {
@@ -54,7 +59,7 @@ impl Surprise {
         ensures { result ≡ minor_that_waits self.now.stage }
     {
         match self.stage {
-            Stage::Settling | Stage::Ending => None,
+            Stage::Next | Stage::Settling | Stage::Ending => None,
             _ => self.walk.waiting_minor(),
         }
     }
@@ -71,7 +76,7 @@ impl Surprise {
         ensures { option_map (λ w. w.now.walk) result ≡ surprise_walk self.now.stage }
     {
         match self.stage {
-            Stage::Settling | Stage::Ending => None,
+            Stage::Next | Stage::Settling | Stage::Ending => None,
             _ => Some(&self.walk),
         }
     }
@@ -89,7 +94,7 @@ impl Surprise {
         ensures { Completed result self.old ok self.new }
     {
         match self.stage {
-            Stage::Settling | Stage::Ending => Err(NoSuchRequest),
+            Stage::Next | Stage::Settling | Stage::Ending => Err(NoSuchRequest),
             _ => self.walk.complete_waiting(ok),
         }
     }
@@ -108,34 +113,25 @@ impl Surprise {
         serial == self.target
     }
 
-    /// The device that is next is finished: where it has drivers they are removed first, and where none is next the end is.
-    pub(crate) fn finish_next(&mut self, tree: &Tree)
-        ensures { self.new ≡ finish_on tree.now.nodes self.old self.old.todo }
+    /// What comes next: the device that is next is finished or stays behind, and where there is none the end is.
+    pub(crate) fn finish_next(&mut self)
+        ensures { self.new ≡ finish_on self.old self.old.todo }
     {
-        self.stage = finishing(finish_of(tree, &self.todo));
-        self.walk = Walk::begin(Minor::Remove);
+        self.stage = match self.todo.get(0) {
+            Some(_) => Stage::Next,
+            None => Stage::Ending,
+        };
     }
 
-    /// The device that is next is told, and where none is next all are finished.
-    pub(crate) fn tell_next(&mut self, tree: &Tree, all: SerialQueue)
+    /// The device that is next is told, and where there is none all are finished.
+    pub(crate) fn tell_next(&mut self, all: SerialQueue)
         requires { all ≡ all_after self.old.set self.old.todo }
-        ensures { self.new ≡ tell_on tree.now.nodes self.old self.old.todo }
+        ensures { self.new ≡ tell_on self.old self.old.todo }
     {
         if self.todo.fill(all) {
-            return self.finish_next(tree);
+            return self.finish_next();
         }
         self.stage = Stage::Telling;
         self.walk = Walk::begin(Minor::SurpriseRemoval);
-    }
-}
-
-/// The word for how a device is finished.
-fn finishing(finish: Finish) -> Stage
-    ensures { result ≡ finishing finish }
-{
-    match finish {
-        Finish::Removing => Stage::Removing,
-        Finish::Settling => Stage::Settling,
-        Finish::Ending => Stage::Ending,
     }
 }

@@ -2,6 +2,7 @@
 #![tactic(auto)]
 
 mod begin;
+mod behind;
 mod frame;
 mod next;
 mod settling;

@@ -1,4 +1,4 @@
-ghost use Rattle.std.specs.Prelude.{◌≡◌, IfOk, OnErr, IsSome, true, false};
+ghost use Rattle.std.specs.Prelude.{◌≡◌, List, IfOk, IfSome, OnErr, IsSome, true, false};
 ghost use Rattle.pnp_model.specs.Cores.{node_at};
 ghost use Rattle.pnp_model.specs.Machine.{surprise_walk, is_waiting};
 ghost use Rattle.pnp_model.specs.Surprises.{tell_step};
@@ -6,15 +6,15 @@ ghost use Rattle.pnp_model.specs.Frames.{first_node};
 ghost use Rattle.pnp_model.specs.Records as Records;
 ghost use Rattle.trial_journal.specs.ByKind as ByKind;
 ghost use Rattle.device_holdings.specs.Mirrors.{IsMirrored, KeepsMirror};
-ghost use Rattle.operation_frame.specs.Nodes.{PathIs};
+ghost use Rattle.operation_frame.specs.Nodes.{PathIs, IsStripped};
 ghost use Rattle.operation_frame.specs.Steps.{MovesFor, MovesRelated};
 ghost use Rattle.pnp_labels.specs.declared.label.RemoveStep.TheVariants as steps;
-ghost use Rattle.surprise_remove.specs.Steps.{Moved, Surprises, HasNext, SettlesStripped};
-ghost use Rattle.surprise_remove.specs.Parts.{end_move, is_walking};
+ghost use Rattle.surprise_remove.specs.Steps.{Moved, Surprises, HasNext, DirectSays, SettlesStripped};
+ghost use Rattle.surprise_remove.specs.Parts.{end_move, is_walking, is_under_way};
 
 use crate::frame::{Stage, Surprise};
 use device_ids::WantOfMemory;
-use devnode_tree::Tree;
+use devnode_tree::{Handles, Tree};
 use driver_rack::Drivers;
 use operation_frame::{Asked, Walked, end_walk, pass_on, strip};
 use pnp_labels::{Label, Minor, RemoveStep};
@@ -34,7 +34,7 @@ impl Surprise {
     {
         let all = self.todo.all_after_next(alloc, &self.set)?;
         self.todo.drop_first();
-        self.tell_next(tree, all);
+        self.tell_next(all);
         let minor = Minor::SurpriseRemoval;
         Ok(end_walk(minor, false, asked.path, asked.serial, tree))
     }
@@ -81,7 +81,7 @@ impl Surprise {
         requires walking { is_walking self.old.stage ≡ true }
         requires goes { is_waiting (surprise_walk self.old.stage) ≡ false }
         requires mirrored { IsMirrored tree.old.nodes arbiters.old }
-        ensures surprises { IfOk result (λ step. Surprises tree.old.nodes relations.old (R.rows rack.old) self.old in_world step tree.new.nodes relations.new (R.rows rack.new) self.new) }
+        ensures surprises { IfOk result (λ step. (handles : List Records.Handle) → Surprises tree.old.nodes relations.old (R.rows rack.old) self.old in_world handles step tree.new.nodes relations.new (R.rows rack.new) self.new) }
         ensures next { tree.new.next ≡ tree.old.next }
         ensures mirrors { KeepsMirror tree.old.nodes arbiters.old tree.new.nodes arbiters.new }
         ensures surprise { OnErr result (self.new ≡ self.old) }
@@ -104,15 +104,8 @@ impl Surprise {
         }
     }
 
-    /// The next step of a surprise removal that does not wait: a driver is told, a request ends, a device leaves or remains,
-    /// or the operation ends. `in_world` says whether the world has the target still or anew, with its birth number. The
-    /// step tells the line that is printed and what the machine has to do; after `Over` the operation is over. Conditions:
-    /// but for the end the device that is next is there; a device that is settled has no drivers, no holdings and no
-    /// children, and is not the root; and the arbiters hold just what is reserved and what devices hold, which is kept.
-    /// After want of memory all is as before, and no driver was told. Cost: the rules of one book, the logarithm of the
-    /// number of nodes, and once the number of devices that are gone; where drivers are gone also the number of relations,
-    /// and where a node leaves the number of nodes.
-    pub fn next<R: Drivers>(
+    /// A step of the device that is next, which is being told or finished: of its request, or it is settled.
+    pub(crate) fn proceed<R: Drivers>(
         &mut self,
         alloc: Global,
         tree: &mut Tree,
@@ -121,11 +114,51 @@ impl Surprise {
         arbiters: &mut Arbiters,
         in_world: bool,
     ) -> Result<RemoveStep, WantOfMemory>
+        requires there { IsSome (first_node tree.old.nodes self.old.todo) }
+        requires under_way { is_under_way self.old.stage ≡ true }
+        requires goes { is_waiting (surprise_walk self.old.stage) ≡ false }
+        requires settles { self.old.stage ≡ Records.SurpriseStage.Settling → IfSome (first_node tree.old.nodes self.old.todo) (IsStripped tree.old.nodes) }
+        requires mirrored { IsMirrored tree.old.nodes arbiters.old }
+        ensures surprises { IfOk result (λ step. (handles : List Records.Handle) → Surprises tree.old.nodes relations.old (R.rows rack.old) self.old in_world handles step tree.new.nodes relations.new (R.rows rack.new) self.new) }
+        ensures next { tree.new.next ≡ tree.old.next }
+        ensures mirrors { KeepsMirror tree.old.nodes arbiters.old tree.new.nodes arbiters.new }
+        ensures surprise { OnErr result (self.new ≡ self.old) }
+        ensures tree { OnErr result (tree.new ≡ tree.old) }
+        ensures relations { OnErr result (relations.new ≡ relations.old) }
+        ensures rack { OnErr result (R.rows rack.new ≡ R.rows rack.old) }
+    {
+        match self.stage {
+            Stage::Settling => self.settle(alloc, tree, in_world),
+            _ => self.walk_on(alloc, tree, relations, rack, arbiters, in_world),
+        }
+    }
+
+    /// The next step of a surprise removal that does not wait: a driver is told, a request ends, a device stays behind, leaves
+    /// or remains, or the operation ends. `in_world` says whether the world has the target still or anew, with its birth
+    /// number, and `handles` which devices are held open. The step tells the line that is printed and what the machine has to
+    /// do; after `Over` the operation is over. Conditions: but for the end the device that is next is there; where it is to be
+    /// finished, something that depends on it stayed behind only where something did that depends on it directly; one that is
+    /// settled has no drivers, no holdings and no children, and is not the root; and the arbiters hold just what is reserved
+    /// and what devices hold, which is kept. After want of memory all is as before, and no driver was told. Cost: the rules of
+    /// one book, the logarithm of the number of nodes, and once the number of devices that are gone; where it is decided
+    /// whether a device stays behind, also the number of its children and of the members that are related to it; where drivers
+    /// are gone also the number of relations, and where a node leaves the number of nodes.
+    pub fn next<R: Drivers>(
+        &mut self,
+        alloc: Global,
+        tree: &mut Tree,
+        relations: &mut Relations,
+        rack: &mut R,
+        arbiters: &mut Arbiters,
+        in_world: bool,
+        handles: &Handles,
+    ) -> Result<RemoveStep, WantOfMemory>
         requires there { HasNext tree.old.nodes self.old self.old.stage }
-        requires settles { SettlesStripped tree.old.nodes self.old self.old.stage }
+        requires direct { DirectSays tree.old.nodes relations.old self.old self.old.stage }
+        requires settles { SettlesStripped tree.old.nodes relations.old self.old handles.now self.old.stage }
         requires goes { is_waiting (surprise_walk self.old.stage) ≡ false }
         requires mirrored { IsMirrored tree.old.nodes arbiters.old }
-        ensures surprises { IfOk result (λ step. Surprises tree.old.nodes relations.old (R.rows rack.old) self.old in_world step tree.new.nodes relations.new (R.rows rack.new) self.new) }
+        ensures surprises { IfOk result (λ step. Surprises tree.old.nodes relations.old (R.rows rack.old) self.old in_world handles.now step tree.new.nodes relations.new (R.rows rack.new) self.new) }
         ensures next { tree.new.next ≡ tree.old.next }
         ensures mirrors { KeepsMirror tree.old.nodes arbiters.old tree.new.nodes arbiters.new }
         ensures surprise { OnErr result (self.new ≡ self.old) }
@@ -135,8 +168,8 @@ impl Surprise {
     {
         match self.stage {
             Stage::Ending => Ok(RemoveStep::Over(self.end_line(alloc)?)),
-            Stage::Settling => self.settle(alloc, tree, in_world),
-            _ => self.walk_on(alloc, tree, relations, rack, arbiters, in_world),
+            Stage::Next => self.decide(alloc, tree, relations, rack, arbiters, in_world, handles),
+            _ => self.proceed(alloc, tree, relations, rack, arbiters, in_world),
         }
     }
 }

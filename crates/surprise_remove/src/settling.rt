@@ -1,10 +1,9 @@
 ghost use Rattle.std.specs.Prelude.{◌≡◌, IfOk, OnErr, IsSome, IfSome};
 ghost use Rattle.pnp_model.specs.Frames.{first_node, rest};
-ghost use Rattle.pnp_model.specs.Surprises.{finish_on};
+ghost use Rattle.pnp_model.specs.Surprises.{end_of, finish_on};
 ghost use Rattle.trial_journal.specs.ByKind as ByKind;
 ghost use Rattle.device_holdings.specs.Mirrors.{KeepsMirror};
 ghost use Rattle.operation_frame.specs.Nodes.{IsStripped};
-ghost use Rattle.pnp_labels.specs.declared.label.OpEnd.{OpEnd};
 ghost use Rattle.pnp_labels.specs.declared.label.OpKind.{OpKind};
 ghost use Rattle.pnp_labels.specs.declared.label.Label.{Label};
 ghost use Rattle.surprise_remove.specs.Parts.{SettlesFor};
@@ -18,11 +17,11 @@ use std::alloc::Global;
 
 impl Surprise {
     /// The device that is next is done.
-    fn go_on(&mut self, tree: &Tree)
-        ensures { self.new ≡ finish_on tree.now.nodes self.old (rest self.old.todo) }
+    pub(crate) fn go_on(&mut self)
+        ensures { self.new ≡ finish_on self.old (rest self.old.todo) }
     {
         self.todo.drop_first();
-        self.finish_next(tree);
+        self.finish_next();
     }
 
     /// The device that is next, which has no drivers, leaves where it is gone or its parent leaves, and remains with a
@@ -48,14 +47,14 @@ impl Surprise {
             }
         } else if !self.removes(device.parent) {
             let problem = Problem::Held;
-            self.go_on(tree);
+            self.go_on();
             remain(device.serial, problem, tree);
             return Ok(RemoveStep::Did(Label::Trouble {
                 path: device.line,
                 problem,
             }));
         }
-        self.go_on(tree);
+        self.go_on();
         leave(device.serial, tree);
         let label = Label::Leave { path: device.line };
         Ok(RemoveStep::Left {
@@ -65,14 +64,20 @@ impl Surprise {
         })
     }
 
-    /// The line of the end.
+    /// The line of the end: whether somebody stayed behind.
     pub(crate) fn end_line(&self, alloc: Global) -> Result<Label, WantOfMemory>
-        ensures { IfOk result (λ label. label ≡ Label.End OpKind.Surprise self.now.path OpEnd.Done) }
+        ensures { IfOk result (λ label. label ≡ Label.End OpKind.Surprise self.now.path (end_of self.now.behind)) }
     {
+        let path = self.path.copy(alloc)?;
+        let result = if self.behind.len() == 0 {
+            OpEnd::Done
+        } else {
+            OpEnd::Waiting
+        };
         Ok(Label::End {
             op: OpKind::Surprise,
-            path: self.path.copy(alloc)?,
-            result: OpEnd::Done,
+            path,
+            result,
         })
     }
 }

@@ -16,4 +16,7 @@ returns-in-Settling-clause-removes g c =
     let o = c.args.self.now in
     let stage = ap (λ (r : Removal). r.stage) (sym c.self.view_is) ∙ ap (λ s. stage_of s c.self.inside.walk.walk) c.in-Settling.is in
     ok_then (λ step. SettlesFor (first_node nodes o.todo) nodes o step c.settle.new.tree.nodes c.settle.new.self) _
-    (λ step h. settles_so nodes c.settle.new.tree.nodes c.args.relations.now (g.R.Drivers.rows c.args.rack.now) o c.settle.new.self step stage h) c.settle.result c.settle.ensures.settles
+    (λ step h. settles_so nodes c.settle.new.tree.nodes c.args.relations.now (g.R.Drivers.rows c.args.rack.now) c.args.handles.now o c.settle.new.self step stage h) c.settle.result c.settle.ensures.settles
+
+pub returns-in_ok-query-in-Next-clause-mirrors : goal.returns-in_ok-query-in-Next-clause-mirrors
+returns-in_ok-query-in-Next-clause-mirrors g c = c.query.ensures.mirrors c.args.arbiters.now

@@ -16,12 +16,14 @@ returns-in_err-label-in-Ended-clause-rack g c =
 
 pub returns-in-On-clause-removes : goal.returns-in-On-clause-removes
 returns-in-On-clause-removes g c =
-    goes_on c.args.tree.now.nodes c.args.relations.now (g.R.Drivers.rows c.args.rack.now) (g.R.Drivers.rows c.pass_on.new.rack) c.args.self.now c.first-serial.result c.self.inside.stage c.self.inside.walk.walk c.pass_on.new.walk.walk
+    λ handles.
+    goes_on c.args.tree.now.nodes c.args.relations.now (g.R.Drivers.rows c.args.rack.now) (g.R.Drivers.rows c.pass_on.new.rack) handles c.args.self.now c.first-serial.result c.self.inside.stage c.self.inside.walk.walk c.pass_on.new.walk.walk
     (ap (λ (r : Removal). slice_get r.todo 0) (sym c.self.view_is) ∙ c.first-serial.ensures) (sym (ap (λ (r : Removal). r.stage) c.self.view_is)) (ap (λ (r : Removal). is_walking r.stage) c.self.view_is ∙ c.requires.walking) c.in-On.label _ (rw c.in-On.is at c.in_ok-path.ensures.passed)
     (ap (λ (r : Removal). record r { stage = stage_of c.self.inside.stage c.pass_on.new.walk.walk }) c.self.view_is)
 
 pub returns-in_ok-label-in-Ended-clause-removes : goal.returns-in_ok-label-in-Ended-clause-removes
 returns-in_ok-label-in-Ended-clause-removes g c =
-    ends_so c.args.tree.now.nodes c.args.relations.now (g.R.Drivers.rows c.args.rack.now) (g.R.Drivers.rows c.pass_on.new.rack) c.args.self.now c.first-serial.result c.self.inside.stage c.self.inside.walk.walk c.pass_on.new.walk.walk
+    λ handles.
+    ends_so c.args.tree.now.nodes c.args.relations.now (g.R.Drivers.rows c.args.rack.now) (g.R.Drivers.rows c.pass_on.new.rack) handles c.args.self.now c.first-serial.result c.self.inside.stage c.self.inside.walk.walk c.pass_on.new.walk.walk
     (ap (λ (r : Removal). slice_get r.todo 0) (sym c.self.view_is) ∙ c.first-serial.ensures) (sym (ap (λ (r : Removal). r.stage) c.self.view_is)) (ap (λ (r : Removal). is_walking r.stage) c.self.view_is ∙ c.requires.walking) c.in_ok-label-in-Ended.label c.end_request.new.self c.in-Ended.path c.in-Ended.refused c.end_request.new.tree.nodes c.end_request.new.relations (rw c.in-Ended.is at c.in_ok-path.ensures.passed)
     c.in_ok-label-in-Ended.ensures.ended

@@ -1,0 +1,32 @@
+//! Handles that are opened and closed: the lines, with the event or the refusal that the language's description gives.
+use crate::script_lines::reads;
+use std::test::Fail;
+
+const HANDLES: [(&[u8], &[u8]); 21] = [
+    (b"open OWN\\DEV\\1", b"OpenHandle OWN\\DEV\\1 "),
+    (b"close OWN\\DEV\\1", b"CloseHandle OWN\\DEV\\1 "),
+    (b"open own\\dev\\1", b"OpenHandle own\\dev\\1 "),
+    (b"close HTREE\\ROOT\\0", b"CloseHandle HTREE\\ROOT\\0 "),
+    (b"\topen  OWN\\DEV\\1\t", b"OpenHandle OWN\\DEV\\1 "),
+    (b" close\tOWN\\DEV\\1 \r", b"CloseHandle OWN\\DEV\\1 "),
+    (b"open", b"bad "),
+    (b"close", b"bad "),
+    (b"open OWN\\DEV", b"bad "),
+    (b"close OWN\\DEV\\1\\2", b"bad "),
+    (b"open \\DEV\\1", b"bad "),
+    (b"close OWN\\D,V\\1", b"bad "),
+    (b"open *", b"bad "),
+    (b"close *", b"bad "),
+    (b"open OWN\\DEV\\1 OWN\\DEV\\2", b"bad "),
+    (b"close OWN\\DEV\\1 2", b"bad "),
+    (b"close all", b"bad "),
+    (b"Open OWN\\DEV\\1", b"bad "),
+    (b"CLOSE OWN\\DEV\\1", b"bad "),
+    (b"opens OWN\\DEV\\1", b"bad "),
+    (b"closed OWN\\DEV\\1", b"bad "),
+];
+
+#[test]
+fn handles(rt: HostRuntime) -> Result<(), Fail> {
+    reads(&rt, rt.alloc(), &HANDLES)
+}

@@ -1,0 +1,123 @@
+ghost use Rattle.std.specs.Prelude.{◌≡◌, ◌&&◌, IfOk, OnErr, IsSome};
+ghost use Rattle.std.specs.List.{list_any};
+ghost use Rattle.pnp_model.specs.Tests.{has};
+ghost use Rattle.pnp_model.specs.Frames.{first_node};
+ghost use Rattle.pnp_model.specs.Records.SurpriseStage.{Next};
+ghost use Rattle.pnp_model.specs.Surprises.{wait};
+ghost use Rattle.trial_journal.specs.ByKind as ByKind;
+ghost use Rattle.device_holdings.specs.Mirrors.{IsMirrored, KeepsMirror};
+ghost use Rattle.operation_frame.specs.Steps.{MovesFor};
+ghost use Rattle.relations.specs.Leaving.{below, is_there};
+ghost use Rattle.pnp_labels.specs.declared.label.RemoveStep.TheVariants as steps;
+ghost use Rattle.surprise_remove.specs.Steps.{Moved, Surprises, DirectSays, SettlesStripped, stays};
+ghost use Rattle.surprise_remove.specs.Parts.{finishing};
+
+use crate::frame::{Stage, Surprise};
+use device_ids::{Text, WantOfMemory};
+use device_stack::Walk;
+use devnode_tree::{Handles, Tree};
+use driver_rack::Drivers;
+use operation_frame::has_drivers;
+use pnp_labels::{Label, Minor, RemoveStep};
+use relations::{Edge, Relations, SerialSet};
+use std::alloc::Global;
+use trial_journal::Arbiters;
+
+/// Whether one of these is in a set. It takes no memory. Cost: their number.
+fn has_one(set: &SerialSet, serials: &[u64]) -> bool
+    ensures { result ≡ list_any (λ j. has set.now j) serials.now }
+{
+    serials.iter().any(|serial| set.has(*serial))
+}
+
+/// Whether one to which an edge leads is in a set and there. It takes no memory. Cost: their number, and for each in the set
+/// the logarithm of the number of nodes.
+fn has_end(set: &SerialSet, tree: &Tree, edges: &[Edge]) -> bool
+    ensures { result ≡ list_any (λ e. has set.now e.to && is_there tree.now.nodes e.to) edges.now }
+{
+    edges
+        .iter()
+        .any(|edge| set.has(edge.to) && tree.node(edge.to).is_some())
+}
+
+/// Whether one that depends on a device directly is in a set: a child of it, or a related member that is there. It takes no
+/// memory. Cost: how many these are, the logarithms of the numbers of nodes and relations, and for each member in the set
+/// that of the number of nodes.
+fn has_below(set: &SerialSet, tree: &Tree, relations: &Relations, serial: u64) -> bool
+    ensures { result ≡ list_any (λ j. has set.now j) (below tree.now.nodes relations.now serial) }
+{
+    has_one(set, tree.children(serial)) || has_end(set, tree, relations.owned(serial))
+}
+
+impl Surprise {
+    /// Whether a device stays behind: it was told before, a handle to it is open, or one that depends on it directly stayed
+    /// behind. It takes no memory.
+    fn stays(&self, tree: &Tree, relations: &Relations, handles: &Handles, serial: u64) -> bool
+        ensures { result ≡ stays tree.now.nodes relations.now self.now handles.now serial }
+    {
+        self.told.has(serial)
+            || handles.is_open(serial)
+            || has_below(&self.behind, tree, relations, serial)
+    }
+
+    /// The device that is next stays behind.
+    fn wait(&mut self, alloc: Global, tree: &Tree) -> Result<Label, WantOfMemory>
+        requires { IsSome (first_node tree.now.nodes self.old.todo) }
+        ensures waits { IfOk result (λ label. MovesFor Moved (first_node tree.now.nodes self.old.todo) (λ c n. wait c self.old n) tree.now.nodes (steps.Did label) tree.now.nodes self.new) }
+        ensures surprise { OnErr result (self.new ≡ self.old) }
+    {
+        let node = tree.at(self.todo.first());
+        let path = Text::make(alloc, node.path.bytes())?;
+        self.behind.push(node.serial)?;
+        self.go_on();
+        Ok(Label::Waits { path })
+    }
+
+    /// The device that is next begins to be finished: where it has drivers they are removed first.
+    fn begin_finish(&mut self, tree: &Tree)
+        requires { IsSome (first_node tree.now.nodes self.old.todo) }
+        ensures { self.new ≡ finishing self.old (first_node tree.now.nodes self.old.todo) }
+    {
+        self.stage = if has_drivers(tree, self.todo.first()) {
+            Stage::Removing
+        } else {
+            Stage::Settling
+        };
+        self.walk = Walk::begin(Minor::Remove);
+    }
+
+    /// The device that is next stays behind, or its first driver is asked to let it go, or it is settled.
+    pub(crate) fn decide<R: Drivers>(
+        &mut self,
+        alloc: Global,
+        tree: &mut Tree,
+        relations: &mut Relations,
+        rack: &mut R,
+        arbiters: &mut Arbiters,
+        in_world: bool,
+        handles: &Handles,
+    ) -> Result<RemoveStep, WantOfMemory>
+        requires stage { self.old.stage ≡ Next }
+        requires there { IsSome (first_node tree.old.nodes self.old.todo) }
+        requires direct { DirectSays tree.old.nodes relations.old self.old Next }
+        requires settles { SettlesStripped tree.old.nodes relations.old self.old handles.now Next }
+        requires mirrored { IsMirrored tree.old.nodes arbiters.old }
+        ensures surprises { IfOk result (λ step. Surprises tree.old.nodes relations.old (R.rows rack.old) self.old in_world handles.now step tree.new.nodes relations.new (R.rows rack.new) self.new) }
+        ensures next { tree.new.next ≡ tree.old.next }
+        ensures mirrors { KeepsMirror tree.old.nodes arbiters.old tree.new.nodes arbiters.new }
+        ensures surprise { OnErr result (self.new ≡ self.old) }
+        ensures tree { OnErr result (tree.new ≡ tree.old) }
+        ensures relations { OnErr result (relations.new ≡ relations.old) }
+        ensures rack { OnErr result (R.rows rack.new ≡ R.rows rack.old) }
+    {
+        if self.stays(tree, relations, handles, self.todo.first()) {
+            return Ok(RemoveStep::Did(self.wait(alloc, tree)?));
+        }
+        self.begin_finish(tree);
+        let finished = self.proceed(alloc, tree, relations, rack, arbiters, in_world);
+        if finished.is_err() {
+            self.stage = Stage::Next;
+        }
+        finished
+    }
+}
