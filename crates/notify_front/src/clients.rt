@@ -1,4 +1,4 @@
-ghost use Rattle.std.specs.Prelude.{◌≡◌, ◌++◌, [], true, IfOk, OnOk, OnErr};
+ghost use Rattle.std.specs.Prelude.{◌≡◌, ◌++◌, [], true, position, IfOk, OnOk, OnErr};
 ghost use Rattle.std.specs.List.{list_any};
 ghost use Rattle.pnp_model.specs.Keyed.{without_first, put_before, those};
 ghost use Rattle.notify_front.specs.Fronts.{is_of, is_on, comes_after, on_each};
@@ -30,6 +30,29 @@ impl Model for Clients {
     ghost invariant = { λ c. AreGrouped c.groups.entries };
 }
 
+/// Whether one of these is the client's on the device.
+fn is_among(group: &[Registration], client: &[u8], device: u64) -> bool
+    ensures { result ≡ list_any (is_of client.now device) group.now }
+{
+    group.iter().any(|one| one.is_of(client, device))
+}
+
+/// The place of the first that is the client's on the device.
+fn place_of(group: &[Registration], client: &[u8], device: u64) -> Option<usize>
+    ensures { result ≡ position (is_of client.now device) group.now }
+{
+    group.iter().position(|one| one.is_of(client, device))
+}
+
+/// The first that is the client's on the device goes, if there is one.
+fn drop_first(group: &mut Vec<Registration>, client: &[u8], device: u64)
+    ensures { group.new.items ≡ without_first (is_of client.now device) group.old.items }
+{
+    if let Some(place) = place_of(group, client, device) {
+        group.remove(place);
+    }
+}
+
 impl Clients {
     /// No registration. It takes no memory.
     pub(crate) fn new(alloc: Global) -> Clients
@@ -52,7 +75,7 @@ impl Clients {
         ensures { result ≡ list_any (is_of client.now device) self.now }
     {
         match self.groups.get(&device) {
-            Some(group) => group.iter().any(|r| r.is_of(client, device)),
+            Some(group) => is_among(group, client, device),
             None => false,
         }
     }
@@ -80,11 +103,9 @@ impl Clients {
         let Some(group) = self.groups.get_mut(&device) else {
             return;
         };
-        if let Some(place) = group.iter().position(|r| r.is_of(client, device)) {
-            group.remove(place);
-            if group.is_empty() {
-                self.groups.remove(&device);
-            }
+        drop_first(group, client, device);
+        if group.is_empty() {
+            self.groups.remove(&device);
         }
     }
 
