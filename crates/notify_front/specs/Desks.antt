@@ -1,0 +1,40 @@
+-- The manager with what stands before it, as contracts see it, and what a step or an event does to it.
+use Rattle.std.specs.Prelude.{◌≡◌, ℕ, ◌+◌, List, [], ◌∷◌, ◌++◌}
+use Rattle.pnp_labels.specs.declared.event.Event.{Event}
+use Rattle.pnp_labels.specs.declared.label.Label.{Label}
+use Rattle.pnp_machine.specs.Managers.{Manager, settings}
+use Rattle.pnp_machine.specs.declared.manager.Moved.{Moved}
+use Rattle.pnp_machine.specs.declared.manager.Moved.TheVariants.{Label as Printed, Quiet}
+use Rattle.pnp_model.specs.Records.{Driver, Settings}
+use Rattle.pnp_model.specs.Runs.{opening}
+use Rattle.notify_front.specs.Fronts.{Front, FrontEntry, FrontStep, FrontSteps, IsFrontQuiet, Registration, Hand, front_printed, opening_front}
+use Rattle.notify_front.specs.Notices.{FrontRun}
+
+pub record Desk : Type 0 where
+  pub manager : Manager
+  pub registrations : List Registration
+  pub hand : Hand
+
+abbrev pub front_of : Desk → Front
+front_of d = record { state = d.manager.state; registrations = d.registrations; hand = d.hand }
+
+-- a step was made, or none is next
+abbrev pub FrontMoves : Settings → Front → Moved → Front → Type 0
+FrontMoves told old (Printed label) new = (entry : FrontEntry) × (label ≡ front_printed entry) × FrontSteps told old entry new
+FrontMoves told old Quiet new = IsFrontQuiet told old × (new ≡ old)
+
+-- what was printed and what is there now are those of the step
+abbrev pub IsFrontDone : FrontStep → Label → Front → Type 0
+IsFrontDone step label new = (label ≡ front_printed step.entry) × (new ≡ step.front)
+
+-- some run leads to it
+pub record IsOfFrontRun (told : Settings) (f : Front) : Type 0 where
+  pub rack : List Driver
+  pub entries : List FrontEntry
+  pub reaches : FrontRun told (opening_front (opening rack)) entries f
+
+-- how many of the machine's events it is
+abbrev pub machine_events : Event → ℕ
+machine_events (Event.Watch client path agrees) = 0
+machine_events (Event.Unwatch client path) = 0
+machine_events _ = 1
