@@ -1,5 +1,5 @@
 -- What is at hand, by those that are told and how far that is, and what the hand makes of it.
-use Rattle.std.specs.Prelude.{◌≡◌, ℕ, ◌<◌, ◌≤◌, ◌==◌, if◌then◌else◌, nat_lt, List, [], Option, Some, None, length, take, drop, reverse, slice_get}
+use Rattle.std.specs.Prelude.{◌≡◌, ℕ, Bool, true, false, ◌<◌, ◌≤◌, ◌==◌, if◌then◌else◌, nat_lt, List, [], Option, Some, None, length, take, drop, reverse, slice_get}
 use Rattle.pnp_labels.specs.Texts.{Text}
 use Rattle.pnp_machine.specs.Dues.{beginning_of}
 use Rattle.pnp_model.specs.Records.{Settings, State, Beginning}
@@ -63,3 +63,9 @@ IsNext old registrations nexts.Run new kept = ((told : List Registration) × (ol
 abbrev pub Begins : Hand → Hand → Type 0
 Begins (Hand.Asking first agreed []) new = new ≡ running (reverse agreed)
 Begins _ new = Unit {0}
+
+-- nothing is at hand, or an operation runs
+abbrev pub is_silent : Hand → Bool
+is_silent Hand.Nothing = true
+is_silent (Hand.Running told) = true
+is_silent _ = false

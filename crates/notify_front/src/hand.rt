@@ -2,7 +2,7 @@ ghost use Rattle.std.specs.Prelude.{◌≡◌, ◌<◌, ◌+◌, ◌^◌, [], If
 ghost use Rattle.pnp_machine.specs.Dues.{beginning_of};
 ghost use Rattle.notify_front.specs.Fronts.{running, heard};
 ghost use Rattle.notify_front.specs.Fronts as fronts;
-ghost use Rattle.notify_front.specs.Hands.{IsNext, Begins, running_stage, vetoed_stage, over_stage};
+ghost use Rattle.notify_front.specs.Hands.{IsNext, Begins, is_silent, running_stage, vetoed_stage, over_stage};
 ghost use Rattle.notify_front.specs.declared.hand.Stage.TheVariants as Stage;
 
 use crate::clients::Clients;
@@ -132,6 +132,13 @@ impl Hand {
     {
         let stage = running(told.len());
         Hand { told, stage }
+    }
+
+    /// Whether the machine's step is next: nothing is at hand, or an operation runs.
+    pub(crate) fn is_silent(&self) -> bool
+        ensures { result ≡ is_silent self.now }
+    {
+        matches!(self.stage, Stage::Nothing | Stage::Running)
     }
 
     /// All agreed, and what was due runs.
