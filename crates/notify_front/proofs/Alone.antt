@@ -24,7 +24,7 @@ none_on : (ks : List ℕ) → on_each ks [] ≡ []
 none_on [] = refl
 none_on (k ∷ ks) = none_on ks
 
-none_on_set : (f : Front) (k : ℕ) → f.registrations ≡ [] → on_set f k ≡ []
+pub none_on_set : (f : Front) (k : ℕ) → f.registrations ≡ [] → on_set f k ≡ []
 none_on_set f k e = ap (λ (l : List Registration). on_each (leaving f.state.core k) l) e ∙ none_on (leaving f.state.core k)
 
 -- a step of the machine alone

@@ -5,7 +5,7 @@ ghost use Rattle.pnp_model.specs.Records.{Beginning};
 ghost use Rattle.notify_front.specs.Fronts as fronts;
 ghost use Rattle.notify_front.specs.Fronts.{Registration as Registered, running};
 ghost use Rattle.notify_front.specs.Laws.{is_told_of};
-ghost use Rattle.notify_front.specs.Desks.{front_of, told_of, Announces, FrontMoves, IsOfFrontRun, MachineMoves};
+ghost use Rattle.notify_front.specs.Desks.{front_of, told_of, is_asked, Announces, FrontMoves, IsToldDue, IsOfFrontRun, MachineMoves};
 
 use crate::desk::Desk;
 use crate::hand::{Hand, Next};
@@ -25,12 +25,12 @@ fn is_told_of(kind: OpKind) -> bool
     }
 }
 
-/// Whether clients are asked before an operation.
-fn is_asked_before(kind: OpKind) -> bool
-    ensures { result ≡ is_in_order kind }
+/// Whether one of these is asked before an operation.
+fn is_asked(kind: OpKind, told: &[Registration]) -> bool
+    ensures { result ≡ is_asked kind told.now }
 {
     match kind {
-        OpKind::Disable | OpKind::Eject => true,
+        OpKind::Disable | OpKind::Eject => !told.is_empty(),
         OpKind::Surprise | OpKind::Rebalance | OpKind::Finish | OpKind::Change => false,
     }
 }
@@ -78,6 +78,18 @@ impl<R: Drivers> Desk<R> {
         Ok(moved)
     }
 
+    /// The operation that is due, where clients are told of it.
+    fn told_due(&self) -> Option<(OpKind, u64)>
+        ensures { IsToldDue result self.now.manager.state }
+    {
+        let first = self.manager.due()?;
+        if is_told_of(first.0) {
+            Some(first)
+        } else {
+            None
+        }
+    }
+
     /// The first of these is asked about what is due. Condition: there is one.
     fn announce(
         &mut self,
@@ -110,16 +122,14 @@ impl<R: Drivers> Desk<R> {
         if self.clients.is_empty() {
             return self.run();
         }
-        match self.manager.due() {
-            Some((kind, serial)) if is_told_of(kind) => {
-                let told = self.on_set(serial)?;
-                if is_asked_before(kind) && !told.is_empty() {
-                    self.announce((kind, serial), told)
-                } else {
-                    self.begin_with(told)
-                }
-            }
-            _ => self.run(),
+        let Some(first) = self.told_due() else {
+            return self.run();
+        };
+        let told = self.on_set(first.1)?;
+        if is_asked(first.0, &told) {
+            self.announce(first, told)
+        } else {
+            self.begin_with(told)
         }
     }
 

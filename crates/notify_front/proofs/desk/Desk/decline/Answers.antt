@@ -1,0 +1,4 @@
+use Rattle.notify_front.proofs.desk.Desk.decline.Goals as goal
+
+pub returns-clause-moves : goal.returns-clause-moves
+returns-clause-moves g c = ?
