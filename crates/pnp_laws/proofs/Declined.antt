@@ -1,5 +1,5 @@
 -- Where a client declines what is due, no operation runs, and none begins.
-use Rattle.std.proofs.Common.{◌≡◌, Option, None, ap, ◌∙◌}
+use Rattle.std.proofs.Common.{◌≡◌, None, ap, ◌∙◌}
 use Rattle.pnp_labels.specs.declared.label.Label.{Label}
 use Rattle.pnp_model.specs.Machine.{IsDeclined}
 use Rattle.pnp_model.specs.Records.{State}

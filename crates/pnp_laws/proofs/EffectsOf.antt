@@ -1,5 +1,5 @@
 -- Each step and each event has an effect.
-use Rattle.std.proofs.Common.{◌≡◌, ◌+◌, inl, true, refl, sym, ap, subst, arith}
+use Rattle.std.proofs.Common.{◌≡◌, inl, true, refl, sym, ap, subst, arith}
 use Rattle.pnp_labels.specs.declared.label.Label.{Label}
 use Rattle.pnp_labels.specs.declared.label.OpKind.{OpKind}
 use Rattle.pnp_model.specs.Machine.{IsDeclined, Steps, is_in_order}

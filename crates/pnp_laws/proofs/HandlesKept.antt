@@ -1,5 +1,5 @@
 -- Each step and each event keeps that who has a handle is there, and up or waiting to be finished.
-use Rattle.std.proofs.Common.{ℕ, ◌≡◌, ◌⊎◌, ◌||◌, ◌∙◌, inl, inr, Bool, true, false, cond, nat_lt, List, [], ◌∷◌, Option, Some, None, refl, sym, ap, subst, arith}
+use Rattle.std.proofs.Common.{ℕ, ◌≡◌, ◌⊎◌, ◌∙◌, inl, inr, Bool, true, false, cond, nat_lt, List, [], ◌∷◌, Option, Some, None, refl, sym, ap, subst, arith}
 use Rattle.std.specs.List.{list_any}
 use Rattle.std.proofs.lemmas.Bool.Decides.{nat_tests}
 use Rattle.device_ids.specs.Folding.{same}
@@ -14,7 +14,6 @@ use Rattle.pnp_model.specs.Handles.{closed_with, comes_after, is_handle_of, is_o
 use Rattle.pnp_model.specs.Keyed.{changed_first, put_before, without_first}
 use Rattle.pnp_model.specs.Records.{Handle, Node, Operation, Phase, RebalanceStage, RemovalStage, State, SurpriseStage, FinishStage, Walk}
 use Rattle.pnp_model.specs.Runs.{Entry, printed}
-use Rattle.pnp_model.specs.Tests.{has}
 use Rattle.pnp_model.specs.Walks.{state_after}
 use Rattle.pnp_laws.specs.Effects.{HandleEffect, NodeEffect, Request, finish_minor, operation_minor, rebalance_minor, removal_minor, surprise_minor, todo_of}
 use Rattle.pnp_laws.specs.Kept.{is_idle}

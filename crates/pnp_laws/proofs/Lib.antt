@@ -118,3 +118,10 @@ pub mod NamesGiven
 pub mod NodesPlugged
 pub mod RoomsKept
 pub mod RunsWindows
+pub mod OpenHandles
+pub mod DependentsTold
+pub mod Readied
+pub mod FirstFinish
+pub mod ReadyEffects
+pub mod ReadySteps
+pub mod RunsReady

@@ -1,5 +1,5 @@
 -- What each state of a run keeps of the tree, the relations and the tasks.
-use Rattle.std.proofs.Common.{ℕ, ◌<◌, ◌≡◌, ◌≢◌, ◌⊎◌, Bool, true, false, List, [], ◌∷◌, Option, Some, None}
+use Rattle.std.proofs.Common.{ℕ, ◌<◌, ◌≡◌, ◌≢◌, ◌⊎◌, true, false, List, [], ◌∷◌, Option, Some, None}
 use Rattle.pnp_model.specs.Tests.{has}
 use Rattle.pnp_model.specs.Records.{Node, Core, Task, State, Step, Duty, Operation, Rebalance, RebalanceStage, Removal, RemovalStage, Surprise, SurpriseStage, Finish, FinishStage, Handle}
 use Rattle.pnp_model.specs.Cores.{node_at}
@@ -8,12 +8,12 @@ use Rattle.pnp_model.specs.Trees.{hangs_on}
 use Rattle.pnp_model.specs.Diagram.{Walked}
 use Rattle.pnp_model.specs.Laws.{DependentsFirst}
 use Rattle.pnp_labels.specs.declared.label.Label.{Label}
-use Rattle.pnp_labels.specs.declared.states.DevState.TheVariants.{NoStack, Started, StopPending, Stopped, SurpriseRemoved}
-use Rattle.pnp_labels.specs.declared.states.DevState.{DevState}
+use Rattle.pnp_labels.specs.declared.states.DevState.TheVariants.{NoStack, Stopped, SurpriseRemoved}
 use Rattle.pnp_laws.specs.Rebalanced.{Falling, Rising}
 use Rattle.pnp_laws.specs.Words.{IsNoJoin}
 use Rattle.pnp_laws.specs.Kept.{IsGood, is_idle}
 use Rattle.pnp_laws.specs.Due.{is_due}
+pub use Rattle.pnp_laws.specs.Waiting.{HandlesFit, Told, is_held}
 use Rattle.pnp_laws.proofs.Closures.{Closed}
 use Rattle.pnp_laws.proofs.Lists.{HeadIs}
 use Rattle.pnp_laws.proofs.Orders.{Ranked, RootFree}
@@ -191,12 +191,7 @@ StageKept _ c = Unit {0}
 
 -- Devices that wait to be finished ------------------------------------------------------------
 
--- what hangs on a device that waits to be finished waits as well
-abbrev pub Told : Core → Type 0
-Told c =
-    (k : ℕ) (n : Node) → node_at k c.nodes ≡ Some n → n.state ≡ SurpriseRemoved → (j : ℕ) (m : Node) → node_at j c.nodes ≡ Some m → hangs_on c (k ∷ []) m ≡ true → m.state ≡ SurpriseRemoved
-
--- the same, but this one, which leaves
+-- what hangs on a device that waits waits as well, but this one, which leaves
 abbrev pub ToldBut : ℕ → Core → Type 0
 ToldBut j c =
     (k : ℕ) (n : Node) → node_at k c.nodes ≡ Some n → n.state ≡ SurpriseRemoved → (i : ℕ) (m : Node) → node_at i c.nodes ≡ Some m → j ≢ i → hangs_on c (k ∷ []) m ≡ true → m.state ≡ SurpriseRemoved
@@ -219,6 +214,7 @@ pub record ToldIn (c : Core) (set told behind : List ℕ) : Type 0 where
   pub were : AllTold told c.nodes
   pub outside : (k : ℕ) (n : Node) → node_at k c.nodes ≡ Some n → n.state ≡ SurpriseRemoved → has set k ≡ false → (j : ℕ) (m : Node) → node_at j c.nodes ≡ Some m → hangs_on c (k ∷ []) m ≡ true →
       (m.state ≡ SurpriseRemoved) × (has set j ≡ true → has told j ≡ true)
+  pub carried : (k j : ℕ) (m : Node) → has told k ≡ true → has set j ≡ true → node_at j c.nodes ≡ Some m → hangs_on c (k ∷ []) m ≡ true → has told j ≡ true
   pub stayed : AllTold behind c.nodes
   pub keeps : (k j : ℕ) (m : Node) → has behind k ≡ true → node_at j c.nodes ≡ Some m → hangs_on c (k ∷ []) m ≡ true → has behind j ≡ true
 
@@ -242,18 +238,6 @@ ToldKept (Some (Operation.Finishing f)) c = FinishTold c f f.stage
 ToldKept _ c = Told c
 
 -- Open handles ----------------------------------------------------------------------------------
-
--- who has a handle is up, or waits to be finished
-abbrev pub is_held : DevState → Bool
-is_held Started = true
-is_held StopPending = true
-is_held Stopped = true
-is_held SurpriseRemoved = true
-is_held _ = false
-
--- each device that has a handle is there, and held
-abbrev pub HandlesFit : List Handle → List Node → Type 0
-HandlesFit handles nodes = (k : ℕ) → is_open handles k ≡ true → (n : Node) × (node_at k nodes ≡ Some n) × (is_held n.state ≡ true)
 
 -- of these none has a handle
 abbrev pub NoneOpen : List Handle → List ℕ → Type 0

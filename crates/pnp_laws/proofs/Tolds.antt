@@ -1,5 +1,5 @@
 -- A device that waits to be finished: what hangs on it waits as well, through each step of a surprise and of a finish.
-use Rattle.std.proofs.Common.{ℕ, ◌≡◌, ◌≢◌, ◌⊎◌, ◌||◌, inl, inr, Bool, true, false, not, List, [], ◌∷◌, Some, refl, sym, ap, ◌∙◌, subst, arith}
+use Rattle.std.proofs.Common.{ℕ, ◌≡◌, ◌≢◌, ◌⊎◌, ◌||◌, inl, inr, Bool, true, false, List, [], ◌∷◌, Option, Some, None, refl, sym, ap, ◌∙◌, subst, arith}
 use Rattle.std.specs.List.{list_any}
 use Rattle.std.proofs.lemmas.Bool.{cases_eq}
 use Rattle.std.proofs.lemmas.Bool.Decides.{nat_tests}
@@ -28,6 +28,11 @@ use Rattle.pnp_laws.proofs.Truths.{or_cases}
 
 -- The begin -----------------------------------------------------------------------------------
 
+-- who was told is there
+told_there : (o : Option Node) → was_told o ≡ true → (n : Node) × (o ≡ Some n) × (n.state ≡ SurpriseRemoved)
+told_there None h = absurd (cc)
+told_there (Some n) h = (n, refl, is_SurpriseRemoved n.state h)
+
 pub told_begun : (c : Core) (set : List ℕ) → Told c → ToldIn c set (those (λ k. was_told (node_at k c.nodes)) set) []
 told_begun c set told =
     record {
@@ -37,6 +42,9 @@ told_begun c set told =
       outside = λ k n at state out j m there h.
           let s = told k n at state j m there h in
           (s, λ in_set. those_keeps (λ k. was_told (node_at k c.nodes)) set j in_set (ap was_told there ∙ ap is_surprise_removed s));
+      carried = λ k j m h in_set at on.
+          let was = told_there (node_at k c.nodes) (those_has (λ k. was_told (node_at k c.nodes)) set k h).1 in
+          those_keeps (λ k. was_told (node_at k c.nodes)) set j in_set (ap was_told at ∙ ap is_surprise_removed (told k was.0 was.1 was.2 j m at on));
       stayed = λ k n h at. absurd (cc);
       keeps = λ k j m h there on. absurd (cc);
     }
@@ -65,6 +73,7 @@ told_tell c set told j node at here h =
                       (subst (λ (x : Node). x.state ≡ SurpriseRemoved) same before.0, before.1)
                 ]
           ];
+      carried = λ k i m in_told in_set at_i on. let old = edges_changed j (with_state SurpriseRemoved) c (λ x. refl) (λ x. refl) k i m at_i on in h.carried k i old.0 in_told in_set old.1 old.2;
       stayed = λ k n in_none there. absurd (cc);
       keeps = λ k i m in_none there on. absurd (cc);
     }
@@ -77,6 +86,7 @@ told_wait next c set told behind todo j node order tree head here at state f h =
     record {
       were = h.were;
       outside = h.outside;
+      carried = h.carried;
       stayed = λ k n b there.
           elim (has_cases j k behind b) [
             | inl e ↦
@@ -116,6 +126,7 @@ told_strip c set told behind todo j in_set here new f h =
                 let same : old.0 ≡ now.node = some_same (node_at i c.nodes) old.0 now.node old.1 now.at in
                 (subst (λ (x : Node). x.state ≡ SurpriseRemoved) (same ∙ sym (now.other d)) before.0, before.1)
           ];
+      carried = λ k i m in_told own there on. let old = edges_stripped j c k i m there on in h.carried k i old.0 in_told own old.1 old.2;
       stayed = λ k n b at.
           let was = was_stripped j k c n at in
           let gone = f.apart k b in
@@ -139,6 +150,7 @@ told_from c d set told behind less from h =
           let before = h.outside k was.0 was.1 (sym was.2 ∙ state) out i old.0 old.1 old.2 in
           let same = some_same (node_at i c.nodes) old.0 now.0 old.1 now.1 in
           (now.2 ∙ subst (λ (x : Node). x.state ≡ SurpriseRemoved) same before.0, before.1);
+      carried = λ k i m in_told own there on. let old = less k i m there on in h.carried k i old.0 in_told own old.1 old.2;
       stayed = λ k n b at. let was = from k n at in was.2 ∙ h.stayed k was.0 b was.1;
       keeps = λ k i m b there on. let old = less k i m there on in h.keeps k i old.0 b old.1 old.2;
     }
@@ -262,7 +274,7 @@ idle_unheld NoStack h e = cc
 idle_unheld NotStarted h e = cc
 idle_unheld _ h e = cc
 
-any_of : (test : ℕ → Bool) (ks : List ℕ) → list_any test ks ≡ true → (k : ℕ) × (has ks k ≡ true)
+pub any_of : (test : ℕ → Bool) (ks : List ℕ) → list_any test ks ≡ true → (k : ℕ) × (has ks k ≡ true)
 any_of test [] h = absurd (cc)
 any_of test (k ∷ ks) h = (k, grind (arith, nat_tests))
 

@@ -3,7 +3,6 @@ use Rattle.std.proofs.Common.{ℕ, ◌≡◌, ◌≢◌, ◌&&◌, ◌||◌, Boo
 use Rattle.std.specs.List.{list_any}
 use Rattle.std.proofs.lemmas.Bool.Decides.{nat_tests}
 use Rattle.pnp_model.specs.Cores.{node_at}
-use Rattle.pnp_model.specs.Finishes.{taken}
 use Rattle.pnp_model.specs.Frames.{first_node}
 use Rattle.pnp_model.specs.Handles.{has_drivers, holds_back, is_open, is_ready_device}
 use Rattle.pnp_model.specs.Records.{Core, FinishStage, Handle, Node, Operation, RemovalStage, State, Surprise, SurpriseStage}
@@ -50,7 +49,7 @@ ready_parts c handles node h =
     let last = and_both (not (is_open handles node.serial)) (not (list_any (holds_back c node.serial) c.nodes)) more.1 in
     record { shut = not_true (is_open handles node.serial) last.0; lone = not_true (list_any (holds_back c node.serial) c.nodes) last.1 }
 
-ready_bare : (next : ℕ) (c : Core) (handles : List Handle) (node : Node) → StacksFit c.nodes → Tree next c → IsReady c handles node → (i : ℕ) (m : Node) → node_at i c.nodes ≡ Some m → hangs_on c (node.serial ∷ []) m ≡ true → m.state ≡ NoStack
+pub ready_bare : (next : ℕ) (c : Core) (handles : List Handle) (node : Node) → StacksFit c.nodes → Tree next c → IsReady c handles node → (i : ℕ) (m : Node) → node_at i c.nodes ≡ Some m → hangs_on c (node.serial ∷ []) m ≡ true → m.state ≡ NoStack
 ready_bare next c handles node stacks tree ready i m at on =
     let stack = no_stack m.stack (both_false (hangs_on c (node.serial ∷ []) m) (has_drivers m.stack) on (none_of (holds_back c node.serial) c.nodes i m ready.lone at)) in
     let up : i ≢ 0 = λ z. tree.free node.serial m (subst (λ (x : ℕ). node_at x c.nodes ≡ Some m) z at) on in
@@ -122,17 +121,17 @@ turn_shut s _ _ (Turn.finishes f k node is ready at) order h =
 
 -- So all of it holds of the operation that runs, its next device taken
 module _ (s : State) (o : Operation) (running : Running s o) (kept : Kept s) where
-  was_good : Good s.next_serial s.core.nodes s.activities (Some running.before)
-  was_good = subst (λ (x : Option Operation). Good s.next_serial s.core.nodes s.activities x) running.runs kept.good
+  before_good : Good s.next_serial s.core.nodes s.activities (Some running.before)
+  before_good = subst (λ (x : Option Operation). Good s.next_serial s.core.nodes s.activities x) running.runs kept.good
 
-  was_told : ToldKept (Some running.before) s.core
-  was_told = subst (λ (x : Option Operation). ToldKept x s.core) running.runs kept.waits.told
+  before_told : ToldKept (Some running.before) s.core
+  before_told = subst (λ (x : Option Operation). ToldKept x s.core) running.runs kept.waits.told
 
   pub running_stage : StageKept (Some o) s.core
-  running_stage = turn_stage s kept.stands.tree running.before o running.turn was_good was_told (subst (λ (x : Option Operation). StageKept x s.core) running.runs kept.stands.stage)
+  running_stage = turn_stage s kept.stands.tree running.before o running.turn before_good before_told (subst (λ (x : Option Operation). StageKept x s.core) running.runs kept.stands.stage)
 
   pub running_told : ToldKept (Some o) s.core
-  running_told = turn_told s running.before o running.turn was_told
+  running_told = turn_told s running.before o running.turn before_told
 
   pub running_shut : StageShut s.handles (Some o)
-  running_shut = turn_shut s running.before o running.turn was_good.serials (subst (λ (x : Option Operation). StageShut s.handles x) running.runs kept.waits.shut)
+  running_shut = turn_shut s running.before o running.turn before_good.serials (subst (λ (x : Option Operation). StageShut s.handles x) running.runs kept.waits.shut)

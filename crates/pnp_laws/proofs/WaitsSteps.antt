@@ -24,7 +24,7 @@ use Rattle.pnp_model.specs.Events as ev
 -- Handles -------------------------------------------------------------------------------------------
 
 -- in a step handles stay
-steps_handles : (s : State) (label : Label) (t : State) → HandleEffect s (Did label) t → t.handles ≡ s.handles
+pub steps_handles : (s : State) (label : Label) (t : State) → HandleEffect s (Did label) t → t.handles ≡ s.handles
 steps_handles s label t (HandleEffect.same e) = e
 steps_handles s label t (HandleEffect.opens node path own none found up started event is) = absurd (cc)
 steps_handles s label t (HandleEffect.closes node path own handle found at event handles is) = absurd (cc)

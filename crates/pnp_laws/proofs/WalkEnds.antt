@@ -1,15 +1,14 @@
 -- A walk that has ended is of the operation as it runs: where a device is only now taken, its drivers are still to be asked.
-use Rattle.std.proofs.Common.{ℕ, ◌≡◌, ◌≢◌, true, false, List, [], ◌∷◌, length, Option, Some, None, refl, sym, ap, ◌∙◌, subst}
-use Rattle.pnp_labels.specs.declared.states.DevState.TheVariants.{NoStack, Started}
+use Rattle.std.proofs.Common.{◌≡◌, ◌≢◌, true, [], length, Some, sym, ap, ◌∙◌}
 use Rattle.pnp_model.specs.Cores.{node_at}
 use Rattle.pnp_model.specs.Frames.{first_node}
 use Rattle.pnp_model.specs.Machine.{operation_walk}
-use Rattle.pnp_model.specs.Records.{Node, Operation, Removal, RemovalStage, State, Walk}
+use Rattle.pnp_model.specs.Records.{Node, Operation, Removal, State, Walk}
 use Rattle.pnp_model.specs.Removals.{queried}
 use Rattle.pnp_model.specs.Walks.{has_ended, walk_of}
 use Rattle.pnp_labels.specs.declared.words.Minor.{Minor}
 use Rattle.pnp_laws.specs.Effects.{Running, Turn, todo_of}
-use Rattle.pnp_laws.specs.Kept.{IsGood, OperationFits, RemovalKeeps}
+use Rattle.pnp_laws.specs.Kept.{IsGood}
 use Rattle.pnp_laws.proofs.Turns.{running_good}
 use Rattle.pnp_laws.proofs.FinishSteps.{not_root}
 use Rattle.pnp_laws.proofs.Lists.{head_found, head_has}

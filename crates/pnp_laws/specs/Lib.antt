@@ -21,3 +21,4 @@ pub mod Strays
 pub mod Held
 pub mod Needs
 pub mod Windows
+pub mod Waiting

@@ -13,6 +13,7 @@ ghost use Rattle.pnp_laws.specs.Stacks.{NamesLaw, StacksLaw};
 ghost use Rattle.pnp_laws.specs.StepsLeft.{StepsLeftLaw};
 ghost use Rattle.pnp_laws.specs.Strays.{StraysLaw};
 ghost use Rattle.pnp_laws.specs.Told.{StatesLaw};
+ghost use Rattle.pnp_laws.specs.Waiting.{DependentsToldLaw, HandlesLaw, ReadyLaw};
 ghost use Rattle.pnp_laws.specs.Windows.{ClippedLaw, WindowsLaw};
 ghost use Rattle.pnp_model.specs.Laws.{DiagramLaw, SharingLaw, WholeLaw, VetoLaw, FutileLaw, DependentsLaw, ConflictLaw};
 
@@ -249,4 +250,22 @@ pub fn needs_are_clipped()
 /// for which one of them has a window lies in that window.
 pub fn held_inside_windows()
     ensures { WindowsLaw }
+{}
+
+/// In each state of each run a device to which a handle is open is there, and is Started, StopPending, Stopped or
+/// SurpriseRemoved; the list of open handles stands in order of serial, and of each device in it at least one is open.
+pub fn open_handles_fit()
+    ensures { HandlesLaw }
+{}
+
+/// In each state of each run in which neither a surprise removal nor a finish runs, all that depends on a device that is
+/// SurpriseRemoved is SurpriseRemoved too.
+pub fn dependents_are_told()
+    ensures { DependentsToldLaw }
+{}
+
+/// In each state of each run in which neither a surprise removal nor a finish runs, each device that is ready to be finished has
+/// a `finish` task: it is SurpriseRemoved, no handle to it is open, and nothing that hangs on it has drivers.
+pub fn ready_ones_are_due()
+    ensures { ReadyLaw }
 {}

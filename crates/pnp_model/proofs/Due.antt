@@ -1,7 +1,7 @@
 -- What is due is begun next.
 use Rattle.std.proofs.Common.{ℕ, ◌≡◌, Bool, true, false, List, [], ◌∷◌, Option, Some, None, refl, ap, ◌∙◌, subst}
 use Rattle.std.specs.List.{find, slice_get}
-use Rattle.pnp_model.specs.Records.{State, Settings, Step, Activity, Task, Duty, Operation, Beginning}
+use Rattle.pnp_model.specs.Records.{State, Settings, Activity, Task, Duty, Operation, Beginning}
 use Rattle.pnp_model.specs.Records.Doing.{Does}
 use Rattle.pnp_model.specs.Cores.{node_at}
 use Rattle.pnp_model.specs.Tasks.{begin_step}

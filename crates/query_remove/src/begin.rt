@@ -39,8 +39,7 @@ fn queried(alloc: Global, tree: &Tree, set: &SerialSet) -> Result<SerialQueue, W
 
 impl Removal {
     /// The removal of a device begins: its dependents and then it itself are to be asked, those that are Started or wait
-    /// to be finished. The line is that of the begin.
-    /// Condition: the device is there. Cost: that of `Relations::leaving`.
+    /// to be finished. The line is that of the begin. Condition: the device is there. Cost: that of `Relations::leaving`.
     pub fn begin(
         alloc: Global,
         tree: &Tree,

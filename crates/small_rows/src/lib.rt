@@ -4,6 +4,8 @@
 #[cfg(test)]
 mod bridges;
 #[cfg(test)]
+mod handles;
+#[cfg(test)]
 mod places;
 #[cfg(test)]
 mod ports;

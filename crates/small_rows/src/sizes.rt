@@ -1,8 +1,9 @@
 //! Sizes that a body which shifts, copies or goes through whole lists does not end in a minute: a pool of a million values,
-//! and 300,000 nodes of a tree.
+//! 300,000 nodes of a tree, and 200,000 nodes each below the last one.
 ghost use Rattle.std.specs.Prelude.{◌≡◌, ◌<◌, ◌+◌, ◌^◌, length, IfSome, IfOk, OnOk};
 ghost use Rattle.node_pool.specs.Chains.{Stands};
 
+use bridge_windows::{Bridges, clip};
 use device_ids::{IdList, InstancePath};
 use devnode_tree::Tree;
 use node_pool::{Place, Pool};
@@ -100,14 +101,14 @@ fn path(alloc: Global, device: &str, number: u64) -> Result<InstancePath, Fail> 
     Ok(InstancePath::read(alloc, text.as_bytes())?)
 }
 
-/// One node more below the root.
-fn join(alloc: Global, tree: &mut Tree, number: u64) -> Result<(), Fail>
+/// One node more below a parent.
+fn join(alloc: Global, tree: &mut Tree, parent: u64, number: u64) -> Result<(), Fail>
     requires { tree.old.next < 2 ^ 63 }
     ensures { OnOk result (tree.new.next ≡ tree.old.next + 1) }
 {
     let (hw, compat) = (IdList::new(alloc), IdList::new(alloc));
     let path = path(alloc, "OWN\\DEV", number)?;
-    tree.join(0, number, path, hw, compat, Reqs::new(alloc))?;
+    tree.join(parent, number, path, hw, compat, Reqs::new(alloc))?;
     Ok(())
 }
 
@@ -115,7 +116,7 @@ fn join(alloc: Global, tree: &mut Tree, number: u64) -> Result<(), Fail>
 fn wide_tree(alloc: Global, count: u32) -> Result<Tree, Fail> {
     let mut tree = Tree::new(alloc)?;
     'nodes: for number in 0..count {
-        join(alloc, &mut tree, number as u64 + 1)?;
+        join(alloc, &mut tree, 0, number as u64 + 1)?;
     }
     Ok(tree)
 }
@@ -128,5 +129,32 @@ fn nodes_found_by_their_paths(rt: HostRuntime) -> Result<(), Fail> {
         let path = path(alloc, "own\\dev", number)?;
         assert!(rt; tree.find(&path) == Some(number), "{number}");
     }
+    Ok(())
+}
+
+/// What a device that requires nothing may require below a node, where no window was set.
+fn unclipped(alloc: Global, tree: &Tree, parent: u64) -> Result<u64, Fail> {
+    if tree.node(parent).is_none() {
+        return Err(Fail::from("the parent"));
+    }
+    let reqs = Reqs::new(alloc);
+    let clipped = clip(alloc, tree, &Bridges::new(alloc), parent, &reqs)?;
+    Ok(clipped.len() as u64)
+}
+
+/// A tree with so many nodes, each below the last one.
+fn deep_tree(alloc: Global, count: u32) -> Result<Tree, Fail> {
+    let mut tree = Tree::new(alloc)?;
+    'nodes: for number in 0..count {
+        unclipped(alloc, &tree, number as u64)?;
+        join(alloc, &mut tree, number as u64, number as u64 + 1)?;
+    }
+    Ok(tree)
+}
+
+#[test]
+fn no_climb_without_a_window(rt: HostRuntime) -> Result<(), Fail> {
+    let tree = deep_tree(rt.alloc(), 200_000)?;
+    assert_eq!(rt; tree.len(), 200_001);
     Ok(())
 }

@@ -4,3 +4,7 @@ pub mod Stepping
 pub mod Direct
 pub mod Deciding
 pub mod Given
+pub mod Hanging
+pub mod Readying
+pub mod FinishMoves
+pub mod FinishGiven

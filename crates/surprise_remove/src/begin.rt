@@ -6,6 +6,7 @@ ghost use Rattle.pnp_model.specs.Surprises.{is_told_node};
 ghost use Rattle.surprise_remove.specs.Begins.{BegunFor};
 
 use crate::frame::{Stage, Surprise};
+use crate::readiness::was_told;
 use device_ids::{Text, WantOfMemory};
 use device_stack::Walk;
 use devnode_tree::Tree;
@@ -20,16 +21,6 @@ fn is_told(tree: &Tree, serial: u64) -> bool
 {
     match tree.node(serial) {
         Some(node) => matches!(node.state, DevState::Started | DevState::Stopped),
-        None => false,
-    }
-}
-
-/// Whether a device is there, and SurpriseRemoved.
-fn was_told(tree: &Tree, serial: u64) -> bool
-    ensures { result ≡ was_told (node_at serial tree.now.nodes) }
-{
-    match tree.node(serial) {
-        Some(node) => node.state == DevState::SurpriseRemoved,
         None => false,
     }
 }

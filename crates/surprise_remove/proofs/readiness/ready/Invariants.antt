@@ -1,0 +1,9 @@
+use Rattle.std.proofs.Common.{◌≡◌, [], drop}
+use Rattle.pnp_model.specs.Keyed.{those}
+use Rattle.pnp_model.specs.Handles.{is_ready_device}
+use Rattle.relations.specs.Leaving.{base}
+use Rattle.surprise_remove.proofs.readiness.ready.Given as goal
+
+-- from this place on none is ready
+abbrev pub invariant-loop-at : goal.invariant-loop-at
+invariant-loop-at l = those (is_ready_device (base l.tree.nodes l.relations) l.handles) (drop l.at l.tree.nodes) ≡ []
