@@ -1,8 +1,8 @@
 -- Who declines, and who hears of it.
-use Rattle.std.proofs.Common.{ℕ, ◌≡◌, Bool, true, false, List, [], ◌∷◌, ◌++◌, Option, Some, None, refl, sym, ap, ◌∙◌, subst, reverse, append_assoc, append-nil}
+use Rattle.std.proofs.Common.{◌≡◌, Bool, true, false, List, [], ◌∷◌, ◌++◌, Option, Some, None, refl, sym, ap, ◌∙◌, subst, reverse, append_assoc, append-nil}
 use Rattle.std.specs.Prelude.{map}
 use Rattle.std.proofs.lemmas.List.{map-append}
-use Rattle.pnp_model.specs.Records.{Driver, State, Step, Settings, Beginning}
+use Rattle.pnp_model.specs.Records.{Driver, Settings, Beginning}
 use Rattle.pnp_model.specs.Cores.{node_at, path_of}
 use Rattle.pnp_model.specs.States.{node_of}
 use Rattle.pnp_model.specs.Machine as ma
@@ -241,9 +241,15 @@ declined_after settings rack entries f label g run goes =
     let h = d.refused in
     let e = d.entry in
     let all : h.agreed ≡ h.heard = h.rest ∙ append-nil h.heard in
-    let named : label ≡ Label.Declined d.first.kind (path_of (node_at d.first.serial f.state.core.nodes)) d.client = cc in
-    (
-      d.first, h.agreed, h.r, h.others, h.earlier, d.is_due, h.set, h.refuses,
+    let named : label ≡ Label.Declined d.first.kind (path_of (node_at d.first.serial f.state.core.nodes)) d.client = cc in (
+      d.first,
+      h.agreed,
+      h.r,
+      h.others,
+      h.earlier,
+      d.is_due,
+      h.set,
+      h.refuses,
       named ∙ ap (λ (c : Text). Label.Declined d.first.kind (path_of (node_at d.first.serial f.state.core.nodes)) c) h.named,
       h.is ∙ ap (λ (l : List Registration). h.earlier ++ (map asked (reverse h.agreed) ++ refused h.r ∷ map cancelled l)) (sym all),
     )

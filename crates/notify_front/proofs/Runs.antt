@@ -1,7 +1,7 @@
 -- The front's runs are runs of the machine.
-use Rattle.std.proofs.Common.{ℕ, ◌≡◌, Bool, true, false, List, [], ◌∷◌, Option, Some, None, refl, sym, ap, ◌∙◌, subst, reverse}
+use Rattle.std.proofs.Common.{◌≡◌, Bool, true, false, List, [], ◌∷◌, Option, Some, None, refl, sym, ap, subst, reverse}
 use Rattle.std.specs.Prelude.{option_map}
-use Rattle.pnp_model.specs.Records.{Driver, Node, State, Step, Settings, Operation, Doing, doing_map, Beginning, Found}
+use Rattle.pnp_model.specs.Records.{Node, State, Step, Settings, Operation, Doing, doing_map, Beginning}
 use Rattle.pnp_model.specs.Records.Doing.{Does, Searches}
 use Rattle.pnp_model.specs.Cores.{node_at}
 use Rattle.pnp_model.specs.States.{node_of}

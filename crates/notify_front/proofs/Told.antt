@@ -1,12 +1,12 @@
 -- Who was asked, and who hears.
-use Rattle.std.proofs.Common.{ℕ, ◌≡◌, ◌⊎◌, inl, inr, Bool, true, false, List, [], ◌∷◌, ◌++◌, Option, Some, None, refl, sym, ap, ◌∙◌, subst, reverse, append_assoc, append-nil}
-use Rattle.std.specs.Prelude.{map, option_map}
+use Rattle.std.proofs.Common.{◌≡◌, inl, inr, Bool, true, false, List, [], ◌∷◌, ◌++◌, Option, Some, None, refl, sym, ap, ◌∙◌, subst, reverse, append_assoc, append-nil}
+use Rattle.std.specs.Prelude.{map}
 use Rattle.std.proofs.lemmas.Grind.{reverse_onto}
 use Rattle.std.proofs.lemmas.List.{map-append}
-use Rattle.pnp_model.specs.Records.{Driver, Node, State, Step, Settings, Operation, Beginning}
+use Rattle.pnp_model.specs.Records.{Driver, State, Step, Settings, Operation, Beginning}
 use Rattle.pnp_model.specs.States.{node_of}
 use Rattle.pnp_model.specs.Machine as ma
-use Rattle.pnp_model.specs.Runs.{Entry, Run, Goes, opening}
+use Rattle.pnp_model.specs.Runs.{Entry, Run, opening}
 use Rattle.pnp_model.specs.Events.{happens}
 use Rattle.pnp_model.specs.Laws.{IsWithin, AllWithin}
 use Rattle.pnp_model.proofs.Due.{due_is_first}
@@ -168,7 +168,7 @@ asked_keeps entries f first agreed r left true all (earlier, is) =
       ends = (
         earlier,
         ap (λ (l : List FrontEntry). l ++ asked r ∷ []) is ∙ append_assoc earlier (map asked (reverse agreed)) (asked r ∷ [])
-        ∙ ap (λ (l : List FrontEntry). earlier ++ l) (sym (map-append asked (reverse agreed) (r ∷ [])) ∙ ap (map asked) (sym (reverse_onto agreed r []))),
+            ∙ ap (λ (l : List FrontEntry). earlier ++ l) (sym (map-append asked (reverse agreed) (r ∷ [])) ∙ ap (map asked) (sym (reverse_onto agreed r []))),
       );
     }
 

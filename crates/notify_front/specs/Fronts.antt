@@ -1,5 +1,5 @@
 -- What stands before the machine: clients that are registered on devices are asked before a removal, and told of its end.
-use Rattle.std.specs.Prelude.{ℕ, zero, suc, ◌==◌, ◌≡◌, Bool, true, false, ◌&&◌, List, [], ◌∷◌, ◌++◌, Option, Some, None, find, option_map, reverse, nat_lt}
+use Rattle.std.specs.Prelude.{ℕ, ◌==◌, ◌≡◌, Bool, true, false, ◌&&◌, List, [], ◌∷◌, ◌++◌, Option, Some, None, find, option_map, reverse, nat_lt}
 use Rattle.std.specs.List.{list_any}
 use Rattle.std.specs.Str.{bytes_eq}
 use Rattle.resource_reqs.specs.Spelling.{IsAnswer}
