@@ -153,6 +153,7 @@ fn teach<R: Drivers>(
 /// The device arrives: the lines that follow, and the end of the output.
 fn arrive<R: Drivers>(alloc: Global, manager: &mut Manager<R>) -> Result<Vec<u8>, WantOfMemory>
     requires { manager.old.events ≤ 2 }
+    ensures { OnOk result (manager.new.events ≤ 3) }
 {
     let mut out = Vec::with_capacity(alloc, 4096)?;
     happen(manager, arrival(alloc)?)?;
@@ -168,6 +169,7 @@ fn play<R: Drivers>(
     answer: Answer,
 ) -> Result<Vec<u8>, WantOfMemory>
     requires { manager.old.events ≡ 0 }
+    ensures { OnOk result (manager.new.events ≤ 3) }
 {
     teach(alloc, manager, answer)?;
     arrive(alloc, manager)
@@ -184,6 +186,45 @@ fn lines_again(alloc: Global, answer: Answer) -> Result<Vec<u8>, WantOfMemory> {
     match lines(alloc, answer) {
         Ok(out) => Ok(out),
         Err(_) => lines(alloc, answer),
+    }
+}
+
+/// An event happens, and the lines that follow are appended.
+fn follow<R: Drivers>(
+    alloc: Global,
+    manager: &mut Manager<R>,
+    event: Event,
+    out: &mut Vec<u8>,
+) -> Result<(), WantOfMemory>
+    requires { manager.old.events < 2 ^ 24 }
+    ensures { OnOk result (manager.new.events ≤ manager.old.events + 1) }
+{
+    happen(manager, event)?;
+    settle(alloc, manager, out)
+}
+
+/// The lines of a device that is pulled while a handle to it is open, and those that follow when the handle is closed.
+fn held_lines(alloc: Global) -> Result<Vec<u8>, WantOfMemory> {
+    let mut manager = one_driver(alloc)?;
+    play(alloc, &mut manager, Answer::Ok)?;
+    let mut out = Vec::with_capacity(alloc, 4096)?;
+    let path = path(alloc, b"OWN\\DEV\\1")?;
+    let opened = path.copy(alloc)?;
+    let pulled = path.copy(alloc)?;
+    let open = Event::OpenHandle { path: opened };
+    follow(alloc, &mut manager, open, &mut out)?;
+    let pull = Event::Pull { path: pulled };
+    follow(alloc, &mut manager, pull, &mut out)?;
+    let close = Event::CloseHandle { path };
+    follow(alloc, &mut manager, close, &mut out)?;
+    Ok(out)
+}
+
+/// The same, made anew where memory was refused outside a step.
+fn held_again(alloc: Global) -> Result<Vec<u8>, WantOfMemory> {
+    match held_lines(alloc) {
+        Ok(out) => Ok(out),
+        Err(_) => held_lines(alloc),
     }
 }
 
@@ -226,6 +267,26 @@ fn a_start_waits_and_goes_on(rt: HostRuntime) -> Result<(), Fail> {
         map\n\
         outstanding\n\
         OWN\\DEV\\1 START_DEVICE serial\n";
+    assert_eq!(rt; out.as_slice(), expected.as_slice());
+    Ok(())
+}
+
+#[test]
+fn a_device_waits_for_its_handle(rt: HostRuntime) -> Result<(), Fail> {
+    let alloc = rt.alloc();
+    let out = held_again(alloc)?;
+    let expected = b"gone OWN\\DEV\\1\n\
+        listed HTREE\\ROOT\\0\n\
+        begin surprise OWN\\DEV\\1\n\
+        SURPRISE_REMOVAL OWN\\DEV\\1 serial ok\n\
+        state OWN\\DEV\\1 SurpriseRemoved\n\
+        waits OWN\\DEV\\1\n\
+        end surprise OWN\\DEV\\1 waiting\n\
+        begin finish OWN\\DEV\\1\n\
+        REMOVE_DEVICE OWN\\DEV\\1 serial ok\n\
+        state OWN\\DEV\\1 NoStack\n\
+        leave OWN\\DEV\\1\n\
+        end finish OWN\\DEV\\1 done\n";
     assert_eq!(rt; out.as_slice(), expected.as_slice());
     Ok(())
 }
