@@ -1,13 +1,12 @@
 -- A front that is left alone comes to rest.
-use Rattle.std.proofs.Common.{ℕ, zero, suc, ◌≤◌, ◌≡◌, List, [], ◌∷◌, ◌++◌, length, Option, Some, None, refl, sym, subst, arith}
+use Rattle.std.proofs.Common.{ℕ, zero, suc, ◌<◌, ◌≤◌, ◌≡◌, List, [], ◌∷◌, ◌++◌, length, Option, Some, None, refl, arith}
 use Rattle.pnp_model.specs.Records.{Driver, Settings, Doing}
 use Rattle.pnp_model.specs.Runs.{Entry}
-use Rattle.pnp_labels.specs.declared.label.Label.{Label}
 use Rattle.pnp_laws.proofs.RunsStep.{quiet_where_it_rests}
 use Rattle.notify_front.specs.Fronts.{Front, FrontEntry, FrontStep, FrontSteps, IsFrontQuiet, front_next}
-use Rattle.notify_front.specs.Laws.{AllOwn, ComesToRest, IsOwn, RestLaw}
+use Rattle.notify_front.specs.Laws.{AllOwn, IsOwn, RestLaw}
 use Rattle.notify_front.specs.Notices.{FrontGoes, FrontRun, machine_part}
-use Rattle.notify_front.proofs.FrontLeft.{front_steps_left, none_left, one_less, step_falls}
+use Rattle.notify_front.proofs.FrontLeft.{front_steps_left, one_less, step_falls}
 use Rattle.notify_front.proofs.OneWay.{front_step_of, some_front_step}
 use Rattle.notify_front.proofs.Runs.{quiet_hand}
 use Rattle.notify_front.proofs.Told.{Kept, kept_goes, reached_kept}
@@ -52,29 +51,28 @@ rest_after : (settings : Settings) (rack : List Driver) (f g : Front) (entry : F
 rest_after settings rack f g entry own goes h =
     record { steps = entry ∷ h.steps; last = h.last; alone = (own, h.alone); run = (g, goes, h.run); quiet = h.quiet; entries = h.entries; kept = h.kept }
 
-front_rests : (n : ℕ) (settings : Settings) (rack : List Driver) (entries : List FrontEntry) (f : Front) → Kept settings rack entries f → front_steps_left settings f ≤ n → ReachesRest settings rack f
-front_rests zero settings rack entries f kept few = by_next (front_next settings f) refl
-  where
-    by_next : (o : Option (Doing FrontStep)) → front_next settings f ≡ o → ReachesRest settings rack f
-    by_next None e = rest_here settings rack entries f kept e
-    by_next (Some doing) e = let less = one_less settings rack entries f (front_step_of settings doing) kept (some_front_step settings f doing e) in absurd (omega arith)
-front_rests (suc n) settings rack entries f kept few = by_next (front_next settings f) refl
-  where
-    by_next : (o : Option (Doing FrontStep)) → front_next settings f ≡ o → ReachesRest settings rack f
-    by_next None e = rest_here settings rack entries f kept e
-    by_next (Some doing) e =
-        let step = front_step_of settings doing in
-        let is = some_front_step settings f doing e in
-        let less = one_less settings rack entries f step kept is in
-        let own = (step_falls settings rack entries f kept step is).own in
-        let goes = step_goes settings f step.entry step.front own is in
-        rest_after settings rack f step.front step.entry own goes
-        (front_rests n settings rack (entries ++ step.entry ∷ []) step.front (kept_goes settings rack entries f step.entry step.front kept goes) (omega arith))
+-- where it does so from each front after the next step, so from this one
+rests_by : (settings : Settings) (rack : List Driver) (entries : List FrontEntry) (f : Front) → Kept settings rack entries f →
+    ((more : List FrontEntry) (g : Front) → Kept settings rack more g → front_steps_left settings f ≡ suc (front_steps_left settings g) → ReachesRest settings rack g) →
+    (o : Option (Doing FrontStep)) → front_next settings f ≡ o → ReachesRest settings rack f
+rests_by settings rack entries f kept after None e = rest_here settings rack entries f kept e
+rests_by settings rack entries f kept after (Some doing) e =
+    let step = front_step_of settings doing in
+    let is = some_front_step settings f doing e in
+    let own = (step_falls settings rack entries f kept step is).own in
+    let goes = step_goes settings f step.entry step.front own is in
+    rest_after settings rack f step.front step.entry own goes
+    (after (entries ++ step.entry ∷ []) step.front (kept_goes settings rack entries f step.entry step.front kept goes) (one_less settings rack entries f step kept is))
+
+front_rests : (n : ℕ) (settings : Settings) (rack : List Driver) (entries : List FrontEntry) (f : Front) → Kept settings rack entries f → front_steps_left settings f < n → ReachesRest settings rack f
+front_rests zero settings rack entries f kept few = absurd (omega arith)
+front_rests (suc n) settings rack entries f kept few =
+    rests_by settings rack entries f kept (λ more g kept_g less. front_rests n settings rack more g kept_g (omega arith)) (front_next settings f) refl
 
 pub each_rests : RestLaw
 each_rests settings rack entries f run =
     let kept = reached_kept settings rack entries f run in
-    let h = front_rests (front_steps_left settings f) settings rack entries f kept (omega arith) in
+    let h = front_rests (suc (front_steps_left settings f)) settings rack entries f kept (omega arith) in
     let quiet = (quiet_hand settings h.last h.last.hand h.kept.fits h.quiet).quiet in
     record {
       bound = front_steps_left settings f;

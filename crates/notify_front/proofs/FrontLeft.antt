@@ -1,19 +1,17 @@
 -- How many steps follow before a front rests that is left alone: one number for each front, which falls by one with each step of a run.
-use Rattle.std.proofs.Common.{ℕ, zero, suc, ◌+◌, ◌*◌, ◌<◌, ◌≤◌, ◌≡◌, ◌⊎◌, inl, inr, Bool, true, false, List, [], ◌∷◌, ◌++◌, length, Option, Some, None, refl, sym, ap, ◌∙◌, subst, reverse, arith, length-append}
+use Rattle.std.proofs.Common.{ℕ, zero, suc, ◌+◌, ◌*◌, ◌<◌, ◌≤◌, ◌≡◌, ◌⊎◌, inl, inr, Bool, true, false, List, [], ◌∷◌, length, Option, Some, None, refl, sym, ap, ◌∙◌, subst, reverse, arith, length-append}
 use Rattle.std.specs.Prelude.{if◌then◌else◌}
 use mathlib.Core.WellFounded.{Acc, WellFounded, fix, fix-eq}
 use native.Mathlib.Decide.{dec_lt, dec_le}
 use Rattle.pnp_model.specs.Keyed.{those, without_first}
-use Rattle.pnp_model.specs.Records.{Driver, State, Step, Settings, Doing, Duty, Beginning}
-use Rattle.pnp_model.specs.Cores.{node_at, path_of}
+use Rattle.pnp_model.specs.Records.{Driver, State, Settings, Doing, Duty, Beginning}
 use Rattle.pnp_model.specs.States.{drop_task}
 use Rattle.pnp_model.specs.Tests.{is_surprise_task}
 use Rattle.pnp_model.specs.Trees.{leaving}
 use Rattle.pnp_model.specs.Tasks as tk
 use Rattle.pnp_model.specs.Machine as ma
-use Rattle.pnp_model.specs.Runs.{Entry, opening}
+use Rattle.pnp_model.specs.Runs.{opening}
 use Rattle.pnp_model.proofs.Due.{due_is_first}
-use Rattle.pnp_labels.specs.Texts.{Text}
 use Rattle.pnp_labels.specs.declared.label.Label.{Label}
 use Rattle.pnp_labels.specs.declared.label.NoticeKind.{NoticeKind}
 use Rattle.pnp_labels.specs.declared.label.OpKind.{OpKind}
@@ -70,7 +68,7 @@ over_left f (r ∷ left) = refl
 -- with a registration less nobody more is asked
 those_less : {A : Type 0} (q p : A → Bool) (xs : List A) → length (those q (without_first p xs)) ≤ length (those q xs)
 those_less q p [] = omega arith
-those_less {A = A} q p (x ∷ xs) = by_test (p x)
+those_less {A = A} q p (x ∷ xs) = by_test (p x) (those_less q p xs)
   where
     one_more : (b : Bool) → length (those q xs) ≤ length (if b then x ∷ those q xs else those q xs)
     one_more true = omega arith
@@ -80,9 +78,9 @@ those_less {A = A} q p (x ∷ xs) = by_test (p x)
     alike ys true less = omega arith
     alike ys false less = less
 
-    by_test : (b : Bool) → length (those q (if b then xs else x ∷ without_first p xs)) ≤ length (if q x then x ∷ those q xs else those q xs)
-    by_test true = one_more (q x)
-    by_test false = alike (without_first p xs) (q x) (those_less q p xs)
+    by_test : (b : Bool) → length (those q (without_first p xs)) ≤ length (those q xs) → length (those q (if b then xs else x ∷ without_first p xs)) ≤ length (if q x then x ∷ those q xs else those q xs)
+    by_test true less = one_more (q x)
+    by_test false less = alike (without_first p xs) (q x) less
 
 on_each_less : (ks : List ℕ) (p : Registration → Bool) (xs : List Registration) → length (on_each ks (without_first p xs)) ≤ length (on_each ks xs)
 on_each_less [] p xs = omega arith
@@ -156,14 +154,15 @@ fewer_still a b n h g = omega arith
 
 end_by : (w x y z : ℕ) → ((v a b c : ℕ) → (v < w) ⊎ ((v ≤ w) × Lower a b c x y z) → AllEnd v a b c) → (n : ℕ) (f : Front) → notices_left f < n → Under w x y z f.state → Acc FrontLower f
 end_by w x y z lower zero f few under = absurd (omega arith)
-end_by w x y z lower (suc n) f few under = Acc.intro f below
-  where
-    below : (g : Front) → FrontLower g f → Acc FrontLower g
-    below g (inl less) =
-        lower (join_price g.state) (first_of g.state) (left_of g.state.operation) (last_of g.state)
-        (lower_under (join_price g.state) (first_of g.state) (left_of g.state.operation) (last_of g.state) (join_price f.state) (first_of f.state) (left_of f.state.operation) (last_of f.state) w x y z less under)
-        g (at_most_self g.state)
-    below g (inr (most, fewer)) = end_by w x y z lower n g (fewer_still (notices_left g) (notices_left f) n fewer few) (under_both w x y z g.state f.state most under)
+end_by w x y z lower (suc n) f few under =
+    Acc.intro f
+    (λ g below. elim below [
+      | inl less ↦
+          lower (join_price g.state) (first_of g.state) (left_of g.state.operation) (last_of g.state)
+          (lower_under (join_price g.state) (first_of g.state) (left_of g.state.operation) (last_of g.state) (join_price f.state) (first_of f.state) (left_of f.state.operation) (last_of f.state) w x y z less under)
+          g (at_most_self g.state)
+      | inr (most, fewer) ↦ end_by w x y z lower n g (fewer_still (notices_left g) (notices_left f) n fewer few) (under_both w x y z g.state f.state most under)
+    ])
 
 all_end : (w x y z : ℕ) → AllEnd w x y z
 all_end = by_four AllEnd (λ w x y z lower f under. end_by w x y z lower (suc (notices_left f)) f (omega arith) under)
