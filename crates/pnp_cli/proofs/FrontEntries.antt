@@ -8,7 +8,7 @@ use Rattle.notify_front.specs.Fronts.{Front, FrontEntry, IsFrontQuiet, front_hap
 use Rattle.notify_front.specs.Fronts.FrontEntry.{Passes, Tells, Watches}
 use Rattle.notify_front.specs.Laws.{AllOwn, IsOwn}
 use Rattle.notify_front.specs.Notices.{FrontGoes, FrontRun}
-use Rattle.notify_front.proofs.FrontEnd.{step_goes}
+use Rattle.notify_front.proofs.OwnSteps.{goes_on, own_step}
 use Rattle.pnp_cli.specs.Lawful.{happened}
 use Rattle.pnp_cli.specs.Outputs.{Settles}
 
@@ -27,8 +27,7 @@ pub made_by : (settings : Settings) (f new : Front) (labels : List Label) → Se
 made_by settings f new [] h = record { entries = []; run = h.0; alone = tt; shows = refl }
 made_by settings f new (label ∷ labels) (mid, (entry, is, steps), more) =
     let rest = made_by settings mid new labels more in
-    let own = step_goes settings f entry mid steps in
-    record { entries = entry ∷ rest.entries; run = (mid, own.0, rest.run); alone = (own.1, rest.alone); shows = ap₂ (λ x xs. x ∷ xs) (sym is) rest.shows }
+    record { entries = entry ∷ rest.entries; run = (mid, goes_on settings f entry mid steps, rest.run); alone = (own_step settings f entry mid steps, rest.alone); shows = ap₂ (λ x xs. x ∷ xs) (sym is) rest.shows }
 
 pub settles_quiet : (settings : Settings) (f new : Front) (labels : List Label) → Settles settings f labels new → IsFrontQuiet settings new
 settles_quiet settings f new [] h = subst (λ (x : Front). IsFrontQuiet settings x) (sym h.0) h.1
