@@ -8,6 +8,7 @@ mod commands;
 mod devices;
 mod devices_operations;
 mod disabled;
+mod due;
 mod ending;
 mod events;
 mod handles;
