@@ -7,7 +7,6 @@ ghost use Rattle.pnp_machine.specs.Dues.{beginning_of};
 
 use crate::machine::Machine;
 use crate::tasks::Duty;
-use crate::turn::Turn;
 use driver_rack::Drivers;
 use pnp_labels::OpKind;
 
@@ -35,16 +34,12 @@ impl<R: Drivers> Machine<R> {
     pub(crate) fn due(&self) -> Option<(OpKind, u64)>
         ensures { option_map beginning_of result ≡ due self.now }
     {
-        match self.turn() {
-            Turn::Do(Duty::Begin(kind), serial) => {
-                if self.begins(kind, serial) {
-                    Some((kind, serial))
-                } else {
-                    None
-                }
-            }
-            Turn::Do(Duty::List | Duty::Start, _) => None,
-            Turn::Quiet | Turn::Operate | Turn::Act(_) => None,
+        if self.operation.is_some() || !self.starts.works().is_empty() {
+            return None;
+        }
+        match self.tasks.first()? {
+            (Duty::Begin(kind), serial) if self.begins(kind, serial) => Some((kind, serial)),
+            (Duty::Begin(_) | Duty::List | Duty::Start, _) => None,
         }
     }
 
