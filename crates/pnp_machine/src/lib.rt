@@ -25,3 +25,4 @@ mod tasks;
 mod turn;
 
 pub use manager::{Manager, Moved};
+pub use needs::needs_are_few;
