@@ -1,7 +1,7 @@
 use Rattle.std.proofs.Common.{◌∙◌, sym}
 use Rattle.pnp_model.specs.Cores.{node_at}
 use Rattle.pnp_machine.proofs.Dues.{change_begins}
-use Rattle.pnp_machine.proofs.due.Machine.begins.Goals as goal
+use Rattle.pnp_machine.proofs.machine.Machine.begins.Goals as goal
 
 pub returns-in-Change : goal.returns-in-Change
 returns-in-Change g c =
