@@ -56,9 +56,9 @@ def sweep(so, name, words, variable, counted, allowed):
 
 
 def swept():
-    """A name, the words and the wanted output of each script whose calls fail: the three of scripts/, and three examples."""
+    """A name, the words and the wanted output of each script whose calls fail: the four of scripts/, and three examples."""
     own = os.path.join(HERE, "scripts")
-    for name in ("chain", "veto", "failed_restart"):
+    for name in ("chain", "veto", "failed_restart", "clients"):
         yield "scripts/" + name, [os.path.join(own, name + ".pnp"), os.path.join(own, "own.inf")], os.path.join(own, name + ".out")
     for name in ("rebalance_chain", "veto", "failed_restart"):
         folder = os.path.join(EXAMPLES, name)
