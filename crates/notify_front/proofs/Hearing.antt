@@ -1,4 +1,4 @@
--- Each client that is to hear a result hears it once.
+-- Each registration on the set has its one result.
 use Rattle.std.proofs.Common.{◌≡◌, List, [], ◌∷◌, ◌++◌, Option, Some, None, refl, sym, ap, ◌∙◌, subst, reverse}
 use Rattle.std.specs.Prelude.{map}
 use Rattle.pnp_model.specs.Records.{Driver, State, Step, Settings, Beginning}
