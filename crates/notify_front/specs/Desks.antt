@@ -11,7 +11,7 @@ use Rattle.pnp_laws.specs.Ends as ends
 use Rattle.pnp_machine.specs.Managers.{Manager, settings}
 use Rattle.pnp_machine.specs.declared.manager.Moved.{Moved}
 use Rattle.pnp_machine.specs.declared.manager.Moved.TheVariants.{Label as Printed, Quiet}
-use Rattle.notify_front.specs.Fronts.{Front, FrontEntry, FrontStep, FrontSteps, IsFrontQuiet, Registration, Hand, front_printed, opening_front, on_set}
+use Rattle.notify_front.specs.Fronts.{Answered, Front, FrontEntry, FrontStep, FrontSteps, IsFrontQuiet, Registration, Hand, front_printed, opening_front, on_set}
 use Rattle.notify_front.specs.Notices.{FrontGoes, FrontRun, machine_part}
 use Rattle.notify_front.specs.Laws.{IsTold, asked, refused, cancelled, IsDeclinedAfter}
 
@@ -54,6 +54,10 @@ pub record IsOfFrontRun (told : Settings) (events : ℕ) (f : Front) : Type 0 wh
 -- what was printed and what is there now are those of the step
 abbrev pub IsFrontDone : FrontStep → Label → Front → Type 0
 IsFrontDone step label new = (label ≡ front_printed step.entry) × (new ≡ step.front)
+
+-- what was printed and what is there now are those of a client's event
+abbrev pub IsAnswered : Answered → Label → Front → Type 0
+IsAnswered answered label new = (label ≡ answered.label) × (new ≡ answered.front)
 
 -- a step was made, or none is next
 abbrev pub FrontMoves : Settings → Front → Moved → Front → Type 0
