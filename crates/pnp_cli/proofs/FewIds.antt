@@ -10,7 +10,7 @@ use Rattle.pnp_labels.specs.declared.event.Event.TheVariants as events
 use Rattle.pnp_labels.specs.declared.label.EventWord.{EventWord}
 use Rattle.pnp_labels.specs.declared.label.EventWord.TheVariants as words
 use Rattle.script_reader.specs.Numbers.{◌>>=◌, only_if}
-use Rattle.script_reader.specs.Tables.{keyword_of, driver_kind_of, rel_kind_of, minor_of, ok_of}
+use Rattle.script_reader.specs.Tables.{agrees_of, keyword_of, driver_kind_of, rel_kind_of, minor_of, ok_of}
 use Rattle.script_reader.specs.Wants.{at_most, all_of, group_of, list_of, id_of, ids_of}
 use Rattle.script_reader.specs.Words.{is_name, words_of}
 use Rattle.script_reader.specs.Lines.{event_of, event_by, plug_of, plugged, path_of, name_of, once, hw_of, compat_of, reqs_from, reqs_of, values, is_attribute, is_need, uses_by, rule_of, res_of, window_res_of}
@@ -179,6 +179,13 @@ few_by words.Change (path ∷ needs) =
     (λ path. few_within (reqs_of needs) (λ reqs. only_if (list_all is_need needs) (events.Change path reqs))
     (reqs_within (values (codes "reqs=") needs) (values (codes "need=") needs))
     (λ reqs within. few_if (list_all is_need needs) (events.Change path reqs) (tt, tt, within)))
+few_by words.Watch (client ∷ path ∷ agrees ∷ []) =
+    few_bind (name_of client) (λ client. path_of path >>= (λ path. agrees_of agrees >>= (λ agrees. Some (events.Watch client path agrees))))
+    (λ client. few_bind (path_of path) (λ path. agrees_of agrees >>= (λ agrees. Some (events.Watch client path agrees)))
+    (λ path. few_bind (agrees_of agrees) (λ agrees. Some (events.Watch client path agrees)) (λ agrees. (tt, tt, tt))))
+few_by words.Unwatch (client ∷ path ∷ []) =
+    few_bind (name_of client) (λ client. path_of path >>= (λ path. Some (events.Unwatch client path)))
+    (λ client. few_bind (path_of path) (λ path. Some (events.Unwatch client path)) (λ path. (tt, tt, tt)))
 few_by _ _ = tt
 
 few_event : (ws : List (List ℕ)) → Few (event_of ws)

@@ -1,5 +1,5 @@
 -- What is printed for a script tells a run, and that run keeps the laws.
-use Rattle.std.proofs.Common.{◌≡◌, ◌≢◌, ℕ, zero, suc, inl, inr, List, [], ◌∷◌, ◌++◌, Option, Some, None, IfSome, Result, Ok, Err, map, refl, sym, ◌∙◌, ap, subst, append_assoc}
+use Rattle.std.proofs.Common.{◌≡◌, ◌≢◌, ℕ, zero, suc, inl, inr, List, [], ◌∷◌, ◌++◌, Option, Some, None, IfSome, Result, Ok, Err, map, refl, sym, ◌∙◌, ap, ap₂, subst, append_assoc}
 use Rattle.std.specs.List.{AllByRecursion}
 use Rattle.std.specs.Prelude.{Contains}
 use Rattle.std.proofs.lemmas.List.Elements.{All-contains, All-from_recursion, Contains-append_left}
@@ -11,12 +11,11 @@ use Rattle.pnp_labels.specs.declared.words.DriverKind.{DriverKind}
 use Rattle.pnp_labels.specs.declared.label.Label.{Label}
 use Rattle.pnp_model.specs.Records as machines
 use Rattle.pnp_model.specs.Records.{Driver, State}
-use Rattle.pnp_model.specs.Machine.{IsQuiet}
-use Rattle.pnp_model.specs.Runs.{Entry, Run, printed, opening}
+use Rattle.pnp_model.specs.Runs.{Entry, printed, opening}
 use Rattle.pnp_model.specs.Runs.Entry.{Happens, Did, Declines}
 use Rattle.pnp_laws.specs.Stacks.{HasName, NamesDriver}
 use Rattle.pnp_laws.proofs.NamesGiven.{names_are_given}
-use Rattle.pnp_laws.proofs.Reaching.{run_on}
+use Rattle.pnp_laws.proofs.Reaching.{run_on as machine_on}
 use Rattle.pnp_laws.proofs.RunsShare.{nothing_clashes}
 use Rattle.pnp_laws.proofs.RunsHeld.{each_holds_a_part, few_held}
 use Rattle.pnp_laws.proofs.RunsKeys.{no_cycle, nothing_printed_clashes}
@@ -36,6 +35,14 @@ use Rattle.pnp_laws.proofs.JoinLimits.{joins_are_limited}
 use Rattle.pnp_laws.specs.Needs.{IsEntryWithin, IsEventWithin}
 use Rattle.pnp_laws.proofs.NodesPlugged.{needs_are_within}
 use Rattle.pnp_laws.proofs.TreePrints.{each_node_is_printed_once}
+use Rattle.notify_front.specs.Fronts.{Front, FrontEntry, FrontStep, IsFrontQuiet, front_happens, front_printed, opening_front}
+use Rattle.notify_front.specs.Fronts.FrontEntry.{Passes, Tells, Watches}
+use Rattle.notify_front.specs.Notices.{FrontGoes, FrontRun, machine_part}
+use Rattle.notify_front.specs.Desks.{Desk, front_of, told_of}
+use Rattle.notify_front.proofs.Alone.{machine_alone}
+use Rattle.notify_front.proofs.Declined.{declined_after}
+use Rattle.notify_front.proofs.Runs.{keeps_core, machine_run}
+use Rattle.notify_front.proofs.Told.{all_asked, all_hear}
 use Rattle.script_reader.specs.Script.{Trace, gives, waits, ends, stops}
 use Rattle.inf_reader.specs.declared.parts.Inf.{Inf}
 use Rattle.inf_reader.specs.declared.parts.InfError.{InfError}
@@ -47,95 +54,77 @@ use Rattle.pnp_cli.specs.Infs.{infs_in}
 use Rattle.pnp_cli.specs.Runs.{IsOutput, IsOutputBy, IsOutputFor, IsScriptOutput, IsSummaryBy, machine}
 use Rattle.pnp_cli.specs.Contents.{events_of}
 use Rattle.pnp_cli.specs.Words.{settings_of}
-use Rattle.pnp_cli.specs.Lawful.{happened, events_in, IsStep, IsTold, Said, SomeRun, OfRun, EachPassed, EachState, EachStep, OfScript, OfInfs, OfMade, OfSource, OfOutput, ByDiagram, NothingClashes, AllHoldWhole, OperationsBegan, EndsRestore, DependentsGoFirst, ConflictsAreReal, FewJoin, AllStatesTold, NodesAreKeyed, NothingOnItself, MapIsClear, AllStacksFit, NamesAreKnown, NobodyIsForgotten, EachHoldsPart, HeldInsideWindows, HandlesAreKept, FewAreHeld, NamesAreShown, ShowsName, TreeIsWhole}
+use Rattle.pnp_cli.specs.Lawful.{happened, events_in, IsStep, IsTold, Said, SomeRun, OfRun, EachPassed, EachState, EachStep, OfScript, OfInfs, OfMade, OfSource, OfOutput, ByDiagram, NothingClashes, AllHoldWhole, OperationsBegan, EndsRestore, DependentsGoFirst, ConflictsAreReal, FewJoin, AllStatesTold, NodesAreKeyed, NothingOnItself, MapIsClear, AllStacksFit, NamesAreKnown, NobodyIsForgotten, EachHoldsPart, HeldInsideWindows, HandlesAreKept, FewAreHeld, NamesAreShown, ShowsName, TreeIsWhole, OfFrontRun, EachFrontStep, MachineRuns, ClientsWereAsked, ClientsDecline, NoticesKeepAll, ClientsHear, MachineAlone}
 use Rattle.pnp_cli.specs.declared.infs.InfsError.{InfsError}
 use Rattle.pnp_cli.proofs.FewIds.{NamesByWord, names_by_words, script_within}
 use Rattle.pnp_cli.specs.declared.parts.Settings.{Settings}
-use Rattle.pnp_machine.specs.Managers.{Manager, IsOfRun, settings}
+use Rattle.pnp_machine.specs.Managers.{IsOfRun}
+use Rattle.pnp_cli.proofs.FrontEntries.{Made, event_goes, event_happened, made_by, own_happened, run_on, settles_quiet}
 use Rattle.pnp_cli.specs.Turns.{Awaits}
 
 -- What is printed is told by a run ---------------------------------------------------
 
-done : List Label → List Entry
-done [] = []
-done (label ∷ labels) = Did label ∷ done labels
-
-done_run : (settings : machines.Settings) (s new : State) (labels : List Label) → Settles settings s labels new → Run settings s (done labels) new
-unfolding done
-done_run settings s new [] h = h.0
-done_run settings s new (label ∷ labels) (mid, steps, more) = (mid, steps, done_run settings mid new labels more)
-
-done_quiet : (settings : machines.Settings) (s new : State) (labels : List Label) → Settles settings s labels new → IsQuiet settings new
-done_quiet settings s new [] h = subst (λ (x : State). IsQuiet settings x) (sym h.0) h.1
-done_quiet settings s new (label ∷ labels) (mid, steps, more) = done_quiet settings mid new labels more
-
-done_printed : (labels : List Label) → map printed (done labels) ≡ labels
-unfolding done
-done_printed [] = refl
-done_printed (label ∷ labels) = ap (λ (ls : List Label). label ∷ ls) (done_printed labels)
-
-done_happened : (labels : List Label) (more : List Entry) → happened (done labels ++ more) ≡ happened more
-unfolding done
-done_happened [] more = refl
-done_happened (label ∷ labels) more = done_happened labels more
-
-map_printed : (xs ys : List Entry) → map printed (xs ++ ys) ≡ map printed xs ++ map printed ys
+map_printed : (xs ys : List FrontEntry) → map front_printed (xs ++ ys) ≡ map front_printed xs ++ map front_printed ys
 map_printed [] ys = refl
-map_printed (x ∷ xs) ys = ap (λ (ls : List Label). printed x ∷ ls) (map_printed xs ys)
+map_printed (x ∷ xs) ys = ap (λ (ls : List Label). front_printed x ∷ ls) (map_printed xs ys)
 
--- the same from any state on
-record Telling (settings : machines.Settings) (s : State) (t : Trace) (labels : List Label) (last : State) : Type 0 where
-  entries : List Entry
-  run : Run settings s entries last
-  rests : IsQuiet settings last
+-- the same from any front on
+record Telling (settings : machines.Settings) (f : Front) (t : Trace) (labels : List Label) (last : Front) : Type 0 where
+  entries : List FrontEntry
+  run : FrontRun settings f entries last
+  rests : IsFrontQuiet settings last
   events : happened entries ≡ events_in t
-  shows : map printed entries ≡ labels
+  shows : map front_printed entries ≡ labels
 
-telling_event : (settings : machines.Settings) (s new last : State) (number : ℕ) (event : Event) (rest : Trace) (labels more : List Label) → IsQuiet settings s → Follows settings s event labels new → Telling settings new rest more last
-    → Telling settings s (gives number event rest) (labels ++ more) last
-telling_event settings s new last number event rest labels more quiet h told =
-    let first : List Entry = Happens event h.first ∷ done h.more in
-    let own : map printed first ≡ labels = ap (λ (ls : List Label). h.first ∷ ls) (done_printed h.more) ∙ sym h.printed in
+telling_event : (settings : machines.Settings) (f new last : Front) (number : ℕ) (event : Event) (rest : Trace) (labels more : List Label) → IsFrontQuiet settings f → Follows settings f event labels new → Telling settings new rest more last
+    → Telling settings f (gives number event rest) (labels ++ more) last
+telling_event settings f new last number event rest labels more quiet h told =
+    let step : FrontStep = front_happens f event in
+    let begun : h.begun ≡ step.front = h.happened.1 in
+    let made : Made settings step.front h.more new = made_by settings step.front new h.more (subst (λ (x : Front). Settles settings x h.more new) begun h.settled) in
+    let first : List FrontEntry = step.entry ∷ made.entries in
+    let own : map front_printed first ≡ labels = ap₂ (λ (l : Label) (ls : List Label). l ∷ ls) (sym h.happened.0) made.shows ∙ sym h.printed in
     record {
       entries = first ++ told.entries;
-      run = run_on settings s new last first told.entries (h.begun, (quiet, h.happened), done_run settings h.begun new h.more h.settled) told.run;
+      run = run_on settings f new last first told.entries (step.front, event_goes settings f event quiet, made.run) told.run;
       rests = told.rests;
-      events = ap (λ (es : List Event). event ∷ es) (done_happened h.more told.entries ∙ told.events);
-      shows = map_printed first told.entries ∙ ap (λ (ls : List Label). ls ++ map printed told.entries) own ∙ ap (λ (ls : List Label). labels ++ ls) told.shows;
+      events = event_happened f event (made.entries ++ told.entries) ∙ ap (λ (es : List Event). event ∷ es) (own_happened made.entries told.entries made.alone ∙ told.events);
+      shows = map_printed first told.entries ∙ ap (λ (ls : List Label). ls ++ map front_printed told.entries) own ∙ ap (λ (ls : List Label). labels ++ ls) told.shows;
     }
 
-telling_plays : (settings : machines.Settings) (s : State) (t : Trace) (labels : List Label) (last : State) → IsQuiet settings s → Plays settings s t labels last → Telling settings s t labels last
-telling_plays settings s (gives number event rest) labels last quiet (here, new, more, follows, plays, is) =
-    let now_quiet = done_quiet settings follows.begun new follows.more follows.settled in
-    subst (λ (x : List Label). Telling settings s (gives number event rest) x last) (sym is) (telling_event settings s new last number event rest here more quiet follows (telling_plays settings new rest more last now_quiet plays))
-telling_plays settings s ends labels last quiet is =
-    subst (λ (x : List Label). Telling settings s ends x last) (sym is.0) (record { entries = []; run = is.1; rests = subst (λ (x : State). IsQuiet settings x) (sym is.1) quiet; events = refl; shows = refl })
-telling_plays settings s (stops number) labels last quiet is =
-    subst (λ (x : List Label). Telling settings s (stops number) x last) (sym is.0) (record { entries = []; run = is.1; rests = subst (λ (x : State). IsQuiet settings x) (sym is.1) quiet; events = refl; shows = refl })
-telling_plays settings s waits labels last quiet is = absurd is
+telling_plays : (settings : machines.Settings) (f : Front) (t : Trace) (labels : List Label) (last : Front) → IsFrontQuiet settings f → Plays settings f t labels last → Telling settings f t labels last
+telling_plays settings f (gives number event rest) labels last quiet (here, new, more, follows, plays, is) =
+    let now_quiet = settles_quiet settings follows.begun new follows.more follows.settled in
+    subst (λ (x : List Label). Telling settings f (gives number event rest) x last) (sym is) (telling_event settings f new last number event rest here more quiet follows (telling_plays settings new rest more last now_quiet plays))
+telling_plays settings f ends labels last quiet is =
+    subst (λ (x : List Label). Telling settings f ends x last) (sym is.0) (record { entries = []; run = is.1; rests = subst (λ (x : Front). IsFrontQuiet settings x) (sym is.1) quiet; events = refl; shows = refl })
+telling_plays settings f (stops number) labels last quiet is =
+    subst (λ (x : List Label). Telling settings f (stops number) x last) (sym is.0) (record { entries = []; run = is.1; rests = subst (λ (x : Front). IsFrontQuiet settings x) (sym is.1) quiet; events = refl; shows = refl })
+telling_plays settings f waits labels last quiet is = absurd is
 
 -- so the events of a script lead to a state of a run
-pub plays_reach : (m : Manager) (t : Trace) (labels : List Label) (last : State) → Awaits m → Plays (settings m) m.state t labels last → IsOfRun last
-plays_reach m t labels last h plays =
-    let told = telling_plays (settings m) m.state t labels last h.quiet plays in
+pub plays_reach : (d : Desk) (t : Trace) (labels : List Label) (last : Front) → Awaits d → Plays (told_of d) (front_of d) t labels last → IsOfRun last.state
+plays_reach d t labels last h plays =
+    let told = telling_plays (told_of d) (front_of d) t labels last h.quiet plays in
+    let entries : List FrontEntry = h.run.entries ++ told.entries in
     record {
-      told = settings m;
+      told = told_of d;
       rack = h.run.rack;
-      entries = h.run.entries ++ told.entries;
-      reaches = run_on (settings m) (opening h.run.rack) m.state last h.run.entries told.entries h.run.reaches told.run;
+      entries = machine_part entries;
+      reaches = machine_run (told_of d) h.run.rack entries last (run_on (told_of d) (opening_front (opening h.run.rack)) (front_of d) last h.run.entries told.entries h.run.reaches told.run);
     }
 
-some_run : (settings : machines.Settings) (rack : List Driver) (t : Trace) (report : Report) (text : Text) → Shows settings (opening rack) t report text → SomeRun settings rack t report text
+some_run : (settings : machines.Settings) (rack : List Driver) (t : Trace) (report : Report) (text : Text) → Shows settings (opening_front (opening rack)) t report text → SomeRun settings rack t report text
 some_run settings rack t report text (labels, last, plays, is) =
-    let told = telling_plays settings (opening rack) t labels last refl plays in
-    (told.entries, last, record { run = told.run; rests = told.rests; events = told.events; is = is ∙ ap (λ (ls : List Label). report ls last) (sym told.shows) })
+    let told = telling_plays settings (opening_front (opening rack)) t labels last refl plays in
+    (told.entries, last, record { run = told.run; rests = told.rests; events = told.events; is = is ∙ ap (λ (ls : List Label). report ls last.state) (sym told.shows) })
 
 -- What is said of outputs ----------------------------------------------------------------
 
 -- what holds of each report of a script's run, over this rack
 Holds : Said → List Driver → Type 0
 Holds Says rack =
-    (settings : machines.Settings) (script : List ℕ) (report : Report) (text : Text) → Shows settings (opening rack) (events_of script) report text
+    (settings : machines.Settings) (script : List ℕ) (report : Report) (text : Text) → Shows settings (opening_front (opening rack)) (events_of script) report text
     → Says settings rack (events_of script) report text
 
 of_script : (Says : Said) (rack : List Driver) → Holds Says rack
@@ -216,7 +205,7 @@ output_conflicts words contents rack =
 pub output_joins : (words : List Text) (contents : Option (Text → Option (List ℕ))) (rack : List Driver) → OfOutput (OfRun FewJoin) words contents rack
 unfolding Holds
 output_joins words contents rack =
-    of_output (OfRun FewJoin) rack (λ settings script report text shows entries last told. joins_are_limited settings rack entries last told.run) words contents
+    of_output (OfRun FewJoin) rack (λ settings script report text shows entries last told. joins_are_limited settings rack (machine_part entries) last.state (machine_run settings rack entries last told.run)) words contents
 
 pub output_told : (words : List Text) (contents : Option (Text → Option (List ℕ))) (rack : List Driver) → OfOutput (EachStep AllStatesTold) words contents rack
 unfolding Holds
@@ -273,11 +262,13 @@ output_handles words contents rack =
     )) words contents
 
 -- what the events of a run plug is within the limits of the script
-entries_within : (entries : List Entry) → AllByRecursion (IsEventWithin 16) (happened entries) → AllByRecursion (IsEntryWithin 16) entries
+entries_within : (entries : List FrontEntry) → AllByRecursion (IsEventWithin 16) (happened entries) → AllByRecursion (IsEntryWithin 16) (machine_part entries)
 entries_within [] h = tt
-entries_within (Happens event label ∷ rest) h = (h.0, entries_within rest h.1)
-entries_within (Did label ∷ rest) h = (tt, entries_within rest h)
-entries_within (Declines label ∷ rest) h = (tt, entries_within rest h)
+entries_within (Passes (Happens event label) ∷ rest) h = (h.0, entries_within rest h.1)
+entries_within (Passes (Did label) ∷ rest) h = (tt, entries_within rest h)
+entries_within (Passes (Declines label) ∷ rest) h = (tt, entries_within rest h)
+entries_within (Watches event label ∷ rest) h = entries_within rest h.1
+entries_within (Tells label ∷ rest) h = entries_within rest h
 
 front_within : (xs ys : List Entry) → AllByRecursion (IsEntryWithin 16) (xs ++ ys) → AllByRecursion (IsEntryWithin 16) xs
 front_within [] ys h = tt
@@ -299,6 +290,45 @@ unfolding Holds
 output_tree words contents rack =
     of_output (EachState TreeIsWhole) rack (λ settings script report text shows entries last told s state. each_node_is_printed_once settings rack state.earlier s state.before) words contents
 
+-- Clients ------------------------------------------------------------------------------------
+
+pub output_of_machine : (words : List Text) (contents : Option (Text → Option (List ℕ))) (rack : List Driver) → OfOutput (OfFrontRun MachineRuns) words contents rack
+unfolding Holds
+output_of_machine words contents rack =
+    of_output (OfFrontRun MachineRuns) rack (λ settings script report text shows entries last told. machine_run settings rack entries last told.run) words contents
+
+pub output_asks : (words : List Text) (contents : Option (Text → Option (List ℕ))) (rack : List Driver) → OfOutput (EachFrontStep ClientsWereAsked) words contents rack
+unfolding Holds
+output_asks words contents rack =
+    of_output (EachFrontStep ClientsWereAsked) rack
+    (λ settings script report text shows entries last told earlier old entry new step label first is due_first in_order.
+    all_asked settings rack earlier old label new first step.before (subst (λ (x : FrontEntry). FrontGoes settings old x new) is step.goes) due_first in_order) words contents
+
+pub output_declines : (words : List Text) (contents : Option (Text → Option (List ℕ))) (rack : List Driver) → OfOutput (EachFrontStep ClientsDecline) words contents rack
+unfolding Holds
+output_declines words contents rack =
+    of_output (EachFrontStep ClientsDecline) rack
+    (λ settings script report text shows entries last told earlier old entry new step label is.
+    declined_after settings rack earlier old label new step.before (subst (λ (x : FrontEntry). FrontGoes settings old x new) is step.goes)) words contents
+
+pub output_notices : (words : List Text) (contents : Option (Text → Option (List ℕ))) (rack : List Driver) → OfOutput (EachFrontStep NoticesKeepAll) words contents rack
+unfolding Holds
+output_notices words contents rack =
+    of_output (EachFrontStep NoticesKeepAll) rack
+    (λ settings script report text shows entries last told earlier old entry new step is_told. keeps_core settings rack earlier old entry new step.before step.goes is_told) words contents
+
+pub output_hears : (words : List Text) (contents : Option (Text → Option (List ℕ))) (rack : List Driver) → OfOutput (OfFrontRun ClientsHear) words contents rack
+unfolding Holds
+output_hears words contents rack =
+    of_output (OfFrontRun ClientsHear) rack
+    (λ settings script report text shows entries last told earlier during more f g h i label first kind path result is before begins due_first is_told within_ alone ends_ after.
+    all_hear settings rack earlier during more f g h i last label first kind path result before begins due_first is_told within_ alone ends_ after) words contents
+
+pub output_alone : (words : List Text) (contents : Option (Text → Option (List ℕ))) (rack : List Driver) → OfOutput (OfFrontRun MachineAlone) words contents rack
+unfolding Holds
+output_alone words contents rack =
+    of_output (OfFrontRun MachineAlone) rack (λ settings script report text shows entries last told none. machine_alone settings rack entries last told.run none) words contents
+
 -- Names that are not empty -----------------------------------------------------------------
 
 -- no driver has a name yet
@@ -315,25 +345,27 @@ EntryByWord (Happens event label) = NamesByWord event
 EntryByWord (Did label) = Unit {0}
 EntryByWord (Declines label) = Unit {0}
 
-entries_by_words : (entries : List Entry) → AllByRecursion NamesByWord (happened entries) → AllByRecursion EntryByWord entries
+entries_by_words : (entries : List FrontEntry) → AllByRecursion NamesByWord (happened entries) → AllByRecursion EntryByWord (machine_part entries)
 entries_by_words [] h = tt
-entries_by_words (Happens event label ∷ rest) h = (h.0, entries_by_words rest h.1)
-entries_by_words (Did label ∷ rest) h = (tt, entries_by_words rest h)
-entries_by_words (Declines label ∷ rest) h = (tt, entries_by_words rest h)
+entries_by_words (Passes (Happens event label) ∷ rest) h = (h.0, entries_by_words rest h.1)
+entries_by_words (Passes (Did label) ∷ rest) h = (tt, entries_by_words rest h)
+entries_by_words (Passes (Declines label) ∷ rest) h = (tt, entries_by_words rest h)
+entries_by_words (Watches event label ∷ rest) h = entries_by_words rest h.1
+entries_by_words (Tells label ∷ rest) h = entries_by_words rest h
 
 -- a name of the rack in a run of a script
-name_shown : (settings : machines.Settings) (rack : List Driver) (script : List ℕ) (report : Report) (text : Text) (entries : List Entry) (last : State) (earlier : List Entry) (old : State) (entry : Entry) (new : State)
-    → Nameless rack → IsTold settings rack (events_of script) report text entries last → IsStep settings rack entries last earlier old entry new
+name_shown : (settings : machines.Settings) (rack : List Driver) (script : List ℕ) (report : Report) (text : Text) (entries : List FrontEntry) (last : Front) (earlier : List Entry) (old : State) (entry : Entry) (new : State)
+    → Nameless rack → IsTold settings rack (events_of script) report text entries last → IsStep settings rack (machine_part entries) last.state earlier old entry new
     → (d : ℕ) (name : Text) → HasName new.core.rack d name → name ≢ []
 name_shown settings rack script report text entries last earlier old entry new none told step d name h =
-    let run = run_on settings (opening rack) old new earlier (entry ∷ []) step.before (new, step.goes, refl) in
+    let run = machine_on settings (opening rack) old new earlier (entry ∷ []) step.before (new, step.goes, refl) in
     elim (names_are_given settings rack (earlier ++ entry ∷ []) new run d name h) [
       | inl own ↦ absurd (none d name own)
       | inr (kind, label, there) ↦
-          let all : AllByRecursion EntryByWord entries =
+          let all : AllByRecursion EntryByWord (machine_part entries) =
           entries_by_words entries (subst (λ (es : List Event). AllByRecursion NamesByWord es) (sym told.events) (names_by_words script)) in
-          let same : entries ≡ (earlier ++ entry ∷ []) ++ step.later = step.all ∙ sym (append_assoc earlier (entry ∷ []) step.later) in
-          All-contains EntryByWord entries (Happens (Event.Name name kind) label) (All-from_recursion EntryByWord entries all)
+          let same : machine_part entries ≡ (earlier ++ entry ∷ []) ++ step.later = step.all ∙ sym (append_assoc earlier (entry ∷ []) step.later) in
+          All-contains EntryByWord (machine_part entries) (Happens (Event.Name name kind) label) (All-from_recursion EntryByWord (machine_part entries) all)
           (subst (λ (es : List Entry). Contains es (Happens (Event.Name name kind) label)) (sym same)
           (Contains-append_left (earlier ++ entry ∷ []) step.later (Happens (Event.Name name kind) label) there))
     ]

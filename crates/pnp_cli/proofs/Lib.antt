@@ -1,6 +1,7 @@
 mod BytesWithin
 pub mod FewIds
 pub mod Fronts
+pub mod FrontEntries
 pub mod Telling
 pub mod Sameness
 pub mod Settling

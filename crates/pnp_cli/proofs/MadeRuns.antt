@@ -9,6 +9,8 @@ use Rattle.inf_reader.specs.declared.parts.Inf.{Inf}
 use Rattle.inf_reader.specs.declared.parts.InfError.{InfError}
 use Rattle.inf_reader.specs.Meaning.{inf}
 use Rattle.pnp_machine.specs.Managers.{Manager, settings}
+use Rattle.notify_front.specs.Desks.{Desk, front_of, told_of}
+use Rattle.notify_front.specs.Fronts.{opening_front}
 use Rattle.pnp_cli.specs.Contents.{events_of}
 use Rattle.pnp_cli.specs.Generated.{gen_script, gen_inf}
 use Rattle.pnp_cli.specs.Outputs.{Shows}
@@ -20,25 +22,25 @@ use Rattle.pnp_cli.proofs.Fronts.{none_is_front}
 use Rattle.pnp_cli.proofs.OneOutput.{shows_one}
 
 -- the run of a file that is there
-pub counted_file : (m m' : Manager) (bad : Option ℕ) (script : List ℕ) (old new : Option Text) (tally : Tally)
-    → Ran bad m (Some script) old (record { steps = 0; moved = 0 }) m' new tally → Counted (settings m) m.state (events_of script) tally m'.state
-counted_file m m' bad script old new tally h =
+pub counted_file : (d d' : Desk) (bad : Option ℕ) (script : List ℕ) (old new : Option Text) (tally : Tally)
+    → Ran bad d (Some script) old (record { steps = 0; moved = 0 }) d' new tally → Counted (told_of d) (front_of d) (events_of script) tally (front_of d')
+counted_file d d' bad script old new tally h =
     let same : h.script ≡ script = let there = h.there in cc in
-    subst (λ (x : List ℕ). Counted (settings m) m.state (events_of x) tally m'.state) same (record { labels = h.labels; plays = h.plays; counted = h.told.counted })
+    subst (λ (x : List ℕ). Counted (told_of d) (front_of d) (events_of x) tally (front_of d')) same (record { labels = h.labels; plays = h.plays; counted = h.told.counted })
 
 -- over the machine that is told the generated INF
 pub sums_up : (rack : List Driver) (budget n : ℕ) (read : Inf) (infs : List Inf) (m : Manager) (text : Text) → inf gen_inf ≡ Ok read → infs ≡ read ∷ []
     → m ≡ record { infs = infs; budget = budget; events = 0; state = opening rack }
-    → Shows (settings m) m.state (events_of (gen_script n)) (summary n) text → IsSummary rack budget n text
+    → Shows (settings m) (opening_front m.state) (events_of (gen_script n)) (summary n) text → IsSummary rack budget n text
 sums_up rack budget n read infs m text meaning alone is shows =
-    let at_start : Shows (machine infs budget) (opening rack) (events_of (gen_script n)) (summary n) text =
-    subst (λ (x : Manager). Shows (settings x) x.state (events_of (gen_script n)) (summary n) text) is shows in
+    let at_start : Shows (machine infs budget) (opening_front (opening rack)) (events_of (gen_script n)) (summary n) text =
+    subst (λ (x : Manager). Shows (settings x) (opening_front x.state) (events_of (gen_script n)) (summary n) text) is shows in
     subst (λ (r : Result Inf InfError). IsSummaryBy rack budget n r text) (sym meaning)
-    (subst (λ (x : List Inf). Shows (machine x budget) (opening rack) (events_of (gen_script n)) (summary n) text) alone at_start)
+    (subst (λ (x : List Inf). Shows (machine x budget) (opening_front (opening rack)) (events_of (gen_script n)) (summary n) text) alone at_start)
 
 pub sums_up_if : {E : Type 0} (rack : List Driver) (budget n : ℕ) (read : Inf) (infs : List Inf) (m : Manager) (r : Result (Vec ℕ Global) E) → inf gen_inf ≡ Ok read → infs ≡ read ∷ []
     → m ≡ record { infs = infs; budget = budget; events = 0; state = opening rack }
-    → IfOk r (λ text. Shows (settings m) m.state (events_of (gen_script n)) (summary n) text.items) → IfOk r (λ text. IsSummary rack budget n text.items)
+    → IfOk r (λ text. Shows (settings m) (opening_front m.state) (events_of (gen_script n)) (summary n) text.items) → IfOk r (λ text. IsSummary rack budget n text.items)
 sums_up_if rack budget n read infs m (Ok text) meaning alone is shows = sums_up rack budget n read infs m text.items meaning alone is shows
 sums_up_if rack budget n read infs m (Err error) meaning alone is shows = tt
 
@@ -46,7 +48,7 @@ pub one_inf : (infs : List Inf) (read : Inf) → infs ≡ read ∷ [] → length
 one_inf infs read alone = subst (λ (x : List Inf). length x ≤ 64) (sym alone) (omega arith)
 
 summary_one : (rack : List Driver) (budget n : ℕ) (read : Result Inf InfError) (text other : Text) → IsSummaryBy rack budget n read text → IsSummaryBy rack budget n read other → other ≡ text
-summary_one rack budget n (Ok read) text other h g = shows_one (machine (read ∷ []) budget) (opening rack) (events_of (gen_script n)) (summary n) text other h g
+summary_one rack budget n (Ok read) text other h g = shows_one (machine (read ∷ []) budget) (opening_front (opening rack)) (events_of (gen_script n)) (summary n) text other h g
 summary_one rack budget n (Err error) text other h g = g ∙ sym h
 
 -- a front of the summary is one of whatever the summary is

@@ -8,17 +8,12 @@ use Rattle.inf_reader.specs.declared.parts.Inf.{Inf}
 use Rattle.inf_reader.specs.declared.parts.InfError.{InfError}
 use Rattle.inf_reader.specs.Meaning.{inf}
 use Rattle.pnp_model.specs.Records as machines
-use Rattle.pnp_model.specs.Records.{Driver, State, Step}
-use Rattle.pnp_model.specs.Machine.{IsQuiet}
-use Rattle.pnp_model.specs.Events.{happens}
-use Rattle.pnp_model.specs.Runs.{Entry, Run, printed, opening}
-use Rattle.pnp_model.specs.Runs.Entry.{Happens, Did, Declines}
-use Rattle.pnp_laws.specs.Ends as laws
-use Rattle.pnp_laws.specs.Ends.{AllSteps}
-use Rattle.pnp_laws.specs.Reached.{IsReached}
-use Rattle.pnp_laws.proofs.Reaching.{reached_on, run_on}
-use Rattle.pnp_laws.proofs.RunsEnd.{every_run_settles}
-use Rattle.pnp_laws.proofs.RunsStep.{quiet_where_it_rests}
+use Rattle.pnp_model.specs.Records.{Driver}
+use Rattle.pnp_model.specs.Runs.{opening}
+use Rattle.notify_front.specs.Fronts.{Front, FrontEntry, FrontStep, IsFrontQuiet, front_happens, front_printed, opening_front}
+use Rattle.notify_front.specs.Laws.{ComesToRest}
+use Rattle.notify_front.specs.Notices.{FrontGoes, FrontRun}
+use Rattle.notify_front.proofs.FrontEnd.{each_rests}
 use Rattle.script_reader.specs.Script.{Meaning, nothing, means, bad, whole_line, last_line, Trace, gives, waits, ends, stops, onward, at_end, of_lines}
 use Rattle.pnp_cli.specs.Contents.{events_of}
 use Rattle.pnp_cli.specs.Infs.{infs_in, refusal_line}
@@ -30,6 +25,7 @@ use Rattle.pnp_cli.specs.declared.infs.InfsError.{InfsError}
 use Rattle.pnp_cli.specs.declared.infs.InfsError.TheVariants as faults
 use Rattle.pnp_cli.specs.declared.parts.Settings.{Settings}
 use Rattle.pnp_cli.proofs.Ended.{plays_one}
+use Rattle.pnp_cli.proofs.FrontEntries.{event_goes, run_on, settles_by}
 use Rattle.pnp_cli.proofs.Sameness.{SameEnd}
 
 -- A script that is read to its end waits for nothing ------------------------------------
@@ -59,60 +55,60 @@ finished_never_waits script = lines_wait 0 (parts 0x0A script)
 
 -- There is an output ----------------------------------------------------------------------
 
-settles_by : (settings : machines.Settings) (s last : State) (steps : List Entry) → AllSteps steps → Run settings s steps last → IsQuiet settings last → Settles settings s (map printed steps) last
-settles_by settings s last [] alone run quiet = (run, subst (λ (x : State). IsQuiet settings x) run quiet)
-settles_by settings s last (Did label ∷ rest) alone (mid, steps, run) quiet = (mid, steps, settles_by settings mid last rest alone run quiet)
-settles_by settings s last (Happens event label ∷ rest) alone run quiet = absurd alone
-settles_by settings s last (Declines label ∷ rest) alone run quiet = absurd alone
+-- a quiet front of a run
+record Resting (settings : machines.Settings) (rack : List Driver) (f : Front) : Type 0 where
+  entries : List FrontEntry
+  run : FrontRun settings (opening_front (opening rack)) entries f
+  quiet : IsFrontQuiet settings f
 
--- a quiet state of a run
-record Resting (settings : machines.Settings) (rack : List Driver) (s : State) : Type 0 where
-  reached : IsReached settings rack s
-  quiet : IsQuiet settings s
+settles_some : (settings : machines.Settings) (rack : List Driver) (entries : List FrontEntry) (f : Front) → FrontRun settings (opening_front (opening rack)) entries f
+    → (labels : List Label) × (new : Front) × Settles settings f labels new × Resting settings rack new
+settles_some settings rack entries f run =
+    let h : ComesToRest settings f = each_rests settings rack entries f run in (
+      map front_printed h.steps,
+      h.last,
+      settles_by settings f h.last h.steps h.alone h.run h.quiet,
+      record { entries = entries ++ h.steps; run = run_on settings (opening_front (opening rack)) f h.last entries h.steps run h.run; quiet = h.quiet },
+    )
 
-settles_some : (settings : machines.Settings) (rack : List Driver) (s : State) → IsReached settings rack s → (labels : List Label) × (new : State) × Settles settings s labels new × Resting settings rack new
-settles_some settings rack s (entries, run) =
-    let h : laws.Settles settings s = every_run_settles settings rack entries s run in
-    let on = run_on settings (opening rack) s h.last entries h.steps run h.run in
-    let quiet : IsQuiet settings h.last = (quiet_where_it_rests settings rack (entries ++ h.steps) h.last on).1 h.rests in
-    (map printed h.steps, h.last, settles_by settings s h.last h.steps h.alone h.run quiet, record { reached = (entries ++ h.steps, on); quiet = quiet })
-
-follows_some : (settings : machines.Settings) (rack : List Driver) (s : State) (event : Event) → Resting settings rack s
-    → (labels : List Label) × (new : State) × Follows settings s event labels new × Resting settings rack new
-follows_some settings rack s event h =
-    let step : Step = happens s event in
-    let more = settles_some settings rack step.state (reached_on settings rack s (Happens event step.label) step.state h.reached (h.quiet, refl)) in (
-      step.label ∷ more.0,
+follows_some : (settings : machines.Settings) (rack : List Driver) (f : Front) (event : Event) → Resting settings rack f
+    → (labels : List Label) × (new : Front) × Follows settings f event labels new × Resting settings rack new
+follows_some settings rack f event h =
+    let step : FrontStep = front_happens f event in
+    let goes : FrontGoes settings f step.entry step.front = event_goes settings f event h.quiet in
+    let more = settles_some settings rack (h.entries ++ step.entry ∷ []) step.front
+    (run_on settings (opening_front (opening rack)) f step.front h.entries (step.entry ∷ []) h.run (step.front, goes, refl)) in (
+      front_printed step.entry ∷ more.0,
       more.1,
-      record { first = step.label; begun = step.state; more = more.0; happened = refl; printed = refl; settled = more.2 },
+      record { first = front_printed step.entry; begun = step.front; more = more.0; happened = (refl, refl); printed = refl; settled = more.2 },
       more.3,
     )
 
-plays_some : (settings : machines.Settings) (rack : List Driver) (s : State) (t : Trace) → NeverWaits t → Resting settings rack s → (labels : List Label) × (last : State) × Plays settings s t labels last
-plays_some settings rack s (gives number event rest) on h =
-    let here = follows_some settings rack s event h in
+plays_some : (settings : machines.Settings) (rack : List Driver) (f : Front) (t : Trace) → NeverWaits t → Resting settings rack f → (labels : List Label) × (last : Front) × Plays settings f t labels last
+plays_some settings rack f (gives number event rest) on h =
+    let here = follows_some settings rack f event h in
     let more = plays_some settings rack here.1 rest on here.3 in
     (here.0 ++ more.0, more.1, (here.0, here.1, more.0, here.2, more.2, refl))
-plays_some settings rack s ends on h = ([], s, (refl, refl))
-plays_some settings rack s (stops number) on h = ([], s, (refl, refl))
-plays_some settings rack s waits on h = absurd on
+plays_some settings rack f ends on h = ([], f, (refl, refl))
+plays_some settings rack f (stops number) on h = ([], f, (refl, refl))
+plays_some settings rack f waits on h = absurd on
 
 -- There is no other -----------------------------------------------------------------------
 
-pub shows_one : (settings : machines.Settings) (s : State) (t : Trace) (report : Report) (text other : Text) → Shows settings s t report text → Shows settings s t report other → other ≡ text
-shows_one settings s t report text other (labels, last, plays, is) (labels', last', plays', is') =
-    let same : SameEnd labels' labels last' last = plays_one settings s t labels' labels last' last plays' plays in
-    is' ∙ ap₂ (λ (ls : List Label) (x : State). report ls x) same.labels same.state ∙ sym is
+pub shows_one : (settings : machines.Settings) (f : Front) (t : Trace) (report : Report) (text other : Text) → Shows settings f t report text → Shows settings f t report other → other ≡ text
+shows_one settings f t report text other (labels, last, plays, is) (labels', last', plays', is') =
+    let same : SameEnd labels' labels last' last = plays_one settings f t labels' labels last' last plays' plays in
+    is' ∙ ap₂ (λ (ls : List Label) (x : Front). report ls x.state) same.labels same.front ∙ sym is
 
 abbrev One : (Text → Type 0) → Type 0
 One output = (text : Text) × IsOnly output text
 
-one_shown : (settings : machines.Settings) (rack : List Driver) (script : List ℕ) (report : Report) → One (Shows settings (opening rack) (events_of script) report)
+one_shown : (settings : machines.Settings) (rack : List Driver) (script : List ℕ) (report : Report) → One (Shows settings (opening_front (opening rack)) (events_of script) report)
 one_shown settings rack script report =
-    let some = plays_some settings rack (opening rack) (events_of script) (finished_never_waits script) (record { reached = ([], refl); quiet = refl }) in
-    let text : Text = report some.0 some.1 in
-    let shows : Shows settings (opening rack) (events_of script) report text = (some.0, some.1, some.2, refl) in
-    (text, (shows, λ other h. shows_one settings (opening rack) (events_of script) report text other shows h))
+    let some = plays_some settings rack (opening_front (opening rack)) (events_of script) (finished_never_waits script) (record { entries = []; run = refl; quiet = refl }) in
+    let text : Text = report some.0 some.1.state in
+    let shows : Shows settings (opening_front (opening rack)) (events_of script) report text = (some.0, some.1, some.2, refl) in
+    (text, (shows, λ other h. shows_one settings (opening_front (opening rack)) (events_of script) report text other shows h))
 
 pub exactly_one_output : OutputLaw
 exactly_one_output settings rack script = one_shown settings rack script (written (events_of script))

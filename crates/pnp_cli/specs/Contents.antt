@@ -2,7 +2,8 @@
 use Rattle.std.specs.Prelude.{ℕ, ◌≡◌, nat_le, true, List, length, take, Option, Some, None}
 use Rattle.pnp_io.specs.Outside.{AppendsFront}
 use Rattle.pnp_labels.specs.declared.label.Label.{Label}
-use Rattle.pnp_model.specs.Records.{State, Settings}
+use Rattle.pnp_model.specs.Records.{Settings}
+use Rattle.notify_front.specs.Fronts.{Front}
 use Rattle.script_reader.specs.Script.{Trace, gives, waits, ends, stops, trace}
 use Rattle.pnp_cli.specs.Outputs.{Plays, text_of}
 use Rattle.pnp_cli.specs.Infs.{limit}
@@ -29,7 +30,7 @@ script_status None = None
 script_status (Some script) = Some (answer_of (decided_of script))
 
 -- of the lines of all labels of a script's run a front was written; nothing, where the script is not there
-abbrev pub TookFront : Settings → State → Option (List ℕ) → Option (List ℕ) → Option (List ℕ) → Type 0
-TookFront settings s None old new = new ≡ old
-TookFront settings s (Some script) old new =
-    (labels : List Label) (last : State) → Plays settings s (events_of script) labels last → AppendsFront old new (text_of labels)
+abbrev pub TookFront : Settings → Front → Option (List ℕ) → Option (List ℕ) → Option (List ℕ) → Type 0
+TookFront settings f None old new = new ≡ old
+TookFront settings f (Some script) old new =
+    (labels : List Label) (last : Front) → Plays settings f (events_of script) labels last → AppendsFront old new (text_of labels)

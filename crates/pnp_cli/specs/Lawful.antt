@@ -1,17 +1,19 @@
--- That an output tells a run of the machine, and what is kept by each state and each step of that run.
+-- That an output tells a run of the front and of the machine behind it, and what is kept by each state and each step of these.
 use Rattle.std.specs.Prelude.{ℕ, ◌+◌, ◌*◌, ◌≤◌, ◌≡◌, ◌≢◌, List, [], ◌∷◌, ◌++◌, Option, Some, None, Result, Ok, Err, map}
 use Rattle.pnp_labels.specs.Texts.{Text}
 use Rattle.pnp_labels.specs.declared.event.Event.{Event}
 use Rattle.pnp_labels.specs.declared.states.Problem.{Problem}
 use Rattle.pnp_labels.specs.declared.label.Label.{Label}
+use Rattle.pnp_labels.specs.declared.label.OpEnd.{OpEnd}
+use Rattle.pnp_labels.specs.declared.label.OpKind.{OpKind}
 use Rattle.pnp_model.specs.Records as machines
-use Rattle.pnp_model.specs.Records.{Driver, State}
-use Rattle.pnp_model.specs.Machine.{IsQuiet}
-use Rattle.pnp_model.specs.Runs.{Entry, Goes, Run, printed}
+use Rattle.pnp_model.specs.Records.{Beginning, Driver, State}
+use Rattle.pnp_model.specs.Machine.{due, is_in_order}
+use Rattle.pnp_model.specs.Runs.{Entry, Goes, Run, opening, printed}
 use Rattle.pnp_model.specs.Runs.Entry.{Happens, Did, Declines}
 use Rattle.pnp_model.specs.Diagram.{FollowsDiagram, Walked}
 use Rattle.pnp_model.specs.Sharing.{Clear}
-use Rattle.pnp_model.specs.Laws.{Reaches, HoldsWhole, DependentsFirst}
+use Rattle.pnp_model.specs.Laws.{AllWithin, Reaches, HoldsWhole, DependentsFirst}
 use Rattle.pnp_laws.specs.Begun.{Belongs, Restoring, Conflicts}
 use Rattle.pnp_laws.specs.Ends.{events, joins}
 use Rattle.pnp_laws.specs.Held.{AllHoldParts, NodesWithin, how_many}
@@ -22,6 +24,11 @@ use Rattle.pnp_laws.specs.Strays.{NobodyForgotten}
 use Rattle.pnp_laws.specs.Told.{StatesTold}
 use Rattle.pnp_laws.specs.Waiting.{DependentsTold, NeitherRuns, OpenHandles, ReadyDue}
 use Rattle.pnp_laws.specs.Windows.{InsideWindows}
+use Rattle.notify_front.specs.Fronts.{Front, FrontEntry, IsFrontQuiet, front_printed, on_set, opening_front}
+use Rattle.notify_front.specs.Fronts.FrontEntry.{Passes, Tells, Watches}
+use Rattle.notify_front.specs.Laws as notices
+use Rattle.notify_front.specs.Laws.{HasNoClient, IsDeclinedAfter, IsMachineAlone, StartsWith, asked, is_told_of, results}
+use Rattle.notify_front.specs.Notices.{FrontGoes, FrontRun, machine_part}
 use Rattle.script_reader.specs.Script.{Trace, gives, waits, ends, stops}
 use Rattle.inf_reader.specs.declared.parts.Inf.{Inf}
 use Rattle.inf_reader.specs.declared.parts.InfError.{InfError}
@@ -37,11 +44,13 @@ use Rattle.pnp_cli.specs.declared.infs.InfsError.{InfsError}
 -- The run that an output tells ----------------------------------------------------------
 
 -- the events that happened
-abbrev pub happened : List Entry → List Event
+abbrev pub happened : List FrontEntry → List Event
 happened [] = []
-happened (Happens event label ∷ rest) = event ∷ happened rest
-happened (Did label ∷ rest) = happened rest
-happened (Declines label ∷ rest) = happened rest
+happened (Passes (Happens event label) ∷ rest) = event ∷ happened rest
+happened (Passes (Did label) ∷ rest) = happened rest
+happened (Passes (Declines label) ∷ rest) = happened rest
+happened (Watches event label ∷ rest) = event ∷ happened rest
+happened (Tells label ∷ rest) = happened rest
 
 -- the events of a script, up to its end or its first bad line
 abbrev pub events_in : Trace → List Event
@@ -51,13 +60,21 @@ events_in ends = []
 events_in (stops number) = []
 
 -- the text tells this run of the events, up to where nothing is next: it is the report of its labels and of its last state
-pub record IsTold (settings : machines.Settings) (rack : List Driver) (t : Trace) (report : Report) (text : Text) (entries : List Entry) (last : State) : Type 0 where
-  pub run : Reaches settings rack entries last
-  pub rests : IsQuiet settings last
+pub record IsTold (settings : machines.Settings) (rack : List Driver) (t : Trace) (report : Report) (text : Text) (entries : List FrontEntry) (last : Front) : Type 0 where
+  pub run : FrontRun settings (opening_front (opening rack)) entries last
+  pub rests : IsFrontQuiet settings last
   pub events : happened entries ≡ events_in t
-  pub is : text ≡ report (map printed entries) last
+  pub is : text ≡ report (map front_printed entries) last.state
 
--- a step of a run, with the entries before it
+-- a step of a run of the front, with the entries before it
+pub record IsFrontTurn (settings : machines.Settings) (rack : List Driver) (entries : List FrontEntry) (last : Front) (earlier : List FrontEntry) (old : Front) (entry : FrontEntry) (new : Front) : Type 0 where
+  pub later : List FrontEntry
+  pub all : entries ≡ earlier ++ entry ∷ later
+  pub before : FrontRun settings (opening_front (opening rack)) earlier old
+  pub goes : FrontGoes settings old entry new
+  pub after : FrontRun settings new later last
+
+-- a step of a run of the machine, with the entries before it
 pub record IsStep (settings : machines.Settings) (rack : List Driver) (entries : List Entry) (last : State) (earlier : List Entry) (old : State) (entry : Entry) (new : State) : Type 0 where
   pub later : List Entry
   pub all : entries ≡ earlier ++ entry ∷ later
@@ -81,29 +98,42 @@ Said = machines.Settings → List Driver → Trace → Report → Text → Type 
 
 -- the text tells a run
 abbrev pub SomeRun : Said
-SomeRun settings rack t report text = (entries : List Entry) × (last : State) × IsTold settings rack t report text entries last
+SomeRun settings rack t report text = (entries : List FrontEntry) × (last : Front) × IsTold settings rack t report text entries last
 
--- the run that it tells keeps a law
-abbrev pub OfRun : (List Entry → Type 0) → Said
-OfRun Law settings rack t report text = (entries : List Entry) (last : State) → IsTold settings rack t report text entries last → Law entries
-
--- each state of it does
-abbrev pub EachState : (State → Type 0) → Said
-EachState Law settings rack t report text =
-    (entries : List Entry) (last : State) → IsTold settings rack t report text entries last
-    → (s : State) → IsState settings rack entries last s → Law s
-
--- each state of it does, with the entries before it
-abbrev pub EachPassed : (List Entry → State → Type 0) → Said
-EachPassed Law settings rack t report text =
-    (entries : List Entry) (last : State) → IsTold settings rack t report text entries last
-    → (s : State) (state : IsState settings rack entries last s) → Law state.earlier s
+-- the run of the front that it tells keeps a law
+abbrev pub OfFrontRun : (machines.Settings → List Driver → List FrontEntry → Front → Type 0) → Said
+OfFrontRun Law settings rack t report text =
+    (entries : List FrontEntry) (last : Front) → IsTold settings rack t report text entries last → Law settings rack entries last
 
 -- each step of it does
+abbrev pub EachFrontStep : (List FrontEntry → Front → FrontEntry → Front → Type 0) → Said
+EachFrontStep Law settings rack t report text =
+    (entries : List FrontEntry) (last : Front) → IsTold settings rack t report text entries last
+    → (earlier : List FrontEntry) (old : Front) (entry : FrontEntry) (new : Front) → IsFrontTurn settings rack entries last earlier old entry new
+    → Law earlier old entry new
+
+-- the machine's part of it keeps a law
+abbrev pub OfRun : (List Entry → Type 0) → Said
+OfRun Law settings rack t report text =
+    (entries : List FrontEntry) (last : Front) → IsTold settings rack t report text entries last → Law (machine_part entries)
+
+-- each state of that does
+abbrev pub EachState : (State → Type 0) → Said
+EachState Law settings rack t report text =
+    (entries : List FrontEntry) (last : Front) → IsTold settings rack t report text entries last
+    → (s : State) → IsState settings rack (machine_part entries) last.state s → Law s
+
+-- each state of that does, with the entries before it
+abbrev pub EachPassed : (List Entry → State → Type 0) → Said
+EachPassed Law settings rack t report text =
+    (entries : List FrontEntry) (last : Front) → IsTold settings rack t report text entries last
+    → (s : State) (state : IsState settings rack (machine_part entries) last.state s) → Law state.earlier s
+
+-- each step of that does
 abbrev pub EachStep : (machines.Settings → List Driver → List Entry → State → Entry → State → Type 0) → Said
 EachStep Law settings rack t report text =
-    (entries : List Entry) (last : State) → IsTold settings rack t report text entries last
-    → (earlier : List Entry) (old : State) (entry : Entry) (new : State) → IsStep settings rack entries last earlier old entry new
+    (entries : List FrontEntry) (last : Front) → IsTold settings rack t report text entries last
+    → (earlier : List Entry) (old : State) (entry : Entry) (new : State) → IsStep settings rack (machine_part entries) last.state earlier old entry new
     → Law settings rack earlier old entry new
 
 -- for a script that is there
@@ -225,3 +255,38 @@ NamesAreShown settings rack earlier old entry new = ShowsName (printed entry)
 -- under `tree` each node has one line, and each line is of a node
 abbrev pub TreeIsWhole : State → Type 0
 TreeIsWhole s = TreeIsPrinted s.core.nodes
+
+-- The laws of clients -------------------------------------------------------------------------
+
+-- without its notices and the events of clients the run is one of the machine
+abbrev pub MachineRuns : machines.Settings → List Driver → List FrontEntry → Front → Type 0
+MachineRuns settings rack entries last = Reaches settings rack (machine_part entries) last.state
+
+-- where a disable or an eject begins, all clients on its device and on what depends on it were asked directly before, in order, and each agreed
+abbrev pub ClientsWereAsked : List FrontEntry → Front → FrontEntry → Front → Type 0
+ClientsWereAsked earlier old entry new =
+    (label : Label) (first : Beginning) → entry ≡ Passes (Did label) → due old.state ≡ Some first → is_in_order first.kind ≡ true
+    → (before : List FrontEntry) × (earlier ≡ before ++ map asked (on_set old first.serial))
+
+-- before a disable or an eject is declined, some clients were asked directly before, in order, of which the last one refused and is named;
+-- then those that agreed heard of it, the last one first
+abbrev pub ClientsDecline : List FrontEntry → Front → FrontEntry → Front → Type 0
+ClientsDecline earlier old entry new = (label : Label) → entry ≡ Passes (Declines label) → IsDeclinedAfter earlier old label
+
+-- a notice and a `declined` leave nodes, relations, reserved ranges and every book as they are
+abbrev pub NoticesKeepAll : List FrontEntry → Front → FrontEntry → Front → Type 0
+NoticesKeepAll earlier old entry new = notices.IsTold entry → new.state.core ≡ old.state.core
+
+-- directly after the end of a disable, an eject or a surprise all clients on its set at the begin hear the result, one after another
+abbrev pub ClientsHear : machines.Settings → List Driver → List FrontEntry → Front → Type 0
+ClientsHear settings rack entries last =
+    (earlier during more : List FrontEntry) (f g h i : Front) (label : Label) (first : Beginning) (kind : OpKind) (path : Text) (result : OpEnd)
+    → entries ≡ earlier ++ Passes (Did label) ∷ (during ++ Passes (Did (Label.End kind path result)) ∷ more)
+    → FrontRun settings (opening_front (opening rack)) earlier f → FrontGoes settings f (Passes (Did label)) g → due f.state ≡ Some first → is_told_of first.kind ≡ true
+    → FrontRun settings g during h → AllWithin (machine_part during)
+    → FrontGoes settings h (Passes (Did (Label.End kind path result))) i → FrontRun settings i more last
+    → StartsWith (results result (on_set f first.serial)) more
+
+-- where no event is one of a client, nothing but what the machine does alone
+abbrev pub MachineAlone : machines.Settings → List Driver → List FrontEntry → Front → Type 0
+MachineAlone settings rack entries last = HasNoClient entries → IsMachineAlone entries

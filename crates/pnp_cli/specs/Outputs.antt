@@ -5,34 +5,38 @@ use Rattle.pnp_labels.specs.Texts.{Text, label_line}
 use Rattle.pnp_labels.specs.declared.event.Event.{Event}
 use Rattle.pnp_labels.specs.declared.label.Label.{Label}
 use Rattle.pnp_model.specs.Records.{State, Settings}
-use Rattle.pnp_model.specs.Machine.{Steps, IsQuiet}
-use Rattle.pnp_model.specs.Events.{happens}
 use Rattle.pnp_model.specs.Endings.{ending, joined}
 use Rattle.script_reader.specs.Script.{Trace, gives, waits, ends, stops}
+use Rattle.notify_front.specs.Fronts.{Front, FrontEntry, FrontSteps, IsFrontQuiet, front_happens, front_printed}
+use Rattle.notify_front.specs.Desks.{IsFrontDone}
 
--- the machine steps until it is quiet, and prints these labels
-abbrev pub Settles : Settings → State → List Label → State → Type 0
-Settles settings s [] new = (new ≡ s) × IsQuiet settings s
-Settles settings s (label ∷ labels) new = (mid : State) × Steps settings s label mid × Settles settings mid labels new
+-- a step of the front prints this label
+abbrev pub Makes : Settings → Front → Label → Front → Type 0
+Makes settings f label new = (entry : FrontEntry) × (label ≡ front_printed entry) × FrontSteps settings f entry new
 
--- an event happens, and the machine steps until it is quiet again
-pub record Follows (settings : Settings) (s : State) (event : Event) (labels : List Label) (new : State) : Type 0 where
+-- the front steps until it is quiet, and prints these labels
+abbrev pub Settles : Settings → Front → List Label → Front → Type 0
+Settles settings f [] new = (new ≡ f) × IsFrontQuiet settings f
+Settles settings f (label ∷ labels) new = (mid : Front) × Makes settings f label mid × Settles settings mid labels new
+
+-- an event happens, and the front steps until it is quiet again
+pub record Follows (settings : Settings) (f : Front) (event : Event) (labels : List Label) (new : Front) : Type 0 where
   pub first : Label
-  pub begun : State
+  pub begun : Front
   pub more : List Label
-  pub happened : happens s event ≡ record { label = first; state = begun }
+  pub happened : IsFrontDone (front_happens f event) first begun
   pub printed : labels ≡ first ∷ more
   pub settled : Settles settings begun more new
 
--- From a quiet state, the events of a script happen one after another: these are all labels, up to the end of the script or
--- to its first bad line, and this is the last state.
-abbrev pub Plays : Settings → State → Trace → List Label → State → Type 0
-Plays settings s (gives number event rest) labels last =
-    (here : List Label) × (new : State) × (more : List Label)
-    × Follows settings s event here new × Plays settings new rest more last × (labels ≡ here ++ more)
-Plays settings s ends labels last = (labels ≡ []) × (last ≡ s)
-Plays settings s (stops number) labels last = (labels ≡ []) × (last ≡ s)
-Plays settings s waits labels last = ⊥
+-- From a quiet front, the events of a script happen one after another: these are all labels, up to the end of the script or
+-- to its first bad line, and this is the last front.
+abbrev pub Plays : Settings → Front → Trace → List Label → Front → Type 0
+Plays settings f (gives number event rest) labels last =
+    (here : List Label) × (new : Front) × (more : List Label)
+    × Follows settings f event here new × Plays settings new rest more last × (labels ≡ here ++ more)
+Plays settings f ends labels last = (labels ≡ []) × (last ≡ f)
+Plays settings f (stops number) labels last = (labels ≡ []) × (last ≡ f)
+Plays settings f waits labels last = ⊥
 
 -- a line for each label
 abbrev pub text_of : List Label → Text
@@ -56,14 +60,14 @@ end_text s = joined (ending s)
 abbrev pub Report : Type 0
 Report = List Label → State → Text
 
--- the events of a script happen from a quiet state on, and the report of their run is this text
-abbrev pub Shows : Settings → State → Trace → Report → Text → Type 0
-Shows settings s t report text = (labels : List Label) × (last : State) × Plays settings s t labels last × (text ≡ report labels last)
+-- the events of a script happen from a quiet front on, and the report of their run is this text
+abbrev pub Shows : Settings → Front → Trace → Report → Text → Type 0
+Shows settings f t report text = (labels : List Label) × (last : Front) × Plays settings f t labels last × (text ≡ report labels last.state)
 
 -- what is written of labels and of a last state, for a script
 abbrev pub written : Trace → Report
 written t labels last = text_of labels ++ (bad_text t ++ end_text last)
 
--- what is written for the events of a script from a quiet state on, and for how it ends
-abbrev pub Prints : Settings → State → Trace → Text → Type 0
-Prints settings s t text = Shows settings s t (written t) text
+-- what is written for the events of a script from a quiet front on, and for how it ends
+abbrev pub Prints : Settings → Front → Trace → Text → Type 0
+Prints settings f t text = Shows settings f t (written t) text

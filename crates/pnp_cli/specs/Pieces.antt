@@ -2,7 +2,7 @@
 use Rattle.std.specs.Prelude.{ℕ, ◌≡◌, List, [], Option, Some, None}
 use Rattle.pnp_labels.specs.Texts.{Text}
 use Rattle.pnp_labels.specs.declared.label.Label.{Label}
-use Rattle.pnp_machine.specs.Managers.{Manager, settings}
+use Rattle.notify_front.specs.Desks.{Desk, front_of, told_of}
 use Rattle.pnp_cli.specs.Outputs.{Plays, bad_text, error_line}
 use Rattle.pnp_cli.specs.Contents.{events_of, decided_of, answer_of}
 use Rattle.pnp_cli.specs.Turns.{Told}
@@ -27,12 +27,12 @@ answer_by None = Status.Done
 answer_by (Some number) = Status.BadScript
 
 -- the file is there, all its events happened up to its end or its first bad line, and all labels were told
-pub record Ran (bad : Option ℕ) (m : Manager) (file : Option (List ℕ)) (taken : Option Text) (tally : Tally) (m' : Manager) (taken' : Option Text) (tally' : Tally) : Type 0 where
+pub record Ran (bad : Option ℕ) (d : Desk) (file : Option (List ℕ)) (taken : Option Text) (tally : Tally) (d' : Desk) (taken' : Option Text) (tally' : Tally) : Type 0 where
   pub script : List ℕ
   pub there : file ≡ Some script
   pub labels : List Label
-  pub plays : Plays (settings m) m.state (events_of script) labels m'.state
+  pub plays : Plays (told_of d) (front_of d) (events_of script) labels (front_of d')
   pub told : Told taken tally labels taken' tally'
   pub line : bad_text (events_of script) ≡ line_of_bad bad
   pub answer : answer_of (decided_of script) ≡ answer_by bad
-  pub same : settings m' ≡ settings m
+  pub same : told_of d' ≡ told_of d

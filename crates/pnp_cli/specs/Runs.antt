@@ -5,6 +5,7 @@ use Rattle.pnp_labels.specs.Texts.{Text}
 use Rattle.pnp_model.specs.Records as machines
 use Rattle.pnp_model.specs.Records.{Driver}
 use Rattle.pnp_model.specs.Runs.{opening}
+use Rattle.notify_front.specs.Fronts.{Front, opening_front}
 use Rattle.inf_reader.specs.declared.parts.Inf.{Inf}
 use Rattle.inf_reader.specs.declared.parts.InfError.{InfError}
 use Rattle.inf_reader.specs.Meaning.{inf}
@@ -32,14 +33,14 @@ named s = names_of s.infs s.script
 abbrev pub machine : List Inf → ℕ → machines.Settings
 machine infs budget = begins.settings_of infs budget
 
--- what is written for a script from a state on: nothing, where it is not there
-abbrev pub IsPrintedFor : machines.Settings → machines.State → Option (List ℕ) → Text → Type 0
-IsPrintedFor told_machine s None text = text ≡ []
-IsPrintedFor told_machine s (Some script) text = Prints told_machine s (events_of script) text
+-- what is written for a script from a front on: nothing, where it is not there
+abbrev pub IsPrintedFor : machines.Settings → Front → Option (List ℕ) → Text → Type 0
+IsPrintedFor told_machine f None text = text ≡ []
+IsPrintedFor told_machine f (Some script) text = Prints told_machine f (events_of script) text
 
--- the same from the opening state on
+-- the same from the opening state on, in which no client is registered
 abbrev pub IsScriptOutput : machines.Settings → List Driver → Option (List ℕ) → Text → Type 0
-IsScriptOutput told_machine rack script text = IsPrintedFor told_machine (opening rack) script text
+IsScriptOutput told_machine rack script text = IsPrintedFor told_machine (opening_front (opening rack)) script text
 
 -- the same, by what the INFs come to: the line of the first one that is refused; nothing, where one is not there or too large
 abbrev pub IsOutputBy : List Driver → ℕ → Result (List Inf) InfsError → Option (List ℕ) → Text → Type 0
@@ -49,7 +50,7 @@ IsOutputBy rack budget (Err error) script text = text ≡ []
 
 -- what is written for the generated script of so many devices: the summary of its run, by what the generated INF comes to
 abbrev pub IsSummaryBy : List Driver → ℕ → ℕ → Result Inf InfError → Text → Type 0
-IsSummaryBy rack budget n (Ok read) text = Shows (machine (read ∷ []) budget) (opening rack) (events_of (gen_script n)) (summary n) text
+IsSummaryBy rack budget n (Ok read) text = Shows (machine (read ∷ []) budget) (opening_front (opening rack)) (events_of (gen_script n)) (summary n) text
 IsSummaryBy rack budget n (Err error) text = text ≡ []
 
 abbrev pub IsSummary : List Driver → ℕ → ℕ → Text → Type 0
@@ -118,7 +119,7 @@ WroteOneFront output old new = (text : Text) × IsOnly output text × AppendsFro
 
 -- whatever the settings and the rack, each script has one output and no other
 abbrev pub OutputLaw : Type 0
-OutputLaw = (settings : machines.Settings) (rack : List Driver) (script : List ℕ) → (text : Text) × IsOnly (Prints settings (opening rack) (events_of script)) text
+OutputLaw = (settings : machines.Settings) (rack : List Driver) (script : List ℕ) → (text : Text) × IsOnly (Prints settings (opening_front (opening rack)) (events_of script)) text
 
 -- where no count rose, the answer is the one that is decided, if one is, or want of memory
 abbrev pub Answers : Option Status → Type 0 → Type 0 → Status → Type 0

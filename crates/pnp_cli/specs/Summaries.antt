@@ -7,6 +7,7 @@ use Rattle.pnp_labels.specs.declared.states.Problem.{Problem}
 use Rattle.pnp_labels.specs.declared.states.Problem.TheVariants.{NormalConflict}
 use Rattle.pnp_model.specs.Records.{Node, State, Settings}
 use Rattle.pnp_model.specs.Trees.{is_up}
+use Rattle.notify_front.specs.Fronts.{Front}
 use Rattle.script_reader.specs.Script.{Trace}
 use Rattle.pnp_cli.specs.Outputs.{Plays}
 use Rattle.pnp_cli.specs.Tallies.{has_moved, with_all}
@@ -48,8 +49,8 @@ summary_of n steps nodes moved =
 abbrev pub summary : ℕ → List Label → State → Text
 summary n labels last = summary_of n (length labels) last.core.nodes (count_by has_moved labels)
 
--- the events happened from a state on, and all labels of their run were counted, up to this state
-pub record Counted (settings : Settings) (s : State) (t : Trace) (tally : Tally) (last : State) : Type 0 where
+-- the events happened from a front on, and all labels of their run were counted, up to this front
+pub record Counted (settings : Settings) (f : Front) (t : Trace) (tally : Tally) (last : Front) : Type 0 where
   pub labels : List Label
-  pub plays : Plays settings s t labels last
+  pub plays : Plays settings f t labels last
   pub counted : tally ≡ with_all (record { steps = 0; moved = 0 }) labels

@@ -4,11 +4,11 @@ use Rattle.pnp_io.specs.Outside.{Appends, AppendsFront}
 use Rattle.pnp_labels.specs.Texts.{Text}
 use Rattle.pnp_labels.specs.declared.event.Event.{Event}
 use Rattle.pnp_labels.specs.declared.label.Label.{Label}
-use Rattle.pnp_model.specs.Records.{State, Settings}
-use Rattle.pnp_model.specs.Machine.{IsQuiet}
+use Rattle.pnp_model.specs.Records.{Settings}
+use Rattle.notify_front.specs.Fronts.{Front, IsFrontQuiet}
+use Rattle.notify_front.specs.Desks.{Desk, IsOfFrontRun, front_of, told_of}
 use Rattle.script_reader.specs.Reading.{Reading}
 use Rattle.script_reader.specs.Script.{Trace, trace, MayFollow, IsStuck, Waits, Ends}
-use Rattle.pnp_machine.specs.Managers.{Manager, settings, IsRunOf}
 use Rattle.pnp_cli.specs.Outputs.{Settles, Follows, Plays, bad_text, text_of}
 use Rattle.pnp_cli.specs.Tallies.{with_all}
 use Rattle.pnp_cli.specs.Contents.{answer_of}
@@ -16,10 +16,10 @@ use Rattle.pnp_cli.specs.declared.tally.Tally.{Tally}
 use Rattle.pnp_cli.specs.declared.turn.Ending.{Ending}
 use Rattle.pnp_cli.specs.declared.turn.Ending.TheVariants.{NeedsMore, Over, Bad}
 
--- a state of a run in which nothing is next
-pub record Awaits (m : Manager) : Type 0 where
-  pub run : IsRunOf (settings m) m.events m.state
-  pub quiet : IsQuiet (settings m) m.state
+-- a front of a run in which nothing is next
+pub record Awaits (d : Desk) : Type 0 where
+  pub run : IsOfFrontRun (told_of d) d.manager.events (front_of d)
+  pub quiet : IsFrontQuiet (told_of d) (front_of d)
 
 -- the lines of these labels were written, and the labels counted
 pub record Told (old : Option Text) (tally : Tally) (labels : List Label) (new : Option Text) (tally' : Tally) : Type 0 where
@@ -39,45 +39,45 @@ pub record Held (old : Option Text) (waits : Text) (tally : Tally) (labels : Lis
   pub all : waits ++ text_of labels ≡ wrote ++ waits'
   pub counted : tally' ≡ with_all tally labels
 
--- the machine stepped until it was quiet; what waited was written, and the lines of its labels, which were counted
-pub record Settled (old : Manager) (taken : Option Text) (waits : Text) (tally : Tally) (new : Manager) (taken' : Option Text) (tally' : Tally) : Type 0 where
+-- the front stepped until it was quiet; what waited was written, and the lines of its labels, which were counted
+pub record Settled (old : Desk) (taken : Option Text) (waits : Text) (tally : Tally) (new : Desk) (taken' : Option Text) (tally' : Tally) : Type 0 where
   pub labels : List Label
-  pub settles : Settles (settings old) old.state labels new.state
+  pub settles : Settles (told_of old) (front_of old) labels (front_of new)
   pub took : Appends taken taken' (waits ++ text_of labels)
   pub counted : tally' ≡ with_all tally labels
-  pub same : settings new ≡ settings old
-  pub events : new.events ≡ old.events
-  pub run : IsRunOf (settings new) new.events new.state
+  pub same : told_of new ≡ told_of old
+  pub events : new.manager.events ≡ old.manager.events
+  pub run : IsOfFrontRun (told_of new) new.manager.events (front_of new)
 
--- the machine did what follows from the event, and its labels were told
-pub record Answered (old : Manager) (event : Event) (taken : Option Text) (tally : Tally) (new : Manager) (taken' : Option Text) (tally' : Tally) : Type 0 where
+-- the front did what follows from the event, and its labels were told
+pub record Answered (old : Desk) (event : Event) (taken : Option Text) (tally : Tally) (new : Desk) (taken' : Option Text) (tally' : Tally) : Type 0 where
   pub labels : List Label
-  pub follows : Follows (settings old) old.state event labels new.state
+  pub follows : Follows (told_of old) (front_of old) event labels (front_of new)
   pub told : Told taken tally labels taken' tally'
-  pub same : settings new ≡ settings old
-  pub events : new.events ≡ old.events + 1
-  pub run : IsRunOf (settings new) new.events new.state
+  pub same : told_of new ≡ told_of old
+  pub events : new.manager.events ≤ old.manager.events + 1
+  pub run : IsOfFrontRun (told_of new) new.manager.events (front_of new)
 
 -- a front was written of what waits and of the lines of whatever labels follow
-abbrev pub SettlesFront : Manager → Text → Option Text → Option Text → Type 0
-SettlesFront m behind old new = (labels : List Label) (last : State) → Settles (settings m) m.state labels last → AppendsFront old new (behind ++ text_of labels)
+abbrev pub SettlesFront : Desk → Text → Option Text → Option Text → Type 0
+SettlesFront d behind old new = (labels : List Label) (last : Front) → Settles (told_of d) (front_of d) labels last → AppendsFront old new (behind ++ text_of labels)
 
-abbrev pub FollowsFront : Manager → Event → Option Text → Option Text → Type 0
-FollowsFront m event old new = (labels : List Label) (last : State) → Follows (settings m) m.state event labels last → AppendsFront old new (text_of labels)
+abbrev pub FollowsFront : Desk → Event → Option Text → Option Text → Type 0
+FollowsFront d event old new = (labels : List Label) (last : Front) → Follows (told_of d) (front_of d) event labels last → AppendsFront old new (text_of labels)
 
--- The run of t from s begins with these labels and goes on as that of t' from s', and both ends are alike.
-pub record Leads (told : Settings) (s : State) (t : Trace) (labels : List Label) (s' : State) (t' : Trace) : Type 0 where
-  pub on : (more : List Label) (last : State) → Plays told s' t' more last → Plays told s t (labels ++ more) last
-  pub back : (all : List Label) (last : State) → Plays told s t all last → (more : List Label) × (all ≡ labels ++ more) × Plays told s' t' more last
+-- The run of t from f begins with these labels and goes on as that of t' from f', and both ends are alike.
+pub record Leads (told : Settings) (f : Front) (t : Trace) (labels : List Label) (f' : Front) (t' : Trace) : Type 0 where
+  pub on : (more : List Label) (last : Front) → Plays told f' t' more last → Plays told f t (labels ++ more) last
+  pub back : (all : List Label) (last : Front) → Plays told f t all last → (more : List Label) × (all ≡ labels ++ more) × Plays told f' t' more last
   pub bad : bad_text t ≡ bad_text t'
   pub answer : answer_of t ≡ answer_of t'
 
 -- However the script goes on behind these bytes, its run begins with these labels and goes on from the bytes that are left.
-pub record Goes (finished : Bool) (m : Manager) (passed : ℕ) (bytes : List ℕ) (labels : List Label) (m' : Manager) (passed' : ℕ) (rest : List ℕ) : Type 0 where
+pub record Goes (finished : Bool) (d : Desk) (passed : ℕ) (bytes : List ℕ) (labels : List Label) (d' : Desk) (passed' : ℕ) (rest : List ℕ) : Type 0 where
   pub leads : (later : Bool) (more : List ℕ) → MayFollow finished [] later more
-      → Leads (settings m) m.state (trace later passed (bytes ++ more)) labels m'.state (trace later passed' (rest ++ more))
-  pub same : settings m' ≡ settings m
-  pub awaits : Awaits m'
+      → Leads (told_of d) (front_of d) (trace later passed (bytes ++ more)) labels (front_of d') (trace later passed' (rest ++ more))
+  pub same : told_of d' ≡ told_of d
+  pub awaits : Awaits d'
 
 -- how a reader stands that has given all its events
 abbrev pub Stands : Ending → Reading → Type 0
@@ -86,20 +86,20 @@ Stands Over r = Ends r.finished r.rest
 Stands (Bad line) r = IsStuck r.finished r.rest × (line ≡ r.passed + 1)
 
 -- all events of what was fed happened
-pub record Taken (m : Manager) (r : Reading) (taken : Option Text) (tally : Tally) (ending : Ending) (m' : Manager) (r' : Reading) (taken' : Option Text) (tally' : Tally) : Type 0 where
+pub record Taken (d : Desk) (r : Reading) (taken : Option Text) (tally : Tally) (ending : Ending) (d' : Desk) (r' : Reading) (taken' : Option Text) (tally' : Tally) : Type 0 where
   pub labels : List Label
-  pub goes : Goes r.finished m r.passed r.rest labels m' r'.passed r'.rest
+  pub goes : Goes r.finished d r.passed r.rest labels d' r'.passed r'.rest
   pub told : Told taken tally labels taken' tally'
   pub finished : r'.finished ≡ r.finished
   pub fed : r'.fed ≡ r.fed
-  pub room : m'.events + length r'.rest ≤ m.events + length r.rest
+  pub room : d'.manager.events + length r'.rest ≤ d.manager.events + length r.rest
   pub stands : Stands ending r'
 
 -- of whatever the bytes that are left, and those that follow, come to, a front of the lines was written
-abbrev pub TakenFront : Manager → Reading → Option Text → Option Text → Type 0
-TakenFront m r old new =
-    (later : Bool) (more : List ℕ) (labels : List Label) (last : State) → MayFollow r.finished [] later more
-    → Plays (settings m) m.state (trace later r.passed (r.rest ++ more)) labels last → AppendsFront old new (text_of labels)
+abbrev pub TakenFront : Desk → Reading → Option Text → Option Text → Type 0
+TakenFront d r old new =
+    (later : Bool) (more : List ℕ) (labels : List Label) (last : Front) → MayFollow r.finished [] later more
+    → Plays (told_of d) (front_of d) (trace later r.passed (r.rest ++ more)) labels last → AppendsFront old new (text_of labels)
 
 -- the number of the bad line, if there is one
 abbrev pub bad_of : Ending → Option ℕ
@@ -108,9 +108,9 @@ bad_of Over = None
 bad_of (Bad line) = Some line
 
 -- all events of what was fed happened, and this is the number of the bad line, if there is one
-pub record TakenBad (bad : Option ℕ) (m : Manager) (r : Reading) (taken : Option Text) (tally : Tally) (m' : Manager) (r' : Reading) (taken' : Option Text) (tally' : Tally) : Type 0 where
+pub record TakenBad (bad : Option ℕ) (d : Desk) (r : Reading) (taken : Option Text) (tally : Tally) (d' : Desk) (r' : Reading) (taken' : Option Text) (tally' : Tally) : Type 0 where
   pub ending : Ending
-  pub events : Taken m r taken tally ending m' r' taken' tally'
+  pub events : Taken d r taken tally ending d' r' taken' tally'
   pub number : bad ≡ bad_of ending
 
 -- the reader to which this piece is fed, and the one that is finished

@@ -8,9 +8,9 @@ ghost use Rattle.pnp_cli.specs.Pieces.{line_of_bad};
 use crate::turn::WriteError;
 use device_ids::WantOfMemory;
 use driver_rack::Drivers;
+use notify_front::Front;
 use pnp_io::{Sink, write_all};
 use pnp_labels::decimal;
-use pnp_machine::Manager;
 use std::alloc::Global;
 
 /// The line that tells of a bad line.
@@ -26,12 +26,12 @@ fn bad_line(alloc: Global, line: u64) -> Result<Vec<u8>, WantOfMemory>
 /// The line of a bad line, if there is one, and the end of the output.
 fn end_of_output<R: Drivers>(
     alloc: Global,
-    manager: &Manager<R>,
+    front: &Front<R>,
     bad: Option<u64>,
 ) -> Result<Vec<u8>, WantOfMemory>
-    ensures { IfOk result (λ text. text.items ≡ line_of_bad bad ++ end_text manager.now.state) }
+    ensures { IfOk result (λ text. text.items ≡ line_of_bad bad ++ end_text front.now.manager.state) }
 {
-    let ending = manager.ending(alloc)?;
+    let ending = front.ending(alloc)?;
     let Some(line) = bad else {
         return Ok(ending);
     };
@@ -43,16 +43,16 @@ fn end_of_output<R: Drivers>(
 /// Writes the line of a bad line, if there is one, and the end of the output.
 pub fn write_end<R: Drivers, K: Sink>(
     alloc: Global,
-    manager: &Manager<R>,
+    front: &Front<R>,
     bad: Option<u64>,
     sink: &mut K,
 ) -> Result<(), WriteError>
-    ensures took { OnOk result (Appends (K.taken sink.old) (K.taken sink.new) (line_of_bad bad ++ end_text manager.now.state)) }
-    ensures front { AppendsFront (K.taken sink.old) (K.taken sink.new) (line_of_bad bad ++ end_text manager.now.state) }
+    ensures took { OnOk result (Appends (K.taken sink.old) (K.taken sink.new) (line_of_bad bad ++ end_text front.now.manager.state)) }
+    ensures front { AppendsFront (K.taken sink.old) (K.taken sink.new) (line_of_bad bad ++ end_text front.now.manager.state) }
     ensures failed { IsErrOf result WriteError.WriteFault → Rose (K.faults sink.old) (K.faults sink.new) }
     ensures counts { K.faults sink.old ≤ K.faults sink.new }
 {
-    let text = end_of_output(alloc, manager, bad)?;
+    let text = end_of_output(alloc, front, bad)?;
     write_all(sink, &text)?;
     Ok(())
 }

@@ -4,6 +4,8 @@ ghost use Rattle.inf_reader.specs.Meaning.{inf};
 ghost use Rattle.inf_reader.specs.declared.parts.Inf.{Inf};
 ghost use Rattle.pnp_io.specs.Outside.{Appends, AppendsFront, Rose};
 ghost use Rattle.pnp_machine.specs.Managers.{settings};
+ghost use Rattle.notify_front.specs.Desks.{IsAtStart, front_of, told_of};
+ghost use Rattle.notify_front.specs.Fronts.{opening_front};
 ghost use Rattle.pnp_cli.specs.Contents.{events_of};
 ghost use Rattle.pnp_cli.specs.Generated.{gen_inf, gen_script};
 ghost use Rattle.pnp_cli.specs.Outputs.{Shows};
@@ -19,6 +21,7 @@ use crate::tally::Tally;
 use device_ids::WantOfMemory;
 use driver_rack::Drivers;
 use inf_reader::{Inf, read};
+use notify_front::Front;
 use pnp_io::{Sink, SureFiles, SureSink, write_all};
 use pnp_machine::Manager;
 use std::alloc::{AllocError, Global};
@@ -43,44 +46,59 @@ fn made_infs(alloc: Global) -> Result<Vec<Inf>, WantOfMemory>
     Ok(infs)
 }
 
-/// Runs the generated script over a machine to which nothing happened, and counts the labels. Nothing is written.
+/// Runs the generated script over a front to which nothing happened, and counts the labels. Nothing is written.
 fn run_generated<R: Drivers>(
     alloc: Global,
-    manager: &mut Manager<R>,
+    front: &mut Front<R>,
     n: u64,
 ) -> Result<Tally, WantOfMemory>
-    requires awaits { Awaits manager.old }
-    requires events { manager.old.events ≡ 0 }
+    requires awaits { Awaits front.old }
+    requires events { front.old.manager.events ≡ 0 }
     requires few { n ≤ 400 }
-    ensures { IfOk result (λ tally. Counted (settings manager.old) manager.old.state (events_of (gen_script n)) tally manager.new.state) }
+    ensures { IfOk result (λ tally. Counted (told_of front.old) (front_of front.old) (events_of (gen_script n)) tally (front_of front.new)) }
 {
     let script = gen_script(alloc, n)?;
     let mut files = SureFiles::make(&script);
     let mut sink = SureSink::make();
     let mut tally = Tally { steps: 0, moved: 0 };
-    match run_pieces(alloc, manager, &mut files, b"", &mut sink, &mut tally) {
+    match run_pieces(alloc, front, &mut files, b"", &mut sink, &mut tally) {
         Ok(_) => Ok(tally),
         Err(_) => Err(AllocError),
     }
 }
 
-/// Runs the generated script over a machine to which nothing happened, and gives the summary. A run of so many steps that they
+/// Runs the generated script over a front to which nothing happened, and gives the summary. A run of so many steps that they
 /// cannot be counted counts as want of memory.
 fn summed<R: Drivers>(
     alloc: Global,
-    manager: &mut Manager<R>,
+    front: &mut Front<R>,
     n: u64,
 ) -> Result<Vec<u8>, WantOfMemory>
-    requires awaits { Awaits manager.old }
-    requires events { manager.old.events ≡ 0 }
+    requires awaits { Awaits front.old }
+    requires events { front.old.manager.events ≡ 0 }
     requires few { n ≤ 400 }
-    ensures { IfOk result (λ text. Shows (settings manager.old) manager.old.state (events_of (gen_script n)) (summary n) text.items) }
+    ensures { IfOk result (λ text. Shows (told_of front.old) (front_of front.old) (events_of (gen_script n)) (summary n) text.items) }
 {
-    let tally = run_generated(alloc, manager, n)?;
+    let tally = run_generated(alloc, front, n)?;
     if tally.steps == u64::MAX {
         return Err(AllocError);
     }
-    summary(alloc, manager, n, tally)
+    summary(alloc, front, n, tally)
+}
+
+/// The summary of the run over the generated script of so many devices, over a manager to which nothing happened. The front is made
+/// here and handed on, since the checker is slow where a function holds one.
+fn sum_machine<R: Drivers>(
+    alloc: Global,
+    manager: Manager<R>,
+    n: u64,
+) -> Result<Vec<u8>, WantOfMemory>
+    requires start { IsAtStart manager }
+    requires few { n ≤ 400 }
+    ensures { IfOk result (λ text. Shows (settings manager) (opening_front manager.state) (events_of (gen_script n)) (summary n) text.items) }
+{
+    let mut front = Front::new(alloc, manager);
+    summed(alloc, &mut front, n)
 }
 
 /// The summary of the run over the generated script of so many devices. The manager is made here and handed on, since the checker is
@@ -92,7 +110,7 @@ fn sum_up<R: Drivers>(alloc: Global, n: u64, budget: u64, rack: R) -> Result<Vec
 {
     let infs = made_infs(alloc)?;
     match Manager::new(alloc, infs, rack, budget) {
-        Ok(mut manager) => summed(alloc, &mut manager, n),
+        Ok(manager) => sum_machine(alloc, manager, n),
         Err(error) => Err(error),
     }
 }

@@ -7,7 +7,9 @@ ghost use Rattle.pnp_cli.specs.Contents.{script_status};
 ghost use Rattle.pnp_cli.specs.Pieces.{answer_by};
 ghost use Rattle.pnp_cli.specs.Turns.{Awaits};
 ghost use Rattle.pnp_machine.specs.Managers.{settings};
-ghost use Rattle.pnp_cli.specs.Lawful.{OfOutput, SomeRun, OfRun, EachState, EachStep, ByDiagram, NothingClashes, AllHoldWhole, OperationsBegan, EndsRestore, DependentsGoFirst, ConflictsAreReal, FewJoin, AllStatesTold, NodesAreKeyed, NothingOnItself, MapIsClear, AllStacksFit, NamesAreKnown, NobodyIsForgotten, EachPassed, EachHoldsPart, HeldInsideWindows, HandlesAreKept, FewAreHeld, NamesAreShown, TreeIsWhole};
+ghost use Rattle.notify_front.specs.Desks.{IsAtStart, front_of, told_of};
+ghost use Rattle.notify_front.specs.Fronts.{opening_front};
+ghost use Rattle.pnp_cli.specs.Lawful.{OfOutput, SomeRun, OfRun, EachState, EachStep, ByDiagram, NothingClashes, AllHoldWhole, OperationsBegan, EndsRestore, DependentsGoFirst, ConflictsAreReal, FewJoin, AllStatesTold, NodesAreKeyed, NothingOnItself, MapIsClear, AllStacksFit, NamesAreKnown, NobodyIsForgotten, EachPassed, EachHoldsPart, HeldInsideWindows, HandlesAreKept, FewAreHeld, NamesAreShown, TreeIsWhole, OfFrontRun, EachFrontStep, MachineRuns, ClientsWereAsked, ClientsHear, ClientsDecline, NoticesKeepAll, MachineAlone};
 ghost use Rattle.pnp_cli.specs.Limits.{IsWithin};
 ghost use Rattle.driver_rack.specs.Rows.{unnamed};
 
@@ -23,6 +25,7 @@ use crate::words::settings;
 use device_ids::TextList;
 use driver_rack::{Driver, Drivers, Rack};
 use inf_reader::{Inf, InfError};
+use notify_front::Front;
 use pnp_io::{Files, Sink, write_all};
 use pnp_machine::Manager;
 use std::alloc::Global;
@@ -43,50 +46,50 @@ fn tell_refusal<K: Sink>(
     Ok(())
 }
 
-/// Runs the script of a name over a machine to which nothing happened, and writes the end of the output. Where the script has a
+/// Runs the script of a name over a front to which nothing happened, and writes the end of the output. Where the script has a
 /// bad line its number is answered.
 fn run_whole<R: Drivers, F: Files, K: Sink>(
     alloc: Global,
-    manager: &mut Manager<R>,
+    front: &mut Front<R>,
     name: &[u8],
     files: &mut F,
     sink: &mut K,
     tally: &mut Tally,
 ) -> Result<Option<u64>, PieceError>
-    requires awaits { Awaits manager.old }
-    requires events { manager.old.events ≡ 0 }
+    requires awaits { Awaits front.old }
+    requires events { front.old.manager.events ≡ 0 }
     ensures decided { IfOk result (λ bad. IfSome (F.contents files.old) (λ told. script_status (told name.now) ≡ Some (answer_by bad))) }
-    ensures whole { IfOk result (λ bad. IfSome (F.contents files.old) (λ told. Wrote (IsPrintedFor (settings manager.old) manager.old.state (told name.now)) (K.taken sink.old) (K.taken sink.new))) }
+    ensures whole { IfOk result (λ bad. IfSome (F.contents files.old) (λ told. Wrote (IsPrintedFor (told_of front.old) (front_of front.old) (told name.now)) (K.taken sink.old) (K.taken sink.new))) }
     ensures too_large { IsErrOf result PieceError.TooLarge → IfSome (F.contents files.old) (λ told. script_status (told name.now) ≡ Some Status.TooLarge) }
-    ensures front { IfSome (F.contents files.old) (λ told. WroteFront (IsPrintedFor (settings manager.old) manager.old.state (told name.now)) (K.taken sink.old) (K.taken sink.new)) }
+    ensures front { IfSome (F.contents files.old) (λ told. WroteFront (IsPrintedFor (told_of front.old) (front_of front.old) (told name.now)) (K.taken sink.old) (K.taken sink.new)) }
     ensures read_fault { IsErrOf result PieceError.ReadFault → Rose (F.faults files.old name.now) (F.faults files.new name.now) }
     ensures write_fault { IsErrOf result PieceError.WriteFault → Rose (K.faults sink.old) (K.faults sink.new) }
 {
-    let bad = run_pieces(alloc, manager, files, name, sink, tally)?;
-    write_end(alloc, manager, bad, sink)?;
+    let bad = run_pieces(alloc, front, files, name, sink, tally)?;
+    write_end(alloc, front, bad, sink)?;
     Ok(bad)
 }
 
-/// Runs the script of a name over a machine to which nothing happened.
-fn run_machine<R: Drivers, F: Files, K: Sink>(
+/// Runs the script of a name over a front to which nothing happened.
+fn run_front<R: Drivers, F: Files, K: Sink>(
     alloc: Global,
-    manager: &mut Manager<R>,
+    front: &mut Front<R>,
     name: &[u8],
     files: &mut F,
     sink: &mut K,
 ) -> Status
-    requires awaits { Awaits manager.old }
-    requires events { manager.old.events ≡ 0 }
+    requires awaits { Awaits front.old }
+    requires events { front.old.manager.events ≡ 0 }
     ensures words { result ≡ Status.BadWords → ⊥ }
     ensures decided { is_decided result ≡ true → IfSome (F.contents files.old) (λ told. script_status (told name.now) ≡ Some result) }
-    ensures whole { is_whole result ≡ true → IfSome (F.contents files.old) (λ told. Wrote (IsPrintedFor (settings manager.old) manager.old.state (told name.now)) (K.taken sink.old) (K.taken sink.new)) }
-    ensures front { IfSome (F.contents files.old) (λ told. WroteFront (IsPrintedFor (settings manager.old) manager.old.state (told name.now)) (K.taken sink.old) (K.taken sink.new)) }
+    ensures whole { is_whole result ≡ true → IfSome (F.contents files.old) (λ told. Wrote (IsPrintedFor (told_of front.old) (front_of front.old) (told name.now)) (K.taken sink.old) (K.taken sink.new)) }
+    ensures front { IfSome (F.contents files.old) (λ told. WroteFront (IsPrintedFor (told_of front.old) (front_of front.old) (told name.now)) (K.taken sink.old) (K.taken sink.new)) }
     ensures read_fault { result ≡ Status.ReadFault → Rose (F.faults files.old name.now) (F.faults files.new name.now) }
     ensures write_fault { result ≡ Status.WriteFault → Rose (K.faults sink.old) (K.faults sink.new) }
     ensures answered { IfSome (F.contents files.old) (λ told. Answers (script_status (told name.now)) (Rose (F.faults files.old name.now) (F.faults files.new name.now)) (Rose (K.faults sink.old) (K.faults sink.new)) result) }
 {
     let mut tally = Tally { steps: 0, moved: 0 };
-    match run_whole(alloc, manager, name, files, sink, &mut tally) {
+    match run_whole(alloc, front, name, files, sink, &mut tally) {
         Ok(None) => Status::Done,
         Ok(Some(_)) => Status::BadScript,
         Err(PieceError::ReadFault) => Status::ReadFault,
@@ -94,6 +97,28 @@ fn run_machine<R: Drivers, F: Files, K: Sink>(
         Err(PieceError::TooLarge) => Status::TooLarge,
         Err(PieceError::WantOfMemory) => Status::WantOfMemory,
     }
+}
+
+/// Runs the script of a name over a manager to which nothing happened. The front is made here and handed on, since the checker is slow
+/// where a function holds one.
+fn run_machine<R: Drivers, F: Files, K: Sink>(
+    alloc: Global,
+    manager: Manager<R>,
+    name: &[u8],
+    files: &mut F,
+    sink: &mut K,
+) -> Status
+    requires { IsAtStart manager }
+    ensures words { result ≡ Status.BadWords → ⊥ }
+    ensures decided { is_decided result ≡ true → IfSome (F.contents files.old) (λ told. script_status (told name.now) ≡ Some result) }
+    ensures whole { is_whole result ≡ true → IfSome (F.contents files.old) (λ told. Wrote (IsPrintedFor (settings manager) (opening_front manager.state) (told name.now)) (K.taken sink.old) (K.taken sink.new)) }
+    ensures front { IfSome (F.contents files.old) (λ told. WroteFront (IsPrintedFor (settings manager) (opening_front manager.state) (told name.now)) (K.taken sink.old) (K.taken sink.new)) }
+    ensures read_fault { result ≡ Status.ReadFault → Rose (F.faults files.old name.now) (F.faults files.new name.now) }
+    ensures write_fault { result ≡ Status.WriteFault → Rose (K.faults sink.old) (K.faults sink.new) }
+    ensures answered { IfSome (F.contents files.old) (λ told. Answers (script_status (told name.now)) (Rose (F.faults files.old name.now) (F.faults files.new name.now)) (Rose (K.faults sink.old) (K.faults sink.new)) result) }
+{
+    let mut front = Front::new(alloc, manager);
+    run_front(alloc, &mut front, name, files, sink)
 }
 
 /// Runs the script of a name. The manager is made here and handed on, since the checker is slow where a function holds one.
@@ -117,7 +142,7 @@ fn run_script<R: Drivers, F: Files, K: Sink>(
     ensures answered { IfSome (F.contents files.old) (λ told. Answers (script_status (told name.now)) (Rose (F.faults files.old name.now) (F.faults files.new name.now)) (Rose (K.faults sink.old) (K.faults sink.new)) result) }
 {
     match Manager::new(alloc, infs, rack, budget) {
-        Ok(mut manager) => run_machine(alloc, &mut manager, name, files, sink),
+        Ok(manager) => run_machine(alloc, manager, name, files, sink),
         Err(_) => Status::WantOfMemory,
     }
 }
@@ -234,8 +259,8 @@ fn run_over<D: Driver, F: Files, K: Sink>(
 /// its number, error and line are the output. With `--gen N` no file is read: the script and the INF are generated ones, and the
 /// summary of the run is all that is written. The condition is that the rack has fewer than 2^32 drivers. Each
 /// status comes as its clauses say; after a fault, and after want of memory, what was written is a front of the
-/// output. The output tells a run of the machine that keeps the laws of the last clauses. It always returns. Cost:
-/// near linear in the bytes read, and that of the machine's steps. This project's own.
+/// output. The output tells a run of the front, and of the machine behind it, that keeps the laws of the last clauses. It always
+/// returns. Cost: near linear in the bytes read, and that of the steps of front and machine. This project's own.
 pub fn run<F: Files, K: Sink>(
     alloc: Global,
     words: &[String],
@@ -275,6 +300,12 @@ pub fn run<F: Files, K: Sink>(
     ensures few { OfOutput (EachPassed FewAreHeld) (texts words.now) (F.contents files.old) (map (λ b. unnamed (kind_of b) (book b)) rack.items) }
     ensures shown { OfOutput (EachStep NamesAreShown) (texts words.now) (F.contents files.old) (map (λ b. unnamed (kind_of b) (book b)) rack.items) }
     ensures tree { OfOutput (EachState TreeIsWhole) (texts words.now) (F.contents files.old) (map (λ b. unnamed (kind_of b) (book b)) rack.items) }
+    ensures machine { OfOutput (OfFrontRun MachineRuns) (texts words.now) (F.contents files.old) (map (λ b. unnamed (kind_of b) (book b)) rack.items) }
+    ensures asks { OfOutput (EachFrontStep ClientsWereAsked) (texts words.now) (F.contents files.old) (map (λ b. unnamed (kind_of b) (book b)) rack.items) }
+    ensures hears { OfOutput (OfFrontRun ClientsHear) (texts words.now) (F.contents files.old) (map (λ b. unnamed (kind_of b) (book b)) rack.items) }
+    ensures declines { OfOutput (EachFrontStep ClientsDecline) (texts words.now) (F.contents files.old) (map (λ b. unnamed (kind_of b) (book b)) rack.items) }
+    ensures notices { OfOutput (EachFrontStep NoticesKeepAll) (texts words.now) (F.contents files.old) (map (λ b. unnamed (kind_of b) (book b)) rack.items) }
+    ensures alone { OfOutput (OfFrontRun MachineAlone) (texts words.now) (F.contents files.old) (map (λ b. unnamed (kind_of b) (book b)) rack.items) }
 {
     run_over(alloc, words, rack, files, sink)
 }

@@ -11,8 +11,8 @@ use crate::tally::Tally;
 use device_ids::WantOfMemory;
 use devnode_tree::{PrintRow, Tree};
 use driver_rack::Drivers;
+use notify_front::Front;
 use pnp_labels::{Problem, decimal};
-use pnp_machine::Manager;
 use std::alloc::Global;
 
 /// Whether the node of a serial is Started and not the root.
@@ -33,12 +33,12 @@ fn has_conflict(tree: &Tree, serial: u64) -> bool
 }
 
 /// How many devices are Started, without the root, of the rows of the tree.
-fn started<R: Drivers>(manager: &Manager<R>, rows: &[PrintRow]) -> u64
-    requires run { IsOfRun manager.now.state }
-    requires rows { rows.now ≡ map row_of (print_order manager.now.state.core.nodes) }
-    ensures { result ≡ started manager.now.state.core.nodes }
+fn started<R: Drivers>(front: &Front<R>, rows: &[PrintRow]) -> u64
+    requires run { IsOfRun front.now.manager.state }
+    requires rows { rows.now ≡ map row_of (print_order front.now.manager.state.core.nodes) }
+    ensures { result ≡ started front.now.manager.state.core.nodes }
 {
-    let tree = manager.tree();
+    let tree = front.tree();
     let mut count = 0u64;
     for row in rows {
         if is_device_up(tree, row.serial) {
@@ -49,12 +49,12 @@ fn started<R: Drivers>(manager: &Manager<R>, rows: &[PrintRow]) -> u64
 }
 
 /// How many devices have problem 12, of the rows of the tree.
-fn conflicts<R: Drivers>(manager: &Manager<R>, rows: &[PrintRow]) -> u64
-    requires run { IsOfRun manager.now.state }
-    requires rows { rows.now ≡ map row_of (print_order manager.now.state.core.nodes) }
-    ensures { result ≡ conflicts manager.now.state.core.nodes }
+fn conflicts<R: Drivers>(front: &Front<R>, rows: &[PrintRow]) -> u64
+    requires run { IsOfRun front.now.manager.state }
+    requires rows { rows.now ≡ map row_of (print_order front.now.manager.state.core.nodes) }
+    ensures { result ≡ conflicts front.now.manager.state.core.nodes }
 {
-    let tree = manager.tree();
+    let tree = front.tree();
     let mut count = 0u64;
     for row in rows {
         if has_conflict(tree, row.serial) {
@@ -77,19 +77,19 @@ fn add_number(alloc: Global, text: &mut Vec<u8>, words: &[u8], n: u64) -> Result
 /// The summary of a run over so many devices, by what was counted of its labels.
 pub fn summary<R: Drivers>(
     alloc: Global,
-    manager: &Manager<R>,
+    front: &Front<R>,
     n: u64,
     tally: Tally,
 ) -> Result<Vec<u8>, WantOfMemory>
-    requires { IsOfRun manager.now.state }
-    ensures { IfOk result (λ text. text.items ≡ summary_of n tally.steps manager.now.state.core.nodes tally.moved) }
+    requires { IsOfRun front.now.manager.state }
+    ensures { IfOk result (λ text. text.items ≡ summary_of n tally.steps front.now.manager.state.core.nodes tally.moved) }
 {
-    let rows = manager.tree().print_rows(alloc)?;
+    let rows = front.tree().print_rows(alloc)?;
     let mut text = Vec::new(alloc);
     add_number(alloc, &mut text, b"devices ", n)?;
     add_number(alloc, &mut text, b"steps ", tally.steps)?;
-    add_number(alloc, &mut text, b"started ", started(manager, &rows))?;
-    add_number(alloc, &mut text, b"problem12 ", conflicts(manager, &rows))?;
+    add_number(alloc, &mut text, b"started ", started(front, &rows))?;
+    add_number(alloc, &mut text, b"problem12 ", conflicts(front, &rows))?;
     add_number(alloc, &mut text, b"moved ", tally.moved)?;
     Ok(text)
 }

@@ -18,6 +18,8 @@ mod inf_versions;
 #[cfg(test)]
 mod script_bytes;
 #[cfg(test)]
+mod script_clients;
+#[cfg(test)]
 mod script_handles;
 #[cfg(test)]
 mod script_limits;

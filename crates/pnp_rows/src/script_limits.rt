@@ -12,10 +12,12 @@ type Row = (
     u32,
 );
 
-const ROWS: [Row; 11] = [
+const ROWS: [Row; 13] = [
     (b"pull OWN\\DEV\\1", b" ", b"", b"", 4082),
     (b"driver ", b"n", b"", b" steady", 64),
     (b"teach dev add * ok ", b"1", b"", b"", 6),
+    (b"watch ", b"c", b"", b" OWN\\DEV\\1 refuse", 64),
+    (b"unwatch ", b"c", b"", b" OWN\\DEV\\1", 64),
     (b"reserve irq:0x", b"f", b"", b"", 16),
     (b"plug A\\B\\1 A\\B 2 hw=", b"A", b"", b"", 199),
     (b"plug A\\B\\1 A\\B 2 hw=", b"A", b",", b"", 64),

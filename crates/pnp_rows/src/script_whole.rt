@@ -23,9 +23,12 @@ plug OWN\\X\\2 A B\\C compat=*PNP0501
 window A\\B\\C mem:0xE0000000-0xEFFFFFFF
 open OWN\\DEV\\1
 close OWN\\DEV\\1
+watch ed OWN\\DEV\\1 ok
+watch ED OWN\\DEV\\1 refuse\r
+unwatch ed own\\dev\\1
 plag";
 
-const EVENTS: [(u64, &[u8]); 15] = [
+const EVENTS: [(u64, &[u8]); 18] = [
     (2, b"Name dev Scripted "),
     (
         3,
@@ -44,10 +47,13 @@ const EVENTS: [(u64, &[u8]); 15] = [
     (16, b"Window A\\B\\C Mem 3758096384-4026531839 false "),
     (17, b"OpenHandle OWN\\DEV\\1 "),
     (18, b"CloseHandle OWN\\DEV\\1 "),
+    (19, b"Watch ed OWN\\DEV\\1 true "),
+    (20, b"Watch ED OWN\\DEV\\1 false "),
+    (21, b"Unwatch ed own\\dev\\1 "),
 ];
 
 fn assert_script(rt: &impl Abort, alloc: Global, script: &Script) -> Result<(), Fail> {
-    assert!(rt; script.ends == (ScriptEnd::Bad { line: 19 }));
+    assert!(rt; script.ends == (ScriptEnd::Bad { line: 22 }));
     assert_eq!(rt; script.lines.len(), EVENTS.len());
     let mut at = 0;
     for line in &script.lines {

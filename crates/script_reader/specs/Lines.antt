@@ -17,7 +17,7 @@ use Rattle.pnp_labels.specs.declared.event.Rule.{Rule}
 use Rattle.pnp_labels.specs.declared.label.EventWord.{EventWord}
 use Rattle.std.specs.Str.{bytes_eq}
 use Rattle.script_reader.specs.Words.{is_name}
-use Rattle.script_reader.specs.Tables.{keyword_of, minor_of, driver_kind_of, rel_kind_of, kind_of, answer_of, ask_of, ok_of}
+use Rattle.script_reader.specs.Tables.{keyword_of, minor_of, driver_kind_of, rel_kind_of, kind_of, answer_of, ask_of, ok_of, agrees_of}
 use Rattle.script_reader.specs.Numbers.{◌>>=◌, only_if, number_of, range_in}
 use Rattle.script_reader.specs.Bytes.{reqs_by_bytes}
 use Rattle.script_reader.specs.Wants.{all_of, at_most, list_of, id_of, ids_of}
@@ -226,7 +226,24 @@ change_of (path ∷ needs) = do
   only_if (list_all is_need needs) (events.Change path reqs)
 change_of _ = None
 
--- there is no line for clients
+abbrev pub watched : List ℕ → List ℕ → List ℕ → Option Event
+watched client path agrees = do
+  client ← name_of client
+  path ← path_of path
+  agrees ← agrees_of agrees
+  Some (events.Watch client path agrees)
+
+abbrev pub watch_of : List (List ℕ) → Option Event
+watch_of (client ∷ path ∷ agrees ∷ []) = watched client path agrees
+watch_of _ = None
+
+abbrev pub unwatch_of : List (List ℕ) → Option Event
+unwatch_of (client ∷ path ∷ []) = do
+  client ← name_of client
+  path ← path_of path
+  Some (events.Unwatch client path)
+unwatch_of _ = None
+
 abbrev pub event_by : EventWord → List (List ℕ) → Option Event
 event_by EventWord.Plug words = plug_of words
 event_by EventWord.Pull words = pull_of words
@@ -242,8 +259,8 @@ event_by EventWord.HandleOpen words = open_of words
 event_by EventWord.HandleClose words = close_of words
 event_by EventWord.Window words = window_of words
 event_by EventWord.Change words = change_of words
-event_by EventWord.Watch words = None
-event_by EventWord.Unwatch words = None
+event_by EventWord.Watch words = watch_of words
+event_by EventWord.Unwatch words = unwatch_of words
 
 -- the event of a line's words, its keyword and the words after it
 abbrev pub event_of : List (List ℕ) → Option Event

@@ -31,7 +31,9 @@ keyword_of word = among (
     (codes "open", EventWord.HandleOpen) ∷
     (codes "close", EventWord.HandleClose) ∷
     (codes "window", EventWord.Window) ∷
-    (codes "change", EventWord.Change) ∷ []) word
+    (codes "change", EventWord.Change) ∷
+    (codes "watch", EventWord.Watch) ∷
+    (codes "unwatch", EventWord.Unwatch) ∷ []) word
 
 abbrev pub driver_kind_of : List ℕ → Option DriverKind
 driver_kind_of word = among (
@@ -57,6 +59,12 @@ answer_of word = among (
     (codes "ok", Answer.Ok) ∷
     (codes "fail", Answer.Fail) ∷
     (codes "pend", Answer.Pend) ∷ []) word
+
+-- whether a client agrees that a device is removed
+abbrev pub agrees_of : List ℕ → Option Bool
+agrees_of word = among (
+    (codes "ok", true) ∷
+    (codes "refuse", false) ∷ []) word
 
 -- how a request is completed
 abbrev pub ok_of : List ℕ → Option Bool

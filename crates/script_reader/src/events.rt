@@ -5,7 +5,7 @@ ghost use Rattle.script_reader.specs.Lines.{event_of, event_by};
 use crate::fault::LineError;
 use crate::lines::{
     change_of, close_of, complete_of, disable_of, driver_of, eject_of, enable_of, open_of, pull_of,
-    relate_of, reserve_of, teach_of, window_of,
+    relate_of, reserve_of, teach_of, unwatch_of, watch_of, window_of,
 };
 use crate::plug::plug_of;
 use crate::tables::keyword_of;
@@ -31,7 +31,8 @@ fn event_by(alloc: Global, keyword: EventWord, words: &[&[u8]]) -> Result<Event,
         EventWord::HandleClose => close_of(alloc, words),
         EventWord::Window => window_of(alloc, words),
         EventWord::Change => change_of(alloc, words),
-        EventWord::Watch | EventWord::Unwatch => Err(LineError::Bad),
+        EventWord::Watch => watch_of(alloc, words),
+        EventWord::Unwatch => unwatch_of(alloc, words),
     }
 }
 

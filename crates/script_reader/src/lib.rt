@@ -15,10 +15,13 @@
 //! | `reserve KIND:RANGE` | a range is taken for no device |
 //! | `complete PATH MINOR ok`, `complete PATH MINOR fail` | a pended request is completed |
 //! | `open PATH`, `close PATH` | a handle to a device is opened, or closed |
+//! | `watch CLIENT PATH ok`, `watch CLIENT PATH refuse` | a client is asked before a device is removed: it agrees, or refuses |
+//! | `unwatch CLIENT PATH` | it is asked no more |
 //! | `window PATH KIND:RANGE` | a bridge passes on no other ports, or memory; KIND is `port` or `mem` |
+//! | `change PATH`, perhaps needs | a running device requires something else from now on, as `need` or `reqs` say |
 //!
-//! - NAME has 1 to 64 letters, digits, `_`, `-` and `.`. ASK is `add` or a request, ANSWER is `ok`, `fail` or
-//!   `pend`, but `add` is not left unanswered. N is 1 to 1,000,000.
+//! - NAME and CLIENT have 1 to 64 letters, digits, `_`, `-` and `.`. ASK is `add` or a request, ANSWER is `ok`,
+//!   `fail` or `pend`, but `add` is not left unanswered. N is 1 to 1,000,000.
 //! - A number is decimal digits, or `0x` and hexadecimal digits, below 2^64. RANGE is two numbers with `-`
 //!   between them, the first not above the second, or one number for both.
 //! - The attributes of `plug` stand in any order: `hw=ID,ID` and `compat=ID,ID` at most once, with 1 to 64

@@ -1,12 +1,14 @@
 ghost use Rattle.std.specs.Prelude.{◌≡◌, ◌<◌, length, map, IfOk, Some, None};
 ghost use Rattle.std.specs.Option.{option_map};
 ghost use Rattle.script_reader.specs.Faults.{Gives};
-ghost use Rattle.script_reader.specs.Lines.{path_of, name_of, rule_path_of, is_answerable, rule_of, uses_of, pull_of, disable_of, enable_of, eject_of, driver_of, uses_by, teach_of, related, relate_of, res_of, reserved, reserve_of, completed, complete_of, open_of, close_of, has_windows, window_res_of, window_of, change_of};
+ghost use Rattle.script_reader.specs.Lines.{path_of, name_of, rule_path_of, is_answerable, rule_of, uses_of, pull_of, disable_of, enable_of, eject_of, driver_of, uses_by, teach_of, related, relate_of, res_of, reserved, reserve_of, completed, complete_of, open_of, close_of, has_windows, window_res_of, window_of, change_of, watched, watch_of, unwatch_of};
 
 use crate::fault::LineError;
 use crate::needs::{are_needs, reqs_of};
 use crate::numbers::{number_of, range_in};
-use crate::tables::{answer_of, ask_of, driver_kind_of, kind_of, minor_of, ok_of, rel_kind_of};
+use crate::tables::{
+    agrees_of, answer_of, ask_of, driver_kind_of, kind_of, minor_of, ok_of, rel_kind_of,
+};
 use crate::words::is_name;
 use device_ids::{InstancePath, Text, split_once};
 use pnp_labels::{Answer, AskWhat, Event, RelKind, Rule};
@@ -334,4 +336,42 @@ pub fn change_of(alloc: Global, words: &[&[u8]]) -> Result<Event, LineError>
         return Err(LineError::Bad);
     }
     Ok(Event::Change { path, reqs })
+}
+
+/// The client of these words is asked before the device is removed, and answers so.
+fn watched(alloc: Global, client: &[u8], path: &[u8], agrees: &[u8]) -> Result<Event, LineError>
+    ensures { Gives result (watched client.now path.now agrees.now) }
+{
+    let client = name_of(alloc, client)?;
+    let path = path_of(alloc, path)?;
+    let Some(agrees) = agrees_of(agrees) else {
+        return Err(LineError::Bad);
+    };
+    Ok(Event::Watch {
+        client,
+        path,
+        agrees,
+    })
+}
+
+/// `watch CLIENT PATH ok` or `watch CLIENT PATH refuse`.
+pub fn watch_of(alloc: Global, words: &[&[u8]]) -> Result<Event, LineError>
+    ensures { Gives result (watch_of (map (λ w. w.now) words.now)) }
+{
+    let [client, path, agrees] = words else {
+        return Err(LineError::Bad);
+    };
+    watched(alloc, client, path, agrees)
+}
+
+/// `unwatch CLIENT PATH`.
+pub fn unwatch_of(alloc: Global, words: &[&[u8]]) -> Result<Event, LineError>
+    ensures { Gives result (unwatch_of (map (λ w. w.now) words.now)) }
+{
+    let [client, path] = words else {
+        return Err(LineError::Bad);
+    };
+    let client = name_of(alloc, client)?;
+    let path = path_of(alloc, path)?;
+    Ok(Event::Unwatch { client, path })
 }

@@ -1,10 +1,10 @@
 ghost use Rattle.std.specs.Prelude.{◌≡◌, map};
-ghost use Rattle.script_reader.specs.Tables.{among, keyword_of, driver_kind_of, rel_kind_of, kind_of, answer_of, ok_of, minor_of, ask_of};
+ghost use Rattle.script_reader.specs.Tables.{among, keyword_of, driver_kind_of, rel_kind_of, kind_of, answer_of, agrees_of, ok_of, minor_of, ask_of};
 
 use pnp_labels::{Answer, AskWhat, DriverKind, EventWord, Minor, RelKind};
 use resource_reqs::Kind;
 
-const KEYWORDS: [(&[u8], EventWord); 14] = [
+const KEYWORDS: [(&[u8], EventWord); 16] = [
     (b"plug", EventWord::Plug),
     (b"pull", EventWord::Pull),
     (b"driver", EventWord::Name),
@@ -19,6 +19,8 @@ const KEYWORDS: [(&[u8], EventWord); 14] = [
     (b"close", EventWord::HandleClose),
     (b"window", EventWord::Window),
     (b"change", EventWord::Change),
+    (b"watch", EventWord::Watch),
+    (b"unwatch", EventWord::Unwatch),
 ];
 
 const DRIVER_KINDS: [(&[u8], DriverKind); 3] = [
@@ -45,6 +47,8 @@ const ANSWERS: [(&[u8], Answer); 3] = [
     (b"fail", Answer::Fail),
     (b"pend", Answer::Pend),
 ];
+
+const AGREEMENTS: [(&[u8], bool); 2] = [(b"ok", true), (b"refuse", false)];
 
 const OKS: [(&[u8], bool); 2] = [(b"ok", true), (b"fail", false)];
 
@@ -104,6 +108,13 @@ pub fn answer_of(word: &[u8]) -> Option<Answer>
     ensures { result ≡ answer_of word.now }
 {
     among(&ANSWERS, word)
+}
+
+/// What a client says of a removal: `ok` or `refuse`.
+pub fn agrees_of(word: &[u8]) -> Option<bool>
+    ensures { result ≡ agrees_of word.now }
+{
+    among(&AGREEMENTS, word)
 }
 
 /// What `complete` says of the request: `ok` or `fail`.

@@ -1,5 +1,5 @@
 use Rattle.pnp_cli.specs.Words.{texts, settings_of}
-use Rattle.pnp_cli.proofs.Lawfulness.{output_tells, output_by_diagram, output_shares, output_holds_whole, output_restores, output_dependents, output_conflicts, output_begins, output_joins, output_told, output_keyed, output_acyclic, output_map_clear, output_stacks, output_names, output_remembers, output_holds_parts, output_inside_windows, output_handles, output_holds_few, output_shown, output_tree}
+use Rattle.pnp_cli.proofs.Lawfulness.{output_tells, output_by_diagram, output_shares, output_holds_whole, output_restores, output_dependents, output_conflicts, output_begins, output_joins, output_told, output_keyed, output_acyclic, output_map_clear, output_stacks, output_names, output_remembers, output_holds_parts, output_inside_windows, output_handles, output_holds_few, output_shown, output_tree, output_of_machine, output_asks, output_hears, output_declines, output_notices, output_alone}
 use Rattle.pnp_cli.proofs.OneOutput.{one_front}
 use Rattle.pnp_cli.proofs.program.run.Goals as goal
 
@@ -71,3 +71,21 @@ returns-clause-shown g c = output_shown _ _ c.args.rack.items (texts c.args.word
 
 pub returns-clause-tree : goal.returns-clause-tree
 returns-clause-tree g c = output_tree (texts c.args.words.now) (g.F.Files.contents c.args.files.now) _
+
+pub returns-clause-machine : goal.returns-clause-machine
+returns-clause-machine g c = output_of_machine (texts c.args.words.now) (g.F.Files.contents c.args.files.now) _
+
+pub returns-clause-asks : goal.returns-clause-asks
+returns-clause-asks g c = output_asks (texts c.args.words.now) (g.F.Files.contents c.args.files.now) _
+
+pub returns-clause-hears : goal.returns-clause-hears
+returns-clause-hears g c = output_hears (texts c.args.words.now) (g.F.Files.contents c.args.files.now) _
+
+pub returns-clause-declines : goal.returns-clause-declines
+returns-clause-declines g c = output_declines (texts c.args.words.now) (g.F.Files.contents c.args.files.now) _
+
+pub returns-clause-notices : goal.returns-clause-notices
+returns-clause-notices g c = output_notices (texts c.args.words.now) (g.F.Files.contents c.args.files.now) _
+
+pub returns-clause-alone : goal.returns-clause-alone
+returns-clause-alone g c = output_alone (texts c.args.words.now) (g.F.Files.contents c.args.files.now) _

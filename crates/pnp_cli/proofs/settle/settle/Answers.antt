@@ -5,51 +5,51 @@ use Rattle.pnp_cli.proofs.settle.settle.Goals as goal
 
 pub returns-in_err-label-clause-front : goal.returns-in_err-label-clause-front
 returns-in_err-label-clause-front g c =
-    stepping_front c.args.manager.now c.steps.manager (g.K.Sink.taken c.args.sink.now) (g.K.Sink.taken c.steps.sink) c.args.lines.now.items c.steps.lines.items c.args.tally.now c.steps.tally
+    stepping_front c.args.front.now c.steps.front (g.K.Sink.taken c.args.sink.now) (g.K.Sink.taken c.steps.sink) c.args.lines.now.items c.steps.lines.items c.args.tally.now c.steps.tally
     c.steps.invariant.stepping
 
 pub steps-smaller : goal.steps-smaller
 steps-smaller g c =
-    less_left c.steps.manager c.step.new.self c.in-Label.label c.steps.invariant.stepping.run
-    (stepped_by c.steps.manager c.step.new.self c.in_ok-label.field-0 c.in-Label.label c.in-Label.is c.in_ok-label.ensures.moves c.in_ok-label.ensures.same c.in_ok-label.ensures.run)
+    less_left c.steps.front c.step.new.self c.in-Label.label c.steps.invariant.stepping.run
+    (stepped_by c.steps.front c.step.new.self c.in_ok-label.field-0 c.in-Label.label c.in-Label.is c.in_ok-label.ensures.moves c.in_ok-label.ensures.settings c.in_ok-label.ensures.events c.in_ok-label.ensures.run)
 
 pub steps-preserved : goal.steps-preserved
 steps-preserved g c =
     record {
       stepping =
-          stepping_more c.args.manager.now c.steps.manager c.step.new.self (g.K.Sink.taken c.args.sink.now) (g.K.Sink.taken c.steps.sink) (g.K.Sink.taken c.tell.new.sink)
+          stepping_more c.args.front.now c.steps.front c.step.new.self (g.K.Sink.taken c.args.sink.now) (g.K.Sink.taken c.steps.sink) (g.K.Sink.taken c.tell.new.sink)
           c.args.lines.now.items c.steps.lines.items c.tell.new.lines.items c.args.tally.now c.steps.tally c.tell.new.tally c.in-Label.label c.steps.invariant.stepping
-          (stepped_by c.steps.manager c.step.new.self c.in_ok-label.field-0 c.in-Label.label c.in-Label.is c.in_ok-label.ensures.moves c.in_ok-label.ensures.same c.in_ok-label.ensures.run)
+          (stepped_by c.steps.front c.step.new.self c.in_ok-label.field-0 c.in-Label.label c.in-Label.is c.in_ok-label.ensures.moves c.in_ok-label.ensures.settings c.in_ok-label.ensures.events c.in_ok-label.ensures.run)
           c.in_ok-tell-in-Label.ensures.held;
       counts = omega (arith, c.steps.invariant.counts, c.in_ok-tell-in-Label.ensures.counts);
     }
 
 pub returns-in_err-tell-in-Label-clause-front : goal.returns-in_err-tell-in-Label-clause-front
 returns-in_err-tell-in-Label-clause-front g c =
-    stepping_front_more c.args.manager.now c.steps.manager c.step.new.self (g.K.Sink.taken c.args.sink.now) (g.K.Sink.taken c.steps.sink) (g.K.Sink.taken c.tell.new.sink)
+    stepping_front_more c.args.front.now c.steps.front c.step.new.self (g.K.Sink.taken c.args.sink.now) (g.K.Sink.taken c.steps.sink) (g.K.Sink.taken c.tell.new.sink)
     c.args.lines.now.items c.steps.lines.items c.args.tally.now c.steps.tally c.in-Label.label c.steps.invariant.stepping
-    (stepped_by c.steps.manager c.step.new.self c.in_ok-label.field-0 c.in-Label.label c.in-Label.is c.in_ok-label.ensures.moves c.in_ok-label.ensures.same c.in_ok-label.ensures.run)
+    (stepped_by c.steps.front c.step.new.self c.in_ok-label.field-0 c.in-Label.label c.in-Label.is c.in_ok-label.ensures.moves c.in_ok-label.ensures.settings c.in_ok-label.ensures.events c.in_ok-label.ensures.run)
     c.in_err-tell-in-Label.ensures.front
 
 pub returns-in_err-write_lines-in-Quiet-clause-front : goal.returns-in_err-write_lines-in-Quiet-clause-front
 returns-in_err-write_lines-in-Quiet-clause-front g c =
-    stepping_front_last c.args.manager.now c.steps.manager (g.K.Sink.taken c.args.sink.now) (g.K.Sink.taken c.steps.sink) (g.K.Sink.taken c.write_lines.new.sink) c.args.lines.now.items c.steps.lines.items c.args.tally.now c.steps.tally c.steps.invariant.stepping
+    stepping_front_last c.args.front.now c.steps.front (g.K.Sink.taken c.args.sink.now) (g.K.Sink.taken c.steps.sink) (g.K.Sink.taken c.write_lines.new.sink) c.args.lines.now.items c.steps.lines.items c.args.tally.now c.steps.tally c.steps.invariant.stepping
     c.in_err-write_lines-in-Quiet.ensures.front
 
 pub returns-in-Quiet-clause-ok : goal.returns-in-Quiet-clause-ok
 returns-in-Quiet-clause-ok g c =
-    stepping_quiet c.args.manager.now c.steps.manager c.step.new.self (g.K.Sink.taken c.args.sink.now) (g.K.Sink.taken c.steps.sink) (g.K.Sink.taken c.write_lines.new.sink)
-    c.args.lines.now.items c.steps.lines.items c.args.tally.now c.steps.tally c.steps.invariant.stepping c.in_ok-label.field-0 c.in-Quiet.is c.in_ok-label.ensures.moves c.in_ok-label.ensures.same
+    stepping_quiet c.args.front.now c.steps.front c.step.new.self (g.K.Sink.taken c.args.sink.now) (g.K.Sink.taken c.steps.sink) (g.K.Sink.taken c.write_lines.new.sink)
+    c.args.lines.now.items c.steps.lines.items c.args.tally.now c.steps.tally c.steps.invariant.stepping c.in_ok-label.field-0 c.in-Quiet.is c.in_ok-label.ensures.moves c.in_ok-label.ensures.settings c.in_ok-label.ensures.events c.in_ok-label.ensures.run
     c.in_ok-write_lines-in-Quiet.ensures.took
 
 pub returns-in-Quiet-clause-front : goal.returns-in-Quiet-clause-front
 returns-in-Quiet-clause-front g c =
-    stepping_front_last c.args.manager.now c.steps.manager (g.K.Sink.taken c.args.sink.now) (g.K.Sink.taken c.steps.sink) (g.K.Sink.taken c.write_lines.new.sink) c.args.lines.now.items c.steps.lines.items c.args.tally.now c.steps.tally c.steps.invariant.stepping
+    stepping_front_last c.args.front.now c.steps.front (g.K.Sink.taken c.args.sink.now) (g.K.Sink.taken c.steps.sink) (g.K.Sink.taken c.write_lines.new.sink) c.args.lines.now.items c.steps.lines.items c.args.tally.now c.steps.tally c.steps.invariant.stepping
     (all_is_front (g.K.Sink.taken c.steps.sink) (g.K.Sink.taken c.write_lines.new.sink) c.steps.lines.items c.in_ok-write_lines-in-Quiet.ensures.took)
 
 pub steps-init : goal.steps-init
 steps-init g c =
     record {
-      stepping = stepping_none c.args.manager.now (g.K.Sink.taken c.args.sink.now) c.args.lines.now.items c.args.tally.now c.requires.run;
+      stepping = stepping_none c.args.front.now (g.K.Sink.taken c.args.sink.now) c.args.lines.now.items c.args.tally.now c.requires.run;
       counts = omega arith;
     }

@@ -5,5 +5,5 @@ use Rattle.pnp_cli.proofs.summary.started.Goals as goal
 
 pub returns : goal.returns
 returns g c =
-    count_up (λ k o. not (k == 0) && is_up o) c.args.manager.now.state c.requires.run c.tree-tree.result.now.nodes c.args.rows.now c.loop-row.row-index c.loop-row.count
+    count_up (λ k o. not (k == 0) && is_up o) c.args.front.now.manager.state c.requires.run c.tree-tree.result.now.nodes c.args.rows.now c.loop-row.row-index c.loop-row.count
     c.tree-tree.ensures c.requires.rows (omega (arith, c.loop-row-test.false)) c.loop-row.invariant.counted

@@ -1,0 +1,89 @@
+//! Clients that are registered on devices: the lines, with the event or the refusal that the language's description gives.
+use crate::script_lines::reads;
+use std::test::Fail;
+
+const CLIENTS: [(&[u8], &[u8]); 57] = [
+    (b"watch ed OWN\\DEV\\1 ok", b"Watch ed OWN\\DEV\\1 true "),
+    (
+        b"watch ed OWN\\DEV\\1 refuse",
+        b"Watch ed OWN\\DEV\\1 false ",
+    ),
+    (b"watch ED own\\dev\\1 ok", b"Watch ED own\\dev\\1 true "),
+    (
+        b"watch d-e_v.2 HTREE\\ROOT\\0 refuse",
+        b"Watch d-e_v.2 HTREE\\ROOT\\0 false ",
+    ),
+    (b"watch ok OWN\\DEV\\1 ok", b"Watch ok OWN\\DEV\\1 true "),
+    (
+        b"\twatch  ed\tOWN\\DEV\\1\t ok ",
+        b"Watch ed OWN\\DEV\\1 true ",
+    ),
+    (b"watch ed OWN\\DEV\\1 ok\r", b"Watch ed OWN\\DEV\\1 true "),
+    (
+        b"watch abcdefghijklmnopqrstuvwxyzABCDEFGHIJKLMNOPQRSTUVWXYZ0123456789-. OWN\\DEV\\1 ok",
+        b"Watch abcdefghijklmnopqrstuvwxyzABCDEFGHIJKLMNOPQRSTUVWXYZ0123456789-. OWN\\DEV\\1 true ",
+    ),
+    (b"unwatch ed OWN\\DEV\\1", b"Unwatch ed OWN\\DEV\\1 "),
+    (b"unwatch Ed own\\dev\\1", b"Unwatch Ed own\\dev\\1 "),
+    (b" unwatch\t- OWN\\DEV\\1 \r", b"Unwatch - OWN\\DEV\\1 "),
+    (
+        b"unwatch abcdefghijklmnopqrstuvwxyzABCDEFGHIJKLMNOPQRSTUVWXYZ0123456789-. OWN\\DEV\\1",
+        b"Unwatch abcdefghijklmnopqrstuvwxyzABCDEFGHIJKLMNOPQRSTUVWXYZ0123456789-. OWN\\DEV\\1 ",
+    ),
+    (b"watch", b"bad "),
+    (b"watch ed", b"bad "),
+    (b"watch ed OWN\\DEV\\1", b"bad "),
+    (b"watch OWN\\DEV\\1 ok", b"bad "),
+    (b"watch ed ok", b"bad "),
+    (b"watch ed ok OWN\\DEV\\1", b"bad "),
+    (b"watch ed OWN\\DEV\\1 ok now", b"bad "),
+    (b"watch ed OWN\\DEV\\1 ok 1", b"bad "),
+    (b"watch ed OWN\\DEV\\1 refuse # note", b"bad "),
+    (b"watch ed OWN\\DEV\\1 fail", b"bad "),
+    (b"watch ed OWN\\DEV\\1 pend", b"bad "),
+    (b"watch ed OWN\\DEV\\1 Ok", b"bad "),
+    (b"watch ed OWN\\DEV\\1 REFUSE", b"bad "),
+    (b"watch ed OWN\\DEV\\1 refused", b"bad "),
+    (b"watch ed OWN\\DEV\\1 o", b"bad "),
+    (b"watch ed OWN\\DEV\\1 refuse\r\r", b"bad "),
+    (b"watch ed * ok", b"bad "),
+    (b"watch ed OWN\\DEV ok", b"bad "),
+    (b"watch ed OWN\\DEV\\1\\2 refuse", b"bad "),
+    (b"watch ed OWN\\D,V\\1 ok", b"bad "),
+    (b"watch ed OWN\\DEV\\1,OWN\\DEV\\2 ok", b"bad "),
+    (b"watch e,d OWN\\DEV\\1 ok", b"bad "),
+    (b"watch e:d OWN\\DEV\\1 ok", b"bad "),
+    (b"watch e\\d OWN\\DEV\\1 ok", b"bad "),
+    (b"watch * OWN\\DEV\\1 refuse", b"bad "),
+    (b"watch e\xe9d OWN\\DEV\\1 ok", b"bad "),
+    (
+        b"watch abcdefghijklmnopqrstuvwxyzABCDEFGHIJKLMNOPQRSTUVWXYZ0123456789-._ OWN\\DEV\\1 ok",
+        b"bad ",
+    ),
+    (b"Watch ed OWN\\DEV\\1 ok", b"bad "),
+    (b"WATCH ed OWN\\DEV\\1 refuse", b"bad "),
+    (b"watches ed OWN\\DEV\\1 ok", b"bad "),
+    (b"watc ed OWN\\DEV\\1 ok", b"bad "),
+    (b"unwatch", b"bad "),
+    (b"unwatch ed", b"bad "),
+    (b"unwatch OWN\\DEV\\1", b"bad "),
+    (b"unwatch ed OWN\\DEV\\1 ok", b"bad "),
+    (b"unwatch ed OWN\\DEV\\1 OWN\\DEV\\2", b"bad "),
+    (b"unwatch ed *", b"bad "),
+    (b"unwatch * OWN\\DEV\\1", b"bad "),
+    (b"unwatch e;d OWN\\DEV\\1", b"bad "),
+    (b"unwatch ed OWN\\DEV", b"bad "),
+    (
+        b"unwatch abcdefghijklmnopqrstuvwxyzABCDEFGHIJKLMNOPQRSTUVWXYZ0123456789-._ OWN\\DEV\\1",
+        b"bad ",
+    ),
+    (b"Unwatch ed OWN\\DEV\\1", b"bad "),
+    (b"UNWATCH ed OWN\\DEV\\1", b"bad "),
+    (b"un watch ed OWN\\DEV\\1", b"bad "),
+    (b"unwatched ed OWN\\DEV\\1", b"bad "),
+];
+
+#[test]
+fn clients(rt: HostRuntime) -> Result<(), Fail> {
+    reads(&rt, rt.alloc(), &CLIENTS)
+}
