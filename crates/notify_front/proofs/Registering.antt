@@ -1,20 +1,17 @@
 -- Registrations in a list that is sorted by device.
-use Rattle.std.proofs.Common.{ℕ, zero, suc, ◌≡◌, ◌+◌, ◌-◌, ◌<◌, ◌≤◌, ◌==◌, Bool, true, false, cond, List, [], ◌∷◌, ◌++◌, length, get_or, remove, nat_lt, refl, sym, ap, ◌∙◌, subst, arith, append_assoc, append-nil, take, if◌then◌else◌}
+use Rattle.std.proofs.Common.{ℕ, zero, suc, ◌≡◌, ◌+◌, ◌-◌, ◌<◌, ◌≤◌, ◌==◌, Bool, true, false, cond, List, [], ◌∷◌, ◌++◌, length, get_or, position, remove, nat_lt, Some, refl, sym, ap, ◌∙◌, subst, arith, append_assoc, append-nil, take, if◌then◌else◌}
 use Rattle.std.specs.List.{filter}
 use Rattle.std.specs.List.Sorted.{IsNonDecreasingBy}
 use Rattle.std.proofs.lemmas.Bool.{ltb-true, ltb-false}
 use Rattle.std.proofs.lemmas.List.{take_more}
+use Rattle.std.proofs.lemmas.List.Quantifiers.{position-Some}
 use Rattle.std.proofs.lemmas.List.Edits.{length-remove, get_or-remove_below, get_or-remove_above}
 use Rattle.pnp_model.specs.Keyed.{those}
 use Rattle.notify_front.specs.Fronts.{Registration, is_on, on_each}
 
 pub those_are : {A : Type 0} (p : A → Bool) (xs : List A) → filter p xs ≡ those p xs
 those_are p [] = refl
-those_are p (x ∷ xs) = by_test (p x)
-  where
-    by_test : (b : Bool) → cond b (x ∷ filter p xs) (filter p xs) ≡ (if b then x ∷ those p xs else those p xs)
-    by_test true = ap (λ l. x ∷ l) (those_are p xs)
-    by_test false = those_are p xs
+those_are p (x ∷ xs) = ap (λ l. if p x then x ∷ l else l) (those_are p xs)
 
 by_bool : (P : Type 0) (b : Bool) → (b ≡ true → P) → (b ≡ false → P) → P
 by_bool P true f g = f refl
@@ -50,3 +47,7 @@ on_more (j ∷ ks) k rs = ap (λ (l : List Registration). those (is_on j) rs ++ 
 
 pub on_next : (ks : List ℕ) (at d : ℕ) (rs : List Registration) → at < length ks → on_each (take (at + 1) ks) rs ≡ on_each (take at ks) rs ++ those (is_on (get_or ks at d)) rs
 on_next ks at d rs within = ap (λ (l : List ℕ). on_each l rs) (take_more ks at d within) ∙ on_more (take at ks) (get_or ks at d) rs
+
+pub within_position : {X : Type 0} (test : X → Bool) (xs : List X) (at : ℕ) → position test xs ≡ Some at → at < length xs
+within_position test [] at h = absurd (cc)
+within_position test (x ∷ xs) at h = (position-Some test (x ∷ xs) at x h).0

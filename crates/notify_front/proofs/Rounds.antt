@@ -6,7 +6,8 @@ use Rattle.std.proofs.lemmas.Option.{slice_get-get_or, slice_get_within, get_or_
 use Rattle.pnp_labels.proofs.Reading.{drop_next}
 use Rattle.pnp_labels.specs.declared.label.OpKind.{OpKind}
 use Rattle.notify_front.specs.Fronts.{Hand, Registration, over, running, vetoed}
-use Rattle.notify_front.specs.Hands.{answered, begins, client_at, hand_of, moved_on, next_told}
+use Rattle.pnp_model.specs.Records.{Beginning}
+use Rattle.notify_front.specs.Hands.{AllAgreed, AllCancelled, answered, begins, begun, client_at, hand_of, moved_on, next_told}
 use Rattle.notify_front.specs.declared.round.Stage.{Stage}
 
 -- Lists -------------------------------------------------------------------------------
@@ -97,3 +98,55 @@ ended_on told at = ap (λ (l : List Registration). over l) (sym (drop-drop 1 at 
 pub some_left : (told : List Registration) (n : ℕ) → IsSome (slice_get (reverse (take n told)) 0) → 0 < n
 some_left told zero h = absurd (cc)
 some_left told (suc n) h = omega arith
+
+-- Turns ------------------------------------------------------------------------------------
+
+-- a round in which clients are asked stands at that stage
+running_no : (told : List Registration) (first : Beginning) (agreed left : List Registration) → running told ≡ Hand.Asking first agreed left → ⊥
+running_no [] first agreed left h = absurd (cc)
+running_no (r ∷ told) first agreed left h = absurd (cc)
+
+vetoed_no : (l : List Registration) (first : Beginning) (agreed left : List Registration) → vetoed l ≡ Hand.Asking first agreed left → ⊥
+vetoed_no [] first agreed left h = absurd (cc)
+vetoed_no (r ∷ l) first agreed left h = absurd (cc)
+
+over_no : (l : List Registration) (first : Beginning) (agreed left : List Registration) → over l ≡ Hand.Asking first agreed left → ⊥
+over_no [] first agreed left h = absurd (cc)
+over_no (r ∷ l) first agreed left h = absurd (cc)
+
+whole : (told : List Registration) (at : ℕ) → drop at told ≡ [] → take at told ≡ told
+whole [] zero h = refl
+whole [] (suc at) h = refl
+whole (r ∷ told) zero h = absurd (cc)
+whole (r ∷ told) (suc at) h = ap (λ l. r ∷ l) (whole told at h)
+
+all_begun : (kind : OpKind) (serial : ℕ) (told : List Registration) (at : ℕ) → drop at told ≡ [] → running told ≡ begun (hand_of (Stage.Asking kind serial) told at)
+all_begun kind serial told at none = sym (ap (λ (l : List Registration). running l) (reverse-reverse (take at told) ∙ whole told at none))
+
+-- all agreed, and so all are told
+pub begins_all : (stage : Stage) (told : List Registration) (at : ℕ) (hand : Hand) → hand_of stage told at ≡ hand → AllAgreed hand → running told ≡ begun hand
+begins_all Stage.Nothing told at hand is all = let e = is ∙ all.is in absurd (cc)
+begins_all (Stage.Asking kind serial) told at hand is all =
+    let e : Hand.Asking (begins kind serial) (reverse (take at told)) (drop at told) ≡ Hand.Asking all.first all.agreed [] = is ∙ all.is in
+    let none : drop at told ≡ [] = cc in
+    all_begun kind serial told at none ∙ ap begun is
+begins_all (Stage.Cancelling kind serial left) told at hand is all = let e = is ∙ all.is in absurd (cc)
+begins_all Stage.Running told at hand is all = absurd (running_no told all.first all.agreed [] (is ∙ all.is))
+begins_all Stage.Vetoed told at hand is all = absurd (vetoed_no (reverse (take at told)) all.first all.agreed [] (is ∙ all.is))
+begins_all Stage.Ended told at hand is all = absurd (over_no (drop at told) all.first all.agreed [] (is ∙ all.is))
+
+none_left : (l : List Registration) → slice_get l 0 ≡ None → l ≡ []
+none_left [] h = refl
+none_left (x ∷ l) h = absurd (cc)
+
+-- where nobody is left to be asked, all agreed
+pub agreed_all : (kind : OpKind) (serial : ℕ) (told : List Registration) (at : ℕ) (hand : Hand) → hand_of (Stage.Asking kind serial) told at ≡ hand → next_told hand ≡ None → AllAgreed hand
+agreed_all kind serial told at hand is none =
+    let left : drop at told ≡ [] = none_left (drop at told) (ap next_told is ∙ none) in
+    record { first = begins kind serial; agreed = reverse (take at told); is = sym is ∙ ap (λ (l : List Registration). Hand.Asking (begins kind serial) (reverse (take at told)) l) left }
+
+-- or those that agreed heard of the refusal
+pub cancelled_all : (kind : OpKind) (serial : ℕ) (told : List Registration) (at left : ℕ) (hand : Hand) → hand_of (Stage.Cancelling kind serial left) told at ≡ hand → next_told hand ≡ None → AllCancelled kind serial hand
+cancelled_all kind serial told at left hand is none =
+    let rest : reverse (take left told) ≡ [] = none_left (reverse (take left told)) (ap next_told is ∙ none) in
+    record { client = client_at told at; is = sym is ∙ ap (λ (l : List Registration). Hand.Cancelling (begins kind serial) (client_at told at) l) rest }

@@ -1,5 +1,6 @@
-ghost use Rattle.std.specs.Prelude.{◌≡◌, ◌∷◌, ◌++◌, ◌==◌, ℕ, [], length, IfOk, OnOk, OnErr};
+ghost use Rattle.std.specs.Prelude.{◌≡◌, ◌∷◌, ◌++◌, ◌==◌, ℕ, [], length, position, IfOk, OnOk, OnErr};
 ghost use Rattle.std.specs.List.{list_any};
+ghost use Rattle.std.specs.List.Sorted.{IsNonDecreasingBy};
 ghost use Rattle.pnp_model.specs.Keyed.{put_before, those, without_first};
 ghost use Rattle.notify_front.specs.Fronts.{comes_after, is_of, is_on, on_each};
 
@@ -67,19 +68,9 @@ impl Registrations {
     pub(crate) fn take(&mut self, client: &Text, device: u64)
         ensures { self.new ≡ without_first (is_of client.now device) self.old }
     {
-        if let Some(place) = self.items.iter().position(|r| r.is_of(client, device)) {
+        if let Some(place) = place_of(&self.items, client, device) {
             self.items.remove(place);
         }
-    }
-
-    /// Those on a device, as they were made. It takes no memory. Cost: the logarithm of the number of registrations.
-    fn on(&self, device: u64) -> &[Registration]
-        ensures { result.now ≡ those (is_on device) self.now }
-    {
-        let low = self.items.partition_point(|r| r.device < device);
-        let rest = &self.items[low..];
-        let count = rest.partition_point(|r| r.device <= device);
-        &rest[..count]
     }
 
     /// Copies of those on these devices, in the order of the devices. Cost: for each device the logarithm of the number of
@@ -93,10 +84,28 @@ impl Registrations {
     {
         let mut told = Vec::new(alloc);
         'devices: for at in 0..devices.len() {
-            append_copies(alloc, &mut told, self.on(*devices.get(at)))?;
+            append_copies(alloc, &mut told, those_on(&self.items, *devices.get(at)))?;
         }
         Ok(told)
     }
+}
+
+/// The place of the first one of the client on the device.
+fn place_of(items: &[Registration], client: &Text, device: u64) -> Option<usize>
+    ensures { result ≡ position (is_of client.now device) items.now }
+{
+    items.iter().position(|r| r.is_of(client, device))
+}
+
+/// Those on a device, of registrations that are sorted by device. Cost: the logarithm of their number.
+fn those_on(items: &[Registration], device: u64) -> &[Registration]
+    requires { IsNonDecreasingBy (λ r. r.device) items.now }
+    ensures { result.now ≡ those (is_on device) items.now }
+{
+    let low = items.partition_point(|r| r.device < device);
+    let rest = &items[low..];
+    let count = rest.partition_point(|r| r.device <= device);
+    &rest[..count]
 }
 
 /// Appends copies of registrations.
