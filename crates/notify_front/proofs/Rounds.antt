@@ -1,5 +1,5 @@
 -- What one notice makes of a round, as the code keeps it.
-use Rattle.std.proofs.Common.{ℕ, zero, suc, ◌≡◌, ◌+◌, ◌-◌, ◌<◌, ◌≤◌, Bool, true, false, List, [], ◌∷◌, ◌++◌, Option, Some, None, IsSome, length, get_or, reverse, take, drop, refl, sym, ap, ◌∙◌, subst, arith, option_map, slice_get, unwrap_or, take_all}
+use Rattle.std.proofs.Common.{ℕ, zero, suc, ◌≡◌, ◌+◌, ◌-◌, ◌<◌, ◌≤◌, Bool, true, false, List, [], ◌∷◌, ◌++◌, Option, Some, None, IsSome, length, get_or, reverse, take, drop, refl, sym, ap, ◌∙◌, subst, arith, option_map, slice_get, unwrap_or, is_some, option_copied, Bor}
 use Rattle.std.proofs.lemmas.Grind.{reverse_onto}
 use Rattle.std.proofs.lemmas.List.{take_more, get_or-reverse, length-reverse, reverse-append, reverse-reverse, drop-drop}
 use Rattle.std.proofs.lemmas.Option.{slice_get-get_or, slice_get_within, get_or_from_slice_get, slice_get_past}
@@ -150,3 +150,7 @@ pub cancelled_all : (kind : OpKind) (serial : ℕ) (told : List Registration) (a
 cancelled_all kind serial told at left hand is none =
     let rest : reverse (take left told) ≡ [] = none_left (reverse (take left told)) (ap next_told is ∙ none) in
     record { client = client_at told at; is = sym is ∙ ap (λ (l : List Registration). Hand.Cancelling (begins kind serial) (client_at told at) l) rest }
+
+pub none_copied : (o : Option (Bor Registration)) → is_some o ≡ false → option_copied o ≡ None
+none_copied None h = refl
+none_copied (Some r) h = absurd (cc)
