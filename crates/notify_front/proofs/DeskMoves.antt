@@ -13,10 +13,9 @@ use Rattle.pnp_machine.specs.Managers.{Manager, settings}
 use Rattle.pnp_machine.specs.declared.manager.Moved.{Moved}
 use Rattle.pnp_machine.specs.declared.manager.Moved.TheVariants.{Label as Printed, Quiet}
 use Rattle.notify_front.specs.Fronts.{Front, Hand, Registration, front_next, machine_next, on_set, running}
-use Rattle.notify_front.specs.Desks.{Desk, FrontMoves, front_of, told_of}
-use Rattle.notify_front.specs.Hands.{AllAgreed, AllCancelled, IsBegun, IsRunning, begins, begun, hand_after, is_ended, moved_on, next_told, notice_of, refuser_of}
+use Rattle.notify_front.specs.Desks.{Desk, FrontMoves, IsAlone, front_of, told_of}
+use Rattle.notify_front.specs.Hands.{AllCancelled, after_last, IsBegun, IsRunning, begins, begun, hand_after, is_ended, moved_on, next_told, notice_of, refuser_of}
 use Rattle.notify_front.proofs.Moving as mv
-use Rattle.notify_front.proofs.Moving.{after_last}
 
 abbrev desk_of : Manager → List Registration → Hand → Desk
 desk_of m rs h = record { manager = m; registrations = rs; hand = h }
@@ -58,8 +57,10 @@ module _ (m : Manager) (rs : List Registration) (h : Hand) (d : Desk) (is : desk
     after_nothing (Printed label) = refl
     after_nothing Quiet = refl
 
-    with_nothing : h ≡ Hand.Nothing → front_next (settings m) f ≡ machine_next (settings m) f Hand.Nothing → Goes moved m' rs h
-    with_nothing idle next = with_hand Hand.Nothing h next (λ none. sym idle) (idle ∙ after_nothing moved)
+    pub pass_goes : d.hand ≡ Hand.Nothing → IsAlone (told_of d) (front_of d) → Goes moved m' rs h
+    pass_goes idle alone =
+        let nothing : h ≡ Hand.Nothing = hand_is ∙ idle in
+        with_hand Hand.Nothing h (subst (λ (x : Desk). IsAlone (told_of x) (front_of x)) (sym is) alone) (λ none. sym nothing) (nothing ∙ after_nothing moved)
 
     pub run_goes : (h' : Hand) → IsRunning d.hand → h' ≡ hand_after moved h → Goes moved m' rs h'
     run_goes h' runs after = with_hand h h' (mv.run_next (settings m) f runs.told (hand_is ∙ runs.is)) (λ none. refl) after
@@ -73,31 +74,36 @@ module _ (m : Manager) (rs : List Registration) (h : Hand) (d : Desk) (is : desk
         (after ∙ ap (hand_after moved) (began ∙ ap begun asking))
 
     module _ (idle : d.hand ≡ Hand.Nothing) where
-      nothing : h ≡ Hand.Nothing
-      nothing = hand_is ∙ idle
-
-      pub nobody_goes : true ≡ (length rs == 0) → Goes moved m' rs h
-      nobody_goes none = with_nothing nothing (mv.nobody_next (settings m) f nothing (empty rs none))
-        where
-          empty : (l : List Registration) → true ≡ (length l == 0) → l ≡ []
-          empty [] e = refl
-          empty (r ∷ l) e = absurd (cc)
-
-      pub none_goes : None ≡ ma.due m.state → Goes moved m' rs h
-      none_goes none = with_nothing nothing (mv.none_next (settings m) f nothing (sym none))
-
-      pub untold_goes : (kind : OpKind) (serial : ℕ) → ma.due m.state ≡ Some (begins kind serial) → mv.is_untold kind ≡ true → Goes moved m' rs h
-      untold_goes kind serial due untold = with_nothing nothing (mv.untold_next (settings m) f nothing kind serial due untold)
-
-      pub unasked_goes : (kind : OpKind) (serial : ℕ) (told : List Registration) → ma.due d.manager.state ≡ Some (begins kind serial) → ma.is_in_order kind ≡ true → told ≡ on_set (front_of d) serial → None ≡ slice_get told 0 → Goes moved m' rs h
-      unasked_goes kind serial told due order all none =
-          with_nothing nothing (mv.unasked_next (settings m) f nothing kind serial told (ap ma.due state_is ∙ due) order (all ∙ set_is serial) none)
-
       pub surprise_goes : (serial : ℕ) (told : List Registration) (h1 h' : Hand) → ma.due d.manager.state ≡ Some (begins OpKind.Surprise serial) → told ≡ on_set (front_of d) serial → h1 ≡ running told → h' ≡ hand_after moved h1 → Goes moved m' rs h'
       surprise_goes serial told h1 h' due all began after =
           let is_due : ma.due m.state ≡ Some (begins OpKind.Surprise serial) = ap ma.due state_is ∙ due in
-          with_hand (running told) h' (mv.surprise_next (settings m) f nothing serial told is_due (all ∙ set_is serial))
+          with_hand (running told) h' (mv.surprise_next (settings m) f (hand_is ∙ idle) serial told is_due (all ∙ set_is serial))
           (λ none. absurd (mv.due_not_quiet (settings m) f (begins OpKind.Surprise serial) is_due none)) (after ∙ ap (hand_after moved) began)
+
+  -- nobody is told
+  module _ (idle : d.hand ≡ Hand.Nothing) where
+    nothing : h ≡ Hand.Nothing
+    nothing = hand_is ∙ idle
+
+    alone_of : front_next (settings m) f ≡ machine_next (settings m) f Hand.Nothing → IsAlone (told_of d) (front_of d)
+    alone_of next = subst (λ (x : Desk). IsAlone (told_of x) (front_of x)) is next
+
+    pub nobody_alone : true ≡ (length rs == 0) → IsAlone (told_of d) (front_of d)
+    nobody_alone none = alone_of (mv.nobody_next (settings m) f nothing (empty rs none))
+      where
+        empty : (l : List Registration) → true ≡ (length l == 0) → l ≡ []
+        empty [] e = refl
+        empty (r ∷ l) e = let no : (length (r ∷ l) == 0) ≡ false = grind (arith, nat_tests) in absurd (cc)
+
+    pub none_alone : None ≡ ma.due m.state → IsAlone (told_of d) (front_of d)
+    none_alone none = alone_of (mv.none_next (settings m) f nothing (sym none))
+
+    pub untold_alone : (kind : OpKind) (serial : ℕ) → Some (begins kind serial) ≡ ma.due m.state → mv.is_untold kind ≡ true → IsAlone (told_of d) (front_of d)
+    untold_alone kind serial due untold = alone_of (mv.untold_next (settings m) f nothing kind serial (sym due) untold)
+
+    pub unasked_alone : (kind : OpKind) (serial : ℕ) (told : List Registration) → ma.due d.manager.state ≡ Some (begins kind serial) → ma.is_in_order kind ≡ true → told ≡ on_set (front_of d) serial → None ≡ slice_get told 0 → IsAlone (told_of d) (front_of d)
+    unasked_alone kind serial told due order all none =
+        alone_of (mv.unasked_next (settings m) f nothing kind serial told (ap ma.due state_is ∙ due) order (all ∙ set_is serial) none)
 
   pub announce_goes : (kind : OpKind) (serial : ℕ) (told : List Registration) (r : Registration) (label : Label) (h1 h' : Hand) → d.hand ≡ Hand.Nothing → ma.due d.manager.state ≡ Some (begins kind serial) → ma.is_in_order kind ≡ true →
       told ≡ on_set (front_of d) serial → h1 ≡ Hand.Asking (begins kind serial) [] told → next_told h1 ≡ Some r → label ≡ notice_of h1 r → h' ≡ moved_on h1 → Goes (Printed label) m rs h'

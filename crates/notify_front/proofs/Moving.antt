@@ -5,7 +5,6 @@ use Rattle.pnp_labels.specs.declared.label.Label.{Label}
 use Rattle.pnp_labels.specs.declared.label.NoticeKind.{NoticeKind}
 use Rattle.pnp_labels.specs.declared.label.OpKind.{OpKind}
 use Rattle.pnp_model.specs.Cores.{node_at, path_of}
-use Rattle.pnp_model.specs.Keyed.{without_first}
 use Rattle.pnp_model.specs.Machine as ma
 use Rattle.pnp_model.specs.Records.{Beginning, Doing, Settings, State, Step, doing_map}
 use Rattle.pnp_model.specs.Records.Doing.{Does, Searches}
@@ -15,18 +14,13 @@ use Rattle.pnp_machine.specs.Machines.{Moves}
 use Rattle.pnp_machine.specs.declared.manager.Moved.{Moved}
 use Rattle.pnp_machine.specs.declared.manager.Moved.TheVariants.{Label as Printed, Quiet}
 use Rattle.notify_front.specs.Fronts as fr
-use Rattle.notify_front.specs.Fronts.{Front, FrontEntry, FrontStep, Hand, IsFrontStep, IsFrontQuiet, Registration, front_next, hand_next, is_of, machine_next, on_set, running}
+use Rattle.notify_front.specs.Fronts.{Front, FrontEntry, FrontStep, Hand, IsFrontStep, IsFrontQuiet, Registration, front_next, hand_next, machine_next, on_set, running}
 use Rattle.notify_front.specs.Desks.{FrontMoves, IfFrontQuiet}
-use Rattle.notify_front.specs.Hands.{answered, begins, hand_after, is_ended, moved_on, next_told, notice_of}
+use Rattle.notify_front.specs.Hands.{after_last, answered, begins, hand_after, is_ended, moved_on, next_told, notice_of}
 use Rattle.notify_front.proofs.Alone.{none_on_set}
 use Rattle.notify_front.proofs.Runs.{due_begins}
 
 -- A notice ------------------------------------------------------------------------------
-
--- after the last notice that it hears the client is registered no more
-abbrev pub after_last : Bool → Registration → List Registration → List Registration
-after_last true r rs = without_first (is_of r.client r.device) rs
-after_last false r rs = rs
 
 abbrev pub after_notice : Front → Hand → Registration → Front
 after_notice f hand r = record { state = f.state; registrations = after_last (is_ended hand) r f.registrations; hand = moved_on hand }
@@ -98,6 +92,13 @@ machine_moves settings f hand Quiet t is quiet (none, same) =
       ap (λ (x : State). record { state = x; registrations = f.registrations; hand = hand }) same
       ∙ ap (λ (x : Hand). record { state = f.state; registrations = f.registrations; hand = x }) (quiet none),
     )
+
+-- of other operations nobody is told
+abbrev pub is_untold : OpKind → Bool
+is_untold OpKind.Disable = false
+is_untold OpKind.Eject = false
+is_untold OpKind.Surprise = false
+is_untold _ = true
 
 -- What is next ----------------------------------------------------------------------------
 
@@ -176,13 +177,6 @@ module _ (settings : Settings) (f : Front) where
     surprise_next serial told due all =
         idle_is (Some (begins OpKind.Surprise serial)) due ∙ ap (λ (l : List Registration). machine_next settings f (running l)) (sym all)
 
-    -- another operation is due, of which nobody is told
-    abbrev pub is_untold : OpKind → Bool
-    is_untold OpKind.Disable = false
-    is_untold OpKind.Eject = false
-    is_untold OpKind.Surprise = false
-    is_untold _ = true
-
     untold_begins : (first : Beginning) (kind : OpKind) → is_untold kind ≡ true → fr.begin_next settings f first kind ≡ machine_next settings f Hand.Nothing
     untold_begins first OpKind.Disable h = absurd (cc)
     untold_begins first OpKind.Eject h = absurd (cc)
@@ -191,6 +185,7 @@ module _ (settings : Settings) (f : Front) where
     untold_begins first OpKind.Finish h = refl
     untold_begins first OpKind.Change h = refl
 
+    -- another operation is due
     pub untold_next : (kind : OpKind) (serial : ℕ) → ma.due f.state ≡ Some (begins kind serial) → is_untold kind ≡ true → Next Hand.Nothing
     untold_next kind serial due untold = idle_is (Some (begins kind serial)) due ∙ untold_begins (begins kind serial) kind untold
 

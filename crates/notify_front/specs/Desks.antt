@@ -11,7 +11,7 @@ use Rattle.pnp_laws.specs.Ends as ends
 use Rattle.pnp_machine.specs.Managers.{Manager, settings}
 use Rattle.pnp_machine.specs.declared.manager.Moved.{Moved}
 use Rattle.pnp_machine.specs.declared.manager.Moved.TheVariants.{Label as Printed, Quiet}
-use Rattle.notify_front.specs.Fronts.{Answered, Front, FrontEntry, FrontStep, FrontSteps, IsFrontQuiet, Registration, Hand, front_printed, opening_front, on_set}
+use Rattle.notify_front.specs.Fronts.{Answered, Front, FrontEntry, FrontStep, FrontSteps, IsFrontQuiet, Registration, Hand, front_next, front_printed, machine_next, opening_front, on_set}
 use Rattle.notify_front.specs.Notices.{FrontGoes, FrontRun, machine_part}
 use Rattle.notify_front.specs.Laws.{IsTold, asked, refused, cancelled, IsDeclinedAfter}
 
@@ -63,6 +63,10 @@ IsAnswered answered label new = (label ≡ answered.label) × (new ≡ answered.
 abbrev pub FrontMoves : Settings → Front → Moved → Front → Type 0
 FrontMoves told old (Printed label) new = (entry : FrontEntry) × (label ≡ front_printed entry) × FrontSteps told old entry new
 FrontMoves told old Quiet new = IsFrontQuiet told old × (new ≡ old)
+
+-- what is next is a step of the machine, of which nobody is told
+abbrev pub IsAlone : Settings → Front → Type 0
+IsAlone told f = front_next told f ≡ machine_next told f Hand.Nothing
 
 -- a test tells whether a front is quiet
 abbrev pub IfFrontQuiet : Bool → Settings → Front → Type 0

@@ -4,11 +4,12 @@ use Rattle.pnp_labels.specs.Texts.{Text}
 use Rattle.pnp_labels.specs.declared.label.Label.{Label}
 use Rattle.pnp_labels.specs.declared.label.NoticeKind.{NoticeKind}
 use Rattle.pnp_labels.specs.declared.label.OpKind.{OpKind}
+use Rattle.pnp_model.specs.Keyed.{without_first}
 use Rattle.pnp_model.specs.Machine.{due}
 use Rattle.pnp_model.specs.Records.{Beginning, State}
 use Rattle.pnp_machine.specs.declared.manager.Moved.{Moved}
 use Rattle.pnp_machine.specs.declared.manager.Moved.TheVariants.{Label as Printed, Quiet}
-use Rattle.notify_front.specs.Fronts.{Hand, Registration, heard, notice, over, running, vetoed}
+use Rattle.notify_front.specs.Fronts.{Hand, Registration, heard, is_of, notice, over, running, vetoed}
 use Rattle.notify_front.specs.declared.round.Stage.{Stage}
 use Rattle.notify_front.specs.declared.round.Turn.{Turn}
 
@@ -67,6 +68,10 @@ moved_on hand = hand
 abbrev pub is_ended : Hand → Bool
 is_ended (Hand.Ended left) = true
 is_ended _ = false
+
+abbrev pub after_last : Bool → Registration → List Registration → List Registration
+after_last true r rs = without_first (is_of r.client r.device) rs
+after_last false r rs = rs
 
 -- Turns ------------------------------------------------------------------------------------
 

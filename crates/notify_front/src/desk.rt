@@ -4,7 +4,7 @@ ghost use Rattle.pnp_model.specs.Machine.{IsQuiet, due, is_in_order};
 ghost use Rattle.pnp_machine.specs.Machines.{HasFewIds};
 ghost use Rattle.notify_front.specs.Fronts.{Hand, front_happens, on_set};
 
-ghost use Rattle.notify_front.specs.Desks.{FrontMoves, IfFrontQuiet, IsFrontDone, IsOfFrontRun, front_of, machine_events, opening_desk, told_of};
+ghost use Rattle.notify_front.specs.Desks.{FrontMoves, IfFrontQuiet, IsAlone, IsFrontDone, IsOfFrontRun, front_of, machine_events, opening_desk, told_of};
 ghost use Rattle.notify_front.specs.Hands.{AllCancelled, IsBegun, IsRunning, begins, next_told};
 ghost use Rattle.pnp_machine.specs.declared.manager.Moved.TheVariants.{Label as Printed};
 
@@ -108,9 +108,7 @@ impl<R: Drivers> Desk<R> {
             unreachable!();
         };
         let label = self.round.notice(self.alloc, client)?;
-        if self.round.is_ended() {
-            self.registrations.take(&client.client, client.device);
-        }
+        self.registrations.heard(client, self.round.is_ended());
         self.round.advance();
         Ok(label)
     }
@@ -124,6 +122,17 @@ impl<R: Drivers> Desk<R> {
         self.registrations.on_each(self.alloc, &devices)
     }
 
+    /// Nobody is told: the machine steps. Conditions: nothing is at hand, and so it is by the front's definition.
+    fn pass(&mut self) -> Result<Moved, WantOfMemory>
+        requires hand { self.old.hand ≡ Hand.Nothing }
+        requires alone { IsAlone (told_of self.old) (front_of self.old) }
+        ensures moves { IfOk result (λ moved. FrontMoves (told_of self.old) (front_of self.old) moved (front_of self.new)) }
+        ensures same { self.new.manager ≡ record self.old.manager { state = self.new.manager.state } }
+        ensures err { OnErr result (self.new ≡ self.old) }
+    {
+        self.manager.step()
+    }
+
     /// Nothing is at hand: what is due is announced, or the machine steps.
     fn idle(&mut self) -> Result<Moved, WantOfMemory>
         requires { self.old.hand ≡ Hand.Nothing }
@@ -132,12 +141,15 @@ impl<R: Drivers> Desk<R> {
         ensures err { OnErr result (self.new ≡ self.old) }
     {
         if self.registrations.is_empty() {
-            return self.manager.step();
+            return self.pass();
         }
-        match self.manager.due() {
-            Some((kind @ (OpKind::Disable | OpKind::Eject), serial)) => self.announce(kind, serial),
-            Some((OpKind::Surprise, serial)) => self.surprise(serial),
-            _ => self.manager.step(),
+        let Some((kind, serial)) = self.manager.due() else {
+            return self.pass();
+        };
+        match kind {
+            OpKind::Disable | OpKind::Eject => self.announce(kind, serial),
+            OpKind::Surprise => self.surprise(serial),
+            OpKind::Rebalance | OpKind::Finish | OpKind::Change => self.pass(),
         }
     }
 
@@ -152,7 +164,7 @@ impl<R: Drivers> Desk<R> {
     {
         let mut round = Round::asking(kind, serial, self.on_set(serial)?);
         let Some(client) = round.next() else {
-            return self.manager.step();
+            return self.pass();
         };
         let label = round.notice(self.alloc, client)?;
         round.advance();

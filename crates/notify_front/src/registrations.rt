@@ -3,6 +3,7 @@ ghost use Rattle.std.specs.List.{list_any};
 ghost use Rattle.std.specs.List.Sorted.{IsNonDecreasingBy};
 ghost use Rattle.pnp_model.specs.Keyed.{put_before, those, without_first};
 ghost use Rattle.notify_front.specs.Fronts.{comes_after, is_of, is_on, on_each};
+ghost use Rattle.notify_front.specs.Hands.{after_last};
 
 use crate::registration::Registration;
 use device_ids::{Text, WantOfMemory};
@@ -70,6 +71,16 @@ impl Registrations {
     {
         if let Some(place) = place_of(&self.items, client, device) {
             self.items.remove(place);
+        }
+    }
+
+    /// A client was told; after the last notice that it hears it is registered no more. It takes no memory. Cost: the number of
+    /// registrations.
+    pub(crate) fn heard(&mut self, client: &Registration, last: bool)
+        ensures { self.new ≡ after_last last client.now self.old }
+    {
+        if last {
+            self.take(&client.client, client.device);
         }
     }
 
