@@ -17,7 +17,7 @@ use Rattle.notify_front.specs.Desks.{Desk, FrontMoves, IsAlone, front_of, told_o
 use Rattle.notify_front.specs.Hands.{AllCancelled, after_last, IsBegun, IsRunning, begins, begun, hand_after, is_ended, moved_on, next_told, notice_of, refuser_of}
 use Rattle.notify_front.proofs.Moving as mv
 
-abbrev desk_of : Manager → List Registration → Hand → Desk
+abbrev pub desk_of : Manager → List Registration → Hand → Desk
 desk_of m rs h = record { manager = m; registrations = rs; hand = h }
 
 -- the desk before, by its parts
