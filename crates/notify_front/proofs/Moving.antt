@@ -33,7 +33,7 @@ asks_one : (f : Front) (first : Beginning) (agreed : List Registration) (r : Reg
 asks_one f first agreed r left true = refl
 asks_one f first agreed r left false = refl
 
-tells_next : (settings : Settings) (f : Front) (hand : Hand) (r : Registration) → next_told hand ≡ Some r → hand_next settings f hand ≡ Some (Does (noticed f hand r))
+pub tells_next : (settings : Settings) (f : Front) (hand : Hand) (r : Registration) → next_told hand ≡ Some r → hand_next settings f hand ≡ Some (Does (noticed f hand r))
 tells_next settings f Hand.Nothing r h = absurd (cc)
 tells_next settings f (Hand.Asking first agreed []) r h = absurd (cc)
 tells_next settings f (Hand.Asking first agreed (x ∷ left)) r h =
