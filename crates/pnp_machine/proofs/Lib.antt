@@ -18,6 +18,7 @@ pub mod Turns
 pub mod EndLines
 pub mod ActSteps
 pub mod BeginSteps
+pub mod Dues
 pub mod ListSteps
 pub mod StartSteps
 pub mod RemoveSteps

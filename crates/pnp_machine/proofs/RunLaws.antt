@@ -1,13 +1,15 @@
 -- What a manager keeps, and what holds of each of its steps and events: the laws of runs.
-use Rattle.std.proofs.Common.{◌≡◌, Result, Ok, Err, IfOk, OnErr, ℕ, ◌+◌, ◌<◌, ◌≤◌, ◌^◌, List, [], ◌∷◌, ◌++◌, refl, sym, ◌∙◌, ap, subst, arith}
+use Rattle.std.proofs.Common.{◌≡◌, Option, Some, None, IsSomeAnd, true, Result, Ok, Err, IfOk, OnErr, ℕ, ◌+◌, ◌<◌, ◌≤◌, ◌^◌, List, [], ◌∷◌, ◌++◌, refl, sym, ◌∙◌, ap, subst, arith}
 use Rattle.std.specs.declared.alloc.AllocError.{AllocError}
 use Rattle.pnp_labels.specs.declared.event.Event.{Event}
 use Rattle.pnp_labels.specs.declared.label.Label.{Label}
 use Rattle.pnp_model.specs.Events.{happens}
-use Rattle.pnp_model.specs.Machine.{IsQuiet}
-use Rattle.pnp_model.specs.Records.{Driver, Settings, State, Step}
+use Rattle.pnp_model.specs.Cores.{node_at, path_of}
+use Rattle.pnp_model.specs.Machine.{IsDeclined, IsQuiet, due, is_in_order}
+use Rattle.pnp_model.specs.Records.{Beginning, Driver, Settings, State, Step}
 use Rattle.pnp_model.specs.Runs.{Entry, Goes, opening, printed}
 use Rattle.pnp_model.specs.Laws.{Reaches}
+use Rattle.pnp_model.specs.States.{drop_task}
 use Rattle.pnp_model.specs.Runs.Entry.{Happens, Did, Declines}
 use Rattle.pnp_laws.specs.Ends.{events}
 use Rattle.pnp_laws.specs.Kept.{IsGood}
@@ -155,6 +157,27 @@ run_births told n s h few =
     let most = few_births told h.rack h.entries s h.reaches in
     let count : events h.entries ≡ n = h.count in
     omega arith
+
+-- a client declines what is due
+module _ (told : Settings) (s t : State) where
+  declined : (due_one : Option Beginning) → due s ≡ due_one → IsSomeAnd due_one (λ first. is_in_order first.kind ≡ true) → t ≡ drop_task s → (label : Label) × IsDeclined s label t
+  declined None is order same = absurd order
+  declined (Some first) is order same =
+      let label = Label.Declined first.kind (path_of (node_at first.serial s.core.nodes)) [] in (
+        label,
+        record { first = first; client = []; is_due = is; in_order = order; says = refl; dropped = same },
+      )
+
+  pub run_declined : (n : ℕ) → IsRunOf told n s → IsSomeAnd (due s) (λ first. is_in_order first.kind ≡ true) → t ≡ drop_task s → IsRunOf told n t
+  run_declined n h order same =
+      let told_so = declined (due s) refl order same in
+      record {
+        rack = h.rack;
+        entries = h.entries ++ Declines told_so.0 ∷ [];
+        reaches = more_entries told s t h.rack h.entries (Declines told_so.0) h.reaches told_so.1;
+        count = events_declined h.entries told_so.0 ∙ h.count;
+        within = one_more_has (IsEntryWithin 16) (Declines told_so.0) tt h.entries h.within;
+      }
 
 -- the same of a step that may be refused for want of memory
 module _ (told : Settings) (n : ℕ) (s t : State) (h : IsRunOf told n s) where

@@ -8,3 +8,4 @@ pub mod Machines
 pub mod Endings
 pub mod Ids
 pub mod Managers
+pub mod Dues

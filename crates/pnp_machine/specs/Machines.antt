@@ -5,7 +5,7 @@ use Rattle.pnp_labels.specs.declared.event.Event.{Event}
 use Rattle.pnp_labels.specs.declared.label.Label.{Label}
 use Rattle.pnp_labels.specs.declared.label.RemoveStep.{RemoveStep}
 use Rattle.pnp_labels.specs.declared.label.RemoveStep.TheVariants as removes
-use Rattle.pnp_model.specs.Machine.{Steps, IsQuiet, IsStep, operation_walk, is_waiting}
+use Rattle.pnp_model.specs.Machine.{Steps, IsQuiet, IsStep, operation_walk, is_born, is_waiting}
 use Rattle.pnp_model.specs.Cores.{node_at}
 use Rattle.pnp_model.specs.Events.{completed, answer_of, complete_node, complete_what}
 use Rattle.pnp_model.specs.Tasks.{gone_child}
@@ -16,7 +16,8 @@ use Rattle.pnp_labels.specs.declared.label.Reason.{Reason}
 use Rattle.pnp_model.specs.States.{activity_at, append_task, set_operation, drop_task, relist, unplug, disable_path}
 use Rattle.pnp_model.specs.Tests.{is_no_stack, is_not_started, has_same}
 use Rattle.pnp_model.specs.Frames.{first_node}
-use Rattle.pnp_model.specs.Records.{Node, Driver, Activity, Doing, Settings, State, Step, Task, Operation, Removal}
+use Rattle.pnp_model.specs.Trees.{is_up}
+use Rattle.pnp_model.specs.Records.{Device, Node, Driver, Activity, Doing, Settings, State, Step, Task, Operation, Removal}
 use Rattle.pnp_model.specs.Records as machines
 use Rattle.pnp_machine.specs.Devices.{Devices}
 use Rattle.pnp_machine.specs.Doings.{core_with}
@@ -160,6 +161,10 @@ begun_with operation s = set_operation (Some (operation_of operation)) (drop_tas
 abbrev pub can_rebalance : Option Node → Bool
 can_rebalance None = false
 can_rebalance (Some n) = is_not_started n.state
+
+-- the device is there, Started and in the world
+abbrev pub can_change : List Device → Option Node → Bool
+can_change world node = is_up node && is_born world node
 
 -- what is done is that of the node
 abbrev pub DoneFor : Option Node → (Node → Step) → Label → State → Type 0

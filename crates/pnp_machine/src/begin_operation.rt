@@ -10,7 +10,7 @@ ghost use Rattle.pnp_model.specs.Surprises.{begun_surprise};
 ghost use Rattle.pnp_model.specs.Tasks.{begin, begin_step, change_task, skip};
 ghost use Rattle.pnp_model.specs.Tests.{operation_word};
 ghost use Rattle.surprise_remove.specs.Ready.{is_ready_at};
-ghost use Rattle.pnp_machine.specs.Machines.{IsDone, DoneFor, can_rebalance, begun_with};
+ghost use Rattle.pnp_machine.specs.Machines.{IsDone, DoneFor, can_change, can_rebalance, begun_with};
 
 use crate::listing::is_surprise_removed;
 use crate::machine::Machine;
@@ -54,7 +54,7 @@ impl<R: Drivers> Machine<R> {
     }
 
     /// Whether a device is there and NotStarted: what it needs can be found for it by a rebalance.
-    fn can_rebalance(&self, serial: u64) -> bool
+    pub(crate) fn can_rebalance(&self, serial: u64) -> bool
         ensures { result ≡ can_rebalance (node_at serial self.now.core.nodes) }
     {
         match self.devices.tree().node(serial) {
@@ -64,7 +64,7 @@ impl<R: Drivers> Machine<R> {
     }
 
     /// Whether a device is there and was told that it has gone.
-    fn was_told(&self, serial: u64) -> bool
+    pub(crate) fn was_told(&self, serial: u64) -> bool
         ensures { result ≡ was_told (node_at serial self.now.core.nodes) }
     {
         match self.devices.tree().node(serial) {
@@ -74,10 +74,17 @@ impl<R: Drivers> Machine<R> {
     }
 
     /// Whether a device is there and ready to be finished.
-    fn is_ready(&self, serial: u64) -> bool
+    pub(crate) fn is_ready(&self, serial: u64) -> bool
         ensures { result ≡ is_ready_at self.now.core self.now.handles (node_at serial self.now.core.nodes) }
     {
         self.devices.is_ready(serial)
+    }
+
+    /// Whether a device is there, Started and in the world: what it requires can be changed.
+    pub(crate) fn can_change(&self, serial: u64) -> bool
+        ensures { result ≡ can_change self.now.world (node_at serial self.now.core.nodes) }
+    {
+        self.devices.tree().is_up(serial) && self.devices.is_in_world(serial)
     }
 
     /// The rebalance for a device begins.

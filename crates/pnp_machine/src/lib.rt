@@ -8,6 +8,7 @@ mod commands;
 mod devices;
 mod devices_operations;
 mod disabled;
+mod due;
 mod ending;
 mod events;
 mod handles;
@@ -24,3 +25,4 @@ mod tasks;
 mod turn;
 
 pub use manager::{Manager, Moved};
+pub use needs::needs_are_few;

@@ -1,10 +1,14 @@
-ghost use Rattle.std.specs.Prelude.{◌≡◌, ◌<◌, ◌≤◌, ◌+◌, ◌^◌, ℕ, [], true, IfOk, OnOk, OnErr, length};
+ghost use Rattle.std.specs.Prelude.{◌≡◌, ◌<◌, ◌≤◌, ◌+◌, ◌^◌, ℕ, [], true, IfOk, OnOk, OnErr, IsSome, IsSomeAnd, is_some, length, option_map};
+ghost use Rattle.pnp_model.specs.Cores.{node_at};
 ghost use Rattle.pnp_model.specs.Endings.{ending, joined};
 ghost use Rattle.pnp_model.specs.Events.{happens};
-ghost use Rattle.pnp_model.specs.Machine.{IsQuiet};
+ghost use Rattle.pnp_model.specs.Machine.{IsQuiet, due, is_in_order};
 ghost use Rattle.pnp_model.specs.Runs.{opening};
+ghost use Rattle.pnp_model.specs.States.{drop_task};
+ghost use Rattle.pnp_model.specs.Trees.{leaving};
 ghost use Rattle.pnp_laws.specs.Printed.{TreeIsPrinted};
 ghost use Rattle.devnode_tree.specs.Trees.{Tree};
+ghost use Rattle.pnp_machine.specs.Dues.{beginning_of};
 ghost use Rattle.pnp_machine.specs.Machines.{IsDone, Moves, HasFewIds};
 ghost use Rattle.pnp_machine.specs.Managers.{settings, IsRunOf, KeepsLaws, LawsOf, IfQuiet};
 
@@ -14,7 +18,8 @@ use device_ids::WantOfMemory;
 use devnode_tree::Tree;
 use driver_rack::Drivers;
 use inf_reader::Inf;
-use pnp_labels::{Event, Label};
+use pnp_labels::{Event, Label, OpKind, SerialList};
+use relations::Relations;
 use std::alloc::Global;
 use std::marker::Model;
 
@@ -109,6 +114,49 @@ impl<R: Drivers> Manager<R> {
         ensures { IfQuiet result (settings self.now) self.now.state }
     {
         self.machine.is_quiet()
+    }
+
+    /// The operation that the next step begins, and for which device; none exactly where the next step begins none: an
+    /// operation runs, a device is being started, the first task begins no operation, or it is skipped. It takes no memory.
+    /// Cost: the logarithm of the number of nodes, and for a disable the length of the path; for the end of surprise removals
+    /// that for each device that depends directly on the device.
+    pub fn due(&self) -> Option<(OpKind, u64)>
+        ensures { option_map beginning_of result ≡ due self.now.state }
+    {
+        self.machine.due()
+    }
+
+    /// What is due is declined: its task is dropped, and all else stays. Condition: a disable or an eject is due. It takes no
+    /// memory.
+    pub fn drop_due(&mut self)
+        requires { IsSomeAnd (due self.old.state) (λ first. is_in_order first.kind ≡ true) }
+        ensures dropped { self.new ≡ record self.old { state = drop_task self.old.state } }
+        ensures run { IsRunOf (settings self.new) self.new.events self.new.state }
+    {
+        self.machine.drop_due();
+    }
+
+    /// Whether an operation runs.
+    pub fn busy(&self) -> bool
+        ensures { result ≡ is_some self.now.state.operation }
+    {
+        self.machine.operation.is_some()
+    }
+
+    /// A device and all that depends on it, in the order in which they leave, as `Relations::leaving` says. Condition: the
+    /// device is there. Cost: for each device and each relation of one of these the logarithm of the number of all.
+    pub fn leaving(&self, alloc: Global, serial: u64) -> Result<SerialList, WantOfMemory>
+        requires { IsSome (node_at serial self.now.state.core.nodes) }
+        ensures { IfOk result (λ order. order ≡ leaving self.now.state.core serial) }
+    {
+        self.relations().leaving(alloc, self.tree(), serial)
+    }
+
+    /// The relations between devices.
+    pub fn relations(&self) -> &Relations
+        ensures { result.now ≡ self.now.state.core.relations }
+    {
+        &self.machine.devices.relations
     }
 
     /// The device nodes.

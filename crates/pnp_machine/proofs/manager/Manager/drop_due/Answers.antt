@@ -1,0 +1,24 @@
+use Rattle.std.proofs.Common.{true, IsSomeAnd, ◌≡◌, sym, subst}
+use Rattle.start_sequence.specs.Begins.{settings_of}
+use Rattle.pnp_model.specs.Machine.{due, is_in_order}
+use Rattle.pnp_machine.specs.Ids.{AreFewIds}
+use Rattle.pnp_machine.specs.Managers.{Manager}
+use Rattle.pnp_model.specs.Records.{State}
+use Rattle.pnp_machine.proofs.RunLaws.{run_declined}
+use Rattle.pnp_machine.proofs.manager.Manager.drop_due.Goals as goal
+
+pub invariant_of-self : goal.invariant_of-self
+invariant_of-self g c =
+    let order = subst (λ (m : Manager). IsSomeAnd (due m.state) (λ first. is_in_order first.kind ≡ true)) (sym c.self.view_is) c.requires in
+    record {
+      few = c.self.invariant.few;
+      spends = c.self.invariant.spends;
+      happened = c.self.invariant.happened;
+      ids = subst (λ (s : State). AreFewIds s) (sym c.drop_due.ensures) c.self.invariant.ids;
+      run = run_declined _ _ _ _ c.self.invariant.run order c.drop_due.ensures;
+    }
+
+pub returns-clause-run : goal.returns-clause-run
+returns-clause-run g c =
+    let order = subst (λ (m : Manager). IsSomeAnd (due m.state) (λ first. is_in_order first.kind ≡ true)) (sym c.self.view_is) c.requires in
+    run_declined _ _ _ _ c.self.invariant.run order c.drop_due.ensures
