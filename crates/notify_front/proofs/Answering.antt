@@ -1,7 +1,6 @@
 -- Events of clients, as what happens by the definition.
-use Rattle.std.proofs.Common.{ℕ, ◌≡◌, ◌==◌, ◌&&◌, Bool, true, false, cond, List, [], ◌∷◌, Option, Some, None, find, is_some, refl, sym, ap, ◌∙◌, subst, arith, option_map}
+use Rattle.std.proofs.Common.{ℕ, ◌≡◌, Bool, true, false, cond, List, [], ◌∷◌, Option, Some, None, find, is_some, refl, sym, ap, ◌∙◌, subst, arith, option_map}
 use Rattle.std.specs.List.{list_any}
-use Rattle.std.specs.Str.{bytes_eq}
 use Rattle.std.proofs.lemmas.Bool.Decides.{nat_tests}
 use Rattle.std.proofs.lemmas.Slice.Eq.{bytes_eq-Decides}
 use Rattle.pnp_labels.specs.Texts.{Text}
@@ -139,11 +138,10 @@ module _ (m : Manager) (rs : List Registration) (h : Hand) (d : Desk) (is : desk
       pub watch_done : (what : Text) (rs' : List Registration) → list_any (is_of client k) rs ≡ false → what ≡ says client x →
           rs' ≡ put_before (comes_after k) (record { client = client; device = k; path = x.path; agrees = agrees }) rs → Watched agrees (Label.Did EventWord.Watch what) (front_of (desk_of m rs' h))
       watch_done what rs' new spelled put =
-          watched agrees (Label.Did EventWord.Watch what) (front_of (desk_of m rs' h)) (watch_new f client x agrees false) (up_is false new)
-          (
+          watched agrees (Label.Did EventWord.Watch what) (front_of (desk_of m rs' h)) (watch_new f client x agrees false) (up_is false new) (
             ap (Label.Did EventWord.Watch) spelled,
             ap (λ (l : List Registration). front_of (desk_of m l h))
-            (put ∙ ap (λ i. put_before (comes_after i) (record { client = client; device = i; path = x.path; agrees = agrees }) rs) (sym own)),
+                (put ∙ ap (λ i. put_before (comes_after i) (record { client = client; device = i; path = x.path; agrees = agrees }) rs) (sym own)),
           )
 
     pub unwatch_done : (what : Text) (rs' : List Registration) → list_any (is_of client k) rs ≡ true → what ≡ says client x → rs' ≡ without_first (is_of client k) rs →
@@ -151,9 +149,8 @@ module _ (m : Manager) (rs : List Registration) (h : Hand) (d : Desk) (is : desk
     unwatch_done what rs' old spelled left =
         let r = found_some (is_of client k) rs old in
         let same = same_of client k r.one r.passes in
-        unwatched (Label.Did EventWord.Unwatch what) (front_of (desk_of m rs' h)) (unwatch_old f client x (Some r.one)) (unwatch_is x here own ∙ ap (unwatch_old f client x) r.found)
-        (
+        unwatched (Label.Did EventWord.Unwatch what) (front_of (desk_of m rs' h)) (unwatch_old f client x (Some r.one)) (unwatch_is x here own ∙ ap (unwatch_old f client x) r.found) (
           ap (Label.Did EventWord.Unwatch) spelled,
           ap (λ (l : List Registration). front_of (desk_of m l h))
-          (left ∙ ap (λ c. without_first (is_of c k) rs) (sym same.client_is) ∙ ap (λ i. without_first (is_of r.one.client i) rs) (sym same.device_is)),
+              (left ∙ ap (λ c. without_first (is_of c k) rs) (sym same.client_is) ∙ ap (λ i. without_first (is_of r.one.client i) rs) (sym same.device_is)),
         )

@@ -1,12 +1,11 @@
 -- What the calls of a desk do, as steps of its front.
-use Rattle.std.proofs.Common.{ℕ, ◌≡◌, ◌==◌, Bool, true, false, List, [], ◌∷◌, Option, Some, None, refl, sym, ap, ◌∙◌, subst, length, reverse, slice_get, arith, cond}
+use Rattle.std.proofs.Common.{ℕ, ◌≡◌, ◌==◌, true, false, List, [], ◌∷◌, Some, None, refl, sym, ap, ◌∙◌, subst, length, reverse, slice_get, arith}
 use Rattle.std.proofs.lemmas.Bool.Decides.{nat_tests}
 use Rattle.pnp_labels.specs.Texts.{Text}
 use Rattle.pnp_labels.specs.declared.label.Label.{Label}
 use Rattle.pnp_labels.specs.declared.label.OpKind.{OpKind}
 use Rattle.pnp_model.specs.Cores.{node_at, path_of}
 use Rattle.pnp_model.specs.Machine as ma
-use Rattle.pnp_model.specs.Records.{Beginning, State}
 use Rattle.pnp_model.specs.States.{drop_task}
 use Rattle.pnp_machine.specs.Machines.{Moves}
 use Rattle.pnp_machine.specs.Managers.{Manager, settings}

@@ -1,13 +1,12 @@
 -- The front's runs, one step or event further.
-use Rattle.std.proofs.Common.{ℕ, ◌≡◌, ◌+◌, Result, Ok, Err, IfOk, OnOk, OnErr, IsSome, Bool, true, false, List, [], ◌∷◌, ◌++◌, Option, Some, None, refl, sym, ap, ◌∙◌, subst, arith, reverse, option_map, append-nil}
+use Rattle.std.proofs.Common.{ℕ, ◌≡◌, ◌+◌, Result, Ok, Err, IfOk, OnOk, OnErr, IsSome, Bool, true, false, List, [], ◌∷◌, ◌++◌, Option, Some, None, refl, sym, ap, ◌∙◌, subst, arith, reverse, option_map}
 use Rattle.std.specs.List.{AllByRecursion}
 use Rattle.std.specs.declared.alloc.AllocError.{AllocError}
 use Rattle.pnp_labels.specs.declared.label.OpKind.{OpKind}
 use Rattle.pnp_labels.specs.declared.event.Event.{Event}
 use Rattle.pnp_labels.specs.declared.label.Label.{Label}
-use Rattle.pnp_model.specs.Events.{happens}
 use Rattle.pnp_model.specs.Machine as ma
-use Rattle.pnp_model.specs.Records.{Beginning, Doing, Driver, Settings, State, Step, doing_map}
+use Rattle.pnp_model.specs.Records.{Beginning, Doing, Settings, State, Step, doing_map}
 use Rattle.pnp_model.specs.Runs.{Entry, opening}
 use Rattle.pnp_laws.specs.Needs.{IsEntryWithin, IsEventWithin}
 use Rattle.pnp_laws.specs.Ends.{events}
@@ -22,7 +21,7 @@ use Rattle.notify_front.specs.Desks.{Desk, FrontLawsOf, FrontMoves, IfFrontQuiet
 use Rattle.notify_front.specs.Hands.{AllAgreed, AllCancelled, IsBegun, IsRunning, begins, next_told}
 use Rattle.notify_front.proofs.Moving.{begin_next, due_not_quiet, none_next, run_next, tells_next}
 use Rattle.notify_front.proofs.OwnSteps.{goes_on, own_step}
-use Rattle.notify_front.proofs.Runs.{Fits, IsReady, due_begins, keeps_core, machine_run, quiet_hand}
+use Rattle.notify_front.proofs.Runs.{Fits, IsReady, keeps_core, machine_run, quiet_hand}
 use Rattle.notify_front.proofs.Told.{all_asked, part_on, reached_kept}
 use Rattle.notify_front.proofs.Declined.{declined_after}
 

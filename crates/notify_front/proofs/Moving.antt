@@ -1,5 +1,5 @@
 -- What the code does at each turn, as the step that is next by the definition.
-use Rattle.std.proofs.Common.{ℕ, ◌≡◌, Bool, true, false, List, [], ◌∷◌, Option, Some, None, refl, sym, ap, ◌∙◌, subst, reverse, slice_get, drop, option_map}
+use Rattle.std.proofs.Common.{ℕ, ◌≡◌, Bool, true, false, List, [], ◌∷◌, Option, Some, None, refl, sym, ap, ◌∙◌, subst, reverse, slice_get, option_map}
 use Rattle.pnp_labels.specs.Texts.{Text}
 use Rattle.pnp_labels.specs.declared.label.Label.{Label}
 use Rattle.pnp_labels.specs.declared.label.NoticeKind.{NoticeKind}
@@ -15,7 +15,7 @@ use Rattle.pnp_machine.specs.declared.manager.Moved.{Moved}
 use Rattle.pnp_machine.specs.declared.manager.Moved.TheVariants.{Label as Printed, Quiet}
 use Rattle.notify_front.specs.Fronts as fr
 use Rattle.notify_front.specs.Fronts.{Front, FrontEntry, FrontStep, Hand, IsFrontStep, IsFrontQuiet, Registration, front_next, hand_next, machine_next, on_set, running}
-use Rattle.notify_front.specs.Desks.{FrontMoves, IfFrontQuiet}
+use Rattle.notify_front.specs.Desks.{FrontMoves}
 use Rattle.notify_front.specs.Hands.{after_last, answered, begins, hand_after, is_ended, moved_on, next_told, notice_of}
 use Rattle.notify_front.proofs.Alone.{none_on_set}
 use Rattle.notify_front.proofs.Runs.{due_begins}
@@ -79,19 +79,17 @@ lifts settings f hand (Some (Searches problem by_answer)) step (found, answer, i
 -- the machine moves, with this at hand
 pub machine_moves : (settings : Settings) (f : Front) (hand : Hand) (moved : Moved) (t : State) → front_next settings f ≡ machine_next settings f hand → (ma.next settings f.state ≡ None → hand ≡ f.hand) →
     Moves settings f.state moved t → FrontMoves settings f moved (record { state = t; registrations = f.registrations; hand = hand_after moved hand })
-machine_moves settings f hand (Printed label) t is quiet steps =
-    (
-      FrontEntry.Passes (Entry.Did label),
-      refl,
-      subst (λ o. IsFrontStep settings o (fr.lifted f hand (record { label = label; state = t }))) (sym is)
+machine_moves settings f hand (Printed label) t is quiet steps = (
+  FrontEntry.Passes (Entry.Did label),
+  refl,
+  subst (λ o. IsFrontStep settings o (fr.lifted f hand (record { label = label; state = t }))) (sym is)
       (lifts settings f hand (ma.next settings f.state) (record { label = label; state = t }) steps),
-    )
-machine_moves settings f hand Quiet t is quiet (none, same) =
-    (
-      is ∙ ap (λ o. option_map (doing_map (fr.lifted f hand)) o) none,
-      ap (λ (x : State). record { state = x; registrations = f.registrations; hand = hand }) same
+)
+machine_moves settings f hand Quiet t is quiet (none, same) = (
+  is ∙ ap (λ o. option_map (doing_map (fr.lifted f hand)) o) none,
+  ap (λ (x : State). record { state = x; registrations = f.registrations; hand = hand }) same
       ∙ ap (λ (x : Hand). record { state = f.state; registrations = f.registrations; hand = x }) (quiet none),
-    )
+)
 
 -- of other operations nobody is told
 abbrev pub is_untold : OpKind → Bool

@@ -1,8 +1,7 @@
 -- What one notice makes of a round, as the code keeps it.
-use Rattle.std.proofs.Common.{ℕ, zero, suc, ◌≡◌, ◌+◌, ◌-◌, ◌<◌, ◌≤◌, Bool, true, false, List, [], ◌∷◌, ◌++◌, Option, Some, None, IsSome, length, get_or, reverse, take, drop, refl, sym, ap, ◌∙◌, subst, arith, option_map, slice_get, unwrap_or, is_some, option_copied, Bor}
-use Rattle.std.proofs.lemmas.Grind.{reverse_onto}
+use Rattle.std.proofs.Common.{ℕ, zero, suc, ◌≡◌, ◌+◌, ◌-◌, ◌<◌, ◌≤◌, Bool, true, false, List, [], ◌∷◌, ◌++◌, Option, Some, None, IsSome, length, get_or, reverse, take, drop, refl, sym, ap, ◌∙◌, arith, option_map, slice_get, unwrap_or, is_some, option_copied, Bor}
 use Rattle.std.proofs.lemmas.List.{take_more, get_or-reverse, length-reverse, reverse-append, reverse-reverse, drop-drop}
-use Rattle.std.proofs.lemmas.Option.{slice_get-get_or, slice_get_within, get_or_from_slice_get, slice_get_past}
+use Rattle.std.proofs.lemmas.Option.{slice_get-get_or, slice_get_within, get_or_from_slice_get}
 use Rattle.pnp_labels.proofs.Reading.{drop_next}
 use Rattle.pnp_labels.specs.declared.label.OpKind.{OpKind}
 use Rattle.notify_front.specs.Fronts.{Hand, Registration, over, running, vetoed}

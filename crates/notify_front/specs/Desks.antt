@@ -1,5 +1,5 @@
 -- The front as contracts see it: a manager, who is registered, and what is at hand; and what its calls do.
-use Rattle.std.specs.Prelude.{◌≡◌, ℕ, ◌+◌, true, false, Bool, List, [], ◌++◌, Some, map, reverse}
+use Rattle.std.specs.Prelude.{◌≡◌, ℕ, ◌+◌, true, false, Bool, List, [], ◌++◌, Some, map}
 use Rattle.std.specs.List.{AllByRecursion}
 use Rattle.pnp_labels.specs.declared.event.Event.{Event}
 use Rattle.pnp_labels.specs.declared.label.Label.{Label}
@@ -13,7 +13,7 @@ use Rattle.pnp_machine.specs.declared.manager.Moved.{Moved}
 use Rattle.pnp_machine.specs.declared.manager.Moved.TheVariants.{Label as Printed, Quiet}
 use Rattle.notify_front.specs.Fronts.{Answered, Front, FrontEntry, FrontStep, FrontSteps, IsFrontQuiet, Registration, Hand, front_next, front_printed, machine_next, opening_front, on_set}
 use Rattle.notify_front.specs.Notices.{FrontGoes, FrontRun, machine_part}
-use Rattle.notify_front.specs.Laws.{IsTold, asked, refused, cancelled, IsDeclinedAfter}
+use Rattle.notify_front.specs.Laws.{IsTold, asked, IsDeclinedAfter}
 
 -- a manager, who is registered, and what is at hand
 pub record Desk : Type 0 where

@@ -1,5 +1,4 @@
-ghost use Rattle.std.specs.Prelude.{◌≡◌, [], ◌∷◌, IfOk, OnErr};
-ghost use Rattle.pnp_labels.specs.Texts.{spaced};
+ghost use Rattle.std.specs.Prelude.{◌≡◌, IfOk, OnErr};
 ghost use Rattle.pnp_labels.specs.declared.label.Label.TheVariants as Label;
 ghost use Rattle.pnp_model.specs.States.{node_of};
 ghost use Rattle.pnp_model.specs.Tests.{is_started};

@@ -1,6 +1,5 @@
-ghost use Rattle.std.specs.Prelude.{◌≡◌, ◌≤◌, [], Some, IfOk, IfSome, IsSome, length, option_copied, reverse, slice_get, take};
+ghost use Rattle.std.specs.Prelude.{◌≡◌, ◌≤◌, [], Some, IfOk, IsSome, length, option_copied, reverse, slice_get, take};
 ghost use Rattle.notify_front.specs.Fronts.{Hand, running};
-
 ghost use Rattle.notify_front.specs.Hands.{AllAgreed, IsTurn, begins, begun, hand_after, is_ended, moved_on, next_told, notice_of, refuser_of};
 
 use crate::registration::Registration;
@@ -144,7 +143,11 @@ impl Round {
         ensures { IfOk result (λ label. label ≡ notice_of self.now client.now) }
     {
         match self.stage {
-            Stage::Asking { .. } => client.notice(alloc, NoticeKind::QueryRemove, Some(client.agrees)),
+            Stage::Asking { .. } => client.notice(
+                alloc,
+                NoticeKind::QueryRemove,
+                Some(client.agrees),
+            ),
             Stage::Ended => client.notice(alloc, NoticeKind::RemoveComplete, None),
             _ => client.notice(alloc, NoticeKind::RemoveCancelled, None),
         }

@@ -1,4 +1,4 @@
-use Rattle.std.proofs.Common.{◌≡◌, ◌∙◌, Some, None, ap, sym}
+use Rattle.std.proofs.Common.{◌∙◌, ap, sym}
 use Rattle.pnp_machine.proofs.Dues.{due_there}
 use Rattle.notify_front.specs.Hands.{begins, next_told}
 use Rattle.notify_front.proofs.DeskMoves.{announce_goes, unasked_alone}

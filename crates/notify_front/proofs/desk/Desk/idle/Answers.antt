@@ -1,4 +1,4 @@
-use Rattle.std.proofs.Common.{◌≡◌, ◌∙◌, sym}
+use Rattle.std.proofs.Common.{◌∙◌, sym}
 use Rattle.notify_front.proofs.DeskMoves.{nobody_alone}
 use Rattle.notify_front.proofs.desk.Desk.idle.Goals as goal
 

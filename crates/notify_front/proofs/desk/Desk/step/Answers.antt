@@ -1,4 +1,4 @@
-use Rattle.std.proofs.Common.{◌∙◌, ap, sym, subst}
+use Rattle.std.proofs.Common.{ap, subst}
 use Rattle.notify_front.specs.Desks.{Desk}
 use Rattle.notify_front.specs.Fronts.{Hand}
 use Rattle.notify_front.specs.Hands.{AllAgreed, AllCancelled}

@@ -1,4 +1,4 @@
-use Rattle.std.proofs.Common.{◌≡◌, ◌∙◌, Some, ap, sym}
+use Rattle.std.proofs.Common.{◌∙◌, ap, sym}
 use Rattle.notify_front.specs.Hands.{after_last}
 use Rattle.notify_front.proofs.DeskMoves.{tell_goes}
 use Rattle.notify_front.proofs.desk.Desk.tell.Goals as goal

@@ -1,4 +1,4 @@
-use Rattle.std.proofs.Common.{◌≡◌, ◌∙◌, Some, IsSome, sym, ap, subst, option_map, List}
+use Rattle.std.proofs.Common.{◌≡◌, ◌∙◌, Some, IsSome, sym, subst, option_map, List}
 use Rattle.device_ids.specs.Folding.{same}
 use Rattle.pnp_model.specs.Cores.{node_at, serials_of}
 use Rattle.pnp_model.specs.Records.{Node}

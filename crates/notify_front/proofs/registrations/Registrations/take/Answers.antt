@@ -1,4 +1,4 @@
-use Rattle.std.proofs.Common.{◌≡◌, ◌<◌, ◌∙◌, List, Some, None, ap, subst, sym, length, remove, position, arith}
+use Rattle.std.proofs.Common.{◌≡◌, ◌∙◌, List, Some, None, ap, subst, sym, position}
 use Rattle.std.specs.List.Sorted.{IsNonDecreasingBy}
 use Rattle.pnp_model.specs.Keyed.{without_first}
 use Rattle.pnp_model.proofs.Keyed.{without_first_at, without_first_none}

@@ -1,4 +1,4 @@
-use Rattle.std.proofs.Common.{◌≡◌, ◌<◌, ◌≤◌, ◌+◌, ◌-◌, ◌∙◌, ap, subst, sym, length, arith}
+use Rattle.std.proofs.Common.{◌≤◌, ◌+◌, ◌-◌, ◌∙◌, ap, subst, sym, length, arith}
 use Rattle.notify_front.specs.Hands.{IsInside, hand_of, moved_on}
 use Rattle.notify_front.specs.declared.round.Stage.{Stage}
 use Rattle.notify_front.proofs.Rounds.{cancelled_on, vetoed_on, ended_on}

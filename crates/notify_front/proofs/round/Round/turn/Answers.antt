@@ -1,6 +1,5 @@
-use Rattle.std.proofs.Common.{◌≡◌, ◌∙◌, Bool, false, Option, Some, None, ap, sym, is_some}
-use Rattle.notify_front.specs.Fronts.{Registration}
-use Rattle.notify_front.specs.Hands.{hand_of, next_told}
+use Rattle.std.proofs.Common.{◌∙◌, ap, sym}
+use Rattle.notify_front.specs.Hands.{hand_of}
 use Rattle.notify_front.specs.declared.round.Stage.{Stage}
 use Rattle.notify_front.proofs.Rounds.{agreed_all, cancelled_all, none_copied}
 use Rattle.notify_front.proofs.round.Round.turn.Goals as goal
