@@ -110,20 +110,20 @@ begin_not_beside (Label.Begin kind path) h beside = beside
 begin_not_beside _ h beside = absurd (cc)
 
 -- an operation that runs goes on where the step prints no end
-works_on : (s : State) (step : Step) → Way s step → Works s → IsWithin step.label → Works step.state
+pub works_on : (s : State) (step : Step) → Way s step → Works s → IsWithin step.label → Works step.state
 works_on s step (Way.idles none after beside) (o, runs) within = absurd (cc)
 works_on s step (Way.begins kind node none at is) (o, runs) within = absurd (cc)
 works_on s step (Way.goes o p runs after work prints) works within = (p, after)
 works_on s step (Way.ends o result runs after label by) works within = absurd (subst (λ (x : Label). IsWithin x) label within)
 
 -- and one that begins runs
-works_begun : (s : State) (step : Step) → Way s step → s.operation ≡ None → ma.is_begin step.label ≡ true → Works step.state
+pub works_begun : (s : State) (step : Step) → Way s step → s.operation ≡ None → ma.is_begin step.label ≡ true → Works step.state
 works_begun s step (Way.idles none after beside) idle begins = absurd (begin_not_beside step.label begins beside)
 works_begun s step (Way.begins kind node none at is) idle begins = (_, ap (λ (x : Step). x.state.operation) is)
 works_begun s step (Way.goes o p runs after work prints) idle begins = absurd (cc)
 works_begun s step (Way.ends o result runs after label by) idle begins = absurd (cc)
 
-way_of : (settings : Settings) (rack : List Driver) (entries : List FrontEntry) (f : Front) (m : Step) → Run settings (opening rack) (machine_part entries) f.state → ma.IsStep settings (ma.next settings f.state) m → Way f.state m
+pub way_of : (settings : Settings) (rack : List Driver) (entries : List FrontEntry) (f : Front) (m : Step) → Run settings (opening rack) (machine_part entries) f.state → ma.IsStep settings (ma.next settings f.state) m → Way f.state m
 way_of settings rack entries f m reached step =
     way_goes settings f.state (Entry.Did m.label) m.state (reached_fine settings rack f.state (machine_part entries, reached)) step
 
@@ -218,7 +218,7 @@ hand_keeps settings rack entries f (Hand.Ended (r ∷ left)) reached fits holds 
 
 -- Events ------------------------------------------------------------------------------------
 
-works_answered : (s : State) (step : Step) → Answered s.operation step.state.operation → Works s → Works step.state
+pub works_answered : (s : State) (step : Step) → Answered s.operation step.state.operation → Works s → Works step.state
 works_answered s step (inl e) (o, runs) = (o, e ∙ runs)
 works_answered s step (inr (ok, o, was, is)) works = (_, is)
 
@@ -376,7 +376,7 @@ began_hand settings entries f first (Hand.Vetoed (r ∷ left)) fits holds ends i
 began_hand settings entries f first (Hand.Ended []) fits holds ends is_due told step machines h = absurd holds
 began_hand settings entries f first (Hand.Ended (r ∷ left)) fits holds ends is_due told step machines h = absurd (subst (λ (x : FrontStep). IsMachines x.entry) h machines)
 
-began : (settings : Settings) (rack : List Driver) (entries : List FrontEntry) (f : Front) (label : Label) (g : Front) (first : Beginning) → Kept settings rack entries f → FrontGoes settings f (FrontEntry.Passes (Entry.Did label)) g →
+pub began : (settings : Settings) (rack : List Driver) (entries : List FrontEntry) (f : Front) (label : Label) (g : Front) (first : Beginning) → Kept settings rack entries f → FrontGoes settings f (FrontEntry.Passes (Entry.Did label)) g →
     ma.due f.state ≡ Some first → is_told_of first.kind ≡ true → Began entries f first (record { entry = FrontEntry.Passes (Entry.Did label); front = g })
 began settings rack entries f label g first kept goes is_due told =
     began_hand settings entries f first f.hand kept.fits kept.holds kept.ends is_due told (record { entry = FrontEntry.Passes (Entry.Did label); front = g }) tt goes
@@ -399,18 +399,16 @@ within_still : (label : Label) (told : List Registration) → IsWithin label →
 within_still (Label.End kind path result) told h = absurd h
 within_still _ told h = refl
 
+-- an event leaves what is at hand
+pub event_hand : (f : Front) (event : Event) → (fr.front_happens f event).front.hand ≡ f.hand
+event_hand f (Event.Watch client path agrees) = (watch_at f client agrees (node_of path f.state.core.nodes)).hand
+event_hand f (Event.Unwatch client path) = (unwatch_at f client (node_of path f.state.core.nodes)).hand
+event_hand f event = refl
+
 -- while the operation runs, what is at hand stays
 running_goes : (settings : Settings) (f : Front) (told : List Registration) (entry : FrontEntry) (g : Front) (rest : List FrontEntry) → f.hand ≡ Hand.Running told → FrontGoes settings f entry g → AllWithin (machine_part (entry ∷ rest)) →
     (g.hand ≡ Hand.Running told) × AllWithin (machine_part rest)
-running_goes settings f told (FrontEntry.Passes (Entry.Happens event label)) g rest at goes within = (happened event goes.1, within.1)
-  where
-    happened : (event : Event) → fr.front_happens f event ≡ record { entry = FrontEntry.Passes (Entry.Happens event label); front = g } → g.hand ≡ Hand.Running told
-    happened event is = ap (λ (x : FrontStep). x.front.hand) (sym is) ∙ same event ∙ at
-      where
-        same : (event : Event) → (fr.front_happens f event).front.hand ≡ f.hand
-        same (Event.Watch client path agrees) = (watch_at f client agrees (node_of path f.state.core.nodes)).hand
-        same (Event.Unwatch client path) = (unwatch_at f client (node_of path f.state.core.nodes)).hand
-        same event = refl
+running_goes settings f told (FrontEntry.Passes (Entry.Happens event label)) g rest at goes within = (ap (λ (x : FrontStep). x.front.hand) (sym goes.1) ∙ event_hand f event ∙ at, within.1)
 running_goes settings f told (FrontEntry.Passes (Entry.Did label)) g rest at goes within =
     let step : FrontStep = record { entry = FrontEntry.Passes (Entry.Did label); front = g } in
     let h : IsFrontStep settings (fr.machine_next settings f (Hand.Running told)) step = subst (λ (x : Hand). IsFrontStep settings (fr.hand_next settings f x) step) at goes in
@@ -422,26 +420,21 @@ running_goes settings f told (FrontEntry.Passes (Entry.Declines label)) g rest a
     let h : IsFrontStep settings (fr.machine_next settings f (Hand.Running told)) step = subst (λ (x : Hand). IsFrontStep settings (fr.hand_next settings f x) step) at goes in
     let m = lifted_step settings f (Hand.Running told) (ma.next settings f.state) step h in
     absurd (let q = ap (λ (x : FrontStep). x.entry) m.2 in cc)
-running_goes settings f told (FrontEntry.Watches event label) g rest at goes within = (ap (λ (x : FrontStep). x.front.hand) (sym goes.1) ∙ same event ∙ at, within)
-  where
-    same : (event : Event) → (fr.front_happens f event).front.hand ≡ f.hand
-    same (Event.Watch client path agrees) = (watch_at f client agrees (node_of path f.state.core.nodes)).hand
-    same (Event.Unwatch client path) = (unwatch_at f client (node_of path f.state.core.nodes)).hand
-    same event = refl
+running_goes settings f told (FrontEntry.Watches event label) g rest at goes within = (ap (λ (x : FrontStep). x.front.hand) (sym goes.1) ∙ event_hand f event ∙ at, within)
 running_goes settings f told (FrontEntry.Tells label) g rest at goes within =
     let step : FrontStep = record { entry = FrontEntry.Tells label; front = g } in
     let h : IsFrontStep settings (fr.machine_next settings f (Hand.Running told)) step = subst (λ (x : Hand). IsFrontStep settings (fr.hand_next settings f x) step) at goes in
     let m = lifted_step settings f (Hand.Running told) (ma.next settings f.state) step h in
     absurd (let q = ap (λ (x : FrontStep). x.entry) m.2 in cc)
 
-running_run : (settings : Settings) (f : Front) (told : List Registration) (entries : List FrontEntry) (g : Front) → f.hand ≡ Hand.Running told → FrontRun settings f entries g → AllWithin (machine_part entries) → g.hand ≡ Hand.Running told
+pub running_run : (settings : Settings) (f : Front) (told : List Registration) (entries : List FrontEntry) (g : Front) → f.hand ≡ Hand.Running told → FrontRun settings f entries g → AllWithin (machine_part entries) → g.hand ≡ Hand.Running told
 running_run settings f told [] g at run within = ap (λ (x : Front). x.hand) run ∙ at
 running_run settings f told (entry ∷ rest) g at (mid, goes, run) within =
     let next = running_goes settings f told entry mid rest at goes within in
     running_run settings mid told rest g next.0 run next.1
 
 -- the one next step
-forced : (settings : Settings) (f : Front) (hand : Hand) (told : FrontStep) (entry : FrontEntry) (g : Front) → f.hand ≡ hand → ((x : FrontStep) → IsFrontStep settings (fr.hand_next settings f hand) x → x ≡ told) → (fr.hand_next settings f hand ≡ None → ⊥) →
+pub forced : (settings : Settings) (f : Front) (hand : Hand) (told : FrontStep) (entry : FrontEntry) (g : Front) → f.hand ≡ hand → ((x : FrontStep) → IsFrontStep settings (fr.hand_next settings f hand) x → x ≡ told) → (fr.hand_next settings f hand ≡ None → ⊥) →
     FrontGoes settings f entry g → (entry ≡ told.entry) × (g ≡ told.front)
 forced settings f hand told (FrontEntry.Passes (Entry.Happens event label)) g at only some goes = absurd (some (subst (λ (x : Hand). fr.hand_next settings f x ≡ None) at goes.0))
 forced settings f hand told (FrontEntry.Watches event label) g at only some goes = absurd (some (subst (λ (x : Hand). fr.hand_next settings f x ≡ None) at goes.0))
@@ -478,7 +471,7 @@ end_hear settings f OpEnd.Done told more g at run = over_hear settings f told mo
 end_hear settings f OpEnd.Waiting told more g at run = over_hear settings f told more g at run
 end_hear settings f OpEnd.Refused told more g at run = over_hear settings f told more g at run
 
-ended : (settings : Settings) (f : Front) (told : List Registration) (kind : OpKind) (path : Text) (result : OpEnd) (g : Front) → f.hand ≡ Hand.Running told → FrontGoes settings f (FrontEntry.Passes (Entry.Did (Label.End kind path result))) g → g.hand ≡ fr.after_end result told
+pub ended : (settings : Settings) (f : Front) (told : List Registration) (kind : OpKind) (path : Text) (result : OpEnd) (g : Front) → f.hand ≡ Hand.Running told → FrontGoes settings f (FrontEntry.Passes (Entry.Did (Label.End kind path result))) g → g.hand ≡ fr.after_end result told
 ended settings f told kind path result g at goes =
     let step : FrontStep = record { entry = FrontEntry.Passes (Entry.Did (Label.End kind path result)); front = g } in
     let h : IsFrontStep settings (fr.machine_next settings f (Hand.Running told)) step = subst (λ (x : Hand). IsFrontStep settings (fr.hand_next settings f x) step) at goes in
