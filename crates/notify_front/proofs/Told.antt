@@ -265,7 +265,7 @@ keeps_goes settings rack entries f (FrontEntry.Passes (Entry.Declines label)) g 
 keeps_goes settings rack entries f (FrontEntry.Watches event label) g kept goes = happens_keeps settings rack entries f event (record { entry = FrontEntry.Watches event label; front = g }) kept goes.0 goes.1
 keeps_goes settings rack entries f (FrontEntry.Tells label) g kept goes = hand_keeps settings rack entries f f.hand kept.reached kept.fits kept.holds kept.ends (record { entry = FrontEntry.Tells label; front = g }) goes
 
-part_on : (xs : List FrontEntry) (ys : List FrontEntry) → machine_part (xs ++ ys) ≡ machine_part xs ++ machine_part ys
+pub part_on : (xs : List FrontEntry) (ys : List FrontEntry) → machine_part (xs ++ ys) ≡ machine_part xs ++ machine_part ys
 part_on [] ys = refl
 part_on (FrontEntry.Passes entry ∷ xs) ys = ap (λ (l : List Entry). entry ∷ l) (part_on xs ys)
 part_on (FrontEntry.Watches event label ∷ xs) ys = part_on xs ys

@@ -1,5 +1,5 @@
 -- The front as contracts see it: a manager, who is registered, and what is at hand; and what its calls do.
-use Rattle.std.specs.Prelude.{◌≡◌, ℕ, ◌+◌, true, false, Bool, List, [], ◌++◌, Some, map, reverse}
+use Rattle.std.specs.Prelude.{◌≡◌, ℕ, ◌+◌, true, false, Bool, List, [], ◌++◌, Some, map}
 use Rattle.std.specs.List.{AllByRecursion}
 use Rattle.pnp_labels.specs.declared.event.Event.{Event}
 use Rattle.pnp_labels.specs.declared.label.Label.{Label}
@@ -11,9 +11,9 @@ use Rattle.pnp_laws.specs.Ends as ends
 use Rattle.pnp_machine.specs.Managers.{Manager, settings}
 use Rattle.pnp_machine.specs.declared.manager.Moved.{Moved}
 use Rattle.pnp_machine.specs.declared.manager.Moved.TheVariants.{Label as Printed, Quiet}
-use Rattle.notify_front.specs.Fronts.{Front, FrontEntry, FrontStep, FrontSteps, IsFrontQuiet, Registration, Hand, front_printed, opening_front, on_set}
+use Rattle.notify_front.specs.Fronts.{Answered, Front, FrontEntry, FrontStep, FrontSteps, IsFrontQuiet, Registration, Hand, front_next, front_printed, machine_next, opening_front, on_set}
 use Rattle.notify_front.specs.Notices.{FrontGoes, FrontRun, machine_part}
-use Rattle.notify_front.specs.Laws.{IsTold, asked, refused, cancelled, IsDeclinedAfter}
+use Rattle.notify_front.specs.Laws.{IsTold, asked, IsDeclinedAfter}
 
 -- a manager, who is registered, and what is at hand
 pub record Desk : Type 0 where
@@ -55,10 +55,18 @@ pub record IsOfFrontRun (told : Settings) (events : ℕ) (f : Front) : Type 0 wh
 abbrev pub IsFrontDone : FrontStep → Label → Front → Type 0
 IsFrontDone step label new = (label ≡ front_printed step.entry) × (new ≡ step.front)
 
+-- what was printed and what is there now are those of a client's event
+abbrev pub IsAnswered : Answered → Label → Front → Type 0
+IsAnswered answered label new = (label ≡ answered.label) × (new ≡ answered.front)
+
 -- a step was made, or none is next
 abbrev pub FrontMoves : Settings → Front → Moved → Front → Type 0
 FrontMoves told old (Printed label) new = (entry : FrontEntry) × (label ≡ front_printed entry) × FrontSteps told old entry new
 FrontMoves told old Quiet new = IsFrontQuiet told old × (new ≡ old)
+
+-- what is next is a step of the machine, of which nobody is told
+abbrev pub IsAlone : Settings → Front → Type 0
+IsAlone told f = front_next told f ≡ machine_next told f Hand.Nothing
 
 -- a test tells whether a front is quiet
 abbrev pub IfFrontQuiet : Bool → Settings → Front → Type 0

@@ -5,30 +5,30 @@ ghost use Rattle.pnp_model.specs.Endings.{ending, joined};
 ghost use Rattle.notify_front.specs.Fronts.{IsFrontQuiet, front_happens};
 ghost use Rattle.notify_front.specs.Desks.{IsAtStart, IsFrontDone, IsOfFrontRun, IfFrontQuiet, FrontLawsOf, FrontMoves, front_of, machine_events, opening_desk, told_of};
 
+use crate::desk::Desk;
 use device_ids::WantOfMemory;
 use devnode_tree::Tree;
 use driver_rack::Drivers;
 use pnp_labels::{Event, Label};
-use pnp_machine::{Manager, Moved};
-use std::alloc::{AllocError, Global};
+use pnp_machine::{Manager, Moved, needs_are_few};
+use std::alloc::Global;
 use std::marker::Model;
 
 /// The front over a manager: clients are asked before a removal and hear of its end, after the driver kit's notices of a target
 /// device; the order and the rules are this project's own. A contract sees the manager, who is registered and what is at hand.
 #[derive(Drop)]
 pub struct Front<R: Drivers> {
-    alloc: Global,
-    manager: Manager<R>,
+    desk: Desk<R>,
 }
 
 impl<R: Drivers> Model for Front<R> {
-    ghost use Rattle.notify_front.specs.Desks.{Desk, opening_desk, front_of, told_of, IsOfFrontRun};
+    ghost use Rattle.notify_front.specs.Desks.{Desk, front_of, told_of, IsOfFrontRun};
 
     ghost Value = { Desk };
 
-    ghost view = { λ f. opening_desk f.manager };
+    ghost view = { λ f. f.desk };
 
-    ghost invariant = { λ f. let d = opening_desk f.manager in IsOfFrontRun (told_of d) d.manager.events (front_of d) };
+    ghost invariant = { λ f. IsOfFrontRun (told_of f.desk) f.desk.manager.events (front_of f.desk) };
 }
 
 impl<R: Drivers> Front<R> {
@@ -38,7 +38,9 @@ impl<R: Drivers> Front<R> {
         requires { IsAtStart manager }
         ensures { result ≡ opening_desk manager }
     {
-        Front { alloc, manager }
+        Front {
+            desk: Desk::new(alloc, manager),
+        }
     }
 
     /// An event happens, at a quiet front: exactly what the front's definition says. Those of clients change the registrations
@@ -55,8 +57,8 @@ impl<R: Drivers> Front<R> {
         ensures run { OnOk result (IsOfFrontRun (told_of self.new) self.new.manager.events (front_of self.new)) }
         ensures err { OnErr result (self.new ≡ self.old) }
     {
-        let _ = event;
-        Err(AllocError)
+        needs_are_few(&event);
+        self.desk.apply(event)
     }
 
     /// The next step of the front, exactly as its definition says: notices of an operation that is due or has ended come before
@@ -72,21 +74,21 @@ impl<R: Drivers> Front<R> {
         ensures run { IsOfFrontRun (told_of self.new) self.new.manager.events (front_of self.new) }
         ensures err { OnErr result (self.new ≡ self.old) }
     {
-        Err(AllocError)
+        self.desk.step()
     }
 
     /// Whether no step is next.
     pub fn is_quiet(&self) -> bool
         ensures { IfFrontQuiet result (told_of self.now) (front_of self.now) }
     {
-        self.manager.is_quiet()
+        self.desk.is_quiet()
     }
 
     /// The device nodes.
     pub fn tree(&self) -> &Tree
         ensures { result.now.nodes ≡ self.now.manager.state.core.nodes }
     {
-        self.manager.tree()
+        self.desk.manager.tree()
     }
 
     /// The end of the output, which is the manager's.
@@ -94,6 +96,6 @@ impl<R: Drivers> Front<R> {
         ensures text { IfOk result (λ text. text.items ≡ joined (ending self.now.manager.state)) }
         ensures tree { TreeIsPrinted self.now.manager.state.core.nodes }
     {
-        self.manager.ending(alloc)
+        self.desk.manager.ending(alloc)
     }
 }

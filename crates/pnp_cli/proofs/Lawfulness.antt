@@ -42,7 +42,8 @@ use Rattle.notify_front.specs.Desks.{Desk, front_of, told_of}
 use Rattle.notify_front.proofs.Alone.{machine_alone}
 use Rattle.notify_front.proofs.Declined.{declined_after}
 use Rattle.notify_front.proofs.Runs.{keeps_core, machine_run}
-use Rattle.notify_front.proofs.Told.{all_asked, all_hear}
+use Rattle.notify_front.proofs.Hearing.{each_hears}
+use Rattle.notify_front.proofs.Told.{all_asked}
 use Rattle.script_reader.specs.Script.{Trace, gives, waits, ends, stops}
 use Rattle.inf_reader.specs.declared.parts.Inf.{Inf}
 use Rattle.inf_reader.specs.declared.parts.InfError.{InfError}
@@ -322,7 +323,7 @@ unfolding Holds
 output_hears words contents rack =
     of_output (OfFrontRun ClientsHear) rack
     (λ settings script report text shows entries last told earlier during more f g h i label first kind path result is before begins due_first is_told within_ alone ends_ after.
-    all_hear settings rack earlier during more f g h i last label first kind path result before begins due_first is_told within_ alone ends_ after) words contents
+    each_hears settings rack earlier during more f g h i last label first kind path result before begins due_first is_told within_ alone ends_ after told.rests) words contents
 
 pub output_alone : (words : List Text) (contents : Option (Text → Option (List ℕ))) (rack : List Driver) → OfOutput (OfFrontRun MachineAlone) words contents rack
 unfolding Holds

@@ -27,7 +27,7 @@ use Rattle.pnp_laws.specs.Windows.{InsideWindows}
 use Rattle.notify_front.specs.Fronts.{Front, FrontEntry, IsFrontQuiet, front_printed, on_set, opening_front}
 use Rattle.notify_front.specs.Fronts.FrontEntry.{Passes, Tells, Watches}
 use Rattle.notify_front.specs.Laws as notices
-use Rattle.notify_front.specs.Laws.{HasNoClient, IsDeclinedAfter, IsMachineAlone, StartsWith, asked, is_told_of, results}
+use Rattle.notify_front.specs.Laws.{AllHeard, HasNoClient, IsDeclinedAfter, IsMachineAlone, asked, is_told_of, results}
 use Rattle.notify_front.specs.Notices.{FrontGoes, FrontRun, machine_part}
 use Rattle.script_reader.specs.Script.{Trace, gives, waits, ends, stops}
 use Rattle.inf_reader.specs.declared.parts.Inf.{Inf}
@@ -277,7 +277,8 @@ ClientsDecline earlier old entry new = (label : Label) → entry ≡ Passes (Dec
 abbrev pub NoticesKeepAll : List FrontEntry → Front → FrontEntry → Front → Type 0
 NoticesKeepAll earlier old entry new = notices.IsTold entry → new.state.core ≡ old.state.core
 
--- directly after the end of a disable, an eject or a surprise all clients on its set at the begin hear the result, one after another
+-- directly after the end of a disable, an eject or a surprise all clients on its set at the begin hear the result, one after another and each
+-- registration once; then nothing is at hand
 abbrev pub ClientsHear : machines.Settings → List Driver → List FrontEntry → Front → Type 0
 ClientsHear settings rack entries last =
     (earlier during more : List FrontEntry) (f g h i : Front) (label : Label) (first : Beginning) (kind : OpKind) (path : Text) (result : OpEnd)
@@ -285,7 +286,7 @@ ClientsHear settings rack entries last =
     → FrontRun settings (opening_front (opening rack)) earlier f → FrontGoes settings f (Passes (Did label)) g → due f.state ≡ Some first → is_told_of first.kind ≡ true
     → FrontRun settings g during h → AllWithin (machine_part during)
     → FrontGoes settings h (Passes (Did (Label.End kind path result))) i → FrontRun settings i more last
-    → StartsWith (results result (on_set f first.serial)) more
+    → AllHeard settings (results result (on_set f first.serial)) i more last
 
 -- where no event is one of a client, nothing but what the machine does alone
 abbrev pub MachineAlone : machines.Settings → List Driver → List FrontEntry → Front → Type 0

@@ -1,5 +1,4 @@
 use Rattle.std.proofs.Common.{true, IsSomeAnd, ◌≡◌, sym, subst}
-use Rattle.start_sequence.specs.Begins.{settings_of}
 use Rattle.pnp_model.specs.Machine.{due, is_in_order}
 use Rattle.pnp_machine.specs.Ids.{AreFewIds}
 use Rattle.pnp_machine.specs.Managers.{Manager}

@@ -1,6 +1,6 @@
 use Rattle.std.proofs.Common.{◌≡◌, ◌∙◌, ℕ, List, Result, Ok, Err, IfOk, ap}
 use Rattle.std.specs.declared.alloc.AllocError.{AllocError}
-use Rattle.pnp_model.specs.Records.{Core, Node, Relation, State}
+use Rattle.pnp_model.specs.Records.{Core, Node, Relation}
 use Rattle.pnp_model.specs.Trees.{leaving}
 use Rattle.relations.specs.Leaving.{IsLeaving}
 use Rattle.pnp_machine.proofs.manager.Manager.leaving.Goals as goal

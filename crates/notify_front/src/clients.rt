@@ -1,0 +1,100 @@
+ghost use Rattle.std.specs.Prelude.{◌≡◌, IfOk, OnErr};
+ghost use Rattle.pnp_labels.specs.declared.label.Label.TheVariants as Label;
+ghost use Rattle.pnp_model.specs.States.{node_of};
+ghost use Rattle.pnp_model.specs.Tests.{is_started};
+ghost use Rattle.notify_front.specs.Desks.{IsAnswered, front_of};
+ghost use Rattle.notify_front.specs.Fronts.{says, watch_at, unwatch_at};
+
+use crate::desk::Desk;
+use crate::registration::Registration;
+use device_ids::{InstancePath, Text, WantOfMemory};
+use devnode_tree::Node;
+use driver_rack::Drivers;
+use pnp_labels::spaced::two;
+use pnp_labels::{DevState, EventWord, Label, Reason};
+use std::alloc::Global;
+
+/// The label of an event that is refused.
+fn refusal(word: EventWord, reason: Reason) -> Label
+    ensures { result ≡ Label.Refused word reason }
+{
+    Label::Refused { word, reason }
+}
+
+/// Whether a device with this state has started.
+fn is_started(state: DevState) -> bool
+    ensures { result ≡ is_started state }
+{
+    matches!(state, DevState::Started)
+}
+
+/// What the label of a client's event says: the client, and the device's path as the tree spells it.
+fn says(alloc: Global, client: &Text, node: &Node) -> Result<Text, WantOfMemory>
+    ensures { IfOk result (λ what. what ≡ says client.now node.now) }
+{
+    let line = two(alloc, client.bytes(), node.path.bytes())?;
+    Text::make(alloc, &line)
+}
+
+impl<R: Drivers> Desk<R> {
+    /// A client is to be asked before a device is removed, and to hear of the end.
+    pub(crate) fn watch(
+        &mut self,
+        client: Text,
+        path: &InstancePath,
+        agrees: bool,
+    ) -> Result<Label, WantOfMemory>
+        ensures done { IfOk result (λ label. IsAnswered (watch_at (front_of self.old) client agrees (node_of path.now self.old.manager.state.core.nodes)) label (front_of self.new)) }
+        ensures same { self.new.manager ≡ self.old.manager }
+        ensures err { OnErr result (self.new ≡ self.old) }
+    {
+        let word = EventWord::Watch;
+        let Some(device) = self.manager.tree().find(path) else {
+            return Ok(refusal(word, Reason::NoDevice));
+        };
+        if self.manager.busy() {
+            return Ok(refusal(word, Reason::Busy));
+        }
+        let node = self.manager.tree().at(device);
+        if !is_started(node.state) {
+            return Ok(refusal(word, Reason::NotStarted));
+        }
+        if self.registrations.has(&client, device) {
+            return Ok(refusal(word, Reason::SameWatch));
+        }
+        let what = says(self.alloc, &client, node)?;
+        let path = Text::make(self.alloc, node.path.bytes())?;
+        self.registrations.put(Registration {
+            client,
+            device,
+            path,
+            agrees,
+        })?;
+        Ok(Label::Did { word, what })
+    }
+
+    /// A client is to hear no more of a device.
+    pub(crate) fn unwatch(
+        &mut self,
+        client: &Text,
+        path: &InstancePath,
+    ) -> Result<Label, WantOfMemory>
+        ensures done { IfOk result (λ label. IsAnswered (unwatch_at (front_of self.old) client.now (node_of path.now self.old.manager.state.core.nodes)) label (front_of self.new)) }
+        ensures same { self.new.manager ≡ self.old.manager }
+        ensures err { OnErr result (self.new ≡ self.old) }
+    {
+        let word = EventWord::Unwatch;
+        let Some(device) = self.manager.tree().find(path) else {
+            return Ok(refusal(word, Reason::NoDevice));
+        };
+        if self.manager.busy() {
+            return Ok(refusal(word, Reason::Busy));
+        }
+        if !self.registrations.has(client, device) {
+            return Ok(refusal(word, Reason::NoWatch));
+        }
+        let what = says(self.alloc, client, self.manager.tree().at(device))?;
+        self.registrations.take(client, device);
+        Ok(Label::Did { word, what })
+    }
+}

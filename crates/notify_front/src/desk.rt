@@ -1,0 +1,233 @@
+ghost use Rattle.std.specs.Prelude.{◌≡◌, ◌<◌, ◌^◌, true, Some, IfOk, OnOk, OnErr, IsSome};
+ghost use Rattle.pnp_model.specs.Cores.{node_at};
+ghost use Rattle.pnp_model.specs.Machine.{IsQuiet, due, is_in_order};
+ghost use Rattle.pnp_machine.specs.Machines.{HasFewIds};
+ghost use Rattle.notify_front.specs.Fronts.{Hand, front_happens, on_set};
+ghost use Rattle.notify_front.specs.Desks.{FrontMoves, IfFrontQuiet, IsAlone, IsFrontDone, IsOfFrontRun, front_of, machine_events, opening_desk, told_of};
+ghost use Rattle.notify_front.specs.Hands.{AllCancelled, IsBegun, IsRunning, begins, next_told};
+ghost use Rattle.pnp_machine.specs.declared.manager.Moved.TheVariants.{Label as Printed};
+
+use crate::registration::Registration;
+use crate::registrations::Registrations;
+use crate::round::{Round, Turn};
+use device_ids::{Text, WantOfMemory};
+use driver_rack::Drivers;
+use pnp_labels::{Event, Label, OpKind};
+use pnp_machine::{Manager, Moved};
+use std::alloc::Global;
+use std::marker::Model;
+
+/// A manager, who is registered, and what is at hand. A contract sees these three.
+#[derive(Drop)]
+pub(crate) struct Desk<R: Drivers> {
+    pub(crate) alloc: Global,
+    pub(crate) manager: Manager<R>,
+    pub(crate) registrations: Registrations,
+    pub(crate) round: Round,
+}
+
+impl<R: Drivers> Model for Desk<R> {
+    ghost use Rattle.notify_front.specs.Desks.{Desk};
+
+    ghost Value = { Desk };
+
+    ghost view = { λ d. record { manager = d.manager; registrations = d.registrations; hand = d.round } };
+}
+
+impl<R: Drivers> Desk<R> {
+    /// Nobody is registered over a manager. It takes no memory.
+    pub(crate) fn new(alloc: Global, manager: Manager<R>) -> Desk<R>
+        ensures { result ≡ opening_desk manager }
+    {
+        Desk {
+            alloc,
+            manager,
+            registrations: Registrations::new(alloc),
+            round: Round::nothing(alloc),
+        }
+    }
+
+    /// An event happens, as the front's definition says: those of clients change the registrations, all others are the manager's.
+    /// Conditions: those of the manager's call. After want of memory all is as before.
+    pub(crate) fn apply(&mut self, event: Event) -> Result<Label, WantOfMemory>
+        requires quiet { IsQuiet (told_of self.old) self.old.manager.state }
+        requires ids { HasFewIds event }
+        requires events { self.old.manager.events < 2 ^ 24 }
+        ensures done { IfOk result (λ label. IsFrontDone (front_happens (front_of self.old) event) label (front_of self.new)) }
+        ensures settings { told_of self.new ≡ told_of self.old }
+        ensures count { OnOk result (self.new.manager.events ≡ machine_events event self.old.manager.events) }
+        ensures err { OnErr result (self.new ≡ self.old) }
+    {
+        match event {
+            Event::Watch {
+                client,
+                path,
+                agrees,
+            } => self.watch(client, &path, agrees),
+            Event::Unwatch { client, path } => self.unwatch(&client, &path),
+            event => self.manager.apply(event),
+        }
+    }
+
+    /// Whether no step is next. Condition: the front is one of a run.
+    pub(crate) fn is_quiet(&self) -> bool
+        requires { IsOfFrontRun (told_of self.now) self.now.manager.events (front_of self.now) }
+        ensures { IfFrontQuiet result (told_of self.now) (front_of self.now) }
+    {
+        match self.round.turn() {
+            Turn::Tell | Turn::Decline(_, _) => false,
+            Turn::Idle | Turn::Begin | Turn::Run => self.manager.is_quiet(),
+        }
+    }
+
+    /// The next step, as the front's definition says. Condition: the front is one of a run. After want of memory all is as before.
+    pub(crate) fn step(&mut self) -> Result<Moved, WantOfMemory>
+        requires { IsOfFrontRun (told_of self.old) self.old.manager.events (front_of self.old) }
+        ensures moves { IfOk result (λ moved. FrontMoves (told_of self.old) (front_of self.old) moved (front_of self.new)) }
+        ensures same { self.new.manager ≡ record self.old.manager { state = self.new.manager.state } }
+        ensures err { OnErr result (self.new ≡ self.old) }
+    {
+        match self.round.turn() {
+            Turn::Tell => Ok(Moved::Label(self.tell()?)),
+            Turn::Idle => self.idle(),
+            Turn::Begin => self.begin(),
+            Turn::Decline(kind, serial) => Ok(Moved::Label(self.decline(kind, serial)?)),
+            Turn::Run => self.run(),
+        }
+    }
+
+    /// The next client is told; after the last notice that it hears it is registered no more.
+    fn tell(&mut self) -> Result<Label, WantOfMemory>
+        requires { IsSome (next_told self.old.hand) }
+        ensures moves { IfOk result (λ label. FrontMoves (told_of self.old) (front_of self.old) (Printed label) (front_of self.new)) }
+        ensures same { self.new.manager ≡ self.old.manager }
+        ensures err { OnErr result (self.new ≡ self.old) }
+    {
+        let Some(client) = self.round.next() else {
+            unreachable!();
+        };
+        let label = self.round.notice(self.alloc, client)?;
+        self.registrations.heard(client, self.round.is_ended());
+        self.round.advance();
+        Ok(label)
+    }
+
+    /// Copies of those on a device and on what depends on it, in leaving order.
+    fn on_set(&self, serial: u64) -> Result<Vec<Registration>, WantOfMemory>
+        requires { IsSome (node_at serial self.now.manager.state.core.nodes) }
+        ensures { IfOk result (λ told. told.items ≡ on_set (front_of self.now) serial) }
+    {
+        let devices = self.manager.leaving(self.alloc, serial)?;
+        self.registrations.on_each(self.alloc, &devices)
+    }
+
+    /// Nobody is told: the machine steps. Conditions: nothing is at hand, and so it is by the front's definition.
+    fn pass(&mut self) -> Result<Moved, WantOfMemory>
+        requires hand { self.old.hand ≡ Hand.Nothing }
+        requires alone { IsAlone (told_of self.old) (front_of self.old) }
+        ensures moves { IfOk result (λ moved. FrontMoves (told_of self.old) (front_of self.old) moved (front_of self.new)) }
+        ensures same { self.new.manager ≡ record self.old.manager { state = self.new.manager.state } }
+        ensures err { OnErr result (self.new ≡ self.old) }
+    {
+        self.manager.step()
+    }
+
+    /// Nothing is at hand: what is due is announced, or the machine steps.
+    fn idle(&mut self) -> Result<Moved, WantOfMemory>
+        requires { self.old.hand ≡ Hand.Nothing }
+        ensures moves { IfOk result (λ moved. FrontMoves (told_of self.old) (front_of self.old) moved (front_of self.new)) }
+        ensures same { self.new.manager ≡ record self.old.manager { state = self.new.manager.state } }
+        ensures err { OnErr result (self.new ≡ self.old) }
+    {
+        if self.registrations.is_empty() {
+            return self.pass();
+        }
+        let Some((kind, serial)) = self.manager.due() else {
+            return self.pass();
+        };
+        match kind {
+            OpKind::Disable | OpKind::Eject => self.announce(kind, serial),
+            OpKind::Surprise => self.surprise(serial),
+            OpKind::Rebalance | OpKind::Finish | OpKind::Change => self.pass(),
+        }
+    }
+
+    /// An operation in order is due: the first client is asked, or where there is none the operation begins.
+    fn announce(&mut self, kind: OpKind, serial: u64) -> Result<Moved, WantOfMemory>
+        requires hand { self.old.hand ≡ Hand.Nothing }
+        requires is_due { due self.old.manager.state ≡ Some (begins kind serial) }
+        requires in_order { is_in_order kind ≡ true }
+        ensures moves { IfOk result (λ moved. FrontMoves (told_of self.old) (front_of self.old) moved (front_of self.new)) }
+        ensures same { self.new.manager ≡ record self.old.manager { state = self.new.manager.state } }
+        ensures err { OnErr result (self.new ≡ self.old) }
+    {
+        let mut round = Round::asking(kind, serial, self.on_set(serial)?);
+        let Some(client) = round.next() else {
+            return self.pass();
+        };
+        let label = round.notice(self.alloc, client)?;
+        round.advance();
+        self.round = round;
+        Ok(Moved::Label(label))
+    }
+
+    /// A device has gone: its end begins, of which its clients are to hear.
+    fn surprise(&mut self, serial: u64) -> Result<Moved, WantOfMemory>
+        requires hand { self.old.hand ≡ Hand.Nothing }
+        requires is_due { due self.old.manager.state ≡ Some (begins OpKind.Surprise serial) }
+        ensures moves { IfOk result (λ moved. FrontMoves (told_of self.old) (front_of self.old) moved (front_of self.new)) }
+        ensures same { self.new.manager ≡ record self.old.manager { state = self.new.manager.state } }
+        ensures err { OnErr result (self.new ≡ self.old) }
+    {
+        let told = self.on_set(serial)?;
+        let moved = self.manager.step()?;
+        self.round = Round::running(told);
+        self.round.hear(&moved);
+        Ok(moved)
+    }
+
+    /// All agreed: the operation begins, of whose end they are to hear.
+    fn begin(&mut self) -> Result<Moved, WantOfMemory>
+        requires { IsBegun self.old.manager.state self.old.hand }
+        ensures moves { IfOk result (λ moved. FrontMoves (told_of self.old) (front_of self.old) moved (front_of self.new)) }
+        ensures same { self.new.manager ≡ record self.old.manager { state = self.new.manager.state } }
+        ensures err { OnErr result (self.new ≡ self.old) }
+    {
+        let moved = self.manager.step()?;
+        self.round.begin();
+        self.round.hear(&moved);
+        Ok(moved)
+    }
+
+    /// One client refused: what was due is dropped.
+    fn decline(&mut self, kind: OpKind, serial: u64) -> Result<Label, WantOfMemory>
+        requires hand { AllCancelled kind serial self.old.hand }
+        requires is_due { due self.old.manager.state ≡ Some (begins kind serial) }
+        requires in_order { is_in_order kind ≡ true }
+        ensures moves { IfOk result (λ label. FrontMoves (told_of self.old) (front_of self.old) (Printed label) (front_of self.new)) }
+        ensures same { self.new.manager ≡ record self.old.manager { state = self.new.manager.state } }
+        ensures err { OnErr result (self.new ≡ self.old) }
+    {
+        let path = Text::make(self.alloc, self.manager.tree().at(serial).path.bytes())?;
+        let client = self.round.refuser().copy(self.alloc)?;
+        self.manager.drop_due();
+        self.round.finish();
+        Ok(Label::Declined {
+            op: kind,
+            path,
+            client,
+        })
+    }
+
+    /// An operation goes on, or ends.
+    fn run(&mut self) -> Result<Moved, WantOfMemory>
+        requires { IsRunning self.old.hand }
+        ensures moves { IfOk result (λ moved. FrontMoves (told_of self.old) (front_of self.old) moved (front_of self.new)) }
+        ensures same { self.new.manager ≡ record self.old.manager { state = self.new.manager.state } }
+        ensures err { OnErr result (self.new ≡ self.old) }
+    {
+        let moved = self.manager.step()?;
+        self.round.hear(&moved);
+        Ok(moved)
+    }
+}
