@@ -1,25 +1,23 @@
 -- The front's runs, one step or event further.
-use Rattle.std.proofs.Common.{ℕ, ◌≡◌, ◌+◌, Result, Ok, Err, IfOk, OnOk, OnErr, IsSome, Bool, true, false, List, [], ◌∷◌, ◌++◌, Option, Some, None, refl, sym, ap, ◌∙◌, subst, arith, reverse, option_map}
+use Rattle.std.proofs.Common.{ℕ, ◌≡◌, ◌+◌, Result, Ok, Err, IfOk, OnOk, OnErr, List, [], ◌∷◌, ◌++◌, None, refl, sym, ap, ◌∙◌, subst, arith}
 use Rattle.std.specs.List.{AllByRecursion}
 use Rattle.std.specs.declared.alloc.AllocError.{AllocError}
 use Rattle.pnp_labels.specs.declared.label.OpKind.{OpKind}
 use Rattle.pnp_labels.specs.declared.event.Event.{Event}
 use Rattle.pnp_labels.specs.declared.label.Label.{Label}
 use Rattle.pnp_model.specs.Machine as ma
-use Rattle.pnp_model.specs.Records.{Beginning, Doing, Settings, State, Step, doing_map}
+use Rattle.pnp_model.specs.Records.{Beginning, Settings, State}
 use Rattle.pnp_model.specs.Runs.{Entry, opening}
 use Rattle.pnp_laws.specs.Needs.{IsEntryWithin, IsEventWithin}
 use Rattle.pnp_laws.specs.Ends.{events}
-use Rattle.pnp_machine.specs.Managers.{IfQuiet, Manager, settings}
+use Rattle.pnp_machine.specs.Managers.{Manager, settings}
 use Rattle.pnp_machine.specs.declared.manager.Moved.{Moved}
 use Rattle.pnp_machine.specs.declared.manager.Moved.TheVariants.{Label as Printed, Quiet}
-use Rattle.notify_front.specs.Fronts as fr
-use Rattle.notify_front.specs.Fronts.{Front, FrontEntry, FrontStep, FrontSteps, Hand, IsFrontQuiet, Registration, front_happens, front_next, hand_next, opening_front, running}
+use Rattle.notify_front.specs.Fronts.{Front, FrontEntry, Hand, IsFrontQuiet, Registration, front_happens, opening_front}
 use Rattle.notify_front.specs.Notices.{FrontGoes, FrontRun, machine_part}
 use Rattle.notify_front.specs.Laws.{IsOwn}
-use Rattle.notify_front.specs.Desks.{Desk, FrontLawsOf, FrontMoves, IfFrontQuiet, IsAtStart, IsFrontDone, IsOfFrontRun, front_of, machine_events, opening_desk, told_of}
-use Rattle.notify_front.specs.Hands.{AllAgreed, AllCancelled, IsBegun, IsRunning, begins, next_told}
-use Rattle.notify_front.proofs.Moving.{begin_next, due_not_quiet, none_next, run_next, tells_next}
+use Rattle.notify_front.specs.Desks.{Desk, FrontLawsOf, FrontMoves, IsFrontDone, IsOfFrontRun, front_of, machine_events, told_of}
+use Rattle.notify_front.specs.Hands.{AllAgreed, AllCancelled, IsBegun, begins}
 use Rattle.notify_front.proofs.OwnSteps.{goes_on, own_step}
 use Rattle.notify_front.proofs.Runs.{Fits, IsReady, keeps_core, machine_run, quiet_hand}
 use Rattle.notify_front.proofs.Told.{all_asked, part_on, reached_kept}
@@ -118,52 +116,6 @@ ready_of s hand first agreed left is fits = subst (λ (x : Hand). Fits s x) is f
 pub machine_quiet : (told : Settings) (n : ℕ) (f : Front) → IsOfFrontRun told n f → IsFrontQuiet told f → ma.next told f.state ≡ None
 machine_quiet told n f h quiet = (quiet_hand told f f.hand (fits_of told n f h) quiet).quiet
 
-module _ (told : Settings) (f : Front) where
-  lifted_none : (hand : Hand) (o : Option (Doing Step)) → o ≡ None → option_map (doing_map (fr.lifted f hand)) o ≡ None
-  lifted_none hand o none = ap (option_map (doing_map (fr.lifted f hand))) none
-
-  quiet_by : (hand : Hand) → front_next told f ≡ fr.machine_next told f hand → ma.next told f.state ≡ None → IsFrontQuiet told f
-  quiet_by hand next none = next ∙ lifted_none hand (ma.next told f.state) none
-
-  idle_quiet : f.hand ≡ Hand.Nothing → ma.next told f.state ≡ None → IsFrontQuiet told f
-  idle_quiet idle none = by_due (ma.due f.state) refl
-    where
-      by_due : (o : Option Beginning) → ma.due f.state ≡ o → IsFrontQuiet told f
-      by_due None due = quiet_by Hand.Nothing (none_next told f idle due) none
-      by_due (Some first) due = absurd (due_not_quiet told f first due none)
-
-  begin_quiet : AllAgreed f.hand → ma.next told f.state ≡ None → IsFrontQuiet told f
-  begin_quiet all none = quiet_by (running (reverse all.agreed)) (begin_next told f all.first all.agreed all.is) none
-
-  run_quiet : IsRunning f.hand → ma.next told f.state ≡ None → IsFrontQuiet told f
-  run_quiet runs none = quiet_by f.hand (run_next told f runs.told runs.is) none
-
-  -- the front rests where the machine does
-  module _ (n : ℕ) (h : IsOfFrontRun told n f) where
-    quiet_with : (b : Bool) → (ma.next told f.state ≡ None → IsFrontQuiet told f) → IfQuiet b told f.state → IfFrontQuiet b told f
-    quiet_with true up quiet = up quiet
-    quiet_with false up busy = λ quiet. busy (machine_quiet told n f h quiet)
-
-    pub rests_idle : (b : Bool) → f.hand ≡ Hand.Nothing → IfQuiet b told f.state → IfFrontQuiet b told f
-    rests_idle b idle quiet = quiet_with b (idle_quiet idle) quiet
-
-    pub rests_begin : (b : Bool) → AllAgreed f.hand → IfQuiet b told f.state → IfFrontQuiet b told f
-    rests_begin b all quiet = quiet_with b (begin_quiet all) quiet
-
-    pub rests_run : (b : Bool) → IsRunning f.hand → IfQuiet b told f.state → IfFrontQuiet b told f
-    rests_run b runs quiet = quiet_with b (run_quiet runs) quiet
-
-  -- and goes on while clients are to be told
-  pub not_while_told : IsSome (next_told f.hand) → IsFrontQuiet told f → ⊥
-  not_while_told some quiet = by_next (next_told f.hand) refl some
-    where
-      by_next : (o : Option Registration) → next_told f.hand ≡ o → IsSome o → ⊥
-      by_next None e is = absurd (cc)
-      by_next (Some r) e is = let next = tells_next told f f.hand r e in absurd (cc)
-
-  pub not_while_declined : (kind : OpKind) (serial : ℕ) → AllCancelled kind serial f.hand → IsFrontQuiet told f → ⊥
-  not_while_declined kind serial all quiet = let next = ap (hand_next told f) all.is in absurd (cc)
-
 -- Desks --------------------------------------------------------------------------------------------
 
 -- a run leads to its front
@@ -177,17 +129,6 @@ begun_of d h all = record { all = all; is_due = (subst (λ (x : Hand). Fits d.ma
 -- and what one refused
 pub refused_of : (d : Desk) (kind : OpKind) (serial : ℕ) → IsReached d → AllCancelled kind serial d.hand → IsReady d.manager.state (begins kind serial)
 refused_of d kind serial h all = subst (λ (x : Hand). Fits d.manager.state x) all.is (fits_of (told_of d) d.manager.events (front_of d) h)
-
--- nothing has happened yet
-pub reached_new : (m : Manager) → IsAtStart m → IsReached (opening_desk m)
-reached_new m start =
-    record {
-      rack = start.rack;
-      entries = [];
-      reaches = ap (λ (s : State). opening_front s) start.opens;
-      count = sym start.events;
-      within = tt;
-    }
 
 module _ (d d' : Desk) (h : IsReached d) where
   abbrev Same : Type 0
