@@ -2,9 +2,10 @@
 use Rattle.std.proofs.Common.{◌≡◌, List, [], ◌∷◌, ◌++◌, map, refl, sym, ap₂, subst}
 use Rattle.pnp_labels.specs.declared.event.Event.{Event}
 use Rattle.pnp_labels.specs.declared.label.Label.{Label}
-use Rattle.pnp_model.specs.Records.{Settings}
+use Rattle.pnp_model.specs.Events.{happens}
+use Rattle.pnp_model.specs.Records.{Settings, Step}
 use Rattle.pnp_model.specs.Runs.{Entry}
-use Rattle.notify_front.specs.Fronts.{Front, FrontEntry, IsFrontQuiet, front_happens, front_printed}
+use Rattle.notify_front.specs.Fronts.{Front, FrontEntry, IsFrontQuiet, front_happens, front_printed, passed}
 use Rattle.notify_front.specs.Fronts.FrontEntry.{Passes, Tells, Watches}
 use Rattle.notify_front.specs.Laws.{AllOwn, IsOwn}
 use Rattle.notify_front.specs.Notices.{FrontGoes, FrontRun}
@@ -52,12 +53,18 @@ settles_by settings f last (Watches event label ∷ rest) alone run quiet = absu
 settles_by settings f last (Tells label ∷ rest) alone (mid, steps, run) quiet = (mid, (Tells label, refl, steps), settles_by settings mid last rest alone.1 run quiet)
 
 -- an event at a quiet front goes on as the front says, and is the one that happened
+passed_goes : (settings : Settings) (f : Front) (event : Event) (step : Step) → IsFrontQuiet settings f → front_happens f event ≡ passed f event step → FrontGoes settings f (passed f event step).entry (passed f event step).front
+passed_goes settings f event step quiet is = (quiet, is)
+
 pub event_goes : (settings : Settings) (f : Front) (event : Event) → IsFrontQuiet settings f → FrontGoes settings f (front_happens f event).entry (front_happens f event).front
 event_goes settings f (Event.Watch client path agrees) quiet = (quiet, refl)
 event_goes settings f (Event.Unwatch client path) quiet = (quiet, refl)
-event_goes settings f _ quiet = (quiet, refl)
+event_goes settings f event quiet = passed_goes settings f event (happens f.state event) quiet refl
+
+passed_happened : (f : Front) (event : Event) (step : Step) (more : List FrontEntry) → happened ((passed f event step).entry ∷ more) ≡ event ∷ happened more
+passed_happened f event step more = refl
 
 pub event_happened : (f : Front) (event : Event) (more : List FrontEntry) → happened ((front_happens f event).entry ∷ more) ≡ event ∷ happened more
 event_happened f (Event.Watch client path agrees) more = refl
 event_happened f (Event.Unwatch client path) more = refl
-event_happened f _ more = refl
+event_happened f event more = passed_happened f event (happens f.state event) more

@@ -8,7 +8,7 @@ use Rattle.notify_front.proofs.OneWay.{one_front_step, no_front_step}
 use Rattle.pnp_cli.specs.Outputs.{Makes, Settles, Follows}
 
 pub no_step : (settings : Settings) (f new : Front) (label : Label) → IsFrontQuiet settings f → Makes settings f label new → ⊥
-no_step settings f new label quiet makes = no_front_step settings f new makes.0 quiet makes.2
+no_step settings f new label quiet makes = no_front_step settings f makes.0 new quiet makes.2
 
 one_makes : (settings : Settings) (f a b : Front) (label label' : Label) → Makes settings f label a → Makes settings f label' b → (label ≡ label') × (a ≡ b)
 one_makes settings f a b label label' (entry, is, steps) (entry', is', steps') =
