@@ -4,3 +4,4 @@ pub mod Rows
 pub mod Identities
 pub mod Counts
 pub mod Cores
+pub mod Walks
