@@ -3,7 +3,9 @@ use Rattle.std.proofs.Common.{◌≡◌, ℕ, zero, suc, ◌-◌, ◌<◌, ◌�
 use Rattle.std.proofs.lemmas.Bool.Decides.{nat_tests}
 use Rattle.pnp_model.specs.Keyed.{those}
 use Rattle.pnp_model.specs.Cores.{node_at, serials_of}
-use Rattle.pnp_model.specs.Records.{Node}
+use Rattle.pnp_model.specs.Records.{Node, Handle}
+use Rattle.pnp_model.specs.Handles.{is_open}
+use Rattle.pnp_model.specs.Tests.{has}
 use Rattle.pnp_model.specs.Trees.{greatest, greater}
 use Rattle.pnp_laws.specs.Kept.{Ascending}
 use Rattle.pnp_laws.proofs.Closures.{tail_at, head_at}
@@ -61,3 +63,38 @@ pub last_is : (p : Node → Bool) (nodes : List Node) (at : ℕ) (n : Node) → 
 last_is p nodes at n g some found test h =
     let same : at ≡ suc (at - 1) = omega arith in
     last_in 0 p nodes (at - 1) n g found test (subst (λ (i : ℕ). those p (drop i nodes) ≡ []) same h)
+
+-- A walk over the open handles that comes down with the nodes --------------------------------------
+
+-- of each node before a place it tells whether a handle is open
+abbrev pub IsAbove : List Node → List Handle → List ℕ → ℕ → Type 0
+IsAbove nodes hs walk at = (i : ℕ) (n : Node) → i < at → slice_get nodes i ≡ Some n → has walk n.serial ≡ is_open hs n.serial
+
+from_low : (lo j : ℕ) (nodes : List Node) (n : Node) → Ascending lo nodes → slice_get nodes j ≡ Some n → lo ≤ n.serial
+from_low lo j [] n g at = absurd (cc)
+from_low lo zero (m ∷ nodes) n g at = let same : m ≡ n = grind arith in subst (λ (x : Node). lo ≤ x.serial) same g.0
+from_low lo (suc j) (m ∷ nodes) n g at = let rest = from_low (suc m.serial) j nodes n g.1 at in omega (arith, rest, g.0)
+
+-- an earlier node has a lower serial
+earlier : (lo i j : ℕ) (nodes : List Node) (m n : Node) → Ascending lo nodes → slice_get nodes i ≡ Some m → slice_get nodes j ≡ Some n → i < j → m.serial < n.serial
+earlier lo i j [] m n g first last less = absurd (cc)
+earlier lo i zero (x ∷ nodes) m n g first last less = absurd (omega arith)
+earlier lo zero (suc j) (x ∷ nodes) m n g first last less =
+    let same : x ≡ m = grind arith in
+    let rest = from_low (suc x.serial) j nodes n g.1 last in
+    subst (λ (y : Node). y.serial < n.serial) same (omega (arith, rest))
+earlier lo (suc i) (suc j) (x ∷ nodes) m n g first last less = earlier (suc x.serial) i j nodes m n g.1 first last (omega arith)
+
+module _ (nodes : List Node) (hs : List Handle) (walk : List ℕ) (at : ℕ) (above : IsAbove nodes hs walk at) where
+  -- it tells it of the last one before the place ..
+  pub tells_last : (n : Node) → 0 < at → slice_get nodes (at - 1) ≡ Some n → has walk n.serial ≡ is_open hs n.serial
+  tells_last n some found = above (at - 1) n (omega arith) found
+
+  -- .. and then of those before that
+  pub tells_before : (n : Node) (walk' : List ℕ) → Ascending 0 nodes → slice_get nodes (at - 1) ≡ Some n → ((k : ℕ) → k < n.serial → has walk' k ≡ has walk k)
+      → IsAbove nodes hs walk' (at - 1)
+  tells_before n walk' g found below i m less first =
+      below m.serial (earlier 0 i (at - 1) nodes m n g first found less) ∙ above i m (omega arith) first
+
+  pub tells_fewer : IsAbove nodes hs walk (at - 1)
+  tells_fewer i m less first = above i m (omega arith) first
