@@ -12,3 +12,4 @@ pub mod Identities
 pub mod Climbs
 pub mod Counting
 pub mod Walking
+pub mod Lowering

@@ -5,3 +5,4 @@ pub mod Identities
 pub mod Counts
 pub mod Cores
 pub mod Walks
+pub mod Bottoms

@@ -2,6 +2,7 @@
 #![tactic(auto)]
 
 mod births;
+mod bottoms;
 mod entries;
 mod entry;
 mod error;
