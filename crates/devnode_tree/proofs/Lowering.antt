@@ -1,5 +1,5 @@
 -- The lowest bottom, as nodes change, join and leave.
-use Rattle.std.proofs.Common.{◌≡◌, ◌≢◌, ℕ, ◌+◌, ◌<◌, ◌≤◌, ◌==◌, ◌⊎◌, inl, inr, Bool, true, false, not, ◌&&◌, ◌||◌, List, [], ◌∷◌, ◌++◌, length, get_or, set, position, Option, Some, None, option_map, refl, sym, ap, subst, ◌∙◌, arith}
+use Rattle.std.proofs.Common.{◌≡◌, ◌≢◌, ℕ, zero, suc, ◌+◌, ◌<◌, ◌≤◌, ◌==◌, ◌⊎◌, inl, inr, Bool, true, false, not, ◌&&◌, ◌||◌, List, [], ◌∷◌, ◌++◌, length, get_or, set, position, Option, Some, None, option_map, refl, sym, ap, subst, ◌∙◌, arith}
 use Rattle.std.specs.List.{list_any}
 use Rattle.std.proofs.lemmas.Bool.{cases_eq}
 use Rattle.std.proofs.lemmas.Bool.Decides.{nat_tests}
@@ -11,7 +11,7 @@ use Rattle.pnp_model.specs.Keyed.{changed_first, without_first}
 use Rattle.pnp_model.specs.Records.{Node}
 use Rattle.pnp_model.specs.Tests.{is_surprise_removed}
 use Rattle.pnp_model.specs.Trees.{is_child}
-use Rattle.devnode_tree.specs.Bottoms.{is_full_child, is_bottom, BottomsFrom}
+use Rattle.devnode_tree.specs.Bottoms.{is_full_child, is_bottom, BottomsBut, BottomsFrom}
 use Rattle.devnode_tree.specs.Trees.{Ascends}
 use Rattle.devnode_tree.specs.Entries.{Entry, nodes_of, has_serial, changed_node}
 use Rattle.devnode_tree.proofs.Changes.{KeepsLinks, nodes_set}
@@ -155,22 +155,24 @@ module _ (j : ℕ) where
       by_test true b more = let same : n.serial ≡ j = grind (arith, nat_tests) in rw b (above_all (n.serial + 1) nodes (omega arith) h.1)
       by_test false b more = rw b (rw b more)
 
-  pub lowered_left : (nodes : List Node) (low : ℕ) → BottomsFrom low nodes → Ascends 0 (serials_of nodes) → (x : Node) → node_at j nodes ≡ Some x → (low' : ℕ) → low' ≤ low
-      → ((y : Node) → node_at x.parent (without_first (is_node j) nodes) ≡ Some y → is_bottom (without_first (is_node j) nodes) y ≡ true → low' ≤ x.parent)
-      → BottomsFrom low' (without_first (is_node j) nodes)
-  lowered_left nodes low from ascends x there low' less above k n at bottom =
+  pub bottoms_left : (nodes : List Node) (low : ℕ) → BottomsFrom low nodes → Ascends 0 (serials_of nodes) → (x : Node) → node_at j nodes ≡ Some x → BottomsBut x.parent low (without_first (is_node j) nodes)
+  bottoms_left nodes low from ascends x there k n other at bottom =
       elim (cases_eq k j) [
         | inl e ↦ absurd (let gone = none_left_at 0 nodes ascends in let found = subst (λ (i : ℕ). node_at i (without_first (is_node j) nodes) ≡ Some n) e at in cc)
-        | inr d ↦ elim (cases_eq k x.parent) [
-          | inl e ↦ subst (λ (i : ℕ). low' ≤ i) (sym e) (above n (subst (λ (i : ℕ). node_at i (without_first (is_node j) nodes) ≡ Some n) e at) bottom)
-          | inr o ↦
-            let before = sym (other_left k d nodes) ∙ at in
-            let serial = own_serial k nodes n before in
-            let any = any_left (is_full_child n.serial) nodes x there (no_child_of n.serial x (λ is. o (sym serial ∙ sym is))) in
-            let least = from k n before (sym (bottom_same nodes (without_first (is_node j) nodes) n any) ∙ bottom) in
-            omega (arith, least, less)
-        ]
+        | inr d ↦
+          let before = sym (other_left k d nodes) ∙ at in
+          let serial = own_serial k nodes n before in
+          let any = any_left (is_full_child n.serial) nodes x there (no_child_of n.serial x (λ is. other (sym serial ∙ sym is))) in
+          from k n before (sym (bottom_same nodes (without_first (is_node j) nodes) n any) ∙ bottom)
       ]
+
+-- the one that was left out is looked at
+pub from_but : (nodes : List Node) (but low low' : ℕ) → low' ≤ low → ((n : Node) → node_at but nodes ≡ Some n → is_bottom nodes n ≡ true → low' ≤ but) → BottomsBut but low nodes → BottomsFrom low' nodes
+from_but nodes but low low' less own others k n at bottom =
+    elim (cases_eq k but) [
+      | inl e ↦ subst (λ (i : ℕ). low' ≤ i) (sym e) (own n (subst (λ (i : ℕ). node_at i nodes ≡ Some n) e at) bottom)
+      | inr d ↦ (let least = others k n d at bottom in omega (arith, least, less))
+    ]
 
 -- The root alone is no bottom -----------------------------------------------------
 
@@ -207,17 +209,12 @@ module _ (f : Node → Node) (keeps : KeepsLinks f) (es seen : List Entry) (is :
       (subst (λ (ns : List Node). (y : Node) → node_at d.node.parent ns ≡ Some y → is_bottom ns y ≡ true → low' ≤ d.node.parent) changed
       (subst (λ (p : ℕ). (y : Node) → node_at p (nodes_of now) ≡ Some y → is_bottom (nodes_of now) y ≡ true → low' ≤ p) is_above above)))
 
--- the parent of one that left was looked at
-module _ (es : List Entry) (next k : ℕ) (d : Node) (there : node_at k (nodes_of es) ≡ Some d) (low : ℕ) (from : BottomsFrom low (nodes_of es)) where
-  pub lowered_removed : Ascends 0 (serials_of (nodes_of es)) → (removed : List Entry) → nodes_of removed ≡ without_first (is_node k) (nodes_of es)
-      → (parent : ℕ) → parent ≡ d.parent → (now : List Entry) → now ≡ removed → (low' : ℕ) → low' ≤ low
-      → ((n : Node) → node_at parent (nodes_of now) ≡ Some n → is_bottom (nodes_of now) n ≡ true → low' ≤ parent)
-      → BottomsFrom low' (nodes_of removed)
-  lowered_removed ascends removed left parent is_parent now are low' less above =
-      subst (BottomsFrom low') (sym left)
-      (lowered_left k (nodes_of es) low from ascends d there low' less
-      (subst (λ (ns : List Node). (y : Node) → node_at d.parent ns ≡ Some y → is_bottom ns y ≡ true → low' ≤ d.parent) (ap nodes_of are ∙ left)
-      (subst (λ (p : ℕ). (y : Node) → node_at p (nodes_of now) ≡ Some y → is_bottom (nodes_of now) y ≡ true → low' ≤ p) is_parent above)))
+-- of those that are there still, all but the parent are bottoms only where they were
+pub bottoms_removed : (es : List Entry) (k : ℕ) (d : Node) → node_at k (nodes_of es) ≡ Some d → (low : ℕ) → BottomsFrom low (nodes_of es) → Ascends 0 (serials_of (nodes_of es))
+    → (removed : List Entry) → nodes_of removed ≡ without_first (is_node k) (nodes_of es) → (parent : ℕ) → parent ≡ d.parent → (now : List Entry) → now ≡ removed → BottomsBut parent low (nodes_of now)
+bottoms_removed es k d there low from ascends removed left parent is_parent now are =
+    subst (λ (p : ℕ). BottomsBut p low (nodes_of now)) (sym is_parent)
+    (subst (BottomsBut d.parent low) (sym (ap nodes_of are ∙ left)) (bottoms_left k (nodes_of es) low from ascends d there))
 
 -- a bottom was told, and no child has drivers
 pub bottom_says : (nodes : List Node) (k : ℕ) (n : Node) → node_at k nodes ≡ Some n → is_bottom nodes n ≡ true → (is_surprise_removed n.state ≡ true) × (list_any (is_full_child k) nodes ≡ false)
@@ -237,3 +234,46 @@ untold_says nodes k d n there untold at bottom =
 
 pub full_says : (nodes : List Node) (k : ℕ) (n : Node) → list_any (is_full_child k) nodes ≡ true → node_at k nodes ≡ Some n → is_bottom nodes n ≡ true → ⊥
 full_says nodes k n full at bottom = let none = (bottom_says nodes k n at bottom).1 in cc
+
+-- the first that was told is the lowest
+bottom_at : (nodes : List Node) (k : ℕ) (n : Node) → is_bottom nodes n ≡ true → is_surprise_removed n.state ≡ true
+bottom_at nodes k n bottom = one (is_surprise_removed n.state) (not (list_any (is_full_child n.serial) nodes)) bottom
+  where
+    one : (a b : Bool) → (a && b) ≡ true → a ≡ true
+    one true b h = refl
+    one false b h = absurd (cc)
+
+at_least : (low k : ℕ) (nodes : List Node) (n : Node) → Ascends low (serials_of nodes) → node_at k nodes ≡ Some n → low ≤ k
+at_least low k [] n h at = absurd (cc)
+at_least low k (m ∷ nodes) n h at = let first = h.0 in let rest = at_least (m.serial + 1) k nodes n h.1 in grind (arith, nat_tests)
+
+told_least : (low i : ℕ) (es : List Entry) (d : Entry) → Ascends low (serials_of (nodes_of es)) → i < length es → d ≡ get_or es i d
+    → ((j : ℕ) (x : Entry) → j < i → is_surprise_removed (get_or es j x).node.state ≡ false)
+    → (k : ℕ) (n : Node) → node_at k (nodes_of es) ≡ Some n → is_surprise_removed n.state ≡ true → d.node.serial ≤ k
+told_least low i [] d h within read untold k n at told = absurd (omega arith)
+told_least low zero (e ∷ es) d h within read untold k n at told =
+    subst (λ (x : Entry). x.node.serial ≤ k) (sym read) (at_least e.node.serial k (nodes_of (e ∷ es)) n (omega arith, h.1) at)
+told_least low (suc i) (e ∷ es) d h within read untold k n at told =
+    let first = untold 0 e (omega arith) in
+    let rest = told_least (e.node.serial + 1) i es d h.1 (omega arith) read (λ j x less. untold (suc j) x (omega arith)) k n in
+    by_test (e.node.serial == k) refl first rest
+  where
+    by_test : (b : Bool) → (e.node.serial == k) ≡ b → is_surprise_removed e.node.state ≡ false → (node_at k (nodes_of es) ≡ Some n → is_surprise_removed n.state ≡ true → d.node.serial ≤ k) → d.node.serial ≤ k
+    by_test true b first rest = absurd (let same : e.node ≡ n = grind arith in let here = subst (λ (m : Node). is_surprise_removed m.state ≡ false) same first in cc)
+    by_test false b first rest = rest (rw b at at) told
+
+none_told : (es : List Entry) → ((j : ℕ) (x : Entry) → j < length es → is_surprise_removed (get_or es j x).node.state ≡ false)
+    → (k : ℕ) (n : Node) → node_at k (nodes_of es) ≡ Some n → is_surprise_removed n.state ≡ true → ⊥
+none_told [] untold k n at told = cc
+none_told (e ∷ es) untold k n at told = by_test (e.node.serial == k) refl (untold 0 e (omega arith)) (none_told es (λ j x less. untold (suc j) x (omega arith)) k n)
+  where
+    by_test : (b : Bool) → (e.node.serial == k) ≡ b → is_surprise_removed e.node.state ≡ false → (node_at k (nodes_of es) ≡ Some n → is_surprise_removed n.state ≡ true → ⊥) → ⊥
+    by_test true b first rest = let same : e.node ≡ n = grind arith in let here = subst (λ (m : Node). is_surprise_removed m.state ≡ false) same first in cc
+    by_test false b first rest = rest (rw b at at) told
+
+pub from_first : (es : List Entry) (i : ℕ) (d : Entry) → Ascends 0 (serials_of (nodes_of es)) → i < length es → d ≡ get_or es i d
+    → ((j : ℕ) (x : Entry) → j < i → is_surprise_removed (get_or es j x).node.state ≡ false) → BottomsFrom d.node.serial (nodes_of es)
+from_first es i d ascends within read untold k n at bottom = told_least 0 i es d ascends within read untold k n at (bottom_at (nodes_of es) k n bottom)
+
+pub from_none : (es : List Entry) (low : ℕ) → ((j : ℕ) (x : Entry) → j < length es → is_surprise_removed (get_or es j x).node.state ≡ false) → BottomsFrom low (nodes_of es)
+from_none es low untold k n at bottom = absurd (none_told es untold k n at (bottom_at (nodes_of es) k n bottom))

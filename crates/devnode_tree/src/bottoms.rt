@@ -2,7 +2,7 @@ ghost use Rattle.std.specs.Prelude.{◌≡◌, ◌≤◌, true, Some};
 ghost use Rattle.std.specs.List.{list_any};
 ghost use Rattle.pnp_model.specs.Cores.{node_at, serials_of};
 ghost use Rattle.pnp_model.specs.Records.{Node};
-ghost use Rattle.devnode_tree.specs.Bottoms.{is_bottom, is_full_child};
+ghost use Rattle.devnode_tree.specs.Bottoms.{is_bottom, is_full_child, BottomsBut, BottomsFrom};
 ghost use Rattle.devnode_tree.specs.Entries.{nodes_of};
 ghost use Rattle.devnode_tree.specs.Trees.{Ascends};
 
@@ -60,4 +60,31 @@ pub(crate) fn lowered(entries: &[Entry], lowest: u64, serial: u64, parent: u64) 
 {
     let own = lowered_by(entries, lowest, serial);
     lowered_by(entries, own, parent)
+}
+
+/// The serial of the first node that was told that it has gone, below which no bottom is; the greatest number where none was.
+/// Cost: the number of nodes before it.
+pub(crate) fn first_told(entries: &[Entry]) -> u64
+    requires { Ascends 0 (serials_of (nodes_of entries.now)) }
+    ensures { BottomsFrom result (nodes_of entries.now) }
+{
+    for entry in entries {
+        if entry.was_told() {
+            return entry.serial();
+        }
+    }
+    u64::MAX
+}
+
+/// A serial below which no bottom is, where this is one for all but the parent of a node that left. Cost: as that of `lowered`, or
+/// the number of nodes before the first one that was told, where the lowest one left.
+pub(crate) fn lowest_left(entries: &[Entry], lowest: u64, serial: u64, parent: u64) -> u64
+    requires { Ascends 0 (serials_of (nodes_of entries.now)) }
+    ensures { BottomsBut parent lowest (nodes_of entries.now) → BottomsFrom result (nodes_of entries.now) }
+{
+    if serial == lowest {
+        first_told(entries)
+    } else {
+        lowered_by(entries, lowest, parent)
+    }
 }

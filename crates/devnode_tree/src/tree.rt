@@ -9,7 +9,7 @@ ghost use Rattle.devnode_tree.specs.Entries.{child_serials};
 ghost use Rattle.devnode_tree.specs.Trees.{changed, with_node, without_node, CanLeave, IsTree, with_reqs};
 
 use crate::births::Births;
-use crate::bottoms::lowered;
+use crate::bottoms::{lowered, lowest_left};
 use crate::entries::{add, forget_child, place_of};
 use crate::entry::Entry;
 use crate::error::JoinError;
@@ -126,7 +126,7 @@ impl Tree {
             self.paths.shift_remove_index(place);
             self.births.remove(place);
             self.entries.remove(place);
-            self.lowest = lowered(&self.entries, self.lowest, serial, parent);
+            self.lowest = lowest_left(&self.entries, self.lowest, serial, parent);
         }
     }
 
@@ -296,8 +296,8 @@ impl Tree {
         Some(&entry.node)
     }
 
-    /// A serial below which no node is a bottom: was told that it has gone, and has no child with drivers. Of the serials of
-    /// all that ever were one it is the lowest at least. It takes no memory. Cost: constant.
+    /// A serial below which no node is a bottom: was told that it has gone, and has no child with drivers. It takes no memory.
+    /// Cost: constant.
     pub fn lowest_bottom(&self) -> u64
         ensures { BottomsFrom result self.now.nodes }
     {

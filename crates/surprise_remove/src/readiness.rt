@@ -110,8 +110,12 @@ pub fn ready(tree: &Tree, relations: &Relations, handles: &Handles) -> Option<u6
     ensures ready { IfSome result (λ serial. (around : Core) → IsTrue (is_ready_at (at_related tree.now.nodes relations.now around) handles.now (node_at serial tree.now.nodes))) }
 {
     let mut walk = handles.walk();
+    let lowest = tree.lowest_bottom();
     for at in (0..tree.len()).rev() {
         if let Some(node) = tree.get(at) {
+            if node.serial < lowest {
+                return None;
+            }
             if is_ready_on(tree, relations, &mut walk, node) {
                 return Some(node.serial);
             }

@@ -1,4 +1,4 @@
-use Rattle.std.proofs.Common.{◌≡◌, ◌∙◌, ◌-◌, true, sym, ap, subst, Some, Option}
+use Rattle.std.proofs.Common.{◌≡◌, ◌∙◌, ◌-◌, true, sym, ap, subst, Some, Option, List}
 use Rattle.pnp_model.specs.Keyed.{those}
 use Rattle.pnp_model.specs.Cores.{node_at, serials_of}
 use Rattle.pnp_model.specs.Trees.{greatest}
@@ -7,7 +7,7 @@ use Rattle.pnp_model.specs.Handles.{is_ready_device}
 use Rattle.relations.specs.Leaving.{base}
 use Rattle.relations.proofs.Directs.{ascending}
 use Rattle.surprise_remove.specs.Ready.{is_ready_at}
-use Rattle.surprise_remove.proofs.Readying.{none_more, none_past, last_is, tells_last, tells_before, tells_fewer}
+use Rattle.surprise_remove.proofs.Readying.{none_more, none_past, last_is, tells_last, tells_before, tells_fewer, none_below, ready_is_bottom}
 use Rattle.surprise_remove.proofs.readiness.ready.Goals as goal
 
 pub loop-at-preserved-else-is_ready_on : goal.loop-at-preserved-else-is_ready_on
@@ -56,3 +56,12 @@ returns-then-is_ready_on-clause-ready c =
     let here = base nodes c.args.relations.now in
     let at = ap (λ (n : Node). node_at n.serial nodes) c.node.view_is ∙ (found c).1 in
     λ around. subst (λ (o : Option Node). is_ready_at here c.args.handles.now o ≡ true) (sym at) (told c)
+
+pub returns-then-node-serial-clause-device : goal.returns-then-node-serial-clause-device
+returns-then-node-serial-clause-device c =
+    let nodes = c.args.tree.now.nodes in
+    let rs = c.args.relations.now in
+    let hs = c.args.handles.now in
+    λ around. sym (ap (λ (ns : List Node). greatest (serials_of ns))
+    (none_below (is_ready_device (base nodes rs) hs) nodes c.loop-at.at c.in-Some.node.now c.lowest_bottom-lowest.result (ascending 0 nodes c.len-at.ensures.tree.ascends) c.loop-at-test.true (sym c.in-Some.ensures.node)
+    c.if-node-serial.true (λ k m at ready. c.lowest_bottom-lowest.ensures k m at (ready_is_bottom nodes rs hs m ready)) c.loop-at.invariant.none))
