@@ -10,7 +10,6 @@ use Rattle.pnp_model.specs.Handles.{has_drivers}
 use Rattle.pnp_model.specs.Keyed.{changed_first, without_first}
 use Rattle.pnp_model.specs.Records.{Node}
 use Rattle.pnp_model.specs.Tests.{is_surprise_removed}
-use Rattle.pnp_model.specs.Trees.{is_child}
 use Rattle.devnode_tree.specs.Bottoms.{is_full_child, is_bottom, BottomsBut, BottomsFrom}
 use Rattle.devnode_tree.specs.Trees.{Ascends}
 use Rattle.devnode_tree.specs.Entries.{Entry, nodes_of, has_serial, changed_node}
@@ -63,17 +62,17 @@ module _ (f : Node → Node) (keeps : KeepsLinks f) (j : ℕ) where
     lowered_changed x there low' less own above k n at bottom =
         elim (cases_eq k j) [
           | inl e ↦
-            let same : f x ≡ n = let one = at_changed nodes ∙ ap (option_map f) there in let two = subst (λ (i : ℕ). node_at i (changed_first (is_node j) f nodes) ≡ Some n) e at in cc in
-            subst (λ (i : ℕ). low' ≤ i) (sym e) (own (subst (λ (m : Node). is_bottom (changed_first (is_node j) f nodes) m ≡ true) (sym same) bottom))
+              let same : f x ≡ n = let one = at_changed nodes ∙ ap (option_map f) there in let two = subst (λ (i : ℕ). node_at i (changed_first (is_node j) f nodes) ≡ Some n) e at in cc in
+              subst (λ (i : ℕ). low' ≤ i) (sym e) (own (subst (λ (m : Node). is_bottom (changed_first (is_node j) f nodes) m ≡ true) (sym same) bottom))
           | inr d ↦ elim (cases_eq k x.parent) [
             | inl e ↦ subst (λ (i : ℕ). low' ≤ i) (sym e) (above n (subst (λ (i : ℕ). node_at i (changed_first (is_node j) f nodes) ≡ Some n) e at) bottom)
             | inr o ↦
-              let before = sym (at_other k d nodes) ∙ at in
-              let serial = own_serial k nodes n before in
-              let any = any_changed (is_full_child n.serial) nodes
-              (λ y found. let same : x ≡ y = cc in still_no_child n.serial y (λ is. o (sym serial ∙ (sym is ∙ ap (λ (m : Node). m.parent) (sym same))))) in
-              let least = from k n before (sym (bottom_same nodes (changed_first (is_node j) f nodes) n any) ∙ bottom) in
-              omega (arith, least, less)
+                let before = sym (at_other k d nodes) ∙ at in
+                let serial = own_serial k nodes n before in
+                let any = any_changed (is_full_child n.serial) nodes
+                (λ y found. let same : x ≡ y = cc in still_no_child n.serial y (λ is. o (sym serial ∙ (sym is ∙ ap (λ (m : Node). m.parent) (sym same))))) in
+                let least = from k n before (sym (bottom_same nodes (changed_first (is_node j) f nodes) n any) ∙ bottom) in
+                omega (arith, least, less)
           ]
         ]
 
@@ -82,7 +81,7 @@ module _ (f : Node → Node) (keeps : KeepsLinks f) (j : ℕ) where
     from_quiet state stack k n at bottom =
         elim (cases_eq k j) [
           | inl e ↦
-            subst (λ (i : ℕ). low ≤ i) (sym e) (at_here (node_at j nodes) refl (subst (λ (i : ℕ). node_at i (changed_first (is_node j) f nodes) ≡ Some n) e at))
+              subst (λ (i : ℕ). low ≤ i) (sym e) (at_here (node_at j nodes) refl (subst (λ (i : ℕ). node_at i (changed_first (is_node j) f nodes) ≡ Some n) e at))
           | inr d ↦ from k n (sym (at_other k d nodes) ∙ at) (sym (bottom_same nodes (changed_first (is_node j) f nodes) n (any n.serial)) ∙ bottom)
         ]
       where
@@ -160,10 +159,10 @@ module _ (j : ℕ) where
       elim (cases_eq k j) [
         | inl e ↦ absurd (let gone = none_left_at 0 nodes ascends in let found = subst (λ (i : ℕ). node_at i (without_first (is_node j) nodes) ≡ Some n) e at in cc)
         | inr d ↦
-          let before = sym (other_left k d nodes) ∙ at in
-          let serial = own_serial k nodes n before in
-          let any = any_left (is_full_child n.serial) nodes x there (no_child_of n.serial x (λ is. other (sym serial ∙ sym is))) in
-          from k n before (sym (bottom_same nodes (without_first (is_node j) nodes) n any) ∙ bottom)
+            let before = sym (other_left k d nodes) ∙ at in
+            let serial = own_serial k nodes n before in
+            let any = any_left (is_full_child n.serial) nodes x there (no_child_of n.serial x (λ is. other (sym serial ∙ sym is))) in
+            from k n before (sym (bottom_same nodes (without_first (is_node j) nodes) n any) ∙ bottom)
       ]
 
 -- the one that was left out is looked at

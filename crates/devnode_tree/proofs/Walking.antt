@@ -1,10 +1,10 @@
 -- A walk from the greatest serial down passes no serial that it is asked for later.
 use Rattle.std.proofs.Common.{◌≡◌, ℕ, ◌==◌, ◌+◌, ◌<◌, ◌≤◌, Bool, true, false, ◌||◌, List, [], ◌∷◌, ◌++◌, Option, Some, None, IfNone, option_to_list, length, length-append, refl, sym, ap, subst, ◌∙◌, arith}
-use Rattle.std.specs.List.{AllByRecursion, list_any}
+use Rattle.std.specs.List.{AllByRecursion}
 use Rattle.std.specs.List.Sorted.{IsStrictlySortedBy}
 use Rattle.std.specs.Ordering.{nat_cmp}
 use Rattle.std.specs.Map.{keys_of}
-use Rattle.std.proofs.Common.{Ordering, Less}
+use Rattle.std.proofs.Common.{Less}
 use Rattle.std.proofs.lemmas.Bool.Decides.{nat_tests}
 use Rattle.std.proofs.lemmas.List.Folds.{list_any-append}
 use Rattle.pnp_model.specs.Tests.{has}
@@ -61,6 +61,7 @@ greatest_passed xs s k lt =
   where
     other : (s k : ℕ) → k < s → (s == k) ≡ false
     other s k lt = grind (arith, nat_tests)
+
     or_none : (b : Bool) → (b || false) ≡ b
     or_none true = refl
     or_none false = refl

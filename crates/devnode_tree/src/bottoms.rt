@@ -21,21 +21,21 @@ fn is_full_child(entries: &[Entry], serial: u64, child: u64) -> bool
     }
 }
 
-/// Whether one of these is a child that has drivers.
-fn has_full_child(entries: &[Entry], serial: u64, children: &[u64]) -> bool
+/// Whether the first or the last of these is a child that has drivers; the others are not looked at.
+fn has_full_end(entries: &[Entry], serial: u64, children: &[u64]) -> bool
     requires { Ascends 0 (serials_of (nodes_of entries.now)) }
     ensures { result ≡ true → list_any (is_full_child serial) (nodes_of entries.now) ≡ true }
 {
-    for child in children {
-        if is_full_child(entries, serial, *child) {
-            return true;
+    match (children.first(), children.last()) {
+        (Some(first), Some(last)) => {
+            is_full_child(entries, serial, *first) || is_full_child(entries, serial, *last)
         }
+        _ => false,
     }
-    false
 }
 
 /// A serial below which no bottom is, where this is one for all but the node with a serial: of what is told of that node, the
-/// lower one. Cost: the logarithm of the number of nodes, for it and each child up to the first one with drivers.
+/// lower one. Cost: the logarithm of the number of nodes.
 fn lowered_by(entries: &[Entry], lowest: u64, serial: u64) -> u64
     requires { Ascends 0 (serials_of (nodes_of entries.now)) }
     ensures less { result ≤ lowest }
@@ -45,7 +45,7 @@ fn lowered_by(entries: &[Entry], lowest: u64, serial: u64) -> u64
         return lowest;
     };
     let entry = &entries[place];
-    if !entry.was_told() || has_full_child(entries, serial, &entry.children) {
+    if !entry.was_told() || has_full_end(entries, serial, &entry.children) {
         return lowest;
     }
     lowest.min(serial)

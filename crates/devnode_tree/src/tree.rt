@@ -188,7 +188,7 @@ impl Tree {
             Some(place) => {
                 let parent = self.entries[place].parent();
                 let old = self.entries[place].swap_stack(stack);
-            self.lowest = lowered(&self.entries, self.lowest, serial, parent);
+                self.lowest = lowered(&self.entries, self.lowest, serial, parent);
                 old
             }
             None => stack,
@@ -219,7 +219,7 @@ impl Tree {
             Some(place) => {
                 let parent = self.entries[place].parent();
                 let holds = self.entries[place].strip(alloc);
-            self.lowest = lowered(&self.entries, self.lowest, serial, parent);
+                self.lowest = lowered(&self.entries, self.lowest, serial, parent);
                 holds
             }
             None => ResList::new(alloc),

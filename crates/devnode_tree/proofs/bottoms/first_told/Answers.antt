@@ -1,4 +1,4 @@
-use Rattle.std.proofs.Common.{◌∙◌, sym, subst, ℕ, ◌≤◌, arith}
+use Rattle.std.proofs.Common.{sym, subst, ℕ, arith}
 use Rattle.devnode_tree.specs.Bottoms.{BottomsFrom}
 use Rattle.devnode_tree.specs.Entries.{nodes_of}
 use Rattle.devnode_tree.proofs.Lowering.{from_first, from_none}

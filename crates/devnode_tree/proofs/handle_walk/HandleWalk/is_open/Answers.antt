@@ -1,4 +1,4 @@
-use Rattle.std.proofs.Common.{ℕ, Option, Some, subst}
+use Rattle.std.proofs.Common.{ℕ, Option, subst}
 use Rattle.devnode_tree.proofs.Walking.{IsDown, passed_down, head_tells}
 use Rattle.devnode_tree.proofs.handle_walk.HandleWalk.is_open.Goals as goal
 
