@@ -103,8 +103,8 @@ pub fn is_ready(tree: &Tree, relations: &Relations, handles: &Handles, serial: u
 }
 
 /// The ready device of the greatest serial; none exactly where none is ready. It takes no memory, so that nothing can fail.
-/// Cost: one look at the state of each node from the last one down, a step for each device with an open handle, as nodes and
-/// handles are walked together, and that of `is_ready` for each that has no open handle and was told that it has gone.
+/// Cost: one look at the state of each node from the last one down to the lowest bottom of the tree, beside it one step for each
+/// device with an open handle, and that of `is_ready` for each that has none and was told that it has gone.
 pub fn ready(tree: &Tree, relations: &Relations, handles: &Handles) -> Option<u64>
     ensures device { (around : Core) → result ≡ ready_device (at_related tree.now.nodes relations.now around) handles.now }
     ensures ready { IfSome result (λ serial. (around : Core) → IsTrue (is_ready_at (at_related tree.now.nodes relations.now around) handles.now (node_at serial tree.now.nodes))) }

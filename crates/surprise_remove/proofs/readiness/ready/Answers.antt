@@ -1,4 +1,4 @@
-use Rattle.std.proofs.Common.{◌≡◌, ◌∙◌, ◌-◌, true, sym, ap, subst, Some, Option, List}
+use Rattle.std.proofs.Common.{◌≡◌, ◌∙◌, ◌-◌, true, sym, ap, subst, Some, Option, List, ℕ, ◌<◌}
 use Rattle.pnp_model.specs.Keyed.{those}
 use Rattle.pnp_model.specs.Cores.{node_at, serials_of}
 use Rattle.pnp_model.specs.Trees.{greatest}
@@ -57,11 +57,11 @@ returns-then-is_ready_on-clause-ready c =
     let at = ap (λ (n : Node). node_at n.serial nodes) c.node.view_is ∙ (found c).1 in
     λ around. subst (λ (o : Option Node). is_ready_at here c.args.handles.now o ≡ true) (sym at) (told c)
 
-pub returns-then-node-serial-clause-device : goal.returns-then-node-serial-clause-device
-returns-then-node-serial-clause-device c =
+pub returns-then-node-lowest-clause-device : goal.returns-then-node-lowest-clause-device
+returns-then-node-lowest-clause-device c =
     let nodes = c.args.tree.now.nodes in
     let rs = c.args.relations.now in
     let hs = c.args.handles.now in
     λ around. sym (ap (λ (ns : List Node). greatest (serials_of ns))
     (none_below (is_ready_device (base nodes rs) hs) nodes c.loop-at.at c.in-Some.node.now c.lowest_bottom-lowest.result (ascending 0 nodes c.len-at.ensures.tree.ascends) c.loop-at-test.true (sym c.in-Some.ensures.node)
-    c.if-node-serial.true (λ k m at ready. c.lowest_bottom-lowest.ensures k m at (ready_is_bottom nodes rs hs m ready)) c.loop-at.invariant.none))
+    (subst (λ (i : ℕ). i < c.lowest_bottom-lowest.result) (ap (λ (n : Node). n.serial) c.node.view_is) c.if-node-lowest.true) (λ k m at ready. c.lowest_bottom-lowest.ensures k m at (ready_is_bottom nodes rs hs m ready)) c.loop-at.invariant.none))

@@ -1,4 +1,4 @@
-use Rattle.std.proofs.Common.{◌≡◌, ℕ, ◌<◌, List, [], drop, slice_get, Some}
+use Rattle.std.proofs.Common.{◌≡◌, [], drop}
 use Rattle.pnp_model.specs.Keyed.{those}
 use Rattle.pnp_model.specs.Handles.{is_ready_device}
 use Rattle.relations.specs.Leaving.{base}
