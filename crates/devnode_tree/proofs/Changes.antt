@@ -80,6 +80,9 @@ module _ (f : Node → Node) (keeps : KeepsLinks f) where
     placed : set es i e ≡ changed_first (has_serial k) (changed_node f) es
     placed = changed_first_at (has_serial k) (changed_node f) es i e d (sym (at ∙ ap (position (has_serial k)) is)) (written ∙ ap (changed_node f) read)
 
+    pub nodes_set : nodes_of (set es i e) ≡ changed_first (is_node k) f (nodes_of es)
+    nodes_set = ap nodes_of placed ∙ nodes_changed k es
+
     -- the entry at the place is written
     pub kept_set : (paths : List (List ℕ)) → IsKept paths es next → IsKept paths (set es i e) next
     kept_set paths h = subst (λ l. IsKept paths l next) (sym placed) (kept_changed paths es next k h)

@@ -11,3 +11,5 @@ pub mod Facts
 pub mod Identities
 pub mod Climbs
 pub mod Counting
+pub mod Walking
+pub mod Lowering

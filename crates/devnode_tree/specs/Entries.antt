@@ -5,6 +5,7 @@ use Rattle.pnp_model.specs.Cores.{is_node, serials_of}
 use Rattle.pnp_model.specs.Keyed.{without_first}
 use Rattle.pnp_model.specs.Records.{Node}
 use Rattle.pnp_model.specs.Trees.{children}
+use Rattle.devnode_tree.specs.Bottoms.{BottomsFrom}
 use Rattle.devnode_tree.specs.Trees.{Tree, IsTree}
 
 -- a node, and the serials of its children
@@ -47,7 +48,8 @@ pub record IsKept (paths : List (List ℕ)) (entries : List Entry) (next : ℕ) 
   pub tree : IsTree (tree_of entries next)
   pub children_are : map (λ e. e.children) entries ≡ map (child_serials (nodes_of entries)) (serials_of (nodes_of entries))
 
--- and so are the birth numbers
-pub record IsIndexed (paths : List (List ℕ)) (births : List ℕ) (entries : List Entry) (next : ℕ) : Type 0 where
+-- and so are the birth numbers, and no bottom has a serial below the lowest
+pub record IsIndexed (paths : List (List ℕ)) (births : List ℕ) (lowest : ℕ) (entries : List Entry) (next : ℕ) : Type 0 where
   pub kept : IsKept paths entries next
   pub births_are : births ≡ births_in entries
+  pub bottoms_are : BottomsFrom lowest (nodes_of entries)

@@ -4,3 +4,5 @@ pub mod Rows
 pub mod Identities
 pub mod Counts
 pub mod Cores
+pub mod Walks
+pub mod Bottoms

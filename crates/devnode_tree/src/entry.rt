@@ -1,5 +1,7 @@
 ghost use Rattle.std.specs.Prelude.{◌≡◌, ◌++◌, [], ◌∷◌, OnOk, OnErr};
 ghost use Rattle.pnp_model.specs.Cores.{with_state, with_problem, with_holds, with_drivers, with_stack, bare};
+ghost use Rattle.pnp_model.specs.Tests.{is_surprise_removed};
+ghost use Rattle.devnode_tree.specs.Bottoms.{is_full_child};
 ghost use Rattle.devnode_tree.specs.Entries.{with_child, without_child, changed_node};
 ghost use Rattle.devnode_tree.specs.Trees.{Ascends, with_reqs};
 
@@ -109,5 +111,19 @@ impl Entry {
         self.node.state = DevState::NoStack;
         self.node.stack = Stack::new(alloc);
         mem::replace(&mut self.node.holds, ResList::new(alloc))
+    }
+
+    /// Whether the node was told that it has gone.
+    pub(crate) fn was_told(&self) -> bool
+        ensures { result ≡ is_surprise_removed self.now.node.state }
+    {
+        matches!(self.node.state, DevState::SurpriseRemoved)
+    }
+
+    /// Whether the node is a child of another one, and has drivers.
+    pub(crate) fn is_full_child(&self, parent: u64) -> bool
+        ensures { result ≡ is_full_child parent self.now.node }
+    {
+        self.node.parent == parent && self.node.serial != 0 && self.node.stack.len() > 0
     }
 }

@@ -1,7 +1,9 @@
-ghost use Rattle.std.specs.Prelude.{◌≡◌, [], IfOk, OnOk, OnErr, IsTrue, find, nat_lt};
+ghost use Rattle.std.specs.Prelude.{◌≡◌, ℕ, [], IfOk, OnOk, OnErr, IsTrue, find, nat_lt};
 ghost use Rattle.pnp_model.specs.Handles.{is_handle_of, is_open, opened, closed_with};
+ghost use Rattle.pnp_model.specs.Tests.{has};
 ghost use Rattle.devnode_tree.specs.Counts.{count_of, handle_with};
 
+use crate::handle_walk::HandleWalk;
 use device_ids::WantOfMemory;
 use std::alloc::{AllocError, Global};
 use std::collections::BTreeMap;
@@ -114,5 +116,13 @@ impl Handles {
             })?;
         }
         Ok(rows)
+    }
+
+    /// The devices with an open handle, to be passed from the greatest serial down. It takes no memory. Cost: the logarithm of
+    /// their number, and with it that of all that are passed is at most their number.
+    pub fn walk(&self) -> HandleWalk<'_>
+        ensures { (k : ℕ) → has result k ≡ is_open self.now k }
+    {
+        HandleWalk::over(&self.counts)
     }
 }

@@ -4,10 +4,12 @@ ghost use Rattle.pnp_model.specs.States.{node_of, node_born};
 ghost use Rattle.pnp_model.specs.Tasks.{has_path};
 ghost use Rattle.pnp_model.specs.Trees.{children, is_up};
 ghost use Rattle.pnp_model.specs.Runs.{root_node};
+ghost use Rattle.devnode_tree.specs.Bottoms.{BottomsFrom};
 ghost use Rattle.devnode_tree.specs.Entries.{child_serials};
 ghost use Rattle.devnode_tree.specs.Trees.{changed, with_node, without_node, CanLeave, IsTree, with_reqs};
 
 use crate::births::Births;
+use crate::bottoms::{lowered, lowest_left};
 use crate::entries::{add, forget_child, place_of};
 use crate::entry::Entry;
 use crate::error::JoinError;
@@ -28,6 +30,8 @@ pub struct Tree {
     paths: IndexSet<Vec<u8>>,
     /// The birth numbers of the nodes, in the order of the entries.
     births: Births,
+    /// A serial below which no node is a bottom: was told that it has gone, and has no child with drivers.
+    lowest: u64,
     entries: Vec<Entry>,
     next: u64,
 }
@@ -41,7 +45,7 @@ impl Model for Tree {
 
     ghost view = { λ t. tree_of t.entries.items t.next };
 
-    ghost invariant = { λ t. IsIndexed (map (λ path. path.items) t.paths.keys) t.births t.entries.items t.next };
+    ghost invariant = { λ t. IsIndexed (map (λ path. path.items) t.paths.keys) t.births t.lowest t.entries.items t.next };
 }
 
 impl Tree {
@@ -64,6 +68,7 @@ impl Tree {
         Ok(Tree {
             paths,
             births,
+            lowest: u64::MAX,
             entries,
             next: 1,
         })
@@ -121,6 +126,7 @@ impl Tree {
             self.paths.shift_remove_index(place);
             self.births.remove(place);
             self.entries.remove(place);
+            self.lowest = lowest_left(&self.entries, self.lowest, serial, parent);
         }
     }
 
@@ -130,7 +136,9 @@ impl Tree {
         ensures { self.new ≡ changed serial (with_state state) self.old }
     {
         if let Some(place) = place_of(&self.entries, serial) {
+            let parent = self.entries[place].parent();
             self.entries[place].set_state(state);
+            self.lowest = lowered(&self.entries, self.lowest, serial, parent);
         }
     }
 
@@ -177,7 +185,12 @@ impl Tree {
         ensures old { result ≡ unwrap_or (option_map (λ n. n.stack) (node_at serial self.old.nodes)) stack }
     {
         match place_of(&self.entries, serial) {
-            Some(place) => self.entries[place].swap_stack(stack),
+            Some(place) => {
+                let parent = self.entries[place].parent();
+                let old = self.entries[place].swap_stack(stack);
+                self.lowest = lowered(&self.entries, self.lowest, serial, parent);
+                old
+            }
             None => stack,
         }
     }
@@ -188,7 +201,9 @@ impl Tree {
         ensures { self.new ≡ changed serial (with_stack stack state) self.old }
     {
         if let Some(place) = place_of(&self.entries, serial) {
+            let parent = self.entries[place].parent();
             self.entries[place].set_stack(stack, state);
+            self.lowest = lowered(&self.entries, self.lowest, serial, parent);
         }
     }
 
@@ -201,7 +216,12 @@ impl Tree {
     {
         let alloc = *self.entries.allocator();
         match place_of(&self.entries, serial) {
-            Some(place) => self.entries[place].strip(alloc),
+            Some(place) => {
+                let parent = self.entries[place].parent();
+                let holds = self.entries[place].strip(alloc);
+                self.lowest = lowered(&self.entries, self.lowest, serial, parent);
+                holds
+            }
             None => ResList::new(alloc),
         }
     }
@@ -274,6 +294,14 @@ impl Tree {
     {
         let entry = self.entries.get(at)?;
         Some(&entry.node)
+    }
+
+    /// A serial below which no node is a bottom: was told that it has gone, and has no child with drivers. It takes no memory.
+    /// Cost: constant.
+    pub fn lowest_bottom(&self) -> u64
+        ensures { BottomsFrom result self.now.nodes }
+    {
+        self.lowest
     }
 
     /// How many nodes there are, the root among them.

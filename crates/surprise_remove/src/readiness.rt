@@ -1,8 +1,9 @@
-ghost use Rattle.std.specs.Prelude.{◌≡◌, IfSome, IsTrue};
+ghost use Rattle.std.specs.Prelude.{◌≡◌, ◌<◌, ℕ, IfSome, IsTrue, List};
 ghost use Rattle.std.specs.List.{list_any};
 ghost use Rattle.pnp_model.specs.Cores.{node_at};
-ghost use Rattle.pnp_model.specs.Records.{Core};
-ghost use Rattle.pnp_model.specs.Handles.{is_ready_device, ready_device, was_told};
+ghost use Rattle.pnp_model.specs.Records.{Core, Handle};
+ghost use Rattle.pnp_model.specs.Handles.{is_open, is_ready_device, ready_device, was_told};
+ghost use Rattle.pnp_model.specs.Tests.{has};
 ghost use Rattle.devnode_tree.specs.Cores.{at_related};
 ghost use Rattle.devnode_tree.specs.Trees.{IsTree};
 ghost use Rattle.devnode_tree.specs.Entries.{child_serials};
@@ -10,7 +11,7 @@ ghost use Rattle.relations.specs.Leaving.{below};
 ghost use Rattle.operation_frame.specs.Nodes.{has_drivers};
 ghost use Rattle.surprise_remove.specs.Ready.{is_let_go, is_ready_at};
 
-use devnode_tree::{Handles, Node, Tree};
+use devnode_tree::{HandleWalk, Handles, Node, Tree};
 use operation_frame::has_drivers;
 use pnp_labels::DevState;
 use relations::{Edge, Relations};
@@ -69,6 +70,26 @@ fn is_ready_node(tree: &Tree, relations: &Relations, handles: &Handles, node: &N
     is_let_go(handles, node) && !is_held_back(tree, relations, node.serial)
 }
 
+/// The same as `is_let_go`, by a walk over the handles that has not passed the device; it has all below it ahead still.
+fn is_let_go_on(walk: &mut HandleWalk<'_>, node: &Node) -> bool
+    ensures let_go { (handles : List Handle) → has walk.old node.now.serial ≡ is_open handles node.now.serial → result ≡ is_let_go handles node.now }
+    ensures below { (k : ℕ) → k < node.now.serial → has walk.new k ≡ has walk.old k }
+{
+    match node.state {
+        DevState::SurpriseRemoved => node.stack.len() > 0 && !walk.is_open(node.serial),
+        _ => false,
+    }
+}
+
+/// The same as `is_ready_node`, by a walk over the handles that has not passed the device; it has all below it ahead still.
+fn is_ready_on(tree: &Tree, relations: &Relations, walk: &mut HandleWalk<'_>, node: &Node) -> bool
+    requires { IsTree tree.now }
+    ensures ready { (handles : List Handle) → has walk.old node.now.serial ≡ is_open handles node.now.serial → (around : Core) → result ≡ is_ready_device (at_related tree.now.nodes relations.now around) handles node.now }
+    ensures below { (k : ℕ) → k < node.now.serial → has walk.new k ≡ has walk.old k }
+{
+    is_let_go_on(walk, node) && !is_held_back(tree, relations, node.serial)
+}
+
 /// Whether a device is there and ready to be finished: it was told that it has gone and has its drivers still, no handle to
 /// it is open, and nothing that hangs on it has drivers. It takes no memory. Cost: the logarithm of the number of nodes,
 /// for the device and each that hangs on it directly.
@@ -82,15 +103,20 @@ pub fn is_ready(tree: &Tree, relations: &Relations, handles: &Handles, serial: u
 }
 
 /// The ready device of the greatest serial; none exactly where none is ready. It takes no memory, so that nothing can fail.
-/// Cost: one look at the state of each node from the last one down, and that of `is_ready` for each that was told that it has
-/// gone.
+/// Cost: one look at the state of each node from the last one down to the lowest bottom of the tree, beside it one step for each
+/// device with an open handle, and that of `is_ready` for each that has none and was told that it has gone.
 pub fn ready(tree: &Tree, relations: &Relations, handles: &Handles) -> Option<u64>
     ensures device { (around : Core) → result ≡ ready_device (at_related tree.now.nodes relations.now around) handles.now }
     ensures ready { IfSome result (λ serial. (around : Core) → IsTrue (is_ready_at (at_related tree.now.nodes relations.now around) handles.now (node_at serial tree.now.nodes))) }
 {
+    let mut walk = handles.walk();
+    let lowest = tree.lowest_bottom();
     for at in (0..tree.len()).rev() {
         if let Some(node) = tree.get(at) {
-            if is_ready_node(tree, relations, handles, node) {
+            if node.serial < lowest {
+                return None;
+            }
+            if is_ready_on(tree, relations, &mut walk, node) {
                 return Some(node.serial);
             }
         }

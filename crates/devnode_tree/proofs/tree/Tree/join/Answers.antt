@@ -4,6 +4,9 @@ use Rattle.devnode_tree.specs.Trees.{Tree}
 use Rattle.devnode_tree.proofs.Changes.{nodes_tree}
 use Rattle.devnode_tree.proofs.Faults.{without_parent, with_path, short, joins}
 use Rattle.devnode_tree.proofs.Joins.{kept_joined, nodes_joined, births_joined}
+use Rattle.devnode_tree.specs.Bottoms.{BottomsFrom}
+use Rattle.devnode_tree.specs.Entries.{nodes_of}
+use Rattle.devnode_tree.proofs.Lowering.{from_joined}
 use Rattle.devnode_tree.proofs.Lookups.{node_is_there, path_there, has_some}
 use Rattle.devnode_tree.proofs.tree.Tree.join.Goals as goal
 
@@ -36,6 +39,9 @@ invariant_of-self c = record {
   kept = rw (c.in-Ok.ensures.path, c.in-Ok.ensures.entry, c.fresh-node.ensures) (kept_joined _ c.self.inside.entries.items c.self.inside.next c.self.invariant.kept (fresh_node c.self.inside.next c.args.parent c.args.born c.args.path c.args.hw c.args.compat c.args.reqs) refl (has_some c.args.parent _ (node_is_there c.self.inside.entries.items c.deref.result.now c.deref.ensures.value c.args.parent c.place_of.result c.place_of.ensures ∙ (c.is_none.ensures ∙ ap not c.if-is_none.false))) (subst (λ (t : Tree). t.next < 2 ^ 63) (sym c.self.view_is) c.requires.room));
   births_are = rw (c.in-Ok.ensures.born, c.in-Ok.ensures.entry, c.fresh-node.ensures)
       (births_joined c.self.inside.entries.items (fresh_node c.self.inside.next c.args.parent c.args.born c.args.path c.args.hw c.args.compat c.args.reqs) c.self.inside.births c.self.invariant.births_are);
+  bottoms_are = rw (c.in-Ok.ensures.entry, c.fresh-node.ensures)
+      (subst (BottomsFrom c.self.inside.lowest) (sym (nodes_joined _ c.self.inside.entries.items c.self.inside.next c.self.invariant.kept (fresh_node c.self.inside.next c.args.parent c.args.born c.args.path c.args.hw c.args.compat c.args.reqs) refl (has_some c.args.parent _ (node_is_there c.self.inside.entries.items c.deref.result.now c.deref.ensures.value c.args.parent c.place_of.result c.place_of.ensures ∙ (c.is_none.ensures ∙ ap not c.if-is_none.false)))))
+      (from_joined (nodes_of c.self.inside.entries.items) c.self.inside.lowest c.self.invariant.bottoms_are (fresh_node c.self.inside.next c.args.parent c.args.born c.args.path c.args.hw c.args.compat c.args.reqs) refl refl));
 }
 
 pub returns-in-Ok-clause-joined : goal.returns-in-Ok-clause-joined

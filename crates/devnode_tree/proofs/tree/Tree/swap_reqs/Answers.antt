@@ -1,8 +1,9 @@
-use Rattle.std.proofs.Common.{◌∙◌, ap, sym, option_map}
+use Rattle.std.proofs.Common.{refl, ◌∙◌, ap, sym, option_map}
 use Rattle.std.specs.Option.{unwrap_or}
 use Rattle.devnode_tree.specs.Trees.{with_reqs}
 use Rattle.pnp_model.specs.Records.{Node}
 use Rattle.devnode_tree.proofs.Changes.{kept_set, births_set, seen_set, unchanged}
+use Rattle.devnode_tree.proofs.Lowering.{quiet_set}
 use Rattle.devnode_tree.proofs.Keeping.{keeps_reqs}
 use Rattle.devnode_tree.proofs.Lookups.{node_found, node_missing}
 use Rattle.devnode_tree.proofs.tree.Tree.swap_reqs.Goals as goal
@@ -11,6 +12,7 @@ pub invariant_of-self : goal.invariant_of-self
 invariant_of-self c = record {
   kept = kept_set (with_reqs c.args.reqs) (keeps_reqs c.args.reqs) c.self.inside.entries.items c.deref.result.now c.deref.ensures.value c.self.inside.next c.args.serial c.in-Some.place c.in-Some.ensures c.index_mut.result.now c.swap_reqs.new.self c.index_mut.ensures.value c.swap_reqs.ensures.new _ c.self.invariant.kept;
   births_are = births_set (with_reqs c.args.reqs) (keeps_reqs c.args.reqs) c.self.inside.entries.items c.deref.result.now c.deref.ensures.value c.self.inside.next c.args.serial c.in-Some.place c.in-Some.ensures c.index_mut.result.now c.swap_reqs.new.self c.index_mut.ensures.value c.swap_reqs.ensures.new _ c.self.invariant.births_are;
+  bottoms_are = quiet_set (with_reqs c.args.reqs) (keeps_reqs c.args.reqs) c.self.inside.entries.items c.deref.result.now c.deref.ensures.value c.self.inside.next c.args.serial c.in-Some.place c.in-Some.ensures c.index_mut.result.now c.swap_reqs.new.self c.index_mut.ensures.value c.swap_reqs.ensures.new c.self.inside.lowest c.self.invariant.bottoms_are (λ x. refl) (λ x. refl);
 }
 
 pub returns-in-Some-clause-set : goal.returns-in-Some-clause-set

@@ -1,25 +1,33 @@
-use Rattle.std.proofs.Common.{◌∙◌, ap, sym, option_map}
+use Rattle.std.proofs.Common.{◌∙◌, ap, sym, option_map, List, subst}
 use Rattle.std.specs.Option.{unwrap_or}
-use Rattle.pnp_model.specs.Cores.{with_drivers}
+use Rattle.pnp_model.specs.Cores.{serials_of, with_drivers}
 use Rattle.pnp_model.specs.Records.{Node}
+use Rattle.devnode_tree.specs.Entries.{Entry, nodes_of}
+use Rattle.devnode_tree.specs.Trees.{Ascends}
 use Rattle.devnode_tree.proofs.Changes.{kept_set, births_set, seen_set, unchanged}
+use Rattle.devnode_tree.proofs.Lowering.{lowered_set}
 use Rattle.devnode_tree.proofs.Keeping.{keeps_drivers}
 use Rattle.devnode_tree.proofs.Lookups.{node_found, node_missing}
 use Rattle.devnode_tree.proofs.tree.Tree.swap_stack.Goals as goal
 
+pub lowered-self-inside-requires : goal.lowered-self-inside-requires
+lowered-self-inside-requires c =
+    subst (λ (es : List Entry). Ascends 0 (serials_of (nodes_of es))) (sym c.deref-in-Some.ensures.value) (kept_set (with_drivers c.args.stack) (keeps_drivers c.args.stack) c.self.inside.entries.items c.deref.result.now c.deref.ensures.value c.self.inside.next c.args.serial c.in-Some.place c.in-Some.ensures c.index_mut.result.now c.swap_stack-old.new.self c.index_mut.ensures.value c.swap_stack-old.ensures.new _ c.self.invariant.kept).tree.ascends
+
 pub invariant_of-self : goal.invariant_of-self
 invariant_of-self c = record {
-  kept = kept_set (with_drivers c.args.stack) (keeps_drivers c.args.stack) c.self.inside.entries.items c.deref.result.now c.deref.ensures.value c.self.inside.next c.args.serial c.in-Some.place c.in-Some.ensures c.index_mut.result.now c.swap_stack.new.self c.index_mut.ensures.value c.swap_stack.ensures.new _ c.self.invariant.kept;
-  births_are = births_set (with_drivers c.args.stack) (keeps_drivers c.args.stack) c.self.inside.entries.items c.deref.result.now c.deref.ensures.value c.self.inside.next c.args.serial c.in-Some.place c.in-Some.ensures c.index_mut.result.now c.swap_stack.new.self c.index_mut.ensures.value c.swap_stack.ensures.new _ c.self.invariant.births_are;
+  kept = kept_set (with_drivers c.args.stack) (keeps_drivers c.args.stack) c.self.inside.entries.items c.deref.result.now c.deref.ensures.value c.self.inside.next c.args.serial c.in-Some.place c.in-Some.ensures c.index_mut.result.now c.swap_stack-old.new.self c.index_mut.ensures.value c.swap_stack-old.ensures.new _ c.self.invariant.kept;
+  births_are = births_set (with_drivers c.args.stack) (keeps_drivers c.args.stack) c.self.inside.entries.items c.deref.result.now c.deref.ensures.value c.self.inside.next c.args.serial c.in-Some.place c.in-Some.ensures c.index_mut.result.now c.swap_stack-old.new.self c.index_mut.ensures.value c.swap_stack-old.ensures.new _ c.self.invariant.births_are;
+  bottoms_are = lowered_set (with_drivers c.args.stack) (keeps_drivers c.args.stack) c.self.inside.entries.items c.deref.result.now c.deref.ensures.value c.self.inside.next c.args.serial c.in-Some.place c.in-Some.ensures c.index_mut.result.now c.swap_stack-old.new.self c.index_mut.ensures.value c.swap_stack-old.ensures.new c.self.inside.lowest c.self.invariant.bottoms_are c.parent-parent.result c.index.result.now c.index.ensures c.parent-parent.ensures c.deref-in-Some.result.now c.deref-in-Some.ensures.value c.lowered-self-inside.result c.lowered-self-inside.ensures.less c.lowered-self-inside.ensures.bottom c.lowered-self-inside.ensures.above;
 }
 
 pub returns-in-Some-clause-set : goal.returns-in-Some-clause-set
-returns-in-Some-clause-set c = rw (← c.self.view_is) (seen_set (with_drivers c.args.stack) (keeps_drivers c.args.stack) c.self.inside.entries.items c.deref.result.now c.deref.ensures.value c.self.inside.next c.args.serial c.in-Some.place c.in-Some.ensures c.index_mut.result.now c.swap_stack.new.self c.index_mut.ensures.value c.swap_stack.ensures.new)
+returns-in-Some-clause-set c = rw (← c.self.view_is) (seen_set (with_drivers c.args.stack) (keeps_drivers c.args.stack) c.self.inside.entries.items c.deref.result.now c.deref.ensures.value c.self.inside.next c.args.serial c.in-Some.place c.in-Some.ensures c.index_mut.result.now c.swap_stack-old.new.self c.index_mut.ensures.value c.swap_stack-old.ensures.new)
 
 pub returns-in-Some-clause-old : goal.returns-in-Some-clause-old
 returns-in-Some-clause-old c =
     rw (← c.self.view_is)
-    (c.swap_stack.ensures.old
+    (c.swap_stack-old.ensures.old
     ∙ sym (ap (λ o. unwrap_or (option_map (λ (n : Node). n.stack) o) c.args.stack) (node_found c.self.inside.entries.items c.deref.result.now c.deref.ensures.value c.args.serial c.in-Some.place c.in-Some.ensures c.index_mut.result.now c.index_mut.ensures.value)))
 
 pub returns-in-None-clause-set : goal.returns-in-None-clause-set
