@@ -47,11 +47,13 @@ impl Registrations {
         self.items.is_empty()
     }
 
-    /// Whether the client is registered on the device. Cost: the number of registrations.
+    /// Whether the client is registered on the device. Cost: the logarithm of the number of registrations, and those on the device.
     pub(crate) fn has(&self, client: &Text, device: u64) -> bool
         ensures { result ≡ list_any (is_of client.now device) self.now }
     {
-        self.items.iter().any(|r| r.is_of(client, device))
+        those_on(&self.items, device)
+            .iter()
+            .any(|r| r.is_of(client, device))
     }
 
     /// One more, behind those on its device; after want of memory all is as before. Cost: the number of registrations.
@@ -65,7 +67,8 @@ impl Registrations {
         Ok(())
     }
 
-    /// Takes out the first one of the client on the device, if there is one. It takes no memory. Cost: the number of registrations.
+    /// Takes out the first one of the client on the device, if there is one. It takes no memory. Cost: the logarithm of the number
+    /// of registrations, those on the device, and those behind the one that goes, which move up.
     pub(crate) fn take(&mut self, client: &Text, device: u64)
         ensures { self.new ≡ without_first (is_of client.now device) self.old }
     {
@@ -74,8 +77,8 @@ impl Registrations {
         }
     }
 
-    /// A client was told; after the last notice that it hears it is registered no more. It takes no memory. Cost: the number of
-    /// registrations.
+    /// A client was told; after the last notice that it hears it is registered no more. It takes no memory. Cost: that of `take`
+    /// after the last notice, and none before it.
     pub(crate) fn heard(&mut self, client: &Registration, last: bool)
         ensures { self.new ≡ after_last last client.now self.old }
     {
@@ -101,11 +104,17 @@ impl Registrations {
     }
 }
 
-/// The place of the first one of the client on the device.
+/// The place of the first one of the client on the device, in registrations that are sorted by device. Cost: the logarithm of
+/// their number, and those on the device.
 fn place_of(items: &[Registration], client: &Text, device: u64) -> Option<usize>
+    requires { IsNonDecreasingBy (λ r. r.device) items.now }
     ensures { result ≡ position (is_of client.now device) items.now }
 {
-    items.iter().position(|r| r.is_of(client, device))
+    let low = items.partition_point(|r| r.device < device);
+    let place = those_on(items, device)
+        .iter()
+        .position(|r| r.is_of(client, device))?;
+    Some(low + place)
 }
 
 /// Those on a device, of registrations that are sorted by device. Cost: the logarithm of their number.
