@@ -1,0 +1,9 @@
+mod Lines
+mod Racks
+mod Alikes
+mod Ways
+mod WayOps
+mod WayFrames
+mod WaySteps
+mod Quiets
+pub mod OneVerdict

@@ -1,0 +1,15 @@
+//! What holds of the check of traces.
+
+ghost use Rattle.free_run.specs.Laws.{OnePlace, OneVerdict};
+
+/// Of the lines that are allowed next at most one stands at the front of a text, and it leads to one place.
+#[tactic(auto, using(crate::proofs::OneVerdict::one_place))]
+pub fn one_place()
+    ensures { OnePlace }
+{}
+
+/// A trace has one verdict.
+#[tactic(auto, using(crate::proofs::OneVerdict::one_verdict))]
+pub fn one_verdict()
+    ensures { OneVerdict }
+{}
