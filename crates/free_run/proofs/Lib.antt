@@ -7,3 +7,6 @@ mod WayFrames
 mod WaySteps
 mod Quiets
 pub mod OneVerdict
+mod Happenings
+mod TwinEvents
+pub mod Outs

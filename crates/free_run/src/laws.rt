@@ -1,6 +1,7 @@
 //! What holds of the check of traces.
 
 ghost use Rattle.free_run.specs.Laws.{OnePlace, OneVerdict};
+ghost use Rattle.free_run.specs.Outputs.{EachOutputIsARun};
 
 /// Of the lines that are allowed next at most one stands at the front of a text, and it leads to one place.
 #[tactic(auto, using(crate::proofs::OneVerdict::one_place))]
@@ -12,4 +13,10 @@ pub fn one_place()
 #[tactic(auto, using(crate::proofs::OneVerdict::one_verdict))]
 pub fn one_verdict()
     ensures { OneVerdict }
+{}
+
+/// The output of every script, over every rack of these kinds of which those that can be taught were taught nothing, is a run.
+#[tactic(auto, using(crate::proofs::Outs::each_output))]
+pub fn each_output_is_a_run()
+    ensures { EachOutputIsARun }
 {}
