@@ -10,3 +10,7 @@ pub mod OneVerdict
 mod Happenings
 mod TwinEvents
 pub mod Outs
+mod Armed
+pub mod Answered
+pub mod Converse
+pub mod Computed

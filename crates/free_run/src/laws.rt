@@ -1,7 +1,8 @@
 //! What holds of the check of traces.
 
 ghost use Rattle.free_run.specs.Laws.{OnePlace, OneVerdict};
-ghost use Rattle.free_run.specs.Outputs.{EachOutputIsARun};
+ghost use Rattle.free_run.specs.Outputs.{EachOutputIsARun, EachRunIsAnOutput};
+ghost use Rattle.free_run.specs.Runs.{EachFreeRunIsARun};
 
 /// Of the lines that are allowed next at most one stands at the front of a text, and it leads to one place.
 #[tactic(auto, using(crate::proofs::OneVerdict::one_place))]
@@ -19,4 +20,17 @@ pub fn one_verdict()
 #[tactic(auto, using(crate::proofs::Outs::each_output))]
 pub fn each_output_is_a_run()
     ensures { EachOutputIsARun }
+{}
+
+/// Where a script teaches no driver, each trace of it that is a run is the output over some drivers of these kinds.
+#[tactic(auto, using(crate::proofs::Converse::each_run))]
+pub fn each_run_is_an_output()
+    ensures { EachRunIsAnOutput }
+{}
+
+/// Each run, whatever the drivers answer, is a run of the machine over some drivers of these kinds, but for their books and for
+/// the events that teach.
+#[tactic(auto, using(crate::proofs::Answered::each_free_run))]
+pub fn each_free_run_is_a_run()
+    ensures { EachFreeRunIsARun }
 {}
