@@ -14,3 +14,9 @@ mod Armed
 pub mod Answered
 pub mod Converse
 pub mod Computed
+mod CheckBase
+mod ChecksStarts
+mod ChecksRemovals
+mod ChecksMoves
+mod ChecksHandles
+mod ChecksWindows

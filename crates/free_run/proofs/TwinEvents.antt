@@ -1,27 +1,17 @@
 -- What happens, with other books of the same shapes.
 use Rattle.std.proofs.Common.{ℕ, ◌+◌, ◌≡◌, Bool, true, false, List, [], ◌∷◌, ◌++◌, map, length, Option, Some, None, refl, sym, ap, ◌∙◌, subst, arith, cond}
-use Rattle.std.specs.Prelude.{◌==◌, ◌&&◌, nat_le, nat_lt, option_map, find, is_none}
-use Rattle.std.specs.List.{list_any}
-use Rattle.resource_reqs.specs.Resources.{Res, Reqs, clashes}
+use Rattle.std.specs.Prelude.{◌&&◌, nat_lt, option_map, find, is_none}
 use Rattle.pnp_labels.specs.Texts.{Text}
-use Rattle.pnp_labels.specs.declared.words.Minor.{Minor}
 use Rattle.pnp_labels.specs.declared.words.DriverKind.{DriverKind}
 use Rattle.pnp_labels.specs.declared.words.DriverKind.TheVariants.{Scripted, Steady, Stubborn}
-use Rattle.pnp_labels.specs.declared.words.RelKind.{RelKind}
 use Rattle.pnp_labels.specs.declared.event.Rule.{Rule}
 use Rattle.pnp_labels.specs.declared.event.Event.{Event}
 use Rattle.pnp_labels.specs.declared.label.EventWord.{EventWord}
 use Rattle.pnp_labels.specs.declared.label.Label.{Label}
-use Rattle.device_ids.specs.Folding.{same as same_text}
 use Rattle.pnp_model.specs.Keyed.{changed_first}
-use Rattle.pnp_model.specs.Tests.{has, is_started, is_scripted, has_same, same_kind}
+use Rattle.pnp_model.specs.Tests.{is_scripted, same_kind}
 use Rattle.pnp_model.specs.Books.{name_is, is_named, is_unnamed, with_name, printed_name}
-use Rattle.pnp_model.specs.Trees.{dependents}
-use Rattle.pnp_model.specs.Frames.{held_by}
-use Rattle.pnp_model.specs.States as states
-use Rattle.pnp_model.specs.States.{node_of, device_of, activity_at, node_born, list_node}
-use Rattle.pnp_model.specs.Records.{Node, Core, Device, Driver, Activity, State, Step, Operation}
-use Rattle.pnp_model.specs.Machine.{phase_walk}
+use Rattle.pnp_model.specs.Records.{Driver, State, Step}
 use Rattle.pnp_model.specs.Events as events
 use Rattle.pnp_model.specs.Events.{happens, with_rule, is_relation, operation_waits, waits_for}
 use Rattle.free_run.specs.Frees.{with_rack}
