@@ -4,40 +4,18 @@ use Rattle.std.specs.Prelude.{◌&&◌}
 use Rattle.std.specs.Str.{bytes_eq}
 use Rattle.std.proofs.lemmas.Slice.Eq.{bytes_eq-Decides}
 use Rattle.std.proofs.lemmas.List.{take-append-drop, append_assoc}
-use Rattle.resource_reqs.specs.Spelling.{IsAnswer}
 use Rattle.pnp_labels.specs.Texts.{Text, label_line}
 use Rattle.pnp_labels.specs.declared.event.Event.{Event}
 use Rattle.pnp_labels.specs.declared.words.Answer.{Answer}
 use Rattle.pnp_labels.specs.declared.words.Answer.TheVariants.{Ok, Fail, Pend}
-use Rattle.pnp_model.specs.Records.{State, Settings, Found, Step, Doing, SearchProblem}
+use Rattle.pnp_model.specs.Records.{State, Settings, Found, Step, Doing}
 use Rattle.pnp_model.specs.Records.Doing.{Does, Searches}
 use Rattle.pnp_model.specs.Machine.{next, IsStep}
 use Rattle.pnp_model.specs.Events.{happens}
-use Rattle.pnp_model.specs.Endings.{joined}
 use Rattle.script_reader.specs.Script.{Trace, gives, waits, ends, stops}
 use Rattle.free_run.specs.Frees.{told, with_rack}
-use Rattle.free_run.specs.Checks.{IsOfMachine, Place, Runs, Ends, bad_line, has_feed, end_bytes, AllowsFirst, AllowsAtRest, AllowsStep, Allows, Follow, IsYes, Verdict, Yes, No}
-use Rattle.free_run.specs.Follows.{is_of_machine, Reached, reached, by_step, by_doing, by_reply, or_else, first_due, at_rest, while_running, follow, at_end, checked}
-
--- the answer that is given next is that of the search
-abbrev RightHead : Settings → SearchProblem → List Found → Type 0
-RightHead settings p [] = Unit {0}
-RightHead settings p (found ∷ left) = IsAnswer p.fixed p.movers settings.budget found
-
-abbrev RightDoing : Settings → List Found → Option (Doing Step) → Type 0
-RightDoing settings left None = Unit {0}
-RightDoing settings left (Some (Does step)) = Unit {0}
-RightDoing settings left (Some (Searches p by_answer)) = RightHead settings p left
-
-abbrev RightAt : Settings → Place → List Found → Type 0
-RightAt settings (Ends due) left = Unit {0}
-RightAt settings (Runs s script) left = (answer : Answer) → RightDoing settings left (next settings (with_rack (told answer s.core.rack) s))
-
-abbrev pub AllRight : Settings → Place → List Found → List Text → Type 0
-AllRight settings place left [] = Unit {0}
-AllRight settings place left (line ∷ lines) =
-    RightAt settings place left
-    × (elim (follow settings place left line) as (λ _. Type 0) [ None ↦ Unit {0} | Some r ↦ AllRight settings r.place r.left lines ])
+use Rattle.free_run.specs.Checks.{IsOfMachine, Place, Runs, Ends, bad_line, has_feed, end_bytes, AllowsFirst, AllowsAtRest, AllowsStep, Allows, Follow, Verdict, Yes, No}
+use Rattle.free_run.specs.Follows.{RightDoing, RightAt, AllRight, is_of_machine, Reached, reached, by_step, by_doing, by_reply, or_else, first_due, at_rest, while_running, follow, at_end, checked}
 
 place_is : (p : Place) (left : List Found) (r : Reached) → reached p left ≡ Some r → r.place ≡ p
 place_is p left r e = cc
@@ -116,7 +94,7 @@ running_told settings s script left line r (Some doing) is right e =
     inl (one_of (by_reply settings s script left line Ok) _ r (reply_told settings s script left line Ok r right)
     (one_of (by_reply settings s script left line Fail) _ r (reply_told settings s script left line Fail r right) (reply_told settings s script left line Pend r right)) e)
 
-follow_told : (settings : Settings) (place : Place) (left : List Found) (line : Text) (r : Reached) → RightAt settings place left → follow settings place left line ≡ Some r → Allows settings place line r.place
+pub follow_told : (settings : Settings) (place : Place) (left : List Found) (line : Text) (r : Reached) → RightAt settings place left → follow settings place left line ≡ Some r → Allows settings place line r.place
 follow_told settings (Ends due) left line r right e = first_told due left line r e
 follow_told settings (Runs s script) left line r right e = running_told settings s script left line r (next settings s) refl right e
 
@@ -125,7 +103,7 @@ done_at (Ends []) number e = refl
 done_at (Ends (byte ∷ more)) number e = absurd (cc)
 done_at (Runs s script) number e = absurd (cc)
 
-computed : (settings : Settings) (place : Place) (left : List Found) (number : ℕ) (lines : List Text) → AllRight settings place left lines → checked settings place left number lines ≡ Yes → Follow settings place lines (Ends [])
+pub computed : (settings : Settings) (place : Place) (left : List Found) (number : ℕ) (lines : List Text) → AllRight settings place left lines → checked settings place left number lines ≡ Yes → Follow settings place lines (Ends [])
 computed settings place left number [] right e = done_at place number e
 computed settings place left number (line ∷ lines) right e = by_line (follow settings place left line) refl right.1 e (λ r. computed settings r.place r.left (number + 1) lines)
   where
@@ -134,7 +112,3 @@ computed settings place left number (line ∷ lines) right e = by_line (follow s
         → ((r : Reached) → AllRight settings r.place r.left lines → checked settings r.place r.left (number + 1) lines ≡ Yes → Follow settings r.place lines (Ends [])) → Follow settings place (line ∷ lines) (Ends [])
     by_line None is more h more_of = absurd (cc)
     by_line (Some r) is more h more_of = (r.place, follow_told settings place left line r right.0 is, more_of r more h)
-
--- so a row that computes to Yes tells a run
-pub computed_yes : (settings : Settings) (place : Place) (left : List Found) (lines : List Text) → AllRight settings place left lines → checked settings place left 1 lines ≡ Yes → IsYes settings place (joined lines)
-computed_yes settings place left lines right e = (lines, computed settings place left 1 lines right e, refl)

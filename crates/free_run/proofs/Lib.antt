@@ -13,7 +13,8 @@ pub mod Outs
 mod Armed
 pub mod Answered
 pub mod Converse
-pub mod Computed
+mod Computed
+pub mod Refused
 mod CheckBase
 mod ChecksStarts
 mod ChecksRemovals

@@ -37,7 +37,7 @@ one_state settings f a b x y m n (p, u, hu, eu) (q, v, hv, ev) line =
     let label : a ≡ b = one_label m n way.kin line in
     (label, eu ∙ ap (with_rack rack) (sym (way.same label)) ∙ sym ev)
 
-no_step : (settings : Settings) (f : State) (label : Label) (new : State) → IsQuiet settings f → FreeSteps settings f label new → ⊥
+pub no_step : (settings : Settings) (f : State) (label : Label) (new : State) → IsQuiet settings f → FreeSteps settings f label new → ⊥
 no_step settings f label new quiet (answer, next_state, h, e) =
     subst (λ (o : Option (Doing Step)). IsStep settings o (record { label = label; state = next_state })) (quiet_same settings f (told answer f.core.rack) quiet) h
 

@@ -1,10 +1,11 @@
 -- A check that computes, where the answers of its searches are given in their order.
 use Rattle.std.specs.Prelude.{Bool, true, false, not, ◌&&◌, ◌++◌, take, drop, length, ℕ, ◌+◌, List, [], ◌∷◌, Option, Some, None, if◌then◌else◌}
 use Rattle.std.specs.Str.{bytes_eq}
+use Rattle.resource_reqs.specs.Spelling.{IsAnswer}
 use Rattle.pnp_labels.specs.Texts.{Text, label_line}
 use Rattle.pnp_labels.specs.declared.words.Answer.{Answer}
 use Rattle.pnp_labels.specs.declared.words.Answer.TheVariants.{Ok, Fail, Pend}
-use Rattle.pnp_model.specs.Records.{State, Settings, Found, Step, Doing}
+use Rattle.pnp_model.specs.Records.{State, Settings, Found, Step, Doing, SearchProblem}
 use Rattle.pnp_model.specs.Records.Doing.{Does, Searches}
 use Rattle.pnp_model.specs.Machine.{next}
 use Rattle.pnp_model.specs.Events.{happens}
@@ -85,3 +86,25 @@ checked settings place left number (line ∷ lines) =
       | None ↦ No number
       | Some r ↦ checked settings r.place r.left (number + 1) lines
     ]
+
+-- That these answers are those of the searches, one after another, as far as the lines are followed ------------------
+
+-- an answer is given next, and it is that of the search
+abbrev pub RightHead : Settings → SearchProblem → List Found → Type 0
+RightHead settings p [] = ⊥
+RightHead settings p (found ∷ left) = IsAnswer p.fixed p.movers settings.budget found
+
+abbrev pub RightDoing : Settings → List Found → Option (Doing Step) → Type 0
+RightDoing settings left None = Unit {0}
+RightDoing settings left (Some (Does step)) = Unit {0}
+RightDoing settings left (Some (Searches p by_answer)) = RightHead settings p left
+
+abbrev pub RightAt : Settings → Place → List Found → Type 0
+RightAt settings (Ends due) left = Unit {0}
+RightAt settings (Runs s script) left = (answer : Answer) → RightDoing settings left (next settings (with_rack (told answer s.core.rack) s))
+
+abbrev pub AllRight : Settings → Place → List Found → List Text → Type 0
+AllRight settings place left [] = Unit {0}
+AllRight settings place left (line ∷ lines) =
+    RightAt settings place left
+    × (elim (follow settings place left line) as (λ _. Type 0) [ None ↦ Unit {0} | Some r ↦ AllRight settings r.place r.left lines ])

@@ -4,5 +4,5 @@ pub mod Checks
 pub mod Shapes
 pub mod Outputs
 pub mod Runs
-pub mod Laws
 pub mod Follows
+pub mod Laws

@@ -1,6 +1,6 @@
 //! What holds of the check of traces.
 
-ghost use Rattle.free_run.specs.Laws.{OnePlace, OneVerdict};
+ghost use Rattle.free_run.specs.Laws.{OnePlace, OneVerdict, ComputedLaw};
 ghost use Rattle.free_run.specs.Outputs.{EachOutputIsARun, EachRunIsAnOutput};
 ghost use Rattle.free_run.specs.Runs.{EachFreeRunIsARun};
 
@@ -33,4 +33,10 @@ pub fn each_run_is_an_output()
 #[tactic(auto, using(crate::proofs::Answered::each_free_run))]
 pub fn each_free_run_is_a_run()
     ensures { EachFreeRunIsARun }
+{}
+
+/// The check that computes tells what it says, where the answers that it is given are those of its searches.
+#[tactic(auto, using(crate::proofs::Refused::computed_verdict))]
+pub fn computes_verdicts()
+    ensures { ComputedLaw }
 {}
