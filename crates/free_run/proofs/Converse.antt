@@ -52,6 +52,11 @@ all_due settings due (l ∷ lines) (mid, (more, is, none, there), h) =
 at_once : (settings : Settings) (s : State) (script : Trace) (out : Text) → IsQuiet settings s → Prints settings s script out → PrintsOn settings s script out
 at_once settings s script out quiet prints = record { labels = []; new = s; more = out; settles = (refl, quiet); prints = prints; is = refl }
 
+-- a label's line before those of more labels
+first_line : (label : Label) (labels : List Label) (line rest more : Text) → line ≡ label_line label → rest ≡ text_of labels ++ more → line ++ 10 ∷ rest ≡ text_of (label ∷ labels) ++ more
+first_line label labels line rest more same is =
+    ap (λ (t : Text). t ++ 10 ∷ rest) same ∙ ap (λ (t : Text). label_line label ++ 10 ∷ t) is ∙ sym (append_assoc (label_line label) (10 ∷ text_of labels) more)
+
 prints_so : (settings : Settings) (lines : List Text) (f : State) (script : Trace) → TeachesNone script → Follow settings (Runs f script) lines (Ends []) → PrintsSo settings f script lines
 prints_so settings [] f script none e = absurd (subst NoEnd e tt)
 prints_so settings (line ∷ lines) f script none (mid, inl (label, new, (answer, next_state, step, is), l, there), follow) =
@@ -72,7 +77,7 @@ prints_so settings (line ∷ lines) f script none (mid, inl (label, new, (answer
             more = on.more;
             settles = (with_rack (rack_by q r) new, subst (λ (s : State). Steps settings (with_rack r f) label s) (ap (with_rack (rack_by q r)) (sym is)) goes, on.settles);
             prints = on.prints;
-            is = ap (λ (t : Text). t ++ 10 ∷ joined lines) l ∙ ap (λ (t : Text). label_line label ++ 10 ∷ t) on.is ∙ sym (append_assoc (label_line label) (10 ∷ text_of on.labels) on.more);
+            is = first_line label on.labels line (joined lines) on.more l on.is;
           };
     }
 prints_so settings (line ∷ lines) f (gives number event rest) none (mid, inr (quiet, (own, l, there)), follow) =
@@ -89,7 +94,7 @@ prints_so settings (line ∷ lines) f (gives number event rest) none (mid, inr (
             on.more,
             record { own = own; first = label; begun = with_rack now.rack (happens f event).state; more = on.labels; happened = now.is; printed = refl; settled = on.settles },
             on.prints,
-            ap (λ (t : Text). t ++ 10 ∷ joined lines) l ∙ ap (λ (t : Text). label_line label ++ 10 ∷ t) on.is ∙ sym (append_assoc (label_line label) (10 ∷ text_of on.labels) on.more),
+            first_line label on.labels line (joined lines) on.more l on.is,
           );
     }
 prints_so settings (line ∷ lines) f ends none (mid, inr (quiet, allows), follow) =
