@@ -69,11 +69,7 @@ fn run_generated<R: Drivers>(
 
 /// Runs the generated script over a front to which nothing happened, and gives the summary. A run of so many steps that they
 /// cannot be counted counts as want of memory.
-fn summed<R: Drivers>(
-    alloc: Global,
-    front: &mut Front<R>,
-    n: u64,
-) -> Result<Vec<u8>, WantOfMemory>
+fn summed<R: Drivers>(alloc: Global, front: &mut Front<R>, n: u64) -> Result<Vec<u8>, WantOfMemory>
     requires awaits { Awaits front.old }
     requires events { front.old.manager.events ≡ 0 }
     requires few { n ≤ 400 }
