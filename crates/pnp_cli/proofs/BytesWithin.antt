@@ -1,5 +1,5 @@
 -- The alternatives that the bytes of a line say have at most 16 groups.
-use Rattle.std.proofs.Common.{ℕ, zero, suc, ◌+◌, ◌<◌, ◌≤◌, ◌≡◌, get_or, List, [], ◌∷◌, length, Option, Some, None, subst, arith}
+use Rattle.std.proofs.Common.{ℕ, zero, suc, ◌<◌, ◌≤◌, ◌≡◌, get_or, List, [], ◌∷◌, length, Option, Some, None, subst, arith}
 use Rattle.std.specs.Prelude.{Result, Ok, Err}
 use Rattle.resource_reqs.specs.Resources.{AltList, Reqs}
 use Rattle.req_bytes.specs.declared.error.BytesError.{BytesError}

@@ -82,7 +82,7 @@ took_file told f (Some script) t t' h = λ text output. here text output
   where
     here : (text : Text) → IsPrintedFor told f (Some script) text → AppendsFront t t' text
     here text (labels, last, plays, is) =
-        subst (λ (x : Text). AppendsFront t t' x) (sym is) (front_in t t' (text_of labels) (bad_text (events_of script) ++ end_text last) (h labels last plays))
+        subst (λ (x : Text). AppendsFront t t' x) (sym is) (front_in t t' (text_of labels) (bad_text (events_of script) ++ end_text last.state) (h labels last plays))
 
 pub took_told : (contents : Option (Text → Option (List ℕ))) (name : Text) (told_machine : Settings) (f : Front) (t t' : Option Text)
     → IfSome contents (λ told. TookFront told_machine f (told name) t t') → IfSome contents (λ told. WroteFront (IsPrintedFor told_machine f (told name)) t t')

@@ -7,7 +7,7 @@ use Rattle.pnp_model.specs.Records.{Settings, Step}
 use Rattle.pnp_model.specs.Runs.{Entry}
 use Rattle.notify_front.specs.Fronts.{Front, FrontEntry, IsFrontQuiet, front_happens, front_printed, passed}
 use Rattle.notify_front.specs.Fronts.FrontEntry.{Passes, Tells, Watches}
-use Rattle.notify_front.specs.Laws.{AllOwn, IsOwn}
+use Rattle.notify_front.specs.Laws.{AllOwn}
 use Rattle.notify_front.specs.Notices.{FrontGoes, FrontRun}
 use Rattle.notify_front.proofs.OwnSteps.{goes_on, own_step}
 use Rattle.pnp_cli.specs.Lawful.{happened}
