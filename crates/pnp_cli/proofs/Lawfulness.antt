@@ -52,7 +52,7 @@ use Rattle.pnp_cli.specs.Outputs.{Settles, Follows, Plays, Report, Shows, writte
 use Rattle.pnp_cli.specs.Generated.{gen_script, gen_inf}
 use Rattle.pnp_cli.specs.Summaries.{summary}
 use Rattle.pnp_cli.specs.Infs.{infs_in}
-use Rattle.pnp_cli.specs.Runs.{IsOutput, IsOutputBy, IsOutputFor, IsScriptOutput, IsSummaryBy, machine}
+use Rattle.pnp_cli.specs.Runs.{IsOutput, IsOutputBy, IsOutputFor, IsOutputWith, IsScriptOutput, IsSummaryBy, machine}
 use Rattle.pnp_cli.specs.Contents.{events_of}
 use Rattle.pnp_cli.specs.Words.{settings_of}
 use Rattle.pnp_cli.specs.Lawful.{happened, events_in, IsStep, IsTold, Said, SomeRun, OfRun, EachPassed, EachState, EachStep, OfScript, OfInfs, OfMade, OfSource, OfOutput, ByDiagram, NothingClashes, AllHoldWhole, OperationsBegan, EndsRestore, DependentsGoFirst, ConflictsAreReal, FewJoin, AllStatesTold, NodesAreKeyed, NothingOnItself, MapIsClear, AllStacksFit, NamesAreKnown, NobodyIsForgotten, EachHoldsPart, HeldInsideWindows, HandlesAreKept, FewAreHeld, NamesAreShown, ShowsName, TreeIsWhole, OfFrontRun, EachFrontStep, MachineRuns, ClientsWereAsked, ClientsDecline, NoticesKeepAll, ClientsHear, MachineAlone}
@@ -153,10 +153,11 @@ of_source Says rack holds budget told infs None None text is = tt
 
 of_settings : (Says : Said) (rack : List Driver) → Holds Says rack
     → (s : Option Settings) (contents : Option (Text → Option (List ℕ)))
-    → IfSome s (λ s. IfSome contents (λ told. (text : Text) → IsOutput rack told s text → OfSource Says rack s.budget told s.infs s.script s.made text))
+    → IfSome s (λ s. IfSome contents (λ told. s.check ≡ None → (text : Text) → IsOutput rack told s text → OfSource Says rack s.budget told s.infs s.script s.made text))
 of_settings Says rack holds None contents = tt
 of_settings Says rack holds (Some s) None = tt
-of_settings Says rack holds (Some s) (Some told) = λ text is. of_source Says rack holds s.budget told s.infs s.script s.made text is
+of_settings Says rack holds (Some s) (Some told) = λ none text is.
+    of_source Says rack holds s.budget told s.infs s.script s.made text (subst (λ (check : Option Text). IsOutputWith rack told s check text) none is)
 
 of_output : (Says : Said) (rack : List Driver) → Holds Says rack
     → (words : List Text) (contents : Option (Text → Option (List ℕ))) → OfOutput Says words contents rack

@@ -20,3 +20,7 @@ pub mod Counts
 pub mod Counting
 pub mod Sources
 pub mod Racks
+pub mod SomeVerdict
+pub mod Checking
+pub mod Checked
+pub mod Answered

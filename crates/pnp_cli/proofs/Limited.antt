@@ -41,24 +41,25 @@ abbrev Fine : Option Settings → Type 0
 Fine None = Unit {0}
 Fine (Some s) = IsWithin s
 
-given_fine : (script : Option Text) (infs : List Text) (budget : Option ℕ) (made : Option (Option ℕ)) → length infs ≤ 64 → Within 1000000 budget → Made made
-    → Fine (given script infs budget made)
-given_fine (Some script) infs (Some budget) (Some None) few h g = record { infs = few; some = h.0; most = h.1; source = tt }
-given_fine (Some script) infs (Some budget) (Some (Some n)) few h g = tt
-given_fine (Some script) infs (Some budget) None few h g = tt
-given_fine (Some script) infs None made few h g = tt
-given_fine None infs (Some budget) (Some (Some n)) few h g = record { infs = few; some = h.0; most = h.1; source = g }
-given_fine None infs (Some budget) (Some None) few h g = tt
-given_fine None infs (Some budget) None few h g = tt
-given_fine None infs None made few h g = tt
+given_fine : (script : Option Text) (infs : List Text) (budget : Option ℕ) (made : Option (Option ℕ)) (check : Option Text) → length infs ≤ 64 → Within 1000000 budget → Made made
+    → Fine (given script infs budget made check)
+given_fine (Some script) infs (Some budget) (Some None) check few h g = record { infs = few; some = h.0; most = h.1; source = tt }
+given_fine (Some script) infs (Some budget) (Some (Some n)) check few h g = tt
+given_fine (Some script) infs (Some budget) None check few h g = tt
+given_fine (Some script) infs None made check few h g = tt
+given_fine None infs (Some budget) (Some (Some n)) None few h g = record { infs = few; some = h.0; most = h.1; source = g }
+given_fine None infs (Some budget) (Some (Some n)) (Some trace) few h g = tt
+given_fine None infs (Some budget) (Some None) check few h g = tt
+given_fine None infs (Some budget) None check few h g = tt
+given_fine None infs None made check few h g = tt
 
 parts_fine : (rows : List Row) → Fine (parts_of rows)
 parts_fine rows = by_test (nat_le (length (infs_of rows)) 64) refl
   where
     by_test : (b : Bool) → nat_le (length (infs_of rows)) 64 ≡ b
-        → Fine (cond b (given (first_of (codes "script") rows) (infs_of rows) (budget_of (first_of (codes "budget") rows)) (made_of (first_of (codes "gen") rows))) None)
+        → Fine (cond b (given (first_of (codes "script") rows) (infs_of rows) (budget_of (first_of (codes "budget") rows)) (made_of (first_of (codes "gen") rows)) (first_of (codes "check") rows)) None)
     by_test true e =
-        given_fine (first_of (codes "script") rows) (infs_of rows) (budget_of (first_of (codes "budget") rows)) (made_of (first_of (codes "gen") rows)) (grind (arith, nat_tests))
+        given_fine (first_of (codes "script") rows) (infs_of rows) (budget_of (first_of (codes "budget") rows)) (made_of (first_of (codes "gen") rows)) (first_of (codes "check") rows) (grind (arith, nat_tests))
         (budget_fine (first_of (codes "budget") rows)) (made_fine (first_of (codes "gen") rows))
     by_test false e = tt
 

@@ -1,9 +1,10 @@
 -- Each script has one output, and no other.
-use Rattle.std.proofs.Common.{◌≡◌, ℕ, ◌+◌, true, List, [], ◌∷◌, ◌++◌, map, Option, Some, None, IfSome, Result, Ok, Err, refl, sym, ◌∙◌, ap₂}
+use Rattle.std.proofs.Common.{◌≡◌, ℕ, ◌+◌, true, List, [], ◌∷◌, ◌++◌, map, Option, Some, None, IfSome, Result, Ok, Err, refl, sym, ◌∙◌, ap, ap₂}
 use Rattle.device_ids.specs.Cuts.{parts}
 use Rattle.pnp_labels.specs.Texts.{Text}
 use Rattle.pnp_labels.specs.declared.event.Event.{Event}
 use Rattle.pnp_labels.specs.declared.label.Label.{Label}
+use Rattle.pnp_labels.specs.declared.words.DriverKind.{DriverKind}
 use Rattle.inf_reader.specs.declared.parts.Inf.{Inf}
 use Rattle.inf_reader.specs.declared.parts.InfError.{InfError}
 use Rattle.inf_reader.specs.Meaning.{inf}
@@ -16,14 +17,16 @@ use Rattle.notify_front.specs.Notices.{FrontGoes, FrontRun}
 use Rattle.notify_front.proofs.FrontEnd.{each_rests}
 use Rattle.script_reader.specs.Script.{Meaning, nothing, means, bad, whole_line, last_line, Trace, gives, waits, ends, stops, onward, at_end, of_lines}
 use Rattle.pnp_cli.specs.Contents.{events_of}
+use Rattle.pnp_cli.specs.Checks.{Outcome, ShowsOutcome, file_in, outcome_text}
 use Rattle.pnp_cli.specs.Infs.{infs_in, refusal_line}
 use Rattle.pnp_cli.specs.Outputs.{Settles, Follows, Plays, Report, Shows, written}
 use Rattle.pnp_cli.specs.Generated.{gen_script, gen_inf}
 use Rattle.pnp_cli.specs.Summaries.{summary}
-use Rattle.pnp_cli.specs.Runs.{IsOnly, IsOutput, IsOutputBy, IsOutputFor, IsScriptOutput, IsSummaryBy, OutputLaw, WroteFront, WroteOneFront, machine}
+use Rattle.pnp_cli.specs.Runs.{IsOnly, IsOutput, IsOutputBy, IsOutputFor, IsOutputWith, IsScriptOutput, IsSummaryBy, IsVerdict, OutputLaw, WroteFront, WroteOneFront, machine}
 use Rattle.pnp_cli.specs.declared.infs.InfsError.{InfsError}
 use Rattle.pnp_cli.specs.declared.infs.InfsError.TheVariants as faults
 use Rattle.pnp_cli.specs.declared.parts.Settings.{Settings}
+use Rattle.pnp_cli.proofs.Checking.{one_outcome, some_outcome}
 use Rattle.pnp_cli.proofs.Ended.{plays_one}
 use Rattle.pnp_cli.proofs.FrontEntries.{event_goes, run_on, settles_by}
 use Rattle.pnp_cli.proofs.Sameness.{SameEnd}
@@ -138,11 +141,28 @@ one_for rack budget told infs (Some name) made = one_by rack budget (infs_in tol
 one_for rack budget told infs None (Some n) = one_summary rack budget n (inf gen_inf)
 one_for rack budget told infs None None = this_alone []
 
+-- of a check: what it comes to there is once
+one_shown_outcome : (Is : Outcome → Type 0) → (outcome : Outcome) → Is outcome → ((other : Outcome) → Is other → other ≡ outcome) → One (ShowsOutcome Is)
+one_shown_outcome Is outcome is alone =
+    (outcome_text outcome, ((outcome, is, refl), λ other h. h.2 ∙ ap outcome_text (alone h.0 h.1)))
+
+one_checked : (rack : List Driver) (told : Text → Option (List ℕ)) (s : Settings) (trace : Text) (script : Option Text) → One (ShowsOutcome (IsVerdict rack told s trace script))
+one_checked rack told s trace None = one_shown_outcome (IsVerdict rack told s trace None) (Err faults.ReadFault) refl (λ other is. is)
+one_checked rack told s trace (Some script) =
+    let kinds : List DriverKind = map (λ d. d.kind) rack in
+    let some = some_outcome kinds s.budget (infs_in told s.infs) (file_in (told trace)) (file_in (told script)) in
+    one_shown_outcome (IsVerdict rack told s trace (Some script)) some.0 some.1
+    (λ other is. one_outcome kinds s.budget (infs_in told s.infs) (file_in (told trace)) (file_in (told script)) other some.0 is some.1)
+
+one_with : (rack : List Driver) (told : Text → Option (List ℕ)) (s : Settings) (check : Option Text) → One (IsOutputWith rack told s check)
+one_with rack told s None = one_for rack s.budget told s.infs s.script s.made
+one_with rack told s (Some trace) = one_checked rack told s trace s.script
+
 -- a front of whatever the output is, is a front of the one that there is
 pub one_front : (s : Option Settings) (contents : Option (Text → Option (List ℕ))) (rack : List Driver) (old new : Option Text)
     → IfSome s (λ s. IfSome contents (λ told. WroteFront (IsOutput rack told s) old new)) → IfSome s (λ s. IfSome contents (λ told. WroteOneFront (IsOutput rack told s) old new))
 one_front None contents rack old new front = tt
 one_front (Some s) None rack old new front = tt
 one_front (Some s) (Some told) rack old new front =
-    let one = one_for rack s.budget told s.infs s.script s.made in
+    let one = one_with rack told s s.check in
     (one.0, one.1, front one.0 one.1.0)

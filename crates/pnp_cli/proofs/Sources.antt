@@ -4,7 +4,7 @@ use Rattle.pnp_labels.specs.Texts.{Text}
 use Rattle.pnp_model.specs.Records.{Driver}
 use Rattle.pnp_cli.specs.Infs.{SomeRose, infs_in}
 use Rattle.pnp_cli.specs.Limits.{HasSource}
-use Rattle.pnp_cli.specs.Runs.{Answers, IsOutput, IsOutputBy, IsOutputFor, IsSummary, Wrote, WroteFront, is_decided, is_whole, named, names_of, status_by, status_for, status_of}
+use Rattle.pnp_cli.specs.Runs.{IsOutputBy, IsOutputFor, IsRunOutput, IsSummary, Wrote, WroteFront, is_decided, is_whole, names_of, status_by, status_for, status_of}
 use Rattle.pnp_cli.specs.declared.parts.Settings.{Settings}
 use Rattle.pnp_cli.specs.declared.status.Status.{Status}
 
@@ -15,21 +15,15 @@ module _ (contents : Option (Text → Option (List ℕ))) (s : Settings) (name :
   named_decided status h = subst (λ (o : Option Text). IfSome contents (λ told. status_for told s.infs o ≡ Some status)) (sym is) h
 
   pub named_whole : (rack : List Driver) (old new : Option Text) → IfSome contents (λ told. Wrote (IsOutputBy rack s.budget (infs_in told s.infs) (told name)) old new)
-      → IfSome contents (λ told. Wrote (IsOutput rack told s) old new)
+      → IfSome contents (λ told. Wrote (IsRunOutput rack told s) old new)
   named_whole rack old new h = subst (λ (o : Option Text). IfSome contents (λ told. Wrote (λ text. IsOutputFor rack s.budget told s.infs o s.made text) old new)) (sym is) h
 
   pub named_front : (rack : List Driver) (old new : Option Text) → IfSome contents (λ told. WroteFront (IsOutputBy rack s.budget (infs_in told s.infs) (told name)) old new)
-      → IfSome contents (λ told. WroteFront (IsOutput rack told s) old new)
+      → IfSome contents (λ told. WroteFront (IsRunOutput rack told s) old new)
   named_front rack old new h = subst (λ (o : Option Text). IfSome contents (λ told. WroteFront (λ text. IsOutputFor rack s.budget told s.infs o s.made text) old new)) (sym is) h
 
-  pub named_rose : (old new : Text → ℕ) → SomeRose old new (s.infs ++ name ∷ []) → SomeRose old new (named s)
+  pub named_rose : (old new : Text → ℕ) → SomeRose old new (s.infs ++ name ∷ []) → SomeRose old new (names_of s.infs s.script)
   named_rose old new h = subst (λ (o : Option Text). SomeRose old new (names_of s.infs o)) (sym is) h
-
-  pub named_answered : (old new : Text → ℕ) (write_rose : Type 0) (status : Status)
-      → IfSome contents (λ told. Answers (status_by (infs_in told s.infs) (told name)) (SomeRose old new (s.infs ++ name ∷ [])) write_rose status)
-      → IfSome contents (λ told. Answers (status_of told s) (SomeRose old new (named s)) write_rose status)
-  named_answered old new write_rose status h =
-      subst (λ (o : Option Text). IfSome contents (λ told. Answers (status_for told s.infs o) (SomeRose old new (names_of s.infs o)) write_rose status)) (sym is) h
 
 -- Where it is generated ---------------------------------------------------------------------
 
@@ -47,11 +41,6 @@ done_whole status (inl done) h = done
 done_whole status (inr (inl fault)) h = absurd (subst (λ (x : Status). is_whole x ≡ true → ⊥) (sym fault) (λ e. cc) h)
 done_whole status (inr (inr want)) h = absurd (subst (λ (x : Status). is_whole x ≡ true → ⊥) (sym want) (λ e. cc) h)
 
-answered_made : (read_rose write_rose : Type 0) (status : Status) → IsMadeAnswer status → (status ≡ Status.WriteFault → write_rose) → Answers (Some Status.Done) read_rose write_rose status
-answered_made read_rose write_rose status (inl done) wrote = λ read write. inl done
-answered_made read_rose write_rose status (inr (inl fault)) wrote = λ read write. absurd (write (wrote fault))
-answered_made read_rose write_rose status (inr (inr want)) wrote = λ read write. inr want
-
 -- without a condition on the contents
 for_all : (contents : Option (Text → Option (List ℕ))) (P : (Text → Option (List ℕ)) → Type 0) → ((told : Text → Option (List ℕ)) → P told) → IfSome contents P
 for_all None P h = tt
@@ -63,31 +52,44 @@ module _ (contents : Option (Text → Option (List ℕ))) (s : Settings) (none :
       for_all contents (λ told. status_of told s ≡ Some status)
       (λ told. subst (λ (o : Option Text). status_for told s.infs o ≡ Some status) (sym none) (ap Some (sym (done_alone status may h))))
 
-  pub made_whole : (n : ℕ) (rack : List Driver) (old new : Option Text) → s.made ≡ Some n → Wrote (IsSummary rack s.budget n) old new → IfSome contents (λ told. Wrote (IsOutput rack told s) old new)
+  pub made_whole : (n : ℕ) (rack : List Driver) (old new : Option Text) → s.made ≡ Some n → Wrote (IsSummary rack s.budget n) old new → IfSome contents (λ told. Wrote (IsRunOutput rack told s) old new)
   made_whole n rack old new some h =
-      for_all contents (λ told. Wrote (IsOutput rack told s) old new)
+      for_all contents (λ told. Wrote (IsRunOutput rack told s) old new)
       (λ told. subst (λ (o : Option Text). Wrote (λ text. IsOutputFor rack s.budget told s.infs o s.made text) old new) (sym none)
       (subst (λ (m : Option ℕ). Wrote (λ text. IsOutputFor rack s.budget told s.infs None m text) old new) (sym some) h))
 
   pub made_front : (n : ℕ) (rack : List Driver) (old new : Option Text) → s.made ≡ Some n → WroteFront (IsSummary rack s.budget n) old new
-      → IfSome contents (λ told. WroteFront (IsOutput rack told s) old new)
+      → IfSome contents (λ told. WroteFront (IsRunOutput rack told s) old new)
   made_front n rack old new some h =
-      for_all contents (λ told. WroteFront (IsOutput rack told s) old new)
+      for_all contents (λ told. WroteFront (IsRunOutput rack told s) old new)
       (λ told. subst (λ (o : Option Text). WroteFront (λ text. IsOutputFor rack s.budget told s.infs o s.made text) old new) (sym none)
       (subst (λ (m : Option ℕ). WroteFront (λ text. IsOutputFor rack s.budget told s.infs None m text) old new) (sym some) h))
 
-  pub made_answered : (read_rose write_rose : Type 0) (status : Status) → IsMadeAnswer status → (status ≡ Status.WriteFault → write_rose)
-      → IfSome contents (λ told. Answers (status_of told s) read_rose write_rose status)
-  made_answered read_rose write_rose status may wrote =
-      for_all contents (λ told. Answers (status_of told s) read_rose write_rose status)
-      (λ told. subst (λ (o : Option Text). Answers (status_for told s.infs o) read_rose write_rose status) (sym none) (answered_made read_rose write_rose status may wrote))
-
 -- one of the two there is
-pub few_made : (s : Settings) (n : ℕ) → HasSource s.script s.made → s.script ≡ None → s.made ≡ Some n → n ≤ 400
-few_made s n h none some =
-    let made : HasSource None (Some n) =
-    subst (λ (m : Option ℕ). HasSource None m) some (subst (λ (o : Option Text). HasSource o s.made) none h) in
-    made.1
+few_of : (n : ℕ) (check : Option Text) → HasSource None (Some n) check → n ≤ 400
+few_of n None h = h.1
+few_of n (Some trace) h = absurd h
 
-pub some_source : (s : Settings) → HasSource s.script s.made → s.script ≡ None → s.made ≡ None → ⊥
-some_source s h none no_made = subst (λ (m : Option ℕ). HasSource None m) no_made (subst (λ (o : Option Text). HasSource o s.made) none h)
+pub few_made : (s : Settings) (n : ℕ) → HasSource s.script s.made s.check → s.script ≡ None → s.made ≡ Some n → n ≤ 400
+few_made s n h none some =
+    few_of n s.check
+    (subst (λ (m : Option ℕ). HasSource None m s.check) some (subst (λ (o : Option Text). HasSource o s.made s.check) none h))
+
+none_of : (check : Option Text) → HasSource None None check → ⊥
+none_of None h = h
+none_of (Some trace) h = h
+
+pub some_source : (s : Settings) → HasSource s.script s.made s.check → s.script ≡ None → s.made ≡ None → ⊥
+some_source s h none no_made =
+    none_of s.check
+    (subst (λ (m : Option ℕ). HasSource None m s.check) no_made (subst (λ (o : Option Text). HasSource o s.made s.check) none h))
+
+-- a check has a script
+check_of : (made : Option ℕ) (trace : Text) → HasSource None made (Some trace) → ⊥
+check_of None trace h = h
+check_of (Some n) trace h = h
+
+pub check_source : (s : Settings) (trace : Text) → HasSource s.script s.made s.check → s.script ≡ None → s.check ≡ Some trace → ⊥
+check_source s trace h none some =
+    check_of s.made trace
+    (subst (λ (c : Option Text). HasSource None s.made c) some (subst (λ (o : Option Text). HasSource o s.made s.check) none h))

@@ -157,9 +157,10 @@ OfSource Says rack budget told infs (Some name) made text = OfInfs Says rack bud
 OfSource Says rack budget told infs None (Some n) text = OfMade Says rack budget n (inf gen_inf) text
 OfSource Says rack budget told infs None None text = Unit {0}
 
--- it is so of the output for the words, the contents that the files tell, and the kinds and books of a rack
+-- it is so of the output for the words, the contents that the files tell, and the kinds and books of a rack, where no trace is to be checked
 abbrev pub OfOutput : Said → List Text → Option (Text → Option (List ℕ)) → List Driver → Type 0
-OfOutput Says words contents rack = Given words contents (λ s told. (text : Text) → IsOutput rack told s text → OfSource Says rack s.budget told s.infs s.script s.made text)
+OfOutput Says words contents rack =
+    Given words contents (λ s told. s.check ≡ None → (text : Text) → IsOutput rack told s text → OfSource Says rack s.budget told s.infs s.script s.made text)
 
 -- The laws ----------------------------------------------------------------------------------
 

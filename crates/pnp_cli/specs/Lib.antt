@@ -2,6 +2,7 @@ pub mod Words
 pub mod Infs
 pub mod Outputs
 pub mod Contents
+pub mod Checks
 pub mod Tallies
 pub mod Turns
 pub mod Generated

@@ -18,6 +18,9 @@ budget_rule = record (new_rule (codes "budget")) { long = Some (codes "budget") 
 abbrev pub gen_rule : Rule
 gen_rule = record (new_rule (codes "gen")) { long = Some (codes "gen") }
 
+abbrev pub check_rule : Rule
+check_rule = record (new_rule (codes "check")) { long = Some (codes "check") }
+
 abbrev pub script_rule : Rule
 script_rule = new_rule (codes "script")
 
@@ -28,9 +31,9 @@ inf_rule = record (new_rule (codes "inf")) { action = Some Append }
 abbrev pub bare : App
 bare = on_top (λ s. record s { disable_help_flag = true }) (new_app (codes "pnpmgr"))
 
--- two options with a value each
+-- three options with a value each
 abbrev pub options : App
-options = with_rule (with_rule bare budget_rule) gen_rule
+options = with_rule (with_rule (with_rule bare budget_rule) gen_rule) check_rule
 
 -- these, one word for the script, and then any number of words for INFs
 abbrev pub pnpmgr : App
@@ -73,16 +76,16 @@ made_of (Some text) = option_map (λ n. Some n) (within 400 (number_of text))
 abbrev pub infs_of : List Row → List Text
 infs_of rows = unwrap_or (all_of (codes "inf") rows) []
 
--- the budget is good, and either a script is named or a good number of devices is to be generated, and not both
-abbrev pub given : Option Text → List Text → Option ℕ → Option (Option ℕ) → Option Settings
-given (Some script) infs (Some budget) (Some None) = Some (record { script = Some script; infs = infs; budget = budget; made = None })
-given None infs (Some budget) (Some (Some n)) = Some (record { script = None; infs = infs; budget = budget; made = Some n })
-given _ infs _ _ = None
+-- the budget is good, and either a script is named, with a trace to check or without, or a good number of devices is to be generated
+abbrev pub given : Option Text → List Text → Option ℕ → Option (Option ℕ) → Option Text → Option Settings
+given (Some script) infs (Some budget) (Some None) check = Some (record { script = Some script; infs = infs; budget = budget; made = None; check = check })
+given None infs (Some budget) (Some (Some n)) None = Some (record { script = None; infs = infs; budget = budget; made = Some n; check = None })
+given _ infs _ _ _ = None
 
 -- what was found gives settings where its parts are good and at most 64 INFs are named
 abbrev pub parts_of : List Row → Option Settings
 parts_of rows = if nat_le (length (infs_of rows)) 64
-    then given (first_of (codes "script") rows) (infs_of rows) (budget_of (first_of (codes "budget") rows)) (made_of (first_of (codes "gen") rows))
+    then given (first_of (codes "script") rows) (infs_of rows) (budget_of (first_of (codes "budget") rows)) (made_of (first_of (codes "gen") rows)) (first_of (codes "check") rows)
     else None
 
 -- The settings that the words of a command line give, or none where they are refused; the first word is the program's name.

@@ -2,6 +2,7 @@
 //! written.
 #![tactic(auto)]
 
+mod check;
 mod drivers;
 mod ending;
 mod generated;
@@ -11,6 +12,7 @@ mod made;
 mod parts;
 mod pieces;
 mod program;
+mod refusal;
 mod settle;
 mod status;
 mod summary;

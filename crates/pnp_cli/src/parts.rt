@@ -13,6 +13,8 @@ pub struct Settings {
     pub budget: u64,
     /// How many devices the generated script has, from 1 to 400; none where a script is named.
     pub made: Option<u64>,
+    /// The name of the trace that is checked, where one is; it needs a script.
+    pub check: Option<Text>,
 }
 
 /// Why words give no settings. This project's own.

@@ -1,8 +1,8 @@
-ghost use Rattle.std.specs.Prelude.{◌≡◌, ◌⊎◌, ◌<◌, ◌≤◌, ◌^◌, ℕ, List, [], ◌∷◌, ◌++◌, Some, None, Ok, IfSome, IfOk, OnOk, IsErrOf, map, length, true};
-ghost use Rattle.pnp_io.specs.Outside.{Rose, Appends, AppendsFront};
+ghost use Rattle.std.specs.Prelude.{◌≡◌, ◌⊎◌, ◌<◌, ◌≤◌, ◌^◌, [], ◌∷◌, ◌++◌, Some, None, IfSome, IfOk, IsErrOf, map, length, true};
+ghost use Rattle.pnp_io.specs.Outside.{Rose};
 ghost use Rattle.pnp_cli.specs.Words.{texts, settings_of};
-ghost use Rattle.pnp_cli.specs.Infs.{infs_in, refusal_line, SomeRose};
-ghost use Rattle.pnp_cli.specs.Runs.{named, IsPrintedFor, IsScriptOutput, IsOutput, IsOutputBy, machine, status_of, status_by, is_decided, is_whole, Wrote, Given, WroteFront, WroteOneFront, Answers, Untouched};
+ghost use Rattle.pnp_cli.specs.Infs.{infs_in, SomeRose};
+ghost use Rattle.pnp_cli.specs.Runs.{named, names_of, IsPrintedFor, IsScriptOutput, IsOutput, IsOutputBy, IsRunOutput, machine, status_of, status_by, is_decided, is_whole, Wrote, Given, WroteFront, WroteOneFront, Answers, Decides, Untouched};
 ghost use Rattle.pnp_cli.specs.Contents.{script_status};
 ghost use Rattle.pnp_cli.specs.Pieces.{answer_by};
 ghost use Rattle.pnp_cli.specs.Turns.{Awaits};
@@ -13,38 +13,24 @@ ghost use Rattle.pnp_cli.specs.Lawful.{OfOutput, SomeRun, OfRun, EachState, Each
 ghost use Rattle.pnp_cli.specs.Limits.{IsWithin};
 ghost use Rattle.driver_rack.specs.Rows.{unnamed};
 
+use crate::check::run_check;
 use crate::ending::write_end;
-use crate::infs::{InfsError, read_infs, refusal_line};
+use crate::infs::{InfsError, read_infs};
 use crate::made::run_made;
 use crate::parts::{Settings, WordsError};
 use crate::pieces::run_pieces;
+use crate::refusal::answer_refusal;
 use crate::status::Status;
 use crate::tally::Tally;
-use crate::turn::{PieceError, WriteError};
+use crate::turn::PieceError;
 use crate::words::settings;
 use device_ids::TextList;
 use driver_rack::{Driver, Drivers, Rack};
-use inf_reader::{Inf, InfError};
+use inf_reader::Inf;
 use notify_front::Front;
-use pnp_io::{Files, Sink, write_all};
+use pnp_io::{Files, Sink};
 use pnp_machine::Manager;
 use std::alloc::Global;
-
-/// Writes the line of a refused INF.
-fn tell_refusal<K: Sink>(
-    alloc: Global,
-    number: u64,
-    error: InfError,
-    sink: &mut K,
-) -> Result<(), WriteError>
-    ensures took { OnOk result (Appends (K.taken sink.old) (K.taken sink.new) (refusal_line number error)) }
-    ensures front { AppendsFront (K.taken sink.old) (K.taken sink.new) (refusal_line number error) }
-    ensures failed { IsErrOf result WriteError.WriteFault → Rose (K.faults sink.old) (K.faults sink.new) }
-{
-    let line = refusal_line(alloc, number, error)?;
-    write_all(sink, &line)?;
-    Ok(())
-}
 
 /// Runs the script of a name over a front to which nothing happened, and writes the end of the output. Where the script has a
 /// bad line its number is answered.
@@ -86,7 +72,6 @@ fn run_front<R: Drivers, F: Files, K: Sink>(
     ensures front { IfSome (F.contents files.old) (λ told. WroteFront (IsPrintedFor (told_of front.old) (front_of front.old) (told name.now)) (K.taken sink.old) (K.taken sink.new)) }
     ensures read_fault { result ≡ Status.ReadFault → Rose (F.faults files.old name.now) (F.faults files.new name.now) }
     ensures write_fault { result ≡ Status.WriteFault → Rose (K.faults sink.old) (K.faults sink.new) }
-    ensures answered { IfSome (F.contents files.old) (λ told. Answers (script_status (told name.now)) (Rose (F.faults files.old name.now) (F.faults files.new name.now)) (Rose (K.faults sink.old) (K.faults sink.new)) result) }
 {
     let mut tally = Tally { steps: 0, moved: 0 };
     match run_whole(alloc, front, name, files, sink, &mut tally) {
@@ -115,7 +100,6 @@ fn run_machine<R: Drivers, F: Files, K: Sink>(
     ensures front { IfSome (F.contents files.old) (λ told. WroteFront (IsPrintedFor (settings manager) (opening_front manager.state) (told name.now)) (K.taken sink.old) (K.taken sink.new)) }
     ensures read_fault { result ≡ Status.ReadFault → Rose (F.faults files.old name.now) (F.faults files.new name.now) }
     ensures write_fault { result ≡ Status.WriteFault → Rose (K.faults sink.old) (K.faults sink.new) }
-    ensures answered { IfSome (F.contents files.old) (λ told. Answers (script_status (told name.now)) (Rose (F.faults files.old name.now) (F.faults files.new name.now)) (Rose (K.faults sink.old) (K.faults sink.new)) result) }
 {
     let mut front = Front::new(alloc, manager);
     run_front(alloc, &mut front, name, files, sink)
@@ -139,25 +123,10 @@ fn run_script<R: Drivers, F: Files, K: Sink>(
     ensures front { IfSome (F.contents files.old) (λ told. WroteFront (IsScriptOutput (machine infs.items budget) (R.rows rack) (told name.now)) (K.taken sink.old) (K.taken sink.new)) }
     ensures read_fault { result ≡ Status.ReadFault → Rose (F.faults files.old name.now) (F.faults files.new name.now) }
     ensures write_fault { result ≡ Status.WriteFault → Rose (K.faults sink.old) (K.faults sink.new) }
-    ensures answered { IfSome (F.contents files.old) (λ told. Answers (script_status (told name.now)) (Rose (F.faults files.old name.now) (F.faults files.new name.now)) (Rose (K.faults sink.old) (K.faults sink.new)) result) }
 {
     match Manager::new(alloc, infs, rack, budget) {
         Ok(manager) => run_machine(alloc, manager, name, files, sink),
         Err(_) => Status::WantOfMemory,
-    }
-}
-
-/// Answers for a refused INF, whose line is written.
-fn answer_refusal<K: Sink>(alloc: Global, number: u64, error: InfError, sink: &mut K) -> Status
-    ensures only { (result ≡ Status.BadInf) ⊎ ((result ≡ Status.WriteFault) ⊎ (result ≡ Status.WantOfMemory)) }
-    ensures took { result ≡ Status.BadInf → Appends (K.taken sink.old) (K.taken sink.new) (refusal_line number error) }
-    ensures front { AppendsFront (K.taken sink.old) (K.taken sink.new) (refusal_line number error) }
-    ensures write_fault { result ≡ Status.WriteFault → Rose (K.faults sink.old) (K.faults sink.new) }
-{
-    match tell_refusal(alloc, number, error, sink) {
-        Ok(()) => Status::BadInf,
-        Err(WriteError::WriteFault) => Status::WriteFault,
-        Err(WriteError::WantOfMemory) => Status::WantOfMemory,
     }
 }
 
@@ -179,7 +148,6 @@ fn run_named<R: Drivers, F: Files, K: Sink>(
     ensures front { IfSome (F.contents files.old) (λ told. WroteFront (IsOutputBy (R.rows rack) budget (infs_in told infs.now) (told name.now)) (K.taken sink.old) (K.taken sink.new)) }
     ensures read_fault { result ≡ Status.ReadFault → SomeRose (F.faults files.old) (F.faults files.new) (infs.now ++ name.now ∷ []) }
     ensures write_fault { result ≡ Status.WriteFault → Rose (K.faults sink.old) (K.faults sink.new) }
-    ensures answered { IfSome (F.contents files.old) (λ told. Answers (status_by (infs_in told infs.now) (told name.now)) (SomeRose (F.faults files.old) (F.faults files.new) (infs.now ++ name.now ∷ [])) (Rose (K.faults sink.old) (K.faults sink.new)) result) }
 {
     match read_infs(alloc, files, infs) {
         Ok(infs) => run_script(alloc, name, infs, budget, rack, files, sink),
@@ -190,7 +158,7 @@ fn run_named<R: Drivers, F: Files, K: Sink>(
     }
 }
 
-/// Runs what the settings say: the script that they name, or the one that is generated.
+/// Runs what settings without a trace to check say: the script that they name, or the one that is generated.
 fn run_settings<R: Drivers, F: Files, K: Sink>(
     alloc: Global,
     settings: &Settings,
@@ -201,11 +169,10 @@ fn run_settings<R: Drivers, F: Files, K: Sink>(
     requires { IsWithin settings.now }
     ensures words { result ≡ Status.BadWords → ⊥ }
     ensures decided { is_decided result ≡ true → IfSome (F.contents files.old) (λ told. status_of told settings.now ≡ Some result) }
-    ensures whole { is_whole result ≡ true → IfSome (F.contents files.old) (λ told. Wrote (IsOutput (R.rows rack) told settings.now) (K.taken sink.old) (K.taken sink.new)) }
-    ensures front { IfSome (F.contents files.old) (λ told. WroteFront (IsOutput (R.rows rack) told settings.now) (K.taken sink.old) (K.taken sink.new)) }
-    ensures read_fault { result ≡ Status.ReadFault → SomeRose (F.faults files.old) (F.faults files.new) (named settings.now) }
+    ensures whole { is_whole result ≡ true → IfSome (F.contents files.old) (λ told. Wrote (IsRunOutput (R.rows rack) told settings.now) (K.taken sink.old) (K.taken sink.new)) }
+    ensures front { IfSome (F.contents files.old) (λ told. WroteFront (IsRunOutput (R.rows rack) told settings.now) (K.taken sink.old) (K.taken sink.new)) }
+    ensures read_fault { result ≡ Status.ReadFault → SomeRose (F.faults files.old) (F.faults files.new) (names_of settings.now.infs settings.now.script) }
     ensures write_fault { result ≡ Status.WriteFault → Rose (K.faults sink.old) (K.faults sink.new) }
-    ensures answered { IfSome (F.contents files.old) (λ told. Answers (status_of told settings.now) (SomeRose (F.faults files.old) (F.faults files.new) (named settings.now)) (Rose (K.faults sink.old) (K.faults sink.new)) result) }
 {
     let budget = settings.budget;
     match &settings.script {
@@ -225,6 +192,30 @@ fn run_settings<R: Drivers, F: Files, K: Sink>(
     }
 }
 
+/// The same over drivers that become a rack.
+fn run_drivers<D: Driver, F: Files, K: Sink>(
+    alloc: Global,
+    settings: &Settings,
+    drivers: Vec<D>,
+    files: &mut F,
+    sink: &mut K,
+) -> Status
+    requires within { IsWithin settings.now }
+    requires drivers { length drivers.items < 2 ^ 32 }
+    requires none { settings.now.check ≡ None }
+    ensures words { result ≡ Status.BadWords → ⊥ }
+    ensures decided { is_decided result ≡ true → IfSome (F.contents files.old) (λ told. Decides (map (λ d. unnamed (D.kind_of d) (D.book d)) drivers.items) told settings.now result) }
+    ensures whole { is_whole result ≡ true → IfSome (F.contents files.old) (λ told. Wrote (IsOutput (map (λ d. unnamed (D.kind_of d) (D.book d)) drivers.items) told settings.now) (K.taken sink.old) (K.taken sink.new)) }
+    ensures front { IfSome (F.contents files.old) (λ told. WroteFront (IsOutput (map (λ d. unnamed (D.kind_of d) (D.book d)) drivers.items) told settings.now) (K.taken sink.old) (K.taken sink.new)) }
+    ensures read_fault { result ≡ Status.ReadFault → SomeRose (F.faults files.old) (F.faults files.new) (named settings.now) }
+    ensures write_fault { result ≡ Status.WriteFault → Rose (K.faults sink.old) (K.faults sink.new) }
+{
+    match Rack::make(alloc, drivers) {
+        Ok(rack) => run_settings(alloc, settings, rack, files, sink),
+        Err(_) => Status::WantOfMemory,
+    }
+}
+
 /// The same as `run`, over drivers of one type; the laws are clauses of `run` alone.
 fn run_over<D: Driver, F: Files, K: Sink>(
     alloc: Global,
@@ -237,19 +228,18 @@ fn run_over<D: Driver, F: Files, K: Sink>(
     ensures bad_words { result ≡ Status.BadWords → settings_of (texts words.now) ≡ None }
     ensures refused { settings_of (texts words.now) ≡ None → (result ≡ Status.BadWords) ⊎ (result ≡ Status.WantOfMemory) }
     ensures untouched { settings_of (texts words.now) ≡ None → Untouched F.contents F.faults K.taken K.faults files.old files.new sink.old sink.new }
-    ensures decided { is_decided result ≡ true → Given (texts words.now) (F.contents files.old) (λ s told. status_of told s ≡ Some result) }
+    ensures decided { is_decided result ≡ true → Given (texts words.now) (F.contents files.old) (λ s told. Decides (map (λ d. unnamed (D.kind_of d) (D.book d)) drivers.items) told s result) }
     ensures whole { is_whole result ≡ true → Given (texts words.now) (F.contents files.old) (λ s told. Wrote (IsOutput (map (λ d. unnamed (D.kind_of d) (D.book d)) drivers.items) told s) (K.taken sink.old) (K.taken sink.new)) }
     ensures front { Given (texts words.now) (F.contents files.old) (λ s told. WroteFront (IsOutput (map (λ d. unnamed (D.kind_of d) (D.book d)) drivers.items) told s) (K.taken sink.old) (K.taken sink.new)) }
     ensures read_fault { result ≡ Status.ReadFault → IfSome (settings_of (texts words.now)) (λ s. SomeRose (F.faults files.old) (F.faults files.new) (named s)) }
     ensures write_fault { result ≡ Status.WriteFault → Rose (K.faults sink.old) (K.faults sink.new) }
-    ensures answered { Given (texts words.now) (F.contents files.old) (λ s told. Answers (status_of told s) (SomeRose (F.faults files.old) (F.faults files.new) (named s)) (Rose (K.faults sink.old) (K.faults sink.new)) result) }
 {
     match settings(alloc, words) {
         Err(WordsError::BadWords) => Status::BadWords,
         Err(WordsError::WantOfMemory) => Status::WantOfMemory,
-        Ok(settings) => match Rack::make(alloc, drivers) {
-            Ok(rack) => run_settings(alloc, &settings, rack, files, sink),
-            Err(_) => Status::WantOfMemory,
+        Ok(settings) => match &settings.check {
+            Some(trace) => run_check(alloc, &settings, trace.bytes(), &drivers, files, sink),
+            None => run_drivers(alloc, &settings, drivers, files, sink),
         },
     }
 }
@@ -257,7 +247,9 @@ fn run_over<D: Driver, F: Files, K: Sink>(
 /// Reads the words, then each INF that they name, which is checked before the next one is read, and then the
 /// script, runs it over the drivers of a rack, and writes its output and nothing else; where an INF is refused,
 /// its number, error and line are the output. With `--gen N` no file is read: the script and the INF are generated ones, and the
-/// summary of the run is all that is written. The condition is that the rack has fewer than 2^32 drivers. Each
+/// summary of the run is all that is written. With `--check TRACE` the INFs, the trace and the script are read, each whole and in
+/// this order, nothing is run, and the output is the line `yes` where the trace is a run of the machine for the script over drivers of
+/// these kinds, whatever they answer, or else `no line N` with its first line that is not. The condition is that the rack has fewer than 2^32 drivers. Each
 /// status comes as its clauses say; after a fault, and after want of memory, what was written is a front of the
 /// output. The output tells a run of the front, and of the machine behind it, that keeps the laws of the last clauses. It always
 /// returns. Cost: near linear in the bytes read, and that of the steps of front and machine. This project's own.
@@ -272,12 +264,12 @@ pub fn run<F: Files, K: Sink>(
     ensures bad_words { result ≡ Status.BadWords → settings_of (texts words.now) ≡ None }
     ensures refused { settings_of (texts words.now) ≡ None → (result ≡ Status.BadWords) ⊎ (result ≡ Status.WantOfMemory) }
     ensures untouched { settings_of (texts words.now) ≡ None → Untouched F.contents F.faults K.taken K.faults files.old files.new sink.old sink.new }
-    ensures decided { is_decided result ≡ true → Given (texts words.now) (F.contents files.old) (λ s told. status_of told s ≡ Some result) }
+    ensures decided { is_decided result ≡ true → Given (texts words.now) (F.contents files.old) (λ s told. Decides (map (λ b. unnamed (kind_of b) (book b)) rack.items) told s result) }
     ensures whole { is_whole result ≡ true → Given (texts words.now) (F.contents files.old) (λ s told. Wrote (IsOutput (map (λ b. unnamed (kind_of b) (book b)) rack.items) told s) (K.taken sink.old) (K.taken sink.new)) }
     ensures front { Given (texts words.now) (F.contents files.old) (λ s told. WroteOneFront (IsOutput (map (λ b. unnamed (kind_of b) (book b)) rack.items) told s) (K.taken sink.old) (K.taken sink.new)) }
     ensures read_fault { result ≡ Status.ReadFault → IfSome (settings_of (texts words.now)) (λ s. SomeRose (F.faults files.old) (F.faults files.new) (named s)) }
     ensures write_fault { result ≡ Status.WriteFault → Rose (K.faults sink.old) (K.faults sink.new) }
-    ensures answered { Given (texts words.now) (F.contents files.old) (λ s told. Answers (status_of told s) (SomeRose (F.faults files.old) (F.faults files.new) (named s)) (Rose (K.faults sink.old) (K.faults sink.new)) result) }
+    ensures answered { Given (texts words.now) (F.contents files.old) (λ s told. Answers (Decides (map (λ b. unnamed (kind_of b) (book b)) rack.items) told s) (SomeRose (F.faults files.old) (F.faults files.new) (named s)) (Rose (K.faults sink.old) (K.faults sink.new)) result) }
     ensures tells { OfOutput SomeRun (texts words.now) (F.contents files.old) (map (λ b. unnamed (kind_of b) (book b)) rack.items) }
     ensures diagram { OfOutput (EachStep ByDiagram) (texts words.now) (F.contents files.old) (map (λ b. unnamed (kind_of b) (book b)) rack.items) }
     ensures sharing { OfOutput (EachState NothingClashes) (texts words.now) (F.contents files.old) (map (λ b. unnamed (kind_of b) (book b)) rack.items) }

@@ -1,7 +1,7 @@
 /// How a run ended; the number is the program's exit status. This project's own.
 #[derive(Clone, Copy, Debug, PartialEq, Eq)]
 pub enum Status {
-    /// The script was read to its end, and the whole output was written.
+    /// The script was read to its end, or the trace that was checked is a run; the whole output was written.
     Done = 0,
     /// A line of the script is outside the language; the trace so far, the line's number and the end of the
     /// output were written.
@@ -18,4 +18,6 @@ pub enum Status {
     WantOfMemory = 6,
     /// A file has more than 16,777,216 bytes; what was written is a front of the output.
     TooLarge = 7,
+    /// The trace that was checked is no run of the machine for the script; the line that says so was written.
+    NotARun = 8,
 }

@@ -27,18 +27,20 @@ const MOST_MADE: u64 = 400;
 /// The most digits of a number: this project's own.
 const MOST_DIGITS: usize = 7;
 
-/// The options of the command: `[--budget N] [--gen N]`.
+/// The options of the command: `[--budget N] [--gen N] [--check TRACE]`.
 fn options<'a>(alloc: Global) -> Result<Command<'a>, WantOfMemory>
     ensures { IfOk result (λ c. app_of c ≡ options) }
 {
     let budget = Arg::new(alloc, "budget").long("budget");
     let made = Arg::new(alloc, "gen").long("gen");
     let plain = Command::new(alloc, "pnpmgr").disable_help_flag(true);
+    let check = Arg::new(alloc, "check").long("check");
     let with_budget = plain.arg(budget)?;
-    with_budget.arg(made)
+    let with_made = with_budget.arg(made)?;
+    with_made.arg(check)
 }
 
-/// The command: `pnpmgr [--budget N] [--gen N] [SCRIPT [INF ...]]`.
+/// The command: `pnpmgr [--budget N] [--gen N] [--check TRACE] [SCRIPT [INF ...]]`.
 fn command<'a>(alloc: Global) -> Result<Command<'a>, WantOfMemory>
     ensures { IfOk result (λ c. app_of c ≡ pnpmgr) }
 {
@@ -157,16 +159,27 @@ fn infs_found(alloc: Global, found: &ArgMatches) -> Result<TextList, WordsError>
     }
 }
 
-/// The settings of good parts: a script is named, or devices are to be generated, and not both.
+/// A text, if there is one, copied.
+fn text_of(alloc: Global, text: Option<&str>) -> Result<Option<Text>, WantOfMemory>
+    ensures { IfOk result (λ copy. copy ≡ option_map (λ t. t.now) text.entry) }
+{
+    match text {
+        None => Ok(None),
+        Some(text) => Ok(Some(Text::make(alloc, text.as_bytes())?)),
+    }
+}
+
+/// The settings of good parts: a script is named, and perhaps a trace to check; or devices are to be generated.
 fn with_source(
     alloc: Global,
     script: Option<&str>,
     infs: TextList,
     budget: u64,
     made: Option<u64>,
+    check: Option<&str>,
 ) -> Result<Settings, WordsError>
-    ensures ok { IfOk result (λ s. given (option_map (λ t. t.now) script.entry) infs (Some budget) (Some made) ≡ Some s) }
-    ensures bad { IsErrOf result BadWords → given (option_map (λ t. t.now) script.entry) infs (Some budget) (Some made) ≡ None }
+    ensures ok { IfOk result (λ s. given (option_map (λ t. t.now) script.entry) infs (Some budget) (Some made) (option_map (λ t. t.now) check.entry) ≡ Some s) }
+    ensures bad { IsErrOf result BadWords → given (option_map (λ t. t.now) script.entry) infs (Some budget) (Some made) (option_map (λ t. t.now) check.entry) ≡ None }
 {
     match script {
         Some(name) => {
@@ -174,21 +187,29 @@ fn with_source(
                 return Err(WordsError::BadWords);
             }
             let script = Some(Text::make(alloc, name.as_bytes())?);
+            let check = text_of(alloc, check)?;
             Ok(Settings {
                 script,
                 infs,
                 budget,
                 made: None,
+                check,
             })
         }
         None => match made {
             None => Err(WordsError::BadWords),
-            Some(n) => Ok(Settings {
-                script: None,
-                infs,
-                budget,
-                made: Some(n),
-            }),
+            Some(n) => {
+                if check.is_some() {
+                    return Err(WordsError::BadWords);
+                }
+                Ok(Settings {
+                    script: None,
+                    infs,
+                    budget,
+                    made: Some(n),
+                    check: None,
+                })
+            }
         },
     }
 }
@@ -205,14 +226,15 @@ fn settings_from(alloc: Global, found: &ArgMatches) -> Result<Settings, WordsErr
     let Some(made) = made_of(text_found(found, "gen")) else {
         return Err(WordsError::BadWords);
     };
-    with_source(alloc, text_found(found, "script"), infs, budget, made)
+    let check = text_found(found, "check");
+    with_source(alloc, text_found(found, "script"), infs, budget, made, check)
 }
 
 /// The settings that the words give: the program's name, which is not looked at, and then
-/// `[--budget N] [--gen N] [SCRIPT [INF ...]]`, as one simple command. `BadWords` comes only where the command refuses the
-/// words, a script is named beside `--gen` or neither is, a number is not one to seven decimal digits, the budget is outside 1 to
-/// 1,000,000, the number of devices outside 1 to 400, or more than 64 INFs are named; and there nothing but `WantOfMemory` may come
-/// in its place. Cost: the words' bytes. This project's own.
+/// `[--budget N] [--gen N] [--check TRACE] [SCRIPT [INF ...]]`, as one simple command. `BadWords` comes only where the command refuses
+/// the words, a script is named beside `--gen` or neither is, a number is not one to seven decimal digits, the budget is outside 1 to
+/// 1,000,000, the number of devices outside 1 to 400, more than 64 INFs are named, or `--gen` and `--check` are both given; and there
+/// nothing but `WantOfMemory` may come in its place. Cost: the words' bytes. This project's own.
 pub fn settings(alloc: Global, words: &[String]) -> Result<Settings, WordsError>
     ensures ok { IfOk result (λ s. settings_of (texts words.now) ≡ Some s) }
     ensures bad { IsErrOf result BadWords → settings_of (texts words.now) ≡ None }

@@ -1,10 +1,17 @@
 use Rattle.pnp_cli.specs.Words.{texts, settings_of}
 use Rattle.pnp_cli.proofs.Lawfulness.{output_tells, output_by_diagram, output_shares, output_holds_whole, output_restores, output_dependents, output_conflicts, output_begins, output_joins, output_told, output_keyed, output_acyclic, output_map_clear, output_stacks, output_names, output_remembers, output_holds_parts, output_inside_windows, output_handles, output_holds_few, output_shown, output_tree, output_of_machine, output_asks, output_hears, output_declines, output_notices, output_alone}
+use Rattle.pnp_cli.proofs.Answered.{all_answered}
 use Rattle.pnp_cli.proofs.OneOutput.{one_front}
+use Rattle.pnp_io.specs.Outside.{Rose}
 use Rattle.pnp_cli.proofs.program.run.Goals as goal
 
 pub returns-clause-front : goal.returns-clause-front
 returns-clause-front g c = one_front (settings_of (texts c.args.words.now)) (g.F.Files.contents c.args.files.now) _ (g.K.Sink.taken c.args.sink.now) (g.K.Sink.taken c.run_over.new.sink) c.run_over.ensures.front
+
+pub returns-clause-answered : goal.returns-clause-answered
+returns-clause-answered g c =
+    all_answered (settings_of (texts c.args.words.now)) (g.F.Files.contents c.args.files.now) _ (g.F.Files.faults c.args.files.now) (g.F.Files.faults c.run_over.new.files)
+    (Rose (g.K.Sink.faults c.args.sink.now) (g.K.Sink.faults c.run_over.new.sink)) c.run_over.result c.run_over.ensures.bad_words c.run_over.ensures.decided c.run_over.ensures.read_fault c.run_over.ensures.write_fault
 
 pub returns-clause-tells : goal.returns-clause-tells
 returns-clause-tells g c = output_tells (texts c.args.words.now) (g.F.Files.contents c.args.files.now) _

@@ -1,0 +1,101 @@
+-- What the check of a trace comes to, file after file.
+use Rattle.std.proofs.Common.{◌≡◌, ◌⊎◌, inl, inr, ℕ, Bool, true, false, List, [], ◌∷◌, ◌++◌, map, Option, Some, None, IfSome, Result, Ok, Err, IsErrAnd, refl, sym, ◌∙◌, ap, subst}
+use Rattle.pnp_io.specs.Outside.{Appends, AppendsFront}
+use Rattle.pnp_labels.specs.Texts.{Text}
+use Rattle.pnp_labels.specs.declared.event.Rule.{Rule}
+use Rattle.pnp_labels.specs.declared.words.DriverKind.{DriverKind}
+use Rattle.pnp_model.specs.Records.{Driver}
+use Rattle.driver_rack.specs.Rows.{unnamed}
+use Rattle.inf_reader.specs.declared.parts.Inf.{Inf}
+use Rattle.inf_reader.specs.declared.parts.InfError.{InfError}
+use Rattle.start_sequence.specs.Begins.{settings_of}
+use Rattle.free_model.specs.Checks.{IsChecked, Verdict, Yes, No, beginning}
+use Rattle.free_model.proofs.OneVerdict.{one_verdict}
+use Rattle.trace_check.specs.Verdicts.{verdict}
+use Rattle.trace_check.specs.declared.check.Checked.{Checked}
+use Rattle.pnp_cli.specs.Checks.{AnswersOutcome, ComesTo, GivesFile, GivesOutcome, IsOutcome, Outcome, ShowsOutcome, file_in, outcome_status, outcome_text, verdict_line, verdict_status}
+use Rattle.pnp_cli.specs.Contents.{events_of}
+use Rattle.pnp_cli.specs.Infs.{SomeRose, infs_in, refusal_line}
+use Rattle.pnp_cli.specs.Runs.{Decides, DecidesWith, IsOutput, IsOutputWith, IsRunOutput, IsVerdict, VerdictLaw, Wrote, WroteFront, is_decided, is_whole, named, names_by, names_of, status_of}
+use Rattle.pnp_cli.specs.declared.infs.InfsError.{InfsError}
+use Rattle.pnp_cli.specs.declared.infs.InfsError.TheVariants.{ReadFault, TooLarge, Refused, WantOfMemory}
+use Rattle.pnp_cli.specs.declared.parts.Settings.{Settings}
+use Rattle.pnp_cli.specs.declared.status.Status.{Status}
+use Rattle.pnp_cli.proofs.Fronts.{all_is_front, none_is_front}
+use Rattle.pnp_cli.proofs.SomeVerdict.{some_verdict}
+
+-- The files --------------------------------------------------------------------------------
+
+-- a file that was not taken decides what the check comes to
+file_stopped : (error : InfsError) (Is : Outcome → Type 0) (meaning : Result Text InfsError) → GivesFile (Err error) meaning → (meaning ≡ Err error → Is (Err error)) → GivesOutcome (Err error) Is
+file_stopped ReadFault Is meaning h f = tt
+file_stopped WantOfMemory Is meaning h f = tt
+file_stopped TooLarge Is meaning h f = f h
+file_stopped (Refused number why) Is meaning h f = f h
+
+module _ (contents : Option (Text → Option (List ℕ))) (kinds : List DriverKind) (budget : ℕ) (infs : List Inf) (trace script : Text) where
+  pub trace_stops : (error : InfsError) → IfSome contents (λ told. GivesFile (Err error) (file_in (told trace)))
+      → IfSome contents (λ told. GivesOutcome (Err error) (ComesTo kinds budget (Ok infs) (file_in (told trace)) (file_in (told script))))
+  trace_stops error h =
+      elim contents as (λ o. IfSome o (λ told. GivesFile (Err error) (file_in (told trace)))
+      → IfSome o (λ told. GivesOutcome (Err error) (ComesTo kinds budget (Ok infs) (file_in (told trace)) (file_in (told script))))) [
+        | None ↦ λ g. tt
+        | Some told ↦ λ g.
+            file_stopped error (ComesTo kinds budget (Ok infs) (file_in (told trace)) (file_in (told script))) (file_in (told trace)) g
+            (λ is. subst (λ (m : Result Text InfsError). ComesTo kinds budget (Ok infs) m (file_in (told script)) (Err error)) (sym is) refl)
+      ] h
+
+  pub script_stops : (read : List ℕ) (error : InfsError) → IfSome contents (λ told. file_in (told trace) ≡ Ok read) → IfSome contents (λ told. GivesFile (Err error) (file_in (told script)))
+      → IfSome contents (λ told. GivesOutcome (Err error) (ComesTo kinds budget (Ok infs) (file_in (told trace)) (file_in (told script))))
+  script_stops read error first h =
+      elim contents as (λ o. IfSome o (λ told. file_in (told trace) ≡ Ok read) → IfSome o (λ told. GivesFile (Err error) (file_in (told script)))
+      → IfSome o (λ told. GivesOutcome (Err error) (ComesTo kinds budget (Ok infs) (file_in (told trace)) (file_in (told script))))) [
+        | None ↦ λ f g. tt
+        | Some told ↦ λ f g.
+            file_stopped error (ComesTo kinds budget (Ok infs) (file_in (told trace)) (file_in (told script))) (file_in (told script)) g
+            (λ is. subst (λ (m : Result Text InfsError). ComesTo kinds budget (Ok infs) m (file_in (told script)) (Err error)) (sym f)
+            (subst (λ (m : Result Text InfsError). ComesTo kinds budget (Ok infs) (Ok read) m (Err error)) (sym is) refl))
+      ] first h
+
+  pub all_read : (read bytes : List ℕ) (checked : Checked) → IfSome contents (λ told. file_in (told trace) ≡ Ok read) → IfSome contents (λ told. file_in (told script) ≡ Ok bytes)
+      → IsChecked (settings_of infs budget) (beginning kinds (events_of bytes)) read (verdict checked)
+      → IfSome contents (λ told. ComesTo kinds budget (Ok infs) (file_in (told trace)) (file_in (told script)) (Ok (verdict checked)))
+  all_read read bytes checked first second is =
+      elim contents as (λ o. IfSome o (λ told. file_in (told trace) ≡ Ok read) → IfSome o (λ told. file_in (told script) ≡ Ok bytes)
+      → IfSome o (λ told. ComesTo kinds budget (Ok infs) (file_in (told trace)) (file_in (told script)) (Ok (verdict checked)))) [
+        | None ↦ λ f g. tt
+        | Some told ↦ λ f g.
+            subst (λ (m : Result Text InfsError). ComesTo kinds budget (Ok infs) m (file_in (told script)) (Ok (verdict checked))) (sym f)
+            (subst (λ (m : Result Text InfsError). ComesTo kinds budget (Ok infs) (Ok read) m (Ok (verdict checked))) (sym g) (verdict checked, is, refl))
+      ] first second
+
+-- what a `?` returns
+pub outcome_passed : (r : Result Checked InfsError) (error : InfsError) (contents : Option (Text → Option (List ℕ))) (Is : (Text → Option (List ℕ)) → Outcome → Type 0)
+    → IsErrAnd r (λ e. e ≡ error) → IfSome contents (λ told. GivesOutcome (Err error) (Is told)) → IfSome contents (λ told. GivesOutcome r (Is told))
+outcome_passed (Ok checked) error contents Is h given = absurd h
+outcome_passed (Err e) error contents Is h given =
+    let P : InfsError → Type 0 = λ x. IfSome contents (λ told. GivesOutcome (Err x) (Is told)) in
+    subst P (sym h) given
+
+-- There is one verdict ------------------------------------------------------------------------
+
+pub exactly_one_verdict : VerdictLaw
+exactly_one_verdict settings kinds script trace =
+    let some = some_verdict settings (beginning kinds (events_of script)) trace in
+    (some.0, some.1, λ other is. one_verdict settings (beginning kinds (events_of script)) trace other some.0 is some.1)
+
+pub some_outcome : (kinds : List DriverKind) (budget : ℕ) (infs : Result (List Inf) InfsError) (trace script : Result Text InfsError) → (outcome : Outcome) × ComesTo kinds budget infs trace script outcome
+some_outcome kinds budget (Err error) trace script = (Err error, refl)
+some_outcome kinds budget (Ok infs) (Err error) script = (Err error, refl)
+some_outcome kinds budget (Ok infs) (Ok trace) (Err error) = (Err error, refl)
+some_outcome kinds budget (Ok infs) (Ok trace) (Ok script) =
+    let some = some_verdict (settings_of infs budget) (beginning kinds (events_of script)) trace in
+    (Ok some.0, (some.0, some.1, refl))
+
+pub one_outcome : (kinds : List DriverKind) (budget : ℕ) (infs : Result (List Inf) InfsError) (trace script : Result Text InfsError) (x y : Outcome)
+    → ComesTo kinds budget infs trace script x → ComesTo kinds budget infs trace script y → x ≡ y
+one_outcome kinds budget (Err error) trace script x y h g = h ∙ sym g
+one_outcome kinds budget (Ok infs) (Err error) script x y h g = h ∙ sym g
+one_outcome kinds budget (Ok infs) (Ok trace) (Err error) x y h g = h ∙ sym g
+one_outcome kinds budget (Ok infs) (Ok trace) (Ok script) x y (v, is, e) (w, too, f) =
+    e ∙ ap Ok (one_verdict (settings_of infs budget) (beginning kinds (events_of script)) trace v w is too) ∙ sym f
