@@ -1,6 +1,8 @@
 -- What the check of a trace comes to, file after file.
-use Rattle.std.proofs.Common.{◌≡◌, ◌⊎◌, inl, inr, ℕ, Bool, true, false, List, [], ◌∷◌, ◌++◌, map, Option, Some, None, IfSome, Result, Ok, Err, IsErrAnd, refl, sym, ◌∙◌, ap, subst}
-use Rattle.pnp_io.specs.Outside.{Appends, AppendsFront}
+use Rattle.std.proofs.Common.{◌≡◌, ◌≤◌, ◌<◌, inl, inr, ℕ, List, ◌++◌, Option, Some, None, IfSome, Result, Ok, Err, IsErrAnd, arith, refl, sym, ◌∙◌, ap, subst}
+use Rattle.std.specs.Prelude.{IsErrOf}
+use Rattle.std.proofs.lemmas.List.Elements.{Contains-append_right}
+use Rattle.pnp_io.specs.Outside.{Rose}
 use Rattle.pnp_labels.specs.Texts.{Text}
 use Rattle.pnp_labels.specs.declared.event.Rule.{Rule}
 use Rattle.pnp_labels.specs.declared.words.DriverKind.{DriverKind}
@@ -99,3 +101,19 @@ one_outcome kinds budget (Ok infs) (Err error) script x y h g = h ∙ sym g
 one_outcome kinds budget (Ok infs) (Ok trace) (Err error) x y h g = h ∙ sym g
 one_outcome kinds budget (Ok infs) (Ok trace) (Ok script) x y (v, is, e) (w, too, f) =
     e ∙ ap Ok (one_verdict (settings_of infs budget) (beginning kinds (events_of script)) trace v w is too) ∙ sym f
+
+-- Faults of reads ---------------------------------------------------------------------------------
+
+rose_before : (a b c : ℕ) → a ≤ b → Rose b c → Rose a c
+rose_before a b c low (inl up) = inl (omega (arith, low, up))
+rose_before a b c low (inr top) = inr top
+
+-- a count that rose after others did not fall
+pub rose_later : (old mid new : Text → ℕ) (first names : List Text) → ((other : Text) → old other ≤ mid other) → SomeRose mid new names → SomeRose old new (first ++ names)
+rose_later old mid new first names low h =
+    record { name = h.name; named = Contains-append_right first names h.name h.named; rose = rose_before (old h.name) (mid h.name) (new h.name) (low h.name) h.rose }
+
+-- what a `?` returns
+pub fault_passed : {A B : Type 0} (r : Result A InfsError) (error : InfsError) → IsErrAnd r (λ e. e ≡ error) → IsErrOf r ReadFault → IsErrOf {T = B} {E = InfsError} (Err error) ReadFault
+fault_passed (Ok read) error h g = absurd h
+fault_passed (Err e) error h g = let same : e ≡ ReadFault = cc in ap Err (sym h ∙ same)

@@ -6,7 +6,7 @@ use std::alloc::{AllocError, Global};
 use std::process::Abort;
 use std::test::Fail;
 
-/// What the words say: the script, the INFs and the budget, or how many devices are generated and the budget.
+/// What the words say: the script, the INFs, the trace to check and the budget, or how many devices are generated and the budget.
 fn said(alloc: Global, settings: &Settings) -> Result<Vec<u8>, AllocError> {
     let mut said = Vec::new(alloc);
     match &settings.script {
@@ -21,12 +21,16 @@ fn said(alloc: Global, settings: &Settings) -> Result<Vec<u8>, AllocError> {
         let made = format!(in alloc; " made {n}")?;
         said.extend_from_slice(made.as_bytes())?;
     }
+    if let Some(trace) = &settings.check {
+        said.extend_from_slice(b" check ")?;
+        said.extend_from_slice(trace.bytes())?;
+    }
     let budget = format!(in alloc; " {}", settings.budget)?;
     said.extend_from_slice(budget.as_bytes())?;
     Ok(said)
 }
 
-const GOOD: [(&[&str], &[u8]); 13] = [
+const GOOD: [(&[&str], &[u8]); 16] = [
     (&["pnpmgr", "s"], b"s 20000"),
     (&["-", "s"], b"s 20000"),
     (&["pnpmgr", "s", "i", "j"], b"s i j 20000"),
@@ -46,6 +50,15 @@ const GOOD: [(&[&str], &[u8]); 13] = [
         b"none made 50 5",
     ),
     (&["pnpmgr", "--", "--gen", "1"], b"--gen 1 20000"),
+    (
+        &["pnpmgr", "--check", "t", "s", "i"],
+        b"s i check t 20000",
+    ),
+    (
+        &["pnpmgr", "s", "--budget=5", "--check=t"],
+        b"s check t 5",
+    ),
+    (&["pnpmgr", "s", "--", "--check"], b"s --check 20000"),
 ];
 
 #[test]
@@ -64,7 +77,7 @@ fn good_words(rt: HostRuntime) -> Result<(), Fail> {
     Ok(())
 }
 
-const BAD: [&[&str]; 27] = [
+const BAD: [&[&str]; 33] = [
     &[],
     &["pnpmgr"],
     &["pnpmgr", "--budget", "0", "s"],
@@ -78,6 +91,12 @@ const BAD: [&[&str]; 27] = [
     &["pnpmgr", "--gen"],
     &["pnpmgr", "--gen", "00000001"],
     &["pnpmgr", "--gen", "1", "--gen", "1"],
+    &["pnpmgr", "--gen", "3", "--check", "t"],
+    &["pnpmgr", "--check", "t", "--gen", "3", "s"],
+    &["pnpmgr", "--check", "t"],
+    &["pnpmgr", "s", "--check"],
+    &["pnpmgr", "--check", "t", "--check", "t", "s"],
+    &["pnpmgr", "--check", "-t", "s"],
     &["pnpmgr", "--budget", "1000001", "s"],
     &["pnpmgr", "--budget", "00000001", "s"],
     &["pnpmgr", "--budget", "0x10", "s"],
