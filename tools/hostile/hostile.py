@@ -10,7 +10,7 @@ HERE = os.path.dirname(os.path.abspath(__file__))
 TOP = os.path.dirname(os.path.dirname(HERE))
 PROGRAM = sys.argv[1] if len(sys.argv) > 1 else os.path.join(TOP, "crates/pnpmgr/out/pnpmgr")
 EXAMPLES = os.path.join(TOP, "examples")
-DONE, BAD_SCRIPT, BAD_WORDS, READ, WRITE, BAD_INF, MEMORY, LARGE = range(8)
+DONE, BAD_SCRIPT, BAD_WORDS, READ, WRITE, BAD_INF, MEMORY, LARGE, NOT_A_RUN = range(9)
 LIMIT = 16777216
 END = b"tree\n0 HTREE\\ROOT\\0 Started\nmap\noutstanding\n"
 wrong = []
@@ -88,6 +88,11 @@ def failing_calls(d):
             expect("%s, %s=1" % (name, variable), run(words, {"LD_PRELOAD": so, variable: "1"}), whole[0], whole[1])
     sweep(so, "--gen 2", ["--gen", "2"], "FAIL_ALLOC", "alloc", [MEMORY])
     sweep(so, "--gen 2", ["--gen", "2"], "FAIL_WRITE", "write", [WRITE])
+    checked = [os.path.join(EXAMPLES, "veto", name) for name in ("veto.out", "veto.pnp", "veto.inf")]
+    words = ["--check"] + checked
+    expect("--check", run(words), DONE, b"yes\n")
+    for variable, counted, allowed in (("FAIL_ALLOC", "alloc", MEMORY), ("FAIL_OPEN", "open", READ), ("FAIL_READ", "read", READ), ("FAIL_WRITE", "write", WRITE)):
+        sweep(so, "--check", words, variable, counted, [allowed])
 
 
 def words_and_files(d):
@@ -99,6 +104,10 @@ def words_and_files(d):
     expect("65 INFs", run([at("empty")] + [at("empty")] * 65), BAD_WORDS, b"")
     expect("10,000 words", run(["w"] * 10000), BAD_WORDS, b"")
     expect("--gen and a script", run(["--gen", "1", at("empty")]), BAD_WORDS, b"")
+    expect("--gen and --check", run(["--gen", "1", "--check", at("empty")]), BAD_WORDS, b"")
+    expect("--check without a script", run(["--check", at("empty")]), BAD_WORDS, b"")
+    expect("--check, all empty", run(["--check", at("empty"), at("empty")]), NOT_A_RUN, b"no line 1\n")
+    expect("--check of a folder", run(["--check", d, at("empty")]), READ, b"")
     expect("--gen 401", run(["--gen", "401"]), BAD_WORDS, b"")
     expect("--gen 50", run(["--gen", "50"]), DONE, b"devices 50\nsteps 765\nstarted 51\nproblem12 0\nmoved 1\n")
     expect("an empty script", run([at("empty")]), DONE, END)

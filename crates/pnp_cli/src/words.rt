@@ -169,6 +169,28 @@ fn text_of(alloc: Global, text: Option<&str>) -> Result<Option<Text>, WantOfMemo
     }
 }
 
+/// The settings of good parts without a script: devices are to be generated, and no trace is to be checked.
+fn generated(
+    infs: TextList,
+    budget: u64,
+    made: Option<u64>,
+    check: Option<&str>,
+) -> Result<Settings, WordsError>
+    ensures ok { IfOk result (λ s. given None infs (Some budget) (Some made) (option_map (λ t. t.now) check.entry) ≡ Some s) }
+    ensures bad { IsErrOf result BadWords → given None infs (Some budget) (Some made) (option_map (λ t. t.now) check.entry) ≡ None }
+{
+    match (made, check) {
+        (Some(n), None) => Ok(Settings {
+            script: None,
+            infs,
+            budget,
+            made: Some(n),
+            check: None,
+        }),
+        _ => Err(WordsError::BadWords),
+    }
+}
+
 /// The settings of good parts: a script is named, and perhaps a trace to check; or devices are to be generated.
 fn with_source(
     alloc: Global,
@@ -196,21 +218,7 @@ fn with_source(
                 check,
             })
         }
-        None => match made {
-            None => Err(WordsError::BadWords),
-            Some(n) => {
-                if check.is_some() {
-                    return Err(WordsError::BadWords);
-                }
-                Ok(Settings {
-                    script: None,
-                    infs,
-                    budget,
-                    made: Some(n),
-                    check: None,
-                })
-            }
-        },
+        None => generated(infs, budget, made, check),
     }
 }
 
