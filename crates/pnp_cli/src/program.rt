@@ -216,6 +216,29 @@ fn run_drivers<D: Driver, F: Files, K: Sink>(
     }
 }
 
+/// Runs what settings say, or checks their trace.
+fn run_accepted<D: Driver, F: Files, K: Sink>(
+    alloc: Global,
+    settings: &Settings,
+    drivers: Vec<D>,
+    files: &mut F,
+    sink: &mut K,
+) -> Status
+    requires within { IsWithin settings.now }
+    requires drivers { length drivers.items < 2 ^ 32 }
+    ensures words { result ≡ Status.BadWords → ⊥ }
+    ensures decided { is_decided result ≡ true → IfSome (F.contents files.old) (λ told. Decides (map (λ d. unnamed (D.kind_of d) (D.book d)) drivers.items) told settings.now result) }
+    ensures whole { is_whole result ≡ true → IfSome (F.contents files.old) (λ told. Wrote (IsOutput (map (λ d. unnamed (D.kind_of d) (D.book d)) drivers.items) told settings.now) (K.taken sink.old) (K.taken sink.new)) }
+    ensures front { IfSome (F.contents files.old) (λ told. WroteFront (IsOutput (map (λ d. unnamed (D.kind_of d) (D.book d)) drivers.items) told settings.now) (K.taken sink.old) (K.taken sink.new)) }
+    ensures read_fault { result ≡ Status.ReadFault → SomeRose (F.faults files.old) (F.faults files.new) (named settings.now) }
+    ensures write_fault { result ≡ Status.WriteFault → Rose (K.faults sink.old) (K.faults sink.new) }
+{
+    match &settings.check {
+        Some(trace) => run_check(alloc, settings, trace.bytes(), &drivers, files, sink),
+        None => run_drivers(alloc, settings, drivers, files, sink),
+    }
+}
+
 /// The same as `run`, over drivers of one type; the laws are clauses of `run` alone.
 fn run_over<D: Driver, F: Files, K: Sink>(
     alloc: Global,
@@ -237,10 +260,7 @@ fn run_over<D: Driver, F: Files, K: Sink>(
     match settings(alloc, words) {
         Err(WordsError::BadWords) => Status::BadWords,
         Err(WordsError::WantOfMemory) => Status::WantOfMemory,
-        Ok(settings) => match &settings.check {
-            Some(trace) => run_check(alloc, &settings, trace.bytes(), &drivers, files, sink),
-            None => run_drivers(alloc, &settings, drivers, files, sink),
-        },
+        Ok(settings) => run_accepted(alloc, &settings, drivers, files, sink),
     }
 }
 
