@@ -1,5 +1,5 @@
 -- What is written and answered for a check.
-use Rattle.std.proofs.Common.{◌≡◌, ◌⊎◌, inl, inr, ℕ, true, List, [], ◌∷◌, ◌++◌, map, Option, Some, None, IfSome, Result, Ok, Err, refl, sym, ◌∙◌, ap, ap₂, subst}
+use Rattle.std.proofs.Common.{◌≡◌, ◌⊎◌, inl, inr, ℕ, true, List, [], ◌∷◌, ◌++◌, map, Option, Some, None, IfSome, Ok, Err, refl, sym, ◌∙◌, ap, subst}
 use Rattle.pnp_io.specs.Outside.{Appends, AppendsFront}
 use Rattle.pnp_labels.specs.Texts.{Text}
 use Rattle.pnp_labels.specs.declared.event.Rule.{Rule}
@@ -7,11 +7,10 @@ use Rattle.pnp_labels.specs.declared.words.DriverKind.{DriverKind}
 use Rattle.pnp_model.specs.Records.{Driver}
 use Rattle.driver_rack.specs.Rows.{unnamed}
 use Rattle.inf_reader.specs.declared.parts.InfError.{InfError}
-use Rattle.free_model.specs.Checks.{Verdict, Yes, No}
-use Rattle.pnp_cli.specs.Checks.{AnswersOutcome, IsOutcome, Outcome, ShowsOutcome, file_in, outcome_status, outcome_text, verdict_line, verdict_status}
-use Rattle.pnp_cli.specs.Infs.{SomeRose, infs_in, refusal_line}
+use Rattle.free_model.specs.Checks.{Verdict}
+use Rattle.pnp_cli.specs.Checks.{AnswersOutcome, IsOutcome, Outcome, ShowsOutcome, file_in, outcome_status, outcome_text, verdict_status}
+use Rattle.pnp_cli.specs.Infs.{SomeRose, infs_in}
 use Rattle.pnp_cli.specs.Runs.{Decides, DecidesWith, IsOutput, IsOutputWith, IsRunOutput, IsVerdict, Wrote, WroteFront, is_decided, is_whole, named, names_by, names_of, status_of}
-use Rattle.pnp_cli.specs.declared.infs.InfsError.{InfsError}
 use Rattle.pnp_cli.specs.declared.infs.InfsError.TheVariants as faults
 use Rattle.pnp_cli.specs.declared.parts.Settings.{Settings}
 use Rattle.pnp_cli.specs.declared.status.Status.{Status}

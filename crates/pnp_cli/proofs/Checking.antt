@@ -1,29 +1,22 @@
 -- What the check of a trace comes to, file after file.
-use Rattle.std.proofs.Common.{◌≡◌, ◌≤◌, ◌<◌, inl, inr, ℕ, List, ◌++◌, Option, Some, None, IfSome, Result, Ok, Err, IsErrAnd, arith, refl, sym, ◌∙◌, ap, subst}
+use Rattle.std.proofs.Common.{◌≡◌, ◌≤◌, inl, inr, ℕ, List, ◌++◌, Option, Some, None, IfSome, Result, Ok, Err, IsErrAnd, arith, refl, sym, ◌∙◌, ap, subst}
 use Rattle.std.specs.Prelude.{IsErrOf}
 use Rattle.std.proofs.lemmas.List.Elements.{Contains-append_right}
 use Rattle.pnp_io.specs.Outside.{Rose}
 use Rattle.pnp_labels.specs.Texts.{Text}
-use Rattle.pnp_labels.specs.declared.event.Rule.{Rule}
 use Rattle.pnp_labels.specs.declared.words.DriverKind.{DriverKind}
-use Rattle.pnp_model.specs.Records.{Driver}
-use Rattle.driver_rack.specs.Rows.{unnamed}
 use Rattle.inf_reader.specs.declared.parts.Inf.{Inf}
-use Rattle.inf_reader.specs.declared.parts.InfError.{InfError}
 use Rattle.start_sequence.specs.Begins.{settings_of}
-use Rattle.free_model.specs.Checks.{IsChecked, Verdict, Yes, No, beginning}
+use Rattle.free_model.specs.Checks.{IsChecked, beginning}
 use Rattle.free_model.proofs.OneVerdict.{one_verdict}
 use Rattle.trace_check.specs.Verdicts.{verdict}
 use Rattle.trace_check.specs.declared.check.Checked.{Checked}
-use Rattle.pnp_cli.specs.Checks.{AnswersOutcome, ComesTo, GivesFile, GivesOutcome, IsOutcome, Outcome, ShowsOutcome, file_in, outcome_status, outcome_text, verdict_line, verdict_status}
+use Rattle.pnp_cli.specs.Checks.{ComesTo, GivesFile, GivesOutcome, Outcome, file_in}
 use Rattle.pnp_cli.specs.Contents.{events_of}
-use Rattle.pnp_cli.specs.Infs.{SomeRose, infs_in, refusal_line}
-use Rattle.pnp_cli.specs.Runs.{Decides, DecidesWith, IsOutput, IsOutputWith, IsRunOutput, IsVerdict, VerdictLaw, Wrote, WroteFront, is_decided, is_whole, named, names_by, names_of, status_of}
+use Rattle.pnp_cli.specs.Infs.{SomeRose}
+use Rattle.pnp_cli.specs.Runs.{VerdictLaw}
 use Rattle.pnp_cli.specs.declared.infs.InfsError.{InfsError}
 use Rattle.pnp_cli.specs.declared.infs.InfsError.TheVariants.{ReadFault, TooLarge, Refused, WantOfMemory}
-use Rattle.pnp_cli.specs.declared.parts.Settings.{Settings}
-use Rattle.pnp_cli.specs.declared.status.Status.{Status}
-use Rattle.pnp_cli.proofs.Fronts.{all_is_front, none_is_front}
 use Rattle.pnp_cli.proofs.SomeVerdict.{some_verdict}
 
 -- The files --------------------------------------------------------------------------------

@@ -1,5 +1,5 @@
 -- Each trace has a verdict: where it does not go on is decided line by line.
-use Rattle.std.proofs.Common.{ℕ, zero, suc, ◌+◌, ◌≡◌, ◌≤◌, ◌⊎◌, ◌==◌, ◌||◌, inl, inr, Bool, true, false, List, [], ◌∷◌, ◌++◌, Option, Some, None, length, refl, sym, ap, ◌∙◌, subst, arith, append_assoc, length-append}
+use Rattle.std.proofs.Common.{ℕ, zero, suc, ◌+◌, ◌≡◌, ◌≤◌, ◌⊎◌, ◌==◌, ◌||◌, inl, inr, Bool, true, false, [], ◌∷◌, ◌++◌, Option, Some, None, length, refl, sym, ap, ◌∙◌, subst, arith, append_assoc, length-append}
 use Rattle.std.proofs.lemmas.Bool.Decides.{nat_tests}
 use Rattle.pnp_labels.specs.Texts.{Text, label_line}
 use Rattle.pnp_labels.specs.declared.event.Event.{Event}
@@ -14,7 +14,7 @@ use Rattle.pnp_model.proofs.Determined.{one_label}
 use Rattle.pnp_laws.proofs.AnswerThere.{answer_some}
 use Rattle.script_reader.specs.Script.{Trace, gives, waits, ends, stops}
 use Rattle.free_model.specs.Frees.{told, with_rack, StepsBy}
-use Rattle.free_model.specs.Checks.{Place, Runs, Ends, IsOfMachine, AllowsFirst, AllowsAtRest, Allows, Follow, IsStuck, Verdict, Yes, No, IsChecked, bad_line, has_feed, end_bytes}
+use Rattle.free_model.specs.Checks.{Place, Runs, Ends, IsOfMachine, AllowsFirst, AllowsAtRest, Allows, Verdict, Yes, No, IsChecked, bad_line, has_feed, end_bytes}
 use Rattle.free_model.proofs.OneVerdict.{one_place}
 
 -- Texts ------------------------------------------------------------------------------------------------

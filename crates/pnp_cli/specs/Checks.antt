@@ -1,5 +1,5 @@
 -- What `--check` tells: the verdict of a trace, by the contents of the files, each read whole.
-use Rattle.std.specs.Prelude.{ℕ, ◌≡◌, true, nat_le, length, if◌then◌else◌, List, [], ◌∷◌, ◌++◌, Option, Some, None, Result, Ok, Err, codes, Vec}
+use Rattle.std.specs.Prelude.{ℕ, ◌≡◌, nat_le, length, if◌then◌else◌, List, [], ◌∷◌, ◌++◌, Option, Some, None, Result, Ok, Err, codes, Vec}
 use Rattle.std.specs.Fmt.{decimal}
 use Rattle.std.specs.Global.{Global}
 use Rattle.pnp_labels.specs.Texts.{Text}
