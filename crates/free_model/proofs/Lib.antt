@@ -1,7 +1,7 @@
-mod Lines
+pub mod Lines
 mod Racks
 mod Alikes
-mod Ways
+pub mod Ways
 mod WayOps
 mod WayFrames
 mod WaySteps
