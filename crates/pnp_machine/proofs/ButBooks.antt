@@ -20,9 +20,9 @@ use Rattle.free_model.specs.Runs.{and_then, without_teaching}
 use Rattle.free_model.specs.Shapes.{Face, face, faces}
 use Rattle.free_model.proofs.Answered.{Answers, Sort, agreed, before, event_first, other, sort, teaches}
 use Rattle.free_model.proofs.Armed.{Armed, Books, some_one}
-use Rattle.free_model.proofs.Outs.{agreeing, own_rack, reply_to, shapes_by}
+use Rattle.free_model.proofs.Outs.{agreeing, own_rack, shapes_by}
 use Rattle.free_model.proofs.Racks.{faces_of}
-use Rattle.free_model.proofs.Ways.{Agree, rack_by}
+use Rattle.free_model.proofs.Ways.{Agree, rack_by, reply_to}
 use Rattle.free_model.proofs.WaySteps.{step_by, way_begin, way_next}
 use Rattle.pnp_machine.specs.Managers.{SwapRun}
 
