@@ -30,6 +30,7 @@ use Rattle.free_model.proofs.Racks.{same_names, same_numbers, all_numbers}
 use Rattle.free_model.specs.Shapes.{faces}
 use Rattle.free_model.proofs.Alikes.{Alike, rests, does, searches, alike_map, leaving_same}
 use Rattle.free_model.specs.Asks.{Query, phase_query, rebalance_query, removal_query, surprise_query, finish_query, operation_query, activity_query, idle_query, query_of, next_query}
+use Rattle.pnp_labels.specs.declared.words.Answer.{Answer}
 use Rattle.free_model.proofs.Ways.{KinLabel, one, Way, WayMove, rack_by, Agree}
 use Rattle.free_model.proofs.Alikes.{done}
 use Rattle.free_model.proofs.WayOps.{way_act}
@@ -69,7 +70,7 @@ installed s t node rank driver drivers e =
     let x : Step = tasks.install s node rank driver drivers in
     let y : Step = tasks.install (with_rack t s) node rank driver drivers in
     let label : y.label ≡ x.label = ap (Label.Install node.path rank) (same_names t s.core.rack driver e) in
-    record { kin = subst (λ (l : Label). KinLabel x.label l) (sym label) (one x.label); own = refl; agrees = λ h. ap (λ (l : Label). record { label = l; state = y.state }) label; same = λ h. refl }
+    record { kin = subst (λ (l : Label). KinLabel Answer.Ok Answer.Ok x.label l) (sym label) (one x.label); own = refl; agrees = λ h. ap (λ (l : Label). record { label = l; state = y.state }) label; same = λ h. refl }
 
 install_named : (s : State) (t : List Driver) (node : Node) (rank : ℕ) (lower : Option (List ℕ)) (driver : Option ℕ) (upper : Option (List ℕ)) → faces t ≡ faces s.core.rack
     → Way None s.core.rack t (tasks.install_named s node rank lower driver upper) (tasks.install_named (with_rack t s) node rank lower driver upper)
@@ -187,7 +188,7 @@ change_task s t node Stopped = same s.core.rack t (tasks.change_task s node Stop
 change_task s t node RemovePending = same s.core.rack t (tasks.change_task s node RemovePending) refl
 change_task s t node SurpriseRemoved = same s.core.rack t (tasks.change_task s node SurpriseRemoved) refl
 
-way_begin : (s : State) (t : List Driver) (kind : OpKind) (k : ℕ) (o : Option Node) → Way None s.core.rack t (begin_step s kind k o) (begin_step (with_rack t s) kind k o)
+pub way_begin : (s : State) (t : List Driver) (kind : OpKind) (k : ℕ) (o : Option Node) → Way None s.core.rack t (begin_step s kind k o) (begin_step (with_rack t s) kind k o)
 way_begin s t kind k None = same s.core.rack t (begin_step s kind k None) refl
 way_begin s t OpKind.Rebalance k (Some node) = rebalance_task s t node node.state
 way_begin s t OpKind.Disable k (Some node) = disable_task s t node (has_same node.path s.disabled)
