@@ -1,1 +1,2 @@
 pub mod FreeRuns
+pub mod Racks

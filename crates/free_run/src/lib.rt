@@ -1,6 +1,5 @@
 //! The machine whatever its drivers answer: a run of it, one step or event at a time.
 #![tactic(auto)]
 
-mod run;
-
-pub use run::FreeRun;
+mod driver;
+mod racks;
