@@ -1,1 +1,3 @@
-pub mod Told
+mod Told
+mod Events
+mod Steps

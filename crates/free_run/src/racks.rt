@@ -1,11 +1,11 @@
 ghost use Rattle.std.specs.Prelude.{◌≡◌, ◌<◌, ◌^◌, IfOk, OnOk, length, map};
 ghost use Rattle.free_model.specs.Frees.{new_driver, told};
-ghost use Rattle.free_run.specs.Racks.{named};
+ghost use Rattle.free_run.specs.Racks.{named, named_in};
 
 use crate::driver::FreeDriver;
 use device_ids::{Text, WantOfMemory};
 use driver_rack::{Drivers, NameError, Rack};
-use pnp_labels::{Answer, DriverKind};
+use pnp_labels::{Answer, DriverKind, Event};
 use std::alloc::{AllocError, Global};
 
 /// Drivers of these kinds, in no one's name, that were taught nothing. Cost: their number.
@@ -41,7 +41,7 @@ pub(crate) fn told_rack(
 
 /// Gives a name to the first driver of the kind that has none; where there is none, or a driver has the name, nothing
 /// changes.
-pub(crate) fn give_name(
+fn give_name(
     rack: &mut Rack<FreeDriver>,
     kind: DriverKind,
     name: &Text,
@@ -53,5 +53,15 @@ pub(crate) fn give_name(
         Err(NameError::SameName) => Ok(()),
         Err(NameError::RackEmpty) => Ok(()),
         Err(NameError::WantOfMemory) => Err(AllocError),
+    }
+}
+
+/// Where an event gives a name, the same driver of this rack gets it too.
+pub(crate) fn name_too(rack: &mut Rack<FreeDriver>, event: &Event) -> Result<(), WantOfMemory>
+    ensures { OnOk result (rack.new ≡ named_in event.now rack.old) }
+{
+    match event {
+        Event::Name { name, kind } => give_name(rack, *kind, name),
+        _ => Ok(()),
     }
 }
