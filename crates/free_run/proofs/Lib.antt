@@ -1,3 +1,3 @@
-mod Told
+mod Tellers
 mod Events
 mod Steps

@@ -10,7 +10,7 @@ use Rattle.free_model.specs.Shapes.{faces}
 use Rattle.free_model.proofs.Outs.{own_rack}
 use Rattle.free_model.proofs.Quiets.{quiet_same}
 use Rattle.free_model.proofs.WaySteps.{way_next}
-use Rattle.free_run.proofs.Told.{told_by}
+use Rattle.free_run.proofs.Tellers.{told_by}
 
 -- the step leaves the rack as it was
 pub step_keeps : (settings : Settings) (s : State) (answer : Answer) (label : Label) (next : State) → Steps settings (with_rack (told answer s.core.rack) s) label next → next.core.rack ≡ told answer s.core.rack

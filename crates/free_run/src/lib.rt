@@ -3,3 +3,7 @@
 
 mod driver;
 mod racks;
+mod run;
+mod told;
+
+pub use run::FreeRun;

@@ -1,5 +1,5 @@
 use Rattle.std.proofs.Common.{rules}
-use Rattle.free_run.proofs.Told.{is_named_so}
+use Rattle.free_run.proofs.Tellers.{is_named_so}
 use Rattle.free_run.proofs.racks.give_name.Goals as goal
 
 pub returns-in-Ok : goal.returns-in-Ok

@@ -1,6 +1,6 @@
 use Rattle.std.proofs.Common.{◌≡◌, IfOk, List, subst}
 use Rattle.pnp_model.specs.Records.{Driver}
-use Rattle.free_run.proofs.Told.{told_rows}
+use Rattle.free_run.proofs.Tellers.{told_rows}
 use Rattle.free_run.proofs.racks.told_rack.Goals as goal
 
 pub returns : goal.returns
