@@ -1,19 +1,22 @@
 -- A line leads to one place, and a trace has one verdict.
-use Rattle.std.proofs.Common.{ℕ, suc, ◌+◌, ◌≡◌, inl, inr, List, [], ◌∷◌, ◌++◌, Option, length, refl, sym, ap, ◌∙◌, subst, arith, false, ◌==◌}
+use Rattle.std.proofs.Common.{ℕ, suc, ◌+◌, ◌≡◌, ◌⊎◌, inl, inr, List, [], ◌∷◌, ◌++◌, Option, Some, None, slice_get, option_map, length, refl, sym, ap, ◌∙◌, subst, arith, false, ◌==◌}
 use Rattle.std.proofs.lemmas.List.{append_assoc, append_cancel_left, append-nil}
+use Rattle.std.proofs.lemmas.Option.{slice_get-map}
 use Rattle.resource_reqs.proofs.Answering.{answer_one}
 use Rattle.pnp_labels.specs.Texts.{Text, label_line}
 use Rattle.pnp_labels.specs.declared.label.Label.{Label}
+use Rattle.pnp_labels.specs.declared.words.Answer.{Answer}
+use Rattle.pnp_model.specs.Books.{reply, book_of, rack_reply}
 use Rattle.pnp_model.specs.Records.{Driver, State, Step, Settings, Doing}
 use Rattle.pnp_model.specs.Machine.{next, IsStep, IsQuiet}
 use Rattle.pnp_model.specs.Endings.{joined}
 use Rattle.script_reader.specs.Script.{Trace, gives, waits, ends, stops}
-use Rattle.free_model.specs.Frees.{told, with_rack, FreeSteps}
+use Rattle.free_model.specs.Frees.{told, telling, with_rack, StepsBy, FreeSteps}
 use Rattle.free_model.specs.Checks.{Place, Runs, Ends, AllowsFirst, AllowsAtRest, Allows, Follow, IsStuck, Verdict, Yes, No, IsChecked, has_feed, end_bytes}
-use Rattle.free_model.proofs.Racks.{faces_told}
+use Rattle.free_model.proofs.Racks.{faces_told, tells}
 use Rattle.free_model.proofs.Alikes.{Alike, rests, does, searches}
 use Rattle.free_model.specs.Asks.{Query, next_query}
-use Rattle.free_model.proofs.Ways.{Way, one_label}
+use Rattle.free_model.proofs.Ways.{Way, KinLabel, one, reply_to, Agree, one_label}
 use Rattle.free_model.proofs.WaySteps.{way_next}
 use Rattle.free_model.proofs.Quiets.{quiet_same}
 use Rattle.free_model.proofs.Lines.{or_false}
@@ -25,6 +28,33 @@ way_steps settings q a r u v (does x0 y0 way) h g = subst (λ (s : Step). Way q 
 way_steps settings q a r u v (searches p f k way) h g =
     let found : h.0 ≡ g.0 = answer_one p.fixed p.movers settings.budget h.0 g.0 h.1 g.1 in
     subst (λ (s : Step). Way q a r s v) (sym h.2) (subst (λ (t : Step). Way q a r (f h.0) t) (sym (g.2 ∙ ap k (sym found))) (way h.0))
+
+-- the answer to the ask of a step where all drivers answer so is that one, if there is such a driver
+replies : (q : Option Query) (rack : List Driver) (a b : Answer) → Agree q (told a rack) (told b rack) ⊎ ((reply_to q (told a rack) ≡ a) × (reply_to q (told b rack) ≡ b))
+replies None rack a b = inl tt
+replies (Some q) rack a b = by_get (slice_get rack q.driver) refl
+  where
+    at : (answer : Answer) (o : Option Driver) → slice_get rack q.driver ≡ o → rack_reply q.what q.path (told answer rack) q.driver ≡ reply q.what q.path (book_of (option_map (telling answer) o))
+    at answer o is = ap (λ (x : Option Driver). reply q.what q.path (book_of x)) (slice_get-map (telling answer) rack q.driver ∙ ap (option_map (telling answer)) is)
+
+    by_get : (o : Option Driver) → slice_get rack q.driver ≡ o → Agree (Some q) (told a rack) (told b rack) ⊎ ((reply_to (Some q) (told a rack) ≡ a) × (reply_to (Some q) (told b rack) ≡ b))
+    by_get None is = inl (at b None is ∙ sym (at a None is))
+    by_get (Some d) is = inr (at a (Some d) is ∙ tells a q.what q.path, at b (Some d) is ∙ tells b q.what q.path)
+
+-- two free steps of one state have one label, or labels that tell their answers to one ask
+pub kin_steps : (settings : Settings) (f : State) (p q : Answer) (a b : Label) (x y : State) → StepsBy p settings f a x → StepsBy q settings f b y → KinLabel p q a b
+kin_steps settings f p q a b x y (u, hu, eu) (v, hv, ev) =
+    let rack : List Driver = f.core.rack in
+    let ask : Option Query = next_query (with_rack (told p rack) f) in
+    let way = way_steps settings ask (told p rack) (told q rack) (record { label = a; state = u }) (record { label = b; state = v })
+    (way_next settings (with_rack (told p rack) f) (told q rack) (faces_told q rack ∙ sym (faces_told p rack))) hu hv
+    in
+    by_replies way (replies ask rack p q)
+  where
+    by_replies : {ask : Option Query} {s t : List Driver} {v w : State} → Way ask s t (record { label = a; state = v }) (record { label = b; state = w })
+        → Agree ask s t ⊎ ((reply_to ask s ≡ p) × (reply_to ask t ≡ q)) → KinLabel p q a b
+    by_replies way (inl agree) = subst (λ (l : Label). KinLabel p q a l) (sym (ap (λ (s : Step). s.label) (way.agrees agree))) (one a)
+    by_replies {ask} {s} way (inr (is, too)) = subst (λ (r : Answer). KinLabel r q a b) is (subst (λ (r : Answer). KinLabel (reply_to ask s) r a b) too way.kin)
 
 -- whatever is answered, one line leads to one state
 pub one_state : (settings : Settings) (f : State) (a b : Label) (x y : State) (m n : Text) → FreeSteps settings f a x → FreeSteps settings f b y

@@ -25,7 +25,7 @@ use Rattle.free_model.specs.Checks.{Place, Runs, Ends, Follow, IsYes, bad_line, 
 use Rattle.free_model.specs.Outputs.{Settles, text_of, error_line, end_text, Prints, EachOutputIsARun}
 use Rattle.free_model.proofs.Racks.{faces_of, faces_told, same_names, same_told, replies_told, shapes_after}
 use Rattle.free_model.proofs.Alikes.{Alike, rests, does, searches}
-use Rattle.free_model.proofs.Ways.{Way, rack_by, Agree}
+use Rattle.free_model.proofs.Ways.{Way, rack_by, reply_to, Agree}
 use Rattle.free_model.proofs.WaySteps.{way_next, step_by}
 use Rattle.free_model.specs.Asks.{Query, next_query}
 use Rattle.free_model.proofs.TwinEvents.{Related, TwinEvent, twin_happens}
@@ -34,13 +34,8 @@ use Rattle.free_model.proofs.Lines.{or_false}
 
 -- Steps ----------------------------------------------------------------------------------
 
--- how the driver that is asked next answers, and that with all drivers answering so it does
-pub reply_to : Option Query → List Driver → Answer
-reply_to None rack = Ok
-reply_to (Some q) rack = rack_reply q.what q.path rack q.driver
-
+-- with all drivers answering as the driver that is asked does, it answers so
 pub agreeing : (q : Option Query) (rack : List Driver) → Agree q rack (told (reply_to q rack) rack)
-unfolding reply_to
 agreeing None rack = tt
 agreeing (Some q) rack = replies_told q.what q.path rack q.driver
 

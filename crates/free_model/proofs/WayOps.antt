@@ -19,7 +19,7 @@ use Rattle.free_model.proofs.Racks.{faces_of, same_names, shapes_after}
 use Rattle.free_model.specs.Shapes.{faces}
 use Rattle.free_model.proofs.Alikes.{Alike, does, searches}
 use Rattle.free_model.specs.Asks.{Query, query, walk_query, phase_query}
-use Rattle.free_model.proofs.Ways.{KinLabel, one, adds, WayMove, WayAsk, way_ask, rack_by, Agree}
+use Rattle.free_model.proofs.Ways.{KinLabel, one, adds, said, reply_to, WayMove, WayAsk, way_ask, rack_by, Agree}
 
 -- where no driver is asked
 pub plain : {F T : Type 0} (rack other : List Driver) (x : Move F T) → x.core.rack ≡ rack → WayMove None rack other x (record { label = x.label; core = set_rack other x.core; frame = x.frame; beside = x.beside })
@@ -32,18 +32,13 @@ pub by_ask : {F T : Type 0} (q : Option Query) (rack t : List Driver) (f : Ask �
     → WayAsk q rack t x y → WayMove q rack t (f x) (f y)
 by_ask q rack t f x y labels cores pure h =
     record {
-      kin = subst (λ (l : Label). KinLabel (f x).label l) (sym (labels y)) (subst (λ (l : Label). KinLabel l y.label) (sym (labels x)) h.kin);
+      kin = subst (λ (l : Label). KinLabel (reply_to q rack) (reply_to q t) (f x).label l) (sym (labels y)) (subst (λ (l : Label). KinLabel (reply_to q rack) (reply_to q t) l y.label) (sym (labels x)) h.kin);
       own = ap (λ (c : Core). c.rack) (cores x) ∙ h.own;
       agrees = λ e. ap f (h.agrees e) ∙ pure (rack_by q t);
       same = λ e. ap f (h.same (sym (labels x) ∙ e ∙ labels y)) ∙ pure (rack_by q t);
     }
 
 -- Starts ---------------------------------------------------------------------------------
-
-abbrev said : Answer → Bool
-said Ok = true
-said Fail = false
-said Pend = false
 
 add_label : (c : Core) (node : Node) (d : ℕ) (ds : List ℕ) (answer : Answer) → (add_driver c node d ds answer).label ≡ Label.Add node.path (name_of c.rack d) (said answer)
 add_label c node d ds Ok = refl
@@ -71,20 +66,22 @@ add_own c node d ds Ok = refl
 add_own c node d ds Fail = refl
 add_own c node d ds Pend = refl
 
-added : (q : Query) (rack t : List Driver) (c : Core) (other : List Driver) (node : Node) (d : ℕ) (ds : List ℕ) (a b : Answer) → name_of other d ≡ name_of c.rack d
-    → c.rack ≡ rack_by (Some q) rack → other ≡ rack_by (Some q) t → (Agree (Some q) rack t → b ≡ a)
-    → WayMove (Some q) rack t (add_driver c node d ds a) (add_driver (set_rack other c) node d ds b)
-added q rack t c other node d ds a b names own after answers =
+added : (q : Query) (rack t : List Driver) (c : Core) (other : List Driver) (node : Node) (d : ℕ) (ds : List ℕ) → name_of other d ≡ name_of c.rack d
+    → c.rack ≡ rack_by (Some q) rack → other ≡ rack_by (Some q) t
+    → WayMove (Some q) rack t (add_driver c node d ds (reply_to (Some q) rack)) (add_driver (set_rack other c) node d ds (reply_to (Some q) t))
+added q rack t c other node d ds names own after =
+    let a : Answer = reply_to (Some q) rack in
+    let b : Answer = reply_to (Some q) t in
     let name : Text = name_of c.rack d in
     let right : (add_driver (set_rack other c) node d ds b).label ≡ Label.Add node.path name (said b) =
     add_label (set_rack other c) node d ds b ∙ ap (λ (n : Text). Label.Add node.path n (said b)) names
     in
     record {
       kin =
-          subst (λ (l : Label). KinLabel (add_driver c node d ds a).label l) (sym right)
-          (subst (λ (l : Label). KinLabel l (Label.Add node.path name (said b))) (sym (add_label c node d ds a)) (adds node.path name (said a) (said b)));
+          subst (λ (l : Label). KinLabel a b (add_driver c node d ds a).label l) (sym right)
+          (subst (λ (l : Label). KinLabel a b l (Label.Add node.path name (said b))) (sym (add_label c node d ds a)) (adds node.path name));
       own = add_own c node d ds a ∙ own;
-      agrees = λ e. subst (λ (r : List Driver). add_driver (set_rack other c) node d ds b ≡ record { label = (add_driver c node d ds a).label; core = set_rack r (add_driver c node d ds a).core; frame = (add_driver c node d ds a).frame; beside = (add_driver c node d ds a).beside }) after (add_over c other node d ds a b (ap said (sym (answers e))) names);
+      agrees = λ e. subst (λ (r : List Driver). add_driver (set_rack other c) node d ds b ≡ record { label = (add_driver c node d ds a).label; core = set_rack r (add_driver c node d ds a).core; frame = (add_driver c node d ds a).frame; beside = (add_driver c node d ds a).beside }) after (add_over c other node d ds a b (ap said (sym e)) names);
       same = λ e. subst (λ (r : List Driver). add_driver (set_rack other c) node d ds b ≡ record { label = (add_driver c node d ds a).label; core = set_rack r (add_driver c node d ds a).core; frame = (add_driver c node d ds a).frame; beside = (add_driver c node d ds a).beside }) after (add_over c other node d ds a b (ap (ok_in true) (sym (add_label c node d ds a) ∙ e ∙ right)) names);
     }
 
@@ -97,7 +94,7 @@ asked_to_add c t node d ds e =
     let face : faces after ≡ faces own =
     faces_of after t (shapes_after AskWhat.Add node.path t d) ∙ e ∙ sym (faces_of own c.rack (shapes_after AskWhat.Add node.path c.rack d))
     in
-    added (record { what = AskWhat.Add; path = node.path; driver = d }) c.rack t (core_after c AskWhat.Add node.path d) after node d ds _ _ (same_names after own d face) refl refl (λ same. same)
+    added (record { what = AskWhat.Add; path = node.path; driver = d }) c.rack t (core_after c AskWhat.Add node.path d) after node d ds (same_names after own d face) refl refl
 
 start_searched : (c : Core) (other : List Driver) (node : Node) (found : Found) → WayMove None c.rack other (starts.searched c node found) (starts.searched (set_rack other c) node found)
 start_searched c other node (assignment plan) = plain c.rack other (starts.searched c node (assignment plan)) refl

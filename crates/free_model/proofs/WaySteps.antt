@@ -30,6 +30,7 @@ use Rattle.free_model.proofs.Racks.{same_names, same_numbers, all_numbers}
 use Rattle.free_model.specs.Shapes.{faces}
 use Rattle.free_model.proofs.Alikes.{Alike, rests, does, searches, alike_map, leaving_same}
 use Rattle.free_model.specs.Asks.{Query, phase_query, rebalance_query, removal_query, surprise_query, finish_query, operation_query, activity_query, idle_query, query_of, next_query}
+use Rattle.pnp_labels.specs.declared.words.Answer.{Answer}
 use Rattle.free_model.proofs.Ways.{KinLabel, one, Way, WayMove, rack_by, Agree}
 use Rattle.free_model.proofs.Alikes.{done}
 use Rattle.free_model.proofs.WayOps.{way_act}
@@ -69,7 +70,7 @@ installed s t node rank driver drivers e =
     let x : Step = tasks.install s node rank driver drivers in
     let y : Step = tasks.install (with_rack t s) node rank driver drivers in
     let label : y.label ≡ x.label = ap (Label.Install node.path rank) (same_names t s.core.rack driver e) in
-    record { kin = subst (λ (l : Label). KinLabel x.label l) (sym label) (one x.label); own = refl; agrees = λ h. ap (λ (l : Label). record { label = l; state = y.state }) label; same = λ h. refl }
+    record { kin = subst (λ (l : Label). KinLabel Answer.Ok Answer.Ok x.label l) (sym label) (one x.label); own = refl; agrees = λ h. ap (λ (l : Label). record { label = l; state = y.state }) label; same = λ h. refl }
 
 install_named : (s : State) (t : List Driver) (node : Node) (rank : ℕ) (lower : Option (List ℕ)) (driver : Option ℕ) (upper : Option (List ℕ)) → faces t ≡ faces s.core.rack
     → Way None s.core.rack t (tasks.install_named s node rank lower driver upper) (tasks.install_named (with_rack t s) node rank lower driver upper)

@@ -20,11 +20,22 @@ use Rattle.free_model.specs.Asks.{Query, query}
 use Rattle.free_model.proofs.Racks.{same_names}
 use Rattle.free_model.specs.Shapes.{faces}
 
--- one label, or two that tell different answers to one ask
-pub data KinLabel : Label → Label → Type 0 where
-  one : (l : Label) → KinLabel l l
-  asks : (minor : Minor) (path name : Text) (a b : Shown) → KinLabel (Label.Asked minor path name a) (Label.Asked minor path name b)
-  adds : (path name : Text) (a b : Bool) → KinLabel (Label.Add path name a) (Label.Add path name b)
+-- AddDevice is answered well or not
+abbrev pub said : Answer → Bool
+said Ok = true
+said Fail = false
+said Pend = false
+
+-- one label, or two that tell these two answers to one ask
+pub data KinLabel (a b : Answer) : Label → Label → Type 0 where
+  one : (l : Label) → KinLabel a b l l
+  asks : (minor : Minor) (path name : Text) → KinLabel a b (Label.Asked minor path name (shown_of minor a)) (Label.Asked minor path name (shown_of minor b))
+  adds : (path name : Text) → KinLabel a b (Label.Add path name (said a)) (Label.Add path name (said b))
+
+-- how the driver that is asked answers, if there is an ask
+abbrev pub reply_to : Option Query → List Driver → Answer
+reply_to None rack = Ok
+reply_to (Some q) rack = rack_reply q.what q.path rack q.driver
 
 -- the rack after the ask, if there is one
 abbrev pub rack_by : Option Query → List Driver → List Driver
@@ -39,19 +50,19 @@ Agree (Some q) a b = rack_reply q.what q.path b q.driver ≡ rack_reply q.what q
 -- two steps, with the one rack and with another: their labels differ in the answer alone; each leaves its rack as the ask does;
 -- and where the answers are one, or the labels are, so is all else
 pub record Way (q : Option Query) (rack other : List Driver) (x y : Step) : Type 0 where
-  pub kin : KinLabel x.label y.label
+  pub kin : KinLabel (reply_to q rack) (reply_to q other) x.label y.label
   pub own : x.state.core.rack ≡ rack_by q rack
   pub agrees : Agree q rack other → y ≡ record { label = x.label; state = with_rack (rack_by q other) x.state }
   pub same : x.label ≡ y.label → y.state ≡ with_rack (rack_by q other) x.state
 
 pub record WayMove {F T : Type 0} (q : Option Query) (rack other : List Driver) (x y : Move F T) : Type 0 where
-  pub kin : KinLabel x.label y.label
+  pub kin : KinLabel (reply_to q rack) (reply_to q other) x.label y.label
   pub own : x.core.rack ≡ rack_by q rack
   pub agrees : Agree q rack other → y ≡ record { label = x.label; core = set_rack (rack_by q other) x.core; frame = x.frame; beside = x.beside }
   pub same : x.label ≡ y.label → y ≡ record { label = x.label; core = set_rack (rack_by q other) x.core; frame = x.frame; beside = x.beside }
 
 pub record WayAsk (q : Option Query) (rack other : List Driver) (x y : Ask) : Type 0 where
-  pub kin : KinLabel x.label y.label
+  pub kin : KinLabel (reply_to q rack) (reply_to q other) x.label y.label
   pub own : x.core.rack ≡ rack_by q rack
   pub agrees : Agree q rack other → y ≡ record { label = x.label; core = set_rack (rack_by q other) x.core; walk = x.walk }
   pub same : x.label ≡ y.label → y ≡ record { label = x.label; core = set_rack (rack_by q other) x.core; walk = x.walk }
@@ -99,18 +110,18 @@ before_word : (a b c word m : Text) → spaced (a ∷ b ∷ c ∷ word ∷ []) +
 before_word a b c word m = simp (append_assoc)
 
 -- two such labels whose lines begin a text alike are one
-pub one_label : {l k : Label} (m n : Text) → KinLabel l k → label_line l ++ 10 ∷ m ≡ label_line k ++ 10 ∷ n → l ≡ k
+pub one_label : {a b : Answer} {l k : Label} (m n : Text) → KinLabel a b l k → label_line l ++ 10 ∷ m ≡ label_line k ++ 10 ∷ n → l ≡ k
 one_label m n (one l) e = refl
-one_label m n (asks minor path name a b) e =
+one_label {a} {b} m n (asks minor path name) e =
     let cut = append_cancel_left (spaced (minor_text minor ∷ path ∷ name ∷ [])) _ _
-    (sym (before_word (minor_text minor) path name (shown_text a) m) ∙ e ∙ before_word (minor_text minor) path name (shown_text b) n)
+    (sym (before_word (minor_text minor) path name (shown_text (shown_of minor a)) m) ∙ e ∙ before_word (minor_text minor) path name (shown_text (shown_of minor b)) n)
     in
-    ap (Label.Asked minor path name) (shown_word a b m n (ap rest_of cut))
-one_label m n (adds path name a b) e =
+    ap (Label.Asked minor path name) (shown_word (shown_of minor a) (shown_of minor b) m n (ap rest_of cut))
+one_label {a} {b} m n (adds path name) e =
     let cut = append_cancel_left (spaced (codes "add" ∷ path ∷ name ∷ [])) _ _
-    (sym (before_word (codes "add") path name (ok_text a) m) ∙ e ∙ before_word (codes "add") path name (ok_text b) n)
+    (sym (before_word (codes "add") path name (ok_text (said a)) m) ∙ e ∙ before_word (codes "add") path name (ok_text (said b)) n)
     in
-    ap (Label.Add path name) (ok_word a b m n (ap rest_of cut))
+    ap (Label.Add path name) (ok_word (said a) (said b) m n (ap rest_of cut))
 
 -- An ask ------------------------------------------------------------------------------------------
 
@@ -142,8 +153,8 @@ pub way_ask : (c : Core) (t : List Driver) (node : Node) (w : Walk) → faces t 
 way_ask c t node w e =
     record {
       kin =
-          subst (λ (name : Text). KinLabel (Label.Asked w.minor node.path (name_of c.rack driver) (shown_of w.minor a)) (Label.Asked w.minor node.path name (shown_of w.minor b))) (sym names)
-          (asks w.minor node.path (name_of c.rack driver) (shown_of w.minor a) (shown_of w.minor b));
+          subst (λ (name : Text). KinLabel a b (Label.Asked w.minor node.path (name_of c.rack driver) (shown_of w.minor a)) (Label.Asked w.minor node.path name (shown_of w.minor b))) (sym names)
+          (asks w.minor node.path (name_of c.rack driver));
       own = refl;
       agrees = by_answer;
       same =
