@@ -40,6 +40,7 @@ impl Model for FreeRun {
 impl FreeRun {
     /// The root alone, with a driver of each kind, by number, to which nothing was taught; in no one's name. Conditions: there are at most 64 INFs,
     /// fewer than 2^32 kinds, and the budget of a search is at most 1,000,000. Cost: the number of kinds.
+    #[tactic(none)]
     pub fn new(
         alloc: Global,
         infs: Vec<Inf>,
@@ -66,6 +67,7 @@ impl FreeRun {
 
     /// An event happens, at a quiet state: exactly what the machine's definition says. Conditions: the state is quiet, the event has at
     /// most 64 IDs of each sort, and fewer than 2^24 events happened before. After want of memory the run is gone. Cost: as `Manager::apply`.
+    #[tactic(none)]
     pub fn apply(self, event: Event) -> Result<(FreeRun, Label), WantOfMemory>
         requires quiet { IsQuiet (settings self) self.state }
         requires ids { HasFewIds event }
@@ -83,6 +85,7 @@ impl FreeRun {
 
     /// The step where all drivers that are asked answer so, exactly as the machine's definition says; none exactly where no step is next,
     /// and then nothing changes. What drivers were taught stays. After want of memory all is as before. Cost: that of the step.
+    #[tactic(none)]
     pub fn step(&mut self, answer: Answer) -> Result<Option<Label>, WantOfMemory>
         ensures moves { IfOk result (λ label. MovesBy answer (settings self.old) self.old.state label self.new.state) }
         ensures same { self.new ≡ record self.old { state = self.new.state } }
