@@ -21,7 +21,6 @@ fn swap_rack(manager: &mut Manager<Rack<FreeDriver>>, rack: &mut Rack<FreeDriver
 {}
 
 /// A step over a rack whose drivers all give one answer; then each rack is where it was, with its drivers as they were.
-#[tactic(none)]
 fn step_over(
     manager: &mut Manager<Rack<FreeDriver>>,
     rack: &mut Rack<FreeDriver>,
@@ -76,7 +75,6 @@ impl ToldRacks {
 
     /// The step of the machine where all drivers that are asked answer so; none exactly where none is next. All drivers
     /// stay as they are. After want of memory all is as before.
-    #[tactic(none)]
     pub(crate) fn step(
         &mut self,
         answer: Answer,
