@@ -1,9 +1,11 @@
 -- What an event does to the names of a rack that tells one answer.
-use Rattle.std.proofs.Common.{ℕ, ◌≡◌, Bool, true, false, List, [], ◌∷◌, map, length, Option, Some, None, option_map, cond, refl, sym, ap, ◌∙◌}
+use Rattle.std.proofs.Common.{ℕ, ◌≡◌, Bool, true, false, List, [], ◌∷◌, map, length, Option, Some, None, Result, Ok, Err, IfOk, OnOk, option_map, cond, refl, sym, ap, ◌∙◌}
 use Rattle.std.specs.Prelude.{find, nat_lt}
+use Rattle.std.specs.declared.alloc.AllocError.{AllocError}
 use Rattle.pnp_labels.specs.Texts.{Text}
 use Rattle.pnp_labels.specs.declared.event.Event.{Event}
 use Rattle.pnp_labels.specs.declared.event.Rule.{Rule}
+use Rattle.pnp_labels.specs.declared.label.Label.{Label}
 use Rattle.pnp_labels.specs.declared.words.Answer.{Answer}
 use Rattle.pnp_labels.specs.declared.words.DriverKind.{DriverKind}
 use Rattle.pnp_model.specs.Books.{is_named, is_unnamed, with_name}
@@ -15,7 +17,10 @@ use Rattle.pnp_model.specs.Tests.{is_scripted}
 use Rattle.free_model.specs.Frees.{telling, told}
 use Rattle.free_model.proofs.Happenings.{IsOther, untaught_moved}
 use Rattle.free_model.proofs.TwinEvents.{find_map, changed_map}
+use Rattle.pnp_machine.specs.Machines.{IsDone}
+use Rattle.free_run.specs.declared.told.ToldRacks.{ToldRacks}
 use Rattle.free_run.specs.Racks.{named_by, named, named_in}
+use Rattle.free_run.specs.ToldRacks.{AreTold}
 
 -- A name ------------------------------------------------------------------------------------
 
@@ -104,3 +109,18 @@ by_sort answer s event (other _ is same) = ap (told answer) (untaught_moved s s.
 -- where the told rack hears of the event, it is that of the state after it
 pub told_after : (answer : Answer) (s : State) (event : Event) → told answer (happens s event).state.core.rack ≡ named_in event (told answer s.core.rack)
 told_after answer s event = by_sort answer s event (sort event)
+
+told_so : (answer : Answer) (s new : State) (event : Event) (old racks : List Driver) → old ≡ told answer s.core.rack → new ≡ (happens s event).state → racks ≡ named_in event old → racks ≡ told answer new.core.rack
+told_so answer s new event old racks so done hears =
+    hears ∙ ap (named_in event) so ∙ sym (told_after answer s event) ∙ ap (λ (x : State). told answer x.core.rack) (sym done)
+
+-- the racks that heard of the event
+pub told_on : (s new : State) (event : Event) (old racks : ToldRacks) → AreTold s.core.rack old → racks.ok ≡ named_in event old.ok → racks.fail ≡ named_in event old.fail → racks.pend ≡ named_in event old.pend
+    → (result : Result Label AllocError) → IfOk result (λ label. IsDone (happens s event) label new) → OnOk result (AreTold new.core.rack racks)
+told_on s new event old racks so ok fail pend (Ok label) done =
+    record {
+      ok = told_so Answer.Ok s new event old.ok racks.ok so.ok done.1 ok;
+      fail = told_so Answer.Fail s new event old.fail racks.fail so.fail done.1 fail;
+      pend = told_so Answer.Pend s new event old.pend racks.pend so.pend done.1 pend;
+    }
+told_on s new event old racks so ok fail pend (Err refused) done = tt

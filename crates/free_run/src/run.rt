@@ -78,8 +78,7 @@ impl FreeRun {
             mut manager,
             mut told,
         } = self;
-        told.hear(&event)?;
-        let label = manager.apply(event)?;
+        let label = told.apply(event, &mut manager)?;
         Ok((FreeRun { manager, told }, label))
     }
 

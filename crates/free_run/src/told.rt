@@ -1,7 +1,10 @@
-ghost use Rattle.std.specs.Prelude.{◌≡◌, ◌<◌, ◌^◌, IfOk, OnOk, OnErr, length, map};
+ghost use Rattle.std.specs.Prelude.{◌≡◌, ◌<◌, ◌+◌, ◌^◌, IfOk, OnOk, OnErr, length, map};
+ghost use Rattle.pnp_model.specs.Events.{happens};
+ghost use Rattle.pnp_model.specs.Machine.{IsQuiet};
 ghost use Rattle.start_sequence.specs.Begins.{settings_of};
-ghost use Rattle.free_model.specs.Frees.{new_driver, with_rack};
-ghost use Rattle.free_model.specs.Shapes.{faces};
+ghost use Rattle.free_model.specs.Frees.{new_driver};
+ghost use Rattle.pnp_machine.specs.Machines.{HasFewIds, IsDone};
+ghost use Rattle.pnp_machine.specs.Managers.{settings};
 ghost use Rattle.free_run.specs.FreeRuns.{MovesBy};
 ghost use Rattle.free_run.specs.Racks.{named_in};
 ghost use Rattle.free_run.specs.ToldRacks.{AreTold, IsTold, MovesTold};
@@ -13,12 +16,6 @@ use driver_rack::Rack;
 use pnp_labels::{Answer, DriverKind, Event, Label};
 use pnp_machine::{Manager, Moved};
 use std::alloc::Global;
-
-fn swap_rack(manager: &mut Manager<Rack<FreeDriver>>, rack: &mut Rack<FreeDriver>)
-    requires faces { faces rack.old ≡ faces manager.old.state.core.rack }
-    ensures given { manager.new ≡ record manager.old { state = with_rack rack.old manager.old.state } }
-    ensures back { rack.new ≡ manager.old.state.core.rack }
-{}
 
 /// A step over a rack whose drivers all give one answer; then each rack is where it was, with its drivers as they were.
 fn step_over(
@@ -32,9 +29,9 @@ fn step_over(
     ensures told { rack.new ≡ rack.old }
     ensures err { OnErr result (manager.new ≡ manager.old) }
 {
-    swap_rack(manager, rack);
+    manager.swap_rack(rack);
     let moved = manager.step();
-    swap_rack(manager, rack);
+    manager.swap_rack(rack);
     match moved? {
         Moved::Label(label) => Ok(Some(label)),
         Moved::Quiet => Ok(None),
@@ -63,7 +60,7 @@ impl ToldRacks {
     }
 
     /// Where an event gives a driver a name, those of the same number get it too.
-    pub(crate) fn hear(&mut self, event: &Event) -> Result<(), WantOfMemory>
+    fn hear(&mut self, event: &Event) -> Result<(), WantOfMemory>
         ensures ok { OnOk result (self.new.ok ≡ named_in event.now self.old.ok) }
         ensures fail { OnOk result (self.new.fail ≡ named_in event.now self.old.fail) }
         ensures pend { OnOk result (self.new.pend ≡ named_in event.now self.old.pend) }
@@ -71,6 +68,24 @@ impl ToldRacks {
         name_too(&mut self.ok, event)?;
         name_too(&mut self.fail, event)?;
         name_too(&mut self.pend, event)
+    }
+
+    /// An event happens to the machine, at a quiet state, and the racks hear of it. Conditions: as `Manager::apply`.
+    pub(crate) fn apply(
+        &mut self,
+        event: Event,
+        manager: &mut Manager<Rack<FreeDriver>>,
+    ) -> Result<Label, WantOfMemory>
+        requires told { AreTold manager.old.state.core.rack self.old }
+        requires quiet { IsQuiet (settings manager.old) manager.old.state }
+        requires ids { HasFewIds event }
+        requires events { manager.old.events < 2 ^ 24 }
+        ensures done { IfOk result (λ label. IsDone (happens manager.old.state event) label manager.new.state) }
+        ensures count { OnOk result (manager.new ≡ record manager.old { events = manager.old.events + 1; state = manager.new.state }) }
+        ensures told { OnOk result (AreTold manager.new.state.core.rack self.new) }
+    {
+        self.hear(&event)?;
+        manager.apply(event)
     }
 
     /// The step of the machine where all drivers that are asked answer so; none exactly where none is next. All drivers
