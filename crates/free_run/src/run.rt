@@ -40,7 +40,6 @@ impl Model for FreeRun {
 impl FreeRun {
     /// The root alone, with a driver of each kind, by number, to which nothing was taught; in no one's name. Conditions: there are at most 64 INFs,
     /// fewer than 2^32 kinds, and the budget of a search is at most 1,000,000. Cost: the number of kinds.
-    #[tactic(none)]
     pub fn new(
         alloc: Global,
         infs: Vec<Inf>,
@@ -78,13 +77,18 @@ impl FreeRun {
             mut manager,
             mut told,
         } = self;
-        let label = told.apply(event, &mut manager)?;
-        Ok((FreeRun { manager, told }, label))
+        match told.apply(event, &mut manager) {
+            Ok(label) => Ok((FreeRun { manager, told }, label)),
+            Err(refused) => {
+                drop(manager);
+                drop(told);
+                Err(refused)
+            }
+        }
     }
 
     /// The step where all drivers that are asked answer so, exactly as the machine's definition says; none exactly where no step is next,
     /// and then nothing changes. What drivers were taught stays. After want of memory all is as before. Cost: that of the step.
-    #[tactic(none)]
     pub fn step(&mut self, answer: Answer) -> Result<Option<Label>, WantOfMemory>
         ensures moves { IfOk result (λ label. MovesBy answer (settings self.old) self.old.state label self.new.state) }
         ensures same { self.new ≡ record self.old { state = self.new.state } }
