@@ -1,5 +1,5 @@
 -- What an event does to the names of a rack that tells one answer.
-use Rattle.std.proofs.Common.{ℕ, ◌≡◌, Bool, true, false, List, [], ◌∷◌, map, length, Option, Some, None, Result, Ok, Err, IfOk, OnOk, option_map, cond, refl, sym, ap, ◌∙◌}
+use Rattle.std.proofs.Common.{ℕ, ◌≡◌, Bool, true, false, List, [], ◌∷◌, map, length, Option, Some, None, Result, Ok, Err, IfOk, OnOk, option_map, cond, refl, sym, ap, ◌∙◌, subst, ◌+◌}
 use Rattle.std.specs.Prelude.{find, nat_lt}
 use Rattle.std.specs.declared.alloc.AllocError.{AllocError}
 use Rattle.pnp_labels.specs.Texts.{Text}
@@ -18,7 +18,9 @@ use Rattle.free_model.specs.Frees.{telling, told}
 use Rattle.free_model.proofs.Happenings.{IsOther, untaught_moved}
 use Rattle.free_model.proofs.TwinEvents.{find_map, changed_map}
 use Rattle.pnp_machine.specs.Machines.{IsDone}
+use Rattle.pnp_machine.specs.Managers.{Manager}
 use Rattle.free_run.specs.declared.told.ToldRacks.{ToldRacks}
+use Rattle.free_run.specs.FreeRuns.{Free, HasHappened}
 use Rattle.free_run.specs.Racks.{named_by, named, named_in}
 use Rattle.free_run.specs.ToldRacks.{AreTold}
 
@@ -124,3 +126,15 @@ told_on s new event old racks so ok fail pend (Ok label) done =
       pend = told_so Answer.Pend s new event old.pend racks.pend so.pend done.1 pend;
     }
 told_on s new event old racks so ok fail pend (Err refused) done = tt
+
+-- The run -----------------------------------------------------------------------------------
+
+abbrev free_of : Manager → Free
+free_of m = record { infs = m.infs; budget = m.budget; events = m.events; state = m.state }
+
+-- what the event does to the manager it does to the run
+pub happened : (before after : Manager) (f : Free) (event : Event) (label : Label) → free_of before ≡ f → IsDone (happens before.state event) label after.state
+    → after ≡ record before { events = before.events + 1; state = after.state } → HasHappened (happens f.state event) f (free_of after) label
+happened before after f event label is done count =
+    subst (λ (x : Free). HasHappened (happens x.state event) x (free_of after) label) is
+    (done.0, ap free_of count ∙ ap (λ (s : State). record { infs = before.infs; budget = before.budget; events = before.events + 1; state = s }) done.1)

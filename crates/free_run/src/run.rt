@@ -66,7 +66,6 @@ impl FreeRun {
 
     /// An event happens, at a quiet state: exactly what the machine's definition says. Conditions: the state is quiet, the event has at
     /// most 64 IDs of each sort, and fewer than 2^24 events happened before. After want of memory the run is gone. Cost: as `Manager::apply`.
-    #[tactic(none)]
     pub fn apply(self, event: Event) -> Result<(FreeRun, Label), WantOfMemory>
         requires quiet { IsQuiet (settings self) self.state }
         requires ids { HasFewIds event }
