@@ -4,7 +4,7 @@ use Rattle.std.specs.Prelude.{OnErr}
 use Rattle.std.specs.declared.alloc.AllocError.{AllocError}
 use Rattle.pnp_labels.specs.declared.label.Label.{Label}
 use Rattle.pnp_labels.specs.declared.words.Answer.{Answer}
-use Rattle.pnp_model.specs.Machine.{Steps, IsQuiet}
+use Rattle.pnp_model.specs.Machine.{Steps}
 use Rattle.pnp_model.specs.Records.{Driver, Settings, State}
 use Rattle.free_model.specs.Asks.{Query, next_query}
 use Rattle.free_model.specs.Frees.{told, with_rack}
@@ -17,7 +17,6 @@ use Rattle.pnp_machine.specs.Machines.{Moves}
 use Rattle.pnp_machine.specs.Managers.{Manager, settings}
 use Rattle.pnp_machine.specs.declared.manager.Moved.{Moved}
 use Rattle.pnp_machine.specs.declared.manager.Moved.TheVariants.{Label as Printed, Quiet}
-use Rattle.free_run.specs.FreeRuns.{MovesBy}
 use Rattle.free_run.specs.ToldRacks.{IsTold, MovesTold}
 use Rattle.free_run.proofs.Tellers.{told_by}
 

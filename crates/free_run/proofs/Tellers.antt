@@ -1,6 +1,5 @@
 -- Racks that tell one answer: what a step of the machine leaves of them, and how they get names.
-use Rattle.std.proofs.Common.{ℕ, zero, suc, ◌≡◌, Bool, true, false, List, [], ◌∷◌, map, Option, Some, None, Result, Ok, Err, position, option_map, slice_get, slice_set, cond, refl, sym, ap, ◌∙◌, subst, take, length, ◌≤◌}
-use Rattle.std.specs.Prelude.{find}
+use Rattle.std.proofs.Common.{ℕ, zero, suc, ◌≡◌, List, [], ◌∷◌, map, Option, Some, None, Result, Ok, Err, option_map, slice_get, slice_set, refl, sym, ap, ◌∙◌, take, length, ◌≤◌}
 use Rattle.std.proofs.lemmas.Option.{slice_get-map, same_Some}
 use Rattle.std.proofs.lemmas.List.{take_all}
 use Rattle.pnp_labels.specs.Texts.{Text}
@@ -11,7 +10,6 @@ use Rattle.pnp_labels.specs.declared.words.AskWhat.TheVariants.{Add, Irp}
 use Rattle.pnp_labels.specs.declared.words.DriverKind.{DriverKind}
 use Rattle.pnp_labels.specs.declared.words.Minor.TheVariants.{Start, QueryRemove, Remove, CancelRemove, Stop, QueryStop, CancelStop, SurpriseRemoval}
 use Rattle.pnp_model.specs.Books.{later, rack_after, with_later, is_named, is_unnamed, with_name}
-use Rattle.pnp_model.specs.Keyed.{changed_first}
 use Rattle.pnp_model.specs.Records.{Driver}
 use Rattle.pnp_model.proofs.Keyed.{changed_first_none, find_from_position, find_from_none}
 use Rattle.free_model.specs.Asks.{Query}

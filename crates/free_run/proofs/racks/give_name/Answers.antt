@@ -1,4 +1,3 @@
-use Rattle.std.proofs.Common.{rules}
 use Rattle.free_run.proofs.Tellers.{is_named_so}
 use Rattle.free_run.proofs.racks.give_name.Goals as goal
 
