@@ -65,7 +65,6 @@ pub record Over (m after : Manager) (r back : List Driver) (result : Result Move
 module _ (m given stepped : Manager) (r own : List Driver) (told_so : IsTold r m.state.core.rack)
     (gives : given ≡ record m { state = with_rack r m.state }) (takes : own ≡ m.state.core.rack)
     (result : Result Moved AllocError) (moves : IfOk result (λ moved. Moves (settings given) given.state moved stepped.state)) (same : stepped ≡ record given { state = stepped.state }) (err : OnErr result (stepped ≡ given)) where
-
   moves_there : (result : Result Moved AllocError) → IfOk result (λ moved. Moves (settings given) given.state moved stepped.state) → IfOk result (λ moved. Moves (settings m) (with_rack r m.state) moved stepped.state)
   moves_there (Ok moved) h = subst (λ (x : Manager). Moves (settings x) x.state moved stepped.state) gives h
   moves_there (Err refused) h = tt

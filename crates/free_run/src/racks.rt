@@ -41,11 +41,7 @@ pub(crate) fn told_rack(
 
 /// Gives a name to the first driver of the kind that has none; where there is none, or a driver has the name, nothing
 /// changes.
-fn give_name(
-    rack: &mut Rack<FreeDriver>,
-    kind: DriverKind,
-    name: &Text,
-) -> Result<(), WantOfMemory>
+fn give_name(rack: &mut Rack<FreeDriver>, kind: DriverKind, name: &Text) -> Result<(), WantOfMemory>
     ensures { OnOk result (rack.new ≡ named name.now kind rack.old) }
 {
     match rack.name(kind, name) {

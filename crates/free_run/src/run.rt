@@ -1,8 +1,7 @@
-ghost use Rattle.std.specs.Prelude.{◌≡◌, ◌<◌, ◌≤◌, ◌+◌, ◌^◌, ℕ, Bool, true, false, IfOk, OnErr, length};
+ghost use Rattle.std.specs.Prelude.{◌≡◌, ◌<◌, ◌≤◌, ◌^◌, IfOk, OnErr, length};
 ghost use Rattle.pnp_model.specs.Endings.{ending, joined};
 ghost use Rattle.pnp_model.specs.Events.{happens};
 ghost use Rattle.pnp_model.specs.Machine.{IsQuiet};
-ghost use Rattle.pnp_model.specs.Records.{Step};
 ghost use Rattle.free_model.specs.Frees.{free_opening};
 ghost use Rattle.free_run.specs.FreeRuns.{settings, MovesBy, HasFewIds, HasHappened, IfQuiet};
 
