@@ -77,6 +77,7 @@ impl FreeRun {
         } = self;
         match told.apply(event, &mut manager) {
             Ok(label) => Ok((FreeRun { manager, told }, label)),
+            // by `?` the whole machine would be let go here, part by part, which makes a long proof
             Err(refused) => {
                 drop(manager);
                 drop(told);
