@@ -162,6 +162,19 @@ impl Arbiters {
         }
     }
 
+    /// All pairs, kind by kind, in the order of their lists. Cost: their number.
+    pub fn pairs(&self, alloc: Global) -> Result<Vec<(Owner, Res)>, WantOfMemory>
+        ensures { IfOk result (λ pairs. pairs.items ≡ all_pairs self.now) }
+    {
+        let mut pairs = Vec::new(alloc);
+        self.ports.push_onto(&mut pairs)?;
+        self.irqs.push_onto(&mut pairs)?;
+        self.memory.push_onto(&mut pairs)?;
+        self.channels.push_onto(&mut pairs)?;
+        self.buses.push_onto(&mut pairs)?;
+        Ok(pairs)
+    }
+
     /// The pair of the kind at that position of its list, none exactly past its end.
     pub fn held(&self, kind: Kind, at: u64) -> Option<(Owner, Res)>
         ensures { result ≡ slice_get (of_kind self.now kind).pairs at }
