@@ -67,7 +67,10 @@ fn holding_after(alloc: Global, keep: bool) -> Result<Option<(Owner, u64)>, Fail
 
 #[test]
 fn an_interrupt_handed_over(rt: HostRuntime) -> Result<(), Fail> {
-    let (kept, rolled_back) = (holding_after(rt.alloc(), true)?, holding_after(rt.alloc(), false)?);
+    let (kept, rolled_back) = (
+        holding_after(rt.alloc(), true)?,
+        holding_after(rt.alloc(), false)?,
+    );
     assert!(rt; kept == Some((Owner::Device(2), 5)));
     assert!(rt; rolled_back == Some((Owner::Device(1), 5)));
     Ok(())
