@@ -95,16 +95,6 @@ copied_less old pairs serials at p board read moves copied =
     ∙ ap (λ b. fixed_pairs serials (take at pairs) ++ cond (not b) (p ∷ []) []) moves in
     subst (λ l. IsPermutation (old ++ l) board) (sym (kept ∙ append-nil (fixed_pairs serials (take at pairs)))) copied
 
-past_end : (pairs : List Pair) (at : ℕ) → slice_get pairs at ≡ None → length pairs ≤ at
-past_end [] at h = omega arith
-past_end (p ∷ pairs) zero h = cc
-past_end (p ∷ pairs) (suc at) h = let rest = past_end pairs at h in omega arith
-
--- all were seen
-pub copied_all : (old pairs : List Pair) (serials : List ℕ) (at : ℕ) (board : List Pair) → slice_get pairs at ≡ None
-    → IsPermutation (old ++ fixed_pairs serials (take at pairs)) board → IsPermutation (old ++ fixed_pairs serials pairs) board
-copied_all old pairs serials at board past copied = subst (λ l. IsPermutation (old ++ fixed_pairs serials l) board) (take_all at pairs (past_end pairs at past)) copied
-
 -- how many were copied
 pub copied_few : (old pairs : List Pair) (serials : List ℕ) (at : ℕ) (board : List Pair) → IsPermutation (old ++ fixed_pairs serials (take at pairs)) board
     → length board ≤ length old + at
@@ -119,18 +109,6 @@ copied_few old pairs serials at board copied =
     filter_short p [] = omega arith
     filter_short p (x ∷ xs) = cond_both (p x) (x ∷ filter p xs) (filter p xs) (λ l. length l ≤ suc (length xs)) (λ e. let rest = filter_short p xs in omega arith) (λ e. let rest = filter_short p xs in omega arith)
 
-next_part : (old part board board' : List Pair) → IsPermutation old board → IsPermutation (board ++ part) board' → IsPermutation (old ++ part) board'
-next_part old part board board' so_far more =
-    IsPermutation-trans (old ++ part) (board ++ part) board' (IsPermutation-append_left part old board so_far) more
-
--- what is fixed of one kind more was copied
-pub copied_kind : (serials : List ℕ) (a : Arbiters) (kinds : List Kind) (kind : Kind) (board board' : List Pair) → IsPermutation (fixed_pairs serials (pairs_in a kinds)) board
-    → IsPermutation (board ++ fixed_pairs serials (of_kind a kind).pairs) board' → IsPermutation (fixed_pairs serials (pairs_in a (kinds ++ kind ∷ []))) board'
-copied_kind serials a kinds kind board board' so_far more =
-    subst (λ l. IsPermutation l board')
-    (sym (filter-append (λ p. not (is_mover serials p.0)) (pairs_in a kinds) (of_kind a kind).pairs) ∙ ap (fixed_pairs serials) (pairs_in_more a kinds kind))
-    (next_part (fixed_pairs serials (pairs_in a kinds)) (fixed_pairs serials (of_kind a kind).pairs) board board' so_far more)
-
 -- the same pairs in another order: the same resources
 pub same_res : (a b : List Pair) → IsPermutation a b → SameSet (res_list b) (res_list a)
 same_res a b moved r =
@@ -138,28 +116,6 @@ same_res a b moved r =
       λ h. Contains-permutation (res_list b) (res_list a) r (IsPermutation-sym (res_list a) (res_list b) mapped) h,
       λ h. Contains-permutation (res_list a) (res_list b) r mapped h,
     )
-
--- one pair more that does not move
-pub none_more : (serials : List ℕ) (pairs : List Pair) (at : ℕ) (p : Pair) → slice_get pairs at ≡ Some p → is_mover serials p.0 ≡ false
-    → has_moving serials (take at pairs) ≡ false → has_moving serials (take (at + 1) pairs) ≡ false
-none_more serials pairs at p read fixed none =
-    let within : at < length pairs = slice_get_within pairs at p read in
-    let here : get_or pairs at p ≡ p = get_or_from_slice_get pairs at p p read in
-    list_any_more (λ (q : Pair). is_mover serials q.0) pairs at p within
-    ∙ ap (λ b. b || is_mover serials (get_or pairs at p).0) none
-    ∙ ap (λ (q : Pair). is_mover serials q.0) here ∙ fixed
-
--- a pair that moves
-pub one_moves : (serials : List ℕ) (pairs : List Pair) (at : ℕ) (p : Pair) → slice_get pairs at ≡ Some p → is_mover serials p.0 ≡ true
-    → has_moving serials pairs ≡ true
-one_moves serials pairs at p read moves =
-    list_any_at (λ (q : Pair). is_mover serials q.0) pairs at p (slice_get_within pairs at p read)
-    (ap (λ (q : Pair). is_mover serials q.0) (get_or_from_slice_get pairs at p p read) ∙ moves)
-
--- all were seen, and none moves
-pub none_at_all : (serials : List ℕ) (pairs : List Pair) (at : ℕ) → slice_get pairs at ≡ None
-    → has_moving serials (take at pairs) ≡ false → has_moving serials pairs ≡ false
-none_at_all serials pairs at past none = ap (has_moving serials) (sym (take_all at pairs (past_end pairs at past))) ∙ none
 
 -- where none moves all is fixed
 pub fixed_all : (serials : List ℕ) (pairs : List Pair) → has_moving serials pairs ≡ false → fixed_pairs serials pairs ≡ pairs

@@ -1,4 +1,4 @@
-ghost use Rattle.std.specs.Prelude.{◌≡◌, ◌≤◌, ◌<◌, ◌+◌, ◌*◌, ◌^◌, ◌++◌, false, length, map, IfOk, OnOk, IsPermutation};
+ghost use Rattle.std.specs.Prelude.{◌≡◌, ◌≤◌, ◌<◌, ◌+◌, ◌^◌, ◌++◌, false, length, map, IfOk, OnOk, IsPermutation};
 ghost use Rattle.std.specs.List.Sorted.{IsNonDecreasing};
 ghost use Rattle.resource_reqs.specs.declared.kind.Kind.{Kind};
 ghost use Rattle.resource_reqs.specs.Spelling.{IsAnswer};
@@ -9,7 +9,7 @@ use crate::board::add;
 use crate::mover::Mover;
 use crate::plan::Found;
 use crate::search::search;
-use resource_reqs::{Kind, Owner, WantOfMemory};
+use resource_reqs::{Owner, Res, WantOfMemory};
 use std::alloc::Global;
 use trial_journal::Arbiters;
 
@@ -41,76 +41,51 @@ fn owns_moving(serials: &[u64], owner: Owner) -> bool
     }
 }
 
-/// Whether the arbiter of a kind holds something for one of these serials. Cost: a look at each pair up to the
-/// first such.
-fn has_moving_of(arbiters: &Arbiters, serials: &[u64], kind: Kind) -> bool
-    requires ascending { IsNonDecreasing serials.now }
-    requires few { length (of_kind arbiters.now kind).pairs < 2 ^ 32 }
-    ensures { result ≡ has_moving serials.now (of_kind arbiters.now kind).pairs }
+/// Whether one of the pairs is held for one of these serials. Cost: a look at each pair up to the first such.
+fn has_moving(pairs: &[(Owner, Res)], serials: &[u64]) -> bool
+    requires { IsNonDecreasing serials.now }
+    ensures { result ≡ has_moving serials.now pairs.now }
 {
-    let mut at = 0;
-    'pairs: while let Some(pair) = arbiters.held(kind, at) {
+    'pairs: for pair in pairs {
         if owns_moving(serials, pair.0) {
             return true;
         }
-        at += 1;
     }
     false
 }
 
-/// Whether the arbiters hold something for one of these serials. Cost: a look at each pair up to the first
-/// such.
-fn has_moving(arbiters: &Arbiters, serials: &[u64]) -> bool
-    requires ascending { IsNonDecreasing serials.now }
-    requires few { (kind : Kind) → length (of_kind arbiters.now kind).pairs ≤ 2 ^ 29 }
-    ensures { result ≡ has_moving serials.now (all_pairs arbiters.now) }
-{
-    has_moving_of(arbiters, serials, Kind::Port)
-        || has_moving_of(arbiters, serials, Kind::Irq)
-        || has_moving_of(arbiters, serials, Kind::Mem)
-        || has_moving_of(arbiters, serials, Kind::Dma)
-        || has_moving_of(arbiters, serials, Kind::Bus)
-}
-
-/// Puts on a board what the arbiter of a kind holds for none of these serials.
+/// Puts on a board the pairs that are held for none of these serials.
 fn copy_fixed(
-    arbiters: &Arbiters,
     board: &mut Arbiters,
+    pairs: &[(Owner, Res)],
     serials: &[u64],
-    kind: Kind,
 ) -> Result<(), WantOfMemory>
     requires ascending { IsNonDecreasing serials.now }
-    requires few { length (all_pairs board.old) + length (of_kind arbiters.now kind).pairs < 2 ^ 32 }
-    ensures copied { OnOk result (IsPermutation (all_pairs board.old ++ fixed_pairs serials.now (of_kind arbiters.now kind).pairs) (all_pairs board.new)) }
-    ensures few { OnOk result (length (all_pairs board.new) ≤ length (all_pairs board.old) + length (of_kind arbiters.now kind).pairs) }
+    requires few { length (all_pairs board.old) + length pairs.now < 2 ^ 32 }
+    ensures copied { OnOk result (IsPermutation (all_pairs board.old ++ fixed_pairs serials.now pairs.now) (all_pairs board.new)) }
+    ensures few { OnOk result (length (all_pairs board.new) ≤ length (all_pairs board.old) + length pairs.now) }
 {
-    let mut at = 0;
-    'pairs: while let Some(pair) = arbiters.held(kind, at) {
+    'pairs: for pair in pairs {
         if !owns_moving(serials, pair.0) {
             add(board, pair.0, pair.1)?;
         }
-        at += 1;
     }
     Ok(())
 }
 
-/// A board with all pairs whose owner is none of these serials.
+/// A board with the pairs whose owner is none of these serials.
 fn fixed_board(
     alloc: Global,
-    arbiters: &Arbiters,
+    pairs: &[(Owner, Res)],
     serials: &[u64],
 ) -> Result<Arbiters, WantOfMemory>
     requires ascending { IsNonDecreasing serials.now }
-    requires few { (kind : Kind) → length (of_kind arbiters.now kind).pairs ≤ 2 ^ 29 }
-    ensures fixed { IfOk result (λ board. IsPermutation (fixed_pairs serials.now (all_pairs arbiters.now)) (all_pairs board)) }
-    ensures few { IfOk result (λ board. length (all_pairs board) ≤ 5 * 2 ^ 29) }
+    requires few { length pairs.now < 2 ^ 32 }
+    ensures fixed { IfOk result (λ board. IsPermutation (fixed_pairs serials.now pairs.now) (all_pairs board)) }
+    ensures few { IfOk result (λ board. length (all_pairs board) ≤ length pairs.now) }
 {
     let mut board = Arbiters::new(alloc)?;
-    copy_fixed(arbiters, &mut board, serials, Kind::Port)?;
-    copy_fixed(arbiters, &mut board, serials, Kind::Irq)?;
-    copy_fixed(arbiters, &mut board, serials, Kind::Mem)?;
-    copy_fixed(arbiters, &mut board, serials, Kind::Dma)?;
-    copy_fixed(arbiters, &mut board, serials, Kind::Bus)?;
+    copy_fixed(&mut board, pairs, serials)?;
     Ok(board)
 }
 
@@ -139,8 +114,8 @@ pub fn answer_beside(
 /// assignment in the order of preference, where so many are enough to find it; `NoFit`, where none exists and
 /// so many are enough to see that; else `Spent`. The lists of the arbiters are as before, whatever is answered
 /// (this project's own; the kernel's arbiters search likewise, the driver kit, "Arbiter Interface"). Cost: a
-/// look at the owner of each pair held; where a mover holds one, a copy of the pairs that are fixed; and that of
-/// the search (`answer_beside`).
+/// list of the pairs held, and a look at the owner of each; where a mover holds one, a copy of the pairs that are
+/// fixed; and that of the search (`answer_beside`).
 pub fn answer(
     alloc: Global,
     arbiters: &mut Arbiters,
@@ -154,9 +129,11 @@ pub fn answer(
 {
     let ascending = serials_of(alloc, movers)?;
     let serials: &[u64] = &ascending;
-    if !has_moving(arbiters, serials) {
+    let held = arbiters.pairs(alloc)?;
+    let pairs: &[(Owner, Res)] = &held;
+    if !has_moving(pairs, serials) {
         return search(alloc, arbiters, movers, budget);
     }
-    let mut board = fixed_board(alloc, arbiters, serials)?;
+    let mut board = fixed_board(alloc, pairs, serials)?;
     search(alloc, &mut board, movers, budget)
 }

@@ -145,16 +145,3 @@ pub room_grows : (a b : Arbiters) (j k : Kind) (s : ℕ) → b ≡ with_spare a 
 room_grows a b j k s is more =
     subst (λ (x : Arbiters). (of_kind a k).spare ≤ (of_kind x k).spare) (sym is)
     (at_each (λ (x y : Arbiter). x.spare ≤ y.spare) a j (record (of_kind a j) { spare = s }) more (λ y. omega arith) k)
-
--- nothing stands at a place past the end
-pub none_past : {X : Type 0} (xs : List X) (i : ℕ) → slice_get xs i ≡ None → length xs ≤ i
-none_past [] i h = omega arith
-none_past (x ∷ xs) zero h = absurd (cc)
-none_past (x ∷ xs) (suc i) h = let rest = none_past xs i (grind arith) in omega arith
-
-pub each_kind : (P : Kind → Type 0) → P Port → P Irq → P Mem → P Dma → P Bus → (k : Kind) → P k
-each_kind P p i m d b Port = p
-each_kind P p i m d b Irq = i
-each_kind P p i m d b Mem = m
-each_kind P p i m d b Dma = d
-each_kind P p i m d b Bus = b

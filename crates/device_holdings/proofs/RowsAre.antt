@@ -35,13 +35,3 @@ rows_are a c ends m orderly =
     ∙ ap (map (row_of c.nodes)) (order_is (held_pairs c.reserved c.nodes)
     (ties_held c.reserved c.nodes orderly.ascends orderly.clear.taken orderly.clear.own orderly.root
     (ends_held (held_pairs c.reserved c.nodes) (subst (λ l. EndInOrder (all_kinds l)) m.lists ends)))))
-
--- kind by kind
-pub all_ends : (a : Arbiters) → ((kind : Kind) → EndInOrder (of_kind a kind).pairs) → EndInOrder (all_pairs a)
-all_ends a ends =
-    let P : Pair → Type 0 = λ p. p.1.lo ≤ p.1.hi in
-    recursion_from_All P (all_pairs a) (all_each P (lists_of a) (λ k. All-from_recursion P (of_kind (lists_of a) k) (subst EndInOrder (sym (pairs_at a k)) (ends k))) kind_order)
-
--- the rows after those of one kind more
-pub more_rows : (a : Arbiters) (kinds : List Kind) (kind : Kind) (rows rows' : List Pair) → rows' ≡ rows ++ (of_kind a kind).pairs → rows ≡ pairs_in a kinds → rows' ≡ pairs_in a (kinds ++ kind ∷ [])
-more_rows a kinds kind rows rows' added so_far = added ∙ ap (λ ps. ps ++ (of_kind a kind).pairs) so_far ∙ pairs_in_more a kinds kind

@@ -1,12 +1,12 @@
-ghost use Rattle.std.specs.Prelude.{◌≡◌, ◌≤◌, ◌++◌, map, IfOk, OnOk};
+ghost use Rattle.std.specs.Prelude.{◌≡◌, ◌≤◌, map, IfOk};
 ghost use Rattle.std.specs.List.{AllByRecursion};
 ghost use Rattle.pnp_model.specs.Records.{Core};
 ghost use Rattle.pnp_model.specs.Endings as Endings;
-ghost use Rattle.trial_journal.specs.ByKind.{of_kind, all_pairs};
+ghost use Rattle.trial_journal.specs.ByKind.{all_pairs};
 ghost use Rattle.device_holdings.specs.Mirrors.{Mirrors};
 ghost use Rattle.device_holdings.specs.MapRows.{row_of, IsOrderly};
 
-use resource_reqs::{Kind, Owner, Res, WantOfMemory};
+use resource_reqs::{Owner, Res, WantOfMemory};
 use std::alloc::Global;
 use trial_journal::Arbiters;
 
@@ -17,22 +17,13 @@ fn has_ends_in_order(res: &Res)
     let _ = &res.lo;
 }
 
-/// Appends the pairs of a kind.
-fn add_kind(
-    rows: &mut Vec<(Owner, Res)>,
-    arbiters: &Arbiters,
-    kind: Kind,
-) -> Result<(), WantOfMemory>
-    ensures added { OnOk result (rows.new.items ≡ rows.old.items ++ (of_kind arbiters.now kind).pairs) }
-    ensures ends { OnOk result (AllByRecursion (λ p. p.1.lo ≤ p.1.hi) (of_kind arbiters.now kind).pairs) }
+/// Tells it of each of these.
+fn have_ends_in_order(rows: &[(Owner, Res)])
+    ensures { AllByRecursion (λ p. p.1.lo ≤ p.1.hi) rows.now }
 {
-    let mut at = 0;
-    'pairs: while let Some(pair) = arbiters.held(kind, at) {
-        has_ends_in_order(&pair.1);
-        rows.push(pair)?;
-        at += 1;
+    'rows: for row in rows {
+        has_ends_in_order(&row.1);
     }
-    Ok(())
 }
 
 /// What is reserved and what devices hold, with the owner of each, in the order of the printed map: by kind, first
@@ -41,11 +32,7 @@ pub fn map_rows(alloc: Global, arbiters: &Arbiters) -> Result<Vec<(Owner, Res)>,
     ensures pairs { IfOk result (λ rows. rows.items ≡ all_pairs arbiters.now) }
     ensures rows { IfOk result (λ rows. (c : Core) → Mirrors c.reserved c.nodes arbiters.now → IsOrderly c → map (row_of c.nodes) rows.items ≡ Endings.map_rows c) }
 {
-    let mut rows = Vec::new(alloc);
-    add_kind(&mut rows, arbiters, Kind::Port)?;
-    add_kind(&mut rows, arbiters, Kind::Irq)?;
-    add_kind(&mut rows, arbiters, Kind::Mem)?;
-    add_kind(&mut rows, arbiters, Kind::Dma)?;
-    add_kind(&mut rows, arbiters, Kind::Bus)?;
+    let rows = arbiters.pairs(alloc)?;
+    have_ends_in_order(&rows);
     Ok(rows)
 }

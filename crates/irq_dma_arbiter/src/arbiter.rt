@@ -1,4 +1,4 @@
-ghost use Rattle.std.specs.Prelude.{◌≡◌, ◌≤◌, ◌<◌, ◌+◌, ◌-◌, ◌^◌, ℕ, [], length, Contains, IfOk, OnOk, IfSome, IfNone, slice_get};
+ghost use Rattle.std.specs.Prelude.{◌≡◌, ◌≤◌, ◌<◌, ◌+◌, ◌-◌, ◌^◌, ◌++◌, ℕ, [], length, Contains, IfOk, OnOk, IfSome, IfNone, slice_get};
 ghost use Rattle.std.specs.List.{list_any};
 ghost use Rattle.resource_reqs.specs.Resources.{IsOpen, clashes};
 ghost use Rattle.range_arbiter.specs.Pairs.{pairs_with, res_list};
@@ -88,6 +88,13 @@ impl NumberArbiter {
         ensures spare { self.new.spare ≡ self.old.spare + 1 }
     {
         self.numbers.take(owner, res);
+    }
+
+    /// Appends the pairs, in their order. Cost: the number of pairs.
+    pub fn push_onto(&self, list: &mut Vec<(Owner, Res)>) -> Result<(), WantOfMemory>
+        ensures { OnOk result (list.new.items ≡ list.old.items ++ self.now.pairs) }
+    {
+        self.numbers.push_onto(list)
     }
 
     /// The pair at that position of the list, none exactly past its end.

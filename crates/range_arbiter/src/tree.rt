@@ -1,4 +1,4 @@
-ghost use Rattle.std.specs.Prelude.{◌≡◌, ◌+◌, [], ◌∷◌, length, slice_get};
+ghost use Rattle.std.specs.Prelude.{◌≡◌, ◌+◌, ◌++◌, [], ◌∷◌, length, slice_get, OnOk};
 ghost use Rattle.std.specs.List.{list_any};
 ghost use Rattle.resource_reqs.specs.Resources.{clashes};
 ghost use Rattle.range_arbiter.specs.Pairs.{res_list};
@@ -6,7 +6,7 @@ ghost use Rattle.range_arbiter.specs.Spans.{Covers};
 ghost use Rattle.range_arbiter.specs.Trees.{pairs_at};
 
 use crate::span::{Span, joined};
-use resource_reqs::{Kind, Owner, Res, clash};
+use resource_reqs::{Kind, Owner, Res, WantOfMemory, clash};
 use std::marker::Model;
 
 /// Pairs in a tree, those of the left side in front. A contract sees the list of them.
@@ -107,6 +107,20 @@ impl Tree {
                     return Some(node.pair);
                 }
                 node.right.nth(at - front - 1)
+            }
+        }
+    }
+
+    /// Appends the pairs, one after another. What was there stays, whatever is answered. Cost: the number of pairs.
+    pub fn push_onto(&self, list: &mut Vec<(Owner, Res)>) -> Result<(), WantOfMemory>
+        ensures { OnOk result (list.new.items ≡ list.old.items ++ self.now) }
+    {
+        match &self.top {
+            Top::Empty => Ok(()),
+            Top::Full(node) => {
+                node.left.push_onto(list)?;
+                list.push(node.pair)?;
+                node.right.push_onto(list)
             }
         }
     }

@@ -17,3 +17,5 @@ mod searches;
 mod sizes;
 #[cfg(test)]
 mod trees;
+#[cfg(test)]
+mod trials;

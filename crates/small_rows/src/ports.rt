@@ -1,8 +1,12 @@
-//! 200,000 ports that come in descending order, each before all that are held, and one more 200,000 times for a moment.
+//! 200,000 ports that come in descending order, each before all that are held, and one more 200,000 times in a trial.
+ghost use Rattle.std.specs.Prelude.{◌≡◌, ◌≤◌, [], IsTrue, IfOk};
+ghost use Rattle.resource_reqs.specs.declared.kind.Kind.{Kind};
+ghost use Rattle.trial_journal.specs.ByKind.{of_kind};
+
 use resource_reqs::{Kind, Owner, Res};
 use std::alloc::Global;
 use std::test::Fail;
-use trial_journal::Arbiters;
+use trial_journal::{Arbiters, Journal, Trial};
 
 /// One port.
 fn port(number: u64) -> Result<Res, Fail> {
@@ -21,19 +25,10 @@ fn hold(arbiters: &mut Arbiters, device: u64, res: Res) -> Result<(), Fail> {
     Ok(())
 }
 
-/// A device holds one resource more, and gives it back.
-fn hold_for_a_moment(arbiters: &mut Arbiters, device: u64, res: Res) -> Result<(), Fail> {
-    if arbiters.spare(res.kind) == 0 {
-        return Err(Fail::from("room"));
-    }
-    arbiters.put(Owner::Device(device), res);
-    arbiters.take(Owner::Device(device), res);
-    Ok(())
-}
-
-/// Arbiters with room for 200,001 ports.
+/// Arbiters with room for 200,001 ports, and for one more of each other kind.
 fn roomy(alloc: Global) -> Result<Arbiters, Fail> {
     let mut arbiters = Arbiters::new(alloc)?;
+    arbiters.room_of_each(1)?;
     arbiters.room(Kind::Port, 200_001)?;
     Ok(arbiters)
 }
@@ -46,12 +41,29 @@ fn descending(arbiters: &mut Arbiters) -> Result<(), Fail> {
     Ok(())
 }
 
-/// Port 0 so often, each time for a moment.
-fn in_front(arbiters: &mut Arbiters) -> Result<(), Fail> {
-    for _ in 0..200_000u32 {
-        hold_for_a_moment(arbiters, 2, port(0)?)?;
+/// Whether there is room for one more of each kind.
+fn has_room(arbiters: &Arbiters) -> bool
+    ensures { IsTrue result → (k : Kind) → 1 ≤ (of_kind arbiters.now k).spare }
+{
+    arbiters.spare(Kind::Port) >= 1
+        && arbiters.spare(Kind::Irq) >= 1
+        && arbiters.spare(Kind::Mem) >= 1
+        && arbiters.spare(Kind::Dma) >= 1
+        && arbiters.spare(Kind::Bus) >= 1
+}
+
+/// One trial, in which the resource is put and undone so often.
+fn in_front(arbiters: &mut Arbiters, journal: Journal, res: Res)
+    requires room { (k : Kind) → 1 ≤ (of_kind arbiters.old k).spare }
+    requires journal { journal ≡ record { entries = []; room = 1 } }
+    ensures { arbiters.new ≡ arbiters.old }
+{
+    let mut trial = Trial::over(arbiters, journal);
+    'turns: for _ in 0..200_000u32 {
+        trial.put(Owner::Device(2), res);
+        trial.undo_to(0);
     }
-    Ok(())
+    trial.roll_back();
 }
 
 /// The port at a position of the list, where the first device holds it.
@@ -66,7 +78,9 @@ fn held_at(arbiters: &Arbiters, at: u64) -> Option<u64> {
 fn ports_in_descending_order(rt: HostRuntime) -> Result<(), Fail> {
     let mut arbiters = roomy(rt.alloc())?;
     descending(&mut arbiters)?;
-    in_front(&mut arbiters)?;
+    let journal = Journal::with_room(rt.alloc(), 1)?;
+    assert!(rt; has_room(&arbiters));
+    in_front(&mut arbiters, journal, port(0)?);
     for (at, number) in [(0, 2), (100_000, 200_002), (199_999, 400_000)] {
         assert_eq!(rt; held_at(&arbiters, at), Some(number));
     }

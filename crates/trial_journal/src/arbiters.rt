@@ -3,7 +3,7 @@ ghost use Rattle.std.specs.List.{list_any};
 ghost use Rattle.resource_reqs.specs.Resources.{IsOpen, clashes};
 ghost use Rattle.range_arbiter.specs.Pairs.{res_list};
 ghost use Rattle.resource_reqs.specs.declared.kind.Kind.{Kind};
-ghost use Rattle.trial_journal.specs.ByKind.{of_kind, with_kind, all_pairs, arbiters_with, AreOfKinds};
+ghost use Rattle.trial_journal.specs.ByKind.{of_kind, with_kind, lists_of, all_pairs, arbiters_with, AreOfKinds};
 
 use irq_dma_arbiter::NumberArbiter;
 use range_arbiter::RangeArbiter;
@@ -62,6 +62,20 @@ impl Arbiters {
             Kind::Dma => self.channels.room(more),
             Kind::Bus => self.buses.room(more),
         }
+    }
+
+    /// Takes memory so that `spare` of each kind is at least `more`. What is held stays, whatever is answered.
+    pub fn room_of_each(&mut self, more: u32) -> Result<(), WantOfMemory>
+        requires { (k : Kind) → length (of_kind self.old k).pairs + more < 2 ^ 32 }
+        ensures ok { OnOk result ((k : Kind) → more ≤ (of_kind self.new k).spare) }
+        ensures same { lists_of self.new ≡ lists_of self.old }
+        ensures grows { (k : Kind) → (of_kind self.old k).spare ≤ (of_kind self.new k).spare }
+    {
+        self.ports.room(more)?;
+        self.irqs.room(more)?;
+        self.memory.room(more)?;
+        self.channels.room(more)?;
+        self.buses.room(more)
     }
 
     /// How many more pairs of the kind there is room for.
@@ -146,6 +160,19 @@ impl Arbiters {
             Kind::Dma => self.channels.take(owner, res),
             Kind::Bus => self.buses.take(owner, res),
         }
+    }
+
+    /// All pairs, kind by kind, in the order of their lists. Cost: their number.
+    pub fn pairs(&self, alloc: Global) -> Result<Vec<(Owner, Res)>, WantOfMemory>
+        ensures { IfOk result (λ pairs. pairs.items ≡ all_pairs self.now) }
+    {
+        let mut pairs = Vec::new(alloc);
+        self.ports.push_onto(&mut pairs)?;
+        self.irqs.push_onto(&mut pairs)?;
+        self.memory.push_onto(&mut pairs)?;
+        self.channels.push_onto(&mut pairs)?;
+        self.buses.push_onto(&mut pairs)?;
+        Ok(pairs)
     }
 
     /// The pair of the kind at that position of its list, none exactly past its end.

@@ -1,4 +1,4 @@
-use Rattle.std.proofs.Common.{ℕ, List, false, ap, map, sym, subst, arith, Result, Ok, Err, IfOk, ◌≡◌, ◌∙◌}
+use Rattle.std.proofs.Common.{false, ap, ap₂, length, map, sym, subst, arith, Result, Ok, Err, IfOk, ◌≡◌, ◌∙◌}
 use Rattle.std.specs.Prelude.{IsPermutation}
 use Rattle.trial_journal.specs.ByKind.{kind_order, all_pairs}
 use Rattle.assign_search.specs.Fixed.{serial_of, reqs_of, fixed_pairs, has_moving, fixed_of, answer_of}
@@ -17,10 +17,25 @@ search-requires c =
     let most = c.requires.budget in
     omega arith
 
+pub fixed_board-requires-clause-few : goal.fixed_board-requires-clause-few
+fixed_board-requires-clause-few c =
+    let all = few_in c.args.arbiters.now c.requires.few kind_order in
+    let same : length c.deref-pairs.result.now ≡ length (all_pairs c.args.arbiters.now) = ap length (c.deref-pairs.ensures.value ∙ c.in_ok-held.ensures) in
+    omega arith
+
+pub search-requires-2 : goal.search-requires-2
+search-requires-2 c =
+    let all = few_in c.args.arbiters.now c.requires.few kind_order in
+    let same : length c.deref-pairs.result.now ≡ length (all_pairs c.args.arbiters.now) = ap length (c.deref-pairs.ensures.value ∙ c.in_ok-held.ensures) in
+    let few = c.in_ok-board.ensures.few in
+    let most = c.requires.budget in
+    omega arith
+
 pub returns-then-not-has_moving-clause-answer : goal.returns-then-not-has_moving-clause-answer
 returns-then-not-has_moving-clause-answer c =
+    let held : c.deref-pairs.result.now ≡ all_pairs c.args.arbiters.now = c.deref-pairs.ensures.value ∙ c.in_ok-held.ensures in
     let none : has_moving c.in_ok-ascending.ascending.items (all_pairs c.args.arbiters.now) ≡ false =
-    ap (λ (l : List ℕ). has_moving l (all_pairs c.args.arbiters.now)) (sym c.deref-serials.ensures.value) ∙ sym c.has_moving.ensures ∙ c.if-not-has_moving.true in
+    ap₂ has_moving (sym c.deref-serials.ensures.value) (sym held) ∙ sym c.has_moving.ensures ∙ c.if-not-has_moving.true in
     then_ok c.search.result (λ found is.
     answer_same (held_in c.args.arbiters.now) (fixed_of (map serial_of c.args.movers.now) (all_pairs c.args.arbiters.now))
     (all_fixed (map serial_of c.args.movers.now) c.in_ok-ascending.ascending.items c.in_ok-ascending.ensures.same (all_pairs c.args.arbiters.now) none)
@@ -28,8 +43,9 @@ returns-then-not-has_moving-clause-answer c =
 
 pub returns-clause-answer : goal.returns-clause-answer
 returns-clause-answer c =
-    let same : fixed_pairs c.deref-serials.result.now (all_pairs c.args.arbiters.now) ≡ fixed_pairs (map serial_of c.args.movers.now) (all_pairs c.args.arbiters.now) =
-    ap (λ (l : List ℕ). fixed_pairs l (all_pairs c.args.arbiters.now)) c.deref-serials.ensures.value
+    let held : c.deref-pairs.result.now ≡ all_pairs c.args.arbiters.now = c.deref-pairs.ensures.value ∙ c.in_ok-held.ensures in
+    let same : fixed_pairs c.deref-serials.result.now c.deref-pairs.result.now ≡ fixed_pairs (map serial_of c.args.movers.now) (all_pairs c.args.arbiters.now) =
+    ap₂ fixed_pairs c.deref-serials.ensures.value held
     ∙ sym (fixed_same (map serial_of c.args.movers.now) c.in_ok-ascending.ascending.items c.in_ok-ascending.ensures.same (all_pairs c.args.arbiters.now)) in
     then_ok c.search-2.result (λ found is.
     answer_same (held_in c.in_ok-board.board) (fixed_of (map serial_of c.args.movers.now) (all_pairs c.args.arbiters.now))

@@ -1,0 +1,77 @@
+//! A trial in which an interrupt goes from one device to another: kept in part, and rolled back.
+ghost use Rattle.std.specs.Prelude.{◌≡◌, ◌≤◌, [], Contains, IfOk};
+ghost use Rattle.resource_reqs.specs.declared.kind.Kind.{Kind};
+ghost use Rattle.resource_reqs.specs.declared.owner.Owner.TheVariants.{Device};
+ghost use Rattle.trial_journal.specs.ByKind.{of_kind};
+
+use resource_reqs::{Kind, Owner, Res};
+use std::alloc::Global;
+use std::test::Fail;
+use trial_journal::{Arbiters, Journal, Trial};
+
+/// One interrupt.
+fn interrupt(number: u64) -> Result<Res, Fail> {
+    match Res::make(Kind::Irq, number, number, false) {
+        Some(interrupt) => Ok(interrupt),
+        None => Err(Fail::from("an interrupt")),
+    }
+}
+
+/// Arbiters with room for three more of each kind, where the first device holds a resource.
+fn first_holds(alloc: Global, res: Res) -> Result<Arbiters, Fail>
+    ensures held { IfOk result (λ a. Contains (of_kind a res.kind).pairs (Device 1, res)) }
+    ensures room { IfOk result (λ a. (k : Kind) → 3 ≤ (of_kind a k).spare) }
+{
+    let mut arbiters = Arbiters::new(alloc)?;
+    arbiters.room_of_each(4)?;
+    arbiters.put(Owner::Device(1), res);
+    Ok(arbiters)
+}
+
+/// A trial gives what the first device holds to the second, and another resource to the first, which is taken back. Then the
+/// trial is kept, or rolled back.
+fn handed_over(arbiters: &mut Arbiters, journal: Journal, held: Res, other: Res, keep: bool)
+    requires held { Contains (of_kind arbiters.old held.kind).pairs (Device 1, held) }
+    requires room { (k : Kind) → 3 ≤ (of_kind arbiters.old k).spare }
+    requires journal { journal ≡ record { entries = []; room = 3 } }
+{
+    let mut trial = Trial::over(arbiters, journal);
+    trial.take(Owner::Device(1), held);
+    trial.put(Owner::Device(2), held);
+    trial.put(Owner::Device(1), other);
+    trial.undo_to(2);
+    if keep {
+        trial.commit();
+    } else {
+        trial.roll_back();
+    }
+}
+
+/// Who holds which interrupt, where it is one alone.
+fn alone(arbiters: &Arbiters) -> Option<(Owner, u64)> {
+    let (owner, res) = arbiters.held(Kind::Irq, 0)?;
+    if arbiters.held(Kind::Irq, 1).is_some() {
+        return None;
+    }
+    Some((owner, res.lo))
+}
+
+/// The one holding after a trial on interrupt 5 of the first device.
+fn holding_after(alloc: Global, keep: bool) -> Result<Option<(Owner, u64)>, Fail> {
+    let (held, other) = (interrupt(5)?, interrupt(6)?);
+    let mut arbiters = first_holds(alloc, held)?;
+    let journal = Journal::with_room(alloc, 3)?;
+    handed_over(&mut arbiters, journal, held, other, keep);
+    Ok(alone(&arbiters))
+}
+
+#[test]
+fn an_interrupt_handed_over(rt: HostRuntime) -> Result<(), Fail> {
+    let (kept, rolled_back) = (
+        holding_after(rt.alloc(), true)?,
+        holding_after(rt.alloc(), false)?,
+    );
+    assert!(rt; kept == Some((Owner::Device(2), 5)));
+    assert!(rt; rolled_back == Some((Owner::Device(1), 5)));
+    Ok(())
+}
