@@ -322,10 +322,10 @@ short false f g m h = refl
 
 pub line_tells : (ended : Bool) (line : List ℕ) → is_some (line_fault ended line) ≡ is_bad (meaning ended line)
 line_tells true line =
-    short (nat_le (length line) 4096) (words_fault (words_of (strip_carriage_return line))) (fault Cause.LongLine []) (meaning_of (words_of (strip_carriage_return line)))
+    short (nat_le (length line) 4096) (words_fault (words_of (strip_carriage_return line))) (fault Cause.LongLine line) (meaning_of (words_of (strip_carriage_return line)))
     (words_tells (words_of (strip_carriage_return line)))
 line_tells false line =
-    short (nat_le (length line) 4096) (words_fault (words_of line)) (fault Cause.LongLine []) (meaning_of (words_of line)) (words_tells (words_of line))
+    short (nat_le (length line) 4096) (words_fault (words_of line)) (fault Cause.LongLine line) (meaning_of (words_of line)) (words_tells (words_of line))
 
 is_seen : (f : Option LineFault) → is_some f ≡ is_some (option_map seen f)
 is_seen None = refl

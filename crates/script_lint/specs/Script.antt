@@ -19,7 +19,7 @@ abbrev pub body_of : Bool → List ℕ → List ℕ
 body_of ended line = if ended then strip_carriage_return line else line
 
 abbrev pub line_fault : Bool → List ℕ → Option Fault
-line_fault ended line = if nat_le (length line) 4096 then words_fault (words_of (body_of ended line)) else Some (fault Cause.LongLine [])
+line_fault ended line = if nat_le (length line) 4096 then words_fault (words_of (body_of ended line)) else Some (fault Cause.LongLine line)
 
 -- what the reader says of the line
 abbrev pub meaning : Bool → List ℕ → Meaning

@@ -2,7 +2,7 @@
 /// This project's own.
 #[derive(Clone, Copy, Debug, PartialEq, Eq)]
 pub enum Cause {
-    /// The line has more than 4,096 bytes before its line feed. No text is named.
+    /// The line, which is named whole, has more than 4,096 bytes before its line feed.
     LongLine,
     /// The first word is no keyword.
     NotKeyword,

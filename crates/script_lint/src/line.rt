@@ -121,7 +121,7 @@ fn line_fault<'a>(
     if line.len() > LONGEST {
         return Ok(Some(LineFault {
             cause: Cause::LongLine,
-            word: &[],
+            word: line,
         }));
     }
     let words = words(alloc, body_of(line, ended))?;
