@@ -38,11 +38,10 @@ bad_infs told names = list_any (λ name. is_bad_file is_bad_inf (told name)) nam
 abbrev pub is_bad_set : (Text → Option (List ℕ)) → Text → List Text → Bool
 is_bad_set told script infs = is_bad_file is_bad_script (told script) || bad_infs told infs
 
-abbrev pub script_name : List Text → Text
-script_name words = slice_index_or words 1 []
-
-abbrev pub inf_names : List Text → List Text
-inf_names words = drop 2 words
+-- the same of the files that words name
+abbrev pub is_bad_by : (Text → Option (List ℕ)) → List Text → Bool
+is_bad_by told (program ∷ script ∷ infs) = is_bad_set told script infs
+is_bad_by told _ = false
 
 -- the answers after which all was read and written
 abbrev pub is_reported : Status → Bool
@@ -74,3 +73,8 @@ pub record SomeRose (old new : Text → ℕ) (names : List Text) : Type 0 where
   pub name : Text
   pub named : Contains names name
   pub rose : Rose (old name) (new name)
+
+-- the same by words
+abbrev pub WroteBy : (Text → Option (List ℕ)) → List Text → Option Text → Option Text → Type 0
+WroteBy told (program ∷ script ∷ infs) old new = WroteScript (told script) old new
+WroteBy told _ old new = Unit {0}

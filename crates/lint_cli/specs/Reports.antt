@@ -6,6 +6,7 @@ use Rattle.pnp_labels.specs.Texts.{Text}
 use Rattle.inf_reader.specs.declared.parts.Inf.{Inf}
 use Rattle.inf_reader.specs.declared.parts.InfError.{InfError}
 use Rattle.inf_reader.specs.declared.parts.InfError.TheVariants as errors
+use Rattle.script_lint.specs.Faults.{Fault}
 use Rattle.script_lint.specs.Script.{Bad, faults_in}
 use Rattle.lint_cli.specs.Causes.{cause_text}
 
@@ -20,9 +21,15 @@ shown text = if nat_lt 80 (length text) then map shown_byte (take 80 text) ++ co
 abbrev pub quoted : Text → Text
 quoted word = 0x22 ∷ shown word ++ codes "\" "
 
+abbrev pub head_text : ℕ → Text
+head_text line = codes "script line " ++ (decimal line ++ codes ": ")
+
+abbrev pub fault_text : Fault → Text
+fault_text f = quoted f.word ++ (cause_text f.cause ++ 10 ∷ [])
+
 -- `script line N: "WORD" CAUSE`
 abbrev pub bad_text : Bad → Text
-bad_text b = codes "script line " ++ decimal b.line ++ codes ": " ++ quoted b.fault.word ++ cause_text b.fault.cause ++ 10 ∷ []
+bad_text b = head_text b.line ++ fault_text b.fault
 
 -- a line for each bad line of the script
 abbrev pub script_text : List ℕ → Text
@@ -50,7 +57,12 @@ error_place errors.WantOfMemory = []
 
 -- `inf NAME line N: ERROR`, behind which the line is shown
 abbrev pub inf_text : Text → InfError → Text
-inf_text name error = codes "inf " ++ shown name ++ error_place error ++ codes ": " ++ error_text error
+inf_text name error = codes "inf " ++ (shown name ++ (error_place error ++ (codes ": " ++ error_text error)))
+
+-- the line of an INF that is shown behind its error, if it has some bytes
+abbrev pub line_text : Text → Text
+line_text [] = 10 ∷ []
+line_text (byte ∷ line) = codes ": \"" ++ shown (byte ∷ line) ++ codes "\"\n"
 
 -- a text, and then more
 abbrev pub IsFront : Text → Text → Type 0

@@ -1,7 +1,7 @@
 //! What is written of an INF.
 ghost use Rattle.std.specs.Prelude.{◌≡◌, ◌≤◌, ◌++◌, IfOk, OnOk, length, is_none};
 ghost use Rattle.inf_reader.specs.Meaning.{inf};
-ghost use Rattle.lint_cli.specs.Reports.{error_text, error_place, inf_text, IsFront, AddsInf};
+ghost use Rattle.lint_cli.specs.Reports.{error_text, error_place, inf_text, line_text, IsFront, AddsInf};
 ghost use Rattle.lint_cli.specs.Lints.{is_bad_inf};
 
 use crate::mend::{line_of, mended, plain_text};
@@ -66,22 +66,17 @@ fn push_error(
     Ok(())
 }
 
-/// Appends the line that an error stands on, between quotes, and ends the line.
-fn push_line(
-    alloc: Global,
-    out: &mut Vec<u8>,
-    text: &[u8],
-    error: InfError,
-) -> Result<(), AllocError>
-    ensures { OnOk result (IsFront out.old.items out.new.items) }
+/// Appends a line of an INF between quotes, if it has some bytes, and ends the line.
+fn push_line(alloc: Global, out: &mut Vec<u8>, line: &[u8]) -> Result<(), AllocError>
+    ensures { OnOk result (out.new.items ≡ out.old.items ++ line_text line.now) }
 {
-    let line = line_of(text, error);
-    if !line.is_empty() {
-        out.extend_from_slice(b": \"")?;
-        push_shown(alloc, out, line)?;
-        out.push(b'"')?;
+    if line.is_empty() {
+        out.push(b'\n')?;
+        return Ok(());
     }
-    out.push(b'\n')?;
+    out.extend_from_slice(b": \"")?;
+    push_shown(alloc, out, line)?;
+    out.extend_from_slice(b"\"\n")?;
     Ok(())
 }
 
@@ -98,6 +93,7 @@ fn next_error(alloc: Global, text: &[u8]) -> Result<Option<InfError>, AllocError
 }
 
 /// Appends the line of the first error, and the errors that are left once it is mended, each in its turn.
+#[tactic(auto, using(crate::proofs::Steps::front_same, crate::proofs::Steps::front_more))]
 fn push_others(
     alloc: Global,
     out: &mut Vec<u8>,
@@ -109,7 +105,7 @@ fn push_others(
 {
     let mut text = plain_text(alloc, bytes)?;
     let mut error = first;
-    push_line(alloc, out, &text, error)?;
+    push_line(alloc, out, line_of(&text, error))?;
     for _ in 1..MOST_FAULTS {
         text = mended(alloc, &text, error)?;
         let Some(next) = next_error(alloc, &text)? else {
@@ -119,13 +115,14 @@ fn push_others(
             return Ok(());
         }
         push_error(alloc, out, name, next)?;
-        push_line(alloc, out, &text, next)?;
+        push_line(alloc, out, line_of(&text, next))?;
         error = next;
     }
     Ok(())
 }
 
 /// Appends the faults of an INF, first that for which it is refused; what it means where it has none.
+#[tactic(auto, using(crate::proofs::Steps::adds_none, crate::proofs::Steps::adds_more))]
 pub fn report_inf(
     alloc: Global,
     name: &[u8],

@@ -3,7 +3,7 @@ ghost use Rattle.std.specs.Prelude.{◌≡◌, ◌≤◌, ◌<◌, ◌⊎◌, �
 ghost use Rattle.pnp_io.specs.Outside.{Rose, Appends, AppendsFront};
 ghost use Rattle.lint_cli.specs.Words.{texts, are_words};
 ghost use Rattle.lint_cli.specs.Reports.{script_text, IsFront};
-ghost use Rattle.lint_cli.specs.Lints.{is_bad_script, is_bad_inf, is_bad_file, bad_infs, is_bad_set, script_name, inf_names, is_reported, is_found, AddsScript, WroteScript, SomeRose};
+ghost use Rattle.lint_cli.specs.Lints.{is_bad_script, is_bad_inf, is_bad_file, bad_infs, is_bad_set, is_bad_by, is_reported, is_found, AddsScript, WroteScript, WroteBy, SomeRose};
 ghost use Rattle.lint_cli.specs.declared.lints.LintError.TheVariants.{ReadFault, WriteFault};
 
 use crate::infs::report_inf;
@@ -63,6 +63,7 @@ impl From<Failed> for LintError {
 }
 
 /// Reads the script of a name, and appends its bad lines; whether there is one.
+#[tactic(auto, using(crate::proofs::Steps::told_bad, crate::proofs::Steps::told_adds))]
 fn lint_script<F: Files>(
     alloc: Global,
     files: &mut F,
@@ -81,6 +82,7 @@ fn lint_script<F: Files>(
 }
 
 /// Reads the INF of a name, and appends its faults; whether there is one.
+#[tactic(auto, using(crate::proofs::Steps::told_bad, crate::proofs::Steps::adds_front))]
 fn lint_inf<F: Files>(
     alloc: Global,
     files: &mut F,
@@ -97,6 +99,13 @@ fn lint_inf<F: Files>(
     let bytes = read_all(alloc, files, name, LIMIT)?;
     let read = report_inf(alloc, name, &bytes, out)?;
     Ok(read.is_none())
+}
+
+/// Whether one of both is so.
+fn either(first: bool, second: bool) -> bool
+    ensures { result ≡ (first || second) }
+{
+    first || second
 }
 
 /// Reads the INFs of the names, and appends their faults; whether there is one.
@@ -116,7 +125,7 @@ fn lint_infs<F: Files>(
     let mut found = false;
     for name in names {
         let bad = lint_inf(alloc, files, name.as_bytes(), out)?;
-        found = found || bad;
+        found = either(found, bad);
     }
     Ok(found)
 }
@@ -137,7 +146,7 @@ fn lint_files<F: Files, K: Sink>(
     let bad_script = lint_script(alloc, files, script, &mut out)?;
     let bad_infs = lint_infs(alloc, files, infs, &mut out)?;
     write_all(sink, &out)?;
-    Ok(bad_script || bad_infs)
+    Ok(either(bad_script, bad_infs))
 }
 
 /// Lints what the words name: the program's name, a script, and up to 64 INFs. Each bad line of the script is written with its number,
@@ -151,14 +160,17 @@ pub fn lint<F: Files, K: Sink>(
     sink: &mut K,
 ) -> Status
     ensures words { (result ≡ Status.BadWords) ↔ (are_words (texts words.now) ≡ false) }
-    ensures found { is_reported result ≡ true → IfSome (F.contents files.old) (λ told. is_found result ≡ is_bad_set told (script_name (texts words.now)) (inf_names (texts words.now))) }
-    ensures text { is_reported result ≡ true → IfSome (F.contents files.old) (λ told. WroteScript (told (script_name (texts words.now))) (K.taken sink.old) (K.taken sink.new)) }
+    ensures found { is_reported result ≡ true → IfSome (F.contents files.old) (λ told. is_found result ≡ is_bad_by told (texts words.now)) }
+    ensures text { is_reported result ≡ true → IfSome (F.contents files.old) (λ told. WroteBy told (texts words.now) (K.taken sink.old) (K.taken sink.new)) }
     ensures write_fault { result ≡ Status.WriteFault → Rose (K.faults sink.old) (K.faults sink.new) }
 {
     if !are_words(words) {
         return Status::BadWords;
     }
-    match lint_files(alloc, words[1].as_bytes(), &words[2..], files, sink) {
+    let [_, script, infs @ ..] = words else {
+        return Status::BadWords;
+    };
+    match lint_files(alloc, script.as_bytes(), infs, files, sink) {
         Ok(true) => Status::Found,
         Ok(false) => Status::Clean,
         Err(LintError::ReadFault) => Status::ReadFault,

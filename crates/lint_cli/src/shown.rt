@@ -34,7 +34,8 @@ pub fn push_shown(alloc: Global, out: &mut Vec<u8>, text: &[u8]) -> Result<(), A
     ensures { OnOk result (out.new.items ≡ out.old.items ++ shown text.now) }
 {
     if text.len() > MOST_SHOWN {
-        let bytes = shown_bytes(alloc, &text[..MOST_SHOWN])?;
+        let (front, _) = text.split_at(MOST_SHOWN);
+        let bytes = shown_bytes(alloc, front)?;
         out.extend_from_slice(&bytes)?;
         out.extend_from_slice(b"..")?;
         return Ok(());

@@ -29,6 +29,7 @@ fn are_names(words: &[String]) -> bool
 }
 
 /// Whether the words are the program's name, a script and up to 64 INFs.
+#[tactic(auto, using(crate::proofs::Steps::behind_first))]
 pub fn are_words(words: &[String]) -> bool
     ensures { result ≡ are_words (texts words.now) }
 {
