@@ -1,11 +1,15 @@
 -- What is told of files, step by step.
-use Rattle.std.proofs.Common.{◌≡◌, ℕ, List, [], ◌∷◌, ◌++◌, Option, Some, None, Bool, true, false, refl, sym, ◌∙◌, ap, ◌||◌, append_assoc, append-nil, IfSome, Result, Ok, Err, option_map, subst, drop, String, Global}
+use Rattle.std.proofs.Common.{◌≡◌, ℕ, List, [], ◌∷◌, ◌++◌, Option, Some, None, Bool, true, false, refl, sym, ◌∙◌, ap, ◌||◌, append_assoc, append-nil, IfSome, Result, Ok, Err, option_map, subst, drop, String, Global, ◌<◌, ◌+◌, length, get_or, map, add-one, suc}
+use Rattle.std.proofs.Math.Seq.{drop-cons}
+use Rattle.std.specs.List.{flat_map}
+use Rattle.script_lint.specs.declared.script.BadLine.{BadLine}
+use Rattle.script_lint.specs.Script.{told}
 use Rattle.lint_cli.specs.Words.{texts}
 use Rattle.pnp_io.specs.Outside.{Holds, Appends}
 use Rattle.pnp_labels.specs.Texts.{Text}
 use Rattle.inf_reader.specs.declared.parts.Inf.{Inf}
 use Rattle.inf_reader.specs.declared.parts.InfError.{InfError}
-use Rattle.lint_cli.specs.Reports.{script_text, inf_text, IsFront, AddsInf}
+use Rattle.lint_cli.specs.Reports.{bad_text, script_text, inf_text, IsFront, AddsInf}
 use Rattle.lint_cli.specs.Lints.{is_bad_file, is_bad_set, bad_infs, is_bad_script, is_bad_inf, AddsScript, WroteScript}
 
 pub told_bad : (is_bad : List ℕ → Bool) (contents : Option (List ℕ → Option (List ℕ))) (name bytes : List ℕ) (b : Bool) → Holds contents name bytes → b ≡ is_bad bytes
@@ -82,3 +86,12 @@ pub told_next : (contents : Option (List ℕ → Option (List ℕ))) (all rest :
 told_next None all rest name before b found is bad so = tt
 told_next (Some told) all rest name before b found is bad so =
     ap (λ x. x || bad_infs told rest) is ∙ regroup before b (bad_infs told rest) ∙ ap (λ y. before || (y || bad_infs told rest)) bad ∙ so
+
+-- one bad line more
+pub one_bad : (items : List BadLine) (i : ℕ) (d : BadLine) (all old new : List ℕ) → i < length items → new ≡ old ++ bad_text (told (get_or items i d))
+    → old ++ flat_map bad_text (map told (drop i items)) ≡ all → new ++ flat_map bad_text (map told (drop (i + 1) items)) ≡ all
+one_bad items i d all old new less more so =
+    ap (λ t. t ++ flat_map bad_text (map told (drop (i + 1) items))) more
+    ∙ append_assoc old (bad_text (told (get_or items i d))) (flat_map bad_text (map told (drop (i + 1) items)))
+    ∙ ap (λ n. old ++ (bad_text (told (get_or items i d)) ++ flat_map bad_text (map told (drop n items)))) (add-one i)
+    ∙ ap (λ l. old ++ flat_map bad_text (map told l)) (sym (drop-cons items i d less)) ∙ so

@@ -1,5 +1,6 @@
 //! What is written of the bad lines of a script.
-ghost use Rattle.std.specs.Prelude.{◌≡◌, ◌++◌, ◌∷◌, [], true, IfOk, OnOk};
+ghost use Rattle.std.specs.Fmt.{decimal};
+ghost use Rattle.std.specs.Prelude.{codes, ◌≡◌, ◌++◌, ◌∷◌, [], true, IfOk, OnOk};
 ghost use Rattle.std.specs.Option.{is_some};
 ghost use Rattle.script_lint.specs.Faults.{seen};
 ghost use Rattle.script_lint.specs.Script.{told};
@@ -12,14 +13,21 @@ use pnp_labels::decimal;
 use script_lint::{BadLine, LineFault, faults_of};
 use std::alloc::{AllocError, Global};
 
+/// Appends a number and a colon.
+fn push_number(alloc: Global, out: &mut Vec<u8>, number: u64) -> Result<(), AllocError>
+    ensures { OnOk result (out.new.items ≡ out.old.items ++ (decimal number ++ codes ": ")) }
+{
+    out.extend_from_slice(decimal(alloc, number)?.as_bytes())?;
+    out.extend_from_slice(b": ")?;
+    Ok(())
+}
+
 /// Appends the front of the line of a bad line, up to its number.
 fn push_head(alloc: Global, out: &mut Vec<u8>, line: u64) -> Result<(), AllocError>
     ensures { OnOk result (out.new.items ≡ out.old.items ++ head_text line) }
 {
     out.extend_from_slice(b"script line ")?;
-    out.extend_from_slice(decimal(alloc, line)?.as_bytes())?;
-    out.extend_from_slice(b": ")?;
-    Ok(())
+    push_number(alloc, out, line)
 }
 
 /// Appends the word and the cause.
