@@ -1,5 +1,5 @@
 -- What is told of files, step by step.
-use Rattle.std.proofs.Common.{◌≡◌, ℕ, List, [], ◌∷◌, ◌++◌, Option, Some, None, Bool, true, false, refl, sym, ◌∙◌, ap, ◌||◌, append_assoc, append-nil, IfSome, Result, Ok, Err, option_map, subst, drop, String, Global, ◌<◌, ◌+◌, length, get_or, map, add-one, suc}
+use Rattle.std.proofs.Common.{◌≡◌, ℕ, List, [], ◌∷◌, ◌++◌, Option, Some, None, Bool, true, false, refl, sym, ◌∙◌, ap, ◌||◌, append_assoc, append-nil, IfSome, Result, Ok, Err, option_map, subst, drop, String, Global, ◌<◌, ◌+◌, length, get_or, map, add-one}
 use Rattle.std.proofs.Math.Seq.{drop-cons}
 use Rattle.std.specs.List.{flat_map}
 use Rattle.script_lint.specs.declared.script.BadLine.{BadLine}

@@ -1,5 +1,5 @@
 -- Which words the program takes.
-use Rattle.std.specs.Prelude.{ℕ, Bool, true, false, ◌&&◌, ◌==◌, not, nat_le, List, [], ◌∷◌, length, drop, map, String, string_bytes}
+use Rattle.std.specs.Prelude.{Bool, false, ◌&&◌, ◌==◌, not, nat_le, List, [], ◌∷◌, length, drop, map, String, string_bytes}
 use Rattle.std.specs.List.{list_all}
 use Rattle.std.specs.Global.{Global}
 use Rattle.pnp_labels.specs.Texts.{Text}
