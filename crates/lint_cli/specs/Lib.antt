@@ -1,0 +1,4 @@
+pub mod Causes
+pub mod Words
+pub mod Reports
+pub mod Lints

@@ -1,0 +1,145 @@
+//! What is written of an INF.
+ghost use Rattle.std.specs.Prelude.{◌≡◌, ◌≤◌, ◌++◌, IfOk, OnOk, length, is_none};
+ghost use Rattle.inf_reader.specs.Meaning.{inf};
+ghost use Rattle.lint_cli.specs.Reports.{error_text, error_place, inf_text, line_text, IsFront, AddsInf};
+ghost use Rattle.lint_cli.specs.Lints.{is_bad_inf};
+
+use crate::mend::{line_of, mended, plain_text};
+use crate::shown::push_shown;
+use inf_reader::{Inf, InfError, read};
+use pnp_labels::decimal;
+use std::alloc::{AllocError, Global};
+
+/// The most faults of an INF that are told.
+const MOST_FAULTS: u32 = 32;
+
+/// The most bytes of an INF.
+const LIMIT: usize = 16_777_216;
+
+/// What is said of an error.
+fn error_text(error: InfError) -> &'static [u8]
+    ensures { result.now ≡ error_text error }
+{
+    match error {
+        InfError::NoSignature => b"[Version] has no Signature of $Windows NT$ or $CHICAGO$",
+        InfError::OpenHeader { .. } => b"a header has no ]",
+        InfError::LineTooLong { .. } => b"the line has more than 4096 bytes",
+        InfError::BadDate { .. } => {
+            b"DriverVer is no date MM/DD/YYYY, or the version behind it is none"
+        }
+        InfError::BadScore { .. } => b"FeatureScore is no number up to 255",
+        InfError::WantOfMemory => b"out of memory",
+    }
+}
+
+/// Appends where an error stands.
+fn push_place(alloc: Global, out: &mut Vec<u8>, error: InfError) -> Result<(), AllocError>
+    ensures { OnOk result (out.new.items ≡ out.old.items ++ error_place error) }
+{
+    match error {
+        InfError::OpenHeader { line }
+        | InfError::LineTooLong { line }
+        | InfError::BadDate { line }
+        | InfError::BadScore { line } => {
+            out.extend_from_slice(b" line ")?;
+            out.extend_from_slice(decimal(alloc, line as u64)?.as_bytes())?;
+            Ok(())
+        }
+        InfError::NoSignature | InfError::WantOfMemory => Ok(()),
+    }
+}
+
+/// Appends what is wrong with an INF.
+fn push_error(
+    alloc: Global,
+    out: &mut Vec<u8>,
+    name: &[u8],
+    error: InfError,
+) -> Result<(), AllocError>
+    ensures { OnOk result (out.new.items ≡ out.old.items ++ inf_text name.now error) }
+{
+    out.extend_from_slice(b"inf ")?;
+    push_shown(alloc, out, name)?;
+    push_place(alloc, out, error)?;
+    out.extend_from_slice(b": ")?;
+    out.extend_from_slice(error_text(error))?;
+    Ok(())
+}
+
+/// Appends a line of an INF between quotes, if it has some bytes, and ends the line.
+fn push_line(alloc: Global, out: &mut Vec<u8>, line: &[u8]) -> Result<(), AllocError>
+    ensures { OnOk result (out.new.items ≡ out.old.items ++ line_text line.now) }
+{
+    if line.is_empty() {
+        out.push(b'\n')?;
+        return Ok(());
+    }
+    out.extend_from_slice(b": \"")?;
+    push_shown(alloc, out, line)?;
+    out.extend_from_slice(b"\"\n")?;
+    Ok(())
+}
+
+/// What is wrong with a text, if it is no longer than an INF may be.
+fn next_error(alloc: Global, text: &[u8]) -> Result<Option<InfError>, AllocError> {
+    if text.len() > LIMIT {
+        return Ok(None);
+    }
+    match read(alloc, text) {
+        Ok(_) => Ok(None),
+        Err(InfError::WantOfMemory) => Err(AllocError),
+        Err(error) => Ok(Some(error)),
+    }
+}
+
+/// Appends the line of the first error, and the errors that are left once it is mended, each in its turn.
+#[tactic(auto, using(crate::proofs::Steps::front_same, crate::proofs::Steps::front_more))]
+fn push_others(
+    alloc: Global,
+    out: &mut Vec<u8>,
+    name: &[u8],
+    bytes: &[u8],
+    first: InfError,
+) -> Result<(), AllocError>
+    ensures { OnOk result (IsFront out.old.items out.new.items) }
+{
+    let mut text = plain_text(alloc, bytes)?;
+    let mut error = first;
+    push_line(alloc, out, line_of(&text, error))?;
+    for _ in 1..MOST_FAULTS {
+        text = mended(alloc, &text, error)?;
+        let Some(next) = next_error(alloc, &text)? else {
+            return Ok(());
+        };
+        if next == error {
+            return Ok(());
+        }
+        push_error(alloc, out, name, next)?;
+        push_line(alloc, out, line_of(&text, next))?;
+        error = next;
+    }
+    Ok(())
+}
+
+/// Appends the faults of an INF, first that for which it is refused; what it means where it has none.
+#[tactic(auto, using(crate::proofs::Steps::adds_none, crate::proofs::Steps::adds_more))]
+pub fn report_inf(
+    alloc: Global,
+    name: &[u8],
+    bytes: &[u8],
+    out: &mut Vec<u8>,
+) -> Result<Option<Inf>, AllocError>
+    requires { length bytes.now ≤ 16777216 }
+    ensures text { OnOk result (AddsInf name.now (inf bytes.now) out.old.items out.new.items) }
+    ensures bad { IfOk result (λ read. is_none read ≡ is_bad_inf bytes.now) }
+{
+    match read(alloc, bytes) {
+        Ok(inf) => Ok(Some(inf)),
+        Err(InfError::WantOfMemory) => Err(AllocError),
+        Err(error) => {
+            push_error(alloc, out, name, error)?;
+            push_others(alloc, out, name, bytes, error)?;
+            Ok(None)
+        }
+    }
+}

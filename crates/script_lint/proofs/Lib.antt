@@ -1,0 +1,6 @@
+pub mod HexBytes
+pub mod Looking
+pub mod Ranges
+pub mod Exact
+pub mod ExactLines
+pub mod Stops
