@@ -12,8 +12,10 @@ use pnp_labels::{Answer, DriverKind, Event, Label};
 use std::alloc::{AllocError, Global};
 use std::marker::Model;
 
+#[derive(Drop)]
 enum Never {}
 
+#[derive(Drop)]
 pub struct FreeRun {
     infs: Vec<Inf>,
     budget: u64,

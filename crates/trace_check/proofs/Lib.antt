@@ -1,0 +1,4 @@
+mod Telling
+mod Fronts
+mod Verdicts
+mod Dues

@@ -2,5 +2,9 @@
 #![tactic(auto)]
 
 mod check;
+mod due;
+mod front;
+mod letters;
+mod turn;
 
 pub use check::{Checked, check_trace};
