@@ -185,11 +185,11 @@ taught s name rule None = record { rack = s.core.rack; is = refl; shown = refl }
 taught s name rule (Some d) = taught_kind s d name rule (is_scripted d.kind)
 
 -- does it teach?
-data Sort (label : Label) (rest : List Entry) : Event → Type 0 where
+pub data Sort (label : Label) (rest : List Entry) : Event → Type 0 where
   teaches : (name : Text) (rule : Rule) → Sort label rest (Event.Teach name rule)
   other : (event : Event) → IsUntaught event → and_then event label rest ≡ Happens event label ∷ rest → Sort label rest event
 
-sort : (label : Label) (rest : List Entry) (event : Event) → Sort label rest event
+pub sort : (label : Label) (rest : List Entry) (event : Event) → Sort label rest event
 sort label rest (Event.Teach name rule) = teaches name rule
 sort label rest (Event.Plug parent path hw compat reqs) = other (Event.Plug parent path hw compat reqs) tt refl
 sort label rest (Event.Pull path) = other (Event.Pull path) tt refl
@@ -210,12 +210,12 @@ sort label rest (Event.Unwatch client path) = other (Event.Unwatch client path) 
 -- Runs ------------------------------------------------------------------------------------
 
 -- with these books, and whatever is used up before them, the machine makes the same run, after which it has the books that are wanted
-record Answers (settings : Settings) (wanted : Books) (f : State) (entries : List Entry) (last : State) : Type 0 where
-  books : Books
-  run : (r : List Driver) → Armed books r f.core.rack → (after : List Driver) × Armed wanted after last.core.rack × Run settings (with_rack r f) entries (with_rack after last)
+pub record Answers (settings : Settings) (wanted : Books) (f : State) (entries : List Entry) (last : State) : Type 0 where
+  pub books : Books
+  pub run : (r : List Driver) → Armed books r f.core.rack → (after : List Driver) × Armed wanted after last.core.rack × Run settings (with_rack r f) entries (with_rack after last)
 
 -- before the rest comes an event
-event_first : (settings : Settings) (wanted : Books) (f mid last : State) (event : Event) (label : Label) (rest : List Entry) → IsQuiet settings f → happens f event ≡ record { label = label; state = mid }
+pub event_first : (settings : Settings) (wanted : Books) (f mid last : State) (event : Event) (label : Label) (rest : List Entry) → IsQuiet settings f → happens f event ≡ record { label = label; state = mid }
     → Answers settings wanted mid rest last → Sort label rest event → Answers settings wanted f (and_then event label rest) last
 event_first settings wanted f mid last event label rest quiet so later (other _ own is) =
     record {

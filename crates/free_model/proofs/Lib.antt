@@ -1,16 +1,16 @@
 pub mod Lines
-mod Racks
-mod Alikes
+pub mod Racks
+pub mod Alikes
 pub mod Ways
 mod WayOps
 mod WayFrames
-mod WaySteps
-mod Quiets
+pub mod WaySteps
+pub mod Quiets
 pub mod OneVerdict
-mod Happenings
-mod TwinEvents
+pub mod Happenings
+pub mod TwinEvents
 pub mod Outs
-mod Armed
+pub mod Armed
 pub mod Answered
 pub mod Converse
 mod Computed

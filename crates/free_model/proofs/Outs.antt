@@ -35,16 +35,16 @@ use Rattle.free_model.proofs.Lines.{or_false}
 -- Steps ----------------------------------------------------------------------------------
 
 -- with all drivers answering as the driver that is asked does, it answers so
-agreeing : (q : Option Query) (rack : List Driver) → Agree q rack (told (reply_to q rack) rack)
+pub agreeing : (q : Option Query) (rack : List Driver) → Agree q rack (told (reply_to q rack) rack)
 agreeing None rack = tt
 agreeing (Some q) rack = replies_told q.what q.path rack q.driver
 
-shapes_by : (q : Option Query) (rack : List Driver) → shapes (rack_by q rack) ≡ shapes rack
+pub shapes_by : (q : Option Query) (rack : List Driver) → shapes (rack_by q rack) ≡ shapes rack
 shapes_by None rack = refl
 shapes_by (Some q) rack = shapes_after q.what q.path rack q.driver
 
 -- what the step leaves of its own rack
-own_rack : (settings : Settings) (q : Option Query) (a r : List Driver) {x y : Option (Doing Step)} (label : Label) (new : State) → Alike (Way q a r) x y → IsStep settings x (record { label = label; state = new }) → new.core.rack ≡ rack_by q a
+pub own_rack : (settings : Settings) (q : Option Query) (a r : List Driver) {x y : Option (Doing Step)} (label : Label) (new : State) → Alike (Way q a r) x y → IsStep settings x (record { label = label; state = new }) → new.core.rack ≡ rack_by q a
 own_rack settings q a r label new rests h = absurd h
 own_rack settings q a r label new (does x0 y0 way) h = ap (λ (s : Step). s.state.core.rack) h ∙ way.own
 own_rack settings q a r label new (searches p f g way) (found, answer, e) = ap (λ (s : Step). s.state.core.rack) e ∙ (way found).own

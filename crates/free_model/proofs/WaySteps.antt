@@ -188,7 +188,7 @@ change_task s t node Stopped = same s.core.rack t (tasks.change_task s node Stop
 change_task s t node RemovePending = same s.core.rack t (tasks.change_task s node RemovePending) refl
 change_task s t node SurpriseRemoved = same s.core.rack t (tasks.change_task s node SurpriseRemoved) refl
 
-way_begin : (s : State) (t : List Driver) (kind : OpKind) (k : ℕ) (o : Option Node) → Way None s.core.rack t (begin_step s kind k o) (begin_step (with_rack t s) kind k o)
+pub way_begin : (s : State) (t : List Driver) (kind : OpKind) (k : ℕ) (o : Option Node) → Way None s.core.rack t (begin_step s kind k o) (begin_step (with_rack t s) kind k o)
 way_begin s t kind k None = same s.core.rack t (begin_step s kind k None) refl
 way_begin s t OpKind.Rebalance k (Some node) = rebalance_task s t node node.state
 way_begin s t OpKind.Disable k (Some node) = disable_task s t node (has_same node.path s.disabled)

@@ -12,6 +12,8 @@ pub mod Arrivals
 pub mod Departures
 pub mod Joins
 pub mod OneNode
+pub mod ButBooks
+pub mod SameLaws
 pub mod RunLaws
 pub mod Groups
 pub mod Turns

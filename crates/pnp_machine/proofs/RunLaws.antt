@@ -7,17 +7,23 @@ use Rattle.pnp_model.specs.Events.{happens}
 use Rattle.pnp_model.specs.Cores.{node_at, path_of}
 use Rattle.pnp_model.specs.Machine.{IsDeclined, IsQuiet, due, is_in_order}
 use Rattle.pnp_model.specs.Records.{Beginning, Driver, Settings, State, Step}
-use Rattle.pnp_model.specs.Runs.{Entry, Goes, opening, printed}
-use Rattle.pnp_model.specs.Laws.{Reaches}
+use Rattle.pnp_model.specs.Runs.{Entry, Goes, Run, opening, printed}
+use Rattle.pnp_model.specs.Diagram.{FollowsDiagram, Walked}
+use Rattle.pnp_model.specs.Laws.{DependentsFirst}
 use Rattle.pnp_model.specs.States.{drop_task}
 use Rattle.pnp_model.specs.Runs.Entry.{Happens, Did, Declines}
 use Rattle.pnp_laws.specs.Ends.{events}
 use Rattle.pnp_laws.specs.Kept.{IsGood}
 use Rattle.pnp_laws.specs.Needs.{IsEntryWithin, IsEventWithin}
 use Rattle.pnp_laws.specs.Printed.{TreeIsPrinted}
+use Rattle.pnp_laws.specs.Stacks.{NamesDriver}
+use Rattle.pnp_laws.specs.Told.{StatesTold}
+use Rattle.free_model.specs.Frees.{with_rack}
+use Rattle.free_model.specs.Runs.{without_teaching}
+use Rattle.free_model.specs.Shapes.{faces}
+use Rattle.free_model.proofs.Answered.{Sort, other, sort, teaches}
 use Rattle.pnp_laws.proofs.NodesPlugged.{needs_are_within}
 use Rattle.pnp_laws.proofs.Reached.{reached_is_good}
-use Rattle.pnp_laws.proofs.Reaching.{run_on}
 use Rattle.pnp_laws.proofs.RunsBegun.{operations_begin}
 use Rattle.pnp_laws.proofs.RunsConflict.{each_conflict_is_real}
 use Rattle.pnp_laws.proofs.RunsEnds.{each_end_restores}
@@ -41,7 +47,9 @@ use Rattle.pnp_machine.specs.Machines.{HasFewIds}
 use Rattle.pnp_machine.specs.Managers.{IsRunOf, IsOfRun, KeepsLaws, LawsOf}
 use Rattle.pnp_machine.specs.declared.manager.Moved.{Moved}
 use Rattle.pnp_machine.specs.declared.manager.Moved.TheVariants.{Label as Printed, Quiet}
+use Rattle.pnp_machine.proofs.ButBooks.{ShadowStep, all_left, fewer, shadow, shadow_step, swaps_end, swaps_on}
 use Rattle.pnp_machine.proofs.Ids.{few_goes, one_more_has}
+use Rattle.pnp_machine.proofs.SameLaws.{IsTakenOr, acyclic_same, first_same, handles_same, keyed_same, names_same, nobody_same, stacks_same, still_first, still_follows, still_names, still_told, still_walked, teaching_says, told_same, walk_same}
 
 events_more : (xs : List Entry) (event : Event) (label : Label) → events (xs ++ Happens event label ∷ []) ≡ events xs + 1
 events_more [] event label = refl
@@ -66,38 +74,85 @@ events_on xs (Happens event label) = events_more xs event label
 events_on xs (Did label) = let same = events_same xs label in omega arith
 events_on xs (Declines label) = let same = events_declined xs label in omega arith
 
-module _ (told : Settings) (s t : State) where
-  more_entries : (rack : List Driver) (xs : List Entry) (entry : Entry) → Reaches told rack xs s → Goes told s entry t → Reaches told rack (xs ++ entry ∷ []) t
-  more_entries rack xs entry run goes = run_on told (opening rack) s t xs (entry ∷ []) run (t, goes, refl)
+-- what each step changes of nodes, and what it prints
+record StepLaws (label : Label) (s t : State) : Type 0 where
+  diagram : FollowsDiagram label s.core.nodes t.core.nodes
+  walked : Walked label s.core.nodes t.core.nodes
+  states : StatesTold label s t
+  first : DependentsFirst label s.core t.core
+  names : NamesDriver label t.core.rack
 
-  laws_of : (n : ℕ) → IsRunOf told n s → (entry : Entry) → n + events (entry ∷ []) ≤ 2 ^ 24 → IsEntryWithin 16 entry → Goes told s entry t → KeepsLaws told (printed entry) s t
-  laws_of n h entry most own goes =
-      let follows = every_run_follows told h.rack h.entries s entry t h.reaches goes in
-      let more = more_entries h.rack h.entries entry h.reaches goes in
+module _ (told : Settings) (entries : List Entry) (s : State) (entry : Entry) (t : State) (h : ShadowStep told entries s entry t) where
+  -- of a step that the machine itself makes
+  made : Run told (with_rack h.here s) (entry ∷ []) (with_rack h.there t) → StepLaws (printed entry) s t
+  made (mid, begins, is) =
+      let old : State = with_rack h.here s in
+      let new : State = with_rack h.there t in
+      let earlier = without_teaching entries in
+      let goes : Goes told old entry new = subst (λ (x : State). Goes told old entry x) (sym is) begins in
+      let follows = every_run_follows told h.rack earlier old entry new h.reaches goes in
+      let told_so = states_are_told told h.rack earlier old entry new h.reaches goes in
       record {
         diagram = follows.0;
         walked = follows.1;
-        clear = nothing_clashes told h.rack (h.entries ++ entry ∷ []) t more;
-        whole = all_hold_whole told h.rack (h.entries ++ entry ∷ []) t more;
-        parts = each_holds_a_part told h.rack (h.entries ++ entry ∷ []) t more;
+        states = record { alone = told_so.alone; walked = λ path state is k n at named. let (w, walks, ended, row) = told_so.walked path state is k n at named in (w, walk_same s h.here k w walks, ended, row) };
+        first = first_same (printed entry) s.core t.core h.here h.there (dependents_go_first told h.rack earlier old entry new h.reaches goes);
+        names = names_same h.there t.core.rack h.there_shown (printed entry) (names_are_known told h.rack earlier old entry new h.reaches goes);
+      }
+
+happened_laws : (told : Settings) (entries : List Entry) (s : State) (event : Event) (label : Label) (t : State) (h : ShadowStep told entries s (Happens event label) t) → happens s event ≡ record { label = label; state = t }
+    → Sort label [] event → StepLaws label s t
+happened_laws told entries s event label t h so (other _ own is) =
+    made told entries s (Happens event label) t h (subst (λ (es : List Entry). Run told (with_rack h.here s) es (with_rack h.there t)) is h.goes)
+happened_laws told entries s _ label t h so (teaches name rule) =
+    let says : IsTakenOr label = subst (λ (x : Step). IsTakenOr x.label) so (teaching_says s name rule) in
+    let same : t.core.nodes ≡ s.core.nodes = ap (λ (x : State). x.core.nodes) h.goes in
+    record {
+      diagram = still_follows label says s t same;
+      walked = still_walked label says s t same;
+      states = still_told label says s t same;
+      first = still_first label says s t same;
+      names = still_names label says s t same;
+    }
+
+step_laws : (told : Settings) (entries : List Entry) (s : State) (entry : Entry) (t : State) → ShadowStep told entries s entry t → Goes told s entry t → StepLaws (printed entry) s t
+step_laws told entries s (Happens event label) t h (quiet, so) = happened_laws told entries s event label t h so (sort label [] event)
+step_laws told entries s (Did label) t h goes = made told entries s (Did label) t h h.goes
+step_laws told entries s (Declines label) t h goes = made told entries s (Declines label) t h h.goes
+
+module _ (told : Settings) (s t : State) where
+  laws_of : (n : ℕ) → IsRunOf told n s → (entry : Entry) → n + events (entry ∷ []) ≤ 2 ^ 24 → IsEntryWithin 16 entry → Goes told s entry t → KeepsLaws told (printed entry) s t
+  laws_of n h entry most own goes =
+      let steps = step_laws told h.entries s entry t (shadow_step told h.rack h.entries s entry t h.reaches goes) goes in
+      let all : List Entry = h.entries ++ entry ∷ [] in
+      let after = shadow told h.rack all t (swaps_on told (opening h.rack) s t h.entries entry h.reaches goes) in
+      let left = without_teaching all in
+      let new : State = with_rack after.here t in
+      record {
+        diagram = steps.diagram;
+        walked = steps.walked;
+        clear = nothing_clashes told after.rack left new after.reaches;
+        whole = all_hold_whole told after.rack left new after.reaches;
+        parts = each_holds_a_part told after.rack left new after.reaches;
         few =
-            let within = needs_are_within told h.rack (h.entries ++ entry ∷ []) t more 16 (one_more_has (IsEntryWithin 16) entry own h.entries h.within) in
-            let all = few_held told h.rack (h.entries ++ entry ∷ []) t more 16 within in
+            let within = needs_are_within told after.rack left new after.reaches 16 (all_left (IsEntryWithin 16) all (one_more_has (IsEntryWithin 16) entry own h.entries h.within)) in
+            let held = few_held told after.rack left new after.reaches 16 within in
             let on = events_on h.entries entry in
+            let less = fewer all in
             let count : events h.entries ≡ n = h.count in
             omega arith;
-        inside = held_inside_windows told h.rack (h.entries ++ entry ∷ []) t more;
-        handles = open_handles_fit told h.rack (h.entries ++ entry ∷ []) t more;
-        together = dependents_are_told told h.rack (h.entries ++ entry ∷ []) t more;
-        ready = ready_ones_are_due told h.rack (h.entries ++ entry ∷ []) t more;
-        states = states_are_told told h.rack h.entries s entry t h.reaches goes;
-        first = dependents_go_first told h.rack h.entries s entry t h.reaches goes;
-        keyed = keyed told h.rack (h.entries ++ entry ∷ []) t more;
-        acyclic = no_cycle told h.rack (h.entries ++ entry ∷ []) t more;
-        apart = nothing_printed_clashes told h.rack (h.entries ++ entry ∷ []) t more;
-        stacks = stacks_fit told h.rack (h.entries ++ entry ∷ []) t more;
-        names = names_are_known told h.rack h.entries s entry t h.reaches goes;
-        remembered = nobody_is_forgotten told h.rack (h.entries ++ entry ∷ []) t more;
+        inside = held_inside_windows told after.rack left new after.reaches;
+        handles = handles_same t after.here (open_handles_fit told after.rack left new after.reaches);
+        together = λ neither. told_same t.core after.here (dependents_are_told told after.rack left new after.reaches neither);
+        ready = ready_ones_are_due told after.rack left new after.reaches;
+        states = steps.states;
+        first = steps.first;
+        keyed = keyed_same t after.here (keyed told after.rack left new after.reaches);
+        acyclic = acyclic_same t.core after.here (no_cycle told after.rack left new after.reaches);
+        apart = nothing_printed_clashes told after.rack left new after.reaches;
+        stacks = stacks_same t after.here after.shown (stacks_fit told after.rack left new after.reaches);
+        names = steps.names;
+        remembered = λ idle. nobody_same t after.here (nobody_is_forgotten told after.rack left new after.reaches idle);
         begun = λ rack entries reaches. operations_begin told rack entries s entry t reaches goes;
         restores = λ rack entries reaches. each_end_restores told rack entries s entry t reaches goes;
         conflicts = λ rack entries path reaches is. each_conflict_is_real told rack entries s entry t path reaches goes is;
@@ -117,7 +172,7 @@ module _ (told : Settings) (s t : State) where
       record {
         rack = h.rack;
         entries = h.entries ++ Happens event label ∷ [];
-        reaches = more_entries h.rack h.entries (Happens event label) h.reaches (event_goes event label quiet is);
+        reaches = swaps_on told (opening h.rack) s t h.entries (Happens event label) h.reaches (event_goes event label quiet is);
         count = events_more h.entries event label ∙ ap (λ k. k + 1) h.count;
         within = one_more_has (IsEntryWithin 16) (Happens event label) own h.entries h.within;
       }
@@ -130,7 +185,7 @@ module _ (told : Settings) (s t : State) where
       record {
         rack = h.rack;
         entries = h.entries ++ Did label ∷ [];
-        reaches = more_entries h.rack h.entries (Did label) h.reaches steps;
+        reaches = swaps_on told (opening h.rack) s t h.entries (Did label) h.reaches steps;
         count = events_same h.entries label ∙ h.count;
         within = one_more_has (IsEntryWithin 16) (Did label) tt h.entries h.within;
       }
@@ -141,22 +196,35 @@ module _ (told : Settings) (s t : State) where
   laws_stepped n Quiet h most steps = tt
 
 pub of_run_good : (s : State) → IsOfRun s → IsGood s
-of_run_good s run = reached_is_good run.told run.rack s (run.entries, run.reaches)
+of_run_good s run =
+    let h = shadow run.told run.rack run.entries s run.reaches in
+    reached_is_good run.told h.rack (with_rack h.here s) (without_teaching run.entries, h.reaches)
 
 pub of_run_printed : (told : Settings) (n : ℕ) (s : State) → IsRunOf told n s → TreeIsPrinted s.core.nodes
-of_run_printed told n s h = each_node_is_printed_once told h.rack h.entries s h.reaches
+of_run_printed told n s run =
+    let h = shadow told run.rack run.entries s run.reaches in
+    each_node_is_printed_once told h.rack (without_teaching run.entries) (with_rack h.here s) h.reaches
 
 pub run_serials : (told : Settings) (n : ℕ) (s : State) → IsRunOf told n s → n ≤ 2 ^ 24 → s.next_serial < 2 ^ 63
-run_serials told n s h few =
-    let most = few_serials told h.rack h.entries s h.reaches in
-    let count : events h.entries ≡ n = h.count in
+run_serials told n s run few =
+    let h = shadow told run.rack run.entries s run.reaches in
+    let most = few_serials told h.rack (without_teaching run.entries) (with_rack h.here s) h.reaches in
+    let less = fewer run.entries in
+    let count : events run.entries ≡ n = run.count in
     omega arith
 
 pub run_births : (told : Settings) (n : ℕ) (s : State) → IsRunOf told n s → n ≤ 2 ^ 24 → s.next_born < 2 ^ 63
-run_births told n s h few =
-    let most = few_births told h.rack h.entries s h.reaches in
-    let count : events h.entries ≡ n = h.count in
+run_births told n s run few =
+    let h = shadow told run.rack run.entries s run.reaches in
+    let most = few_births told h.rack (without_teaching run.entries) (with_rack h.here s) h.reaches in
+    let less = fewer run.entries in
+    let count : events run.entries ≡ n = run.count in
     omega arith
+
+-- other drivers of the same kinds and names
+pub run_swapped : (told : Settings) (n : ℕ) (s : State) (rack : List Driver) → IsRunOf told n s → faces rack ≡ faces s.core.rack → IsRunOf told n (with_rack rack s)
+run_swapped told n s rack h shown =
+    record { rack = h.rack; entries = h.entries; reaches = swaps_end told (opening h.rack) h.entries s rack h.reaches shown; count = h.count; within = h.within }
 
 -- a client declines what is due
 module _ (told : Settings) (s t : State) where
@@ -174,7 +242,7 @@ module _ (told : Settings) (s t : State) where
       record {
         rack = h.rack;
         entries = h.entries ++ Declines told_so.0 ∷ [];
-        reaches = more_entries told s t h.rack h.entries (Declines told_so.0) h.reaches told_so.1;
+        reaches = swaps_on told (opening h.rack) s t h.entries (Declines told_so.0) h.reaches told_so.1;
         count = events_declined h.entries told_so.0 ∙ h.count;
         within = one_more_has (IsEntryWithin 16) (Declines told_so.0) tt h.entries h.within;
       }

@@ -1,5 +1,5 @@
 -- The manager as contracts see it, and what holds of its state and of each of its steps.
-use Rattle.std.specs.Prelude.{◌≡◌, ℕ, ◌<◌, ◌≤◌, ◌^◌, Bool, true, false, List, None, length}
+use Rattle.std.specs.Prelude.{◌≡◌, ℕ, ◌<◌, ◌≤◌, ◌^◌, Bool, true, false, List, [], ◌∷◌, None, length}
 use Rattle.std.specs.List.{AllByRecursion}
 use Rattle.inf_reader.specs.declared.parts.Inf.{Inf}
 use Rattle.pnp_labels.specs.Texts.{Text}
@@ -8,8 +8,10 @@ use Rattle.pnp_labels.specs.declared.states.Problem.TheVariants.{NormalConflict}
 use Rattle.pnp_model.specs.Diagram.{FollowsDiagram, Walked}
 use Rattle.pnp_model.specs.Laws.{Reaches, HoldsWhole, DependentsFirst}
 use Rattle.pnp_model.specs.Records.{Driver, Settings, State}
-use Rattle.pnp_model.specs.Runs.{Entry}
+use Rattle.pnp_model.specs.Runs.{Entry, Goes, opening}
 use Rattle.pnp_model.specs.Sharing.{Clear}
+use Rattle.free_model.specs.Frees.{with_rack}
+use Rattle.free_model.specs.Shapes.{faces}
 use Rattle.pnp_laws.specs.Begun.{Belongs, Restoring, Conflicts}
 use Rattle.pnp_laws.specs.Held.{AllHoldParts, how_many}
 use Rattle.pnp_laws.specs.Keys.{Keyed, IsAcyclic, NothingHeldClashes}
@@ -37,20 +39,27 @@ pub record Manager : Type 0 where
 abbrev pub settings : Manager → Settings
 settings m = settings_of m.infs m.budget
 
--- a run of so many events leads to this state, and no device was plugged with an alternative of more than 16 groups
+-- a run in which, before each entry and at its end, other drivers of the same kinds and names may take the place of those that
+-- are there, with whatever books
+abbrev pub SwapRun : Settings → State → List Entry → State → Type 0
+SwapRun told old [] new = (rack : List Driver) × (faces rack ≡ faces old.core.rack) × (new ≡ with_rack rack old)
+SwapRun told old (entry ∷ rest) new =
+    (rack : List Driver) × (faces rack ≡ faces old.core.rack) × (mid : State) × Goes told (with_rack rack old) entry mid × SwapRun told mid rest new
+
+-- such a run of so many events leads to this state, and no device was plugged with an alternative of more than 16 groups
 pub record IsRunOf (told : Settings) (events : ℕ) (s : State) : Type 0 where
   pub rack : List Driver
   pub entries : List Entry
-  pub reaches : Reaches told rack entries s
+  pub reaches : SwapRun told (opening rack) entries s
   pub count : ends.events entries ≡ events
   pub within : AllByRecursion (IsEntryWithin 16) entries
 
--- some run leads to this state
+-- some such run leads to this state
 pub record IsOfRun (s : State) : Type 0 where
   pub told : Settings
   pub rack : List Driver
   pub entries : List Entry
-  pub reaches : Reaches told rack entries s
+  pub reaches : SwapRun told (opening rack) entries s
 
 -- what a manager keeps
 pub record IsManager (infs : List Inf) (budget events : ℕ) (s : State) : Type 0 where

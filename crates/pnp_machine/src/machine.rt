@@ -1,5 +1,6 @@
 ghost use Rattle.std.specs.Prelude.{◌≡◌, ◌<◌, ◌≤◌, ◌^◌, ℕ, IfOk, OnErr, List, length};
 ghost use Rattle.pnp_model.specs.Runs.{opening};
+ghost use Rattle.free_model.specs.Frees.{with_rack};
 ghost use Rattle.start_sequence.specs.Begins.{settings_of};
 ghost use Rattle.pnp_machine.specs.Machines.{Moves};
 ghost use Rattle.pnp_machine.specs.Managers.{IfQuiet, IsOfRun};
@@ -18,6 +19,7 @@ use driver_rack::Drivers;
 use inf_reader::Inf;
 use std::alloc::Global;
 use std::marker::Model;
+use std::mem;
 
 /// The machine between two steps. A contract sees its whole state.
 #[derive(Drop)]
@@ -86,5 +88,13 @@ impl<R: Drivers> Machine<R> {
             Turn::Do(Duty::Start, serial) => Ok(Moved::Label(self.start(infs, serial)?)),
             Turn::Do(Duty::Begin(kind), serial) => Ok(Moved::Label(self.begin(kind, serial)?)),
         }
+    }
+
+    /// Another rack takes the place of the drivers, which are handed back. It takes no memory.
+    pub(crate) fn swap_rack(&mut self, rack: &mut R)
+        ensures given { self.new ≡ with_rack (R.rows rack.old) self.old }
+        ensures back { R.rows rack.new ≡ self.old.core.rack }
+    {
+        mem::swap(&mut self.rack, rack);
     }
 }

@@ -8,6 +8,8 @@ ghost use Rattle.pnp_model.specs.States.{drop_task};
 ghost use Rattle.pnp_model.specs.Trees.{leaving};
 ghost use Rattle.pnp_laws.specs.Printed.{TreeIsPrinted};
 ghost use Rattle.devnode_tree.specs.Trees.{Tree};
+ghost use Rattle.free_model.specs.Frees.{with_rack};
+ghost use Rattle.free_model.specs.Shapes.{faces};
 ghost use Rattle.pnp_machine.specs.Dues.{beginning_of};
 ghost use Rattle.pnp_machine.specs.Machines.{IsDone, Moves, HasFewIds};
 ghost use Rattle.pnp_machine.specs.Managers.{settings, IsRunOf, KeepsLaws, LawsOf, IfQuiet};
@@ -134,6 +136,17 @@ impl<R: Drivers> Manager<R> {
         ensures run { IsRunOf (settings self.new) self.new.events self.new.state }
     {
         self.machine.drop_due();
+    }
+
+    /// Another rack takes the place of the drivers, which are handed back. Condition: kind and name of each driver, by number,
+    /// are those of the driver whose place it takes; their books may differ. It takes no memory. Cost: constant.
+    pub fn swap_rack(&mut self, rack: &mut R)
+        requires faces { faces (R.rows rack.old) ≡ faces self.old.state.core.rack }
+        ensures given { self.new ≡ record self.old { state = with_rack (R.rows rack.old) self.old.state } }
+        ensures back { R.rows rack.new ≡ self.old.state.core.rack }
+        ensures run { IsRunOf (settings self.new) self.new.events self.new.state }
+    {
+        self.machine.swap_rack(rack);
     }
 
     /// Whether an operation runs.

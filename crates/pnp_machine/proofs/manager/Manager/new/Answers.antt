@@ -12,5 +12,5 @@ invariant_of-result g c =
       spends = c.requires.budget;
       happened = omega arith;
       ids = subst (λ (s : State). AreFewIds s) (sym c.in_ok-machine.ensures) (few_opening rack);
-      run = record { rack = rack; entries = []; reaches = c.in_ok-machine.ensures; count = refl; within = tt };
+      run = record { rack = rack; entries = []; reaches = (rack, refl, c.in_ok-machine.ensures); count = refl; within = tt };
     }

@@ -1,0 +1,24 @@
+use Rattle.std.proofs.Common.{◌≡◌, ap, sym, subst}
+use Rattle.pnp_model.specs.Records.{State}
+use Rattle.free_model.specs.Shapes.{faces}
+use Rattle.pnp_machine.specs.Ids.{AreFewIds}
+use Rattle.pnp_machine.specs.Managers.{IsRunOf, Manager}
+use Rattle.start_sequence.specs.Begins.{settings_of}
+use Rattle.pnp_machine.proofs.RunLaws.{run_swapped}
+use Rattle.pnp_machine.proofs.manager.Manager.swap_rack.Goals as goal
+
+pub invariant_of-self : goal.invariant_of-self
+invariant_of-self g c =
+    let shown = subst (λ (m : Manager). faces (g.R.Drivers.rows c.args.rack.now) ≡ faces m.state.core.rack) (sym c.self.view_is) c.requires.faces in
+    record {
+      few = c.self.invariant.few;
+      spends = c.self.invariant.spends;
+      happened = c.self.invariant.happened;
+      ids = subst (λ (s : State). AreFewIds s) (sym c.swap_rack.ensures.given) c.self.invariant.ids;
+      run = subst (IsRunOf (settings_of c.self.inside.infs.items c.self.inside.budget) c.self.inside.events) (sym c.swap_rack.ensures.given) (run_swapped _ _ _ _ c.self.invariant.run shown);
+    }
+
+pub returns-clause-run : goal.returns-clause-run
+returns-clause-run g c =
+    let shown = subst (λ (m : Manager). faces (g.R.Drivers.rows c.args.rack.now) ≡ faces m.state.core.rack) (sym c.self.view_is) c.requires.faces in
+    subst (IsRunOf (settings_of c.self.inside.infs.items c.self.inside.budget) c.self.inside.events) (sym c.swap_rack.ensures.given) (run_swapped _ _ _ _ c.self.invariant.run shown)
