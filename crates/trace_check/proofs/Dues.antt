@@ -1,5 +1,7 @@
 -- The end of an output against what stands in a trace.
-use Rattle.std.proofs.Common.{ℕ, ◌+◌, ◌≡◌, Bool, true, false, List, [], ◌∷◌, ◌++◌, length, refl, sym, ap, ◌∙◌, subst, arith, if◌then◌else◌, append_assoc, append-nil, eqb-true, eqb-false}
+use Rattle.std.proofs.Common.{ℕ, ◌+◌, ◌≡◌, Bool, true, false, List, [], ◌∷◌, ◌++◌, length, refl, sym, ap, ◌∙◌, subst, arith, if◌then◌else◌, append_assoc, append-nil, drop, ◌≤◌}
+use Rattle.std.proofs.lemmas.Bool.{eqb-true, eqb-false}
+use Rattle.std.proofs.lemmas.List.{drop_all}
 use Rattle.std.specs.Prelude.{◌==◌, ◌||◌}
 use Rattle.pnp_labels.specs.Texts.{Text}
 use Rattle.pnp_model.specs.Records.{Settings}
@@ -109,3 +111,14 @@ sum lines number = omega arith
 
 pub not_alike : (told : Settings) (due rest : Text) (lines : ℕ) → (due ≡ rest → ⊥) → Tells (Checked.No (lines + lines_alike due rest + 1)) told (Ends due) rest lines
 not_alike told due rest lines not = (lines_alike due rest + 1, sum lines (lines_alike due rest), some_alike told [] due rest refl not)
+
+-- How far they go alike -------------------------------------------------------------------
+
+none_alike : (due : Text) → lines_alike due [] ≡ 0
+none_alike [] = refl
+none_alike (byte ∷ due) = refl
+
+-- what is left has no more
+pub rest_over : (due rest : Text) (at lines : ℕ) → length rest ≤ at → lines_alike due rest ≡ lines + lines_alike (drop at due) (drop at rest) → lines ≡ lines_alike due rest
+rest_over due rest at lines over same =
+    let none : lines_alike (drop at due) (drop at rest) ≡ 0 = ap (lines_alike (drop at due)) (drop_all at rest over) ∙ none_alike (drop at due) in omega arith

@@ -2,3 +2,5 @@ mod Telling
 mod Fronts
 mod Verdicts
 mod Dues
+mod FewIds
+mod Turning

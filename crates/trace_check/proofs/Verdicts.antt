@@ -1,5 +1,5 @@
 -- Verdicts of what is left: where nothing is allowed, and where a line is.
-use Rattle.std.proofs.Common.{ℕ, suc, ◌+◌, ◌≡◌, inl, inr, List, [], ◌∷◌, ◌++◌, length, refl, sym, ap, ◌∙◌, subst, arith, append_assoc, append-nil}
+use Rattle.std.proofs.Common.{ℕ, suc, ◌+◌, ◌≡◌, false, inl, inr, List, [], ◌∷◌, ◌++◌, length, refl, sym, ap, ◌∙◌, subst, arith, append_assoc, append-nil}
 use Rattle.pnp_labels.specs.Texts.{Text}
 use Rattle.pnp_model.specs.Records.{State, Settings}
 use Rattle.pnp_model.specs.Machine.{IsQuiet}
@@ -30,7 +30,7 @@ later line lines number e = omega arith
 
 pub tells_on : (told : Settings) (checked : Checked) (here mid : Place) (line rest : Text) (lines : ℕ) → Allows told here line mid → Tells checked told mid rest (lines + 1) → Tells checked told here (line ++ 10 ∷ rest) lines
 tells_on told Checked.Yes here mid line rest lines allows (texts, follow, is) = (line ∷ texts, (mid, allows, follow), ap (λ (t : Text). line ++ 10 ∷ t) is)
-tells_on told (Checked.No at) here mid line rest lines allows (number, count, no) = (number + 1, later at lines number count, no_on told here mid line rest number allows no)
+tells_on told (Checked.No at) here mid line rest lines allows (number, count, refused) = (number + 1, later at lines number count, no_on told here mid line rest number allows refused)
 
 pub tells_none : (told : Settings) (s : State) (script : Trace) (rest : Text) (lines : ℕ)
     → ((line more : Text) (next : Place) → rest ≡ line ++ 10 ∷ more → Allows told (Runs s script) line next → ⊥) → Tells (Checked.No (lines + 1)) told (Runs s script) rest lines
@@ -40,7 +40,7 @@ tells_none told s script rest lines not =
 -- the whole
 pub tells_all : (told : Settings) (checked : Checked) (here : Place) (trace : Text) → Tells checked told here trace 0 → IsChecked told here trace (verdict checked)
 tells_all told Checked.Yes here trace h = h
-tells_all told (Checked.No line) here trace (number, count, no) = subst (IsNo told here trace) (from_zero line number count) no
+tells_all told (Checked.No line) here trace (number, count, refused) = subst (IsNo told here trace) (from_zero line number count) refused
   where
     from_zero : (line number : ℕ) → line ≡ 0 + number → number ≡ line
     from_zero line number e = omega arith
