@@ -1,5 +1,5 @@
 -- What a turn finds, from what the run, the reader and the comparison say.
-use Rattle.std.proofs.Common.{ℕ, ◌+◌, ◌<◌, ◌≤◌, ◌≡◌, true, false, inl, inr, Option, Some, None, List, [], ◌∷◌, ◌++◌, drop, length, refl, sym, ap, ◌∙◌, subst, arith, append_assoc, append-nil}
+use Rattle.std.proofs.Common.{ℕ, ◌+◌, ◌<◌, ◌≤◌, ◌≡◌, true, false, inl, inr, Option, Some, None, Result, Ok, Err, IfOk, List, [], ◌∷◌, ◌++◌, drop, length, refl, sym, ap, ◌∙◌, subst, arith, append_assoc, append-nil, length-append}
 use Rattle.pnp_labels.specs.Texts.{Text, label_line}
 use Rattle.pnp_labels.specs.declared.event.Event.{Event}
 use Rattle.pnp_labels.specs.declared.label.Label.{Label}
@@ -100,6 +100,12 @@ event_turn turn run old new event rest lines finished (moves, less) finds on =
       finished = moves.finished;
     }
 
+pub event_turns : {E : Type 0} (r : Result Turn E) (run : Free) (old new : Reading) (event : Event) (rest : Text) (lines : ℕ) → old.finished ≡ true → Answers (Next.Event event) old new
+    → IfOk r (λ turn. (number : ℕ) (script : Trace) → Finds turn (settings run) (Runs run.state (gives number event script)) rest lines (λ next. Runs next.state script))
+    → IfOk r (λ turn. GoesOn turn run (run.events + 1)) → IfOk r (λ turn. IsTurn turn run old rest lines new)
+event_turns (Ok turn) run old new event rest lines finished answers finds on = event_turn turn run old new event rest lines finished answers finds on
+event_turns (Err e) run old new event rest lines finished answers finds on = tt
+
 -- a verdict where nothing more is read
 pub over_turn : (checked : Checked) (run : Free) (old : Reading) (rest : Text) (lines : ℕ) → Tells checked (settings run) (place run old) rest lines → IsTurn (Turn.Over checked) run old rest lines old
 over_turn checked run old rest lines tells = record { finds = tells; room = tt; finished = refl }
@@ -127,7 +133,7 @@ bad_turn checked run old new number rest lines finished (moves, _, _, is, stuck)
     moves.finished tells
 
 -- a reader that was finished needs no more
-pub needs_none : {A : Type 0} (old new : Reading) → old.finished ≡ true → Answers Next.NeedMore old new → A
+pub needs_none : (old new : Reading) → old.finished ≡ true → Answers Next.NeedMore old new → ⊥
 needs_none old new finished (moves, _, needs, _) = let bad : true ≡ false = sym finished ∙ sym moves.finished ∙ needs.open_ in absurd (cc)
 
 -- The whole -------------------------------------------------------------------------------
@@ -141,13 +147,12 @@ line_leads run next old new rest lines count checked turn tells =
     (tells_on (settings run) checked (place run old) (place next new) turn.finds.line (drop count rest) lines turn.finds.allows
     (subst (λ (t : Settings). Tells checked t (place next new) (drop count rest) (lines + 1)) told tells))
 
+length_line : (line more : Text) → length (line ++ 10 ∷ more) ≡ length line + 1 + length more
+length_line line more = simp length-append (omega arith)
+
 -- and a line is not longer than what is left
 pub line_within : (run next : Free) (old new : Reading) (rest : Text) (lines count : ℕ) → IsTurn (Turn.Line next count) run old rest lines new → (0 < count) × (count ≤ length rest)
 line_within run next old new rest lines count turn =
-    (omega (arith, turn.finds.size), within)
-  where
-    within : count ≤ length rest
-    within = omega (arith, turn.finds.size, ap length turn.finds.front, length_line turn.finds.line (drop count rest))
-
-    length_line : (line more : Text) → length (line ++ 10 ∷ more) ≡ length line + 1 + length more
-    length_line line more = omega arith
+    let whole : length rest ≡ length turn.finds.line + 1 + length (drop count rest) = ap length turn.finds.front ∙ length_line turn.finds.line (drop count rest) in
+    let size : count ≡ length turn.finds.line + 1 = turn.finds.size in
+    (omega arith, omega arith)

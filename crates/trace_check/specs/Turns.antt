@@ -3,10 +3,10 @@ use Rattle.std.specs.Prelude.{ℕ, ◌+◌, ◌≡◌, ◌≤◌, Bool, true, fa
 use Rattle.pnp_labels.specs.Texts.{Text, label_line}
 use Rattle.pnp_labels.specs.declared.event.Event.{Event}
 use Rattle.pnp_labels.specs.declared.label.Label.{Label}
-use Rattle.pnp_model.specs.Records.{Settings}
+use Rattle.pnp_model.specs.Records.{State, Settings}
 use Rattle.script_reader.specs.Reading.{Reading}
 use Rattle.script_reader.specs.Script.{trace}
-use Rattle.free_model.specs.Checks.{Place, Runs, Allows, IsYes, IsNo, has_feed}
+use Rattle.free_model.specs.Checks.{Place, Runs, Ends, Allows, IsYes, IsNo, has_feed, end_bytes}
 use Rattle.free_run.specs.FreeRuns.{Free, settings}
 use Rattle.trace_check.specs.declared.check.Checked.{Checked}
 use Rattle.trace_check.specs.declared.turn.Turn.{Turn}
@@ -32,6 +32,10 @@ pub record IsTaken (told : Settings) (here : Place) (rest : Text) (count : ℕ) 
 abbrev pub Tells : Checked → Settings → Place → Text → ℕ → Type 0
 Tells Checked.Yes told here rest lines = IsYes told here rest
 Tells (Checked.No line) told here rest lines = (number : ℕ) × (line ≡ lines + number) × IsNo told here rest number
+
+-- the verdict where the end of the output is due
+pub record TellsEnd (checked : Checked) (s : State) (rest : Text) (lines : ℕ) : Type 0 where
+  pub tells : (told : Settings) → Tells checked told (Ends (end_bytes s)) rest lines
 
 -- where a run stands in a script that was fed whole
 abbrev pub place : Free → Reading → Place

@@ -1,11 +1,10 @@
 //! One turn of the check: the next line of the trace against what the run may do next.
 ghost use Rattle.std.specs.Prelude.{◌≡◌, ◌+◌, ◌<◌, ◌≤◌, ◌^◌, ℕ, Bool, true, false, IfOk, OnOk, length};
 ghost use Rattle.pnp_model.specs.Machine.{IsQuiet};
-ghost use Rattle.pnp_model.specs.Records.{Settings};
 ghost use Rattle.script_reader.specs.Script.{Trace, gives, stops};
-ghost use Rattle.free_model.specs.Checks.{Runs, Ends, end_bytes};
+ghost use Rattle.free_model.specs.Checks.{Runs};
 ghost use Rattle.free_run.specs.FreeRuns.{settings, HasFewIds};
-ghost use Rattle.trace_check.specs.Turns.{Finds, GoesOn, IsTurn, Tells};
+ghost use Rattle.trace_check.specs.Turns.{Finds, GoesOn, IsTurn, Tells, TellsEnd};
 ghost use Rattle.trace_check.specs.Clients.{IfOfMachine};
 
 use crate::check::Checked;
@@ -69,7 +68,7 @@ fn take_end(
     lines: u64,
 ) -> Result<Checked, WantOfMemory>
     requires room { lines + length rest.now < 2 ^ 63 }
-    ensures { IfOk result (λ checked. (told : Settings) → Tells checked told (Ends (end_bytes run.now.state)) rest.now lines) }
+    ensures { IfOk result (λ checked. TellsEnd checked run.now.state rest.now lines) }
 {
     let due = run.ending(alloc)?;
     Ok(held_against(&due, rest, lines))
@@ -105,14 +104,15 @@ fn take_rest(
     requires quiet { IsQuiet (settings run) run.state }
     requires finished { reader.old.finished ≡ true }
     requires events { run.events + length reader.old.rest ≤ 2 ^ 24 }
-    requires some { 0 < length rest.now }
     requires room { lines + length rest.now < 2 ^ 63 }
     ensures { IfOk result (λ turn. IsTurn turn run reader.old rest.now lines reader.new) }
 {
     match reader.next_event()? {
         Next::Event(event) => take_event(alloc, run, event, rest, lines),
         Next::Bad { line } => Ok(Turn::Over(take_bad(alloc, &run, line, rest, lines)?)),
-        Next::NeedMore | Next::End => Ok(Turn::Over(take_end(alloc, &run, rest, lines)?)),
+        Next::End => Ok(Turn::Over(take_end(alloc, &run, rest, lines)?)),
+        // a reader that was finished needs no more
+        Next::NeedMore => Ok(Turn::Over(Checked::No { line: lines + 1 })),
     }
 }
 
