@@ -1,0 +1,3 @@
+mod Tellers
+mod Events
+mod Steps

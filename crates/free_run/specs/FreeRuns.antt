@@ -1,5 +1,5 @@
 -- A run of the machine whatever its drivers answer, as contracts see it, and what a step of it does.
-use Rattle.std.specs.Prelude.{◌≡◌, ℕ, ◌≤◌, ◌+◌, Bool, true, false, List, Option, Some, None, length}
+use Rattle.std.specs.Prelude.{◌≡◌, ℕ, ◌+◌, Bool, List, Option, Some, None}
 use Rattle.inf_reader.specs.declared.parts.Inf.{Inf}
 use Rattle.pnp_labels.specs.declared.event.Event.{Event}
 use Rattle.pnp_labels.specs.declared.label.Label.{Label}
@@ -8,6 +8,8 @@ use Rattle.pnp_model.specs.Machine.{IsQuiet}
 use Rattle.pnp_model.specs.Records.{Settings, State, Step}
 use Rattle.start_sequence.specs.Begins.{settings_of}
 use Rattle.free_model.specs.Frees.{StepsBy}
+use Rattle.pnp_machine.specs.Machines as machines
+use Rattle.pnp_machine.specs.Managers as managers
 
 -- the INFs and the budget, how many events happened, and the state; of a driver's book it has what the driver was taught
 pub record Free : Type 0 where
@@ -27,8 +29,7 @@ MovesBy answer told old None new = IsQuiet told old × (new ≡ old)
 
 -- at most 64 IDs of each sort
 abbrev pub HasFewIds : Event → Type 0
-HasFewIds (Event.Plug parent path hw compat reqs) = (length hw ≤ 64) × (length compat ≤ 64)
-HasFewIds _ = Unit {0}
+HasFewIds event = machines.HasFewIds event
 
 -- this is what an event does: the label, and the state after it; one event more has happened, and all else is as before
 abbrev pub HasHappened : Step → Free → Free → Label → Type 0
@@ -36,5 +37,4 @@ HasHappened step old new label = (label ≡ step.label) × (new ≡ record old {
 
 -- a test tells whether a state is quiet
 abbrev pub IfQuiet : Bool → Settings → State → Type 0
-IfQuiet true told s = IsQuiet told s
-IfQuiet false told s = IsQuiet told s → ⊥
+IfQuiet result told s = managers.IfQuiet result told s

@@ -1,1 +1,3 @@
 pub mod FreeRuns
+pub mod Racks
+pub mod ToldRacks

@@ -1,6 +1,9 @@
 //! The machine whatever its drivers answer: a run of it, one step or event at a time.
 #![tactic(auto)]
 
+mod driver;
+mod racks;
 mod run;
+mod told;
 
 pub use run::FreeRun;

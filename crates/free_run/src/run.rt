@@ -1,36 +1,39 @@
-ghost use Rattle.std.specs.Prelude.{◌≡◌, ◌<◌, ◌≤◌, ◌+◌, ◌^◌, ℕ, Bool, true, false, IfOk, OnErr, length};
+ghost use Rattle.std.specs.Prelude.{◌≡◌, ◌<◌, ◌≤◌, ◌^◌, IfOk, OnErr, length};
 ghost use Rattle.pnp_model.specs.Endings.{ending, joined};
 ghost use Rattle.pnp_model.specs.Events.{happens};
 ghost use Rattle.pnp_model.specs.Machine.{IsQuiet};
-ghost use Rattle.pnp_model.specs.Records.{Step};
 ghost use Rattle.free_model.specs.Frees.{free_opening};
 ghost use Rattle.free_run.specs.FreeRuns.{settings, MovesBy, HasFewIds, HasHappened, IfQuiet};
 
+use crate::driver::FreeDriver;
+use crate::racks::own_rack;
+use crate::told::ToldRacks;
 use device_ids::WantOfMemory;
+use driver_rack::Rack;
 use inf_reader::Inf;
 use pnp_labels::{Answer, DriverKind, Event, Label};
-use std::alloc::{AllocError, Global};
+use pnp_machine::Manager;
+use std::alloc::Global;
 use std::marker::Model;
 
-#[derive(Drop)]
-enum Never {}
-
+/// A run of the machine whatever its drivers answer. Beside the machine it has a rack for each answer, which takes the place
+/// of the machine's own for a step. A contract sees the INFs, the budget, how many events happened and the state, in which a
+/// driver's book is what it was taught.
 #[derive(Drop)]
 pub struct FreeRun {
-    infs: Vec<Inf>,
-    budget: u64,
-    events: u64,
-    never: Never,
+    manager: Manager<Rack<FreeDriver>>,
+    told: ToldRacks,
 }
 
 impl Model for FreeRun {
-    ghost use Rattle.std.specs.Prelude.{[]};
-    ghost use Rattle.free_model.specs.Frees.{free_opening};
     ghost use Rattle.free_run.specs.FreeRuns.{Free};
+    ghost use Rattle.free_run.specs.ToldRacks.{AreTold};
 
     ghost Value = { Free };
 
-    ghost view = { λ r. record { infs = r.infs.items; budget = r.budget; events = r.events; state = free_opening [] } };
+    ghost view = { λ r. record { infs = r.manager.infs; budget = r.manager.budget; events = r.manager.events; state = r.manager.state } };
+
+    ghost invariant = { λ r. AreTold r.manager.state.core.rack r.told };
 }
 
 impl FreeRun {
@@ -47,14 +50,17 @@ impl FreeRun {
         requires budget { budget ≤ 1000000 }
         ensures { IfOk result (λ run. run ≡ record { infs = infs.items; budget = budget; events = 0; state = free_opening kinds.now }) }
     {
-        Err(AllocError)
+        let rack = own_rack(alloc, kinds)?;
+        let told = ToldRacks::make(alloc, kinds)?;
+        let manager = Manager::new(alloc, infs, rack, budget)?;
+        Ok(FreeRun { manager, told })
     }
 
     /// Whether no step is next.
     pub fn is_quiet(&self) -> bool
         ensures { IfQuiet result (settings self.now) self.now.state }
     {
-        match self.never {}
+        self.manager.is_quiet()
     }
 
     /// An event happens, at a quiet state: exactly what the machine's definition says. Conditions: the state is quiet, the event has at
@@ -65,7 +71,19 @@ impl FreeRun {
         requires events { self.events < 2 ^ 24 }
         ensures { IfOk result (λ r. HasHappened (happens self.state event) self r.0 r.1) }
     {
-        match self.never {}
+        let FreeRun {
+            mut manager,
+            mut told,
+        } = self;
+        match told.apply(event, &mut manager) {
+            Ok(label) => Ok((FreeRun { manager, told }, label)),
+            // by `?` the whole machine would be let go here, part by part, which makes a long proof
+            Err(refused) => {
+                drop(manager);
+                drop(told);
+                Err(refused)
+            }
+        }
     }
 
     /// The step where all drivers that are asked answer so, exactly as the machine's definition says; none exactly where no step is next,
@@ -75,7 +93,7 @@ impl FreeRun {
         ensures same { self.new ≡ record self.old { state = self.new.state } }
         ensures err { OnErr result (self.new ≡ self.old) }
     {
-        match self.never {}
+        self.told.step(answer, &mut self.manager)
     }
 
     /// The end of the output: the tree, what is held, the requests that are outstanding, and the handles that are open. Cost: as
@@ -83,6 +101,6 @@ impl FreeRun {
     pub fn ending(&self, alloc: Global) -> Result<Vec<u8>, WantOfMemory>
         ensures { IfOk result (λ text. text.items ≡ joined (ending self.now.state)) }
     {
-        match self.never {}
+        self.manager.ending(alloc)
     }
 }

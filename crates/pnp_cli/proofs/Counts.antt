@@ -12,13 +12,13 @@ use Rattle.pnp_model.specs.Cores.{node_at}
 use Rattle.pnp_model.specs.Endings.{Placed, print_order}
 use Rattle.pnp_model.specs.Records.{Node, State}
 use Rattle.pnp_laws.specs.Kept.{Ascending}
-use Rattle.pnp_laws.specs.Keys.{Keyed}
 use Rattle.pnp_laws.specs.Printed.{TreeIsPrinted, lines_of}
 use Rattle.pnp_laws.proofs.Closures.{head_at, tail_at}
 use Rattle.pnp_laws.proofs.Lookups.{none_below, some_same}
 use Rattle.pnp_laws.proofs.RunsStacks.{keyed}
 use Rattle.pnp_laws.proofs.TreePrints.{each_node_is_printed_once}
 use Rattle.pnp_machine.specs.Managers.{IsOfRun}
+use Rattle.pnp_machine.proofs.ButBooks.{shadow}
 
 abbrev one : Bool → ℕ
 one b = cond b 1 0
@@ -113,8 +113,8 @@ count_listed test nodes order printed =
 count_printed : (test : ℕ → Option Node → Bool) (s : State) → IsOfRun s
     → count_by (λ row. test row.serial (node_at row.serial s.core.nodes)) (map row_of (print_order s.core.nodes)) ≡ count_by (λ n. test n.serial (Some n)) s.core.nodes
 count_printed test s h =
-    let keys : Keyed s = keyed h.told h.rack h.entries s h.reaches in
-    count_listed test s.core.nodes keys.serials.ascending (each_node_is_printed_once h.told h.rack h.entries s h.reaches)
+    let own = shadow h.told h.rack h.entries s h.reaches in
+    count_listed test s.core.nodes (keyed h.told own.rack _ _ own.reaches).serials.ascending (each_node_is_printed_once h.told own.rack _ _ own.reaches)
 
 -- and what was counted over all rows is the count over the nodes
 pub count_up : (test : ℕ → Option Node → Bool) (s : State) → IsOfRun s → (nodes : List Node) (rows : List PrintRow) (i count : ℕ) → nodes ≡ s.core.nodes → rows ≡ map row_of (print_order s.core.nodes)

@@ -60,6 +60,7 @@ use Rattle.pnp_cli.specs.declared.infs.InfsError.{InfsError}
 use Rattle.pnp_cli.proofs.FewIds.{NamesByWord, names_by_words, script_within}
 use Rattle.pnp_cli.specs.declared.parts.Settings.{Settings}
 use Rattle.pnp_machine.specs.Managers.{IsOfRun}
+use Rattle.pnp_machine.proofs.ButBooks.{no_swaps}
 use Rattle.pnp_cli.proofs.FrontEntries.{Made, event_goes, event_happened, made_by, own_happened, run_on, settles_quiet}
 use Rattle.pnp_cli.specs.Turns.{Awaits}
 
@@ -112,7 +113,9 @@ plays_reach d t labels last h plays =
       told = told_of d;
       rack = h.run.rack;
       entries = machine_part entries;
-      reaches = machine_run (told_of d) h.run.rack entries last (run_on (told_of d) (opening_front (opening h.run.rack)) (front_of d) last h.run.entries told.entries h.run.reaches told.run);
+      reaches =
+          no_swaps (told_of d) (opening h.run.rack) (machine_part entries) last.state
+          (machine_run (told_of d) h.run.rack entries last (run_on (told_of d) (opening_front (opening h.run.rack)) (front_of d) last h.run.entries told.entries h.run.reaches told.run));
     }
 
 some_run : (settings : machines.Settings) (rack : List Driver) (t : Trace) (report : Report) (text : Text) → Shows settings (opening_front (opening rack)) t report text → SomeRun settings rack t report text

@@ -18,12 +18,14 @@ use Rattle.start_sequence.specs.declared.next.StartStep.{StartStep}
 use Rattle.start_sequence.specs.declared.next.StartStep.TheVariants as steps
 use Rattle.devnode_tree.specs.Cores.{at_nodes}
 use Rattle.devnode_tree.specs.Trees.{Tree}
+use Rattle.free_model.specs.Frees.{with_rack}
 use Rattle.pnp_machine.specs.Devices.{Devices}
 use Rattle.pnp_machine.specs.Doings.{core_with, StaysBeside}
 use Rattle.pnp_machine.specs.Machines.{state_of, IsTurn}
 use Rattle.pnp_machine.specs.Managers.{IsOfRun}
 use Rattle.pnp_machine.specs.Starts.{works_after, ActsFor}
 use Rattle.pnp_machine.specs.declared.turn.Turn.TheVariants as turns
+use Rattle.pnp_machine.proofs.ButBooks.{one_rack}
 use Rattle.pnp_machine.proofs.Givens.{start_unrelated, start_untold}
 use Rattle.pnp_machine.proofs.RunLaws.{of_run_good}
 use Rattle.pnp_machine.proofs.Turns.{act_moves}
@@ -135,8 +137,9 @@ acted ds ds' rack rack' disabled works works' operation tasks tasks' infs budget
         let own : ActsFor budget (activity_at a.serial works) works ds rack step works' ds' rack' =
         subst (λ i. ActsFor budget (activity_at i works) works ds rack step works' ds' rack') (sym is) acts in
         let by = subst (λ o. ActsFor budget o works ds rack step works' ds' rack') at own in
+        let one = one_rack s run in
         acted_by ds ds' rack rack' disabled works works' operation tasks tasks' by.1.1 infs budget a here.0 step by.0 here.1
-        (start_unrelated run.told run.rack run.entries s run.reaches a.serial a at) by.1.0 by.2
+        (start_unrelated one.told one.rack one.entries (with_rack one.here s) one.reaches a.serial a at) by.1.0 by.2
         (subst (λ i. tasks' ≡ tasks_after step i tasks) (sym is) tasks_is)
 
 -- the device of the lowest start is there
@@ -162,4 +165,5 @@ ready_untold s k run (none, first) = by_found (find is_ready s.activities) refl 
         let good = of_run_good s run in
         let is : a.serial ≡ k = cc in
         let at = (ready_found is_ready 0 s.activities a good.order e).1 in
-        subst (λ i. was_told (node_at i s.core.nodes) ≡ false) is (start_untold run.told run.rack run.entries s run.reaches a.serial a at)
+        let one = one_rack s run in
+        subst (λ i. was_told (node_at i s.core.nodes) ≡ false) is (start_untold one.told one.rack one.entries (with_rack one.here s) one.reaches a.serial a at)

@@ -1,18 +1,16 @@
 -- A state of a run whose drivers were exchanged is, but for its drivers' books, one of a run over the same drivers throughout, and so is its next step.
-use Rattle.std.proofs.Common.{ℕ, zero, suc, ◌+◌, ◌≡◌, ◌≤◌, List, [], ◌∷◌, ◌++◌, Option, Some, None, slice_get, option_map, refl, sym, ap, ◌∙◌, subst, arith}
+use Rattle.std.proofs.Common.{ℕ, zero, suc, ◌+◌, ◌≡◌, ◌≤◌, List, [], ◌∷◌, ◌++◌, Option, Some, None, slice_get, refl, sym, ap, ◌∙◌, subst, arith}
 use Rattle.std.specs.List.{AllByRecursion}
 use Rattle.pnp_labels.specs.declared.event.Event.{Event}
 use Rattle.pnp_labels.specs.declared.label.Label.{Label}
 use Rattle.pnp_labels.specs.declared.label.OpKind.{OpKind}
 use Rattle.pnp_labels.specs.declared.words.Answer.{Answer}
-use Rattle.pnp_model.specs.Cores.{node_at, path_of}
+use Rattle.pnp_model.specs.Cores.{node_at}
 use Rattle.pnp_model.specs.Laws.{Reaches}
 use Rattle.pnp_model.specs.Machine.{IsDeclined, Steps, beginning, is_begin, due, due_with, due_task, due_duty, due_alone}
-use Rattle.pnp_model.specs.Records.{Activity, Beginning, Driver, Duty, Operation, Settings, State, Step, Task}
+use Rattle.pnp_model.specs.Records.{Activity, Driver, Duty, Operation, Settings, State, Step, Task}
 use Rattle.pnp_model.specs.Runs.{Entry, Goes, Run, opening}
 use Rattle.pnp_model.specs.Runs.Entry.{Happens, Did, Declines}
-use Rattle.pnp_model.specs.States.{drop_task}
-use Rattle.pnp_model.specs.Tasks.{begin_step}
 use Rattle.pnp_laws.specs.Ends.{events}
 use Rattle.free_model.specs.Asks.{Query, next_query}
 use Rattle.free_model.specs.Frees.{told, with_rack}
@@ -24,7 +22,7 @@ use Rattle.free_model.proofs.Outs.{agreeing, own_rack, shapes_by}
 use Rattle.free_model.proofs.Racks.{faces_of}
 use Rattle.free_model.proofs.Ways.{Agree, rack_by, reply_to}
 use Rattle.free_model.proofs.WaySteps.{step_by, way_begin, way_next}
-use Rattle.pnp_machine.specs.Managers.{SwapRun}
+use Rattle.pnp_machine.specs.Managers.{IsOfRun, SwapRun}
 
 -- What is due does not depend on books ---------------------------------------------------
 
@@ -146,6 +144,19 @@ shadow told rack entries s run =
     let answers = swaps_answered told (λ k. []) (opening rack) entries s run in
     let (here, armed, on) = answers.run (with_books answers.books 0 rack) (armed_so answers.books rack) in
     record { rack = with_books answers.books 0 rack; here = here; shown = armed.shown; reaches = on }
+
+-- the same of some run
+pub record OneRack (s : State) : Type 0 where
+  pub told : Settings
+  pub rack : List Driver
+  pub here : List Driver
+  pub entries : List Entry
+  pub reaches : Reaches told rack entries (with_rack here s)
+
+pub one_rack : (s : State) → IsOfRun s → OneRack s
+one_rack s run =
+    let h = shadow run.told run.rack run.entries s run.reaches in
+    record { told = run.told; rack = h.rack; here = h.here; entries = without_teaching run.entries; reaches = h.reaches }
 
 -- and one that makes the next step as well
 pub record ShadowStep (told : Settings) (entries : List Entry) (s : State) (entry : Entry) (t : State) : Type 0 where

@@ -22,11 +22,13 @@ use Rattle.operation_frame.specs.Nodes.{IsStripped}
 use Rattle.query_remove.specs.Steps as query
 use Rattle.surprise_remove.specs.Steps as surprise
 use Rattle.surprise_remove.specs.FinishSteps as finish
+use Rattle.free_model.specs.Frees.{with_rack}
 use Rattle.pnp_machine.specs.Devices.{Devices}
 use Rattle.pnp_machine.specs.Machines.{state_of, beside, label_of, IsNoRoot, IsNew, IsNewPath, IsTurn, settled_path, settled_in}
 use Rattle.pnp_machine.specs.Managers.{IsOfRun}
 use Rattle.pnp_machine.specs.Operations.{IsRebalance, IsRemoving, IsTarget, MayRebalance, MayRemove, RebalancesBy, RemovesBy}
 use Rattle.pnp_machine.specs.declared.turn.Turn.TheVariants as turns
+use Rattle.pnp_machine.proofs.ButBooks.{one_rack}
 use Rattle.pnp_machine.proofs.Fresh.{settles_new}
 use Rattle.pnp_machine.proofs.Givens.{alone, removal_goes, surprise_goes, finish_goes}
 use Rattle.pnp_machine.proofs.RebalanceSteps as moved
@@ -47,24 +49,31 @@ awake_is s o (other, runs, awake) is =
 module _ (s : State) (run : IsOfRun s) (turn : IsTurn turns.Operate s) where
   pub may_rebalance : (o : Operation) → s.operation ≡ Some o → IsRebalance o → MayRebalance s.core.nodes o
   may_rebalance (Operation.Rebalancing r) runs sort =
-      (rebalance_ready s r (reaches_kept run.told run.rack run.entries s run.reaches) runs, awake_is s (Operation.Rebalancing r) turn runs)
+      let one = one_rack s run in
+      let old : State = with_rack one.here s in
+      (rebalance_ready old r (reaches_kept one.told one.rack one.entries old one.reaches) runs, awake_is s (Operation.Rebalancing r) turn runs)
   may_rebalance _ runs sort = absurd sort
 
   pub may_remove : (o : Operation) → s.operation ≡ Some o → IsRemoving (Some o) → MayRemove s.core.nodes s.core.relations s.handles o
   may_remove (Operation.Rebalancing r) runs sort = absurd sort
   may_remove (Operation.Removing o) runs sort =
-      let goes = removal_goes run.told run.rack run.entries s run.reaches o runs in
+      let one = one_rack s run in
+      let goes = removal_goes one.told one.rack one.entries (with_rack one.here s) one.reaches o runs in
       (goes.0, goes.1, awake_is s (Operation.Removing o) turn runs)
   may_remove (Operation.Surprising o) runs sort =
-      let goes = surprise_goes run.told run.rack run.entries s run.reaches o runs in
+      let one = one_rack s run in
+      let goes = surprise_goes one.told one.rack one.entries (with_rack one.here s) one.reaches o runs in
       (goes.0, goes.1, goes.2, awake_is s (Operation.Surprising o) turn runs)
   may_remove (Operation.Finishing f) runs sort =
-      let goes = finish_goes run.told run.rack run.entries s run.reaches f runs in
+      let one = one_rack s run in
+      let goes = finish_goes one.told one.rack one.entries (with_rack one.here s) one.reaches f runs in
       (goes.0, goes.1, awake_is s (Operation.Finishing f) turn runs)
 
 -- while it runs no device starts
 pub none_starts : (s : State) → IsOfRun s → (o : Operation) → s.operation ≡ Some o → (k : ℕ) (works : List Activity) → works ≡ s.activities → activity_at k works ≡ None
-none_starts s run o runs k works same = ap (activity_at k) (same ∙ alone run.told run.rack run.entries s run.reaches o runs)
+none_starts s run o runs k works same =
+    let one = one_rack s run in
+    ap (activity_at k) (same ∙ alone one.told one.rack one.entries (with_rack one.here s) one.reaches o runs)
 
 -- What a removal brings about ----------------------------------------------------------------
 
@@ -72,11 +81,13 @@ module _ (s : State) (run : IsOfRun s) (o : Removal) (runs : s.operation ≡ Som
   -- who is ejected is not the root
   settled_born : (m : RemovalMove) (born : ℕ) (h : Settles s.core o m.beside) → born ≡ h.node.born → born ≢ 0
   settled_born m born h own zero =
-      let goes = (removal_goes run.told run.rack run.entries s run.reaches o runs).1 in
+      let one = one_rack s run in
+      let old : State = with_rack one.here s in
+      let goes = (removal_goes one.told one.rack one.entries old one.reaches o runs).1 in
       let settling = subst (λ x. query.SettlesStripped s.core.nodes o x) h.stage goes in
       let stripped = subst (λ x. IfSome x (IsStripped s.core.nodes)) h.first settling in
       let at = (head_found s.core.nodes o.todo h.node h.first).1 in
-      stripped.0.no_root ((reaches_born run.told run.rack run.entries s run.reaches).first h.node.serial h.node at (sym own ∙ zero))
+      stripped.0.no_root ((reaches_born one.told one.rack one.entries old one.reaches).first h.node.serial h.node at (sym own ∙ zero))
 
   removal_no_root : (step : RemoveStep) → query.MovedBy (removed s.core o s.handles) step c' o' → IsNoRoot step
   removal_no_root step h = by_move (removed s.core o s.handles) refl step h
@@ -103,8 +114,9 @@ module _ (s : State) (run : IsOfRun s) (o : Removal) (runs : s.operation ≡ Som
           let h = disables s.core o s.handles m path e b in
           let is = h.disables path b in
           let own = set ∙ settled_is s.core o m.beside h in
+          let one = one_rack s run in
           subst (λ x. IsNewPath x s.disabled) (sym own)
-          (settles_new run.told run.rack run.entries s run.reaches o h.node runs h.stage h.first is.1 is.2)
+          (settles_new one.told one.rack one.entries (with_rack one.here s) one.reaches o h.node runs h.stage h.first is.1 is.2)
       by_move (Some m) e (removes.Ejected label path born) h = tt
       by_move (Some m) e (removes.Over label) h = tt
 

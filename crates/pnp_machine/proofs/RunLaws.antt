@@ -47,7 +47,7 @@ use Rattle.pnp_machine.specs.Machines.{HasFewIds}
 use Rattle.pnp_machine.specs.Managers.{IsRunOf, IsOfRun, KeepsLaws, LawsOf}
 use Rattle.pnp_machine.specs.declared.manager.Moved.{Moved}
 use Rattle.pnp_machine.specs.declared.manager.Moved.TheVariants.{Label as Printed, Quiet}
-use Rattle.pnp_machine.proofs.ButBooks.{ShadowStep, all_left, fewer, shadow, shadow_step, swaps_end, swaps_on}
+use Rattle.pnp_machine.proofs.ButBooks.{ShadowStep, all_left, fewer, one_rack, shadow, shadow_step, swaps_end, swaps_on}
 use Rattle.pnp_machine.proofs.Ids.{few_goes, one_more_has}
 use Rattle.pnp_machine.proofs.SameLaws.{IsTakenOr, acyclic_same, first_same, handles_same, keyed_same, names_same, nobody_same, stacks_same, still_first, still_follows, still_names, still_told, still_walked, teaching_says, told_same, walk_same}
 
@@ -197,8 +197,8 @@ module _ (told : Settings) (s t : State) where
 
 pub of_run_good : (s : State) → IsOfRun s → IsGood s
 of_run_good s run =
-    let h = shadow run.told run.rack run.entries s run.reaches in
-    reached_is_good run.told h.rack (with_rack h.here s) (without_teaching run.entries, h.reaches)
+    let own = one_rack s run in
+    reached_is_good own.told own.rack (with_rack own.here s) (own.entries, own.reaches)
 
 pub of_run_printed : (told : Settings) (n : ℕ) (s : State) → IsRunOf told n s → TreeIsPrinted s.core.nodes
 of_run_printed told n s run =

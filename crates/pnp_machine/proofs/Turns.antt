@@ -1,5 +1,5 @@
 -- Which step is next, and when none is.
-use Rattle.std.proofs.Common.{◌≡◌, ℕ, Bool, true, false, find, Option, Some, None, IsSome, refl, sym, ◌∙◌, ap, subst, option_map, slice_get}
+use Rattle.std.proofs.Common.{◌≡◌, ℕ, Bool, true, false, find, Option, Some, None, is_some, refl, sym, ◌∙◌, ap, subst, option_map, slice_get}
 use Rattle.pnp_labels.specs.declared.label.Label.{Label}
 use Rattle.pnp_labels.specs.declared.label.OpKind.{OpKind}
 use Rattle.pnp_labels.specs.declared.words.Minor.{Minor}
@@ -11,6 +11,8 @@ use Rattle.pnp_model.specs.Tasks.{list_step, start_step, begin_step}
 use Rattle.pnp_laws.specs.Kept.{IsGood}
 use Rattle.pnp_laws.proofs.Lookups.{ready_found}
 use Rattle.device_stack.specs.Waiting.{minor_of, minor_if}
+use Rattle.free_model.specs.Frees.{with_rack}
+use Rattle.free_model.proofs.Quiets.{quiet_same}
 use Rattle.pnp_machine.specs.Machines.{IsDone, IsDoing, IsTurn}
 use Rattle.pnp_machine.specs.Managers.{IsOfRun}
 use Rattle.pnp_machine.specs.Starts.{first_ready}
@@ -18,6 +20,7 @@ use Rattle.pnp_machine.specs.declared.tasks.Duty.{Duty}
 use Rattle.pnp_machine.specs.declared.tasks.Duty.TheVariants as duties
 use Rattle.pnp_machine.specs.declared.turn.Turn.{Turn}
 use Rattle.pnp_machine.specs.declared.turn.Turn.TheVariants as turns
+use Rattle.pnp_machine.proofs.ButBooks.{one_rack}
 use Rattle.pnp_machine.proofs.Givens.{operation_goes}
 use Rattle.pnp_machine.proofs.RunLaws.{of_run_good}
 
@@ -101,10 +104,6 @@ module _ (settings : Settings) (s : State) where
 
   -- Where a step is next none is quiet ----------------------------------------------------
 
-  some_goes : (x : Option (Doing Step)) → next settings s ≡ x → IsSome x → IsQuiet settings s → ⊥
-  some_goes None e there q = absurd (let no : false ≡ true = there in cc)
-  some_goes (Some doing) e there q = cc
-
   do_goes : (duty : Duty) (k : ℕ) → IsTurn (turns.Do duty k) s → IsQuiet settings s → ⊥
   do_goes duties.List k turn q = let is = list_is k turn in cc
   do_goes duties.Start k turn q = let is = start_is k turn in cc
@@ -112,6 +111,11 @@ module _ (settings : Settings) (s : State) where
 
   pub turn_goes : (turn : Turn) → (turn ≡ turns.Quiet → ⊥) → IsOfRun s → IsTurn turn s → IsQuiet settings s → ⊥
   turn_goes turns.Quiet busy run is q = busy refl
-  turn_goes turns.Operate busy run (o, runs, awake) q = some_goes (operation_next s o false) (operate_next o runs awake) (operation_goes run.told run.rack run.entries s run.reaches o runs awake) q
+  turn_goes turns.Operate busy run (o, runs, awake) q =
+      let one = one_rack s run in
+      let old : State = with_rack one.here s in
+      let none : operation_next old o false ≡ None = ap (operation_next old o) (sym awake) ∙ ap (next_of settings old) (sym runs) ∙ quiet_same settings s one.here q in
+      let goes = operation_goes one.told one.rack one.entries old one.reaches o runs awake in
+      absurd (let no : false ≡ true = ap is_some (sym none) ∙ goes in cc)
   turn_goes (turns.Act k) busy run (none, first) q = start_goes none k (of_run_good s run) first q
   turn_goes (turns.Do duty k) busy run is q = do_goes duty k is q

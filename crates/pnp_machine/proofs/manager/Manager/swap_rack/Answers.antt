@@ -1,4 +1,4 @@
-use Rattle.std.proofs.Common.{◌≡◌, ap, sym, subst}
+use Rattle.std.proofs.Common.{◌≡◌, sym, subst}
 use Rattle.pnp_model.specs.Records.{State}
 use Rattle.free_model.specs.Shapes.{faces}
 use Rattle.pnp_machine.specs.Ids.{AreFewIds}

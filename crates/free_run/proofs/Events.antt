@@ -1,0 +1,140 @@
+-- What an event does to the names of a rack that tells one answer.
+use Rattle.std.proofs.Common.{◌≡◌, Bool, true, false, List, [], ◌∷◌, map, length, Option, Some, None, Result, Ok, Err, IfOk, OnOk, option_map, cond, refl, sym, ap, ◌∙◌, subst, ◌+◌}
+use Rattle.std.specs.Prelude.{find, nat_lt}
+use Rattle.std.specs.declared.alloc.AllocError.{AllocError}
+use Rattle.pnp_labels.specs.Texts.{Text}
+use Rattle.pnp_labels.specs.declared.event.Event.{Event}
+use Rattle.pnp_labels.specs.declared.event.Rule.{Rule}
+use Rattle.pnp_labels.specs.declared.label.Label.{Label}
+use Rattle.pnp_labels.specs.declared.words.Answer.{Answer}
+use Rattle.pnp_labels.specs.declared.words.DriverKind.{DriverKind}
+use Rattle.pnp_model.specs.Books.{is_named, is_unnamed, with_name}
+use Rattle.pnp_model.specs.Events as events
+use Rattle.pnp_model.specs.Events.{happens, with_rule}
+use Rattle.pnp_model.specs.Keyed.{changed_first}
+use Rattle.pnp_model.specs.Records.{Driver, State}
+use Rattle.pnp_model.specs.Tests.{is_scripted}
+use Rattle.free_model.specs.Frees.{telling, told}
+use Rattle.free_model.proofs.Happenings.{IsOther, untaught_moved}
+use Rattle.free_model.proofs.TwinEvents.{find_map, changed_map}
+use Rattle.pnp_machine.specs.Machines.{IsDone}
+use Rattle.pnp_machine.specs.Managers.{Manager}
+use Rattle.free_run.specs.declared.told.ToldRacks.{ToldRacks}
+use Rattle.free_run.specs.FreeRuns.{Free, HasHappened}
+use Rattle.free_run.specs.Racks.{named_by, named, named_in}
+use Rattle.free_run.specs.ToldRacks.{AreTold}
+
+-- A name ------------------------------------------------------------------------------------
+
+named_by_told : (answer : Answer) (name : Text) (kind : DriverKind) (rack : List Driver) (o : Option Driver)
+    → told answer (named_by name kind rack o) ≡ named_by name kind (told answer rack) (option_map (telling answer) o)
+named_by_told answer name kind rack (Some d) = refl
+named_by_told answer name kind rack None = changed_map (telling answer) (is_unnamed kind) (with_name name) (with_name name) (λ d. refl) rack
+
+-- named in a rack that tells one answer, as in the other
+named_told : (answer : Answer) (name : Text) (kind : DriverKind) (rack : List Driver) → told answer (named name kind rack) ≡ named name kind (told answer rack)
+named_told answer name kind rack =
+    named_by_told answer name kind rack (find (is_named name) rack) ∙ ap (named_by name kind (told answer rack)) (find_map (telling answer) (is_named name) rack)
+
+unfound_or : {A : Type 0} (test : A → Bool) (f : A → A) (x : A) (xs : List A) (b : Bool) → (find test xs ≡ None → changed_first test f xs ≡ xs) → cond b (Some x) (find test xs) ≡ None
+    → cond b (f x ∷ xs) (x ∷ changed_first test f xs) ≡ x ∷ xs
+unfound_or test f x xs true more e = absurd (cc)
+unfound_or test f x xs false more e = ap (λ (ys : List _). x ∷ ys) (more e)
+
+unfound : {A : Type 0} (test : A → Bool) (f : A → A) (xs : List A) → find test xs ≡ None → changed_first test f xs ≡ xs
+unfound test f [] e = refl
+unfound test f (x ∷ xs) e = unfound_or test f x xs (test x) (unfound test f xs) e
+
+free_rack : (s : State) (name : Text) (kind : DriverKind) (o : Option Driver) → find (is_unnamed kind) s.core.rack ≡ o
+    → (events.name_free s name kind o).state.core.rack ≡ changed_first (is_unnamed kind) (with_name name) s.core.rack
+free_rack s name kind None e = sym (unfound (is_unnamed kind) (with_name name) s.core.rack e)
+free_rack s name kind (Some d) e = refl
+
+name_rack : (s : State) (name : Text) (kind : DriverKind) (o : Option Driver) → (events.name_at s name kind o).state.core.rack ≡ named_by name kind s.core.rack o
+name_rack s name kind (Some d) = refl
+name_rack s name kind None = free_rack s name kind (find (is_unnamed kind) s.core.rack) refl
+
+-- A lesson ----------------------------------------------------------------------------------
+
+unchanged_or : {A B : Type 0} (g : A → B) (f : A → A) (b : Bool) (x : A) (xs ys : List A) → g (f x) ≡ g x → map g ys ≡ map g xs → map g (cond b (f x ∷ xs) (x ∷ ys)) ≡ map g (x ∷ xs)
+unchanged_or g f true x xs ys e h = ap (λ t. t ∷ map g xs) e
+unchanged_or g f false x xs ys e h = ap (λ t. g x ∷ t) h
+
+-- what is changed is not seen
+unchanged : {A B : Type 0} (g : A → B) (test : A → Bool) (f : A → A) → ((x : A) → g (f x) ≡ g x) → (xs : List A) → map g (changed_first test f xs) ≡ map g xs
+unchanged g test f e [] = refl
+unchanged g test f e (x ∷ xs) = unchanged_or g f (test x) x xs (changed_first test f xs) (e x) (unchanged g test f e xs)
+
+room_told : (answer : Answer) (s : State) (d : Driver) (name : Text) (rule : Rule) (b : Bool) → told answer (events.teach_room s d name rule b).state.core.rack ≡ told answer s.core.rack
+room_told answer s d name rule false = refl
+room_told answer s d name rule true = unchanged (telling answer) (is_named name) (with_rule rule) (λ x. refl) s.core.rack
+
+kind_told : (answer : Answer) (s : State) (d : Driver) (name : Text) (rule : Rule) (b : Bool) → told answer (events.teach_kind s d name rule b).state.core.rack ≡ told answer s.core.rack
+kind_told answer s d name rule false = refl
+kind_told answer s d name rule true = room_told answer s d name rule (nat_lt (length d.book) 64)
+
+teach_told : (answer : Answer) (s : State) (name : Text) (rule : Rule) (o : Option Driver) → told answer (events.teach_at s name rule o).state.core.rack ≡ told answer s.core.rack
+teach_told answer s name rule None = refl
+teach_told answer s name rule (Some d) = kind_told answer s d name rule (is_scripted d.kind)
+
+-- All events --------------------------------------------------------------------------------
+
+-- names, teaches, or neither
+data Sort : Event → Type 0 where
+  names : (name : Text) (kind : DriverKind) → Sort (Event.Name name kind)
+  teaches : (name : Text) (rule : Rule) → Sort (Event.Teach name rule)
+  other : (event : Event) → IsOther event → ((rack : List Driver) → named_in event rack ≡ rack) → Sort event
+
+sort : (event : Event) → Sort event
+sort (Event.Name name kind) = names name kind
+sort (Event.Teach name rule) = teaches name rule
+sort (Event.Plug parent path hw compat reqs) = other (Event.Plug parent path hw compat reqs) tt (λ rack. refl)
+sort (Event.Pull path) = other (Event.Pull path) tt (λ rack. refl)
+sort (Event.Disable path) = other (Event.Disable path) tt (λ rack. refl)
+sort (Event.Enable path) = other (Event.Enable path) tt (λ rack. refl)
+sort (Event.Eject path) = other (Event.Eject path) tt (λ rack. refl)
+sort (Event.Relate kind owner member) = other (Event.Relate kind owner member) tt (λ rack. refl)
+sort (Event.Reserve res) = other (Event.Reserve res) tt (λ rack. refl)
+sort (Event.Complete path minor ok) = other (Event.Complete path minor ok) tt (λ rack. refl)
+sort (Event.OpenHandle path) = other (Event.OpenHandle path) tt (λ rack. refl)
+sort (Event.CloseHandle path) = other (Event.CloseHandle path) tt (λ rack. refl)
+sort (Event.Change path reqs) = other (Event.Change path reqs) tt (λ rack. refl)
+sort (Event.Window path res) = other (Event.Window path res) tt (λ rack. refl)
+sort (Event.Watch client path agrees) = other (Event.Watch client path agrees) tt (λ rack. refl)
+sort (Event.Unwatch client path) = other (Event.Unwatch client path) tt (λ rack. refl)
+
+by_sort : (answer : Answer) (s : State) (event : Event) → Sort event → told answer (happens s event).state.core.rack ≡ named_in event (told answer s.core.rack)
+by_sort answer s _ (names name kind) = ap (told answer) (name_rack s name kind (find (is_named name) s.core.rack)) ∙ named_told answer name kind s.core.rack
+by_sort answer s _ (teaches name rule) = teach_told answer s name rule (find (is_named name) s.core.rack)
+by_sort answer s event (other _ is same) = ap (told answer) (untaught_moved s s.core.rack event is).own ∙ sym (same (told answer s.core.rack))
+
+-- where the told rack hears of the event, it is that of the state after it
+pub told_after : (answer : Answer) (s : State) (event : Event) → told answer (happens s event).state.core.rack ≡ named_in event (told answer s.core.rack)
+told_after answer s event = by_sort answer s event (sort event)
+
+told_so : (answer : Answer) (s new : State) (event : Event) (old racks : List Driver) → old ≡ told answer s.core.rack → new ≡ (happens s event).state → racks ≡ named_in event old → racks ≡ told answer new.core.rack
+told_so answer s new event old racks so done hears =
+    hears ∙ ap (named_in event) so ∙ sym (told_after answer s event) ∙ ap (λ (x : State). told answer x.core.rack) (sym done)
+
+-- the racks that heard of the event
+pub told_on : (s new : State) (event : Event) (old racks : ToldRacks) → AreTold s.core.rack old → racks.ok ≡ named_in event old.ok → racks.fail ≡ named_in event old.fail → racks.pend ≡ named_in event old.pend
+    → (result : Result Label AllocError) → IfOk result (λ label. IsDone (happens s event) label new) → OnOk result (AreTold new.core.rack racks)
+told_on s new event old racks so ok fail pend (Ok label) done =
+    record {
+      ok = told_so Answer.Ok s new event old.ok racks.ok so.ok done.1 ok;
+      fail = told_so Answer.Fail s new event old.fail racks.fail so.fail done.1 fail;
+      pend = told_so Answer.Pend s new event old.pend racks.pend so.pend done.1 pend;
+    }
+told_on s new event old racks so ok fail pend (Err refused) done = tt
+
+-- The run -----------------------------------------------------------------------------------
+
+abbrev free_of : Manager → Free
+free_of m = record { infs = m.infs; budget = m.budget; events = m.events; state = m.state }
+
+-- what the event does to the manager it does to the run
+pub happened : (before after : Manager) (f : Free) (event : Event) (label : Label) → free_of before ≡ f → IsDone (happens before.state event) label after.state
+    → after ≡ record before { events = before.events + 1; state = after.state } → HasHappened (happens f.state event) f (free_of after) label
+happened before after f event label is done count =
+    subst (λ (x : Free). HasHappened (happens x.state event) x (free_of after) label) is
+    (done.0, ap free_of count ∙ ap (λ (s : State). record { infs = before.infs; budget = before.budget; events = before.events + 1; state = s }) done.1)

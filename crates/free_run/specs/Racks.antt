@@ -1,0 +1,21 @@
+-- What a name does to a rack.
+use Rattle.std.specs.Prelude.{List, Option, Some, None, find}
+use Rattle.pnp_labels.specs.declared.event.Event.{Event}
+use Rattle.pnp_labels.specs.Texts.{Text}
+use Rattle.pnp_labels.specs.declared.words.DriverKind.{DriverKind}
+use Rattle.pnp_model.specs.Books.{is_named, is_unnamed, with_name}
+use Rattle.pnp_model.specs.Keyed.{changed_first}
+use Rattle.pnp_model.specs.Records.{Driver}
+
+-- the first driver of the kind that has no name gets it, where no driver has it yet
+abbrev pub named_by : Text → DriverKind → List Driver → Option Driver → List Driver
+named_by name kind rack None = changed_first (is_unnamed kind) (with_name name) rack
+named_by name kind rack (Some driver) = rack
+
+abbrev pub named : Text → DriverKind → List Driver → List Driver
+named name kind rack = named_by name kind rack (find (is_named name) rack)
+
+-- an event that gives a name gives it in this rack too
+abbrev pub named_in : Event → List Driver → List Driver
+named_in (Event.Name name kind) rack = named name kind rack
+named_in _ rack = rack

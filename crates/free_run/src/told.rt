@@ -1,0 +1,110 @@
+ghost use Rattle.std.specs.Prelude.{◌≡◌, ◌<◌, ◌+◌, ◌^◌, IfOk, OnOk, OnErr, length, map};
+ghost use Rattle.pnp_model.specs.Events.{happens};
+ghost use Rattle.pnp_model.specs.Machine.{IsQuiet};
+ghost use Rattle.start_sequence.specs.Begins.{settings_of};
+ghost use Rattle.free_model.specs.Frees.{new_driver};
+ghost use Rattle.pnp_machine.specs.Machines.{HasFewIds, IsDone};
+ghost use Rattle.pnp_machine.specs.Managers.{settings};
+ghost use Rattle.free_run.specs.FreeRuns.{MovesBy};
+ghost use Rattle.free_run.specs.Racks.{named_in};
+ghost use Rattle.free_run.specs.ToldRacks.{AreTold, IsTold, MovesTold};
+
+use crate::driver::FreeDriver;
+use crate::racks::{name_too, told_rack};
+use device_ids::WantOfMemory;
+use driver_rack::Rack;
+use pnp_labels::{Answer, DriverKind, Event, Label};
+use pnp_machine::{Manager, Moved};
+use std::alloc::Global;
+
+/// A step over a rack whose drivers all give one answer; then each rack is where it was, with its drivers as they were.
+fn step_over(
+    manager: &mut Manager<Rack<FreeDriver>>,
+    rack: &mut Rack<FreeDriver>,
+) -> Result<Option<Label>, WantOfMemory>
+    requires { IsTold rack.old manager.old.state.core.rack }
+    ensures moves { IfOk result (λ label. MovesTold rack.old (settings_of manager.old.infs manager.old.budget) manager.old.state label manager.new.state) }
+    ensures same { manager.new ≡ record manager.old { state = manager.new.state } }
+    ensures own { manager.new.state.core.rack ≡ manager.old.state.core.rack }
+    ensures told { rack.new ≡ rack.old }
+    ensures err { OnErr result (manager.new ≡ manager.old) }
+{
+    manager.swap_rack(rack);
+    let moved = manager.step();
+    manager.swap_rack(rack);
+    match moved? {
+        Moved::Label(label) => Ok(Some(label)),
+        Moved::Quiet => Ok(None),
+    }
+}
+
+/// A rack for each answer, whose drivers give that one to all that they are asked. This project's own.
+#[derive(Drop)]
+pub(crate) struct ToldRacks {
+    ok: Rack<FreeDriver>,
+    fail: Rack<FreeDriver>,
+    pend: Rack<FreeDriver>,
+}
+
+impl ToldRacks {
+    /// Racks with a driver of each kind, by number, in no one's name. Cost: the number of kinds.
+    pub(crate) fn make(alloc: Global, kinds: &[DriverKind]) -> Result<ToldRacks, WantOfMemory>
+        requires { length kinds.now < 2 ^ 32 }
+        ensures { IfOk result (λ racks. AreTold (map new_driver kinds.now) racks) }
+    {
+        Ok(ToldRacks {
+            ok: told_rack(alloc, kinds, Answer::Ok)?,
+            fail: told_rack(alloc, kinds, Answer::Fail)?,
+            pend: told_rack(alloc, kinds, Answer::Pend)?,
+        })
+    }
+
+    /// Where an event gives a driver a name, those of the same number get it too.
+    fn hear(&mut self, event: &Event) -> Result<(), WantOfMemory>
+        ensures ok { OnOk result (self.new.ok ≡ named_in event.now self.old.ok) }
+        ensures fail { OnOk result (self.new.fail ≡ named_in event.now self.old.fail) }
+        ensures pend { OnOk result (self.new.pend ≡ named_in event.now self.old.pend) }
+    {
+        name_too(&mut self.ok, event)?;
+        name_too(&mut self.fail, event)?;
+        name_too(&mut self.pend, event)
+    }
+
+    /// An event happens to the machine, at a quiet state, and the racks hear of it. Conditions: as `Manager::apply`.
+    pub(crate) fn apply(
+        &mut self,
+        event: Event,
+        manager: &mut Manager<Rack<FreeDriver>>,
+    ) -> Result<Label, WantOfMemory>
+        requires told { AreTold manager.old.state.core.rack self.old }
+        requires quiet { IsQuiet (settings manager.old) manager.old.state }
+        requires ids { HasFewIds event }
+        requires events { manager.old.events < 2 ^ 24 }
+        ensures done { IfOk result (λ label. IsDone (happens manager.old.state event) label manager.new.state) }
+        ensures count { OnOk result (manager.new ≡ record manager.old { events = manager.old.events + 1; state = manager.new.state }) }
+        ensures told { OnOk result (AreTold manager.new.state.core.rack self.new) }
+    {
+        self.hear(&event)?;
+        manager.apply(event)
+    }
+
+    /// The step of the machine where all drivers that are asked answer so; none exactly where none is next. All drivers
+    /// stay as they are. After want of memory all is as before.
+    pub(crate) fn step(
+        &mut self,
+        answer: Answer,
+        manager: &mut Manager<Rack<FreeDriver>>,
+    ) -> Result<Option<Label>, WantOfMemory>
+        requires { AreTold manager.old.state.core.rack self.old }
+        ensures moves { IfOk result (λ label. MovesBy answer (settings_of manager.old.infs manager.old.budget) manager.old.state label manager.new.state) }
+        ensures same { manager.new ≡ record manager.old { state = manager.new.state } }
+        ensures told { AreTold manager.new.state.core.rack self.new }
+        ensures err { OnErr result (manager.new ≡ manager.old) }
+    {
+        match answer {
+            Answer::Ok => step_over(manager, &mut self.ok),
+            Answer::Fail => step_over(manager, &mut self.fail),
+            Answer::Pend => step_over(manager, &mut self.pend),
+        }
+    }
+}
