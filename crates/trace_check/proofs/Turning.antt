@@ -16,34 +16,37 @@ use Rattle.script_reader.specs.declared.next.Next.{Next}
 use Rattle.free_model.specs.Frees.{StepsBy}
 use Rattle.free_model.specs.Checks.{Place, Runs, Allows, IsOfMachine, has_feed}
 use Rattle.free_model.proofs.OneVerdict.{no_step}
-use Rattle.free_run.specs.FreeRuns.{Free, settings, HasHappened}
+use Rattle.free_run.specs.FreeRuns.{Free, settings}
 use Rattle.trace_check.specs.declared.check.Checked.{Checked}
+use Rattle.trace_check.specs.declared.step.Found.{Found}
 use Rattle.trace_check.specs.declared.turn.Turn.{Turn}
 use Rattle.trace_check.specs.Letters.{answer_of}
-use Rattle.trace_check.specs.Turns.{IfStands, IsTaken, Tells, Finds, GoesOn, HasRoom, IsTurn, place}
+use Rattle.trace_check.specs.Turns.{IfFront, IfStands, HasStepped, HasPrinted, IsTaken, Tells, FindsStep, Finds, GoesOn, HasRoom, IsTurn, place}
+use Rattle.trace_check.proofs.Fronts.{is_standing, not_in_front}
 use Rattle.trace_check.proofs.Telling.{none_left, no_other}
 use Rattle.trace_check.proofs.Verdicts.{tells_on, tells_none, none_at_rest, tells_end}
 
 -- An event --------------------------------------------------------------------------------
 
-pub event_taken : (told : Settings) (old new : Free) (event : Event) (label : Label) (rest : Text) (count : ℕ) → IsQuiet told old.state → IsOfMachine event
-    → HasHappened (happens old.state event) old new label → IfStands (Some count) rest label → (number : ℕ) (script : Trace)
-    → IsTaken told (Runs old.state (gives number event script)) rest count (Runs new.state script)
-event_taken told old new event label rest count quiet own (is, became) (front, size) number script =
+pub event_taken : (told : Settings) (old new : Free) (event : Event) (line rest : Text) (size : ℕ) → IsQuiet told old.state → IsOfMachine event
+    → HasPrinted (happens old.state event) old new line → IfFront true rest line → size ≡ length line → (number : ℕ) (script : Trace)
+    → IsTaken told (Runs old.state (gives number event script)) rest size (Runs new.state script)
+event_taken told old new event line rest size quiet own (is, became) front same number script =
+    let stands : IfStands (Some size) rest (label_line (happens old.state event).label) = is_standing rest line (label_line (happens old.state event).label) size front is same in
     record {
-      line = label_line label;
-      allows = inr (quiet, (own, ap label_line is, ap (λ (f : Free). Runs f.state script) became));
-      front = front;
-      size = size;
+      line = label_line (happens old.state event).label;
+      allows = inr (quiet, (own, refl, ap (λ (f : Free). Runs f.state script) became));
+      front = stands.0;
+      size = stands.1;
     }
 
-pub event_refused : (told : Settings) (old new : Free) (event : Event) (label : Label) (rest : Text) (lines : ℕ) → IsQuiet told old.state
-    → HasHappened (happens old.state event) old new label → IfStands None rest label → (number : ℕ) (script : Trace)
+pub event_refused : (told : Settings) (old new : Free) (event : Event) (line rest : Text) (lines : ℕ) → IsQuiet told old.state
+    → HasPrinted (happens old.state event) old new line → IfFront false rest line → (number : ℕ) (script : Trace)
     → Tells (Checked.No (lines + 1)) told (Runs old.state (gives number event script)) rest lines
-event_refused told old new event label rest lines quiet (is, became) (clear, not) number script =
+event_refused told old new event line rest lines quiet (is, became) front number script =
     tells_none told old.state (gives number event script) rest lines
     (none_at_rest told old.state (gives number event script) rest quiet
-    (λ line more next here (own, same, _). not more (here ∙ ap (λ (t : Text). t ++ 10 ∷ more) (same ∙ sym (ap label_line is)))))
+    (λ other more next here (own, same, _). not_in_front rest line (label_line (happens old.state event).label) more front is (here ∙ ap (λ (t : Text). t ++ 10 ∷ more) same)))
 
 pub client_refused : (told : Settings) (s : State) (event : Event) (rest : Text) (lines : ℕ) → IsQuiet told s → (IsOfMachine event → ⊥) → (number : ℕ) (script : Trace)
     → Tells (Checked.No (lines + 1)) told (Runs s (gives number event script)) rest lines
@@ -52,19 +55,20 @@ client_refused told s event rest lines quiet not number script =
 
 -- A step ----------------------------------------------------------------------------------
 
-pub step_taken : (told : Settings) (answer : Answer) (s : State) (label : Label) (new : State) (script : Trace) (rest : Text) (count : ℕ) → StepsBy answer told s label new → IfStands (Some count) rest label
-    → IsTaken told (Runs s script) rest count (Runs new script)
-step_taken told answer s label new script rest count steps (front, size) =
+pub step_taken : (told : Settings) (answer : Answer) (s new : State) (line rest : Text) (count lines : ℕ) → HasStepped answer told s line new
+    → ((text : Text) → line ≡ text ++ 10 ∷ [] → IfStands (Some count) rest text) → FindsStep (Found.Line count) told s new rest lines
+step_taken told answer s new line rest count lines (label, steps, is) stands = λ script.
+    let (front, size) = stands (label_line label) is in
     record { line = label_line label; allows = inl (label, new, (answer, steps), refl, refl); front = front; size = size }
 
-pub step_refused : (told : Settings) (answer : Answer) (s : State) (label : Label) (new : State) (script : Trace) (rest : Text) (lines : ℕ) → answer_of rest ≡ Some answer → StepsBy answer told s label new
-    → IfStands None rest label → Tells (Checked.No (lines + 1)) told (Runs s script) rest lines
-step_refused told answer s label new script rest lines reads steps (clear, not) = tells_none told s script rest lines nothing
+pub step_refused : (told : Settings) (answer : Answer) (s new : State) (line rest : Text) (lines : ℕ) → answer_of rest ≡ Some answer → HasStepped answer told s line new
+    → ((text : Text) → line ≡ text ++ 10 ∷ [] → IfStands None rest text) → FindsStep (Found.Over (Checked.No (lines + 1))) told s new rest lines
+step_refused told answer s new line rest lines reads (label, steps, is) stands = λ script. tells_none told s script rest lines (nothing script (stands (label_line label) is))
   where
-    nothing : (line more : Text) (next : Place) → rest ≡ line ++ 10 ∷ more → Allows told (Runs s script) line next → ⊥
-    nothing line more next here (inl (other, there, free, same, _)) =
-        no_other told s answer label new rest reads steps clear not other there more free (here ∙ ap (λ (t : Text). t ++ 10 ∷ more) same)
-    nothing line more next here (inr (quiet, _)) = no_step told s label new quiet (answer, steps)
+    nothing : (script : Trace) → IfStands None rest (label_line label) → (other more : Text) (next : Place) → rest ≡ other ++ 10 ∷ more → Allows told (Runs s script) other next → ⊥
+    nothing script (clear, not) other more next here (inl (b, there, free, same, _)) =
+        no_other told s answer label new rest reads steps clear not b there more free (here ∙ ap (λ (t : Text). t ++ 10 ∷ more) same)
+    nothing script stands other more next here (inr (quiet, _)) = no_step told s label new quiet (answer, steps)
 
 pub line_refused : (told : Settings) (s : State) (script : Trace) (rest : Text) (lines : ℕ) → answer_of rest ≡ None → Tells (Checked.No (lines + 1)) told (Runs s script) rest lines
 line_refused told s script rest lines none = tells_none told s script rest lines (λ line more next here allows. none_left 0 line more (sym (ap answer_of here) ∙ none))

@@ -82,7 +82,3 @@ tells_other told s number rest lines quiet front =
     tells_none told s (stops number) rest lines
     (none_at_rest told s (stops number) rest quiet
     (λ line more next is (same, _). front more (is ∙ ap (λ (t : Text). t ++ 10 ∷ more) same ∙ sym (append_assoc (bad_line number) (10 ∷ []) more))))
-
-pub bad_front : (rest line : Text) (number size : ℕ) → IfFront true rest line → line ≡ bad_line number ++ 10 ∷ [] → size ≡ length line → bad_line number ++ 10 ∷ drop size rest ≡ rest
-bad_front rest line number size front is same =
-    sym (front ∙ ap (λ (n : ℕ). line ++ drop n rest) (sym same) ∙ ap (λ (t : Text). t ++ drop size rest) is ∙ append_assoc (bad_line number) (10 ∷ []) (drop size rest))

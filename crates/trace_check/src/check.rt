@@ -45,10 +45,10 @@ pub fn check_trace(
     requires budget { budget ≤ 1000000 }
     ensures { IfOk result (λ checked. IsChecked (settings_of infs.items budget) (beginning kinds.now (scripts.trace true 0 script.now)) trace.now (verdict checked)) }
 {
-    let run = FreeRun::new(alloc, infs, kinds, budget)?;
     let mut reader = Reader::new(alloc);
     reader.feed(script)?;
     reader.finish();
+    let run = FreeRun::new(alloc, infs, kinds, budget)?;
     check_lines(alloc, run, reader, trace)
 }
 

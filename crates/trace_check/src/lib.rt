@@ -5,6 +5,8 @@ mod check;
 mod due;
 mod front;
 mod letters;
+mod lines;
+mod step;
 mod turn;
 
 pub use check::{Checked, check_trace};

@@ -1,16 +1,18 @@
 //! One turn of the check: the next line of the trace against what the run may do next.
 ghost use Rattle.std.specs.Prelude.{◌≡◌, ◌+◌, ◌<◌, ◌≤◌, ◌^◌, ℕ, Bool, true, false, IfOk, OnOk, length};
+ghost use Rattle.pnp_model.specs.Events.{happens};
 ghost use Rattle.pnp_model.specs.Machine.{IsQuiet};
 ghost use Rattle.script_reader.specs.Script.{Trace, gives, stops};
 ghost use Rattle.free_model.specs.Checks.{Runs};
 ghost use Rattle.free_run.specs.FreeRuns.{settings, HasFewIds};
-ghost use Rattle.trace_check.specs.Turns.{Finds, GoesOn, IsTurn, Tells, TellsEnd};
+ghost use Rattle.trace_check.specs.Turns.{Finds, GoesOn, HasPrinted, IsTurn, Tells, TellsEnd};
 ghost use Rattle.trace_check.specs.Clients.{IfOfMachine};
 
 use crate::check::Checked;
 use crate::due::{bad_line, held_against};
-use crate::front::{begins_with, standing};
-use crate::letters::answer_of;
+use crate::front::begins_with;
+use crate::lines::line_of;
+use crate::step::{Found, take_step};
 use device_ids::WantOfMemory;
 use free_run::FreeRun;
 use pnp_labels::Event;
@@ -33,6 +35,28 @@ fn is_of_machine(event: &Event) -> bool
     !matches!(event, Event::Watch { .. } | Event::Unwatch { .. })
 }
 
+/// An event happens, at a quiet state, and this is its line.
+fn event_line(
+    alloc: Global,
+    run: FreeRun,
+    event: Event,
+) -> Result<(FreeRun, Vec<u8>), WantOfMemory>
+    requires quiet { IsQuiet (settings run) run.state }
+    requires ids { HasFewIds event }
+    requires events { run.events < 2 ^ 24 }
+    ensures { IfOk result (λ r. HasPrinted (happens run.state event) run r.0 r.1.items) }
+{
+    let (run, label) = run.apply(event)?;
+    match line_of(alloc, label) {
+        Ok(line) => Ok((run, line)),
+        // by `?` the whole machine would be let go here, part by part, which makes a long proof
+        Err(refused) => {
+            drop(run);
+            Err(refused)
+        }
+    }
+}
+
 /// The line of an event, at a quiet state.
 fn take_event(
     alloc: Global,
@@ -49,14 +73,20 @@ fn take_event(
         → Finds turn (settings run) (Runs run.state (gives number event script)) rest.now lines (λ next. Runs next.state script)) }
     ensures on { IfOk result (λ turn. GoesOn turn run (run.events + 1)) }
 {
-    let not = Checked::No { line: lines + 1 };
     if !is_of_machine(&event) {
-        return Ok(Turn::Over(not));
+        drop(event);
+        drop(run);
+        return Ok(Turn::Over(Checked::No { line: lines + 1 }));
     }
-    let (run, label) = run.apply(event)?;
-    match standing(alloc, rest, &label)? {
-        Some(count) => Ok(Turn::Line { run, count }),
-        None => Ok(Turn::Over(not)),
+    let (run, line) = event_line(alloc, run, event)?;
+    if begins_with(rest, &line) {
+        Ok(Turn::Line {
+            run,
+            count: line.len(),
+        })
+    } else {
+        drop(run);
+        Ok(Turn::Over(Checked::No { line: lines + 1 }))
     }
 }
 
@@ -107,16 +137,31 @@ fn take_rest(
     requires room { lines + length rest.now < 2 ^ 63 }
     ensures { IfOk result (λ turn. IsTurn turn run reader.old rest.now lines reader.new) }
 {
-    match reader.next_event()? {
-        Next::Event(event) => take_event(alloc, run, event, rest, lines),
-        Next::Bad { line } => Ok(Turn::Over(take_bad(alloc, &run, line, rest, lines)?)),
-        Next::End => Ok(Turn::Over(take_end(alloc, &run, rest, lines)?)),
+    match reader.next_event() {
+        Ok(Next::Event(event)) => take_event(alloc, run, event, rest, lines),
+        Ok(Next::Bad { line }) => {
+            let checked = take_bad(alloc, &run, line, rest, lines);
+            drop(run);
+            Ok(Turn::Over(checked?))
+        }
+        Ok(Next::End) => {
+            let checked = take_end(alloc, &run, rest, lines);
+            drop(run);
+            Ok(Turn::Over(checked?))
+        }
         // a reader that was finished needs no more
-        Next::NeedMore => Ok(Turn::Over(Checked::No { line: lines + 1 })),
+        Ok(Next::NeedMore) => {
+            drop(run);
+            Ok(Turn::Over(Checked::No { line: lines + 1 }))
+        }
+        Err(refused) => {
+            drop(run);
+            Err(refused)
+        }
     }
 }
 
-/// The line of the step where the drivers answer as the next line tells; or, where no step is next, of what the script gives.
+/// The line of the step that is next; or, where none is, of what the script gives.
 pub(crate) fn take_line(
     alloc: Global,
     run: FreeRun,
@@ -130,15 +175,16 @@ pub(crate) fn take_line(
     ensures { IfOk result (λ turn. IsTurn turn run reader.old rest.now lines reader.new) }
 {
     let mut run = run;
-    let not = Checked::No { line: lines + 1 };
-    let Some(answer) = answer_of(rest) else {
-        return Ok(Turn::Over(not));
-    };
-    let Some(label) = run.step(answer)? else {
-        return take_rest(alloc, run, reader, rest, lines);
-    };
-    match standing(alloc, rest, &label)? {
-        Some(count) => Ok(Turn::Line { run, count }),
-        None => Ok(Turn::Over(not)),
+    match take_step(alloc, &mut run, rest, lines) {
+        Ok(Found::Line(count)) => Ok(Turn::Line { run, count }),
+        Ok(Found::Over(checked)) => {
+            drop(run);
+            Ok(Turn::Over(checked))
+        }
+        Ok(Found::Quiet) => take_rest(alloc, run, reader, rest, lines),
+        Err(refused) => {
+            drop(run);
+            Err(refused)
+        }
     }
 }

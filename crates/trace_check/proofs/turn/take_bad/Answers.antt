@@ -3,10 +3,11 @@ use Rattle.std.proofs.lemmas.List.{take_rest}
 use Rattle.std.proofs.lemmas.Result.{IfOk-weaker}
 use Rattle.pnp_labels.specs.Texts.{Text}
 use Rattle.script_reader.specs.Script.{stops}
-use Rattle.free_model.specs.Checks.{Runs}
+use Rattle.free_model.specs.Checks.{Runs, bad_line}
 use Rattle.free_run.specs.FreeRuns.{settings}
 use Rattle.trace_check.specs.Turns.{IfFront, Tells, TellsEnd}
-use Rattle.trace_check.proofs.Verdicts.{tells_other, tells_bad, bad_front}
+use Rattle.trace_check.proofs.Fronts.{behind}
+use Rattle.trace_check.proofs.Verdicts.{tells_other, tells_bad}
 use Rattle.trace_check.proofs.turn.take_bad.Goals as goal
 
 pub returns-then-not-begins_with : goal.returns-then-not-begins_with
@@ -23,6 +24,6 @@ returns c =
     (λ checked. TellsEnd checked c.args.run.now.state (take (length c.args.rest.now - c.len.result) (drop c.len.result c.args.rest.now)) (c.args.lines + 1))
     (λ checked. Tells checked (settings c.args.run.now) (Runs c.args.run.now.state (stops c.args.number)) c.args.rest.now c.args.lines)
     (λ checked h. subst (λ (t : Text). Tells checked (settings c.args.run.now) (Runs c.args.run.now.state (stops c.args.number)) t c.args.lines)
-    (bad_front c.args.rest.now c.deref.result.now c.args.number c.len.result front (c.deref.ensures.value ∙ c.in_ok-line.ensures) size)
+    (sym (behind c.args.rest.now c.deref.result.now (bad_line c.args.number) c.len.result front (c.deref.ensures.value ∙ c.in_ok-line.ensures) size))
     (tells_bad (settings c.args.run.now) checked c.args.run.now.state c.args.number (drop c.len.result c.args.rest.now) c.args.lines c.requires.quiet ((subst (λ (t : Text). TellsEnd checked c.args.run.now.state t (c.args.lines + 1)) (take_rest c.args.rest.now c.len.result) h).tells (settings c.args.run.now))))
     c.take_end.ensures
