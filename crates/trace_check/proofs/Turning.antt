@@ -4,6 +4,8 @@ use Rattle.pnp_labels.specs.Texts.{Text, label_line}
 use Rattle.pnp_labels.specs.declared.event.Event.{Event}
 use Rattle.pnp_labels.specs.declared.label.Label.{Label}
 use Rattle.pnp_labels.specs.declared.words.Answer.{Answer}
+use Rattle.pnp_labels.specs.declared.words.DriverKind.{DriverKind}
+use Rattle.inf_reader.specs.declared.parts.Inf.{Inf}
 use Rattle.pnp_model.specs.Events.{happens}
 use Rattle.pnp_model.specs.Machine.{IsQuiet}
 use Rattle.pnp_model.specs.Records.{State, Settings}
@@ -13,18 +15,19 @@ use Rattle.script_reader.specs.Reading.{Reading, Moves}
 use Rattle.script_reader.specs.Script as scripts
 use Rattle.script_reader.specs.Script.{Trace, gives, ends, stops, trace}
 use Rattle.script_reader.specs.declared.next.Next.{Next}
-use Rattle.free_model.specs.Frees.{StepsBy}
-use Rattle.free_model.specs.Checks.{Place, Runs, Allows, IsOfMachine, has_feed}
+use Rattle.free_model.specs.Frees.{free_opening}
+use Rattle.free_model.specs.Checks.{Place, Runs, Allows, IsOfMachine, IsChecked, beginning}
 use Rattle.free_model.proofs.OneVerdict.{no_step}
 use Rattle.free_run.specs.FreeRuns.{Free, settings}
 use Rattle.trace_check.specs.declared.check.Checked.{Checked}
 use Rattle.trace_check.specs.declared.step.Found.{Found}
 use Rattle.trace_check.specs.declared.turn.Turn.{Turn}
 use Rattle.trace_check.specs.Letters.{answer_of}
+use Rattle.trace_check.specs.Verdicts.{verdict}
 use Rattle.trace_check.specs.Turns.{IfFront, IfStands, HasStepped, HasPrinted, IsTaken, Tells, FindsStep, Finds, GoesOn, HasRoom, IsTurn, place}
 use Rattle.trace_check.proofs.Fronts.{is_standing, not_in_front}
 use Rattle.trace_check.proofs.Telling.{none_left, no_other}
-use Rattle.trace_check.proofs.Verdicts.{tells_on, tells_none, none_at_rest, tells_end}
+use Rattle.trace_check.proofs.Verdicts.{tells_all, tells_on, tells_none, none_at_rest}
 
 -- An event --------------------------------------------------------------------------------
 
@@ -160,3 +163,15 @@ line_within run next old new rest lines count turn =
     let whole : length rest ≡ length turn.finds.line + 1 + length (drop count rest) = ap length turn.finds.front ∙ length_line turn.finds.line (drop count rest) in
     let size : count ≡ length turn.finds.line + 1 = turn.finds.size in
     (omega arith, omega arith)
+
+-- where the run and the reader begin
+pub whole : {E : Type 0} (r : Result Checked E) (run : Free) (reader : Reading) (infs : List Inf) (budget : ℕ) (kinds : List DriverKind) (script text : Text)
+    → run ≡ record { infs = infs; budget = budget; events = 0; state = free_opening kinds } → reader.passed ≡ 0 → reader.rest ≡ script
+    → IfOk r (λ checked. Tells checked (settings run) (place run reader) text 0)
+    → IfOk r (λ checked. IsChecked (settings_of infs budget) (beginning kinds (trace true 0 script)) text (verdict checked))
+whole (Err e) run reader infs budget kinds script text is none all tells = tt
+whole (Ok checked) run reader infs budget kinds script text is none all tells =
+    tells_all (settings_of infs budget) checked (beginning kinds (trace true 0 script)) text
+    (subst (λ (r : List ℕ). Tells checked (settings_of infs budget) (beginning kinds (trace true 0 r)) text 0) all
+    (subst (λ (n : ℕ). Tells checked (settings_of infs budget) (beginning kinds (trace true n reader.rest)) text 0) none
+    (subst (λ (f : Free). Tells checked (settings f) (place f reader) text 0) is tells)))
