@@ -1,0 +1,6 @@
+mod Telling
+mod Fronts
+mod Verdicts
+mod Dues
+mod FewIds
+mod Turning

@@ -1,1 +1,4 @@
+pub mod Letters
+pub mod Clients
 pub mod Verdicts
+pub mod Turns

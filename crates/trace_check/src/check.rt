@@ -1,13 +1,18 @@
-ghost use Rattle.std.specs.Prelude.{◌<◌, ◌≤◌, ◌^◌, true, IfOk, length};
+ghost use Rattle.std.specs.Prelude.{◌≡◌, ◌+◌, ◌<◌, ◌≤◌, ◌^◌, true, IfOk, length};
 ghost use Rattle.free_model.specs.Checks.{IsChecked, beginning};
 ghost use Rattle.script_reader.specs.Script as scripts;
 ghost use Rattle.start_sequence.specs.Begins.{settings_of};
+ghost use Rattle.free_run.specs.FreeRuns.{settings};
+ghost use Rattle.trace_check.specs.Turns.{Tells, place};
 ghost use Rattle.trace_check.specs.Verdicts.{verdict};
 
+use crate::turn::{Turn, take_line};
 use device_ids::WantOfMemory;
+use free_run::FreeRun;
 use inf_reader::Inf;
 use pnp_labels::DriverKind;
-use std::alloc::{AllocError, Global};
+use script_reader::Reader;
+use std::alloc::Global;
 
 /// What a check of a trace answers. This project's own.
 #[derive(Clone, Copy, Debug, PartialEq, Eq)]
@@ -40,5 +45,36 @@ pub fn check_trace(
     requires budget { budget ≤ 1000000 }
     ensures { IfOk result (λ checked. IsChecked (settings_of infs.items budget) (beginning kinds.now (scripts.trace true 0 script.now)) trace.now (verdict checked)) }
 {
-    Err(AllocError)
+    let mut reader = Reader::new(alloc);
+    reader.feed(script)?;
+    reader.finish();
+    let run = FreeRun::new(alloc, infs, kinds, budget)?;
+    check_lines(alloc, run, reader, trace)
+}
+
+/// The verdict of a trace from where a run stands. Cost: that of the run, and the bytes of the trace and of the script.
+fn check_lines(
+    alloc: Global,
+    run: FreeRun,
+    reader: Reader,
+    trace: &[u8],
+) -> Result<Checked, WantOfMemory>
+    requires finished { reader.finished ≡ true }
+    requires events { run.events + length reader.rest ≤ 2 ^ 24 }
+    ensures { IfOk result (λ checked. Tells checked (settings run) (place run reader) trace.now 0) }
+{
+    let mut run = run;
+    let mut reader = reader;
+    let mut rest = trace;
+    let mut lines = 0;
+    'lines: loop {
+        match take_line(alloc, run, &mut reader, rest, lines)? {
+            Turn::Line { run: next, count } => {
+                run = next;
+                rest = &rest[count..];
+                lines += 1;
+            }
+            Turn::Over(checked) => return Ok(checked),
+        }
+    }
 }

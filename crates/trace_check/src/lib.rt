@@ -2,5 +2,11 @@
 #![tactic(auto)]
 
 mod check;
+mod due;
+mod front;
+mod letters;
+mod lines;
+mod step;
+mod turn;
 
 pub use check::{Checked, check_trace};
