@@ -36,11 +36,7 @@ fn is_of_machine(event: &Event) -> bool
 }
 
 /// An event happens, at a quiet state, and this is its line.
-fn event_line(
-    alloc: Global,
-    run: FreeRun,
-    event: Event,
-) -> Result<(FreeRun, Vec<u8>), WantOfMemory>
+fn event_line(alloc: Global, run: FreeRun, event: Event) -> Result<(FreeRun, Vec<u8>), WantOfMemory>
     requires quiet { IsQuiet (settings run) run.state }
     requires ids { HasFewIds event }
     requires events { run.events < 2 ^ 24 }
@@ -91,12 +87,7 @@ fn take_event(
 }
 
 /// The end of the output is due.
-fn take_end(
-    alloc: Global,
-    run: &FreeRun,
-    rest: &[u8],
-    lines: u64,
-) -> Result<Checked, WantOfMemory>
+fn take_end(alloc: Global, run: &FreeRun, rest: &[u8], lines: u64) -> Result<Checked, WantOfMemory>
     requires room { lines + length rest.now < 2 ^ 63 }
     ensures { IfOk result (λ checked. TellsEnd checked run.now.state rest.now lines) }
 {
