@@ -1,5 +1,5 @@
 //! One turn of the check: the next line of the trace against what the run may do next.
-ghost use Rattle.std.specs.Prelude.{◌≡◌, ◌+◌, ◌<◌, ◌≤◌, ◌^◌, ℕ, Bool, true, false, IfOk, OnOk, length};
+ghost use Rattle.std.specs.Prelude.{◌≡◌, ◌+◌, ◌<◌, ◌≤◌, ◌^◌, ℕ, true, IfOk, length};
 ghost use Rattle.pnp_model.specs.Events.{happens};
 ghost use Rattle.pnp_model.specs.Machine.{IsQuiet};
 ghost use Rattle.script_reader.specs.Script.{Trace, gives, stops};
