@@ -1,4 +1,5 @@
-//! One turn of the check: the next line of the trace against what the run may do next.
+//! One turn of the check: the next line of the trace against what the run may do next. A run is let go by a call: where a `?` lets it
+//! go, that is done part by part, which makes a long proof.
 ghost use Rattle.std.specs.Prelude.{◌≡◌, ◌+◌, ◌<◌, ◌≤◌, ◌^◌, ℕ, true, IfOk, length};
 ghost use Rattle.pnp_model.specs.Events.{happens};
 ghost use Rattle.pnp_model.specs.Machine.{IsQuiet};
@@ -35,7 +36,7 @@ fn is_of_machine(event: &Event) -> bool
     !matches!(event, Event::Watch { .. } | Event::Unwatch { .. })
 }
 
-/// An event happens, at a quiet state, and this is its line.
+/// An event happens, at a quiet state, and this is its line. After want of memory the run is gone, as after each function here.
 fn event_line(alloc: Global, run: FreeRun, event: Event) -> Result<(FreeRun, Vec<u8>), WantOfMemory>
     requires quiet { IsQuiet (settings run) run.state }
     requires ids { HasFewIds event }
@@ -45,7 +46,6 @@ fn event_line(alloc: Global, run: FreeRun, event: Event) -> Result<(FreeRun, Vec
     let (run, label) = run.apply(event)?;
     match line_of(alloc, label) {
         Ok(line) => Ok((run, line)),
-        // by `?` the whole machine would be let go here, part by part, which makes a long proof
         Err(refused) => {
             drop(run);
             Err(refused)
