@@ -1,16 +1,18 @@
 -- What is told of files, step by step.
-use Rattle.std.proofs.Common.{◌≡◌, ℕ, List, [], ◌∷◌, ◌++◌, Option, Some, None, Bool, true, false, refl, sym, ◌∙◌, ap, ◌||◌, append_assoc, append-nil, IfSome, Result, Ok, Err, option_map, subst, drop, String, Global, ◌<◌, ◌+◌, length, get_or, map, add-one}
+use Rattle.std.proofs.Common.{◌≡◌, ℕ, List, [], ◌∷◌, ◌++◌, Option, Some, None, Bool, true, false, refl, sym, ◌∙◌, ap, ◌||◌, append_assoc, append-nil, IfSome, Result, Ok, Err, subst, drop, String, Global, ◌<◌, ◌≤◌, ◌+◌, ◌⊎◌, inl, inr, suc, length, get_or, map, add-one, arith}
 use Rattle.std.proofs.Math.Seq.{drop-cons}
 use Rattle.std.specs.List.{flat_map}
 use Rattle.script_lint.specs.declared.script.BadLine.{BadLine}
 use Rattle.script_lint.specs.Script.{told}
 use Rattle.lint_cli.specs.Words.{texts}
-use Rattle.pnp_io.specs.Outside.{Holds, Appends}
+use Rattle.pnp_io.specs.Outside.{Holds, HoldsMore, Rose}
 use Rattle.pnp_labels.specs.Texts.{Text}
 use Rattle.inf_reader.specs.declared.parts.Inf.{Inf}
 use Rattle.inf_reader.specs.declared.parts.InfError.{InfError}
 use Rattle.lint_cli.specs.Reports.{bad_text, script_text, inf_text, IsFront, AddsInf}
-use Rattle.lint_cli.specs.Lints.{is_bad_file, is_bad_set, bad_infs, is_bad_script, is_bad_inf, AddsScript, WroteScript}
+use Rattle.lint_cli.specs.Lints.{is_bad_file, is_bad_set, bad_infs, is_bad_script, is_bad_inf, is_large, some_large, is_decided, decided, Answers, AddsScript, BeginsSet, SomeRose}
+use Rattle.lint_cli.specs.declared.status.Status.{Status}
+use Rattle.std.proofs.lemmas.Bool.Decides.{nat_tests}
 
 pub told_bad : (is_bad : List ℕ → Bool) (contents : Option (List ℕ → Option (List ℕ))) (name bytes : List ℕ) (b : Bool) → Holds contents name bytes → b ≡ is_bad bytes
     → IfSome contents (λ told. b ≡ is_bad_file is_bad (told name))
@@ -63,16 +65,14 @@ pub told_both : (contents : Option (List ℕ → Option (List ℕ))) (script : L
 told_both None script infs a b is then_ = tt
 told_both (Some told) script infs a b is then_ = both told script infs a b is then_
 
-wrote_by : (o : Option (List ℕ)) (middle out : List ℕ) (old new : Option Text) → AddsScript o [] middle → IsFront middle out → Appends old new out → WroteScript o old new
-wrote_by None middle out old new adds front took = tt
-wrote_by (Some script) middle out old new adds front took =
-    (front.0, took ∙ ap (λ t. option_map (λ taken. taken ++ t) old) (front.1 ∙ ap (λ m. m ++ front.0) adds))
+begins_by : (o : Option (List ℕ)) (middle out : List ℕ) → AddsScript o [] middle → IsFront middle out → BeginsSet o out
+begins_by None middle out adds front = tt
+begins_by (Some script) middle out adds front = (front.0, front.1 ∙ ap (λ m. m ++ front.0) adds)
 
-pub told_wrote : (contents : Option (List ℕ → Option (List ℕ))) (name middle out : List ℕ) (old new : Option Text)
-    → IfSome contents (λ told. AddsScript (told name) [] middle) → IsFront middle out → Appends old new out
-    → IfSome contents (λ told. WroteScript (told name) old new)
-told_wrote None name middle out old new adds front took = tt
-told_wrote (Some told) name middle out old new adds front took = wrote_by (told name) middle out old new adds front took
+pub told_set : (contents : Option (List ℕ → Option (List ℕ))) (name middle out : List ℕ) → IfSome contents (λ told. AddsScript (told name) [] middle) → IsFront middle out
+    → IfSome contents (λ told. BeginsSet (told name) out)
+told_set None name middle out adds front = tt
+told_set (Some told) name middle out adds front = begins_by (told name) middle out adds front
 
 regroup : (a b c : Bool) → ((a || b) || c) ≡ (a || (b || c))
 regroup true b c = refl
@@ -95,3 +95,76 @@ one_bad items i d all old new less more so =
     ∙ append_assoc old (bad_text (told (get_or items i d))) (flat_map bad_text (map told (drop (i + 1) items)))
     ∙ ap (λ n. old ++ (bad_text (told (get_or items i d)) ++ flat_map bad_text (map told (drop n items)))) (add-one i)
     ∙ ap (λ l. old ++ flat_map bad_text (map told l)) (sym (drop-cons items i d less)) ∙ so
+
+-- a file that was read is not too large, and one of which more bytes came is
+fits_by : (o : Option (List ℕ)) (bytes : List ℕ) → o ≡ Some bytes → length bytes ≤ 16777216 → is_large o ≡ false
+fits_by o bytes e few = ap is_large e ∙ grind (arith, nat_tests, few)
+
+pub fits : (contents : Option (List ℕ → Option (List ℕ))) (name bytes : List ℕ) → Holds contents name bytes → length bytes ≤ 16777216
+    → IfSome contents (λ told. is_large (told name) ≡ false)
+fits None name bytes holds few = tt
+fits (Some told) name bytes holds few = fits_by (told name) bytes holds few
+
+pub exceeds : (contents : Option (List ℕ → Option (List ℕ))) (name : List ℕ) → HoldsMore contents name 16777216 → IfSome contents (λ told. is_large (told name) ≡ true)
+exceeds None name holds = tt
+exceeds (Some told) name (bytes, is, more) = ap is_large is ∙ grind (arith, nat_tests, more)
+
+-- of a script and its INFs
+pub both_fit : (contents : Option (List ℕ → Option (List ℕ))) (script : List ℕ) (infs : List (List ℕ)) → IfSome contents (λ told. is_large (told script) ≡ false)
+    → IfSome contents (λ told. some_large told infs ≡ false) → IfSome contents (λ told. some_large told (script ∷ infs) ≡ false)
+both_fit None script infs one all = tt
+both_fit (Some told) script infs one all = ap (λ b. b || some_large told infs) one ∙ all
+
+pub script_large : (contents : Option (List ℕ → Option (List ℕ))) (script : List ℕ) (infs : List (List ℕ)) → IfSome contents (λ told. is_large (told script) ≡ true)
+    → IfSome contents (λ told. some_large told (script ∷ infs) ≡ true)
+script_large None script infs one = tt
+script_large (Some told) script infs one = ap (λ b. b || some_large told infs) one
+
+or_true : (b : Bool) → (b || true) ≡ true
+or_true true = refl
+or_true false = refl
+
+pub inf_large : (contents : Option (List ℕ → Option (List ℕ))) (script : List ℕ) (infs : List (List ℕ)) → IfSome contents (λ told. some_large told infs ≡ true)
+    → IfSome contents (λ told. some_large told (script ∷ infs) ≡ true)
+inf_large None script infs some = tt
+inf_large (Some told) script infs some = ap (λ b. is_large (told script) || b) some ∙ or_true (is_large (told script))
+
+-- a name more that fits, or one that does not
+pub fits_next : (contents : Option (List ℕ → Option (List ℕ))) (all rest : List (List ℕ)) (name : List ℕ) → IfSome contents (λ told. is_large (told name) ≡ false)
+    → IfSome contents (λ told. some_large told (name ∷ rest) ≡ some_large told all) → IfSome contents (λ told. some_large told rest ≡ some_large told all)
+fits_next None all rest name one so = tt
+fits_next (Some told) all rest name one so = sym (ap (λ b. b || some_large told rest) one) ∙ so
+
+pub large_next : (contents : Option (List ℕ → Option (List ℕ))) (all rest : List (List ℕ)) (name : List ℕ) → IfSome contents (λ told. is_large (told name) ≡ true)
+    → IfSome contents (λ told. some_large told (name ∷ rest) ≡ some_large told all) → IfSome contents (λ told. some_large told all ≡ true)
+large_next None all rest name one so = tt
+large_next (Some told) all rest name one so = sym so ∙ ap (λ b. b || some_large told rest) one
+
+-- the answer where no count rose
+pub answers : (contents : Option (List ℕ → Option (List ℕ))) (words : List (List ℕ)) (status : Status) (read write : Type 0)
+    → (is_decided status ≡ true → IfSome contents (λ told. decided told words ≡ status)) → (status ≡ Status.ReadFault → read) → (status ≡ Status.WriteFault → write)
+    → (status ≡ Status.BadWords → ⊥) → IfSome contents (λ told. Answers (decided told words) read write status)
+answers None words status read write decides on_read on_write no_words = tt
+answers (Some told) words Status.Clean read write decides on_read on_write no_words = λ a b. inl (decides refl)
+answers (Some told) words Status.Found read write decides on_read on_write no_words = λ a b. inl (decides refl)
+answers (Some told) words Status.TooLarge read write decides on_read on_write no_words = λ a b. inl (decides refl)
+answers (Some told) words Status.WantOfMemory read write decides on_read on_write no_words = λ a b. inr refl
+answers (Some told) words Status.ReadFault read write decides on_read on_write no_words = λ a b. absurd (a (on_read refl))
+answers (Some told) words Status.WriteFault read write decides on_read on_write no_words = λ a b. absurd (b (on_write refl))
+answers (Some told) words Status.BadWords read write decides on_read on_write no_words = λ a b. absurd (no_words refl)
+
+-- the count of a name rose, also from before
+rose_before : (old middle new : ℕ) → old ≤ middle → Rose middle new → Rose old new
+rose_before old middle new le (inl less) = inl (omega (arith, le, less))
+rose_before old middle new le (inr top) = inr top
+
+pub rose_first : (script : List ℕ) (infs : List (List ℕ)) (old new : List ℕ → ℕ) → Rose (old script) (new script) → SomeRose old new (script ∷ infs)
+rose_first script infs old new rose = record { name = script; named = (0, omega arith, refl); rose = rose }
+
+pub rose_behind : (script : List ℕ) (infs : List (List ℕ)) (old middle new : List ℕ → ℕ) → ((other : List ℕ) → old other ≤ middle other) → SomeRose middle new infs
+    → SomeRose old new (script ∷ infs)
+rose_behind script infs old middle new counts some = record {
+  name = some.name;
+  named = (suc some.named.0, omega (arith, some.named.1), some.named.2);
+  rose = rose_before (old some.name) (middle some.name) (new some.name) (counts some.name) some.rose;
+}
