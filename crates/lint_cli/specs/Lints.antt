@@ -1,5 +1,5 @@
 -- What a lint answers, by what the files hold.
-use Rattle.std.specs.Prelude.{◌≡◌, ◌⊎◌, ℕ, Bool, true, false, ◌||◌, nat_lt, List, ◌∷◌, ◌++◌, length, Option, Some, None, Result, Ok, Err, Contains}
+use Rattle.std.specs.Prelude.{◌≡◌, ◌⊎◌, ℕ, Bool, true, false, ◌||◌, nat_lt, List, [], ◌∷◌, ◌++◌, length, Option, Some, None, Result, Ok, Err, Contains}
 use Rattle.std.specs.Option.{is_some}
 use Rattle.std.specs.List.{list_any}
 use Rattle.pnp_io.specs.Outside.{Appends, Rose}
@@ -9,7 +9,8 @@ use Rattle.inf_reader.specs.declared.parts.InfError.{InfError}
 use Rattle.inf_reader.specs.Meaning.{inf}
 use Rattle.script_reader.specs.Script.{trace}
 use Rattle.script_lint.specs.Script.{stop_of}
-use Rattle.lint_cli.specs.Reports.{script_text, IsFront}
+use Rattle.lint_cli.specs.Reports.{script_text, inf_text}
+use Rattle.lint_cli.specs.Warnings.{driver_names, warnings_text}
 use Rattle.lint_cli.specs.declared.status.Status.{Status}
 
 -- a run of the script ends at a bad line
@@ -95,20 +96,30 @@ pub record SomeRose (old new : Text → ℕ) (names : List Text) : Type 0 where
   pub named : Contains names name
   pub rose : Rose (old name) (new name)
 
-abbrev pub AddsScript : Option (List ℕ) → Text → Text → Type 0
-AddsScript None old new = Unit {0}
-AddsScript (Some script) old new = new ≡ old ++ script_text script
+-- of an INF that is read its warnings are added, and then more; of another first that for which `read` refuses it
+abbrev pub AddsInf : Text → List Text → Result Inf InfError → Text → Text → Type 0
+AddsInf name drivers (Ok read) old new = (more : Text) × (new ≡ old ++ (warnings_text name drivers read ++ more))
+AddsInf name drivers (Err error) old new = (more : Text) × (new ≡ old ++ (inf_text name error ++ more))
 
--- a text begins with the bad lines of the script
-abbrev pub BeginsSet : Option (List ℕ) → Text → Type 0
-BeginsSet None text = Unit {0}
-BeginsSet (Some script) text = IsFront (script_text script) text
+abbrev pub AddsFile : Text → List Text → Option (List ℕ) → Text → Text → Type 0
+AddsFile name drivers None old new = Unit {0}
+AddsFile name drivers (Some bytes) old new = AddsInf name drivers (inf bytes) old new
+
+-- the same of the INFs of these names, one after another
+abbrev pub AddsInfs : (Text → Option (List ℕ)) → List Text → List Text → Text → Text → Type 0
+AddsInfs told drivers [] old new = new ≡ old
+AddsInfs told drivers (name ∷ names) old new = (middle : Text) × AddsFile name drivers (told name) old middle × AddsInfs told drivers names middle new
+
+-- a text has the bad lines of the script, and behind them what is added of the INFs, by the drivers that the script names
+abbrev pub IsText : (Text → Option (List ℕ)) → Option (List ℕ) → List Text → Text → Type 0
+IsText told None infs text = Unit {0}
+IsText told (Some script) infs text = AddsInfs told (driver_names script) infs (script_text script) text
 
 -- such a text was written
-abbrev pub WroteSet : Option (List ℕ) → Option Text → Option Text → Type 0
-WroteSet script old new = (text : Text) × BeginsSet script text × Appends old new text
+abbrev pub WroteSet : (Text → Option (List ℕ)) → Text → List Text → Option Text → Option Text → Type 0
+WroteSet told script infs old new = (text : Text) × IsText told (told script) infs text × Appends old new text
 
 -- the same by words
 abbrev pub WroteBy : (Text → Option (List ℕ)) → List Text → Option Text → Option Text → Type 0
-WroteBy told (program ∷ script ∷ infs) old new = WroteSet (told script) old new
+WroteBy told (program ∷ script ∷ infs) old new = WroteSet told script infs old new
 WroteBy told _ old new = Unit {0}

@@ -1,11 +1,13 @@
 //! The lint of the files that the words name.
-ghost use Rattle.std.specs.Prelude.{◌≡◌, ◌≤◌, ◌⊎◌, ◌||◌, ◌↔◌, ◌∷◌, ℕ, List, IfOk, IfSome, OnOk, IsErrOf, true, false};
+ghost use Rattle.std.specs.Prelude.{◌≡◌, ◌≤◌, ◌⊎◌, ◌||◌, ◌↔◌, ◌∷◌, ℕ, List, IfOk, IfSome, OnOk, IsErrOf, map, true, false};
 ghost use Rattle.pnp_io.specs.Outside.{Rose, Appends};
 ghost use Rattle.pnp_io.specs.declared.whole.ReadError.TheVariants.{ReadFault, TooLarge};
 ghost use Rattle.lint_cli.specs.Words.{texts, are_words, named};
-ghost use Rattle.lint_cli.specs.Reports.{IsFront};
-ghost use Rattle.lint_cli.specs.Lints.{is_bad_script, is_bad_inf, is_bad_file, is_large, some_large, bad_infs, is_bad_set, is_decided, is_reported, is_unwritten, found_by, decided, decided_for, Answers, AddsScript, BeginsSet, WroteSet, WroteBy, SomeRose};
+ghost use Rattle.lint_cli.specs.Reports.{script_text};
+ghost use Rattle.lint_cli.specs.Warnings.{driver_names};
+ghost use Rattle.lint_cli.specs.Lints.{is_bad_script, is_bad_inf, is_bad_file, is_large, some_large, bad_infs, is_bad_set, is_decided, is_reported, is_unwritten, found_by, decided, decided_for, Answers, AddsFile, AddsInfs, IsText, WroteSet, WroteBy, SomeRose};
 
+use crate::drivers::driver_names;
 use crate::infs::report_inf;
 use crate::report::report_script;
 use crate::status::Status;
@@ -16,45 +18,25 @@ use std::alloc::Global;
 /// The most bytes that a file may have: this project's own.
 const LIMIT: u64 = 16_777_216;
 
-/// Reads the script of a name, and appends its bad lines; whether there is one.
-#[tactic(auto, using(crate::proofs::Steps::told_bad, crate::proofs::Steps::told_adds, crate::proofs::Steps::fits, crate::proofs::Steps::exceeds))]
-fn lint_script<F: Files>(
-    alloc: Global,
-    files: &mut F,
-    name: &[u8],
-    out: &mut Vec<u8>,
-) -> Result<bool, ReadError>
-    ensures bad { IfOk result (λ bad. IfSome (F.contents files.old) (λ told. bad ≡ is_bad_file is_bad_script (told name.now))) }
-    ensures fits { IfOk result (λ _. IfSome (F.contents files.old) (λ told. is_large (told name.now) ≡ false)) }
-    ensures text { OnOk result (IfSome (F.contents files.old) (λ told. AddsScript (told name.now) out.old.items out.new.items)) }
-    ensures too_large { IsErrOf result TooLarge → IfSome (F.contents files.old) (λ told. is_large (told name.now) ≡ true) }
-    ensures failed { IsErrOf result ReadFault → Rose (F.faults files.old name.now) (F.faults files.new name.now) }
-    ensures counts { (other : List ℕ) → F.faults files.old other ≤ F.faults files.new other }
-    ensures same { F.contents files.new ≡ F.contents files.old }
-{
-    let bytes = read_all(alloc, files, name, LIMIT)?;
-    Ok(report_script(alloc, &bytes, out)?)
-}
-
-/// Reads the INF of a name, and appends its faults; whether there is one.
-#[tactic(auto, using(crate::proofs::Steps::told_bad, crate::proofs::Steps::adds_front, crate::proofs::Steps::fits, crate::proofs::Steps::exceeds))]
+/// Reads the INF of a name, and appends its faults or its warnings, by the names of the script's drivers; whether it is refused.
+#[tactic(auto, using(crate::proofs::Steps::told_bad, crate::proofs::Steps::told_file, crate::proofs::Steps::fits, crate::proofs::Steps::exceeds))]
 fn lint_inf<F: Files>(
     alloc: Global,
     files: &mut F,
     name: &[u8],
+    drivers: &[&[u8]],
     out: &mut Vec<u8>,
 ) -> Result<bool, ReadError>
     ensures bad { IfOk result (λ bad. IfSome (F.contents files.old) (λ told. bad ≡ is_bad_file is_bad_inf (told name.now))) }
     ensures fits { IfOk result (λ _. IfSome (F.contents files.old) (λ told. is_large (told name.now) ≡ false)) }
-    ensures text { OnOk result (IsFront out.old.items out.new.items) }
+    ensures text { OnOk result (IfSome (F.contents files.old) (λ told. AddsFile name.now (map (λ d. d.now) drivers.now) (told name.now) out.old.items out.new.items)) }
     ensures too_large { IsErrOf result TooLarge → IfSome (F.contents files.old) (λ told. is_large (told name.now) ≡ true) }
     ensures failed { IsErrOf result ReadFault → Rose (F.faults files.old name.now) (F.faults files.new name.now) }
     ensures counts { (other : List ℕ) → F.faults files.old other ≤ F.faults files.new other }
     ensures same { F.contents files.new ≡ F.contents files.old }
 {
     let bytes = read_all(alloc, files, name, LIMIT)?;
-    let read = report_inf(alloc, name, &bytes, out)?;
-    Ok(read.is_none())
+    Ok(report_inf(alloc, name, &bytes, drivers, out)?)
 }
 
 /// Whether one of both is so.
@@ -64,16 +46,17 @@ fn either(first: bool, second: bool) -> bool
     first || second
 }
 
-/// Reads the INFs of the names, and appends their faults; whether there is one.
+/// Reads the INFs of the names, and appends their faults and warnings; whether one is refused.
 fn lint_infs<F: Files>(
     alloc: Global,
     files: &mut F,
     names: &[String],
+    drivers: &[&[u8]],
     out: &mut Vec<u8>,
 ) -> Result<bool, ReadError>
     ensures bad { IfOk result (λ bad. IfSome (F.contents files.old) (λ told. bad ≡ bad_infs told (texts names.now))) }
     ensures fits { IfOk result (λ _. IfSome (F.contents files.old) (λ told. some_large told (texts names.now) ≡ false)) }
-    ensures text { OnOk result (IsFront out.old.items out.new.items) }
+    ensures text { OnOk result (IfSome (F.contents files.old) (λ told. AddsInfs told (map (λ d. d.now) drivers.now) (texts names.now) out.old.items out.new.items)) }
     ensures too_large { IsErrOf result TooLarge → IfSome (F.contents files.old) (λ told. some_large told (texts names.now) ≡ true) }
     ensures failed { IsErrOf result ReadFault → SomeRose (F.faults files.old) (F.faults files.new) (texts names.now) }
     ensures counts { (other : List ℕ) → F.faults files.old other ≤ F.faults files.new other }
@@ -81,7 +64,7 @@ fn lint_infs<F: Files>(
 {
     let mut found = false;
     for name in names {
-        let bad = lint_inf(alloc, files, name.as_bytes(), out)?;
+        let bad = lint_inf(alloc, files, name.as_bytes(), drivers, out)?;
         found = either(found, bad);
     }
     Ok(found)
@@ -94,8 +77,29 @@ struct Found {
     text: Vec<u8>,
 }
 
+/// Lints a script, and the INFs of the names.
+fn lint_script<F: Files>(
+    alloc: Global,
+    script: &[u8],
+    infs: &[String],
+    files: &mut F,
+) -> Result<Found, ReadError>
+    ensures bad { IfOk result (λ found. IfSome (F.contents files.old) (λ told. found.bad ≡ (is_bad_script script.now || bad_infs told (texts infs.now)))) }
+    ensures fits { IfOk result (λ _. IfSome (F.contents files.old) (λ told. some_large told (texts infs.now) ≡ false)) }
+    ensures text { IfOk result (λ found. IfSome (F.contents files.old) (λ told. AddsInfs told (driver_names script.now) (texts infs.now) (script_text script.now) found.text.items)) }
+    ensures too_large { IsErrOf result TooLarge → IfSome (F.contents files.old) (λ told. some_large told (texts infs.now) ≡ true) }
+    ensures failed { IsErrOf result ReadFault → SomeRose (F.faults files.old) (F.faults files.new) (texts infs.now) }
+{
+    let mut text = Vec::new(alloc);
+    let bad_script = report_script(alloc, script, &mut text)?;
+    let drivers = driver_names(alloc, script)?;
+    let bad_infs = lint_infs(alloc, files, infs, &drivers, &mut text)?;
+    let bad = either(bad_script, bad_infs);
+    Ok(Found { bad, text })
+}
+
 /// Lints the script and the INFs of the names.
-#[tactic(auto, using(crate::proofs::Steps::told_both, crate::proofs::Steps::both_fit, crate::proofs::Steps::script_large, crate::proofs::Steps::inf_large, crate::proofs::Steps::rose_first, crate::proofs::Steps::rose_behind, crate::proofs::Steps::told_set))]
+#[tactic(auto, using(crate::proofs::Steps::told_set_bad, crate::proofs::Steps::told_text, crate::proofs::Steps::set_fits, crate::proofs::Steps::script_exceeds, crate::proofs::Steps::inf_large, crate::proofs::Steps::rose_first, crate::proofs::Steps::rose_behind))]
 fn lint_files<F: Files>(
     alloc: Global,
     script: &[u8],
@@ -104,15 +108,12 @@ fn lint_files<F: Files>(
 ) -> Result<Found, ReadError>
     ensures bad { IfOk result (λ found. IfSome (F.contents files.old) (λ told. found.bad ≡ is_bad_set told script.now (texts infs.now))) }
     ensures fits { IfOk result (λ _. IfSome (F.contents files.old) (λ told. some_large told (script.now ∷ texts infs.now) ≡ false)) }
-    ensures text { IfOk result (λ found. IfSome (F.contents files.old) (λ told. BeginsSet (told script.now) found.text.items)) }
+    ensures text { IfOk result (λ found. IfSome (F.contents files.old) (λ told. IsText told (told script.now) (texts infs.now) found.text.items)) }
     ensures too_large { IsErrOf result TooLarge → IfSome (F.contents files.old) (λ told. some_large told (script.now ∷ texts infs.now) ≡ true) }
     ensures failed { IsErrOf result ReadFault → SomeRose (F.faults files.old) (F.faults files.new) (script.now ∷ texts infs.now) }
 {
-    let mut text = Vec::new(alloc);
-    let bad_script = lint_script(alloc, files, script, &mut text)?;
-    let bad_infs = lint_infs(alloc, files, infs, &mut text)?;
-    let bad = either(bad_script, bad_infs);
-    Ok(Found { bad, text })
+    let bytes = read_all(alloc, files, script, LIMIT)?;
+    lint_script(alloc, &bytes, infs, files)
 }
 
 /// Writes what was found.
@@ -141,7 +142,7 @@ fn lint_named<F: Files, K: Sink>(
 ) -> Status
     ensures words { result ≡ Status.BadWords → ⊥ }
     ensures decided { is_decided result ≡ true → IfSome (F.contents files.old) (λ told. decided_for told script.now (texts infs.now) ≡ result) }
-    ensures text { is_reported result ≡ true → IfSome (F.contents files.old) (λ told. WroteSet (told script.now) (K.taken sink.old) (K.taken sink.new)) }
+    ensures text { is_reported result ≡ true → IfSome (F.contents files.old) (λ told. WroteSet told script.now (texts infs.now) (K.taken sink.old) (K.taken sink.new)) }
     ensures read_fault { result ≡ Status.ReadFault → SomeRose (F.faults files.old) (F.faults files.new) (script.now ∷ texts infs.now) }
     ensures write_fault { result ≡ Status.WriteFault → Rose (K.faults sink.old) (K.faults sink.new) }
     ensures unwritten { is_unwritten result ≡ true → K.taken sink.new ≡ K.taken sink.old }
@@ -155,12 +156,12 @@ fn lint_named<F: Files, K: Sink>(
 }
 
 /// Lints what the words name: the program's name, a script, and up to 64 INFs. Each bad line of the script is written with its number,
-/// its word and its cause, and each INF that is refused with its faults. As far as files tell what they hold, `TooLarge` comes only where
-/// one of them has more than 16,777,216 bytes; else `Found` only where a run of the script would end at a bad line or one of the INFs is
-/// refused, and `Clean` only where not. Where no count of faults rose, one of these three is the answer, the one that the contents decide,
-/// or memory was refused. `BadWords` comes exactly where the words are refused, and then nothing is read or written. Nothing is written
-/// unless all was read. Cost: the bytes of the files, and of an INF for each of its faults.
-#[tactic(auto, using(crate::proofs::Steps::answers))]
+/// its word and its cause, and behind them of each INF that is refused its faults, and of each other one its warnings. As far as files
+/// tell what they hold, `TooLarge` comes only where one of them has more than 16,777,216 bytes; else `Found` only where a run of the
+/// script would end at a bad line or one of the INFs is refused, and `Clean` only where not. Where no count of faults rose, one of these
+/// three is the answer, the one that the contents decide, or memory was refused. `BadWords` comes exactly where the words are refused, and
+/// then nothing is read or written. Nothing is written unless all was read. Cost: the bytes of the files, and of an INF for each of its
+/// faults; for the warnings the drivers of an INF times those of the script, and up to 1,024 install sections times the sections.
 pub fn lint<F: Files, K: Sink>(
     alloc: Global,
     words: &[String],
