@@ -1,5 +1,5 @@
 -- What is told of files, step by step.
-use Rattle.std.proofs.Common.{◌≡◌, ℕ, List, [], ◌∷◌, ◌++◌, Option, Some, None, Bool, true, false, refl, sym, ◌∙◌, ap, ◌||◌, append_assoc, append-nil, IfSome, Result, Ok, Err, subst, drop, String, Global, ◌<◌, ◌≤◌, ◌+◌, ◌⊎◌, inl, inr, suc, length, get_or, map, add-one, arith, string_bytes}
+use Rattle.std.proofs.Common.{◌≡◌, ℕ, List, [], ◌∷◌, ◌++◌, Option, Some, None, Bool, true, false, refl, sym, ◌∙◌, ap, ◌||◌, append_assoc, append-nil, IfSome, Result, Ok, Err, subst, drop, String, Global, ◌<◌, ◌≤◌, ◌+◌, inl, inr, suc, length, get_or, map, add-one, arith, string_bytes}
 use Rattle.std.proofs.lemmas.List.{drop_all}
 use Rattle.std.proofs.Math.Seq.{drop-cons}
 use Rattle.std.specs.List.{flat_map}
@@ -7,7 +7,6 @@ use Rattle.script_lint.specs.declared.script.BadLine.{BadLine}
 use Rattle.script_lint.specs.Script.{told}
 use Rattle.lint_cli.specs.Words.{texts}
 use Rattle.pnp_io.specs.Outside.{Holds, HoldsMore, Rose}
-use Rattle.pnp_labels.specs.Texts.{Text}
 use Rattle.inf_reader.specs.declared.parts.Inf.{Inf}
 use Rattle.inf_reader.specs.declared.parts.InfError.{InfError}
 use Rattle.lint_cli.specs.Reports.{bad_text, script_text, inf_text, IsFront}

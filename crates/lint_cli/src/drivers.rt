@@ -45,11 +45,7 @@ fn push_second<'a>(names: &mut Vec<&'a [u8]>, words: &[&'a [u8]]) -> Result<(), 
 }
 
 /// Appends the name that a line gives a driver, if it does.
-fn push_name<'a>(
-    alloc: Global,
-    names: &mut Vec<&'a [u8]>,
-    line: &'a [u8],
-) -> Result<(), AllocError>
+fn push_name<'a>(alloc: Global, names: &mut Vec<&'a [u8]>, line: &'a [u8]) -> Result<(), AllocError>
     ensures { OnOk result (map (λ n. n.now) names.new.items ≡ map (λ n. n.now) names.old.items ++ name_in (words_of line.now)) }
 {
     let words = words(alloc, line)?;

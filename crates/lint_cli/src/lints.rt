@@ -162,6 +162,7 @@ fn lint_named<F: Files, K: Sink>(
 /// three is the answer, the one that the contents decide, or memory was refused. `BadWords` comes exactly where the words are refused, and
 /// then nothing is read or written. Nothing is written unless all was read. Cost: the bytes of the files, and of an INF for each of its
 /// faults; for the warnings the drivers of an INF times those of the script, and up to 1,024 install sections times the sections.
+#[tactic(auto, using(crate::proofs::Steps::answers))]
 pub fn lint<F: Files, K: Sink>(
     alloc: Global,
     words: &[String],

@@ -168,7 +168,12 @@ fn push_unread(
     push_head(alloc, out, file, entry.line)?;
     out.extend_from_slice(b"there is no models section ")?;
     push_section(alloc, out, models)?;
-    push_decorated(alloc, out, sections, &replaced(alloc, sections, value(entry, 0))?)?;
+    push_decorated(
+        alloc,
+        out,
+        sections,
+        &replaced(alloc, sections, value(entry, 0))?,
+    )?;
     let decorations = entry.values.get(1..).unwrap_or(&[]);
     if !decorations.is_empty() && decoration_of(decorations).is_none() {
         out.extend_from_slice(b": no decoration is NTamd64, NT, or begins with NTamd64.")?;
@@ -250,7 +255,9 @@ fn push_flags(
                     }
                     push_head(alloc, &mut lines, file, entry.line)?;
                     push_quoted(alloc, &mut lines, value(entry, 0))?;
-                    lines.extend_from_slice(b"is no function driver: its flags have not the bit 2\n")?;
+                    lines.extend_from_slice(
+                        b"is no function driver: its flags have not the bit 2\n",
+                    )?;
                 }
             }
         }
@@ -273,7 +280,14 @@ fn push_filters(
                     for text in &entry.values {
                         let named = replaced(alloc, sections, text)?;
                         if !named.is_empty() && !has_section(sections, &named) {
-                            push_absent(alloc, out, file, entry.line, &named, b", which AddReg names")?;
+                            push_absent(
+                                alloc,
+                                out,
+                                file,
+                                entry.line,
+                                &named,
+                                b", which AddReg names",
+                            )?;
                         }
                     }
                 }
@@ -303,7 +317,14 @@ fn push_install(
     if has_section(sections, &services) {
         push_flags(alloc, out, file, sections, &services)?;
     } else {
-        push_absent(alloc, out, file, line, &services, b", which gives the driver")?;
+        push_absent(
+            alloc,
+            out,
+            file,
+            line,
+            &services,
+            b", which gives the driver",
+        )?;
     }
     push_filters(alloc, out, file, sections, &joined(alloc, &taken, b"HW")?)
 }

@@ -125,7 +125,9 @@ fn push_no_service(
 {
     push_head(alloc, out, file, line)?;
     push_quoted(alloc, out, id)?;
-    out.extend_from_slice(b"gets no driver: its models line has no service, which an AddService with the flag 2 gives (problem 28)\n")?;
+    out.extend_from_slice(
+        b"gets no driver: its models line has no service, which an AddService with the flag 2 gives (problem 28)\n",
+    )?;
     Ok(())
 }
 

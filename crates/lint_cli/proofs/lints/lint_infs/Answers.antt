@@ -1,4 +1,4 @@
-use Rattle.std.proofs.Common.{◌≡◌, ◌∙◌, ◌+◌, ◌||◌, ◌∷◌, ℕ, List, Option, IfSome, [], false, drop, map, subst, arith}
+use Rattle.std.proofs.Common.{◌≡◌, ◌∙◌, ◌+◌, ◌||◌, ◌∷◌, ℕ, List, Option, IfSome, false, drop, map, subst, arith}
 use Rattle.lint_cli.specs.Words.{texts}
 use Rattle.lint_cli.specs.Lints.{is_bad_file, is_bad_inf, bad_infs, is_large, some_large, AddsFile, AddsInfs}
 use Rattle.lint_cli.proofs.Steps.{told_next, fits_next, adds_next, adds_end, texts_at, texts_end}
@@ -14,7 +14,7 @@ loop-name-preserved g c =
     let old = c.loop-name.out.items in
     let middle = c.lint_inf.new.out.items in
     let at : texts (drop c.loop-name.name-index c.args.names.now) ≡ name ∷ rest =
-        texts_at c.args.names.now c.loop-name.name-index c.name-item.result name c.loop-name-test.true c.name-item.is c.as_bytes.ensures.value in
+    texts_at c.args.names.now c.loop-name.name-index c.name-item.result name c.loop-name-test.true c.name-item.is c.as_bytes.ensures.value in
     let Bad : Option (List ℕ → Option (List ℕ)) → Type 0 = λ o. IfSome o (λ told. c.in_ok-bad.bad ≡ is_bad_file is_bad_inf (told name)) in
     let Fits : Option (List ℕ → Option (List ℕ)) → Type 0 = λ o. IfSome o (λ told. is_large (told name) ≡ false) in
     let Adds : Option (List ℕ → Option (List ℕ)) → Type 0 = λ o. IfSome o (λ told. AddsFile name drivers (told name) old middle) in

@@ -10,8 +10,8 @@ invariant-loop-name g l = record {
   text :
       (new : List ℕ)
       → IfSome (g.F.Files.contents l.fn.files) (λ told.
-          AddsInfs told (map (λ d. d.now) l.drivers) (texts (drop l.name-index l.names)) l.out.items new
-          → AddsInfs told (map (λ d. d.now) l.drivers) (texts l.names) l.initial.out.items new);
+      AddsInfs told (map (λ d. d.now) l.drivers) (texts (drop l.name-index l.names)) l.out.items new
+      → AddsInfs told (map (λ d. d.now) l.drivers) (texts l.names) l.initial.out.items new);
   counts : (other : List ℕ) → g.F.Files.faults l.fn.files other ≤ g.F.Files.faults l.files other;
   same : g.F.Files.contents l.files ≡ g.F.Files.contents l.fn.files;
 }
