@@ -191,24 +191,17 @@ fn models_name(alloc: Global, sections: &[Section], entry: &Entry) -> Result<Vec
     }
 }
 
-/// The name of the install section that is taken, if one is there.
-fn install_name(
-    alloc: Global,
-    sections: &[Section],
-    name: &[u8],
-) -> Result<Option<Vec<u8>>, AllocError> {
+/// The name of the install section that is taken, and the bare name where none is there.
+fn install_name(alloc: Global, sections: &[Section], name: &[u8]) -> Result<Vec<u8>, AllocError> {
     let first = joined(alloc, name, b"NTamd64")?;
     if has_section(sections, &first) {
-        return Ok(Some(first));
+        return Ok(first);
     }
     let second = joined(alloc, name, b"NT")?;
     if has_section(sections, &second) {
-        return Ok(Some(second));
+        return Ok(second);
     }
-    if has_section(sections, name) {
-        return Ok(Some(Vec::from_slice(alloc, name)?));
-    }
-    Ok(None)
+    Vec::from_slice(alloc, name)
 }
 
 /// The value of a digit, if the byte is one.
@@ -297,7 +290,7 @@ fn push_filters(
     Ok(())
 }
 
-/// Appends what the install section of a models line lacks.
+/// Appends what the install section of a models line lacks. A section that would be empty need not be there.
 fn push_install(
     alloc: Global,
     out: &mut Vec<u8>,
@@ -306,17 +299,14 @@ fn push_install(
     line: u32,
     name: &[u8],
 ) -> Result<(), AllocError> {
-    let taken = match install_name(alloc, sections, name)? {
-        Some(taken) => taken,
-        None => {
-            push_absent(alloc, out, file, line, name, b", which this line installs")?;
-            Vec::from_slice(alloc, name)?
-        }
-    };
+    let taken = install_name(alloc, sections, name)?;
     let services = joined(alloc, &taken, b"Services")?;
     if has_section(sections, &services) {
         push_flags(alloc, out, file, sections, &services)?;
     } else {
+        if !has_section(sections, &taken) {
+            push_absent(alloc, out, file, line, name, b", which this line installs")?;
+        }
         push_absent(
             alloc,
             out,
