@@ -205,29 +205,31 @@ fn install_name(alloc: Global, sections: &[Section], name: &[u8]) -> Result<Vec<
 }
 
 /// The value of a digit, if the byte is one.
-fn digit(byte: u8) -> Option<u8> {
+fn digit(byte: u8) -> Option<u64> {
     match byte {
-        b'0'..=b'9' => Some(byte - b'0'),
-        b'a'..=b'f' => Some(byte - b'a' + 10),
-        b'A'..=b'F' => Some(byte - b'A' + 10),
+        b'0'..=b'9' => Some((byte - b'0') as u64),
+        b'a'..=b'f' => Some((byte - b'a') as u64 + 10),
+        b'A'..=b'F' => Some((byte - b'A') as u64 + 10),
         _ => None,
     }
 }
 
-/// Whether the flags have the bit 2.
+/// Whether the flags are a number below 2^32 that has the bit 2.
 fn is_function_driver(flags: &[u8]) -> bool {
     let (digits, base) = match flags {
-        [b'0', b'x' | b'X', digits @ ..] => (digits, 16u8),
-        _ => (flags, 10u8),
+        [b'0', b'x', digits @ ..] => (digits, 16u64),
+        _ => (flags, 10u64),
     };
-    let mut low = 0u8;
+    let mut number = 0u64;
     for byte in digits {
         match digit(*byte) {
-            Some(one) if one < base => low = low.wrapping_mul(base).wrapping_add(one) % 4,
+            Some(one) if one < base => {
+                number = number.saturating_mul(base).saturating_add(one);
+            }
             _ => return false,
         }
     }
-    low >= 2
+    number <= 0xFFFF_FFFF && number % 4 >= 2
 }
 
 /// Appends the services of a section that are no function drivers, where none is one.

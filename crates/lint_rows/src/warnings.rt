@@ -84,11 +84,15 @@ A = I, OWN\\DEV
 [I.Services]
 AddService = power, 0x801, Svc
 AddService = dev, , Svc
+AddService = wide, 0x100000002, Svc
+AddService = large, 0X2, Svc
 ";
     let text =
         "inf i line 6: warning: \"OWN\\DEV\" gets no driver: its models line has no service, which an AddService with the flag 2 gives (problem 28)
 inf i line 8: warning: \"power\" is no function driver: its flags have not the bit 2
 inf i line 9: warning: \"dev\" is no function driver: its flags have not the bit 2
+inf i line 10: warning: \"wide\" is no function driver: its flags have not the bit 2
+inf i line 11: warning: \"large\" is no function driver: its flags have not the bit 2
 ";
     gives(&rt, rt.alloc(), inf, Status::Clean, text)
 }
