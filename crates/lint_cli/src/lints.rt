@@ -170,6 +170,7 @@ pub fn lint<F: Files, K: Sink>(
     sink: &mut K,
 ) -> Status
     ensures words { (result ≡ Status.BadWords) ↔ (are_words (texts words.now) ≡ false) }
+    ensures unread { result ≡ Status.BadWords → F.faults files.new ≡ F.faults files.old }
     ensures decided { is_decided result ≡ true → IfSome (F.contents files.old) (λ told. decided told (texts words.now) ≡ result) }
     ensures text { is_reported result ≡ true → IfSome (F.contents files.old) (λ told. WroteBy told (texts words.now) (K.taken sink.old) (K.taken sink.new)) }
     ensures read_fault { result ≡ Status.ReadFault → SomeRose (F.faults files.old) (F.faults files.new) (named (texts words.now)) }
