@@ -1,30 +1,25 @@
 -- What is told of files, step by step.
-use Rattle.std.proofs.Common.{◌≡◌, ℕ, List, [], ◌∷◌, ◌++◌, Option, Some, None, Bool, true, false, refl, sym, ◌∙◌, ap, ◌||◌, append_assoc, append-nil, IfSome, Result, Ok, Err, option_map, subst, drop, String, Global, ◌<◌, ◌+◌, length, get_or, map, add-one}
+use Rattle.std.proofs.Common.{◌≡◌, ℕ, List, [], ◌∷◌, ◌++◌, Option, Some, None, Bool, true, false, refl, sym, ◌∙◌, ap, ◌||◌, append_assoc, append-nil, IfSome, Result, Ok, Err, subst, drop, String, Global, ◌<◌, ◌≤◌, ◌+◌, inl, inr, suc, length, get_or, map, add-one, arith, string_bytes}
+use Rattle.std.proofs.lemmas.List.{drop_all}
 use Rattle.std.proofs.Math.Seq.{drop-cons}
 use Rattle.std.specs.List.{flat_map}
 use Rattle.script_lint.specs.declared.script.BadLine.{BadLine}
 use Rattle.script_lint.specs.Script.{told}
 use Rattle.lint_cli.specs.Words.{texts}
-use Rattle.pnp_io.specs.Outside.{Holds, Appends}
-use Rattle.pnp_labels.specs.Texts.{Text}
+use Rattle.pnp_io.specs.Outside.{Holds, HoldsMore, Rose}
 use Rattle.inf_reader.specs.declared.parts.Inf.{Inf}
 use Rattle.inf_reader.specs.declared.parts.InfError.{InfError}
-use Rattle.lint_cli.specs.Reports.{bad_text, script_text, inf_text, IsFront, AddsInf}
-use Rattle.lint_cli.specs.Lints.{is_bad_file, is_bad_set, bad_infs, is_bad_script, is_bad_inf, AddsScript, WroteScript}
+use Rattle.lint_cli.specs.Reports.{bad_text, script_text, inf_text, IsFront}
+use Rattle.lint_cli.specs.Warnings.{driver_names, warnings_text}
+use Rattle.inf_reader.specs.Meaning.{inf}
+use Rattle.lint_cli.specs.Lints.{is_bad_file, is_bad_set, bad_infs, is_bad_script, is_bad_inf, is_large, some_large, is_decided, decided, Answers, AddsInf, AddsFile, AddsInfs, IsText, SomeRose}
+use Rattle.lint_cli.specs.declared.status.Status.{Status}
+use Rattle.std.proofs.lemmas.Bool.Decides.{nat_tests}
 
 pub told_bad : (is_bad : List ℕ → Bool) (contents : Option (List ℕ → Option (List ℕ))) (name bytes : List ℕ) (b : Bool) → Holds contents name bytes → b ≡ is_bad bytes
     → IfSome contents (λ told. b ≡ is_bad_file is_bad (told name))
 told_bad is_bad None name bytes b holds is = tt
 told_bad is_bad (Some told) name bytes b holds is = is ∙ ap (is_bad_file is_bad) (sym holds)
-
-adds_by : (o : Option (List ℕ)) (bytes old new : List ℕ) → o ≡ Some bytes → new ≡ old ++ script_text bytes → AddsScript o old new
-adds_by None bytes old new e is = tt
-adds_by (Some script) bytes old new e is = is ∙ ap (λ s. old ++ script_text s) (let same : script ≡ bytes = cc in sym same)
-
-pub told_adds : (contents : Option (List ℕ → Option (List ℕ))) (name bytes old new : List ℕ) → Holds contents name bytes → new ≡ old ++ script_text bytes
-    → IfSome contents (λ told. AddsScript (told name) old new)
-told_adds None name bytes old new holds is = tt
-told_adds (Some told) name bytes old new holds is = adds_by (told name) bytes old new holds is
 
 pub front_same : (old new : List ℕ) → new ≡ old → IsFront old new
 front_same old new is = ([], is ∙ sym (append-nil old))
@@ -32,47 +27,52 @@ front_same old new is = ([], is ∙ sym (append-nil old))
 pub front_more : (a b c more : List ℕ) → IsFront a b → c ≡ b ++ more → IsFront a c
 front_more a b c more front is = (front.0 ++ more, is ∙ ap (λ t. t ++ more) front.1 ∙ append_assoc a front.0 more)
 
-pub front_then : (a b c : List ℕ) → IsFront a b → IsFront b c → IsFront a c
-front_then a b c front next = front_more a b c next.0 front next.1
+pub adds_read : (name old middle more new : List ℕ) (drivers : List (List ℕ)) (read : Inf) → middle ≡ old ++ warnings_text name drivers read → new ≡ middle ++ more
+    → AddsInf name drivers (Ok read) old new
+adds_read name old middle more new drivers read begun is = (more, is ∙ ap (λ t. t ++ more) begun ∙ append_assoc old (warnings_text name drivers read) more)
 
-pub adds_none : (name old new : List ℕ) (read : Inf) (r : Result Inf InfError) → r ≡ Ok read → new ≡ old → AddsInf name r old new
-adds_none name old new read r is same = subst (λ x. AddsInf name x old new) (sym is) same
+pub adds_ok : (name old new : List ℕ) (drivers : List (List ℕ)) (read : Inf) (r : Result Inf InfError) → r ≡ Ok read → AddsInf name drivers (Ok read) old new
+    → AddsInf name drivers r old new
+adds_ok name old new drivers read r is adds = subst (λ x. AddsInf name drivers x old new) (sym is) adds
 
-pub adds_more : (name old middle new : List ℕ) (error : InfError) (r : Result Inf InfError) → r ≡ Err error → middle ≡ old ++ inf_text name error → IsFront middle new
-    → AddsInf name r old new
-adds_more name old middle new error r is begun front =
-    subst (λ x. AddsInf name x old new) (sym is)
+pub adds_more : (name old middle new : List ℕ) (drivers : List (List ℕ)) (error : InfError) (r : Result Inf InfError) → r ≡ Err error → middle ≡ old ++ inf_text name error
+    → IsFront middle new → AddsInf name drivers r old new
+adds_more name old middle new drivers error r is begun front =
+    subst (λ x. AddsInf name drivers x old new) (sym is)
     (front.0, front.1 ∙ ap (λ t. t ++ front.0) begun ∙ append_assoc old (inf_text name error) front.0)
+
+pub told_file : (contents : Option (List ℕ → Option (List ℕ))) (name bytes old new : List ℕ) (drivers : List (List ℕ)) → Holds contents name bytes
+    → AddsInf name drivers (inf bytes) old new → IfSome contents (λ told. AddsFile name drivers (told name) old new)
+told_file None name bytes old new drivers holds adds = tt
+told_file (Some told) name bytes old new drivers holds adds = subst (λ o. AddsFile name drivers o old new) (sym holds) adds
+
+pub adds_next : (contents : Option (List ℕ → Option (List ℕ))) (all rest drivers : List (List ℕ)) (name initial old middle : List ℕ)
+    → IfSome contents (λ told. AddsFile name drivers (told name) old middle)
+    → ((new : List ℕ) → IfSome contents (λ told. AddsInfs told drivers (name ∷ rest) old new → AddsInfs told drivers all initial new))
+    → (new : List ℕ) → IfSome contents (λ told. AddsInfs told drivers rest middle new → AddsInfs told drivers all initial new)
+adds_next None all rest drivers name initial old middle file so new = tt
+adds_next (Some told) all rest drivers name initial old middle file so new = λ more. so new (middle, file, more)
+
+pub adds_end : (contents : Option (List ℕ → Option (List ℕ))) (all drivers : List (List ℕ)) (initial out : List ℕ)
+    → ((new : List ℕ) → IfSome contents (λ told. AddsInfs told drivers [] out new → AddsInfs told drivers all initial new))
+    → IfSome contents (λ told. AddsInfs told drivers all initial out)
+adds_end None all drivers initial out so = tt
+adds_end (Some told) all drivers initial out so = so out refl
+
+-- of a script that was read, and its INFs
+pub told_set_bad : (contents : Option (List ℕ → Option (List ℕ))) (name bytes : List ℕ) (infs : List (List ℕ)) (b : Bool) → Holds contents name bytes
+    → IfSome contents (λ told. b ≡ (is_bad_script bytes || bad_infs told infs)) → IfSome contents (λ told. b ≡ is_bad_set told name infs)
+told_set_bad None name bytes infs b holds is = tt
+told_set_bad (Some told) name bytes infs b holds is = is ∙ ap (λ o. is_bad_file is_bad_script o || bad_infs told infs) (sym holds)
+
+pub told_text : (contents : Option (List ℕ → Option (List ℕ))) (name bytes out : List ℕ) (infs : List (List ℕ)) → Holds contents name bytes
+    → IfSome contents (λ told. AddsInfs told (driver_names bytes) infs (script_text bytes) out) → IfSome contents (λ told. IsText told (told name) infs out)
+told_text None name bytes out infs holds adds = tt
+told_text (Some told) name bytes out infs holds adds = subst (λ o. IsText told o infs out) (sym holds) adds
 
 pub behind_first : (words : List (String Global)) → texts (drop 1 words) ≡ drop 1 (texts words)
 behind_first [] = refl
 behind_first (word ∷ words) = refl
-
-pub adds_front : (name old new : List ℕ) (r : Result Inf InfError) → AddsInf name r old new → IsFront old new
-adds_front name old new (Ok read) is = front_same old new is
-adds_front name old new (Err error) adds = (inf_text name error ++ adds.0, adds.1)
-
--- the two lists of faults
-both : (told : List ℕ → Option (List ℕ)) (script : List ℕ) (infs : List (List ℕ)) (a b : Bool) → a ≡ is_bad_file is_bad_script (told script) → b ≡ bad_infs told infs
-    → (a || b) ≡ is_bad_set told script infs
-both told script infs a b is then_ = ap (λ x. x || b) is ∙ ap (λ y. is_bad_file is_bad_script (told script) || y) then_
-
-pub told_both : (contents : Option (List ℕ → Option (List ℕ))) (script : List ℕ) (infs : List (List ℕ)) (a b : Bool)
-    → IfSome contents (λ told. a ≡ is_bad_file is_bad_script (told script)) → IfSome contents (λ told. b ≡ bad_infs told infs)
-    → IfSome contents (λ told. (a || b) ≡ is_bad_set told script infs)
-told_both None script infs a b is then_ = tt
-told_both (Some told) script infs a b is then_ = both told script infs a b is then_
-
-wrote_by : (o : Option (List ℕ)) (middle out : List ℕ) (old new : Option Text) → AddsScript o [] middle → IsFront middle out → Appends old new out → WroteScript o old new
-wrote_by None middle out old new adds front took = tt
-wrote_by (Some script) middle out old new adds front took =
-    (front.0, took ∙ ap (λ t. option_map (λ taken. taken ++ t) old) (front.1 ∙ ap (λ m. m ++ front.0) adds))
-
-pub told_wrote : (contents : Option (List ℕ → Option (List ℕ))) (name middle out : List ℕ) (old new : Option Text)
-    → IfSome contents (λ told. AddsScript (told name) [] middle) → IsFront middle out → Appends old new out
-    → IfSome contents (λ told. WroteScript (told name) old new)
-told_wrote None name middle out old new adds front took = tt
-told_wrote (Some told) name middle out old new adds front took = wrote_by (told name) middle out old new adds front took
 
 regroup : (a b c : Bool) → ((a || b) || c) ≡ (a || (b || c))
 regroup true b c = refl
@@ -95,3 +95,90 @@ one_bad items i d all old new less more so =
     ∙ append_assoc old (bad_text (told (get_or items i d))) (flat_map bad_text (map told (drop (i + 1) items)))
     ∙ ap (λ n. old ++ (bad_text (told (get_or items i d)) ++ flat_map bad_text (map told (drop n items)))) (add-one i)
     ∙ ap (λ l. old ++ flat_map bad_text (map told l)) (sym (drop-cons items i d less)) ∙ so
+
+-- a file that was read is not too large, and one of which more bytes came is
+fits_by : (o : Option (List ℕ)) (bytes : List ℕ) → o ≡ Some bytes → length bytes ≤ 16777216 → is_large o ≡ false
+fits_by o bytes e few = ap is_large e ∙ grind (arith, nat_tests, few)
+
+pub fits : (contents : Option (List ℕ → Option (List ℕ))) (name bytes : List ℕ) → Holds contents name bytes → length bytes ≤ 16777216
+    → IfSome contents (λ told. is_large (told name) ≡ false)
+fits None name bytes holds few = tt
+fits (Some told) name bytes holds few = fits_by (told name) bytes holds few
+
+pub exceeds : (contents : Option (List ℕ → Option (List ℕ))) (name : List ℕ) → HoldsMore contents name 16777216 → IfSome contents (λ told. is_large (told name) ≡ true)
+exceeds None name holds = tt
+exceeds (Some told) name (bytes, is, more) = ap is_large is ∙ grind (arith, nat_tests, more)
+
+-- of a script and its INFs
+pub set_fits : (contents : Option (List ℕ → Option (List ℕ))) (script bytes : List ℕ) (infs : List (List ℕ)) → Holds contents script bytes → length bytes ≤ 16777216
+    → IfSome contents (λ told. some_large told infs ≡ false) → IfSome contents (λ told. some_large told (script ∷ infs) ≡ false)
+set_fits None script bytes infs holds few all = tt
+set_fits (Some told) script bytes infs holds few all = ap (λ b. b || some_large told infs) (fits_by (told script) bytes holds few) ∙ all
+
+pub script_large : (contents : Option (List ℕ → Option (List ℕ))) (script : List ℕ) (infs : List (List ℕ)) → IfSome contents (λ told. is_large (told script) ≡ true)
+    → IfSome contents (λ told. some_large told (script ∷ infs) ≡ true)
+script_large None script infs one = tt
+script_large (Some told) script infs one = ap (λ b. b || some_large told infs) one
+
+pub script_exceeds : (contents : Option (List ℕ → Option (List ℕ))) (script : List ℕ) (infs : List (List ℕ)) → HoldsMore contents script 16777216
+    → IfSome contents (λ told. some_large told (script ∷ infs) ≡ true)
+script_exceeds contents script infs holds = script_large contents script infs (exceeds contents script holds)
+
+or_true : (b : Bool) → (b || true) ≡ true
+or_true true = refl
+or_true false = refl
+
+pub inf_large : (contents : Option (List ℕ → Option (List ℕ))) (script : List ℕ) (infs : List (List ℕ)) → IfSome contents (λ told. some_large told infs ≡ true)
+    → IfSome contents (λ told. some_large told (script ∷ infs) ≡ true)
+inf_large None script infs some = tt
+inf_large (Some told) script infs some = ap (λ b. is_large (told script) || b) some ∙ or_true (is_large (told script))
+
+-- a name more that fits, or one that does not
+pub fits_next : (contents : Option (List ℕ → Option (List ℕ))) (all rest : List (List ℕ)) (name : List ℕ) → IfSome contents (λ told. is_large (told name) ≡ false)
+    → IfSome contents (λ told. some_large told (name ∷ rest) ≡ some_large told all) → IfSome contents (λ told. some_large told rest ≡ some_large told all)
+fits_next None all rest name one so = tt
+fits_next (Some told) all rest name one so = sym (ap (λ b. b || some_large told rest) one) ∙ so
+
+pub large_next : (contents : Option (List ℕ → Option (List ℕ))) (all rest : List (List ℕ)) (name : List ℕ) → IfSome contents (λ told. is_large (told name) ≡ true)
+    → IfSome contents (λ told. some_large told (name ∷ rest) ≡ some_large told all) → IfSome contents (λ told. some_large told all ≡ true)
+large_next None all rest name one so = tt
+large_next (Some told) all rest name one so = sym so ∙ ap (λ b. b || some_large told rest) one
+
+-- the answer where no count rose
+pub answers : (contents : Option (List ℕ → Option (List ℕ))) (words : List (List ℕ)) (status : Status) (read write : Type 0)
+    → (is_decided status ≡ true → IfSome contents (λ told. decided told words ≡ status)) → (status ≡ Status.ReadFault → read) → (status ≡ Status.WriteFault → write)
+    → (status ≡ Status.BadWords → ⊥) → IfSome contents (λ told. Answers (decided told words) read write status)
+answers None words status read write decides on_read on_write no_words = tt
+answers (Some told) words Status.Clean read write decides on_read on_write no_words = λ a b. inl (decides refl)
+answers (Some told) words Status.Found read write decides on_read on_write no_words = λ a b. inl (decides refl)
+answers (Some told) words Status.TooLarge read write decides on_read on_write no_words = λ a b. inl (decides refl)
+answers (Some told) words Status.WantOfMemory read write decides on_read on_write no_words = λ a b. inr refl
+answers (Some told) words Status.ReadFault read write decides on_read on_write no_words = λ a b. absurd (a (on_read refl))
+answers (Some told) words Status.WriteFault read write decides on_read on_write no_words = λ a b. absurd (b (on_write refl))
+answers (Some told) words Status.BadWords read write decides on_read on_write no_words = λ a b. absurd (no_words refl)
+
+-- the count of a name rose, also from before
+rose_before : (old middle new : ℕ) → old ≤ middle → Rose middle new → Rose old new
+rose_before old middle new le (inl less) = inl (omega (arith, le, less))
+rose_before old middle new le (inr top) = inr top
+
+pub rose_first : (script : List ℕ) (infs : List (List ℕ)) (old new : List ℕ → ℕ) → Rose (old script) (new script) → SomeRose old new (script ∷ infs)
+rose_first script infs old new rose = record { name = script; named = (0, omega arith, refl); rose = rose }
+
+pub rose_behind : (script : List ℕ) (infs : List (List ℕ)) (old middle new : List ℕ → ℕ) → ((other : List ℕ) → old other ≤ middle other) → SomeRose middle new infs
+    → SomeRose old new (script ∷ infs)
+rose_behind script infs old middle new counts some = record {
+  name = some.name;
+  named = (suc some.named.0, omega (arith, some.named.1), some.named.2);
+  rose = rose_before (old some.name) (middle some.name) (new some.name) (counts some.name) some.rose;
+}
+
+-- the names of a loop
+pub texts_at : (names : List (String Global)) (at : ℕ) (name : String Global) (text : List ℕ) → at < length names → name ≡ get_or names at name → text ≡ string_bytes name
+    → texts (drop at names) ≡ text ∷ texts (drop (at + 1) names)
+texts_at names at name text within here is =
+    ap (λ l. texts l) (drop-cons names at name within ∙ ap (λ n. get_or names at name ∷ drop n names) (sym (add-one at)))
+    ∙ ap (λ t. t ∷ texts (drop (at + 1) names)) (ap (λ s. string_bytes s) (sym here) ∙ sym is)
+
+pub texts_end : (names : List (String Global)) (at : ℕ) → length names ≤ at → texts (drop at names) ≡ []
+texts_end names at all = ap (λ l. texts l) (drop_all at names all)

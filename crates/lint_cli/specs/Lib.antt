@@ -1,4 +1,5 @@
 pub mod Causes
 pub mod Words
 pub mod Reports
+pub mod Warnings
 pub mod Lints

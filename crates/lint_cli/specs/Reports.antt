@@ -1,9 +1,8 @@
 -- What is written of the bad lines of a script, and of the INFs that are refused.
-use Rattle.std.specs.Prelude.{◌≡◌, ℕ, ◌||◌, nat_lt, List, [], ◌∷◌, ◌++◌, length, take, map, codes, if◌then◌else◌, Result, Ok, Err}
+use Rattle.std.specs.Prelude.{◌≡◌, ℕ, ◌||◌, nat_lt, List, [], ◌∷◌, ◌++◌, length, take, map, codes, if◌then◌else◌}
 use Rattle.std.specs.List.{flat_map}
 use Rattle.std.specs.Fmt.{decimal}
 use Rattle.pnp_labels.specs.Texts.{Text}
-use Rattle.inf_reader.specs.declared.parts.Inf.{Inf}
 use Rattle.inf_reader.specs.declared.parts.InfError.{InfError}
 use Rattle.inf_reader.specs.declared.parts.InfError.TheVariants as errors
 use Rattle.script_lint.specs.Faults.{Fault}
@@ -67,8 +66,3 @@ line_text (byte ∷ line) = codes ": \"" ++ shown (byte ∷ line) ++ codes "\"\n
 -- a text, and then more
 abbrev pub IsFront : Text → Text → Type 0
 IsFront old new = (more : Text) × (new ≡ old ++ more)
-
--- of an INF that is read nothing is added; else what `read` refuses comes first
-abbrev pub AddsInf : Text → Result Inf InfError → Text → Text → Type 0
-AddsInf name (Ok read) old new = new ≡ old
-AddsInf name (Err error) old new = (more : Text) × (new ≡ old ++ (inf_text name error ++ more))

@@ -16,3 +16,8 @@ is_option (b ∷ word) = b == 0x2D
 -- the program's name, a script and up to 64 INFs
 abbrev pub are_words : List Text → Bool
 are_words words = nat_le 2 (length words) && nat_le (length words) 66 && list_all (λ word. not (is_option word)) (drop 1 words)
+
+-- the files that words name: the script, and then the INFs
+abbrev pub named : List Text → List Text
+named [] = []
+named (program ∷ names) = names

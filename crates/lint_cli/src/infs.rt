@@ -1,13 +1,14 @@
 //! What is written of an INF.
-ghost use Rattle.std.specs.Prelude.{◌≡◌, ◌≤◌, ◌++◌, IfOk, OnOk, length, is_none};
+ghost use Rattle.std.specs.Prelude.{◌≡◌, ◌≤◌, ◌++◌, IfOk, OnOk, Ok, length, map};
 ghost use Rattle.inf_reader.specs.Meaning.{inf};
-ghost use Rattle.lint_cli.specs.Reports.{error_text, error_place, inf_text, line_text, IsFront, AddsInf};
-ghost use Rattle.lint_cli.specs.Lints.{is_bad_inf};
+ghost use Rattle.lint_cli.specs.Reports.{error_text, error_place, inf_text, line_text, IsFront};
+ghost use Rattle.lint_cli.specs.Lints.{is_bad_inf, AddsInf};
 
 use crate::mend::{line_of, mended, plain_text};
-use crate::shown::push_shown;
+use crate::notes::notes_of;
+use crate::shown::{push_at_line, push_shown};
+use crate::warnings::push_warnings;
 use inf_reader::{Inf, InfError, read};
-use pnp_labels::decimal;
 use std::alloc::{AllocError, Global};
 
 /// The most faults of an INF that are told.
@@ -40,11 +41,7 @@ fn push_place(alloc: Global, out: &mut Vec<u8>, error: InfError) -> Result<(), A
         InfError::OpenHeader { line }
         | InfError::LineTooLong { line }
         | InfError::BadDate { line }
-        | InfError::BadScore { line } => {
-            out.extend_from_slice(b" line ")?;
-            out.extend_from_slice(decimal(alloc, line as u64)?.as_bytes())?;
-            Ok(())
-        }
+        | InfError::BadScore { line } => push_at_line(alloc, out, line),
         InfError::NoSignature | InfError::WantOfMemory => Ok(()),
     }
 }
@@ -121,25 +118,47 @@ fn push_others(
     Ok(())
 }
 
-/// Appends the faults of an INF, first that for which it is refused; what it means where it has none.
-#[tactic(auto, using(crate::proofs::Steps::adds_none, crate::proofs::Steps::adds_more))]
+/// Appends the warnings of an INF that is read: those that follow from what it means, and then those that name causes.
+#[tactic(auto, using(crate::proofs::Steps::adds_read))]
+fn push_lacks(
+    alloc: Global,
+    out: &mut Vec<u8>,
+    name: &[u8],
+    bytes: &[u8],
+    drivers: &[&[u8]],
+    read: &Inf,
+) -> Result<(), AllocError>
+    ensures { OnOk result (AddsInf name.now (map (λ d. d.now) drivers.now) (Ok read.now) out.old.items out.new.items) }
+{
+    push_warnings(alloc, out, name, drivers, read)?;
+    out.extend_from_slice(&notes_of(alloc, name, bytes)?)?;
+    Ok(())
+}
+
+/// Appends the faults of an INF, first that for which it is refused, or where it has none its warnings, by the names of the script's
+/// drivers; whether it is refused.
+#[tactic(auto, using(crate::proofs::Steps::adds_ok, crate::proofs::Steps::adds_more))]
 pub fn report_inf(
     alloc: Global,
     name: &[u8],
     bytes: &[u8],
+    drivers: &[&[u8]],
     out: &mut Vec<u8>,
-) -> Result<Option<Inf>, AllocError>
+) -> Result<bool, AllocError>
     requires { length bytes.now ≤ 16777216 }
-    ensures text { OnOk result (AddsInf name.now (inf bytes.now) out.old.items out.new.items) }
-    ensures bad { IfOk result (λ read. is_none read ≡ is_bad_inf bytes.now) }
+    ensures text { OnOk result (AddsInf name.now (map (λ d. d.now) drivers.now) (inf bytes.now) out.old.items out.new.items) }
+    ensures bad { IfOk result (λ bad. bad ≡ is_bad_inf bytes.now) }
 {
     match read(alloc, bytes) {
-        Ok(inf) => Ok(Some(inf)),
+        Ok(inf) => {
+            push_lacks(alloc, out, name, bytes, drivers, &inf)?;
+            Ok(false)
+        }
         Err(InfError::WantOfMemory) => Err(AllocError),
         Err(error) => {
             push_error(alloc, out, name, error)?;
             push_others(alloc, out, name, bytes, error)?;
-            Ok(None)
+            Ok(true)
         }
     }
 }

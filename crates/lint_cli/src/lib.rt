@@ -1,13 +1,17 @@
-//! The lint as a library: the words of the command line, the script and the INFs that they name, and what is written of their faults.
+//! The lint as a library: the words of the command line, the script and the INFs that they name, and what is written of their faults and of what the INFs lack.
 #![tactic(auto)]
 
 mod causes;
+mod drivers;
 mod infs;
 mod lints;
 mod mend;
+mod notes;
 mod report;
+mod sections;
 mod shown;
 mod status;
+mod warnings;
 mod words;
 
 pub use lints::lint;

@@ -1,104 +1,42 @@
 //! The lint of the files that the words name.
-ghost use Rattle.std.specs.Prelude.{◌≡◌, ◌≤◌, ◌<◌, ◌⊎◌, ◌||◌, ◌↔◌, ℕ, List, IfOk, IfSome, OnOk, OnErr, IsErrOf, length, true, false, map, string_bytes};
-ghost use Rattle.pnp_io.specs.Outside.{Rose, Appends, AppendsFront};
-ghost use Rattle.lint_cli.specs.Words.{texts, are_words};
-ghost use Rattle.lint_cli.specs.Reports.{script_text, IsFront};
-ghost use Rattle.lint_cli.specs.Lints.{is_bad_script, is_bad_inf, is_bad_file, bad_infs, is_bad_set, is_bad_by, is_reported, is_found, AddsScript, WroteScript, WroteBy, SomeRose};
-ghost use Rattle.lint_cli.specs.declared.lints.LintError.TheVariants.{ReadFault, WriteFault};
+ghost use Rattle.std.specs.Prelude.{◌≡◌, ◌≤◌, ◌⊎◌, ◌||◌, ◌↔◌, ◌∷◌, ℕ, List, IfOk, IfSome, OnOk, IsErrOf, map, true, false};
+ghost use Rattle.pnp_io.specs.Outside.{Rose, Appends};
+ghost use Rattle.pnp_io.specs.declared.whole.ReadError.TheVariants.{ReadFault, TooLarge};
+ghost use Rattle.lint_cli.specs.Words.{texts, are_words, named};
+ghost use Rattle.lint_cli.specs.Reports.{script_text};
+ghost use Rattle.lint_cli.specs.Warnings.{driver_names};
+ghost use Rattle.lint_cli.specs.Lints.{is_bad_script, is_bad_inf, is_bad_file, is_large, some_large, bad_infs, is_bad_set, is_decided, is_reported, is_unwritten, found_by, decided, decided_for, Answers, AddsFile, AddsInfs, IsText, WroteSet, WroteBy, SomeRose};
 
+use crate::drivers::driver_names;
 use crate::infs::report_inf;
 use crate::report::report_script;
 use crate::status::Status;
 use crate::words::are_words;
-use pnp_io::{Failed, Files, ReadError, Sink, read_all, write_all};
-use std::alloc::{AllocError, Global};
+use pnp_io::{Files, ReadError, Sink, read_all, write_all};
+use std::alloc::Global;
 
 /// The most bytes that a file may have: this project's own.
 const LIMIT: u64 = 16_777_216;
 
-/// Why a lint came to no end.
-#[derive(Clone, Copy, Debug, PartialEq, Eq)]
-enum LintError {
-    ReadFault,
-    WriteFault,
-    WantOfMemory,
-    TooLarge,
-}
-
-impl From<AllocError> for LintError {
-    ghost use Rattle.std.specs.Prelude.{◌≡◌};
-    ghost use Rattle.lint_cli.specs.declared.lints.LintError.TheVariants.{WantOfMemory};
-
-    ghost from_gives = { λ _ e. e ≡ WantOfMemory };
-
-    fn from(_: AllocError) -> Self {
-        LintError::WantOfMemory
-    }
-}
-
-impl From<ReadError> for LintError {
-    ghost use Rattle.std.specs.Prelude.{◌≡◌};
-    ghost use Rattle.lint_cli.specs.Lints.{of_read_error};
-
-    ghost from_gives = { λ from e. e ≡ of_read_error from };
-
-    fn from(error: ReadError) -> Self {
-        match error {
-            ReadError::ReadFault => LintError::ReadFault,
-            ReadError::TooLarge => LintError::TooLarge,
-            ReadError::WantOfMemory => LintError::WantOfMemory,
-        }
-    }
-}
-
-impl From<Failed> for LintError {
-    ghost use Rattle.std.specs.Prelude.{◌≡◌};
-    ghost use Rattle.lint_cli.specs.declared.lints.LintError.TheVariants.{WriteFault};
-
-    ghost from_gives = { λ _ e. e ≡ WriteFault };
-
-    fn from(_: Failed) -> Self {
-        LintError::WriteFault
-    }
-}
-
-/// Reads the script of a name, and appends its bad lines; whether there is one.
-#[tactic(auto, using(crate::proofs::Steps::told_bad, crate::proofs::Steps::told_adds))]
-fn lint_script<F: Files>(
-    alloc: Global,
-    files: &mut F,
-    name: &[u8],
-    out: &mut Vec<u8>,
-) -> Result<bool, LintError>
-    ensures bad { IfOk result (λ bad. IfSome (F.contents files.old) (λ told. bad ≡ is_bad_file is_bad_script (told name.now))) }
-    ensures text { OnOk result (IfSome (F.contents files.old) (λ told. AddsScript (told name.now) out.old.items out.new.items)) }
-    ensures failed { IsErrOf result ReadFault → Rose (F.faults files.old name.now) (F.faults files.new name.now) }
-    ensures counts { (other : List ℕ) → F.faults files.old other ≤ F.faults files.new other }
-    ensures same { F.contents files.new ≡ F.contents files.old }
-    ensures no_write { IsErrOf result WriteFault → ⊥ }
-{
-    let bytes = read_all(alloc, files, name, LIMIT)?;
-    Ok(report_script(alloc, &bytes, out)?)
-}
-
-/// Reads the INF of a name, and appends its faults; whether there is one.
-#[tactic(auto, using(crate::proofs::Steps::told_bad, crate::proofs::Steps::adds_front))]
+/// Reads the INF of a name, and appends its faults or its warnings, by the names of the script's drivers; whether it is refused.
+#[tactic(auto, using(crate::proofs::Steps::told_bad, crate::proofs::Steps::told_file, crate::proofs::Steps::fits, crate::proofs::Steps::exceeds))]
 fn lint_inf<F: Files>(
     alloc: Global,
     files: &mut F,
     name: &[u8],
+    drivers: &[&[u8]],
     out: &mut Vec<u8>,
-) -> Result<bool, LintError>
+) -> Result<bool, ReadError>
     ensures bad { IfOk result (λ bad. IfSome (F.contents files.old) (λ told. bad ≡ is_bad_file is_bad_inf (told name.now))) }
-    ensures text { OnOk result (IsFront out.old.items out.new.items) }
+    ensures fits { IfOk result (λ _. IfSome (F.contents files.old) (λ told. is_large (told name.now) ≡ false)) }
+    ensures text { OnOk result (IfSome (F.contents files.old) (λ told. AddsFile name.now (map (λ d. d.now) drivers.now) (told name.now) out.old.items out.new.items)) }
+    ensures too_large { IsErrOf result TooLarge → IfSome (F.contents files.old) (λ told. is_large (told name.now) ≡ true) }
     ensures failed { IsErrOf result ReadFault → Rose (F.faults files.old name.now) (F.faults files.new name.now) }
     ensures counts { (other : List ℕ) → F.faults files.old other ≤ F.faults files.new other }
     ensures same { F.contents files.new ≡ F.contents files.old }
-    ensures no_write { IsErrOf result WriteFault → ⊥ }
 {
     let bytes = read_all(alloc, files, name, LIMIT)?;
-    let read = report_inf(alloc, name, &bytes, out)?;
-    Ok(read.is_none())
+    Ok(report_inf(alloc, name, &bytes, drivers, out)?)
 }
 
 /// Whether one of both is so.
@@ -108,51 +46,123 @@ fn either(first: bool, second: bool) -> bool
     first || second
 }
 
-/// Reads the INFs of the names, and appends their faults; whether there is one.
+/// Reads the INFs of the names, and appends their faults and warnings; whether one is refused.
 fn lint_infs<F: Files>(
     alloc: Global,
     files: &mut F,
     names: &[String],
+    drivers: &[&[u8]],
     out: &mut Vec<u8>,
-) -> Result<bool, LintError>
+) -> Result<bool, ReadError>
     ensures bad { IfOk result (λ bad. IfSome (F.contents files.old) (λ told. bad ≡ bad_infs told (texts names.now))) }
-    ensures text { OnOk result (IsFront out.old.items out.new.items) }
+    ensures fits { IfOk result (λ _. IfSome (F.contents files.old) (λ told. some_large told (texts names.now) ≡ false)) }
+    ensures text { OnOk result (IfSome (F.contents files.old) (λ told. AddsInfs told (map (λ d. d.now) drivers.now) (texts names.now) out.old.items out.new.items)) }
+    ensures too_large { IsErrOf result TooLarge → IfSome (F.contents files.old) (λ told. some_large told (texts names.now) ≡ true) }
     ensures failed { IsErrOf result ReadFault → SomeRose (F.faults files.old) (F.faults files.new) (texts names.now) }
     ensures counts { (other : List ℕ) → F.faults files.old other ≤ F.faults files.new other }
     ensures same { F.contents files.new ≡ F.contents files.old }
-    ensures no_write { IsErrOf result WriteFault → ⊥ }
 {
     let mut found = false;
     for name in names {
-        let bad = lint_inf(alloc, files, name.as_bytes(), out)?;
+        let bad = lint_inf(alloc, files, name.as_bytes(), drivers, out)?;
         found = either(found, bad);
     }
     Ok(found)
 }
 
+/// What was found: whether something is bad, and what is to be written of it.
+#[derive(Drop)]
+struct Found {
+    bad: bool,
+    text: Vec<u8>,
+}
+
+/// Lints a script, and the INFs of the names.
+fn lint_script<F: Files>(
+    alloc: Global,
+    script: &[u8],
+    infs: &[String],
+    files: &mut F,
+) -> Result<Found, ReadError>
+    ensures bad { IfOk result (λ found. IfSome (F.contents files.old) (λ told. found.bad ≡ (is_bad_script script.now || bad_infs told (texts infs.now)))) }
+    ensures fits { IfOk result (λ _. IfSome (F.contents files.old) (λ told. some_large told (texts infs.now) ≡ false)) }
+    ensures text { IfOk result (λ found. IfSome (F.contents files.old) (λ told. AddsInfs told (driver_names script.now) (texts infs.now) (script_text script.now) found.text.items)) }
+    ensures too_large { IsErrOf result TooLarge → IfSome (F.contents files.old) (λ told. some_large told (texts infs.now) ≡ true) }
+    ensures failed { IsErrOf result ReadFault → SomeRose (F.faults files.old) (F.faults files.new) (texts infs.now) }
+{
+    let mut text = Vec::new(alloc);
+    let bad_script = report_script(alloc, script, &mut text)?;
+    let drivers = driver_names(alloc, script)?;
+    let bad_infs = lint_infs(alloc, files, infs, &drivers, &mut text)?;
+    let bad = either(bad_script, bad_infs);
+    Ok(Found { bad, text })
+}
+
+/// Lints the script and the INFs of the names.
+#[tactic(auto, using(crate::proofs::Steps::told_set_bad, crate::proofs::Steps::told_text, crate::proofs::Steps::set_fits, crate::proofs::Steps::script_exceeds, crate::proofs::Steps::inf_large, crate::proofs::Steps::rose_first, crate::proofs::Steps::rose_behind))]
+fn lint_files<F: Files>(
+    alloc: Global,
+    script: &[u8],
+    infs: &[String],
+    files: &mut F,
+) -> Result<Found, ReadError>
+    ensures bad { IfOk result (λ found. IfSome (F.contents files.old) (λ told. found.bad ≡ is_bad_set told script.now (texts infs.now))) }
+    ensures fits { IfOk result (λ _. IfSome (F.contents files.old) (λ told. some_large told (script.now ∷ texts infs.now) ≡ false)) }
+    ensures text { IfOk result (λ found. IfSome (F.contents files.old) (λ told. IsText told (told script.now) (texts infs.now) found.text.items)) }
+    ensures too_large { IsErrOf result TooLarge → IfSome (F.contents files.old) (λ told. some_large told (script.now ∷ texts infs.now) ≡ true) }
+    ensures failed { IsErrOf result ReadFault → SomeRose (F.faults files.old) (F.faults files.new) (script.now ∷ texts infs.now) }
+{
+    let bytes = read_all(alloc, files, script, LIMIT)?;
+    lint_script(alloc, &bytes, infs, files)
+}
+
+/// Writes what was found.
+fn write_found<K: Sink>(sink: &mut K, found: &Found) -> Status
+    ensures only { (result ≡ Status.WriteFault) ⊎ (result ≡ found_by found.now.bad) }
+    ensures wrote { is_reported result ≡ true → Appends (K.taken sink.old) (K.taken sink.new) found.now.text.items }
+    ensures write_fault { result ≡ Status.WriteFault → Rose (K.faults sink.old) (K.faults sink.new) }
+{
+    if write_all(sink, &found.text).is_err() {
+        return Status::WriteFault;
+    }
+    if found.bad {
+        Status::Found
+    } else {
+        Status::Clean
+    }
+}
+
 /// Lints the script and the INFs of the names, and writes what was found.
-fn lint_files<F: Files, K: Sink>(
+fn lint_named<F: Files, K: Sink>(
     alloc: Global,
     script: &[u8],
     infs: &[String],
     files: &mut F,
     sink: &mut K,
-) -> Result<bool, LintError>
-    ensures bad { IfOk result (λ bad. IfSome (F.contents files.old) (λ told. bad ≡ is_bad_set told script.now (texts infs.now))) }
-    ensures text { OnOk result (IfSome (F.contents files.old) (λ told. WroteScript (told script.now) (K.taken sink.old) (K.taken sink.new))) }
-    ensures write_fault { IsErrOf result WriteFault → Rose (K.faults sink.old) (K.faults sink.new) }
+) -> Status
+    ensures words { result ≡ Status.BadWords → ⊥ }
+    ensures decided { is_decided result ≡ true → IfSome (F.contents files.old) (λ told. decided_for told script.now (texts infs.now) ≡ result) }
+    ensures text { is_reported result ≡ true → IfSome (F.contents files.old) (λ told. WroteSet told script.now (texts infs.now) (K.taken sink.old) (K.taken sink.new)) }
+    ensures read_fault { result ≡ Status.ReadFault → SomeRose (F.faults files.old) (F.faults files.new) (script.now ∷ texts infs.now) }
+    ensures write_fault { result ≡ Status.WriteFault → Rose (K.faults sink.old) (K.faults sink.new) }
+    ensures unwritten { is_unwritten result ≡ true → K.taken sink.new ≡ K.taken sink.old }
 {
-    let mut out = Vec::new(alloc);
-    let bad_script = lint_script(alloc, files, script, &mut out)?;
-    let bad_infs = lint_infs(alloc, files, infs, &mut out)?;
-    write_all(sink, &out)?;
-    Ok(either(bad_script, bad_infs))
+    match lint_files(alloc, script, infs, files) {
+        Ok(found) => write_found(sink, &found),
+        Err(ReadError::ReadFault) => Status::ReadFault,
+        Err(ReadError::TooLarge) => Status::TooLarge,
+        Err(ReadError::WantOfMemory) => Status::WantOfMemory,
+    }
 }
 
 /// Lints what the words name: the program's name, a script, and up to 64 INFs. Each bad line of the script is written with its number,
-/// its word and its cause, and each INF that is refused with its faults. `Found` comes exactly where a run of the script would end at a
-/// bad line or one of the INFs is refused, as far as files tell what they hold, and `Clean` where not. `BadWords` comes exactly where the
-/// words are refused, and then nothing is read or written. Cost: the bytes of the files, and of an INF for each of its faults.
+/// its word and its cause, and behind them of each INF that is refused its faults, and of each other one its warnings. As far as files
+/// tell what they hold, `TooLarge` comes only where one of them has more than 16,777,216 bytes; else `Found` only where a run of the
+/// script would end at a bad line or one of the INFs is refused, and `Clean` only where not. Where no count of faults rose, one of these
+/// three is the answer, the one that the contents decide, or memory was refused. `BadWords` comes exactly where the words are refused, and
+/// then nothing is read or written. Nothing is written unless all was read. Cost: the bytes of the files, and of an INF for each of its
+/// faults; for the warnings the drivers of an INF times those of the script, and up to 1,024 install sections times the sections.
+#[tactic(auto, using(crate::proofs::Steps::answers))]
 pub fn lint<F: Files, K: Sink>(
     alloc: Global,
     words: &[String],
@@ -160,9 +170,13 @@ pub fn lint<F: Files, K: Sink>(
     sink: &mut K,
 ) -> Status
     ensures words { (result ≡ Status.BadWords) ↔ (are_words (texts words.now) ≡ false) }
-    ensures found { is_reported result ≡ true → IfSome (F.contents files.old) (λ told. is_found result ≡ is_bad_by told (texts words.now)) }
+    ensures unread { result ≡ Status.BadWords → F.faults files.new ≡ F.faults files.old }
+    ensures decided { is_decided result ≡ true → IfSome (F.contents files.old) (λ told. decided told (texts words.now) ≡ result) }
     ensures text { is_reported result ≡ true → IfSome (F.contents files.old) (λ told. WroteBy told (texts words.now) (K.taken sink.old) (K.taken sink.new)) }
+    ensures read_fault { result ≡ Status.ReadFault → SomeRose (F.faults files.old) (F.faults files.new) (named (texts words.now)) }
     ensures write_fault { result ≡ Status.WriteFault → Rose (K.faults sink.old) (K.faults sink.new) }
+    ensures unwritten { is_unwritten result ≡ true → K.taken sink.new ≡ K.taken sink.old }
+    ensures answered { are_words (texts words.now) ≡ true → IfSome (F.contents files.old) (λ told. Answers (decided told (texts words.now)) (SomeRose (F.faults files.old) (F.faults files.new) (named (texts words.now))) (Rose (K.faults sink.old) (K.faults sink.new)) result) }
 {
     if !are_words(words) {
         return Status::BadWords;
@@ -170,12 +184,5 @@ pub fn lint<F: Files, K: Sink>(
     let [_, script, infs @ ..] = words else {
         return Status::BadWords;
     };
-    match lint_files(alloc, script.as_bytes(), infs, files, sink) {
-        Ok(true) => Status::Found,
-        Ok(false) => Status::Clean,
-        Err(LintError::ReadFault) => Status::ReadFault,
-        Err(LintError::WriteFault) => Status::WriteFault,
-        Err(LintError::WantOfMemory) => Status::WantOfMemory,
-        Err(LintError::TooLarge) => Status::TooLarge,
-    }
+    lint_named(alloc, script.as_bytes(), infs, files, sink)
 }

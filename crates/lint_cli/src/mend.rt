@@ -67,7 +67,7 @@ fn front_of(text: &[u8]) -> &[u8]
 }
 
 /// A line without blanks before it and without a carriage return.
-fn bare(line: &[u8]) -> &[u8] {
+pub fn bare(line: &[u8]) -> &[u8] {
     match line {
         [front @ .., b'\r'] => front,
         _ => line,

@@ -1,7 +1,8 @@
 //! Texts of files as they are printed.
 ghost use Rattle.std.specs.Prelude.{◌≡◌, ◌++◌, OnOk, IfOk, map, take};
-ghost use Rattle.lint_cli.specs.Reports.{shown_byte, shown, quoted};
+ghost use Rattle.lint_cli.specs.Reports.{shown_byte, shown, quoted, at_line};
 
+use pnp_labels::decimal;
 use std::alloc::{AllocError, Global};
 
 /// The most bytes of a text that are printed.
@@ -52,5 +53,14 @@ pub fn push_quoted(alloc: Global, out: &mut Vec<u8>, word: &[u8]) -> Result<(), 
     out.push(b'"')?;
     push_shown(alloc, out, word)?;
     out.extend_from_slice(b"\" ")?;
+    Ok(())
+}
+
+/// Appends the number of a line.
+pub fn push_at_line(alloc: Global, out: &mut Vec<u8>, line: u32) -> Result<(), AllocError>
+    ensures { OnOk result (out.new.items ≡ out.old.items ++ at_line line) }
+{
+    out.extend_from_slice(b" line ")?;
+    out.extend_from_slice(decimal(alloc, line as u64)?.as_bytes())?;
     Ok(())
 }

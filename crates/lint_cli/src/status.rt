@@ -1,7 +1,7 @@
 /// How a lint ended; the number is the program's exit status. This project's own.
 #[derive(Clone, Copy, Debug, PartialEq, Eq)]
 pub enum Status {
-    /// No line of the script is bad, and each INF is read.
+    /// No line of the script is bad, and each INF is read. There may be warnings.
     Clean = 0,
     /// A line of the script is bad, or an INF is refused.
     Found = 1,

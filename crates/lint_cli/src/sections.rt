@@ -1,0 +1,190 @@
+//! The sections of an INF, with their entries, for the warnings that name causes. Nothing is claimed of them: `inf_reader` has the
+//! rules, and here they are read once more.
+
+use crate::mend::{bare, plain_text};
+use std::alloc::{AllocError, Global};
+
+/// An entry: the number of its line, its key, which is empty where there is none, and its values.
+#[derive(Debug, Drop)]
+pub struct Entry {
+    /// The number of the line, counted from 1.
+    pub line: u32,
+    /// What stands before the `=`.
+    pub key: Vec<u8>,
+    /// What stands behind it between commas.
+    pub values: Vec<Vec<u8>>,
+}
+
+/// A section: its name, and the entries below one header.
+#[derive(Debug, Drop)]
+pub struct Section {
+    /// The name.
+    pub name: Vec<u8>,
+    /// The entries.
+    pub entries: Vec<Entry>,
+}
+
+/// A line with those that continue it: its number, and its text without comments.
+#[derive(Debug, Drop)]
+struct Whole {
+    line: u32,
+    text: Vec<u8>,
+}
+
+/// The text without blanks at its ends.
+pub fn trimmed(text: &[u8]) -> &[u8] {
+    text.trim_ascii()
+}
+
+/// How much of a line stands before its comment, and whether a quoted part is open there.
+fn plain_end(line: &[u8]) -> (usize, bool) {
+    let mut quoted = false;
+    for at in 0..line.len() {
+        if line[at] == b'"' {
+            quoted = !quoted;
+        } else if line[at] == b';' && !quoted {
+            return (at, false);
+        }
+    }
+    (line.len(), quoted)
+}
+
+/// What a line says, without its comment, and whether the next one continues it.
+fn said(line: &[u8]) -> (&[u8], bool) {
+    let (end, quoted) = plain_end(line);
+    let text = match line.get(..end) {
+        Some(front) => trimmed(front),
+        None => line,
+    };
+    match text {
+        [b'[', ..] => (text, false),
+        [front @ .., b'\\'] if !quoted => (front, true),
+        _ => (text, false),
+    }
+}
+
+/// The lines of a text, each with those that continue it.
+fn whole_lines(alloc: Global, text: &[u8]) -> Result<Vec<Whole>, AllocError> {
+    let mut all = Vec::new(alloc);
+    let mut current = Vec::new(alloc);
+    let mut line = 1u32;
+    let mut first = 1u32;
+    for part in text.split(|byte| *byte == b'\n') {
+        let (body, goes_on) = said(bare(part));
+        current.extend_from_slice(body)?;
+        line = line.saturating_add(1);
+        if !goes_on {
+            all.push(Whole {
+                line: first,
+                text: current,
+            })?;
+            current = Vec::new(alloc);
+            first = line;
+        }
+    }
+    all.push(Whole {
+        line: first,
+        text: current,
+    })?;
+    Ok(all)
+}
+
+/// The text without blanks at its ends and without its quotes; of two quotes in a quoted part one stays.
+fn unquoted(alloc: Global, text: &[u8]) -> Result<Vec<u8>, AllocError> {
+    let mut all = Vec::new(alloc);
+    let mut quoted = false;
+    let mut before = false;
+    for byte in trimmed(text) {
+        if *byte == b'"' {
+            if before && !quoted {
+                all.push(b'"')?;
+            }
+            quoted = !quoted;
+            before = !quoted;
+        } else {
+            all.push(*byte)?;
+            before = false;
+        }
+    }
+    Ok(all)
+}
+
+/// The pieces between such bytes outside quotes.
+fn pieces(alloc: Global, text: &[u8], mark: u8) -> Result<Vec<Vec<u8>>, AllocError> {
+    let mut all = Vec::new(alloc);
+    let mut current = Vec::new(alloc);
+    let mut quoted = false;
+    for byte in text {
+        if *byte == b'"' {
+            quoted = !quoted;
+        }
+        if *byte == mark && !quoted {
+            all.push(unquoted(alloc, &current)?)?;
+            current = Vec::new(alloc);
+        } else {
+            current.push(*byte)?;
+        }
+    }
+    all.push(unquoted(alloc, &current)?)?;
+    Ok(all)
+}
+
+/// What stands before and behind the first `=` outside quotes.
+fn cut_equals(text: &[u8]) -> Option<(&[u8], &[u8])> {
+    let mut quoted = false;
+    for at in 0..text.len() {
+        if text[at] == b'"' {
+            quoted = !quoted;
+        } else if text[at] == b'=' && !quoted {
+            return Some((&text[..at], &text[at + 1..]));
+        }
+    }
+    None
+}
+
+/// The entry of a line.
+fn entry_of(alloc: Global, line: u32, text: &[u8]) -> Result<Entry, AllocError> {
+    match cut_equals(text) {
+        Some((key, values)) => Ok(Entry {
+            line,
+            key: unquoted(alloc, key)?,
+            values: pieces(alloc, values, b',')?,
+        }),
+        None => Ok(Entry {
+            line,
+            key: Vec::new(alloc),
+            values: pieces(alloc, text, b',')?,
+        }),
+    }
+}
+
+/// The name in a header.
+fn header_name(text: &[u8]) -> &[u8] {
+    let behind = text.get(1..).unwrap_or(&[]);
+    for at in 0..behind.len() {
+        if behind[at] == b']' {
+            return trimmed(behind.get(..at).unwrap_or(&[]));
+        }
+    }
+    trimmed(behind)
+}
+
+/// The sections of an INF in order, of which the first stands before any header.
+pub fn sections_of(alloc: Global, bytes: &[u8]) -> Result<Vec<Section>, AllocError> {
+    let text = plain_text(alloc, bytes)?;
+    let plain = text.strip_prefix(&[0xEF, 0xBB, 0xBF]).unwrap_or(&text);
+    let mut all = Vec::new(alloc);
+    let mut name = Vec::new(alloc);
+    let mut entries = Vec::new(alloc);
+    for whole in &whole_lines(alloc, plain)? {
+        if whole.text.starts_with(b"[") {
+            all.push(Section { name, entries })?;
+            name = Vec::from_slice(alloc, header_name(&whole.text))?;
+            entries = Vec::new(alloc);
+        } else if !whole.text.is_empty() {
+            entries.push(entry_of(alloc, whole.line, &whole.text)?)?;
+        }
+    }
+    all.push(Section { name, entries })?;
+    Ok(all)
+}

@@ -1,0 +1,144 @@
+//! INFs that lack something, and the warnings. The lines of an INF are counted from its `[Version]`, which stands on two lines before it.
+use crate::lints::gives;
+use lint_cli::Status;
+use std::test::Fail;
+
+#[test]
+fn a_whole_inf_has_no_warning(rt: HostRuntime) -> Result<(), Fail> {
+    let inf = "; all is there
+[manufacturer]
+%Own% = Models, NTx86, NTamd64.10.0
+[Models.NTamd64.10.0]
+\"A; device\" = \"In,st\", OWN\\DEV
+[In,st.NTamd64]
+[In,st.NTamd64.services]
+AddService = \"DEV\", 0x00000002, Svc ; the driver
+[In,st.NTamd64.HW]
+AddReg = %Filters%
+[Filters.Here]
+HKR,,\"LowerFilters\",0x00010000,\"low\"
+[Strings]
+Own = \"Own\"
+Filters = Filters.Here
+";
+    gives(&rt, rt.alloc(), inf, Status::Clean, "")
+}
+
+#[test]
+fn an_inf_without_models_lines(rt: HostRuntime) -> Result<(), Fail> {
+    let inf = "[Manufacturer]\nOwn = Models\n";
+    let text =
+        "inf i: warning: no models line is read, so no device gets a driver from it (problem 28)
+inf i line 4: warning: there is no models section [Models]
+";
+    gives(&rt, rt.alloc(), inf, Status::Clean, text)
+}
+
+#[test]
+fn models_of_other_machines(rt: HostRuntime) -> Result<(), Fail> {
+    let inf = "[Manufacturer]
+Own = %Name%,NTx86, \\
+  NTarm64
+[Models.NTx86]
+A = I, OWN\\DEV
+[models.ntarm64]
+A = I, OWN\\DEV
+[Modelsome]
+[Strings]
+Name = Models
+";
+    let text =
+        "inf i: warning: no models line is read, so no device gets a driver from it (problem 28)
+inf i line 4: warning: there is no models section [Models], and [Models.NTx86] [models.ntarm64] is not read: no decoration is NTamd64, NT, or begins with NTamd64.
+";
+    gives(&rt, rt.alloc(), inf, Status::Clean, text)
+}
+
+#[test]
+fn a_service_under_another_name(rt: HostRuntime) -> Result<(), Fail> {
+    let inf = "[Manufacturer]
+Own = M
+[M]
+A = I, , OWN\\DEV
+B = J, OWN\\OTHER
+[I]
+[I.Service]
+AddService = dev, 2, Svc
+";
+    let text =
+        "inf i line 6: warning: \"OWN\\DEV\" gets no driver: its models line has no service, which an AddService with the flag 2 gives (problem 28)
+inf i line 7: warning: \"OWN\\OTHER\" gets no driver: its models line has no service, which an AddService with the flag 2 gives (problem 28)
+inf i line 6: warning: there is no section [I.Services], which gives the driver
+inf i line 7: warning: there is no section [J], which this line installs
+inf i line 7: warning: there is no section [J.Services], which gives the driver
+";
+    gives(&rt, rt.alloc(), inf, Status::Clean, text)
+}
+
+#[test]
+fn services_without_the_flag(rt: HostRuntime) -> Result<(), Fail> {
+    let inf = "[Manufacturer]
+Own = M
+[M]
+A = I, OWN\\DEV
+[I.Services]
+AddService = power, 0x801, Svc
+AddService = dev, , Svc
+AddService = wide, 0x100000002, Svc
+AddService = large, 0X2, Svc
+";
+    let text =
+        "inf i line 6: warning: \"OWN\\DEV\" gets no driver: its models line has no service, which an AddService with the flag 2 gives (problem 28)
+inf i line 8: warning: \"power\" is no function driver: its flags have not the bit 2
+inf i line 9: warning: \"dev\" is no function driver: its flags have not the bit 2
+inf i line 10: warning: \"wide\" is no function driver: its flags have not the bit 2
+inf i line 11: warning: \"large\" is no function driver: its flags have not the bit 2
+";
+    gives(&rt, rt.alloc(), inf, Status::Clean, text)
+}
+
+#[test]
+fn a_line_that_matches_nothing(rt: HostRuntime) -> Result<(), Fail> {
+    let inf = "[Manufacturer]
+Own = M
+[M]
+A = I
+[I.Services]
+AddService = dev, 2, Svc
+[J.Services]
+";
+    gives(&rt, rt.alloc(), inf, Status::Clean, "")
+}
+
+#[test]
+fn drivers_that_no_line_names(rt: HostRuntime) -> Result<(), Fail> {
+    let inf = "[Manufacturer]
+Own = M
+[M]
+A = I, OWN\\DEV
+B = I, OWN\\OTHER
+C = J, OWN\\THIRD
+[I.Services]
+AddService = div, 2, Svc
+[J.Services]
+AddService = DIV, 2, Svc
+[J.HW]
+AddReg = Here, There
+[Here]
+HKR,,\"LowerFilters\",0x00010000,\"LOW\",\"lower\"
+HKR,,\"UpperFilters\",0x00010000,\"div\",\"up\"
+";
+    let text = "inf i line 6: warning: \"div\" is named by no driver line of the script (problem 39)
+inf i line 8: warning: \"lower\" is named by no driver line of the script (problem 39)
+inf i line 8: warning: \"up\" is named by no driver line of the script (problem 39)
+inf i line 14: warning: there is no section [There], which AddReg names
+";
+    gives(&rt, rt.alloc(), inf, Status::Clean, text)
+}
+
+#[test]
+fn a_refused_inf_has_no_warnings(rt: HostRuntime) -> Result<(), Fail> {
+    let inf = "[Manufacturer]\nOwn = M\n[I]\nFeatureScore = 300\n";
+    let text = "inf i line 6: FeatureScore is no number up to 255: \"FeatureScore = 300\"\n";
+    gives(&rt, rt.alloc(), inf, Status::Found, text)
+}
