@@ -1,7 +1,6 @@
 -- What is allowed after so many lines of a trace.
-use Rattle.std.specs.Prelude.{ℕ, ◌+◌, ◌≡◌, ◌↔◌, List, ◌++◌, Option, Some, None, Ok, Result, length, map, Contains}
+use Rattle.std.specs.Prelude.{ℕ, ◌+◌, ◌≡◌, ◌↔◌, List, [], ◌∷◌, ◌++◌, Option, Some, None, Ok, Result, length, map, Contains, Vec}
 use Rattle.std.specs.Global.{Global}
-use Rattle.std.specs.Vec.{Vec}
 use Rattle.inf_reader.specs.declared.parts.Inf.{Inf}
 use Rattle.inf_reader.specs.declared.parts.InfError.{InfError}
 use Rattle.inf_reader.specs.Meaning.{inf}
@@ -33,6 +32,10 @@ Arrives told here trace count place = (there : Place) → IsReached told here tr
 abbrev pub NextBy : Answer → Settings → Place → Option Text → Type 0
 NextBy answer told here (Some line) = (next : Place) × AllowsBy answer told here line next
 NextBy answer told here None = AllowsNone told here
+
+abbrev pub list_of : Option Text → List Text
+list_of None = []
+list_of (Some line) = line ∷ []
 
 -- the same after so many lines of the trace
 abbrev pub LineBy : Answer → Settings → Place → Text → ℕ → Option Text → Type 0

@@ -1,9 +1,9 @@
-ghost use Rattle.std.specs.Prelude.{◌≡◌, ◌≤◌, ◌<◌, ◌-◌, ◌^◌, true, IfOk, List, length, map, option_map};
+ghost use Rattle.std.specs.Prelude.{◌≡◌, ◌≤◌, ◌<◌, ◌-◌, ◌^◌, true, ◌++◌, IfOk, OnOk, List, length, map, option_map};
 ghost use Rattle.inf_reader.specs.declared.parts.Inf.{Inf};
 ghost use Rattle.start_sequence.specs.Begins.{settings_of};
 ghost use Rattle.script_reader.specs.Script as scripts;
 ghost use Rattle.free_model.specs.Checks.{beginning};
-ghost use Rattle.trace_hint.specs.Hints.{AllowedAt, AreRead, IsSeen, LineBy, NextBy};
+ghost use Rattle.trace_hint.specs.Hints.{AllowedAt, AreRead, IsSeen, LineBy, NextBy, list_of};
 ghost use Rattle.trace_hint.specs.Spots.{IsOf, IsReady, place};
 ghost use Rattle.pnp_model.specs.Records.{Settings};
 
@@ -65,20 +65,17 @@ fn line_by(
     next_line(alloc, spot, answer)
 }
 
-/// Appends a line that is not there yet.
-fn add_line(lines: &mut Vec<Vec<u8>>, line: Option<Vec<u8>>) -> Result<(), WantOfMemory> {
-    if let Some(line) = line {
-        let mut known = false;
-        for other in lines.iter() {
-            if *other == line {
-                known = true;
-            }
-        }
-        if !known {
+/// Appends a line, if there is one.
+fn add_line(lines: &mut Vec<Vec<u8>>, line: Option<Vec<u8>>) -> Result<(), WantOfMemory>
+    ensures { OnOk result (map (λ l. l.items) lines.new.items ≡ map (λ l. l.items) lines.old.items ++ list_of (option_map (λ l. l.items) line)) }
+{
+    match line {
+        None => Ok(()),
+        Some(line) => {
             lines.push(line)?;
+            Ok(())
         }
     }
-    Ok(())
 }
 
 /// The lines, without LFs, that are allowed after so many lines of a trace, which are allowed one after another: one, or the lines of an
@@ -101,9 +98,36 @@ pub fn allowed_at(
     ensures { IfOk result (λ allowed. (read : List Inf) → AreRead infs.now read
         → AllowedAt (settings_of read budget) (beginning kinds.now (scripts.trace true 0 script.now)) trace.now before (map (λ l. l.items) allowed.items)) }
 {
-    let ok = line_by(alloc, script, infs, kinds, budget, trace, before, Answer::Ok)?;
-    let fail = line_by(alloc, script, infs, kinds, budget, trace, before, Answer::Fail)?;
-    let pend = line_by(alloc, script, infs, kinds, budget, trace, before, Answer::Pend)?;
+    let ok = line_by(
+        alloc,
+        script,
+        infs,
+        kinds,
+        budget,
+        trace,
+        before,
+        Answer::Ok,
+    )?;
+    let fail = line_by(
+        alloc,
+        script,
+        infs,
+        kinds,
+        budget,
+        trace,
+        before,
+        Answer::Fail,
+    )?;
+    let pend = line_by(
+        alloc,
+        script,
+        infs,
+        kinds,
+        budget,
+        trace,
+        before,
+        Answer::Pend,
+    )?;
     let mut lines = Vec::new(alloc);
     add_line(&mut lines, ok)?;
     add_line(&mut lines, fail)?;

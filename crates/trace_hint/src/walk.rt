@@ -32,7 +32,12 @@ fn walk_line(alloc: Global, spot: Spot, rest: &[u8]) -> Result<(Spot, usize), Wa
 }
 
 /// Takes so many lines of a trace, all of which are allowed, one after another: where they lead. Cost: that of the run up to there.
-pub(crate) fn walk(alloc: Global, spot: Spot, trace: &[u8], count: u64) -> Result<Spot, WantOfMemory>
+pub(crate) fn walk(
+    alloc: Global,
+    spot: Spot,
+    trace: &[u8],
+    count: u64,
+) -> Result<Spot, WantOfMemory>
     requires ready { IsReady spot }
     ensures leads { IfOk result (λ there. (told : Settings) → IsOf told spot → Arrives told (place spot) trace.now count (place there) × IsOf told there) }
     ensures ready { IfOk result (λ there. IsReady there) }
