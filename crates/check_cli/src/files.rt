@@ -4,7 +4,7 @@ ghost use Rattle.std.specs.Prelude.{◌≤◌, IfOk, length};
 use crate::error::CheckError;
 use inf_reader::{InfError, read};
 use pnp_io::{Files, read_all};
-use std::alloc::Global;
+use std::alloc::{AllocError, Global};
 
 /// The most bytes that a file may have: this project's own.
 const LIMIT: u64 = 16_777_216;
@@ -36,6 +36,12 @@ fn read_inf<F: Files>(
     }
 }
 
+/// Appends the bytes of an INF.
+fn keep(infs: &mut Vec<Vec<u8>>, bytes: Vec<u8>) -> Result<(), AllocError> {
+    infs.push(bytes)?;
+    Ok(())
+}
+
 /// Reads the INFs of these names, each of which is checked before the next one is read.
 pub(crate) fn read_infs<F: Files>(
     alloc: Global,
@@ -44,7 +50,8 @@ pub(crate) fn read_infs<F: Files>(
 ) -> Result<Vec<Vec<u8>>, CheckError> {
     let mut infs = Vec::new(alloc);
     for at in 0..names.len() {
-        infs.push(read_inf(alloc, files, at as u64 + 1, &names[at])?)?;
+        let bytes = read_inf(alloc, files, at as u64 + 1, &names[at])?;
+        keep(&mut infs, bytes)?;
     }
     Ok(infs)
 }

@@ -59,5 +59,6 @@ pub(crate) fn push_line(
         out.extend_from_slice(b"..")?;
     }
     out.extend_from_slice(behind)?;
-    out.push(b'\n')
+    out.push(b'\n')?;
+    Ok(())
 }

@@ -24,7 +24,7 @@ fn push_there(out: &mut Vec<u8>, lines: &[&[u8]], number: u64) -> Result<(), All
 fn is_in_last_part(lines: &[&[u8]], number: u64) -> bool {
     let mut found = false;
     for at in 0..lines.len() {
-        if at as u64 + 1 < number && lines[at] == b"outstanding" {
+        if at as u64 + 1 < number && lines[at] == b"outstanding".as_slice() {
             found = true;
         }
     }

@@ -73,9 +73,9 @@ fn budget(bytes: &[u8]) -> Option<u64>
 
 /// What one word says, where options are not ended.
 fn word_of<'a>(word: &'a [u8]) -> Word<'a> {
-    if word == b"--" {
+    if word == b"--".as_slice() {
         Word::Dashes
-    } else if word == b"--budget" {
+    } else if word == b"--budget".as_slice() {
         Word::Budget
     } else {
         match word {
@@ -113,7 +113,8 @@ fn set_budget(given: &mut Option<u64>, bytes: &[u8]) -> Result<(), CheckError>
 /// Appends a name.
 fn add_name(alloc: Global, names: &mut Vec<Vec<u8>>, word: &[u8]) -> Result<(), AllocError> {
     let name = Vec::from_slice(alloc, word)?;
-    names.push(name)
+    names.push(name)?;
+    Ok(())
 }
 
 /// What the words give, of which the first is the program's name, and is not looked at: the names of a trace, a script and up to 64 INFs,

@@ -184,13 +184,13 @@ allowed_is files budget here trace count ok fail pend allowed by_ok by_fail by_p
 
 pub seen_yes : (files : List (Vec ℕ Global)) (budget : ℕ) (here : Place) (trace : Text) (own : List Inf) → AreRead files own → IsYes (settings_of own budget) here trace
     → (read : List Inf) → AreRead files read → IsYes (settings_of read budget) here trace
-seen_yes files budget here trace own is yes read too = subst (λ (i : List Inf). IsYes (settings_of i budget) here trace) (one_read own read (sym is ∙ too)) yes
+seen_yes files budget here trace own is all read too = subst (λ (i : List Inf). IsYes (settings_of i budget) here trace) (one_read own read (sym is ∙ too)) all
 
 pub seen_no : (files : List (Vec ℕ Global)) (budget : ℕ) (here : Place) (trace : Text) (own : List Inf) (line before : ℕ) (allowed : List Text) → AreRead files own
     → IsNo (settings_of own budget) here trace line → before ≡ line - 1 → ((read : List Inf) → AreRead files read → AllowedAt (settings_of read budget) here trace before allowed)
     → (read : List Inf) → AreRead files read → Stops (settings_of read budget) here trace line allowed
-seen_no files budget here trace own line before allowed is no count each read too =
-    let (lines, there, rest, follow, whole, stuck, number) = subst (λ (i : List Inf). IsNo (settings_of i budget) here trace line) (one_read own read (sym is ∙ too)) no in
+seen_no files budget here trace own line before allowed is found count each read too =
+    let (lines, there, rest, follow, whole, stuck, number) = subst (λ (i : List Inf). IsNo (settings_of i budget) here trace line) (one_read own read (sym is ∙ too)) found in
     record {
       lines = lines;
       there = there;
