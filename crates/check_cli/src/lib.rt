@@ -2,7 +2,7 @@
 //! verdict, and where the trace is no run, what stands there and what is allowed in its place.
 #![tactic(auto)]
 
-mod check;
+mod checks;
 mod error;
 mod files;
 mod kinds;
@@ -11,5 +11,5 @@ mod report;
 mod status;
 mod words;
 
-pub use check::check;
+pub use checks::check;
 pub use status::Status;
