@@ -1,5 +1,6 @@
 //! The check of the trace that the words name.
-ghost use Rattle.std.specs.Prelude.{◌≡◌, ◌≤◌};
+ghost use Rattle.std.specs.Prelude.{◌≡◌, ◌≤◌, IfOk};
+ghost use Rattle.check_cli.specs.Checks.{SaysNamed, SaysOf, status_of, texts};
 ghost use Rattle.pnp_io.specs.Outside.{Rose};
 
 use crate::error::CheckError;
@@ -17,34 +18,53 @@ use trace_hint::{Seen, look_at};
 const MOST_INFS: usize = 64;
 
 /// The status of what was seen.
-fn status_of(seen: &Seen) -> Status {
+fn status_of(seen: &Seen) -> Status
+    ensures { result ≡ status_of seen.now }
+{
     match seen {
         Seen::Yes => Status::Done,
         Seen::No { .. } => Status::NotARun,
     }
 }
 
-/// Reads the INFs, the trace and the script that are named, each whole, and looks at the trace: the status and what is to be written.
+/// Reads the INFs, the trace and the script of these names, each whole, and looks at the trace: the status and what is to be written.
+fn look_named<F: Files>(
+    alloc: Global,
+    trace_name: &[u8],
+    script_name: &[u8],
+    inf_names: &[Vec<u8>],
+    budget: u64,
+    files: &mut F,
+) -> Result<(Status, Vec<u8>), CheckError>
+    requires { budget ≤ 1000000 }
+    ensures { IfOk result (λ r. SaysNamed (F.contents files.old) trace_name.now script_name.now (texts inf_names.now) budget r.0) }
+{
+    let infs = read_infs(alloc, files, inf_names)?;
+    let trace = read_file(alloc, files, trace_name)?;
+    let script = read_file(alloc, files, script_name)?;
+    if infs.len() > MOST_INFS {
+        return Err(CheckError::BadWords);
+    }
+    let kinds = program_kinds(alloc)?;
+    let seen = look_at(alloc, &script, &infs, &kinds, budget, &trace)?;
+    let text = report(alloc, &seen, &trace)?;
+    let status = status_of(&seen);
+    Ok((status, text))
+}
+
+/// The same of what the words name.
 fn look<F: Files>(
     alloc: Global,
     words: &Words,
     files: &mut F,
 ) -> Result<(Status, Vec<u8>), CheckError>
     requires { words.now.budget ≤ 1000000 }
+    ensures { IfOk result (λ r. SaysOf (F.contents files.old) (texts words.now.names.items) words.now.budget r.0) }
 {
     let [trace, script, infs @ ..] = words.names.as_slice() else {
         return Err(CheckError::BadWords);
     };
-    let infs = read_infs(alloc, files, infs)?;
-    let trace = read_file(alloc, files, trace)?;
-    let script = read_file(alloc, files, script)?;
-    if infs.len() > MOST_INFS {
-        return Err(CheckError::BadWords);
-    }
-    let kinds = program_kinds(alloc)?;
-    let seen = look_at(alloc, &script, &infs, &kinds, words.budget, &trace)?;
-    let text = report(alloc, &seen, &trace)?;
-    Ok((status_of(&seen), text))
+    look_named(alloc, trace, script, infs, words.budget, files)
 }
 
 /// Writes a text; the status, where it was written.
