@@ -27,12 +27,7 @@ fn tell_refusal<K: Sink>(
 }
 
 /// Answers for a refused INF, whose line is written.
-pub fn answer_refusal<K: Sink>(
-    alloc: Global,
-    number: u64,
-    error: InfError,
-    sink: &mut K,
-) -> Status
+pub fn answer_refusal<K: Sink>(alloc: Global, number: u64, error: InfError, sink: &mut K) -> Status
     ensures only { (result ≡ Status.BadInf) ⊎ ((result ≡ Status.WriteFault) ⊎ (result ≡ Status.WantOfMemory)) }
     ensures took { result ≡ Status.BadInf → Appends (K.taken sink.old) (K.taken sink.new) (refusal_line number error) }
     ensures front { AppendsFront (K.taken sink.old) (K.taken sink.new) (refusal_line number error) }

@@ -235,7 +235,14 @@ fn settings_from(alloc: Global, found: &ArgMatches) -> Result<Settings, WordsErr
         return Err(WordsError::BadWords);
     };
     let check = text_found(found, "check");
-    with_source(alloc, text_found(found, "script"), infs, budget, made, check)
+    with_source(
+        alloc,
+        text_found(found, "script"),
+        infs,
+        budget,
+        made,
+        check,
+    )
 }
 
 /// The settings that the words give: the program's name, which is not looked at, and then

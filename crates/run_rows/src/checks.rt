@@ -11,13 +11,16 @@ use std::test::Fail;
 const SCRIPT: &[u8] = b"driver dev steady\nplug HTREE\\ROOT\\0 OWN\\DEV 1\n";
 
 /// What is printed for it.
-const TRACE: &[u8] = b"event driver dev\nevent plug OWN\\DEV\\1\njoin 1 OWN\\DEV\\1\nlisted HTREE\\ROOT\\0\ninstall OWN\\DEV\\1 00ff0000 dev\nadd OWN\\DEV\\1 dev ok\nassign OWN\\DEV\\1\nSTART_DEVICE OWN\\DEV\\1 dev ok\nstate OWN\\DEV\\1 Started\nlisted OWN\\DEV\\1\ntree\n0 HTREE\\ROOT\\0 Started\n 1 OWN\\DEV\\1 Started\nmap\noutstanding\n";
+const TRACE: &[u8] =
+    b"event driver dev\nevent plug OWN\\DEV\\1\njoin 1 OWN\\DEV\\1\nlisted HTREE\\ROOT\\0\ninstall OWN\\DEV\\1 00ff0000 dev\nadd OWN\\DEV\\1 dev ok\nassign OWN\\DEV\\1\nSTART_DEVICE OWN\\DEV\\1 dev ok\nstate OWN\\DEV\\1 Started\nlisted OWN\\DEV\\1\ntree\n0 HTREE\\ROOT\\0 Started\n 1 OWN\\DEV\\1 Started\nmap\noutstanding\n";
 
 /// The same with another answer in line 8, after which the device would not be Started.
-const OTHER_ANSWER: &[u8] = b"event driver dev\nevent plug OWN\\DEV\\1\njoin 1 OWN\\DEV\\1\nlisted HTREE\\ROOT\\0\ninstall OWN\\DEV\\1 00ff0000 dev\nadd OWN\\DEV\\1 dev ok\nassign OWN\\DEV\\1\nSTART_DEVICE OWN\\DEV\\1 dev fail\nstate OWN\\DEV\\1 Started\nlisted OWN\\DEV\\1\ntree\n0 HTREE\\ROOT\\0 Started\n 1 OWN\\DEV\\1 Started\nmap\noutstanding\n";
+const OTHER_ANSWER: &[u8] =
+    b"event driver dev\nevent plug OWN\\DEV\\1\njoin 1 OWN\\DEV\\1\nlisted HTREE\\ROOT\\0\ninstall OWN\\DEV\\1 00ff0000 dev\nadd OWN\\DEV\\1 dev ok\nassign OWN\\DEV\\1\nSTART_DEVICE OWN\\DEV\\1 dev fail\nstate OWN\\DEV\\1 Started\nlisted OWN\\DEV\\1\ntree\n0 HTREE\\ROOT\\0 Started\n 1 OWN\\DEV\\1 Started\nmap\noutstanding\n";
 
 /// The run in which the driver pends the start.
-const PENDED: &[u8] = b"event driver dev\nevent plug OWN\\DEV\\1\njoin 1 OWN\\DEV\\1\nlisted HTREE\\ROOT\\0\ninstall OWN\\DEV\\1 00ff0000 dev\nadd OWN\\DEV\\1 dev ok\nassign OWN\\DEV\\1\nSTART_DEVICE OWN\\DEV\\1 dev pend\ntree\n0 HTREE\\ROOT\\0 Started\n 1 OWN\\DEV\\1 NotStarted\nmap\noutstanding\nOWN\\DEV\\1 START_DEVICE dev\n";
+const PENDED: &[u8] =
+    b"event driver dev\nevent plug OWN\\DEV\\1\njoin 1 OWN\\DEV\\1\nlisted HTREE\\ROOT\\0\ninstall OWN\\DEV\\1 00ff0000 dev\nadd OWN\\DEV\\1 dev ok\nassign OWN\\DEV\\1\nSTART_DEVICE OWN\\DEV\\1 dev pend\ntree\n0 HTREE\\ROOT\\0 Started\n 1 OWN\\DEV\\1 NotStarted\nmap\noutstanding\nOWN\\DEV\\1 START_DEVICE dev\n";
 
 const BARE_END: &[u8] = b"tree\n0 HTREE\\ROOT\\0 Started\nmap\noutstanding\n";
 

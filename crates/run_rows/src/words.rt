@@ -50,14 +50,8 @@ const GOOD: [(&[&str], &[u8]); 16] = [
         b"none made 50 5",
     ),
     (&["pnpmgr", "--", "--gen", "1"], b"--gen 1 20000"),
-    (
-        &["pnpmgr", "--check", "t", "s", "i"],
-        b"s i check t 20000",
-    ),
-    (
-        &["pnpmgr", "s", "--budget=5", "--check=t"],
-        b"s check t 5",
-    ),
+    (&["pnpmgr", "--check", "t", "s", "i"], b"s i check t 20000"),
+    (&["pnpmgr", "s", "--budget=5", "--check=t"], b"s check t 5"),
     (&["pnpmgr", "s", "--", "--check"], b"s --check 20000"),
 ];
 

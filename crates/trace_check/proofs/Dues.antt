@@ -1,15 +1,15 @@
 -- The end of an output against what stands in a trace.
-use Rattle.std.proofs.Common.{ℕ, ◌+◌, ◌≡◌, Bool, true, false, List, [], ◌∷◌, ◌++◌, length, refl, sym, ap, ◌∙◌, subst, arith, if◌then◌else◌, append_assoc, append-nil, drop, ◌≤◌}
+use Rattle.std.proofs.Common.{ℕ, ◌+◌, ◌≡◌, Bool, true, false, List, [], ◌∷◌, ◌++◌, length, refl, sym, ap, ◌∙◌, subst, arith, if◌then◌else◌, append_assoc, drop, ◌≤◌}
 use Rattle.std.proofs.lemmas.Bool.{eqb-true, eqb-false}
 use Rattle.std.proofs.lemmas.List.{drop_all}
 use Rattle.std.specs.Prelude.{◌==◌, ◌||◌}
 use Rattle.pnp_labels.specs.Texts.{Text}
 use Rattle.pnp_model.specs.Records.{Settings}
 use Rattle.pnp_model.specs.Endings.{joined}
-use Rattle.free_model.specs.Checks.{Place, Ends, AllowsFirst, Follow, IsStuck, IsYes, IsNo, has_feed}
+use Rattle.free_model.specs.Checks.{Ends, Follow, IsStuck, IsNo, has_feed}
 use Rattle.free_model.proofs.Lines.{or_false}
-use Rattle.free_model.proofs.Outs.{Due, follow_due}
-use Rattle.trace_check.specs.Letters.{counted, lines_alike}
+use Rattle.free_model.proofs.Outs.{follow_due}
+use Rattle.trace_check.specs.Letters.{lines_alike}
 use Rattle.trace_check.specs.Turns.{Tells}
 use Rattle.trace_check.specs.declared.check.Checked.{Checked}
 use Rattle.trace_check.proofs.Telling.{feed_append, no_feed_both}

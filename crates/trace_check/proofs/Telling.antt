@@ -1,5 +1,5 @@
 -- What a line tells by its last letter.
-use Rattle.std.proofs.Common.{ℕ, ◌≡◌, Bool, true, false, List, [], ◌∷◌, ◌++◌, Option, Some, None, refl, sym, ap, ◌∙◌, if◌then◌else◌, append_assoc, append-nil}
+use Rattle.std.proofs.Common.{ℕ, ◌≡◌, Bool, true, false, [], ◌∷◌, ◌++◌, Some, None, refl, sym, ap, ◌∙◌, if◌then◌else◌, append_assoc, append-nil}
 use Rattle.std.specs.Prelude.{◌==◌, ◌||◌, codes}
 use Rattle.pnp_labels.specs.Texts.{Text, label_line, spaced, minor_text, shown_text, ok_text}
 use Rattle.pnp_labels.specs.declared.words.Answer.{Answer}

@@ -1,8 +1,7 @@
 -- What a turn finds, from what the run, the reader and the comparison say.
-use Rattle.std.proofs.Common.{ℕ, ◌+◌, ◌<◌, ◌≤◌, ◌≡◌, true, false, inl, inr, Option, Some, None, Result, Ok, Err, IfOk, List, [], ◌∷◌, ◌++◌, drop, length, refl, sym, ap, ◌∙◌, subst, arith, append_assoc, append-nil, length-append}
+use Rattle.std.proofs.Common.{ℕ, ◌+◌, ◌<◌, ◌≤◌, ◌≡◌, true, false, inl, inr, Some, None, Result, Ok, Err, IfOk, List, [], ◌∷◌, ◌++◌, drop, length, refl, sym, ap, ◌∙◌, subst, arith, append-nil, length-append}
 use Rattle.pnp_labels.specs.Texts.{Text, label_line}
 use Rattle.pnp_labels.specs.declared.event.Event.{Event}
-use Rattle.pnp_labels.specs.declared.label.Label.{Label}
 use Rattle.pnp_labels.specs.declared.words.Answer.{Answer}
 use Rattle.pnp_labels.specs.declared.words.DriverKind.{DriverKind}
 use Rattle.inf_reader.specs.declared.parts.Inf.{Inf}
@@ -12,7 +11,6 @@ use Rattle.pnp_model.specs.Records.{State, Settings}
 use Rattle.start_sequence.specs.Begins.{settings_of}
 use Rattle.script_reader.specs.Answers.{Answers}
 use Rattle.script_reader.specs.Reading.{Reading, Moves}
-use Rattle.script_reader.specs.Script as scripts
 use Rattle.script_reader.specs.Script.{Trace, gives, ends, stops, trace}
 use Rattle.script_reader.specs.declared.next.Next.{Next}
 use Rattle.free_model.specs.Frees.{free_opening}
@@ -113,10 +111,6 @@ pub event_turns : {E : Type 0} (r : Result Turn E) (run : Free) (old new : Readi
 event_turns (Ok turn) run old new event rest lines finished answers finds on = event_turn turn run old new event rest lines finished answers finds on
 event_turns (Err e) run old new event rest lines finished answers finds on = tt
 
--- a verdict where nothing more is read
-pub over_turn : (checked : Checked) (run : Free) (old : Reading) (rest : Text) (lines : ℕ) → Tells checked (settings run) (place run old) rest lines → IsTurn (Turn.Over checked) run old rest lines old
-over_turn checked run old rest lines tells = record { finds = tells; room = tt; finished = refl }
-
 -- a verdict where the reader gives this
 over_read : (checked : Checked) (run : Free) (old new : Reading) (script : Trace) (rest : Text) (lines : ℕ) → trace true old.passed old.rest ≡ script → new.finished ≡ old.finished
     → Tells checked (settings run) (Runs run.state script) rest lines → IsTurn (Turn.Over checked) run old rest lines new
@@ -138,10 +132,6 @@ bad_turn checked run old new number rest lines finished (moves, _, _, is, stuck)
     over_read checked run old new (stops number) rest lines
     (read_on old new finished moves ∙ ap (trace true new.passed) (sym (append-nil new.rest)) ∙ stuck.same true [] new.passed (λ shut. (refl, refl)) ∙ ap stops (sym is))
     moves.finished tells
-
--- a reader that was finished needs no more
-pub needs_none : (old new : Reading) → old.finished ≡ true → Answers Next.NeedMore old new → ⊥
-needs_none old new finished (moves, _, needs, _) = let bad : true ≡ false = sym finished ∙ sym moves.finished ∙ needs.open_ in absurd (cc)
 
 -- The whole -------------------------------------------------------------------------------
 

@@ -1,11 +1,11 @@
 -- Verdicts of what is left: where nothing is allowed, and where a line is.
-use Rattle.std.proofs.Common.{ℕ, suc, ◌+◌, ◌≡◌, true, false, drop, inl, inr, List, [], ◌∷◌, ◌++◌, length, refl, sym, ap, ◌∙◌, subst, arith, append_assoc, append-nil}
+use Rattle.std.proofs.Common.{ℕ, suc, ◌+◌, ◌≡◌, false, inl, inr, [], ◌∷◌, ◌++◌, length, refl, sym, ap, ◌∙◌, subst, arith, append_assoc}
 use Rattle.pnp_labels.specs.Texts.{Text}
 use Rattle.pnp_model.specs.Records.{State, Settings}
 use Rattle.pnp_model.specs.Machine.{IsQuiet}
 use Rattle.pnp_model.specs.Endings.{joined}
 use Rattle.script_reader.specs.Script.{Trace, ends, stops}
-use Rattle.free_model.specs.Checks.{Place, Runs, Ends, Allows, AllowsAtRest, AllowsStep, Follow, IsStuck, IsYes, IsNo, IsChecked, end_bytes, bad_line}
+use Rattle.free_model.specs.Checks.{Place, Runs, Ends, Allows, AllowsAtRest, IsNo, IsChecked, end_bytes, bad_line}
 use Rattle.free_model.proofs.OneVerdict.{no_step}
 use Rattle.trace_check.specs.declared.check.Checked.{Checked}
 use Rattle.trace_check.specs.Turns.{Tells, IfFront}
@@ -18,7 +18,9 @@ one_longer n m e = omega arith
 
 pub no_on : (told : Settings) (here mid : Place) (line rest : Text) (number : ℕ) → Allows told here line mid → IsNo told mid rest number → IsNo told here (line ++ 10 ∷ rest) (number + 1)
 no_on told here mid line rest number allows (lines, there, left, follow, is, stuck, count) = (
-  line ∷ lines, there, left,
+  line ∷ lines,
+  there,
+  left,
   (mid, allows, follow),
   ap (λ (t : Text). line ++ 10 ∷ t) is ∙ sym (append_assoc line (10 ∷ joined lines) left),
   stuck,
@@ -60,16 +62,22 @@ some_due s e = absurd (cc)
 pub tells_end : (told : Settings) (checked : Checked) (s : State) (rest : Text) (lines : ℕ) → IsQuiet told s → Tells checked told (Ends (end_bytes s)) rest lines → Tells checked told (Runs s ends) rest lines
 tells_end told Checked.Yes s rest lines quiet ([], follow, is) = absurd (some_due s follow)
 tells_end told Checked.Yes s rest lines quiet (line ∷ texts, (mid, allows, follow), is) = (line ∷ texts, (mid, inr (quiet, allows), follow), is)
-tells_end told (Checked.No at) s rest lines quiet (number, count, ([], there, left, follow, is, stuck, size)) =
-    (
-      number, count,
-      ([], Runs s ends, left, refl, is,
-      record {
-        unallowed = none_at_rest told s ends left quiet (λ line more next here allows. stuck.unallowed line more next here (subst (λ (p : Place). Allows told p line next) (sym follow) allows));
-        undone = λ none here. absurd (cc);
-      },
-      size),
-    )
+tells_end told (Checked.No at) s rest lines quiet (number, count, ([], there, left, follow, is, stuck, size)) = (
+  number,
+  count,
+  (
+    [],
+    Runs s ends,
+    left,
+    refl,
+    is,
+    record {
+      unallowed = none_at_rest told s ends left quiet (λ line more next here allows. stuck.unallowed line more next here (subst (λ (p : Place). Allows told p line next) (sym follow) allows));
+      undone = λ none here. absurd (cc);
+    },
+    size,
+  ),
+)
 tells_end told (Checked.No at) s rest lines quiet (number, count, (line ∷ texts, there, left, (mid, allows, follow), is, stuck, size)) =
     (number, count, (line ∷ texts, there, left, (mid, inr (quiet, allows), follow), is, stuck, size))
 

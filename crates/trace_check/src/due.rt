@@ -1,5 +1,5 @@
 //! The end of an output: what is due, and what stands in the trace.
-ghost use Rattle.std.specs.Prelude.{◌≡◌, ◌+◌, ◌<◌, ◌≤◌, ◌^◌, ◌++◌, ◌∷◌, [], List, ℕ, IfOk, length};
+ghost use Rattle.std.specs.Prelude.{◌≡◌, ◌+◌, ◌<◌, ◌≤◌, ◌^◌, ◌++◌, ◌∷◌, [], List, IfOk, length};
 ghost use Rattle.pnp_labels.specs.Texts.{Text};
 ghost use Rattle.pnp_model.specs.Endings.{joined};
 ghost use Rattle.pnp_model.specs.Records.{Settings};

@@ -1,5 +1,6 @@
-//! One turn of the check: the next line of the trace against what the run may do next.
-ghost use Rattle.std.specs.Prelude.{◌≡◌, ◌+◌, ◌<◌, ◌≤◌, ◌^◌, ℕ, Bool, true, false, IfOk, OnOk, length};
+//! One turn of the check: the next line of the trace against what the run may do next. A run is let go by a call: where a `?` lets it
+//! go, that is done part by part, which makes a long proof.
+ghost use Rattle.std.specs.Prelude.{◌≡◌, ◌+◌, ◌<◌, ◌≤◌, ◌^◌, ℕ, true, IfOk, length};
 ghost use Rattle.pnp_model.specs.Events.{happens};
 ghost use Rattle.pnp_model.specs.Machine.{IsQuiet};
 ghost use Rattle.script_reader.specs.Script.{Trace, gives, stops};
@@ -35,12 +36,8 @@ fn is_of_machine(event: &Event) -> bool
     !matches!(event, Event::Watch { .. } | Event::Unwatch { .. })
 }
 
-/// An event happens, at a quiet state, and this is its line.
-fn event_line(
-    alloc: Global,
-    run: FreeRun,
-    event: Event,
-) -> Result<(FreeRun, Vec<u8>), WantOfMemory>
+/// An event happens, at a quiet state, and this is its line. After want of memory the run is gone, as after each function here.
+fn event_line(alloc: Global, run: FreeRun, event: Event) -> Result<(FreeRun, Vec<u8>), WantOfMemory>
     requires quiet { IsQuiet (settings run) run.state }
     requires ids { HasFewIds event }
     requires events { run.events < 2 ^ 24 }
@@ -49,7 +46,6 @@ fn event_line(
     let (run, label) = run.apply(event)?;
     match line_of(alloc, label) {
         Ok(line) => Ok((run, line)),
-        // by `?` the whole machine would be let go here, part by part, which makes a long proof
         Err(refused) => {
             drop(run);
             Err(refused)
@@ -91,12 +87,7 @@ fn take_event(
 }
 
 /// The end of the output is due.
-fn take_end(
-    alloc: Global,
-    run: &FreeRun,
-    rest: &[u8],
-    lines: u64,
-) -> Result<Checked, WantOfMemory>
+fn take_end(alloc: Global, run: &FreeRun, rest: &[u8], lines: u64) -> Result<Checked, WantOfMemory>
     requires room { lines + length rest.now < 2 ^ 63 }
     ensures { IfOk result (λ checked. TellsEnd checked run.now.state rest.now lines) }
 {

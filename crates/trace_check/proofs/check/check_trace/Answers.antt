@@ -1,4 +1,4 @@
-use Rattle.std.proofs.Common.{ℕ, ◌≡◌, ◌++◌, ap, ◌∙◌}
+use Rattle.std.proofs.Common.{◌≡◌, ◌++◌, ap, ◌∙◌}
 use Rattle.script_reader.specs.Reading.{Reading}
 use Rattle.trace_check.proofs.Turning.{whole}
 use Rattle.trace_check.proofs.check.check_trace.Goals as goal

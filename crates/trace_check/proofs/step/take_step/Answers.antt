@@ -1,4 +1,4 @@
-use Rattle.std.proofs.Common.{ℕ, ◌≡◌, Option, None, MatchOption, Vec, Global, sym, ◌∙◌, subst}
+use Rattle.std.proofs.Common.{ℕ, ◌≡◌, Option, MatchOption, Vec, Global, sym, ◌∙◌, subst}
 use Rattle.pnp_model.specs.Machine.{IsQuiet}
 use Rattle.free_run.specs.FreeRuns.{settings}
 use Rattle.trace_check.specs.Turns.{IfStands, HasStepped}

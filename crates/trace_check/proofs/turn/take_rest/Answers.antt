@@ -1,4 +1,4 @@
-use Rattle.std.proofs.Common.{◌+◌, true, subst}
+use Rattle.std.proofs.Common.{true, subst}
 use Rattle.script_reader.specs.Answers.{Answers}
 use Rattle.script_reader.specs.Script.{trace}
 use Rattle.script_reader.specs.declared.next.Next.{Next}
