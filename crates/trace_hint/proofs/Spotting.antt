@@ -1,5 +1,5 @@
 -- What may come next: the first line of what is due, an event, a bad line.
-use Rattle.std.proofs.Common.{ℕ, ◌+◌, ◌-◌, ◌≤◌, ◌≡◌, ◌<◌, ◌^◌, Bool, true, false, inl, inr, Option, Some, None, Result, Ok, Err, IfOk, List, [], ◌∷◌, ◌++◌, drop, take, length, refl, sym, ap, ◌∙◌, subst, arith, if◌then◌else◌, append_assoc, length-append, length-drop, Vec, Global, rules}
+use Rattle.std.proofs.Common.{ℕ, ◌+◌, ◌-◌, ◌≤◌, ◌≡◌, ◌^◌, Bool, true, false, inl, inr, Option, Some, None, Result, Ok, Err, IfOk, [], ◌∷◌, ◌++◌, drop, take, length, refl, sym, ap, ◌∙◌, subst, arith, if◌then◌else◌, length-append, length-drop, Vec, Global, rules}
 use Rattle.std.specs.Prelude.{◌==◌, ◌||◌, nat_eq}
 use Rattle.std.specs.Option.{option_map}
 use Rattle.std.specs.Cmp.Lexicographic.{pointwise}
@@ -15,18 +15,17 @@ use Rattle.pnp_labels.specs.declared.words.Answer.{Answer}
 use Rattle.pnp_model.specs.Events.{happens}
 use Rattle.pnp_model.specs.Machine.{IsQuiet}
 use Rattle.pnp_model.specs.Records.{State, Settings}
-use Rattle.start_sequence.specs.Begins.{settings_of}
 use Rattle.script_reader.specs.Answers.{Answers}
 use Rattle.script_reader.specs.Reading.{Reading, Moves}
 use Rattle.script_reader.specs.Script.{Trace, gives, ends, stops, trace}
 use Rattle.script_reader.specs.declared.next.Next.{Next}
-use Rattle.free_model.specs.Checks.{Place, Runs, Ends, Allows, AllowsAtRest, AllowsFirst, IsOfMachine, has_feed, end_bytes, bad_line}
+use Rattle.free_model.specs.Checks.{Place, Runs, Ends, AllowsAtRest, AllowsFirst, has_feed, end_bytes, bad_line}
 use Rattle.free_model.proofs.OneVerdict.{no_step}
 use Rattle.free_run.specs.FreeRuns.{Free, settings}
 use Rattle.trace_check.specs.Turns.{IfFront}
 use Rattle.trace_hint.specs.declared.spot.Spot.{Spot}
 use Rattle.trace_hint.specs.declared.spot.Move.{Move}
-use Rattle.trace_hint.specs.Spots.{place, IsOf, IsReady, AllowsBy, AllowsNone, Leads, IsMove, IsFirst, IsEventMove}
+use Rattle.trace_hint.specs.Spots.{place, AllowsNone, IsMove, IsFirst, IsEventMove}
 
 -- The first line --------------------------------------------------------------------------
 

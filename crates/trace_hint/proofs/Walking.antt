@@ -1,8 +1,8 @@
 -- Where the lines of a trace lead, and what is allowed there.
-use Rattle.std.proofs.Common.{ℕ, suc, ◌+◌, ◌-◌, ◌<◌, ◌≤◌, ◌≡◌, ◌⊎◌, true, false, inl, inr, Option, Some, None, Result, Ok, Err, IfOk, List, [], ◌∷◌, ◌++◌, drop, take, length, map, refl, sym, ap, ◌∙◌, subst, arith, append_assoc, length-append, Vec, Global}
+use Rattle.std.proofs.Common.{ℕ, ◌+◌, ◌-◌, ◌<◌, ◌≡◌, ◌⊎◌, true, inl, inr, Option, Some, None, Result, Ok, Err, IfOk, List, [], ◌∷◌, ◌++◌, drop, take, length, map, refl, sym, ap, ◌∙◌, subst, arith, append_assoc, length-append, Vec, Global}
 use Rattle.std.proofs.lemmas.List.{append_cancel_left, take_at}
 use Rattle.std.proofs.lemmas.List.Elements.{Contains-push, Contains-push_cases, Contains-append_left, Contains-append_right, Contains-append_cases}
-use Rattle.std.specs.Prelude.{Contains, ◌↔◌}
+use Rattle.std.specs.Prelude.{Contains}
 use Rattle.std.specs.Option.{option_map}
 use Rattle.start_sequence.specs.Begins.{settings_of}
 use Rattle.inf_reader.specs.declared.parts.Inf.{Inf}
@@ -12,17 +12,15 @@ use Rattle.pnp_labels.specs.declared.label.Label.{Label}
 use Rattle.pnp_labels.specs.declared.words.Answer.{Answer}
 use Rattle.pnp_labels.specs.declared.words.Answer.TheVariants as answers
 use Rattle.pnp_model.specs.Endings.{joined}
-use Rattle.pnp_model.specs.Machine.{IsQuiet}
 use Rattle.pnp_model.specs.Records.{State, Settings}
 use Rattle.script_reader.specs.Script.{Trace, gives, waits, ends, stops}
-use Rattle.free_model.specs.Frees.{StepsBy}
-use Rattle.free_model.specs.Checks.{Place, Runs, Ends, Allows, AllowsAtRest, AllowsFirst, Follow, IsStuck, IsYes, IsNo, end_bytes}
+use Rattle.free_model.specs.Checks.{Place, Runs, Ends, Allows, AllowsAtRest, Follow, IsYes, IsNo, end_bytes}
 use Rattle.free_model.proofs.OneVerdict.{one_place, no_step, kin_steps}
 use Rattle.free_model.proofs.Ways.{KinLabel, one, asks, adds}
 use Rattle.trace_check.specs.Turns.{IfFront, IsTaken}
 use Rattle.free_run.specs.FreeRuns.{settings}
 use Rattle.trace_hint.specs.declared.spot.Spot.{Spot}
-use Rattle.trace_hint.specs.Spots.{place, IsOf, IsReady, AllowsBy, AllowsNone, Leads}
+use Rattle.trace_hint.specs.Spots.{place, IsOf, AllowsBy, Leads}
 use Rattle.trace_hint.specs.Hints.{AreRead, IsReached, Arrives, NextBy, LineBy, list_of, AreAllowed, AllowedAt, Stops}
 
 -- A line ----------------------------------------------------------------------------------

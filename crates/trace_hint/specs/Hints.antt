@@ -1,8 +1,7 @@
 -- What is allowed after so many lines of a trace.
-use Rattle.std.specs.Prelude.{ℕ, ◌+◌, ◌≡◌, ◌↔◌, List, [], ◌∷◌, ◌++◌, Option, Some, None, Ok, Result, length, map, Contains, Vec}
+use Rattle.std.specs.Prelude.{ℕ, ◌+◌, ◌≡◌, ◌↔◌, List, [], ◌∷◌, ◌++◌, Option, Some, None, Ok, length, map, Contains, Vec}
 use Rattle.std.specs.Global.{Global}
 use Rattle.inf_reader.specs.declared.parts.Inf.{Inf}
-use Rattle.inf_reader.specs.declared.parts.InfError.{InfError}
 use Rattle.inf_reader.specs.Meaning.{inf}
 use Rattle.pnp_labels.specs.Texts.{Text}
 use Rattle.pnp_labels.specs.declared.words.Answer.{Answer}

@@ -1,4 +1,4 @@
-use Rattle.std.proofs.Common.{ℕ, ◌≡◌, ◌++◌, List, Option, Vec, Global, map, option_map, true, sym, ap, ◌∙◌}
+use Rattle.std.proofs.Common.{ℕ, ◌≡◌, ◌++◌, List, Option, Vec, Global, map, option_map, true, ap, ◌∙◌}
 use Rattle.pnp_labels.specs.Texts.{Text}
 use Rattle.script_reader.specs.Script as scripts
 use Rattle.free_model.specs.Checks.{beginning}

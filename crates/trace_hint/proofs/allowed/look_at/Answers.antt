@@ -1,4 +1,4 @@
-use Rattle.std.proofs.Common.{ℕ, List, Vec, Global, map, true, subst}
+use Rattle.std.proofs.Common.{ℕ, Vec, Global, map, true, subst}
 use Rattle.pnp_labels.specs.Texts.{Text}
 use Rattle.start_sequence.specs.Begins.{settings_of}
 use Rattle.script_reader.specs.Script as scripts

@@ -1,4 +1,4 @@
-use Rattle.std.proofs.Common.{ℕ, ◌≡◌, ◌-◌, ◌∙◌, take, ap, sym, subst}
+use Rattle.std.proofs.Common.{ℕ, ◌-◌, ◌∙◌, take, ap, sym, subst}
 use Rattle.pnp_labels.specs.Texts.{Text}
 use Rattle.trace_hint.specs.Spots.{IsMove, Leads, AllowsBy, place}
 use Rattle.trace_hint.specs.declared.spot.Move.{Move}

@@ -1,4 +1,4 @@
-use Rattle.std.proofs.Common.{◌≡◌, ◌≤◌, length, take}
+use Rattle.std.proofs.Common.{◌≡◌, length, take}
 use Rattle.trace_hint.specs.Hints.{AreRead}
 use Rattle.trace_hint.proofs.infs.read_infs.Given as goal
 

@@ -1,4 +1,3 @@
-use Rattle.std.proofs.Common.{ℕ}
 use Rattle.pnp_model.specs.Records.{Settings}
 use Rattle.free_model.specs.Checks.{Place}
 use Rattle.trace_hint.specs.Spots.{IsOf, IsReady, place}

@@ -1,7 +1,6 @@
 use Rattle.std.proofs.Common.{◌≡◌, Bool, true, length, ◌∙◌, subst}
-use Rattle.pnp_model.specs.Records.{Settings}
 use Rattle.trace_check.specs.Turns.{IfFront}
-use Rattle.trace_hint.specs.Spots.{IsOf, IsMove, Leads, place}
+use Rattle.trace_hint.specs.Spots.{IsMove, Leads, place}
 use Rattle.trace_hint.specs.declared.spot.Move.{Move}
 use Rattle.trace_hint.proofs.Walking.{is_taken, some_told}
 use Rattle.trace_hint.proofs.walk.walk_line.Goals as goal
