@@ -1,5 +1,5 @@
 -- What a check answers, by what the files hold.
-use Rattle.std.specs.Prelude.{ℕ, ◌≡◌, true, List, [], ◌∷◌, ◌++◌, Option, Some, None, Ok, replicate, map, Vec}
+use Rattle.std.specs.Prelude.{ℕ, ◌≡◌, true, List, ◌∷◌, ◌++◌, Option, Some, None, Ok, replicate, map, Vec}
 use Rattle.std.specs.Global.{Global}
 use Rattle.inf_reader.specs.declared.parts.Inf.{Inf}
 use Rattle.inf_reader.specs.Meaning.{inf}

@@ -1,4 +1,4 @@
-use Rattle.std.proofs.Common.{ℕ, ◌≡◌, ◌∙◌, List, Option, ap, sym, subst}
+use Rattle.std.proofs.Common.{ℕ, ◌≡◌, ◌∙◌, List, Option, sym, subst}
 use Rattle.pnp_io.specs.Outside.{Holds}
 use Rattle.check_cli.specs.Checks.{IsSeenOf, SaysNamed, texts}
 use Rattle.check_cli.specs.declared.status.Status.{Status}
