@@ -1,0 +1,53 @@
+-- What a check answers, by what the files hold.
+use Rattle.std.specs.Prelude.{ℕ, ◌≡◌, true, List, ◌∷◌, ◌++◌, Option, Some, None, Ok, replicate, map, Vec}
+use Rattle.std.specs.Global.{Global}
+use Rattle.inf_reader.specs.declared.parts.Inf.{Inf}
+use Rattle.inf_reader.specs.Meaning.{inf}
+use Rattle.pnp_labels.specs.Texts.{Text}
+use Rattle.pnp_labels.specs.declared.words.DriverKind.{DriverKind}
+use Rattle.pnp_labels.specs.declared.words.DriverKind.TheVariants.{Scripted, Steady, Stubborn}
+use Rattle.pnp_model.specs.Records.{Settings}
+use Rattle.script_reader.specs.Script.{trace}
+use Rattle.start_sequence.specs.Begins.{settings_of}
+use Rattle.free_model.specs.Checks.{Place, IsYes, IsNo, beginning}
+use Rattle.trace_hint.specs.declared.allowed.Seen.{Seen}
+use Rattle.trace_hint.specs.Hints.{AreRead, IsSeen}
+use Rattle.check_cli.specs.declared.status.Status.{Status}
+
+-- as those that pnpmgr has
+abbrev pub program_kinds : List DriverKind
+program_kinds = (replicate 128 Scripted ++ replicate 32 Steady) ++ replicate 16 Stubborn
+
+abbrev pub texts : List (Vec ℕ Global) → List Text
+texts lines = map (λ line. line.items) lines
+
+-- these files hold this, one for each name
+abbrev pub HoldAll : Option (List ℕ → Option (List ℕ)) → List Text → List Text → Type 0
+HoldAll None names all = Unit {0}
+HoldAll (Some told) names all = map (λ name. told name) names ≡ map (λ bytes. Some bytes) all
+
+abbrev pub status_of : Seen → Status
+status_of Seen.Yes = Status.Done
+status_of (Seen.No line allowed) = Status.NotARun
+
+-- what was seen of a trace, by what the three sorts of files hold
+abbrev pub IsSeenOf : List (Vec ℕ Global) → Text → Text → ℕ → Seen → Type 0
+IsSeenOf infs text script budget seen = (read : List Inf) → AreRead infs read → IsSeen (settings_of read budget) (beginning program_kinds (trace true 0 script)) text seen
+
+-- what a status says of a trace
+abbrev pub Says : Settings → Place → Text → Status → Type 0
+Says told here text Status.Done = IsYes told here text
+Says told here text Status.NotARun = (line : ℕ) × IsNo told here text line
+Says told here text _ = Unit {0}
+
+-- The files of these names hold a trace, a script and INFs, and this status is what the definition says of them.
+abbrev pub SaysNamed : Option (List ℕ → Option (List ℕ)) → Text → Text → List Text → ℕ → Status → Type 0
+SaysNamed None trace_name script_name infs budget status = Unit {0}
+SaysNamed (Some told) trace_name script_name infs budget status =
+    (text script : Text) (all : List Text) (read : List Inf) → told trace_name ≡ Some text → told script_name ≡ Some script → map (λ name. told name) infs ≡ map (λ bytes. Some bytes) all
+    → map (λ bytes. inf bytes) all ≡ map (λ i. Ok i) read → Says (settings_of read budget) (beginning program_kinds (trace true 0 script)) text status
+
+-- the same of a list of names
+abbrev pub SaysOf : Option (List ℕ → Option (List ℕ)) → List Text → ℕ → Status → Type 0
+SaysOf contents (trace_name ∷ script_name ∷ infs) budget status = SaysNamed contents trace_name script_name infs budget status
+SaysOf contents _ budget status = Unit {0}
