@@ -17,8 +17,9 @@ pub record Playing : Type 0 where
   pub reading : Reading
   pub bad : Option ℕ
 
--- no more is fed, and there is room for what is left
+-- the front is one of a run, no more is fed, and there is room for what is left
 pub record IsPlaying (p : Playing) : Type 0 where
+  pub run : IsOfFrontRun (told_of p.desk) p.desk.manager.events (front_of p.desk)
   pub shut : p.reading.finished ≡ true
   pub room : p.desk.manager.events + length p.reading.rest ≤ 2 ^ 24
 
@@ -28,7 +29,7 @@ left_of p = trace p.reading.finished p.reading.passed p.reading.rest
 
 -- all is left of a script
 pub record Begins (front : Desk) (script : List ℕ) (p : Playing) : Type 0 where
-  pub front : p.desk ≡ front
+  pub is : p.desk ≡ front
   pub left : left_of p ≡ events_of script
 
 -- From a front that need not be quiet: first what follows by itself, and then the events.
@@ -64,7 +65,7 @@ pub record IsStepped (label : Label) (old new : Playing) : Type 0 where
 
 abbrev pub Stepped : Option Label → Playing → Playing → Type 0
 Stepped (Some label) old new = IsStepped label old new
-Stepped None old new = IsFrontQuiet (told_of new.desk) (front_of new.desk) × (new ≡ old)
+Stepped None old new = IsFrontQuiet (told_of new.desk) (front_of new.desk) × (new.reading ≡ old.reading)
 
 abbrev pub StepTold : Playing → List Label → Option Label → Playing → Type 0
 StepTold start labels (Some label) new = Played start (labels ++ label ∷ []) new

@@ -65,7 +65,7 @@ impl<R: Drivers> Play<R> {
         })
     }
 
-    /// The next label of what follows by itself; none exactly where nothing is next, and then nothing changes. After want of
+    /// The next label of what follows by itself; none exactly where nothing is next. After want of
     /// memory all is as before. Cost: that of the front's step.
     pub fn step(&mut self) -> Result<Option<Label>, WantOfMemory>
         ensures moves { IfOk result (λ label. Stepped label self.old self.new) }
@@ -94,7 +94,10 @@ impl<R: Drivers> Play<R> {
                 self.bad = Some(line);
                 Ok(None)
             }
-            Next::End => Ok(None),
+            Next::End => {
+                self.bad = None;
+                Ok(None)
+            }
             Next::NeedMore => unreachable!(),
         }
     }

@@ -1,6 +1,6 @@
 use device_ids::{InstancePath, Text, WantOfMemory};
 use pnp_labels::{Event, Minor, RelKind};
-use resource_reqs::Res;
+use resource_reqs::{Reqs, Res};
 use std::alloc::Global;
 
 /// What an event said that the tree of devices does not show, and its label only in words. This project's own.
@@ -18,6 +18,8 @@ pub enum Said {
     Reserve(Res),
     /// A pended request is completed.
     Complete { path: Text, minor: Minor, ok: bool },
+    /// A device is to require something else.
+    Change { path: Text, reqs: Reqs },
     /// Anything else.
     Other,
 }
@@ -45,6 +47,10 @@ pub fn said_of(alloc: Global, event: &Event) -> Result<Said, WantOfMemory> {
             path: text_of(alloc, path)?,
             minor: *minor,
             ok: *ok,
+        }),
+        Event::Change { path, reqs } => Ok(Said::Change {
+            path: text_of(alloc, path)?,
+            reqs: reqs.copy(alloc)?,
         }),
         _ => Ok(Said::Other),
     }

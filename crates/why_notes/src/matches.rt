@@ -1,4 +1,6 @@
 //! All models lines that match a device, and their order.
+ghost use Rattle.std.specs.Prelude.{◌≤◌};
+
 use device_ids::{IdList, Text, WantOfMemory};
 use devnode_tree::Node;
 use inf_reader::{Inf, ModelLine};
