@@ -1,15 +1,14 @@
 -- A run of a script, one label at a time.
-use Rattle.std.proofs.Common.{◌≡◌, Result, Ok, IfOk, ℕ, ◌+◌, ◌<◌, ◌≤◌, Bool, true, false, List, [], ◌∷◌, ◌++◌, Option, Some, None, length, refl, sym, ◌∙◌, ap, ap₂, subst, append_assoc, append-nil, arith, length-append, ◌^◌}
+use Rattle.std.proofs.Common.{◌≡◌, Result, Ok, IfOk, ℕ, ◌+◌, ◌<◌, ◌≤◌, Bool, true, false, List, [], ◌∷◌, ◌++◌, Option, Some, None, length, refl, sym, ◌∙◌, ap, ap₂, subst, append_assoc, append-nil, arith, ◌^◌}
 use Rattle.pnp_labels.specs.declared.event.Event.{Event}
 use Rattle.pnp_labels.specs.declared.label.Label.{Label}
 use Rattle.pnp_model.specs.Records.{Settings, Doing}
 use Rattle.notify_front.specs.Fronts.{Front, FrontEntry, FrontStep, IsFrontStep, IsFrontQuiet, front_happens, front_next}
-use Rattle.notify_front.specs.Desks.{Desk, FrontMoves, IsFrontDone, IsOfFrontRun, front_of, machine_events, told_of}
+use Rattle.notify_front.specs.Desks.{Desk, FrontMoves, IsFrontDone, IsOfFrontRun, front_of, told_of}
 use Rattle.notify_front.proofs.FrontLeft.{front_steps_left, front_left_falls}
 use Rattle.pnp_machine.specs.declared.manager.Moved.{Moved}
 use Rattle.script_reader.specs.Reading.{Reading, Moves}
 use Rattle.script_reader.specs.Answers.{Answers}
-use Rattle.script_reader.specs.declared.line.Line.{Line}
 use Rattle.script_reader.specs.declared.next.Next.{Next}
 use Rattle.pnp_machine.specs.Machines.{HasFewIds}
 use Rattle.pnp_cli.proofs.FewIds.{few_ids}
@@ -191,47 +190,6 @@ pub room_by : (d : Desk) (r r' : Reading) (bad : Option ℕ) (next : Next) (even
 room_by d r r' bad next event is h stands =
     let answers : Answers (Next.Event event) r r' = answers_at r r' next (Next.Event event) is h in
     omega (arith, stands.room, answers.1)
-
--- no more is needed, as no more comes
-pub no_more : (d : Desk) (r r' : Reading) (bad : Option ℕ) (next : Next) → next ≡ Next.NeedMore → Answers next r r' → IsPlaying (record { desk = d; reading = r; bad = bad }) → ⊥
-no_more d r r' bad next is h stands =
-    let answers : Answers Next.NeedMore r r' = answers_at r r' next Next.NeedMore is h in
-    false_true (sym answers.2.open_ ∙ answers.0.finished ∙ stands.shut)
-  where
-    false_true : false ≡ true → ⊥
-    false_true e = cc
-
-few_events : (event : Event) (n : ℕ) → machine_events event n ≤ n + 1
-few_events (Event.Watch client path agrees) n = omega arith
-few_events (Event.Unwatch client path) n = omega arith
-few_events _ n = omega arith
-
-moves_stand : (d : Desk) (r r' : Reading) (bad bad' : Option ℕ) (events : List Line) → Moves r r' events → IsPlaying (record { desk = d; reading = r; bad = bad }) → IsPlaying (record { desk = d; reading = r'; bad = bad' })
-moves_stand d r r' bad bad' events moves stands =
-    record { run = stands.run; shut = moves.finished ∙ stands.shut; room = omega (arith, stands.room, ap length moves.whole, length-append moves.front r'.rest) }
-
--- where nothing comes the play stands
-pub stands_over : (d : Desk) (r r' : Reading) (bad bad' : Option ℕ) (next : Next) → next ≡ Next.End → Answers next r r' → IsPlaying (record { desk = d; reading = r; bad = bad }) → IsPlaying (record { desk = d; reading = r'; bad = bad' })
-stands_over d r r' bad bad' next is h stands =
-    let answers : Answers Next.End r r' = answers_at r r' next Next.End is h in
-    moves_stand d r r' bad bad' [] answers.0 stands
-
-pub stands_bad : (d : Desk) (r r' : Reading) (bad bad' : Option ℕ) (next : Next) (line : ℕ) → next ≡ Next.Bad line → Answers next r r' → IsPlaying (record { desk = d; reading = r; bad = bad }) → IsPlaying (record { desk = d; reading = r'; bad = bad' })
-stands_bad d r r' bad bad' next line is h stands =
-    let answers : Answers (Next.Bad line) r r' = answers_at r r' next (Next.Bad line) is h in
-    moves_stand d r r' bad bad' [] answers.0 stands
-
--- and where an event was taken from the script, but did not happen
-pub stands_lost : (d : Desk) (r r' : Reading) (bad : Option ℕ) (next : Next) (event : Event) → next ≡ Next.Event event → Answers next r r' → IsPlaying (record { desk = d; reading = r; bad = bad }) → IsPlaying (record { desk = d; reading = r'; bad = bad })
-stands_lost d r r' bad next event is h stands =
-    let answers : Answers (Next.Event event) r r' = answers_at r r' next (Next.Event event) is h in
-    moves_stand d r r' bad bad (record { line = r'.line; event = event } ∷ []) answers.0 stands
-
-pub stands_event : (d d' : Desk) (r r' : Reading) (bad : Option ℕ) (next : Next) (event : Event) → next ≡ Next.Event event → Answers next r r' → IsPlaying (record { desk = d; reading = r; bad = bad })
-    → d'.manager.events ≡ machine_events event d.manager.events → IsOfFrontRun (told_of d') d'.manager.events (front_of d') → IsPlaying (record { desk = d'; reading = r'; bad = bad })
-stands_event d d' r r' bad next event is h stands count run =
-    let answers : Answers (Next.Event event) r r' = answers_at r r' next (Next.Event event) is h in
-    record { run = run; shut = answers.0.finished ∙ stands.shut; room = omega (arith, stands.room, answers.1, count, few_events event d.manager.events) }
 
 -- an event came
 pub came_event : (d d' : Desk) (r r' : Reading) (bad : Option ℕ) (now : Playing) → record { desk = d; reading = r; bad = bad } ≡ now → (next : Next) (event : Event) → next ≡ Next.Event event → Answers next r r' → (label : Label)

@@ -18,7 +18,7 @@ use std::alloc::Global;
 use std::marker::Model;
 
 /// The label of an event, and what the event said. This project's own.
-#[derive(Debug, Drop)]
+#[derive(Drop)]
 pub struct Happened {
     pub label: Label,
     pub said: Said,

@@ -4,7 +4,7 @@ use resource_reqs::{Reqs, Res};
 use std::alloc::Global;
 
 /// What an event said that the tree of devices does not show, and its label only in words. This project's own.
-#[derive(Debug, Drop)]
+#[derive(Drop)]
 pub enum Said {
     /// A driver gets this name.
     Name(Text),

@@ -73,9 +73,9 @@ written_by start old new text o is ended w =
     record { labels = w.labels; ended = subst (λ (x : Option Happened). EventTold start w.labels x new) is (ended w.labels w.played); notes = w.notes }
 
 -- behind all labels comes the end of the output
-pub explained_by : (start now : Playing) (labels text all : Text) (bad : Option ℕ) (status : Status) → Written start text now → bad ≡ now.bad
+pub explained_by : (start now : Playing) (text all : Text) (bad : Option ℕ) (status : Status) → Written start text now → bad ≡ now.bad
     → all ≡ (text ++ line_of_bad bad) ++ end_text now.desk.manager.state → status ≡ answer_by bad → ExplainsPlay start all status
-explained_by start now labels text all bad status h same is answer =
+explained_by start now text all bad status h same is answer =
     record {
       output = written (left_of start) h.labels now.desk.manager.state;
       prints = (h.labels, front_of now.desk, h.ended.plays, refl);

@@ -1,5 +1,5 @@
 -- Notes are put between the lines of a text.
-use Rattle.std.proofs.Common.{◌≡◌, ◌≢◌, ℕ, Bool, true, false, List, [], ◌∷◌, ◌++◌, map, refl, sym, ◌∙◌, ap, ap₂, subst, append_assoc, append-nil, cond, nat_eq, eqb-eq}
+use Rattle.std.proofs.Common.{◌≡◌, ◌≢◌, ℕ, Bool, true, false, List, [], ◌∷◌, ◌++◌, map, refl, sym, ◌∙◌, ap, append-nil, cond, nat_eq, arith}
 use Rattle.std.specs.List.{AllByRecursion}
 use Rattle.pnp_labels.specs.Texts.{Text, label_line}
 use Rattle.pnp_labels.specs.declared.label.Label.{Label}
@@ -11,13 +11,13 @@ use Rattle.why_cli.specs.Woven.{Piece, AreNotes, HasNotes, IsWoven, lines_of, te
 pub notes_none : HasNotes [] []
 notes_none = record { pieces = []; notes = tt; without = refl; all = refl }
 
+not_true : false ≡ true → ⊥
+not_true h = cc
+
 -- no byte that is shown ends a line
 shown_by : (b : Bool) (byte : ℕ) → nat_eq byte 10 ≡ b → cond b 63 byte ≢ 10
-shown_by true byte e = λ h. cc
-shown_by false byte e = λ h. absurd (other (ap (λ (x : ℕ). nat_eq x 10) h))
-  where
-    other : nat_eq byte 10 ≡ nat_eq 10 10 → ⊥
-    other same = cc
+shown_by true byte e = λ h. let no : 63 ≡ 10 = h in absurd (omega (arith, no))
+shown_by false byte e = λ h. not_true (sym e ∙ ap (λ (x : ℕ). nat_eq x 10) h)
 
 no_end : (note : List ℕ) → AllByRecursion (λ byte. byte ≢ 10) (map shown note)
 no_end [] = tt

@@ -4,7 +4,7 @@ use pnp_io::ReadError;
 use std::alloc::AllocError;
 
 /// Why nothing was written. This project's own.
-#[derive(Clone, Copy, Debug)]
+#[derive(Drop)]
 pub enum Stop {
     /// A read failed, and the count of its name rose.
     ReadFault,

@@ -1,7 +1,5 @@
-use Rattle.std.proofs.Common.{◌≡◌, refl, sym, ap, subst}
-use Rattle.pnp_labels.specs.declared.label.Label.{Label}
-use Rattle.script_reader.specs.Reading.{Reading}
-use Rattle.script_play.specs.Playing.{Playing, Played, IsStepped}
+use Rattle.std.proofs.Common.{ap}
+use Rattle.script_play.specs.Playing.{Playing}
 use Rattle.script_play.proofs.Plays.{ok_at, stepped_by, quiet_by, played_step}
 use Rattle.script_play.proofs.play.Play.step.Goals as goal
 use Rattle.script_play.proofs.play.Play.step.Goals.{in-Label, in-Quiet}
