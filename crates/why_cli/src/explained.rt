@@ -1,5 +1,5 @@
 //! The whole text for a script: the lines of all labels with notes, and the end of the output.
-ghost use Rattle.std.specs.Prelude.{◌≡◌, ◌≤◌, ◌++◌, ◌×◌, [], IfOk, OnOk, length};
+ghost use Rattle.std.specs.Prelude.{◌≡◌, ◌≤◌, ◌++◌, [], IfOk, OnOk, length};
 ghost use Rattle.notify_front.specs.Desks.{IsAtStart};
 ghost use Rattle.notify_front.specs.Fronts.{opening_front};
 ghost use Rattle.pnp_cli.specs.Outputs.{end_text, error_line};
