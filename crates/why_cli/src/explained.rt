@@ -30,6 +30,16 @@ pub struct Explained {
     pub status: Status,
 }
 
+/// The line that tells of a bad line.
+fn bad_line(alloc: Global, line: u64) -> Result<Vec<u8>, WantOfMemory>
+    ensures { IfOk result (λ text. text.items ≡ error_line line) }
+{
+    let mut text = Vec::from_slice(alloc, b"script error line ")?;
+    text.extend_from_slice(decimal(alloc, line)?.as_bytes())?;
+    text.push(b'\n')?;
+    Ok(text)
+}
+
 /// Appends the line that tells of a bad line, if there is one.
 fn push_bad(alloc: Global, text: &mut Vec<u8>, bad: Option<u64>) -> Result<(), WantOfMemory>
     ensures { OnOk result (text.new.items ≡ text.old.items ++ line_of_bad bad) }
@@ -37,10 +47,8 @@ fn push_bad(alloc: Global, text: &mut Vec<u8>, bad: Option<u64>) -> Result<(), W
     let Some(line) = bad else {
         return Ok(());
     };
-    text.extend_from_slice(b"script error line ")?;
-    text.extend_from_slice(decimal(alloc, line)?.as_bytes())?;
-    text.push(b'\n')?;
-    Ok(())
+    let line = bad_line(alloc, line)?;
+    text.extend_from_slice(&line)
 }
 
 /// The answer by the number of the bad line, if there is one.
