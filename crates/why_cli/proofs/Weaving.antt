@@ -1,6 +1,10 @@
 -- Notes are put between the lines of a text.
 use Rattle.std.proofs.Common.{◌≡◌, ◌≢◌, ℕ, Bool, true, false, List, [], ◌∷◌, ◌++◌, map, refl, sym, ◌∙◌, ap, append-nil, cond, nat_eq, arith}
 use Rattle.std.specs.List.{AllByRecursion}
+use Rattle.std.specs.Prelude.{codes}
+use Rattle.std.specs.Fmt.{decimal}
+use Rattle.inf_reader.specs.declared.parts.InfError.{InfError}
+use Rattle.pnp_cli.specs.Infs.{error_at, error_number, refusal_line}
 use Rattle.pnp_labels.specs.Texts.{Text, label_line}
 use Rattle.pnp_labels.specs.declared.label.Label.{Label}
 use Rattle.pnp_cli.specs.Outputs.{text_of}
@@ -56,3 +60,19 @@ notes_line lines old words h =
 -- a text whose lines and notes are all that there is
 pub woven_whole : (lines text : Text) → HasNotes lines text → IsWoven lines text
 woven_whole lines text h = record { lines = lines; woven = text; rest = []; notes = h; without = sym (append-nil lines); all = sym (append-nil text) }
+
+-- The line of a refused INF -----------------------------------------------------------------
+
+refusal_whole : (number : ℕ) (error : InfError) → HasNotes (refusal_line number error) (refusal_line number error)
+refusal_whole number error =
+    record {
+      pieces = Piece.Line (codes "inf " ++ decimal number ++ codes " error " ++ decimal (error_number error) ++ codes " line " ++ decimal (error_at error)) ∷ [];
+      notes = tt;
+      without = refl;
+      all = refl;
+    }
+
+pub woven_refusal : (number : ℕ) (error : InfError) (line text : Text) → line ≡ refusal_line number error → ((lines : Text) → HasNotes lines line → HasNotes lines text) → IsWoven (refusal_line number error) text
+woven_refusal number error line text is notes =
+    woven_whole (refusal_line number error) text
+    (notes (refusal_line number error) (subst (λ (x : Text). HasNotes (refusal_line number error) x) (sym is) (refusal_whole number error)))
