@@ -18,7 +18,7 @@ use std::alloc::Global;
 use why_notes::{Facts, notes_on};
 
 /// A label is told, and then the note on it.
-fn tell(
+fn tell_label(
     alloc: Global,
     facts: &mut Facts,
     tree: &Tree,
@@ -63,6 +63,52 @@ fn learn_from(
     }
 }
 
+/// The same, and then the label is let go.
+fn tell(
+    alloc: Global,
+    facts: &mut Facts,
+    tree: &Tree,
+    label: Label,
+    text: &mut Vec<u8>,
+) -> Result<(), WantOfMemory>
+    ensures { OnOk result ((labels : List Labels) → HasNotes (text_of labels) text.old.items → HasNotes (text_of (labels ++ label ∷ [])) text.new.items) }
+{
+    let told = tell_label(alloc, facts, tree, &label, text);
+    drop(label);
+    told
+}
+
+/// What an event said is kept, and its label is told.
+fn tell_said(
+    alloc: Global,
+    facts: &mut Facts,
+    tree: &Tree,
+    label: &Label,
+    said: Said,
+    text: &mut Vec<u8>,
+) -> Result<(), WantOfMemory>
+    ensures { OnOk result ((labels : List Labels) → HasNotes (text_of labels) text.old.items → HasNotes (text_of (labels ++ label.now ∷ [])) text.new.items) }
+{
+    learn_from(alloc, facts, label, said)?;
+    tell_label(alloc, facts, tree, label, text)
+}
+
+/// The same of what happened, which is then let go.
+fn tell_event(
+    alloc: Global,
+    facts: &mut Facts,
+    tree: &Tree,
+    happened: Happened,
+    text: &mut Vec<u8>,
+) -> Result<(), WantOfMemory>
+    ensures { OnOk result ((labels : List Labels) → HasNotes (text_of labels) text.old.items → HasNotes (text_of (labels ++ happened.label ∷ [])) text.new.items) }
+{
+    let Happened { label, said } = happened;
+    let told = tell_said(alloc, facts, tree, &label, said, text);
+    drop(label);
+    told
+}
+
 /// All that follows by itself is told, with notes.
 fn tell_steps<R: Drivers>(
     alloc: Global,
@@ -76,7 +122,7 @@ fn tell_steps<R: Drivers>(
 {
     'steps: loop {
         match play.step()? {
-            Some(label) => tell(alloc, facts, play.tree(), &label, text)?,
+            Some(label) => tell(alloc, facts, play.tree(), label, text)?,
             None => return Ok(()),
         }
     }
@@ -94,10 +140,7 @@ pub fn tell_all<R: Drivers>(
     'events: loop {
         tell_steps(alloc, play, facts, text)?;
         match play.event()? {
-            Some(Happened { label, said }) => {
-                learn_from(alloc, facts, &label, said)?;
-                tell(alloc, facts, play.tree(), &label, text)?;
-            }
+            Some(happened) => tell_event(alloc, facts, play.tree(), happened, text)?,
             None => return Ok(()),
         }
     }
