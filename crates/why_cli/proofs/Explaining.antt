@@ -1,5 +1,5 @@
 -- The text for a play, and for a script.
-use Rattle.std.proofs.Common.{◌≡◌, ℕ, ◌≤◌, ◌<◌, true, List, [], ◌∷◌, ◌++◌, Option, Some, None, refl, sym, ◌∙◌, ap, ap₂, subst, append_assoc, length}
+use Rattle.std.proofs.Common.{◌≡◌, ℕ, ◌≤◌, ◌<◌, true, List, [], ◌∷◌, ◌++◌, Option, Some, None, IfOk, Result, Ok, Err, refl, sym, ◌∙◌, ap, ap₂, subst, append_assoc, length}
 use Rattle.pnp_labels.specs.Texts.{Text}
 use Rattle.pnp_labels.specs.declared.label.Label.{Label}
 use Rattle.pnp_model.specs.Records.{Driver, Settings}
@@ -9,7 +9,7 @@ use Rattle.inf_reader.specs.declared.parts.Inf.{Inf}
 use Rattle.notify_front.specs.Fronts.{Front, opening_front}
 use Rattle.notify_front.specs.Desks.{Desk, front_of, told_of, opening_desk}
 use Rattle.script_reader.specs.Script.{Trace}
-use Rattle.pnp_cli.specs.Contents.{events_of, answer_of, decided_of}
+use Rattle.pnp_cli.specs.Contents.{events_of}
 use Rattle.pnp_cli.specs.Outputs.{bad_text, end_text, text_of, written}
 use Rattle.pnp_cli.specs.Pieces.{line_of_bad, answer_by}
 use Rattle.pnp_cli.specs.Runs.{machine}
@@ -20,7 +20,7 @@ use Rattle.script_play.proofs.Plays.{fewer_left}
 use Rattle.notify_front.proofs.FrontLeft.{front_steps_left}
 use Rattle.why_cli.specs.Woven.{IsWoven, HasNotes}
 use Rattle.why_cli.specs.Explained.{Writing, Written, IsExplanation, ExplainsPlay}
-use Rattle.why_cli.specs.Answers.{IsWhy}
+use Rattle.why_cli.specs.declared.explained.Explained.{Explained}
 use Rattle.why_cli.proofs.Weaving.{notes_none}
 
 -- nothing was told yet
@@ -98,6 +98,11 @@ pub of_manager : (m : Manager) (d : Desk) (script : List ℕ) (p : Playing) (tex
 of_manager m d script p text status is begins h =
     subst (λ (x : Desk). IsExplanation (told_of x) (front_of x) (events_of script) text status) (begins.is ∙ is)
     (subst (λ (t : Trace). IsExplanation (told_of p.desk) (front_of p.desk) t text status) begins.left h)
+
+pub machine_explained : {E : Type 0} (m : Manager) (d : Desk) (script : List ℕ) (p : Playing) (r : Result Explained E) → d ≡ opening_desk m → Begins d script p → IfOk r (λ e. ExplainsPlay p e.text.items e.status)
+    → IfOk r (λ e. IsExplanation (settings m) (opening_front m.state) (events_of script) e.text.items e.status)
+machine_explained m d script p (Ok e) is begins h = of_manager m d script p e.text.items e.status is begins h
+machine_explained m d script p (Err error) is begins h = tt
 
 -- and the manager was just made
 pub of_settings : (infs : List Inf) (budget : ℕ) (rack : List Driver) (m : Manager) (script : List ℕ) (text : Text) (status : Status)

@@ -79,7 +79,8 @@ fn explain_play<R: Drivers>(
     Ok(Explained { text, status })
 }
 
-/// The same of a front over a manager to which nothing happened.
+/// The same of a front over a manager to which nothing happened. The play is made here and handed on, since the checker is slow where
+/// a function holds one.
 fn explain_machine<R: Drivers>(
     alloc: Global,
     manager: Manager<R>,
@@ -91,8 +92,53 @@ fn explain_machine<R: Drivers>(
     ensures { IfOk result (λ e. IsExplanation (settings manager) (opening_front manager.state) (events_of script.now) e.text.items e.status) }
 {
     let front = Front::new(alloc, manager);
-    let mut play = Play::new(alloc, front, script)?;
-    explain_play(alloc, &mut play, facts)
+    match Play::new(alloc, front, script) {
+        Ok(mut play) => explain_play(alloc, &mut play, facts),
+        Err(error) => Err(error),
+    }
+}
+
+/// The same of a manager that is made of these INFs and this rack. It is made here and handed on, for the same reason.
+fn explain_infs<R: Drivers>(
+    alloc: Global,
+    script: &[u8],
+    infs: Vec<Inf>,
+    budget: u64,
+    rack: R,
+    facts: &mut Facts,
+) -> Result<Explained, WantOfMemory>
+    requires infs { length infs.items ≤ 64 }
+    requires budget { budget ≤ 1000000 }
+    requires small { length script.now ≤ 16777216 }
+    ensures { IfOk result (λ e. IsExplanation (machine infs.items budget) (opening_front (opening (R.rows rack))) (events_of script.now) e.text.items e.status) }
+{
+    match Manager::new(alloc, infs, rack, budget) {
+        Ok(manager) => explain_machine(alloc, manager, script, facts),
+        Err(error) => Err(error),
+    }
+}
+
+/// The names of the INFs, copied.
+fn copied_names(alloc: Global, names: &TextList) -> Result<TextList, WantOfMemory> {
+    let mut copies = TextList::new(alloc);
+    for at in 0..names.len() {
+        copies.push(names.get(at).copy(alloc)?)?;
+    }
+    Ok(copies)
+}
+
+/// What notes know before anything happened.
+fn first_facts(
+    alloc: Global,
+    infs: &[Inf],
+    names: &TextList,
+    budget: u64,
+) -> Result<Facts, WantOfMemory> {
+    let own_names = copied_names(alloc, names)?;
+    match copied_infs(alloc, infs) {
+        Ok(own) => Ok(Facts::new(alloc, own, own_names, budget)),
+        Err(error) => Err(error),
+    }
 }
 
 /// The text for a script: the lines of all labels with the notes on them, and the end of the output.
@@ -109,12 +155,8 @@ pub fn explain<R: Drivers>(
     requires small { length script.now ≤ 16777216 }
     ensures { IfOk result (λ e. IsExplanation (machine infs.items budget) (opening_front (opening (R.rows rack))) (events_of script.now) e.text.items e.status) }
 {
-    let own = copied_infs(alloc, &infs)?;
-    let mut inf_names = TextList::new(alloc);
-    for at in 0..names.len() {
-        inf_names.push(names.get(at).copy(alloc)?)?;
+    match first_facts(alloc, &infs, names, budget) {
+        Ok(mut facts) => explain_infs(alloc, script, infs, budget, rack, &mut facts),
+        Err(error) => Err(error),
     }
-    let mut facts = Facts::new(alloc, own, inf_names, budget);
-    let manager = Manager::new(alloc, infs, rack, budget)?;
-    explain_machine(alloc, manager, script, &mut facts)
 }
