@@ -5,13 +5,14 @@ use Rattle.std.proofs.lemmas.Bool.Decides.{nat_tests}
 use Rattle.std.specs.Prelude.{slice_index_or}
 use Rattle.pnp_io.specs.Outside.{Holds}
 use Rattle.pnp_labels.specs.Texts.{Text}
-use Rattle.pnp_model.specs.Records.{Driver}
+use Rattle.pnp_model.specs.Records.{Driver, Settings}
 use Rattle.pnp_model.specs.Runs.{opening}
-use Rattle.notify_front.specs.Fronts.{opening_front}
+use Rattle.notify_front.specs.Fronts.{Front, opening_front}
 use Rattle.inf_reader.specs.declared.parts.Inf.{Inf}
 use Rattle.inf_reader.specs.declared.parts.InfError.{InfError}
 use Rattle.inf_reader.specs.Meaning.{inf}
-use Rattle.script_reader.specs.Script.{Trace, trace}
+use Rattle.device_ids.specs.Cuts.{parts}
+use Rattle.script_reader.specs.Script.{Trace, trace, ends, onward, at_end, of_lines, Meaning, nothing, means, bad, last_line, whole_line}
 use Rattle.pnp_cli.specs.Contents.{events_of, decided_of, answer_of}
 use Rattle.pnp_cli.specs.Infs.{inf_in, infs_in, infs_from, ahead, limit, numbered, refusal_line}
 use Rattle.pnp_cli.specs.Runs.{machine}
@@ -21,7 +22,7 @@ use Rattle.pnp_cli.specs.declared.status.Status.{Status}
 use Rattle.pnp_cli.proofs.InfSteps.{infs_stop}
 use Rattle.why_cli.specs.Woven.{IsWoven}
 use Rattle.why_cli.specs.Explained.{IsExplanation}
-use Rattle.why_cli.specs.Answers.{IsWhy, outcome}
+use Rattle.why_cli.specs.Answers.{IsWhy, outcome, is_told}
 use Rattle.why_cli.specs.declared.infs.OneInf.{OneInf}
 
 within_limit : (n : ℕ) → n ≤ 16777216 → nat_le n limit ≡ true
@@ -53,6 +54,24 @@ told_refused (Some told) names at name read error h item far is = far ∙ infs_s
 decided_whole : (script : List ℕ) → length script ≤ 16777216 → decided_of script ≡ events_of script
 decided_whole script within =
     ap (λ (b : Bool). trace b 0 (take limit script)) (within_limit (length script) within) ∙ ap (trace true 0) (take_all limit script within)
+
+-- and so the end of the script, or a bad line, is met
+told_onward : (number : ℕ) (m : Meaning) (rest : Trace) → is_told (answer_of rest) ≡ true → is_told (answer_of (onward number m rest)) ≡ true
+told_onward number nothing rest h = h
+told_onward number (means event) rest h = h
+told_onward number bad rest h = refl
+
+told_end : (passed : ℕ) (rest : List ℕ) → is_told (answer_of (at_end true passed rest)) ≡ true
+told_end passed [] = refl
+told_end passed (byte ∷ rest) = told_onward (passed + 1) (last_line (byte ∷ rest)) ends refl
+
+told_lines : (passed : ℕ) (lines : List (List ℕ)) → is_told (answer_of (of_lines true passed lines)) ≡ true
+told_lines passed [] = refl
+told_lines passed (rest ∷ []) = told_end passed rest
+told_lines passed (line ∷ next ∷ lines) = told_onward (passed + 1) (whole_line line) (of_lines true (passed + 1) (next ∷ lines)) (told_lines (passed + 1) (next ∷ lines))
+
+pub explanation_told : {settings : Settings} {f : Front} (script : List ℕ) (text : Text) (status : Status) → IsExplanation settings f (events_of script) text status → is_told status ≡ true
+explanation_told script text status h = subst (λ (x : Status). is_told x ≡ true) h.answer (told_lines 0 (parts 0x0A script))
 
 -- all INFs are taken, and the script is explained
 pub why_taken : (contents : Option (Text → Option (List ℕ))) (names : List Text) (name : Text) (infs : List Inf) (script : List ℕ) (rack : List Driver) (budget : ℕ) (text : Text) (status : Status)
