@@ -5,7 +5,8 @@ use Rattle.pnp_labels.specs.Texts.{Text}
 use Rattle.pnp_model.specs.Records.{Driver}
 use Rattle.inf_reader.specs.declared.parts.Inf.{Inf}
 use Rattle.pnp_cli.specs.Infs.{infs_in}
-use Rattle.pnp_cli.specs.Runs.{IsOutputBy, Wrote, status_by}
+use Rattle.pnp_cli.specs.Runs.{IsOutput, IsOutputBy, IsOutputFor, Wrote, status_by}
+use Rattle.pnp_cli.specs.declared.parts.Settings.{Settings}
 use Rattle.pnp_cli.specs.declared.status.Status.{Status}
 use Rattle.why_cli.specs.Answers.{Explains, IsWhy, WroteOut, WroteSome, is_told, status_of_stop}
 use Rattle.why_cli.specs.declared.explained.Explained.{Explained}
@@ -101,3 +102,12 @@ module _ (contents : Option (Text → Option (List ℕ))) (names : List Text) (n
   too_large_by (Ok x) told (inl (is, took)) fault = absurd (not_true (ap is_told (sym fault ∙ is) ∙ told))
   too_large_by (Ok x) told (inr (is, front)) fault = let h : Status.WriteFault ≡ Status.TooLarge = sym is ∙ fault in cc
   too_large_by (Err stop) told (is, none) fault = large_stop stop (sym is ∙ fault)
+
+-- what the words say, where they name a script
+pub front_named : (s : Option Settings) (settings : Settings) (name : Text) (rows rack : List Driver) (contents : Option (Text → Option (List ℕ))) (old new : Option Text) → s ≡ Some settings → settings.script ≡ Some name
+    → rows ≡ rack → IfSome contents (λ told. WroteSome (Explains (IsOutputBy rows settings.budget (infs_in told settings.infs) (told name))) old new)
+    → IfSome s (λ s. IfSome contents (λ told. WroteSome (Explains (IsOutput rack told s)) old new))
+front_named s settings name rows rack contents old new is script same h =
+    subst (λ (o : Option Settings). IfSome o (λ s. IfSome contents (λ told. WroteSome (Explains (IsOutput rack told s)) old new))) (sym is)
+    (subst (λ (o : Option Text). IfSome contents (λ told. WroteSome (Explains (IsOutputFor rack settings.budget told settings.infs o settings.made)) old new)) (sym script)
+    (subst (λ (x : List Driver). IfSome contents (λ told. WroteSome (Explains (IsOutputBy x settings.budget (infs_in told settings.infs) (told name))) old new)) same h))
