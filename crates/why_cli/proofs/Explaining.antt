@@ -1,24 +1,20 @@
 -- The text for a play, and for a script.
-use Rattle.std.proofs.Common.{◌≡◌, ℕ, ◌≤◌, ◌<◌, true, List, [], ◌∷◌, ◌++◌, Option, Some, None, IfOk, Result, Ok, Err, refl, sym, ◌∙◌, ap, ap₂, subst, append_assoc, length}
+use Rattle.std.proofs.Common.{◌≡◌, ℕ, ◌<◌, List, [], ◌∷◌, ◌++◌, Option, Some, None, IfOk, Result, Ok, Err, refl, sym, ◌∙◌, ap, subst, append_assoc, length}
 use Rattle.pnp_labels.specs.Texts.{Text}
 use Rattle.pnp_labels.specs.declared.label.Label.{Label}
-use Rattle.pnp_model.specs.Records.{Driver, Settings}
-use Rattle.pnp_model.specs.Runs.{opening}
 use Rattle.pnp_machine.specs.Managers.{Manager, settings}
-use Rattle.inf_reader.specs.declared.parts.Inf.{Inf}
-use Rattle.notify_front.specs.Fronts.{Front, opening_front}
+use Rattle.notify_front.specs.Fronts.{opening_front}
 use Rattle.notify_front.specs.Desks.{Desk, front_of, told_of, opening_desk}
 use Rattle.script_reader.specs.Script.{Trace}
 use Rattle.pnp_cli.specs.Contents.{events_of}
 use Rattle.pnp_cli.specs.Outputs.{bad_text, end_text, text_of, written}
 use Rattle.pnp_cli.specs.Pieces.{line_of_bad, answer_by}
-use Rattle.pnp_cli.specs.Runs.{machine}
 use Rattle.pnp_cli.specs.declared.status.Status.{Status}
 use Rattle.script_play.specs.Playing.{Playing, Played, Begins, Stepped, StepTold, Came, EventTold, left_of}
 use Rattle.script_play.specs.declared.play.Happened.{Happened}
 use Rattle.script_play.proofs.Plays.{fewer_left}
 use Rattle.notify_front.proofs.FrontLeft.{front_steps_left}
-use Rattle.why_cli.specs.Woven.{IsWoven, HasNotes}
+use Rattle.why_cli.specs.Woven.{HasNotes}
 use Rattle.why_cli.specs.Explained.{Writing, Written, IsExplanation, ExplainsPlay}
 use Rattle.why_cli.specs.declared.explained.Explained.{Explained}
 use Rattle.why_cli.proofs.Weaving.{notes_none}
@@ -103,10 +99,3 @@ pub machine_explained : {E : Type 0} (m : Manager) (d : Desk) (script : List ℕ
     → IfOk r (λ e. IsExplanation (settings m) (opening_front m.state) (events_of script) e.text.items e.status)
 machine_explained m d script p (Ok e) is begins h = of_manager m d script p e.text.items e.status is begins h
 machine_explained m d script p (Err error) is begins h = tt
-
--- and the manager was just made
-pub of_settings : (infs : List Inf) (budget : ℕ) (rack : List Driver) (m : Manager) (script : List ℕ) (text : Text) (status : Status)
-    → m ≡ record { infs = infs; budget = budget; events = 0; state = opening rack } → IsExplanation (settings m) (opening_front m.state) (events_of script) text status
-    → IsExplanation (machine infs budget) (opening_front (opening rack)) (events_of script) text status
-of_settings infs budget rack m script text status is h =
-    subst (λ (x : Manager). IsExplanation (settings x) (opening_front x.state) (events_of script) text status) is h

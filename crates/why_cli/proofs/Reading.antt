@@ -1,5 +1,5 @@
 -- The INFs and the script that the words name.
-use Rattle.std.proofs.Common.{◌≡◌, ℕ, ◌+◌, ◌≤◌, ◌<◌, Bool, true, false, List, [], ◌∷◌, ◌++◌, Option, Some, None, IfSome, Result, Ok, Err, refl, sym, ◌∙◌, ap, subst, length, take, drop, arith, nat_le, cond}
+use Rattle.std.proofs.Common.{◌≡◌, ℕ, ◌+◌, ◌≤◌, ◌<◌, Bool, true, List, [], ◌∷◌, Option, Some, None, IfSome, Result, Ok, Err, refl, sym, ◌∙◌, ap, subst, length, take, drop, arith, nat_le, cond}
 use Rattle.std.proofs.lemmas.List.{take_all}
 use Rattle.std.proofs.lemmas.Bool.Decides.{nat_tests}
 use Rattle.std.specs.Prelude.{slice_index_or}
@@ -14,13 +14,12 @@ use Rattle.inf_reader.specs.Meaning.{inf}
 use Rattle.device_ids.specs.Cuts.{parts}
 use Rattle.script_reader.specs.Script.{Trace, trace, ends, onward, at_end, of_lines, Meaning, nothing, means, bad, last_line, whole_line}
 use Rattle.pnp_cli.specs.Contents.{events_of, decided_of, answer_of}
-use Rattle.pnp_cli.specs.Infs.{inf_in, infs_in, infs_from, ahead, limit, numbered, refusal_line}
+use Rattle.pnp_cli.specs.Infs.{inf_in, infs_in, infs_from, ahead, limit, numbered}
 use Rattle.pnp_cli.specs.Runs.{machine}
 use Rattle.pnp_cli.specs.declared.infs.InfsError.{InfsError}
 use Rattle.pnp_cli.specs.declared.infs.InfsError.TheVariants.{TooLarge, Refused}
 use Rattle.pnp_cli.specs.declared.status.Status.{Status}
 use Rattle.pnp_cli.proofs.InfSteps.{infs_stop}
-use Rattle.why_cli.specs.Woven.{IsWoven}
 use Rattle.why_cli.specs.Explained.{IsExplanation}
 use Rattle.why_cli.specs.Answers.{IsWhy, outcome, is_told}
 use Rattle.why_cli.specs.declared.infs.OneInf.{OneInf}
@@ -86,12 +85,3 @@ why_taken (Some told) names name infs script rack budget text status taken holds
       explains = record { plain = h.output; is = h.prints; woven = h.woven };
       answer = ap (λ (t : Trace). Some (answer_of t)) (decided_whole script few) ∙ ap Some h.answer;
     }))
-
--- an INF is refused, and its line written
-pub why_refused : (contents : Option (Text → Option (List ℕ))) (names : List Text) (name : Text) (number : ℕ) (error : InfError) (rack : List Driver) (budget : ℕ) (text : Text)
-    → IfSome contents (λ told. infs_in told names ≡ Err (Refused number error)) → IsWoven (refusal_line number error) text
-    → IfSome contents (λ told. IsWhy rack budget (infs_in told names) (told name) text Status.BadInf)
-why_refused None names name number error rack budget text refused woven = tt
-why_refused (Some told) names name number error rack budget text refused woven =
-    subst (λ (r : Result (List Inf) InfsError). IsWhy rack budget r (told name) text Status.BadInf) (sym refused)
-    (record { explains = record { plain = refusal_line number error; is = refl; woven = woven }; answer = refl })

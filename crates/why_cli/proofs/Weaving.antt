@@ -9,7 +9,7 @@ use Rattle.pnp_labels.specs.Texts.{Text, label_line}
 use Rattle.pnp_labels.specs.declared.label.Label.{Label}
 use Rattle.pnp_cli.specs.Outputs.{text_of}
 use Rattle.pnp_cli.proofs.Telling.{text_append}
-use Rattle.why_cli.specs.Woven.{Piece, AreNotes, HasNotes, IsWoven, lines_of, text_with, note_line, shown}
+use Rattle.why_cli.specs.Woven.{Piece, HasNotes, IsWoven, note_line, shown}
 
 -- nothing was written
 pub notes_none : HasNotes [] []

@@ -1,5 +1,5 @@
 -- What is written and answered, by the words and by the contents of the files as they are told.
-use Rattle.std.specs.Prelude.{◌≡◌, ◌⊎◌, ◌<◌, ℕ, Bool, true, false, List, [], ◌∷◌, ◌++◌, Option, Some, None, IfSome, Result, Ok, Err, Contains, length}
+use Rattle.std.specs.Prelude.{◌≡◌, ◌⊎◌, ℕ, Bool, true, false, List, Option, Some, None, Result, Ok, Err, Contains, length}
 use Rattle.pnp_io.specs.Outside.{Appends, AppendsFront, HoldsMore}
 use Rattle.pnp_io.specs.declared.whole.ReadError.{ReadError}
 use Rattle.pnp_io.specs.declared.whole.ReadError.TheVariants as reads
@@ -7,8 +7,8 @@ use Rattle.pnp_labels.specs.Texts.{Text}
 use Rattle.pnp_model.specs.Records.{Driver}
 use Rattle.inf_reader.specs.declared.parts.Inf.{Inf}
 use Rattle.inf_reader.specs.declared.parts.InfError.{InfError}
-use Rattle.pnp_cli.specs.Infs.{refusal_line, limit}
-use Rattle.pnp_cli.specs.Runs.{IsOutput, IsOutputBy, status_by}
+use Rattle.pnp_cli.specs.Infs.{limit}
+use Rattle.pnp_cli.specs.Runs.{IsOutputBy, status_by}
 use Rattle.pnp_cli.specs.declared.infs.InfsError.{InfsError}
 use Rattle.pnp_cli.specs.declared.infs.InfsError.TheVariants as faults
 use Rattle.pnp_cli.specs.declared.parts.Settings.{Settings}

@@ -3,7 +3,6 @@ use Rattle.pnp_cli.specs.Infs.{inf_in, numbered}
 use Rattle.pnp_cli.proofs.InfSteps.{told_more}
 use Rattle.why_cli.specs.Answers.{outcome}
 use Rattle.why_cli.specs.declared.infs.OneInf.{OneInf}
-use Rattle.why_cli.specs.declared.infs.OneInf.TheVariants.{Taken, Refused}
 use Rattle.why_cli.proofs.Reading.{at_number, told_refused}
 use Rattle.why_cli.proofs.infs.read_infs.Goals as goal
 
