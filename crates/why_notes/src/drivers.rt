@@ -1,0 +1,334 @@
+//! Notes on which driver was chosen, and why none was.
+use crate::facts::Facts;
+use crate::lines::Lines;
+use crate::matches::{Match, best_after, line_of, matches};
+use crate::texts::{ids_text, inf_text, node_of, rank_text};
+use device_ids::{Text, TextList, WantOfMemory};
+use devnode_tree::{Node, Tree};
+use inf_reader::ModelLine;
+use std::alloc::Global;
+
+/// The most lines that were passed over and are told.
+const MOST_OTHERS: usize = 4;
+
+/// The most drivers of a device.
+const MOST_DRIVERS: u64 = 16;
+
+/// Where a line stands: its number, its INF, and the name of that.
+fn add_place(
+    alloc: Global,
+    facts: &Facts,
+    found: &Match,
+    lines: &mut Lines,
+) -> Result<(), WantOfMemory> {
+    lines.add(b"line ")?;
+    lines.add_number(alloc, found.line as u64)?;
+    lines.add(b" of ")?;
+    lines.add(&inf_text(alloc, &facts.inf_names, found.inf)?)
+}
+
+/// Which ID of the line agrees with which of the device.
+fn add_ids(
+    alloc: Global,
+    found: &Match,
+    line: &ModelLine,
+    lines: &mut Lines,
+) -> Result<(), WantOfMemory> {
+    if found.line_at < line.ids.len() {
+        lines.add(line.ids.get(found.line_at).bytes())?;
+    }
+    if found.hardware {
+        lines.add(b" is hardware ID ")?;
+    } else {
+        lines.add(b" is compatible ID ")?;
+    }
+    lines.add_number(alloc, found.device_at.saturating_add(1))?;
+    lines.add(b" of the device and ")?;
+    if found.line_at == 0 {
+        return lines.add(b"the hardware ID of the line");
+    }
+    lines.add(b"a compatible ID of the line")
+}
+
+/// The services and filters of a line, from the bottom to the top.
+fn stack_text(alloc: Global, line: &ModelLine) -> Result<Vec<u8>, WantOfMemory> {
+    let mut text = Vec::new(alloc);
+    add_names(&mut text, &line.lower)?;
+    if let Some(service) = &line.service {
+        add_name(&mut text, service)?;
+    }
+    add_names(&mut text, &line.upper)?;
+    Ok(text)
+}
+
+fn add_name(text: &mut Vec<u8>, name: &Text) -> Result<(), WantOfMemory> {
+    if !text.is_empty() {
+        text.extend_from_slice(b", ")?;
+    }
+    text.extend_from_slice(name.bytes())
+}
+
+fn add_names(text: &mut Vec<u8>, names: &TextList) -> Result<(), WantOfMemory> {
+    for at in 0..names.len() {
+        add_name(text, names.get(at))?;
+    }
+    Ok(())
+}
+
+/// The line that was taken.
+fn tell_taken(
+    alloc: Global,
+    facts: &Facts,
+    found: &Match,
+    lines: &mut Lines,
+) -> Result<(), WantOfMemory> {
+    let Some(line) = line_of(&facts.infs, found) else {
+        return Ok(());
+    };
+    lines.add(b"The driver comes from ")?;
+    add_place(alloc, facts, found, lines)?;
+    lines.add(b": ")?;
+    add_ids(alloc, found, line, lines)?;
+    lines.add(b".")?;
+    lines.end(alloc)?;
+    lines.add(b"The score of the line is ")?;
+    lines.add_number(alloc, line.score as u64)?;
+    lines.add(b", and with it the rank ")?;
+    lines.add(&rank_text(alloc, found.rank)?)?;
+    lines.add(b"; less is better.")?;
+    lines.end(alloc)?;
+    if line.lower.len() > 0 || line.upper.len() > 0 {
+        lines.add(b"Its drivers from the bottom to the top: ")?;
+        lines.add(&stack_text(alloc, line)?)?;
+        lines.add(b".")?;
+        lines.end(alloc)?;
+    }
+    Ok(())
+}
+
+/// A line that was passed over.
+fn tell_passed(
+    alloc: Global,
+    facts: &Facts,
+    found: &Match,
+    lines: &mut Lines,
+) -> Result<(), WantOfMemory> {
+    let Some(line) = line_of(&facts.infs, found) else {
+        return Ok(());
+    };
+    lines.add(b"Passed over: ")?;
+    add_place(alloc, facts, found, lines)?;
+    lines.add(b", rank ")?;
+    lines.add(&rank_text(alloc, found.rank)?)?;
+    lines.add(b": ")?;
+    add_ids(alloc, found, line, lines)?;
+    lines.add(b".")?;
+    lines.end(alloc)
+}
+
+/// The lines behind the one that was taken, in their order.
+fn tell_others(
+    alloc: Global,
+    facts: &Facts,
+    all: &[Match],
+    taken: Match,
+    lines: &mut Lines,
+) -> Result<(), WantOfMemory> {
+    let mut last = taken;
+    for _ in 0..MOST_OTHERS {
+        let Some(next) = best_after(all, Some(last)) else {
+            return Ok(());
+        };
+        tell_passed(alloc, facts, &next, lines)?;
+        last = next;
+    }
+    let left = all.len().saturating_sub(MOST_OTHERS + 1);
+    if left == 0 {
+        return Ok(());
+    }
+    lines.add(b"Passed over: ")?;
+    lines.add_number(alloc, left as u64)?;
+    lines.add(b" more.")?;
+    lines.end(alloc)
+}
+
+/// At `install`: by which line, ID and rank, and which other lines match.
+pub fn on_install(
+    alloc: Global,
+    facts: &Facts,
+    tree: &Tree,
+    path: &Text,
+    lines: &mut Lines,
+) -> Result<(), WantOfMemory> {
+    let Some(node) = node_of(alloc, tree, path)? else {
+        return Ok(());
+    };
+    let all = matches(alloc, &facts.infs, node)?;
+    let Some(taken) = best_after(&all, None) else {
+        return Ok(());
+    };
+    tell_taken(alloc, facts, &taken, lines)?;
+    tell_others(alloc, facts, &all, taken, lines)
+}
+
+/// The IDs of a device.
+fn tell_ids(alloc: Global, node: &Node, lines: &mut Lines) -> Result<(), WantOfMemory> {
+    lines.add(b"Its hardware IDs: ")?;
+    lines.add(&ids_text(alloc, &node.hw)?)?;
+    lines.add(b".")?;
+    lines.end(alloc)?;
+    lines.add(b"Its compatible IDs: ")?;
+    lines.add(&ids_text(alloc, &node.compat)?)?;
+    lines.add(b".")?;
+    lines.end(alloc)
+}
+
+/// The INFs that have no models line.
+fn tell_empty_infs(alloc: Global, facts: &Facts, lines: &mut Lines) -> Result<(), WantOfMemory> {
+    if facts.infs.is_empty() {
+        lines.add(b"No INF was given.")?;
+        return lines.end(alloc);
+    }
+    for at in 0..facts.infs.len() {
+        if facts.infs[at].lines.len() == 0 {
+            let name = inf_text(alloc, &facts.inf_names, at as u64)?;
+            lines.add(&name)?;
+            lines.add(
+                b" has no models line: the section that [Manufacturer] names for this system is not there, or is empty.",
+            )?;
+            lines.end(alloc)?;
+        }
+    }
+    Ok(())
+}
+
+/// Why the best line gives no driver.
+fn tell_no_service(
+    alloc: Global,
+    facts: &Facts,
+    found: &Match,
+    lines: &mut Lines,
+) -> Result<(), WantOfMemory> {
+    let Some(line) = line_of(&facts.infs, found) else {
+        return Ok(());
+    };
+    lines.add(b"The best line is ")?;
+    add_place(alloc, facts, found, lines)?;
+    lines.add(b": ")?;
+    add_ids(alloc, found, line, lines)?;
+    lines.add(b".")?;
+    lines.end(alloc)?;
+    if line.service.is_none() {
+        lines.add(
+            b"But it names no driver: its section .Services has no AddService whose flags have the bit 2 and whose name is not empty.",
+        )?;
+        return lines.end(alloc);
+    }
+    let count = line
+        .lower
+        .len()
+        .saturating_add(line.upper.len())
+        .saturating_add(1);
+    if count > MOST_DRIVERS {
+        lines.add(b"But it names ")?;
+        lines.add_number(alloc, count)?;
+        lines.add(b" drivers, and a device has at most 16.")?;
+        return lines.end(alloc);
+    }
+    Ok(())
+}
+
+/// At `problem P 28`: which IDs were tried, and which of the causes it is.
+pub fn on_no_driver(
+    alloc: Global,
+    facts: &Facts,
+    tree: &Tree,
+    path: &Text,
+    lines: &mut Lines,
+) -> Result<(), WantOfMemory> {
+    let Some(node) = node_of(alloc, tree, path)? else {
+        return Ok(());
+    };
+    let all = matches(alloc, &facts.infs, node)?;
+    let Some(best) = best_after(&all, None) else {
+        lines.add(b"No line of any INF has one of the IDs of the device.")?;
+        lines.end(alloc)?;
+        tell_ids(alloc, node, lines)?;
+        return tell_empty_infs(alloc, facts, lines);
+    };
+    tell_no_service(alloc, facts, &best, lines)?;
+    tell_ids(alloc, node, lines)
+}
+
+/// Whether a driver has the name.
+fn is_named(facts: &Facts, name: &Text) -> bool {
+    for at in 0..facts.drivers.len() {
+        if facts.drivers.get(at).same(name) {
+            return true;
+        }
+    }
+    false
+}
+
+/// Says that no driver has a name, where none has it.
+fn tell_missing(
+    alloc: Global,
+    facts: &Facts,
+    what: &[u8],
+    name: &Text,
+    lines: &mut Lines,
+) -> Result<(), WantOfMemory> {
+    if is_named(facts, name) {
+        return Ok(());
+    }
+    lines.add(b"No driver has the name ")?;
+    lines.add(name.bytes())?;
+    lines.add(b", which the INF gives as ")?;
+    lines.add(what)?;
+    lines.add(b". A line `driver ")?;
+    lines.add(name.bytes())?;
+    lines.add(b" KIND` before the device names one.")?;
+    lines.end(alloc)
+}
+
+fn tell_all_missing(
+    alloc: Global,
+    facts: &Facts,
+    what: &[u8],
+    names: &TextList,
+    lines: &mut Lines,
+) -> Result<(), WantOfMemory> {
+    for at in 0..names.len() {
+        tell_missing(alloc, facts, what, names.get(at), lines)?;
+    }
+    Ok(())
+}
+
+/// At `problem P 39`: the names that no driver has.
+pub fn on_not_loaded(
+    alloc: Global,
+    facts: &Facts,
+    tree: &Tree,
+    path: &Text,
+    lines: &mut Lines,
+) -> Result<(), WantOfMemory> {
+    let Some(node) = node_of(alloc, tree, path)? else {
+        return Ok(());
+    };
+    let all = matches(alloc, &facts.infs, node)?;
+    let Some(best) = best_after(&all, None) else {
+        return Ok(());
+    };
+    let Some(line) = line_of(&facts.infs, &best) else {
+        return Ok(());
+    };
+    lines.add(b"The best line is ")?;
+    add_place(alloc, facts, &best, lines)?;
+    lines.add(b".")?;
+    lines.end(alloc)?;
+    tell_all_missing(alloc, facts, b"a lower filter", &line.lower, lines)?;
+    if let Some(service) = &line.service {
+        tell_missing(alloc, facts, b"the service", service, lines)?;
+    }
+    tell_all_missing(alloc, facts, b"an upper filter", &line.upper, lines)
+}

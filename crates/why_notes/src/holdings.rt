@@ -1,0 +1,61 @@
+//! Notes on what moved.
+use crate::facts::{Facts, Holding};
+use crate::lines::Lines;
+use crate::texts::held_text;
+use device_ids::WantOfMemory;
+use devnode_tree::{Node, Tree};
+use std::alloc::Global;
+
+/// At `fits`: what all devices hold is kept, so that what moves can be told.
+pub fn keep_holdings(alloc: Global, facts: &mut Facts, tree: &Tree) -> Result<(), WantOfMemory> {
+    let mut before = Vec::new(alloc);
+    for at in 0..tree.len() {
+        if let Some(node) = tree.get(at) {
+            before.push(Holding {
+                serial: node.serial,
+                held: node.holds.copy(alloc)?,
+            })?;
+        }
+    }
+    facts.before = before;
+    Ok(())
+}
+
+/// Tells a device whose holdings are other than before.
+fn tell_moved(
+    alloc: Global,
+    before: &Holding,
+    node: &Node,
+    lines: &mut Lines,
+) -> Result<(), WantOfMemory> {
+    if before.serial != node.serial {
+        return Ok(());
+    }
+    let old = held_text(alloc, &before.held)?;
+    let new = held_text(alloc, &node.holds)?;
+    if old.as_slice() == new.as_slice() {
+        return Ok(());
+    }
+    lines.add(node.path.bytes())?;
+    lines.add(b" has now ")?;
+    lines.add(&new)?;
+    lines.add(b"; before: ")?;
+    lines.add(&old)?;
+    lines.add(b".")?;
+    lines.end(alloc)
+}
+
+/// At `commit`: the new holdings of those that moved.
+pub fn on_commit(
+    alloc: Global,
+    facts: &Facts,
+    tree: &Tree,
+    lines: &mut Lines,
+) -> Result<(), WantOfMemory> {
+    for at in 0..tree.len() {
+        if let (Some(before), Some(node)) = (facts.before.get(at), tree.get(at)) {
+            tell_moved(alloc, before, node, lines)?;
+        }
+    }
+    Ok(())
+}

@@ -1,0 +1,53 @@
+//! Notes on devices that lost their drivers with another one.
+use crate::facts::Facts;
+use crate::lines::Lines;
+use crate::texts::node_of;
+use device_ids::{Text, WantOfMemory};
+use devnode_tree::Tree;
+use pnp_labels::{DevState, RelKind};
+use std::alloc::Global;
+
+/// Whether a device of the path works.
+fn works(alloc: Global, tree: &Tree, path: &Text) -> Result<bool, WantOfMemory> {
+    match node_of(alloc, tree, path)? {
+        Some(node) => Ok(node.state == DevState::Started),
+        None => Ok(false),
+    }
+}
+
+/// At `problem P 47` and `problem P held`: the relations by which the device lost its drivers.
+pub fn on_held(
+    alloc: Global,
+    facts: &Facts,
+    tree: &Tree,
+    path: &Text,
+    lines: &mut Lines,
+) -> Result<(), WantOfMemory> {
+    let mut told = false;
+    for relation in &facts.relations {
+        if relation.member.same(path) && !works(alloc, tree, &relation.owner)? {
+            let kind: &[u8] = match relation.kind {
+                RelKind::Removal => b"removal",
+                RelKind::Ejection => b"ejection",
+            };
+            lines.add(b"It lost its drivers with ")?;
+            lines.add(relation.owner.bytes())?;
+            lines.add(b", by the line `relate ")?;
+            lines.add(kind)?;
+            lines.add(b" ")?;
+            lines.add(relation.owner.bytes())?;
+            lines.add(b" ")?;
+            lines.add(relation.member.bytes())?;
+            lines.add(b"`.")?;
+            lines.end(alloc)?;
+            told = true;
+        }
+    }
+    if !told {
+        lines.add(
+            b"It had gone and kept its drivers while a handle was open; now they were removed.",
+        )?;
+        lines.end(alloc)?;
+    }
+    Ok(())
+}

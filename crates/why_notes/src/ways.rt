@@ -1,0 +1,146 @@
+//! Notes on what holds the places that a device needs.
+use crate::facts::Facts;
+use crate::lines::Lines;
+use crate::texts::want_text;
+use device_ids::WantOfMemory;
+use devnode_tree::{Node, Tree};
+use pnp_labels::res_text;
+use resource_reqs::{AltList, Reqs, Res, ResList, Want, clash};
+use std::alloc::Global;
+
+/// The most holders of a want that are told.
+const MOST_HOLDERS: u64 = 8;
+
+/// All that a want may come from, as one resource.
+pub fn range_of(want: &Want) -> Option<Res> {
+    Res::make(want.kind, want.min, want.max, want.shared)
+}
+
+/// Those who hold some of a range, as far as they are told, and how many there are.
+#[derive(Drop)]
+struct Holders {
+    text: Vec<u8>,
+    count: u64,
+}
+
+impl Holders {
+    fn add(&mut self, alloc: Global, who: &[u8], res: &Res) -> Result<(), WantOfMemory> {
+        if self.count < MOST_HOLDERS {
+            if self.count > 0 {
+                self.text.extend_from_slice(b", ")?;
+            }
+            self.text.extend_from_slice(who)?;
+            self.text.extend_from_slice(b" holds ")?;
+            self.text.extend_from_slice(&res_text(alloc, res)?)?;
+        }
+        self.count = self.count.saturating_add(1);
+        Ok(())
+    }
+
+    fn add_clashing(
+        &mut self,
+        alloc: Global,
+        who: &[u8],
+        range: &Res,
+        held: &ResList,
+    ) -> Result<(), WantOfMemory> {
+        for at in 0..held.len() {
+            let res = held.get(at);
+            if clash(range, res) {
+                self.add(alloc, who, res)?;
+            }
+        }
+        Ok(())
+    }
+}
+
+/// Who holds some of a range, but for one device.
+fn holders_of(
+    alloc: Global,
+    facts: &Facts,
+    tree: &Tree,
+    serial: u64,
+    range: &Res,
+) -> Result<Holders, WantOfMemory> {
+    let mut holders = Holders {
+        text: Vec::new(alloc),
+        count: 0,
+    };
+    holders.add_clashing(alloc, b"`reserve`", range, &facts.reserved)?;
+    for at in 0..tree.len() {
+        if let Some(node) = tree.get(at) {
+            if node.serial != serial {
+                holders.add_clashing(alloc, node.path.bytes(), range, &node.holds)?;
+            }
+        }
+    }
+    Ok(holders)
+}
+
+/// Tells who holds some of what a want may come from.
+fn tell_want(
+    alloc: Global,
+    facts: &Facts,
+    tree: &Tree,
+    serial: u64,
+    want: &Want,
+    lines: &mut Lines,
+) -> Result<(), WantOfMemory> {
+    lines.add(&want_text(alloc, want)?)?;
+    let Some(range) = range_of(want) else {
+        return lines.end(alloc);
+    };
+    let holders = holders_of(alloc, facts, tree, serial, &range)?;
+    lines.add(b": ")?;
+    lines.add(&holders.text)?;
+    if holders.count == 0 {
+        lines.add(b"nobody holds any of it")?;
+    }
+    if holders.count > MOST_HOLDERS {
+        lines.add(b", and ")?;
+        lines.add_number(alloc, holders.count.saturating_sub(MOST_HOLDERS))?;
+        lines.add(b" more")?;
+    }
+    lines.add(b".")?;
+    lines.end(alloc)
+}
+
+/// Tells who holds some of what a list may come from, group by group.
+fn tell_list(
+    alloc: Global,
+    facts: &Facts,
+    tree: &Tree,
+    serial: u64,
+    number: u64,
+    list: &AltList,
+    lines: &mut Lines,
+) -> Result<(), WantOfMemory> {
+    for place in 0..list.len() {
+        let group = list.get(place);
+        for at in 0..group.len() {
+            lines.add(b"List ")?;
+            lines.add_number(alloc, number)?;
+            lines.add(b", resource ")?;
+            lines.add_number(alloc, place as u64 + 1)?;
+            lines.add(b", ")?;
+            tell_want(alloc, facts, tree, serial, group.get(at), lines)?;
+        }
+    }
+    Ok(())
+}
+
+/// At `nofit`: for each list, group and want of what a device needs, who holds some of its places.
+pub fn tell_ways(
+    alloc: Global,
+    facts: &Facts,
+    tree: &Tree,
+    node: &Node,
+    reqs: &Reqs,
+    lines: &mut Lines,
+) -> Result<(), WantOfMemory> {
+    for at in 0..reqs.len() {
+        let number = at as u64 + 1;
+        tell_list(alloc, facts, tree, node.serial, number, reqs.get(at), lines)?;
+    }
+    Ok(())
+}
