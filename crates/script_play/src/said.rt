@@ -17,9 +17,16 @@ pub enum Said {
     /// This range is for nobody.
     Reserve(Res),
     /// A pended request is completed.
-    Complete { path: Text, minor: Minor, ok: bool },
+    Complete {
+        path: Text,
+        minor: Minor,
+        ok: bool,
+    },
     /// A device is to require something else.
-    Change { path: Text, reqs: Reqs },
+    Change {
+        path: Text,
+        reqs: Reqs,
+    },
     /// Anything else.
     Other,
 }

@@ -12,9 +12,10 @@ returns-clause-moves g c =
           ok_at _ _ _ w.result-is
           (stepped_by i.front c.step.new.self i.reader i.bad c.args.self.now c.self.view_is c.in_ok-label.field-0 w.in-Label.label w.in-Label.is c.in_ok-label.ensures.moves c.self.invariant c.in_ok-label.ensures.settings)
       | in-Quiet w ↦
-          ok_at _ _ _ w.result-is
-          ((quiet_by i.front c.step.new.self i.reader i.bad c.args.self.now c.self.view_is c.in_ok-label.field-0 w.in-Quiet.is c.in_ok-label.ensures.moves c.in_ok-label.ensures.settings).0,
-          ap (λ (p : Playing). p.reading) c.self.view_is)
+          ok_at _ _ _ w.result-is (
+            (quiet_by i.front c.step.new.self i.reader i.bad c.args.self.now c.self.view_is c.in_ok-label.field-0 w.in-Quiet.is c.in_ok-label.ensures.moves c.in_ok-label.ensures.settings).0,
+            ap (λ (p : Playing). p.reading) c.self.view_is,
+          )
     ]
 
 pub returns-clause-played : goal.returns-clause-played
