@@ -128,9 +128,7 @@ pub fn refusal_line(alloc: Global, number: u64, error: InfError) -> Result<Vec<u
 /// Why an INF is refused, in words.
 pub fn refusal_words(error: InfError) -> &'static [u8] {
     match error {
-        InfError::NoSignature => {
-            b"[Version] has no Signature of $Windows NT$ or $CHICAGO$."
-        }
+        InfError::NoSignature => { b"[Version] has no Signature of $Windows NT$ or $CHICAGO$." }
         InfError::OpenHeader { .. } => b"A header has no ].",
         InfError::LineTooLong { .. } => b"A line has more than 4096 bytes.",
         InfError::BadDate { .. } => {

@@ -43,7 +43,11 @@ fn learn(alloc: Global, facts: &mut Facts, said: Said) -> Result<(), WantOfMemor
         } => facts.related(kind, owner, member),
         Said::Reserve(res) => facts.reserved(res),
         Said::Complete { path, minor, ok } => {
-            if ok { Ok(()) } else { facts.failed(alloc, &path, minor) }
+            if ok {
+                Ok(())
+            } else {
+                facts.failed(alloc, &path, minor)
+            }
         }
         Said::Change { path, reqs } => facts.changes(path, reqs),
         Said::Other => Ok(()),
