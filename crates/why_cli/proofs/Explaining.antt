@@ -1,5 +1,5 @@
 -- The text for a play, and for a script.
-use Rattle.std.proofs.Common.{◌≡◌, ℕ, ◌<◌, List, [], ◌∷◌, ◌++◌, Option, Some, None, IfOk, Result, Ok, Err, refl, sym, ◌∙◌, ap, subst, append_assoc, length}
+use Rattle.std.proofs.Common.{◌≡◌, ℕ, ◌<◌, List, [], ◌∷◌, ◌++◌, Option, Some, None, IfOk, Result, Ok, Err, refl, sym, ◌∙◌, ap, subst, append_assoc}
 use Rattle.pnp_labels.specs.Texts.{Text}
 use Rattle.pnp_labels.specs.declared.label.Label.{Label}
 use Rattle.pnp_machine.specs.Managers.{Manager, settings}
@@ -10,7 +10,7 @@ use Rattle.pnp_cli.specs.Contents.{events_of}
 use Rattle.pnp_cli.specs.Outputs.{bad_text, end_text, text_of, written}
 use Rattle.pnp_cli.specs.Pieces.{line_of_bad, answer_by}
 use Rattle.pnp_cli.specs.declared.status.Status.{Status}
-use Rattle.script_play.specs.Playing.{Playing, Played, Begins, Stepped, StepTold, Came, EventTold, left_of}
+use Rattle.script_play.specs.Playing.{Playing, Played, Begins, Stepped, StepTold, EventTold, left_of}
 use Rattle.script_play.specs.declared.play.Happened.{Happened}
 use Rattle.script_play.proofs.Plays.{fewer_left}
 use Rattle.notify_front.proofs.FrontLeft.{front_steps_left}
@@ -59,9 +59,6 @@ writing_event start old new text text' o happened is played notes w =
       played = subst (λ (x : Option Happened). EventTold start w.labels x new) is (played w.labels w.played);
       notes = notes w.labels w.notes;
     }
-
-pub came_less : (old new : Playing) (o : Option Happened) (happened : Happened) → o ≡ Some happened → Came o old new → length new.reading.rest < length old.reading.rest
-came_less old new o happened is h = subst (λ (x : Option Happened). Came x old new) is h
 
 -- the end
 pub written_by : (start old new : Playing) (text : Text) (o : Option Happened) → o ≡ None → ((labels : List Label) → Played start labels old → EventTold start labels o new) → Writing start text old → Written start text new

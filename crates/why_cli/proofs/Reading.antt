@@ -1,5 +1,5 @@
 -- The INFs and the script that the words name.
-use Rattle.std.proofs.Common.{◌≡◌, ℕ, ◌+◌, ◌≤◌, ◌<◌, Bool, true, List, [], ◌∷◌, Option, Some, None, IfSome, Result, Ok, Err, refl, sym, ◌∙◌, ap, subst, length, take, drop, arith, nat_le, cond}
+use Rattle.std.proofs.Common.{◌≡◌, ℕ, ◌+◌, ◌≤◌, ◌<◌, Bool, true, List, [], ◌∷◌, Option, Some, None, IfSome, Result, Ok, Err, refl, sym, ◌∙◌, ap, subst, length, take, drop, arith, nat_le}
 use Rattle.std.proofs.lemmas.List.{take_all}
 use Rattle.std.proofs.lemmas.Bool.Decides.{nat_tests}
 use Rattle.std.specs.Prelude.{slice_index_or}
@@ -10,31 +10,20 @@ use Rattle.pnp_model.specs.Runs.{opening}
 use Rattle.notify_front.specs.Fronts.{Front, opening_front}
 use Rattle.inf_reader.specs.declared.parts.Inf.{Inf}
 use Rattle.inf_reader.specs.declared.parts.InfError.{InfError}
-use Rattle.inf_reader.specs.Meaning.{inf}
 use Rattle.device_ids.specs.Cuts.{parts}
 use Rattle.script_reader.specs.Script.{Trace, trace, ends, onward, at_end, of_lines, Meaning, nothing, means, bad, last_line, whole_line}
 use Rattle.pnp_cli.specs.Contents.{events_of, decided_of, answer_of}
 use Rattle.pnp_cli.specs.Infs.{inf_in, infs_in, infs_from, ahead, limit, numbered}
 use Rattle.pnp_cli.specs.Runs.{machine}
 use Rattle.pnp_cli.specs.declared.infs.InfsError.{InfsError}
-use Rattle.pnp_cli.specs.declared.infs.InfsError.TheVariants.{TooLarge, Refused}
+use Rattle.pnp_cli.specs.declared.infs.InfsError.TheVariants.{Refused}
 use Rattle.pnp_cli.specs.declared.status.Status.{Status}
 use Rattle.pnp_cli.proofs.InfSteps.{infs_stop}
 use Rattle.why_cli.specs.Explained.{IsExplanation}
-use Rattle.why_cli.specs.Answers.{IsWhy, outcome, is_told}
-use Rattle.why_cli.specs.declared.infs.OneInf.{OneInf}
+use Rattle.why_cli.specs.Answers.{IsWhy, is_told}
 
 within_limit : (n : ℕ) → n ≤ 16777216 → nat_le n limit ≡ true
 within_limit n h = grind (arith, nat_tests)
-
--- what one INF comes to
-pub one_told : (contents : Option (Text → Option (List ℕ))) (name : Text) (bytes : List ℕ) (one : OneInf) → Holds contents name bytes → length bytes ≤ 16777216 → inf bytes ≡ outcome one
-    → IfSome contents (λ told. (number : ℕ) → inf_in number (told name) ≡ numbered number (outcome one))
-one_told None name bytes one holds few is = tt
-one_told (Some told) name bytes one holds few is = λ number.
-    ap (inf_in number) holds
-    ∙ ap (λ (b : Bool). cond b (numbered number (inf bytes)) (Err TooLarge)) (within_limit (length bytes) few)
-    ∙ ap (numbered number) is
 
 pub at_number : (contents : Option (Text → Option (List ℕ))) (name : Text) (read : Result Inf InfError) (number : ℕ) → IfSome contents (λ told. (n : ℕ) → inf_in n (told name) ≡ numbered n read)
     → IfSome contents (λ told. inf_in number (told name) ≡ numbered number read)

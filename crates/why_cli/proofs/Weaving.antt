@@ -47,16 +47,6 @@ notes_label labels old new label is h =
       all = is ∙ ap (λ (x : Text). x ++ (label_line label ++ 10 ∷ [])) h.all;
     }
 
--- whole lines are
-pub notes_line : (lines old : Text) (words : Text) → HasNotes lines old → HasNotes (lines ++ (words ++ 10 ∷ [])) (old ++ (words ++ 10 ∷ []))
-notes_line lines old words h =
-    record {
-      pieces = Piece.Line words ∷ h.pieces;
-      notes = h.notes;
-      without = ap (λ (x : Text). x ++ (words ++ 10 ∷ [])) h.without;
-      all = ap (λ (x : Text). x ++ (words ++ 10 ∷ [])) h.all;
-    }
-
 -- a text whose lines and notes are all that there is
 pub woven_whole : (lines text : Text) → HasNotes lines text → IsWoven lines text
 woven_whole lines text h = record { lines = lines; woven = text; rest = []; notes = h; without = sym (append-nil lines); all = sym (append-nil text) }
