@@ -1,4 +1,0 @@
-pub mod Weaving
-pub mod Explaining
-pub mod Reading
-pub mod Answering
