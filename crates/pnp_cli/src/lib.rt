@@ -24,6 +24,7 @@ mod words;
 
 pub use drivers::{ProgramDriver, program_drivers};
 pub use generated::{gen_inf, gen_script};
+pub use infs::{InfsError, LIMIT, read_infs, refusal_line};
 pub use parts::{Settings, WordsError};
 pub use program::run;
 pub use status::Status;
