@@ -13,12 +13,11 @@ pub drop_next : {Y : Type 0} (ys : List Y) (at : ℕ) (y : Y) → slice_get ys a
 drop_next ys at y h = drop_read ys at y h ∙ ap (λ n. y ∷ drop n ys) (sym (add-one at))
 
 -- one more resource with a space before it
-pub spaced_next : (line whole text : List ℕ) (held : List Res) (at : ℕ) (res : Res) → slice_get held at ≡ Some res → text ≡ res_text res
+pub spaced_next : (line whole : List ℕ) (held : List Res) (at : ℕ) (res : Res) → slice_get held at ≡ Some res
     → line ++ after_spaces (map res_text (drop at held)) ≡ whole
-    → (line ++ 32 ∷ []) ++ text ++ after_spaces (map res_text (drop (at + 1) held)) ≡ whole
-spaced_next line whole text held at res read is so_far =
-    ap (λ t. (line ++ 32 ∷ []) ++ t ++ after_spaces (map res_text (drop (at + 1) held))) is
-    ∙ append_assoc (line ++ 32 ∷ []) (res_text res) (after_spaces (map res_text (drop (at + 1) held)))
+    → (line ++ 32 ∷ []) ++ res_text res ++ after_spaces (map res_text (drop (at + 1) held)) ≡ whole
+spaced_next line whole held at res read so_far =
+    append_assoc (line ++ 32 ∷ []) (res_text res) (after_spaces (map res_text (drop (at + 1) held)))
     ∙ append_assoc line (32 ∷ []) (res_text res ++ after_spaces (map res_text (drop (at + 1) held)))
     ∙ ap (λ xs. line ++ after_spaces (map res_text xs)) (sym (drop_next held at res read))
     ∙ so_far

@@ -12,7 +12,7 @@ mod words;
 
 pub use event::{Ask, Event, Rule};
 pub use label::{EventWord, Label, NoticeKind, OpEnd, OpKind, Reason, RemoveStep, Shown, TaskKind};
-pub use line::{decimal, label_line, res_text};
+pub use line::{decimal, label_line, push_line, res_text};
 pub use lists::{BornList, SerialList, Stack};
 pub use states::{DevState, Problem, Verdict};
 pub use texts::{minor_text, problem_text, shown_text, state_text};

@@ -50,16 +50,25 @@ fn range_text(alloc: Global, kind: Kind, lo: u64, hi: u64) -> Result<String, Wan
     }
 }
 
+/// Appends the text of a resource. Cost: the length.
+fn push_res(text: &mut Vec<u8>, alloc: Global, res: &Res) -> Result<(), WantOfMemory>
+    ensures { OnOk result (text.new.items ≡ text.old.items ++ res_text res.now) }
+{
+    let range = range_text(alloc, res.kind, res.lo, res.hi)?;
+    text.extend_from_slice(range.as_bytes())?;
+    if res.shared {
+        text.extend_from_slice(b":shared")?;
+    }
+    Ok(())
+}
+
 /// The text of a resource: kind, first and last number, and whether it is shared. Cost: the length. This
 /// project's own.
 pub fn res_text(alloc: Global, res: &Res) -> Result<Vec<u8>, WantOfMemory>
     ensures { IfOk result (λ text. text.items ≡ res_text res.now) }
 {
-    let range = range_text(alloc, res.kind, res.lo, res.hi)?;
-    let mut text = Vec::from_slice(alloc, range.as_bytes())?;
-    if res.shared {
-        text.extend_from_slice(b":shared")?;
-    }
+    let mut text = Vec::new(alloc);
+    push_res(&mut text, alloc, res)?;
     Ok(text)
 }
 
@@ -70,118 +79,136 @@ fn ok_text(ok: bool) -> &'static [u8]
     if ok { b"ok" } else { b"fail" }
 }
 
-/// How an operation ended.
-fn end_text(alloc: Global, end: &OpEnd) -> Result<Vec<u8>, WantOfMemory>
-    ensures { IfOk result (λ text. text.items ≡ end_text end.now) }
+/// Appends how an operation ended.
+fn push_end_text(text: &mut Vec<u8>, end: &OpEnd) -> Result<(), WantOfMemory>
+    ensures { OnOk result (text.new.items ≡ text.old.items ++ end_text end.now) }
 {
     match end {
-        OpEnd::Moved => Vec::from_slice(alloc, b"moved"),
-        OpEnd::NoFit => Vec::from_slice(alloc, b"nofit"),
-        OpEnd::Spent => Vec::from_slice(alloc, b"spent"),
-        OpEnd::Refused => Vec::from_slice(alloc, b"refused"),
-        OpEnd::Done => Vec::from_slice(alloc, b"done"),
-        OpEnd::Waiting => Vec::from_slice(alloc, b"waiting"),
-        OpEnd::Veto(path) => two(alloc, b"veto", path.bytes()),
+        OpEnd::Moved => text.extend_from_slice(b"moved"),
+        OpEnd::NoFit => text.extend_from_slice(b"nofit"),
+        OpEnd::Spent => text.extend_from_slice(b"spent"),
+        OpEnd::Refused => text.extend_from_slice(b"refused"),
+        OpEnd::Done => text.extend_from_slice(b"done"),
+        OpEnd::Waiting => text.extend_from_slice(b"waiting"),
+        OpEnd::Veto(path) => two(text, b"veto", path.bytes()),
     }
 }
 
-/// A path with the resources that its device holds.
-fn assign_line(alloc: Global, path: &[u8], held: &ResList) -> Result<Vec<u8>, WantOfMemory>
-    ensures { IfOk result (λ line. line.items ≡ spaced (codes "assign" ∷ path.now ∷ map res_text held.now)) }
+/// Appends a path with the resources that its device holds.
+fn push_assign(
+    line: &mut Vec<u8>,
+    alloc: Global,
+    path: &[u8],
+    held: &ResList,
+) -> Result<(), WantOfMemory>
+    ensures { OnOk result (line.new.items ≡ line.old.items ++ spaced (codes "assign" ∷ path.now ∷ map res_text held.now)) }
 {
-    let mut line = two(alloc, b"assign", path)?;
+    two(line, b"assign", path)?;
     for at in 0..held.len() {
         line.push(b' ')?;
-        line.extend_from_slice(&res_text(alloc, held.get(at))?)?;
+        push_res(line, alloc, held.get(at))?;
     }
-    Ok(line)
+    Ok(())
 }
 
-fn skip_line(alloc: Global, task: TaskKind, serial: u64) -> Result<Vec<u8>, WantOfMemory>
-    ensures { IfOk result (λ line. line.items ≡ label_line (Label.Skip task serial)) }
+/// Appends an operation, a path, and how the operation ended.
+fn push_end(line: &mut Vec<u8>, op: OpKind, path: &[u8], end: &OpEnd) -> Result<(), WantOfMemory>
+    ensures { OnOk result (line.new.items ≡ line.old.items ++ label_line (Label.End op path.now end.now)) }
+{
+    three(line, b"end", op_text(op), path)?;
+    line.push(b' ')?;
+    push_end_text(line, end)
+}
+
+fn push_skip(
+    line: &mut Vec<u8>,
+    alloc: Global,
+    task: TaskKind,
+    serial: u64,
+) -> Result<(), WantOfMemory>
+    ensures { OnOk result (line.new.items ≡ line.old.items ++ label_line (Label.Skip task serial)) }
 {
     let serial = decimal(alloc, serial)?;
-    three(alloc, b"skip", task_text(task), serial.as_bytes())
+    three(line, b"skip", task_text(task), serial.as_bytes())
 }
 
-fn join_line(alloc: Global, serial: u64, path: &[u8]) -> Result<Vec<u8>, WantOfMemory>
-    ensures { IfOk result (λ line. line.items ≡ label_line (Label.Join serial path.now)) }
+fn push_join(
+    line: &mut Vec<u8>,
+    alloc: Global,
+    serial: u64,
+    path: &[u8],
+) -> Result<(), WantOfMemory>
+    ensures { OnOk result (line.new.items ≡ line.old.items ++ label_line (Label.Join serial path.now)) }
 {
     let serial = decimal(alloc, serial)?;
-    three(alloc, b"join", serial.as_bytes(), path)
+    three(line, b"join", serial.as_bytes(), path)
 }
 
-fn install_line(
+fn push_install(
+    line: &mut Vec<u8>,
     alloc: Global,
     path: &[u8],
     rank: u32,
     driver: &[u8],
-) -> Result<Vec<u8>, WantOfMemory>
-    ensures { IfOk result (λ line. line.items ≡ label_line (Label.Install path.now rank driver.now)) }
+) -> Result<(), WantOfMemory>
+    ensures { OnOk result (line.new.items ≡ line.old.items ++ label_line (Label.Install path.now rank driver.now)) }
 {
     let rank = rank_text(alloc, rank)?;
-    four(alloc, b"install", path, &rank, driver)
+    four(line, b"install", path, &rank, driver)
 }
 
-fn commit_line(alloc: Global, movers: u64) -> Result<Vec<u8>, WantOfMemory>
-    ensures { IfOk result (λ line. line.items ≡ label_line (Label.Commit movers)) }
+fn push_commit(line: &mut Vec<u8>, alloc: Global, movers: u64) -> Result<(), WantOfMemory>
+    ensures { OnOk result (line.new.items ≡ line.old.items ++ label_line (Label.Commit movers)) }
 {
     let movers = decimal(alloc, movers)?;
-    two(alloc, b"commit", movers.as_bytes())
+    two(line, b"commit", movers.as_bytes())
 }
 
-fn end_line(alloc: Global, op: OpKind, path: &[u8], end: &OpEnd) -> Result<Vec<u8>, WantOfMemory>
-    ensures { IfOk result (λ line. line.items ≡ label_line (Label.End op path.now end.now)) }
-{
-    let end = end_text(alloc, end)?;
-    four(alloc, b"end", op_text(op), path, &end)
-}
-
-/// A notice, and where it asks, what the client answered.
-fn notice_line(
-    alloc: Global,
+/// Appends a notice, and where it asks, what the client answered.
+fn push_notice(
+    line: &mut Vec<u8>,
     what: NoticeKind,
     client: &[u8],
     path: &[u8],
     agrees: Option<bool>,
-) -> Result<Vec<u8>, WantOfMemory>
-    ensures { IfOk result (λ line. line.items ≡ label_line (Label.Notice what client.now path.now agrees)) }
+) -> Result<(), WantOfMemory>
+    ensures { OnOk result (line.new.items ≡ line.old.items ++ label_line (Label.Notice what client.now path.now agrees)) }
 {
-    let mut line = four(alloc, b"notice", notice_text(what), client, path)?;
+    four(line, b"notice", notice_text(what), client, path)?;
     match agrees {
         None => {}
         Some(true) => line.extend_from_slice(b" ok")?,
         Some(false) => line.extend_from_slice(b" refuse")?,
     }
-    Ok(line)
+    Ok(())
 }
 
-/// The words of a label with a space between any two.
-fn words_of(alloc: Global, label: &Label) -> Result<Vec<u8>, WantOfMemory>
-    ensures { IfOk result (λ line. line.items ≡ label_line label.now) }
+/// Appends the words of a label with a space between any two.
+fn push_words(line: &mut Vec<u8>, alloc: Global, label: &Label) -> Result<(), WantOfMemory>
+    ensures { OnOk result (line.new.items ≡ line.old.items ++ label_line label.now) }
 {
     match label {
-        Label::Did { word, what } => three(alloc, b"event", word_text(*word), what.bytes()),
+        Label::Did { word, what } => three(line, b"event", word_text(*word), what.bytes()),
         Label::Refused { word, reason } => {
-            three(alloc, b"refused", word_text(*word), reason_text(*reason))
+            three(line, b"refused", word_text(*word), reason_text(*reason))
         }
-        Label::Skip { task, serial } => skip_line(alloc, *task, *serial),
-        Label::Join { serial, path } => join_line(alloc, *serial, path.bytes()),
-        Label::Gone { path } => two(alloc, b"gone", path.bytes()),
-        Label::Listed { path } => two(alloc, b"listed", path.bytes()),
+        Label::Skip { task, serial } => push_skip(line, alloc, *task, *serial),
+        Label::Join { serial, path } => push_join(line, alloc, *serial, path.bytes()),
+        Label::Gone { path } => two(line, b"gone", path.bytes()),
+        Label::Listed { path } => two(line, b"listed", path.bytes()),
         Label::Install { path, rank, driver } => {
-            install_line(alloc, path.bytes(), *rank, driver.bytes())
+            push_install(line, alloc, path.bytes(), *rank, driver.bytes())
         }
         Label::Trouble { path, problem } => {
-            three(alloc, b"problem", path.bytes(), problem_text(*problem))
+            three(line, b"problem", path.bytes(), problem_text(*problem))
         }
         Label::Add { path, driver, ok } => {
-            four(alloc, b"add", path.bytes(), driver.bytes(), ok_text(*ok))
+            four(line, b"add", path.bytes(), driver.bytes(), ok_text(*ok))
         }
-        Label::Assign { path, held } => assign_line(alloc, path.bytes(), held),
-        Label::Fits { path } => two(alloc, b"fits", path.bytes()),
-        Label::NoFit { path } => two(alloc, b"nofit", path.bytes()),
-        Label::Spent { path } => two(alloc, b"spent", path.bytes()),
+        Label::Assign { path, held } => push_assign(line, alloc, path.bytes(), held),
+        Label::Fits { path } => two(line, b"fits", path.bytes()),
+        Label::NoFit { path } => two(line, b"nofit", path.bytes()),
+        Label::Spent { path } => two(line, b"spent", path.bytes()),
         Label::Asked {
             minor,
             path,
@@ -189,25 +216,25 @@ fn words_of(alloc: Global, label: &Label) -> Result<Vec<u8>, WantOfMemory>
             shown,
         } => {
             let (path, driver) = (path.bytes(), driver.bytes());
-            four(alloc, minor_text(*minor), path, driver, shown_text(*shown))
+            four(line, minor_text(*minor), path, driver, shown_text(*shown))
         }
-        Label::State { path, state } => three(alloc, b"state", path.bytes(), state_text(*state)),
-        Label::Begin { op, path } => three(alloc, b"begin", op_text(*op), path.bytes()),
-        Label::Commit { movers } => commit_line(alloc, *movers),
-        Label::Leave { path } => two(alloc, b"leave", path.bytes()),
-        Label::Ejected { path } => two(alloc, b"ejected", path.bytes()),
-        Label::Handles { path } => two(alloc, b"handles", path.bytes()),
-        Label::Waits { path } => two(alloc, b"waits", path.bytes()),
-        Label::End { op, path, result } => end_line(alloc, *op, path.bytes(), result),
+        Label::State { path, state } => three(line, b"state", path.bytes(), state_text(*state)),
+        Label::Begin { op, path } => three(line, b"begin", op_text(*op), path.bytes()),
+        Label::Commit { movers } => push_commit(line, alloc, *movers),
+        Label::Leave { path } => two(line, b"leave", path.bytes()),
+        Label::Ejected { path } => two(line, b"ejected", path.bytes()),
+        Label::Handles { path } => two(line, b"handles", path.bytes()),
+        Label::Waits { path } => two(line, b"waits", path.bytes()),
+        Label::End { op, path, result } => push_end(line, *op, path.bytes(), result),
         Label::Notice {
             what,
             client,
             path,
             agrees,
-        } => notice_line(alloc, *what, client.bytes(), path.bytes(), *agrees),
+        } => push_notice(line, *what, client.bytes(), path.bytes(), *agrees),
         Label::Declined { op, path, client } => {
             four(
-                alloc,
+                line,
                 b"declined",
                 op_text(*op),
                 path.bytes(),
@@ -217,11 +244,21 @@ fn words_of(alloc: Global, label: &Label) -> Result<Vec<u8>, WantOfMemory>
     }
 }
 
+/// Appends the line of a label in the trace, with its line feed; after want of memory what was there, and perhaps a part of the line.
+/// Cost: the length. This project's own.
+pub fn push_line(line: &mut Vec<u8>, alloc: Global, label: &Label) -> Result<(), WantOfMemory>
+    ensures { OnOk result (line.new.items ≡ line.old.items ++ (label_line label.now ++ 10 ∷ [])) }
+{
+    push_words(line, alloc, label)?;
+    line.push(b'\n')?;
+    Ok(())
+}
+
 /// The line of a label in the trace, with its line feed. Cost: the length. This project's own.
 pub fn label_line(alloc: Global, label: &Label) -> Result<Vec<u8>, WantOfMemory>
     ensures { IfOk result (λ line. line.items ≡ label_line label.now ++ 10 ∷ []) }
 {
-    let mut line = words_of(alloc, label)?;
-    line.push(b'\n')?;
+    let mut line = Vec::new(alloc);
+    push_line(&mut line, alloc, label)?;
     Ok(line)
 }
