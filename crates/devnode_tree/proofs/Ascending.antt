@@ -1,9 +1,11 @@
 -- Lists whose keys ascend, and what a binary search finds there.
-use Rattle.std.proofs.Common.{◌≡◌, ℕ, zero, suc, ◌+◌, ◌-◌, ◌<◌, ◌≤◌, ◌==◌, List, [], ◌∷◌, ◌++◌, length, get_or, map, position, Result, Ok, Err, remove, refl, sym, ◌∙◌, ap, subst, length-append, arith}
+use Rattle.std.proofs.Common.{◌≡◌, ℕ, zero, suc, ◌+◌, ◌-◌, ◌<◌, ◌≤◌, ◌==◌, List, [], ◌∷◌, ◌++◌, length, get_or, map, position, Result, Ok, Err, Equal, Some, slice_get, remove, refl, sym, ◌∙◌, ap, subst, length-append, arith}
 use Rattle.std.specs.Result.{result_ok}
 use Rattle.std.specs.List.{AllByRecursion}
 use Rattle.std.specs.List.Sorted.{IsSearchInRange, IsBinarySearchResult, IsNonDecreasingBy}
 use Rattle.std.specs.Ordering.{nat_cmp, ordering_index}
+use Rattle.std.specs.Cmp.{nat_cmp_is}
+use Rattle.std.proofs.lemmas.Option.{slice_get_within, get_or_from_slice_get}
 use Rattle.std.proofs.lemmas.Cmp.{ranked}
 use Rattle.std.proofs.lemmas.List.Sums.{position_or_len_is}
 use Rattle.std.proofs.lemmas.Bool.Decides.{nat_tests}
@@ -49,6 +51,11 @@ module _ {X : Type 0} (key : X → ℕ) where
       grind (arith, nat_tests, low, high))
       (λ past. absurd (omega arith)) in
       grind (arith, nat_tests, place)
+
+  -- what stands at the place of its key is found there
+  pub place_at : (xs : List X) → Ascends 0 (map key xs) → (i : ℕ) (x : X) → slice_get xs i ≡ Some x → key x ≡ i → Some i ≡ position (λ y. key y == i) xs
+  place_at xs h i x read is =
+      search_place xs h i (Ok i) (slice_get_within xs i x read) (λ d. sym (nat_cmp_is (key (get_or xs i d)) i Equal (ap key (get_or_from_slice_get xs i x d read) ∙ is)))
 
 map-same : (xs : List ℕ) → map (λ x. x) xs ≡ xs
 map-same [] = refl

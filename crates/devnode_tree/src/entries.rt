@@ -13,14 +13,25 @@ use crate::node::Node;
 use device_ids::WantOfMemory;
 use indexmap::IndexSet;
 
-/// The place of the node with a serial.
-pub(crate) fn place_of(entries: &[Entry], serial: u64) -> Option<usize>
+/// The place of the node with a serial, found by halves.
+fn searched_place(entries: &[Entry], serial: u64) -> Option<usize>
     requires { Ascends 0 (serials_of (nodes_of entries.now)) }
     ensures { result ≡ position (has_serial serial) entries.now }
 {
     entries
         .binary_search_by_key(&serial, |entry| entry.node.serial)
         .ok()
+}
+
+/// The place of the node with a serial: the serial itself, while no node before it has left.
+pub(crate) fn place_of(entries: &[Entry], serial: u64) -> Option<usize>
+    requires { Ascends 0 (serials_of (nodes_of entries.now)) }
+    ensures { result ≡ position (has_serial serial) entries.now }
+{
+    match entries.get(serial as usize) {
+        Some(entry) if entry.node.serial == serial => Some(serial as usize),
+        _ => searched_place(entries, serial),
+    }
 }
 
 /// Notes a child beside its parent.
