@@ -1,9 +1,8 @@
 -- The INFs and the script that the words name.
-use Rattle.std.proofs.Common.{◌≡◌, ℕ, ◌+◌, ◌≤◌, ◌<◌, Bool, true, List, [], ◌∷◌, Option, Some, None, IfSome, Result, Ok, Err, refl, sym, ◌∙◌, ap, subst, length, take, drop, arith, nat_le}
+use Rattle.std.proofs.Common.{◌≡◌, ℕ, ◌≤◌, ◌<◌, Bool, true, false, List, [], ◌∷◌, Option, Some, None, IfSome, IfOk, Result, Ok, Err, refl, sym, ◌∙◌, ap, subst, length, take, arith, nat_le, cond}
 use Rattle.std.proofs.lemmas.List.{take_all}
 use Rattle.std.proofs.lemmas.Bool.Decides.{nat_tests}
-use Rattle.std.specs.Prelude.{slice_index_or}
-use Rattle.pnp_io.specs.Outside.{Holds}
+use Rattle.pnp_io.specs.Outside.{Holds, HoldsMore}
 use Rattle.pnp_labels.specs.Texts.{Text}
 use Rattle.pnp_model.specs.Records.{Driver, Settings}
 use Rattle.pnp_model.specs.Runs.{opening}
@@ -12,31 +11,20 @@ use Rattle.inf_reader.specs.declared.parts.Inf.{Inf}
 use Rattle.inf_reader.specs.declared.parts.InfError.{InfError}
 use Rattle.device_ids.specs.Cuts.{parts}
 use Rattle.script_reader.specs.Script.{Trace, trace, ends, onward, at_end, of_lines, Meaning, nothing, means, bad, last_line, whole_line}
+use Rattle.pnp_cli.specs.Checks.{file_in}
 use Rattle.pnp_cli.specs.Contents.{events_of, decided_of, answer_of}
-use Rattle.pnp_cli.specs.Infs.{inf_in, infs_in, infs_from, ahead, limit, numbered}
+use Rattle.pnp_cli.specs.Infs.{infs_in, limit, refusal_line}
 use Rattle.pnp_cli.specs.Runs.{machine}
 use Rattle.pnp_cli.specs.declared.infs.InfsError.{InfsError}
-use Rattle.pnp_cli.specs.declared.infs.InfsError.TheVariants.{Refused}
+use Rattle.pnp_cli.specs.declared.infs.InfsError.TheVariants.{TooLarge, Refused}
 use Rattle.pnp_cli.specs.declared.status.Status.{Status}
-use Rattle.pnp_cli.proofs.InfSteps.{infs_stop}
+use Rattle.why_cli.specs.Woven.{IsWoven}
 use Rattle.why_cli.specs.Explained.{IsExplanation}
-use Rattle.why_cli.specs.Answers.{IsWhy, is_told}
+use Rattle.why_cli.specs.Answers.{IsWhy, IsTooLarge, is_told}
+use Rattle.why_cli.specs.declared.explained.Explained.{Explained}
 
 within_limit : (n : ℕ) → n ≤ 16777216 → nat_le n limit ≡ true
 within_limit n h = grind (arith, nat_tests)
-
-pub at_number : (contents : Option (Text → Option (List ℕ))) (name : Text) (read : Result Inf InfError) (number : ℕ) → IfSome contents (λ told. (n : ℕ) → inf_in n (told name) ≡ numbered n read)
-    → IfSome contents (λ told. inf_in number (told name) ≡ numbered number read)
-at_number None name read number h = tt
-at_number (Some told) name read number h = h number
-
--- an INF is refused
-pub told_refused : (contents : Option (Text → Option (List ℕ))) (names : List Text) (at : ℕ) (name : Text) (read : List Inf) (error : InfError) → at < length names → ((d : Text) → slice_index_or names at d ≡ name)
-    → IfSome contents (λ told. infs_in told names ≡ ahead read (infs_from (at + 1) told (drop at names)))
-    → IfSome contents (λ told. inf_in (at + 1) (told name) ≡ numbered (at + 1) (Err error))
-    → IfSome contents (λ told. infs_in told names ≡ Err (Refused (at + 1) error))
-told_refused None names at name read error h item far is = tt
-told_refused (Some told) names at name read error h item far is = far ∙ infs_stop told names at name read (Refused (at + 1) error) h item is
 
 -- a script that is read to its end
 decided_whole : (script : List ℕ) → length script ≤ 16777216 → decided_of script ≡ events_of script
@@ -61,16 +49,58 @@ told_lines passed (line ∷ next ∷ lines) = told_onward (passed + 1) (whole_li
 pub explanation_told : {settings : Settings} {f : Front} (script : List ℕ) (text : Text) (status : Status) → IsExplanation settings f (events_of script) text status → is_told status ≡ true
 explanation_told script text status h = subst (λ (x : Status). is_told x ≡ true) h.answer (told_lines 0 (parts 0x0A script))
 
--- all INFs are taken, and the script is explained
-pub why_taken : (contents : Option (Text → Option (List ℕ))) (names : List Text) (name : Text) (infs : List Inf) (script : List ℕ) (rack : List Driver) (budget : ℕ) (text : Text) (status : Status)
-    → IfSome contents (λ told. infs_in told names ≡ Ok infs) → Holds contents name script → length script ≤ 16777216
+-- What the files come to -------------------------------------------------------------------
+
+-- the script is explained
+pub why_script : (contents : Option (Text → Option (List ℕ))) (name : Text) (infs : List Inf) (script : List ℕ) (rack : List Driver) (budget : ℕ) (text : Text) (status : Status) → Holds contents name script → length script ≤ 16777216
     → IsExplanation (machine infs budget) (opening_front (opening rack)) (events_of script) text status
-    → IfSome contents (λ told. IsWhy rack budget (infs_in told names) (told name) text status)
-why_taken None names name infs script rack budget text status taken holds few h = tt
-why_taken (Some told) names name infs script rack budget text status taken holds few h =
-    subst (λ (r : Result (List Inf) InfsError). IsWhy rack budget r (told name) text status) (sym taken)
-    (subst (λ (s : Option (List ℕ)). IsWhy rack budget (Ok infs) s text status) (sym holds)
+    → IfSome contents (λ told. IsWhy rack budget (Ok infs) (told name) text status)
+why_script None name infs script rack budget text status holds few h = tt
+why_script (Some told) name infs script rack budget text status holds few h =
+    subst (λ (s : Option (List ℕ)). IsWhy rack budget (Ok infs) s text status) (sym holds)
     (record {
       explains = record { plain = h.output; is = h.prints; woven = h.woven };
       answer = ap (λ (t : Trace). Some (answer_of t)) (decided_whole script few) ∙ ap Some h.answer;
-    }))
+    })
+
+-- all INFs were taken before
+why_taken : (contents : Option (Text → Option (List ℕ))) (names : List Text) (name : Text) (infs : List Inf) (rack : List Driver) (budget : ℕ) (text : Text) (status : Status)
+    → IfSome contents (λ told. infs_in told names ≡ Ok infs) → IfSome contents (λ told. IsWhy rack budget (Ok infs) (told name) text status)
+    → IfSome contents (λ told. IsWhy rack budget (infs_in told names) (told name) text status)
+why_taken None names name infs rack budget text status taken h = tt
+why_taken (Some told) names name infs rack budget text status taken h =
+    subst (λ (r : Result (List Inf) InfsError). IsWhy rack budget r (told name) text status) (sym taken) h
+
+pub named_taken : {E : Type 0} (r : Result Explained E) (contents later : Option (Text → Option (List ℕ))) (names : List Text) (name : Text) (infs : List Inf) (rack : List Driver) (budget : ℕ) → later ≡ contents
+    → IfSome contents (λ told. infs_in told names ≡ Ok infs) → IfOk r (λ e. IfSome later (λ told. IsWhy rack budget (Ok infs) (told name) e.text.items e.status))
+    → IfOk r (λ e. IfSome contents (λ told. IsWhy rack budget (infs_in told names) (told name) e.text.items e.status))
+named_taken (Err error) contents later names name infs rack budget same taken h = tt
+named_taken (Ok e) contents later names name infs rack budget same taken h =
+    why_taken contents names name infs rack budget e.text.items e.status taken
+    (subst (λ (o : Option (Text → Option (List ℕ))). IfSome o (λ told. IsWhy rack budget (Ok infs) (told name) e.text.items e.status)) same h)
+
+-- an INF is refused
+pub why_refused : (contents : Option (Text → Option (List ℕ))) (names : List Text) (name : Text) (number : ℕ) (error : InfError) (rack : List Driver) (budget : ℕ) (text : Text) (status : Status)
+    → IfSome contents (λ told. infs_in told names ≡ Err (Refused number error)) → IsWoven (refusal_line number error) text → status ≡ Status.BadInf
+    → IfSome contents (λ told. IsWhy rack budget (infs_in told names) (told name) text status)
+why_refused None names name number error rack budget text status refused woven is = tt
+why_refused (Some told) names name number error rack budget text status refused woven is =
+    subst (λ (r : Result (List Inf) InfsError). IsWhy rack budget r (told name) text status) (sym refused)
+    (record { explains = record { plain = refusal_line number error; is = refl; woven = woven }; answer = ap Some (sym is) })
+
+-- a file is too large
+beyond_limit : (n : ℕ) → 16777216 < n → nat_le n 16777216 ≡ false
+beyond_limit n h = grind (arith, nat_tests)
+
+large_file : (bytes : List ℕ) → 16777216 < length bytes → file_in (Some bytes) ≡ Err TooLarge
+large_file bytes more = ap (λ (b : Bool). cond b (Ok bytes) (Err TooLarge)) (beyond_limit (length bytes) more)
+
+pub large_script : (contents : Option (Text → Option (List ℕ))) (names : List Text) (name : Text) (infs : List Inf) → IfSome contents (λ told. infs_in told names ≡ Ok infs) → HoldsMore contents name limit
+    → IfSome contents (λ told. IsTooLarge (infs_in told names) (told name))
+large_script None names name infs taken more = tt
+large_script (Some told) names name infs taken (bytes, is, more) =
+    subst (λ (r : Result (List Inf) InfsError). IsTooLarge r (told name)) (sym taken) (ap file_in is ∙ large_file bytes more)
+
+pub large_inf : (contents : Option (Text → Option (List ℕ))) (names : List Text) (name : Text) → IfSome contents (λ told. infs_in told names ≡ Err TooLarge) → IfSome contents (λ told. IsTooLarge (infs_in told names) (told name))
+large_inf None names name large = tt
+large_inf (Some told) names name large = subst (λ (r : Result (List Inf) InfsError). IsTooLarge r (told name)) (sym large) refl

@@ -1,51 +1,41 @@
 -- What is written and answered, by the words and by the contents of the files as they are told.
-use Rattle.std.specs.Prelude.{◌≡◌, ◌⊎◌, ℕ, Bool, true, false, List, Option, Some, None, Result, Ok, Err, Contains, length}
-use Rattle.pnp_io.specs.Outside.{Appends, AppendsFront, HoldsMore}
+use Rattle.std.specs.Prelude.{◌≡◌, ◌⊎◌, ℕ, Bool, true, false, List, Option, Some, None, IfSome, Result, Ok, Err}
+use Rattle.pnp_io.specs.Outside.{Appends, AppendsFront}
 use Rattle.pnp_io.specs.declared.whole.ReadError.{ReadError}
 use Rattle.pnp_io.specs.declared.whole.ReadError.TheVariants as reads
 use Rattle.pnp_labels.specs.Texts.{Text}
 use Rattle.pnp_model.specs.Records.{Driver}
 use Rattle.inf_reader.specs.declared.parts.Inf.{Inf}
-use Rattle.inf_reader.specs.declared.parts.InfError.{InfError}
-use Rattle.pnp_cli.specs.Infs.{limit}
+use Rattle.pnp_cli.specs.Checks.{file_in}
+use Rattle.pnp_cli.specs.Infs.{infs_in}
 use Rattle.pnp_cli.specs.Runs.{IsOutputBy, status_by}
 use Rattle.pnp_cli.specs.declared.infs.InfsError.{InfsError}
-use Rattle.pnp_cli.specs.declared.infs.InfsError.TheVariants as faults
+use Rattle.pnp_cli.specs.declared.infs.InfsError.TheVariants.{TooLarge}
 use Rattle.pnp_cli.specs.declared.parts.Settings.{Settings}
 use Rattle.pnp_cli.specs.declared.status.Status.{Status}
 use Rattle.why_cli.specs.Woven.{IsWoven}
 use Rattle.why_cli.specs.declared.explained.Explained.{Explained}
-use Rattle.why_cli.specs.declared.infs.Infs.{Infs}
-use Rattle.why_cli.specs.declared.infs.Infs.TheVariants as many
-use Rattle.why_cli.specs.declared.infs.OneInf.{OneInf}
-use Rattle.why_cli.specs.declared.infs.OneInf.TheVariants as one
-use Rattle.why_cli.specs.declared.stop.Stop.{Stop}
-use Rattle.why_cli.specs.declared.stop.Stop.TheVariants as stops
 
-abbrev pub of_read_error : ReadError → Stop
-of_read_error reads.ReadFault = stops.ReadFault
-of_read_error reads.TooLarge = stops.TooLarge
-of_read_error reads.WantOfMemory = stops.WantOfMemory
+-- the script that settings name, where no trace is to be checked
+abbrev pub plain_script : Option Text → Option Text → Option Text
+plain_script script None = script
+plain_script script (Some trace) = None
 
--- what an INF comes to, and what INFs do
-abbrev pub outcome : OneInf → Result Inf InfError
-outcome (one.Taken read) = Ok read
-outcome (one.Refused error) = Err error
+abbrev pub script_named : Settings → Option Text
+script_named s = plain_script s.script s.check
 
-abbrev pub outcomes : Infs → Result (List Inf) InfsError
-outcomes (many.Taken infs) = Ok infs.items
-outcomes (many.Refused number error) = Err (faults.Refused number error)
+-- the script that the words name, where no trace is to be checked
+abbrev pub script_of : Option Settings → Option Text
+script_of None = None
+script_of (Some s) = script_named s
 
--- so many INFs, where all were taken
-abbrev pub AreMany : Infs → ℕ → Type 0
-AreMany (many.Taken infs) n = length infs.items ≡ n
-AreMany (many.Refused number error) n = Unit {0}
+-- the first of the INFs and the script that is not taken has more than 16,777,216 bytes
+abbrev pub IsTooLarge : Result (List Inf) InfsError → Option (List ℕ) → Type 0
+IsTooLarge (Ok infs) script = file_in script ≡ Err TooLarge
+IsTooLarge (Err error) script = error ≡ TooLarge
 
--- where the contents are told, a file of one of these names has more than 16,777,216 bytes
-pub record IsSomeLarge (contents : Option (Text → Option (List ℕ))) (names : List Text) : Type 0 where
-  pub name : Text
-  pub named : Contains names name
-  pub large : HoldsMore contents name limit
+abbrev pub IsTooLargeFor : (Text → Option (List ℕ)) → Settings → Type 0
+IsTooLargeFor told s = IfSome s.script (λ name. IsTooLarge (infs_in told s.infs) (told name))
 
 -- a text that is one of these outputs, with notes
 pub record Explains (output : Text → Type 0) (text : Text) : Type 0 where
@@ -65,20 +55,15 @@ pub record IsWhy (rack : List Driver) (budget : ℕ) (infs : Result (List Inf) I
   pub explains : Explains (IsOutputBy rack budget infs script) text
   pub answer : status_by infs script ≡ Some status
 
--- the script that the words name
-abbrev pub script_of : Option Settings → Option Text
-script_of None = None
-script_of (Some s) = s.script
-
-abbrev pub status_of_stop : Stop → Status
-status_of_stop stops.ReadFault = Status.ReadFault
-status_of_stop stops.TooLarge = Status.TooLarge
-status_of_stop stops.WantOfMemory = Status.WantOfMemory
+abbrev pub status_of_error : ReadError → Status
+status_of_error reads.ReadFault = Status.ReadFault
+status_of_error reads.TooLarge = Status.TooLarge
+status_of_error reads.WantOfMemory = Status.WantOfMemory
 
 -- a text was written whole, or a front of it, or none
-abbrev pub WroteOut : Result Explained Stop → Status → Option Text → Option Text → Type 0
+abbrev pub WroteOut : Result Explained ReadError → Status → Option Text → Option Text → Type 0
 WroteOut (Ok e) status old new = ((status ≡ e.status) × Appends old new e.text.items) ⊎ ((status ≡ Status.WriteFault) × AppendsFront old new e.text.items)
-WroteOut (Err stop) status old new = (status ≡ status_of_stop stop) × (new ≡ old)
+WroteOut (Err error) status old new = (status ≡ status_of_error error) × (new ≡ old)
 
 -- nothing was written, or a front of such a text
 abbrev pub WroteSome : (Text → Type 0) → Option Text → Option Text → Type 0

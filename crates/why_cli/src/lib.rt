@@ -2,9 +2,8 @@
 #![tactic(auto)]
 
 mod explained;
-mod infs;
 mod program;
-mod stop;
+mod refusal;
 mod telling;
 mod weave;
 
