@@ -4,7 +4,9 @@ use crate::facts::Facts;
 use crate::holdings::{keep_holdings, on_commit};
 use crate::least::tell_least;
 use crate::lines::Lines;
-use crate::refusals::{keep_asked, on_failed_start, on_handles, on_veto, tell_agreed, tell_stayers};
+use crate::refusals::{
+    keep_asked, on_failed_start, on_handles, on_veto, tell_agreed, tell_stayers,
+};
 use crate::relations::on_held;
 use crate::texts::node_of;
 use crate::ways::tell_ways;
