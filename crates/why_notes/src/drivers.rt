@@ -11,6 +11,9 @@ use std::alloc::Global;
 /// The most lines that were passed over and are told.
 const MOST_OTHERS: usize = 4;
 
+/// The most names of drivers that are told.
+const MOST_NAMES: u64 = 16;
+
 /// The most drivers of a device.
 const MOST_DRIVERS: u64 = 16;
 
@@ -220,7 +223,7 @@ fn tell_no_service(
     lines.end(alloc)?;
     if line.service.is_none() {
         lines.add(
-            b"But it names no driver: its section .Services has no AddService whose flags have the bit 2 and whose name is not empty.",
+            b"But it names no driver: the section of its name with .Services at the end is not there, or has no AddService whose flags have the bit 2 and whose name is not empty. bin/pnplint tells which.",
         )?;
         return lines.end(alloc);
     }
@@ -304,6 +307,29 @@ fn tell_all_missing(
     Ok(())
 }
 
+/// The names that drivers have, as far as they are told.
+fn tell_names(alloc: Global, facts: &Facts, lines: &mut Lines) -> Result<(), WantOfMemory> {
+    let count = facts.drivers.len();
+    if count == 0 {
+        lines.add(b"No driver has a name yet.")?;
+        return lines.end(alloc);
+    }
+    lines.add(b"Names that drivers have: ")?;
+    for at in 0..count.min(MOST_NAMES) {
+        if at > 0 {
+            lines.add(b", ")?;
+        }
+        lines.add(facts.drivers.get(at).bytes())?;
+    }
+    if count > MOST_NAMES {
+        lines.add(b", and ")?;
+        lines.add_number(alloc, count - MOST_NAMES)?;
+        lines.add(b" more")?;
+    }
+    lines.add(b".")?;
+    lines.end(alloc)
+}
+
 /// At `problem P 39`: the names that no driver has.
 pub fn on_not_loaded(
     alloc: Global,
@@ -330,5 +356,6 @@ pub fn on_not_loaded(
     if let Some(service) = &line.service {
         tell_missing(alloc, facts, b"the service", service, lines)?;
     }
-    tell_all_missing(alloc, facts, b"an upper filter", &line.upper, lines)
+    tell_all_missing(alloc, facts, b"an upper filter", &line.upper, lines)?;
+    tell_names(alloc, facts, lines)
 }

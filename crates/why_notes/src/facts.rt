@@ -55,6 +55,8 @@ pub struct Facts {
     pub(crate) pended: Vec<AskedDriver>,
     /// The drivers that refused since the last operation began.
     pub(crate) refused: Vec<AskedDriver>,
+    /// Whether a window was set.
+    pub(crate) windows: bool,
     /// The operation that runs.
     pub(crate) operation: Option<OpKind>,
     /// What all devices held when a rebalance found that it fits.
@@ -74,6 +76,7 @@ impl Facts {
             changes: Vec::new(alloc),
             pended: Vec::new(alloc),
             refused: Vec::new(alloc),
+            windows: false,
             operation: None,
             before: Vec::new(alloc),
         }

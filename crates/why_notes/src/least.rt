@@ -156,7 +156,7 @@ pub fn tell_least(
         Some(true) => {}
         Some(false) => {
             lines.add(
-                b"It would not fit even if no other device held anything: what it needs clashes with what is reserved, or with itself, or lies outside the windows above it.",
+                b"It would not fit even if no other device held anything: what it needs is reserved, or clashes with itself, or has no place inside the windows above it.",
             )?;
             return lines.end(alloc);
         }
@@ -169,7 +169,7 @@ pub fn tell_least(
     lessen(alloc, facts, tree, node.serial, reqs, &mut holders)?;
     let away = away_text(alloc, tree, &holders)?;
     if away.is_empty() {
-        lines.add(b"It fits beside what is held now.")?;
+        lines.add(b"But for the windows above it it would fit beside what is held now.")?;
         return lines.end(alloc);
     }
     lines.add(

@@ -4,13 +4,15 @@ use crate::facts::Facts;
 use crate::holdings::{keep_holdings, on_commit};
 use crate::least::tell_least;
 use crate::lines::Lines;
-use crate::refusals::{keep_asked, on_failed_start, on_handles, on_veto, tell_stayers};
+use crate::refusals::{
+    keep_asked, on_failed_start, on_handles, on_veto, tell_agreed, tell_stayers,
+};
 use crate::relations::on_held;
 use crate::texts::node_of;
 use crate::ways::tell_ways;
 use device_ids::{Text, WantOfMemory};
 use devnode_tree::{Node, Tree};
-use pnp_labels::{Label, OpEnd, OpKind, Problem};
+use pnp_labels::{EventWord, Label, OpEnd, OpKind, Problem};
 use resource_reqs::Reqs;
 use std::alloc::Global;
 
@@ -25,6 +27,17 @@ fn asked_for<'a>(facts: &'a Facts, node: &'a Node, path: &Text) -> &'a Reqs {
         }
     }
     reqs
+}
+
+/// What a device is to require from now on is known as the script says it, and not what the windows above it let through.
+fn tell_windows(alloc: Global, facts: &Facts, lines: &mut Lines) -> Result<(), WantOfMemory> {
+    if facts.windows {
+        return lines.say(
+            alloc,
+            b"What the windows above it let through of this is not looked at here.",
+        );
+    }
+    Ok(())
 }
 
 /// At `nofit`: before an operation what is in the way, and in one who stays.
@@ -46,10 +59,14 @@ fn on_no_fit(
         }
         Some(OpKind::Change) => {
             tell_ways(alloc, facts, tree, node, reqs, lines)?;
+            tell_windows(alloc, facts, lines)?;
             tell_least(alloc, facts, tree, node, reqs, lines)?;
             tell_stayers(alloc, facts, lines)
         }
-        Some(_) => tell_stayers(alloc, facts, lines),
+        Some(_) => {
+            tell_agreed(alloc, facts, lines)?;
+            tell_stayers(alloc, facts, lines)
+        }
     }
 }
 
@@ -89,9 +106,9 @@ fn on_problem(
 
 /// At `spent`: how many places the search was allowed.
 fn on_spent(alloc: Global, facts: &Facts, lines: &mut Lines) -> Result<(), WantOfMemory> {
-    lines.add(b"The search tried ")?;
+    lines.add(b"The search was not over after ")?;
     lines.add_number(alloc, facts.budget)?;
-    lines.add(b" places and was not over; --budget allows more.")?;
+    lines.add(b" places, and was allowed no more; --budget says how many, up to 1000000.")?;
     lines.end(alloc)
 }
 
@@ -124,6 +141,7 @@ fn keep(alloc: Global, facts: &mut Facts, tree: &Tree, label: &Label) -> Result<
             shown,
         } => keep_asked(alloc, facts, *minor, path, driver, *shown)?,
         Label::Fits { .. } => keep_holdings(alloc, facts, tree)?,
+        Label::Did { word, .. } => facts.windows = facts.windows || *word == EventWord::Window,
         _ => {}
     }
     Ok(())

@@ -87,6 +87,27 @@ pub fn on_failed_start(
     lines.end(alloc)
 }
 
+/// Whether a driver would not stop since the operation began.
+fn has_stayer(facts: &Facts) -> bool {
+    for asked in &facts.refused {
+        if asked.minor == Minor::QueryStop {
+            return true;
+        }
+    }
+    false
+}
+
+/// At a `nofit` of a rebalance in which nobody refused.
+pub fn tell_agreed(alloc: Global, facts: &Facts, lines: &mut Lines) -> Result<(), WantOfMemory> {
+    if has_stayer(facts) {
+        return Ok(());
+    }
+    lines.say(
+        alloc,
+        b"No driver refused to stop, yet there are no places for this device and all that may move.",
+    )
+}
+
 /// At a `nofit` or a `refused` of an operation: the drivers that would not stop.
 pub fn tell_stayers(alloc: Global, facts: &Facts, lines: &mut Lines) -> Result<(), WantOfMemory> {
     for asked in &facts.refused {

@@ -77,6 +77,29 @@ fn holders_of(
     Ok(holders)
 }
 
+/// The least number that a want may begin at, if it is below 2^64.
+fn first_of(want: &Want) -> Option<u64> {
+    if want.align == 0 {
+        return None;
+    }
+    let past = want.min % want.align;
+    if past == 0 {
+        return Some(want.min);
+    }
+    want.min.checked_add(want.align - past)
+}
+
+/// Whether a want has a place at all.
+fn has_place(want: &Want) -> bool {
+    let Some(first) = first_of(want) else {
+        return false;
+    };
+    match first.checked_add(want.len.saturating_sub(1)) {
+        Some(last) => last <= want.max,
+        None => false,
+    }
+}
+
 /// Tells who holds some of what a want may come from.
 fn tell_want(
     alloc: Global,
@@ -86,6 +109,12 @@ fn tell_want(
     want: &Want,
     lines: &mut Lines,
 ) -> Result<(), WantOfMemory> {
+    if !has_place(want) {
+        return lines.say(
+            alloc,
+            b"has no place: none in its range begins at a multiple as asked, or none of it lies inside the windows above.",
+        );
+    }
     lines.add(&want_text(alloc, want)?)?;
     let Some(range) = range_of(want) else {
         return lines.end(alloc);

@@ -1,0 +1,4 @@
+pub mod Weaving
+pub mod Explaining
+pub mod Reading
+pub mod Answering

@@ -1,0 +1,15 @@
+use Rattle.std.proofs.Common.{◌≡◌}
+use Rattle.notify_front.specs.Desks.{front_of, told_of}
+use Rattle.notify_front.proofs.FrontLeft.{front_steps_left}
+use Rattle.script_play.specs.Playing.{Playing}
+use Rattle.why_cli.specs.Explained.{Writing}
+use Rattle.why_cli.proofs.telling.tell_steps.Given as goal
+
+abbrev pub invariant-steps : goal.invariant-steps
+invariant-steps g l = record {
+  writing : (start : Playing) → Writing start l.initial.text.items l.initial.play → Writing start l.text.items l.play;
+  reading : l.play.reading ≡ l.initial.play.reading;
+}
+
+abbrev pub decreases-steps : goal.decreases-steps
+decreases-steps g l = front_steps_left (told_of l.play.desk) (front_of l.play.desk)

@@ -1,0 +1,11 @@
+//! The output of a script with notes between its lines, which say why.
+#![tactic(auto)]
+
+mod explained;
+mod program;
+mod refusal;
+mod telling;
+mod weave;
+
+pub use pnp_cli::Status;
+pub use program::why;
