@@ -1,5 +1,5 @@
 -- What a page is: every tag closed in order, every text escaped, and the marks that its arrows carry.
-use Rattle.std.specs.Prelude.{◌≡◌, ◌==◌, ◌<◌, ◌<?◌, ◌&&◌, ◌||◌, ℕ, List, [], ◌∷◌, ◌++◌, codes, concat_map, if◌then◌else◌}
+use Rattle.std.specs.Prelude.{◌≡◌, ◌==◌, ◌||◌, ℕ, List, [], ◌∷◌, ◌++◌, codes, nat_lt, if◌then◌else◌}
 use Rattle.view_page.specs.Words.{Text, tag_text, empty_text, attribute_text}
 use Rattle.view_page.specs.declared.words.Tag.{Tag}
 use Rattle.view_page.specs.declared.words.Empty.{Empty}
@@ -15,7 +15,7 @@ escaped_byte byte =
     else if byte == 34 then codes "&quot;"
     else if byte == 39 then codes "&#39;"
     else if byte == 10 then 10 ∷ []
-    else if (byte <? 32) || (126 <? byte) then codes "?"
+    else if nat_lt byte 32 || nat_lt 126 byte then codes "?"
     else byte ∷ []
 
 abbrev pub escaped : Text → Text
@@ -73,9 +73,9 @@ pub record IsPage (marks : List Text) (bytes : Text) : Type 0 where
   pub content : IsContent marks inner
   pub all : bytes ≡ page_front ++ inner ++ page_end
 
--- A page so far: the elements that are open in html, the newest first, the marks of its arrows, and its bytes.
+-- A page so far: the elements in html that are open, the newest first, the marks of its arrows, and its bytes.
 pub record PageSoFar : Type 0 where
-  pub open : List Tag
+  pub elements : List Tag
   pub marks : List Text
   pub text : Text
 

@@ -14,7 +14,7 @@ use std::marker::Model;
 #[derive(Drop)]
 pub struct Page {
     alloc: Global,
-    open: Vec<Tag>,
+    elements: Vec<Tag>,
     marks: Vec<Vec<u8>>,
     text: Vec<u8>,
 }
@@ -25,21 +25,21 @@ impl Model for Page {
 
     ghost Value = { PageSoFar };
 
-    ghost view = { λ p. record { open = reverse p.open.items; marks = map (λ m. m.items) p.marks.items; text = p.text.items } };
+    ghost view = { λ p. record { elements = reverse p.elements.items; marks = map (λ m. m.items) p.marks.items; text = p.text.items } };
 
-    ghost invariant = { λ p. IsOpen (reverse p.open.items) (map (λ m. m.items) p.marks.items) p.text.items };
+    ghost invariant = { λ p. IsOpen (reverse p.elements.items) (map (λ m. m.items) p.marks.items) p.text.items };
 }
 
 impl Page {
     /// A page with nothing in it: html is begun. Its language is English.
     pub fn new(alloc: Global) -> Result<Page, WantOfMemory>
-        ensures open { IfOk result (λ p. p.open ≡ []) }
+        ensures elements { IfOk result (λ p. p.elements ≡ []) }
         ensures marks { IfOk result (λ p. p.marks ≡ []) }
     {
         let text = Vec::from_slice(alloc, b"<!DOCTYPE html>\n<html lang=\"en\">\n")?;
         Ok(Page {
             alloc,
-            open: Vec::new(alloc),
+            elements: Vec::new(alloc),
             marks: Vec::new(alloc),
             text,
         })
@@ -51,42 +51,45 @@ impl Page {
         tag: Tag,
         attributes: &[(Attribute, &[u8])],
     ) -> Result<(), WantOfMemory>
-        ensures open { OnOk result (self.new.open ≡ tag ∷ self.old.open) }
+        ensures elements { OnOk result (self.new.elements ≡ tag ∷ self.old.elements) }
         ensures marks { OnOk result (self.new.marks ≡ self.old.marks) }
         ensures err { OnErr result (self.new ≡ self.old) }
     {
         let piece = open_tag(self.alloc, tag, attributes)?;
-        self.open.push(tag)?;
-        let written = self.text.extend_from_slice(&piece);
-        if written.is_err() {
-            let _ = self.open.pop();
+        self.elements.push(tag)?;
+        match self.text.extend_from_slice(&piece) {
+            Ok(()) => Ok(()),
+            Err(error) => {
+                let _ = self.elements.pop();
+                Err(error)
+            }
         }
-        written
     }
 
     /// Ends the element that was begun last. Condition: one is open. Cost: the length of its name.
     pub fn close(&mut self) -> Result<(), WantOfMemory>
-        requires { (tag : Tags) × (outer : List Tags) × (self.old.open ≡ tag ∷ outer) }
-        ensures open { OnOk result ((tag : Tags) (outer : List Tags) → self.old.open ≡ tag ∷ outer → self.new.open ≡ outer) }
+        requires { (tag : Tags) × (outer : List Tags) × (self.old.elements ≡ tag ∷ outer) }
+        ensures elements { OnOk result ((tag : Tags) (outer : List Tags) → self.old.elements ≡ tag ∷ outer → self.new.elements ≡ outer) }
         ensures marks { OnOk result (self.new.marks ≡ self.old.marks) }
         ensures err { OnErr result (self.new ≡ self.old) }
     {
-        let tag = self.open[self.open.len() - 1];
+        let tag = self.elements[self.elements.len() - 1];
         let piece = close_tag(self.alloc, tag)?;
         self.text.extend_from_slice(&piece)?;
-        let _ = self.open.pop();
+        let _ = self.elements.pop();
         Ok(())
     }
 
     /// Writes a text, escaped. Cost: its length.
     pub fn words(&mut self, words: &[u8]) -> Result<(), WantOfMemory>
-        ensures open { OnOk result (self.new.open ≡ self.old.open) }
+        ensures elements { OnOk result (self.new.elements ≡ self.old.elements) }
         ensures marks { OnOk result (self.new.marks ≡ self.old.marks) }
         ensures err { OnErr result (self.new ≡ self.old) }
     {
         let mut piece = Vec::new(self.alloc);
         push_escaped(&mut piece, words)?;
-        self.text.extend_from_slice(&piece)
+        self.text.extend_from_slice(&piece)?;
+        Ok(())
     }
 
     /// Writes an element without content. Condition: no attribute stands twice, which nothing looks at.
@@ -95,12 +98,13 @@ impl Page {
         name: Empty,
         attributes: &[(Attribute, &[u8])],
     ) -> Result<(), WantOfMemory>
-        ensures open { OnOk result (self.new.open ≡ self.old.open) }
+        ensures elements { OnOk result (self.new.elements ≡ self.old.elements) }
         ensures marks { OnOk result (self.new.marks ≡ self.old.marks) }
         ensures err { OnErr result (self.new ≡ self.old) }
     {
         let piece = empty_tag(self.alloc, name, attributes)?;
-        self.text.extend_from_slice(&piece)
+        self.text.extend_from_slice(&piece)?;
+        Ok(())
     }
 
     /// Writes an arrow: an element path of SVG, which carries a mark. Condition: no attribute stands twice, which nothing looks at.
@@ -109,23 +113,25 @@ impl Page {
         mark: &[u8],
         attributes: &[(Attribute, &[u8])],
     ) -> Result<(), WantOfMemory>
-        ensures open { OnOk result (self.new.open ≡ self.old.open) }
+        ensures elements { OnOk result (self.new.elements ≡ self.old.elements) }
         ensures marks { OnOk result (self.new.marks ≡ self.old.marks ++ mark.now ∷ []) }
         ensures err { OnErr result (self.new ≡ self.old) }
     {
         let piece = arrow_tag(self.alloc, mark, attributes)?;
         let mark = Vec::from_slice(self.alloc, mark)?;
         self.marks.push(mark)?;
-        let written = self.text.extend_from_slice(&piece);
-        if written.is_err() {
-            let _ = self.marks.pop();
+        match self.text.extend_from_slice(&piece) {
+            Ok(()) => Ok(()),
+            Err(error) => {
+                let _ = self.marks.pop();
+                Err(error)
+            }
         }
-        written
     }
 
     /// The bytes of the page. Condition: no element in html is open.
     pub fn finish(self) -> Result<Vec<u8>, WantOfMemory>
-        requires { self.open ≡ [] }
+        requires { self.elements ≡ [] }
         ensures { IfOk result (λ bytes. IsPage self.marks bytes.items) }
     {
         let mut text = self.text;
@@ -140,7 +146,7 @@ impl Page {
         attributes: &[(Attribute, &[u8])],
         words: &[u8],
     ) -> Result<(), WantOfMemory>
-        ensures open { OnOk result (self.new.open ≡ self.old.open) }
+        ensures elements { OnOk result (self.new.elements ≡ self.old.elements) }
         ensures marks { OnOk result (self.new.marks ≡ self.old.marks) }
     {
         self.open(tag, attributes)?;
