@@ -4,6 +4,7 @@
 mod drawing;
 mod program;
 mod refusal;
+mod sketch;
 mod viewed;
 
 pub use pnp_cli::Status;

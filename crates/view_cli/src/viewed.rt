@@ -12,6 +12,7 @@ ghost use Rattle.view_page.specs.Pages.{IsPage};
 ghost use Rattle.view_cli.specs.Viewed.{Drawn, IsViewing, ViewsPlay};
 
 use crate::drawing::draw_all;
+use crate::sketch::Sketch;
 use device_ids::WantOfMemory;
 use driver_rack::Drivers;
 use inf_reader::Inf;
@@ -21,7 +22,8 @@ use pnp_machine::Manager;
 use script_play::Play;
 use std::alloc::Global;
 use view_page::{Attribute, Page, Tag};
-use view_trace::{Rows, begin};
+use view_drawings::STYLE;
+use view_trace::begin;
 
 /// A page that is to be written, and the answer.
 #[derive(Drop)]
@@ -68,7 +70,7 @@ fn draw_ending(ending: &[u8], page: &mut Page) -> Result<(), WantOfMemory>
     ensures marks { OnOk result (page.new.marks ≡ page.old.marks) }
 {
     page.open(Tag::Section, &[])?;
-    page.element(Tag::H2, &[], b"At the end")?;
+    page.element(Tag::H2, &[], b"The end of the output")?;
     page.element(Tag::Pre, &[(Attribute::Tabindex, b"0")], ending)?;
     page.close()
 }
@@ -87,12 +89,13 @@ fn draw_play<R: Drivers>(
     ensures status { IfOk result (λ status. status ≡ answer_by play.new.bad) }
     ensures elements { IfOk result (λ status. page.new.elements ≡ []) }
 {
-    let mut rows = Rows::new(alloc);
-    begin(alloc, page, title, b"")?;
-    draw_all(alloc, play, &mut rows, page)?;
-    rows.end(page)?;
+    let mut sketch = Sketch::new(alloc);
+    begin(alloc, page, title, STYLE)?;
+    draw_all(alloc, play, &mut sketch, page)?;
+    sketch.end_rows(page)?;
     let bad = play.bad_line();
     draw_bad(alloc, bad, page)?;
+    sketch.draw_rest(alloc, play.tree(), page)?;
     draw_ending(&play.ending()?, page)?;
     page.close()?;
     Ok(answer(bad))
