@@ -1,0 +1,176 @@
+//! A page as it is written.
+ghost use Rattle.std.specs.Prelude.{◌≡◌, ◌++◌, ◌∷◌, [], List, IfOk, OnOk, OnErr};
+ghost use Rattle.view_page.specs.Pages.{IsPage};
+ghost use Rattle.view_page.specs.declared.words.Tag.{Tag as Tags};
+
+use crate::escape::{WantOfMemory, push_escaped};
+use crate::tags::{arrow_tag, close_tag, empty_tag, open_tag};
+use crate::words::{Attribute, Empty, Tag};
+use std::alloc::Global;
+use std::marker::Model;
+
+/// A page as it is written. A contract sees the elements that are open in html, the newest first, the marks of the
+/// arrows, in order, and the bytes. This project's own.
+#[derive(Drop)]
+pub struct Page {
+    alloc: Global,
+    elements: Vec<Tag>,
+    marks: Vec<Vec<u8>>,
+    text: Vec<u8>,
+}
+
+impl Model for Page {
+    ghost use Rattle.std.specs.Prelude.{map, reverse};
+    ghost use Rattle.view_page.specs.Pages.{PageSoFar, IsOpen};
+
+    ghost Value = { PageSoFar };
+
+    ghost view = { λ p. record { elements = reverse p.elements.items; marks = map (λ m. m.items) p.marks.items; text = p.text.items } };
+
+    ghost invariant = { λ p. IsOpen (reverse p.elements.items) (map (λ m. m.items) p.marks.items) p.text.items };
+}
+
+impl Page {
+    /// A page with nothing in it: html is begun. Its language is English.
+    pub fn new(alloc: Global) -> Result<Page, WantOfMemory>
+        ensures elements { IfOk result (λ p. p.elements ≡ []) }
+        ensures marks { IfOk result (λ p. p.marks ≡ []) }
+    {
+        let text = Vec::from_slice(alloc, b"<!DOCTYPE html>\n<html lang=\"en\">\n")?;
+        Ok(Page {
+            alloc,
+            elements: Vec::new(alloc),
+            marks: Vec::new(alloc),
+            text,
+        })
+    }
+
+    /// Begins an element. Condition: no attribute stands twice, which nothing looks at. Cost: the length of what is written.
+    pub fn open(
+        &mut self,
+        tag: Tag,
+        attributes: &[(Attribute, &[u8])],
+    ) -> Result<(), WantOfMemory>
+        ensures elements { OnOk result (self.new.elements ≡ tag ∷ self.old.elements) }
+        ensures marks { OnOk result (self.new.marks ≡ self.old.marks) }
+        ensures err { OnErr result (self.new ≡ self.old) }
+    {
+        let piece = open_tag(self.alloc, tag, attributes)?;
+        self.elements.push(tag)?;
+        match self.text.extend_from_slice(&piece) {
+            Ok(()) => Ok(()),
+            Err(error) => {
+                let _ = self.elements.pop();
+                Err(error)
+            }
+        }
+    }
+
+    /// Ends the element that was begun last. Condition: one is open. Cost: the length of its name.
+    pub fn close(&mut self) -> Result<(), WantOfMemory>
+        requires { (tag : Tags) × (outer : List Tags) × (self.old.elements ≡ tag ∷ outer) }
+        ensures elements { OnOk result ((tag : Tags) (outer : List Tags) → self.old.elements ≡ tag ∷ outer → self.new.elements ≡ outer) }
+        ensures marks { OnOk result (self.new.marks ≡ self.old.marks) }
+        ensures err { OnErr result (self.new ≡ self.old) }
+    {
+        let tag = self.elements[self.elements.len() - 1];
+        let piece = close_tag(self.alloc, tag)?;
+        self.text.extend_from_slice(&piece)?;
+        let _ = self.elements.pop();
+        Ok(())
+    }
+
+    /// Writes a text, escaped. Cost: its length.
+    pub fn words(&mut self, words: &[u8]) -> Result<(), WantOfMemory>
+        ensures elements { OnOk result (self.new.elements ≡ self.old.elements) }
+        ensures marks { OnOk result (self.new.marks ≡ self.old.marks) }
+        ensures err { OnErr result (self.new ≡ self.old) }
+    {
+        let mut piece = Vec::new(self.alloc);
+        push_escaped(&mut piece, words)?;
+        self.text.extend_from_slice(&piece)?;
+        Ok(())
+    }
+
+    /// Writes an element without content. Condition: no attribute stands twice, which nothing looks at.
+    pub fn empty(
+        &mut self,
+        name: Empty,
+        attributes: &[(Attribute, &[u8])],
+    ) -> Result<(), WantOfMemory>
+        ensures elements { OnOk result (self.new.elements ≡ self.old.elements) }
+        ensures marks { OnOk result (self.new.marks ≡ self.old.marks) }
+        ensures err { OnErr result (self.new ≡ self.old) }
+    {
+        let piece = empty_tag(self.alloc, name, attributes)?;
+        self.text.extend_from_slice(&piece)?;
+        Ok(())
+    }
+
+    /// Writes an arrow: an element path of SVG, which carries a mark. Condition: no attribute stands twice, which nothing looks at.
+    pub fn arrow(
+        &mut self,
+        mark: &[u8],
+        attributes: &[(Attribute, &[u8])],
+    ) -> Result<(), WantOfMemory>
+        ensures elements { OnOk result (self.new.elements ≡ self.old.elements) }
+        ensures marks { OnOk result (self.new.marks ≡ self.old.marks ++ mark.now ∷ []) }
+        ensures err { OnErr result (self.new ≡ self.old) }
+    {
+        let piece = arrow_tag(self.alloc, mark, attributes)?;
+        let mark = Vec::from_slice(self.alloc, mark)?;
+        self.marks.push(mark)?;
+        match self.text.extend_from_slice(&piece) {
+            Ok(()) => Ok(()),
+            Err(error) => {
+                let _ = self.marks.pop();
+                Err(error)
+            }
+        }
+    }
+
+    /// The bytes of the page. Condition: no element in html is open.
+    pub fn finish(self) -> Result<Vec<u8>, WantOfMemory>
+        requires { self.elements ≡ [] }
+        ensures { IfOk result (λ bytes. IsPage self.marks bytes.items) }
+    {
+        let mut text = self.text;
+        text.extend_from_slice(b"</html>\n")?;
+        Ok(text)
+    }
+
+    /// Writes an element with a text.
+    pub fn element(
+        &mut self,
+        tag: Tag,
+        attributes: &[(Attribute, &[u8])],
+        words: &[u8],
+    ) -> Result<(), WantOfMemory>
+        ensures elements { OnOk result (self.new.elements ≡ self.old.elements) }
+        ensures marks { OnOk result (self.new.marks ≡ self.old.marks) }
+    {
+        self.open(tag, attributes)?;
+        self.words(words)?;
+        self.close()
+    }
+}
+
+#[cfg(test)]
+mod tests {
+    use super::*;
+    use std::test::Fail;
+
+    #[test]
+    fn writes(rt: HostRuntime) -> Result<(), Fail> {
+        let mut page = Page::new(rt.alloc())?;
+        page.open(Tag::Body, &[])?;
+        page.element(Tag::P, &[(Attribute::Class, b"a\"b"), (Attribute::Id, b"x")], b"a < b")?;
+        page.empty(Empty::Br, &[])?;
+        page.arrow(b"one & two", &[(Attribute::D, b"M0 0")])?;
+        page.close()?;
+        let bytes = page.finish()?;
+        let want = b"<!DOCTYPE html>\n<html lang=\"en\">\n<body><p class=\"a&quot;b\" id=\"x\">a &lt; b</p><br/><path data-mark=\"one &amp; two\" d=\"M0 0\"/></body></html>\n";
+        assert_eq!(rt; bytes.as_slice(), want.as_slice());
+        Ok(())
+    }
+}

@@ -1,0 +1,55 @@
+//! What of a label is drawn.
+ghost use Rattle.std.specs.Prelude.{◌≡◌, ◌++◌, ◌∷◌, [], IfOk, is_some};
+ghost use Rattle.pnp_labels.specs.Texts.{label_line};
+ghost use Rattle.view_trace.specs.Asks.{is_ask};
+
+use device_ids::{Text, WantOfMemory};
+use pnp_labels::{Label, Shown, label_line};
+use std::alloc::Global;
+
+/// A question to a driver, and what it answered.
+#[derive(Clone, Copy)]
+pub struct Question<'a> {
+    pub driver: &'a Text,
+    pub shown: Shown,
+}
+
+/// The question that a label tells, if it tells one.
+pub fn question_of(label: &Label) -> Option<Question<'_>>
+    ensures { is_some result ≡ is_ask label.now }
+{
+    match label {
+        Label::Asked { driver, shown, .. } => Some(Question {
+            driver,
+            shown: *shown,
+        }),
+        Label::Add { driver, ok, .. } => Some(Question {
+            driver,
+            shown: if *ok { Shown::Ok } else { Shown::Fail },
+        }),
+        _ => None,
+    }
+}
+
+/// The line of a label, without its line feed.
+pub fn line_of(alloc: Global, label: &Label) -> Result<Vec<u8>, WantOfMemory>
+    ensures { IfOk result (λ line. line.items ≡ label_line label.now) }
+{
+    let mut line = label_line(alloc, label)?;
+    let _ = line.pop();
+    Ok(line)
+}
+
+/// The class of a label's row.
+pub fn class_of(label: &Label) -> &'static [u8] {
+    match label {
+        Label::Did { .. } => b"event",
+        Label::Refused { .. } => b"event refused",
+        Label::Asked { .. } | Label::Add { .. } => b"ask",
+        Label::State { .. } => b"state",
+        Label::Begin { .. } | Label::Commit { .. } | Label::End { .. } => b"operation",
+        Label::Trouble { .. } | Label::NoFit { .. } | Label::Spent { .. } => b"trouble",
+        Label::Notice { .. } | Label::Declined { .. } => b"notice",
+        _ => b"step",
+    }
+}
