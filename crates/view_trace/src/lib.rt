@@ -2,10 +2,10 @@
 #![tactic(auto)]
 
 mod arrow;
-mod begin;
+mod front;
 mod question;
 mod rows;
 mod style;
 
-pub use begin::begin;
+pub use front::{begin, begin_plain};
 pub use rows::Rows;

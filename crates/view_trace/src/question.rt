@@ -8,13 +8,14 @@ use pnp_labels::{Label, Shown, label_line};
 use std::alloc::Global;
 
 /// A question to a driver, and what it answered.
+#[derive(Clone, Copy)]
 pub struct Question<'a> {
     pub driver: &'a Text,
     pub shown: Shown,
 }
 
 /// The question that a label tells, if it tells one.
-pub fn question(label: &Label) -> Option<Question<'_>>
+pub fn question_of(label: &Label) -> Option<Question<'_>>
     ensures { is_some result ≡ is_ask label.now }
 {
     match label {

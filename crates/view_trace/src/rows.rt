@@ -3,14 +3,14 @@ ghost use Rattle.std.specs.Prelude.{◌≡◌, ◌++◌, ◌∷◌, [], OnOk};
 ghost use Rattle.view_trace.specs.Asks.{asks_of};
 
 use crate::arrow;
-use crate::question::{Question, class_of, line_of, question};
+use crate::question::{Question, class_of, line_of, question_of};
 use device_ids::{Text, TextList, WantOfMemory};
 use pnp_labels::{EventWord, Label};
 use std::alloc::Global;
 use view_page::{Attribute, Page, Tag};
 
 /// No more lanes than these are drawn; what further drivers are asked ends beside the last one.
-const MOST_LANES: u64 = 64;
+const MOST_LANES: u64 = 256;
 
 /// What the rows have to know of those before: the drivers that have lanes, in the order in which they were named, and whether an
 /// operation runs. This project's own.
@@ -99,7 +99,7 @@ impl Rows {
         let line = line_of(alloc, label)?;
         let class: &[u8] = if self.operation { b"within" } else { b"" };
         page.element(Tag::Code, &[(Attribute::Class, class)], &line)?;
-        match question(label) {
+        match question_of(label) {
             Some(asked) => {
                 let lane = lane_of(&self.lanes, asked.driver);
                 draw_arrow(alloc, page, &line, lane, &asked)

@@ -14,11 +14,11 @@ code,pre,.heads{font-family:ui-monospace,SFMono-Regular,Menlo,Consolas,monospace
 .legend{list-style:none;display:flex;flex-wrap:wrap;gap:.25rem 1.5rem;margin:.5rem 0 1rem;padding:0}\n\
 .legend li{display:flex;align-items:center;gap:.5rem}\n\
 .legend svg{width:80px;height:24px;flex:none}\n\
-path{fill:none;stroke-width:1.75}\n\
-.ok{stroke:var(--ok)}\n\
-.fail{stroke:var(--fail)}\n\
-.pend{stroke:var(--pend);stroke-dasharray:5 3}\n\
-.violation{stroke:var(--violation);stroke-width:2.25}\n\
+.grid path,.legend path{fill:none;stroke-width:1.75}\n\
+path.ok{stroke:var(--ok)}\n\
+path.fail{stroke:var(--fail)}\n\
+path.pend{stroke:var(--pend);stroke-dasharray:5 3}\n\
+path.violation{stroke:var(--violation)}\n\
 .run{border:1px solid var(--rule);border-radius:6px;overflow:auto;max-height:90vh}\n\
 .grid{display:inline-flex;flex-direction:column;min-width:100%;vertical-align:top}\n\
 .heads{order:-1;position:sticky;top:0;z-index:2;display:flex;background:var(--band);border-bottom:2px solid var(--rule);font-weight:600}\n\

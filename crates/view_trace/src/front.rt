@@ -106,3 +106,14 @@ pub fn begin(alloc: Global, page: &mut Page, title: &[u8], more: &[u8]) -> Resul
     page.open(Tag::Div, &[(Attribute::Class, b"grid")])?;
     page.open(Tag::Ol, &[])
 }
+
+/// Begins a page without rows.
+pub fn begin_plain(page: &mut Page, title: &[u8]) -> Result<(), WantOfMemory>
+    requires { page.old.elements ≡ [] }
+    ensures elements { OnOk result (page.new.elements ≡ Tag.Body ∷ []) }
+    ensures marks { OnOk result (page.new.marks ≡ page.old.marks) }
+{
+    head(page, title, b"")?;
+    page.open(Tag::Body, &[])?;
+    page.element(Tag::H1, &[], title)
+}

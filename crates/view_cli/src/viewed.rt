@@ -1,0 +1,158 @@
+//! The whole page for a script: the rows of all labels, and the end of the output.
+ghost use Rattle.std.specs.Prelude.{◌≡◌, ◌≤◌, ◌∷◌, [], IfOk, OnOk, length};
+ghost use Rattle.notify_front.specs.Desks.{IsAtStart};
+ghost use Rattle.notify_front.specs.Fronts.{opening_front};
+ghost use Rattle.pnp_cli.specs.Pieces.{answer_by};
+ghost use Rattle.pnp_cli.specs.Contents.{events_of};
+ghost use Rattle.pnp_cli.specs.Runs.{machine};
+ghost use Rattle.pnp_machine.specs.Managers.{settings};
+ghost use Rattle.pnp_model.specs.Runs.{opening};
+ghost use Rattle.script_play.specs.Playing.{Played};
+ghost use Rattle.view_page.specs.Pages.{IsPage};
+ghost use Rattle.view_cli.specs.Viewed.{Drawn, IsViewing, ViewsPlay};
+
+use crate::drawing::draw_all;
+use crate::sketch::Sketch;
+use device_ids::WantOfMemory;
+use driver_rack::Drivers;
+use inf_reader::Inf;
+use notify_front::Front;
+use pnp_cli::Status;
+use pnp_machine::Manager;
+use script_play::Play;
+use std::alloc::Global;
+use view_page::{Attribute, Page, Tag};
+use view_drawings::STYLE;
+use view_trace::begin;
+
+/// A page that is to be written, and the answer.
+#[derive(Drop)]
+pub struct Viewed {
+    pub text: Vec<u8>,
+    pub status: Status,
+}
+
+/// A page that is finished, with this answer. Condition: no element is open.
+pub fn finished(page: Page, status: Status) -> Result<Viewed, WantOfMemory>
+    requires { page.elements ≡ [] }
+    ensures page { IfOk result (λ v. IsPage page.marks v.text.items) }
+    ensures status { IfOk result (λ v. v.status ≡ status) }
+{
+    let text = page.finish()?;
+    Ok(Viewed { text, status })
+}
+
+/// The answer by the number of the bad line, if there is one.
+fn answer(bad: Option<u64>) -> Status
+    ensures { result ≡ answer_by bad }
+{
+    match bad {
+        None => Status::Done,
+        Some(_) => Status::BadScript,
+    }
+}
+
+/// Tells of a bad line, if there is one.
+fn draw_bad(alloc: Global, bad: Option<u64>, page: &mut Page) -> Result<(), WantOfMemory>
+    ensures elements { OnOk result (page.new.elements ≡ page.old.elements) }
+    ensures marks { OnOk result (page.new.marks ≡ page.old.marks) }
+{
+    let Some(line) = bad else {
+        return Ok(());
+    };
+    let words = format!(in alloc; "script error line {line}")?;
+    page.element(Tag::P, &[(Attribute::Class, b"bad")], words.as_bytes())
+}
+
+/// The end of the output.
+fn draw_ending(ending: &[u8], page: &mut Page) -> Result<(), WantOfMemory>
+    ensures elements { OnOk result (page.new.elements ≡ page.old.elements) }
+    ensures marks { OnOk result (page.new.marks ≡ page.old.marks) }
+{
+    page.open(Tag::Section, &[])?;
+    page.element(Tag::H2, &[], b"The end of the output")?;
+    page.element(Tag::Pre, &[(Attribute::Tabindex, b"0")], ending)?;
+    page.close()
+}
+
+/// All of a play is drawn, and then the end of the output.
+fn draw_play<R: Drivers>(
+    alloc: Global,
+    title: &[u8],
+    play: &mut Play<R>,
+    page: &mut Page,
+) -> Result<Status, WantOfMemory>
+    requires played { Played play.old [] play.old }
+    requires elements { page.old.elements ≡ [] }
+    requires marks { page.old.marks ≡ [] }
+    ensures drawn { IfOk result (λ status. Drawn play.old page.new.marks play.new) }
+    ensures status { IfOk result (λ status. status ≡ answer_by play.new.bad) }
+    ensures elements { IfOk result (λ status. page.new.elements ≡ []) }
+{
+    let mut sketch = Sketch::new(alloc);
+    begin(alloc, page, title, STYLE)?;
+    draw_all(alloc, play, &mut sketch, page)?;
+    sketch.end_rows(page)?;
+    let bad = play.bad_line();
+    draw_bad(alloc, bad, page)?;
+    sketch.draw_rest(alloc, play.tree(), page)?;
+    draw_ending(&play.ending()?, page)?;
+    page.close()?;
+    Ok(answer(bad))
+}
+
+/// The page of a play.
+fn page_play<R: Drivers>(
+    alloc: Global,
+    title: &[u8],
+    play: &mut Play<R>,
+) -> Result<Viewed, WantOfMemory>
+    requires { Played play.old [] play.old }
+    ensures { IfOk result (λ v. ViewsPlay play.old v.text.items v.status) }
+{
+    let mut page = Page::new(alloc)?;
+    match draw_play(alloc, title, play, &mut page) {
+        Ok(status) => finished(page, status),
+        Err(error) => Err(error),
+    }
+}
+
+/// The same of a front over a manager to which nothing happened. The play is made here and handed on, since the checker is slow where
+/// a function holds one.
+fn page_machine<R: Drivers>(
+    alloc: Global,
+    title: &[u8],
+    manager: Manager<R>,
+    script: &[u8],
+) -> Result<Viewed, WantOfMemory>
+    requires start { IsAtStart manager }
+    requires small { length script.now ≤ 16777216 }
+    ensures { IfOk result (λ e. IsViewing (settings manager) (opening_front manager.state) (events_of script.now) e.text.items e.status) }
+{
+    let front = Front::new(alloc, manager);
+    match Play::new(alloc, front, script) {
+        Ok(mut play) => page_play(alloc, title, &mut play),
+        Err(error) => Err(error),
+    }
+}
+
+/// The page for a script, over a manager that is made of these INFs and this rack. The manager is made here and handed on, for the same
+/// reason.
+pub fn page_of<R: Drivers>(
+    alloc: Global,
+    title: &[u8],
+    script: &[u8],
+    infs: Vec<Inf>,
+    budget: u64,
+    rack: R,
+) -> Result<Viewed, WantOfMemory>
+    requires infs { length infs.items ≤ 64 }
+    requires budget { budget ≤ 1000000 }
+    requires small { length script.now ≤ 16777216 }
+    ensures { IfOk result (λ e. IsViewing (machine infs.items budget) (opening_front (opening (R.rows rack))) (events_of script.now) e.text.items e.status) }
+{
+    match Manager::new(alloc, infs, rack, budget) {
+        Ok(manager) => page_machine(alloc, title, manager, script),
+        Err(error) => Err(error),
+    }
+}
