@@ -159,7 +159,8 @@ fn draw_blocks(
     ensures marks { OnOk result (page.new.marks ≡ page.old.marks) }
 {
     let mut lanes = Lanes::new();
-    'blocks: for holding in bar.holdings {
+    let held = bar.holdings;
+    'each: for holding in held {
         if holding.res.kind == kind {
             let lane = lanes.next(holding);
             let top = y.saturating_add(lane.saturating_mul(LANE));
