@@ -21,6 +21,18 @@ fn range_words(alloc: Global, holding: &Holding) -> Result<Vec<u8>, WantOfMemory
     Ok(words)
 }
 
+/// What changed, where the bar stands beside another.
+fn draw_change(page: &mut Page, bar: &Bar<'_>, is_moved: bool) -> Result<(), WantOfMemory>
+    ensures elements { OnOk result (page.new.elements ≡ page.old.elements) }
+    ensures marks { OnOk result (page.new.marks ≡ page.old.marks) }
+{
+    if bar.name.is_empty() {
+        return Ok(());
+    }
+    let change = if is_moved { bar.moved } else { b"kept" };
+    worded(page, Tag::Td, b"map-change", change)
+}
+
 /// A row of the table: who, the numbers, the path, whether they are shared, and what changed.
 fn draw_line(
     alloc: Global,
@@ -35,26 +47,22 @@ fn draw_line(
     let who = owner_text(alloc, holding.owner)?;
     let range = range_words(alloc, holding)?;
     let shared: &[u8] = if holding.res.shared { b"shared" } else { b"" };
-    let class: &[u8] = if is_moved { b"map-line moved" } else { b"map-line" };
+    let class: &[u8] = if is_moved {
+        b"map-line moved"
+    } else {
+        b"map-line"
+    };
     page.open(Tag::Tr, &[(Attribute::Class, class)])?;
     worded(page, Tag::Td, b"map-who", &who)?;
     worded(page, Tag::Td, b"map-range", &range)?;
     worded(page, Tag::Td, b"map-owner", holding.words.bytes())?;
     worded(page, Tag::Td, b"map-shared", shared)?;
-    if !bar.name.is_empty() {
-        let change = if is_moved { bar.moved } else { b"kept" };
-        worded(page, Tag::Td, b"map-change", change)?;
-    }
+    draw_change(page, bar, is_moved)?;
     page.close()
 }
 
 /// The rows of a bar.
-fn draw_lines(
-    alloc: Global,
-    page: &mut Page,
-    kind: Kind,
-    bar: &Bar<'_>,
-) -> Result<(), WantOfMemory>
+fn draw_lines(alloc: Global, page: &mut Page, kind: Kind, bar: &Bar<'_>) -> Result<(), WantOfMemory>
     ensures elements { OnOk result (page.new.elements ≡ page.old.elements) }
     ensures marks { OnOk result (page.new.marks ≡ page.old.marks) }
 {

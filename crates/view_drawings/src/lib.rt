@@ -26,6 +26,3 @@ pub use run_rows::{DeviceRows, RunRows};
 pub use style::STYLE;
 pub use tree::device_tree;
 pub use used::Used;
-
-#[cfg(test)]
-mod tests;
