@@ -9,8 +9,8 @@ ghost use Rattle.pnp_cli.specs.Runs.{named, status_by, Decides, Wrote, Given, Un
 ghost use Rattle.pnp_cli.specs.declared.status.Status.{Status};
 ghost use Rattle.view_cli.specs.Answers.{IsView, IsViewBy, IsViewed, IsTooLarge, IsTooLargeFor, WroteOut, WroteSome, script_of, script_named, is_told};
 
-use crate::viewed::{Viewed, page_of};
 use crate::refusal::page_refusal;
+use crate::viewed::{Viewed, page_of};
 use device_ids::TextList;
 use driver_rack::{Driver, Drivers, Rack};
 use inf_reader::Inf;

@@ -35,7 +35,13 @@ impl Change {
         ensures elements { OnOk result (page.new.elements ≡ page.old.elements) }
         ensures marks { OnOk result (page.new.marks ≡ page.old.marks) }
     {
-        map_change(alloc, page, self.title.as_bytes(), &self.before, &self.after)
+        map_change(
+            alloc,
+            page,
+            self.title.as_bytes(),
+            &self.before,
+            &self.after,
+        )
     }
 }
 
@@ -83,18 +89,15 @@ impl Sketch {
     }
 
     /// Keeps what devices hold after a commit, and what they held before.
-    fn keep_change(
-        &mut self,
-        alloc: Global,
-        tree: &Tree,
-        movers: u64,
-    ) -> Result<(), WantOfMemory> {
+    fn keep_change(&mut self, alloc: Global, tree: &Tree, movers: u64) -> Result<(), WantOfMemory> {
         let before = mem::replace(&mut self.before, Vec::new(alloc));
         if self.changes.len() < MOST_CHANGES {
             let after = holdings(alloc, tree, &self.reserved)?;
             let number = self.changes.len() as u64;
             let place = number.saturating_add(1);
-            let title = format!(in alloc; "Commit {place}: before and after, devices that move: {movers}")?;
+            let title = format!(in alloc;
+                "Commit {place}: before and after, devices that move: {movers}"
+            )?;
             self.changes.push(Change {
                 title,
                 before,
@@ -158,7 +161,10 @@ impl Sketch {
             if change.after.len() <= MOST_HELD && change.before.len() <= MOST_HELD {
                 change.draw(alloc, page)?;
             } else {
-                say(page, b"More than 512 ranges are held: this commit is not drawn.")?;
+                say(
+                    page,
+                    b"More than 512 ranges are held: this commit is not drawn.",
+                )?;
             }
         }
         if self.changes.len() == MOST_CHANGES {
@@ -176,7 +182,10 @@ impl Sketch {
         if held.len() <= MOST_HELD {
             resource_map(alloc, page, b"Resource map at the end", &held)
         } else {
-            say(page, b"More than 512 ranges are held: the map is not drawn.")
+            say(
+                page,
+                b"More than 512 ranges are held: the map is not drawn.",
+            )
         }
     }
 

@@ -21,8 +21,8 @@ use pnp_cli::Status;
 use pnp_machine::Manager;
 use script_play::Play;
 use std::alloc::Global;
-use view_page::{Attribute, Page, Tag};
 use view_drawings::STYLE;
+use view_page::{Attribute, Page, Tag};
 use view_trace::begin;
 
 /// A page that is to be written, and the answer.

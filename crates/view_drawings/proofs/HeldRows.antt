@@ -31,7 +31,7 @@ held_step serial path words held at res before rows after read same so_far pushe
     ∙ ap (λ l. l ++ held_row serial path res ∷ []) so_far
     ∙ append_assoc before (map (held_row serial path) (take at held)) (held_row serial path res ∷ [])
     ∙ ap (λ l. before ++ l)
-      (sym (ap (λ l. map (held_row serial path) l) (front_at held at res read) ∙ map-append (held_row serial path) (take at held) (res ∷ [])))
+    (sym (ap (λ l. map (held_row serial path) l) (front_at held at res read) ∙ map-append (held_row serial path) (take at held) (res ∷ [])))
 
 -- a device more
 pub node_step : (nodes : List Node) (at : ℕ) (n : Node) (before rows after : List Held)
@@ -42,5 +42,5 @@ node_step nodes at n before rows after read so_far added =
     ∙ ap (λ l. l ++ map (held_row n.serial n.path) n.holds) so_far
     ∙ append_assoc before (node_rows (take at nodes)) (map (held_row n.serial n.path) n.holds)
     ∙ ap (λ l. before ++ l)
-      (sym (ap node_rows (front_at nodes at n read) ∙ node_rows-append (take at nodes) (n ∷ [])
-        ∙ ap (λ l. node_rows (take at nodes) ++ l) (node_rows-one n)))
+    (sym (ap node_rows (front_at nodes at n read) ∙ node_rows-append (take at nodes) (n ∷ [])
+    ∙ ap (λ l. node_rows (take at nodes) ++ l) (node_rows-one n)))

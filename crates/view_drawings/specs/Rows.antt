@@ -1,5 +1,5 @@
 -- The rows of the state diagram as they are drawn.
-use Rattle.std.specs.Prelude.{◌≡◌, ℕ, Bool, true, false, Option, Some, None, List, slice_index}
+use Rattle.std.specs.Prelude.{Bool, true, false, Option, Some, None}
 use Rattle.pnp_labels.specs.declared.states.DevState.{DevState}
 use Rattle.pnp_labels.specs.declared.words.Minor.{Minor}
 use Rattle.pnp_labels.specs.declared.states.DevState.TheVariants as states

@@ -1,9 +1,9 @@
 ghost use Rattle.std.specs.Prelude.{◌≡◌, ◌∷◌, OnOk};
 
 use crate::holding::Holding;
+use crate::legend::draw_legend;
 use crate::scale::{Scale, number_text, owner_text, scale_of};
 use crate::shapes::{Place, label, numbered, rect, stroke, worded};
-use crate::legend::draw_legend;
 use device_ids::WantOfMemory;
 use pnp_labels::decimal;
 use resource_reqs::{Kind, Owner};
@@ -143,7 +143,14 @@ fn draw_block(
         words.extend_from_slice(bar.sign)?;
     }
     words.extend_from_slice(&owner_text(alloc, holding.owner)?)?;
-    label(alloc, page, b"block-words", x.saturating_add(8), y.saturating_add(16), &words)
+    label(
+        alloc,
+        page,
+        b"block-words",
+        x.saturating_add(8),
+        y.saturating_add(16),
+        &words,
+    )
 }
 
 /// The blocks of a bar.
@@ -206,7 +213,14 @@ fn draw_axis(
         if stretch.is_start {
             let number = number_text(alloc, kind, stretch.first)?;
             let x = stretch.x.saturating_add(1);
-            label(alloc, page, b"axis-words", x, y.saturating_add(16), number.as_bytes())?;
+            label(
+                alloc,
+                page,
+                b"axis-words",
+                x,
+                y.saturating_add(16),
+                number.as_bytes(),
+            )?;
         }
     }
     Ok(())
@@ -281,7 +295,13 @@ fn draw_frame(
 {
     let width = decimal(alloc, scale.width.max(80))?;
     let height = decimal(alloc, heights_of(kind, bars))?;
-    page.open(Tag::Div, &[(Attribute::Class, b"drawing-scroll"), (Attribute::Tabindex, b"0")])?;
+    page.open(
+        Tag::Div,
+        &[
+            (Attribute::Class, b"drawing-scroll"),
+            (Attribute::Tabindex, b"0"),
+        ],
+    )?;
     open_bars(page, kind_text(kind), width.as_bytes(), height.as_bytes())?;
     draw_bars(alloc, page, kind, scale, bars)?;
     page.close()?;

@@ -42,21 +42,55 @@ fn draw_row(alloc: Global, page: &mut Page, row: Row, count: u64) -> Result<(), 
 {
     let words = row_words(alloc, row, count)?;
     let is_used = count > 0;
-    let words_class: &[u8] = if is_used { b"row-words used" } else { b"row-words" };
-    let before_class: &[u8] = if is_used { b"row-words before used" } else { b"row-words before" };
+    let words_class: &[u8] = if is_used {
+        b"row-words used"
+    } else {
+        b"row-words"
+    };
+    let before_class: &[u8] = if is_used {
+        b"row-words before used"
+    } else {
+        b"row-words before"
+    };
     match edge_of(row) {
         Some(edge) => {
-            let class: &[u8] = if is_used { b"row-line used" } else { b"row-line" };
+            let class: &[u8] = if is_used {
+                b"row-line used"
+            } else {
+                b"row-line"
+            };
             stroke(page, class, edge.path)?;
-            let class = if edge.is_before { before_class } else { words_class };
+            let class = if edge.is_before {
+                before_class
+            } else {
+                words_class
+            };
             label(alloc, page, class, edge.x, edge.y, &words)
         }
         None => {
             let place = place_of(row.from());
-            let y = place.y.saturating_add(line_of(row).saturating_mul(20)).saturating_add(48);
-            let class: &[u8] = if is_used { b"row-loop used" } else { b"row-loop" };
-            stroke(page, class, &loop_path(alloc, place.x.saturating_add(20), y)?)?;
-            label(alloc, page, words_class, place.x.saturating_add(32), y, &words)
+            let y = place
+                .y
+                .saturating_add(line_of(row).saturating_mul(20))
+                .saturating_add(48);
+            let class: &[u8] = if is_used {
+                b"row-loop used"
+            } else {
+                b"row-loop"
+            };
+            stroke(
+                page,
+                class,
+                &loop_path(alloc, place.x.saturating_add(20), y)?,
+            )?;
+            label(
+                alloc,
+                page,
+                words_class,
+                place.x.saturating_add(32),
+                y,
+                &words,
+            )
         }
     }
 }
@@ -72,17 +106,31 @@ fn draw_state(
     ensures marks { OnOk result (page.new.marks ≡ page.old.marks) }
 {
     let place = place_of(state);
-    let box_class: &[u8] = if is_used { b"state-box used" } else { b"state-box" };
+    let box_class: &[u8] = if is_used {
+        b"state-box used"
+    } else {
+        b"state-box"
+    };
     rect(alloc, page, box_class, place)?;
-    let words_class: &[u8] = if is_used { b"state-words used" } else { b"state-words" };
+    let words_class: &[u8] = if is_used {
+        b"state-words used"
+    } else {
+        b"state-words"
+    };
     let x = place.x.saturating_add(12);
-    label(alloc, page, words_class, x, place.y.saturating_add(24), state_text(state))
+    label(
+        alloc,
+        page,
+        words_class,
+        x,
+        place.y.saturating_add(24),
+        state_text(state),
+    )
 }
 
 /// Whether a row that was used leads from a state or to it.
 fn is_passed(used: &Used, state: DevState) -> bool {
-    ROWS.iter()
-        .any(|row| used.of(*row) > 0 && (row.from() == state || row.to() == state))
+    ROWS.iter().any(|row| used.of(*row) > 0 && (row.from() == state || row.to() == state))
 }
 
 /// The states and the rows, those that were used bold and with how often.
@@ -112,7 +160,13 @@ pub fn state_diagram(
 {
     page.open(Tag::Figure, &[(Attribute::Class, b"drawing")])?;
     worded(page, Tag::Figcaption, b"drawing-title", title)?;
-    page.open(Tag::Div, &[(Attribute::Class, b"drawing-scroll"), (Attribute::Tabindex, b"0")])?;
+    page.open(
+        Tag::Div,
+        &[
+            (Attribute::Class, b"drawing-scroll"),
+            (Attribute::Tabindex, b"0"),
+        ],
+    )?;
     page.open(
         Tag::Svg,
         &[

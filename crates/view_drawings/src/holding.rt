@@ -37,11 +37,7 @@ impl Holding {
 }
 
 /// Appends what is reserved.
-fn add_reserved(
-    alloc: Global,
-    all: &mut Vec<Holding>,
-    reserved: &[Res],
-) -> Result<(), WantOfMemory>
+fn add_reserved(alloc: Global, all: &mut Vec<Holding>, reserved: &[Res]) -> Result<(), WantOfMemory>
     ensures { OnOk result (all.new.items ≡ all.old.items ++ reserved_rows reserved.now) }
 {
     'reserved: for res in reserved {
@@ -112,11 +108,7 @@ fn add_nodes(alloc: Global, all: &mut Vec<Holding>, tree: &Tree) -> Result<(), W
 
 /// What is reserved and what devices hold, in the order of the printed map: by kind, first number, last number, and owner, what is
 /// reserved first. Cost: their number times its logarithm.
-pub fn holdings(
-    alloc: Global,
-    tree: &Tree,
-    reserved: &[Res],
-) -> Result<Vec<Holding>, WantOfMemory>
+pub fn holdings(alloc: Global, tree: &Tree, reserved: &[Res]) -> Result<Vec<Holding>, WantOfMemory>
     ensures { IfOk result (λ all. IsPermutation (reserved_rows reserved.now ++ node_rows tree.now.nodes) all.items) }
 {
     let mut all = Vec::new(alloc);

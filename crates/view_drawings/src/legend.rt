@@ -47,7 +47,11 @@ fn draw_line(
     let who = owner_text(alloc, holding.owner)?;
     let range = range_words(alloc, holding)?;
     let shared: &[u8] = if holding.res.shared { b"shared" } else { b"" };
-    let class: &[u8] = if is_moved { b"map-line moved" } else { b"map-line" };
+    let class: &[u8] = if is_moved {
+        b"map-line moved"
+    } else {
+        b"map-line"
+    };
     page.open(Tag::Tr, &[(Attribute::Class, class)])?;
     worded(page, Tag::Td, b"map-who", &who)?;
     worded(page, Tag::Td, b"map-range", &range)?;
@@ -58,12 +62,7 @@ fn draw_line(
 }
 
 /// The rows of a bar.
-fn draw_lines(
-    alloc: Global,
-    page: &mut Page,
-    kind: Kind,
-    bar: &Bar<'_>,
-) -> Result<(), WantOfMemory>
+fn draw_lines(alloc: Global, page: &mut Page, kind: Kind, bar: &Bar<'_>) -> Result<(), WantOfMemory>
     ensures elements { OnOk result (page.new.elements ≡ page.old.elements) }
     ensures marks { OnOk result (page.new.marks ≡ page.old.marks) }
 {

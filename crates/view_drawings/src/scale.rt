@@ -1,8 +1,8 @@
 use crate::holding::Holding;
-use device_ids::WantOfMemory;
-use resource_reqs::{Kind, Owner};
-use pnp_labels::decimal;
 use crate::shapes::numbered;
+use device_ids::WantOfMemory;
+use pnp_labels::decimal;
+use resource_reqs::{Kind, Owner};
 use std::alloc::Global;
 
 /// How wide a stretch of free numbers is drawn, in pixels.
@@ -34,8 +34,12 @@ pub(crate) struct Scale {
 impl Scale {
     /// Where the block of these numbers is drawn: its left end and its width.
     pub(crate) fn block(&self, first: u64, last: u64) -> (u64, u64) {
-        let from = self.stretches.partition_point(|stretch| stretch.first < first);
-        let to = self.stretches.partition_point(|stretch| stretch.last < last);
+        let from = self
+            .stretches
+            .partition_point(|stretch| stretch.first < first);
+        let to = self
+            .stretches
+            .partition_point(|stretch| stretch.last < last);
         match (self.stretches.get(from), self.stretches.get(to)) {
             (Some(from), Some(to)) => {
                 let end = to.x.saturating_add(to.width);
@@ -55,11 +59,7 @@ pub(crate) fn owner_text(alloc: Global, owner: Owner) -> Result<Vec<u8>, WantOfM
 }
 
 /// A number as it is written for a kind: of ports and memory in hexadecimal digits.
-pub(crate) fn number_text(
-    alloc: Global,
-    kind: Kind,
-    number: u64,
-) -> Result<String, WantOfMemory> {
+pub(crate) fn number_text(alloc: Global, kind: Kind, number: u64) -> Result<String, WantOfMemory> {
     match kind {
         Kind::Port | Kind::Mem => format!(in alloc; "0x{number:x}"),
         Kind::Irq | Kind::Dma | Kind::Bus => decimal(alloc, number),
@@ -78,12 +78,7 @@ struct Ends {
 }
 
 impl Ends {
-    fn add(
-        &mut self,
-        alloc: Global,
-        kind: Kind,
-        holdings: &[Holding],
-    ) -> Result<(), WantOfMemory> {
+    fn add(&mut self, alloc: Global, kind: Kind, holdings: &[Holding]) -> Result<(), WantOfMemory> {
         for holding in holdings {
             if holding.res.kind == kind {
                 self.firsts.push(holding.res.lo)?;
@@ -118,12 +113,7 @@ impl Ends {
 
 /// How wide a stretch is drawn that is held: a text wide, and four pixels more with each doubling; and at least as wide as the number
 /// below it, where one is written.
-fn width_of(
-    alloc: Global,
-    kind: Kind,
-    stretch: &Stretch,
-    text: u64,
-) -> Result<u64, WantOfMemory> {
+fn width_of(alloc: Global, kind: Kind, stretch: &Stretch, text: u64) -> Result<u64, WantOfMemory> {
     let beyond = stretch.last.saturating_sub(stretch.first);
     let doublings = (u64::BITS - beyond.leading_zeros()) as u64;
     let width = text.saturating_add(28).saturating_add(doublings * 4);
@@ -135,12 +125,7 @@ fn width_of(
 }
 
 /// The stretches between these cuts.
-fn laid_out(
-    alloc: Global,
-    kind: Kind,
-    ends: &Ends,
-    cuts: &[u64],
-) -> Result<Scale, WantOfMemory> {
+fn laid_out(alloc: Global, kind: Kind, ends: &Ends, cuts: &[u64]) -> Result<Scale, WantOfMemory> {
     let mut stretches = Vec::new(alloc);
     let mut x = 0u64;
     let mut was_held = false;

@@ -53,7 +53,14 @@ pub(crate) fn rect(
     let y = decimal(alloc, place.y)?;
     let width = decimal(alloc, place.width)?;
     let height = decimal(alloc, place.height)?;
-    rect_by(page, class, x.as_bytes(), y.as_bytes(), width.as_bytes(), height.as_bytes())
+    rect_by(
+        page,
+        class,
+        x.as_bytes(),
+        y.as_bytes(),
+        width.as_bytes(),
+        height.as_bytes(),
+    )
 }
 
 /// Words whose first line stands at a point.

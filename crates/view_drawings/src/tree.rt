@@ -10,11 +10,7 @@ use std::alloc::Global;
 use view_page::{Attribute, Page, Tag};
 
 /// The drivers of a device in one line, the lowest first.
-fn driver_line(
-    alloc: Global,
-    stack: &Stack,
-    names: &DriverNames,
-) -> Result<Vec<u8>, WantOfMemory> {
+fn driver_line(alloc: Global, stack: &Stack, names: &DriverNames) -> Result<Vec<u8>, WantOfMemory> {
     let mut line = Vec::from_slice(alloc, b"drivers: ")?;
     'drivers: for at in 0..stack.len() {
         if at > 0 {
@@ -72,7 +68,10 @@ fn draw_node(
     let style = numbered(alloc, b"--depth:", depth)?;
     page.open(
         Tag::Li,
-        &[(Attribute::Class, b"tree-node"), (Attribute::Style, style.as_slice())],
+        &[
+            (Attribute::Class, b"tree-node"),
+            (Attribute::Style, style.as_slice()),
+        ],
     )?;
     draw_head(alloc, page, node)?;
     if node.stack.len() > 0 {

@@ -46,11 +46,7 @@ impl Page {
     }
 
     /// Begins an element. Condition: no attribute stands twice, which nothing looks at. Cost: the length of what is written.
-    pub fn open(
-        &mut self,
-        tag: Tag,
-        attributes: &[(Attribute, &[u8])],
-    ) -> Result<(), WantOfMemory>
+    pub fn open(&mut self, tag: Tag, attributes: &[(Attribute, &[u8])]) -> Result<(), WantOfMemory>
         ensures elements { OnOk result (self.new.elements ≡ tag ∷ self.old.elements) }
         ensures marks { OnOk result (self.new.marks ≡ self.old.marks) }
         ensures err { OnErr result (self.new ≡ self.old) }
@@ -164,12 +160,17 @@ mod tests {
     fn writes(rt: HostRuntime) -> Result<(), Fail> {
         let mut page = Page::new(rt.alloc())?;
         page.open(Tag::Body, &[])?;
-        page.element(Tag::P, &[(Attribute::Class, b"a\"b"), (Attribute::Id, b"x")], b"a < b")?;
+        page.element(
+            Tag::P,
+            &[(Attribute::Class, b"a\"b"), (Attribute::Id, b"x")],
+            b"a < b",
+        )?;
         page.empty(Empty::Br, &[])?;
         page.arrow(b"one & two", &[(Attribute::D, b"M0 0")])?;
         page.close()?;
         let bytes = page.finish()?;
-        let want = b"<!DOCTYPE html>\n<html lang=\"en\">\n<body><p class=\"a&quot;b\" id=\"x\">a &lt; b</p><br/><path data-mark=\"one &amp; two\" d=\"M0 0\"/></body></html>\n";
+        let want =
+            b"<!DOCTYPE html>\n<html lang=\"en\">\n<body><p class=\"a&quot;b\" id=\"x\">a &lt; b</p><br/><path data-mark=\"one &amp; two\" d=\"M0 0\"/></body></html>\n";
         assert_eq!(rt; bytes.as_slice(), want.as_slice());
         Ok(())
     }

@@ -31,12 +31,7 @@ fn head(page: &mut Page, title: &[u8], more: &[u8]) -> Result<(), WantOfMemory>
 }
 
 /// An arrow of the legend, with what it means.
-fn sample(
-    alloc: Global,
-    page: &mut Page,
-    shown: Shown,
-    meaning: &[u8],
-) -> Result<(), WantOfMemory>
+fn sample(alloc: Global, page: &mut Page, shown: Shown, meaning: &[u8]) -> Result<(), WantOfMemory>
     ensures elements { OnOk result (page.new.elements ≡ page.old.elements) }
     ensures marks { OnOk result (page.new.marks ≡ page.old.marks) }
 {

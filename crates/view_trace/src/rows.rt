@@ -87,12 +87,7 @@ impl Rows {
     }
 
     /// Draws what is drawn of a label: its line, and an arrow, where it tells an ask.
-    fn draw_line(
-        &self,
-        alloc: Global,
-        page: &mut Page,
-        label: &Label,
-    ) -> Result<(), WantOfMemory>
+    fn draw_line(&self, alloc: Global, page: &mut Page, label: &Label) -> Result<(), WantOfMemory>
         ensures elements { OnOk result (page.new.elements ≡ page.old.elements) }
         ensures marks { OnOk result (page.new.marks ≡ page.old.marks ++ asks_of label.now) }
     {

@@ -9,6 +9,6 @@ invariant_of-self-2 c =
     let some = some_open c.self.inside.elements.items c.requires.0 c.requires.1 (ap (λ (p : PageSoFar). p.elements) c.self.view_is ∙ c.requires.2) in
     let above : 0 < vec_len c.self.inside.elements = first_of (omega (arith, c.self.inside.elements.ok.0), grind (arith, common_steps), search rules) in
     let read : get_or c.self.inside.elements.items (vec_len c.self.inside.elements - 1) c.index-tag.result.now ≡ c.index-tag.result.now =
-        first_of (cc, search rules, grind (arith, common_steps)) in
+    first_of (cc, search rules, grind (arith, common_steps)) in
     closed _ _ _ c.index-tag.result.now _ _ _ _ c.self.invariant c.pop.ensures.items (c.pop.ensures.value c.index-tag.result.now above ∙ ap Some read)
     c.in_ok-extend_from_slice.ensures.items (c.deref.ensures.value ∙ c.in_ok-piece.ensures)
