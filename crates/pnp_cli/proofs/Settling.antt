@@ -1,6 +1,6 @@
 -- Steps one after another until nothing is next, and their labels.
 use Rattle.std.proofs.Common.{◌≡◌, ℕ, ◌+◌, ◌<◌, ◌≤◌, List, [], ◌∷◌, ◌++◌, Option, refl, sym, ◌∙◌, ap, subst, append_assoc, arith}
-use Rattle.pnp_io.specs.Outside.{Appends, AppendsFront}
+use Rattle.pnp_io.specs.Outside.{AppendsFront}
 use Rattle.pnp_labels.specs.Texts.{Text}
 use Rattle.pnp_labels.specs.declared.event.Event.{Event}
 use Rattle.pnp_labels.specs.declared.label.Label.{Label}
@@ -12,10 +12,9 @@ use Rattle.pnp_machine.specs.declared.manager.Moved.{Moved}
 use Rattle.pnp_cli.specs.declared.tally.Tally.{Tally}
 use Rattle.pnp_cli.specs.Outputs.{Makes, Settles, Follows, text_of}
 use Rattle.pnp_cli.specs.Turns.{Held, Settled, Answered, Awaits, SettlesFront, FollowsFront}
-use Rattle.pnp_cli.specs.Tallies.{with_all}
-use Rattle.pnp_cli.proofs.Telling.{told_none, labels_front, held_none, held_text, held_both, lines_front, lines_held, lines_last, lines_took}
+use Rattle.pnp_cli.proofs.Telling.{held_none, held_both, lines_front, lines_held}
 use Rattle.pnp_cli.proofs.FrontEntries.{settles_quiet}
-use Rattle.pnp_cli.proofs.Fronts.{none_is_front, appends_both}
+use Rattle.pnp_cli.proofs.Fronts.{none_is_front}
 use Rattle.pnp_cli.proofs.Sameness.{peel}
 
 -- the next step was done
@@ -76,9 +75,9 @@ stepping_more d d' d'' t t' t'' p p' p'' c c' c'' label h stepped held =
       run = stepped.run;
     }
 
-pub stepping_quiet : (d d' d'' : Desk) (t t' t'' : Option Text) (p p' : Text) (c c' : Tally) → Stepping d t p c d' t' p' c' → (moved : Moved) → moved ≡ Moved.Quiet → FrontMoves (told_of d') (front_of d') moved (front_of d'')
-    → told_of d'' ≡ told_of d' → d''.manager.events ≡ d'.manager.events → IsOfFrontRun (told_of d'') d''.manager.events (front_of d'') → Appends t' t'' p' → Settled d t p c d'' t'' c'
-stepping_quiet d d' d'' t t' t'' p p' c c' h moved ends moves same events run took =
+pub stepping_quiet : (d d' d'' : Desk) (t t' : Option Text) (p p' : Text) (c c' : Tally) → Stepping d t p c d' t' p' c' → (moved : Moved) → moved ≡ Moved.Quiet → FrontMoves (told_of d') (front_of d') moved (front_of d'')
+    → told_of d'' ≡ told_of d' → d''.manager.events ≡ d'.manager.events → IsOfFrontRun (told_of d'') d''.manager.events (front_of d'') → Settled d t p c d'' t' p' c'
+stepping_quiet d d' d'' t t' p p' c c' h moved ends moves same events run =
     let (quiet, front) = subst (λ (x : Moved). FrontMoves (told_of d') (front_of d') x (front_of d'')) ends moves in
     let settles : Settles (told_of d) (front_of d) h.done (front_of d') =
     let Q : List Label → Type 0 = λ ls. Settles (told_of d) (front_of d) ls (front_of d') in
@@ -86,8 +85,7 @@ stepping_quiet d d' d'' t t' t'' p p' c c' h moved ends moves same events run to
     record {
       labels = h.done;
       settles = subst (λ (x : Front). Settles (told_of d) (front_of d) h.done x) (sym front) settles;
-      took = lines_took t t' t'' p p' c c' h.done h.held took;
-      counted = h.held.counted;
+      held = h.held;
       same = same ∙ h.same;
       events = events ∙ h.events;
       run = run;
@@ -108,12 +106,6 @@ stepping_front_more d d' d'' t t' t'' p p' c c' label h stepped front = λ label
     let q = peel (told_of d) (front_of d') (front_of d'') last label b.0 steps b.2 in
     lines_front t t' t'' p p' c c' labels h.done (label ∷ []) q.0 (b.1 ∙ ap (λ (x : List Label). h.done ++ x) q.1) h.held front
 
--- and where what waits is written
-pub stepping_front_last : (d d' : Desk) (t t' t'' : Option Text) (p p' : Text) (c c' : Tally) → Stepping d t p c d' t' p' c' → AppendsFront t' t'' p' → SettlesFront d p t t''
-stepping_front_last d d' t t' t'' p p' c c' h front = λ labels last settles.
-    let b = h.back labels last settles in
-    lines_last t t' t'' p p' c c' labels h.done b.0 b.1 h.held front
-
 -- an event of a client is none of the machine's
 few_events : (event : Event) (n : ℕ) → machine_events event n ≤ n + 1
 few_events (Event.Watch client path agrees) n = omega arith
@@ -121,9 +113,9 @@ few_events (Event.Unwatch client path) n = omega arith
 few_events _ n = omega arith
 
 -- the event, and then the steps
-pub answered_by : (d d' d'' : Desk) (event : Event) (label : Label) (t t' t'' : Option Text) (p p' : Text) (c c' c'' : Tally) → p ≡ [] → IsFrontDone (front_happens (front_of d) event) label (front_of d') → told_of d' ≡ told_of d
-    → d'.manager.events ≡ machine_events event d.manager.events → Held t p c (label ∷ []) t' p' c' → Settled d' t' p' c' d'' t'' c'' → Answered d event t c d'' t'' c''
-answered_by d d' d'' event label t t' t'' p p' c c' c'' none happened same events held settled =
+pub answered_by : (d d' d'' : Desk) (event : Event) (label : Label) (t t' t'' : Option Text) (p p' p'' : Text) (c c' c'' : Tally) → IsFrontDone (front_happens (front_of d) event) label (front_of d') → told_of d' ≡ told_of d
+    → d'.manager.events ≡ machine_events event d.manager.events → Held t p c (label ∷ []) t' p' c' → Settled d' t' p' c' d'' t'' p'' c'' → Answered d event t p c d'' t'' p'' c''
+answered_by d d' d'' event label t t' t'' p p' p'' c c' c'' happened same events held settled =
     record {
       labels = label ∷ settled.labels;
       follows = record {
@@ -134,21 +126,15 @@ answered_by d d' d'' event label t t' t'' p p' c c' c'' none happened same event
         printed = refl;
         settled = subst (λ (x : Settings). Settles x (front_of d') settled.labels (front_of d'')) same settled.settles;
       };
-      told = record {
-        took =
-            subst (λ (x : List ℕ). Appends t t'' x)
-            (held_text t t' p p' c c' (label ∷ []) settled.labels held ∙ ap (λ (x : List ℕ). x ++ text_of (label ∷ settled.labels)) none)
-            (appends_both t t' t'' held.wrote (p' ++ text_of settled.labels) held.took settled.took);
-        counted = settled.counted ∙ ap (λ (x : Tally). with_all x settled.labels) held.counted;
-      };
+      held = held_both t t' t'' p p' p'' c c' c'' (label ∷ []) settled.labels held settled.held;
       same = settled.same ∙ same;
       events = omega (arith, settled.events, events, few_events event d.manager.events);
       run = settled.run;
     }
 
 -- nothing was written yet
-pub follows_front_none : (d : Desk) (event : Event) (t : Option Text) → FollowsFront d event t t
-follows_front_none d event t = λ labels last h. none_is_front t (text_of labels)
+pub follows_front_none : (d : Desk) (event : Event) (p : Text) (t : Option Text) → FollowsFront d event p t t
+follows_front_none d event p t = λ labels last h. none_is_front t (p ++ text_of labels)
 
 first_is : (d d' : Desk) (event : Event) (label : Label) (labels : List Label) (last : Front) → IsFrontDone (front_happens (front_of d) event) label (front_of d') → (h : Follows (told_of d) (front_of d) event labels last)
     → (labels ≡ label ∷ h.more) × (h.begun ≡ front_of d')
@@ -156,22 +142,21 @@ first_is d d' event label labels last done h =
     (h.printed ∙ ap (λ (x : Label). x ∷ h.more) (h.happened.0 ∙ sym done.0), h.happened.1 ∙ sym done.1)
 
 -- a front of the first line
-pub follows_front_first : (d d' : Desk) (event : Event) (label : Label) (t t' : Option Text) (p : Text) → p ≡ [] → IsFrontDone (front_happens (front_of d) event) label (front_of d') → AppendsFront t t' (p ++ text_of (label ∷ [])) → FollowsFront d event t t'
-follows_front_first d d' event label t t' p none done front = λ labels last h.
-    labels_front t t t' labels [] (label ∷ []) h.more (first_is d d' event label labels last done h).0 (told_none t (record { steps = 0; moved = 0 })).took
-    (subst (λ (x : List ℕ). AppendsFront t t' (x ++ text_of (label ∷ []))) none front)
+pub follows_front_first : (d d' : Desk) (event : Event) (label : Label) (t t' : Option Text) (p : Text) → IsFrontDone (front_happens (front_of d) event) label (front_of d') → AppendsFront t t' (p ++ text_of (label ∷ [])) → FollowsFront d event p t t'
+follows_front_first d d' event label t t' p done front = λ labels last h.
+    let nobody : Tally = record { steps = 0; moved = 0 } in
+    lines_front t t t' p p nobody nobody labels [] (label ∷ []) h.more (first_is d d' event label labels last done h).0 (held_none t p nobody) front
 
 -- the first line, and a front of those that follow
-pub follows_front_more : (d d' : Desk) (event : Event) (label : Label) (t t' t'' : Option Text) (p p' : Text) (c c' : Tally) → p ≡ [] → IsFrontDone (front_happens (front_of d) event) label (front_of d') → told_of d' ≡ told_of d
-    → Held t p c (label ∷ []) t' p' c' → SettlesFront d' p' t' t'' → FollowsFront d event t t''
-follows_front_more d d' event label t t' t'' p p' c c' none done same held front = λ labels last h.
+pub follows_front_more : (d d' : Desk) (event : Event) (label : Label) (t t' t'' : Option Text) (p p' : Text) (c c' : Tally) → IsFrontDone (front_happens (front_of d) event) label (front_of d') → told_of d' ≡ told_of d
+    → Held t p c (label ∷ []) t' p' c' → SettlesFront d' p' t' t'' → FollowsFront d event p t t''
+follows_front_more d d' event label t t' t'' p p' c c' done same held front = λ labels last h.
     let f = first_is d d' event label labels last done h in
     let settled : Settles (told_of d') (front_of d') h.more last = subst (λ (x : Settings). Settles x (front_of d') h.more last) (sym same) (subst (λ (x : Front). Settles (told_of d) x h.more last) f.1 h.settled) in
-    subst (λ (x : List ℕ). AppendsFront t t'' (x ++ text_of labels)) none
-    (lines_front t t' t'' p p' c c' labels (label ∷ []) h.more [] (f.0 ∙ ap (λ (x : List Label). label ∷ x) (sym (labels_nil h.more))) held (front h.more last settled))
+    lines_front t t' t'' p p' c c' labels (label ∷ []) h.more [] (f.0 ∙ ap (λ (x : List Label). label ∷ x) (sym (labels_nil h.more))) held (front h.more last settled)
 
 -- Where the steps end, the front awaits what comes -----------------------------------
 
-pub awaits_next : (d d' : Desk) (event : Event) (t t' : Option Text) (c c' : Tally) → Answered d event t c d' t' c' → Awaits d'
-awaits_next d d' event t t' c c' h =
+pub awaits_next : (d d' : Desk) (event : Event) (t t' : Option Text) (p p' : Text) (c c' : Tally) → Answered d event t p c d' t' p' c' → Awaits d'
+awaits_next d d' event t t' p p' c c' h =
     record { run = h.run; quiet = subst (λ (x : Settings). IsFrontQuiet x (front_of d')) (sym h.same) (settles_quiet (told_of d) h.follows.begun (front_of d') h.follows.more h.follows.settled) }

@@ -27,13 +27,6 @@ told_both t t' t'' c c' c'' xs ys h g =
       counted = g.counted ∙ ap (λ (x : Tally). with_all x ys) h.counted ∙ sym (with_append c xs ys);
     }
 
--- lines that were written whole, and then a front of further ones
-pub labels_front : (t t' t'' : Option Text) (all xs ys zs : List Label) → all ≡ xs ++ (ys ++ zs) → Appends t t' (text_of xs) → AppendsFront t' t'' (text_of ys) → AppendsFront t t'' (text_of all)
-labels_front t t' t'' all xs ys zs is h g =
-    subst (λ (x : List ℕ). AppendsFront t t'' x)
-    (sym (ap text_of is ∙ text_append xs (ys ++ zs) ∙ ap (λ (x : List ℕ). text_of xs ++ x) (text_append ys zs)))
-    (front_after t t' t'' (text_of xs) (text_of ys ++ text_of zs) h (front_in t' t'' (text_of ys) (text_of zs) g))
-
 -- only lines that were written whole
 pub labels_told : (t t' : Option Text) (all xs ys : List Label) → all ≡ xs ++ ys → Appends t t' (text_of xs) → AppendsFront t t' (text_of all)
 labels_told t t' all xs ys is h =
@@ -61,9 +54,8 @@ held_both t t' t'' p p' p'' c c' c'' xs ys h g =
     }
 
 -- one label more, and then a part of what waits is written
-pub held_one : (t t' : Option Text) (p p' p'' line : Text) (c c' : Tally) (label : Label) → line ≡ label_line label ++ 10 ∷ [] → p' ≡ p ++ line → c' ≡ with_one c label → Passes t p' t' p'' → Held t p c (label ∷ []) t' p'' c'
-held_one t t' p p' p'' line c c' label is put counted passes =
-    record { wrote = passes.wrote; took = passes.took; all = ap (λ (x : List ℕ). p ++ x) (sym is) ∙ sym put ∙ passes.all; counted = counted }
+pub held_one : (t t' : Option Text) (p p' p'' : Text) (c c' : Tally) (label : Label) → p' ≡ p ++ text_of (label ∷ []) → c' ≡ with_one c label → Passes t p' t' p'' → Held t p c (label ∷ []) t' p'' c'
+held_one t t' p p' p'' c c' label put counted passes = record { wrote = passes.wrote; took = passes.took; all = sym put ∙ passes.all; counted = counted }
 
 -- where what was told is followed by a front of what waits and of further lines
 pub lines_front : (t t' t'' : Option Text) (p p' : Text) (c c' : Tally) (all xs ys zs : List Label) → all ≡ xs ++ (ys ++ zs) → Held t p c xs t' p' c' → AppendsFront t' t'' (p' ++ text_of ys) → AppendsFront t t'' (p ++ text_of all)
@@ -81,12 +73,14 @@ pub lines_last : (t t' t'' : Option Text) (p p' : Text) (c c' : Tally) (all xs y
 lines_last t t' t'' p p' c c' all xs ys is h front =
     lines_front t t' t'' p p' c c' all xs [] ys is h (subst (λ (x : List ℕ). AppendsFront t' t'' x) (sym (append-nil p')) front)
 
-pub lines_took : (t t' t'' : Option Text) (p p' : Text) (c c' : Tally) (xs : List Label) → Held t p c xs t' p' c' → Appends t' t'' p' → Appends t t'' (p ++ text_of xs)
-lines_took t t' t'' p p' c c' xs h took = subst (λ (x : List ℕ). Appends t t'' x) (sym h.all) (appends_both t t' t'' h.wrote p' h.took took)
+-- where what waits is written, nothing waits
+pub held_written : (t t' t'' : Option Text) (p p' : Text) (c c' : Tally) (xs : List Label) → Held t p c xs t' p' c' → Appends t' t'' p' → Held t p c xs t'' [] c'
+held_written t t' t'' p p' c c' xs h took =
+    record { wrote = h.wrote ++ p'; took = appends_both t t' t'' h.wrote p' h.took took; all = h.all ∙ sym (append-nil (h.wrote ++ p')); counted = h.counted }
 
--- a front of the line of a label, which waits behind others
-pub one_front : (t t' : Option Text) (p p' line : Text) (label : Label) → line ≡ label_line label ++ 10 ∷ [] → p' ≡ p ++ line → AppendsFront t t' p' → AppendsFront t t' (p ++ text_of (label ∷ []))
-one_front t t' p p' line label is put front = subst (λ (x : List ℕ). AppendsFront t t' x) (put ∙ ap (λ (x : List ℕ). p ++ x) is) front
+-- lines that came behind none, and of which none waits, were written
+pub all_told : (t t' : Option Text) (c c' : Tally) (xs : List Label) → Held t [] c xs t' [] c' → Told t c xs t' c'
+all_told t t' c c' xs h = record { took = subst (λ (x : List ℕ). Appends t t' x) (sym (h.all ∙ append-nil h.wrote)) h.took; counted = h.counted }
 
 pub held_front : (t t' : Option Text) (p p' : Text) (c c' : Tally) (xs : List Label) → Held t p c xs t' p' c' → AppendsFront t t' (p ++ text_of xs)
 held_front t t' p p' c c' xs h = lines_held t t' p p' c c' xs xs [] (sym (labels_nil xs)) h

@@ -25,7 +25,7 @@ use Rattle.pnp_cli.specs.declared.turn.Ending.{Ending}
 use Rattle.pnp_cli.specs.declared.turn.Ending.TheVariants.{NeedsMore, Over, Bad}
 use Rattle.pnp_cli.proofs.Going.{goes_none, goes_both}
 use Rattle.pnp_cli.proofs.Settling.{labels_nil}
-use Rattle.pnp_cli.proofs.Telling.{told_none, told_both, labels_told, text_append}
+use Rattle.pnp_cli.proofs.Telling.{told_none, told_both, all_told, labels_told, text_append}
 use Rattle.pnp_cli.proofs.Fronts.{front_after}
 
 -- What was read so far ------------------------------------------------------------------
@@ -131,7 +131,7 @@ so_far_fed contents name d d' t t' c c' at n count r r' old new piece so reads c
 
 -- and its events happened
 pub so_far_taken : (contents : Option (List ℕ → Option (List ℕ))) (name : List ℕ) (d d' d'' : Desk) (t t' t'' : Option Text) (c c' c'' : Tally) (at : ℕ) (r r' : Reading) (ending : Ending)
-    → SoFar contents name d t c at d' r t' c' → 0 < at → Taken d' r t' c' ending d'' r' t'' c'' → SoFar contents name d t c at d'' r' t'' c''
+    → SoFar contents name d t c at d' r t' c' → 0 < at → Taken d' r t' [] c' ending d'' r' t'' [] c'' → SoFar contents name d t c at d'' r' t'' c''
 so_far_taken contents name d d' d'' t t' t'' c c' c'' at r r' ending so some taken =
     record {
       bytes = so.bytes;
@@ -141,7 +141,7 @@ so_far_taken contents name d d' d'' t t' t'' c c' c'' at r r' ending so some tak
       labels = so.labels ++ taken.labels;
       goes = goes_both false d d' d'' 0 r.passed r'.passed so.bytes r.rest r'.rest so.labels taken.labels so.goes
           (subst (λ (f : Bool). Goes f d' r.passed r.rest taken.labels d'' r'.passed r'.rest) so.open_ taken.goes);
-      told = told_both t t' t'' c c' c'' so.labels taken.labels so.told taken.told;
+      told = told_both t t' t'' c c' c'' so.labels taken.labels so.told (all_told t' t'' c' c'' taken.labels taken.held);
       idle = λ none. absurd (omega (arith, none, so.place, some));
       open_ = taken.finished ∙ so.open_;
       fed = taken.fed ∙ so.fed;
@@ -270,13 +270,13 @@ pub ran_end : (contents : Option (List ℕ → Option (List ℕ))) (name : List 
     → IfSome contents (λ told. Ran bad d (told name) t c d'' t'' c'')
 ran_end None name bad d d' d'' t t' t'' c c' c'' at n r r'' old new so reads none some taken = tt
 ran_end (Some told) name bad d d' d'' t t' t'' c c' c'' at n r r'' old new so reads none some taken =
-    let events : Taken d' (shut r) t' c' taken.ending d'' r'' t'' c'' = taken.events in
+    let events : Taken d' (shut r) t' [] c' taken.ending d'' r'' t'' [] c'' = taken.events in
     subst (λ (x : Option ℕ). Ran x d (told name) t c d'' t'' c'') (sym taken.number)
     (end_file (bad_of taken.ending) d d'' (told name) so.bytes t t'' c c'' (so.labels ++ events.labels) r''.passed r''.rest
     (ends_told (Some told) name so.bytes at n old new so.place none some so.begins reads)
     (omega (arith, so.within, so.place))
     (goes_both true d d' d'' 0 r.passed r''.passed so.bytes r.rest r''.rest so.labels events.labels (goes_shut d d' 0 r.passed so.bytes r.rest so.labels so.goes) events.goes)
-    (told_both t t' t'' c c' c'' so.labels events.labels so.told events.told)
+    (told_both t t' t'' c c' c'' so.labels events.labels so.told (all_told t' t'' c' c'' events.labels events.held))
     (end_by taken.ending r'' events.stands events.finished))
 
 -- where there is more than may be read
@@ -342,7 +342,7 @@ lines_front t t' t'' all done more is took front =
 
 -- the same, where more of what the file begins with was run, and the script may go on
 more_file : (d d' : Desk) (file : Option (List ℕ)) (bytes : List ℕ) (t t' t'' : Option Text) (labels : List Label) (r : Reading) → Begins file bytes → 0 < length bytes
-    → Goes false d 0 bytes labels d' r.passed r.rest → r.finished ≡ false → Appends t t' (text_of labels) → TakenFront d' r t' t'' → TookFront (told_of d) (front_of d) file t t''
+    → Goes false d 0 bytes labels d' r.passed r.rest → r.finished ≡ false → Appends t t' (text_of labels) → TakenFront d' r [] t' t'' → TookFront (told_of d) (front_of d) file t t''
 more_file d d' None bytes t t' t'' labels r begins some goes open_ took front = absurd (let there = begins.there some in let h : None ≡ Some there.0 = there.1 in cc)
 more_file d d' (Some script) bytes t t' t'' labels r begins some goes open_ took front = λ all last plays.
     let more : List ℕ = drop (length bytes) script in
@@ -354,14 +354,14 @@ more_file d d' (Some script) bytes t t' t'' labels r begins some goes open_ took
     (subst (λ (x : Settings). Plays x (front_of d') (trace true r.passed (r.rest ++ more)) b.0 last) (sym goes.same) b.2))
 
 pub so_far_front_more : (contents : Option (List ℕ → Option (List ℕ))) (name : List ℕ) (d d' : Desk) (t t' t'' : Option Text) (c c' : Tally) (at : ℕ) (r : Reading)
-    → SoFar contents name d t c at d' r t' c' → 0 < at → TakenFront d' r t' t'' → IfSome contents (λ told. TookFront (told_of d) (front_of d) (told name) t t'')
+    → SoFar contents name d t c at d' r t' c' → 0 < at → TakenFront d' r [] t' t'' → IfSome contents (λ told. TookFront (told_of d) (front_of d) (told name) t t'')
 so_far_front_more None name d d' t t' t'' c c' at r so some front = tt
 so_far_front_more (Some told) name d d' t t' t'' c c' at r so some front =
     more_file d d' (told name) so.bytes t t' t'' so.labels r so.begins (omega (arith, some, so.place)) so.goes so.open_ so.told.took front
 
 -- and where no more comes
 last_file : (d d' : Desk) (file : Option (List ℕ)) (bytes : List ℕ) (t t' t'' : Option Text) (labels : List Label) (r : Reading) → file ≡ Some bytes
-    → Goes false d 0 bytes labels d' r.passed r.rest → Appends t t' (text_of labels) → TakenFront d' (shut r) t' t'' → TookFront (told_of d) (front_of d) file t t''
+    → Goes false d 0 bytes labels d' r.passed r.rest → Appends t t' (text_of labels) → TakenFront d' (shut r) [] t' t'' → TookFront (told_of d) (front_of d) file t t''
 last_file d d' file bytes t t' t'' labels r there goes took front =
     subst (λ (x : Option (List ℕ)). TookFront (told_of d) (front_of d) x t t'') (sym there)
     (λ all last plays.
@@ -371,7 +371,7 @@ last_file d d' file bytes t t' t'' labels r there goes took front =
     (front true [] b.0 last (λ shut_. (refl, refl)) (subst (λ (x : Settings). Plays x (front_of d') (trace true r.passed (r.rest ++ [])) b.0 last) (sym goes.same) b.2)))
 
 pub so_far_front_last : (contents : Option (List ℕ → Option (List ℕ))) (name : List ℕ) (d d' : Desk) (t t' t'' : Option Text) (c c' : Tally) (at n : ℕ) (r : Reading) (old new : List ℕ)
-    → SoFar contents name d t c at d' r t' c' → ReadsTold contents name at n old new → n ≡ 0 → 0 < length old → TakenFront d' (shut r) t' t''
+    → SoFar contents name d t c at d' r t' c' → ReadsTold contents name at n old new → n ≡ 0 → 0 < length old → TakenFront d' (shut r) [] t' t''
     → IfSome contents (λ told. TookFront (told_of d) (front_of d) (told name) t t'')
 so_far_front_last None name d d' t t' t'' c c' at n r old new so reads none some front = tt
 so_far_front_last (Some told) name d d' t t' t'' c c' at n r old new so reads none some front =
@@ -407,7 +407,7 @@ turn_bad contents name bad number d d' d'' t t' t'' c c' c'' at n count r r'' ol
     (stuck_by taken.ending r'' number taken.events.stands (sym taken.number ∙ is))
 
 pub turn_front : (contents : Option (List ℕ → Option (List ℕ))) (name : List ℕ) (d d' : Desk) (t t' t'' : Option Text) (c c' : Tally) (at n count : ℕ) (r : Reading) (old new piece : List ℕ)
-    → SoFar contents name d t c at d' r t' c' → ReadsTold contents name at n old new → Fed at n count new piece → TakenFront d' (fed_with piece r) t' t''
+    → SoFar contents name d t c at d' r t' c' → ReadsTold contents name at n old new → Fed at n count new piece → TakenFront d' (fed_with piece r) [] t' t''
     → IfSome contents (λ told. TookFront (told_of d) (front_of d) (told name) t t'')
 turn_front contents name d d' t t' t'' c c' at n count r old new piece so reads fed front =
     so_far_front_more contents name d d' t t' t'' c c' (at + count) (fed_with piece r) (fed_now contents name d d' t t' c c' at n count r old new piece so reads fed) (omega (arith, fed.some)) front

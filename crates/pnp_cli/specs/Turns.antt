@@ -39,21 +39,20 @@ pub record Held (old : Option Text) (waits : Text) (tally : Tally) (labels : Lis
   pub all : waits ++ text_of labels ≡ wrote ++ waits'
   pub counted : tally' ≡ with_all tally labels
 
--- the front stepped until it was quiet; what waited was written, and the lines of its labels, which were counted
-pub record Settled (old : Desk) (taken : Option Text) (waits : Text) (tally : Tally) (new : Desk) (taken' : Option Text) (tally' : Tally) : Type 0 where
+-- the front stepped until it was quiet, and the lines of its labels came behind those that waited
+pub record Settled (old : Desk) (taken : Option Text) (waits : Text) (tally : Tally) (new : Desk) (taken' : Option Text) (waits' : Text) (tally' : Tally) : Type 0 where
   pub labels : List Label
   pub settles : Settles (told_of old) (front_of old) labels (front_of new)
-  pub took : Appends taken taken' (waits ++ text_of labels)
-  pub counted : tally' ≡ with_all tally labels
+  pub held : Held taken waits tally labels taken' waits' tally'
   pub same : told_of new ≡ told_of old
   pub events : new.manager.events ≡ old.manager.events
   pub run : IsOfFrontRun (told_of new) new.manager.events (front_of new)
 
--- the front did what follows from the event, and its labels were told
-pub record Answered (old : Desk) (event : Event) (taken : Option Text) (tally : Tally) (new : Desk) (taken' : Option Text) (tally' : Tally) : Type 0 where
+-- the front did what follows from the event, and the lines of its labels came behind those that waited
+pub record Answered (old : Desk) (event : Event) (taken : Option Text) (waits : Text) (tally : Tally) (new : Desk) (taken' : Option Text) (waits' : Text) (tally' : Tally) : Type 0 where
   pub labels : List Label
   pub follows : Follows (told_of old) (front_of old) event labels (front_of new)
-  pub told : Told taken tally labels taken' tally'
+  pub held : Held taken waits tally labels taken' waits' tally'
   pub same : told_of new ≡ told_of old
   pub events : new.manager.events ≤ old.manager.events + 1
   pub run : IsOfFrontRun (told_of new) new.manager.events (front_of new)
@@ -62,8 +61,8 @@ pub record Answered (old : Desk) (event : Event) (taken : Option Text) (tally : 
 abbrev pub SettlesFront : Desk → Text → Option Text → Option Text → Type 0
 SettlesFront d behind old new = (labels : List Label) (last : Front) → Settles (told_of d) (front_of d) labels last → AppendsFront old new (behind ++ text_of labels)
 
-abbrev pub FollowsFront : Desk → Event → Option Text → Option Text → Type 0
-FollowsFront d event old new = (labels : List Label) (last : Front) → Follows (told_of d) (front_of d) event labels last → AppendsFront old new (text_of labels)
+abbrev pub FollowsFront : Desk → Event → Text → Option Text → Option Text → Type 0
+FollowsFront d event behind old new = (labels : List Label) (last : Front) → Follows (told_of d) (front_of d) event labels last → AppendsFront old new (behind ++ text_of labels)
 
 -- The run of t from f begins with these labels and goes on as that of t' from f', and both ends are alike.
 pub record Leads (told : Settings) (f : Front) (t : Trace) (labels : List Label) (f' : Front) (t' : Trace) : Type 0 where
@@ -85,21 +84,21 @@ Stands NeedsMore r = Waits r.finished r.rest
 Stands Over r = Ends r.finished r.rest
 Stands (Bad line) r = IsStuck r.finished r.rest × (line ≡ r.passed + 1)
 
--- all events of what was fed happened
-pub record Taken (d : Desk) (r : Reading) (taken : Option Text) (tally : Tally) (ending : Ending) (d' : Desk) (r' : Reading) (taken' : Option Text) (tally' : Tally) : Type 0 where
+-- all events of what was fed happened, and the lines of their labels came behind those that waited
+pub record Taken (d : Desk) (r : Reading) (taken : Option Text) (waits : Text) (tally : Tally) (ending : Ending) (d' : Desk) (r' : Reading) (taken' : Option Text) (waits' : Text) (tally' : Tally) : Type 0 where
   pub labels : List Label
   pub goes : Goes r.finished d r.passed r.rest labels d' r'.passed r'.rest
-  pub told : Told taken tally labels taken' tally'
+  pub held : Held taken waits tally labels taken' waits' tally'
   pub finished : r'.finished ≡ r.finished
   pub fed : r'.fed ≡ r.fed
   pub room : d'.manager.events + length r'.rest ≤ d.manager.events + length r.rest
   pub stands : Stands ending r'
 
--- of whatever the bytes that are left, and those that follow, come to, a front of the lines was written
-abbrev pub TakenFront : Desk → Reading → Option Text → Option Text → Type 0
-TakenFront d r old new =
+-- a front was written of what waits and of the lines of whatever the bytes that are left, and those that follow, come to
+abbrev pub TakenFront : Desk → Reading → Text → Option Text → Option Text → Type 0
+TakenFront d r behind old new =
     (later : Bool) (more : List ℕ) (labels : List Label) (last : Front) → MayFollow r.finished [] later more
-    → Plays (told_of d) (front_of d) (trace later r.passed (r.rest ++ more)) labels last → AppendsFront old new (text_of labels)
+    → Plays (told_of d) (front_of d) (trace later r.passed (r.rest ++ more)) labels last → AppendsFront old new (behind ++ text_of labels)
 
 -- the number of the bad line, if there is one
 abbrev pub bad_of : Ending → Option ℕ
@@ -107,10 +106,10 @@ bad_of NeedsMore = None
 bad_of Over = None
 bad_of (Bad line) = Some line
 
--- all events of what was fed happened, and this is the number of the bad line, if there is one
+-- all events of what was fed happened, the lines of their labels were written, and this is the number of the bad line, if there is one
 pub record TakenBad (bad : Option ℕ) (d : Desk) (r : Reading) (taken : Option Text) (tally : Tally) (d' : Desk) (r' : Reading) (taken' : Option Text) (tally' : Tally) : Type 0 where
   pub ending : Ending
-  pub events : Taken d r taken tally ending d' r' taken' tally'
+  pub events : Taken d r taken [] tally ending d' r' taken' [] tally'
   pub number : bad ≡ bad_of ending
 
 -- the reader to which this piece is fed, and the one that is finished

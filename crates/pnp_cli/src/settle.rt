@@ -1,11 +1,11 @@
-ghost use Rattle.std.specs.Prelude.{◌≡◌, ◌<◌, ◌≤◌, ◌^◌, [], OnOk, IsErrOf};
+ghost use Rattle.std.specs.Prelude.{◌<◌, ◌≤◌, ◌^◌, OnOk, IsErrOf};
 ghost use Rattle.pnp_io.specs.Outside.{Rose};
 ghost use Rattle.pnp_machine.specs.Machines.{HasFewIds};
 ghost use Rattle.notify_front.specs.Desks.{IsOfFrontRun, front_of, told_of};
 ghost use Rattle.pnp_cli.specs.Turns.{Settled, Answered, Awaits, SettlesFront, FollowsFront};
 
 use crate::tally::Tally;
-use crate::tell::{tell, write_lines};
+use crate::tell::tell;
 use crate::turn::WriteError;
 use driver_rack::Drivers;
 use notify_front::Front;
@@ -14,7 +14,7 @@ use pnp_labels::Event;
 use pnp_machine::Moved;
 use std::alloc::Global;
 
-/// The front steps until it is quiet, and each label is told.
+/// The front steps until it is quiet, and the line of each label comes behind those that wait.
 fn settle<R: Drivers, K: Sink>(
     alloc: Global,
     front: &mut Front<R>,
@@ -24,7 +24,7 @@ fn settle<R: Drivers, K: Sink>(
 ) -> Result<(), WriteError>
     requires run { IsOfFrontRun (told_of front.old) front.old.manager.events (front_of front.old) }
     requires events { front.old.manager.events ≤ 2 ^ 24 }
-    ensures ok { OnOk result (Settled front.old (K.taken sink.old) lines.old.items tally.old front.new (K.taken sink.new) tally.new) }
+    ensures ok { OnOk result (Settled front.old (K.taken sink.old) lines.old.items tally.old front.new (K.taken sink.new) lines.new.items tally.new) }
     ensures front { SettlesFront front.old lines.old.items (K.taken sink.old) (K.taken sink.new) }
     ensures failed { IsErrOf result WriteError.WriteFault → Rose (K.faults sink.old) (K.faults sink.new) }
     ensures counts { K.faults sink.old ≤ K.faults sink.new }
@@ -32,16 +32,13 @@ fn settle<R: Drivers, K: Sink>(
     'steps: loop {
         match front.step()? {
             Moved::Label(label) => tell(alloc, sink, lines, tally, label)?,
-            Moved::Quiet => {
-                write_lines(sink, lines)?;
-                return Ok(());
-            }
+            Moved::Quiet => return Ok(()),
         }
     }
 }
 
-/// The event happens, and the front does all that follows from it; each label is told.
-fn answer_with<R: Drivers, K: Sink>(
+/// An event happens, and the front does all that follows from it; the line of each label comes behind those that wait.
+pub fn answer_event<R: Drivers, K: Sink>(
     alloc: Global,
     front: &mut Front<R>,
     event: Event,
@@ -52,9 +49,8 @@ fn answer_with<R: Drivers, K: Sink>(
     requires awaits { Awaits front.old }
     requires few { HasFewIds event }
     requires events { front.old.manager.events < 2 ^ 24 }
-    requires none { lines.old.items ≡ [] }
-    ensures ok { OnOk result (Answered front.old event (K.taken sink.old) tally.old front.new (K.taken sink.new) tally.new) }
-    ensures front { FollowsFront front.old event (K.taken sink.old) (K.taken sink.new) }
+    ensures ok { OnOk result (Answered front.old event (K.taken sink.old) lines.old.items tally.old front.new (K.taken sink.new) lines.new.items tally.new) }
+    ensures front { FollowsFront front.old event lines.old.items (K.taken sink.old) (K.taken sink.new) }
     ensures failed { IsErrOf result WriteError.WriteFault → Rose (K.faults sink.old) (K.faults sink.new) }
     ensures counts { K.faults sink.old ≤ K.faults sink.new }
 {
@@ -62,24 +58,4 @@ fn answer_with<R: Drivers, K: Sink>(
     tell(alloc, sink, lines, tally, label)?;
     settle(alloc, front, lines, sink, tally)?;
     Ok(())
-}
-
-/// An event happens, and the front does all that follows from it; each label is told.
-pub fn answer_event<R: Drivers, K: Sink>(
-    alloc: Global,
-    front: &mut Front<R>,
-    event: Event,
-    sink: &mut K,
-    tally: &mut Tally,
-) -> Result<(), WriteError>
-    requires awaits { Awaits front.old }
-    requires few { HasFewIds event }
-    requires events { front.old.manager.events < 2 ^ 24 }
-    ensures ok { OnOk result (Answered front.old event (K.taken sink.old) tally.old front.new (K.taken sink.new) tally.new) }
-    ensures front { FollowsFront front.old event (K.taken sink.old) (K.taken sink.new) }
-    ensures failed { IsErrOf result WriteError.WriteFault → Rose (K.faults sink.old) (K.faults sink.new) }
-    ensures counts { K.faults sink.old ≤ K.faults sink.new }
-{
-    let mut lines = Vec::new(alloc);
-    answer_with(alloc, front, event, &mut lines, sink, tally)
 }

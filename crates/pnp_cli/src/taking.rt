@@ -1,9 +1,10 @@
-ghost use Rattle.std.specs.Prelude.{◌≡◌, ◌≤◌, ◌<◌, ◌+◌, ◌^◌, false, IfOk, IsErrOf, length};
+ghost use Rattle.std.specs.Prelude.{◌≡◌, ◌≤◌, ◌<◌, ◌+◌, ◌^◌, [], false, IfOk, IsErrOf, length};
 ghost use Rattle.pnp_io.specs.Outside.{Rose};
 ghost use Rattle.pnp_cli.specs.Turns.{Awaits, Taken, TakenBad, TakenFront, fed_with, shut};
 
 use crate::settle::answer_event;
 use crate::tally::Tally;
+use crate::tell::write_lines;
 use crate::turn::{Ending, PieceError, WriteError};
 use driver_rack::Drivers;
 use notify_front::Front;
@@ -11,8 +12,34 @@ use pnp_io::Sink;
 use script_reader::{Next, Reader};
 use std::alloc::Global;
 
-/// All events that the bytes fed so far give happen, one after another, and how the reader then stands.
-pub fn take_events<R: Drivers, K: Sink>(
+/// All events that the bytes fed so far give happen, one after another, and how the reader then stands; the lines come behind those that wait.
+fn gather_events<R: Drivers, K: Sink>(
+    alloc: Global,
+    front: &mut Front<R>,
+    reader: &mut Reader,
+    lines: &mut Vec<u8>,
+    sink: &mut K,
+    tally: &mut Tally,
+) -> Result<Ending, WriteError>
+    requires awaits { Awaits front.old }
+    requires room { front.old.manager.events + length reader.old.rest ≤ 2 ^ 24 }
+    ensures ok { IfOk result (λ ending_. Taken front.old reader.old (K.taken sink.old) lines.old.items tally.old ending_ front.new reader.new (K.taken sink.new) lines.new.items tally.new) }
+    ensures front { TakenFront front.old reader.old lines.old.items (K.taken sink.old) (K.taken sink.new) }
+    ensures failed { IsErrOf result WriteError.WriteFault → Rose (K.faults sink.old) (K.faults sink.new) }
+    ensures counts { K.faults sink.old ≤ K.faults sink.new }
+{
+    'events: loop {
+        match reader.next_event()? {
+            Next::Event(event) => answer_event(alloc, front, event, lines, sink, tally)?,
+            Next::NeedMore => return Ok(Ending::NeedsMore),
+            Next::End => return Ok(Ending::Over),
+            Next::Bad { line } => return Ok(Ending::Bad(line)),
+        }
+    }
+}
+
+/// The same, and all lines are written.
+fn take_events<R: Drivers, K: Sink>(
     alloc: Global,
     front: &mut Front<R>,
     reader: &mut Reader,
@@ -21,19 +48,15 @@ pub fn take_events<R: Drivers, K: Sink>(
 ) -> Result<Ending, WriteError>
     requires awaits { Awaits front.old }
     requires room { front.old.manager.events + length reader.old.rest ≤ 2 ^ 24 }
-    ensures ok { IfOk result (λ ending_. Taken front.old reader.old (K.taken sink.old) tally.old ending_ front.new reader.new (K.taken sink.new) tally.new) }
-    ensures front { TakenFront front.old reader.old (K.taken sink.old) (K.taken sink.new) }
+    ensures ok { IfOk result (λ ending_. Taken front.old reader.old (K.taken sink.old) [] tally.old ending_ front.new reader.new (K.taken sink.new) [] tally.new) }
+    ensures front { TakenFront front.old reader.old [] (K.taken sink.old) (K.taken sink.new) }
     ensures failed { IsErrOf result WriteError.WriteFault → Rose (K.faults sink.old) (K.faults sink.new) }
     ensures counts { K.faults sink.old ≤ K.faults sink.new }
 {
-    'events: loop {
-        match reader.next_event()? {
-            Next::Event(event) => answer_event(alloc, front, event, sink, tally)?,
-            Next::NeedMore => return Ok(Ending::NeedsMore),
-            Next::End => return Ok(Ending::Over),
-            Next::Bad { line } => return Ok(Ending::Bad(line)),
-        }
-    }
+    let mut lines = Vec::new(alloc);
+    let ending = gather_events(alloc, front, reader, &mut lines, sink, tally)?;
+    write_lines(sink, &mut lines)?;
+    Ok(ending)
 }
 
 /// A piece is fed, and all events that it gives happen; the number of a bad line, if there is one.
@@ -50,7 +73,7 @@ pub fn take_piece<R: Drivers, K: Sink>(
     requires awaits { Awaits front.old }
     requires room { front.old.manager.events + length reader.old.rest + length piece.now ≤ 2 ^ 24 }
     ensures ok { IfOk result (λ bad. TakenBad bad front.old (fed_with piece.now reader.old) (K.taken sink.old) tally.old front.new reader.new (K.taken sink.new) tally.new) }
-    ensures front { TakenFront front.old (fed_with piece.now reader.old) (K.taken sink.old) (K.taken sink.new) }
+    ensures front { TakenFront front.old (fed_with piece.now reader.old) [] (K.taken sink.old) (K.taken sink.new) }
     ensures no_read { IsErrOf result PieceError.ReadFault → ⊥ }
     ensures no_size { IsErrOf result PieceError.TooLarge → ⊥ }
     ensures failed { IsErrOf result PieceError.WriteFault → Rose (K.faults sink.old) (K.faults sink.new) }
@@ -72,7 +95,7 @@ pub fn take_last<R: Drivers, K: Sink>(
     requires awaits { Awaits front.old }
     requires room { front.old.manager.events + length reader.old.rest ≤ 2 ^ 24 }
     ensures ok { IfOk result (λ bad. TakenBad bad front.old (shut reader.old) (K.taken sink.old) tally.old front.new reader.new (K.taken sink.new) tally.new) }
-    ensures front { TakenFront front.old (shut reader.old) (K.taken sink.old) (K.taken sink.new) }
+    ensures front { TakenFront front.old (shut reader.old) [] (K.taken sink.old) (K.taken sink.new) }
     ensures no_read { IsErrOf result PieceError.ReadFault → ⊥ }
     ensures no_size { IsErrOf result PieceError.TooLarge → ⊥ }
     ensures failed { IsErrOf result PieceError.WriteFault → Rose (K.faults sink.old) (K.faults sink.new) }

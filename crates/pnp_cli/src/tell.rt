@@ -1,10 +1,12 @@
 ghost use Rattle.std.specs.Prelude.{◌≡◌, ◌≤◌, ◌<◌, ◌++◌, ◌∷◌, [], OnOk, OnErr, IsErr, IsErrOf, length};
 ghost use Rattle.pnp_io.specs.Outside.{Rose, Appends, AppendsFront};
+ghost use Rattle.pnp_labels.specs.Texts.{label_line};
 ghost use Rattle.pnp_cli.specs.Outputs.{text_of};
 ghost use Rattle.pnp_cli.specs.Turns.{Held, Passes};
 
 use crate::tally::{Tally, count};
 use crate::turn::WriteError;
+use device_ids::WantOfMemory;
 use pnp_io::{Failed, Sink, write_all};
 use pnp_labels::{Label, label_line};
 use std::alloc::Global;
@@ -39,7 +41,36 @@ fn write_many<K: Sink>(sink: &mut K, lines: &mut Vec<u8>) -> Result<(), Failed>
     write_lines(sink, lines)
 }
 
+/// Appends the line of a label.
+fn push_line(alloc: Global, lines: &mut Vec<u8>, label: &Label) -> Result<(), WantOfMemory>
+    ensures { OnOk result (lines.new.items ≡ lines.old.items ++ (label_line label.now ++ 10 ∷ [])) }
+{
+    let line = label_line(alloc, label)?;
+    lines.extend_from_slice(&line)?;
+    Ok(())
+}
+
 /// Appends the line of a label to those that wait, which are written where they have 4,096 bytes; and counts it.
+fn tell_one<K: Sink>(
+    alloc: Global,
+    sink: &mut K,
+    lines: &mut Vec<u8>,
+    tally: &mut Tally,
+    label: &Label,
+) -> Result<(), WriteError>
+    ensures held { OnOk result (Held (K.taken sink.old) lines.old.items tally.old (label.now ∷ []) (K.taken sink.new) lines.new.items tally.new) }
+    ensures few { OnOk result (length lines.new.items < 4096) }
+    ensures front { AppendsFront (K.taken sink.old) (K.taken sink.new) (lines.old.items ++ text_of (label.now ∷ [])) }
+    ensures failed { IsErrOf result WriteError.WriteFault → Rose (K.faults sink.old) (K.faults sink.new) }
+    ensures counts { K.faults sink.old ≤ K.faults sink.new }
+{
+    push_line(alloc, lines, label)?;
+    count(tally, label);
+    write_many(sink, lines)?;
+    Ok(())
+}
+
+/// The same, and lets the label go: here alone, since each place where one goes takes it apart.
 pub fn tell<K: Sink>(
     alloc: Global,
     sink: &mut K,
@@ -53,9 +84,5 @@ pub fn tell<K: Sink>(
     ensures failed { IsErrOf result WriteError.WriteFault → Rose (K.faults sink.old) (K.faults sink.new) }
     ensures counts { K.faults sink.old ≤ K.faults sink.new }
 {
-    let line = label_line(alloc, &label)?;
-    lines.extend_from_slice(&line)?;
-    count(tally, &label);
-    write_many(sink, lines)?;
-    Ok(())
+    tell_one(alloc, sink, lines, tally, &label)
 }

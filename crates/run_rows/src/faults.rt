@@ -264,13 +264,18 @@ fn each_write_fails(rt: HostRuntime) -> Result<(), Fail> {
     Ok(())
 }
 
-/// Whichever write fails, what the sink took is the front of the output that the writes before it made; the lines of one
-/// event are one write, and the end of the output another.
+/// What stands behind the lines of its labels.
+const ONE_DEVICE_END: &str =
+    "tree\n0 HTREE\\ROOT\\0 Started\n 1 OWN\\DEV\\1 Started\nmap\noutstanding\n";
+
+/// Whichever write fails, what the sink took is the front of the output that the writes before it made; the lines of all
+/// events of one piece are one write, and the end of the output another.
 #[test]
 fn each_call_of_write_fails(rt: HostRuntime) -> Result<(), Fail> {
     let alloc = rt.alloc();
     let text = ONE_DEVICE_TEXT.as_bytes();
-    let taken = [0, "event driver dev\n".len()];
+    assert!(rt; ONE_DEVICE_TEXT.ends_with(ONE_DEVICE_END));
+    let taken = [0, text.len() - ONE_DEVICE_END.len()];
     for call in 0..2usize {
         let mut sink = MemSink::new(alloc, 4096)?;
         sink.fail_at(call as u64 + 1)?;

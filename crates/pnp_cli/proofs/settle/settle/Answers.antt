@@ -1,6 +1,5 @@
 use Rattle.std.proofs.Common.{arith}
-use Rattle.pnp_cli.proofs.Settling.{stepping_none, stepped_by, less_left, stepping_more, stepping_quiet, stepping_front, stepping_front_more, stepping_front_last}
-use Rattle.pnp_cli.proofs.Fronts.{all_is_front}
+use Rattle.pnp_cli.proofs.Settling.{stepping_none, stepped_by, less_left, stepping_more, stepping_quiet, stepping_front, stepping_front_more}
 use Rattle.pnp_cli.proofs.settle.settle.Goals as goal
 
 pub returns-in_err-label-clause-front : goal.returns-in_err-label-clause-front
@@ -31,21 +30,15 @@ returns-in_err-tell-in-Label-clause-front g c =
     (stepped_by c.steps.front c.step.new.self c.in_ok-label.field-0 c.in-Label.label c.in-Label.is c.in_ok-label.ensures.moves c.in_ok-label.ensures.settings c.in_ok-label.ensures.events c.in_ok-label.ensures.run)
     c.in_err-tell-in-Label.ensures.front
 
-pub returns-in_err-write_lines-in-Quiet-clause-front : goal.returns-in_err-write_lines-in-Quiet-clause-front
-returns-in_err-write_lines-in-Quiet-clause-front g c =
-    stepping_front_last c.args.front.now c.steps.front (g.K.Sink.taken c.args.sink.now) (g.K.Sink.taken c.steps.sink) (g.K.Sink.taken c.write_lines.new.sink) c.args.lines.now.items c.steps.lines.items c.args.tally.now c.steps.tally c.steps.invariant.stepping
-    c.in_err-write_lines-in-Quiet.ensures.front
-
 pub returns-in-Quiet-clause-ok : goal.returns-in-Quiet-clause-ok
 returns-in-Quiet-clause-ok g c =
-    stepping_quiet c.args.front.now c.steps.front c.step.new.self (g.K.Sink.taken c.args.sink.now) (g.K.Sink.taken c.steps.sink) (g.K.Sink.taken c.write_lines.new.sink)
+    stepping_quiet c.args.front.now c.steps.front c.step.new.self (g.K.Sink.taken c.args.sink.now) (g.K.Sink.taken c.steps.sink)
     c.args.lines.now.items c.steps.lines.items c.args.tally.now c.steps.tally c.steps.invariant.stepping c.in_ok-label.field-0 c.in-Quiet.is c.in_ok-label.ensures.moves c.in_ok-label.ensures.settings c.in_ok-label.ensures.events c.in_ok-label.ensures.run
-    c.in_ok-write_lines-in-Quiet.ensures.took
 
 pub returns-in-Quiet-clause-front : goal.returns-in-Quiet-clause-front
 returns-in-Quiet-clause-front g c =
-    stepping_front_last c.args.front.now c.steps.front (g.K.Sink.taken c.args.sink.now) (g.K.Sink.taken c.steps.sink) (g.K.Sink.taken c.write_lines.new.sink) c.args.lines.now.items c.steps.lines.items c.args.tally.now c.steps.tally c.steps.invariant.stepping
-    (all_is_front (g.K.Sink.taken c.steps.sink) (g.K.Sink.taken c.write_lines.new.sink) c.steps.lines.items c.in_ok-write_lines-in-Quiet.ensures.took)
+    stepping_front c.args.front.now c.steps.front (g.K.Sink.taken c.args.sink.now) (g.K.Sink.taken c.steps.sink) c.args.lines.now.items c.steps.lines.items c.args.tally.now c.steps.tally
+    c.steps.invariant.stepping
 
 pub steps-init : goal.steps-init
 steps-init g c =
