@@ -32,7 +32,8 @@ fn is_started(state: DevState) -> bool
 fn says(alloc: Global, client: &Text, node: &Node) -> Result<Text, WantOfMemory>
     ensures { IfOk result (λ what. what ≡ says client.now node.now) }
 {
-    let line = two(alloc, client.bytes(), node.path.bytes())?;
+    let mut line = Vec::new(alloc);
+    two(&mut line, client.bytes(), node.path.bytes())?;
     Text::make(alloc, &line)
 }
 

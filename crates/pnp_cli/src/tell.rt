@@ -1,14 +1,12 @@
 ghost use Rattle.std.specs.Prelude.{◌≡◌, ◌≤◌, ◌<◌, ◌++◌, ◌∷◌, [], OnOk, OnErr, IsErr, IsErrOf, length};
 ghost use Rattle.pnp_io.specs.Outside.{Rose, Appends, AppendsFront};
-ghost use Rattle.pnp_labels.specs.Texts.{label_line};
 ghost use Rattle.pnp_cli.specs.Outputs.{text_of};
 ghost use Rattle.pnp_cli.specs.Turns.{Held, Passes};
 
 use crate::tally::{Tally, count};
 use crate::turn::WriteError;
-use device_ids::WantOfMemory;
 use pnp_io::{Failed, Sink, write_all};
-use pnp_labels::{Label, label_line};
+use pnp_labels::{Label, push_line};
 use std::alloc::Global;
 
 /// Where so many bytes wait, they are written.
@@ -41,15 +39,6 @@ fn write_many<K: Sink>(sink: &mut K, lines: &mut Vec<u8>) -> Result<(), Failed>
     write_lines(sink, lines)
 }
 
-/// Appends the line of a label.
-fn push_line(alloc: Global, lines: &mut Vec<u8>, label: &Label) -> Result<(), WantOfMemory>
-    ensures { OnOk result (lines.new.items ≡ lines.old.items ++ (label_line label.now ++ 10 ∷ [])) }
-{
-    let line = label_line(alloc, label)?;
-    lines.extend_from_slice(&line)?;
-    Ok(())
-}
-
 /// Appends the line of a label to those that wait, which are written where they have 4,096 bytes; and counts it.
 fn tell_one<K: Sink>(
     alloc: Global,
@@ -64,7 +53,7 @@ fn tell_one<K: Sink>(
     ensures failed { IsErrOf result WriteError.WriteFault → Rose (K.faults sink.old) (K.faults sink.new) }
     ensures counts { K.faults sink.old ≤ K.faults sink.new }
 {
-    push_line(alloc, lines, label)?;
+    push_line(lines, alloc, label)?;
     count(tally, label);
     write_many(sink, lines)?;
     Ok(())

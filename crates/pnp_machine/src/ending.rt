@@ -9,11 +9,11 @@ ghost use Rattle.pnp_machine.specs.Operations.{operation_of};
 
 use crate::machine::Machine;
 use crate::operation::Operation;
+use crate::spaced::{three, two};
 use device_ids::WantOfMemory;
 use device_stack::{Walk, driver_name};
 use devnode_tree::{HandleRow, Handles, Node, PrintRow, Tree};
 use driver_rack::Drivers;
-use pnp_labels::spaced::{three, two};
 use pnp_labels::{DevState, Problem, decimal, minor_text, problem_text, res_text, state_text};
 use resource_reqs::{Owner, Res};
 use start_sequence::StartWork;

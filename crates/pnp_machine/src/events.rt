@@ -5,11 +5,11 @@ ghost use Rattle.pnp_model.specs.Events.{happens, answer_of};
 ghost use Rattle.pnp_machine.specs.Machines.{IsDone, IsAnswered};
 
 use crate::machine::Machine;
+use crate::spaced::three;
 use crate::step_operation::list_again;
 use device_ids::{IdList, InstancePath, Text, WantOfMemory};
 use device_stack::{driver_name, shown_of};
 use driver_rack::{Drivers, NameError, TeachError};
-use pnp_labels::spaced::three;
 use pnp_labels::{
     Answer, DriverKind, Event, EventWord, Label, Minor, Reason, Rule, minor_text, shown_text,
 };

@@ -17,6 +17,7 @@ mod machine;
 mod manager;
 mod needs;
 mod operation;
+mod spaced;
 mod starts;
 mod step_operation;
 mod step_start;
