@@ -161,7 +161,7 @@ impl IdList {
     pub fn copy(&self, alloc: Global) -> Result<IdList, WantOfMemory>
         ensures { IfOk result (λ ids. ids ≡ self.now) }
     {
-        let mut ids = Vec::new(alloc);
+        let mut ids = Vec::with_capacity(alloc, self.ids.len())?;
         for id in &self.ids {
             ids.push(id.copy(alloc)?)?;
         }

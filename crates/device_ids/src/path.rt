@@ -1,7 +1,7 @@
 ghost use Rattle.std.specs.Prelude.{◌≡◌, ◌≢◌, ◌↔◌, ◌≤◌, ◌<◌, ◌+◌, ◌++◌, ℕ, [], ◌∷◌, length, take, drop, Some, None, false, true, IsTrue, IfOk, OnOk, OnErr, IsErrOf, IsOkUnless, MatchOption, Err};
 ghost use Rattle.device_ids.specs.Faults.{path_fault};
 ghost use Rattle.device_ids.specs.declared.error.PathError.{PathError};
-ghost use Rattle.device_ids.specs.Folding.{folded, same};
+ghost use Rattle.device_ids.specs.Folding.{folded, same, HasFolded};
 ghost use Rattle.device_ids.specs.Ids.{joined, has_parts, has_ids, is_path, Sides};
 
 use crate::cuts::split_once;
@@ -42,48 +42,39 @@ fn path_fault(bytes: &[u8]) -> Option<PathError>
     Some(PathError::BadId)
 }
 
+/// The bytes, and behind them the same bytes with ASCII letters folded.
+fn with_folded(alloc: Global, bytes: &[u8]) -> Result<Vec<u8>, WantOfMemory>
+    ensures { IfOk result (λ both. HasFolded (length bytes.now) both.items × (take (length bytes.now) both.items ≡ bytes.now)) }
+{
+    let mut both = Vec::with_capacity(alloc, bytes.len().saturating_mul(2))?;
+    both.extend_from_slice(bytes)?;
+    both.extend_from_slice(bytes)?;
+    both[bytes.len()..].make_ascii_lowercase();
+    Ok(both)
+}
+
 /// The name of a device in the tree: device ID, backslash, instance ID (the driver kit, "Device Instance
-/// IDs"). A contract sees the list of its bytes. The folded text is kept beside, so that a look-up by it
-/// takes no memory.
+/// IDs"). A contract sees the list of its bytes. The folded text is kept behind them, so that a look-up by it
+/// takes no memory and a path is one piece of memory.
 #[derive(Debug, Drop)]
 pub struct InstancePath {
-    bytes: Vec<u8>,
-    folded_bytes: Vec<u8>,
+    both: Vec<u8>,
+    len: usize,
 }
 
 impl Model for InstancePath {
-    ghost use Rattle.std.specs.Prelude.{List, ℕ, IsTrue, ◌≡◌};
-    ghost use Rattle.device_ids.specs.Folding.{folded};
+    ghost use Rattle.std.specs.Prelude.{List, ℕ, IsTrue, take};
+    ghost use Rattle.device_ids.specs.Folding.{HasFolded};
     ghost use Rattle.device_ids.specs.Ids.{is_path};
 
     ghost Value = { List ℕ };
 
-    ghost view = { λ p. p.bytes.items };
+    ghost view = { λ p. take p.len p.both.items };
 
-    ghost invariant = { λ p. IsTrue (is_path p.bytes.items) × (p.folded_bytes.items ≡ folded p.bytes.items) };
+    ghost invariant = { λ p. IsTrue (is_path (take p.len p.both.items)) × HasFolded p.len p.both.items };
 }
 
 impl InstancePath {
-    /// The path of these bytes.
-    #[tactic(auto, using(crate::proofs::Legal::no_path_fault, crate::proofs::Legal::a_path_fault))]
-    fn of_bytes(alloc: Global, bytes: Vec<u8>) -> Result<InstancePath, PathError>
-        ensures ok { IfOk result (λ path. (path ≡ bytes.items) × IsTrue (is_path path)) }
-        ensures fault { (fault : PathError) → path_fault bytes.items ≡ Some fault → result ≡ Err fault }
-        ensures legal { IsTrue (is_path bytes.items) → IsOkUnless result PathError.WantOfMemory }
-    {
-        if let Some(fault) = path_fault(&bytes) {
-            return Err(fault);
-        }
-        let Ok(mut folded_bytes) = Vec::from_slice(alloc, &bytes) else {
-            return Err(PathError::WantOfMemory);
-        };
-        folded_bytes.make_ascii_lowercase();
-        Ok(InstancePath {
-            bytes,
-            folded_bytes,
-        })
-    }
-
     /// Device ID, backslash, instance ID. Errors: those of `read` at the joined bytes, in its order: they are
     /// joined on the stack, so want of memory comes last. Cost: the length.
     pub fn join(
@@ -112,8 +103,11 @@ impl InstancePath {
         if let Some(fault) = path_fault(bytes) {
             return Err(fault);
         }
-        match Vec::from_slice(alloc, bytes) {
-            Ok(bytes) => InstancePath::of_bytes(alloc, bytes),
+        match with_folded(alloc, bytes) {
+            Ok(both) => Ok(InstancePath {
+                both,
+                len: bytes.len(),
+            }),
             Err(_) => Err(PathError::WantOfMemory),
         }
     }
@@ -130,25 +124,24 @@ impl InstancePath {
         ensures bytes { result.now ≡ self.now }
         ensures legal { IsTrue (is_path self.now) }
     {
-        &self.bytes
+        &self.both[..self.len]
     }
 
     /// The bytes with ASCII letters folded: equal for paths that are the same.
     pub fn folded(&self) -> &[u8]
         ensures { result.now ≡ folded self.now }
     {
-        &self.folded_bytes
+        &self.both[self.len..]
     }
 
     /// An equal path. Cost: the length.
     pub fn copy(&self, alloc: Global) -> Result<InstancePath, WantOfMemory>
         ensures { IfOk result (λ path. path ≡ self.now) }
     {
-        let bytes = Vec::from_slice(alloc, &self.bytes)?;
-        let folded_bytes = Vec::from_slice(alloc, &self.folded_bytes)?;
+        let both = Vec::from_slice(alloc, &self.both)?;
         Ok(InstancePath {
-            bytes,
-            folded_bytes,
+            both,
+            len: self.len,
         })
     }
 }
