@@ -9,11 +9,11 @@ ghost use Rattle.pnp_machine.specs.Operations.{operation_of};
 
 use crate::machine::Machine;
 use crate::operation::Operation;
-use crate::spaced::{three, two};
 use device_ids::WantOfMemory;
 use device_stack::{Walk, driver_name};
 use devnode_tree::{HandleRow, Handles, Node, PrintRow, Tree};
 use driver_rack::Drivers;
+use pnp_labels::spaced::{three, two};
 use pnp_labels::{DevState, Problem, decimal, minor_text, problem_text, res_text, state_text};
 use resource_reqs::{Owner, Res};
 use start_sequence::StartWork;
@@ -29,37 +29,39 @@ fn add_indent(alloc: Global, out: &mut Vec<u8>, depth: u64) -> Result<(), WantOf
     Ok(())
 }
 
-/// The words of a node's line.
-fn node_words(
+/// Appends the words of a node's line.
+fn add_words(
     alloc: Global,
+    out: &mut Vec<u8>,
     serial: u64,
     path: &[u8],
     state: DevState,
     problem: Option<Problem>,
-) -> Result<Vec<u8>, WantOfMemory>
-    ensures { IfOk result (λ line. line.items ≡ spaced (decimal serial ∷ path.now ∷ state_text state ∷ problem_part problem)) }
+) -> Result<(), WantOfMemory>
+    ensures { OnOk result (out.new.items ≡ out.old.items ++ spaced (decimal serial ∷ path.now ∷ state_text state ∷ problem_part problem)) }
 {
     let serial = decimal(alloc, serial)?;
-    let words = three(alloc, serial.as_bytes(), path, state_text(state))?;
-    match problem {
-        None => Ok(words),
-        Some(problem) => three(alloc, &words, b"problem", problem_text(problem)),
+    three(out, serial.as_bytes(), path, state_text(state))?;
+    if let Some(problem) = problem {
+        out.push(b' ')?;
+        two(out, b"problem", problem_text(problem))?;
     }
+    Ok(())
 }
 
 /// Appends the line of a node.
 fn add_node(alloc: Global, out: &mut Vec<u8>, depth: u64, node: &Node) -> Result<(), WantOfMemory>
     ensures { OnOk result (out.new.items ≡ out.old.items ++ joined (tree_line (record { depth = depth; node = node.now }) ∷ [])) }
 {
-    let words = node_words(
+    add_indent(alloc, out, depth)?;
+    add_words(
         alloc,
+        out,
         node.serial,
         node.path.bytes(),
         node.state,
         node.problem,
     )?;
-    add_indent(alloc, out, depth)?;
-    out.extend_from_slice(&words)?;
     out.push(b'\n')?;
     Ok(())
 }
@@ -103,8 +105,7 @@ fn add_waiting<R: Drivers>(
 {
     let driver = driver_name(alloc, rack, walk.driver_in_turn(&node.stack))?;
     let minor = minor_text(walk.minor());
-    let line = three(alloc, node.path.bytes(), minor, driver.bytes())?;
-    out.extend_from_slice(&line)?;
+    three(out, node.path.bytes(), minor, driver.bytes())?;
     out.push(b'\n')?;
     Ok(())
 }
@@ -181,14 +182,13 @@ fn add_held(
     ensures { OnOk result (out.new.items ≡ out.old.items ++ joined (map_line (row_of tree.now.nodes (owner, res.now)) ∷ [])) }
 {
     let text = res_text(alloc, res)?;
-    let line = match owner {
-        Owner::Reserved => two(alloc, &text, b"reserved")?,
+    match owner {
+        Owner::Reserved => two(out, &text, b"reserved")?,
         Owner::Device(serial) => match tree.node(serial) {
-            Some(node) => two(alloc, &text, node.path.bytes())?,
-            None => two(alloc, &text, b"")?,
+            Some(node) => two(out, &text, node.path.bytes())?,
+            None => two(out, &text, b"")?,
         },
-    };
-    out.extend_from_slice(&line)?;
+    }
     out.push(b'\n')?;
     Ok(())
 }
@@ -218,11 +218,10 @@ fn add_handle(
     ensures { OnOk result (out.new.items ≡ out.old.items ++ handle_lines tree.now.nodes (row.now ∷ [])) }
 {
     let count = decimal(alloc, row.count)?;
-    let line = match tree.node(row.serial) {
-        Some(node) => two(alloc, node.path.bytes(), count.as_bytes())?,
-        None => two(alloc, b"", count.as_bytes())?,
-    };
-    out.extend_from_slice(&line)?;
+    match tree.node(row.serial) {
+        Some(node) => two(out, node.path.bytes(), count.as_bytes())?,
+        None => two(out, b"", count.as_bytes())?,
+    }
     out.push(b'\n')?;
     Ok(())
 }
