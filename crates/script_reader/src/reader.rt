@@ -59,7 +59,8 @@ fn drop_front(bytes: &mut Vec<u8>, count: usize)
     requires { count ≤ length bytes.old.items }
     ensures { bytes.new.items ≡ drop count bytes.old.items }
 {
-    bytes.drain(..count);
+    bytes.copy_within(count.., 0);
+    bytes.truncate(bytes.len() - count);
 }
 
 impl Reader {
