@@ -7,20 +7,34 @@ use std::alloc::{AllocError, Global};
 /// The most bytes of a name.
 const LONGEST_NAME: usize = 64;
 
+/// The words for which room is made at once: a line with a device that requires something has some more.
+const USUAL_WORDS: usize = 8;
+
 /// Whether the byte stands between words.
-fn is_blank(byte: u8) -> bool
+pub fn is_blank(byte: u8) -> bool
     ensures { result ≡ is_blank byte }
 {
     byte == b' ' || byte == b'\t'
 }
 
-/// The words of a line.
+/// The words of a line. Cost: its length.
 pub fn words(alloc: Global, line: &[u8]) -> Result<Vec<&[u8]>, AllocError>
     ensures { IfOk result (λ v. map (λ w. w.now) v.items ≡ words_of line.now) }
 {
-    line.split(|byte| is_blank(*byte))
-        .filter(|part| !part.is_empty())
-        .collect(alloc)
+    let mut words = Vec::with_capacity(alloc, USUAL_WORDS)?;
+    let mut start = 0;
+    for at in 0..line.len() {
+        if is_blank(line[at]) {
+            if start < at {
+                words.push(&line[start..at])?;
+            }
+            start = at + 1;
+        }
+    }
+    if start < line.len() {
+        words.push(&line[start..])?;
+    }
+    Ok(words)
 }
 
 /// Whether the byte is one of a name.
