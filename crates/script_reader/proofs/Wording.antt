@@ -1,7 +1,9 @@
 -- The words of a line, found from its front.
 use Rattle.std.proofs.Common.{◌≡◌, ℕ, ◌+◌, ◌-◌, ◌<◌, ◌≤◌, List, [], ◌∷◌, ◌++◌, length, get_or, take, drop, true, false, refl, sym, ◌∙◌, ap, arith, suc, zero, add-one, append_assoc, append-nil, length-append, length-drop, not, ◌==◌, cond, Bor, Bool, subst}
 use Rattle.std.proofs.Math.Seq.{drop-cons, take-append_seam}
-use Rattle.std.proofs.lemmas.List.{drop_all}
+use Rattle.std.proofs.lemmas.List.{drop_all, take_all}
+use Rattle.std.proofs.lemmas.Slice.Eq.{bytes_eq-Decides}
+use Rattle.std.specs.Str.{bytes_eq}
 use Rattle.std.proofs.lemmas.Bool.Decides.{nat_tests}
 use Rattle.std.proofs.lemmas.List.Elements.{All-append}
 use Rattle.std.proofs.lemmas.List.Splits.{slice_split_none, slice_split_at, slice_split-cons_yes, slice_split-cons_no}
@@ -186,3 +188,8 @@ pub front_event : (line : List ℕ) (at : ℕ) (b : Bool) → at < length line �
     → meaning_of (words_of line) ≡ event_or_bad (event_of (words_of line))
 front_event line at b less no_ is off so =
     front_word line at less no_ so ∙ ap (λ c. cond c nothing (event_or_bad (event_of (words_of line)))) (sym is ∙ off)
+
+-- two words are the same where they are as long and have the same bytes
+pub same_words : (word other : List ℕ) (at : ℕ) → length word ≡ length other → length word ≤ at → take at word ≡ take at other → true ≡ bytes_eq word other
+same_words word other at long all same =
+    sym ((bytes_eq-Decides word other).1 (sym (take_all at word all) ∙ same ∙ take_all at other (omega arith)))

@@ -1,5 +1,6 @@
 ghost use Rattle.std.specs.Prelude.{◌≡◌, map, IfOk};
 ghost use Rattle.std.specs.List.{list_all};
+ghost use Rattle.std.specs.Str.{bytes_eq};
 ghost use Rattle.script_reader.specs.Words.{is_blank, words_of, is_name, is_name_byte};
 
 use std::alloc::{AllocError, Global};
@@ -9,6 +10,22 @@ const LONGEST_NAME: usize = 64;
 
 /// The words for which room is made at once: a line with a device that requires something has some more.
 const USUAL_WORDS: usize = 8;
+
+/// Whether two words are the same. Byte by byte: words are short, and `==` of slices compares long ones fast.
+/// Cost: the bytes that are the same, where the words are equally long.
+pub fn is_same(word: &[u8], other: &[u8]) -> bool
+    ensures { result ≡ bytes_eq word.now other.now }
+{
+    if word.len() != other.len() {
+        return false;
+    }
+    for at in 0..word.len() {
+        if word[at] != other[at] {
+            return false;
+        }
+    }
+    true
+}
 
 /// Whether the byte stands between words.
 pub fn is_blank(byte: u8) -> bool

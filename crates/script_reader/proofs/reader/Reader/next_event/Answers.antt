@@ -1,7 +1,5 @@
-use Rattle.std.proofs.Common.{◌+◌, ap, refl, sym, subst, ◌∙◌}
-use Rattle.pnp_labels.specs.declared.event.Event.{Event}
-use Rattle.script_reader.specs.Script.{GivesEvent, IsStuck, Waits, Ends}
-use Rattle.script_reader.specs.Reading.{SkipsTo}
+use Rattle.std.proofs.Common.{ap, refl, sym, subst, ◌∙◌}
+use Rattle.script_reader.specs.Script.{Waits, Ends}
 use Rattle.script_reader.specs.Faults.{Fails}
 use Rattle.script_reader.specs.Lines.{event_of}
 use Rattle.script_reader.specs.Words.{words_of}
