@@ -19,8 +19,8 @@ pub fn is_same(word: &[u8], other: &[u8]) -> bool
     if word.len() != other.len() {
         return false;
     }
-    for at in 0..word.len() {
-        if word[at] != other[at] {
+    for (at, byte) in word.iter().enumerate() {
+        if *byte != other[at] {
             return false;
         }
     }
@@ -40,8 +40,8 @@ pub fn words(alloc: Global, line: &[u8]) -> Result<Vec<&[u8]>, AllocError>
 {
     let mut words = Vec::with_capacity(alloc, USUAL_WORDS)?;
     let mut start = 0;
-    for at in 0..line.len() {
-        if is_blank(line[at]) {
+    for (at, byte) in line.iter().enumerate() {
+        if is_blank(*byte) {
             if start < at {
                 words.push(&line[start..at])?;
             }
