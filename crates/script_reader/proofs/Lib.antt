@@ -1,5 +1,6 @@
 pub mod Digits
 pub mod HexBytes
+pub mod Wording
 pub mod Gathering
 pub mod Errors
 pub mod Sifting

@@ -1,14 +1,19 @@
 -- How a call of a reader passes over the script.
-use Rattle.std.proofs.Common.{◌≡◌, ℕ, ◌+◌, ◌<◌, ◌≤◌, List, [], ◌∷◌, ◌++◌, length, take, drop, Bool, refl, sym, ◌∙◌, ap, arith, append_assoc, length-drop, subst, ◌-◌}
+use Rattle.std.proofs.Common.{◌≡◌, ℕ, ◌+◌, ◌<◌, ◌≤◌, List, [], ◌∷◌, ◌++◌, length, take, drop, Bool, refl, sym, ◌∙◌, ap, arith, append_assoc, length-drop, subst, ◌-◌, add_assoc, Bor, Some, None, true}
 use Rattle.std.proofs.lemmas.List.{take-append-drop, drop-drop}
 use Rattle.pnp_labels.specs.declared.event.Event.{Event}
 use Rattle.script_reader.specs.declared.line.Line.{Line}
-use Rattle.script_reader.specs.Script.{trace, gives, MayFollow, GivesEvent}
+use Rattle.script_reader.specs.Lines.{event_of}
+use Rattle.script_reader.specs.Words.{words_of}
+use Rattle.script_reader.specs.Script.{trace, gives, MayFollow, GivesEvent, IsStuck}
 use Rattle.script_reader.specs.declared.step.Step.{Step}
 use Rattle.script_reader.specs.declared.step.Step.TheVariants as steps
-use Rattle.script_reader.specs.Steps.{Says, IsNoSkip}
+use Rattle.script_reader.specs.Steps.{Says, Reads, IsNoSkip}
 use Rattle.script_reader.proofs.Skipping.{rest_is}
 use Rattle.script_reader.specs.Reading.{Reading, Moves, SkipsTo}
+use Rattle.script_reader.specs.Answers.{Answers, given}
+use Rattle.script_reader.specs.declared.next.Next.{Next}
+use Rattle.script_reader.specs.declared.next.Next.TheVariants as nexts
 
 pub moves_over : (old new : Reading) (count lines : ℕ) → new.rest ≡ drop count old.rest → new.passed ≡ old.passed + lines
     → new.finished ≡ old.finished → new.fed ≡ old.fed → new.stored ≤ old.stored → SkipsTo old.finished old.rest count lines → Moves old new []
@@ -54,7 +59,7 @@ moves_event old new count lines k event rest passed line finished fed stored so 
 abbrev pub seen : List ℕ → ℕ → ℕ → ℕ → ℕ → Bool → Bool → Reading
 seen bytes at passed line fed finished bad_ = record { rest = drop at bytes; passed = passed; line = line; fed = fed; stored = length bytes; finished = finished; bad = bad_ }
 
-skips_here : (bytes from : List ℕ) (at : ℕ) (finished : Bool) (count lines : ℕ) → from ≡ bytes
+pub skips_here : (bytes from : List ℕ) (at : ℕ) (finished : Bool) (count lines : ℕ) → from ≡ bytes
     → SkipsTo finished (take (length from - at) (drop at from)) count lines → SkipsTo finished (drop at bytes) count lines
 skips_here bytes from at finished count lines is so =
     subst (λ b. SkipsTo finished (drop at b) count lines) is (subst (λ r. SkipsTo finished r count lines) (rest_is from at) so)
@@ -86,34 +91,75 @@ answer_dropped old bytes from kept at passed line fed finished bad_ later count 
     (moves_over (seen bytes at passed line fed finished bad_) (seen (drop (at + count) bytes) 0 (passed + lines) last fed finished later) count lines
     (sym (drop-drop count at bytes)) refl refl refl (omega (arith, length-drop (at + count) bytes)) (skips_here bytes from at finished count lines same so)))
 
-pub answer_event : (old : Reading) (bytes from : List ℕ) (at passed line fed : ℕ) (finished bad_ : Bool) (count lines k : ℕ) (step : Step) (event : Event)
-    → seen bytes at passed line fed finished bad_ ≡ old → from ≡ bytes → step ≡ steps.Give k event
+-- the event of the line behind those that were passed
+pub gives_here : (bytes from : List ℕ) (at : ℕ) (finished : Bool) (count k : ℕ) (step : Step) (text : Bor (List ℕ)) (event : Event) → from ≡ bytes → step ≡ steps.Read k text
+    → Says finished (drop count (take (length from - at) (drop at from))) step → event_of (words_of text.now) ≡ Some event
+    → GivesEvent finished (drop count (drop at bytes)) k event
+gives_here bytes from at finished count k step text event is one so read =
+    let says : Reads finished (drop count (drop at bytes)) k text.now = says_here bytes from at finished count step (steps.Read k text) is one so in
+    says.gives_event event read
+
+-- none there: the reader is stuck
+pub stuck_here : (bytes from : List ℕ) (at : ℕ) (finished : Bool) (count k : ℕ) (step : Step) (text : Bor (List ℕ)) → from ≡ bytes → step ≡ steps.Read k text
+    → Says finished (drop count (take (length from - at) (drop at from))) step → event_of (words_of text.now) ≡ None
+    → IsStuck finished (drop count (drop at bytes))
+stuck_here bytes from at finished count k step text is one so read =
+    let says : Reads finished (drop count (drop at bytes)) k text.now = says_here bytes from at finished count step (steps.Read k text) is one so in
+    says.is_stuck read
+
+pub answer_event : (old : Reading) (bytes from : List ℕ) (at passed line fed : ℕ) (finished bad_ : Bool) (count lines k : ℕ) (event : Event)
+    → seen bytes at passed line fed finished bad_ ≡ old → from ≡ bytes
     → SkipsTo finished (take (length from - at) (drop at from)) count lines
-    → Says finished (drop count (take (length from - at) (drop at from))) step
-    → Moves old (seen bytes (at + count + k) (passed + lines + 1) (passed + lines + 1) fed finished bad_) (one_event (passed + lines + 1) event)
-answer_event old bytes from at passed line fed finished bad_ count lines k step event is same gave so next =
-    subst (λ o. Moves o (seen bytes (at + count + k) (passed + lines + 1) (passed + lines + 1) fed finished bad_) (one_event (passed + lines + 1) event)) is
-    (moves_event (seen bytes at passed line fed finished bad_) (seen bytes (at + count + k) (passed + lines + 1) (passed + lines + 1) fed finished bad_) count lines k event
-    (sym (drop-drop k (at + count) bytes) ∙ ap (drop k) (sym (drop-drop count at bytes))) refl refl refl refl (omega arith)
-    (skips_here bytes from at finished count lines same so)
-    (says_here bytes from at finished count step (steps.Give k event) same gave next))
+    → GivesEvent finished (drop count (drop at bytes)) k event
+    → Moves old (seen bytes (at + (count + k)) (passed + (lines + 1)) (passed + (lines + 1)) fed finished bad_) (one_event (passed + (lines + 1)) event)
+answer_event old bytes from at passed line fed finished bad_ count lines k event is same so next =
+    subst (λ o. Moves o (seen bytes (at + (count + k)) (passed + (lines + 1)) (passed + (lines + 1)) fed finished bad_) (one_event (passed + (lines + 1)) event)) is
+    (moves_event (seen bytes at passed line fed finished bad_) (seen bytes (at + (count + k)) (passed + (lines + 1)) (passed + (lines + 1)) fed finished bad_) count lines k event
+    (ap (λ n. drop n bytes) (sym (add_assoc at count k)) ∙ sym (drop-drop k (at + count) bytes) ∙ ap (drop k) (sym (drop-drop count at bytes))) (sym (add_assoc passed lines 1)) refl refl refl (omega arith)
+    (skips_here bytes from at finished count lines same so) next)
 
 pub over_here : (bytes : List ℕ) (at count : ℕ) → drop count (drop at bytes) ≡ drop (at + count) bytes
 over_here bytes at count = drop-drop count at bytes
 
-pub needs_more : (step : Step) → IsNoSkip step → ((k : ℕ) (event : Event) → step ≡ steps.Give k event → ⊥) → (step ≡ steps.Bad → ⊥) → (step ≡ steps.End → ⊥)
-    → step ≡ steps.NeedMore
-needs_more (steps.Skip k) skip give bad_ end = absurd skip
-needs_more (steps.Give k event) skip give bad_ end = absurd (give k event refl)
-needs_more steps.Bad skip give bad_ end = absurd (bad_ refl)
-needs_more steps.NeedMore skip give bad_ end = refl
-needs_more steps.End skip give bad_ end = absurd (end refl)
+pub is_stop : (step : Step) → IsNoSkip step → ((k : ℕ) (text : Bor (List ℕ)) → step ≡ steps.Read k text → ⊥) → (step ≡ steps.NeedMore → ⊥) → (step ≡ steps.End → ⊥)
+    → step ≡ steps.Bad
+is_stop (steps.Skip k) skip read more end = absurd skip
+is_stop (steps.Read k text) skip read more end = absurd (read k text refl)
+is_stop steps.Bad skip read more end = refl
+is_stop steps.NeedMore skip read more end = absurd (more refl)
+is_stop steps.End skip read more end = absurd (end refl)
 
-pub answer_shorter : (old : Reading) (bytes from : List ℕ) (at passed line fed : ℕ) (finished bad_ : Bool) (count k : ℕ) (step : Step) (event : Event)
-    → seen bytes at passed line fed finished bad_ ≡ old → from ≡ bytes → step ≡ steps.Give k event
-    → Says finished (drop count (take (length from - at) (drop at from))) step
-    → length (drop (at + count + k) bytes) < length old.rest
-answer_shorter old bytes from at passed line fed finished bad_ count k step event is same gave next =
-    subst (λ o. length (drop (at + count + k) bytes) < length o.rest) is
-    (let g : GivesEvent finished (drop count (drop at bytes)) k event = says_here bytes from at finished count step (steps.Give k event) same gave next in
-    omega (arith, g.some, g.inside, length-drop count (drop at bytes), length-drop at bytes, length-drop (at + count + k) bytes))
+pub answer_shorter : (old : Reading) (bytes : List ℕ) (at passed line fed : ℕ) (finished bad_ : Bool) (count k : ℕ) (event : Event)
+    → seen bytes at passed line fed finished bad_ ≡ old → GivesEvent finished (drop count (drop at bytes)) k event
+    → length (drop (at + (count + k)) bytes) < length old.rest
+answer_shorter old bytes at passed line fed finished bad_ count k event is g =
+    subst (λ o. length (drop (at + (count + k)) bytes) < length o.rest) is
+    (omega (arith, g.some, g.inside, length-drop count (drop at bytes), length-drop at bytes, length-drop (at + (count + k)) bytes))
+
+-- what is known of the bytes is known of the reader
+pub skips_from : (old : Reading) (bytes from : List ℕ) (at passed line fed : ℕ) (finished bad_ : Bool) (count lines : ℕ)
+    → seen bytes at passed line fed finished bad_ ≡ old → from ≡ bytes
+    → SkipsTo finished (take (length from - at) (drop at from)) count lines → SkipsTo old.finished old.rest count lines
+skips_from old bytes from at passed line fed finished bad_ count lines is same so =
+    subst (λ o. SkipsTo o.finished o.rest count lines) is (skips_here bytes from at finished count lines same so)
+
+pub stuck_from : (old : Reading) (bytes : List ℕ) (at passed line fed : ℕ) (finished bad_ : Bool) (count : ℕ)
+    → seen bytes at passed line fed finished bad_ ≡ old → IsStuck finished (drop count (drop at bytes)) → IsStuck old.finished (drop count old.rest)
+stuck_from old bytes at passed line fed finished bad_ count is so = subst (λ o. IsStuck o.finished (drop count o.rest)) is so
+
+pub answer_stop : (old new : Reading) (next : Next) (count lines : ℕ) → SkipsTo old.finished old.rest count lines → IsStuck old.finished (drop count old.rest)
+    → new ≡ record old { rest = drop count old.rest; passed = old.passed + lines; line = old.passed + lines + 1; bad = true } → next ≡ nexts.Bad new.line
+    → Answers next old new
+answer_stop old new next count lines so stuck is same =
+    let stopped : Reading = record old { rest = drop count old.rest; passed = old.passed + lines; line = old.passed + lines + 1; bad = true } in
+    subst (λ n. Answers n old new) (sym same)
+    (subst (λ n. Answers (nexts.Bad n.line) old n) (sym is)
+    (moves_over old stopped count lines refl refl refl refl (omega arith) so, refl, refl, refl, stuck))
+
+pub stop_moves : (old new : Reading) (next : Next) (count lines : ℕ) → SkipsTo old.finished old.rest count lines
+    → new ≡ record old { rest = drop count old.rest; passed = old.passed + lines; line = old.passed + lines + 1; bad = true } → next ≡ nexts.Bad new.line
+    → Moves old new (given next new)
+stop_moves old new next count lines so is same =
+    let stopped : Reading = record old { rest = drop count old.rest; passed = old.passed + lines; line = old.passed + lines + 1; bad = true } in
+    subst (λ n. Moves old new (given n new)) (sym same)
+    (subst (λ n. Moves old n []) (sym is) (moves_over old stopped count lines refl refl refl refl (omega arith) so))

@@ -1,5 +1,5 @@
 -- The first line of a script, and what it gives.
-use Rattle.std.proofs.Common.{◌≡◌, ℕ, ◌+◌, ◌<◌, ◌≤◌, List, [], ◌∷◌, ◌++◌, length, take, drop, Bool, true, false, refl, sym, ◌∙◌, ap, arith, append_assoc, append-nil, length-append, cond, ◌==◌, ◌⊎◌, inl, inr}
+use Rattle.std.proofs.Common.{◌≡◌, ℕ, ◌+◌, ◌<◌, ◌≤◌, List, [], ◌∷◌, ◌++◌, length, take, drop, Bool, true, false, refl, sym, ◌∙◌, ap, arith, append_assoc, append-nil, length-append, cond, ◌==◌, ◌⊎◌, inl, inr, subst}
 use Rattle.std.proofs.lemmas.Bool.{eq-eqb}
 use Rattle.std.proofs.lemmas.List.Splits.{slice_split-cons_yes, slice_split-cons_no}
 use Rattle.std.proofs.lemmas.List.{take_all, drop_all}
@@ -8,7 +8,11 @@ use Rattle.std.proofs.Math.Seq.{take-append_seam}
 use Rattle.std.specs.List.{onto_first}
 use Rattle.device_ids.specs.Cuts.{parts}
 use Rattle.pnp_labels.specs.declared.event.Event.{Event}
-use Rattle.script_reader.specs.Script.{Meaning, nothing, means, bad, whole_line, last_line, waits, ends, stops, onward, of_lines, trace, MayFollow, Skips, GivesEvent, IsStuck, Waits}
+use Rattle.std.specs.Str.Lines.{strip_carriage_return}
+use Rattle.script_reader.specs.Words.{words_of}
+use Rattle.script_reader.specs.Lines.{event_of}
+use Rattle.script_reader.specs.Steps.{Reads}
+use Rattle.script_reader.specs.Script.{Meaning, nothing, means, bad, event_or_bad, meaning_of, whole_line, last_line, waits, ends, stops, onward, of_lines, trace, MayFollow, Skips, GivesEvent, IsStuck, Waits}
 use Rattle.script_reader.proofs.Gathering.{some_parts}
 
 -- a text without such a byte
@@ -72,7 +76,7 @@ line_same f n rest line back more m is one meant =
 line_inside : (rest line back : List ℕ) → rest ≡ line ++ 10 ∷ back → length line + 1 ≤ length rest
 line_inside rest line back is = omega (arith, ap length is, length-append line (10 ∷ back))
 
-pub skip_line : (finished : Bool) (rest line back : List ℕ) → rest ≡ line ++ 10 ∷ back → IsOne 10 line → whole_line line ≡ nothing
+skip_line : (finished : Bool) (rest line back : List ℕ) → rest ≡ line ++ 10 ∷ back → IsOne 10 line → whole_line line ≡ nothing
     → Skips finished rest (length line + 1)
 skip_line finished rest line back is one meant = record {
   inside = line_inside rest line back is;
@@ -80,7 +84,7 @@ skip_line finished rest line back is one meant = record {
   same = λ later more passed may. line_same later passed rest line back more nothing is one meant;
 }
 
-pub give_line : (finished : Bool) (rest line back : List ℕ) (e : Event) → rest ≡ line ++ 10 ∷ back → IsOne 10 line → whole_line line ≡ means e
+give_line : (finished : Bool) (rest line back : List ℕ) (e : Event) → rest ≡ line ++ 10 ∷ back → IsOne 10 line → whole_line line ≡ means e
     → GivesEvent finished rest (length line + 1) e
 give_line finished rest line back e is one meant = record {
   inside = line_inside rest line back is;
@@ -88,12 +92,33 @@ give_line finished rest line back e is one meant = record {
   same = λ later more passed may. line_same later passed rest line back more (means e) is one meant;
 }
 
-pub bad_line : (finished : Bool) (rest line back : List ℕ) → rest ≡ line ++ 10 ∷ back → IsOne 10 line → whole_line line ≡ bad → IsStuck finished rest
+bad_line : (finished : Bool) (rest line back : List ℕ) → rest ≡ line ++ 10 ∷ back → IsOne 10 line → whole_line line ≡ bad → IsStuck finished rest
 bad_line finished rest line back is one meant = record {
   same = λ later more passed may.
       ap (λ t. trace later passed (t ++ more)) is ∙ ap (trace later passed) (append_assoc line (10 ∷ back) more)
       ∙ trace_line later passed line (back ++ more) one ∙ ap (λ x. onward (passed + 1) x (trace later (passed + 1) (back ++ more))) meant;
 }
+
+-- the meaning of a line that is not too long is that of its words
+short_line : (line text : List ℕ) (m : Meaning) → length line ≤ 4096 → text ≡ strip_carriage_return line → meaning_of (words_of text) ≡ m → whole_line line ≡ m
+short_line line text m short is meant =
+    ap (λ b. cond b (meaning_of (words_of (strip_carriage_return line))) bad) (le-leb (length line) 4096 short)
+    ∙ ap (λ t. meaning_of (words_of t)) (sym is) ∙ meant
+
+pub pass_line : (finished : Bool) (rest line back text : List ℕ) → rest ≡ line ++ 10 ∷ back → IsOne 10 line → length line ≤ 4096 → text ≡ strip_carriage_return line
+    → meaning_of (words_of text) ≡ nothing → Skips finished rest (length line + 1)
+pass_line finished rest line back text is one short same none = skip_line finished rest line back is one (short_line line text nothing short same none)
+
+pub read_line : (finished : Bool) (rest line back text : List ℕ) → rest ≡ line ++ 10 ∷ back → IsOne 10 line → length line ≤ 4096 → text ≡ strip_carriage_return line
+    → meaning_of (words_of text) ≡ event_or_bad (event_of (words_of text)) → Reads finished rest (length line + 1) text
+read_line finished rest line back text is one short same meant = record {
+  gives_event = λ e h. give_line finished rest line back e is one (short_line line text (means e) short same (meant ∙ ap event_or_bad h));
+  is_stuck = λ h. bad_line finished rest line back is one (short_line line text bad short same (meant ∙ ap event_or_bad h));
+}
+
+pub over_line : (finished : Bool) (rest line back : List ℕ) → rest ≡ line ++ 10 ∷ back → IsOne 10 line → 4096 < length line → IsStuck finished rest
+over_line finished rest line back is one long =
+    bad_line finished rest line back is one (ap (λ b. cond b (meaning_of (words_of (strip_carriage_return line))) bad) (lt-leb (length line) 4096 long))
 
 -- the last line
 last_same : (n : ℕ) (rest : List ℕ) (m : Meaning) → 0 < length rest → IsOne 10 rest → last_line rest ≡ m → trace true n rest ≡ onward (n + 1) m ends
@@ -112,21 +137,21 @@ last_taken later n rest more m some one meant may =
     ∙ ap (λ l. onward (n + 1) m (trace l (n + 1) [])) (sym f)
     ∙ ap (λ x. onward (n + 1) m (trace later (n + 1) x)) (sym none)
 
-pub skip_last : (rest : List ℕ) → 0 < length rest → IsOne 10 rest → last_line rest ≡ nothing → Skips true rest (length rest)
+skip_last : (rest : List ℕ) → 0 < length rest → IsOne 10 rest → last_line rest ≡ nothing → Skips true rest (length rest)
 skip_last rest some one meant = record {
   inside = omega arith;
   some = some;
   same = λ later more passed may. last_taken later passed rest more nothing some one meant may;
 }
 
-pub give_last : (rest : List ℕ) (e : Event) → 0 < length rest → IsOne 10 rest → last_line rest ≡ means e → GivesEvent true rest (length rest) e
+give_last : (rest : List ℕ) (e : Event) → 0 < length rest → IsOne 10 rest → last_line rest ≡ means e → GivesEvent true rest (length rest) e
 give_last rest e some one meant = record {
   inside = omega arith;
   some = some;
   same = λ later more passed may. last_taken later passed rest more (means e) some one meant may;
 }
 
-pub bad_last : (rest : List ℕ) → 0 < length rest → IsOne 10 rest → last_line rest ≡ bad → IsStuck true rest
+bad_last : (rest : List ℕ) → 0 < length rest → IsOne 10 rest → last_line rest ≡ bad → IsStuck true rest
 bad_last rest some one meant = record {
   same = λ later more passed may.
       ap (λ l. trace l passed (rest ++ more)) (may refl).0
@@ -134,6 +159,21 @@ bad_last rest some one meant = record {
       ∙ ap (trace true passed) (append-nil rest)
       ∙ last_same passed rest bad some one meant;
 }
+
+short_last : (rest : List ℕ) (m : Meaning) → length rest ≤ 4096 → meaning_of (words_of rest) ≡ m → last_line rest ≡ m
+short_last rest m short meant = ap (λ b. cond b (meaning_of (words_of rest)) bad) (le-leb (length rest) 4096 short) ∙ meant
+
+pub pass_last : (finished : Bool) (rest : List ℕ) → finished ≡ true → 0 < length rest → IsOne 10 rest → length rest ≤ 4096
+    → meaning_of (words_of rest) ≡ nothing → Skips finished rest (length rest)
+pass_last finished rest on some one short none =
+    subst (λ f. Skips f rest (length rest)) (sym on) (skip_last rest some one (short_last rest nothing short none))
+
+pub read_last : (finished : Bool) (rest : List ℕ) → finished ≡ true → 0 < length rest → IsOne 10 rest → length rest ≤ 4096
+    → meaning_of (words_of rest) ≡ event_or_bad (event_of (words_of rest)) → Reads finished rest (length rest) rest
+read_last finished rest on some one short meant = subst (λ f. Reads f rest (length rest) rest) (sym on) (record {
+  gives_event = λ e h. give_last rest e some one (short_last rest (means e) short (meant ∙ ap event_or_bad h));
+  is_stuck = λ h. bad_last rest some one (short_last rest bad short (meant ∙ ap event_or_bad h));
+})
 
 long_line : (later : Bool) (n : ℕ) (text : List ℕ) (ps : List (List ℕ)) → 4096 < length text → of_lines later n (text ∷ ps) ≡ stops (n + 1)
 long_line true n [] [] long = absurd (omega arith)

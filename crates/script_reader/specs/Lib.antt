@@ -7,7 +7,6 @@ pub mod Wants
 pub mod Lines
 pub mod Script
 pub mod Steps
-pub mod Meanings
 pub mod Reading
 pub mod Answers
 pub mod Whole

@@ -1,6 +1,7 @@
 ghost use Rattle.std.specs.Prelude.{map};
 ghost use Rattle.script_reader.specs.Faults.{Gives};
 ghost use Rattle.script_reader.specs.Lines.{event_of, event_by};
+ghost use Rattle.script_reader.specs.Words.{words_of};
 
 use crate::fault::LineError;
 use crate::lines::{
@@ -9,6 +10,7 @@ use crate::lines::{
 };
 use crate::plug::plug_of;
 use crate::tables::keyword_of;
+use crate::words::words;
 use pnp_labels::{Event, EventWord};
 use std::alloc::Global;
 
@@ -37,7 +39,7 @@ fn event_by(alloc: Global, keyword: EventWord, words: &[&[u8]]) -> Result<Event,
 }
 
 /// The event of a line's words.
-pub fn event_of(alloc: Global, words: &[&[u8]]) -> Result<Event, LineError>
+fn event_of(alloc: Global, words: &[&[u8]]) -> Result<Event, LineError>
     ensures { Gives result (event_of (map (λ w. w.now) words.now)) }
 {
     let [word, words @ ..] = words else {
@@ -47,4 +49,12 @@ pub fn event_of(alloc: Global, words: &[&[u8]]) -> Result<Event, LineError>
         return Err(LineError::Bad);
     };
     event_by(alloc, keyword, words)
+}
+
+/// The event of the words in a line.
+pub fn event_in(alloc: Global, line: &[u8]) -> Result<Event, LineError>
+    ensures { Gives result (event_of (words_of line.now)) }
+{
+    let words = words(alloc, line)?;
+    event_of(alloc, &words)
 }

@@ -1,13 +1,16 @@
 ghost use Rattle.std.specs.Prelude.{◌≡◌, ◌+◌, ◌<◌, ◌≤◌, ◌^◌, ◌++◌, [], length, drop, IfOk, OnOk, OnErr, Ok, true, false, List, ℕ};
-ghost use Rattle.script_reader.specs.Reading.{HasRead};
+ghost use Rattle.script_reader.specs.Reading.{HasRead, SkipsTo};
+ghost use Rattle.script_reader.specs.Script.{IsStuck};
 ghost use Rattle.script_reader.specs.Answers.{Answers, given};
 ghost use Rattle.script_reader.specs.declared.line.Line.{Line};
 
+use crate::events::event_in;
+use crate::fault::LineError;
 use crate::next::Next;
 use crate::skip::{Skipped, skip_lines};
 use crate::step::Step;
 use device_ids::WantOfMemory;
-use std::alloc::Global;
+use std::alloc::{AllocError, Global};
 use std::marker::Model;
 
 /// Reads a script that comes in pieces. It keeps the bytes that no answer has passed yet: where the events are
@@ -59,7 +62,8 @@ fn drop_front(bytes: &mut Vec<u8>, count: usize)
     requires { count ≤ length bytes.old.items }
     ensures { bytes.new.items ≡ drop count bytes.old.items }
 {
-    bytes.drain(..count);
+    bytes.copy_within(count.., 0);
+    bytes.truncate(bytes.len() - count);
 }
 
 impl Reader {
@@ -123,6 +127,25 @@ impl Reader {
         self.line
     }
 
+    /// Passes so many bytes, so many lines, up to a line outside the grammar.
+    fn stop(&mut self, count: usize, lines: u64) -> Next
+        requires reach { SkipsTo self.old.finished self.old.rest count lines }
+        requires stuck { IsStuck self.old.finished (drop count self.old.rest) }
+        ensures new { self.new ≡ record self.old {
+          rest = drop count self.old.rest;
+          passed = self.old.passed + lines;
+          line = self.old.passed + lines + 1;
+          bad = true;
+        } }
+        ensures result { result ≡ Next.Bad self.new.line }
+    {
+        self.at += count;
+        self.passed += lines;
+        self.line = self.passed + 1;
+        self.bad = true;
+        Next::Bad { line: self.line }
+    }
+
     /// The event of the next line that has one; lines without an event are passed over. Else why there is none:
     /// `NeedMore` exactly where no whole line is left, the rest has at most 4,096 bytes and `finish` was not
     /// called; `End` exactly where `finish` was called and nothing is left; `Bad` at the first line outside the
@@ -138,31 +161,30 @@ impl Reader {
         if self.bad {
             return Ok(Next::Bad { line: self.line });
         }
-        let Skipped { count, lines, step } = skip_lines(
-            self.alloc,
-            &self.bytes[self.at..],
-            self.finished,
-        )?;
-        self.at += count;
-        self.passed += lines;
+        let Skipped { count, lines, step } = skip_lines(&self.bytes[self.at..], self.finished);
         match step {
-            Step::Give { count, event } => {
-                self.at += count;
-                self.passed += 1;
-                self.line = self.passed;
-                Ok(Next::Event(event))
-            }
-            Step::Bad => {
-                self.line = self.passed + 1;
-                self.bad = true;
-                Ok(Next::Bad { line: self.line })
-            }
-            Step::End => Ok(Next::End),
-            _ => {
-                drop_front(&mut self.bytes, self.at);
+            Step::Read { count: more, text } => match event_in(self.alloc, text) {
+                Ok(event) => {
+                    self.at += count + more;
+                    self.passed += lines + 1;
+                    self.line = self.passed;
+                    Ok(Next::Event(event))
+                }
+                Err(LineError::Bad) => Ok(self.stop(count, lines)),
+                Err(LineError::WantOfMemory) => Err(AllocError),
+            },
+            Step::NeedMore => {
+                drop_front(&mut self.bytes, self.at + count);
                 self.at = 0;
+                self.passed += lines;
                 Ok(Next::NeedMore)
             }
+            Step::End => {
+                self.at += count;
+                self.passed += lines;
+                Ok(Next::End)
+            }
+            _ => Ok(self.stop(count, lines)),
         }
     }
 }

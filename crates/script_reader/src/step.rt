@@ -1,12 +1,10 @@
-use pnp_labels::Event;
-
 /// What stands at the front of the bytes that are left.
-#[derive(Debug, Drop)]
-pub enum Step {
+#[derive(Clone, Copy, Debug)]
+pub enum Step<'a> {
     /// So many bytes are a line without an event.
     Skip { count: usize },
-    /// So many bytes are the line of the event.
-    Give { count: usize, event: Event },
+    /// So many bytes are a line, and its event is that of the words in the text.
+    Read { count: usize, text: &'a [u8] },
     /// A line outside the grammar.
     Bad,
     /// No whole line.

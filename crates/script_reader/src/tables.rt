@@ -1,6 +1,7 @@
 ghost use Rattle.std.specs.Prelude.{◌≡◌, map};
 ghost use Rattle.script_reader.specs.Tables.{among, keyword_of, driver_kind_of, rel_kind_of, kind_of, answer_of, agrees_of, ok_of, minor_of, ask_of};
 
+use crate::words::is_same;
 use pnp_labels::{Answer, AskWhat, DriverKind, EventWord, Minor, RelKind};
 use resource_reqs::Kind;
 
@@ -68,7 +69,7 @@ fn among<T: Copy>(rows: &[(&[u8], T)], word: &[u8]) -> Option<T>
     ensures { result ≡ among (map (λ row. (row.0.now, row.1)) rows.now) word.now }
 {
     for row in rows {
-        if row.0 == word {
+        if is_same(row.0, word) {
             return Some(row.1);
         }
     }

@@ -1,53 +1,69 @@
-use Rattle.std.proofs.Common.{true, refl, subst, ◌+◌, ap, sym, ◌∙◌}
+use Rattle.std.proofs.Common.{ap, refl, sym, subst, ◌∙◌}
+use Rattle.script_reader.specs.Script.{Waits, Ends}
+use Rattle.script_reader.specs.Faults.{Fails}
+use Rattle.script_reader.specs.Lines.{event_of}
+use Rattle.script_reader.specs.Words.{words_of}
 use Rattle.script_reader.specs.declared.step.Step.TheVariants as steps
-use Rattle.script_reader.specs.Script.{IsStuck, Waits, Ends}
-use Rattle.script_reader.proofs.Moving.{answer_over, answer_dropped, answer_event, answer_shorter, says_here, over_here, needs_more}
+use Rattle.script_reader.proofs.Moving.{answer_over, answer_dropped, answer_event, answer_shorter, answer_stop, stop_moves, says_here, gives_here, stuck_here, skips_from, stuck_from, over_here, is_stop}
 use Rattle.script_reader.proofs.Feeding.{has_read_moves}
 use Rattle.script_reader.proofs.reader.Reader.next_event.Goals as goal
 
-pub returns-in-Give-clause-answers : goal.returns-in-Give-clause-answers
-returns-in-Give-clause-answers c = (
-  answer_event c.args.self.now c.self.inside.bytes.items c.deref.result.now c.self.inside.at c.self.inside.passed c.self.inside.line c.self.inside.fed c.self.inside.finished c.self.inside.bad c.in_ok-count.field-0.count c.in_ok-count.field-0.lines c.in-Give.count c.in_ok-count.field-0.step c.in-Give.event
-      c.self.view_is c.deref.ensures.value c.in-Give.is c.in_ok-count.ensures.reach c.in_ok-count.ensures.step,
-  answer_shorter c.args.self.now c.self.inside.bytes.items c.deref.result.now c.self.inside.at c.self.inside.passed c.self.inside.line c.self.inside.fed c.self.inside.finished c.self.inside.bad c.in_ok-count.field-0.count c.in-Give.count c.in_ok-count.field-0.step c.in-Give.event
-      c.self.view_is c.deref.ensures.value c.in-Give.is c.in_ok-count.ensures.step,
-)
+pub returns-in-Ok-clause-answers : goal.returns-in-Ok-clause-answers
+returns-in-Ok-clause-answers c =
+    let gives = gives_here c.self.inside.bytes.items c.deref.result.now c.self.inside.at c.self.inside.finished c.skip_lines-count.result.count c.in-Read.more c.skip_lines-count.result.step c.in-Read.text c.in-Ok.event c.deref.ensures.value c.in-Read.is c.skip_lines-count.ensures.step c.in-Ok.ensures in (
+      answer_event c.args.self.now c.self.inside.bytes.items c.deref.result.now c.self.inside.at c.self.inside.passed c.self.inside.line c.self.inside.fed c.self.inside.finished c.self.inside.bad c.skip_lines-count.result.count c.skip_lines-count.result.lines c.in-Read.more c.in-Ok.event c.self.view_is c.deref.ensures.value c.skip_lines-count.ensures.reach gives,
+      answer_shorter c.args.self.now c.self.inside.bytes.items c.self.inside.at c.self.inside.passed c.self.inside.line c.self.inside.fed c.self.inside.finished c.self.inside.bad c.skip_lines-count.result.count c.in-Read.more c.in-Ok.event c.self.view_is gives,
+    )
 
-pub returns-in-Bad-clause-answers : goal.returns-in-Bad-clause-answers
-returns-in-Bad-clause-answers c = (
-  answer_over c.args.self.now c.self.inside.bytes.items c.deref.result.now c.self.inside.at c.self.inside.passed c.self.inside.line c.self.inside.fed c.self.inside.finished c.self.inside.bad true c.in_ok-count.field-0.count c.in_ok-count.field-0.lines (c.self.inside.passed + c.in_ok-count.field-0.lines + 1) c.self.view_is c.deref.ensures.value c.in_ok-count.ensures.reach,
+pub returns-in-NeedMore-clause-answers : goal.returns-in-NeedMore-clause-answers
+returns-in-NeedMore-clause-answers c = (
+  answer_dropped c.args.self.now c.self.inside.bytes.items c.deref.result.now c.drop_front.new.bytes.items c.self.inside.at c.self.inside.passed c.self.inside.line c.self.inside.fed c.self.inside.finished c.self.inside.bad c.self.inside.bad c.skip_lines-count.result.count c.skip_lines-count.result.lines c.self.inside.line c.self.view_is c.deref.ensures.value c.drop_front.ensures c.skip_lines-count.ensures.reach,
+  ap (λ r. r.line) c.self.view_is,
+  subst (λ r. Waits c.self.inside.finished r) (over_here c.self.inside.bytes.items c.self.inside.at c.skip_lines-count.result.count ∙ sym c.drop_front.ensures)
+      (says_here c.self.inside.bytes.items c.deref.result.now c.self.inside.at c.self.inside.finished c.skip_lines-count.result.count c.skip_lines-count.result.step steps.NeedMore c.deref.ensures.value c.in-NeedMore.is c.skip_lines-count.ensures.step),
   refl,
-  refl,
-  refl,
-  subst (λ r. IsStuck c.self.inside.finished r) (over_here c.self.inside.bytes.items c.self.inside.at c.in_ok-count.field-0.count)
-      (says_here c.self.inside.bytes.items c.deref.result.now c.self.inside.at c.self.inside.finished c.in_ok-count.field-0.count c.in_ok-count.field-0.step steps.Bad c.deref.ensures.value c.in-Bad.is c.in_ok-count.ensures.step),
 )
 
 pub returns-in-End-clause-answers : goal.returns-in-End-clause-answers
 returns-in-End-clause-answers c = (
-  answer_over c.args.self.now c.self.inside.bytes.items c.deref.result.now c.self.inside.at c.self.inside.passed c.self.inside.line c.self.inside.fed c.self.inside.finished c.self.inside.bad c.self.inside.bad c.in_ok-count.field-0.count c.in_ok-count.field-0.lines c.self.inside.line c.self.view_is c.deref.ensures.value c.in_ok-count.ensures.reach,
+  answer_over c.args.self.now c.self.inside.bytes.items c.deref.result.now c.self.inside.at c.self.inside.passed c.self.inside.line c.self.inside.fed c.self.inside.finished c.self.inside.bad c.self.inside.bad c.skip_lines-count.result.count c.skip_lines-count.result.lines c.self.inside.line c.self.view_is c.deref.ensures.value c.skip_lines-count.ensures.reach,
   ap (λ r. r.line) c.self.view_is,
-  subst (λ r. Ends c.self.inside.finished r) (over_here c.self.inside.bytes.items c.self.inside.at c.in_ok-count.field-0.count)
-      (says_here c.self.inside.bytes.items c.deref.result.now c.self.inside.at c.self.inside.finished c.in_ok-count.field-0.count c.in_ok-count.field-0.step steps.End c.deref.ensures.value c.in-End.is c.in_ok-count.ensures.step),
+  subst (λ r. Ends c.self.inside.finished r) (over_here c.self.inside.bytes.items c.self.inside.at c.skip_lines-count.result.count)
+      (says_here c.self.inside.bytes.items c.deref.result.now c.self.inside.at c.self.inside.finished c.skip_lines-count.result.count c.skip_lines-count.result.step steps.End c.deref.ensures.value c.in-End.is c.skip_lines-count.ensures.step),
 )
+
+pub returns-in-Err-Bad-clause-answers : goal.returns-in-Err-Bad-clause-answers
+returns-in-Err-Bad-clause-answers c =
+    answer_stop c.args.self.now c.stop.new.self c.stop.result c.skip_lines-count.result.count c.skip_lines-count.result.lines
+    (skips_from c.args.self.now c.self.inside.bytes.items c.deref.result.now c.self.inside.at c.self.inside.passed c.self.inside.line c.self.inside.fed c.self.inside.finished c.self.inside.bad c.skip_lines-count.result.count c.skip_lines-count.result.lines c.self.view_is c.deref.ensures.value c.skip_lines-count.ensures.reach)
+    (stuck_from c.args.self.now c.self.inside.bytes.items c.self.inside.at c.self.inside.passed c.self.inside.line c.self.inside.fed c.self.inside.finished c.self.inside.bad c.skip_lines-count.result.count c.self.view_is
+    (stuck_here c.self.inside.bytes.items c.deref.result.now c.self.inside.at c.self.inside.finished c.skip_lines-count.result.count c.in-Read.more c.skip_lines-count.result.step c.in-Read.text c.deref.ensures.value c.in-Read.is c.skip_lines-count.ensures.step
+    (subst (λ e. Fails e (event_of (words_of c.in-Read.text.now))) c.in-Err-Bad.field-0-is c.in-Err-Bad.ensures)))
+    (c.stop.ensures.new) c.stop.ensures.result
 
 pub returns-in_default-clause-answers : goal.returns-in_default-clause-answers
-returns-in_default-clause-answers c = (
-  answer_dropped c.args.self.now c.self.inside.bytes.items c.deref.result.now c.drop_front.new.bytes.items c.self.inside.at c.self.inside.passed c.self.inside.line c.self.inside.fed c.self.inside.finished c.self.inside.bad c.self.inside.bad c.in_ok-count.field-0.count c.in_ok-count.field-0.lines c.self.inside.line c.self.view_is c.deref.ensures.value c.drop_front.ensures c.in_ok-count.ensures.reach,
-  ap (λ r. r.line) c.self.view_is,
-  subst (λ r. Waits c.self.inside.finished r) (over_here c.self.inside.bytes.items c.self.inside.at c.in_ok-count.field-0.count ∙ sym c.drop_front.ensures)
-      (says_here c.self.inside.bytes.items c.deref.result.now c.self.inside.at c.self.inside.finished c.in_ok-count.field-0.count c.in_ok-count.field-0.step steps.NeedMore c.deref.ensures.value (needs_more c.in_ok-count.field-0.step c.in_ok-count.ensures.no_skip c.in_default.not-Give c.in_default.not-Bad c.in_default.not-End) c.in_ok-count.ensures.step),
-  refl,
-)
+returns-in_default-clause-answers c =
+    answer_stop c.args.self.now c.stop-in_default.new.self c.stop-in_default.result c.skip_lines-count.result.count c.skip_lines-count.result.lines
+    (skips_from c.args.self.now c.self.inside.bytes.items c.deref.result.now c.self.inside.at c.self.inside.passed c.self.inside.line c.self.inside.fed c.self.inside.finished c.self.inside.bad c.skip_lines-count.result.count c.skip_lines-count.result.lines c.self.view_is c.deref.ensures.value c.skip_lines-count.ensures.reach)
+    (stuck_from c.args.self.now c.self.inside.bytes.items c.self.inside.at c.self.inside.passed c.self.inside.line c.self.inside.fed c.self.inside.finished c.self.inside.bad c.skip_lines-count.result.count c.self.view_is
+    (says_here c.self.inside.bytes.items c.deref.result.now c.self.inside.at c.self.inside.finished c.skip_lines-count.result.count c.skip_lines-count.result.step steps.Bad c.deref.ensures.value (is_stop c.skip_lines-count.result.step c.skip_lines-count.ensures.no_skip c.in_default.not-Read c.in_default.not-NeedMore c.in_default.not-End) c.skip_lines-count.ensures.step))
+    (c.stop-in_default.ensures.new) c.stop-in_default.ensures.result
 
-pub returns-in-Give-clause-reads : goal.returns-in-Give-clause-reads
-returns-in-Give-clause-reads c = λ all events h. has_read_moves all events _ _ _ (returns-in-Give-clause-answers c).0 h
+pub returns-in-Ok-clause-reads : goal.returns-in-Ok-clause-reads
+returns-in-Ok-clause-reads c = λ all events h. has_read_moves all events _ _ _ (returns-in-Ok-clause-answers c).0 h
 
-pub returns-in-Bad-clause-reads : goal.returns-in-Bad-clause-reads
-returns-in-Bad-clause-reads c = λ all events h. has_read_moves all events _ _ _ (returns-in-Bad-clause-answers c).0 h
+pub returns-in-NeedMore-clause-reads : goal.returns-in-NeedMore-clause-reads
+returns-in-NeedMore-clause-reads c = λ all events h. has_read_moves all events _ _ _ (returns-in-NeedMore-clause-answers c).0 h
 
 pub returns-in-End-clause-reads : goal.returns-in-End-clause-reads
 returns-in-End-clause-reads c = λ all events h. has_read_moves all events _ _ _ (returns-in-End-clause-answers c).0 h
 
+pub returns-in-Err-Bad-clause-reads : goal.returns-in-Err-Bad-clause-reads
+returns-in-Err-Bad-clause-reads c = λ all events h. has_read_moves all events _ _ _ (stop_moves c.args.self.now c.stop.new.self c.stop.result c.skip_lines-count.result.count c.skip_lines-count.result.lines
+    (skips_from c.args.self.now c.self.inside.bytes.items c.deref.result.now c.self.inside.at c.self.inside.passed c.self.inside.line c.self.inside.fed c.self.inside.finished c.self.inside.bad c.skip_lines-count.result.count c.skip_lines-count.result.lines c.self.view_is c.deref.ensures.value c.skip_lines-count.ensures.reach)
+    c.stop.ensures.new c.stop.ensures.result) h
+
 pub returns-in_default-clause-reads : goal.returns-in_default-clause-reads
-returns-in_default-clause-reads c = λ all events h. has_read_moves all events _ _ _ (returns-in_default-clause-answers c).0 h
+returns-in_default-clause-reads c = λ all events h. has_read_moves all events _ _ _ (stop_moves c.args.self.now c.stop-in_default.new.self c.stop-in_default.result c.skip_lines-count.result.count c.skip_lines-count.result.lines
+    (skips_from c.args.self.now c.self.inside.bytes.items c.deref.result.now c.self.inside.at c.self.inside.passed c.self.inside.line c.self.inside.fed c.self.inside.finished c.self.inside.bad c.skip_lines-count.result.count c.skip_lines-count.result.lines c.self.view_is c.deref.ensures.value c.skip_lines-count.ensures.reach)
+    c.stop-in_default.ensures.new c.stop-in_default.ensures.result) h
