@@ -53,9 +53,9 @@ module _ {X : Type 0} (key : X → ℕ) where
       grind (arith, nat_tests, place)
 
   -- what stands at the place of its key is found there
-  pub place_at : (xs : List X) → Ascends 0 (map key xs) → (i : ℕ) (x : X) → slice_get xs i ≡ Some x → key x ≡ i → Some i ≡ position (λ y. key y == i) xs
-  place_at xs h i x read is =
-      search_place xs h i (Ok i) (slice_get_within xs i x read) (λ d. sym (nat_cmp_is (key (get_or xs i d)) i Equal (ap key (get_or_from_slice_get xs i x d read) ∙ is)))
+  pub place_at : (xs : List X) → Ascends 0 (map key xs) → (i k : ℕ) (x : X) → slice_get xs i ≡ Some x → key x ≡ k → Some i ≡ position (λ y. key y == k) xs
+  place_at xs h i k x read is =
+      search_place xs h k (Ok i) (slice_get_within xs i x read) (λ d. sym (nat_cmp_is (key (get_or xs i d)) k Equal (ap key (get_or_from_slice_get xs i x d read) ∙ is)))
 
 map-same : (xs : List ℕ) → map (λ x. x) xs ≡ xs
 map-same [] = refl

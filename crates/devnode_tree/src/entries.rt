@@ -23,6 +23,21 @@ fn searched_place(entries: &[Entry], serial: u64) -> Option<usize>
         .ok()
 }
 
+/// The place of the node with a serial, counted from the last node's: right while none behind it has
+/// left, and else found by halves.
+fn place_from_end(entries: &[Entry], serial: u64) -> Option<usize>
+    requires { Ascends 0 (serials_of (nodes_of entries.now)) }
+    ensures { result ≡ position (has_serial serial) entries.now }
+{
+    let last = entries.last()?;
+    let behind = last.node.serial.saturating_sub(serial) as usize;
+    let place = (entries.len() - 1).saturating_sub(behind);
+    match entries.get(place) {
+        Some(entry) if entry.node.serial == serial => Some(place),
+        _ => searched_place(entries, serial),
+    }
+}
+
 /// The place of the node with a serial: the serial itself, while no node before it has left.
 pub(crate) fn place_of(entries: &[Entry], serial: u64) -> Option<usize>
     requires { Ascends 0 (serials_of (nodes_of entries.now)) }
@@ -30,7 +45,7 @@ pub(crate) fn place_of(entries: &[Entry], serial: u64) -> Option<usize>
 {
     match entries.get(serial as usize) {
         Some(entry) if entry.node.serial == serial => Some(serial as usize),
-        _ => searched_place(entries, serial),
+        _ => place_from_end(entries, serial),
     }
 }
 

@@ -8,4 +8,6 @@ pub mod Notings
 pub mod Searching
 pub mod Counting
 pub mod Queueing
+pub mod Falls
+pub mod Descents
 pub mod Relating

@@ -129,7 +129,7 @@ greatest_is (x ∷ xs) k h up =
     by_bound None e b = ap Some e
     by_bound (Some j) e b = ap Some (let f : greater x (Some j) ≡ k = grind (arith, nat_tests) in f)
 
-none_pass : (test : ℕ → Bool) (xs : List ℕ) → ((j : ℕ) → has xs j ≡ true → test j ≡ false) → those test xs ≡ []
+pub none_pass : (test : ℕ → Bool) (xs : List ℕ) → ((j : ℕ) → has xs j ≡ true → test j ≡ false) → those test xs ≡ []
 none_pass test [] h = refl
 none_pass test (x ∷ xs) h =
     ap (λ b. cond b (x ∷ those test xs) (those test xs)) (h x (grind (arith, nat_tests))) ∙ none_pass test xs (λ j q. h j (grind (arith, nat_tests)))

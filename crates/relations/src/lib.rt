@@ -9,6 +9,7 @@ mod relation;
 mod relations;
 mod search;
 mod serial_set;
+mod unrelated;
 
 pub use edges::Edge;
 pub use error::RelateError;

@@ -1,4 +1,4 @@
-ghost use Rattle.std.specs.Prelude.{◌≡◌, ◌≢◌, ◌==◌, [], ◌∷◌, ◌++◌, false, Err, IfOk, OnOk, OnErr, IsSome, filter, map};
+ghost use Rattle.std.specs.Prelude.{◌≡◌, ◌≢◌, ◌==◌, ◌↔◌, IsTrue, [], ◌∷◌, ◌++◌, false, Err, IfOk, OnOk, OnErr, IsSome, filter, map};
 ghost use Rattle.std.specs.List.{list_any};
 ghost use Rattle.pnp_model.specs.Cores.{node_at, forget};
 ghost use Rattle.pnp_model.specs.Events.{is_relation};
@@ -13,6 +13,7 @@ use crate::queue::leave_all;
 use crate::relation::Relation;
 use crate::search::depends_on;
 use crate::serial_set::SerialSet;
+use crate::unrelated::leave_unrelated;
 use device_ids::WantOfMemory;
 use devnode_tree::Tree;
 use pnp_labels::{RelKind, SerialList};
@@ -142,7 +143,18 @@ impl Relations {
         requires { IsSome (node_at target tree.now.nodes) }
         ensures { IfOk result (λ order. IsLeaving tree.now.nodes self.now target order) }
     {
-        leave_all(alloc, tree, self, target)
+        if self.is_empty() {
+            leave_unrelated(alloc, tree, target)
+        } else {
+            leave_all(alloc, tree, self, target)
+        }
+    }
+
+    /// Whether there is none.
+    fn is_empty(&self) -> bool
+        ensures { IsTrue result ↔ (self.now ≡ []) }
+    {
+        self.list.is_empty()
     }
 
     /// Relates two devices that are neither related nor would be a cycle.

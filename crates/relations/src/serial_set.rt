@@ -37,11 +37,21 @@ impl SerialSet {
         }
     }
 
+    /// No serial, with room for so many.
+    fn with_capacity(alloc: Global, capacity: usize) -> Result<SerialSet, WantOfMemory>
+        ensures { IfOk result (λ set. set ≡ []) }
+    {
+        Ok(SerialSet {
+            serials: Vec::with_capacity(alloc, capacity)?,
+            index: HashSet::with_capacity(alloc, capacity)?,
+        })
+    }
+
     /// These serials. Cost: their number.
     pub fn of(alloc: Global, serials: &SerialList) -> Result<SerialSet, WantOfMemory>
         ensures { IfOk result (λ set. set ≡ serials.now) }
     {
-        let mut set = SerialSet::new(alloc);
+        let mut set = SerialSet::with_capacity(alloc, serials.len() as usize)?;
         for at in 0..serials.len() {
             set.push(*serials.get(at))?;
         }
