@@ -35,7 +35,7 @@ fn lesser(first: Option<u32>, second: Option<u32>) -> Option<u32>
 
 /// The least rank at which a line matches, if it does.
 fn line_rank(
-    ids: &GivenIds,
+    ids: &GivenIds<'_>,
     buffer: &mut Vec<u8>,
     line: &ModelLine,
 ) -> Result<Option<u32>, WantOfMemory>
@@ -51,7 +51,7 @@ fn line_rank(
 
 /// The best of what was met before and of the lines of an INF.
 fn best_of_inf<'a>(
-    ids: &GivenIds,
+    ids: &GivenIds<'_>,
     buffer: &mut Vec<u8>,
     number: u32,
     inf: &'a Inf,
@@ -79,7 +79,7 @@ fn best_of_inf<'a>(
 /// The best of all matches, if there are any.
 fn best_match<'a>(
     alloc: Global,
-    ids: &GivenIds,
+    ids: &GivenIds<'_>,
     infs: &'a [Inf],
 ) -> Result<Option<Candidate<'a>>, WantOfMemory>
     requires { length infs.now ≤ 64 }
@@ -96,8 +96,8 @@ fn best_match<'a>(
 /// The drivers of the models line that matches a device best: the first of all matches by rank, then by the newer date,
 /// the higher version, the INF that is named first, and the earlier line. None exactly where no line matches. Conditions:
 /// at most 64 INFs, 64 hardware IDs and 64 compatible IDs. The driver kit, "How Windows Ranks Drivers", has the order of
-/// match types; the number and what follows it are this project's own. Cost: the length of each ID of the INFs, and the
-/// memory of the device's IDs.
+/// match types; the number and what follows it are this project's own. Cost: the length of each ID of the INFs, at
+/// most four times; and where the device has more than four IDs, the memory of these.
 pub fn best(
     alloc: Global,
     infs: &[Inf],
