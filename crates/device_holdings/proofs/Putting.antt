@@ -1,5 +1,5 @@
 -- Pairs that are put into the lists: in any order they give the same lists.
-use Rattle.std.proofs.Common.{◌≡◌, ℕ, zero, suc, ◌≤◌, ◌+◌, List, [], ◌∷◌, ◌++◌, take, drop, length, slice_get, Some, None, Contains, refl, sym, ap, ◌∙◌, subst, arith}
+use Rattle.std.proofs.Common.{◌≡◌, ℕ, zero, suc, ◌≤◌, ◌+◌, List, [], ◌∷◌, ◌++◌, take, drop, length, slice_get, Some, Contains, refl, sym, ap, ◌∙◌, subst, arith}
 use Rattle.std.specs.Prelude.{IsPermutation}
 use Rattle.std.proofs.lemmas.List.{append_assoc}
 use Rattle.std.proofs.lemmas.List.Sorted.{IsPermutation-refl, IsPermutation-cons, IsPermutation-trans}

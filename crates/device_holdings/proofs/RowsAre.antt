@@ -1,13 +1,10 @@
 -- The pairs of the arbiters, one after another, are the rows of the map.
-use Rattle.std.proofs.Common.{◌≡◌, ◌≤◌, List, [], ◌∷◌, ◌++◌, map, refl, sym, ap, ◌∙◌, subst}
+use Rattle.std.proofs.Common.{◌≡◌, ◌≤◌, List, map, refl, sym, ap, ◌∙◌, subst}
 use Rattle.std.specs.List.{AllByRecursion}
 use Rattle.std.proofs.lemmas.List.Elements.{All-from_recursion, recursion_from_All}
 use Rattle.std.proofs.lemmas.List.Sorted.{All-permutation, IsPermutation-sym}
 use Rattle.range_arbiter.specs.Pairs.{Pair}
-use Rattle.resource_reqs.specs.declared.kind.Kind.{Kind}
-use Rattle.trial_journal.specs.ByKind.{Arbiters, of_kind, kind_order, all_kinds, lists_of, all_pairs}
-use Rattle.trial_journal.proofs.EachKind.{all_each}
-use Rattle.trial_journal.proofs.KindsApart.{pairs_at, pairs_in, pairs_in_more}
+use Rattle.trial_journal.specs.ByKind.{Arbiters, all_kinds, all_pairs}
 use Rattle.pnp_model.specs.Keyed.{in_order}
 use Rattle.pnp_model.specs.Endings.{row_before, map_rows}
 use Rattle.pnp_model.specs.Records.{Core}

@@ -4,7 +4,7 @@ ghost use Rattle.pnp_model.specs.Cores.{node_at, bare, with_holds};
 ghost use Rattle.trial_journal.specs.ByKind.{lists_of};
 ghost use Rattle.devnode_tree.specs.Trees.{changed, IsTree};
 ghost use Rattle.device_holdings.specs.Giving.{given, with_part};
-ghost use Rattle.device_holdings.specs.Mirrors.{Mirrors, IsMirrored, KeepsMirror, HasRoom};
+ghost use Rattle.device_holdings.specs.Mirrors.{AreFew, Mirrors, IsMirrored, KeepsMirror, HasRoom};
 
 use crate::pairs::{make_room, put_all, take_all};
 use assign_search::Plan;
@@ -42,6 +42,19 @@ fn replace(tree: &mut Tree, arbiters: &mut Arbiters, serial: u64, holds: ResList
     take_all(arbiters, Owner::Device(serial), &old);
 }
 
+/// The same as `make_room`, where few pairs are held: for no pair there is room always, as at the start of a device that
+/// gets nothing.
+fn room_for(arbiters: &mut Arbiters, more: u64) -> Result<(), WantOfMemory>
+    requires { AreFew (lists_of arbiters.old) }
+    ensures room { OnOk result (HasRoom arbiters.new more) }
+    ensures same { lists_of arbiters.new ≡ lists_of arbiters.old }
+{
+    if more == 0 {
+        return Ok(());
+    }
+    make_room(arbiters, more)
+}
+
 /// A device gets these holdings in place of its own, in the tree and in the arbiters. Conditions: the device is
 /// there, and the arbiters hold just what is reserved and what devices hold; this is kept. After want of memory tree
 /// and arbiters are as before; more than 2^29 pairs of a kind are want of memory too. Cost: as `release`, for the
@@ -59,7 +72,7 @@ pub fn assign(
     ensures tree { OnErr result (tree.new ≡ tree.old) }
     ensures held { OnErr result (lists_of arbiters.new ≡ lists_of arbiters.old) }
 {
-    make_room(arbiters, holds.len())?;
+    room_for(arbiters, holds.len())?;
     replace(tree, arbiters, serial, holds);
     Ok(())
 }
@@ -136,7 +149,7 @@ pub fn assign_all(
     ensures held { OnErr result (lists_of arbiters.new ≡ lists_of arbiters.old) }
 {
     let mut parts = parts_of(alloc, plan)?;
-    make_room(arbiters, resources_in(&parts))?;
+    room_for(arbiters, resources_in(&parts))?;
     'parts: while let Some(holds) = parts.pop() {
         give(tree, arbiters, serials, parts.len(), holds);
     }

@@ -8,5 +8,6 @@ mod given;
 pub mod laws;
 mod ranking;
 
+pub use candidate::Candidate;
 pub use choice::Choice;
-pub use ranking::best;
+pub use ranking::{best, best_line};

@@ -1,7 +1,7 @@
 //! The best of all matches, in one pass over the models lines.
 ghost use Rattle.std.specs.Prelude.{◌≡◌, ◌≤◌, ◌↔◌, length, [], IfOk, IsNone, option_map, nat_lt};
-ghost use Rattle.driver_rank.specs.Best.{best, given_of, matches};
-ghost use Rattle.driver_rank.specs.First.{first_of};
+ghost use Rattle.driver_rank.specs.Best.{best, given_of, is_better, matches};
+ghost use Rattle.driver_rank.specs.First.{first_of, least_of};
 ghost use Rattle.driver_rank.specs.Lookups.{base_found};
 ghost use Rattle.driver_rank.specs.Passes.{line_rank, best_from, best_of_infs};
 ghost use Rattle.driver_rank.specs.Candidates.{match_of};
@@ -35,7 +35,7 @@ fn lesser(first: Option<u32>, second: Option<u32>) -> Option<u32>
 
 /// The least rank at which a line matches, if it does.
 fn line_rank(
-    ids: &GivenIds,
+    ids: &GivenIds<'_>,
     buffer: &mut Vec<u8>,
     line: &ModelLine,
 ) -> Result<Option<u32>, WantOfMemory>
@@ -51,7 +51,7 @@ fn line_rank(
 
 /// The best of what was met before and of the lines of an INF.
 fn best_of_inf<'a>(
-    ids: &GivenIds,
+    ids: &GivenIds<'_>,
     buffer: &mut Vec<u8>,
     number: u32,
     inf: &'a Inf,
@@ -79,7 +79,7 @@ fn best_of_inf<'a>(
 /// The best of all matches, if there are any.
 fn best_match<'a>(
     alloc: Global,
-    ids: &GivenIds,
+    ids: &GivenIds<'_>,
     infs: &'a [Inf],
 ) -> Result<Option<Candidate<'a>>, WantOfMemory>
     requires { length infs.now ≤ 64 }
@@ -93,11 +93,29 @@ fn best_match<'a>(
     Ok(found)
 }
 
+/// The models line that matches a device best, with its INF: the first of all matches in the order of `best`, and none
+/// exactly where no line matches. Who reads what it gives need not copy it. Conditions and cost as of `best`, without what
+/// the line gives.
+pub fn best_line<'a>(
+    alloc: Global,
+    infs: &'a [Inf],
+    hw: &IdList,
+    compat: &IdList,
+) -> Result<Option<Candidate<'a>>, WantOfMemory>
+    requires infs { length infs.now ≤ 64 }
+    requires hw { length hw.now ≤ 64 }
+    requires compat { length compat.now ≤ 64 }
+    ensures { IfOk result (λ found. option_map match_of found ≡ least_of is_better (matches (given_of hw.now compat.now) infs.now)) }
+{
+    let ids = GivenIds::new(alloc, hw, compat)?;
+    best_match(alloc, &ids, infs)
+}
+
 /// The drivers of the models line that matches a device best: the first of all matches by rank, then by the newer date,
 /// the higher version, the INF that is named first, and the earlier line. None exactly where no line matches. Conditions:
 /// at most 64 INFs, 64 hardware IDs and 64 compatible IDs. The driver kit, "How Windows Ranks Drivers", has the order of
-/// match types; the number and what follows it are this project's own. Cost: the length of each ID of the INFs, and the
-/// memory of the device's IDs.
+/// match types; the number and what follows it are this project's own. Cost: the length of each ID of the INFs, at
+/// most four times; and where the device has more than four IDs, the memory of these.
 pub fn best(
     alloc: Global,
     infs: &[Inf],
@@ -110,8 +128,7 @@ pub fn best(
     ensures best { IfOk result (λ choice. choice ≡ best infs.now hw.now compat.now) }
     ensures none { IfOk result (λ choice. IsNone choice ↔ (matches (given_of hw.now compat.now) infs.now ≡ [])) }
 {
-    let ids = GivenIds::new(alloc, hw, compat)?;
-    match best_match(alloc, &ids, infs)? {
+    match best_line(alloc, infs, hw, compat)? {
         Some(found) => Ok(Some(choice_of(alloc, &found)?)),
         None => Ok(None),
     }

@@ -1,8 +1,8 @@
 -- The answer to the search for the resources of a device is a step of the machine.
-use Rattle.std.proofs.Common.{◌≡◌, ℕ, List, [], ◌∷◌, Option, Some, refl, sym, ap, ◌∙◌, subst, arith}
+use Rattle.std.proofs.Common.{◌≡◌, ℕ, List, [], ◌∷◌, Option, Some, refl, sym, ap, ◌∙◌, subst, arith, length}
 use Rattle.std.proofs.lemmas.Bool.Decides.{nat_tests}
-use Rattle.resource_reqs.specs.Resources.{Res}
-use Rattle.resource_reqs.specs.Spelling.{IsAnswer}
+use Rattle.resource_reqs.specs.Resources.{Res, Reqs}
+use Rattle.resource_reqs.specs.Spelling.{IsAnswer, IsPlan}
 use Rattle.pnp_labels.specs.Texts.{Text}
 use Rattle.pnp_labels.specs.declared.label.Label.{Label}
 use Rattle.pnp_labels.specs.declared.states.Problem.{Problem}
@@ -20,6 +20,7 @@ use Rattle.trial_journal.specs.ByKind.{Arbiters}
 use Rattle.assign_search.specs.Fixed.{answer_of}
 use Rattle.assign_search.specs.declared.plan.Found.{Found}
 use Rattle.assign_search.specs.declared.plan.Found.TheVariants.{Assignment, NoFit, Spent}
+use Rattle.assign_search.proofs.Planning.{plan_at_once}
 use Rattle.device_holdings.specs.Mirrors.{Mirrors}
 use Rattle.device_holdings.specs.Answers.{held_beside, Answers}
 use Rattle.start_sequence.specs.Steps.{Done}
@@ -30,6 +31,18 @@ use Rattle.start_sequence.specs.declared.next.StartStep.TheVariants as steps
 pub own_serial : (k : ℕ) (n : Node) (nodes : List Node) → node_at k nodes ≡ Some n → n.serial ≡ k
 own_serial k n [] h = cc
 own_serial k n (x ∷ xs) h = grind (arith, nat_tests, own_serial k n xs)
+
+none_of : {X : Type 0} (xs : List X) → length xs ≡ 0 → xs ≡ []
+none_of [] h = refl
+none_of (x ∷ xs) h = absurd (omega arith)
+
+-- a device that requires nothing has its answer at once: nothing
+pub nothing_needed : (budget k : ℕ) (nodes : List Node) (a : Arbiters) (node : Node) → node_at k nodes ≡ Some node → length node.reqs ≡ 0
+    → Answers nodes a (k ∷ []) budget (Assignment ([] ∷ []))
+nothing_needed budget k nodes a node at none reserved mirrors =
+    let fixed = held_beside reserved nodes (k ∷ []) in
+    subst (λ (o : Option Node). IsPlan fixed (reqs_of o ∷ []) budget ([] ∷ [])) (sym at)
+    (subst (λ (r : Reqs). IsPlan fixed (r ∷ []) budget ([] ∷ [])) (sym (none_of node.reqs none)) (plan_at_once fixed ([] ∷ []) budget (refl, tt)))
 
 module _ (budget k : ℕ) (nodes : List Node) (a : Arbiters) (node : Node) (at : node_at k nodes ≡ Some node) (path : Text) (named : path ≡ node.path)
     (around : Core) (mirrors : Mirrors around.reserved nodes a) where

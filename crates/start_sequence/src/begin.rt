@@ -8,6 +8,8 @@ ghost use Rattle.device_holdings.specs.Mirrors.{KeepsMirror};
 ghost use Rattle.start_sequence.specs.Begins.{settings_of, step_of, AppendedBy, ChosenBy, HasFewIds, BegunFor};
 ghost use Rattle.start_sequence.specs.Works.{phase_of};
 ghost use Rattle.pnp_model.specs.Starts.{adding};
+ghost use Rattle.driver_rank.specs.Best.{choice_of};
+ghost use Rattle.driver_rank.specs.Candidates.{match_of};
 
 use crate::pending::Pending;
 use crate::work::{Phase, StartWork};
@@ -15,7 +17,7 @@ use device_ids::{Text, TextList, WantOfMemory};
 use device_stack::driver_name;
 use devnode_tree::{Node, Tree};
 use driver_rack::Drivers;
-use driver_rank::{Choice, best};
+use driver_rank::{Candidate, best_line};
 use inf_reader::Inf;
 use pnp_labels::{Label, Problem};
 use std::alloc::Global;
@@ -60,31 +62,31 @@ fn are_few(lower: u64, upper: u64) -> bool
     lower < MOST_DRIVERS && upper < MOST_DRIVERS - lower
 }
 
-/// The drivers of a choice by their numbers, with the function driver between the filters; or the problem where the
-/// choice names no service, too many drivers, or one that is not in the rack.
-#[tactic(auto, using(crate::proofs::Choosing::chosen_whole))]
-fn numbered<R: Drivers>(alloc: Global, rack: &R, choice: &Choice) -> Result<Chosen, WantOfMemory>
-    ensures { IfOk result (λ chosen. ChosenBy (R.rows rack.now) choice.now chosen) }
+/// The drivers of the best line by their numbers, with the function driver between the filters; or the problem where the
+/// line names no service, too many drivers, or one that is not in the rack.
+fn numbered<R: Drivers>(alloc: Global, rack: &R, best: &Candidate) -> Result<Chosen, WantOfMemory>
+    ensures { IfOk result (λ chosen. ChosenBy (R.rows rack.now) (choice_of (match_of best.now)) chosen) }
 {
-    let Some(service) = &choice.service else {
+    let line = best.line;
+    let Some(service) = &line.service else {
         return Ok(Chosen::Trouble(Problem::FailedInstall));
     };
-    if !are_few(choice.lower.len(), choice.upper.len()) {
+    if !are_few(line.lower.len(), line.upper.len()) {
         return Ok(Chosen::Trouble(Problem::FailedInstall));
     }
     let mut drivers = VecDeque::new(alloc);
-    if !append_numbers(&mut drivers, rack, &choice.lower)? {
+    if !append_numbers(&mut drivers, rack, &line.lower)? {
         return Ok(Chosen::Trouble(Problem::LoadFailed));
     }
     let Some(driver) = rack.find(service) else {
         return Ok(Chosen::Trouble(Problem::LoadFailed));
     };
     drivers.push_back(driver)?;
-    if !append_numbers(&mut drivers, rack, &choice.upper)? {
+    if !append_numbers(&mut drivers, rack, &line.upper)? {
         return Ok(Chosen::Trouble(Problem::LoadFailed));
     }
     Ok(Chosen::Drivers {
-        rank: choice.rank,
+        rank: best.rank,
         driver,
         drivers: Pending::of(drivers),
     })
@@ -107,9 +109,9 @@ fn choose<R: Drivers>(
     if disabled {
         return Ok(Chosen::Trouble(Problem::Disabled));
     }
-    match best(alloc, infs, &node.hw, &node.compat)? {
+    match best_line(alloc, infs, &node.hw, &node.compat)? {
         None => Ok(Chosen::Trouble(Problem::FailedInstall)),
-        Some(choice) => numbered(alloc, rack, &choice),
+        Some(best) => numbered(alloc, rack, &best),
     }
 }
 

@@ -33,7 +33,8 @@ fn own_part(alloc: Global, plan: &Plan) -> Result<ResList, WantOfMemory>
 impl StartWork {
     /// Resources are searched for the device, beside all that others hold and what is reserved: it gets what is found, in
     /// tree and arbiters, and is to be started; or a rebalance is needed; or the budget was too small, which is the problem
-    /// that is due.
+    /// that is due. A device that requires nothing gets nothing, whatever is held and whatever the budget is, so nothing is
+    /// searched for it.
     #[tactic(auto, using(devnode_tree::proofs::Identities::holds_keep))]
     pub(crate) fn search(
         &mut self,
@@ -55,6 +56,12 @@ impl StartWork {
     {
         let node = tree.at(self.serial);
         let path = Text::make(alloc, node.path.bytes())?;
+        if node.reqs.len() == 0 {
+            assign(tree, arbiters, self.serial, ResList::new(alloc))?;
+            self.phase = Phase::Starting(Walk::begin(Minor::Start));
+            let held = ResList::new(alloc);
+            return Ok(StartStep::Did(Label::Assign { path, held }));
+        }
         match search(alloc, tree, arbiters, &[self.serial], budget)? {
             Found::Assignment(plan) => {
                 let holds = own_part(alloc, &plan)?;

@@ -19,9 +19,9 @@ parts-init c =
     record {
       left = is ∙ sym (take_all (length parts) plan (omega arith));
       so_far = ap (λ (ns : List Node). record { nodes = ns; next = c.args.tree.now.next }) (none_yet (drop (length parts) c.args.serials.now) (drop (length parts) plan) c.args.tree.now.nodes (drop_of_length-le plan (omega arith)));
-      mirrors = λ reserved m. mirrors_same reserved c.args.tree.now.nodes c.args.arbiters.now c.make_room.new.arbiters c.in_ok-make_room.ensures.same m;
-      room = room_for_all c.make_room.new.arbiters (sum_by length parts)
-          (subst (λ (l : List (List Res)). HasRoom c.make_room.new.arbiters (min (sum_by length l) (2 ^ 64 - 1))) c.deref.ensures.value (subst (λ (n : ℕ). HasRoom c.make_room.new.arbiters n) c.resources_in.ensures c.in_ok-make_room.ensures.room));
+      mirrors = λ reserved m. mirrors_same reserved c.args.tree.now.nodes c.args.arbiters.now c.room_for.new.arbiters c.in_ok-room_for.ensures.same m;
+      room = room_for_all c.room_for.new.arbiters (sum_by length parts)
+          (subst (λ (l : List (List Res)). HasRoom c.room_for.new.arbiters (min (sum_by length l) (2 ^ 64 - 1))) c.deref.ensures.value (subst (λ (n : ℕ). HasRoom c.room_for.new.arbiters n) c.resources_in.ensures c.in_ok-room_for.ensures.room));
     }
 
 pub parts-preserved : goal.parts-preserved

@@ -1,5 +1,4 @@
-use Rattle.std.proofs.Common.{◌≡◌, map, ◌∙◌, ap, subst, sym}
-use Rattle.trial_journal.specs.ByKind.{all_pairs}
+use Rattle.std.proofs.Common.{map, ◌∙◌, ap, subst}
 use Rattle.device_holdings.specs.MapRows.{row_of}
 use Rattle.device_holdings.proofs.RowsAre.{EndInOrder, rows_are}
 use Rattle.device_holdings.proofs.rows.map_rows.Goals as goal
