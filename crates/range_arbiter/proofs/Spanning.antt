@@ -1,9 +1,9 @@
 -- What a span covers, of no pairs, of one, and of two lists together.
-use Rattle.std.proofs.Common.{◌≡◌, ℕ, Bool, min, max, ◌+◌, ◌<◌, ◌≤◌, ◌⊎◌, inl, inr, List, [], ◌∷◌, ◌++◌, refl, sym, subst, arith}
+use Rattle.std.proofs.Common.{◌≡◌, ℕ, Bool, IsTrue, false, min, max, ◌+◌, ◌<◌, ◌≤◌, ◌⊎◌, inl, inr, List, [], ◌∷◌, ◌++◌, refl, sym, subst, arith}
 use native.Mathlib.Decide.{dec_le}
 use Rattle.range_arbiter.specs.Pairs.{Pair}
 use Rattle.range_arbiter.specs.Orders.{In}
-use Rattle.range_arbiter.specs.Spans.{Blocks, IsMet, Covers}
+use Rattle.range_arbiter.specs.Spans.{Blocks, IsMet, Covers, NoneShares}
 use Rattle.range_arbiter.specs.declared.span.Span.{Span}
 use Rattle.range_arbiter.proofs.InOrder.{in_append, in_left, in_right}
 
@@ -53,6 +53,25 @@ covers_front shared xs ys a b none front back = record {
   where
     before : (p : Pair) → In p (xs ++ ys) → Blocks shared p.1 → In p xs
     before p i blocks = elim (in_append p xs ys i) [ inl k ↦ k | inr k ↦ absurd (let some = back.some p k blocks in omega arith) ]
+
+-- where none shares, what is known of all is known of those that do not share
+pub covers_any : (shared : Bool) (xs : List Pair) (s : Span) → NoneShares xs → Covers false xs s → Covers shared xs s
+covers_any shared xs s none covers = record {
+  some = λ p i blocks. covers.some p i (λ both. none p i both.0);
+  low = λ p i blocks. covers.low p i (λ both. none p i both.0);
+  high = λ p i blocks. covers.high p i (λ both. none p i both.0);
+  met = λ first last some within near long.
+      let (p, i, blocks, n, lo, hi, from, to) = covers.met first last some within near long in
+      (p, i, (λ both. none p i both.0), n, lo, hi, from, to);
+}
+
+-- none of both lists, and the pair between them
+pub none_node : (xs ys : List Pair) (p : Pair) → NoneShares xs → (IsTrue p.1.shared → ⊥) → NoneShares ys → NoneShares (xs ++ p ∷ ys)
+none_node xs ys p front here back q i shares = elim (in_append q xs (p ∷ ys) i) [
+  | inl k ↦ front q k shares
+  | inr (inl e) ↦ here (subst (λ (z : Pair). IsTrue z.1.shared) e shares)
+  | inr (inr k) ↦ back q k shares
+]
 
 -- how much is free between two spans
 abbrev pub Between : Span → Span → ℕ → Type 0

@@ -9,6 +9,10 @@ use Rattle.range_arbiter.specs.declared.span.Span.{Span}
 abbrev pub Blocks : Bool → Res → Type 0
 Blocks shared res = IsTrue res.shared × IsTrue shared → ⊥
 
+-- none of the pairs shares
+abbrev pub NoneShares : List Pair → Type 0
+NoneShares pairs = (p : Pair) → In p pairs → IsTrue p.1.shared → ⊥
+
 -- a pair that can stand in the way holds a number from the first to the last of these
 abbrev pub IsMet : Bool → List Pair → ℕ → ℕ → Type 0
 IsMet shared pairs first last =

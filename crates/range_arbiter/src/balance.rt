@@ -5,13 +5,17 @@ use crate::tree::{Node, Top, Tree};
 use std::mem;
 
 /// The tree of a node, of which count and spans are made anew from its sides.
+#[inline(always)]
 pub fn closed(mut node: Box<Node>) -> Tree
     requires { length (pairs_at node.value) < 2 ^ 32 }
     ensures { result ≡ pairs_at node.value }
 {
-    node.count = node.left.count() + 1 + node.right.count();
-    node.all = node.span(false);
-    node.unshared = node.span(true);
+    let count = node.left.count() + 1 + node.right.count();
+    let all = node.span(false);
+    let unshared = node.unshared_span();
+    node.count = count;
+    node.all = all;
+    node.unshared = unshared;
     Tree {
         top: Top::Full(node),
     }

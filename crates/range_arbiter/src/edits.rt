@@ -2,7 +2,7 @@ ghost use Rattle.std.specs.Prelude.{◌≡◌, ◌<◌, ◌+◌, ◌^◌, [], �
 ghost use Rattle.range_arbiter.specs.Pairs.{Pair, pairs_with};
 ghost use Rattle.range_arbiter.specs.Orders.{In, IsOrdered, AreOfKind};
 
-use crate::balance::{balanced, closed};
+use crate::balance::balanced;
 use crate::order::comes_before;
 use crate::tree::{Node, Top, Tree};
 use resource_reqs::{Owner, Res};
@@ -34,18 +34,20 @@ fn between(left: Tree, mut node: Box<Node>, right: Tree) -> Tree
 }
 
 /// The tree with a pair put in at its place, in the node that is passed. Cost: the height of the tree.
-pub fn with_pair(tree: Tree, pair: (Owner, Res), mut node: Box<Node>) -> Tree
+pub fn with_pair(tree: Tree, pair: &(Owner, Res), mut node: Box<Node>) -> Tree
     requires in_order { IsOrdered tree }
     requires small { length tree + 1 < 2 ^ 32 }
-    ensures { result ≡ pairs_with tree pair }
+    ensures { result ≡ pairs_with tree pair.now }
 {
     match opened(tree) {
         None => {
-            *node = Node::single(pair);
-            closed(node)
+            *node = Node::single(*pair);
+            Tree {
+                top: Top::Full(node),
+            }
         }
         Some((left, here, right)) => {
-            if comes_before(&here.pair, &pair) {
+            if comes_before(&here.pair, pair) {
                 let with = with_pair(right, pair, node);
                 return between(left, here, with);
             }

@@ -4,6 +4,7 @@ ghost use Rattle.range_arbiter.specs.Pairs.{is_before};
 use resource_reqs::{Owner, Res};
 
 /// Whether the first pair comes before the second: by first number, last number, owner, and sharing.
+#[inline(always)]
 pub fn comes_before(first: &(Owner, Res), second: &(Owner, Res)) -> bool
     ensures { result ≡ is_before first.now second.now }
 {

@@ -1,8 +1,7 @@
 ghost use Rattle.std.specs.Prelude.{◌≡◌, ◌≢◌, ◌≤◌, ◌<◌, ◌+◌, ◌%◌, ◌^◌, ℕ, IfSome, IfNone};
-ghost use Rattle.resource_reqs.specs.Resources.{res_at};
 ghost use Rattle.range_arbiter.specs.Sweeps.{IsStart};
 
-use resource_reqs::{Res, Want};
+use resource_reqs::Want;
 
 /// The least multiple of `align` from `start` to `last`.
 #[tactic(auto, using(crate::proofs::Aligned::unaligned_until, crate::proofs::Aligned::aligned_next))]
@@ -35,17 +34,4 @@ pub fn start_from(want: &Want, from: u64) -> Option<u64>
 {
     let last = want.max - (want.len - 1);
     aligned(from.max(want.min), want.align, last)
-}
-
-/// The resource of a want at a start.
-pub fn place_at(want: &Want, start: u64) -> Res
-    requires { start + want.now.len ≤ 2 ^ 64 }
-    ensures { result ≡ res_at want.now start }
-{
-    Res {
-        kind: want.kind,
-        lo: start,
-        hi: start + (want.len - 1),
-        shared: want.shared,
-    }
 }

@@ -1,11 +1,12 @@
-ghost use Rattle.std.specs.Prelude.{◌≡◌, ◌≤◌, ◌<◌, [], ◌∷◌, ℕ, IfOk, IfErr};
+ghost use Rattle.std.specs.Prelude.{◌≡◌, ◌↔◌, ◌≤◌, ◌<◌, ◌+◌, ◌-◌, [], ◌∷◌, ℕ, IsTrue, IfOk, IfErr};
+ghost use Rattle.resource_reqs.specs.Resources.{Clash, res_at};
 ghost use Rattle.range_arbiter.specs.Orders.{IsOrdered, AreOfKind};
 ghost use Rattle.range_arbiter.specs.Sweeps.{IsStart, Passed, EndedWith};
 ghost use Rattle.range_arbiter.specs.declared.sweep.Ended.TheVariants.{Nowhere};
 
-use crate::starts::{place_at, start_from};
+use crate::starts::start_from;
 use crate::tree::{Node, Top, Tree};
-use resource_reqs::{Owner, Res, Want, clash};
+use resource_reqs::{Owner, Res, Want};
 
 /// How a sweep ends before it is past all pairs.
 #[derive(Clone, Copy, Debug)]
@@ -31,6 +32,18 @@ fn start_above(want: &Want, reach: u64) -> Result<u64, Ended>
     }
 }
 
+/// Whether a resource that does not begin beyond a place of the want stands in its way there.
+fn is_in_the_way(other: &Res, want: &Want, place: u64) -> bool
+    requires kind { other.now.kind ≡ want.now.kind }
+    requires near { other.now.lo ≤ place + want.now.len - 1 }
+    ensures { IsTrue result ↔ Clash other.now (res_at want.now place) }
+{
+    if other.hi < place {
+        return false;
+    }
+    !(other.shared && want.shared)
+}
+
 /// Moves a start past one pair.
 fn past_pair(pair: &(Owner, Res), want: &Want, place: u64) -> Result<u64, Ended>
     requires kind { pair.now.1.kind ≡ want.now.kind }
@@ -42,8 +55,7 @@ fn past_pair(pair: &(Owner, Res), want: &Want, place: u64) -> Result<u64, Ended>
     if place + (want.len - 1) < other.lo {
         return Err(Ended::At(place));
     }
-    let res = place_at(want, place);
-    if clash(other, &res) {
+    if is_in_the_way(other, want, place) {
         return start_above(want, other.hi);
     }
     Ok(place)

@@ -1,9 +1,9 @@
-ghost use Rattle.std.specs.Prelude.{◌≡◌, ◌+◌, ◌++◌, [], ◌∷◌, length, slice_get, OnOk};
+ghost use Rattle.std.specs.Prelude.{◌≡◌, ◌+◌, ◌++◌, [], ◌∷◌, true, false, length, slice_get, IfSome, IfNone, OnOk};
 ghost use Rattle.std.specs.List.{list_any};
 ghost use Rattle.resource_reqs.specs.Resources.{clashes};
 ghost use Rattle.range_arbiter.specs.Pairs.{res_list};
-ghost use Rattle.range_arbiter.specs.Spans.{Covers};
-ghost use Rattle.range_arbiter.specs.Trees.{pairs_at};
+ghost use Rattle.range_arbiter.specs.Spans.{Covers, NoneShares};
+ghost use Rattle.range_arbiter.specs.Trees.{pairs_at, IsNode};
 
 use crate::span::{Span, joined};
 use resource_reqs::{Kind, Owner, Res, WantOfMemory, clash};
@@ -41,8 +41,8 @@ pub struct Node {
     pub count: u32,
     /// What is known of them at once.
     pub all: Span,
-    /// What is known at once of those that do not share.
-    pub unshared: Span,
+    /// What is known at once of those that do not share; nothing where none of the pairs shares.
+    pub unshared: Option<Span>,
 }
 
 impl Model for Tree {
@@ -88,7 +88,25 @@ impl Tree {
     {
         match &self.top {
             Top::Empty => Span::nothing(),
-            Top::Full(node) => { if shared { node.unshared } else { node.all } }
+            Top::Full(node) => {
+                if !shared {
+                    return node.all;
+                }
+                match node.unshared {
+                    Some(span) => span,
+                    None => node.all,
+                }
+            }
+        }
+    }
+
+    /// Whether one of the pairs may share.
+    pub fn may_share(&self) -> bool
+        ensures { result ≡ false → NoneShares self.now }
+    {
+        match &self.top {
+            Top::Empty => false,
+            Top::Full(node) => node.unshared.is_some(),
         }
     }
 
@@ -143,17 +161,23 @@ impl Tree {
 }
 
 impl Node {
-    /// The node of one pair, of which nothing is known yet.
+    /// The node of one pair.
     pub fn single(pair: (Owner, Res)) -> Node
-        ensures { pairs_at result ≡ pair ∷ [] }
+        ensures pairs { pairs_at result ≡ pair ∷ [] }
+        ensures known { IsNode result }
     {
+        let unshared = if pair.1.shared {
+            Some(Span::of(&pair, true))
+        } else {
+            None
+        };
         Node {
             left: Tree::new(),
             pair,
             right: Tree::new(),
-            count: 0,
-            all: Span::nothing(),
-            unshared: Span::nothing(),
+            count: 1,
+            all: Span::of(&pair, false),
+            unshared,
         }
     }
 
@@ -169,10 +193,34 @@ impl Node {
     }
 
     /// What is known of its pairs at once, by what is known of its sides.
+    #[inline(always)]
     pub fn span(&self, shared: bool) -> Span
         ensures { Covers shared (pairs_at self.now) result }
     {
         let back = joined(Span::of(&self.pair, shared), self.right.span(shared));
         joined(self.left.span(shared), back)
+    }
+
+    /// Whether one of its pairs may share, by what is known of its sides.
+    pub fn may_share(&self) -> bool
+        ensures { result ≡ false → NoneShares (pairs_at self.now) }
+    {
+        let res = &self.pair.1;
+        if res.shared || self.left.may_share() {
+            return true;
+        }
+        self.right.may_share()
+    }
+
+    /// What is known at once of those of its pairs that do not share, by what is known of its sides; nothing where none
+    /// of its pairs shares.
+    pub fn unshared_span(&self) -> Option<Span>
+        ensures some { IfSome result (λ s. Covers true (pairs_at self.now) s) }
+        ensures none { IfNone result (NoneShares (pairs_at self.now)) }
+    {
+        if self.may_share() {
+            return Some(self.span(true));
+        }
+        None
     }
 }

@@ -20,10 +20,10 @@ between-requires t c =
     let n = c.in-Some.here.value in
     let w : c.args.tree ≡ c.in-Some.left ++ n.pair ∷ c.in-Some.right = cc (c.in-Some.ensures.some, c.in-Some.left-is, c.in-Some.here-is, c.in-Some.right-is) in
     let d : c.deref.result.now ≡ n = cc c.deref.ensures in
-    let before : is_before n.pair c.args.pair ≡ true = subst (λ m. is_before m.pair c.args.pair ≡ true) d (sym c.comes_before.ensures ∙ c.if-comes_before.true) in
-    let e : c.in-Some.left ++ n.pair ∷ c.with_pair-with.result ≡ pairs_with c.args.tree c.args.pair =
-    ap (λ l. c.in-Some.left ++ n.pair ∷ l) c.with_pair-with.ensures ∙ put_behind c.args.tree c.in-Some.left n.pair c.in-Some.right c.args.pair w c.requires.in_order before in
-    let longer : length (pairs_with c.args.tree c.args.pair) ≡ length c.args.tree + 1 = length-pairs_with c.args.tree c.args.pair in
+    let before : is_before n.pair c.args.pair.now ≡ true = subst (λ m. is_before m.pair c.args.pair.now ≡ true) d (sym c.comes_before.ensures ∙ c.if-comes_before.true) in
+    let e : c.in-Some.left ++ n.pair ∷ c.with_pair-with.result ≡ pairs_with c.args.tree c.args.pair.now =
+    ap (λ l. c.in-Some.left ++ n.pair ∷ l) c.with_pair-with.ensures ∙ put_behind c.args.tree c.in-Some.left n.pair c.in-Some.right c.args.pair.now w c.requires.in_order before in
+    let longer : length (pairs_with c.args.tree c.args.pair.now) ≡ length c.args.tree + 1 = length-pairs_with c.args.tree c.args.pair.now in
     let same = ap length e in
     let small = c.requires.small in
     omega (arith, same, longer, small)
@@ -33,9 +33,9 @@ returns-then-comes_before t c =
     let n = c.in-Some.here.value in
     let w : c.args.tree ≡ c.in-Some.left ++ n.pair ∷ c.in-Some.right = cc (c.in-Some.ensures.some, c.in-Some.left-is, c.in-Some.here-is, c.in-Some.right-is) in
     let d : c.deref.result.now ≡ n = cc c.deref.ensures in
-    let before : is_before n.pair c.args.pair ≡ true = subst (λ m. is_before m.pair c.args.pair ≡ true) d (sym c.comes_before.ensures ∙ c.if-comes_before.true) in
-    let e : c.in-Some.left ++ n.pair ∷ c.with_pair-with.result ≡ pairs_with c.args.tree c.args.pair =
-    ap (λ l. c.in-Some.left ++ n.pair ∷ l) c.with_pair-with.ensures ∙ put_behind c.args.tree c.in-Some.left n.pair c.in-Some.right c.args.pair w c.requires.in_order before in
+    let before : is_before n.pair c.args.pair.now ≡ true = subst (λ m. is_before m.pair c.args.pair.now ≡ true) d (sym c.comes_before.ensures ∙ c.if-comes_before.true) in
+    let e : c.in-Some.left ++ n.pair ∷ c.with_pair-with.result ≡ pairs_with c.args.tree c.args.pair.now =
+    ap (λ l. c.in-Some.left ++ n.pair ∷ l) c.with_pair-with.ensures ∙ put_behind c.args.tree c.in-Some.left n.pair c.in-Some.right c.args.pair.now w c.requires.in_order before in
     c.between.ensures ∙ e
 
 pub with_pair-with-requires-in-Some : goal.with_pair-with-requires-in-Some
@@ -53,10 +53,10 @@ between-requires-in-Some t c =
     let n = c.in-Some.here.value in
     let w : c.args.tree ≡ c.in-Some.left ++ n.pair ∷ c.in-Some.right = cc (c.in-Some.ensures.some, c.in-Some.left-is, c.in-Some.here-is, c.in-Some.right-is) in
     let d : c.deref.result.now ≡ n = cc c.deref.ensures in
-    let other : is_before n.pair c.args.pair ≡ false = subst (λ m. is_before m.pair c.args.pair ≡ false) d (sym c.comes_before.ensures ∙ c.if-comes_before.false) in
-    let e : c.with_pair-with-in-Some.result ++ n.pair ∷ c.in-Some.right ≡ pairs_with c.args.tree c.args.pair =
-    ap (λ l. l ++ n.pair ∷ c.in-Some.right) c.with_pair-with-in-Some.ensures ∙ put_before c.args.tree c.in-Some.left n.pair c.in-Some.right c.args.pair w other in
-    let longer : length (pairs_with c.args.tree c.args.pair) ≡ length c.args.tree + 1 = length-pairs_with c.args.tree c.args.pair in
+    let other : is_before n.pair c.args.pair.now ≡ false = subst (λ m. is_before m.pair c.args.pair.now ≡ false) d (sym c.comes_before.ensures ∙ c.if-comes_before.false) in
+    let e : c.with_pair-with-in-Some.result ++ n.pair ∷ c.in-Some.right ≡ pairs_with c.args.tree c.args.pair.now =
+    ap (λ l. l ++ n.pair ∷ c.in-Some.right) c.with_pair-with-in-Some.ensures ∙ put_before c.args.tree c.in-Some.left n.pair c.in-Some.right c.args.pair.now w other in
+    let longer : length (pairs_with c.args.tree c.args.pair.now) ≡ length c.args.tree + 1 = length-pairs_with c.args.tree c.args.pair.now in
     let same = ap length e in
     let small = c.requires.small in
     omega (arith, same, longer, small)
@@ -66,7 +66,7 @@ returns-else-comes_before t c =
     let n = c.in-Some.here.value in
     let w : c.args.tree ≡ c.in-Some.left ++ n.pair ∷ c.in-Some.right = cc (c.in-Some.ensures.some, c.in-Some.left-is, c.in-Some.here-is, c.in-Some.right-is) in
     let d : c.deref.result.now ≡ n = cc c.deref.ensures in
-    let other : is_before n.pair c.args.pair ≡ false = subst (λ m. is_before m.pair c.args.pair ≡ false) d (sym c.comes_before.ensures ∙ c.if-comes_before.false) in
-    let e : c.with_pair-with-in-Some.result ++ n.pair ∷ c.in-Some.right ≡ pairs_with c.args.tree c.args.pair =
-    ap (λ l. l ++ n.pair ∷ c.in-Some.right) c.with_pair-with-in-Some.ensures ∙ put_before c.args.tree c.in-Some.left n.pair c.in-Some.right c.args.pair w other in
+    let other : is_before n.pair c.args.pair.now ≡ false = subst (λ m. is_before m.pair c.args.pair.now ≡ false) d (sym c.comes_before.ensures ∙ c.if-comes_before.false) in
+    let e : c.with_pair-with-in-Some.result ++ n.pair ∷ c.in-Some.right ≡ pairs_with c.args.tree c.args.pair.now =
+    ap (λ l. l ++ n.pair ∷ c.in-Some.right) c.with_pair-with-in-Some.ensures ∙ put_before c.args.tree c.in-Some.left n.pair c.in-Some.right c.args.pair.now w other in
     c.between-in-Some.ensures ∙ e
