@@ -1,4 +1,4 @@
-ghost use Rattle.std.specs.Prelude.{◌≡◌, ◌↔◌, ◌≤◌, ◌<◌, ◌+◌, ◌-◌, ℕ, IsTrue, IfOk, OnOk, IfSome, IfNone, List, drop, map, length};
+ghost use Rattle.std.specs.Prelude.{◌≡◌, ◌↔◌, ◌≤◌, ◌<◌, ◌+◌, ◌-◌, ℕ, IsTrue, IfOk, OnOk, IfSome, IfNone, List, [], true, drop, get_or, map, length};
 ghost use Rattle.std.specs.List.{AllByRecursion};
 ghost use Rattle.resource_reqs.specs.Resources.{Res};
 ghost use Rattle.assign_search.specs.Fixed.{reqs_of};
@@ -87,6 +87,18 @@ fn is_hit(places: &ResList, res: &Res) -> bool
         }
     }
     false
+}
+
+/// Whether the mover has one list alone, of which it is remembered that each of its groups has an open place.
+pub fn is_known_open(movers: &[Mover], mover: usize, watch: &Watch) -> bool
+    requires { mover < length movers.now }
+    ensures { result ≡ true → (held : List Res) (list : ℕ) → AllWatched held (map reqs_of movers.now) watch.now.sure watch.now.places
+        → list < length (get_or (map reqs_of movers.now) mover []) → AllOpen held (get_or (get_or (map reqs_of movers.now) mover []) list []) }
+{
+    if mover < watch.sure {
+        return false;
+    }
+    reqs_at(movers, mover).len() == 1
 }
 
 /// Whether each mover from this one on has no lists, or one whose every group has an open place, beside a
