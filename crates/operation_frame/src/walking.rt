@@ -51,10 +51,16 @@ pub fn pass_on<R: Drivers>(
     ensures rack { OnErr result (R.rows rack.new ≡ R.rows rack.old) }
 {
     let node = tree.at(serial);
-    let path = Text::make(alloc, node.path.bytes())?;
-    match walk.pass(alloc, &node.stack, &node.path, rack)? {
-        Passed::Asked(label) => Ok(Walked::On(label)),
-        Passed::Ended { refused } => Ok(Walked::Ended { path, refused }),
+    let mut next = *walk;
+    match next.pass(alloc, &node.stack, &node.path, rack)? {
+        Passed::Asked(label) => {
+            *walk = next;
+            Ok(Walked::On(label))
+        }
+        Passed::Ended { refused } => {
+            let path = Text::make(alloc, node.path.bytes())?;
+            Ok(Walked::Ended { path, refused })
+        }
     }
 }
 
