@@ -9,8 +9,6 @@ use Rattle.std.proofs.lemmas.Option.{slice_get_within, get_or_from_slice_get}
 use Rattle.std.proofs.lemmas.Cmp.{ranked}
 use Rattle.std.proofs.lemmas.List.Sums.{position_or_len_is}
 use Rattle.std.proofs.lemmas.Bool.Decides.{nat_tests}
-use Rattle.pnp_model.specs.Keyed.{without_first}
-use Rattle.pnp_model.proofs.Keyed.{without_first_at, without_first_none}
 use Rattle.devnode_tree.specs.Trees.{Ascends}
 
 module _ {X : Type 0} (key : X → ℕ) where
@@ -65,12 +63,9 @@ module _ (xs : List ℕ) (h : Ascends 0 xs) (k : ℕ) where
   pub number_place : (r : Result ℕ ℕ) → IsSearchInRange r (length xs) → IsBinarySearchResult (λ x. nat_cmp x k) xs r → result_ok r ≡ position (λ x. x == k) xs
   number_place = search_place (λ x. x) xs (subst (Ascends 0) (sym (map-same xs)) h) k
 
-  -- a number that a binary search found is taken out
-  pub found_removed : (i : ℕ) → IsSearchInRange (Ok i) (length xs) → IsBinarySearchResult (λ x. nat_cmp x k) xs (Ok i) → remove xs i ≡ without_first (λ x. x == k) xs
-  found_removed i within found = without_first_at (λ x. x == k) xs i (sym (number_place (Ok i) within found))
-
-  pub none_removed : (i : ℕ) → IsSearchInRange (Err i) (length xs) → IsBinarySearchResult (λ x. nat_cmp x k) xs (Err i) → without_first (λ x. x == k) xs ≡ xs
-  none_removed i within found = without_first_none (λ x. x == k) xs (sym (number_place (Err i) within found))
+  -- what stands at a place is found there
+  pub number_at : (i x : ℕ) → slice_get xs i ≡ Some x → x ≡ k → Some i ≡ position (λ x. x == k) xs
+  number_at i x read is = place_at (λ x. x) xs (subst (Ascends 0) (sym (map-same xs)) h) i k x read is
 
 pub ascends_push : (low : ℕ) (ks : List ℕ) (k : ℕ) → Ascends low ks → AllByRecursion (λ j. j < k) ks → low ≤ k → Ascends low (ks ++ k ∷ [])
 ascends_push low [] k h below le = (le, tt)

@@ -25,12 +25,16 @@ impl Model for Births {
     ghost invariant = { λ b. b.ascend ≡ true → Ascends 0 b.list.items };
 }
 
-/// The place of a birth number among ascending ones. Cost: the logarithm of their number.
-fn place_in(list: &[u64], born: u64) -> Option<usize>
+/// The place of a number among ascending ones. The last one is looked at first, since what joined last mostly leaves first. Cost:
+/// the logarithm of their number.
+pub(crate) fn place_in(list: &[u64], number: u64) -> Option<usize>
     requires { Ascends 0 list.now }
-    ensures { result ≡ position (λ b. b == born) list.now }
+    ensures { result ≡ position (λ n. n == number) list.now }
 {
-    list.binary_search(&born).ok()
+    match list.last() {
+        Some(last) if *last == number => Some(list.len() - 1),
+        _ => list.binary_search(&number).ok(),
+    }
 }
 
 /// The first place of a birth number. Cost: their number.

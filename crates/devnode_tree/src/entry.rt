@@ -5,6 +5,7 @@ ghost use Rattle.devnode_tree.specs.Bottoms.{is_full_child};
 ghost use Rattle.devnode_tree.specs.Entries.{with_child, without_child, changed_node};
 ghost use Rattle.devnode_tree.specs.Trees.{Ascends, with_reqs};
 
+use crate::births::place_in;
 use crate::node::Node;
 use device_ids::WantOfMemory;
 use pnp_labels::{DevState, Problem, Stack};
@@ -55,7 +56,7 @@ impl Entry {
         requires { Ascends 0 self.old.children }
         ensures { self.new ≡ without_child serial self.old }
     {
-        if let Ok(place) = self.children.binary_search(&serial) {
+        if let Some(place) = place_in(&self.children, serial) {
             self.children.remove(place);
         }
     }
