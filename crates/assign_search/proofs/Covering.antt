@@ -1,5 +1,5 @@
 -- Ranges that reach over places: what hits a place hits one of them.
-use Rattle.std.proofs.Common.{◌≡◌, ℕ, zero, suc, ◌<◌, ◌≤◌, inl, inr, List, [], ◌∷◌, ◌++◌, take, drop, length, slice_get, get_or, set, IsTrue, Some, refl, sym, ◌∙◌, ap, subst, arith}
+use Rattle.std.proofs.Common.{◌≡◌, ℕ, zero, suc, ◌<◌, ◌≤◌, ◌⊎◌, inl, inr, List, [], ◌∷◌, ◌++◌, take, drop, length, slice_get, get_or, set, IsTrue, Some, refl, sym, ◌∙◌, ap, subst, arith}
 use Rattle.std.proofs.lemmas.Option.{slice_get_within, slice_get-get_or, get_or_from_slice_get}
 use Rattle.std.proofs.lemmas.List.{get_or-set_same, get_or-set_other, length-set}
 use Rattle.std.proofs.lemmas.List.Elements.{Contains-append_left, Contains-push}
@@ -44,6 +44,14 @@ hit_at places x (place, (j, inside, is), clash) = (j, place, slice_get-get_or pl
 
 pub none_hit : (x : Res) → IsHit [] x → ⊥
 none_hit x (place, (j, inside, is), clash) = absurd (omega arith)
+
+-- the first place, and those after it
+pub hit_rest : (p : Res) (rest : List Res) (x : Res) → IsHit rest x → IsHit (p ∷ rest) x
+hit_rest p rest x (place, (j, inside, is), clash) = (place, (suc j, omega arith, is), clash)
+
+pub hit_either : (p : Res) (rest : List Res) (x : Res) → IsHit (p ∷ rest) x → Clash p x ⊎ IsHit rest x
+hit_either p rest x (place, (zero, inside, is), clash) = inl (subst (λ r. Clash r x) (sym is) clash)
+hit_either p rest x (place, (suc j, inside, is), clash) = inr (place, (j, omega arith, is), clash)
 
 -- what a write through a slice of the whole leaves
 pub whole : {X : Type 0} (len : ℕ) (new old : List X) → length old ≡ len → length new ≡ length old → take len (new ++ drop (length new) old) ≡ new

@@ -1,6 +1,7 @@
 -- The first open place of a group, want after want.
-use Rattle.std.proofs.Common.{◌≡◌, ℕ, ◌+◌, ◌<◌, ◌≤◌, inl, inr, List, slice_get, Some, subst, arith}
+use Rattle.std.proofs.Common.{◌≡◌, ℕ, ◌+◌, ◌<◌, ◌≤◌, inl, inr, List, length, slice_get, Some, subst, arith}
 use native.Mathlib.Decide.{dec_lt}
+use Rattle.std.proofs.lemmas.Option.{slice_get_within}
 use Rattle.resource_reqs.specs.Resources.{Res}
 use Rattle.resource_reqs.specs.Resources.{Want}
 use Rattle.resource_reqs.specs.Resources.{May, res_at, IsOpen, Group}
@@ -43,13 +44,24 @@ pub pick_none : (held : List Res) (group : Group) (from : Coord) (w start : ℕ)
     → NoPick held group from (place w start) → NoPickFrom held group from
 pick_none held group from w start within none v t above (want, read, open_) = none v t above (inl (within v want read)) (want, read, open_)
 
--- no pick from the first one on: none at all
-pub none_open : (held : List Res) (group : Group) → NoPickFrom held group (place 0 0) → HasOpen held group → ⊥
-none_open held group none (w, start, picked) = none w start (λ h. go h) picked
+-- no open place of the first want, and none from the second one on: none at all
+pub none_after : (held : List Res) (group : Group) (want : Want) → slice_get group 0 ≡ Some want → ((t : ℕ) → IsOpen held want t → ⊥)
+    → NoPickFrom held group (place 1 0) → HasOpen held group → ⊥
+none_after held group want read here none (w, start, picked) =
+    elim (dec_lt 0 w) [
+      | yes l ↦ none w start (behind w start l) picked
+      | no l ↦
+          let e : w ≡ 0 = omega arith in
+          here start (open_same held group 0 start want read (subst (λ x. OpenPick held group x start) e picked))
+    ]
   where
-    go : Less (place w start) (place 0 0) → ⊥
-    go (inl h) = omega arith
-    go (inr (e, h)) = omega arith
+    behind : (v t : ℕ) → 0 < v → Less (place v t) (place 1 0) → ⊥
+    behind v t above (inl h) = omega arith
+    behind v t above (inr (e, h)) = omega arith
+
+-- nothing is open where there is no want
+pub none_of_none : (held : List Res) (group : Group) → length group ≡ 0 → HasOpen held group → ⊥
+none_of_none held group none (w, start, (want, read, open_)) = let within : w < length group = slice_get_within group w want read in omega arith
 
 -- what comes after a place, where nothing but starts beyond the want's range stands between
 pub next_pick : (group : Group) (w start : ℕ) (want : Want) (next : Coord) → slice_get group w ≡ Some want → Less (place w start) next

@@ -101,6 +101,32 @@ list_watched held reqs k list places read watches other leaves = inr (k, list, r
 pub none_watched : (held : List Res) (reqs : Reqs) (places : List Res) → reqs ≡ [] → Watches held reqs places
 none_watched held reqs places none other leaves = inl none
 
+-- all of a list, and all of what is left of it
+pub open_left : (held : List Res) (list : AltList) (from : ℕ) → AllOpen held list → AllOpen held (drop from list)
+open_left held [] zero all = all
+open_left held [] (suc from) all = all
+open_left held (group ∷ list) zero all = all
+open_left held (group ∷ list) (suc from) all = open_left held list from all.1
+
+-- the only list of a mover that has an open one
+only_of : (held : List Res) (reqs : Reqs) (list : ℕ) → length reqs ≡ 1 → HasOpenList held reqs → list < length reqs → AllOpen held (get_or reqs list [])
+only_of held reqs list one (inl none) inside = absurd (let empty = ap length none in omega (arith, empty))
+only_of held reqs list one (inr (k, l, read, open_)) inside =
+    let within : k < length reqs = slice_get_within reqs k l read in
+    let same : k ≡ list = omega arith in
+    let is : Some (get_or reqs list []) ≡ Some l = sym (slice_get-get_or reqs list [] inside) ∙ subst (λ i. slice_get reqs i ≡ Some l) same read in
+    let e : l ≡ get_or reqs list [] = cc in
+    subst (AllOpen held) e open_
+
+pub only_open : (held : List Res) (ms : List Reqs) (sure : ℕ) (watched : List (List Res)) (mover list : ℕ) (reqs : Reqs) → slice_get ms mover ≡ Some reqs → length reqs ≡ 1
+    → sure ≤ mover → AllWatched held ms sure watched → list < length (get_or ms mover []) → AllOpen held (get_or (get_or ms mover []) list [])
+only_open held ms sure watched mover list reqs read one from all inside =
+    let within : mover < length ms = slice_get_within ms mover reqs read in
+    let is : Some (get_or ms mover []) ≡ Some reqs = sym (slice_get-get_or ms mover [] within) ∙ read in
+    let e : reqs ≡ get_or ms mover [] = cc in
+    only_of held (get_or ms mover []) list (sym (ap length e) ∙ one)
+    (watched_open held (get_or ms mover []) (get_or watched mover []) (subst (λ r. Watches held r (get_or watched mover [])) e (all mover reqs from read))) inside
+
 -- The movers from one on, so far ---------------------------------------------------------
 
 -- What a walk over later movers keeps: those before a mover are seen to beside the resource, the places of the others are as they were.

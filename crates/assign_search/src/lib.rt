@@ -7,6 +7,7 @@ pub mod laws;
 mod live;
 mod look;
 mod mover;
+mod place_list;
 mod places;
 mod plan;
 mod problem;

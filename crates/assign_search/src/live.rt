@@ -8,14 +8,15 @@ ghost use Rattle.assign_search.specs.Watching.{AllWatched, AddsStep, Within};
 use crate::look::{all_lists, all_open, groups_beside};
 use crate::mover::{Mover, groups_of};
 use crate::spots::{Child, Spot};
-use crate::watch::{Watch, lists_beside};
+use crate::watch::{Watch, is_known_open, lists_beside};
 use resource_reqs::WantOfMemory;
 use std::alloc::Global;
 use trial_journal::Arbiters;
 
 /// Whether each group and each mover that is left after a child has an open place or list, where all had
-/// one before it. A list that is chosen leaves the later movers as they are; a place is looked at beside the
-/// groups that it touches, and beside the movers whose places it hits.
+/// one before it. A list that is chosen leaves the later movers as they are, and where it is the only one of a mover
+/// that is watched nothing is looked at; a place is looked at beside the groups that it touches, and beside the movers
+/// whose places it hits.
 pub fn is_live_child(
     alloc: Global,
     board: &Arbiters,
@@ -27,6 +28,7 @@ pub fn is_live_child(
     requires long { length watch.old.places ≡ length movers.now }
     ensures long { length watch.new.places ≡ length movers.now }
     ensures listed { child.now.res ≡ None → AllByRecursion (HasOpenList (held_in board.now)) (movers_at (map reqs_of movers.now) child.now.spot)
+        → AllWatched (held_in board.now) (map reqs_of movers.now) watch.old.sure watch.old.places
         → IfOk result (λ live. IsTrue live ↔ AllOpen (held_in board.now) (groups_at (map reqs_of movers.now) child.now.spot)) }
     ensures placed { (res : Res) (before : List Res) → child.now.res ≡ Some res → Adds before res (held_in board.now)
         → AllWatched before (map reqs_of movers.now) watch.old.sure watch.old.places
@@ -45,7 +47,12 @@ pub fn is_live_child(
         Spot::Inside(mover, list, group) => {
             let groups = groups_of(movers, mover, list);
             match &child.res {
-                None => Ok(all_open(board, groups, group)),
+                None => {
+                    if is_known_open(movers, mover, watch) {
+                        return Ok(true);
+                    }
+                    Ok(all_open(board, groups, group))
+                }
                 Some(res) => {
                     if !groups_beside(board, groups, group, res) {
                         return Ok(false);

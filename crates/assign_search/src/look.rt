@@ -77,24 +77,34 @@ pub fn first_pick(board: &Arbiters, group: &Group, want: u32, from: u64) -> Opti
     None
 }
 
-/// The most starts that are tried near the end of a want.
+/// The most starts that are tried beside the first that is open.
 const PROBES: u32 = 12;
 
-/// An open place of the want near its last start: from there, then from starts that lie further and further
-/// back. None says nothing: one may lie lower.
+/// An open place of the want, late in its range where one is found there: from a few lengths before its last start, then
+/// from starts that lie further and further back, else its first one; none exactly where no place of it is open.
 fn late_start(board: &Arbiters, need: &Want) -> Option<u64>
-    ensures { IfSome result (λ s. IsOpen (held_in board.now) need.now s) }
+    ensures found { IfSome result (λ s. IsOpen (held_in board.now) need.now s) }
+    ensures none { IfNone result ((t : ℕ) → ¬ IsOpen (held_in board.now) need.now t) }
 {
     let last = need.max - (need.len - 1);
-    let mut back = 0u64;
+    let mut back = need.len.saturating_mul(3);
+    let late = board.next_place(need, last.saturating_sub(back));
+    if late.is_some() {
+        return late;
+    }
+    let first = board.next_place(need, 0)?;
     'probes: for _probe in 0..PROBES {
-        let found = board.next_place(need, last.saturating_sub(back));
+        back = back.saturating_mul(4);
+        let from = last.saturating_sub(back);
+        if from <= first {
+            return Some(first);
+        }
+        let found = board.next_place(need, from);
         if found.is_some() {
             return found;
         }
-        back = back.saturating_mul(4).saturating_add(need.len);
     }
-    None
+    Some(first)
 }
 
 /// Some open place of the group, late in its first want where there is one; none exactly where no place of the
@@ -103,13 +113,14 @@ pub fn late_place(board: &Arbiters, group: &Group) -> Option<Res>
     ensures found { IfSome result (λ res. IsPlaceOf (held_in board.now) group.now res) }
     ensures none { IfNone result (¬ HasOpen (held_in board.now) group.now) }
 {
-    if group.len() != 0 {
-        let need = group.get(0);
-        if let Some(start) = late_start(board, need) {
-            return Some(place_at(need, start));
-        }
+    if group.len() == 0 {
+        return None;
     }
-    match first_pick(board, group, 0, 0) {
+    let need = group.get(0);
+    if let Some(start) = late_start(board, need) {
+        return Some(place_at(need, start));
+    }
+    match first_pick(board, group, 1, 0) {
         Some(pick) => Some(pick.res),
         None => None,
     }

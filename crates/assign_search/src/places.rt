@@ -2,6 +2,7 @@ ghost use Rattle.std.specs.Prelude.{◌≡◌, ◌↔◌, ◌<◌, ◌++◌, [],
 ghost use Rattle.resource_reqs.specs.Resources.{Res, Clash};
 ghost use Rattle.assign_search.specs.Watching.{IsHit, IsRangeOf};
 
+use crate::place_list::PlaceList;
 use resource_reqs::{Res, ResList, WantOfMemory, clash};
 use std::alloc::Global;
 use std::marker::Model;
@@ -10,7 +11,7 @@ use std::marker::Model;
 /// hits none of the ranges hits no place. A contract sees the list of places of each mover.
 #[derive(Debug, Drop)]
 pub struct Places {
-    of: Vec<ResList>,
+    of: Vec<PlaceList>,
     over: Vec<Res>,
 }
 
@@ -87,7 +88,7 @@ fn cover(over: &mut Vec<Res>, res: &Res) -> Result<(), WantOfMemory>
 }
 
 /// The same for each resource of a list.
-fn cover_all(over: &mut Vec<Res>, places: &ResList) -> Result<(), WantOfMemory>
+fn cover_each(over: &mut Vec<Res>, places: &ResList) -> Result<(), WantOfMemory>
     ensures wider { (x : Res) → IsHit over.old.items x → IsHit over.new.items x }
     ensures covered { OnOk result ((x : Res) → IsHit places.now x → IsHit over.new.items x) }
 {
@@ -95,6 +96,20 @@ fn cover_all(over: &mut Vec<Res>, places: &ResList) -> Result<(), WantOfMemory>
         cover(over, places.get(at))?;
     }
     Ok(())
+}
+
+/// The same for each place of a mover.
+fn cover_all(over: &mut Vec<Res>, places: &PlaceList) -> Result<(), WantOfMemory>
+    ensures wider { (x : Res) → IsHit over.old.items x → IsHit over.new.items x }
+    ensures covered { OnOk result ((x : Res) → IsHit places.now x → IsHit over.new.items x) }
+{
+    match &places.first {
+        None => Ok(()),
+        Some(place) => {
+            cover(over, place)?;
+            cover_each(over, &places.rest)
+        }
+    }
 }
 
 /// Whether one of the ranges clashes with the resource.
@@ -125,12 +140,12 @@ impl Places {
         ensures added { OnOk result (self.new ≡ self.old ++ [] ∷ []) }
         ensures err { OnErr result (self.new ≡ self.old) }
     {
-        self.of.push(ResList::new(alloc))?;
+        self.of.push(PlaceList::new(alloc))?;
         Ok(())
     }
 
     /// The places of a mover.
-    pub fn get(&self, at: usize) -> &ResList
+    pub fn get(&self, at: usize) -> &PlaceList
         requires { at < length self.now }
         ensures { result.now ≡ get_or self.now at [] }
     {
@@ -138,7 +153,7 @@ impl Places {
     }
 
     /// A mover gets other places.
-    pub fn set(&mut self, at: usize, places: ResList) -> Result<(), WantOfMemory>
+    pub fn set(&mut self, at: usize, places: PlaceList) -> Result<(), WantOfMemory>
         requires { at < length self.old }
         ensures set { OnOk result (self.new ≡ slice_set self.old at places) }
         ensures err { OnErr result (self.new ≡ self.old) }

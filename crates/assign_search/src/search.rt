@@ -65,6 +65,7 @@ fn look_ahead(
     ensures board { OnOk result (board.new ≡ board.old) }
     ensures back { OnErr result (lists_holding (lists_of board.new) child.now.res ≡ lists_of board.old) }
     ensures listed { child.now.res ≡ None → AllByRecursion (HasOpenList (held_in board.old)) (movers_at (map reqs_of movers.now) child.now.spot)
+        → AllWatched (held_in board.old) (map reqs_of movers.now) watch.old.sure watch.old.places
         → IfOk result (λ live. IsTrue live ↔ AllOpen (held_in board.old) (groups_at (map reqs_of movers.now) child.now.spot)) }
     ensures placed { (res : Res) (before : List Res) → child.now.res ≡ Some res → Adds before res (held_in board.old)
         → AllWatched before (map reqs_of movers.now) watch.old.sure watch.old.places

@@ -1,4 +1,4 @@
-ghost use Rattle.std.specs.Prelude.{◌≡◌, ◌↔◌, ◌≤◌, ◌<◌, ◌+◌, ◌-◌, ℕ, IsTrue, IfOk, OnOk, IfSome, IfNone, List, drop, map, length};
+ghost use Rattle.std.specs.Prelude.{◌≡◌, ◌↔◌, ◌≤◌, ◌<◌, ◌+◌, ◌-◌, ℕ, IsTrue, IfOk, OnOk, IfSome, IfNone, List, [], true, drop, get_or, map, length};
 ghost use Rattle.std.specs.List.{AllByRecursion};
 ghost use Rattle.resource_reqs.specs.Resources.{Res};
 ghost use Rattle.assign_search.specs.Fixed.{reqs_of};
@@ -7,8 +7,9 @@ ghost use Rattle.assign_search.specs.Watching.{IsHit, WatchesList, Watches, AllW
 
 use crate::look::late_place;
 use crate::mover::{Mover, reqs_at};
+use crate::place_list::PlaceList;
 use crate::places::Places;
-use resource_reqs::{AltList, Reqs, Res, ResList, WantOfMemory, clash};
+use resource_reqs::{AltList, Reqs, Res, WantOfMemory};
 use std::alloc::Global;
 use trial_journal::Arbiters;
 
@@ -42,11 +43,11 @@ fn list_places(
     alloc: Global,
     board: &Arbiters,
     list: &AltList,
-) -> Result<Option<ResList>, WantOfMemory>
+) -> Result<Option<PlaceList>, WantOfMemory>
     ensures watched { IfOk result (λ o. IfSome o (λ places. WatchesList (held_in board.now) list.now places)) }
     ensures none { IfOk result (λ o. IfNone o (¬ AllOpen (held_in board.now) list.now)) }
 {
-    let mut places = ResList::new(alloc);
+    let mut places = PlaceList::new(alloc);
     'groups: for at in 0..list.len() {
         let Some(res) = late_place(board, list.get(at)) else {
             return Ok(None);
@@ -61,12 +62,12 @@ fn mover_places(
     alloc: Global,
     board: &Arbiters,
     reqs: &Reqs,
-) -> Result<Option<ResList>, WantOfMemory>
+) -> Result<Option<PlaceList>, WantOfMemory>
     ensures watched { IfOk result (λ o. IfSome o (λ places. Watches (held_in board.now) reqs.now places)) }
     ensures none { IfOk result (λ o. IfNone o (¬ HasOpenList (held_in board.now) reqs.now)) }
 {
     if reqs.len() == 0 {
-        return Ok(Some(ResList::new(alloc)));
+        return Ok(Some(PlaceList::new(alloc)));
     }
     'lists: for at in 0..reqs.len() {
         let found = list_places(alloc, board, reqs.get(at))?;
@@ -77,16 +78,16 @@ fn mover_places(
     Ok(None)
 }
 
-/// Whether one of the places clashes with the resource.
-fn is_hit(places: &ResList, res: &Res) -> bool
-    ensures { IsTrue result ↔ IsHit places.now res.now }
+/// Whether the mover has one list alone, of which it is remembered that each of its groups has an open place.
+pub fn is_known_open(movers: &[Mover], mover: usize, watch: &Watch) -> bool
+    requires { mover < length movers.now }
+    ensures { result ≡ true → (held : List Res) (list : ℕ) → AllWatched held (map reqs_of movers.now) watch.now.sure watch.now.places
+        → list < length (get_or (map reqs_of movers.now) mover []) → AllOpen held (get_or (get_or (map reqs_of movers.now) mover []) list []) }
 {
-    'places: for at in 0..places.len() {
-        if clash(places.get(at), res) {
-            return true;
-        }
+    if mover < watch.sure {
+        return false;
     }
-    false
+    reqs_at(movers, mover).len() == 1
 }
 
 /// Whether each mover from this one on has no lists, or one whose every group has an open place, beside a
@@ -114,7 +115,7 @@ pub fn lists_beside(
         return Ok(true);
     }
     'movers: for at in from..movers.len() {
-        if at < watch.sure || is_hit(watch.places.get(at), res) {
+        if at < watch.sure || watch.places.get(at).is_hit(res) {
             let Some(places) = mover_places(alloc, board, reqs_at(movers, at))? else {
                 return Ok(false);
             };

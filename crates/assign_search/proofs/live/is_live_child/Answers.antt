@@ -1,10 +1,10 @@
-use Rattle.std.proofs.Common.{◌≡◌, ◌+◌, map, drop, length, Some, Result, Ok, Err, IfOk, sym, ◌∙◌, ap, subst, arith}
+use Rattle.std.proofs.Common.{◌≡◌, ◌+◌, map, drop, length, Some, Result, Ok, Err, IfOk, refl, sym, ◌∙◌, ap, subst, arith}
 use Rattle.std.specs.List.{AllByRecursion}
 use Rattle.std.proofs.Math.ListN.{length-map}
 use Rattle.assign_search.specs.Fixed.{reqs_of}
-use Rattle.assign_search.specs.Walking.{Adds, AllOpen, HasOpenList, groups_at, movers_at, held_in}
+use Rattle.assign_search.specs.Walking.{Adds, AllOpen, HasOpenList, IsSpot, groups_at, movers_at, held_in}
 use Rattle.assign_search.proofs.Rest.{false_true}
-use Rattle.assign_search.proofs.Watched.{none_known, watched_step}
+use Rattle.assign_search.proofs.Watched.{none_known, watched_step, open_left}
 use Rattle.assign_search.proofs.live.is_live_child.Goals as goal
 use Rattle.assign_search.proofs.live.is_live_child.Goals.{After-groups_beside}
 
@@ -54,6 +54,21 @@ returns-in-Between-clause-kept c before within watched dead =
     let long : length (map reqs_of c.args.movers.now) ≡ length c.args.movers.now = length-map c.args.movers.now reqs_of in
     none_known before (map reqs_of c.args.movers.now) (length c.args.movers.now) c.args.watch.now.places (omega arith)
 
-pub returns-in-None-clause-watched : goal.returns-in-None-clause-watched
-returns-in-None-clause-watched c before adds watched live =
+pub returns-then-is_known_open-clause-listed : goal.returns-then-is_known_open-clause-listed
+returns-then-is_known_open-clause-listed c none lists watched =
+    let ms = map reqs_of c.args.movers.now in
+    let held = held_in c.args.board.now in
+    let here : groups_at ms c.args.child.now.spot ≡ drop c.in-Inside.group c.groups_of-groups.result.now =
+    ap (groups_at ms) c.in-Inside.is ∙ ap (drop c.in-Inside.group) (sym c.groups_of-groups.ensures) in
+    let spot = subst (IsSpot ms) c.in-Inside.is c.requires.spot in
+    let open_ : AllOpen held c.groups_of-groups.result.now =
+    subst (AllOpen held) (sym c.groups_of-groups.ensures) (c.is_known_open.ensures c.if-is_known_open.true held c.in-Inside.list watched spot.1) in
+    (λ h. subst (AllOpen held) (sym here) (open_left held c.groups_of-groups.result.now c.in-Inside.group open_), λ h. refl)
+
+pub returns-then-is_known_open-clause-watched : goal.returns-then-is_known_open-clause-watched
+returns-then-is_known_open-clause-watched c before adds watched live =
+    watched_step before (held_in c.args.board.now) c.args.child.now.res c.in-None.is adds (map reqs_of c.args.movers.now) c.args.watch.now.sure c.args.watch.now.places watched
+
+pub returns-else-is_known_open-clause-watched : goal.returns-else-is_known_open-clause-watched
+returns-else-is_known_open-clause-watched c before adds watched live =
     watched_step before (held_in c.args.board.now) c.args.child.now.res c.in-None.is adds (map reqs_of c.args.movers.now) c.args.watch.now.sure c.args.watch.now.places watched

@@ -1,26 +1,19 @@
-use Rattle.std.proofs.Common.{◌≡◌, slice_get, Some, subst, arith}
-use native.Mathlib.Decide.{dec_lt}
-use Rattle.std.proofs.lemmas.Option.{slice_get_within}
-use Rattle.resource_reqs.specs.Resources.{Res, Clash}
-use Rattle.assign_search.proofs.Covering.{hit_at}
+use Rattle.std.proofs.Common.{◌≡◌, ◌++◌, ◌∷◌, List, Option, Result, Ok, Err, OnOk, inl, inr, option_to_list, sym, ◌∙◌, ap, subst}
+use Rattle.resource_reqs.specs.Resources.{Res}
+use Rattle.assign_search.specs.Watching.{IsHit}
+use Rattle.assign_search.proofs.Covering.{hit_either}
 use Rattle.assign_search.proofs.places.cover_all.Goals as goal
 
-pub places-preserved : goal.places-preserved
-places-preserved c = record {
-  wider = λ x hit. c.in_ok-cover.ensures.wider x (c.places.invariant.wider x hit);
-  covered = λ k place less read x clash. elim (dec_lt k c.places.at) [
-    | yes l ↦ c.in_ok-cover.ensures.wider x (c.places.invariant.covered k place l read x clash)
-    | no l ↦
-        let e : k ≡ c.places.at = omega arith in
-        let there : slice_get c.args.places.now c.places.at ≡ Some place = subst (λ j. slice_get c.args.places.now j ≡ Some place) e read in
-        let here : slice_get c.args.places.now c.places.at ≡ Some c.get.result.now = c.get.ensures in
-        let same : place ≡ c.get.result.now = cc in
-        c.in_ok-cover.ensures.covered x (subst (λ (r : Res). Clash r x) same clash)
-  ];
-}
+on_ok : {A E : Type 0} (r : Result A E) {P Q : Type 0} → (P → Q) → OnOk r P → OnOk r Q
+on_ok (Ok x) f p = f p
+on_ok (Err e) f p = tt
 
-pub returns-clause-covered : goal.returns-clause-covered
-returns-clause-covered c x hit =
-    let (k, place, read, clash) = hit_at c.args.places.now x hit in
-    let inside = slice_get_within c.args.places.now k place read in
-    c.places.invariant.covered k place (omega arith) read x clash
+pub returns-in_ok-cover-in-Some-clause-covered : goal.returns-in_ok-cover-in-Some-clause-covered
+returns-in_ok-cover-in-Some-clause-covered c =
+    let w : c.in-Some.place ∷ c.places.inside.rest ≡ c.args.places.now = ap (λ (o : Option Res). option_to_list o ++ c.places.inside.rest) (sym c.in-Some.is) ∙ c.places.view_is in
+    on_ok c.cover_each.result
+    (λ covers x hit. elim (hit_either c.in-Some.place c.places.inside.rest x (subst (λ (l : List Res). IsHit l x) (sym w) hit)) [
+      | inl clash ↦ c.cover_each.ensures.wider x (c.in_ok-cover-in-Some.ensures.covered x clash)
+      | inr there ↦ covers x there
+    ])
+    c.cover_each.ensures.covered

@@ -14,7 +14,7 @@ use Rattle.std.proofs.Math.ListN.{length-map}
 use Rattle.trial_journal.specs.ByKind.{Lists}
 use Rattle.assign_search.specs.Watching.{AllWatched}
 use Rattle.assign_search.proofs.SameHeld.{lists_res}
-use Rattle.assign_search.proofs.Watched.{all_watched_less, none_known, holding_adds, holding_within}
+use Rattle.assign_search.proofs.Watched.{all_watched_less, watched_step, none_known, holding_adds, holding_within}
 use Rattle.assign_search.proofs.Searching.{Inv, begins, spent_child, live_now, live_child, dead_child, back_to, there, last_there, ends_none, same_itself}
 use Rattle.assign_search.proofs.Along.{along_more, along_back}
 use Rattle.assign_search.proofs.Planning.{plan_found}
@@ -98,7 +98,10 @@ search-preserved-then-live c =
     let f : Frame = record { before = c.search.spot; step = c.in-Some.child.step; next = c.in-Some.child.next; res = c.in-Some.child.res } in
     let live = (live_now (held_in c.args.board.now) (map reqs_of c.args.movers.now) (lists_of c.args.board.now) (same_itself (held_in c.args.board.now))
     c.search.path.items (lists_of c.search.board) c.search.spot c.search.from c.search.count c.search.invariant.state
-    c.in-Some.child c.in-Some.ensures.found (lists_of c.hold.new.board) c.in_ok-live.live c.in_ok-hold.ensures.held c.in_ok-live.ensures.listed
+    c.in-Some.child c.in-Some.ensures.found (lists_of c.hold.new.board) c.in_ok-live.live c.in_ok-hold.ensures.held
+    (λ none lists. c.in_ok-live.ensures.listed none lists (watched_step (held_in c.search.board) (held_in c.hold.new.board) c.in-Some.child.res none
+    (holding_adds (lists_of c.search.board) (lists_of c.hold.new.board) c.in-Some.child.res c.in_ok-hold.ensures.held)
+    (map reqs_of c.args.movers.now) c.search.watch.sure c.search.watch.places c.search.invariant.watched))
     (λ res before some within' adds groups lists. c.in_ok-live.ensures.placed res before some adds
     (all_watched_less before (held_in c.search.board) within' (map reqs_of c.args.movers.now) c.search.watch.sure c.search.watch.places c.search.invariant.watched) groups lists)).0 c.if-live.true in
     let path_is : c.grow-then-live.new.path.items ≡ c.search.path.items ++ f ∷ [] =
@@ -147,7 +150,10 @@ search-preserved c =
     (c.release-else-live.ensures ∙ ap lists_of c.in_ok-live.ensures.board ∙ c.in_ok-hold.ensures.held) in
     let live = live_now (held_in c.args.board.now) (map reqs_of c.args.movers.now) (lists_of c.args.board.now) (same_itself (held_in c.args.board.now))
     c.search.path.items (lists_of c.search.board) c.search.spot c.search.from c.search.count c.search.invariant.state
-    c.in-Some.child c.in-Some.ensures.found (lists_of c.hold.new.board) c.in_ok-live.live c.in_ok-hold.ensures.held c.in_ok-live.ensures.listed
+    c.in-Some.child c.in-Some.ensures.found (lists_of c.hold.new.board) c.in_ok-live.live c.in_ok-hold.ensures.held
+    (λ none lists. c.in_ok-live.ensures.listed none lists (watched_step (held_in c.search.board) (held_in c.hold.new.board) c.in-Some.child.res none
+    (holding_adds (lists_of c.search.board) (lists_of c.hold.new.board) c.in-Some.child.res c.in_ok-hold.ensures.held)
+    (map reqs_of c.args.movers.now) c.search.watch.sure c.search.watch.places c.search.invariant.watched))
     (λ res before some within' adds groups lists. c.in_ok-live.ensures.placed res before some adds
     (all_watched_less before (held_in c.search.board) within' (map reqs_of c.args.movers.now) c.search.watch.sure c.search.watch.places c.search.invariant.watched) groups lists) in
     record {

@@ -1,7 +1,7 @@
 use Rattle.std.proofs.Common.{◌≡◌, true, false, sym, ◌∙◌, arith}
 use Rattle.resource_reqs.specs.Resources.{Res, Clash}
 use Rattle.resource_reqs.proofs.Loops.{none_next, none_any}
-use Rattle.assign_search.proofs.watch.is_hit.Goals as goal
+use Rattle.assign_search.proofs.place_list.is_one_hit.Goals as goal
 
 pub places-preserved : goal.places-preserved
 places-preserved c =
