@@ -11,7 +11,7 @@ ghost use Rattle.pnp_model.specs.Starts.{adding};
 ghost use Rattle.driver_rank.specs.Best.{choice_of};
 ghost use Rattle.driver_rank.specs.Candidates.{match_of};
 
-use crate::pending::{FEW, Pending};
+use crate::pending::Pending;
 use crate::work::{Phase, StartWork};
 use device_ids::{Text, TextList, WantOfMemory};
 use device_stack::driver_name;
@@ -20,8 +20,8 @@ use driver_rack::Drivers;
 use driver_rank::{Candidate, best_line};
 use inf_reader::Inf;
 use pnp_labels::{Label, Problem};
-use smallvec::SmallVec;
 use std::alloc::Global;
+use std::collections::VecDeque;
 
 /// The most drivers of a device: this project's own.
 const MOST_DRIVERS: u64 = 16;
@@ -40,7 +40,7 @@ pub(crate) enum Chosen {
 
 /// Appends the numbers of the drivers of these names; false exactly where one has no namesake in the rack.
 fn append_numbers<R: Drivers>(
-    drivers: &mut SmallVec<u32, FEW>,
+    drivers: &mut VecDeque<u32>,
     rack: &R,
     names: &TextList,
 ) -> Result<bool, WantOfMemory>
@@ -50,7 +50,7 @@ fn append_numbers<R: Drivers>(
         let Some(driver) = rack.find(names.get(at)) else {
             return Ok(false);
         };
-        drivers.push(driver)?;
+        drivers.push_back(driver)?;
     }
     Ok(true)
 }
@@ -74,14 +74,14 @@ fn numbered<R: Drivers>(alloc: Global, rack: &R, best: &Candidate) -> Result<Cho
     if !are_few(line.lower.len(), line.upper.len()) {
         return Ok(Chosen::Trouble(Problem::FailedInstall));
     }
-    let mut drivers = SmallVec::new(alloc);
+    let mut drivers = VecDeque::new(alloc);
     if !append_numbers(&mut drivers, rack, &line.lower)? {
         return Ok(Chosen::Trouble(Problem::LoadFailed));
     }
     let Some(driver) = rack.find(service) else {
         return Ok(Chosen::Trouble(Problem::LoadFailed));
     };
-    drivers.push(driver)?;
+    drivers.push_back(driver)?;
     if !append_numbers(&mut drivers, rack, &line.upper)? {
         return Ok(Chosen::Trouble(Problem::LoadFailed));
     }

@@ -11,7 +11,7 @@ returns-in_default g c =
 
 pub loop-at-preserved : goal.loop-at-preserved
 loop-at-preserved g c =
-    rw c.in_ok-push.ensures.ok
+    rw c.in_ok-push_back.ensures.items
     (continues_found (g.R.Drivers.rows c.args.rack.now) c.args.names.now c.loop-at.at c.get.result.now c.get.ensures.part c.in-Some.driver _ c.args.drivers.now.items c.loop-at.drivers.items (sym c.in-Some.is ∙ c.find.ensures) c.loop-at.invariant)
 
 pub returns : goal.returns

@@ -12,7 +12,7 @@ returns g c s node is =
     let best = c.args.best.now in
     let line = best.line.now in
     let first = c.append_numbers.new.drivers.items in
-    let second = c.push.new.self.items in
+    let second = c.push_back.new.self.items in
     let third = c.append_numbers-2.new.drivers.items in
     let few : nat_le (length line.lower + 1 + length line.upper) 16 ≡ true =
     ap₂ (λ a b. nat_le (a + 1 + b) 16) (sym c.len.ensures) (sym c.len-2.ensures) ∙ (sym c.are_few.ensures ∙ c.if-not-are_few.false) in
@@ -21,5 +21,5 @@ returns g c s node is =
     (subst (λ (l : List ℕ). AppendedBy (numbered rack line.lower) c.in_ok-append_numbers.field-0 l first) c.new-drivers.ensures.items c.in_ok-append_numbers.ensures) in
     let three : AppendedBy (numbered rack line.upper) true second third =
     subst (λ b. AppendedBy (numbered rack line.upper) b second third) c.if-not-branch-2.false c.in_ok-append_numbers-2.ensures in
-    chosen_whole rack (choice_of (match_of best)) c.in-Some.service c.in-Some-find.driver first second third c.in-Some.is few (sym c.find.ensures ∙ c.in-Some-find.is) c.in_ok-push.ensures.ok one three s node is
+    chosen_whole rack (choice_of (match_of best)) c.in-Some.service c.in-Some-find.driver first second third c.in-Some.is few (sym c.find.ensures ∙ c.in-Some-find.is) c.in_ok-push_back.ensures.items one three s node is
     ∙ ap (install s node best.rank c.in-Some-find.driver) (sym c.of.ensures)
