@@ -3,7 +3,7 @@ ghost use Rattle.std.specs.List.{AllByRecursion};
 ghost use Rattle.resource_reqs.specs.Resources.{Res};
 ghost use Rattle.assign_search.specs.Fixed.{reqs_of};
 ghost use Rattle.assign_search.specs.Walking.{AllOpen, HasOpenList, Adds, held_in};
-ghost use Rattle.assign_search.specs.Watching.{IsHit, WatchesList, Watches, AllWatched, Within};
+ghost use Rattle.assign_search.specs.Watching.{WatchesList, Watches, AllWatched, Within};
 
 use crate::look::late_place;
 use crate::mover::{Mover, reqs_at};
