@@ -20,17 +20,19 @@ pub enum GivenIds<'a> {
 }
 
 impl<'a> GivenIds<'a> {
-    /// The identifiers of a device. Cost: where they are more than a few the bytes of all.
+    /// The identifiers of a device, to be found by those of few lines or of many. Cost: where lines or identifiers are more than
+    /// a few the bytes of all.
     pub fn new(
         alloc: Global,
         hw: &'a IdList,
         compat: &'a IdList,
+        few_lines: bool,
     ) -> Result<GivenIds<'a>, WantOfMemory>
         requires hw { length hw.now ≤ 64 }
         requires compat { length compat.now ≤ 64 }
         ensures { IfOk result (λ ids. (q : List ℕ) → base_found ids q ≡ base_of (given_of hw.now compat.now) q) }
     {
-        if hw.len() + compat.len() <= FEW {
+        if few_lines && hw.len() + compat.len() <= FEW {
             return Ok(GivenIds::Few(hw, compat));
         }
         Ok(GivenIds::Mapped(MappedIds::new(alloc, hw, compat)?))
@@ -47,7 +49,8 @@ impl<'a> GivenIds<'a> {
     }
 
     /// The least rank at which an ID of an INF matches, with a score and at its place on the line. The buffer is for its
-    /// folded text. Cost: the length of the ID, at most four times.
+    /// folded text. Cost: the length of the ID; of few lines and few IDs of the device at most
+    /// four times.
     pub fn rank(
         &self,
         buffer: &mut Vec<u8>,

@@ -16,6 +16,18 @@ use std::alloc::Global;
 /// The most IDs of a models line: the hardware ID and up to seven compatible ones.
 const MOST_IDS: u64 = 8;
 
+/// So many lines in all are few: to compare their IDs with a few of a device costs less than a map of these.
+const FEW_LINES: u64 = 16;
+
+/// Whether the INFs have few models lines in all. What is found is the same either way.
+fn have_few_lines(infs: &[Inf]) -> bool {
+    let mut lines = 0u64;
+    for inf in infs {
+        lines = lines.saturating_add(inf.lines.len());
+    }
+    lines <= FEW_LINES
+}
+
 /// The lesser of two ranks, where there are such.
 fn lesser(first: Option<u32>, second: Option<u32>) -> Option<u32>
     ensures { result ≡ first_of nat_lt first second }
@@ -107,15 +119,15 @@ pub fn best_line<'a>(
     requires compat { length compat.now ≤ 64 }
     ensures { IfOk result (λ found. option_map match_of found ≡ least_of is_better (matches (given_of hw.now compat.now) infs.now)) }
 {
-    let ids = GivenIds::new(alloc, hw, compat)?;
+    let ids = GivenIds::new(alloc, hw, compat, have_few_lines(infs))?;
     best_match(alloc, &ids, infs)
 }
 
 /// The drivers of the models line that matches a device best: the first of all matches by rank, then by the newer date,
 /// the higher version, the INF that is named first, and the earlier line. None exactly where no line matches. Conditions:
 /// at most 64 INFs, 64 hardware IDs and 64 compatible IDs. The driver kit, "How Windows Ranks Drivers", has the order of
-/// match types; the number and what follows it are this project's own. Cost: the length of each ID of the INFs, at
-/// most four times; and where the device has more than four IDs, the memory of these.
+/// match types; the number and what follows it are this project's own. Cost: the length of each ID of the INFs; and
+/// where these have more than 16 lines in all or the device more than four IDs, the memory of these.
 pub fn best(
     alloc: Global,
     infs: &[Inf],
