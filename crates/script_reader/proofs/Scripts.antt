@@ -1,19 +1,17 @@
 -- The first line of a script, and what it gives.
-use Rattle.std.proofs.Common.{◌≡◌, ℕ, ◌+◌, ◌<◌, ◌≤◌, List, [], ◌∷◌, ◌++◌, length, take, drop, Bool, true, false, refl, sym, ◌∙◌, ap, arith, append_assoc, append-nil, length-append, cond, ◌==◌, ◌⊎◌, inl, inr, subst, get_or, suc, zero, add-one}
+use Rattle.std.proofs.Common.{◌≡◌, ℕ, ◌+◌, ◌<◌, ◌≤◌, List, [], ◌∷◌, ◌++◌, length, take, drop, Bool, true, false, refl, sym, ◌∙◌, ap, arith, append_assoc, append-nil, length-append, cond, ◌==◌, ◌⊎◌, inl, inr, subst}
 use Rattle.std.proofs.lemmas.Bool.{eq-eqb}
-use Rattle.std.proofs.lemmas.Bool.Decides.{nat_tests}
-use Rattle.std.proofs.lemmas.List.Splits.{slice_split-cons_yes, slice_split-cons_no, slice_split_none}
-use Rattle.std.proofs.lemmas.List.{take_all, drop_all, take_more, take-append-drop, length-take-le}
-use Rattle.std.proofs.lemmas.List.Elements.{All-append}
+use Rattle.std.proofs.lemmas.List.Splits.{slice_split-cons_yes, slice_split-cons_no}
+use Rattle.std.proofs.lemmas.List.{take_all, drop_all}
 use Rattle.std.proofs.lemmas.Bool.{lt-leb, le-leb}
-use Rattle.std.proofs.Math.Seq.{take-append_seam, drop-cons}
-use Rattle.std.specs.List.{onto_first, All}
+use Rattle.std.proofs.Math.Seq.{take-append_seam}
+use Rattle.std.specs.List.{onto_first}
 use Rattle.device_ids.specs.Cuts.{parts}
 use Rattle.pnp_labels.specs.declared.event.Event.{Event}
 use Rattle.std.specs.Str.Lines.{strip_carriage_return}
 use Rattle.script_reader.specs.Words.{words_of}
 use Rattle.script_reader.specs.Lines.{event_of}
-use Rattle.script_reader.specs.Steps.{Reads, FrontLine}
+use Rattle.script_reader.specs.Steps.{Reads}
 use Rattle.script_reader.specs.Script.{Meaning, nothing, means, bad, event_or_bad, meaning_of, whole_line, last_line, waits, ends, stops, onward, of_lines, trace, MayFollow, Skips, GivesEvent, IsStuck, Waits}
 use Rattle.script_reader.proofs.Gathering.{some_parts}
 
@@ -107,18 +105,18 @@ short_line line text m short is meant =
     ap (λ b. cond b (meaning_of (words_of (strip_carriage_return line))) bad) (le-leb (length line) 4096 short)
     ∙ ap (λ t. meaning_of (words_of t)) (sym is) ∙ meant
 
-pass_line : (finished : Bool) (rest line back text : List ℕ) → rest ≡ line ++ 10 ∷ back → IsOne 10 line → length line ≤ 4096 → text ≡ strip_carriage_return line
+pub pass_line : (finished : Bool) (rest line back text : List ℕ) → rest ≡ line ++ 10 ∷ back → IsOne 10 line → length line ≤ 4096 → text ≡ strip_carriage_return line
     → meaning_of (words_of text) ≡ nothing → Skips finished rest (length line + 1)
 pass_line finished rest line back text is one short same none = skip_line finished rest line back is one (short_line line text nothing short same none)
 
-read_line : (finished : Bool) (rest line back text : List ℕ) → rest ≡ line ++ 10 ∷ back → IsOne 10 line → length line ≤ 4096 → text ≡ strip_carriage_return line
+pub read_line : (finished : Bool) (rest line back text : List ℕ) → rest ≡ line ++ 10 ∷ back → IsOne 10 line → length line ≤ 4096 → text ≡ strip_carriage_return line
     → meaning_of (words_of text) ≡ event_or_bad (event_of (words_of text)) → Reads finished rest (length line + 1) text
 read_line finished rest line back text is one short same meant = record {
   gives_event = λ e h. give_line finished rest line back e is one (short_line line text (means e) short same (meant ∙ ap event_or_bad h));
   is_stuck = λ h. bad_line finished rest line back is one (short_line line text bad short same (meant ∙ ap event_or_bad h));
 }
 
-over_line : (finished : Bool) (rest line back : List ℕ) → rest ≡ line ++ 10 ∷ back → IsOne 10 line → 4096 < length line → IsStuck finished rest
+pub over_line : (finished : Bool) (rest line back : List ℕ) → rest ≡ line ++ 10 ∷ back → IsOne 10 line → 4096 < length line → IsStuck finished rest
 over_line finished rest line back is one long =
     bad_line finished rest line back is one (ap (λ b. cond b (meaning_of (words_of (strip_carriage_return line))) bad) (lt-leb (length line) 4096 long))
 
@@ -195,51 +193,3 @@ long_rest finished rest one long = record { same = λ later more passed may. lon
 
 pub wait_rest : (rest : List ℕ) → IsOne 10 rest → length rest ≤ 4096 → Waits false rest
 wait_rest rest one short = record { open_ = refl; no_line = one; short = short; same = λ n. ap (of_lines false n) one ∙ ap (λ b. cond b waits (stops (n + 1))) (le-leb (length rest) 4096 short) }
-
--- no LF among the first bytes
-pub record NoFeed (rest : List ℕ) (at : ℕ) : Type 0 where
-  pub clear : All (λ b. (b == 10) ≡ false) (take at rest)
-
-pub no_feed_none : (rest : List ℕ) → NoFeed rest 0
-no_feed_none rest = record { clear = λ k d less. absurd (omega arith) }
-
-one_clear : (x : ℕ) → (x == 10) ≡ false → All (λ b. (b == 10) ≡ false) (x ∷ [])
-one_clear x h zero d less = h
-one_clear x h (suc k) d less = absurd (omega arith)
-
-no_line_feed : (x : ℕ) → (x ≡ 10 → ⊥) → (x == 10) ≡ false
-no_line_feed x other = grind (arith, nat_tests)
-
-pub no_feed_more : (rest : List ℕ) (at : ℕ) → at < length rest → (get_or rest at 0 ≡ 10 → ⊥) → NoFeed rest at → NoFeed rest (at + 1)
-no_feed_more rest at less other so = record {
-  clear = subst (λ xs. All (λ b. (b == 10) ≡ false) xs) (sym (take_more rest at 0 less))
-      (All-append (λ b. (b == 10) ≡ false) (take at rest) (get_or rest at 0 ∷ []) so.clear (one_clear (get_or rest at 0) (no_line_feed (get_or rest at 0) other)));
-}
-
-pub feed_there : (rest : List ℕ) (at : ℕ) → at < length rest → get_or rest at 0 ≡ 10 → NoFeed rest at → FrontLine rest at
-feed_there rest at less is so = record {
-  inside = less;
-  whole = sym (take-append-drop at rest) ∙ ap (λ r. take at rest ++ r) (drop-cons rest at 0 less)
-      ∙ ap (λ b. take at rest ++ b ∷ drop (suc at) rest) is ∙ ap (λ n. take at rest ++ 10 ∷ drop n rest) (sym (add-one at));
-  one = slice_split_none (λ b. b == 10) (take at rest) so.clear;
-}
-
-pub feed_nowhere : (rest : List ℕ) (at : ℕ) → length rest ≤ at → NoFeed rest at → IsOne 10 rest
-feed_nowhere rest at long so = subst (λ t. IsOne 10 t) (take_all at rest long) (slice_split_none (λ b. b == 10) (take at rest) so.clear)
-
--- the same, of the bytes before the first LF
-front_long : (rest : List ℕ) (n : ℕ) → FrontLine rest n → length (take n rest) ≡ n
-front_long rest n f = length-take-le n rest (omega (arith, f.inside))
-
-pub pass_front : (finished : Bool) (rest text : List ℕ) (n : ℕ) → FrontLine rest n → n ≤ 4096 → text ≡ strip_carriage_return (take n rest)
-    → meaning_of (words_of text) ≡ nothing → Skips finished rest (n + 1)
-pass_front finished rest text n f short same none = subst (λ k. Skips finished rest (k + 1)) (front_long rest n f)
-    (pass_line finished rest (take n rest) (drop (n + 1) rest) text f.whole f.one (omega (arith, front_long rest n f)) same none)
-
-pub read_front : (finished : Bool) (rest text : List ℕ) (n : ℕ) → FrontLine rest n → n ≤ 4096 → text ≡ strip_carriage_return (take n rest)
-    → meaning_of (words_of text) ≡ event_or_bad (event_of (words_of text)) → Reads finished rest (n + 1) text
-read_front finished rest text n f short same meant = subst (λ k. Reads finished rest (k + 1) text) (front_long rest n f)
-    (read_line finished rest (take n rest) (drop (n + 1) rest) text f.whole f.one (omega (arith, front_long rest n f)) same meant)
-
-pub over_front : (finished : Bool) (rest : List ℕ) (n : ℕ) → FrontLine rest n → 4096 < n → IsStuck finished rest
-over_front finished rest n f long = over_line finished rest (take n rest) (drop (n + 1) rest) f.whole f.one (omega (arith, front_long rest n f))

@@ -1,13 +1,14 @@
-ghost use Rattle.std.specs.Prelude.{◌≡◌, ◌∷◌, [], true, false, MatchOption};
+ghost use Rattle.std.specs.Prelude.{◌≡◌, ◌∷◌, [], true, false};
 ghost use Rattle.std.specs.Str.Lines.{strip_carriage_return};
 ghost use Rattle.script_reader.specs.Script.{nothing, meaning_of, event_or_bad};
 ghost use Rattle.script_reader.specs.Words.{words_of};
 ghost use Rattle.script_reader.specs.Lines.{event_of};
 ghost use Rattle.device_ids.specs.Cuts.{parts};
-ghost use Rattle.script_reader.specs.Steps.{Says, FrontLine};
+ghost use Rattle.script_reader.specs.Steps.{Says};
 
 use crate::step::Step;
 use crate::words::is_blank;
+use device_ids::split_once;
 
 /// The most bytes of a line before its LF.
 const LONGEST: usize = 4096;
@@ -25,18 +26,6 @@ fn has_no_event(line: &[u8]) -> bool
     true
 }
 
-/// The bytes before the first LF, where there is one. Cost: their number.
-fn line_length(rest: &[u8]) -> Option<usize>
-    ensures { MatchOption result (parts 10 rest.now ≡ rest.now ∷ []) (λ length. FrontLine rest.now length) }
-{
-    for (at, byte) in rest.iter().enumerate() {
-        if *byte == b'\n' {
-            return Some(at);
-        }
-    }
-    None
-}
-
 /// The line without a CR at its end.
 fn without_return(line: &[u8]) -> &[u8]
     ensures { result.now ≡ strip_carriage_return line.now }
@@ -52,17 +41,18 @@ fn without_return(line: &[u8]) -> &[u8]
 }
 
 /// What stands at the front of the bytes that are left. Cost: the bytes of the first line.
+#[tactic(auto, using(crate::proofs::Scripts::pass_line, crate::proofs::Scripts::read_line, crate::proofs::Scripts::over_line))]
 pub fn first_step(rest: &[u8], finished: bool) -> Step<'_>
     ensures { Says finished rest.now result }
 {
-    let Some(length) = line_length(rest) else {
+    let Some((line, _)) = split_once(rest, b'\n') else {
         return open_step(rest, finished);
     };
-    if length > LONGEST {
+    if line.len() > LONGEST {
         return Step::Bad;
     }
-    let count = length + 1;
-    let text = without_return(&rest[..length]);
+    let count = line.len() + 1;
+    let text = without_return(line);
     if has_no_event(text) {
         return Step::Skip { count };
     }
