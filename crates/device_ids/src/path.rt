@@ -7,9 +7,10 @@ ghost use Rattle.device_ids.specs.Ids.{joined, has_parts, has_ids, is_path, Side
 use crate::cuts::split_once;
 use crate::error::PathError;
 use crate::id::{DeviceId, is_legal};
-use crate::text::WantOfMemory;
+use crate::text::{Kept, Text, WantOfMemory};
 use std::alloc::Global;
 use std::marker::Model;
+use std::rc::Rc;
 
 /// The most bytes of two identifiers with a backslash between them.
 const LONGEST_JOINED: usize = 399;
@@ -43,23 +44,23 @@ fn path_fault(bytes: &[u8]) -> Option<PathError>
 }
 
 /// The bytes, and behind them the same bytes with ASCII letters folded.
-fn with_folded(alloc: Global, bytes: &[u8]) -> Result<Vec<u8>, WantOfMemory>
-    ensures { IfOk result (λ both. HasFolded (length bytes.now) both.items × (take (length bytes.now) both.items ≡ bytes.now)) }
+fn with_folded(alloc: Global, bytes: &[u8]) -> Result<Rc<Kept>, WantOfMemory>
+    ensures { IfOk result (λ kept. HasFolded (length bytes.now) kept.value.bytes.items × (take (length bytes.now) kept.value.bytes.items ≡ bytes.now) × (kept.value.len ≡ length bytes.now)) }
 {
-    let mut both = Vec::with_capacity(alloc, bytes.len().saturating_mul(2))?;
+    let len = bytes.len();
+    let mut both = Vec::with_capacity(alloc, len.saturating_mul(2))?;
     both.extend_from_slice(bytes)?;
     both.extend_from_slice(bytes)?;
-    both[bytes.len()..].make_ascii_lowercase();
-    Ok(both)
+    both[len..].make_ascii_lowercase();
+    Ok(Rc::new(alloc, Kept { bytes: both, len })?)
 }
 
 /// The name of a device in the tree: device ID, backslash, instance ID (the driver kit, "Device Instance
 /// IDs"). A contract sees the list of its bytes. The folded text is kept behind them, so that a look-up by it
-/// takes no memory and a path is one piece of memory.
+/// takes no memory. They are kept once for a path, its copies and their texts.
 #[derive(Debug, Drop)]
 pub struct InstancePath {
-    both: Vec<u8>,
-    len: usize,
+    kept: Rc<Kept>,
 }
 
 impl Model for InstancePath {
@@ -69,9 +70,9 @@ impl Model for InstancePath {
 
     ghost Value = { List ℕ };
 
-    ghost view = { λ p. take p.len p.both.items };
+    ghost view = { λ p. take p.kept.value.len p.kept.value.bytes.items };
 
-    ghost invariant = { λ p. IsTrue (is_path (take p.len p.both.items)) × HasFolded p.len p.both.items };
+    ghost invariant = { λ p. IsTrue (is_path (take p.kept.value.len p.kept.value.bytes.items)) × HasFolded p.kept.value.len p.kept.value.bytes.items };
 }
 
 impl InstancePath {
@@ -104,10 +105,7 @@ impl InstancePath {
             return Err(fault);
         }
         match with_folded(alloc, bytes) {
-            Ok(both) => Ok(InstancePath {
-                both,
-                len: bytes.len(),
-            }),
+            Ok(kept) => Ok(InstancePath { kept }),
             Err(_) => Err(PathError::WantOfMemory),
         }
     }
@@ -124,25 +122,32 @@ impl InstancePath {
         ensures bytes { result.now ≡ self.now }
         ensures legal { IsTrue (is_path self.now) }
     {
-        &self.both[..self.len]
+        &self.kept.bytes[..self.kept.len]
     }
 
     /// The bytes with ASCII letters folded: equal for paths that are the same.
     pub fn folded(&self) -> &[u8]
         ensures { result.now ≡ folded self.now }
     {
-        &self.both[self.len..]
+        &self.kept.bytes[self.kept.len..]
     }
 
-    /// An equal path. Cost: the length.
+    /// An equal path, which keeps the same bytes. Where they have as many owners as there may be, they are copied.
     pub fn copy(&self, alloc: Global) -> Result<InstancePath, WantOfMemory>
         ensures { IfOk result (λ path. path ≡ self.now) }
     {
-        let both = Vec::from_slice(alloc, &self.both)?;
-        Ok(InstancePath {
-            both,
-            len: self.len,
-        })
+        let kept = match self.kept.clone() {
+            Ok(kept) => kept,
+            Err(_) => with_folded(alloc, self.bytes())?,
+        };
+        Ok(InstancePath { kept })
+    }
+
+    /// The path as a text, which keeps the same bytes.
+    pub fn text(&self, alloc: Global) -> Result<Text, WantOfMemory>
+        ensures { IfOk result (λ text. text ≡ self.now) }
+    {
+        Text::front(alloc, &self.kept)
     }
 }
 

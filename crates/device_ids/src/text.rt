@@ -1,25 +1,35 @@
-ghost use Rattle.std.specs.Prelude.{◌≡◌, ◌<◌, ◌++◌, ℕ, List, [], ◌∷◌, length, slice_get, slice_index_or, Some, IfOk, OnOk, OnErr};
+ghost use Rattle.std.specs.Prelude.{◌≡◌, ◌≤◌, ◌<◌, ◌++◌, ℕ, List, [], ◌∷◌, length, take, slice_get, slice_index_or, Some, IfOk, OnOk, OnErr};
 ghost use Rattle.device_ids.specs.Folding.{same};
 
 use std::alloc::{AllocError, Global};
 use std::marker::Model;
+use std::rc::Rc;
 
 /// The one refusal of a call that takes memory and nothing else.
 pub type WantOfMemory = AllocError;
 
+/// Bytes that several texts keep, the first `len` of them theirs.
+#[derive(Debug, Drop)]
+pub(crate) struct Kept {
+    pub(crate) bytes: Vec<u8>,
+    pub(crate) len: usize,
+}
+
 /// Bytes of any kind, as a driver's name or a value of an INF. A contract sees the list of the bytes.
-/// This project's own.
+/// They are kept once for a text and all its copies. This project's own.
 #[derive(Debug, Drop)]
 pub struct Text {
-    bytes: Vec<u8>,
+    kept: Rc<Kept>,
 }
 
 impl Model for Text {
-    ghost use Rattle.std.specs.Prelude.{List, ℕ};
+    ghost use Rattle.std.specs.Prelude.{◌≤◌, List, ℕ, length, take};
 
     ghost Value = { List ℕ };
 
-    ghost view = { λ t. t.bytes.items };
+    ghost view = { λ t. take t.kept.value.len t.kept.value.bytes.items };
+
+    ghost invariant = { λ t. t.kept.value.len ≤ length t.kept.value.bytes.items };
 }
 
 impl Text {
@@ -27,15 +37,28 @@ impl Text {
     pub fn make(alloc: Global, bytes: &[u8]) -> Result<Text, WantOfMemory>
         ensures { IfOk result (λ t. t ≡ bytes.now) }
     {
+        let len = bytes.len();
         let bytes = Vec::from_slice(alloc, bytes)?;
-        Ok(Text { bytes })
+        let kept = Rc::new(alloc, Kept { bytes, len })?;
+        Ok(Text { kept })
+    }
+
+    /// The text of the first bytes of those that are kept. Where they have as many owners as there may be, they are copied.
+    pub(crate) fn front(alloc: Global, kept: &Rc<Kept>) -> Result<Text, WantOfMemory>
+        requires { kept.now.value.len ≤ length kept.now.value.bytes.items }
+        ensures { IfOk result (λ t. t ≡ take kept.now.value.len kept.now.value.bytes.items) }
+    {
+        match kept.clone() {
+            Ok(kept) => Ok(Text { kept }),
+            Err(_) => Text::make(alloc, &kept.bytes[..kept.len]),
+        }
     }
 
     /// The bytes.
     pub fn bytes(&self) -> &[u8]
         ensures { result.now ≡ self.now }
     {
-        &self.bytes
+        &self.kept.bytes[..self.kept.len]
     }
 
     /// Whether both agree after ASCII letters are folded, as Windows compares names. Cost: the length.
@@ -45,18 +68,18 @@ impl Text {
         self.bytes().eq_ignore_ascii_case(other.bytes())
     }
 
-    /// An equal text. Cost: the length.
+    /// An equal text, which keeps the same bytes.
     pub fn copy(&self, alloc: Global) -> Result<Text, WantOfMemory>
         ensures { IfOk result (λ t. t ≡ self.now) }
     {
-        Text::make(alloc, &self.bytes)
+        Text::front(alloc, &self.kept)
     }
 
     /// How many bytes there are.
     pub fn len(&self) -> u64
         ensures { result ≡ length self.now }
     {
-        self.bytes.len() as u64
+        self.kept.len as u64
     }
 
     /// The byte at a place.
@@ -64,7 +87,7 @@ impl Text {
         requires { at < length self.now }
         ensures { slice_get self.now at ≡ Some result.now }
     {
-        &self.bytes[at as usize]
+        &self.bytes()[at as usize]
     }
 }
 

@@ -6,7 +6,7 @@ ghost use Rattle.device_stack.specs.Waiting.{minor_if, CompletedWalk};
 
 use crate::ask::{ask_driver, driver_name};
 use crate::rules::{answer_of, may_fail, place_of, shown_of, verdict};
-use device_ids::{InstancePath, Text, WantOfMemory};
+use device_ids::{InstancePath, WantOfMemory};
 use driver_rack::Drivers;
 use pnp_labels::{Answer, Ask, AskWhat, Label, Minor, Stack, Verdict};
 use std::alloc::Global;
@@ -184,7 +184,7 @@ impl Walk {
         let pos = place_of(minor, stack.len(), self.asked);
         let driver = *stack.get(pos);
         let name = driver_name(alloc, rack, driver)?;
-        let text = Text::make(alloc, path.bytes())?;
+        let text = path.text(alloc)?;
         let what = AskWhat::Irp(minor);
         let answer = ask_driver(rack, driver, &Ask { what, path });
         self.take(pos, answer);

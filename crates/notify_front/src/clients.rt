@@ -64,7 +64,7 @@ impl<R: Drivers> Desk<R> {
             return Ok(refusal(word, Reason::SameWatch));
         }
         let what = says(self.alloc, &client, node)?;
-        let path = Text::make(self.alloc, node.path.bytes())?;
+        let path = node.path.text(self.alloc)?;
         self.registrations.put(Registration {
             client,
             device,

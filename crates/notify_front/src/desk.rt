@@ -10,7 +10,7 @@ ghost use Rattle.pnp_machine.specs.declared.manager.Moved.TheVariants.{Label as 
 use crate::registration::Registration;
 use crate::registrations::Registrations;
 use crate::round::{Round, Turn};
-use device_ids::{Text, WantOfMemory};
+use device_ids::WantOfMemory;
 use driver_rack::Drivers;
 use pnp_labels::{Event, Label, OpKind};
 use pnp_machine::{Manager, Moved};
@@ -208,7 +208,7 @@ impl<R: Drivers> Desk<R> {
         ensures same { self.new.manager ≡ record self.old.manager { state = self.new.manager.state } }
         ensures err { OnErr result (self.new ≡ self.old) }
     {
-        let path = Text::make(self.alloc, self.manager.tree().at(serial).path.bytes())?;
+        let path = self.manager.tree().at(serial).path.text(self.alloc)?;
         let client = self.round.refuser().copy(self.alloc)?;
         self.manager.drop_due();
         self.round.finish();

@@ -73,7 +73,7 @@ impl Settled {
             serial: node.serial,
             parent: node.parent,
             born: node.born,
-            line: Text::make(alloc, node.path.bytes())?,
+            line: node.path.text(alloc)?,
             path: node.path.copy(alloc)?,
         })
     }

@@ -58,7 +58,7 @@ pub fn pass_on<R: Drivers>(
             Ok(Walked::On(label))
         }
         Passed::Ended { refused } => {
-            let path = Text::make(alloc, node.path.bytes())?;
+            let path = node.path.text(alloc)?;
             Ok(Walked::Ended { path, refused })
         }
     }

@@ -211,7 +211,7 @@ impl Devices {
         let Some(part) = self.world.part(born) else {
             unreachable!()
         };
-        let path = Text::make(alloc, part.path.bytes())?;
+        let path = part.path.text(alloc)?;
         let device = clipped(alloc, &self.tree, &self.bridges, serial, part)?;
         let joined = self.tree.join(
             serial,

@@ -50,7 +50,7 @@ impl<R: Drivers> Machine<R> {
         let Some(own) = self.disabled.find(path) else {
             return Ok(refusal(word, Reason::NotDisabled));
         };
-        let what = Text::make(self.alloc, own.bytes())?;
+        let what = own.text(self.alloc)?;
         self.tasks.make_room()?;
         self.disabled.take(path);
         if let Some(serial) = self.devices.tree().find(path) {
@@ -109,7 +109,7 @@ impl<R: Drivers> Machine<R> {
         ensures order { Ascends 0 (serials_of self.now.core.nodes) }
     {
         let node = self.devices.tree().at(serial);
-        Text::make(self.alloc, node.path.bytes())
+        node.path.text(self.alloc)
     }
 
     /// The paths of two nodes.

@@ -45,7 +45,7 @@ impl<R: Drivers> Machine<R> {
         ensures done { IfOk result (λ label. IsDone (happens self.old (Event.Plug parent.now path hw compat reqs)) label self.new) }
         ensures err { OnErr result (self.new ≡ self.old) }
     {
-        let what = Text::make(self.alloc, path.bytes())?;
+        let what = path.text(self.alloc)?;
         self.tasks.make_room()?;
         let over = self.devices.node_of_device(parent);
         let word = EventWord::Plug;
@@ -70,7 +70,7 @@ impl<R: Drivers> Machine<R> {
         let Some(own) = self.devices.path_in_world(path) else {
             return Ok(refusal(word, Reason::NoDevice));
         };
-        let what = Text::make(self.alloc, own.bytes())?;
+        let what = own.text(self.alloc)?;
         self.tasks.make_room()?;
         match self.devices.pull(path) {
             Ok(over) => {

@@ -50,7 +50,7 @@ impl<R: Drivers> Machine<R> {
         let Some(node) = self.devices.tree().node(child) else {
             unreachable!()
         };
-        let path = Text::make(self.alloc, node.path.bytes())?;
+        let path = node.path.text(self.alloc)?;
         self.tasks.append(Duty::Begin(OpKind::Surprise), child);
         Ok(Label::Gone { path })
     }
@@ -68,7 +68,7 @@ impl<R: Drivers> Machine<R> {
         if !is_started(node.state) {
             return Ok(self.skip_list(serial));
         }
-        let path = Text::make(self.alloc, node.path.bytes())?;
+        let path = node.path.text(self.alloc)?;
         self.tasks.make_room()?;
         match self.devices.join_next(self.alloc, serial)? {
             Some((serial, path)) => {

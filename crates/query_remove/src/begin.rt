@@ -5,7 +5,7 @@ ghost use Rattle.pnp_model.specs.Removals.{is_queried_node};
 ghost use Rattle.query_remove.specs.Begins.{BegunFor};
 
 use crate::frame::{Removal, Stage};
-use device_ids::{Text, WantOfMemory};
+use device_ids::WantOfMemory;
 use device_stack::Walk;
 use devnode_tree::Tree;
 use operation_frame::SerialQueue;
@@ -52,8 +52,8 @@ impl Removal {
     {
         let node = tree.at(serial);
         let target = node.serial;
-        let line = Text::make(alloc, node.path.bytes())?;
-        let path = Text::make(alloc, node.path.bytes())?;
+        let line = node.path.text(alloc)?;
+        let path = node.path.text(alloc)?;
         let order = relations.leaving(alloc, tree, target)?;
         let set = SerialSet::of(alloc, &order)?;
         let ejecting = relations.ejected(alloc, &set)?;

@@ -9,7 +9,7 @@ ghost use Rattle.query_remove.specs.Steps.{Moved, Removes};
 ghost use Rattle.operation_frame.specs.Steps.{MovesFor};
 
 use crate::frame::{Removal, Stage};
-use device_ids::{Text, WantOfMemory};
+use device_ids::WantOfMemory;
 use device_stack::Walk;
 use devnode_tree::{Handles, Node, Tree};
 use driver_rack::Drivers;
@@ -33,7 +33,7 @@ impl Removal {
         ensures removal { OnErr result (self.new ≡ self.old) }
     {
         let node = tree.at(self.todo.first());
-        let path = Text::make(alloc, node.path.bytes())?;
+        let path = node.path.text(alloc)?;
         self.todo = self.agreed.copy(alloc)?;
         self.refuser = Some(node.serial);
         self.cancel_next();

@@ -95,7 +95,7 @@ impl Removal {
             return Ok(OpEnd::Done);
         };
         let path = match tree.node(refuser) {
-            Some(node) => Text::make(alloc, node.path.bytes())?,
+            Some(node) => node.path.text(alloc)?,
             None => Text::make(alloc, b"")?,
         };
         Ok(OpEnd::Veto(path))

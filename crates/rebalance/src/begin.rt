@@ -5,7 +5,7 @@ ghost use Rattle.rebalance.specs.Begins.{BegunFor};
 use crate::asked::asked;
 use crate::frame::{Rebalance, Stage};
 use assign_search::Found;
-use device_ids::{Text, WantOfMemory};
+use device_ids::WantOfMemory;
 use device_stack::Walk;
 use devnode_tree::Tree;
 use operation_frame::SerialQueue;
@@ -54,8 +54,8 @@ impl Rebalance {
     {
         let node = tree.at(serial);
         let target = node.serial;
-        let line = Text::make(alloc, node.path.bytes())?;
-        let path = Text::make(alloc, node.path.bytes())?;
+        let line = node.path.text(alloc)?;
+        let path = node.path.text(alloc)?;
         let todo = asked(alloc, tree)?;
         let mut rebalance = Rebalance {
             target,

@@ -16,7 +16,7 @@ use crate::frame::{Rebalance, Stage};
 use crate::next::RebalanceStep;
 use assign_search::Found;
 use device_holdings::assign_all;
-use device_ids::{Text, WantOfMemory};
+use device_ids::WantOfMemory;
 use devnode_tree::Tree;
 use pnp_labels::{Label, OpEnd, Problem};
 use resource_reqs::Reqs;
@@ -156,7 +156,7 @@ impl Rebalance {
     {
         let node = tree.at(self.todo.first());
         let serial = node.serial;
-        let path = Text::make(alloc, node.path.bytes())?;
+        let path = node.path.text(alloc)?;
         let problem = Problem::FailedStart;
         self.todo.drop_first();
         self.restart_next(tree);

@@ -1,4 +1,4 @@
-use device_ids::{InstancePath, Text, WantOfMemory};
+use device_ids::{Text, WantOfMemory};
 use pnp_labels::{Event, Minor, RelKind};
 use resource_reqs::{Reqs, Res};
 use std::alloc::Global;
@@ -31,11 +31,6 @@ pub enum Said {
     Other,
 }
 
-/// The bytes of a path.
-fn text_of(alloc: Global, path: &InstancePath) -> Result<Text, WantOfMemory> {
-    Text::make(alloc, path.bytes())
-}
-
 /// What an event says.
 pub fn said_of(alloc: Global, event: &Event) -> Result<Said, WantOfMemory> {
     match event {
@@ -46,17 +41,17 @@ pub fn said_of(alloc: Global, event: &Event) -> Result<Said, WantOfMemory> {
             member,
         } => Ok(Said::Relate {
             kind: *kind,
-            owner: text_of(alloc, owner)?,
-            member: text_of(alloc, member)?,
+            owner: owner.text(alloc)?,
+            member: member.text(alloc)?,
         }),
         Event::Reserve { res } => Ok(Said::Reserve(*res)),
         Event::Complete { path, minor, ok } => Ok(Said::Complete {
-            path: text_of(alloc, path)?,
+            path: path.text(alloc)?,
             minor: *minor,
             ok: *ok,
         }),
         Event::Change { path, reqs } => Ok(Said::Change {
-            path: text_of(alloc, path)?,
+            path: path.text(alloc)?,
             reqs: reqs.copy(alloc)?,
         }),
         _ => Ok(Said::Other),

@@ -13,7 +13,7 @@ ghost use Rattle.driver_rank.specs.Candidates.{match_of};
 
 use crate::pending::Pending;
 use crate::work::{Phase, StartWork};
-use device_ids::{Text, TextList, WantOfMemory};
+use device_ids::{TextList, WantOfMemory};
 use device_stack::driver_name;
 use devnode_tree::{Node, Tree};
 use driver_rack::Drivers;
@@ -151,7 +151,7 @@ impl StartWork {
     {
         let node = tree.at(serial);
         let serial = node.serial;
-        let path = Text::make(alloc, node.path.bytes())?;
+        let path = node.path.text(alloc)?;
         match choose(alloc, rack, infs, node, disabled)? {
             Chosen::Trouble(problem) => {
                 tree.set_problem(serial, Some(problem));

@@ -11,7 +11,7 @@ ghost use Rattle.start_sequence.specs.Parts.{AddedFor, StartsFor, RemovesFor, Tr
 
 use crate::work::{Phase, StartWork};
 use device_holdings::release;
-use device_ids::{Text, WantOfMemory};
+use device_ids::WantOfMemory;
 use device_stack::{Passed, Walk, ask_driver, driver_name, state_after};
 use devnode_tree::Tree;
 use driver_rack::Drivers;
@@ -91,7 +91,7 @@ fn add<R: Drivers>(
     let serial = node.serial;
     let state = stacked(node.state);
     let name = driver_name(alloc, rack, driver)?;
-    let text = Text::make(alloc, node.path.bytes())?;
+    let text = node.path.text(alloc)?;
     let stack = taller(alloc, &node.stack, driver)?;
     let ask = Ask {
         what: AskWhat::Add,
@@ -131,7 +131,7 @@ fn start<R: Drivers>(
     let node = tree.at(serial);
     let serial = node.serial;
     let old = node.state;
-    let path = Text::make(alloc, node.path.bytes())?;
+    let path = node.path.text(alloc)?;
     match walk.pass(alloc, &node.stack, &node.path, rack)? {
         Passed::Asked(label) => Ok(Started::On(label)),
         Passed::Ended { refused } => {
@@ -171,7 +171,7 @@ fn remove<R: Drivers>(
 {
     let node = tree.at(serial);
     let serial = node.serial;
-    let path = Text::make(alloc, node.path.bytes())?;
+    let path = node.path.text(alloc)?;
     match walk.pass(alloc, &node.stack, &node.path, rack)? {
         Passed::Asked(label) => Ok(Removed::On(label)),
         Passed::Ended { refused: _ } => {
@@ -200,7 +200,7 @@ fn trouble(
     let node = tree.at(serial);
     let serial = node.serial;
     let has_drivers = node.stack.len() > 0;
-    let path = Text::make(alloc, node.path.bytes())?;
+    let path = node.path.text(alloc)?;
     tree.set_problem(serial, Some(problem));
     Ok((Label::Trouble { path, problem }, has_drivers))
 }

@@ -11,7 +11,7 @@ use crate::next::StartStep;
 use crate::work::{Phase, StartWork};
 use assign_search::{Found, Plan};
 use device_holdings::{assign, search};
-use device_ids::{Text, WantOfMemory};
+use device_ids::WantOfMemory;
 use device_stack::Walk;
 use devnode_tree::Tree;
 use pnp_labels::{Label, Minor, Problem};
@@ -55,7 +55,7 @@ impl StartWork {
         ensures tree { OnErr result (tree.new ≡ tree.old) }
     {
         let node = tree.at(self.serial);
-        let path = Text::make(alloc, node.path.bytes())?;
+        let path = node.path.text(alloc)?;
         if node.reqs.len() == 0 {
             assign(tree, arbiters, self.serial, ResList::new(alloc))?;
             self.phase = Phase::Starting(Walk::begin(Minor::Start));

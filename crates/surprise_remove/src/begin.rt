@@ -7,7 +7,7 @@ ghost use Rattle.surprise_remove.specs.Begins.{BegunFor};
 
 use crate::frame::{Stage, Surprise};
 use crate::readiness::was_told;
-use device_ids::{Text, WantOfMemory};
+use device_ids::WantOfMemory;
 use device_stack::Walk;
 use devnode_tree::Tree;
 use operation_frame::SerialQueue;
@@ -68,8 +68,8 @@ impl Surprise {
     {
         let node = tree.at(serial);
         let target = node.serial;
-        let line = Text::make(alloc, node.path.bytes())?;
-        let path = Text::make(alloc, node.path.bytes())?;
+        let line = node.path.text(alloc)?;
+        let path = node.path.text(alloc)?;
         let order = relations.leaving(alloc, tree, target)?;
         let set = SerialSet::of(alloc, &order)?;
         let told = told_before(alloc, tree, &set)?;

@@ -13,7 +13,7 @@ ghost use Rattle.surprise_remove.specs.Steps.{Moved, Surprises, DirectSays, Sett
 ghost use Rattle.surprise_remove.specs.Parts.{finishing};
 
 use crate::frame::{Stage, Surprise};
-use device_ids::{Text, WantOfMemory};
+use device_ids::WantOfMemory;
 use device_stack::Walk;
 use devnode_tree::{Handles, Tree};
 use driver_rack::Drivers;
@@ -67,7 +67,7 @@ impl Surprise {
         ensures surprise { OnErr result (self.new ≡ self.old) }
     {
         let node = tree.at(self.todo.first());
-        let path = Text::make(alloc, node.path.bytes())?;
+        let path = node.path.text(alloc)?;
         self.behind.push(node.serial)?;
         self.go_on();
         Ok(Label::Waits { path })

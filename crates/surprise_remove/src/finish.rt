@@ -55,8 +55,8 @@ impl Finish {
         ensures { IfOk result (λ begun. BegunFor (node_at serial tree.now.nodes) begun.0 begun.1) }
     {
         let node = tree.at(serial);
-        let line = Text::make(alloc, node.path.bytes())?;
-        let path = Text::make(alloc, node.path.bytes())?;
+        let line = node.path.text(alloc)?;
+        let path = node.path.text(alloc)?;
         let finish = Finish {
             target: node.serial,
             path,

@@ -12,7 +12,7 @@ ghost use Rattle.surprise_remove.specs.FinishSteps.{Moved, Finishes, HasCurrent,
 
 use crate::finish::{Finish, Stage};
 use crate::readiness::{ready, was_told};
-use device_ids::{Text, WantOfMemory};
+use device_ids::WantOfMemory;
 use device_stack::Walk;
 use devnode_tree::{Handles, Tree};
 use driver_rack::Drivers;
@@ -144,7 +144,7 @@ impl Finish {
         ensures finish { OnErr result (self.new ≡ self.old) }
         ensures tree { OnErr result (tree.new ≡ tree.old) }
     {
-        let path = Text::make(alloc, tree.at(serial).path.bytes())?;
+        let path = tree.at(serial).path.text(alloc)?;
         let problem = Problem::Held;
         self.stage = Stage::Next;
         remain(serial, problem, tree);
