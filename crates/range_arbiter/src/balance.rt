@@ -1,14 +1,15 @@
 ghost use Rattle.std.specs.Prelude.{◌≡◌, ◌<◌, ◌+◌, ◌^◌, length};
-ghost use Rattle.range_arbiter.specs.Trees.{pairs_at};
+ghost use Rattle.range_arbiter.specs.Trees.{pairs_at, pairs_of, IsNode, IsTop};
 
 use crate::tree::{Node, Top, Tree};
 use std::mem;
 
-/// The tree of a node, of which count and spans are made anew from its sides.
+/// Count and spans of a node are made anew from its sides.
 #[inline(always)]
-pub fn closed(mut node: Box<Node>) -> Tree
-    requires { length (pairs_at node.value) < 2 ^ 32 }
-    ensures { result ≡ pairs_at node.value }
+pub fn renewed(node: &mut Node)
+    requires { length (pairs_at node.old) < 2 ^ 32 }
+    ensures pairs { pairs_at node.new ≡ pairs_at node.old }
+    ensures known { IsNode node.new }
 {
     let count = node.left.count() + 1 + node.right.count();
     let all = node.span(false);
@@ -16,6 +17,14 @@ pub fn closed(mut node: Box<Node>) -> Tree
     node.count = count;
     node.all = all;
     node.unshared = unshared;
+}
+
+/// The tree of a node, of which count and spans are made anew from its sides.
+pub fn closed(mut node: Box<Node>) -> Tree
+    requires { length (pairs_at node.value) < 2 ^ 32 }
+    ensures { result ≡ pairs_at node.value }
+{
+    renewed(&mut node);
     Tree {
         top: Top::Full(node),
     }
@@ -108,4 +117,28 @@ pub fn balanced(mut node: Box<Node>) -> Tree
         return turned_right(node);
     }
     closed(node)
+}
+
+/// Count and spans of the top node are made anew from its sides, and it is turned where one side is more than three times as
+/// heavy as the other.
+pub fn settle(top: &mut Top)
+    requires { length (pairs_of top.old) < 2 ^ 32 }
+    ensures pairs { pairs_of top.new ≡ pairs_of top.old }
+    ensures known { IsTop top.new }
+{
+    match top {
+        Top::Empty => {}
+        Top::Full(node) => {
+            let node: &mut Node = node;
+            let left = weight(&node.left);
+            let right = weight(&node.right);
+            if right <= 3 * left && left <= 3 * right {
+                renewed(node);
+                return;
+            }
+            if let Top::Full(whole) = mem::replace(top, Top::Empty) {
+                *top = balanced(whole).top;
+            }
+        }
+    }
 }

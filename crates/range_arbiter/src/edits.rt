@@ -2,7 +2,7 @@ ghost use Rattle.std.specs.Prelude.{◌≡◌, ◌<◌, ◌+◌, ◌^◌, [], �
 ghost use Rattle.range_arbiter.specs.Pairs.{Pair, pairs_with};
 ghost use Rattle.range_arbiter.specs.Orders.{In, IsOrdered, AreOfKind};
 
-use crate::balance::balanced;
+use crate::balance::{balanced, settle};
 use crate::order::comes_before;
 use crate::tree::{Node, Top, Tree};
 use resource_reqs::{Owner, Res};
@@ -33,26 +33,26 @@ fn between(left: Tree, mut node: Box<Node>, right: Tree) -> Tree
     balanced(node)
 }
 
-/// The tree with a pair put in at its place, in the node that is passed. Cost: the height of the tree.
-pub fn with_pair(tree: Tree, pair: &(Owner, Res), mut node: Box<Node>) -> Tree
-    requires in_order { IsOrdered tree }
-    requires small { length tree + 1 < 2 ^ 32 }
-    ensures { result ≡ pairs_with tree pair.now }
+/// Puts a pair in at its place, in the node that is passed. Cost: the height of the tree.
+pub fn put_pair(tree: &mut Tree, pair: &(Owner, Res), mut node: Box<Node>)
+    requires in_order { IsOrdered tree.old }
+    requires small { length tree.old + 1 < 2 ^ 32 }
+    ensures { tree.new ≡ pairs_with tree.old pair.now }
 {
-    match opened(tree) {
-        None => {
+    match &mut tree.top {
+        Top::Empty => {
             *node = Node::single(*pair);
-            Tree {
-                top: Top::Full(node),
-            }
+            tree.top = Top::Full(node);
         }
-        Some((left, here, right)) => {
+        Top::Full(here) => {
+            let here: &mut Node = here;
             if comes_before(&here.pair, pair) {
-                let with = with_pair(right, pair, node);
-                return between(left, here, with);
+                put_pair(&mut here.right, pair, node);
+                settle(&mut tree.top);
+                return;
             }
-            let with = with_pair(left, pair, node);
-            between(with, here, right)
+            put_pair(&mut here.left, pair, node);
+            settle(&mut tree.top);
         }
     }
 }
@@ -83,27 +83,38 @@ fn merged(left: Tree, right: Tree) -> Tree
     }
 }
 
-/// The tree without a pair, and a node that it no longer needs. Cost: the height of the tree.
-pub fn without_pair(tree: Tree, pair: &(Owner, Res)) -> (Tree, Box<Node>)
-    requires in_order { IsOrdered tree }
-    requires small { length tree < 2 ^ 32 }
-    requires kinds { AreOfKind pair.now.1.kind tree }
-    requires held { In pair.now tree }
-    ensures pairs { tree ≡ pairs_with result.0 pair.now }
-    ensures fewer { length result.0 + 1 ≡ length tree }
+/// Takes a pair out, and answers a node that is no longer needed. Cost: the height of the tree.
+pub fn take_pair(tree: &mut Tree, pair: &(Owner, Res)) -> Box<Node>
+    requires in_order { IsOrdered tree.old }
+    requires small { length tree.old < 2 ^ 32 }
+    requires kinds { AreOfKind pair.now.1.kind tree.old }
+    requires held { In pair.now tree.old }
+    ensures pairs { tree.old ≡ pairs_with tree.new pair.now }
+    ensures fewer { length tree.new + 1 ≡ length tree.old }
 {
-    match opened(tree) {
-        None => unreachable!(),
-        Some((left, here, right)) => {
+    match &mut tree.top {
+        Top::Empty => unreachable!(),
+        Top::Full(here) => {
+            let here: &mut Node = here;
             if comes_before(&here.pair, pair) {
-                let (rest, node) = without_pair(right, pair);
-                return (between(left, here, rest), node);
+                let node = take_pair(&mut here.right, pair);
+                settle(&mut tree.top);
+                return node;
             }
             if comes_before(pair, &here.pair) {
-                let (rest, node) = without_pair(left, pair);
-                return (between(rest, here, right), node);
+                let node = take_pair(&mut here.left, pair);
+                settle(&mut tree.top);
+                return node;
             }
-            (merged(left, right), here)
+            match mem::replace(&mut tree.top, Top::Empty) {
+                Top::Empty => unreachable!(),
+                Top::Full(mut node) => {
+                    let left = mem::replace(&mut node.left, Tree::new());
+                    let right = mem::replace(&mut node.right, Tree::new());
+                    *tree = merged(left, right);
+                    node
+                }
+            }
         }
     }
 }
