@@ -46,7 +46,7 @@ returns-clause-done g c =
     let found = subst (λ (ns : List Node). Some k ≡ option_map (λ n. n.serial) (node_of c.args.path.now ns)) c.tree.ensures c.in-Some.ensures in
     let order = subst (λ (ns : List Node). Ascends 0 (serials_of ns)) c.tree-2.ensures c.at-node.ensures.tree.ascends in
     let at = subst (λ (ns : List Node). Some x ≡ node_at k ns) c.tree-2.ensures c.at-node.ensures.node in
-    let path_is : c.in_ok-path.path ≡ x.path = c.in_ok-path.ensures ∙ c.bytes.ensures.bytes ∙ ap (λ (n : Node). n.path) c.node.view_is in
+    let path_is : c.in_ok-path.path ≡ x.path = c.in_ok-path.ensures ∙ ap (λ (n : Node). n.path) c.node.view_is in
     watch_done m c.self.inside.registrations c.self.inside.round c.args.self.now c.self.view_is c.args.client c.args.path.now k found (sym c.busy.ensures ∙ c.if-busy.false) order x at c.args.agrees
     (ap (λ (n : Node). is_started n.state) (sym c.node.view_is) ∙ sym c.is_started.ensures ∙ c.if-not-is_started.false) c.in_ok-what.what c.put.new.self (sym c.has.ensures ∙ c.if-has.false) c.in_ok-what.ensures
     (c.in_ok-put.ensures.put ∙ ap (λ p. put_before (comes_after k) (record { client = c.args.client; device = k; path = p; agrees = c.args.agrees }) c.self.inside.registrations) path_is)

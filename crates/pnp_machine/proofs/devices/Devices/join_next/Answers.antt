@@ -51,4 +51,4 @@ returns-in-Ok-clause-joined c =
     let part = c.in_ok-device.ensures ∙ ap (λ (x : shown.Device). record x { reqs = clip s.bridges s.tree.nodes c.args.serial x.reqs }) own in
     joined_is s.world s.tree c.join-joined.new.self c.args.serial c.in-Some.born c.in-Ok.joined j s.bridges c.in_ok-device.device part c.in-Ok.ensures.serial
     c.in-Ok.ensures.joined s.relations s.reserved s.handles c.args.self.now _ c.in_ok-path.path c.self.view_is refl
-    (c.in_ok-path.ensures ∙ c.bytes.ensures.bytes ∙ ap (λ (x : shown.Device). x.path) (sym c.in_ok-device.ensures))
+    (c.in_ok-path.ensures ∙ ap (λ (x : shown.Device). x.path) (sym c.in_ok-device.ensures))

@@ -29,7 +29,7 @@ returns-in-None-clause-done g c =
     let up = started_is c.in-Some.node.now.state (ap is_started shown ∙ sym c.is_started.ensures ∙ c.if-not-is_started.false) in
     let joined = subst (λ r. JoinedFor (node_at k s.devices.tree.nodes) r s.devices c.join_next.new.self) c.in-None.is c.in_ok-serial.ensures.joined in
     let none = none_joins s.devices c.join_next.new.self rack s.disabled.paths s.starts.works operation s.tasks.tasks c.make_room.new.self.tasks k c.in-Some.node.now held up joined in
-    let path : c.in_ok-path.path ≡ c.in-Some.node.now.path = c.in_ok-path.ensures ∙ c.bytes.ensures.bytes ∙ ap (λ (n : Node). n.path) c.node-2.view_is in
+    let path : c.in_ok-path.path ≡ c.in-Some.node.now.path = c.in_ok-path.ensures ∙ ap (λ (n : Node). n.path) c.node-2.view_is in
     let same = ap (λ d. state_of d rack s.disabled.paths s.starts.works operation c.make_room.new.self.tasks) none.1
     ∙ ap (state_of s.devices rack s.disabled.paths s.starts.works operation) c.in_ok-make_room.ensures.tasks in
     rw (← c.self.view_is)

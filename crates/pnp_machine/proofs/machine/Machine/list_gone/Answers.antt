@@ -28,7 +28,7 @@ returns-clause-done g c =
     let asc = subst (λ (t : Tree). Ascends 0 (serials_of t.nodes)) tree c.node.ensures.tree.ascends in
     let gone = gone_at (is_gone_from s.devices.world.devices s.tasks.tasks) c.args.serial c.in-Some.child s.devices.tree.nodes asc (rw c.in_ok-make_room.ensures.tasks at c.in-Some.ensures.gone) in
     let same : c.in-Some-node.node.now ≡ gone.node = let e = c.in-Some-node.ensures.node ∙ ap (λ (t : Tree). node_at c.in-Some.child t.nodes) tree ∙ gone.at in cc in
-    let path = c.in_ok-path.ensures ∙ c.bytes.ensures.bytes ∙ ap (λ (n : Node). n.path) (c.node-2.view_is ∙ same) in
+    let path = c.in_ok-path.ensures ∙ ap (λ (n : Node). n.path) (c.node-2.view_is ∙ same) in
     let tasks = c.append.ensures.tasks ∙ ap (λ l. l ++ task_of (duties.Begin OpKind.Surprise, c.in-Some.child) ∷ []) c.in_ok-make_room.ensures.tasks in
     rw (← c.self.view_is)
     (gone_is _ _ c.args.serial c.in-Some.child c.args.path c.in_ok-path.path gone path

@@ -16,7 +16,7 @@ pub returns-in_ok-assign-in-Assignment-clause-searched : goal.returns-in_ok-assi
 returns-in_ok-assign-in-Assignment-clause-searched c rack around mirrors =
     let nodes = c.args.tree.now.nodes in
     let k = c.self.inside.serial in
-    let named = c.in_ok-path.ensures ∙ (c.bytes.ensures.bytes ∙ ap (λ (n : Node). n.path) c.node.view_is) in
+    let named = c.in_ok-path.ensures ∙ (ap (λ (n : Node). n.path) c.node.view_is) in
     let held = c.in_ok-held-in-Assignment.held in
     let answers = rw c.in-Assignment.is at c.in_ok-plan.ensures.answers in
     subst
@@ -29,7 +29,7 @@ returns-in_ok-assign-in-Assignment-clause-searched c rack around mirrors =
 pub returns-in-NoFit-clause-searched : goal.returns-in-NoFit-clause-searched
 returns-in-NoFit-clause-searched c rack around mirrors =
     let nodes = c.args.tree.now.nodes in
-    let named = c.in_ok-path.ensures ∙ (c.bytes.ensures.bytes ∙ ap (λ (n : Node). n.path) c.node.view_is) in
+    let named = c.in_ok-path.ensures ∙ (ap (λ (n : Node). n.path) c.node.view_is) in
     let answers = rw c.in-NoFit.is at c.in_ok-plan.ensures.answers in
     let before = at_nodes nodes (set_rack rack around) in
     subst (λ (i : ℕ). SearchedFor c.args.budget (node_at i nodes) before (steps.Needs (Label.NoFit c.in_ok-path.path)) before c.args.self.now.phase) (ap (λ (a : Activity). a.serial) c.self.view_is)
@@ -38,7 +38,7 @@ returns-in-NoFit-clause-searched c rack around mirrors =
 pub returns-in-Spent-clause-searched : goal.returns-in-Spent-clause-searched
 returns-in-Spent-clause-searched c rack around mirrors =
     let nodes = c.args.tree.now.nodes in
-    let named = c.in_ok-path.ensures ∙ (c.bytes.ensures.bytes ∙ ap (λ (n : Node). n.path) c.node.view_is) in
+    let named = c.in_ok-path.ensures ∙ (ap (λ (n : Node). n.path) c.node.view_is) in
     let answers = rw c.in-Spent.is at c.in_ok-plan.ensures.answers in
     let before = at_nodes nodes (set_rack rack around) in
     subst (λ (i : ℕ). SearchedFor c.args.budget (node_at i nodes) before (steps.Did (Label.Spent c.in_ok-path.path)) before (Due Problem.Budget)) (ap (λ (a : Activity). a.serial) c.self.view_is)
@@ -48,7 +48,7 @@ pub returns-then-len-eq0-clause-searched : goal.returns-then-len-eq0-clause-sear
 returns-then-len-eq0-clause-searched c rack around mirrors =
     let nodes = c.args.tree.now.nodes in
     let k = c.self.inside.serial in
-    let named = c.in_ok-path.ensures ∙ (c.bytes.ensures.bytes ∙ ap (λ (n : Node). n.path) c.node.view_is) in
+    let named = c.in_ok-path.ensures ∙ (ap (λ (n : Node). n.path) c.node.view_is) in
     let none : length c.at-node.result.now.reqs ≡ 0 = ap (λ (n : Node). length n.reqs) (sym c.node.view_is) ∙ (sym c.len.ensures.len ∙ c.if-len-eq0.true) in
     let at = sym c.at-node.ensures.node in
     subst

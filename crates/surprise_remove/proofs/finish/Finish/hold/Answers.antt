@@ -12,5 +12,5 @@ returns-clause-moves c =
     let nodes = c.args.tree.now.nodes in
     let node = c.at.result.now in
     let at = sym c.at.ensures.node in
-    held_is nodes c.remain.new.tree.nodes c.args.self.now _ (node_at c.args.serial nodes) node at c.in_ok-path.path (c.in_ok-path.ensures ∙ (c.bytes.ensures.bytes ∙ ap (λ (n : Node). n.path) c.behind-tree.view_is))
+    held_is nodes c.remain.new.tree.nodes c.args.self.now _ (node_at c.args.serial nodes) node at c.in_ok-path.path (c.in_ok-path.ensures ∙ (ap (λ (n : Node). n.path) c.behind-tree.view_is))
     (ap next_on c.self.view_is) c.args.serial (sym (own_serial c.args.serial node nodes at)) (ap (λ (t : Tree). t.nodes) c.remain.ensures.changed)
