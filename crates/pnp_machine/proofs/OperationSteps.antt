@@ -6,7 +6,7 @@ use Rattle.pnp_labels.specs.declared.label.Label.{Label}
 use Rattle.pnp_labels.specs.declared.label.RemoveStep.{RemoveStep}
 use Rattle.pnp_labels.specs.declared.label.RemoveStep.TheVariants as removes
 use Rattle.pnp_model.specs.Machine.{Steps, operation_walk, is_waiting}
-use Rattle.pnp_model.specs.Records.{Core, Driver, Activity, Operation, Rebalance, Removal, Surprise, Finish, State, Settings, Task}
+use Rattle.pnp_model.specs.Records.{Core, Driver, Activity, Operation, Removal, Surprise, Finish, State, Settings, Task}
 use Rattle.pnp_model.specs.Removals.{RemovalMove, removed}
 use Rattle.pnp_model.specs.Surprises.{SurpriseMove}
 use Rattle.pnp_model.specs.Finishes.{FinishMove}
@@ -16,7 +16,6 @@ use Rattle.pnp_laws.proofs.Lists.{head_found}
 use Rattle.pnp_laws.proofs.RunsStand.{reaches_kept}
 use Rattle.start_sequence.specs.Begins.{settings_of}
 use Rattle.rebalance.specs.declared.next.RebalanceStep.{RebalanceStep}
-use Rattle.rebalance.specs.declared.next.RebalanceStep.TheVariants as rebalances
 use Rattle.rebalance.proofs.Given.{rebalance_ready}
 use Rattle.operation_frame.specs.Nodes.{IsStripped}
 use Rattle.query_remove.specs.Steps as query
@@ -26,7 +25,8 @@ use Rattle.free_model.specs.Frees.{with_rack}
 use Rattle.pnp_machine.specs.Devices.{Devices}
 use Rattle.pnp_machine.specs.Machines.{state_of, beside, label_of, IsNoRoot, IsNew, IsNewPath, IsTurn, settled_path, settled_in}
 use Rattle.pnp_machine.specs.Managers.{IsOfRun}
-use Rattle.pnp_machine.specs.Operations.{IsRebalance, IsRemoving, IsTarget, MayRebalance, MayRemove, RebalancesBy, RemovesBy}
+use Rattle.pnp_machine.specs.Operations.{IsTarget, MayGo, RebalancesBy, RemovesBy}
+use Rattle.pnp_machine.specs.Rebalanced.{rebalance_label, operation_after, works_after, tasks_after}
 use Rattle.pnp_machine.specs.declared.turn.Turn.TheVariants as turns
 use Rattle.pnp_machine.proofs.ButBooks.{one_rack}
 use Rattle.pnp_machine.proofs.Fresh.{settles_new}
@@ -47,24 +47,20 @@ awake_is s o (other, runs, awake) is =
     subst (λ x. is_waiting (operation_walk x) ≡ false) (same_running other o (sym runs ∙ is)) awake
 
 module _ (s : State) (run : IsOfRun s) (turn : IsTurn turns.Operate s) where
-  pub may_rebalance : (o : Operation) → s.operation ≡ Some o → IsRebalance o → MayRebalance s.core.nodes o
-  may_rebalance (Operation.Rebalancing r) runs sort =
+  pub may_go : (o : Operation) → s.operation ≡ Some o → MayGo s.core.nodes s.core.relations s.handles o
+  may_go (Operation.Rebalancing r) runs =
       let one = one_rack s run in
       let old : State = with_rack one.here s in
       (rebalance_ready old r (reaches_kept one.told one.rack one.entries old one.reaches) runs, awake_is s (Operation.Rebalancing r) turn runs)
-  may_rebalance _ runs sort = absurd sort
-
-  pub may_remove : (o : Operation) → s.operation ≡ Some o → IsRemoving (Some o) → MayRemove s.core.nodes s.core.relations s.handles o
-  may_remove (Operation.Rebalancing r) runs sort = absurd sort
-  may_remove (Operation.Removing o) runs sort =
+  may_go (Operation.Removing o) runs =
       let one = one_rack s run in
       let goes = removal_goes one.told one.rack one.entries (with_rack one.here s) one.reaches o runs in
       (goes.0, goes.1, awake_is s (Operation.Removing o) turn runs)
-  may_remove (Operation.Surprising o) runs sort =
+  may_go (Operation.Surprising o) runs =
       let one = one_rack s run in
       let goes = surprise_goes one.told one.rack one.entries (with_rack one.here s) one.reaches o runs in
       (goes.0, goes.1, goes.2, awake_is s (Operation.Surprising o) turn runs)
-  may_remove (Operation.Finishing f) runs sort =
+  may_go (Operation.Finishing f) runs =
       let one = one_rack s run in
       let goes = finish_goes one.told one.rack one.entries (with_rack one.here s) one.reaches f runs in
       (goes.0, goes.1, awake_is s (Operation.Finishing f) turn runs)
@@ -205,36 +201,20 @@ module _ (ds ds' : Devices) (rack rack' : List Driver) (disabled : List Text) (w
           (finish_done ds ds' rack rack' disabled works tasks h.1 f f' step h.0 settings))
       by_kind _ _ set awake h = absurd h
 
--- of a rebalance; it runs on, or is over
-abbrev pub running : RebalanceStep → Operation → Option Operation
-running (rebalances.Did label) o = Some o
-running (rebalances.FailedRestart label serial) o = Some o
-running (rebalances.OverStart label) o = None
-running (rebalances.OverUndo label) o = None
-running (rebalances.OverDropped label) o = None
-running (rebalances.OverChange label) o = None
-
-running_is : (step : RebalanceStep) (r : Rebalance) → running step (Operation.Rebalancing r) ≡ moved.operation_after step r
-running_is (rebalances.Did label) r = refl
-running_is (rebalances.FailedRestart label serial) r = refl
-running_is (rebalances.OverStart label) r = refl
-running_is (rebalances.OverUndo label) r = refl
-running_is (rebalances.OverDropped label) r = refl
-running_is (rebalances.OverChange label) r = refl
-
+-- of a rebalance
 module _ (infs : List Inf) (budget : ℕ) (ds ds' : Devices) (rack rack' : List Driver) (disabled : List Text) (works : List Activity) (tasks : List Task) (step : RebalanceStep) (k : ℕ) where
   pub rebalanced_moves : (o o' : Operation) (s : State) (works' : List Activity) (operation' : Option Operation) (tasks' : List Task) → state_of ds rack disabled works (Some o) tasks ≡ s
-      → IsTurn turns.Operate s → RebalancesBy budget ds rack o step ds' rack' o' → IsTarget k o' → works' ≡ moved.works_after step k works → operation' ≡ running step o'
-      → tasks' ≡ moved.tasks_after step tasks → Steps (settings_of infs budget) s (moved.label_of step) (state_of ds' rack' disabled works' operation' tasks')
+      → IsTurn turns.Operate s → RebalancesBy budget ds rack o step ds' rack' o' → IsTarget k o' → works' ≡ works_after step k works → operation' ≡ operation_after step (Some o')
+      → tasks' ≡ tasks_after step tasks → Steps (settings_of infs budget) s (rebalance_label step) (state_of ds' rack' disabled works' operation' tasks')
   rebalanced_moves (Operation.Rebalancing r) (Operation.Rebalancing r') s works' operation' tasks' is turn h target w o t =
       let old = state_of ds rack disabled works (Some (Operation.Rebalancing r)) tasks in
       let awake = awake_is s (Operation.Rebalancing r) turn (ap (λ (x : State). x.operation) (sym is)) in
       let done = operate_moves (settings_of infs budget) old (Operation.Rebalancing r) refl _ _ awake
       (rebalance_done ds ds' rack rack' disabled works tasks r r' h.1 infs budget step h.0) in
       let same : state_of ds' rack' disabled works' operation' tasks' ≡ moved.after ds ds' rack rack' disabled works tasks r r' h.1 step =
-      ap (λ x. state_of ds' rack' disabled x operation' tasks') (w ∙ ap (λ i. moved.works_after step i works) target)
-      ∙ ap (λ x. state_of ds' rack' disabled (moved.works_after step r'.target works) x tasks') (o ∙ running_is step r')
-      ∙ ap (λ x. state_of ds' rack' disabled (moved.works_after step r'.target works) (moved.operation_after step r') x) t in
-      subst (λ x. Steps (settings_of infs budget) x (moved.label_of step) (state_of ds' rack' disabled works' operation' tasks')) is
-      (subst (λ x. Steps (settings_of infs budget) old (moved.label_of step) x) (sym same) done)
+      ap (λ x. state_of ds' rack' disabled x operation' tasks') (w ∙ ap (λ i. works_after step i works) target)
+      ∙ ap (λ x. state_of ds' rack' disabled (works_after step r'.target works) x tasks') o
+      ∙ ap (λ x. state_of ds' rack' disabled (works_after step r'.target works) (operation_after step (Some (Operation.Rebalancing r'))) x) t in
+      subst (λ x. Steps (settings_of infs budget) x (rebalance_label step) (state_of ds' rack' disabled works' operation' tasks')) is
+      (subst (λ x. Steps (settings_of infs budget) old (rebalance_label step) x) (sym same) done)
   rebalanced_moves _ _ s works' operation' tasks' is turn h target w o t = absurd h

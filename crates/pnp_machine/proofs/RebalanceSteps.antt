@@ -20,40 +20,8 @@ use Rattle.devnode_tree.specs.Cores.{at_nodes}
 use Rattle.pnp_machine.specs.Devices.{Devices}
 use Rattle.pnp_machine.specs.Doings.{core_with}
 use Rattle.pnp_machine.specs.Machines.{state_of}
+use Rattle.pnp_machine.specs.Rebalanced.{rebalance_label, operation_after, works_after, tasks_after}
 use Rattle.pnp_machine.proofs.ActSteps.{with_nodes}
-
-abbrev pub label_of : RebalanceStep → Label
-label_of (steps.Did label) = label
-label_of (steps.FailedRestart label serial) = label
-label_of (steps.OverStart label) = label
-label_of (steps.OverUndo label) = label
-label_of (steps.OverDropped label) = label
-label_of (steps.OverChange label) = label
-
--- what runs after it, which starts there are, and which tasks
-abbrev pub operation_after : RebalanceStep → Rebalance → Option Operation
-operation_after (steps.Did label) r = Some (Operation.Rebalancing r)
-operation_after (steps.FailedRestart label serial) r = Some (Operation.Rebalancing r)
-operation_after (steps.OverStart label) r = None
-operation_after (steps.OverUndo label) r = None
-operation_after (steps.OverDropped label) r = None
-operation_after (steps.OverChange label) r = None
-
-abbrev pub works_after : RebalanceStep → ℕ → List Activity → List Activity
-works_after (steps.Did label) k works = works
-works_after (steps.FailedRestart label serial) k works = works
-works_after (steps.OverStart label) k works = entered (record { serial = k; phase = Starting (walk_of Minor.Start) }) works
-works_after (steps.OverUndo label) k works = entered (record { serial = k; phase = Removing (walk_of Minor.Remove) }) works
-works_after (steps.OverDropped label) k works = works
-works_after (steps.OverChange label) k works = works
-
-abbrev pub tasks_after : RebalanceStep → List Task → List Task
-tasks_after (steps.Did label) tasks = tasks
-tasks_after (steps.FailedRestart label serial) tasks = record { kind = Duty.Begins OpKind.Surprise; serial = serial } ∷ tasks
-tasks_after (steps.OverStart label) tasks = tasks
-tasks_after (steps.OverUndo label) tasks = tasks
-tasks_after (steps.OverDropped label) tasks = tasks
-tasks_after (steps.OverChange label) tasks = tasks
 
 module _ (ds ds' : Devices) (rack rack' : List Driver) (disabled : List Text) (works : List Activity) (tasks : List Task) (r r' : Rebalance)
     (stays : ds' ≡ with_nodes ds ds'.tree.nodes) where
@@ -65,10 +33,10 @@ module _ (ds ds' : Devices) (rack rack' : List Driver) (disabled : List Text) (w
 
   -- the state after it
   abbrev pub after : RebalanceStep → State
-  after step = state_of ds' rack' disabled (works_after step r'.target works) (operation_after step r') (tasks_after step tasks)
+  after step = state_of ds' rack' disabled (works_after step r'.target works) (operation_after step (Some (Operation.Rebalancing r'))) (tasks_after step tasks)
 
   abbrev result : RebalanceStep → Step
-  result step = record { label = label_of step; state = after step }
+  result step = record { label = rebalance_label step; state = after step }
 
   lifted_is : (m : RebalanceMove) (b : RebalanceBeside) (label : Label) (x : State) → m.beside ≡ b → label ≡ m.label
       → x ≡ after_rebalance m.frame b (with_core m.core s) → record { label = label; state = x } ≡ rebalance_lifted s m

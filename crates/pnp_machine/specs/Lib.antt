@@ -3,6 +3,7 @@ pub mod DisabledPaths
 pub mod Devices
 pub mod Doings
 pub mod Operations
+pub mod Rebalanced
 pub mod Starts
 pub mod Machines
 pub mod Endings

@@ -21,8 +21,10 @@ use Rattle.pnp_model.specs.Records.{Device, Node, Driver, Activity, Doing, Setti
 use Rattle.pnp_model.specs.Records as machines
 use Rattle.pnp_machine.specs.Devices.{Devices}
 use Rattle.pnp_machine.specs.Doings.{core_with}
-use Rattle.pnp_machine.specs.Operations.{operation_of}
+use Rattle.pnp_machine.specs.Operations.{operation_of, IsTarget, RebalancesBy, RemovesBy}
 use Rattle.pnp_machine.specs.declared.operation.Operation as declared
+use Rattle.pnp_machine.specs.declared.operation.OperationStep.{OperationStep}
+use Rattle.pnp_machine.specs.declared.operation.OperationStep.TheVariants.{Rebalanced, Removed}
 use Rattle.query_remove.specs.Frames.{is_settling}
 use Rattle.pnp_machine.specs.Starts.{first_ready}
 use Rattle.pnp_machine.specs.TaskLists.{duty_of}
@@ -148,6 +150,12 @@ abbrev pub settled_in : Option Operation → List Node → Option Text
 settled_in None nodes = None
 settled_in (Some (machines.Operation.Removing o)) nodes = settled_path o nodes
 settled_in (Some _) nodes = None
+
+-- the next step of the operation that runs, for this budget: of a rebalance with the device for which it runs, and of a
+-- removal with the path of the device that it settles
+abbrev pub MovesBy : ℕ → Devices → List Driver → Operation → OperationStep → Devices → List Driver → Operation → Type 0
+MovesBy budget ds rack o (Rebalanced step target) ds' rack' o' = RebalancesBy budget ds rack o step ds' rack' o' × IsTarget target o'
+MovesBy budget ds rack o (Removed step settled) ds' rack' o' = RemovesBy ds rack o step ds' rack' o' × (settled ≡ settled_in (Some o) ds.tree.nodes)
 
 -- the tasks with one more that lists a node, if there is one
 abbrev pub tasks_over : Option ℕ → List Task → List Task

@@ -1,5 +1,5 @@
 -- The operation that runs, in the words of the machine, and what its next step does to the devices.
-use Rattle.std.specs.Prelude.{◌≡◌, ℕ, false, List, Option, Some, None}
+use Rattle.std.specs.Prelude.{◌≡◌, ℕ, false, List}
 use Rattle.pnp_labels.specs.declared.label.RemoveStep.{RemoveStep}
 use Rattle.pnp_model.specs.Cores.{node_at}
 use Rattle.pnp_model.specs.Frames.{first_node}
@@ -22,40 +22,20 @@ operation_of (Removing o) = machines.Operation.Removing o
 operation_of (Surprising o) = machines.Operation.Surprising o
 operation_of (Finishing f) = machines.Operation.Finishing f
 
--- a rebalance runs
-abbrev pub IsRebalance : machines.Operation → Type 0
-IsRebalance (machines.Operation.Rebalancing r) = Unit {0}
-IsRebalance _ = ⊥
-
-abbrev pub IsRebalancing : Option machines.Operation → Type 0
-IsRebalancing None = ⊥
-IsRebalancing (Some o) = IsRebalance o
-
 -- the device for which it runs
 abbrev pub IsTarget : ℕ → machines.Operation → Type 0
 IsTarget k (machines.Operation.Rebalancing r) = k ≡ r.target
 IsTarget k _ = ⊥
 
--- an operation runs that removes devices
-abbrev pub IsRemoving : Option machines.Operation → Type 0
-IsRemoving None = ⊥
-IsRemoving (Some (machines.Operation.Rebalancing r)) = ⊥
-IsRemoving (Some _) = Unit {0}
-
--- it is a rebalance that does not wait, and the device that is next is there
-abbrev pub MayRebalance : List Node → machines.Operation → Type 0
-MayRebalance nodes (machines.Operation.Rebalancing r) = rebalances.HasNext nodes r r.stage × (is_waiting (rebalance_walk r.stage) ≡ false)
-MayRebalance nodes _ = ⊥
-
--- it removes devices and does not wait, the device that is next is there, and one that is settled may leave
-abbrev pub MayRemove : List Node → List Relation → List Handle → machines.Operation → Type 0
-MayRemove nodes relations handles (machines.Operation.Rebalancing r) = ⊥
-MayRemove nodes relations handles (machines.Operation.Removing o) =
+-- it does not wait, what it works on is there, and a device that is settled may leave
+abbrev pub MayGo : List Node → List Relation → List Handle → machines.Operation → Type 0
+MayGo nodes relations handles (machines.Operation.Rebalancing r) = rebalances.HasNext nodes r r.stage × (is_waiting (rebalance_walk r.stage) ≡ false)
+MayGo nodes relations handles (machines.Operation.Removing o) =
     removes.HasNext nodes o o.stage × removes.SettlesStripped nodes o o.stage × (is_waiting (removal_walk o.stage) ≡ false)
-MayRemove nodes relations handles (machines.Operation.Surprising o) =
+MayGo nodes relations handles (machines.Operation.Surprising o) =
     surprises.HasNext nodes o o.stage × surprises.DirectSays nodes relations o o.stage × surprises.SettlesStripped nodes relations o handles o.stage
     × (is_waiting (surprise_walk o.stage) ≡ false)
-MayRemove nodes relations handles (machines.Operation.Finishing f) =
+MayGo nodes relations handles (machines.Operation.Finishing f) =
     finishes.HasCurrent nodes f f.stage × finishes.LeavesStripped nodes f f.stage × (is_waiting (finish_walk f.stage) ≡ false)
 
 -- the next step of a rebalance, for this budget

@@ -2,10 +2,11 @@ ghost use Rattle.std.specs.Prelude.{◌≡◌, ◌≤◌, Bool, true, false, IfO
 ghost use Rattle.pnp_model.specs.Events.{operation_at, operation_waits, completed, answer_of};
 ghost use Rattle.pnp_model.specs.Machine.{operation_walk, is_waiting};
 ghost use Rattle.device_stack.specs.Waiting.{minor_of};
-ghost use Rattle.pnp_machine.specs.Operations.{operation_of, IsRebalance, IsTarget, MayRebalance, MayRemove, RebalancesBy, RemovesBy};
-ghost use Rattle.pnp_machine.specs.Machines.{CompletesOperation};
+ghost use Rattle.pnp_machine.specs.Operations.{operation_of, MayGo};
+ghost use Rattle.pnp_machine.specs.Machines.{settled_path, CompletesOperation, MovesBy};
 
 use crate::devices::Devices;
+use crate::disabled::{DisabledPaths, Entry};
 use device_ids::WantOfMemory;
 use device_stack::{NoSuchRequest, Walk};
 use driver_rack::Drivers;
@@ -26,6 +27,41 @@ pub(crate) enum Operation {
     Surprising(Surprise),
     /// Devices that stayed behind when they had gone lose their drivers.
     Finishing(Finish),
+}
+
+/// A step of an operation, with what the machine does beside it: this project's own.
+#[derive(Drop)]
+pub(crate) enum OperationStep {
+    /// Of a rebalance for a device.
+    Rebalanced {
+        step: RebalanceStep,
+        target: u64,
+    },
+    /// Of an operation that removes devices. Where it settled one that is to be disabled, the device's path.
+    Removed {
+        step: RemoveStep,
+        settled: Option<Entry>,
+    },
+}
+
+/// Where a removal settles a device with its next step, the device's path, ready to be disabled.
+fn settled_path(
+    alloc: Global,
+    devices: &Devices,
+    removal: &Removal,
+) -> Result<Option<Entry>, WantOfMemory>
+    ensures { IfOk result (λ path. path ≡ settled_path removal.now devices.now.tree.nodes) }
+{
+    if !removal.settles() {
+        return Ok(None);
+    }
+    let Some(serial) = removal.first() else {
+        return Ok(None);
+    };
+    match devices.tree().node(serial) {
+        Some(node) => Ok(Some(DisabledPaths::entry(alloc, &node.path)?)),
+        None => Ok(None),
+    }
 }
 
 impl Operation {
@@ -96,61 +132,48 @@ impl Operation {
         true
     }
 
-    /// The device for which a rebalance runs. Condition: it is a rebalance.
-    pub(crate) fn target(&self) -> u64
-        requires { IsRebalance (operation_of self.now) }
-        ensures { IsTarget result (operation_of self.now) }
-    {
-        match self {
-            Operation::Rebalancing(rebalance) => rebalance.target(),
-            Operation::Removing(_) | Operation::Surprising(_) | Operation::Finishing(_) => {
-                unreachable!()
-            }
-        }
-    }
-
-    /// The next step of a rebalance, as `Rebalance::next` says. Conditions: it is one, and does not wait.
-    pub(crate) fn rebalance<R: Drivers>(
+    /// The next step of the operation, as `Rebalance::next`, `Removal::next`, `Surprise::next` and `Finish::next` say.
+    /// Conditions: it does not wait, and what it works on is there. After want of memory all is as before, and no driver was
+    /// asked.
+    pub(crate) fn next<R: Drivers>(
         &mut self,
         alloc: Global,
         devices: &mut Devices,
         rack: &mut R,
         budget: u64,
-    ) -> Result<RebalanceStep, WantOfMemory>
-        requires may { MayRebalance devices.old.tree.nodes (operation_of self.old) }
+    ) -> Result<OperationStep, WantOfMemory>
+        requires goes { MayGo devices.old.tree.nodes devices.old.relations devices.old.handles (operation_of self.old) }
         requires budget { budget ≤ 1000000 }
-        ensures rebalances { IfOk result (λ step. RebalancesBy budget devices.old (R.rows rack.old) (operation_of self.old) step devices.new (R.rows rack.new) (operation_of self.new)) }
+        ensures moves { IfOk result (λ step. MovesBy budget devices.old (R.rows rack.old) (operation_of self.old) step devices.new (R.rows rack.new) (operation_of self.new)) }
         ensures operation { OnErr result (operation_of self.new ≡ operation_of self.old) }
         ensures rack { OnErr result (R.rows rack.new ≡ R.rows rack.old) }
         ensures err { OnErr result (devices.new ≡ devices.old) }
     {
         match self {
-            Operation::Rebalancing(rebalance) => devices.rebalance(alloc, rebalance, rack, budget),
-            Operation::Removing(_) | Operation::Surprising(_) | Operation::Finishing(_) => {
-                unreachable!()
+            Operation::Rebalancing(rebalance) => {
+                let step = devices.rebalance(alloc, rebalance, rack, budget)?;
+                let target = rebalance.target();
+                Ok(OperationStep::Rebalanced { step, target })
             }
-        }
-    }
-
-    /// The next step of an operation that removes devices, as `Removal::next`, `Surprise::next` and `Finish::next` say.
-    /// Conditions: it is one, and does not wait.
-    pub(crate) fn remove<R: Drivers>(
-        &mut self,
-        alloc: Global,
-        devices: &mut Devices,
-        rack: &mut R,
-    ) -> Result<RemoveStep, WantOfMemory>
-        requires may { MayRemove devices.old.tree.nodes devices.old.relations devices.old.handles (operation_of self.old) }
-        ensures removes { IfOk result (λ step. RemovesBy devices.old (R.rows rack.old) (operation_of self.old) step devices.new (R.rows rack.new) (operation_of self.new)) }
-        ensures operation { OnErr result (operation_of self.new ≡ operation_of self.old) }
-        ensures rack { OnErr result (R.rows rack.new ≡ R.rows rack.old) }
-        ensures err { OnErr result (devices.new ≡ devices.old) }
-    {
-        match self {
-            Operation::Removing(removal) => devices.remove(alloc, removal, rack),
-            Operation::Surprising(surprise) => devices.surprise(alloc, surprise, rack),
-            Operation::Finishing(finish) => devices.finish(alloc, finish, rack),
-            Operation::Rebalancing(_) => unreachable!(),
+            Operation::Removing(removal) => {
+                let settled = settled_path(alloc, devices, removal)?;
+                let step = devices.remove(alloc, removal, rack)?;
+                Ok(OperationStep::Removed { step, settled })
+            }
+            Operation::Surprising(surprise) => {
+                let step = devices.surprise(alloc, surprise, rack)?;
+                Ok(OperationStep::Removed {
+                    step,
+                    settled: None,
+                })
+            }
+            Operation::Finishing(finish) => {
+                let step = devices.finish(alloc, finish, rack)?;
+                Ok(OperationStep::Removed {
+                    step,
+                    settled: None,
+                })
+            }
         }
     }
 }
