@@ -1,5 +1,5 @@
 -- What is fixed, and the board that holds it.
-use Rattle.std.proofs.Common.{◌≡◌, ℕ, Bool, true, false, not, ◌==◌, ◌||◌, ◌+◌, ◌*◌, ◌^◌, ◌<◌, ◌≤◌, cond, inl, inr, List, [], ◌∷◌, ◌++◌, length, take, get_or, slice_get, Contains, Some, None, zero, suc, append_assoc, append-nil, length-append, length-take, Result, Ok, Err, is_ok, filter, refl, sym, ◌∙◌, ap, ap₂, subst, arith}
+use Rattle.std.proofs.Common.{◌≡◌, ℕ, Bool, true, false, not, ◌==◌, ◌||◌, ◌+◌, ◌*◌, ◌^◌, ◌<◌, ◌≤◌, cond, inl, inr, List, [], ◌∷◌, ◌++◌, length, take, get_or, slice_get, Contains, Some, suc, append_assoc, append-nil, length-append, length-take, Result, Ok, Err, is_ok, filter, refl, sym, ◌∙◌, ap, ap₂, subst, arith}
 use Rattle.std.specs.Prelude.{IsPermutation}
 use Rattle.std.specs.List.{list_any}
 use Rattle.std.specs.List.Sorted.{IsNonDecreasing, IsBinarySearchResult}
@@ -7,18 +7,17 @@ use Rattle.std.specs.Ordering.{nat_cmp}
 use Rattle.std.proofs.lemmas.Bool.{eqb-true, eq-eqb, cond_both, or_cases, or_left, or_right, cases_Bool, both_ways, false_from_ne_true}
 use native.Mathlib.Decide.{dec_lt}
 use Rattle.std.specs.Result.{MatchResult}
-use Rattle.std.proofs.lemmas.List.{take_all, get_or_default}
+use Rattle.std.proofs.lemmas.List.{get_or_default}
 use Rattle.std.proofs.lemmas.Option.{slice_get_within, get_or_from_slice_get}
-use Rattle.std.proofs.lemmas.List.Folds.{list_any_at, list_any_more}
-use Rattle.std.proofs.lemmas.List.Elements.{filter_more, filter-append, filter_agree}
-use Rattle.std.proofs.lemmas.List.Sorted.{searched, IsPermutation-append_left, IsPermutation-trans, IsPermutation-push_more, IsPermutation-map, IsPermutation-sym, Contains-permutation, length_permutation}
+use Rattle.std.proofs.lemmas.List.Elements.{filter_more, filter_agree}
+use Rattle.std.proofs.lemmas.List.Sorted.{searched, IsPermutation-push_more, IsPermutation-map, IsPermutation-sym, Contains-permutation, length_permutation}
 use Rattle.resource_reqs.specs.declared.kind.Kind.{Kind}
 use Rattle.resource_reqs.specs.declared.owner.Owner.{Owner}
 use Rattle.resource_reqs.specs.declared.owner.Owner.TheVariants.{Reserved, Device}
 use Rattle.resource_reqs.proofs.Counts.{contains_cons, contains_nil}
 use Rattle.range_arbiter.specs.Pairs.{Pair, res_list}
 use Rattle.trial_journal.specs.ByKind.{Arbiters, of_kind, lists_of}
-use Rattle.trial_journal.proofs.KindsApart.{pairs_at, pairs_in, pairs_in_more}
+use Rattle.trial_journal.proofs.KindsApart.{pairs_at, pairs_in}
 use Rattle.assign_search.specs.Fixed.{is_mover, fixed_pairs, has_moving, fixed_of}
 use Rattle.assign_search.proofs.SameHeld.{SameSet}
 use Rattle.assign_search.proofs.Touching.{contains_later}

@@ -14,7 +14,7 @@ abbrev pub serial_of : Mover → ℕ
 serial_of m = m.serial
 
 abbrev pub reqs_of : Mover → Reqs
-reqs_of m = m.reqs
+reqs_of m = m.reqs.now
 
 -- the owner is a device of one of these serials
 abbrev pub is_mover : List ℕ → Owner → Bool

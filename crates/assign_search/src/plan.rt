@@ -1,4 +1,4 @@
-ghost use Rattle.std.specs.Prelude.{◌≡◌, ◌<◌, ◌++◌, [], ◌∷◌, length, OnOk, OnErr, slice_get, Some};
+ghost use Rattle.std.specs.Prelude.{◌≡◌, ◌<◌, ◌++◌, [], ◌∷◌, length, OnOk, OnErr, get_or, slice_get, Some};
 
 use resource_reqs::{ResList, WantOfMemory};
 use std::alloc::Global;
@@ -51,6 +51,18 @@ impl Plan {
         ensures { slice_get self.now at ≡ Some result.now }
     {
         &self.parts[at as usize]
+    }
+
+    /// The resources of the first mover, and nothing where there is no mover. It takes no memory, and those of the others
+    /// are let go.
+    pub fn into_first(self, alloc: Global) -> ResList
+        ensures { result ≡ get_or self 0 [] }
+    {
+        let mut parts = self.parts;
+        if parts.is_empty() {
+            return ResList::new(alloc);
+        }
+        parts.swap_remove(0)
     }
 }
 

@@ -8,7 +8,7 @@ ghost use Rattle.assign_search.specs.Fixed.{serial_of, reqs_of, is_mover, fixed_
 use crate::board::add;
 use crate::mover::Mover;
 use crate::plan::Found;
-use crate::search::search;
+use crate::search::{search, search_on};
 use resource_reqs::{Owner, Res, WantOfMemory};
 use std::alloc::Global;
 use trial_journal::Arbiters;
@@ -134,6 +134,6 @@ pub fn answer(
     if !has_moving(pairs, serials) {
         return search(alloc, arbiters, movers, budget);
     }
-    let mut board = fixed_board(alloc, pairs, serials)?;
-    search(alloc, &mut board, movers, budget)
+    let board = fixed_board(alloc, pairs, serials)?;
+    search_on(alloc, board, movers, budget)
 }

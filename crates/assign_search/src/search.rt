@@ -5,7 +5,7 @@ ghost use Rattle.trial_journal.specs.ByKind.{of_kind, all_pairs, lists_of, Lists
 ghost use Rattle.resource_reqs.specs.Resources.{Res};
 ghost use Rattle.resource_reqs.specs.Spelling.{IsAnswer};
 ghost use Rattle.assign_search.specs.Fixed.{reqs_of, answer_of};
-ghost use Rattle.assign_search.specs.Walking.{AllOpen, HasOpenList, Adds, IsSpot, groups_at, movers_at, held_in, lists_holding, lists_along, trial};
+ghost use Rattle.assign_search.specs.Walking.{AllOpen, HasOpenList, Adds, IsSpot, groups_at, movers_at, held_in, lists_holding, lists_along, plan_in, trial};
 ghost use Rattle.assign_search.specs.Watching.{AllWatched, AddsStep, Within};
 
 use crate::board::{hold, release};
@@ -13,7 +13,7 @@ use crate::children::{is_complete, next_child};
 use crate::live::is_live_child;
 use crate::look::all_lists;
 use crate::mover::Mover;
-use crate::plan::Found;
+use crate::plan::{Found, Plan};
 use crate::spelled::plan_of;
 use crate::spots::{Child, Frame, Spot, Step};
 use crate::watch::{Watch, no_watch};
@@ -85,6 +85,23 @@ fn look_ahead(
     }
 }
 
+/// The plan along the path and one frame more, of which nothing is on the board. The path is as before, whatever
+/// comes.
+fn plan_along(
+    alloc: Global,
+    movers: &[Mover],
+    path: &mut Vec<Frame>,
+    last: Frame,
+) -> Result<Plan, WantOfMemory>
+    ensures plan { IfOk result (λ plan. plan ≡ plan_in (map reqs_of movers.now) (path.old.items ++ last ∷ [])) }
+    ensures path { path.new.items ≡ path.old.items }
+{
+    path.push(last)?;
+    let plan = plan_of(alloc, movers, path);
+    path.pop();
+    plan
+}
+
 /// Takes off the board what the frames of a path placed, the last first.
 fn take_back(board: &mut Arbiters, path: &mut Vec<Frame>)
     requires { (before : Lists) × (lists_of board.old ≡ lists_along before path.old.items) }
@@ -136,11 +153,11 @@ fn walk_paths(
             return Ok(Found::Spent);
         }
         count += 1;
-        hold(board, &child.res)?;
         if is_complete(movers, child.spot) {
-            grow(board, path, frame_of(spot, &child))?;
-            return Ok(Found::Assignment(plan_of(alloc, movers, path)?));
+            let plan = plan_along(alloc, movers, path, frame_of(spot, &child))?;
+            return Ok(Found::Assignment(plan));
         }
+        hold(board, &child.res)?;
         let live = look_ahead(alloc, board, movers, &child, watch)?;
         if live {
             grow(board, path, frame_of(spot, &child))?;
@@ -153,25 +170,28 @@ fn walk_paths(
     }
 }
 
-/// The same answer, with what the path placed taken off again: the lists of the board are as before, whatever
-/// is answered.
+/// The answer beside what the board holds, all of which is fixed. What the frames of the path placed is left on the
+/// board, whatever is answered.
 fn search_paths(
     alloc: Global,
     board: &mut Arbiters,
     movers: &[Mover],
     budget: u64,
+    path: &mut Vec<Frame>,
 ) -> Result<Found, WantOfMemory>
     requires few { length (all_pairs board.old) + budget < 2 ^ 32 }
-    requires some_list { ¬ AllByRecursion (λ reqs. reqs ≡ []) (map reqs_of movers.now) }
-    requires open_lists { AllByRecursion (HasOpenList (held_in board.old)) (map reqs_of movers.now) }
+    requires empty { path.old.items ≡ [] }
     ensures answer { IfOk result (λ found. IsAnswer (held_in board.old) (map reqs_of movers.now) budget (answer_of found)) }
-    ensures same { lists_of board.new ≡ lists_of board.old }
+    ensures along { lists_of board.new ≡ lists_along (lists_of board.old) path.new.items }
 {
+    if is_complete(movers, Spot::Between(0)) {
+        return Ok(Found::Assignment(plan_of(alloc, movers, &[])?));
+    }
+    if !all_lists(board, movers, 0) {
+        return Ok(Found::NoFit);
+    }
     let mut watch = no_watch(alloc, movers)?;
-    let mut path: Vec<Frame> = Vec::new(alloc);
-    let found = walk_paths(alloc, board, movers, budget, &mut path, &mut watch);
-    take_back(board, &mut path);
-    found
+    walk_paths(alloc, board, movers, budget, path, &mut watch)
 }
 
 /// The answer beside what the board holds, all of which is fixed. The lists of the board are as before,
@@ -186,11 +206,22 @@ pub fn search(
     ensures answer { IfOk result (λ found. IsAnswer (held_in board.old) (map reqs_of movers.now) budget (answer_of found)) }
     ensures same { lists_of board.new ≡ lists_of board.old }
 {
-    if is_complete(movers, Spot::Between(0)) {
-        return Ok(Found::Assignment(plan_of(alloc, movers, &[])?));
-    }
-    if !all_lists(board, movers, 0) {
-        return Ok(Found::NoFit);
-    }
-    search_paths(alloc, board, movers, budget)
+    let mut path: Vec<Frame> = Vec::new(alloc);
+    let found = search_paths(alloc, board, movers, budget, &mut path);
+    take_back(board, &mut path);
+    found
+}
+
+/// The same answer, on a board that is for this search alone: what it placed is not taken off again.
+pub fn search_on(
+    alloc: Global,
+    mut board: Arbiters,
+    movers: &[Mover],
+    budget: u64,
+) -> Result<Found, WantOfMemory>
+    requires { length (all_pairs board) + budget < 2 ^ 32 }
+    ensures { IfOk result (λ found. IsAnswer (held_in board) (map reqs_of movers.now) budget (answer_of found)) }
+{
+    let mut path: Vec<Frame> = Vec::new(alloc);
+    search_paths(alloc, &mut board, movers, budget, &mut path)
 }

@@ -1,4 +1,4 @@
-ghost use Rattle.std.specs.Prelude.{◌≡◌, ◌≤◌, ◌++◌, List, map, IfOk, IsTrue, option_copied};
+ghost use Rattle.std.specs.Prelude.{◌≡◌, ◌≤◌, ◌++◌, [], List, map, IfOk, IsTrue, option_copied};
 ghost use Rattle.std.specs.List.{list_any};
 ghost use Rattle.resource_reqs.specs.Resources.{Res, clashes};
 ghost use Rattle.pnp_model.specs.Cores.{node_at};
@@ -18,30 +18,28 @@ use std::alloc::Global;
 use trial_journal::Arbiters;
 
 /// What a device asks for: this, where it is given, else what it needs, and nothing where no node has the serial.
-fn needs_at(
-    alloc: Global,
-    tree: &Tree,
-    serial: u64,
-    given: Option<&Reqs>,
-) -> Result<Reqs, WantOfMemory>
-    ensures { IfOk result (λ reqs. reqs ≡ reqs_or (option_copied given.entry) (reqs_of (node_at serial tree.now.nodes))) }
+fn needs_at<'a>(tree: &'a Tree, nothing: &'a Reqs, serial: u64, given: Option<&'a Reqs>) -> &'a Reqs
+    requires { nothing.now ≡ [] }
+    ensures { result.now ≡ reqs_or (option_copied given.entry) (reqs_of (node_at serial tree.now.nodes)) }
 {
     if let Some(reqs) = given {
-        return reqs.copy(alloc);
+        return reqs;
     }
     match tree.node(serial) {
-        Some(node) => node.reqs.copy(alloc),
-        None => Ok(Reqs::new(alloc)),
+        Some(node) => &node.reqs,
+        None => nothing,
     }
 }
 
 /// The devices of these serials as movers. The first one asks for this, where it is given.
-fn movers_of(
+fn movers_of<'a>(
     alloc: Global,
-    tree: &Tree,
-    first: Option<&Reqs>,
+    tree: &'a Tree,
+    nothing: &'a Reqs,
+    first: Option<&'a Reqs>,
     serials: &[u64],
-) -> Result<Vec<Mover>, WantOfMemory>
+) -> Result<Vec<Mover<'a>>, WantOfMemory>
+    requires { nothing.now ≡ [] }
     ensures serials { IfOk result (λ movers. map Fixed.serial_of movers.items ≡ serials.now) }
     ensures needs { IfOk result (λ movers. map Fixed.reqs_of movers.items ≡ asked_for (option_copied first.entry) tree.now.nodes serials.now) }
 {
@@ -50,7 +48,7 @@ fn movers_of(
     'serials: for serial in serials {
         movers.push(Mover {
             serial: *serial,
-            reqs: needs_at(alloc, tree, *serial, given)?,
+            reqs: needs_at(tree, nothing, *serial, given),
         })?;
         given = None;
     }
@@ -99,7 +97,8 @@ pub fn search_for(
     ensures answers { IfOk result (λ found. AnswersTo (asked_for (option_copied first.entry) tree.now.nodes serials.now) tree.now.nodes arbiters.old serials.now budget found) }
     ensures same { lists_of arbiters.new ≡ lists_of arbiters.old }
 {
-    let movers = movers_of(alloc, tree, first, serials)?;
+    let nothing = Reqs::new(alloc);
+    let movers = movers_of(alloc, tree, &nothing, first, serials)?;
     if are_idle(tree, serials) {
         return answer_beside(alloc, arbiters, &movers, budget);
     }

@@ -1,8 +1,8 @@
 -- The last backslash of a path.
-use Rattle.std.proofs.Common.{◌≡◌, ℕ, suc, ◌+◌, ◌<◌, ◌≤◌, List, [], ◌∷◌, ◌++◌, length, take, drop, true, false, refl, sym, ◌∙◌, ap, arith, append_assoc, length-append, ◌&&◌, ◌==◌, count_by}
+use Rattle.std.proofs.Common.{◌≡◌, ℕ, suc, ◌+◌, ◌<◌, List, [], ◌∷◌, ◌++◌, length, take, drop, true, false, refl, sym, ◌∙◌, ap, arith, append_assoc, length-append, ◌&&◌, ◌==◌, count_by}
 use Rattle.std.proofs.lemmas.List.Splits.{length-slice_split}
 use Rattle.device_ids.specs.Cuts.{parts}
-use Rattle.device_ids.specs.Ids.{Sides, has_parts, has_ids, are_parts, are_ids, joined, is_id, is_some_bytes}
+use Rattle.device_ids.specs.Ids.{Sides, has_parts, are_parts, are_ids, joined, is_id, is_some_bytes}
 use Rattle.std.proofs.lemmas.Bool.{lt-ltb}
 use Rattle.std.proofs.Math.Seq.{take-append_seam, drop-append-add}
 

@@ -1,10 +1,9 @@
 -- The first part, and the parts after it.
-use Rattle.std.proofs.Common.{◌≡◌, ℕ, ◌+◌, ◌-◌, ◌<◌, ◌≤◌, List, [], ◌∷◌, ◌++◌, length, get_or, take, drop, false, true, Bool, arith, refl, ◌∙◌, sym, ap, suc, zero, ◌==◌, subst, length-drop, add-one, Option, Some, None, cond}
+use Rattle.std.proofs.Common.{◌≡◌, ℕ, ◌+◌, ◌-◌, ◌<◌, ◌≤◌, List, [], ◌∷◌, ◌++◌, length, get_or, take, drop, false, true, arith, refl, ◌∙◌, sym, ap, suc, zero, ◌==◌, length-drop, add-one, Some, None}
 use Rattle.std.proofs.lemmas.List.Splits.{slice_split-cons_yes, slice_split-cons_no}
 use Rattle.std.specs.List.{onto_first}
 use Rattle.std.proofs.lemmas.Bool.{eq-eqb}
 use Rattle.device_ids.specs.Cuts.{parts, cut_once}
-use Rattle.std.specs.Option.{option_map}
 use Rattle.std.proofs.lemmas.List.{take_all, get_or-take, length-take-le}
 
 -- none of the first n is such a byte

@@ -1,4 +1,5 @@
 pub mod Cuts
 pub mod Folding
+pub mod Kept
 pub mod Ids
 pub mod Faults

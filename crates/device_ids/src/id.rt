@@ -4,7 +4,7 @@ ghost use Rattle.device_ids.specs.Faults.{id_fault};
 ghost use Rattle.device_ids.specs.declared.error.IdError.{IdError};
 
 use crate::error::IdError;
-use crate::text::WantOfMemory;
+use crate::text::{Text, WantOfMemory};
 use std::alloc::{AllocError, Global};
 use std::marker::Model;
 
@@ -58,7 +58,7 @@ pub fn is_legal(bytes: &[u8]) -> bool
 /// sees the list of its bytes (the driver kit, "Device Identification Strings").
 #[derive(Debug, Drop)]
 pub struct DeviceId {
-    bytes: Vec<u8>,
+    text: Text,
 }
 
 impl Model for DeviceId {
@@ -67,9 +67,9 @@ impl Model for DeviceId {
 
     ghost Value = { List ℕ };
 
-    ghost view = { λ d. d.bytes.items };
+    ghost view = { λ d. d.text };
 
-    ghost invariant = { λ d. IsTrue (is_id d.bytes.items) };
+    ghost invariant = { λ d. IsTrue (is_id d.text) };
 }
 
 impl DeviceId {
@@ -84,8 +84,8 @@ impl DeviceId {
         if let Some(fault) = id_fault(bytes) {
             return Err(fault);
         }
-        match Vec::from_slice(alloc, bytes) {
-            Ok(bytes) => Ok(DeviceId { bytes }),
+        match Text::make(alloc, bytes) {
+            Ok(text) => Ok(DeviceId { text }),
             Err(_) => Err(IdError::WantOfMemory),
         }
     }
@@ -95,15 +95,15 @@ impl DeviceId {
         ensures bytes { result.now ≡ self.now }
         ensures legal { IsTrue (is_id self.now) }
     {
-        &self.bytes
+        self.text.bytes()
     }
 
-    /// An equal identifier. Cost: the length.
+    /// An equal identifier, which keeps the same bytes.
     pub fn copy(&self, alloc: Global) -> Result<DeviceId, WantOfMemory>
         ensures { IfOk result (λ id. id ≡ self.now) }
     {
-        let bytes = Vec::from_slice(alloc, &self.bytes)?;
-        Ok(DeviceId { bytes })
+        let text = self.text.copy(alloc)?;
+        Ok(DeviceId { text })
     }
 }
 
@@ -157,7 +157,7 @@ impl IdList {
         &self.ids[at as usize]
     }
 
-    /// An equal list. Cost: the bytes of all.
+    /// An equal list, whose identifiers keep the same bytes. Cost: their number.
     pub fn copy(&self, alloc: Global) -> Result<IdList, WantOfMemory>
         ensures { IfOk result (λ ids. ids ≡ self.now) }
     {

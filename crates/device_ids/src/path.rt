@@ -1,13 +1,14 @@
 ghost use Rattle.std.specs.Prelude.{◌≡◌, ◌≢◌, ◌↔◌, ◌≤◌, ◌<◌, ◌+◌, ◌++◌, ℕ, [], ◌∷◌, length, take, drop, Some, None, false, true, IsTrue, IfOk, OnOk, OnErr, IsErrOf, IsOkUnless, MatchOption, Err};
 ghost use Rattle.device_ids.specs.Faults.{path_fault};
 ghost use Rattle.device_ids.specs.declared.error.PathError.{PathError};
-ghost use Rattle.device_ids.specs.Folding.{folded, same, HasFolded};
+ghost use Rattle.device_ids.specs.Folding.{folded, same};
+ghost use Rattle.device_ids.specs.Kept.{text_of, HasFolded};
 ghost use Rattle.device_ids.specs.Ids.{joined, has_parts, has_ids, is_path, Sides};
 
 use crate::cuts::split_once;
 use crate::error::PathError;
 use crate::id::{DeviceId, is_legal};
-use crate::text::{Kept, Text, WantOfMemory};
+use crate::text::{Bytes, FEW, Kept, Text, WantOfMemory};
 use std::alloc::Global;
 use std::marker::Model;
 use std::rc::Rc;
@@ -43,20 +44,24 @@ fn path_fault(bytes: &[u8]) -> Option<PathError>
     Some(PathError::BadId)
 }
 
-/// The bytes, and behind them the same bytes with ASCII letters folded.
+/// The bytes, and the same bytes with ASCII letters folded.
 fn with_folded(alloc: Global, bytes: &[u8]) -> Result<Rc<Kept>, WantOfMemory>
-    ensures { IfOk result (λ kept. HasFolded (length bytes.now) kept.value.bytes.items × (take (length bytes.now) kept.value.bytes.items ≡ bytes.now) × (kept.value.len ≡ length bytes.now)) }
+    ensures { IfOk result (λ kept. HasFolded kept.value × (text_of kept.value ≡ bytes.now)) }
 {
     let len = bytes.len();
+    if len <= FEW {
+        return Ok(Rc::new(alloc, Kept::few(bytes))?);
+    }
     let mut both = Vec::with_capacity(alloc, len.saturating_mul(2))?;
     both.extend_from_slice(bytes)?;
     both.extend_from_slice(bytes)?;
     both[len..].make_ascii_lowercase();
-    Ok(Rc::new(alloc, Kept { bytes: both, len })?)
+    let bytes = Bytes::Many(both);
+    Ok(Rc::new(alloc, Kept { bytes, len })?)
 }
 
 /// The name of a device in the tree: device ID, backslash, instance ID (the driver kit, "Device Instance
-/// IDs"). A contract sees the list of its bytes. The folded text is kept behind them, so that a look-up by it
+/// IDs"). A contract sees the list of its bytes. The folded text is kept beside them, so that a look-up by it
 /// takes no memory. They are kept once for a path, its copies and their texts.
 #[derive(Debug, Drop)]
 pub struct InstancePath {
@@ -64,15 +69,15 @@ pub struct InstancePath {
 }
 
 impl Model for InstancePath {
-    ghost use Rattle.std.specs.Prelude.{List, ℕ, IsTrue, take};
-    ghost use Rattle.device_ids.specs.Folding.{HasFolded};
+    ghost use Rattle.std.specs.Prelude.{List, ℕ, IsTrue};
+    ghost use Rattle.device_ids.specs.Kept.{text_of, HasFolded};
     ghost use Rattle.device_ids.specs.Ids.{is_path};
 
     ghost Value = { List ℕ };
 
-    ghost view = { λ p. take p.kept.value.len p.kept.value.bytes.items };
+    ghost view = { λ p. text_of p.kept.value };
 
-    ghost invariant = { λ p. IsTrue (is_path (take p.kept.value.len p.kept.value.bytes.items)) × HasFolded p.kept.value.len p.kept.value.bytes.items };
+    ghost invariant = { λ p. IsTrue (is_path (text_of p.kept.value)) × HasFolded p.kept.value };
 }
 
 impl InstancePath {
@@ -122,14 +127,14 @@ impl InstancePath {
         ensures bytes { result.now ≡ self.now }
         ensures legal { IsTrue (is_path self.now) }
     {
-        &self.kept.bytes[..self.kept.len]
+        self.kept.text()
     }
 
     /// The bytes with ASCII letters folded: equal for paths that are the same.
     pub fn folded(&self) -> &[u8]
         ensures { result.now ≡ folded self.now }
     {
-        &self.kept.bytes[self.kept.len..]
+        self.kept.folded()
     }
 
     /// An equal path, which keeps the same bytes. Where they have as many owners as there may be, they are copied.

@@ -1,5 +1,6 @@
 ghost use Rattle.std.specs.Prelude.{◌≡◌, ◌≤◌, ◌<◌, ◌++◌, ℕ, List, [], ◌∷◌, length, take, slice_get, slice_index_or, Some, IfOk, OnOk, OnErr};
-ghost use Rattle.device_ids.specs.Folding.{same};
+ghost use Rattle.device_ids.specs.Folding.{same, folded};
+ghost use Rattle.device_ids.specs.Kept.{text_of, HasText, HasFolded};
 
 use std::alloc::{AllocError, Global};
 use std::marker::Model;
@@ -8,11 +9,61 @@ use std::rc::Rc;
 /// The one refusal of a call that takes memory and nothing else.
 pub type WantOfMemory = AllocError;
 
+/// The most bytes that a text keeps in one piece of memory with their number.
+pub(crate) const FEW: usize = 32;
+
 /// Bytes that several texts keep, the first `len` of them theirs.
 #[derive(Debug, Drop)]
 pub(crate) struct Kept {
-    pub(crate) bytes: Vec<u8>,
+    pub(crate) bytes: Bytes,
     pub(crate) len: usize,
+}
+
+/// Few bytes beside the same with ASCII letters folded, or many in memory of their own.
+#[derive(Debug, Drop)]
+pub(crate) enum Bytes {
+    Few { text: [u8; FEW], folded: [u8; FEW] },
+    Many(Vec<u8>),
+}
+
+impl Kept {
+    /// These bytes, which are few.
+    pub(crate) fn few(bytes: &[u8]) -> Kept
+        requires { length bytes.now ≤ 32 }
+        ensures { HasFolded result × (text_of result ≡ bytes.now) }
+    {
+        let len = bytes.len();
+        let mut text = [0; FEW];
+        text[..len].copy_from_slice(bytes);
+        let mut folded = text;
+        folded.make_ascii_lowercase();
+        Kept {
+            bytes: Bytes::Few { text, folded },
+            len,
+        }
+    }
+
+    /// The bytes of the texts.
+    pub(crate) fn text(&self) -> &[u8]
+        requires { HasText self.now }
+        ensures { result.now ≡ text_of self.now }
+    {
+        match &self.bytes {
+            Bytes::Few { text, .. } => &text[..self.len],
+            Bytes::Many(bytes) => &bytes[..self.len],
+        }
+    }
+
+    /// The same bytes with ASCII letters folded.
+    pub(crate) fn folded(&self) -> &[u8]
+        requires { HasFolded self.now }
+        ensures { result.now ≡ folded (text_of self.now) }
+    {
+        match &self.bytes {
+            Bytes::Few { folded, .. } => &folded[..self.len],
+            Bytes::Many(bytes) => &bytes[self.len..],
+        }
+    }
 }
 
 /// Bytes of any kind, as a driver's name or a value of an INF. A contract sees the list of the bytes.
@@ -23,13 +74,14 @@ pub struct Text {
 }
 
 impl Model for Text {
-    ghost use Rattle.std.specs.Prelude.{◌≤◌, List, ℕ, length, take};
+    ghost use Rattle.std.specs.Prelude.{List, ℕ};
+    ghost use Rattle.device_ids.specs.Kept.{text_of, HasText};
 
     ghost Value = { List ℕ };
 
-    ghost view = { λ t. take t.kept.value.len t.kept.value.bytes.items };
+    ghost view = { λ t. text_of t.kept.value };
 
-    ghost invariant = { λ t. t.kept.value.len ≤ length t.kept.value.bytes.items };
+    ghost invariant = { λ t. HasText t.kept.value };
 }
 
 impl Text {
@@ -38,19 +90,24 @@ impl Text {
         ensures { IfOk result (λ t. t ≡ bytes.now) }
     {
         let len = bytes.len();
-        let bytes = Vec::from_slice(alloc, bytes)?;
-        let kept = Rc::new(alloc, Kept { bytes, len })?;
+        let kept = if len <= FEW {
+            Kept::few(bytes)
+        } else {
+            let bytes = Bytes::Many(Vec::from_slice(alloc, bytes)?);
+            Kept { bytes, len }
+        };
+        let kept = Rc::new(alloc, kept)?;
         Ok(Text { kept })
     }
 
     /// The text of the first bytes of those that are kept. Where they have as many owners as there may be, they are copied.
     pub(crate) fn front(alloc: Global, kept: &Rc<Kept>) -> Result<Text, WantOfMemory>
-        requires { kept.now.value.len ≤ length kept.now.value.bytes.items }
-        ensures { IfOk result (λ t. t ≡ take kept.now.value.len kept.now.value.bytes.items) }
+        requires { HasText kept.now.value }
+        ensures { IfOk result (λ t. t ≡ text_of kept.now.value) }
     {
         match kept.clone() {
             Ok(kept) => Ok(Text { kept }),
-            Err(_) => Text::make(alloc, &kept.bytes[..kept.len]),
+            Err(_) => Text::make(alloc, kept.text()),
         }
     }
 
@@ -58,7 +115,7 @@ impl Text {
     pub fn bytes(&self) -> &[u8]
         ensures { result.now ≡ self.now }
     {
-        &self.kept.bytes[..self.kept.len]
+        self.kept.text()
     }
 
     /// Whether both agree after ASCII letters are folded, as Windows compares names. Cost: the length.
@@ -79,7 +136,7 @@ impl Text {
     pub fn len(&self) -> u64
         ensures { result ≡ length self.now }
     {
-        self.kept.len as u64
+        self.bytes().len() as u64
     }
 
     /// The byte at a place.

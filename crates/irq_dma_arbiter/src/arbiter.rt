@@ -51,8 +51,7 @@ impl NumberArbiter {
     }
 
     /// The least start at or above `from` whose resource may come from the want and clashes with nothing
-    /// held; none exactly where there is none. It takes no memory. Cost: the logarithm of the number of
-    /// pairs, for each free stretch as long as the want that is met up to the place and has no aligned start.
+    /// held; none exactly where there is none. It takes no memory. Cost: that of `RangeArbiter::next_place`.
     pub fn next_place(&self, want: &Want, from: u64) -> Option<u64>
         requires { want.now.kind ≡ self.now.kind }
         ensures found { IfSome result (λ s. (from ≤ s) × IsOpen (res_list self.now.pairs) want.now s) }
@@ -62,15 +61,14 @@ impl NumberArbiter {
         self.numbers.next_place(want, from)
     }
 
-    /// Whether the resource clashes with a pair that is held. It takes no memory. Cost: the logarithm of the number
-    /// of pairs, for each pair that reaches over the resource and shares with it.
+    /// Whether the resource clashes with a pair that is held. It takes no memory. Cost: that of `RangeArbiter::clashes`.
     pub fn clashes(&self, res: &Res) -> bool
         ensures { result ≡ list_any (clashes res.now) (res_list self.now.pairs) }
     {
         self.numbers.clashes(res)
     }
 
-    /// Puts the pair at its place. It takes no memory. Cost: the logarithm of the number of pairs.
+    /// Puts the pair at its place. It takes no memory. Cost: that of `RangeArbiter::put`.
     pub fn put(&mut self, owner: Owner, res: Res)
         requires kind { res.kind ≡ self.old.kind }
         requires spare { 0 < self.old.spare }
@@ -79,8 +77,7 @@ impl NumberArbiter {
         self.numbers.put(owner, res);
     }
 
-    /// Takes the pair away: with it the list is as before. It takes no memory. Cost: the logarithm of the number
-    /// of pairs.
+    /// Takes the pair away: with it the list is as before. It takes no memory. Cost: that of `RangeArbiter::take`.
     pub fn take(&mut self, owner: Owner, res: Res)
         requires { Contains self.old.pairs (owner, res) }
         ensures pairs { self.old.pairs ≡ pairs_with self.new.pairs (owner, res) }

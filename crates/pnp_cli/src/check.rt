@@ -18,7 +18,7 @@ use device_ids::{TextList, WantOfMemory};
 use driver_rack::Driver;
 use inf_reader::Inf;
 use pnp_io::{Files, Sink, read_all, write_all};
-use pnp_labels::{DriverKind, decimal};
+use pnp_labels::{DriverKind, push_decimal};
 use std::alloc::Global;
 use trace_check::{Checked, check_trace};
 
@@ -95,7 +95,7 @@ fn verdict_line(alloc: Global, checked: Checked) -> Result<Vec<u8>, WantOfMemory
         Checked::Yes => Vec::from_slice(alloc, b"yes\n"),
         Checked::No { line } => {
             let mut text = Vec::from_slice(alloc, b"no line ")?;
-            text.extend_from_slice(decimal(alloc, line)?.as_bytes())?;
+            push_decimal(&mut text, line)?;
             text.push(b'\n')?;
             Ok(text)
         }

@@ -10,7 +10,7 @@ use device_ids::WantOfMemory;
 use driver_rack::Drivers;
 use notify_front::Front;
 use pnp_io::{Sink, write_all};
-use pnp_labels::decimal;
+use pnp_labels::push_decimal;
 use std::alloc::Global;
 
 /// The line that tells of a bad line.
@@ -18,7 +18,7 @@ fn bad_line(alloc: Global, line: u64) -> Result<Vec<u8>, WantOfMemory>
     ensures { IfOk result (λ text. text.items ≡ error_line line) }
 {
     let mut text = Vec::from_slice(alloc, b"script error line ")?;
-    text.extend_from_slice(decimal(alloc, line)?.as_bytes())?;
+    push_decimal(&mut text, line)?;
     text.push(b'\n')?;
     Ok(text)
 }

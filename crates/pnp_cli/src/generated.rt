@@ -3,14 +3,14 @@ ghost use Rattle.std.specs.Prelude.{◌≡◌, ◌≤◌, ◌++◌, IfOk, OnOk};
 ghost use Rattle.pnp_cli.specs.Generated.{gen_script, gen_inf, device_line, need_of};
 
 use device_ids::WantOfMemory;
-use pnp_labels::decimal;
+use pnp_labels::push_decimal;
 use std::alloc::Global;
 
 /// Each device of which this divides the number needs one place alone: this project's own.
 const FIFTY: u64 = 50;
 
 /// Appends what the k-th device needs.
-fn add_need(alloc: Global, text: &mut Vec<u8>, k: u64) -> Result<(), WantOfMemory>
+fn add_need(text: &mut Vec<u8>, k: u64) -> Result<(), WantOfMemory>
     requires { k ≤ 400 }
     ensures { OnOk result (text.new.items ≡ text.old.items ++ need_of k) }
 {
@@ -20,22 +20,22 @@ fn add_need(alloc: Global, text: &mut Vec<u8>, k: u64) -> Result<(), WantOfMemor
     }
     let first = 4096 + 8 * (k / FIFTY).saturating_sub(1);
     text.extend_from_slice(b"need=port:")?;
-    text.extend_from_slice(decimal(alloc, first)?.as_bytes())?;
+    push_decimal(text, first)?;
     text.extend_from_slice(b"-")?;
-    text.extend_from_slice(decimal(alloc, first + 7)?.as_bytes())?;
+    push_decimal(text, first + 7)?;
     text.extend_from_slice(b"/8@8")?;
     Ok(())
 }
 
 /// Appends the line of the k-th device.
-fn add_line(alloc: Global, text: &mut Vec<u8>, k: u64) -> Result<(), WantOfMemory>
+fn add_line(text: &mut Vec<u8>, k: u64) -> Result<(), WantOfMemory>
     requires { k ≤ 400 }
     ensures { OnOk result (text.new.items ≡ text.old.items ++ device_line k) }
 {
     text.extend_from_slice(b"plug GEN\\BUS\\0 GEN\\DEV ")?;
-    text.extend_from_slice(decimal(alloc, k)?.as_bytes())?;
+    push_decimal(text, k)?;
     text.extend_from_slice(b" ")?;
-    add_need(alloc, text, k)?;
+    add_need(text, k)?;
     text.push(b'\n')?;
     Ok(())
 }
@@ -52,7 +52,7 @@ pub fn gen_script(alloc: Global, n: u64) -> Result<Vec<u8>, WantOfMemory>
         b"driver bus steady\ndriver dev steady\nplug HTREE\\ROOT\\0 GEN\\BUS 0\n",
     )?;
     for k in 0..n {
-        add_line(alloc, &mut text, k + 1)?;
+        add_line(&mut text, k + 1)?;
     }
     Ok(text)
 }

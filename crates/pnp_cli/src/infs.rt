@@ -8,7 +8,7 @@ ghost use Rattle.pnp_cli.specs.declared.infs.InfsError.TheVariants.{ReadFault};
 use device_ids::{TextList, WantOfMemory};
 use inf_reader::{Inf, InfError, read};
 use pnp_io::{Files, ReadError, read_all};
-use pnp_labels::decimal;
+use pnp_labels::push_decimal;
 use std::alloc::{AllocError, Global};
 
 /// The most bytes that a file may have: this project's own.
@@ -145,11 +145,11 @@ pub fn refusal_line(alloc: Global, number: u64, error: InfError) -> Result<Vec<u
     ensures { IfOk result (λ line. line.items ≡ refusal_line number error) }
 {
     let mut line = Vec::from_slice(alloc, b"inf ")?;
-    line.extend_from_slice(decimal(alloc, number)?.as_bytes())?;
+    push_decimal(&mut line, number)?;
     line.extend_from_slice(b" error ")?;
-    line.extend_from_slice(decimal(alloc, error_number(error))?.as_bytes())?;
+    push_decimal(&mut line, error_number(error))?;
     line.extend_from_slice(b" line ")?;
-    line.extend_from_slice(decimal(alloc, error_at(error))?.as_bytes())?;
+    push_decimal(&mut line, error_at(error))?;
     line.push(b'\n')?;
     Ok(line)
 }

@@ -12,11 +12,9 @@ use notify_front::Front;
 use pnp_io::Sink;
 use pnp_labels::Event;
 use pnp_machine::Moved;
-use std::alloc::Global;
 
 /// The front steps until it is quiet, and the line of each label comes behind those that wait.
 fn settle<R: Drivers, K: Sink>(
-    alloc: Global,
     front: &mut Front<R>,
     lines: &mut Vec<u8>,
     sink: &mut K,
@@ -31,7 +29,7 @@ fn settle<R: Drivers, K: Sink>(
 {
     'steps: loop {
         match front.step()? {
-            Moved::Label(label) => tell(alloc, sink, lines, tally, label)?,
+            Moved::Label(label) => tell(sink, lines, tally, label)?,
             Moved::Quiet => return Ok(()),
         }
     }
@@ -39,7 +37,6 @@ fn settle<R: Drivers, K: Sink>(
 
 /// An event happens, and the front does all that follows from it; the line of each label comes behind those that wait.
 pub fn answer_event<R: Drivers, K: Sink>(
-    alloc: Global,
     front: &mut Front<R>,
     event: Event,
     lines: &mut Vec<u8>,
@@ -55,7 +52,7 @@ pub fn answer_event<R: Drivers, K: Sink>(
     ensures counts { K.faults sink.old ≤ K.faults sink.new }
 {
     let label = front.apply(event)?;
-    tell(alloc, sink, lines, tally, label)?;
-    settle(alloc, front, lines, sink, tally)?;
+    tell(sink, lines, tally, label)?;
+    settle(front, lines, sink, tally)?;
     Ok(())
 }

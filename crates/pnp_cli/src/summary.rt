@@ -12,7 +12,7 @@ use device_ids::WantOfMemory;
 use devnode_tree::{PrintRow, Tree};
 use driver_rack::Drivers;
 use notify_front::Front;
-use pnp_labels::{Problem, decimal};
+use pnp_labels::{Problem, push_decimal};
 use std::alloc::Global;
 
 /// Whether the node of a serial is Started and not the root.
@@ -65,11 +65,11 @@ fn conflicts<R: Drivers>(front: &Front<R>, rows: &[PrintRow]) -> u64
 }
 
 /// Appends a line of these words and a number.
-fn add_number(alloc: Global, text: &mut Vec<u8>, words: &[u8], n: u64) -> Result<(), WantOfMemory>
+fn add_number(text: &mut Vec<u8>, words: &[u8], n: u64) -> Result<(), WantOfMemory>
     ensures { OnOk result (text.new.items ≡ text.old.items ++ number_line words.now n) }
 {
     text.extend_from_slice(words)?;
-    text.extend_from_slice(decimal(alloc, n)?.as_bytes())?;
+    push_decimal(text, n)?;
     text.push(b'\n')?;
     Ok(())
 }
@@ -86,10 +86,10 @@ pub fn summary<R: Drivers>(
 {
     let rows = front.tree().print_rows(alloc)?;
     let mut text = Vec::new(alloc);
-    add_number(alloc, &mut text, b"devices ", n)?;
-    add_number(alloc, &mut text, b"steps ", tally.steps)?;
-    add_number(alloc, &mut text, b"started ", started(front, &rows))?;
-    add_number(alloc, &mut text, b"problem12 ", conflicts(front, &rows))?;
-    add_number(alloc, &mut text, b"moved ", tally.moved)?;
+    add_number(&mut text, b"devices ", n)?;
+    add_number(&mut text, b"steps ", tally.steps)?;
+    add_number(&mut text, b"started ", started(front, &rows))?;
+    add_number(&mut text, b"problem12 ", conflicts(front, &rows))?;
+    add_number(&mut text, b"moved ", tally.moved)?;
     Ok(text)
 }

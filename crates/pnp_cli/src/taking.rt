@@ -14,7 +14,6 @@ use std::alloc::Global;
 
 /// All events that the bytes fed so far give happen, one after another, and how the reader then stands; the lines come behind those that wait.
 fn gather_events<R: Drivers, K: Sink>(
-    alloc: Global,
     front: &mut Front<R>,
     reader: &mut Reader,
     lines: &mut Vec<u8>,
@@ -30,7 +29,7 @@ fn gather_events<R: Drivers, K: Sink>(
 {
     'events: loop {
         match reader.next_event()? {
-            Next::Event(event) => answer_event(alloc, front, event, lines, sink, tally)?,
+            Next::Event(event) => answer_event(front, event, lines, sink, tally)?,
             Next::NeedMore => return Ok(Ending::NeedsMore),
             Next::End => return Ok(Ending::Over),
             Next::Bad { line } => return Ok(Ending::Bad(line)),
@@ -54,7 +53,7 @@ fn take_events<R: Drivers, K: Sink>(
     ensures counts { K.faults sink.old ≤ K.faults sink.new }
 {
     let mut lines = Vec::new(alloc);
-    let ending = gather_events(alloc, front, reader, &mut lines, sink, tally)?;
+    let ending = gather_events(front, reader, &mut lines, sink, tally)?;
     write_lines(sink, &mut lines)?;
     Ok(ending)
 }

@@ -7,7 +7,6 @@ use crate::tally::{Tally, count};
 use crate::turn::WriteError;
 use pnp_io::{Failed, Sink, write_all};
 use pnp_labels::{Label, push_line};
-use std::alloc::Global;
 
 /// Where so many bytes wait, they are written.
 const MOST: usize = 4096;
@@ -41,7 +40,6 @@ fn write_many<K: Sink>(sink: &mut K, lines: &mut Vec<u8>) -> Result<(), Failed>
 
 /// Appends the line of a label to those that wait, which are written where they have 4,096 bytes; and counts it.
 fn tell_one<K: Sink>(
-    alloc: Global,
     sink: &mut K,
     lines: &mut Vec<u8>,
     tally: &mut Tally,
@@ -53,7 +51,7 @@ fn tell_one<K: Sink>(
     ensures failed { IsErrOf result WriteError.WriteFault → Rose (K.faults sink.old) (K.faults sink.new) }
     ensures counts { K.faults sink.old ≤ K.faults sink.new }
 {
-    push_line(lines, alloc, label)?;
+    push_line(lines, label)?;
     count(tally, label);
     write_many(sink, lines)?;
     Ok(())
@@ -61,7 +59,6 @@ fn tell_one<K: Sink>(
 
 /// The same, and lets the label go: here alone, since each place where one goes takes it apart.
 pub fn tell<K: Sink>(
-    alloc: Global,
     sink: &mut K,
     lines: &mut Vec<u8>,
     tally: &mut Tally,
@@ -73,5 +70,5 @@ pub fn tell<K: Sink>(
     ensures failed { IsErrOf result WriteError.WriteFault → Rose (K.faults sink.old) (K.faults sink.new) }
     ensures counts { K.faults sink.old ≤ K.faults sink.new }
 {
-    tell_one(alloc, sink, lines, tally, &label)
+    tell_one(sink, lines, tally, &label)
 }

@@ -1,6 +1,7 @@
 //! The words of the manager: requests, states, problems, events and labels, and the line of each label.
 #![tactic(auto)]
 
+mod digits;
 mod event;
 mod label;
 mod line;
@@ -10,9 +11,10 @@ mod states;
 mod texts;
 mod words;
 
+pub use digits::push_decimal;
 pub use event::{Ask, Event, Rule};
 pub use label::{EventWord, Label, NoticeKind, OpEnd, OpKind, Reason, RemoveStep, Shown, TaskKind};
-pub use line::{decimal, label_line, push_line, res_text};
+pub use line::{decimal, label_line, push_line, push_res, res_text};
 pub use lists::{BornList, SerialList, Stack};
 pub use states::{DevState, Problem, Verdict};
 pub use texts::{minor_text, problem_text, shown_text, state_text};

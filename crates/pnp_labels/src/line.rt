@@ -1,7 +1,8 @@
 ghost use Rattle.std.specs.Prelude.{◌≡◌, ◌++◌, ◌∷◌, [], IfOk, OnOk, map, string_bytes, false, codes};
 ghost use Rattle.std.specs.Fmt.{decimal, digits};
-ghost use Rattle.pnp_labels.specs.Texts.{label_line, res_text, spaced, range_text, rank_text, ok_text, end_text};
+ghost use Rattle.pnp_labels.specs.Texts.{label_line, res_text, spaced, range_text, hex, ok_text, end_text};
 
+use crate::digits::{decimal_in, push_decimal, push_hexadecimal, rank_in};
 use crate::label::{Label, NoticeKind, OpEnd, OpKind, TaskKind};
 use crate::spaced::{four, three, two};
 use crate::texts::{
@@ -19,43 +20,44 @@ pub fn decimal(alloc: Global, number: u64) -> Result<String, WantOfMemory>
     format!(in alloc; "{number}")
 }
 
-/// A number in lower-case hexadecimal digits.
-fn hexadecimal(alloc: Global, number: u64) -> Result<String, WantOfMemory>
-    ensures { IfOk result (λ text. string_bytes text ≡ digits 16 false number) }
+/// Appends a name, and a range in hexadecimal.
+fn push_hexadecimals(text: &mut Vec<u8>, name: &[u8], lo: u64, hi: u64) -> Result<(), WantOfMemory>
+    ensures { OnOk result (text.new.items ≡ text.old.items ++ name.now ++ digits 16 false lo ++ 45 ∷ hex hi) }
 {
-    format!(in alloc; "{number:x}")
+    text.extend_from_slice(name)?;
+    push_hexadecimal(text, lo)?;
+    text.extend_from_slice(b"-0x")?;
+    push_hexadecimal(text, hi)
 }
 
-/// A number in at least eight lower-case hexadecimal digits.
-fn rank_text(alloc: Global, rank: u32) -> Result<Vec<u8>, WantOfMemory>
-    ensures { IfOk result (λ text. text.items ≡ rank_text rank) }
+/// Appends a name, and a range in decimal.
+fn push_decimals(text: &mut Vec<u8>, name: &[u8], lo: u64, hi: u64) -> Result<(), WantOfMemory>
+    ensures { OnOk result (text.new.items ≡ text.old.items ++ name.now ++ decimal lo ++ 45 ∷ decimal hi) }
 {
-    let digits = hexadecimal(alloc, rank as u64)?;
-    let zeros = 8usize.saturating_sub(digits.len());
-    let mut text = vec![in alloc; b'0'; zeros]?;
-    text.extend_from_slice(digits.as_bytes())?;
-    Ok(text)
+    text.extend_from_slice(name)?;
+    push_decimal(text, lo)?;
+    text.push(b'-')?;
+    push_decimal(text, hi)
 }
 
-/// A kind with its first and last number: ports and memory in hexadecimal, interrupts, channels and buses in decimal.
-fn range_text(alloc: Global, kind: Kind, lo: u64, hi: u64) -> Result<String, WantOfMemory>
-    ensures { IfOk result (λ text. string_bytes text ≡ range_text kind lo hi) }
+/// Appends a kind with its first and last number: ports and memory in hexadecimal, interrupts, channels and buses in decimal.
+fn push_range(text: &mut Vec<u8>, kind: Kind, lo: u64, hi: u64) -> Result<(), WantOfMemory>
+    ensures { OnOk result (text.new.items ≡ text.old.items ++ range_text kind lo hi) }
 {
     match kind {
-        Kind::Port => format!(in alloc; "port:0x{lo:x}-0x{hi:x}"),
-        Kind::Irq => format!(in alloc; "irq:{lo}-{hi}"),
-        Kind::Mem => format!(in alloc; "mem:0x{lo:x}-0x{hi:x}"),
-        Kind::Dma => format!(in alloc; "dma:{lo}-{hi}"),
-        Kind::Bus => format!(in alloc; "bus:{lo}-{hi}"),
+        Kind::Port => push_hexadecimals(text, b"port:0x", lo, hi),
+        Kind::Irq => push_decimals(text, b"irq:", lo, hi),
+        Kind::Mem => push_hexadecimals(text, b"mem:0x", lo, hi),
+        Kind::Dma => push_decimals(text, b"dma:", lo, hi),
+        Kind::Bus => push_decimals(text, b"bus:", lo, hi),
     }
 }
 
-/// Appends the text of a resource. Cost: the length.
-fn push_res(text: &mut Vec<u8>, alloc: Global, res: &Res) -> Result<(), WantOfMemory>
+/// Appends the text of a resource: kind, first and last number, and whether it is shared. Cost: the length. This project's own.
+pub fn push_res(text: &mut Vec<u8>, res: &Res) -> Result<(), WantOfMemory>
     ensures { OnOk result (text.new.items ≡ text.old.items ++ res_text res.now) }
 {
-    let range = range_text(alloc, res.kind, res.lo, res.hi)?;
-    text.extend_from_slice(range.as_bytes())?;
+    push_range(text, res.kind, res.lo, res.hi)?;
     if res.shared {
         text.extend_from_slice(b":shared")?;
     }
@@ -68,7 +70,7 @@ pub fn res_text(alloc: Global, res: &Res) -> Result<Vec<u8>, WantOfMemory>
     ensures { IfOk result (λ text. text.items ≡ res_text res.now) }
 {
     let mut text = Vec::new(alloc);
-    push_res(&mut text, alloc, res)?;
+    push_res(&mut text, res)?;
     Ok(text)
 }
 
@@ -95,18 +97,13 @@ fn push_end_text(text: &mut Vec<u8>, end: &OpEnd) -> Result<(), WantOfMemory>
 }
 
 /// Appends a path with the resources that its device holds.
-fn push_assign(
-    line: &mut Vec<u8>,
-    alloc: Global,
-    path: &[u8],
-    held: &ResList,
-) -> Result<(), WantOfMemory>
+fn push_assign(line: &mut Vec<u8>, path: &[u8], held: &ResList) -> Result<(), WantOfMemory>
     ensures { OnOk result (line.new.items ≡ line.old.items ++ spaced (codes "assign" ∷ path.now ∷ map res_text held.now)) }
 {
     two(line, b"assign", path)?;
     for at in 0..held.len() {
         line.push(b' ')?;
-        push_res(line, alloc, held.get(at))?;
+        push_res(line, held.get(at))?;
     }
     Ok(())
 }
@@ -120,48 +117,41 @@ fn push_end(line: &mut Vec<u8>, op: OpKind, path: &[u8], end: &OpEnd) -> Result<
     push_end_text(line, end)
 }
 
-fn push_skip(
-    line: &mut Vec<u8>,
-    alloc: Global,
-    task: TaskKind,
-    serial: u64,
-) -> Result<(), WantOfMemory>
+fn push_skip(line: &mut Vec<u8>, task: TaskKind, serial: u64) -> Result<(), WantOfMemory>
     ensures { OnOk result (line.new.items ≡ line.old.items ++ label_line (Label.Skip task serial)) }
 {
-    let serial = decimal(alloc, serial)?;
-    three(line, b"skip", task_text(task), serial.as_bytes())
+    let mut row = [0; 64];
+    let serial = decimal_in(&mut row, serial);
+    three(line, b"skip", task_text(task), serial)
 }
 
-fn push_join(
-    line: &mut Vec<u8>,
-    alloc: Global,
-    serial: u64,
-    path: &[u8],
-) -> Result<(), WantOfMemory>
+fn push_join(line: &mut Vec<u8>, serial: u64, path: &[u8]) -> Result<(), WantOfMemory>
     ensures { OnOk result (line.new.items ≡ line.old.items ++ label_line (Label.Join serial path.now)) }
 {
-    let serial = decimal(alloc, serial)?;
-    three(line, b"join", serial.as_bytes(), path)
+    let mut row = [0; 64];
+    let serial = decimal_in(&mut row, serial);
+    three(line, b"join", serial, path)
 }
 
 fn push_install(
     line: &mut Vec<u8>,
-    alloc: Global,
     path: &[u8],
     rank: u32,
     driver: &[u8],
 ) -> Result<(), WantOfMemory>
     ensures { OnOk result (line.new.items ≡ line.old.items ++ label_line (Label.Install path.now rank driver.now)) }
 {
-    let rank = rank_text(alloc, rank)?;
-    four(line, b"install", path, &rank, driver)
+    let mut row = [0; 64];
+    let rank = rank_in(&mut row, rank);
+    four(line, b"install", path, rank, driver)
 }
 
-fn push_commit(line: &mut Vec<u8>, alloc: Global, movers: u64) -> Result<(), WantOfMemory>
+fn push_commit(line: &mut Vec<u8>, movers: u64) -> Result<(), WantOfMemory>
     ensures { OnOk result (line.new.items ≡ line.old.items ++ label_line (Label.Commit movers)) }
 {
-    let movers = decimal(alloc, movers)?;
-    two(line, b"commit", movers.as_bytes())
+    let mut row = [0; 64];
+    let movers = decimal_in(&mut row, movers);
+    two(line, b"commit", movers)
 }
 
 /// Appends a notice, and where it asks, what the client answered.
@@ -184,7 +174,7 @@ fn push_notice(
 }
 
 /// Appends the words of a label with a space between any two.
-fn push_words(line: &mut Vec<u8>, alloc: Global, label: &Label) -> Result<(), WantOfMemory>
+fn push_words(line: &mut Vec<u8>, label: &Label) -> Result<(), WantOfMemory>
     ensures { OnOk result (line.new.items ≡ line.old.items ++ label_line label.now) }
 {
     match label {
@@ -192,12 +182,12 @@ fn push_words(line: &mut Vec<u8>, alloc: Global, label: &Label) -> Result<(), Wa
         Label::Refused { word, reason } => {
             three(line, b"refused", word_text(*word), reason_text(*reason))
         }
-        Label::Skip { task, serial } => push_skip(line, alloc, *task, *serial),
-        Label::Join { serial, path } => push_join(line, alloc, *serial, path.bytes()),
+        Label::Skip { task, serial } => push_skip(line, *task, *serial),
+        Label::Join { serial, path } => push_join(line, *serial, path.bytes()),
         Label::Gone { path } => two(line, b"gone", path.bytes()),
         Label::Listed { path } => two(line, b"listed", path.bytes()),
         Label::Install { path, rank, driver } => {
-            push_install(line, alloc, path.bytes(), *rank, driver.bytes())
+            push_install(line, path.bytes(), *rank, driver.bytes())
         }
         Label::Trouble { path, problem } => {
             three(line, b"problem", path.bytes(), problem_text(*problem))
@@ -205,7 +195,7 @@ fn push_words(line: &mut Vec<u8>, alloc: Global, label: &Label) -> Result<(), Wa
         Label::Add { path, driver, ok } => {
             four(line, b"add", path.bytes(), driver.bytes(), ok_text(*ok))
         }
-        Label::Assign { path, held } => push_assign(line, alloc, path.bytes(), held),
+        Label::Assign { path, held } => push_assign(line, path.bytes(), held),
         Label::Fits { path } => two(line, b"fits", path.bytes()),
         Label::NoFit { path } => two(line, b"nofit", path.bytes()),
         Label::Spent { path } => two(line, b"spent", path.bytes()),
@@ -220,7 +210,7 @@ fn push_words(line: &mut Vec<u8>, alloc: Global, label: &Label) -> Result<(), Wa
         }
         Label::State { path, state } => three(line, b"state", path.bytes(), state_text(*state)),
         Label::Begin { op, path } => three(line, b"begin", op_text(*op), path.bytes()),
-        Label::Commit { movers } => push_commit(line, alloc, *movers),
+        Label::Commit { movers } => push_commit(line, *movers),
         Label::Leave { path } => two(line, b"leave", path.bytes()),
         Label::Ejected { path } => two(line, b"ejected", path.bytes()),
         Label::Handles { path } => two(line, b"handles", path.bytes()),
@@ -246,10 +236,10 @@ fn push_words(line: &mut Vec<u8>, alloc: Global, label: &Label) -> Result<(), Wa
 
 /// Appends the line of a label in the trace, with its line feed; after want of memory what was there, and perhaps a part of the line.
 /// Cost: the length. This project's own.
-pub fn push_line(line: &mut Vec<u8>, alloc: Global, label: &Label) -> Result<(), WantOfMemory>
+pub fn push_line(line: &mut Vec<u8>, label: &Label) -> Result<(), WantOfMemory>
     ensures { OnOk result (line.new.items ≡ line.old.items ++ (label_line label.now ++ 10 ∷ [])) }
 {
-    push_words(line, alloc, label)?;
+    push_words(line, label)?;
     line.push(b'\n')?;
     Ok(())
 }
@@ -259,6 +249,6 @@ pub fn label_line(alloc: Global, label: &Label) -> Result<Vec<u8>, WantOfMemory>
     ensures { IfOk result (λ line. line.items ≡ label_line label.now ++ 10 ∷ []) }
 {
     let mut line = Vec::new(alloc);
-    push_line(&mut line, alloc, label)?;
+    push_line(&mut line, label)?;
     Ok(line)
 }

@@ -109,7 +109,7 @@ module _ (s : State) (run : IsOfRun s) (o : Removal) (runs : s.operation ≡ Som
       by_move (Some m) e (removes.Disabled label) (path, b, shows, l, c, f) =
           let h = disables s.core o s.handles m path e b in
           let is = h.disables path b in
-          let own = set ∙ settled_is s.core o m.beside h in
+          let own = set ∙ settled_is s.core o m.beside h is.1 in
           let one = one_rack s run in
           subst (λ x. IsNewPath x s.disabled) (sym own)
           (settles_new one.told one.rack one.entries (with_rack one.here s) one.reaches o h.node runs h.stage h.first is.1 is.2)

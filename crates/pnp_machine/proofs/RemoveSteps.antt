@@ -23,7 +23,7 @@ use Rattle.surprise_remove.specs.Steps as surprises
 use Rattle.surprise_remove.specs.FinishSteps as finishes
 use Rattle.pnp_machine.specs.Devices.{Devices}
 use Rattle.pnp_machine.specs.Doings.{core_with, StaysBeside}
-use Rattle.pnp_machine.specs.Machines.{state_of, beside, label_of, disable_settled, settled_path, path_if}
+use Rattle.pnp_machine.specs.Machines.{state_of, beside, label_of, disable_settled, settled_path, path_if, path_where}
 
 -- What is settled ---------------------------------------------------------------------
 
@@ -124,8 +124,11 @@ module _ (c : Core) (o : Removal) where
   unfolding Kinds
   ejects handles m path born e b = kinds_of handles o.stage (first_node c.nodes o.todo) m refl refl e (not_plain_ejected path born m.beside b)
 
-  pub settled_is : (b : RemoveBeside) (h : Settles c o b) → settled_path o c.nodes ≡ Some h.node.path
-  settled_is b h = ap (λ x. path_if (is_settling x) (first_node c.nodes o.todo)) h.stage ∙ ap (option_map (λ (n : Node). n.path)) h.first
+  pub settled_is : (b : RemoveBeside) (h : Settles c o b) → (h.node.serial == o.target) ≡ true → settled_path o c.nodes ≡ Some h.node.path
+  settled_is b h own =
+      ap (λ x. path_if (is_settling x) o.target (first_node c.nodes o.todo)) h.stage
+      ∙ ap (path_if true o.target) h.first
+      ∙ ap (λ x. path_where x h.node.path) own
 
 -- The step ------------------------------------------------------------------------------
 
@@ -177,7 +180,7 @@ module _ (ds ds' : Devices) (rack rack' : List Driver) (disabled : List Text) (w
     by_step (steps.Left label path born) m e set (b, l, c, f) = lifted_is m (RemoveBeside.Left path born) label _ b l (ap (relist path born) (moved_is m c f))
     by_step (steps.Disabled label) m e set (path, b, shows, l, c, f) =
         let h = disables (core_with ds rack) o ds.handles m path e b in
-        let own : settled ≡ Some path = set ∙ settled_is (core_with ds rack) o m.beside h ∙ ap Some (sym (h.disables path b).0) in
+        let own : settled ≡ Some path = set ∙ settled_is (core_with ds rack) o m.beside h (h.disables path b).1 ∙ ap Some (sym (h.disables path b).0) in
         lifted_is m (RemoveBeside.Disabled path) label _ b l (ap (λ x. disable_settled x (mid (machines.Operation.Removing o'))) own ∙ ap (disable_path path) (moved_is m c f))
     by_step (steps.Ejected label path born) m e set (b, l, c, f) =
         lifted_is m (RemoveBeside.Ejected path born) label _ b l (ap (λ x. relist path born (unplug born x)) (moved_is m c f))

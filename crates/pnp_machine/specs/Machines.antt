@@ -1,5 +1,5 @@
 -- The machine's state by its parts, and what a step or an event does to it.
-use Rattle.std.specs.Prelude.{◌≡◌, ◌≢◌, ℕ, ◌≤◌, Bool, true, false, ◌&&◌, is_none, List, [], ◌∷◌, ◌++◌, Option, Some, None, length, slice_get, option_map}
+use Rattle.std.specs.Prelude.{◌≡◌, ◌≢◌, ℕ, ◌≤◌, Bool, true, false, ◌&&◌, is_none, ◌==◌, List, [], ◌∷◌, ◌++◌, Option, Some, None, length, slice_get, option_map}
 use Rattle.pnp_labels.specs.Texts.{Text}
 use Rattle.pnp_labels.specs.declared.event.Event.{Event}
 use Rattle.pnp_labels.specs.declared.label.Label.{Label}
@@ -137,13 +137,17 @@ abbrev pub IsNew : RemoveStep → Option Text → List Text → Type 0
 IsNew (removes.Disabled label) settled paths = IsNewPath settled paths
 IsNew _ settled paths = Unit {0}
 
--- the path of the device that a removal settles next
-abbrev pub path_if : Bool → Option Node → Option Text
-path_if false first = None
-path_if true first = option_map (λ n. n.path) first
+-- the path of the device for which a removal runs, where this one is settled next
+abbrev pub path_where : Bool → Text → Option Text
+path_where false path = None
+path_where true path = Some path
+
+abbrev pub path_if : Bool → ℕ → Option Node → Option Text
+path_if true target (Some n) = path_where (n.serial == target) n.path
+path_if _ target first = None
 
 abbrev pub settled_path : Removal → List Node → Option Text
-settled_path o nodes = path_if (is_settling o.stage) (first_node nodes o.todo)
+settled_path o nodes = path_if (is_settling o.stage) o.target (first_node nodes o.todo)
 
 -- the same of the operation that runs; none where it is no removal
 abbrev pub settled_in : Option Operation → List Node → Option Text
@@ -152,7 +156,7 @@ settled_in (Some (machines.Operation.Removing o)) nodes = settled_path o nodes
 settled_in (Some _) nodes = None
 
 -- the next step of the operation that runs, for this budget: of a rebalance with the device for which it runs, and of a
--- removal with the path of the device that it settles
+-- removal with the path of its device, where it settles this one
 abbrev pub MovesBy : ℕ → Devices → List Driver → Operation → OperationStep → Devices → List Driver → Operation → Type 0
 MovesBy budget ds rack o (Rebalanced step target) ds' rack' o' = RebalancesBy budget ds rack o step ds' rack' o' × IsTarget target o'
 MovesBy budget ds rack o (Removed step settled) ds' rack' o' = RemovesBy ds rack o step ds' rack' o' × (settled ≡ settled_in (Some o) ds.tree.nodes)

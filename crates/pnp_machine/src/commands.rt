@@ -13,7 +13,7 @@ use crate::spaced::two;
 use crate::tasks::Duty;
 use device_ids::{InstancePath, Text, WantOfMemory};
 use driver_rack::Drivers;
-use pnp_labels::{EventWord, Label, OpKind, Reason, RelKind, res_text};
+use pnp_labels::{EventWord, Label, OpKind, Reason, RelKind, push_res, res_text};
 use relations::RelateError;
 use resource_reqs::{Reqs, Res};
 use std::alloc::AllocError;
@@ -176,8 +176,9 @@ impl<R: Drivers> Machine<R> {
     fn path_and_range(&self, own: &InstancePath, res: &Res) -> Result<Text, WantOfMemory>
         ensures { IfOk result (λ text. text ≡ spaced (own.now ∷ res_text res.now ∷ [])) }
     {
-        let range = res_text(self.alloc, res)?;
-        let line = two(self.alloc, own.bytes(), &range)?;
+        let mut line = Vec::from_slice(self.alloc, own.bytes())?;
+        line.push(b' ')?;
+        push_res(&mut line, res)?;
         Text::make(self.alloc, &line)
     }
 

@@ -2,7 +2,8 @@ ghost use Rattle.std.specs.Prelude.{◌≡◌, ◌++◌, ◌∷◌, [], IfOk, On
 ghost use Rattle.pnp_model.specs.Endings.{indent, tree_line, map_line, joined, print_order, problem_part, ending};
 ghost use Rattle.pnp_labels.specs.Texts.{spaced, state_text};
 ghost use Rattle.std.specs.Fmt.{decimal};
-ghost use Rattle.device_holdings.specs.MapRows.{row_of};
+ghost use Rattle.device_holdings.specs.MapRows.{row_of, owner_words};
+ghost use Rattle.pnp_model.specs.Cores.{node_at, path_of};
 ghost use Rattle.pnp_machine.specs.Endings.{RowAdded, waiting_line, request_lines, works_lines, operation_lines, handle_lines, handles_lines};
 ghost use Rattle.pnp_machine.specs.Managers.{IsOfRun};
 ghost use Rattle.pnp_machine.specs.Operations.{operation_of};
@@ -14,24 +15,24 @@ use device_stack::{Walk, driver_name};
 use devnode_tree::{HandleRow, Handles, Node, PrintRow, Tree};
 use driver_rack::Drivers;
 use pnp_labels::spaced::{three, two};
-use pnp_labels::{DevState, Problem, decimal, minor_text, problem_text, res_text, state_text};
+use pnp_labels::{DevState, Problem, minor_text, problem_text, push_decimal, push_res, state_text};
 use resource_reqs::{Owner, Res};
 use start_sequence::StartWork;
-use std::alloc::Global;
+use std::alloc::{AllocError, Global};
 
 /// Appends a space for each level below the root.
-#[tactic(auto, using(crate::proofs::Texts::indent_is))]
-fn add_indent(alloc: Global, out: &mut Vec<u8>, depth: u64) -> Result<(), WantOfMemory>
+fn add_indent(out: &mut Vec<u8>, depth: u64) -> Result<(), WantOfMemory>
     ensures { OnOk result (out.new.items ≡ out.old.items ++ indent depth) }
 {
-    let spaces = vec![in alloc; b' '; depth as usize]?;
-    out.extend_from_slice(&spaces)?;
+    let Some(length) = out.len().checked_add(depth as usize) else {
+        return Err(AllocError);
+    };
+    out.resize(length, b' ')?;
     Ok(())
 }
 
 /// Appends the words of a node's line.
 fn add_words(
-    alloc: Global,
     out: &mut Vec<u8>,
     serial: u64,
     path: &[u8],
@@ -40,8 +41,9 @@ fn add_words(
 ) -> Result<(), WantOfMemory>
     ensures { OnOk result (out.new.items ≡ out.old.items ++ spaced (decimal serial ∷ path.now ∷ state_text state ∷ problem_part problem)) }
 {
-    let serial = decimal(alloc, serial)?;
-    three(out, serial.as_bytes(), path, state_text(state))?;
+    push_decimal(out, serial)?;
+    out.push(b' ')?;
+    two(out, path, state_text(state))?;
     if let Some(problem) = problem {
         out.push(b' ')?;
         two(out, b"problem", problem_text(problem))?;
@@ -50,12 +52,11 @@ fn add_words(
 }
 
 /// Appends the line of a node.
-fn add_node(alloc: Global, out: &mut Vec<u8>, depth: u64, node: &Node) -> Result<(), WantOfMemory>
+fn add_node(out: &mut Vec<u8>, depth: u64, node: &Node) -> Result<(), WantOfMemory>
     ensures { OnOk result (out.new.items ≡ out.old.items ++ joined (tree_line (record { depth = depth; node = node.now }) ∷ [])) }
 {
-    add_indent(alloc, out, depth)?;
+    add_indent(out, depth)?;
     add_words(
-        alloc,
         out,
         node.serial,
         node.path.bytes(),
@@ -67,18 +68,13 @@ fn add_node(alloc: Global, out: &mut Vec<u8>, depth: u64, node: &Node) -> Result
 }
 
 /// Appends the line of a row of the tree.
-fn add_row(
-    alloc: Global,
-    out: &mut Vec<u8>,
-    tree: &Tree,
-    row: &PrintRow,
-) -> Result<(), WantOfMemory>
+fn add_row(out: &mut Vec<u8>, tree: &Tree, row: &PrintRow) -> Result<(), WantOfMemory>
     ensures { OnOk result (RowAdded tree.now row.now out.old.items out.new.items) }
 {
     let Some(node) = tree.node(row.serial) else {
         return Ok(());
     };
-    add_node(alloc, out, row.depth, node)?;
+    add_node(out, row.depth, node)?;
     Ok(())
 }
 
@@ -88,7 +84,7 @@ fn add_tree(alloc: Global, out: &mut Vec<u8>, tree: &Tree) -> Result<(), WantOfM
 {
     let rows = tree.print_rows(alloc)?;
     for row in &rows {
-        add_row(alloc, out, tree, row)?;
+        add_row(out, tree, row)?;
     }
     Ok(())
 }
@@ -171,57 +167,54 @@ fn add_operation<R: Drivers>(
     }
 }
 
+/// The path of a device, or nothing where there is none.
+fn path_at(tree: &Tree, serial: u64) -> &[u8]
+    ensures { result.now ≡ path_of (node_at serial tree.now.nodes) }
+{
+    match tree.node(serial) {
+        Some(node) => node.path.bytes(),
+        None => b"",
+    }
+}
+
+/// The word of who holds something.
+fn holder(tree: &Tree, owner: Owner) -> &[u8]
+    ensures { result.now ≡ owner_words tree.now.nodes owner }
+{
+    match owner {
+        Owner::Reserved => b"reserved",
+        Owner::Device(serial) => path_at(tree, serial),
+    }
+}
+
 /// Appends the line of what is held, with the path of who holds it.
-fn add_held(
-    alloc: Global,
-    out: &mut Vec<u8>,
-    tree: &Tree,
-    owner: Owner,
-    res: &Res,
-) -> Result<(), WantOfMemory>
+fn add_held(out: &mut Vec<u8>, tree: &Tree, owner: Owner, res: &Res) -> Result<(), WantOfMemory>
     ensures { OnOk result (out.new.items ≡ out.old.items ++ joined (map_line (row_of tree.now.nodes (owner, res.now)) ∷ [])) }
 {
-    let text = res_text(alloc, res)?;
-    match owner {
-        Owner::Reserved => two(out, &text, b"reserved")?,
-        Owner::Device(serial) => match tree.node(serial) {
-            Some(node) => two(out, &text, node.path.bytes())?,
-            None => two(out, &text, b"")?,
-        },
-    }
+    push_res(out, res)?;
+    out.push(b' ')?;
+    out.extend_from_slice(holder(tree, owner))?;
     out.push(b'\n')?;
     Ok(())
 }
 
 /// Appends the lines of what is held and reserved, in the order of the map.
-fn add_rows(
-    alloc: Global,
-    out: &mut Vec<u8>,
-    tree: &Tree,
-    rows: &[(Owner, Res)],
-) -> Result<(), WantOfMemory>
+fn add_rows(out: &mut Vec<u8>, tree: &Tree, rows: &[(Owner, Res)]) -> Result<(), WantOfMemory>
     ensures { OnOk result (out.new.items ≡ out.old.items ++ joined (map map_line (map (row_of tree.now.nodes) rows.now))) }
 {
     for row in rows {
-        add_held(alloc, out, tree, row.0, &row.1)?;
+        add_held(out, tree, row.0, &row.1)?;
     }
     Ok(())
 }
 
 /// Appends the line of a device to which handles are open.
-fn add_handle(
-    alloc: Global,
-    out: &mut Vec<u8>,
-    tree: &Tree,
-    row: &HandleRow,
-) -> Result<(), WantOfMemory>
+fn add_handle(out: &mut Vec<u8>, tree: &Tree, row: &HandleRow) -> Result<(), WantOfMemory>
     ensures { OnOk result (out.new.items ≡ out.old.items ++ handle_lines tree.now.nodes (row.now ∷ [])) }
 {
-    let count = decimal(alloc, row.count)?;
-    match tree.node(row.serial) {
-        Some(node) => two(out, node.path.bytes(), count.as_bytes())?,
-        None => two(out, b"", count.as_bytes())?,
-    }
+    out.extend_from_slice(path_at(tree, row.serial))?;
+    out.push(b' ')?;
+    push_decimal(out, row.count)?;
     out.push(b'\n')?;
     Ok(())
 }
@@ -241,7 +234,7 @@ fn add_handles(
     }
     out.extend_from_slice(b"handles\n")?;
     for row in &rows {
-        add_handle(alloc, out, tree, row)?;
+        add_handle(out, tree, row)?;
     }
     Ok(())
 }
@@ -258,7 +251,7 @@ impl<R: Drivers> Machine<R> {
         add_tree(alloc, &mut out, tree)?;
         out.extend_from_slice(b"map\n")?;
         let rows = self.devices.map_rows(alloc)?;
-        add_rows(alloc, &mut out, tree, &rows)?;
+        add_rows(&mut out, tree, &rows)?;
         out.extend_from_slice(b"outstanding\n")?;
         add_operation(alloc, &mut out, tree, &self.rack, &self.operation)?;
         add_works(alloc, &mut out, tree, &self.rack, self.starts.works())?;

@@ -37,14 +37,14 @@ pub(crate) enum OperationStep {
         step: RebalanceStep,
         target: u64,
     },
-    /// Of an operation that removes devices. Where it settled one that is to be disabled, the device's path.
+    /// Of an operation that removes devices. Where it settled its own device, the path of this one.
     Removed {
         step: RemoveStep,
         settled: Option<Entry>,
     },
 }
 
-/// Where a removal settles a device with its next step, the device's path, ready to be disabled.
+/// Where a removal settles the device for which it runs with its next step, the device's path, ready to be disabled.
 fn settled_path(
     alloc: Global,
     devices: &Devices,
@@ -59,8 +59,10 @@ fn settled_path(
         return Ok(None);
     };
     match devices.tree().node(serial) {
-        Some(node) => Ok(Some(DisabledPaths::entry(alloc, &node.path)?)),
-        None => Ok(None),
+        Some(node) if removal.is_target(node.serial) => {
+            Ok(Some(DisabledPaths::entry(alloc, &node.path)?))
+        }
+        _ => Ok(None),
     }
 }
 

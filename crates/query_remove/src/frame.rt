@@ -112,7 +112,7 @@ impl Removal {
     }
 
     /// Whether a device is the one that is disabled or ejected.
-    pub(crate) fn is_target(&self, serial: u64) -> bool
+    pub fn is_target(&self, serial: u64) -> bool
         ensures { result ≡ (serial == self.now.target) }
     {
         serial == self.target

@@ -1,5 +1,5 @@
 -- What clashes with a resource, among pairs of which a span is known.
-use Rattle.std.proofs.Common.{◌≡◌, Bool, true, false, ◌≤◌, ◌||◌, ◌&&◌, inl, inr, List, [], ◌∷◌, refl, ◌∙◌, ap, arith}
+use Rattle.std.proofs.Common.{◌≡◌, ℕ, Bool, true, false, ◌+◌, ◌<◌, ◌≤◌, ◌||◌, ◌&&◌, inl, inr, List, [], ◌∷◌, ◌++◌, take, drop, get_or, length, refl, ◌∙◌, ap, subst, arith}
 use Rattle.std.specs.Prelude.{nat_le, nat_lt, not}
 use Rattle.std.specs.List.{list_any}
 use Rattle.std.proofs.lemmas.Bool.{or_cases, ltb-true, false_from_ne_true}
@@ -8,6 +8,8 @@ use Rattle.resource_reqs.specs.Resources.{Res, clashes, same_kind}
 use Rattle.range_arbiter.specs.Pairs.{Pair, res_list}
 use Rattle.range_arbiter.specs.Orders.{In}
 use Rattle.range_arbiter.specs.Spans.{Blocks, Covers}
+use Rattle.range_arbiter.specs.Blocks.{pairs_in}
+use Rattle.range_arbiter.proofs.Blocking.{pairs_in_item, pairs_in_next}
 use Rattle.range_arbiter.specs.declared.span.Span.{Span}
 
 parted : (a b c : Bool) → ((a && b) && c) ≡ true → (b ≡ true) × (c ≡ true)
@@ -33,6 +35,44 @@ blocks r other h =
 none_any : (r : Res) (pairs : List Pair) → ((p : Pair) → In p pairs → clashes r p.1 ≡ false) → list_any (clashes r) (res_list pairs) ≡ false
 none_any r [] none = refl
 none_any r (p ∷ pairs) none = ap (λ b. b || list_any (clashes r) (res_list pairs)) (none p (inl refl)) ∙ none_any r pairs (λ q i. none q (inr i))
+
+or_parts : (a b c : Bool) → (a || (b || c)) ≡ ((a || b) || c)
+or_parts true b c = refl
+or_parts false b c = refl
+
+any_append : (r : Res) (xs ys : List Pair) → list_any (clashes r) (res_list (xs ++ ys)) ≡ (list_any (clashes r) (res_list xs) || list_any (clashes r) (res_list ys))
+any_append r [] ys = refl
+any_append r (x ∷ xs) ys =
+    ap (λ b. clashes r x.1 || b) (any_append r xs ys) ∙ or_parts (clashes r x.1) (list_any (clashes r) (res_list xs)) (list_any (clashes r) (res_list ys))
+
+or_true : (a : Bool) → (a || true) ≡ true
+or_true true = refl
+or_true false = refl
+
+or_middle : (a b c : Bool) → b ≡ true → (a || (b || c)) ≡ true
+or_middle true b c h = refl
+or_middle false b c h = ap (λ x. x || c) h
+
+-- pairs of which one clashes
+pub any_in : (r : Res) (xs : List Pair) (x : Pair) → In x xs → clashes r x.1 ≡ true → list_any (clashes r) (res_list xs) ≡ true
+any_in r [] x i h = absurd i
+any_in r (q ∷ qs) x (inl e) h = ap (λ b. b || list_any (clashes r) (res_list qs)) (subst (λ (z : Pair). clashes r z.1 ≡ true) e h)
+any_in r (q ∷ qs) x (inr i) h = ap (λ b. clashes r q.1 || b) (any_in r qs x i h) ∙ or_true (clashes r q.1)
+
+-- blocks of which one clashes, and blocks of which none does so far
+pub any_block : (r : Res) (bs : List (List Pair)) (i : ℕ) (b : List Pair) → i < length bs → b ≡ get_or bs i b → list_any (clashes r) (res_list b) ≡ true
+    → list_any (clashes r) (res_list (pairs_in bs)) ≡ true
+any_block r bs i b within is h =
+    let front = pairs_in (take i bs) in
+    let back = pairs_in (drop (i + 1) bs) in
+    let any : List Pair → Bool = λ l. list_any (clashes r) (res_list l) in
+    ap any (pairs_in_item bs i b within is) ∙ any_append r front (b ++ back) ∙ ap (λ x. any front || x) (any_append r b back) ∙ or_middle (any front) (any b) (any back) h
+
+pub none_more : (r : Res) (bs : List (List Pair)) (i : ℕ) (b : List Pair) → i < length bs → b ≡ get_or bs i b → list_any (clashes r) (res_list b) ≡ false
+    → list_any (clashes r) (res_list (pairs_in (take i bs))) ≡ false → list_any (clashes r) (res_list (pairs_in (take (i + 1) bs))) ≡ false
+none_more r bs i b within is h none =
+    let any : List Pair → Bool = λ l. list_any (clashes r) (res_list l) in
+    ap any (pairs_in_next bs i b within is) ∙ any_append r (pairs_in (take i bs)) b ∙ ap (λ x. x || any b) none ∙ h
 
 -- where a span does not meet the resource, no pair does
 pub apart_any : (r : Res) (pairs : List Pair) (s : Span) → Covers r.shared pairs s → (nat_lt s.reach s.lo || (nat_lt s.reach r.lo || nat_lt r.hi s.lo)) ≡ true

@@ -1,10 +1,10 @@
 -- Members of lists of pairs, lists in order, and a pair put into a list that is parted at another one.
-use Rattle.std.proofs.Common.{◌≡◌, zero, suc, true, false, ◌⊎◌, inl, inr, List, [], ◌∷◌, ◌++◌, Contains, refl, sym, ◌∙◌, ap, ap₂, subst, arith}
-use Rattle.std.proofs.lemmas.Bool.{cases_Bool, both_ways}
+use Rattle.std.proofs.Common.{◌≡◌, zero, suc, false, ◌⊎◌, inl, inr, List, [], ◌∷◌, ◌++◌, Contains, refl, sym, ◌∙◌, ap, ap₂, subst, arith}
+use Rattle.std.proofs.lemmas.Bool.{cases_Bool}
 use Rattle.resource_reqs.specs.declared.kind.Kind.{Kind}
 use Rattle.range_arbiter.specs.Pairs.{Pair, is_before, pairs_with}
 use Rattle.range_arbiter.specs.Orders.{In, IsOrdered, AreOfKind}
-use Rattle.range_arbiter.proofs.PairOrder.{before_itself, before_later, before_once, not_before_trans, same_pair}
+use Rattle.range_arbiter.proofs.PairOrder.{before_once, not_before_trans, same_pair}
 use Rattle.range_arbiter.proofs.PairLists.{with_behind, with_here}
 
 pub in_append : (p : Pair) (xs ys : List Pair) → In p (xs ++ ys) → In p xs ⊎ In p ys
@@ -42,7 +42,7 @@ in_with q (x ∷ xs) p i = elim (cases_Bool (is_before x p)) [
     here (inl e) = inl e
     here (inr k) = inr k
 
-in_keeps : (q : Pair) (xs : List Pair) (p : Pair) → In q xs → In q (pairs_with xs p)
+pub in_keeps : (q : Pair) (xs : List Pair) (p : Pair) → In q xs → In q (pairs_with xs p)
 in_keeps q [] p i = absurd i
 in_keeps q (x ∷ xs) p i = elim (cases_Bool (is_before x p)) [
   | inl h ↦ subst (In q) (sym (with_behind x xs p h)) (behind (in_keeps q xs p) i)
@@ -100,26 +100,11 @@ kinds_with kind xs p same kinds q i = elim (in_with q xs p i) [ inl e ↦ ap (λ
 pub kinds_without : (kind : Kind) (xs : List Pair) (p : Pair) → AreOfKind kind (pairs_with xs p) → AreOfKind kind xs
 kinds_without kind xs p kinds q i = kinds q (in_keeps q xs p i)
 
--- a pair goes in front of one that does not come before it
-pub with_left : (xs : List Pair) (q : Pair) (ys : List Pair) (p : Pair) → is_before q p ≡ false → pairs_with (xs ++ q ∷ ys) p ≡ pairs_with xs p ++ q ∷ ys
-with_left [] q ys p h = with_here q ys p h
-with_left (x ∷ xs) q ys p h = elim (cases_Bool (is_before x p)) [
-  | inl b ↦ with_behind x (xs ++ q ∷ ys) p b ∙ ap (λ l. x ∷ l) (with_left xs q ys p h) ∙ sym (ap (λ l. l ++ q ∷ ys) (with_behind x xs p b))
-  | inr b ↦ with_here x (xs ++ q ∷ ys) p b ∙ sym (ap (λ l. l ++ q ∷ ys) (with_here x xs p b))
-]
-
--- and behind one that comes before it
-pub with_right : (xs : List Pair) (q : Pair) (ys : List Pair) (p : Pair) → ((x : Pair) → In x xs → is_before q x ≡ false) → is_before q p ≡ true
-    → pairs_with (xs ++ q ∷ ys) p ≡ xs ++ q ∷ pairs_with ys p
-with_right [] q ys p up h = with_behind q ys p h
-with_right (x ∷ xs) q ys p up h =
-    with_behind x (xs ++ q ∷ ys) p (before_later x q p (up x (inl refl)) h) ∙ ap (λ l. x ∷ l) (with_right xs q ys p (λ z i. up z (inr i)) h)
-
+-- a pair stands in a list in order where `pairs_with` puts it, whichever of its equals it is
 at_front : (ys : List Pair) (p : Pair) → ((y : Pair) → In y ys → is_before y p ≡ false) → pairs_with ys p ≡ p ∷ ys
 at_front [] p h = refl
 at_front (y ∷ ys) p h = with_here y ys p (h y (inl refl))
 
--- and stands where it was taken from, whichever of its equals was taken
 pub with_same : (xs ys : List Pair) (p : Pair) → IsOrdered (xs ++ p ∷ ys) → AreOfKind p.1.kind xs → pairs_with (xs ++ ys) p ≡ xs ++ p ∷ ys
 with_same [] ys p up kinds = at_front ys p up.0
 with_same (x ∷ xs) ys p up kinds = go (with_same xs ys p up.1 (λ q i. kinds q (inr i)))
@@ -137,50 +122,3 @@ with_same (x ∷ xs) ys p up kinds = go (with_same xs ys p up.1 (λ q i. kinds q
           let one : x ≡ p = same_pair x p (kinds x (inl refl)) b (up.0 p (in_right p xs (p ∷ ys) (inl refl))) in
           with_here x (xs ++ ys) p b ∙ ap₂ (λ a c. a ∷ c ∷ (xs ++ ys)) (sym one) one ∙ ap (λ l. x ∷ l) (sym (front one) ∙ more)
     ]
-
--- which side of a list holds a pair
-pub held_behind : (xs : List Pair) (q : Pair) (ys : List Pair) (p : Pair) → IsOrdered (xs ++ q ∷ ys) → is_before q p ≡ true → In p (xs ++ q ∷ ys) → In p ys
-held_behind xs q ys p up h i = elim (in_append p xs (q ∷ ys) i) [
-  | inl k ↦ absurd (both_ways (is_before q p) (ordered_across xs (q ∷ ys) up p q k (inl refl)) h)
-  | inr k ↦ behind k
-]
-  where
-    behind : In p (q ∷ ys) → In p ys
-    behind (inl e) = absurd (both_ways (is_before p p) (before_itself p) (subst (λ z. is_before z p ≡ true) (sym e) h))
-    behind (inr k) = k
-
-pub held_before : (xs : List Pair) (q : Pair) (ys : List Pair) (p : Pair) → IsOrdered (xs ++ q ∷ ys) → is_before p q ≡ true → In p (xs ++ q ∷ ys) → In p xs
-held_before xs q ys p up h i = elim (in_append p xs (q ∷ ys) i) [ inl k ↦ k | inr k ↦ absurd (not k) ]
-  where
-    not : In p (q ∷ ys) → ⊥
-    not (inl e) = both_ways (is_before p p) (before_itself p) (subst (λ z. is_before p z ≡ true) (sym e) h)
-    not (inr k) = both_ways (is_before p q) ((ordered_right xs (q ∷ ys) up).0 p k) h
-
--- a list that is parted, with a pair put in on one side
-pub put_behind : (all xs : List Pair) (q : Pair) (ys : List Pair) (p : Pair) → all ≡ xs ++ q ∷ ys → IsOrdered all → is_before q p ≡ true
-    → xs ++ q ∷ pairs_with ys p ≡ pairs_with all p
-put_behind all xs q ys p is up h =
-    let whole : IsOrdered (xs ++ q ∷ ys) = subst IsOrdered is up in
-    sym (with_right xs q ys p (λ x i. ordered_across xs (q ∷ ys) whole x q i (inl refl)) h) ∙ ap (λ l. pairs_with l p) (sym is)
-
-pub put_before : (all xs : List Pair) (q : Pair) (ys : List Pair) (p : Pair) → all ≡ xs ++ q ∷ ys → is_before q p ≡ false → pairs_with xs p ++ q ∷ ys ≡ pairs_with all p
-put_before all xs q ys p is h = sym (with_left xs q ys p h) ∙ ap (λ l. pairs_with l p) (sym is)
-
--- and with one taken out
-pub take_behind : (all xs : List Pair) (q : Pair) (ys rest : List Pair) (p : Pair) → all ≡ xs ++ q ∷ ys → IsOrdered all → is_before q p ≡ true
-    → ys ≡ pairs_with rest p → all ≡ pairs_with (xs ++ q ∷ rest) p
-take_behind all xs q ys rest p is up h left =
-    let whole : IsOrdered (xs ++ q ∷ ys) = subst IsOrdered is up in
-    is ∙ ap (λ l. xs ++ q ∷ l) left ∙ sym (with_right xs q rest p (λ x i. ordered_across xs (q ∷ ys) whole x q i (inl refl)) h)
-
-pub take_before : (all xs : List Pair) (q : Pair) (ys rest : List Pair) (p : Pair) → all ≡ xs ++ q ∷ ys → is_before p q ≡ true
-    → xs ≡ pairs_with rest p → all ≡ pairs_with (rest ++ q ∷ ys) p
-take_before all xs q ys rest p is h left = is ∙ ap (λ l. l ++ q ∷ ys) left ∙ sym (with_left rest q ys p (before_once p q h))
-
-pub take_here : (all xs : List Pair) (q : Pair) (ys : List Pair) (p : Pair) → all ≡ xs ++ q ∷ ys → IsOrdered all → AreOfKind p.1.kind all
-    → is_before q p ≡ false → is_before p q ≡ false → all ≡ pairs_with (xs ++ ys) p
-take_here all xs q ys p is up kinds h g =
-    let of : AreOfKind p.1.kind (xs ++ q ∷ ys) = subst (AreOfKind p.1.kind) is kinds in
-    let one : q ≡ p = same_pair q p (of q (in_right q xs (q ∷ ys) (inl refl))) h g in
-    let here : all ≡ xs ++ p ∷ ys = is ∙ ap (λ z. xs ++ z ∷ ys) one in
-    here ∙ sym (with_same xs ys p (subst IsOrdered here up) (λ x i. of x (in_left x xs (q ∷ ys) i)))

@@ -3,5 +3,7 @@ pub mod PairLists
 pub mod InOrder
 pub mod Aligned
 pub mod Spanning
+pub mod Blocking
+pub mod Knowing
 pub mod Sweeping
 pub mod Clashing

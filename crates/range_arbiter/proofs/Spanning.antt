@@ -1,5 +1,5 @@
 -- What a span covers, of no pairs, of one, and of two lists together.
-use Rattle.std.proofs.Common.{◌≡◌, ℕ, Bool, IsTrue, false, min, max, ◌+◌, ◌<◌, ◌≤◌, ◌⊎◌, inl, inr, List, [], ◌∷◌, ◌++◌, refl, sym, subst, arith}
+use Rattle.std.proofs.Common.{◌≡◌, ℕ, Bool, false, min, max, ◌+◌, ◌<◌, ◌≤◌, ◌⊎◌, inl, inr, List, [], ◌∷◌, ◌++◌, refl, sym, subst, arith}
 use native.Mathlib.Decide.{dec_le}
 use Rattle.range_arbiter.specs.Pairs.{Pair}
 use Rattle.range_arbiter.specs.Orders.{In}
@@ -64,14 +64,6 @@ covers_any shared xs s none covers = record {
       let (p, i, blocks, n, lo, hi, from, to) = covers.met first last some within near long in
       (p, i, (λ both. none p i both.0), n, lo, hi, from, to);
 }
-
--- none of both lists, and the pair between them
-pub none_node : (xs ys : List Pair) (p : Pair) → NoneShares xs → (IsTrue p.1.shared → ⊥) → NoneShares ys → NoneShares (xs ++ p ∷ ys)
-none_node xs ys p front here back q i shares = elim (in_append q xs (p ∷ ys) i) [
-  | inl k ↦ front q k shares
-  | inr (inl e) ↦ here (subst (λ (z : Pair). IsTrue z.1.shared) e shares)
-  | inr (inr k) ↦ back q k shares
-]
 
 -- how much is free between two spans
 abbrev pub Between : Span → Span → ℕ → Type 0

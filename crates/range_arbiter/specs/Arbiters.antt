@@ -1,14 +1,27 @@
 -- What an arbiter keeps. No public contract cites this.
-use Rattle.std.specs.Prelude.{◌+◌, ◌^◌, ◌<◌, ◌≤◌, List, length, Vec, Box, vec_len, vec_capacity}
+use Rattle.std.specs.Prelude.{◌≡◌, ℕ, ◌+◌, ◌*◌, ◌^◌, ◌<◌, ◌≤◌, List, length, Vec, vec_len, vec_capacity}
 use Rattle.std.specs.declared.alloc.Global.{Global}
 use Rattle.resource_reqs.specs.declared.kind.Kind.{Kind}
 use Rattle.range_arbiter.specs.Pairs.{Pair}
 use Rattle.range_arbiter.specs.Orders.{IsOrdered, AreOfKind}
-use Rattle.range_arbiter.specs.declared.tree.Node.{Node}
+use Rattle.range_arbiter.specs.Blocks.{pairs_in, AreSome}
+use Rattle.range_arbiter.specs.Whole.{Tells}
+use Rattle.range_arbiter.specs.declared.room.Room.{Room}
+use Rattle.range_arbiter.specs.declared.whole.Whole.{Whole}
 
--- Pairs of its kind, in order, and room for the nodes of all pairs that are held and spare.
-pub record IsArbiter (kind : Kind) (pairs : List Pair) (stock : Vec (Box Node Global) Global) : Type 0 where
-  pub kinds : AreOfKind kind pairs
-  pub in_order : IsOrdered pairs
-  pub room : length pairs + vec_len stock ≤ vec_capacity stock
-  pub few : length pairs + vec_len stock < 2 ^ 32
+-- Blocks that have pairs, a block or a room for each eight pairs that are held or spare, and place in both lists for all blocks
+-- and rooms.
+pub record AreStocked (blocks : Vec (List Pair) Global) (stock : Vec Room Global) (spare : ℕ) : Type 0 where
+  pub some : AreSome blocks.items
+  pub enough : length (pairs_in blocks.items) + spare ≤ 8 * (vec_len blocks + vec_len stock)
+  pub block_place : vec_len blocks + vec_len stock ≤ vec_capacity blocks
+  pub room_place : vec_len blocks + vec_len stock ≤ vec_capacity stock
+
+-- Pairs of its kind, in order, with their number, room for the spare ones, and what is known of all at once.
+pub record IsArbiter (kind : Kind) (blocks : Vec (List Pair) Global) (stock : Vec Room Global) (held spare : ℕ) (whole : Whole) : Type 0 where
+  pub kinds : AreOfKind kind (pairs_in blocks.items)
+  pub in_order : IsOrdered (pairs_in blocks.items)
+  pub count : held ≡ length (pairs_in blocks.items)
+  pub few : held + spare < 2 ^ 32
+  pub stocked : AreStocked blocks stock spare
+  pub at_once : Tells (pairs_in blocks.items) whole

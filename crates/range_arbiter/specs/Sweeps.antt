@@ -19,8 +19,15 @@ pub record Passed (pairs : List Pair) (want : Want) (from place : ℕ) : Type 0 
   pub none_open : (t : ℕ) → from ≤ t → t < place → ¬ IsOpen (res_list pairs) want t
   pub clear : (p : Pair) → In p pairs → (t : ℕ) → place ≤ t → ¬ Clash p.1 (res_at want t)
 
+-- The same where the number need not be a start.
+pub record Cleared (pairs : List Pair) (want : Want) (from bound : ℕ) : Type 0 where
+  pub above : from ≤ bound
+  pub none_open : (t : ℕ) → from ≤ t → t < bound → ¬ IsOpen (res_list pairs) want t
+  pub clear : (p : Pair) → In p pairs → (t : ℕ) → bound ≤ t → ¬ Clash p.1 (res_at want t)
+
 -- The place is the first start that is open beside the pairs, and one of them begins beyond it.
 pub record Stopped (pairs : List Pair) (want : Want) (from place : ℕ) : Type 0 where
+  pub long : 0 < want.len
   pub above : from ≤ place
   pub start : IsStart want place
   pub none_open : (t : ℕ) → from ≤ t → t < place → ¬ IsOpen (res_list pairs) want t

@@ -1,6 +1,6 @@
 ghost use Rattle.std.specs.Prelude.{◌≡◌, ◌<◌, ◌≤◌, ◌+◌, ◌⊎◌, Bool, nat_lt, ◌||◌, [], ◌∷◌, ◌++◌, List};
 ghost use Rattle.range_arbiter.specs.Pairs.{Pair};
-ghost use Rattle.range_arbiter.specs.Spans.{Covers};
+ghost use Rattle.range_arbiter.specs.Spans.{Blocks, Covers};
 
 use resource_reqs::{Owner, Res};
 
@@ -67,6 +67,7 @@ impl Span {
 }
 
 /// How many numbers lie between two spans.
+#[inline(always)]
 fn between(one: Span, other: Span) -> u64
     ensures { ((one.reach + result + 1 ≡ other.lo) ⊎ (other.reach + result + 1 ≡ one.lo)) ⊎ ((other.lo ≤ one.reach) × (one.lo ≤ other.reach)) }
 {
@@ -93,5 +94,26 @@ pub fn joined(one: Span, other: Span) -> Span
         lo: one.lo.min(other.lo),
         reach: one.reach.max(other.reach),
         gap: one.gap.max(other.gap).max(between(one, other)),
+    }
+}
+
+/// Of the pairs of a span and one more that counts.
+#[inline(always)]
+pub fn with_one(span: Span, pair: &(Owner, Res)) -> Span
+    ensures { (shared : Bool) (xs : List Pair) → Blocks shared pair.now.1 → Covers shared xs span → Covers shared (xs ++ pair.now ∷ []) result }
+{
+    let res = &pair.1;
+    let one = Span {
+        lo: res.lo,
+        reach: res.hi,
+        gap: 0,
+    };
+    if span.is_nothing() {
+        return one;
+    }
+    Span {
+        lo: span.lo.min(one.lo),
+        reach: span.reach.max(one.reach),
+        gap: span.gap.max(between(span, one)),
     }
 }

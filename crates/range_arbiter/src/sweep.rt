@@ -1,11 +1,17 @@
-ghost use Rattle.std.specs.Prelude.{◌≡◌, ◌↔◌, ◌≤◌, ◌<◌, ◌+◌, ◌-◌, [], ◌∷◌, ℕ, IsTrue, IfOk, IfErr};
+ghost use Rattle.std.specs.Prelude.{◌≡◌, ◌↔◌, ◌≤◌, ◌<◌, ◌+◌, ◌-◌, ◌^◌, List, [], ◌∷◌, ℕ, IsTrue, IfOk, IfErr, IfSome};
 ghost use Rattle.resource_reqs.specs.Resources.{Clash, res_at};
+ghost use Rattle.range_arbiter.specs.Pairs.{Pair};
 ghost use Rattle.range_arbiter.specs.Orders.{IsOrdered, AreOfKind};
-ghost use Rattle.range_arbiter.specs.Sweeps.{IsStart, Passed, EndedWith};
+ghost use Rattle.range_arbiter.specs.Spans.{Covers};
+ghost use Rattle.range_arbiter.specs.Known.{Knows};
+ghost use Rattle.range_arbiter.specs.Sweeps.{IsStart, Passed, Cleared, EndedWith};
+ghost use Rattle.range_arbiter.specs.Blocks.{pairs_in};
 ghost use Rattle.range_arbiter.specs.declared.sweep.Ended.TheVariants.{Nowhere};
 
+use crate::block::Block;
+use crate::known::Known;
+use crate::span::Span;
 use crate::starts::start_from;
-use crate::tree::{Node, Top, Tree};
 use resource_reqs::{Owner, Res, Want};
 
 /// How a sweep ends before it is past all pairs.
@@ -61,35 +67,101 @@ fn past_pair(pair: &(Owner, Res), want: &Want, place: u64) -> Result<u64, Ended>
     Ok(place)
 }
 
-/// Moves a start past the pairs of a tree, up to the first pair that begins beyond it. Sides that it is past, and sides
-/// without a gap of its length, are passed at once.
-pub fn sweep(tree: &Tree, want: &Want, place: u64) -> Result<u64, Ended>
-    requires in_order { IsOrdered tree.now }
-    requires kinds { AreOfKind want.now.kind tree.now }
+/// Moves a start past pairs, up to the first pair that begins beyond it.
+fn past_pairs(pairs: &[(Owner, Res)], want: &Want, place: u64) -> Result<u64, Ended>
+    requires in_order { IsOrdered pairs.now }
+    requires kinds { AreOfKind want.now.kind pairs.now }
     requires start { IsStart want.now place }
-    ensures on { IfOk result (λ s. Passed tree.now want.now place s) }
-    ensures ended { IfErr result (EndedWith tree.now want.now place) }
+    ensures on { IfOk result (λ s. Passed pairs.now want.now place s) }
+    ensures ended { IfErr result (EndedWith pairs.now want.now place) }
 {
-    let span = tree.span(want.shared);
-    if span.is_below(place) {
-        return Ok(place);
-    }
-    if span.gap < want.len && span.lo <= place + (want.len - 1) {
-        return start_above(want, span.reach);
-    }
-    match &tree.top {
-        Top::Empty => Ok(place),
-        Top::Full(node) => {
-            let here: &Node = node;
-            let beside = match sweep(&here.left, want, place) {
-                Ok(start) => start,
-                Err(ended) => return Err(ended),
-            };
-            let beyond = match past_pair(&here.pair, want, beside) {
-                Ok(start) => start,
-                Err(ended) => return Err(ended),
-            };
-            sweep(&here.right, want, beyond)
+    let mut start = place;
+    for pair in pairs {
+        match past_pair(pair, want, start) {
+            Ok(next) => start = next,
+            Err(ended) => return Err(ended),
         }
     }
+    Ok(start)
+}
+
+/// The number above a number.
+fn number_above(reach: u64) -> Result<u64, Ended>
+    ensures next { IfOk result (λ n. n ≡ reach + 1) }
+    ensures none { IfErr result (λ e. (e ≡ Nowhere) × (2 ^ 64 ≤ reach + 1)) }
+{
+    if reach == u64::MAX {
+        return Err(Ended::Nowhere);
+    }
+    Ok(reach + 1)
+}
+
+/// Moves a bound past pairs of which this is known; it need not be a start. Those that lie below it, and those that it meets and
+/// that have no gap of the want's length, are passed at once; none of others. An end is told as of a start.
+#[inline(always)]
+fn past_span(span: Span, want: &Want, from: u64) -> Option<Result<u64, Ended>>
+    ensures on { (xs : List Pair) → AreOfKind want.now.kind xs → Covers want.now.shared xs span → IfSome result (λ r. IfOk r (λ s. Cleared xs want.now from s)) }
+    ensures ended { (xs : List Pair) → AreOfKind want.now.kind xs → Covers want.now.shared xs span → IfSome result (λ r. IfErr r (EndedWith xs want.now from)) }
+{
+    if span.is_below(from) {
+        return Some(Ok(from));
+    }
+    if span.gap < want.len && span.lo.saturating_sub(from) < want.len {
+        return Some(number_above(span.reach));
+    }
+    None
+}
+
+/// Moves a bound past the pairs of a block, at once where that can be. An end is told as of a start.
+fn past_block(block: &Block, want: &Want, from: u64) -> Result<u64, Ended>
+    requires in_order { IsOrdered block.now }
+    requires kinds { AreOfKind want.now.kind block.now }
+    ensures on { IfOk result (λ s. Cleared block.now want.now from s) }
+    ensures ended { IfErr result (EndedWith block.now want.now from) }
+{
+    if let Some(passed) = past_span(block.span(want.shared), want, from) {
+        return passed;
+    }
+    match start_from(want, from) {
+        Some(start) => past_pairs(block.pairs(), want, start),
+        None => Err(Ended::Nowhere),
+    }
+}
+
+/// The least start from a number on that is open beside the pairs of the blocks.
+pub fn sweep(blocks: &[Block], want: &Want, from: u64) -> Result<u64, Ended>
+    requires in_order { IsOrdered (pairs_in blocks.now) }
+    requires kinds { AreOfKind want.now.kind (pairs_in blocks.now) }
+    ensures on { IfOk result (λ s. Cleared (pairs_in blocks.now) want.now from s) }
+    ensures ended { IfErr result (EndedWith (pairs_in blocks.now) want.now from) }
+{
+    let mut bound = from;
+    for block in blocks {
+        match past_block(block, want, bound) {
+            Ok(next) => bound = next,
+            Err(ended) => return Err(ended),
+        }
+    }
+    Ok(bound)
+}
+
+/// The same, where perhaps something is known of all pairs at once.
+pub fn sweep_known(
+    known: &Option<Known>,
+    blocks: &[Block],
+    want: &Want,
+    from: u64,
+) -> Result<u64, Ended>
+    requires known { IfSome known.now (λ k. Knows (pairs_in blocks.now) k) }
+    requires in_order { IsOrdered (pairs_in blocks.now) }
+    requires kinds { AreOfKind want.now.kind (pairs_in blocks.now) }
+    ensures on { IfOk result (λ s. Cleared (pairs_in blocks.now) want.now from s) }
+    ensures ended { IfErr result (EndedWith (pairs_in blocks.now) want.now from) }
+{
+    if let Some(known) = known {
+        if let Some(passed) = past_span(known.span(want.shared), want, from) {
+            return passed;
+        }
+    }
+    sweep(blocks, want, from)
 }

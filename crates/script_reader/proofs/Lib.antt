@@ -2,6 +2,7 @@ pub mod Digits
 pub mod HexBytes
 pub mod Wording
 pub mod Gathering
+pub mod Counting
 pub mod Errors
 pub mod Sifting
 pub mod Scripts

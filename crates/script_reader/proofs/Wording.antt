@@ -1,36 +1,18 @@
--- The words of a line, found from its front.
-use Rattle.std.proofs.Common.{◌≡◌, ℕ, ◌+◌, ◌-◌, ◌<◌, ◌≤◌, List, [], ◌∷◌, ◌++◌, length, get_or, take, drop, true, false, refl, sym, ◌∙◌, ap, arith, suc, zero, add-one, append_assoc, append-nil, length-append, length-drop, not, ◌==◌, cond, Bor, Bool, subst}
-use Rattle.std.proofs.Math.Seq.{drop-cons, take-append_seam}
-use Rattle.std.proofs.lemmas.List.{drop_all, take_all}
+-- The words of a line, one after another.
+use Rattle.std.proofs.Common.{◌≡◌, ℕ, ◌+◌, ◌-◌, ◌<◌, ◌≤◌, List, [], ◌∷◌, ◌++◌, length, get_or, take, drop, true, false, refl, sym, ◌∙◌, ap, arith, suc, add-one, append_assoc, append-nil, length-append, length-drop, not, ◌==◌, cond, Bor, Bool, subst, Some, None, nat_lt, slice_set, length-set}
+use Rattle.std.proofs.Math.Seq.{drop-cons}
+use Rattle.std.proofs.lemmas.List.{drop_all, take_all, length-take-le}
 use Rattle.std.proofs.lemmas.Slice.Eq.{bytes_eq-Decides}
 use Rattle.std.specs.Str.{bytes_eq}
 use Rattle.std.proofs.lemmas.Bool.Decides.{nat_tests}
-use Rattle.std.proofs.lemmas.List.Elements.{All-append}
-use Rattle.std.proofs.lemmas.List.Splits.{slice_split_none, slice_split_at, slice_split-cons_yes, slice_split-cons_no}
-use Rattle.std.specs.List.{All, filter, slice_split, onto_first}
+use Rattle.std.proofs.lemmas.List.Splits.{slice_split-cons_yes, slice_split-cons_no}
+use Rattle.std.specs.List.{filter, slice_split, onto_first, position, position_or_len}
+use Rattle.std.specs.Option.{unwrap_or}
+use Rattle.std.proofs.lemmas.Grind.{common_steps, take-set_at}
 use Rattle.script_reader.specs.Words.{is_blank, words_of}
 use Rattle.script_reader.specs.Lines.{event_of}
 use Rattle.script_reader.specs.Script.{nothing, event_or_bad, meaning_of}
-use Rattle.script_reader.proofs.Gathering.{now_of}
-
--- The words before start are found, and the bytes from there up to at have no blank among them.
-pub record Found (line : List ℕ) (start at : ℕ) (words : List (List ℕ)) : Type 0 where
-  pub word : List ℕ
-  pub order : start ≤ at
-  pub inside : at ≤ length line
-  pub whole : drop start line ≡ word ++ drop at line
-  pub clear : All (λ b. is_blank b ≡ false) word
-  pub is : words_of line ≡ words ++ words_of (drop start line)
-
-clear_none : All (λ b. is_blank b ≡ false) []
-clear_none k d less = absurd (omega arith)
-
-clear_one : (x : ℕ) → is_blank x ≡ false → All (λ b. is_blank b ≡ false) (x ∷ [])
-clear_one x h zero d less = h
-clear_one x h (suc k) d less = absurd (omega arith)
-
-pub found_none : (line : List ℕ) → Found line 0 0 []
-found_none line = record { word = []; order = omega arith; inside = omega arith; whole = refl; clear = clear_none; is = refl }
+use Rattle.script_reader.proofs.Gathering.{now_of, length_now}
 
 some_test : (n : ℕ) → 0 < n → not (n == 0) ≡ true
 some_test n some = grind (arith, nat_tests)
@@ -42,105 +24,159 @@ kept : (word : List ℕ) (parts : List (List ℕ)) → 0 < length word
     → filter (λ w. not (length w == 0)) (word ∷ parts) ≡ word ∷ filter (λ w. not (length w == 0)) parts
 kept word parts some = ap (λ b. cond b (word ∷ filter (λ w. not (length w == 0)) parts) (filter (λ w. not (length w == 0)) parts)) (some_test (length word) some)
 
--- the word up to here is as long as it is
-word_is : (line : List ℕ) (start at : ℕ) (words : List (List ℕ)) (so : Found line start at words) → take (at - start) (drop start line) ≡ so.word
-word_is line start at words so =
-    let long : at - start ≡ length so.word = omega (arith, so.order, so.inside, ap length so.whole, length-append so.word (drop at line), length-drop start line, length-drop at line) in
-    ap (λ n. take n (drop start line)) long ∙ ap (take (length so.word)) so.whole ∙ take-append_seam so.word (drop at line)
-
-here : (line : List ℕ) (start at : ℕ) (words : List (List ℕ)) (so : Found line start at words) → at < length line
-    → drop start line ≡ so.word ++ get_or line at 0 ∷ drop (at + 1) line
-here line start at words so less =
-    so.whole ∙ ap (λ r. so.word ++ r) (drop-cons line at 0 less) ∙ ap (λ n. so.word ++ get_or line at 0 ∷ drop n line) (sym (add-one at))
-
-pub found_byte : (line : List ℕ) (start at : ℕ) (words : List (List ℕ)) → at < length line → is_blank (get_or line at 0) ≡ false
-    → Found line start at words → Found line start (at + 1) words
-found_byte line start at words less no_ so = record {
-  word = so.word ++ get_or line at 0 ∷ [];
-  order = omega (arith, so.order);
-  inside = omega arith;
-  whole = here line start at words so less ∙ sym (append_assoc so.word (get_or line at 0 ∷ []) (drop (at + 1) line));
-  clear = All-append (λ b. is_blank b ≡ false) so.word (get_or line at 0 ∷ []) so.clear (clear_one (get_or line at 0) no_);
-  is = so.is;
-}
-
--- the words of the rest, where a blank ends the first
-cut_here : (line : List ℕ) (start at : ℕ) (words : List (List ℕ)) (so : Found line start at words) → at < length line → is_blank (get_or line at 0) ≡ true
-    → words_of (drop start line) ≡ filter (λ w. not (length w == 0)) (so.word ∷ slice_split is_blank (drop (at + 1) line))
-cut_here line start at words so less blank =
-    ap words_of (here line start at words so less)
-    ∙ ap (filter (λ w. not (length w == 0))) (slice_split_at is_blank so.word (get_or line at 0) (drop (at + 1) line) so.clear blank)
-
-pub found_word : (line : List ℕ) (start at : ℕ) (words : List (List ℕ)) → at < length line → is_blank (get_or line at 0) ≡ true → start < at
-    → Found line start at words → Found line (at + 1) (at + 1) (words ++ take (at - start) (drop start line) ∷ [])
-found_word line start at words less blank some so =
-    let long : 0 < length so.word = omega (arith, so.inside, ap length so.whole, length-append so.word (drop at line), length-drop start line, length-drop at line) in
-    record {
-      word = [];
-      order = omega arith;
-      inside = omega arith;
-      whole = refl;
-      clear = clear_none;
-      is = so.is ∙ ap (λ ws. words ++ ws) (cut_here line start at words so less blank ∙ kept so.word (slice_split is_blank (drop (at + 1) line)) long)
-          ∙ ap (λ w. words ++ w ∷ words_of (drop (at + 1) line)) (sym (word_is line start at words so))
-          ∙ sym (append_assoc words (take (at - start) (drop start line) ∷ []) (words_of (drop (at + 1) line)));
-    }
-
 nothing_there : (word : List ℕ) (parts : List (List ℕ)) → length word ≡ 0
     → filter (λ w. not (length w == 0)) (word ∷ parts) ≡ filter (λ w. not (length w == 0)) parts
 nothing_there word parts none = ap (λ b. cond b (word ∷ filter (λ w. not (length w == 0)) parts) (filter (λ w. not (length w == 0)) parts)) (none_test (length word) none)
 
-pub found_blank : (line : List ℕ) (start at : ℕ) (words : List (List ℕ)) → at < length line → is_blank (get_or line at 0) ≡ true → at ≤ start
-    → Found line start at words → Found line (at + 1) (at + 1) words
-found_blank line start at words less blank none so =
-    let short : length so.word ≡ 0 = omega (arith, so.order, so.inside, ap length so.whole, length-append so.word (drop at line), length-drop start line, length-drop at line) in
-    record {
-      word = [];
-      order = omega arith;
-      inside = omega arith;
-      whole = refl;
-      clear = clear_none;
-      is = so.is ∙ ap (λ ws. words ++ ws) (cut_here line start at words so less blank ∙ nothing_there so.word (slice_split is_blank (drop (at + 1) line)) short);
-    }
+-- how many blanks stand at the front, and how many bytes of a word
+abbrev pub blanks : List ℕ → ℕ
+blanks line = position_or_len (λ byte. not (is_blank byte)) line
 
--- the last word ends with the line
-last_here : (line : List ℕ) (start at : ℕ) (words : List (List ℕ)) (so : Found line start at words) → length line ≤ at → drop start line ≡ so.word
-last_here line start at words so long = so.whole ∙ ap (λ r. so.word ++ r) (drop_all at line long) ∙ append-nil so.word
+abbrev pub word_len : List ℕ → ℕ
+word_len line = position_or_len is_blank line
 
-last_is : (line : List ℕ) (start at : ℕ) (words : List (List ℕ)) (so : Found line start at words) → length line ≤ at
-    → words_of (drop start line) ≡ filter (λ w. not (length w == 0)) (so.word ∷ [])
-last_is line start at words so long =
-    ap words_of (last_here line start at words so long) ∙ ap (filter (λ w. not (length w == 0))) (slice_split_none is_blank so.word so.clear)
+next : (n : ℕ) → 1 + n ≡ suc n
+next n = omega arith
 
-pub found_last : (line last : List ℕ) (start at : ℕ) (words : List (List ℕ)) → length line ≤ at → start < length line → last ≡ drop start line
-    → Found line start at words → words ++ last ∷ [] ≡ words_of line
-found_last line last start at words long some same so =
-    let some_ : 0 < length so.word = omega (arith, ap length (last_here line start at words so long), length-drop start line) in
-    sym (so.is ∙ ap (λ ws. words ++ ws) (last_is line start at words so long ∙ kept so.word [] some_)
-    ∙ ap (λ w. words ++ w ∷ []) (sym (last_here line start at words so long) ∙ sym same))
+words_behind : (b : Bool) (x : ℕ) (line : List ℕ) → is_blank x ≡ b → words_of line ≡ words_of (drop (blanks line) line)
+    → words_of (x ∷ line) ≡ words_of (drop (cond (not (not b)) (1 + blanks line) 0) (x ∷ line))
+words_behind true x line blank rest =
+    ap (filter (λ w. not (length w == 0))) (slice_split-cons_yes is_blank x line blank) ∙ nothing_there [] (slice_split is_blank line) refl ∙ rest
+    ∙ ap (λ n. words_of (drop n (x ∷ line))) (sym (next (blanks line)))
+words_behind false x line blank rest = refl
 
-pub found_all : (line : List ℕ) (start at : ℕ) (words : List (List ℕ)) → length line ≤ at → length line ≤ start
-    → Found line start at words → words ≡ words_of line
-found_all line start at words long none so =
-    let short : length so.word ≡ 0 = omega (arith, ap length (last_here line start at words so long), length-drop start line) in
-    sym (so.is ∙ ap (λ ws. words ++ ws) (last_is line start at words so long ∙ nothing_there so.word [] short) ∙ append-nil words)
+behind_blanks : (line : List ℕ) → words_of line ≡ words_of (drop (blanks line) line)
+behind_blanks [] = refl
+behind_blanks (x ∷ line) = words_behind (is_blank x) x line refl (behind_blanks line)
 
--- the same, of the slices that a loop gathers
+-- the parts behind the blank that ends a word
+abbrev parts_behind : List ℕ → List (List ℕ)
+parts_behind [] = []
+parts_behind (x ∷ line) = slice_split is_blank line
+
+first_part_by : (b : Bool) (x : ℕ) (line : List ℕ) → is_blank x ≡ b → slice_split is_blank line ≡ take (word_len line) line ∷ parts_behind (drop (word_len line) line)
+    → slice_split is_blank (x ∷ line) ≡ take (cond (not b) (1 + word_len line) 0) (x ∷ line) ∷ parts_behind (drop (cond (not b) (1 + word_len line) 0) (x ∷ line))
+first_part_by true x line blank rest = slice_split-cons_yes is_blank x line blank
+first_part_by false x line blank rest =
+    slice_split-cons_no is_blank x line blank ∙ ap (onto_first x) rest
+    ∙ ap (λ n. take n (x ∷ line) ∷ parts_behind (drop n (x ∷ line))) (sym (next (word_len line)))
+
+first_part : (line : List ℕ) → slice_split is_blank line ≡ take (word_len line) line ∷ parts_behind (drop (word_len line) line)
+first_part [] = refl
+first_part (x ∷ line) = first_part_by (is_blank x) x line refl (first_part line)
+
+behind_word_by : (b : Bool) (x : ℕ) (line : List ℕ) → is_blank x ≡ b
+    → words_of (drop (word_len line) line) ≡ filter (λ w. not (length w == 0)) (parts_behind (drop (word_len line) line))
+    → words_of (drop (cond (not b) (1 + word_len line) 0) (x ∷ line)) ≡ filter (λ w. not (length w == 0)) (parts_behind (drop (cond (not b) (1 + word_len line) 0) (x ∷ line)))
+behind_word_by true x line blank rest =
+    ap (filter (λ w. not (length w == 0))) (slice_split-cons_yes is_blank x line blank) ∙ nothing_there [] (slice_split is_blank line) refl
+behind_word_by false x line blank rest =
+    subst (λ n. words_of (drop n (x ∷ line)) ≡ filter (λ w. not (length w == 0)) (parts_behind (drop n (x ∷ line)))) (sym (next (word_len line))) rest
+
+behind_word : (line : List ℕ) → words_of (drop (word_len line) line) ≡ filter (λ w. not (length w == 0)) (parts_behind (drop (word_len line) line))
+behind_word [] = refl
+behind_word (x ∷ line) = behind_word_by (is_blank x) x line refl (behind_word line)
+
+word_here_by : (b : Bool) (x : ℕ) (line : List ℕ) → is_blank x ≡ b → (blanks line < length line → 0 < word_len (drop (blanks line) line))
+    → cond (not (not b)) (1 + blanks line) 0 < suc (length line) → 0 < word_len (drop (cond (not (not b)) (1 + blanks line) 0) (x ∷ line))
+word_here_by true x line blank rest less = subst (λ n. 0 < word_len (drop n (x ∷ line))) (sym (next (blanks line))) (rest (omega arith))
+word_here_by false x line blank rest less = subst (λ b. 0 < cond (not b) (1 + word_len line) 0) (sym blank) (omega arith)
+
+-- a word stands behind the blanks
+pub word_here : (line : List ℕ) → blanks line < length line → 0 < word_len (drop (blanks line) line)
+word_here [] less = absurd (omega arith)
+word_here (x ∷ line) less = word_here_by (is_blank x) x line refl (word_here line) less
+
+word_inside_by : (b : Bool) (x : ℕ) (line : List ℕ) → word_len line ≤ length line → cond (not b) (1 + word_len line) 0 ≤ suc (length line)
+word_inside_by true x line rest = omega arith
+word_inside_by false x line rest = omega arith
+
+pub word_inside : (line : List ℕ) → word_len line ≤ length line
+word_inside [] = omega arith
+word_inside (x ∷ line) = word_inside_by (is_blank x) x line (word_inside line)
+
+word_end_by : (b : Bool) (line : List ℕ) → nat_lt (word_len line) (length line) ≡ b → unwrap_or (cond b (Some (word_len line)) None) (length line) ≡ word_len line
+word_end_by true line less = refl
+word_end_by false line less = grind (arith, common_steps, word_inside line)
+
+-- the end of a word, as it is found
+pub word_end : (line : List ℕ) → unwrap_or (position is_blank line) (length line) ≡ word_len line
+word_end line = word_end_by (nat_lt (word_len line) (length line)) line refl
+
+pub no_word : (line : List ℕ) → position (λ byte. not (is_blank byte)) line ≡ None → words_of line ≡ []
+no_word line none =
+    let over : length line ≤ blanks line = grind (arith, common_steps) in
+    behind_blanks line ∙ ap words_of (drop_all (blanks line) line over) ∙ nothing_there [] [] refl
+
+a_word : (line : List ℕ) (start : ℕ) → position (λ byte. not (is_blank byte)) line ≡ Some start
+    → (start < length line) × (0 < word_len (drop start line))
+    × (words_of line ≡ take (word_len (drop start line)) (drop start line) ∷ words_of (drop (word_len (drop start line)) (drop start line)))
+a_word line start some =
+    let is : start ≡ blanks line = grind (arith, common_steps) in
+    let less : start < length line = grind (arith, common_steps) in
+    let text = drop start line in
+    let here : 0 < word_len text = subst (λ n. 0 < word_len (drop n line)) (sym is) (word_here line (omega (arith, is, less))) in
+    let long : 0 < length (take (word_len text) text) = omega (arith, length-take-le (word_len text) text (word_inside text), here) in (
+      less,
+      here,
+      behind_blanks line ∙ ap (λ n. words_of (drop n line)) (sym is)
+          ∙ ap (filter (λ w. not (length w == 0))) (first_part text)
+          ∙ kept (take (word_len text) text) (parts_behind (drop (word_len text) text)) long
+          ∙ ap (λ ws. take (word_len text) text ∷ ws) (sym (behind_word text)),
+    )
+
+-- the rest of a line from a place on, as it is cut
+pub rest_is : (line : List ℕ) (start : ℕ) → take (length line - start) (drop start line) ≡ drop start line
+rest_is line start = take_all (length line - start) (drop start line) (omega (arith, length-drop start line))
+
+-- a word ends inside
+pub end_inside : (text : List ℕ) (end : ℕ) → end ≡ unwrap_or (position is_blank text) (length text) → end ≤ length text
+end_inside text end is = omega (arith, is, word_end text, word_inside text)
+
+pub split_word : (line text front back : List ℕ) (start end : ℕ) → position (λ byte. not (is_blank byte)) line ≡ Some start
+    → text ≡ take (length line - start) (drop start line) → end ≡ unwrap_or (position is_blank text) (length text)
+    → front ≡ take end text → back ≡ drop end text
+    → (words_of line ≡ front ∷ words_of back) × (length back < length line)
+split_word line text front back start end some one is before behind =
+    let same : text ≡ drop start line = one ∙ rest_is line start in
+    let long : end ≡ word_len (drop start line) = is ∙ word_end text ∙ ap word_len same in
+    let word = a_word line start some in
+    let head : take (word_len (drop start line)) (drop start line) ≡ front = sym (before ∙ ap (λ n. take n text) long ∙ ap (take (word_len (drop start line))) same) in
+    let tail : drop (word_len (drop start line)) (drop start line) ≡ back = sym (behind ∙ ap (λ n. drop n text) long ∙ ap (drop (word_len (drop start line))) same) in (
+      word.2 ∙ ap (λ w. w ∷ words_of (drop (word_len (drop start line)) (drop start line))) head ∙ ap (λ r. front ∷ words_of r) tail,
+      omega (arith, word.0, word.1, ap length (sym tail), length-drop (word_len (drop start line)) (drop start line), length-drop start line),
+    )
+
+-- so many words are written, and these bytes are left
+pub record Written (line rest : List ℕ) (count : ℕ) (words : List (Bor (List ℕ))) : Type 0 where
+  pub inside : count ≤ length words
+  pub is : words_of line ≡ now_of (take count words) ++ words_of rest
+
+pub written_none : (line : List ℕ) (words : List (Bor (List ℕ))) → Written line line 0 words
+written_none line words = record { inside = omega arith; is = refl }
+
 now_push : (items : List (Bor (List ℕ))) (part : Bor (List ℕ)) → now_of (items ++ part ∷ []) ≡ now_of items ++ part.now ∷ []
 now_push [] part = refl
 now_push (x ∷ items) part = ap (λ ws. x.now ∷ ws) (now_push items part)
 
-pub pushed_word : (line : List ℕ) (start at : ℕ) (items more : List (Bor (List ℕ))) (part : Bor (List ℕ)) → at < length line → is_blank (get_or line at 0) ≡ true
-    → start < at → more ≡ items ++ part ∷ [] → part.now ≡ take (at - start) (drop start line) → Found line start at (now_of items)
-    → Found line (at + 1) (at + 1) (now_of more)
-pushed_word line start at items more part less blank some one is so =
-    subst (λ ws. Found line (at + 1) (at + 1) ws) (ap (λ w. now_of items ++ w ∷ []) (sym is) ∙ sym (now_push items part) ∙ ap now_of (sym one))
-    (found_word line start at (now_of items) less blank some so)
+pub written_next : (line rest more : List ℕ) (count : ℕ) (words : List (Bor (List ℕ))) (word : Bor (List ℕ)) → count < length words
+    → words_of rest ≡ word.now ∷ words_of more → Written line rest count words → Written line more (count + 1) (slice_set words count word)
+written_next line rest more count words word less first so = record {
+  inside = omega (arith, length-set words count word);
+  is = so.is ∙ ap (λ ws. now_of (take count words) ++ ws) first
+      ∙ sym (append_assoc (now_of (take count words)) (word.now ∷ []) (words_of more))
+      ∙ ap (λ ws. ws ++ words_of more) (sym (ap now_of (take-set_at words count (count + 1) word refl less) ∙ now_push (take count words) word));
+}
 
-pub pushed_last : (line : List ℕ) (start at : ℕ) (items more : List (Bor (List ℕ))) (part : Bor (List ℕ)) → length line ≤ at → start < length line
-    → more ≡ items ++ part ∷ [] → part.now ≡ drop start line → Found line start at (now_of items) → now_of more ≡ words_of line
-pushed_last line start at items more part long some one is so =
-    ap now_of one ∙ now_push items part ∙ found_last line part.now start at (now_of items) long some is so
+pub written_full : (line rest : List ℕ) (count : ℕ) (words : List (Bor (List ℕ))) (word : List ℕ) (more : List (List ℕ)) → length words ≤ count
+    → words_of rest ≡ word ∷ more → Written line rest count words → length words < length (words_of line)
+written_full line rest count words word more full first so =
+    omega (arith, so.inside, ap length so.is, ap length first, length-append (now_of (take count words)) (words_of rest), length_now (take count words), length-take-le count words so.inside)
+
+pub written_all : (line rest : List ℕ) (count : ℕ) (words : List (Bor (List ℕ))) → words_of rest ≡ []
+    → Written line rest count words → now_of (take count words) ≡ words_of line
+written_all line rest count words none so =
+    sym (so.is ∙ ap (λ ws. now_of (take count words) ++ ws) none ∙ append-nil (now_of (take count words)))
 
 -- the blanks before are passed
 pub record Front (line : List ℕ) (at : ℕ) : Type 0 where

@@ -10,9 +10,12 @@ use crate::lines::{
 };
 use crate::plug::plug_of;
 use crate::tables::keyword_of;
-use crate::words::words;
+use crate::words::write_words;
 use pnp_labels::{Event, EventWord};
 use std::alloc::Global;
+
+/// The most words of a line that has an event: a device arrives with identifiers of both kinds and eight needs.
+const MOST_WORDS: usize = 14;
 
 /// The event of the words after a keyword.
 fn event_by(alloc: Global, keyword: EventWord, words: &[&[u8]]) -> Result<Event, LineError>
@@ -52,9 +55,13 @@ fn event_of(alloc: Global, words: &[&[u8]]) -> Result<Event, LineError>
 }
 
 /// The event of the words in a line.
+#[tactic(auto, using(crate::proofs::Counting::no_event))]
 pub fn event_in(alloc: Global, line: &[u8]) -> Result<Event, LineError>
     ensures { Gives result (event_of (words_of line.now)) }
 {
-    let words = words(alloc, line)?;
-    event_of(alloc, &words)
+    let mut words = [line; MOST_WORDS];
+    let Some(count) = write_words(line, &mut words) else {
+        return Err(LineError::Bad);
+    };
+    event_of(alloc, &words[..count])
 }

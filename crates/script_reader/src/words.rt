@@ -1,15 +1,10 @@
-ghost use Rattle.std.specs.Prelude.{◌≡◌, map, IfOk};
-ghost use Rattle.std.specs.List.{list_all};
+ghost use Rattle.std.specs.Prelude.{◌≡◌, ◌<◌, ◌≤◌, ◌∷◌, [], length, map, not, take, IfSome, MatchOption};
+ghost use Rattle.std.specs.List.{list_all, position};
 ghost use Rattle.std.specs.Str.{bytes_eq};
 ghost use Rattle.script_reader.specs.Words.{is_blank, words_of, is_name, is_name_byte};
 
-use std::alloc::{AllocError, Global};
-
 /// The most bytes of a name.
 const LONGEST_NAME: usize = 64;
-
-/// The words for which room is made at once: a line with a device that requires something has some more.
-const USUAL_WORDS: usize = 8;
 
 /// Whether two words are the same. Byte by byte: words are short, and `==` of slices compares long ones fast.
 /// Cost: the bytes that are the same, where the words are equally long.
@@ -34,24 +29,51 @@ pub fn is_blank(byte: u8) -> bool
     byte == b' ' || byte == b'\t'
 }
 
-/// The words of a line. Cost: its length.
-pub fn words(alloc: Global, line: &[u8]) -> Result<Vec<&[u8]>, AllocError>
-    ensures { IfOk result (λ v. map (λ w. w.now) v.items ≡ words_of line.now) }
+/// The place at which the first word begins.
+fn word_start(line: &[u8]) -> Option<usize>
+    ensures { result ≡ position (λ byte. not (is_blank byte)) line.now }
 {
-    let mut words = Vec::with_capacity(alloc, USUAL_WORDS)?;
-    let mut start = 0;
-    for (at, byte) in line.iter().enumerate() {
-        if is_blank(*byte) {
-            if start < at {
-                words.push(&line[start..at])?;
-            }
-            start = at + 1;
+    line.iter().position(|byte| !is_blank(*byte))
+}
+
+/// The place of the first blank.
+fn first_blank(text: &[u8]) -> Option<usize>
+    ensures { result ≡ position is_blank text.now }
+{
+    text.iter().position(|byte| is_blank(*byte))
+}
+
+/// The first word, and what stands behind it; none where there is no word. Cost: the bytes up to its end.
+#[tactic(auto, using(crate::proofs::Wording::no_word))]
+fn next_word(line: &[u8]) -> Option<(&[u8], &[u8])>
+    ensures word { MatchOption result (words_of line.now ≡ []) (λ x. words_of line.now ≡ x.0.now ∷ words_of x.1.now) }
+    ensures shorter { IfSome result (λ x. length x.1.now < length line.now) }
+{
+    let start = word_start(line)?;
+    let text = &line[start..];
+    let end = first_blank(text).unwrap_or(text.len());
+    Some(text.split_at(end))
+}
+
+/// Writes the words of a line to the front, and answers how many they are; none where there is no room for
+/// them. Cost: the length.
+#[tactic(auto, using(crate::proofs::Wording::written_none, crate::proofs::Wording::written_next, crate::proofs::Wording::written_full, crate::proofs::Wording::written_all))]
+pub fn write_words<'a>(line: &'a [u8], words: &mut [&'a [u8]]) -> Option<usize>
+    ensures room { length words.new ≡ length words.old }
+    ensures count { MatchOption result (length words.old < length (words_of line.now)) (λ count. count ≤ length words.old) }
+    ensures words { IfSome result (λ count. map (λ w. w.now) (take count words.new) ≡ words_of line.now) }
+{
+    let mut rest = line;
+    let mut count = 0;
+    while let Some((word, more)) = next_word(rest) {
+        if count == words.len() {
+            return None;
         }
+        words[count] = word;
+        count += 1;
+        rest = more;
     }
-    if start < line.len() {
-        words.push(&line[start..])?;
-    }
-    Ok(words)
+    Some(count)
 }
 
 /// Whether the byte is one of a name.

@@ -12,23 +12,27 @@ fn interrupt(alloc: Global, min: u64, max: u64) -> Result<Group, Fail> {
     Ok(group)
 }
 
-/// A mover that needs an interrupt of each range.
-fn mover(alloc: Global, serial: u64, ranges: &[(u64, u64)]) -> Result<Mover, Fail> {
+/// The need of an interrupt of each range.
+fn reqs(alloc: Global, ranges: &[(u64, u64)]) -> Result<Reqs, Fail> {
     let mut list = AltList::new(alloc);
     for (min, max) in ranges {
         list.push(interrupt(alloc, *min, *max)?)?;
     }
     let mut reqs = Reqs::new(alloc);
     reqs.push(list)?;
-    Ok(Mover { serial, reqs })
+    Ok(reqs)
 }
 
 /// The answer for movers of these needs, where nothing is held.
 fn answered(alloc: Global, needs: &[&[(u64, u64)]], budget: u64) -> Result<Found, Fail> {
-    let mut movers = Vec::new(alloc);
+    let mut all = Vec::new(alloc);
     for ranges in needs {
+        all.push(reqs(alloc, ranges)?)?;
+    }
+    let mut movers = Vec::new(alloc);
+    for reqs in &all {
         let serial = movers.len() as u64;
-        movers.push(mover(alloc, serial, ranges)?)?;
+        movers.push(Mover { serial, reqs })?;
     }
     let mut arbiters = Arbiters::new(alloc)?;
     if budget > 1_000_000 {

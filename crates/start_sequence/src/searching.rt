@@ -20,14 +20,10 @@ use std::alloc::Global;
 use trial_journal::Arbiters;
 
 /// The resources of the one mover of a plan.
-fn own_part(alloc: Global, plan: &Plan) -> Result<ResList, WantOfMemory>
-    ensures { IfOk result (λ holds. holds ≡ own_part plan.now) }
+fn own_part(alloc: Global, plan: Plan) -> ResList
+    ensures { result ≡ own_part plan }
 {
-    if plan.len() > 0 {
-        plan.get(0).copy(alloc)
-    } else {
-        Ok(ResList::new(alloc))
-    }
+    plan.into_first(alloc)
 }
 
 impl StartWork {
@@ -64,7 +60,7 @@ impl StartWork {
         }
         match search(alloc, tree, arbiters, &[self.serial], budget)? {
             Found::Assignment(plan) => {
-                let holds = own_part(alloc, &plan)?;
+                let holds = own_part(alloc, plan);
                 let held = holds.copy(alloc)?;
                 assign(tree, arbiters, self.serial, holds)?;
                 self.phase = Phase::Starting(Walk::begin(Minor::Start));

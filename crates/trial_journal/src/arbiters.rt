@@ -131,8 +131,7 @@ impl Arbiters {
         }
     }
 
-    /// Puts the pair at its place in the list of its kind. It takes no memory. Cost: the logarithm of
-    /// the number of its pairs.
+    /// Puts the pair at its place in the list of its kind. It takes no memory. Cost: that of the kind's arbiter.
     pub fn put(&mut self, owner: Owner, res: Res)
         requires { 0 < (of_kind self.old res.kind).spare }
         ensures { self.new ≡ arbiters_with self.old (owner, res) }
@@ -147,7 +146,7 @@ impl Arbiters {
     }
 
     /// Takes the pair away from the list of its kind: with it the lists are as before. It takes no memory.
-    /// Cost: the logarithm of the number of its pairs.
+    /// Cost: that of the kind's arbiter.
     pub fn take(&mut self, owner: Owner, res: Res)
         requires { Contains (of_kind self.old res.kind).pairs (owner, res) }
         ensures pairs { self.old ≡ arbiters_with self.new (owner, res) }

@@ -60,10 +60,7 @@ pub fn fits(
         return Ok(None);
     }
     let mut movers = Vec::new(alloc);
-    movers.push(Mover {
-        serial,
-        reqs: reqs.copy(alloc)?,
-    })?;
+    movers.push(Mover { serial, reqs })?;
     match answer(alloc, board, &movers, budget.min(1_000_000))? {
         Found::Assignment(_) => Ok(Some(true)),
         Found::NoFit => Ok(Some(false)),

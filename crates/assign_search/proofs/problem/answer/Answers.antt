@@ -23,8 +23,8 @@ fixed_board-requires-clause-few c =
     let same : length c.deref-pairs.result.now ≡ length (all_pairs c.args.arbiters.now) = ap length (c.deref-pairs.ensures.value ∙ c.in_ok-held.ensures) in
     omega arith
 
-pub search-requires-2 : goal.search-requires-2
-search-requires-2 c =
+pub search_on-requires : goal.search_on-requires
+search_on-requires c =
     let all = few_in c.args.arbiters.now c.requires.few kind_order in
     let same : length c.deref-pairs.result.now ≡ length (all_pairs c.args.arbiters.now) = ap length (c.deref-pairs.ensures.value ∙ c.in_ok-held.ensures) in
     let few = c.in_ok-board.ensures.few in
@@ -47,8 +47,8 @@ returns-clause-answer c =
     let same : fixed_pairs c.deref-serials.result.now c.deref-pairs.result.now ≡ fixed_pairs (map serial_of c.args.movers.now) (all_pairs c.args.arbiters.now) =
     ap₂ fixed_pairs c.deref-serials.ensures.value held
     ∙ sym (fixed_same (map serial_of c.args.movers.now) c.in_ok-ascending.ascending.items c.in_ok-ascending.ensures.same (all_pairs c.args.arbiters.now)) in
-    then_ok c.search-2.result (λ found is.
+    then_ok c.search_on.result (λ found is.
     answer_same (held_in c.in_ok-board.board) (fixed_of (map serial_of c.args.movers.now) (all_pairs c.args.arbiters.now))
     (same_res (fixed_pairs (map serial_of c.args.movers.now) (all_pairs c.args.arbiters.now)) (all_pairs c.in_ok-board.board)
     (subst (λ l. IsPermutation l (all_pairs c.in_ok-board.board)) same c.in_ok-board.ensures.fixed))
-    (map reqs_of c.args.movers.now) c.args.budget (answer_of found) is) c.search-2.ensures.answer
+    (map reqs_of c.args.movers.now) c.args.budget (answer_of found) is) c.search_on.ensures

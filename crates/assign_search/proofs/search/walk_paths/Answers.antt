@@ -80,18 +80,6 @@ returns-then-count-budget-clause-answer c =
     c.search.path.items (lists_of c.search.board) c.search.spot c.search.from c.search.count c.search.invariant.state
     c.in-Some.child c.args.budget c.in-Some.ensures.found (omega arith)
 
-pub returns-then-is_complete-clause-answer : goal.returns-then-is_complete-clause-answer
-returns-then-is_complete-clause-answer c =
-    let done = c.is_complete.ensures.0 c.if-is_complete.true in
-    let within : c.search.count ≤ c.args.budget = c.search.invariant.within in
-    let f : Frame = record { before = c.search.spot; step = c.in-Some.child.step; next = c.in-Some.child.next; res = c.in-Some.child.res } in
-    subst (IsPlan (held_in c.args.board.now) (map reqs_of c.args.movers.now) c.args.budget)
-    (sym (c.in_ok-plan_of.ensures ∙ ap (plan_in (map reqs_of c.args.movers.now)) (c.deref.ensures.value ∙ c.in_ok-grow.ensures.path
-    ∙ ap (λ x. c.search.path.items ++ x ∷ []) c.frame_of.ensures)))
-    (plan_found (held_in c.args.board.now) (map reqs_of c.args.movers.now) (lists_of c.args.board.now) (same_itself (held_in c.args.board.now))
-    c.search.path.items (lists_of c.search.board) c.search.spot c.search.from c.search.count c.search.invariant.state
-    c.in-Some.child f c.args.budget c.in-Some.ensures.found refl refl refl refl done.0 done.1 (omega arith))
-
 pub search-preserved-then-live : goal.search-preserved-then-live
 search-preserved-then-live c =
     let within : c.search.count ≤ c.args.budget = c.search.invariant.within in
@@ -104,11 +92,11 @@ search-preserved-then-live c =
     (map reqs_of c.args.movers.now) c.search.watch.sure c.search.watch.places c.search.invariant.watched))
     (λ res before some within' adds groups lists. c.in_ok-live.ensures.placed res before some adds
     (all_watched_less before (held_in c.search.board) within' (map reqs_of c.args.movers.now) c.search.watch.sure c.search.watch.places c.search.invariant.watched) groups lists)).0 c.if-live.true in
-    let path_is : c.grow-then-live.new.path.items ≡ c.search.path.items ++ f ∷ [] =
-    c.in_ok-grow-2.ensures.path ∙ ap (λ x. c.search.path.items ++ x ∷ []) c.frame_of-then-live.ensures in
-    let lists_are : lists_of c.grow-then-live.new.board ≡ lists_of c.hold.new.board = ap lists_of (c.in_ok-grow-2.ensures.board ∙ c.in_ok-live.ensures.board) in
+    let path_is : c.grow.new.path.items ≡ c.search.path.items ++ f ∷ [] =
+    c.in_ok-grow.ensures.path ∙ ap (λ x. c.search.path.items ++ x ∷ []) c.frame_of-then-live.ensures in
+    let lists_are : lists_of c.grow.new.board ≡ lists_of c.hold.new.board = ap lists_of (c.in_ok-grow.ensures.board ∙ c.in_ok-live.ensures.board) in
     record {
-      state = subst (λ l. Inv (held_in c.args.board.now) (map reqs_of c.args.movers.now) (lists_of c.args.board.now) c.grow-then-live.new.path.items l c.in-Some.child.spot (Alt 0) (c.search.count + 1))
+      state = subst (λ l. Inv (held_in c.args.board.now) (map reqs_of c.args.movers.now) (lists_of c.args.board.now) c.grow.new.path.items l c.in-Some.child.spot (Alt 0) (c.search.count + 1))
           (sym lists_are)
           (subst (λ p. Inv (held_in c.args.board.now) (map reqs_of c.args.movers.now) (lists_of c.args.board.now) p (lists_of c.hold.new.board) c.in-Some.child.spot (Alt 0) (c.search.count + 1))
           (sym path_is)
@@ -116,14 +104,14 @@ search-preserved-then-live c =
           c.search.path.items (lists_of c.search.board) c.search.spot c.search.from c.search.count c.search.invariant.state
           c.in-Some.child f (lists_of c.hold.new.board) c.in-Some.ensures.found refl refl refl refl c.in_ok-hold.ensures.held
           (λ done. false_true (sym c.if-is_complete.false ∙ c.is_complete.ensures.1 done)) live.0 live.1));
-      few = subst (λ (b : Arbiters). length (all_pairs b) ≤ length (all_pairs c.args.board.now) + (c.search.count + 1)) (sym (c.in_ok-grow-2.ensures.board ∙ c.in_ok-live.ensures.board))
+      few = subst (λ (b : Arbiters). length (all_pairs b) ≤ length (all_pairs c.args.board.now) + (c.search.count + 1)) (sym (c.in_ok-grow.ensures.board ∙ c.in_ok-live.ensures.board))
           (more (lists_of c.search.board) (lists_of c.hold.new.board) c.in-Some.child.res (length (all_pairs c.args.board.now)) c.search.count c.in_ok-hold.ensures.held c.search.invariant.few);
-      along = along_more (lists_of c.args.board.now) (lists_of c.search.board) (lists_of c.grow-then-live.new.board) c.search.path.items f
+      along = along_more (lists_of c.args.board.now) (lists_of c.search.board) (lists_of c.grow.new.board) c.search.path.items f
           c.search.invariant.along (lists_are ∙ c.in_ok-hold.ensures.held) ∙ ap (lists_along (lists_of c.args.board.now)) (sym path_is);
       within = omega arith;
       long = c.in_ok-live.ensures.long;
       watched = subst (λ (b : Arbiters). AllWatched (held_in b) (map reqs_of c.args.movers.now) c.look_ahead.new.watch.sure c.look_ahead.new.watch.places)
-          (sym (c.in_ok-grow-2.ensures.board ∙ c.in_ok-live.ensures.board))
+          (sym (c.in_ok-grow.ensures.board ∙ c.in_ok-live.ensures.board))
           (c.in_ok-live.ensures.watched (held_in c.search.board) (holding_adds (lists_of c.search.board) (lists_of c.hold.new.board) c.in-Some.child.res c.in_ok-hold.ensures.held)
           c.search.invariant.watched c.if-live.true);
     }
@@ -173,12 +161,6 @@ search-preserved c =
 
 pub grow-requires : goal.grow-requires
 grow-requires c r some =
-    subst (λ (l : List Pair). Contains l (trial, r)) (pairs_at c.hold.new.board r.kind)
-    (there (lists_of c.search.board) (lists_of c.hold.new.board) c.in-Some.child.res c.in_ok-hold.ensures.held r
-    (ap (λ (f : Frame). f.res) (sym c.frame_of.ensures) ∙ some))
-
-pub grow-requires-then-live : goal.grow-requires-then-live
-grow-requires-then-live c r some =
     subst (λ (l : List Pair). Contains l (trial, r)) (pairs_at c.look_ahead.new.board r.kind)
     (there (lists_of c.search.board) (lists_of c.look_ahead.new.board) c.in-Some.child.res (ap lists_of c.in_ok-live.ensures.board ∙ c.in_ok-hold.ensures.held) r
     (ap (λ (f : Frame). f.res) (sym c.frame_of-then-live.ensures) ∙ some))
@@ -186,28 +168,17 @@ grow-requires-then-live c r some =
 pub returns-in_err-grow-clause-along : goal.returns-in_err-grow-clause-along
 returns-in_err-grow-clause-along c =
     holding_once (lists_of c.grow.new.board) (lists_of c.search.board) c.in-Some.child.res
-    (ap (λ (f : Frame). lists_holding (lists_of c.grow.new.board) f.res) (sym c.frame_of.ensures) ∙ c.in_err-grow.ensures.back ∙ c.in_ok-hold.ensures.held)
+    (ap (λ (f : Frame). lists_holding (lists_of c.grow.new.board) f.res) (sym c.frame_of-then-live.ensures)
+    ∙ c.in_err-grow.ensures.back ∙ ap lists_of c.in_ok-live.ensures.board ∙ c.in_ok-hold.ensures.held)
     ∙ c.search.invariant.along ∙ ap (lists_along (lists_of c.args.board.now)) (sym c.in_err-grow.ensures.short)
 
-pub returns-in_err-grow-2-clause-along : goal.returns-in_err-grow-2-clause-along
-returns-in_err-grow-2-clause-along c =
-    holding_once (lists_of c.grow-then-live.new.board) (lists_of c.search.board) c.in-Some.child.res
-    (ap (λ (f : Frame). lists_holding (lists_of c.grow-then-live.new.board) f.res) (sym c.frame_of-then-live.ensures)
-    ∙ c.in_err-grow-2.ensures.back ∙ ap lists_of c.in_ok-live.ensures.board ∙ c.in_ok-hold.ensures.held)
-    ∙ c.search.invariant.along ∙ ap (lists_along (lists_of c.args.board.now)) (sym c.in_err-grow-2.ensures.short)
-
-pub returns-in_err-plan_of-clause-along : goal.returns-in_err-plan_of-clause-along
-returns-in_err-plan_of-clause-along c =
+pub returns-then-is_complete-clause-answer : goal.returns-then-is_complete-clause-answer
+returns-then-is_complete-clause-answer c =
+    let done = c.is_complete.ensures.0 c.if-is_complete.true in
+    let within : c.search.count ≤ c.args.budget = c.search.invariant.within in
     let f : Frame = record { before = c.search.spot; step = c.in-Some.child.step; next = c.in-Some.child.next; res = c.in-Some.child.res } in
-    let path_is : c.grow.new.path.items ≡ c.search.path.items ++ f ∷ [] =
-    c.in_ok-grow.ensures.path ∙ ap (λ x. c.search.path.items ++ x ∷ []) c.frame_of.ensures in
-    along_more (lists_of c.args.board.now) (lists_of c.search.board) (lists_of c.grow.new.board) c.search.path.items f
-    c.search.invariant.along (ap lists_of c.in_ok-grow.ensures.board ∙ c.in_ok-hold.ensures.held) ∙ ap (lists_along (lists_of c.args.board.now)) (sym path_is)
-
-pub returns-then-is_complete-clause-along : goal.returns-then-is_complete-clause-along
-returns-then-is_complete-clause-along c =
-    let f : Frame = record { before = c.search.spot; step = c.in-Some.child.step; next = c.in-Some.child.next; res = c.in-Some.child.res } in
-    let path_is : c.grow.new.path.items ≡ c.search.path.items ++ f ∷ [] =
-    c.in_ok-grow.ensures.path ∙ ap (λ x. c.search.path.items ++ x ∷ []) c.frame_of.ensures in
-    along_more (lists_of c.args.board.now) (lists_of c.search.board) (lists_of c.grow.new.board) c.search.path.items f
-    c.search.invariant.along (ap lists_of c.in_ok-grow.ensures.board ∙ c.in_ok-hold.ensures.held) ∙ ap (lists_along (lists_of c.args.board.now)) (sym path_is)
+    subst (IsPlan (held_in c.args.board.now) (map reqs_of c.args.movers.now) c.args.budget)
+    (sym (c.in_ok-plan.ensures.plan ∙ ap (λ x. plan_in (map reqs_of c.args.movers.now) (c.search.path.items ++ x ∷ [])) c.frame_of.ensures))
+    (plan_found (held_in c.args.board.now) (map reqs_of c.args.movers.now) (lists_of c.args.board.now) (same_itself (held_in c.args.board.now))
+    c.search.path.items (lists_of c.search.board) c.search.spot c.search.from c.search.count c.search.invariant.state
+    c.in-Some.child f c.args.budget c.in-Some.ensures.found refl refl refl refl done.0 done.1 (omega arith))

@@ -11,7 +11,7 @@ returns-then-place-want-clause-ended c =
     let len_is : c.want.inside.len ≡ c.args.want.now.len = ap (λ w. w.len) c.want.view_is in
     let lo : c.other.inside.lo ≡ c.args.pair.now.1.lo = ap (λ (r : Res). r.lo) c.other.view_is in
     let some = is.some_length in
-    stopped_pair c.args.pair.now c.args.want.now c.args.place c.requires.start (let far = c.if-place-want.true in omega arith)
+    stopped_pair c.args.pair.now c.args.want.now c.args.place some c.requires.start (let far = c.if-place-want.true in omega arith)
 
 pub returns-then-is_in_the_way-clause-on : goal.returns-then-is_in_the_way-clause-on
 returns-then-is_in_the_way-clause-on c =

@@ -23,7 +23,7 @@ returns-in_ok-assign-in-Assignment-clause-searched c rack around mirrors =
     (λ (i : ℕ). SearchedFor c.args.budget (node_at i nodes) (at_nodes nodes (set_rack rack around)) (steps.Did (Label.Assign c.in_ok-path.path held)) (at_nodes c.assign-in-Assignment.new.tree.nodes (set_rack rack around))
     (Starting c.begin-in-Assignment.result.walk)) (ap (λ (a : Activity). a.serial) c.self.view_is)
     (found_assignment c.args.budget k nodes c.args.arbiters.now c.at-node.result.now (sym c.at-node.ensures.node) c.in_ok-path.path named (set_rack rack around) mirrors
-    c.in-Assignment.plan c.in_ok-holds-in-Assignment.holds held c.assign-in-Assignment.new.tree.nodes (Starting c.begin-in-Assignment.result.walk) answers c.in_ok-holds-in-Assignment.ensures c.in_ok-held-in-Assignment.ensures
+    c.in-Assignment.plan c.own_part-holds.result held c.assign-in-Assignment.new.tree.nodes (Starting c.begin-in-Assignment.result.walk) answers c.own_part-holds.ensures c.in_ok-held-in-Assignment.ensures
     (ap (λ (t : Tree). t.nodes) c.in_ok-assign-in-Assignment.ensures.assigned) (ap (λ (s : Standing). Starting s.walk) c.begin-in-Assignment.ensures))
 
 pub returns-in-NoFit-clause-searched : goal.returns-in-NoFit-clause-searched
