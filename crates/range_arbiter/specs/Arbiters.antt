@@ -9,11 +9,12 @@ use Rattle.range_arbiter.specs.Whole.{Tells}
 use Rattle.range_arbiter.specs.declared.room.Room.{Room}
 use Rattle.range_arbiter.specs.declared.whole.Whole.{Whole}
 
--- Blocks that have pairs, a block or a room for each eight pairs that are held or spare, and place in both lists for all blocks
--- and rooms.
+-- Blocks that have pairs; a block or a room where a pair is held or spare, and where these are more than 32, one for each sixteen
+-- of them and one more; and place in both lists for all blocks and rooms.
 pub record AreStocked (blocks : Vec (List Pair) Global) (stock : Vec Room Global) (spare : ℕ) : Type 0 where
   pub some : AreSome blocks.items
-  pub enough : length (pairs_in blocks.items) + spare ≤ 8 * (vec_len blocks + vec_len stock)
+  pub one : 0 < length (pairs_in blocks.items) + spare → 0 < vec_len blocks + vec_len stock
+  pub enough : 32 < length (pairs_in blocks.items) + spare → length (pairs_in blocks.items) + spare + 16 ≤ 16 * (vec_len blocks + vec_len stock)
   pub block_place : vec_len blocks + vec_len stock ≤ vec_capacity blocks
   pub room_place : vec_len blocks + vec_len stock ≤ vec_capacity stock
 

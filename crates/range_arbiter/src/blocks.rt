@@ -28,6 +28,19 @@ fn block_of(blocks: &[Block], pair: &(Owner, Res)) -> usize
     beyond.saturating_sub(1)
 }
 
+/// How many blocks and rooms are enough for so many pairs, whatever is put and taken: one where they fit into one block; else one
+/// for each sixteen and one more, since two neighbours that do not fit into one block have more than 32 pairs.
+pub fn rooms_for(pairs: u32) -> usize
+    ensures one { 0 < result }
+    ensures enough { 32 < pairs → pairs + 16 ≤ 16 * result }
+    ensures few { result < 2 ^ 32 }
+{
+    if pairs <= 32 {
+        return 1;
+    }
+    (pairs as usize).div_ceil(16) + 1
+}
+
 /// Takes rooms until there are so many. Cost: that of the rooms that are taken.
 pub fn stock_up(
     blocks: &mut Vec<Block>,

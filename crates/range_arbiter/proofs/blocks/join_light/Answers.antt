@@ -25,13 +25,15 @@ returns-in-Some-clause-stocked c =
     let place = c.remove-back.ensures.capacity in
     let kept = c.push.ensures.capacity in
     let was = c.requires.stocked in
+    let one = was.one in
     let enough = was.enough in
     let block_place = was.block_place in
     let room_place = was.room_place in
     record {
       some = joined_some bs c.remove-back.new.self.items at (at - 1) c.index_mut.result.now c.remove-back.result c.join-room.new.self (omega arith) within
           c.remove-back.ensures.items c.index_mut.ensures.value c.remove-back.ensures.value c.join-room.ensures was.some;
-      enough = omega arith;
+      one = λ some. omega arith;
+      enough = λ many. omega arith;
       block_place = omega arith;
       room_place = omega arith;
     }

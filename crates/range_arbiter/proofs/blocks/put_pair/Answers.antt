@@ -44,9 +44,10 @@ returns-then-pairs-lt32-clause-stocked c =
     let most = c.place_of-place.ensures.within in
     let more : length x ≡ length b + 1 = ap length c.put.ensures ∙ length-insert b j p most in
     let was = c.join_light.ensures.stocked in
+    let one = was.one in
     let enough = was.enough in
     let positive = c.requires.spare in
-    record { some = some_set bs at x within (omega arith) was.some; enough = omega arith; block_place = was.block_place; room_place = was.room_place }
+    record { some = some_set bs at x within (omega arith) was.some; one = λ some. omega arith; enough = λ many. omega arith; block_place = was.block_place; room_place = was.room_place }
 
 pub unreachable-requires : goal.unreachable-requires
 unreachable-requires c =
@@ -89,7 +90,7 @@ returns-clause-stocked c =
     (subst IsOrdered same c.requires.in_order) (subst (AreOfKind p.1.kind) same c.requires.kinds) place c.place_of-place.ensures.front c.place_of-place.ensures.back c.put_parting-back.ensures.both in
     let longer = ap length with ∙ length-pairs_with (pairs_in bs) p in
     let was = c.join_light.ensures.stocked in
-    let enough = was.enough in
+    let one = was.one in
     let block_place = was.block_place in
     let room_place = was.room_place in
     let positive = c.requires.spare in
@@ -99,7 +100,8 @@ returns-clause-stocked c =
     let place_kept = c.pop-2.ensures.capacity in
     record {
       some = rw put (some_parted bs at c.put_parting-back.new.self c.put_parting-back.result within c.put_parting-back.ensures.front c.put_parting-back.ensures.back was.some);
-      enough = omega arith;
+      one = λ some. omega arith;
+      enough = λ many. let enough = was.enough (omega arith) in omega arith;
       block_place = omega arith;
       room_place = omega arith;
     }

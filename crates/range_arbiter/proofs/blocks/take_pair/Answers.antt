@@ -57,8 +57,9 @@ returns-then-pairs-gt1-clause-stocked c =
     let left : length x ≡ length (remove b (j - 1)) = ap length c.take.ensures in
     let several : 1 < length b = subst (λ l. 1 < length l) c.pairs.ensures.pairs c.if-pairs-gt1.true in
     let was = c.requires.stocked in
+    let one = was.one in
     let enough = was.enough in
-    record { some = some_set bs at x within (omega arith) was.some; enough = omega arith; block_place = was.block_place; room_place = was.room_place }
+    record { some = some_set bs at x within (omega arith) was.some; one = λ some. omega arith; enough = λ many. omega arith; block_place = was.block_place; room_place = was.room_place }
 
 pub returns-clause-pairs : goal.returns-clause-pairs
 returns-clause-pairs c =
@@ -93,6 +94,7 @@ returns-clause-stocked c =
     c.requires.held positive c.place_of-place.ensures.within few ∙ ap (λ l. pairs_with (pairs_in l) p) (sym rest) in
     let fewer = ap length same ∙ length-pairs_with _ p in
     let was = c.requires.stocked in
+    let one = was.one in
     let enough = was.enough in
     let block_place = was.block_place in
     let room_place = was.room_place in
@@ -102,7 +104,8 @@ returns-clause-stocked c =
     let kept = c.push.ensures.capacity in
     record {
       some = rw rest (some_remove bs at was.some);
-      enough = omega arith;
+      one = λ some. omega arith;
+      enough = λ many. omega arith;
       block_place = omega arith;
       room_place = omega arith;
     }

@@ -1,16 +1,8 @@
-use Rattle.std.proofs.Common.{◌≡◌, ℕ, ◌≤◌, ◌<◌, ◌+◌, ◌*◌, ◌/◌, ◌%◌, length, sym, ap, subst, arith, div-add-mod'}
-use Rattle.std.proofs.lemmas.Nat.{mod_below}
-use Rattle.std.specs.Int.{div_ceil}
+use Rattle.std.proofs.Common.{◌≡◌, length, sym, ap, subst, arith}
 use Rattle.range_arbiter.specs.Orders.{IsOrdered, AreOfKind}
 use Rattle.range_arbiter.specs.Blocks.{pairs_in, AreSome}
 use Rattle.range_arbiter.specs.Whole.{Tells}
 use Rattle.range_arbiter.proofs.arbiter.RangeArbiter.room.Goals as goal
-
-covered : (x : ℕ) → x ≤ 8 * div_ceil x 8
-covered x =
-    let whole : x / 8 * 8 + x % 8 ≡ x = div-add-mod' x 8 in
-    let less : x % 8 < 8 = mod_below x 8 (omega arith) in
-    omega arith
 
 pub invariant_of-self : goal.invariant_of-self
 invariant_of-self c =
@@ -19,6 +11,7 @@ invariant_of-self c =
     let long = ap (λ l. length (pairs_in l)) c.stock_up.ensures.pairs in
     let count = c.stock_up.ensures.count in
     let grows = c.stock_up.ensures.grows in
+    let one = was.stocked.one in
     let enough = was.stocked.enough in
     record {
       kinds = subst (λ l. AreOfKind c.self.inside.kind (pairs_in l)) same was.kinds;
@@ -27,7 +20,8 @@ invariant_of-self c =
       few = was.few;
       stocked = record {
         some = subst AreSome same was.stocked.some;
-        enough = omega arith;
+        one = λ some. omega arith;
+        enough = λ many. omega arith;
         block_place = c.stock_up.ensures.block_place;
         room_place = c.stock_up.ensures.room_place;
       };
@@ -44,8 +38,8 @@ invariant_of-self-2 c =
     let rooms = c.in_ok-stock_up.ensures.ok in
     let there = c.len-there.ensures in
     let left = c.saturating_sub.ensures in
-    let ceil = c.div_ceil-rooms.ensures in
-    let enough = covered (c.self.inside.held + c.min-wanted.result) in
+    let one = c.rooms_for-rooms.ensures.one in
+    let enough = c.rooms_for-rooms.ensures.enough in
     let most = c.min-wanted.ensures in
     record {
       kinds = subst (λ l. AreOfKind c.self.inside.kind (pairs_in l)) same was.kinds;
@@ -54,7 +48,8 @@ invariant_of-self-2 c =
       few = omega arith;
       stocked = record {
         some = subst AreSome same was.stocked.some;
-        enough = omega arith;
+        one = λ some. omega arith;
+        enough = λ many. omega arith;
         block_place = c.stock_up.ensures.block_place;
         room_place = c.stock_up.ensures.room_place;
       };
