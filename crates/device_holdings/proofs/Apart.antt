@@ -1,19 +1,21 @@
 -- What devices hold, device by device: the pairs of one device apart from those of all others.
 use Rattle.std.proofs.Common.{◌≡◌, ℕ, ◌+◌, ◌≤◌, ◌^◌, ◌==◌, Bool, true, false, cond, List, [], ◌∷◌, ◌++◌, length, Option, Some, None, IsSome, option_map, unwrap_or, refl, sym, ap, ◌∙◌, subst, arith}
 use Rattle.std.proofs.lemmas.Bool.Decides.{nat_tests}
-use Rattle.std.proofs.lemmas.List.{append_assoc, length-map}
+use Rattle.std.proofs.lemmas.List.{append_assoc}
 use Rattle.resource_reqs.specs.declared.kind.Kind.{Kind}
 use Rattle.resource_reqs.specs.declared.kind.Kind.TheVariants.{Port, Irq, Mem, Dma, Bus}
 use Rattle.resource_reqs.specs.declared.owner.Owner.TheVariants.{Reserved, Device}
 use Rattle.resource_reqs.specs.Resources.{Res}
-use Rattle.range_arbiter.specs.Pairs.{Pair}
+use Rattle.range_arbiter.specs.Pairs.{Pair, pairs_with}
+use Rattle.range_arbiter.proofs.PairLists.{length-pairs_with}
 use Rattle.trial_journal.specs.ByKind.{Arbiters, of_kind, lists_of, arbiters_with}
+use Rattle.trial_journal.proofs.EachKind.{at_each}
 use Rattle.assign_search.specs.Walking.{put_in}
 use Rattle.pnp_model.specs.Keyed.{changed_first, without_first}
 use Rattle.pnp_model.specs.Cores.{is_node, node_at, bare, with_holds}
 use Rattle.pnp_model.specs.Records.{Node}
-use Rattle.device_holdings.specs.Mirrors.{pairs_of, node_pairs, held_pairs, lists_with, Mirrors}
-use Rattle.device_holdings.proofs.Putting.{blocks_swapped, same_before, from_middle, longer_with, lists_put, pairs_append}
+use Rattle.device_holdings.specs.Mirrors.{pairs_of, node_pairs, held_pairs, lists_with, count_of, Mirrors}
+use Rattle.device_holdings.proofs.Putting.{blocks_swapped, same_before, from_middle, longer_with, longer_by, lists_put, pairs_append}
 
 abbrev pub holds_of : Option Node → List Res
 holds_of None = []
@@ -127,18 +129,17 @@ module _ (reserved : List Res) (k : ℕ) (nodes : List Node) (held : List Res) (
         puts (pairs_of (Device k) held ++ pairs_beside reserved k nodes) own_first
         ∙ blocks_swapped (pairs_of (Device k) holds) (pairs_of (Device k) held) (pairs_beside reserved k nodes)
 
-    -- no list is longer then than by these
-    pub longer : (d : Arbiters) → Loses k held b d → (kind : Kind) → length (of_kind (lists_of d) kind) ≤ length (of_kind (lists_of a) kind) + length holds
+    -- no list is longer then than by these of its kind
+    pub longer : (d : Arbiters) → Loses k held b d → (kind : Kind) → length (of_kind (lists_of d) kind) ≤ length (of_kind (lists_of a) kind) + count_of kind holds
     longer d loses kind =
         let left : lists_of d ≡ lists_with (pairs_of (Device k) holds ++ pairs_beside reserved k nodes) = loses (pairs_of (Device k) holds ++ pairs_beside reserved k nodes) old_first in
         let fewer = longer_with (pairs_of (Device k) held) (pairs_beside reserved k nodes) kind in
-        let more = longer_with (pairs_of (Device k) holds) (pairs_beside reserved k nodes) kind in
+        let more = longer_by (Device k) holds (pairs_beside reserved k nodes) kind in
         let before : length (of_kind (lists_of a) kind) ≡ length (of_kind (lists_with (pairs_of (Device k) held ++ pairs_beside reserved k nodes)) kind) = ap (λ l. length (of_kind l kind)) own_first in
         let after : length (of_kind (lists_of d) kind) ≡ length (of_kind (lists_with (pairs_of (Device k) holds ++ pairs_beside reserved k nodes)) kind) = ap (λ l. length (of_kind l kind)) left in
-        let pairs : length (pairs_of (Device k) holds) ≡ length holds = length-map holds (λ res. (Device k, res)) in
         omega arith
 
-    pub assigned : IsSome (node_at k nodes) → ((kind : Kind) → length (of_kind (lists_of a) kind) + length holds ≤ 2 ^ 29) → (d : Arbiters) → Loses k held b d
+    pub assigned : IsSome (node_at k nodes) → ((kind : Kind) → length (of_kind (lists_of a) kind) + count_of kind holds ≤ 2 ^ 29) → (d : Arbiters) → Loses k held b d
         → Mirrors reserved (changed_first (is_node k) (with_holds holds) nodes) d
     assigned there room d loses =
         let left : lists_of d ≡ lists_with (pairs_of (Device k) holds ++ pairs_beside reserved k nodes) = loses (pairs_of (Device k) holds ++ pairs_beside reserved k nodes) old_first in record {
@@ -147,17 +148,18 @@ module _ (reserved : List Res) (k : ℕ) (nodes : List Node) (held : List Res) (
         }
 
 pub reserved_more : (reserved : List Res) (res : Res) (nodes : List Node) (a b : Arbiters) → b ≡ arbiters_with a (Reserved, res)
-    → ((kind : Kind) → length (of_kind (lists_of a) kind) + 1 ≤ 2 ^ 29) → Mirrors reserved nodes a → Mirrors (reserved ++ res ∷ []) nodes b
+    → length (of_kind (lists_of a) res.kind) + 1 ≤ 2 ^ 29 → Mirrors reserved nodes a → Mirrors (reserved ++ res ∷ []) nodes b
 reserved_more reserved res nodes a b put room m =
-    let with_one : lists_of b ≡ lists_with ((Reserved, res) ∷ held_pairs reserved nodes) = ap lists_of put ∙ lists_put a (Reserved, res) ∙ ap (λ l. put_in l res.kind (Reserved, res)) m.lists in
+    let with_put : lists_of b ≡ put_in (lists_of a) res.kind (Reserved, res) = ap lists_of put ∙ lists_put a (Reserved, res) in
+    let with_one : lists_of b ≡ lists_with ((Reserved, res) ∷ held_pairs reserved nodes) = with_put ∙ ap (λ l. put_in l res.kind (Reserved, res)) m.lists in
+    let longer = length-pairs_with (of_kind (lists_of a) res.kind) (Reserved, res) in
     let at_end : held_pairs (reserved ++ res ∷ []) nodes ≡ pairs_of Reserved reserved ++ (Reserved, res) ∷ node_pairs nodes =
     ap (λ ps. ps ++ node_pairs nodes) (pairs_append Reserved reserved (res ∷ [])) ∙ append_assoc (pairs_of Reserved reserved) ((Reserved, res) ∷ []) (node_pairs nodes) in record {
       lists = with_one ∙ sym (ap lists_with at_end ∙ from_middle (pairs_of Reserved reserved) (Reserved, res) (node_pairs nodes));
       few = λ kind.
-          let longer = longer_with ((Reserved, res) ∷ []) (held_pairs reserved nodes) kind in
-          let before : length (of_kind (lists_of a) kind) ≡ length (of_kind (lists_with (held_pairs reserved nodes)) kind) = ap (λ l. length (of_kind l kind)) m.lists in
-          let after : length (of_kind (lists_of b) kind) ≡ length (of_kind (lists_with ((Reserved, res) ∷ held_pairs reserved nodes)) kind) = ap (λ l. length (of_kind l kind)) with_one in
-          let few = room kind in omega arith;
+          subst (λ l. length (of_kind l kind) ≤ 2 ^ 29) (sym with_put)
+          (at_each (λ (xs ys : List Pair). length xs ≤ 2 ^ 29 → length ys ≤ 2 ^ 29) (lists_of a) res.kind (pairs_with (of_kind (lists_of a) res.kind) (Reserved, res))
+          (λ few. omega arith) (λ ys few. few) kind (m.few kind));
     }
 
 -- what a device that is there held

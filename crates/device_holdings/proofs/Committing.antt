@@ -1,43 +1,48 @@
 -- Devices get the parts of a plan one after another, the last first: in the end all have theirs.
-use Rattle.std.proofs.Common.{◌≡◌, ℕ, zero, suc, ◌+◌, ◌-◌, ◌<◌, ◌^◌, ◌==◌, Bool, true, false, cond, min, List, [], ◌∷◌, ◌++◌, length, map, take, drop, sum_by, slice_get, Option, Some, None, IsSome, is_some, option_copied, Bor, refl, sym, ap, ◌∙◌, subst, arith}
+use Rattle.std.proofs.Common.{◌≡◌, ℕ, zero, suc, ◌+◌, ◌<◌, ◌≤◌, ◌^◌, ◌==◌, Bool, true, false, cond, List, [], ◌∷◌, ◌++◌, length, map, take, drop, sum_by, slice_get, Option, Some, None, IsSome, is_some, option_copied, Bor, refl, sym, ap, ◌∙◌, subst, arith}
 use Rattle.std.proofs.lemmas.Bool.Decides.{nat_tests}
-use Rattle.std.proofs.lemmas.List.Sums.{sum_by_push}
+use Rattle.std.proofs.lemmas.List.Sums.{sum_by_push, sum_by-cons}
+use Rattle.resource_reqs.specs.declared.kind.Kind.{Kind}
 use Rattle.resource_reqs.specs.Resources.{Res}
-use Rattle.trial_journal.specs.ByKind.{Arbiters}
+use Rattle.trial_journal.specs.ByKind.{Arbiters, of_kind, lists_of}
 use Rattle.pnp_model.specs.Keyed.{changed_first}
 use Rattle.pnp_model.specs.Cores.{is_node, node_at, serials_of, with_holds}
 use Rattle.pnp_model.specs.Records.{Node}
 use Rattle.pnp_model.specs.Rebalances.{part_for}
 use Rattle.devnode_tree.specs.Trees.{Ascends, IsTree, Tree, changed}
 use Rattle.device_holdings.specs.Giving.{given, with_part}
-use Rattle.device_holdings.specs.Mirrors.{HasRoom}
+use Rattle.device_holdings.specs.Mirrors.{count_of, HasRoom}
 
 -- Room ----------------------------------------------------------------------------------
 
--- where there is room for the greatest number there is none
-pub room_for_all : (a : Arbiters) (n : ℕ) → HasRoom a (min n (2 ^ 64 - 1)) → HasRoom a n
-room_for_all a n room = record {
-  spare = λ kind. let few = room.few kind in let spare = room.spare kind in omega arith;
-  few = λ kind. let few = room.few kind in omega arith;
-}
+alone_counts : (h : List Res) (kind : Kind) → sum_by (count_of kind) (h ∷ []) ≡ count_of kind h
+alone_counts h kind = let first = sum_by-cons (count_of kind) h [] in let none : sum_by (count_of kind) [] ≡ 0 = refl in omega arith
 
-pub room_next : (a : Arbiters) (xs : List (List Res)) (h : List Res) → HasRoom a (sum_by length (xs ++ h ∷ [])) → HasRoom a (length h + sum_by length xs)
+-- the last part as the first one
+pub room_next : (a : Arbiters) (xs : List (List Res)) (h : List Res) → HasRoom a (xs ++ h ∷ []) → HasRoom a (h ∷ xs)
 room_next a xs h room = record {
-  spare = λ kind. let spare = room.spare kind in let more = sum_by_push length xs h in omega arith;
-  few = λ kind. let few = room.few kind in let more = sum_by_push length xs h in omega arith;
+  spare = λ kind. let spare = room.spare kind in let last = sum_by_push (count_of kind) xs h in let first = sum_by-cons (count_of kind) h xs in omega arith;
+  few = λ kind. let few = room.few kind in let last = sum_by_push (count_of kind) xs h in let first = sum_by-cons (count_of kind) h xs in omega arith;
 }
 
-pub room_left : (a : Arbiters) (n m : ℕ) → HasRoom a (n + m) → HasRoom a m
-room_left a n m room = record {
-  spare = λ kind. let spare = room.spare kind in omega arith;
-  few = λ kind. let few = room.few kind in omega arith;
+pub room_left : (a : Arbiters) (h : List Res) (xs : List (List Res)) → HasRoom a (h ∷ xs) → HasRoom a xs
+room_left a h xs room = record {
+  spare = λ kind. let spare = room.spare kind in let first = sum_by-cons (count_of kind) h xs in omega arith;
+  few = λ kind. let few = room.few kind in let first = sum_by-cons (count_of kind) h xs in omega arith;
 }
 
-pub room_first : (a : Arbiters) (n m : ℕ) → HasRoom a (n + m) → HasRoom a n
-room_first a n m room = record {
-  spare = λ kind. let spare = room.spare kind in omega arith;
-  few = λ kind. let few = room.few kind in omega arith;
+pub room_first : (a : Arbiters) (h : List Res) (xs : List (List Res)) → HasRoom a (h ∷ xs) → HasRoom a (h ∷ [])
+room_first a h xs room = record {
+  spare = λ kind. let spare = room.spare kind in let first = sum_by-cons (count_of kind) h xs in let alone = alone_counts h kind in omega arith;
+  few = λ kind. let few = room.few kind in let first = sum_by-cons (count_of kind) h xs in let alone = alone_counts h kind in omega arith;
 }
+
+-- one part alone
+pub spare_one : (a : Arbiters) (h : List Res) → HasRoom a (h ∷ []) → (kind : Kind) → count_of kind h ≤ (of_kind a kind).spare
+spare_one a h room kind = let spare = room.spare kind in let alone = alone_counts h kind in omega arith
+
+pub few_one : (a : Arbiters) (h : List Res) → HasRoom a (h ∷ []) → (kind : Kind) → length (of_kind (lists_of a) kind) + count_of kind h ≤ 2 ^ 29
+few_one a h room kind = let few = room.few kind in let alone = alone_counts h kind in omega arith
 
 -- The last part ---------------------------------------------------------------------------
 

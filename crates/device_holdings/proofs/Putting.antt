@@ -1,20 +1,21 @@
 -- Pairs that are put into the lists: in any order they give the same lists.
-use Rattle.std.proofs.Common.{◌≡◌, ℕ, zero, suc, ◌≤◌, ◌+◌, List, [], ◌∷◌, ◌++◌, take, drop, length, slice_get, Some, Contains, refl, sym, ap, ◌∙◌, subst, arith}
+use Rattle.std.proofs.Common.{◌≡◌, ℕ, zero, suc, ◌≤◌, ◌+◌, List, [], ◌∷◌, ◌++◌, take, drop, length, slice_get, Some, Contains, cond, refl, sym, ap, ◌∙◌, subst, arith}
 use Rattle.std.specs.Prelude.{IsPermutation}
 use Rattle.std.proofs.lemmas.List.{append_assoc}
+use Rattle.std.proofs.lemmas.List.Sums.{sum_by-cons, sum_by_push}
 use Rattle.std.proofs.lemmas.List.Sorted.{IsPermutation-refl, IsPermutation-cons, IsPermutation-trans}
 use Rattle.resource_reqs.specs.declared.kind.Kind.{Kind}
 use Rattle.resource_reqs.specs.declared.kind.Kind.TheVariants.{Port, Irq, Mem, Dma, Bus}
 use Rattle.resource_reqs.specs.declared.owner.Owner.{Owner}
-use Rattle.resource_reqs.specs.Resources.{Res}
+use Rattle.resource_reqs.specs.Resources.{Res, same_kind}
 use Rattle.range_arbiter.specs.Pairs.{Pair, Arbiter, pairs_with}
 use Rattle.range_arbiter.proofs.PairLists.{with_swapped, length-pairs_with}
-use Rattle.trial_journal.specs.ByKind.{Arbiters, Lists, all_kinds, lists_of, of_kind, with_kind, arbiter_with, arbiters_with}
+use Rattle.trial_journal.specs.ByKind.{ByKind, Arbiters, Lists, all_kinds, lists_of, of_kind, with_kind, arbiter_with, arbiters_with}
 use Rattle.trial_journal.proofs.EachKind.{at_each}
 use Rattle.trial_journal.proofs.KindsApart.{pairs_at}
 use Rattle.assign_search.specs.Walking.{put_in}
 use Rattle.assign_search.proofs.SameHeld.{put_permutation, put_once, put_there}
-use Rattle.device_holdings.specs.Mirrors.{pairs_of, lists_with}
+use Rattle.device_holdings.specs.Mirrors.{pairs_of, lists_with, count_of}
 
 -- the order of two puts makes no difference
 swapped : (l : Lists) (p q : Pair) (j k : Kind) → p.1.kind ≡ j → q.1.kind ≡ k → put_in (put_in l j p) k q ≡ put_in (put_in l k q) j p
@@ -52,19 +53,59 @@ lists_put a p = by_kind p.1.kind
     by_kind Dma = refl
     by_kind Bus = refl
 
+-- How many are of a kind -----------------------------------------------------------
+
+-- one where the kinds are the same
+abbrev pub one_if_same : Kind → Kind → ℕ
+one_if_same k j = cond (same_kind k j) 1 0
+
+abbrev pub one_of : Kind → Res → ℕ
+one_of k res = one_if_same k res.kind
+
+pub own_one : (k : Kind) → one_if_same k k ≡ 1
+own_one Port = refl
+own_one Irq = refl
+own_one Mem = refl
+own_one Dma = refl
+own_one Bus = refl
+
+count_first : (k : Kind) (res : Res) (held : List Res) → count_of k (res ∷ held) ≡ one_of k res + count_of k held
+count_first k res held = sum_by-cons (λ (r : Res). cond (same_kind k r.kind) 1 0) res held
+
+-- what a change at one kind does to each: one more of that kind, and none of the others
+at_one : {X : Type 0} (P : ℕ → X → X → Type 0) (each : ByKind X) (j k : Kind) (x : X) → P 1 (of_kind each j) x → ((y : X) → P 0 y y)
+    → P (one_if_same k j) (of_kind each k) (of_kind (with_kind each j x) k)
+at_one P each Port Port x changed same = changed
+at_one P each Irq Irq x changed same = changed
+at_one P each Mem Mem x changed same = changed
+at_one P each Dma Dma x changed same = changed
+at_one P each Bus Bus x changed same = changed
+at_one P each _ k x changed same = same (of_kind each k)
+
 -- How long the lists are -----------------------------------------------------------
 
-longer_put : (l : Lists) (p : Pair) (j k : Kind) → (length (of_kind l k) ≤ length (of_kind (put_in l j p) k)) × (length (of_kind (put_in l j p) k) ≤ length (of_kind l k) + 1)
-longer_put l p j k =
-    at_each (λ (xs ys : List Pair). (length xs ≤ length ys) × (length ys ≤ length xs + 1)) l j (pairs_with (of_kind l j) p)
-    (let n = length-pairs_with (of_kind l j) p in (omega arith, omega arith)) (λ ys. (omega arith, omega arith)) k
+no_shorter : (l : Lists) (p : Pair) (j k : Kind) → length (of_kind l k) ≤ length (of_kind (put_in l j p) k)
+no_shorter l p j k =
+    at_each (λ (xs ys : List Pair). length xs ≤ length ys) l j (pairs_with (of_kind l j) p) (let n = length-pairs_with (of_kind l j) p in omega arith) (λ ys. omega arith) k
 
--- with more pairs the lists are no shorter, and longer by no more than these
-pub longer_with : (xs ys : List Pair) (k : Kind)
-    → (length (of_kind (lists_with ys) k) ≤ length (of_kind (lists_with (xs ++ ys)) k)) × (length (of_kind (lists_with (xs ++ ys)) k) ≤ length xs + length (of_kind (lists_with ys) k))
-longer_with [] ys k = (omega arith, omega arith)
-longer_with (x ∷ xs) ys k =
-    let more = longer_with xs ys k in let here = longer_put (lists_with (xs ++ ys)) x x.1.kind k in (omega arith, omega arith)
+-- with more pairs the lists are no shorter
+pub longer_with : (xs ys : List Pair) (k : Kind) → length (of_kind (lists_with ys) k) ≤ length (of_kind (lists_with (xs ++ ys)) k)
+longer_with [] ys k = omega arith
+longer_with (x ∷ xs) ys k = let more = longer_with xs ys k in let here = no_shorter (lists_with (xs ++ ys)) x x.1.kind k in omega arith
+
+longer_put : (l : Lists) (p : Pair) (k : Kind) → length (of_kind (put_in l p.1.kind p) k) ≤ length (of_kind l k) + one_of k p.1
+longer_put l p k =
+    at_one (λ (n : ℕ) (xs ys : List Pair). length ys ≤ length xs + n) l p.1.kind k (pairs_with (of_kind l p.1.kind) p)
+    (let n = length-pairs_with (of_kind l p.1.kind) p in omega arith) (λ ys. omega arith)
+
+-- with what an owner has they are longer by no more than it has of the kind
+pub longer_by : (owner : Owner) (held : List Res) (ys : List Pair) (k : Kind)
+    → length (of_kind (lists_with (pairs_of owner held ++ ys)) k) ≤ count_of k held + length (of_kind (lists_with ys) k)
+longer_by owner [] ys k = omega arith
+longer_by owner (res ∷ held) ys k =
+    let more = longer_by owner held ys k in
+    let here = longer_put (lists_with (pairs_of owner held ++ ys)) (owner, res) k in
+    let count = count_first k res held in omega arith
 
 -- the same pairs, in another order
 pub permuted : (ps : List Pair) → IsPermutation ps (all_kinds (lists_with ps))
@@ -84,6 +125,14 @@ pub front_at : {X : Type 0} (xs : List X) (i : ℕ) (x : X) → slice_get xs i �
 front_at [] i x h = absurd (cc)
 front_at (y ∷ xs) zero x h = grind arith
 front_at (y ∷ xs) (suc i) x h = grind (arith, front_at xs i x)
+
+-- what is left of a kind
+pub count_left : (k : Kind) (held : List Res) (i : ℕ) (res : Res) → slice_get held i ≡ Some res → count_of k (drop i held) ≡ one_of k res + count_of k (drop (i + 1) held)
+count_left k held i res read = ap (count_of k) (split_at held i res read) ∙ count_first k res (drop (i + 1) held)
+
+-- what there is of it so far
+pub count_front : (k : Kind) (held : List Res) (i : ℕ) (res : Res) → slice_get held i ≡ Some res → count_of k (take (i + 1) held) ≡ count_of k (take i held) + one_of k res
+count_front k held i res read = ap (count_of k) (front_at held i res read) ∙ sum_by_push (λ (r : Res). cond (same_kind k r.kind) 1 0) (take i held) res
 
 pub pairs_append : (owner : Owner) (xs ys : List Res) → pairs_of owner (xs ++ ys) ≡ pairs_of owner xs ++ pairs_of owner ys
 pairs_append owner [] ys = refl
@@ -113,11 +162,11 @@ module _ (a b : Arbiters) (owner : Owner) (held : List Res) (i : ℕ) (res : Res
       (subst (λ l. Contains (of_kind l res.kind) (owner, res)) (sym (first_left so_far))
       (put_there (lists_with (pairs_of owner (drop (i + 1) held) ++ rest)) res.kind (owner, res)))
 
--- a put takes one place of what is spare
-pub spare_put : (a b : Arbiters) (p : Pair) (k : Kind) → b ≡ arbiters_with a p → (of_kind a k).spare ≤ (of_kind b k).spare + 1
+-- a put takes one place of what is spare of its kind
+pub spare_put : (a b : Arbiters) (p : Pair) (k : Kind) → b ≡ arbiters_with a p → (of_kind a k).spare ≤ (of_kind b k).spare + one_of k p.1
 spare_put a b p k put =
-    subst (λ (x : Arbiters). (of_kind a k).spare ≤ (of_kind x k).spare + 1) (sym put)
-    (at_each (λ (x y : Arbiter). x.spare ≤ y.spare + 1) a p.1.kind (arbiter_with (of_kind a p.1.kind) p) (omega arith) (λ y. omega arith) k)
+    subst (λ (x : Arbiters). (of_kind a k).spare ≤ (of_kind x k).spare + one_of k p.1) (sym put)
+    (at_one (λ (n : ℕ) (x y : Arbiter). x.spare ≤ y.spare + n) a p.1.kind k (arbiter_with (of_kind a p.1.kind) p) (omega arith) (λ y. omega arith))
 
 -- what is taken away leaves what is spare
 pub spare_taken : (a b : Arbiters) (p : Pair) (k : Kind) → a ≡ arbiters_with b p → (of_kind a k).spare ≤ (of_kind b k).spare

@@ -1,9 +1,10 @@
 -- What devices hold and what is reserved, as pairs of an owner and a resource, and the arbiters that hold just these.
-use Rattle.std.specs.Prelude.{◌≡◌, ℕ, ◌≤◌, ◌+◌, ◌^◌, List, [], ◌∷◌, ◌++◌, map, length}
+use Rattle.std.specs.Prelude.{◌≡◌, ℕ, ◌≤◌, ◌+◌, ◌^◌, List, [], ◌∷◌, ◌++◌, map, length, sum_by}
+use Rattle.std.specs.List.{count_by}
 use Rattle.resource_reqs.specs.declared.kind.Kind.{Kind}
 use Rattle.resource_reqs.specs.declared.owner.Owner.{Owner}
 use Rattle.resource_reqs.specs.declared.owner.Owner.TheVariants.{Reserved, Device}
-use Rattle.resource_reqs.specs.Resources.{Res}
+use Rattle.resource_reqs.specs.Resources.{Res, same_kind}
 use Rattle.range_arbiter.specs.Pairs.{Pair}
 use Rattle.trial_journal.specs.ByKind.{Arbiters, Lists, of_kind, lists_of}
 use Rattle.assign_search.specs.Walking.{put_in}
@@ -30,10 +31,14 @@ lists_with (p ∷ ps) = put_in (lists_with ps) p.1.kind p
 abbrev pub AreFew : Lists → Type 0
 AreFew lists = (kind : Kind) → length (of_kind lists kind) ≤ 2 ^ 29
 
--- room for so many more pairs of each kind, and few pairs then
-pub record HasRoom (a : Arbiters) (more : ℕ) : Type 0 where
-  pub spare : (kind : Kind) → more ≤ (of_kind a kind).spare
-  pub few : (kind : Kind) → length (of_kind (lists_of a) kind) + more ≤ 2 ^ 29
+-- how many of these are of a kind
+abbrev pub count_of : Kind → List Res → ℕ
+count_of kind held = count_by (λ res. same_kind kind res.kind) held
+
+-- room for all that these parts have of each kind, and few pairs then
+pub record HasRoom (a : Arbiters) (parts : List (List Res)) : Type 0 where
+  pub spare : (kind : Kind) → sum_by (count_of kind) parts ≤ (of_kind a kind).spare
+  pub few : (kind : Kind) → length (of_kind (lists_of a) kind) + sum_by (count_of kind) parts ≤ 2 ^ 29
 
 -- the arbiters hold just what is reserved and what devices hold, and few pairs of each kind
 pub record Mirrors (reserved : List Res) (nodes : List Node) (a : Arbiters) : Type 0 where

@@ -1,16 +1,18 @@
-ghost use Rattle.std.specs.Prelude.{◌≡◌, ℕ, ◌+◌, ◌++◌, [], ◌∷◌, List, length, map, min, sum_by, slice_get, IsSome, IfOk, OnOk, OnErr};
+ghost use Rattle.std.specs.Prelude.{◌≡◌, ◌++◌, [], ◌∷◌, List, map, slice_get, IsSome, IfOk, OnOk, OnErr};
+ghost use Rattle.resource_reqs.specs.Resources.{Res};
 ghost use Rattle.pnp_model.specs.Records.{Node};
 ghost use Rattle.pnp_model.specs.Cores.{node_at, bare, with_holds};
 ghost use Rattle.trial_journal.specs.ByKind.{lists_of};
 ghost use Rattle.devnode_tree.specs.Trees.{changed, IsTree};
 ghost use Rattle.device_holdings.specs.Giving.{given, with_part};
-ghost use Rattle.device_holdings.specs.Mirrors.{AreFew, Mirrors, IsMirrored, KeepsMirror, HasRoom};
+ghost use Rattle.device_holdings.specs.Mirrors.{Mirrors, IsMirrored, KeepsMirror, HasRoom};
 
-use crate::pairs::{make_room, put_all, take_all};
+use crate::pairs::{put_all, room_for, room_of, take_all};
 use assign_search::Plan;
 use devnode_tree::Tree;
 use resource_reqs::{Owner, Res, ResList, WantOfMemory};
 use std::alloc::Global;
+use std::slice;
 use trial_journal::Arbiters;
 
 /// A device loses its drivers and its holdings and is `NoStack`, and the arbiters lose what it held: the end of the
@@ -32,27 +34,14 @@ pub fn release(tree: &mut Tree, arbiters: &mut Arbiters, serial: u64)
 fn replace(tree: &mut Tree, arbiters: &mut Arbiters, serial: u64, holds: ResList)
     requires there { IsSome (node_at serial tree.old.nodes) }
     requires mirrored { IsMirrored tree.old.nodes arbiters.old }
-    requires room { HasRoom arbiters.old (length holds) }
+    requires room { HasRoom arbiters.old (holds ∷ []) }
     ensures replaced { tree.new ≡ changed serial (with_holds holds) tree.old }
     ensures mirrors { KeepsMirror tree.old.nodes arbiters.old tree.new.nodes arbiters.new }
-    ensures room { (more : ℕ) → HasRoom arbiters.old (length holds + more) → HasRoom arbiters.new more }
+    ensures room { (more : List (List Res)) → HasRoom arbiters.old (holds ∷ more) → HasRoom arbiters.new more }
 {
     put_all(arbiters, Owner::Device(serial), &holds);
     let old = tree.swap_holds(serial, holds);
     take_all(arbiters, Owner::Device(serial), &old);
-}
-
-/// The same as `make_room`, where few pairs are held: for no pair there is room always, as at the start of a device that
-/// gets nothing.
-fn room_for(arbiters: &mut Arbiters, more: u64) -> Result<(), WantOfMemory>
-    requires { AreFew (lists_of arbiters.old) }
-    ensures room { OnOk result (HasRoom arbiters.new more) }
-    ensures same { lists_of arbiters.new ≡ lists_of arbiters.old }
-{
-    if more == 0 {
-        return Ok(());
-    }
-    make_room(arbiters, more)
 }
 
 /// A device gets these holdings in place of its own, in the tree and in the arbiters. Conditions: the device is
@@ -72,7 +61,7 @@ pub fn assign(
     ensures tree { OnErr result (tree.new ≡ tree.old) }
     ensures held { OnErr result (lists_of arbiters.new ≡ lists_of arbiters.old) }
 {
-    room_for(arbiters, holds.len())?;
+    room_for(arbiters, slice::from_ref(&holds))?;
     replace(tree, arbiters, serial, holds);
     Ok(())
 }
@@ -81,22 +70,11 @@ pub fn assign(
 fn parts_of(alloc: Global, plan: &Plan) -> Result<Vec<ResList>, WantOfMemory>
     ensures { IfOk result (λ parts. parts.items ≡ plan.now) }
 {
-    let mut parts = Vec::new(alloc);
+    let mut parts = Vec::with_capacity(alloc, plan.len() as usize)?;
     'parts: for at in 0..plan.len() {
         parts.push(plan.get(at).copy(alloc)?)?;
     }
     Ok(parts)
-}
-
-/// How many resources there are in all, or the greatest number.
-fn resources_in(parts: &[ResList]) -> u64
-    ensures { result ≡ min (sum_by length parts.now) u64.MAX }
-{
-    let mut all = 0u64;
-    'parts: for part in parts {
-        all = all.saturating_add(part.len());
-    }
-    all
 }
 
 /// A device that is there gets these holdings in place of its own, in the tree and in the arbiters; else nothing
@@ -104,11 +82,11 @@ fn resources_in(parts: &[ResList]) -> u64
 #[tactic(auto, using(crate::proofs::Committing::not_given, crate::proofs::Committing::none_copied, crate::proofs::Committing::room_left))]
 fn replace_where_there(tree: &mut Tree, arbiters: &mut Arbiters, serial: u64, holds: ResList)
     requires mirrored { IsMirrored tree.old.nodes arbiters.old }
-    requires room { HasRoom arbiters.old (length holds) }
+    requires room { HasRoom arbiters.old (holds ∷ []) }
     ensures replaced { tree.new ≡ changed serial (with_holds holds) tree.old }
     ensures tree { IsTree tree.old }
     ensures mirrors { KeepsMirror tree.old.nodes arbiters.old tree.new.nodes arbiters.new }
-    ensures room { (more : ℕ) → HasRoom arbiters.old (length holds + more) → HasRoom arbiters.new more }
+    ensures room { (more : List (List Res)) → HasRoom arbiters.old (holds ∷ more) → HasRoom arbiters.new more }
 {
     if tree.node(serial).is_some() {
         replace(tree, arbiters, serial, holds);
@@ -119,11 +97,11 @@ fn replace_where_there(tree: &mut Tree, arbiters: &mut Arbiters, serial: u64, ho
 #[tactic(auto, using(crate::proofs::Committing::room_left))]
 fn give(tree: &mut Tree, arbiters: &mut Arbiters, serials: &[u64], at: usize, holds: ResList)
     requires mirrored { IsMirrored tree.old.nodes arbiters.old }
-    requires room { HasRoom arbiters.old (length holds) }
+    requires room { HasRoom arbiters.old (holds ∷ []) }
     ensures given { tree.new ≡ given (slice_get serials.now at) holds tree.old }
     ensures tree { IsSome (slice_get serials.now at) → IsTree tree.old }
     ensures mirrors { KeepsMirror tree.old.nodes arbiters.old tree.new.nodes arbiters.new }
-    ensures room { (more : ℕ) → HasRoom arbiters.old (length holds + more) → HasRoom arbiters.new more }
+    ensures room { (more : List (List Res)) → HasRoom arbiters.old (holds ∷ more) → HasRoom arbiters.new more }
 {
     if let Some(serial) = serials.get(at) {
         replace_where_there(tree, arbiters, *serial, holds);
@@ -149,7 +127,7 @@ pub fn assign_all(
     ensures held { OnErr result (lists_of arbiters.new ≡ lists_of arbiters.old) }
 {
     let mut parts = parts_of(alloc, plan)?;
-    room_for(arbiters, resources_in(&parts))?;
+    room_for(arbiters, &parts)?;
     'parts: while let Some(holds) = parts.pop() {
         give(tree, arbiters, serials, parts.len(), holds);
     }
@@ -169,7 +147,7 @@ pub fn reserve(
     ensures list { OnErr result (reserved.new ≡ reserved.old) }
     ensures held { OnErr result (lists_of arbiters.new ≡ lists_of arbiters.old) }
 {
-    make_room(arbiters, 1)?;
+    room_of(arbiters, res.kind, 1)?;
     reserved.push(res)?;
     arbiters.put(Owner::Reserved, res);
     Ok(())
