@@ -1,3 +1,4 @@
 pub mod Parts
 pub mod Legal
 pub mod Backslashes
+pub mod Scans

@@ -1,5 +1,5 @@
 -- The bytes that several texts keep.
-use Rattle.std.specs.Prelude.{ℕ, ◌≤◌, ◌≡◌, List, length, take, drop}
+use Rattle.std.specs.Prelude.{ℕ, ◌≤◌, ◌≡◌, ◌-◌, ◌++◌, List, length, take, drop, replicate}
 use Rattle.device_ids.specs.declared.text.Kept.{Kept}
 use Rattle.device_ids.specs.declared.text.Bytes.{Bytes}
 use Rattle.device_ids.specs.declared.text.Bytes.TheVariants as bytes
@@ -31,3 +31,7 @@ beside_of len (bytes.Many both) = drop len both.items
 pub record HasFolded (kept : Kept) : Type 0 where
   pub inside : HasText kept
   pub folded : beside_of kept.len kept.bytes ≡ folded (text_of kept)
+
+-- bytes, and backslashes after them, 32 where they are no more
+abbrev pub padded : List ℕ → List ℕ
+padded bytes = bytes ++ replicate (32 - length bytes) 0x5C

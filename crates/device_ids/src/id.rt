@@ -13,7 +13,7 @@ use std::marker::Model;
 const LONGEST: usize = 199;
 
 /// Whether an identifier may have the byte.
-fn is_id_byte(byte: u8) -> bool
+pub(crate) fn is_id_byte(byte: u8) -> bool
     ensures { result ≡ is_id_byte byte }
 {
     0x20 < byte && byte <= 0x7F && byte != b','

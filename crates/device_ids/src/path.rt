@@ -2,13 +2,13 @@ ghost use Rattle.std.specs.Prelude.{◌≡◌, ◌≢◌, ◌↔◌, ◌≤◌, 
 ghost use Rattle.device_ids.specs.Faults.{path_fault};
 ghost use Rattle.device_ids.specs.declared.error.PathError.{PathError};
 ghost use Rattle.device_ids.specs.Folding.{folded, same};
-ghost use Rattle.device_ids.specs.Kept.{text_of, HasFolded};
+ghost use Rattle.device_ids.specs.Kept.{text_of, padded, HasFolded};
 ghost use Rattle.device_ids.specs.Ids.{joined, has_parts, has_ids, is_path, Sides};
 
 use crate::cuts::split_once;
 use crate::error::PathError;
-use crate::id::{DeviceId, is_legal};
-use crate::text::{Bytes, FEW, Kept, Text, WantOfMemory};
+use crate::id::{DeviceId, is_id_byte, is_legal};
+use crate::text::{Bytes, FEW, Kept, Text, WantOfMemory, padded};
 use std::alloc::Global;
 use std::marker::Model;
 use std::rc::Rc;
@@ -44,13 +44,43 @@ fn path_fault(bytes: &[u8]) -> Option<PathError>
     Some(PathError::BadId)
 }
 
+/// Why few bytes are no path, if they are none: the first test that fails. They are looked at with the backslashes after
+/// them, so that each time as many bytes are, without a branch between two.
+#[inline]
+fn few_fault(bytes: &[u8], text: &[u8; FEW]) -> Option<PathError>
+    requires few { length bytes.now ≤ 32 }
+    requires text { text.now ≡ padded bytes.now }
+    ensures { result ≡ path_fault bytes.now }
+{
+    let mut backslashes: u8 = 0;
+    let mut parts: u8 = 0;
+    let mut illegal: u8 = 0;
+    let mut begins = true;
+    for byte in text {
+        let is_backslash = *byte == b'\\';
+        let begins_part = begins && !is_backslash;
+        let is_illegal = !is_id_byte(*byte);
+        backslashes += is_backslash as u8;
+        parts += begins_part as u8;
+        illegal += is_illegal as u8;
+        begins = is_backslash;
+    }
+    if backslashes as usize + bytes.len() != FEW + 2 || parts != 3 {
+        return Some(PathError::Parts);
+    }
+    if illegal != 0 {
+        return Some(PathError::BadId);
+    }
+    None
+}
+
 /// The bytes, and the same bytes with ASCII letters folded.
 fn with_folded(alloc: Global, bytes: &[u8]) -> Result<Rc<Kept>, WantOfMemory>
     ensures { IfOk result (λ kept. HasFolded kept.value × (text_of kept.value ≡ bytes.now)) }
 {
     let len = bytes.len();
     if len <= FEW {
-        return Ok(Rc::new(alloc, Kept::few(bytes))?);
+        return Ok(Rc::new(alloc, Kept::few(padded(bytes), len))?);
     }
     let mut both = Vec::with_capacity(alloc, len.saturating_mul(2))?;
     both.extend_from_slice(bytes)?;
@@ -58,6 +88,41 @@ fn with_folded(alloc: Global, bytes: &[u8]) -> Result<Rc<Kept>, WantOfMemory>
     both[len..].make_ascii_lowercase();
     let bytes = Bytes::Many(both);
     Ok(Rc::new(alloc, Kept { bytes, len })?)
+}
+
+/// What is kept of a path of few bytes.
+#[inline]
+#[tactic(auto, using(crate::proofs::Legal::no_path_fault, crate::proofs::Legal::a_path_fault))]
+fn few_read(alloc: Global, bytes: &[u8]) -> Result<Rc<Kept>, PathError>
+    requires few { length bytes.now ≤ 32 }
+    ensures ok { IfOk result (λ kept. HasFolded kept.value × (text_of kept.value ≡ bytes.now) × IsTrue (is_path bytes.now)) }
+    ensures fault { (fault : PathError) → path_fault bytes.now ≡ Some fault → result ≡ Err fault }
+    ensures legal { IsTrue (is_path bytes.now) → IsOkUnless result PathError.WantOfMemory }
+{
+    let text = padded(bytes);
+    if let Some(fault) = few_fault(bytes, &text) {
+        return Err(fault);
+    }
+    match Rc::new(alloc, Kept::few(text, bytes.len())) {
+        Ok(kept) => Ok(kept),
+        Err(_) => Err(PathError::WantOfMemory),
+    }
+}
+
+/// What is kept of a path.
+#[tactic(auto, using(crate::proofs::Legal::no_path_fault, crate::proofs::Legal::a_path_fault))]
+fn many_read(alloc: Global, bytes: &[u8]) -> Result<Rc<Kept>, PathError>
+    ensures ok { IfOk result (λ kept. HasFolded kept.value × (text_of kept.value ≡ bytes.now) × IsTrue (is_path bytes.now)) }
+    ensures fault { (fault : PathError) → path_fault bytes.now ≡ Some fault → result ≡ Err fault }
+    ensures legal { IsTrue (is_path bytes.now) → IsOkUnless result PathError.WantOfMemory }
+{
+    if let Some(fault) = path_fault(bytes) {
+        return Err(fault);
+    }
+    match with_folded(alloc, bytes) {
+        Ok(kept) => Ok(kept),
+        Err(_) => Err(PathError::WantOfMemory),
+    }
 }
 
 /// The name of a device in the tree: device ID, backslash, instance ID (the driver kit, "Device Instance
@@ -100,18 +165,19 @@ impl InstancePath {
     /// The path of these bytes. Errors, the first that holds: `Parts` where they are not three non-empty
     /// parts between two backslashes, `BadId` where a side of the last backslash is no legal identifier;
     /// and `WantOfMemory`. Cost: the length.
-    #[tactic(auto, using(crate::proofs::Legal::no_path_fault, crate::proofs::Legal::a_path_fault))]
     pub fn read(alloc: Global, bytes: &[u8]) -> Result<InstancePath, PathError>
         ensures ok { IfOk result (λ path. (path ≡ bytes.now) × IsTrue (is_path path)) }
         ensures fault { (fault : PathError) → path_fault bytes.now ≡ Some fault → result ≡ Err fault }
         ensures legal { IsTrue (is_path bytes.now) → IsOkUnless result PathError.WantOfMemory }
     {
-        if let Some(fault) = path_fault(bytes) {
-            return Err(fault);
-        }
-        match with_folded(alloc, bytes) {
+        let kept = if bytes.len() <= FEW {
+            few_read(alloc, bytes)
+        } else {
+            many_read(alloc, bytes)
+        };
+        match kept {
             Ok(kept) => Ok(InstancePath { kept }),
-            Err(_) => Err(PathError::WantOfMemory),
+            Err(fault) => Err(fault),
         }
     }
 

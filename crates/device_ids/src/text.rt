@@ -1,6 +1,6 @@
 ghost use Rattle.std.specs.Prelude.{◌≡◌, ◌≤◌, ◌<◌, ◌++◌, ℕ, List, [], ◌∷◌, length, take, slice_get, slice_index_or, Some, IfOk, OnOk, OnErr};
 ghost use Rattle.device_ids.specs.Folding.{same, folded};
-ghost use Rattle.device_ids.specs.Kept.{text_of, HasText, HasFolded};
+ghost use Rattle.device_ids.specs.Kept.{text_of, padded, HasText, HasFolded};
 
 use std::alloc::{AllocError, Global};
 use std::marker::Model;
@@ -26,15 +26,24 @@ pub(crate) enum Bytes {
     Many(Vec<u8>),
 }
 
+/// Few bytes, and backslashes after them.
+#[inline]
+pub(crate) fn padded(bytes: &[u8]) -> [u8; FEW]
+    requires { length bytes.now ≤ 32 }
+    ensures { result ≡ padded bytes.now }
+{
+    let mut text = [b'\\'; FEW];
+    text[..bytes.len()].copy_from_slice(bytes);
+    text
+}
+
 impl Kept {
-    /// These bytes, which are few.
-    pub(crate) fn few(bytes: &[u8]) -> Kept
-        requires { length bytes.now ≤ 32 }
-        ensures { HasFolded result × (text_of result ≡ bytes.now) }
+    /// The first bytes of a text, which are few.
+    #[inline(never)]
+    pub(crate) fn few(text: [u8; FEW], len: usize) -> Kept
+        requires { len ≤ 32 }
+        ensures { HasFolded result × (text_of result ≡ take len text) }
     {
-        let len = bytes.len();
-        let mut text = [0; FEW];
-        text[..len].copy_from_slice(bytes);
         let mut folded = text;
         folded.make_ascii_lowercase();
         Kept {
@@ -91,7 +100,7 @@ impl Text {
     {
         let len = bytes.len();
         let kept = if len <= FEW {
-            Kept::few(bytes)
+            Kept::few(padded(bytes), len)
         } else {
             let bytes = Bytes::Many(Vec::from_slice(alloc, bytes)?);
             Kept { bytes, len }
