@@ -1,4 +1,4 @@
-ghost use Rattle.std.specs.Prelude.{◌≡◌, ◌<◌, ◌^◌, IfOk, OnOk, OnErr};
+ghost use Rattle.std.specs.Prelude.{◌≡◌, ◌<◌, ◌^◌, ◌++◌, IfOk, OnOk, OnErr};
 ghost use Rattle.pnp_laws.specs.Printed.{TreeIsPrinted};
 ghost use Rattle.pnp_machine.specs.Machines.{HasFewIds};
 ghost use Rattle.pnp_model.specs.Endings.{ending, joined};
@@ -10,7 +10,7 @@ use device_ids::WantOfMemory;
 use devnode_tree::Tree;
 use driver_rack::Drivers;
 use pnp_labels::{Event, Label};
-use pnp_machine::{Manager, Moved, needs_are_few};
+use pnp_machine::{EndParts, Manager, Moved, needs_are_few};
 use std::alloc::Global;
 use std::marker::Model;
 
@@ -97,5 +97,13 @@ impl<R: Drivers> Front<R> {
         ensures tree { TreeIsPrinted self.now.manager.state.core.nodes }
     {
         self.desk.manager.ending(alloc)
+    }
+
+    /// The same in parts: appends the first line of it, and answers the rest. It is the manager's.
+    pub fn end_parts(&self, out: &mut Vec<u8>) -> Result<EndParts<'_, R>, WantOfMemory>
+        ensures text { IfOk result (λ rest. out.new.items ++ rest ≡ out.old.items ++ joined (ending self.now.manager.state)) }
+        ensures tree { TreeIsPrinted self.now.manager.state.core.nodes }
+    {
+        self.desk.manager.end_parts(out)
     }
 }

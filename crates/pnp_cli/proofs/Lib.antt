@@ -3,6 +3,7 @@ pub mod FewIds
 pub mod Fronts
 pub mod FrontEntries
 pub mod Telling
+pub mod PartsWritten
 pub mod Sameness
 pub mod Settling
 pub mod Going

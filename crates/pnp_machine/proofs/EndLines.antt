@@ -1,5 +1,6 @@
 -- The lines of the end of the output: the tree, what is held, what is outstanding, and the handles that are open.
-use Rattle.std.proofs.Common.{◌≡◌, ℕ, zero, suc, ◌+◌, ◌<◌, ◌≤◌, ◌==◌, Bool, true, false, cond, List, [], ◌∷◌, ◌++◌, Option, Some, None, map, length, refl, sym, ◌∙◌, ap, subst, arith, append_assoc, nat_lt}
+use Rattle.std.proofs.Common.{◌≡◌, ℕ, zero, suc, ◌+◌, ◌<◌, ◌≤◌, ◌==◌, Bool, true, false, cond, List, [], ◌∷◌, ◌++◌, Option, Some, None, map, length, refl, sym, ◌∙◌, ap, subst, arith, append_assoc, append-nil, length-append, nat_lt}
+use Rattle.std.proofs.lemmas.List.{drop_all, length-map}
 use Rattle.std.specs.List.{AllByRecursion}
 use Rattle.std.specs.Prelude.{codes, slice_get, drop}
 use Rattle.std.proofs.lemmas.Bool.Decides.{nat_tests}
@@ -17,7 +18,7 @@ use Rattle.pnp_laws.specs.Kept.{InOrder}
 use Rattle.devnode_tree.specs.Rows.{row_of}
 use Rattle.devnode_tree.specs.Trees.{Ascends, Tree}
 use Rattle.devnode_tree.specs.declared.print.PrintRow.{PrintRow}
-use Rattle.pnp_machine.specs.Endings.{RowAdded, works_lines, operation_lines, handles_lines}
+use Rattle.pnp_machine.specs.Endings.{RowAdded, below_tree, ending_from, works_lines, operation_lines, handles_lines}
 use Rattle.pnp_machine.proofs.Texts.{joined_append}
 
 all_those : {A : Type 0} (P : A → Type 0) (test : A → Bool) (xs : List A) → AllByRecursion P xs → AllByRecursion P (those test xs)
@@ -223,21 +224,20 @@ module _ (s : State) (order : InOrder 0 s.activities) (alone : (o : Operation) �
       ∙ ap joined (map_append line (operation_rows s.operation) (activity_rows s.activities))
       ∙ joined_append (map line (operation_rows s.operation)) (map line (activity_rows s.activities))
 
-  whole_is : joined (ending s) ≡ codes "tree\n" ++ (trees ++ (codes "map\n" ++ (held ++ (codes "outstanding\n" ++ ((operation_lines nodes rack s.operation ++ works_lines nodes rack s.activities) ++ handles_lines nodes s.handles)))))
-  whole_is =
+  below_text : joined (below_tree s) ≡ codes "map\n" ++ (held ++ (codes "outstanding\n" ++ ((operation_lines nodes rack s.operation ++ works_lines nodes rack s.activities) ++ handles_lines nodes s.handles)))
+  below_text =
       let part : List Text = handles_part s.core s.handles in
       let waiting : List Text = map (outstanding_line s.core) (outstanding s) in
       let rows : List Text = waiting ++ part in
       let maps : List Text = map map_line (map_rows s.core) in
-      ap (λ x. codes "tree\n" ++ x) (joined_append (map tree_line (print_order nodes)) (codes "map" ∷ (maps ++ (codes "outstanding" ∷ rows))))
-      ∙ ap (λ x. codes "tree\n" ++ (trees ++ (codes "map\n" ++ x))) (joined_append maps (codes "outstanding" ∷ rows))
-      ∙ ap (λ x. codes "tree\n" ++ (trees ++ (codes "map\n" ++ (held ++ (codes "outstanding\n" ++ x))))) (joined_append waiting part ∙ ap (λ x. x ++ joined part) outstanding_is)
-      ∙ ap (λ x. codes "tree\n" ++ (trees ++ (codes "map\n" ++ (held ++ (codes "outstanding\n" ++ ((operation_lines nodes rack s.operation ++ works_lines nodes rack s.activities) ++ x)))))) (handles_same s.core s.handles)
+      ap (λ x. codes "map\n" ++ x) (joined_append maps (codes "outstanding" ∷ rows))
+      ∙ ap (λ x. codes "map\n" ++ (held ++ (codes "outstanding\n" ++ x))) (joined_append waiting part ∙ ap (λ x. x ++ joined part) outstanding_is)
+      ∙ ap (λ x. codes "map\n" ++ (held ++ (codes "outstanding\n" ++ ((operation_lines nodes rack s.operation ++ works_lines nodes rack s.activities) ++ x)))) (handles_same s.core s.handles)
 
-  pub ending_is : (rows : List Pair) (o0 o1 o2 o3 o4 o5 o6 o7 : Text) → map (row_of_pair nodes) rows ≡ map_rows s.core → o0 ≡ codes "tree\n" → o1 ≡ o0 ++ trees → o2 ≡ o1 ++ codes "map\n"
+  pub below_is : (rows : List Pair) (o1 o2 o3 o4 o5 o6 o7 : Text) → map (row_of_pair nodes) rows ≡ map_rows s.core → o2 ≡ o1 ++ codes "map\n"
       → o3 ≡ o2 ++ joined (map map_line (map (row_of_pair nodes) rows)) → o4 ≡ o3 ++ codes "outstanding\n" → o5 ≡ o4 ++ operation_lines nodes rack s.operation
-      → o6 ≡ o5 ++ works_lines nodes rack s.activities → o7 ≡ o6 ++ handles_lines nodes s.handles → o7 ≡ joined (ending s)
-  ending_is rows o0 o1 o2 o3 o4 o5 o6 o7 rows_is zero_is one two three four five six seven =
+      → o6 ≡ o5 ++ works_lines nodes rack s.activities → o7 ≡ o6 ++ handles_lines nodes s.handles → o7 ≡ o1 ++ joined (below_tree s)
+  below_is rows o1 o2 o3 o4 o5 o6 o7 rows_is two three four five six seven =
       let ops : Text = operation_lines nodes rack s.operation in
       let works : Text = works_lines nodes rack s.activities in
       let held_open : Text = handles_lines nodes s.handles in
@@ -247,7 +247,39 @@ module _ (s : State) (order : InOrder 0 s.activities) (alone : (o : Operation) �
       ∙ ap (λ x. x ++ tail) four ∙ append_assoc o3 (codes "outstanding\n") tail
       ∙ ap (λ x. x ++ (codes "outstanding\n" ++ tail)) three_is ∙ append_assoc o2 held (codes "outstanding\n" ++ tail)
       ∙ ap (λ x. x ++ (held ++ (codes "outstanding\n" ++ tail))) two ∙ append_assoc o1 (codes "map\n") (held ++ (codes "outstanding\n" ++ tail))
-      ∙ ap (λ x. x ++ (codes "map\n" ++ (held ++ (codes "outstanding\n" ++ tail)))) one
-      ∙ append_assoc o0 trees (codes "map\n" ++ (held ++ (codes "outstanding\n" ++ tail)))
-      ∙ ap (λ x. x ++ (trees ++ (codes "map\n" ++ (held ++ (codes "outstanding\n" ++ tail))))) zero_is
-      ∙ sym whole_is
+      ∙ ap (λ x. o1 ++ x) (sym below_text)
+
+-- In parts ------------------------------------------------------------------------------------
+
+abbrev tree_from : List Node → ℕ → Text
+tree_from nodes next = joined (map tree_line (drop next (print_order nodes)))
+
+from_is : (s : State) (next : ℕ) → ending_from s next ≡ tree_from s.core.nodes next ++ joined (below_tree s)
+from_is s next = joined_append (map tree_line (drop next (print_order s.core.nodes))) (below_tree s)
+
+-- behind the first line
+pub parts_begin : (s : State) (out out' : Text) → out' ≡ out ++ codes "tree\n" → out' ++ ending_from s 0 ≡ out ++ joined (ending s)
+parts_begin s out out' first = ap (λ x. x ++ ending_from s 0) first ∙ append_assoc out (codes "tree\n") (ending_from s 0)
+
+-- rows of the tree came behind
+pub parts_more : (s : State) (found : List Node) (next next' : ℕ) (out out' : Text) → found ≡ s.core.nodes
+    → out' ++ tree_from found next' ≡ out ++ tree_from found next → out' ++ ending_from s next' ≡ out ++ ending_from s next
+parts_more s found next next' out out' same more =
+    let below : Text = joined (below_tree s) in
+    let P : List Node → Type 0 = λ ns. out' ++ tree_from ns next' ≡ out ++ tree_from ns next in
+    ap (λ x. out' ++ x) (from_is s next') ∙ sym (append_assoc out' (tree_from s.core.nodes next') below) ∙ ap (λ x. x ++ below) (subst P same more)
+    ∙ append_assoc out (tree_from s.core.nodes next) below ∙ ap (λ x. out ++ x) (sym (from_is s next))
+
+-- and then what is below the tree
+pub parts_end : (s : State) (found : List Node) (rows : List PrintRow) (next next' : ℕ) (out out' last : Text) → found ≡ s.core.nodes
+    → rows ≡ map row_of (print_order s.core.nodes) → length rows ≤ next' → out' ++ tree_from found next' ≡ out ++ tree_from found next
+    → last ≡ out' ++ joined (below_tree s) → last ++ [] ≡ out ++ ending_from s next
+parts_end s found rows next next' out out' last same printed all more below =
+    let order : List Placed = print_order s.core.nodes in
+    let long : length rows ≡ length order = ap length printed ∙ length-map order row_of in
+    let none : drop next' order ≡ [] = drop_all next' order (omega arith) in
+    append-nil last ∙ below ∙ ap (λ x. out' ++ joined x) (sym (ap (λ ps. map tree_line ps ++ below_tree s) none)) ∙ parts_more s found next next' out out' same more
+
+-- where a part came, less is left
+pub parts_less : (out out' rest rest' : Text) → out' ++ rest' ≡ out ++ rest → length out < length out' → length rest' < length rest
+parts_less out out' rest rest' same grown = omega (arith, ap length same, length-append out' rest', length-append out rest)

@@ -1,10 +1,11 @@
-ghost use Rattle.std.specs.Prelude.{◌≡◌, ◌++◌, ◌∷◌, [], IfOk, OnOk, map, option_map};
+ghost use Rattle.std.specs.Prelude.{◌≡◌, ◌≤◌, ◌<◌, ◌++◌, ◌∷◌, [], Ok, true, IfOk, OnOk, drop, length, map, option_map};
 ghost use Rattle.pnp_model.specs.Endings.{indent, tree_line, map_line, joined, print_order, problem_part, ending};
 ghost use Rattle.pnp_labels.specs.Texts.{spaced, state_text};
 ghost use Rattle.std.specs.Fmt.{decimal};
 ghost use Rattle.device_holdings.specs.MapRows.{row_of, owner_words};
 ghost use Rattle.pnp_model.specs.Cores.{node_at, path_of};
-ghost use Rattle.pnp_machine.specs.Endings.{RowAdded, waiting_line, request_lines, works_lines, operation_lines, handle_lines, handles_lines};
+ghost use Rattle.devnode_tree.specs.Rows as printed;
+ghost use Rattle.pnp_machine.specs.Endings.{RowAdded, below_tree, ending_from, left, waiting_line, request_lines, works_lines, operation_lines, handle_lines, handles_lines};
 ghost use Rattle.pnp_machine.specs.Managers.{IsOfRun};
 ghost use Rattle.pnp_machine.specs.Operations.{operation_of};
 
@@ -19,6 +20,10 @@ use pnp_labels::{DevState, Problem, minor_text, problem_text, push_decimal, push
 use resource_reqs::{Owner, Res};
 use start_sequence::StartWork;
 use std::alloc::{AllocError, Global};
+use std::marker::Model;
+
+/// The least number of bytes of a part that is not the last one.
+const PART: usize = 32_768;
 
 /// Appends a space for each level below the root.
 fn add_indent(out: &mut Vec<u8>, depth: u64) -> Result<(), WantOfMemory>
@@ -78,15 +83,25 @@ fn add_row(out: &mut Vec<u8>, tree: &Tree, row: &PrintRow) -> Result<(), WantOfM
     Ok(())
 }
 
-/// Appends the lines of the tree, each node after the one above it.
-fn add_tree(alloc: Global, out: &mut Vec<u8>, tree: &Tree) -> Result<(), WantOfMemory>
-    ensures { OnOk result (out.new.items ≡ out.old.items ++ joined (map tree_line (print_order tree.now.nodes))) }
+/// Appends lines of the tree, each node after the one above it, from a row on, until there are so many bytes. Answers the row
+/// that comes next.
+fn add_nodes(
+    out: &mut Vec<u8>,
+    tree: &Tree,
+    rows: &[PrintRow],
+    from: usize,
+    enough: usize,
+) -> Result<usize, WantOfMemory>
+    requires { rows.now ≡ map printed.row_of (print_order tree.now.nodes) }
+    ensures text { IfOk result (λ next. out.new.items ++ joined (map tree_line (drop next (print_order tree.now.nodes))) ≡ out.old.items ++ joined (map tree_line (drop from (print_order tree.now.nodes)))) }
+    ensures enough { IfOk result (λ next. next < length rows.now → enough ≤ length out.new.items) }
 {
-    let rows = tree.print_rows(alloc)?;
-    for row in &rows {
-        add_row(out, tree, row)?;
+    let mut next = from;
+    'nodes: while next < rows.len() && out.len() < enough {
+        add_row(out, tree, &rows[next])?;
+        next += 1;
     }
-    Ok(())
+    Ok(next)
 }
 
 /// Appends the line of a request that waits at a device.
@@ -239,23 +254,78 @@ fn add_handles(
     Ok(())
 }
 
+/// The end of the output, which is made in parts: what of it is still to come. A contract sees its text.
+#[derive(Drop)]
+pub struct EndParts<'a, R: Drivers> {
+    machine: &'a Machine<R>,
+    rows: Vec<PrintRow>,
+    next: usize,
+}
+
+impl<'a, R: Drivers> Model for EndParts<'a, R> {
+    ghost use Rattle.pnp_labels.specs.Texts.{Text};
+    ghost use Rattle.pnp_machine.specs.Endings.{ending_from, IsEnding};
+
+    ghost Value = { Text };
+
+    ghost view = { λ e. ending_from e.machine.now e.next };
+
+    ghost invariant = { λ e. IsEnding e.machine.now e.rows.items };
+}
+
+impl<'a, R: Drivers> EndParts<'a, R> {
+    /// Appends the next part, and answers whether more comes: a part has at least 32,768 bytes and the rest of a line, and the
+    /// last one what is left of the tree and all below it. After want of memory it is not to be used. Cost: that of the lines.
+    pub fn next_part(&mut self, out: &mut Vec<u8>) -> Result<bool, WantOfMemory>
+        ensures text { IfOk result (λ more. out.new.items ++ left more self.new ≡ out.old.items ++ self.old) }
+        ensures less { result ≡ Ok true → length self.new < length self.old }
+    {
+        let enough = out.len() + PART;
+        self.next = add_nodes(out, self.machine.tree(), &self.rows, self.next, enough)?;
+        if self.next < self.rows.len() {
+            return Ok(true);
+        }
+        self.machine.add_below_tree(out)?;
+        Ok(false)
+    }
+}
+
 impl<R: Drivers> Machine<R> {
-    /// The end of the output: the tree, what is held and reserved, the requests that are outstanding, and the handles that are
+    /// The device nodes.
+    fn tree(&self) -> &Tree
+        ensures { result.now.nodes ≡ self.now.core.nodes }
+    {
+        self.devices.tree()
+    }
+
+    /// Appends what comes below the tree: what is held and reserved, the requests that are outstanding, and the handles that are
     /// open. Condition: the state is one of a run.
-    pub(crate) fn ending(&self, alloc: Global) -> Result<Vec<u8>, WantOfMemory>
+    fn add_below_tree(&self, out: &mut Vec<u8>) -> Result<(), WantOfMemory>
         requires { IsOfRun self.now }
-        ensures { IfOk result (λ text. text.items ≡ joined (ending self.now)) }
+        ensures { OnOk result (out.new.items ≡ out.old.items ++ joined (below_tree self.now)) }
     {
         let tree = self.devices.tree();
-        let mut out = Vec::from_slice(alloc, b"tree\n")?;
-        add_tree(alloc, &mut out, tree)?;
         out.extend_from_slice(b"map\n")?;
-        let rows = self.devices.map_rows(alloc)?;
-        add_rows(&mut out, tree, &rows)?;
+        let rows = self.devices.map_rows(self.alloc)?;
+        add_rows(out, tree, &rows)?;
         out.extend_from_slice(b"outstanding\n")?;
-        add_operation(alloc, &mut out, tree, &self.rack, &self.operation)?;
-        add_works(alloc, &mut out, tree, &self.rack, self.starts.works())?;
-        add_handles(alloc, &mut out, tree, self.devices.handles())?;
-        Ok(out)
+        add_operation(self.alloc, out, tree, &self.rack, &self.operation)?;
+        add_works(self.alloc, out, tree, &self.rack, self.starts.works())?;
+        add_handles(self.alloc, out, tree, self.devices.handles())?;
+        Ok(())
+    }
+
+    /// Begins the end of the output: appends its first line, and answers the rest. Condition: the state is one of a run.
+    pub(crate) fn end_parts(&self, out: &mut Vec<u8>) -> Result<EndParts<'_, R>, WantOfMemory>
+        requires { IsOfRun self.now }
+        ensures { IfOk result (λ rest. out.new.items ++ rest ≡ out.old.items ++ joined (ending self.now)) }
+    {
+        out.extend_from_slice(b"tree\n")?;
+        let rows = self.devices.tree().print_rows(self.alloc)?;
+        Ok(EndParts {
+            machine: self,
+            rows,
+            next: 0,
+        })
     }
 }

@@ -25,5 +25,6 @@ mod task_start;
 mod tasks;
 mod turn;
 
+pub use ending::EndParts;
 pub use manager::{Manager, Moved};
 pub use needs::needs_are_few;

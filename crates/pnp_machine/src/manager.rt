@@ -1,4 +1,4 @@
-ghost use Rattle.std.specs.Prelude.{◌≡◌, ◌<◌, ◌≤◌, ◌+◌, ◌^◌, ℕ, [], true, IfOk, OnOk, OnErr, IsSome, IsSomeAnd, is_some, length, option_map};
+ghost use Rattle.std.specs.Prelude.{◌≡◌, ◌<◌, ◌≤◌, ◌+◌, ◌++◌, ◌^◌, ℕ, [], true, IfOk, OnOk, OnErr, IsSome, IsSomeAnd, is_some, length, option_map};
 ghost use Rattle.pnp_model.specs.Cores.{node_at};
 ghost use Rattle.pnp_model.specs.Endings.{ending, joined};
 ghost use Rattle.pnp_model.specs.Events.{happens};
@@ -14,6 +14,7 @@ ghost use Rattle.pnp_machine.specs.Dues.{beginning_of};
 ghost use Rattle.pnp_machine.specs.Machines.{IsDone, Moves, HasFewIds};
 ghost use Rattle.pnp_machine.specs.Managers.{settings, IsRunOf, KeepsLaws, LawsOf, IfQuiet};
 
+use crate::ending::EndParts;
 use crate::machine::Machine;
 use crate::needs::needs_are_few;
 use device_ids::WantOfMemory;
@@ -186,6 +187,18 @@ impl<R: Drivers> Manager<R> {
         ensures text { IfOk result (λ text. text.items ≡ joined (ending self.now.state)) }
         ensures tree { TreeIsPrinted self.now.state.core.nodes }
     {
-        self.machine.ending(alloc)
+        let mut out = Vec::new(alloc);
+        let mut parts = self.end_parts(&mut out)?;
+        'parts: while parts.next_part(&mut out)? {}
+        Ok(out)
+    }
+
+    /// The same in parts, for an output that is not to be held whole: appends the first line of it, and answers the rest. Cost:
+    /// the number of nodes times its logarithm.
+    pub fn end_parts(&self, out: &mut Vec<u8>) -> Result<EndParts<'_, R>, WantOfMemory>
+        ensures text { IfOk result (λ rest. out.new.items ++ rest ≡ out.old.items ++ joined (ending self.now.state)) }
+        ensures tree { TreeIsPrinted self.now.state.core.nodes }
+    {
+        self.machine.end_parts(out)
     }
 }
