@@ -1,5 +1,9 @@
 ghost use Rattle.std.specs.Prelude.{◌≡◌, ◌≢◌, ◌↔◌, ◌≤◌, ◌<◌, ◌+◌, ◌++◌, ℕ, [], ◌∷◌, length, take, drop, Some, None, false, true, IsTrue, IfOk, OnOk, OnErr, IsErrOf, IsOkUnless, MatchOption, Err};
 ghost use Rattle.device_ids.specs.Faults.{path_fault};
+ghost use Rattle.std.specs.Cmp.{partial_equiv_from_equiv};
+ghost use Rattle.std.specs.Cmp.Lexicographic.{on_texts_equal};
+ghost use Rattle.std.specs.Cmp.Rules.{hashing};
+ghost use Rattle.std.proofs.Common.{rules};
 ghost use Rattle.device_ids.specs.declared.error.PathError.{PathError};
 ghost use Rattle.device_ids.specs.Folding.{folded, same};
 ghost use Rattle.device_ids.specs.Kept.{text_of, padded, HasFolded};
@@ -10,6 +14,7 @@ use crate::error::PathError;
 use crate::id::{DeviceId, is_id_byte, is_legal};
 use crate::text::{Bytes, FEW, Kept, Text, WantOfMemory, padded};
 use std::alloc::Global;
+use std::hash::{Hash, Hasher};
 use std::marker::Model;
 use std::rc::Rc;
 
@@ -219,6 +224,32 @@ impl InstancePath {
         ensures { IfOk result (λ text. text ≡ self.now) }
     {
         Text::front(alloc, &self.kept)
+    }
+}
+
+/// Two paths are equal where they agree after ASCII letters are folded, as Windows compares names.
+impl PartialEq for InstancePath {
+    ghost eq = { same };
+
+    ghost laws = { partial_equiv_from_equiv (on_texts_equal folded) };
+
+    fn eq(&self, other: &InstancePath) -> bool {
+        self.folded() == other.folded()
+    }
+}
+
+impl Eq for InstancePath {
+    ghost laws = { on_texts_equal folded };
+}
+
+/// The folded text is written whole.
+impl Hash for InstancePath {
+    ghost hash_input = { λ path. folded path ∷ [] };
+
+    ghost respects_eq = { Prim.search (hashing, rules) };
+
+    fn hash<H: Hasher>(&self, state: &mut H) {
+        state.write(self.folded());
     }
 }
 
