@@ -1,6 +1,7 @@
--- A line that has an event has at most 14 words.
-use Rattle.std.proofs.Common.{◌≡◌, ℕ, ◌+◌, ◌<◌, ◌≤◌, List, [], ◌∷◌, length, Option, Some, None, Bool, true, false, refl, ◌∙◌, ap, arith, suc, ◌&&◌, ◌||◌}
+-- At most 13 words follow the keyword of a line that has an event.
+use Rattle.std.proofs.Common.{◌≡◌, ℕ, ◌+◌, ◌<◌, ◌≤◌, List, [], ◌∷◌, length, Option, Some, None, Result, Err, Bool, true, false, refl, sym, subst, ◌∙◌, ap, arith, suc, inl, inr, ◌&&◌, ◌||◌}
 use Rattle.std.specs.Prelude.{codes}
+use Rattle.std.proofs.lemmas.Bool.Decides.{leb_tells}
 use Rattle.std.specs.Option.{is_some}
 use Rattle.std.specs.List.{list_all, cons_option}
 use Rattle.pnp_labels.specs.declared.event.Event.{Event}
@@ -8,10 +9,11 @@ use Rattle.pnp_labels.specs.declared.event.Event.TheVariants as events
 use Rattle.pnp_labels.specs.declared.label.EventWord.{EventWord}
 use Rattle.resource_reqs.specs.Resources.{Reqs}
 use Rattle.device_ids.specs.Ids.{joined}
-use Rattle.script_reader.specs.Tables.{keyword_of}
 use Rattle.script_reader.specs.Numbers.{◌>>=◌, only_if}
 use Rattle.script_reader.specs.Wants.{ids_of, id_of, list_of}
-use Rattle.script_reader.specs.Lines.{value_at, values, is_need, is_attribute, once, reqs_from, reqs_of, plug_of, change_of, path_of, name_of, event_by, event_of}
+use Rattle.script_reader.specs.Lines.{value_at, values, is_need, is_attribute, once, reqs_from, reqs_of, plug_of, change_of, path_of, name_of, event_by}
+use Rattle.script_reader.specs.Faults.{Gives}
+use Rattle.script_reader.specs.declared.fault.LineError.{LineError}
 use Rattle.script_reader.proofs.Gathering.{too_many}
 
 both : (a b : Bool) → (a && b) ≡ true → (a ≡ true) × (b ≡ true)
@@ -125,13 +127,19 @@ by_keyword EventWord.Change a b c d e f words many = no_change a (b ∷ c ∷ d 
 by_keyword EventWord.Watch a b c d e f words many = refl
 by_keyword EventWord.Unwatch a b c d e f words many = refl
 
-pub no_event : (words : List (List ℕ)) → 14 < length words → event_of words ≡ None
-no_event (word ∷ a ∷ b ∷ c ∷ d ∷ e ∷ f ∷ words) many =
-    after (keyword_of word) (λ keyword. event_by keyword (a ∷ b ∷ c ∷ d ∷ e ∷ f ∷ words)) (λ keyword. by_keyword keyword a b c d e f words (omega arith))
-no_event (word ∷ a ∷ b ∷ c ∷ d ∷ e ∷ []) many = absurd (omega arith)
-no_event (word ∷ a ∷ b ∷ c ∷ d ∷ []) many = absurd (omega arith)
-no_event (word ∷ a ∷ b ∷ c ∷ []) many = absurd (omega arith)
-no_event (word ∷ a ∷ b ∷ []) many = absurd (omega arith)
-no_event (word ∷ a ∷ []) many = absurd (omega arith)
-no_event (word ∷ []) many = absurd (omega arith)
-no_event [] many = absurd (omega arith)
+pub no_event : (keyword : EventWord) (words : List (List ℕ)) → 13 < length words → event_by keyword words ≡ None
+no_event keyword (a ∷ b ∷ c ∷ d ∷ e ∷ f ∷ words) many = by_keyword keyword a b c d e f words (omega arith)
+no_event keyword (a ∷ b ∷ c ∷ d ∷ e ∷ []) many = absurd (omega arith)
+no_event keyword (a ∷ b ∷ c ∷ d ∷ []) many = absurd (omega arith)
+no_event keyword (a ∷ b ∷ c ∷ []) many = absurd (omega arith)
+no_event keyword (a ∷ b ∷ []) many = absurd (omega arith)
+no_event keyword (a ∷ []) many = absurd (omega arith)
+no_event keyword [] many = absurd (omega arith)
+
+-- what is read of few words, where more of them have no event
+pub few_or_none : (keyword : EventWord) (words : List (List ℕ)) (r : Result Event LineError) → (length words ≤ 13 → Gives r (event_by keyword words))
+    → (13 < length words → r ≡ Err LineError.Bad) → Gives r (event_by keyword words)
+few_or_none keyword words r few many = elim (leb_tells (length words) 13) [
+  | inl h ↦ few h.1
+  | inr h ↦ subst (λ x. Gives x (event_by keyword words)) (sym (many h.1)) (no_event keyword words h.1)
+]

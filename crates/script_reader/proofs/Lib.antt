@@ -1,6 +1,7 @@
 pub mod Digits
 pub mod HexBytes
 pub mod Wording
+pub mod Paths
 pub mod Gathering
 pub mod Counting
 pub mod Errors

@@ -20,7 +20,7 @@ some_test n some = grind (arith, nat_tests)
 none_test : (n : ℕ) → n ≡ 0 → not (n == 0) ≡ false
 none_test n none = grind (arith, nat_tests)
 
-kept : (word : List ℕ) (parts : List (List ℕ)) → 0 < length word
+pub kept : (word : List ℕ) (parts : List (List ℕ)) → 0 < length word
     → filter (λ w. not (length w == 0)) (word ∷ parts) ≡ word ∷ filter (λ w. not (length w == 0)) parts
 kept word parts some = ap (λ b. cond b (word ∷ filter (λ w. not (length w == 0)) parts) (filter (λ w. not (length w == 0)) parts)) (some_test (length word) some)
 
@@ -108,6 +108,11 @@ no_word line none =
     let over : length line ≤ blanks line = grind (arith, common_steps) in
     behind_blanks line ∙ ap words_of (drop_all (blanks line) line over) ∙ nothing_there [] [] refl
 
+pub behind_start : (line : List ℕ) (start : ℕ) → position (λ byte. not (is_blank byte)) line ≡ Some start → words_of line ≡ words_of (drop start line)
+behind_start line start some =
+    let is : start ≡ blanks line = grind (arith, common_steps) in
+    behind_blanks line ∙ ap (λ n. words_of (drop n line)) (sym is)
+
 a_word : (line : List ℕ) (start : ℕ) → position (λ byte. not (is_blank byte)) line ≡ Some start
     → (start < length line) × (0 < word_len (drop start line))
     × (words_of line ≡ take (word_len (drop start line)) (drop start line) ∷ words_of (drop (word_len (drop start line)) (drop start line)))
@@ -119,7 +124,7 @@ a_word line start some =
     let long : 0 < length (take (word_len text) text) = omega (arith, length-take-le (word_len text) text (word_inside text), here) in (
       less,
       here,
-      behind_blanks line ∙ ap (λ n. words_of (drop n line)) (sym is)
+      behind_start line start some
           ∙ ap (filter (λ w. not (length w == 0))) (first_part text)
           ∙ kept (take (word_len text) text) (parts_behind (drop (word_len text) text)) long
           ∙ ap (λ ws. take (word_len text) text ∷ ws) (sym (behind_word text)),

@@ -25,6 +25,11 @@ use Rattle.script_reader.specs.Wants.{all_of, at_most, list_of, id_of, ids_of}
 abbrev pub path_of : List ℕ → Option (List ℕ)
 path_of text = only_if (is_path text) text
 
+-- the path that is the one word
+abbrev pub lone_path : List (List ℕ) → Option (List ℕ)
+lone_path (path ∷ []) = path_of path
+lone_path _ = None
+
 abbrev pub name_of : List ℕ → Option (List ℕ)
 name_of text = only_if (is_name text) text
 
@@ -84,28 +89,24 @@ plug_of (parent ∷ device ∷ instance ∷ attributes) = do
 plug_of _ = None
 
 abbrev pub pull_of : List (List ℕ) → Option Event
-pull_of (path ∷ []) = do
-  path ← path_of path
+pull_of words = do
+  path ← lone_path words
   Some (events.Pull path)
-pull_of _ = None
 
 abbrev pub disable_of : List (List ℕ) → Option Event
-disable_of (path ∷ []) = do
-  path ← path_of path
+disable_of words = do
+  path ← lone_path words
   Some (events.Disable path)
-disable_of _ = None
 
 abbrev pub enable_of : List (List ℕ) → Option Event
-enable_of (path ∷ []) = do
-  path ← path_of path
+enable_of words = do
+  path ← lone_path words
   Some (events.Enable path)
-enable_of _ = None
 
 abbrev pub eject_of : List (List ℕ) → Option Event
-eject_of (path ∷ []) = do
-  path ← path_of path
+eject_of words = do
+  path ← lone_path words
   Some (events.Eject path)
-eject_of _ = None
 
 abbrev pub driver_of : List (List ℕ) → Option Event
 driver_of (name ∷ kind ∷ []) = do
@@ -189,16 +190,14 @@ complete_of (path ∷ minor ∷ ok ∷ []) = completed path minor ok
 complete_of _ = None
 
 abbrev pub open_of : List (List ℕ) → Option Event
-open_of (path ∷ []) = do
-  path ← path_of path
+open_of words = do
+  path ← lone_path words
   Some (events.OpenHandle path)
-open_of _ = None
 
 abbrev pub close_of : List (List ℕ) → Option Event
-close_of (path ∷ []) = do
-  path ← path_of path
+close_of words = do
+  path ← lone_path words
   Some (events.CloseHandle path)
-close_of _ = None
 
 -- bridges have windows of ports and of memory
 abbrev pub has_windows : Kind → Bool

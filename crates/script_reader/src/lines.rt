@@ -1,7 +1,8 @@
 ghost use Rattle.std.specs.Prelude.{◌≡◌, ◌<◌, length, map, IfOk, Some, None};
 ghost use Rattle.std.specs.Option.{option_map};
 ghost use Rattle.script_reader.specs.Faults.{Gives};
-ghost use Rattle.script_reader.specs.Lines.{path_of, name_of, rule_path_of, is_answerable, rule_of, uses_of, pull_of, disable_of, enable_of, eject_of, driver_of, uses_by, teach_of, related, relate_of, res_of, reserved, reserve_of, completed, complete_of, open_of, close_of, has_windows, window_res_of, window_of, change_of, watched, watch_of, unwatch_of};
+ghost use Rattle.script_reader.specs.Lines.{path_of, lone_path, name_of, rule_path_of, is_answerable, rule_of, uses_of, pull_of, disable_of, enable_of, eject_of, driver_of, uses_by, teach_of, related, relate_of, res_of, reserved, reserve_of, completed, complete_of, open_of, close_of, has_windows, window_res_of, window_of, change_of, watched, watch_of, unwatch_of};
+ghost use Rattle.script_reader.specs.Words.{words_of};
 
 use crate::fault::LineError;
 use crate::needs::{are_needs, reqs_of};
@@ -9,8 +10,8 @@ use crate::numbers::{number_of, range_in};
 use crate::tables::{
     agrees_of, answer_of, ask_of, driver_kind_of, kind_of, minor_of, ok_of, rel_kind_of,
 };
-use crate::words::is_name;
-use device_ids::{InstancePath, Text, split_once};
+use crate::words::{is_name, next_word, word_start};
+use device_ids::{InstancePath, PathError, Text, split_once};
 use pnp_labels::{Answer, AskWhat, Event, RelKind, Rule};
 use resource_reqs::{Kind, Res};
 use std::alloc::Global;
@@ -25,6 +26,35 @@ pub fn path_of(alloc: Global, word: &[u8]) -> Result<InstancePath, LineError>
     Ok(InstancePath::read(alloc, word)?)
 }
 
+/// The path that is the one word of a line, by its words.
+fn only_path(alloc: Global, line: &[u8]) -> Result<InstancePath, LineError>
+    ensures { Gives result (lone_path (words_of line.now)) }
+{
+    let Some((word, rest)) = next_word(line) else {
+        return Err(LineError::Bad);
+    };
+    if next_word(rest).is_some() {
+        return Err(LineError::Bad);
+    }
+    path_of(alloc, word)
+}
+
+/// The path that is the one word of a line. A path has no blanks, so that all that follows the blanks in front is read as
+/// one first.
+#[tactic(auto, using(crate::proofs::Paths::no_path, crate::proofs::Paths::path_behind))]
+fn lone_path(alloc: Global, line: &[u8]) -> Result<InstancePath, LineError>
+    ensures { Gives result (lone_path (words_of line.now)) }
+{
+    let Some(start) = word_start(line) else {
+        return Err(LineError::Bad);
+    };
+    match InstancePath::read(alloc, &line[start..]) {
+        Ok(path) => Ok(path),
+        Err(PathError::WantOfMemory) => Err(LineError::WantOfMemory),
+        Err(_) => only_path(alloc, line),
+    }
+}
+
 /// The name that the word is.
 fn name_of(alloc: Global, word: &[u8]) -> Result<Text, LineError>
     ensures { Gives result (name_of word.now) }
@@ -36,13 +66,10 @@ fn name_of(alloc: Global, word: &[u8]) -> Result<Text, LineError>
 }
 
 /// `pull PATH`.
-pub fn pull_of(alloc: Global, words: &[&[u8]]) -> Result<Event, LineError>
-    ensures { Gives result (pull_of (map (λ w. w.now) words.now)) }
+pub fn pull_of(alloc: Global, line: &[u8]) -> Result<Event, LineError>
+    ensures { Gives result (pull_of (words_of line.now)) }
 {
-    let [path] = words else {
-        return Err(LineError::Bad);
-    };
-    let path = path_of(alloc, path)?;
+    let path = lone_path(alloc, line)?;
     Ok(Event::Pull { path })
 }
 
@@ -61,35 +88,26 @@ pub fn driver_of(alloc: Global, words: &[&[u8]]) -> Result<Event, LineError>
 }
 
 /// `disable PATH`.
-pub fn disable_of(alloc: Global, words: &[&[u8]]) -> Result<Event, LineError>
-    ensures { Gives result (disable_of (map (λ w. w.now) words.now)) }
+pub fn disable_of(alloc: Global, line: &[u8]) -> Result<Event, LineError>
+    ensures { Gives result (disable_of (words_of line.now)) }
 {
-    let [path] = words else {
-        return Err(LineError::Bad);
-    };
-    let path = path_of(alloc, path)?;
+    let path = lone_path(alloc, line)?;
     Ok(Event::Disable { path })
 }
 
 /// `enable PATH`.
-pub fn enable_of(alloc: Global, words: &[&[u8]]) -> Result<Event, LineError>
-    ensures { Gives result (enable_of (map (λ w. w.now) words.now)) }
+pub fn enable_of(alloc: Global, line: &[u8]) -> Result<Event, LineError>
+    ensures { Gives result (enable_of (words_of line.now)) }
 {
-    let [path] = words else {
-        return Err(LineError::Bad);
-    };
-    let path = path_of(alloc, path)?;
+    let path = lone_path(alloc, line)?;
     Ok(Event::Enable { path })
 }
 
 /// `eject PATH`.
-pub fn eject_of(alloc: Global, words: &[&[u8]]) -> Result<Event, LineError>
-    ensures { Gives result (eject_of (map (λ w. w.now) words.now)) }
+pub fn eject_of(alloc: Global, line: &[u8]) -> Result<Event, LineError>
+    ensures { Gives result (eject_of (words_of line.now)) }
 {
-    let [path] = words else {
-        return Err(LineError::Bad);
-    };
-    let path = path_of(alloc, path)?;
+    let path = lone_path(alloc, line)?;
     Ok(Event::Eject { path })
 }
 
@@ -266,24 +284,18 @@ pub fn complete_of(alloc: Global, words: &[&[u8]]) -> Result<Event, LineError>
 }
 
 /// `open PATH`.
-pub fn open_of(alloc: Global, words: &[&[u8]]) -> Result<Event, LineError>
-    ensures { Gives result (open_of (map (λ w. w.now) words.now)) }
+pub fn open_of(alloc: Global, line: &[u8]) -> Result<Event, LineError>
+    ensures { Gives result (open_of (words_of line.now)) }
 {
-    let [path] = words else {
-        return Err(LineError::Bad);
-    };
-    let path = path_of(alloc, path)?;
+    let path = lone_path(alloc, line)?;
     Ok(Event::OpenHandle { path })
 }
 
 /// `close PATH`.
-pub fn close_of(alloc: Global, words: &[&[u8]]) -> Result<Event, LineError>
-    ensures { Gives result (close_of (map (λ w. w.now) words.now)) }
+pub fn close_of(alloc: Global, line: &[u8]) -> Result<Event, LineError>
+    ensures { Gives result (close_of (words_of line.now)) }
 {
-    let [path] = words else {
-        return Err(LineError::Bad);
-    };
-    let path = path_of(alloc, path)?;
+    let path = lone_path(alloc, line)?;
     Ok(Event::CloseHandle { path })
 }
 

@@ -30,7 +30,7 @@ pub fn is_blank(byte: u8) -> bool
 }
 
 /// The place at which the first word begins.
-fn word_start(line: &[u8]) -> Option<usize>
+pub fn word_start(line: &[u8]) -> Option<usize>
     ensures { result ≡ position (λ byte. not (is_blank byte)) line.now }
 {
     line.iter().position(|byte| !is_blank(*byte))
@@ -45,7 +45,7 @@ fn first_blank(text: &[u8]) -> Option<usize>
 
 /// The first word, and what stands behind it; none where there is no word. Cost: the bytes up to its end.
 #[tactic(auto, using(crate::proofs::Wording::no_word))]
-fn next_word(line: &[u8]) -> Option<(&[u8], &[u8])>
+pub fn next_word(line: &[u8]) -> Option<(&[u8], &[u8])>
     ensures word { MatchOption result (words_of line.now ≡ []) (λ x. words_of line.now ≡ x.0.now ∷ words_of x.1.now) }
     ensures shorter { IfSome result (λ x. length x.1.now < length line.now) }
 {
