@@ -27,6 +27,9 @@ fn settle<R: Drivers, K: Sink>(
     ensures failed { IsErrOf result WriteError.WriteFault → Rose (K.faults sink.old) (K.faults sink.new) }
     ensures counts { K.faults sink.old ≤ K.faults sink.new }
 {
+    if front.is_quiet() {
+        return Ok(());
+    }
     'steps: loop {
         match front.step()? {
             Moved::Label(label) => tell(sink, lines, tally, label)?,

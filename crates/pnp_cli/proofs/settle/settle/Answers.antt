@@ -1,6 +1,14 @@
-use Rattle.std.proofs.Common.{arith}
+use Rattle.std.proofs.Common.{arith, refl}
+use Rattle.pnp_machine.specs.declared.manager.Moved.TheVariants.{Quiet}
 use Rattle.pnp_cli.proofs.Settling.{stepping_none, stepped_by, less_left, stepping_more, stepping_quiet, stepping_front, stepping_front_more}
 use Rattle.pnp_cli.proofs.settle.settle.Goals as goal
+
+pub returns-then-is_quiet-clause-ok : goal.returns-then-is_quiet-clause-ok
+returns-then-is_quiet-clause-ok g c =
+    let taken = g.K.Sink.taken c.args.sink.now in
+    let none = stepping_none c.args.front.now taken c.args.lines.now.items c.args.tally.now c.requires.run in
+    stepping_quiet c.args.front.now c.args.front.now c.args.front.now taken taken c.args.lines.now.items c.args.lines.now.items c.args.tally.now c.args.tally.now none
+    Quiet refl (c.if-is_quiet.ensures, refl) refl refl c.requires.run
 
 pub returns-in_err-label-clause-front : goal.returns-in_err-label-clause-front
 returns-in_err-label-clause-front g c =
