@@ -1,6 +1,5 @@
 pub mod Texts
 pub mod Counting
-pub mod Folding
 pub mod Inserts
 pub mod Ready
 pub mod Indexes

@@ -1,4 +1,4 @@
-ghost use Rattle.std.specs.Prelude.{◌≡◌, ◌<◌, ◌+◌, [], ◌∷◌, ◌++◌, false, find, IfOk, OnOk, option_copied};
+ghost use Rattle.std.specs.Prelude.{◌≡◌, ◌<◌, ◌+◌, [], ◌∷◌, ◌++◌, false, find, OnOk, option_copied};
 ghost use Rattle.device_ids.specs.Folding.{same};
 ghost use Rattle.pnp_model.specs.Keyed.{without_first};
 ghost use Rattle.pnp_model.specs.Tests.{has_same};
@@ -8,46 +8,24 @@ use indexmap::IndexSet;
 use std::alloc::Global;
 use std::marker::Model;
 
-/// A path that is to be disabled, with the memory that noting it takes. A contract sees the path.
-#[derive(Drop)]
-pub(crate) struct Entry {
-    path: InstancePath,
-    /// The folded text.
-    key: Vec<u8>,
-}
-
-impl Model for Entry {
-    ghost use Rattle.std.specs.Prelude.{◌≡◌};
-    ghost use Rattle.device_ids.specs.Folding.{folded};
-    ghost use Rattle.pnp_labels.specs.Texts.{Text};
-
-    ghost Value = { Text };
-
-    ghost view = { λ e. e.path };
-
-    ghost invariant = { λ e. e.key.items ≡ folded e.path };
-}
-
 /// The disabled paths in the order in which they were disabled, looked up without a scan (this project's own). No two
 /// are the same up to ASCII case. A contract sees the paths, and for how many more there is room.
 #[derive(Drop)]
 pub(crate) struct DisabledPaths {
-    /// The folded paths, in the order of the paths.
-    keys: IndexSet<Vec<u8>>,
-    paths: Vec<InstancePath>,
+    paths: IndexSet<InstancePath>,
     room: usize,
 }
 
 impl Model for DisabledPaths {
-    ghost use Rattle.std.specs.Prelude.{map};
+    ghost use Rattle.std.specs.Prelude.{◌≤◌};
     ghost use Rattle.indexmap.specs.IndexSet.{spare};
-    ghost use Rattle.pnp_machine.specs.DisabledPaths.{DisabledPaths, IsFolded};
+    ghost use Rattle.pnp_machine.specs.DisabledPaths.{DisabledPaths};
 
     ghost Value = { DisabledPaths };
 
-    ghost view = { λ d. record { paths = d.paths.items; room = d.room } };
+    ghost view = { λ d. record { paths = d.paths.keys; room = d.room } };
 
-    ghost invariant = { λ d. IsFolded (map (λ key. key.items) d.keys.keys) (spare d.keys) d.paths d.room };
+    ghost invariant = { λ d. d.room ≤ spare d.paths };
 }
 
 impl DisabledPaths {
@@ -56,26 +34,16 @@ impl DisabledPaths {
         ensures { result ≡ record { paths = []; room = 0 } }
     {
         DisabledPaths {
-            keys: IndexSet::new(alloc),
-            paths: Vec::new(alloc),
+            paths: IndexSet::new(alloc),
             room: 0,
         }
-    }
-
-    /// The path, copied with its folded text. Cost: the length.
-    pub(crate) fn entry(alloc: Global, path: &InstancePath) -> Result<Entry, WantOfMemory>
-        ensures { IfOk result (λ entry. entry ≡ path.now) }
-    {
-        let path = path.copy(alloc)?;
-        let key = Vec::from_slice(alloc, path.folded())?;
-        Ok(Entry { path, key })
     }
 
     /// Whether a path is disabled, up to ASCII case. It takes no memory. Cost: the length of the path.
     pub(crate) fn has(&self, path: &InstancePath) -> bool
         ensures { result ≡ has_same path.now self.now.paths }
     {
-        self.keys.contains(path.folded())
+        self.paths.contains(path)
     }
 
     /// The disabled path that is the same up to ASCII case; none exactly where there is none. It takes no memory. Cost:
@@ -83,8 +51,7 @@ impl DisabledPaths {
     pub(crate) fn find(&self, path: &InstancePath) -> Option<&InstancePath>
         ensures { option_copied result ≡ find (same path.now) self.now.paths }
     {
-        let place = self.keys.get_index_of(path.folded())?;
-        Some(&self.paths[place])
+        self.paths.get(path)
     }
 
     /// Takes the memory for one path more. The paths stay, whatever is answered.
@@ -93,7 +60,6 @@ impl DisabledPaths {
         ensures paths { self.new.paths ≡ self.old.paths }
     {
         if self.room == 0 {
-            self.keys.reserve(1)?;
             self.paths.reserve(1)?;
             self.room = 1;
         }
@@ -102,15 +68,13 @@ impl DisabledPaths {
 
     /// A path is disabled, as the last. Conditions: there is room, and none is the same. It takes no memory. Cost: the
     /// length of the path.
-    pub(crate) fn put(&mut self, entry: Entry)
+    pub(crate) fn put(&mut self, path: InstancePath)
         requires room { 0 < self.old.room }
-        requires new { has_same entry self.old.paths ≡ false }
-        ensures paths { self.new.paths ≡ self.old.paths ++ entry ∷ [] }
+        requires new { has_same path self.old.paths ≡ false }
+        ensures paths { self.new.paths ≡ self.old.paths ++ path ∷ [] }
         ensures room { self.new.room + 1 ≡ self.old.room }
     {
-        let Entry { path, key } = entry;
-        let _ = self.keys.insert(key);
-        self.paths.push_reserved(path);
+        let _ = self.paths.insert(path);
         self.room -= 1;
     }
 
@@ -120,9 +84,8 @@ impl DisabledPaths {
         ensures paths { self.new.paths ≡ without_first (same path.now) self.old.paths }
         ensures room { self.new.room ≡ self.old.room }
     {
-        if let Some(place) = self.keys.get_index_of(path.folded()) {
-            self.keys.shift_remove_index(place);
-            self.paths.remove(place);
+        if let Some(place) = self.paths.get_index_of(path) {
+            self.paths.shift_remove_index(place);
         }
     }
 }

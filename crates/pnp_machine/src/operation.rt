@@ -6,8 +6,7 @@ ghost use Rattle.pnp_machine.specs.Operations.{operation_of, MayGo};
 ghost use Rattle.pnp_machine.specs.Machines.{settled_path, CompletesOperation, MovesBy};
 
 use crate::devices::Devices;
-use crate::disabled::{DisabledPaths, Entry};
-use device_ids::WantOfMemory;
+use device_ids::{InstancePath, WantOfMemory};
 use device_stack::{NoSuchRequest, Walk};
 use driver_rack::Drivers;
 use pnp_labels::{Minor, RemoveStep};
@@ -40,7 +39,7 @@ pub(crate) enum OperationStep {
     /// Of an operation that removes devices. Where it settled its own device, the path of this one.
     Removed {
         step: RemoveStep,
-        settled: Option<Entry>,
+        settled: Option<InstancePath>,
     },
 }
 
@@ -49,7 +48,7 @@ fn settled_path(
     alloc: Global,
     devices: &Devices,
     removal: &Removal,
-) -> Result<Option<Entry>, WantOfMemory>
+) -> Result<Option<InstancePath>, WantOfMemory>
     ensures { IfOk result (λ path. path ≡ settled_path removal.now devices.now.tree.nodes) }
 {
     if !removal.settles() {
@@ -59,9 +58,7 @@ fn settled_path(
         return Ok(None);
     };
     match devices.tree().node(serial) {
-        Some(node) if removal.is_target(node.serial) => {
-            Ok(Some(DisabledPaths::entry(alloc, &node.path)?))
-        }
+        Some(node) if removal.is_target(node.serial) => Ok(Some(node.path.copy(alloc)?)),
         _ => Ok(None),
     }
 }

@@ -11,12 +11,12 @@ ghost use Rattle.pnp_machine.specs.Rebalanced.{rebalance_label, operation_after,
 ghost use Rattle.pnp_machine.specs.declared.turn.Turn.TheVariants as turns;
 
 use crate::devices::Devices;
-use crate::disabled::{DisabledPaths, Entry};
+use crate::disabled::DisabledPaths;
 use crate::machine::Machine;
 use crate::operation::{Operation, OperationStep};
 use crate::starts::Starts;
 use crate::tasks::{Duty, Tasks};
-use device_ids::WantOfMemory;
+use device_ids::{InstancePath, WantOfMemory};
 use driver_rack::Drivers;
 use pnp_labels::{Label, OpKind, RemoveStep};
 use rebalance::RebalanceStep;
@@ -41,7 +41,7 @@ fn apply_effect(
     operation: &mut Option<Operation>,
     tasks: &mut Tasks,
     step: RemoveStep,
-    settled: Option<Entry>,
+    settled: Option<InstancePath>,
 ) -> Label
     requires tasks { 0 < tasks.old.room }
     requires disabled { 0 < disabled.old.room }
@@ -57,8 +57,8 @@ fn apply_effect(
             label
         }
         RemoveStep::Disabled(label) => {
-            if let Some(entry) = settled {
-                disabled.put(entry);
+            if let Some(path) = settled {
+                disabled.put(path);
             }
             label
         }
