@@ -1,7 +1,6 @@
 ghost use Rattle.std.specs.Prelude.{◌≡◌, ◌++◌, [], ◌∷◌, false, OnOk, OnErr, map, position};
 ghost use Rattle.std.specs.List.{list_any, All};
-ghost use Rattle.std.specs.Str.{bytes_eq};
-ghost use Rattle.device_ids.specs.Folding.{folded};
+ghost use Rattle.device_ids.specs.Folding.{folded, same};
 ghost use Rattle.pnp_model.specs.Cores.{serials_of};
 ghost use Rattle.pnp_model.specs.Keyed.{changed_first};
 ghost use Rattle.devnode_tree.specs.Entries.{nodes_of, has_serial, with_child, without_child, lone};
@@ -10,7 +9,7 @@ ghost use Rattle.devnode_tree.specs.Trees.{Ascends};
 use crate::births::Births;
 use crate::entry::Entry;
 use crate::node::Node;
-use device_ids::WantOfMemory;
+use device_ids::{InstancePath, WantOfMemory};
 use indexmap::IndexSet;
 
 /// The place of the node with a serial, found by halves.
@@ -74,14 +73,14 @@ pub(crate) fn forget_child(entries: &mut [Entry], parent: u64, serial: u64)
 
 /// Adds a node as the last, with its path and birth number, and notes it beside its parent.
 pub(crate) fn add(
-    paths: &mut IndexSet<Vec<u8>>,
+    paths: &mut IndexSet<InstancePath>,
     births: &mut Births,
     entries: &mut Vec<Entry>,
     node: Node,
 ) -> Result<(), WantOfMemory>
     requires ascends { Ascends 0 (serials_of (nodes_of entries.old.items)) }
-    requires new { list_any (λ path. bytes_eq (folded node.path) path.items) paths.old.keys ≡ false }
-    ensures path { OnOk result (map (λ path. path.items) paths.new.keys ≡ map (λ path. path.items) paths.old.keys ++ folded node.path ∷ []) }
+    requires new { list_any (same node.path) paths.old.keys ≡ false }
+    ensures path { OnOk result (map folded paths.new.keys ≡ map folded paths.old.keys ++ folded node.path ∷ []) }
     ensures entry { OnOk result (entries.new.items ≡ changed_first (has_serial node.parent) (with_child node.serial) entries.old.items ++ lone node ∷ []) }
     ensures err { OnErr result (paths.new.keys ≡ paths.old.keys) }
     ensures born { OnOk result (births.new ≡ births.old ++ node.born ∷ []) }
@@ -89,7 +88,7 @@ pub(crate) fn add(
     ensures entries_err { OnErr result (entries.new.items ≡ entries.old.items) }
 {
     let alloc = *entries.allocator();
-    let key = Vec::from_slice(alloc, node.path.folded())?;
+    let key = node.path.copy(alloc)?;
     paths.reserve(1)?;
     entries.reserve(1)?;
     births.push(node.born)?;

@@ -26,8 +26,8 @@ use std::marker::Model;
 /// of their serials, and the next serial.
 #[derive(Drop)]
 pub struct Tree {
-    /// The folded paths of the nodes, in the order of the entries.
-    paths: IndexSet<Vec<u8>>,
+    /// Copies of the paths of the nodes, in the order of the entries.
+    paths: IndexSet<InstancePath>,
     /// The birth numbers of the nodes, in the order of the entries.
     births: Births,
     /// A serial below which no node is a bottom: was told that it has gone, and has no child with drivers.
@@ -38,6 +38,7 @@ pub struct Tree {
 
 impl Model for Tree {
     ghost use Rattle.std.specs.Prelude.{map};
+    ghost use Rattle.device_ids.specs.Folding.{folded};
     ghost use Rattle.devnode_tree.specs.Trees.{Tree};
     ghost use Rattle.devnode_tree.specs.Entries.{tree_of, IsIndexed};
 
@@ -45,7 +46,7 @@ impl Model for Tree {
 
     ghost view = { λ t. tree_of t.entries.items t.next };
 
-    ghost invariant = { λ t. IsIndexed (map (λ path. path.items) t.paths.keys) t.births t.lowest t.entries.items t.next };
+    ghost invariant = { λ t. IsIndexed (map folded t.paths.keys) t.births t.lowest t.entries.items t.next };
 }
 
 impl Tree {
@@ -58,7 +59,7 @@ impl Tree {
         let mut births = Births::new(alloc);
         let mut entries = Vec::new(alloc);
         let node = root(alloc)?;
-        let key = Vec::from_slice(alloc, node.path.folded())?;
+        let key = node.path.copy(alloc)?;
         paths.insert(key)?;
         births.push(node.born)?;
         entries.push(Entry {
@@ -99,7 +100,7 @@ impl Tree {
         if place_of(&self.entries, parent).is_none() {
             return Err(JoinError::NoParent);
         }
-        if self.paths.contains(path.folded()) {
+        if self.paths.contains(&path) {
             return Err(JoinError::SamePath);
         }
         let serial = self.next;
@@ -264,7 +265,7 @@ impl Tree {
     pub fn find(&self, path: &InstancePath) -> Option<u64>
         ensures { result ≡ option_map (λ n. n.serial) (node_of path.now self.now.nodes) }
     {
-        let place = self.paths.get_index_of(path.folded())?;
+        let place = self.paths.get_index_of(path)?;
         Some(self.entries[place].serial())
     }
 

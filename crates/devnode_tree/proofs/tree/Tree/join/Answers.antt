@@ -1,4 +1,5 @@
 use Rattle.std.proofs.Common.{◌<◌, ◌^◌, ◌+◌, subst, ◌∙◌, ap, sym, not, true, refl}
+use Rattle.device_ids.specs.Folding.{folded}
 use Rattle.pnp_model.specs.Cores.{fresh_node}
 use Rattle.devnode_tree.specs.Trees.{Tree}
 use Rattle.devnode_tree.proofs.Changes.{nodes_tree}
@@ -17,22 +18,22 @@ pub returns-then-is_none-clause-same_path : goal.returns-then-is_none-clause-sam
 returns-then-is_none-clause-same_path c = rw (← c.self.view_is) (without_parent _ _ (node_is_there c.self.inside.entries.items c.deref.result.now c.deref.ensures.value c.args.parent c.place_of.result c.place_of.ensures ∙ (c.is_none.ensures ∙ ap not c.if-is_none.true))).same_path
 
 pub returns-then-contains-clause-no_parent : goal.returns-then-contains-clause-no_parent
-returns-then-contains-clause-no_parent c = rw (← c.self.view_is) (with_path _ _ (node_is_there c.self.inside.entries.items c.deref.result.now c.deref.ensures.value c.args.parent c.place_of.result c.place_of.ensures ∙ (c.is_none.ensures ∙ ap not c.if-is_none.false)) (sym (path_there (λ path. path.items) c.self.inside.paths.keys c.self.inside.entries.items c.self.inside.next c.self.invariant.kept c.args.path) ∙ (sym (rw c.folded.ensures at c.contains.ensures) ∙ c.if-contains.true))).no_parent
+returns-then-contains-clause-no_parent c = rw (← c.self.view_is) (with_path _ _ (node_is_there c.self.inside.entries.items c.deref.result.now c.deref.ensures.value c.args.parent c.place_of.result c.place_of.ensures ∙ (c.is_none.ensures ∙ ap not c.if-is_none.false)) (sym (path_there folded c.self.inside.paths.keys c.self.inside.entries.items c.self.inside.next c.self.invariant.kept c.args.path) ∙ (sym c.contains.ensures ∙ c.if-contains.true))).no_parent
 
 pub returns-then-contains-clause-same_path : goal.returns-then-contains-clause-same_path
-returns-then-contains-clause-same_path c = rw (← c.self.view_is) (with_path _ _ (node_is_there c.self.inside.entries.items c.deref.result.now c.deref.ensures.value c.args.parent c.place_of.result c.place_of.ensures ∙ (c.is_none.ensures ∙ ap not c.if-is_none.false)) (sym (path_there (λ path. path.items) c.self.inside.paths.keys c.self.inside.entries.items c.self.inside.next c.self.invariant.kept c.args.path) ∙ (sym (rw c.folded.ensures at c.contains.ensures) ∙ c.if-contains.true))).same_path
+returns-then-contains-clause-same_path c = rw (← c.self.view_is) (with_path _ _ (node_is_there c.self.inside.entries.items c.deref.result.now c.deref.ensures.value c.args.parent c.place_of.result c.place_of.ensures ∙ (c.is_none.ensures ∙ ap not c.if-is_none.false)) (sym (path_there folded c.self.inside.paths.keys c.self.inside.entries.items c.self.inside.next c.self.invariant.kept c.args.path) ∙ (sym c.contains.ensures ∙ c.if-contains.true))).same_path
 
 pub returns-in-Ok-clause-no_parent : goal.returns-in-Ok-clause-no_parent
-returns-in-Ok-clause-no_parent c = rw (← c.self.view_is) (joins _ _ (node_is_there c.self.inside.entries.items c.deref.result.now c.deref.ensures.value c.args.parent c.place_of.result c.place_of.ensures ∙ (c.is_none.ensures ∙ ap not c.if-is_none.false)) (sym (path_there (λ path. path.items) c.self.inside.paths.keys c.self.inside.entries.items c.self.inside.next c.self.invariant.kept c.args.path) ∙ (sym (rw c.folded.ensures at c.contains.ensures) ∙ c.if-contains.false)) _).no_parent
+returns-in-Ok-clause-no_parent c = rw (← c.self.view_is) (joins _ _ (node_is_there c.self.inside.entries.items c.deref.result.now c.deref.ensures.value c.args.parent c.place_of.result c.place_of.ensures ∙ (c.is_none.ensures ∙ ap not c.if-is_none.false)) (sym (path_there folded c.self.inside.paths.keys c.self.inside.entries.items c.self.inside.next c.self.invariant.kept c.args.path) ∙ (sym c.contains.ensures ∙ c.if-contains.false)) _).no_parent
 
 pub returns-in-Ok-clause-same_path : goal.returns-in-Ok-clause-same_path
-returns-in-Ok-clause-same_path c = rw (← c.self.view_is) (joins _ _ (node_is_there c.self.inside.entries.items c.deref.result.now c.deref.ensures.value c.args.parent c.place_of.result c.place_of.ensures ∙ (c.is_none.ensures ∙ ap not c.if-is_none.false)) (sym (path_there (λ path. path.items) c.self.inside.paths.keys c.self.inside.entries.items c.self.inside.next c.self.invariant.kept c.args.path) ∙ (sym (rw c.folded.ensures at c.contains.ensures) ∙ c.if-contains.false)) _).same_path
+returns-in-Ok-clause-same_path c = rw (← c.self.view_is) (joins _ _ (node_is_there c.self.inside.entries.items c.deref.result.now c.deref.ensures.value c.args.parent c.place_of.result c.place_of.ensures ∙ (c.is_none.ensures ∙ ap not c.if-is_none.false)) (sym (path_there folded c.self.inside.paths.keys c.self.inside.entries.items c.self.inside.next c.self.invariant.kept c.args.path) ∙ (sym c.contains.ensures ∙ c.if-contains.false)) _).same_path
 
 pub returns-in-Err-clause-no_parent : goal.returns-in-Err-clause-no_parent
-returns-in-Err-clause-no_parent c = rw (← c.self.view_is) (short _ _ (node_is_there c.self.inside.entries.items c.deref.result.now c.deref.ensures.value c.args.parent c.place_of.result c.place_of.ensures ∙ (c.is_none.ensures ∙ ap not c.if-is_none.false)) (sym (path_there (λ path. path.items) c.self.inside.paths.keys c.self.inside.entries.items c.self.inside.next c.self.invariant.kept c.args.path) ∙ (sym (rw c.folded.ensures at c.contains.ensures) ∙ c.if-contains.false))).no_parent
+returns-in-Err-clause-no_parent c = rw (← c.self.view_is) (short _ _ (node_is_there c.self.inside.entries.items c.deref.result.now c.deref.ensures.value c.args.parent c.place_of.result c.place_of.ensures ∙ (c.is_none.ensures ∙ ap not c.if-is_none.false)) (sym (path_there folded c.self.inside.paths.keys c.self.inside.entries.items c.self.inside.next c.self.invariant.kept c.args.path) ∙ (sym c.contains.ensures ∙ c.if-contains.false))).no_parent
 
 pub returns-in-Err-clause-same_path : goal.returns-in-Err-clause-same_path
-returns-in-Err-clause-same_path c = rw (← c.self.view_is) (short _ _ (node_is_there c.self.inside.entries.items c.deref.result.now c.deref.ensures.value c.args.parent c.place_of.result c.place_of.ensures ∙ (c.is_none.ensures ∙ ap not c.if-is_none.false)) (sym (path_there (λ path. path.items) c.self.inside.paths.keys c.self.inside.entries.items c.self.inside.next c.self.invariant.kept c.args.path) ∙ (sym (rw c.folded.ensures at c.contains.ensures) ∙ c.if-contains.false))).same_path
+returns-in-Err-clause-same_path c = rw (← c.self.view_is) (short _ _ (node_is_there c.self.inside.entries.items c.deref.result.now c.deref.ensures.value c.args.parent c.place_of.result c.place_of.ensures ∙ (c.is_none.ensures ∙ ap not c.if-is_none.false)) (sym (path_there folded c.self.inside.paths.keys c.self.inside.entries.items c.self.inside.next c.self.invariant.kept c.args.path) ∙ (sym c.contains.ensures ∙ c.if-contains.false))).same_path
 
 pub invariant_of-self : goal.invariant_of-self
 invariant_of-self c = record {
@@ -54,4 +55,4 @@ returns-in-Ok-clause-tree c =
     rw (c.in-Ok.ensures.entry, c.fresh-node.ensures) (kept_joined _ c.self.inside.entries.items c.self.inside.next c.self.invariant.kept (fresh_node c.self.inside.next c.args.parent c.args.born c.args.path c.args.hw c.args.compat c.args.reqs) refl (has_some c.args.parent _ (node_is_there c.self.inside.entries.items c.deref.result.now c.deref.ensures.value c.args.parent c.place_of.result c.place_of.ensures ∙ (c.is_none.ensures ∙ ap not c.if-is_none.false))) (subst (λ (t : Tree). t.next < 2 ^ 63) (sym c.self.view_is) c.requires.room)).tree
 
 pub add-requires-clause-new : goal.add-requires-clause-new
-add-requires-clause-new c = rw c.fresh-node.ensures (sym (rw c.folded.ensures at c.contains.ensures) ∙ c.if-contains.false)
+add-requires-clause-new c = rw c.fresh-node.ensures (sym c.contains.ensures ∙ c.if-contains.false)
