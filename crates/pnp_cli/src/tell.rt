@@ -9,7 +9,7 @@ use pnp_io::{Failed, Sink, write_all};
 use pnp_labels::{Label, push_line};
 
 /// Where so many bytes wait, they are written.
-const MOST: usize = 4096;
+const MOST: usize = 16384;
 
 /// Writes the lines that wait.
 pub fn write_lines<K: Sink>(sink: &mut K, lines: &mut Vec<u8>) -> Result<(), Failed>
@@ -24,10 +24,10 @@ pub fn write_lines<K: Sink>(sink: &mut K, lines: &mut Vec<u8>) -> Result<(), Fai
     Ok(())
 }
 
-/// Writes the lines that wait, where they have 4,096 bytes.
+/// Writes the lines that wait, where they have 16,384 bytes.
 fn write_many<K: Sink>(sink: &mut K, lines: &mut Vec<u8>) -> Result<(), Failed>
     ensures passes { OnOk result (Passes (K.taken sink.old) lines.old.items (K.taken sink.new) lines.new.items) }
-    ensures few { OnOk result (length lines.new.items < 4096) }
+    ensures few { OnOk result (length lines.new.items < 16384) }
     ensures front { OnErr result (AppendsFront (K.taken sink.old) (K.taken sink.new) lines.old.items) }
     ensures failed { IsErr result → Rose (K.faults sink.old) (K.faults sink.new) }
     ensures counts { K.faults sink.old ≤ K.faults sink.new }
@@ -38,7 +38,7 @@ fn write_many<K: Sink>(sink: &mut K, lines: &mut Vec<u8>) -> Result<(), Failed>
     write_lines(sink, lines)
 }
 
-/// Appends the line of a label to those that wait, which are written where they have 4,096 bytes; and counts it.
+/// Appends the line of a label to those that wait, which are written where they have 16,384 bytes; and counts it.
 fn tell_one<K: Sink>(
     sink: &mut K,
     lines: &mut Vec<u8>,
@@ -46,7 +46,7 @@ fn tell_one<K: Sink>(
     label: &Label,
 ) -> Result<(), WriteError>
     ensures held { OnOk result (Held (K.taken sink.old) lines.old.items tally.old (label.now ∷ []) (K.taken sink.new) lines.new.items tally.new) }
-    ensures few { OnOk result (length lines.new.items < 4096) }
+    ensures few { OnOk result (length lines.new.items < 16384) }
     ensures front { AppendsFront (K.taken sink.old) (K.taken sink.new) (lines.old.items ++ text_of (label.now ∷ [])) }
     ensures failed { IsErrOf result WriteError.WriteFault → Rose (K.faults sink.old) (K.faults sink.new) }
     ensures counts { K.faults sink.old ≤ K.faults sink.new }
@@ -65,7 +65,7 @@ pub fn tell<K: Sink>(
     label: Label,
 ) -> Result<(), WriteError>
     ensures held { OnOk result (Held (K.taken sink.old) lines.old.items tally.old (label ∷ []) (K.taken sink.new) lines.new.items tally.new) }
-    ensures few { OnOk result (length lines.new.items < 4096) }
+    ensures few { OnOk result (length lines.new.items < 16384) }
     ensures front { AppendsFront (K.taken sink.old) (K.taken sink.new) (lines.old.items ++ text_of (label ∷ [])) }
     ensures failed { IsErrOf result WriteError.WriteFault → Rose (K.faults sink.old) (K.faults sink.new) }
     ensures counts { K.faults sink.old ≤ K.faults sink.new }

@@ -120,22 +120,35 @@ fn write_once<R: Print>(rt: &R, bytes: &[u8]) -> Option<usize>
 }
 
 impl<'a, R: Handle> HostFiles<'a, R> {
+    /// Opens a file in place of the one that is open.
+    #[inline(never)]
+    fn reopen(&mut self, name: &[u8])
+        ensures { self.new ≡ self.old }
+    {
+        self.open = open_file(self.rt, name);
+    }
+
+    /// Closes the file that is open.
+    #[inline(never)]
+    fn close(&mut self)
+        ensures { self.new ≡ self.old }
+    {
+        self.open = None;
+    }
+
     /// Reads a part of a file, which stays open.
     fn read_part(&mut self, name: &[u8], at: u64, into: &mut [u8]) -> Option<usize>
         ensures within { IfSome result (λ n. n ≤ length into.old) }
         ensures same { self.new ≡ self.old }
     {
-        let kept = match self.open.take() {
-            Some(open) if open.is_of(name) => Some(open),
-            _ => None,
-        };
-        let mut open = match kept {
-            Some(open) => open,
-            None => open_file(self.rt, name)?,
-        };
-        let n = open.read_at(at, into)?;
-        self.open = Some(open);
-        Some(n)
+        if !self.open.as_ref().is_some_and(|open| open.is_of(name)) {
+            self.reopen(name);
+        }
+        let n = self.open.as_mut()?.read_at(at, into);
+        if n.is_none() {
+            self.close();
+        }
+        n
     }
 }
 

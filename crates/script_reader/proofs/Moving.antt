@@ -1,8 +1,10 @@
 -- How a call of a reader passes over the script.
-use Rattle.std.proofs.Common.{◌≡◌, ℕ, ◌+◌, ◌<◌, ◌≤◌, List, [], ◌∷◌, ◌++◌, length, take, drop, Bool, refl, sym, ◌∙◌, ap, arith, append_assoc, length-drop, subst, ◌-◌, add_assoc, Bor, Some, None, true}
+use Rattle.std.proofs.Common.{◌≡◌, ℕ, ◌+◌, ◌≤◌, List, [], ◌∷◌, ◌++◌, length, take, drop, Bool, refl, sym, ◌∙◌, ap, arith, append_assoc, length-drop, subst, ◌-◌, add_assoc, Bor, Result, Ok, Err, IfOk, true}
 use Rattle.std.proofs.lemmas.List.{take-append-drop, drop-drop}
 use Rattle.pnp_labels.specs.declared.event.Event.{Event}
 use Rattle.script_reader.specs.declared.line.Line.{Line}
+use Rattle.script_reader.specs.declared.fault.LineError.{LineError}
+use Rattle.script_reader.specs.Faults.{Gives}
 use Rattle.script_reader.specs.Lines.{event_of}
 use Rattle.script_reader.specs.Words.{words_of}
 use Rattle.script_reader.specs.Script.{trace, gives, MayFollow, GivesEvent, IsStuck}
@@ -91,32 +93,24 @@ answer_dropped old bytes from kept at passed line fed finished bad_ later count 
     (moves_over (seen bytes at passed line fed finished bad_) (seen (drop (at + count) bytes) 0 (passed + lines) last fed finished later) count lines
     (sym (drop-drop count at bytes)) refl refl refl (omega (arith, length-drop (at + count) bytes)) (skips_here bytes from at finished count lines same so)))
 
--- the event of the line behind those that were passed
-pub gives_here : (bytes from : List ℕ) (at : ℕ) (finished : Bool) (count k : ℕ) (step : Step) (text : Bor (List ℕ)) (event : Event) → from ≡ bytes → step ≡ steps.Read k text
-    → Says finished (drop count (take (length from - at) (drop at from))) step → event_of (words_of text.now) ≡ Some event
-    → GivesEvent finished (drop count (drop at bytes)) k event
-gives_here bytes from at finished count k step text event is one so read =
-    let says : Reads finished (drop count (drop at bytes)) k text.now = says_here bytes from at finished count step (steps.Read k text) is one so in
-    says.gives_event event read
+-- what was read of a line is its event
+pub gives_event : (finished : Bool) (rest : List ℕ) (k : ℕ) (text : List ℕ) (read : Result Event LineError) → Reads finished rest k text
+    → Gives read (event_of (words_of text)) → IfOk read (λ event. GivesEvent finished rest k event)
+gives_event finished rest k text (Ok event) says is = says.gives_event event is
+gives_event finished rest k text (Err fault) says is = tt
 
--- none there: the reader is stuck
-pub stuck_here : (bytes from : List ℕ) (at : ℕ) (finished : Bool) (count k : ℕ) (step : Step) (text : Bor (List ℕ)) → from ≡ bytes → step ≡ steps.Read k text
-    → Says finished (drop count (take (length from - at) (drop at from))) step → event_of (words_of text.now) ≡ None
-    → IsStuck finished (drop count (drop at bytes))
-stuck_here bytes from at finished count k step text is one so read =
-    let says : Reads finished (drop count (drop at bytes)) k text.now = says_here bytes from at finished count step (steps.Read k text) is one so in
-    says.is_stuck read
-
-pub answer_event : (old : Reading) (bytes from : List ℕ) (at passed line fed : ℕ) (finished bad_ : Bool) (count lines k : ℕ) (event : Event)
-    → seen bytes at passed line fed finished bad_ ≡ old → from ≡ bytes
-    → SkipsTo finished (take (length from - at) (drop at from)) count lines
-    → GivesEvent finished (drop count (drop at bytes)) k event
-    → Moves old (seen bytes (at + (count + k)) (passed + (lines + 1)) (passed + (lines + 1)) fed finished bad_) (one_event (passed + (lines + 1)) event)
-answer_event old bytes from at passed line fed finished bad_ count lines k event is same so next =
-    subst (λ o. Moves o (seen bytes (at + (count + k)) (passed + (lines + 1)) (passed + (lines + 1)) fed finished bad_) (one_event (passed + (lines + 1)) event)) is
-    (moves_event (seen bytes at passed line fed finished bad_) (seen bytes (at + (count + k)) (passed + (lines + 1)) (passed + (lines + 1)) fed finished bad_) count lines k event
-    (ap (λ n. drop n bytes) (sym (add_assoc at count k)) ∙ sym (drop-drop k (at + count) bytes) ∙ ap (drop k) (sym (drop-drop count at bytes))) (sym (add_assoc passed lines 1)) refl refl refl (omega arith)
-    (skips_here bytes from at finished count lines same so) next)
+pub answer_event : (old : Reading) (bytes : List ℕ) (at passed line fed : ℕ) (finished bad_ : Bool) (count lines k : ℕ) (event : Event)
+    → seen bytes at passed line fed finished bad_ ≡ old → SkipsTo old.finished old.rest count lines
+    → GivesEvent old.finished (drop count old.rest) k event
+    → Answers (nexts.Event event) old (seen bytes (at + (count + k)) (passed + (lines + 1)) (passed + (lines + 1)) fed finished bad_)
+answer_event old bytes at passed line fed finished bad_ count lines k event is =
+    subst (λ o. SkipsTo o.finished o.rest count lines → GivesEvent o.finished (drop count o.rest) k event
+    → Answers (nexts.Event event) o (seen bytes (at + (count + k)) (passed + (lines + 1)) (passed + (lines + 1)) fed finished bad_)) is (λ so next. (
+      moves_event (seen bytes at passed line fed finished bad_) (seen bytes (at + (count + k)) (passed + (lines + 1)) (passed + (lines + 1)) fed finished bad_) count lines k event
+          (ap (λ n. drop n bytes) (sym (add_assoc at count k)) ∙ sym (drop-drop k (at + count) bytes) ∙ ap (drop k) (sym (drop-drop count at bytes))) (sym (add_assoc passed lines 1)) refl refl refl (omega arith)
+          so next,
+      omega (arith, next.some, next.inside, length-drop count (drop at bytes), length-drop at bytes, length-drop (at + (count + k)) bytes),
+    ))
 
 pub over_here : (bytes : List ℕ) (at count : ℕ) → drop count (drop at bytes) ≡ drop (at + count) bytes
 over_here bytes at count = drop-drop count at bytes
@@ -128,13 +122,6 @@ is_stop (steps.Read k text) skip read more end = absurd (read k text refl)
 is_stop steps.Bad skip read more end = refl
 is_stop steps.NeedMore skip read more end = absurd (more refl)
 is_stop steps.End skip read more end = absurd (end refl)
-
-pub answer_shorter : (old : Reading) (bytes : List ℕ) (at passed line fed : ℕ) (finished bad_ : Bool) (count k : ℕ) (event : Event)
-    → seen bytes at passed line fed finished bad_ ≡ old → GivesEvent finished (drop count (drop at bytes)) k event
-    → length (drop (at + (count + k)) bytes) < length old.rest
-answer_shorter old bytes at passed line fed finished bad_ count k event is g =
-    subst (λ o. length (drop (at + (count + k)) bytes) < length o.rest) is
-    (omega (arith, g.some, g.inside, length-drop count (drop at bytes), length-drop at bytes, length-drop (at + (count + k)) bytes))
 
 -- what is known of the bytes is known of the reader
 pub skips_from : (old : Reading) (bytes from : List ℕ) (at passed line fed : ℕ) (finished bad_ : Bool) (count lines : ℕ)

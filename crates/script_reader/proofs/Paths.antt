@@ -1,5 +1,5 @@
 -- A path has no blanks: it is one word.
-use Rattle.std.proofs.Common.{◌≡◌, ℕ, ◌-◌, ◌<◌, List, [], ◌∷◌, ◌++◌, length, take, drop, true, false, Some, None, sym, ◌∙◌, ap, arith, append_assoc, not, ◌==◌, ◌&&◌, IsTrue, subst}
+use Rattle.std.proofs.Common.{◌≡◌, ℕ, ◌-◌, ◌<◌, List, [], ◌∷◌, ◌++◌, length, take, drop, true, false, Some, None, sym, ◌∙◌, ap, arith, append_assoc, not, ◌==◌, ◌&&◌, IsTrue}
 use Rattle.std.proofs.lemmas.Grind.{common_steps}
 use Rattle.std.proofs.lemmas.Bool.Decides.{nat_tests}
 use Rattle.std.proofs.lemmas.List.Elements.{All-weaker}
@@ -8,7 +8,7 @@ use Rattle.std.proofs.lemmas.List.Splits.{slice_split_none, join_with_byte-slice
 use Rattle.std.proofs.lemmas.List.Sums.{AllPass-from_list_all}
 use Rattle.std.specs.List.{filter, list_all, position, join_with_byte}
 use Rattle.device_ids.specs.Cuts.{parts}
-use Rattle.device_ids.specs.Ids.{is_id, is_id_byte, is_path, are_parts, are_ids, joined}
+use Rattle.device_ids.specs.Ids.{is_id, is_id_byte, is_path, are_ids, joined}
 use Rattle.script_reader.specs.Lines.{lone_path}
 use Rattle.script_reader.specs.Numbers.{only_if}
 use Rattle.script_reader.specs.Words.{is_blank, words_of}

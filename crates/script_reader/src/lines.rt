@@ -1,7 +1,8 @@
-ghost use Rattle.std.specs.Prelude.{◌≡◌, ◌<◌, length, map, IfOk, Some, None};
+ghost use Rattle.std.specs.Prelude.{◌≡◌, ◌<◌, length, map, IfOk, IsTrue, Some, None, true};
+ghost use Rattle.device_ids.specs.Ids.{is_path};
 ghost use Rattle.std.specs.Option.{option_map};
 ghost use Rattle.script_reader.specs.Faults.{Gives};
-ghost use Rattle.script_reader.specs.Lines.{path_of, lone_path, name_of, rule_path_of, is_answerable, rule_of, uses_of, pull_of, disable_of, enable_of, eject_of, driver_of, uses_by, teach_of, related, relate_of, res_of, reserved, reserve_of, completed, complete_of, open_of, close_of, has_windows, window_res_of, window_of, change_of, watched, watch_of, unwatch_of};
+ghost use Rattle.script_reader.specs.Lines.{path_of, lone_path, name_of, rule_path_of, is_answerable, rule_of, uses_of, driver_of, uses_by, teach_of, related, relate_of, res_of, reserved, reserve_of, completed, complete_of, has_windows, window_res_of, window_of, change_of, watched, watch_of, unwatch_of};
 ghost use Rattle.script_reader.specs.Words.{words_of};
 
 use crate::fault::LineError;
@@ -39,17 +40,37 @@ fn only_path(alloc: Global, line: &[u8]) -> Result<InstancePath, LineError>
     path_of(alloc, word)
 }
 
-/// The path that is the one word of a line. A path has no blanks, so that all that follows the blanks in front is read as
-/// one first.
+/// Whether these are the bytes of a path.
+fn has_bytes(path: &InstancePath, text: &[u8]) -> bool
+    ensures { result ≡ true → (path.now ≡ text.now) × IsTrue (is_path path.now) }
+{
+    path.bytes() == text
+}
+
+/// The path that is the one word of a line. A path has no blanks, so that all that follows the blanks in front is taken as
+/// one first. `recent` is the path that was read so last: where the bytes are the same, both share them.
 #[tactic(auto, using(crate::proofs::Paths::no_path, crate::proofs::Paths::path_behind))]
-fn lone_path(alloc: Global, line: &[u8]) -> Result<InstancePath, LineError>
+pub fn lone_path(
+    alloc: Global,
+    line: &[u8],
+    recent: &mut Option<InstancePath>,
+) -> Result<InstancePath, LineError>
     ensures { Gives result (lone_path (words_of line.now)) }
 {
     let Some(start) = word_start(line) else {
         return Err(LineError::Bad);
     };
-    match InstancePath::read(alloc, &line[start..]) {
-        Ok(path) => Ok(path),
+    let text = &line[start..];
+    if let Some(path) = recent
+        && has_bytes(path, text)
+    {
+        return Ok(path.copy(alloc)?);
+    }
+    match InstancePath::read(alloc, text) {
+        Ok(path) => {
+            *recent = Some(path.copy(alloc)?);
+            Ok(path)
+        }
         Err(PathError::WantOfMemory) => Err(LineError::WantOfMemory),
         Err(_) => only_path(alloc, line),
     }
@@ -65,14 +86,6 @@ fn name_of(alloc: Global, word: &[u8]) -> Result<Text, LineError>
     Ok(Text::make(alloc, word)?)
 }
 
-/// `pull PATH`.
-pub fn pull_of(alloc: Global, line: &[u8]) -> Result<Event, LineError>
-    ensures { Gives result (pull_of (words_of line.now)) }
-{
-    let path = lone_path(alloc, line)?;
-    Ok(Event::Pull { path })
-}
-
 /// `driver NAME KIND`.
 pub fn driver_of(alloc: Global, words: &[&[u8]]) -> Result<Event, LineError>
     ensures { Gives result (driver_of (map (λ w. w.now) words.now)) }
@@ -85,30 +98,6 @@ pub fn driver_of(alloc: Global, words: &[&[u8]]) -> Result<Event, LineError>
         return Err(LineError::Bad);
     };
     Ok(Event::Name { name, kind })
-}
-
-/// `disable PATH`.
-pub fn disable_of(alloc: Global, line: &[u8]) -> Result<Event, LineError>
-    ensures { Gives result (disable_of (words_of line.now)) }
-{
-    let path = lone_path(alloc, line)?;
-    Ok(Event::Disable { path })
-}
-
-/// `enable PATH`.
-pub fn enable_of(alloc: Global, line: &[u8]) -> Result<Event, LineError>
-    ensures { Gives result (enable_of (words_of line.now)) }
-{
-    let path = lone_path(alloc, line)?;
-    Ok(Event::Enable { path })
-}
-
-/// `eject PATH`.
-pub fn eject_of(alloc: Global, line: &[u8]) -> Result<Event, LineError>
-    ensures { Gives result (eject_of (words_of line.now)) }
-{
-    let path = lone_path(alloc, line)?;
-    Ok(Event::Eject { path })
 }
 
 /// The path of a rule, none for every path.
@@ -281,22 +270,6 @@ pub fn complete_of(alloc: Global, words: &[&[u8]]) -> Result<Event, LineError>
         return Err(LineError::Bad);
     };
     completed(alloc, path, minor, ok)
-}
-
-/// `open PATH`.
-pub fn open_of(alloc: Global, line: &[u8]) -> Result<Event, LineError>
-    ensures { Gives result (open_of (words_of line.now)) }
-{
-    let path = lone_path(alloc, line)?;
-    Ok(Event::OpenHandle { path })
-}
-
-/// `close PATH`.
-pub fn close_of(alloc: Global, line: &[u8]) -> Result<Event, LineError>
-    ensures { Gives result (close_of (words_of line.now)) }
-{
-    let path = lone_path(alloc, line)?;
-    Ok(Event::CloseHandle { path })
 }
 
 /// Whether a bridge has windows of the kind: it has them of ports and of memory.

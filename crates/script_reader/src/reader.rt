@@ -1,15 +1,16 @@
-ghost use Rattle.std.specs.Prelude.{◌≡◌, ◌+◌, ◌<◌, ◌≤◌, ◌^◌, ◌++◌, [], length, drop, IfOk, OnOk, OnErr, Ok, true, false, List, ℕ};
+ghost use Rattle.std.specs.Prelude.{◌≡◌, ◌+◌, ◌<◌, ◌≤◌, ◌^◌, ◌++◌, [], length, drop, IfOk, OnOk, OnErr, IsErrOf, Ok, true, false, List, ℕ};
 ghost use Rattle.script_reader.specs.Reading.{HasRead, SkipsTo};
-ghost use Rattle.script_reader.specs.Script.{IsStuck};
+ghost use Rattle.script_reader.specs.Script.{GivesEvent, IsStuck};
 ghost use Rattle.script_reader.specs.Answers.{Answers, given};
 ghost use Rattle.script_reader.specs.declared.line.Line.{Line};
 
-use crate::events::event_in;
+use crate::events::{Front, event_at, event_by, front_of};
 use crate::fault::LineError;
 use crate::next::Next;
 use crate::skip::{Skipped, skip_lines};
 use crate::step::Step;
-use device_ids::WantOfMemory;
+use device_ids::{InstancePath, WantOfMemory};
+use pnp_labels::Event;
 use std::alloc::{AllocError, Global};
 use std::marker::Model;
 
@@ -27,6 +28,8 @@ pub struct Reader {
     fed: u64,
     finished: bool,
     bad: bool,
+    /// The path of the last line of one path alone: the next such line often names it again.
+    recent: Option<InstancePath>,
 }
 
 impl Model for Reader {
@@ -89,6 +92,7 @@ impl Reader {
             fed: 0,
             finished: false,
             bad: false,
+            recent: None,
         }
     }
 
@@ -146,11 +150,45 @@ impl Reader {
         Next::Bad { line: self.line }
     }
 
+    /// The answer to a line that was read, which has so many bytes and stands behind so many that have no event.
+    #[inline(always)]
+    fn answer(
+        &mut self,
+        read: Result<Event, LineError>,
+        count: usize,
+        more: usize,
+        lines: u64,
+    ) -> Result<Next, WantOfMemory>
+        requires reach { SkipsTo self.old.finished self.old.rest count lines }
+        requires event { IfOk read (λ event. GivesEvent self.old.finished (drop count self.old.rest) more event) }
+        requires stuck { IsErrOf read LineError.Bad → IsStuck self.old.finished (drop count self.old.rest) }
+        requires open { self.old.bad ≡ false }
+        requires few { length self.old.rest < 2 ^ 63 }
+        ensures answers { IfOk result (λ next. Answers next self.old self.new) }
+        ensures reads { IfOk result (λ next. (all : List ℕ) (events : List Line)
+            → HasRead all events self.old → HasRead all (events ++ given next self.new) self.new) }
+        ensures err { OnErr result (self.new ≡ self.old) }
+    {
+        match read {
+            Ok(event) => {
+                self.at += count + more;
+                self.passed += lines + 1;
+                self.line = self.passed;
+                Ok(Next::Event(event))
+            }
+            Err(fault) => match fault {
+                LineError::Bad => Ok(self.stop(count, lines)),
+                LineError::WantOfMemory => Err(AllocError),
+            },
+        }
+    }
+
     /// The event of the next line that has one; lines without an event are passed over. Else why there is none:
     /// `NeedMore` exactly where no whole line is left, the rest has at most 4,096 bytes and `finish` was not
     /// called; `End` exactly where `finish` was called and nothing is left; `Bad` at the first line outside the
     /// grammar, which each later call answers again. After want of memory the reader is as before. Cost: the
     /// bytes of the lines passed, and of the line that is not whole.
+    #[tactic(auto, using(crate::proofs::Moving::gives_event))]
     pub fn next_event(&mut self) -> Result<Next, WantOfMemory>
         ensures answers { IfOk result (λ next. Answers next self.old self.new) }
         ensures reads { IfOk result (λ next. (all : List ℕ) (events : List Line)
@@ -163,16 +201,18 @@ impl Reader {
         }
         let Skipped { count, lines, step } = skip_lines(&self.bytes[self.at..], self.finished);
         match step {
-            Step::Read { count: more, text } => match event_in(self.alloc, text) {
-                Ok(event) => {
-                    self.at += count + more;
-                    self.passed += lines + 1;
-                    self.line = self.passed;
-                    Ok(Next::Event(event))
+            Step::Read { count: more, text } => {
+                match front_of(self.alloc, text, &mut self.recent) {
+                    Ok(Front::At(keyword, path)) => {
+                        self.answer(Ok(event_at(keyword, path)), count, more, lines)
+                    }
+                    Ok(Front::By(keyword, rest)) => {
+                        let read = event_by(self.alloc, keyword, rest);
+                        self.answer(read, count, more, lines)
+                    }
+                    Err(fault) => self.answer(Err(fault), count, more, lines),
                 }
-                Err(LineError::Bad) => Ok(self.stop(count, lines)),
-                Err(LineError::WantOfMemory) => Err(AllocError),
-            },
+            }
             Step::NeedMore => {
                 drop_front(&mut self.bytes, self.at + count);
                 self.at = 0;

@@ -1,19 +1,9 @@
 use Rattle.std.proofs.Common.{ap, refl, sym, subst, ◌∙◌}
 use Rattle.script_reader.specs.Script.{Waits, Ends}
-use Rattle.script_reader.specs.Faults.{Fails}
-use Rattle.script_reader.specs.Lines.{event_of}
-use Rattle.script_reader.specs.Words.{words_of}
 use Rattle.script_reader.specs.declared.step.Step.TheVariants as steps
-use Rattle.script_reader.proofs.Moving.{answer_over, answer_dropped, answer_event, answer_shorter, answer_stop, stop_moves, says_here, gives_here, stuck_here, skips_from, stuck_from, over_here, is_stop}
+use Rattle.script_reader.proofs.Moving.{answer_over, answer_dropped, answer_stop, stop_moves, says_here, skips_from, stuck_from, over_here, is_stop}
 use Rattle.script_reader.proofs.Feeding.{has_read_moves}
 use Rattle.script_reader.proofs.reader.Reader.next_event.Goals as goal
-
-pub returns-in-Ok-clause-answers : goal.returns-in-Ok-clause-answers
-returns-in-Ok-clause-answers c =
-    let gives = gives_here c.self.inside.bytes.items c.deref.result.now c.self.inside.at c.self.inside.finished c.skip_lines-count.result.count c.in-Read.more c.skip_lines-count.result.step c.in-Read.text c.in-Ok.event c.deref.ensures.value c.in-Read.is c.skip_lines-count.ensures.step c.in-Ok.ensures in (
-      answer_event c.args.self.now c.self.inside.bytes.items c.deref.result.now c.self.inside.at c.self.inside.passed c.self.inside.line c.self.inside.fed c.self.inside.finished c.self.inside.bad c.skip_lines-count.result.count c.skip_lines-count.result.lines c.in-Read.more c.in-Ok.event c.self.view_is c.deref.ensures.value c.skip_lines-count.ensures.reach gives,
-      answer_shorter c.args.self.now c.self.inside.bytes.items c.self.inside.at c.self.inside.passed c.self.inside.line c.self.inside.fed c.self.inside.finished c.self.inside.bad c.skip_lines-count.result.count c.in-Read.more c.in-Ok.event c.self.view_is gives,
-    )
 
 pub returns-in-NeedMore-clause-answers : goal.returns-in-NeedMore-clause-answers
 returns-in-NeedMore-clause-answers c = (
@@ -32,25 +22,13 @@ returns-in-End-clause-answers c = (
       (says_here c.self.inside.bytes.items c.deref.result.now c.self.inside.at c.self.inside.finished c.skip_lines-count.result.count c.skip_lines-count.result.step steps.End c.deref.ensures.value c.in-End.is c.skip_lines-count.ensures.step),
 )
 
-pub returns-in-Err-Bad-clause-answers : goal.returns-in-Err-Bad-clause-answers
-returns-in-Err-Bad-clause-answers c =
+pub returns-in_default-clause-answers : goal.returns-in_default-clause-answers
+returns-in_default-clause-answers c =
     answer_stop c.args.self.now c.stop.new.self c.stop.result c.skip_lines-count.result.count c.skip_lines-count.result.lines
     (skips_from c.args.self.now c.self.inside.bytes.items c.deref.result.now c.self.inside.at c.self.inside.passed c.self.inside.line c.self.inside.fed c.self.inside.finished c.self.inside.bad c.skip_lines-count.result.count c.skip_lines-count.result.lines c.self.view_is c.deref.ensures.value c.skip_lines-count.ensures.reach)
     (stuck_from c.args.self.now c.self.inside.bytes.items c.self.inside.at c.self.inside.passed c.self.inside.line c.self.inside.fed c.self.inside.finished c.self.inside.bad c.skip_lines-count.result.count c.self.view_is
-    (stuck_here c.self.inside.bytes.items c.deref.result.now c.self.inside.at c.self.inside.finished c.skip_lines-count.result.count c.in-Read.more c.skip_lines-count.result.step c.in-Read.text c.deref.ensures.value c.in-Read.is c.skip_lines-count.ensures.step
-    (subst (λ e. Fails e (event_of (words_of c.in-Read.text.now))) c.in-Err-Bad.field-0-is c.in-Err-Bad.ensures)))
-    (c.stop.ensures.new) c.stop.ensures.result
-
-pub returns-in_default-clause-answers : goal.returns-in_default-clause-answers
-returns-in_default-clause-answers c =
-    answer_stop c.args.self.now c.stop-in_default.new.self c.stop-in_default.result c.skip_lines-count.result.count c.skip_lines-count.result.lines
-    (skips_from c.args.self.now c.self.inside.bytes.items c.deref.result.now c.self.inside.at c.self.inside.passed c.self.inside.line c.self.inside.fed c.self.inside.finished c.self.inside.bad c.skip_lines-count.result.count c.skip_lines-count.result.lines c.self.view_is c.deref.ensures.value c.skip_lines-count.ensures.reach)
-    (stuck_from c.args.self.now c.self.inside.bytes.items c.self.inside.at c.self.inside.passed c.self.inside.line c.self.inside.fed c.self.inside.finished c.self.inside.bad c.skip_lines-count.result.count c.self.view_is
     (says_here c.self.inside.bytes.items c.deref.result.now c.self.inside.at c.self.inside.finished c.skip_lines-count.result.count c.skip_lines-count.result.step steps.Bad c.deref.ensures.value (is_stop c.skip_lines-count.result.step c.skip_lines-count.ensures.no_skip c.in_default.not-Read c.in_default.not-NeedMore c.in_default.not-End) c.skip_lines-count.ensures.step))
-    (c.stop-in_default.ensures.new) c.stop-in_default.ensures.result
-
-pub returns-in-Ok-clause-reads : goal.returns-in-Ok-clause-reads
-returns-in-Ok-clause-reads c = λ all events h. has_read_moves all events _ _ _ (returns-in-Ok-clause-answers c).0 h
+    (c.stop.ensures.new) c.stop.ensures.result
 
 pub returns-in-NeedMore-clause-reads : goal.returns-in-NeedMore-clause-reads
 returns-in-NeedMore-clause-reads c = λ all events h. has_read_moves all events _ _ _ (returns-in-NeedMore-clause-answers c).0 h
@@ -58,12 +36,7 @@ returns-in-NeedMore-clause-reads c = λ all events h. has_read_moves all events 
 pub returns-in-End-clause-reads : goal.returns-in-End-clause-reads
 returns-in-End-clause-reads c = λ all events h. has_read_moves all events _ _ _ (returns-in-End-clause-answers c).0 h
 
-pub returns-in-Err-Bad-clause-reads : goal.returns-in-Err-Bad-clause-reads
-returns-in-Err-Bad-clause-reads c = λ all events h. has_read_moves all events _ _ _ (stop_moves c.args.self.now c.stop.new.self c.stop.result c.skip_lines-count.result.count c.skip_lines-count.result.lines
+pub returns-in_default-clause-reads : goal.returns-in_default-clause-reads
+returns-in_default-clause-reads c = λ all events h. has_read_moves all events _ _ _ (stop_moves c.args.self.now c.stop.new.self c.stop.result c.skip_lines-count.result.count c.skip_lines-count.result.lines
     (skips_from c.args.self.now c.self.inside.bytes.items c.deref.result.now c.self.inside.at c.self.inside.passed c.self.inside.line c.self.inside.fed c.self.inside.finished c.self.inside.bad c.skip_lines-count.result.count c.skip_lines-count.result.lines c.self.view_is c.deref.ensures.value c.skip_lines-count.ensures.reach)
     c.stop.ensures.new c.stop.ensures.result) h
-
-pub returns-in_default-clause-reads : goal.returns-in_default-clause-reads
-returns-in_default-clause-reads c = λ all events h. has_read_moves all events _ _ _ (stop_moves c.args.self.now c.stop-in_default.new.self c.stop-in_default.result c.skip_lines-count.result.count c.skip_lines-count.result.lines
-    (skips_from c.args.self.now c.self.inside.bytes.items c.deref.result.now c.self.inside.at c.self.inside.passed c.self.inside.line c.self.inside.fed c.self.inside.finished c.self.inside.bad c.skip_lines-count.result.count c.skip_lines-count.result.lines c.self.view_is c.deref.ensures.value c.skip_lines-count.ensures.reach)
-    c.stop-in_default.ensures.new c.stop-in_default.ensures.result) h
