@@ -3,3 +3,5 @@
 
 #[cfg(test)]
 mod pnp_io_calls;
+#[cfg(test)]
+mod told;

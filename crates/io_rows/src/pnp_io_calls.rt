@@ -1,77 +1,118 @@
 //! Each call once with ample memory, a fault in mid-stream, and the system's own files and standard output.
+use crate::told::{must, same};
 use pnp_io::{
     Failed, Files, HostFiles, HostSink, MemFiles, MemSink, ReadError, Sink, read_all, write_all,
 };
+use std::alloc::Global;
 use std::fs;
 use std::test::Fail;
 
-#[test]
-fn reads_files_in_memory(rt: HostRuntime) -> Result<(), Fail> {
-    let mut files = MemFiles::new(rt.alloc());
+/// A file is read in part: so many bytes come, and these stand in the buffer then.
+fn reads_part(
+    read: Result<usize, Failed>,
+    count: usize,
+    buffer: &[u8],
+    want: &[u8],
+) -> Result<(), Fail> {
+    must(read == Ok(count), "how many bytes were read")?;
+    same(buffer, want)
+}
+
+/// Two files, the first of which was added twice.
+fn two_files(alloc: Global) -> Result<MemFiles, Fail> {
+    let mut files = MemFiles::new(alloc);
     files.add(b"s", b"old")?;
     files.add(b"inf", b"[Version]")?;
     files.add(b"s", b"0123456789")?;
+    Ok(files)
+}
+
+/// A file is not read whole, for this reason.
+fn refuses(
+    alloc: Global,
+    files: &mut MemFiles,
+    name: &[u8],
+    most: u64,
+    want: ReadError,
+) -> Result<(), Fail> {
+    match read_all(alloc, files, name, most) {
+        Ok(_) => Err(Fail::new("a file that was read")),
+        Err(error) => must(error == want, "why a file was not read"),
+    }
+}
+
+#[test]
+fn reads_files_in_memory(rt: HostRuntime) -> Result<(), Fail> {
+    let mut files = two_files(rt.alloc())?;
     let mut buffer = [0u8; 4];
-    assert_eq!(rt; files.read(b"s", 7, &mut buffer), Ok(3));
-    assert_eq!(rt; buffer.as_slice(), b"789\0".as_slice());
-    assert_eq!(rt; files.read(b"s", 10, &mut buffer), Ok(0));
-    let inf = read_all(rt.alloc(), &mut files, b"inf", 9)?;
-    assert_eq!(rt; inf.as_slice(), b"[Version]".as_slice());
-    let over = read_all(rt.alloc(), &mut files, b"s", 9);
-    assert_eq!(rt; over.err(), Some(ReadError::TooLarge));
-    let missing = read_all(rt.alloc(), &mut files, b"t", 9);
-    assert_eq!(rt; missing.err(), Some(ReadError::ReadFault));
-    Ok(())
+    let end = files.read(b"s", 7, &mut buffer);
+    reads_part(end, 3, &buffer, b"789\0")?;
+    let behind = files.read(b"s", 10, &mut buffer);
+    reads_part(behind, 0, &buffer, b"789\0")?;
+    same(&read_all(rt.alloc(), &mut files, b"inf", 9)?, b"[Version]")?;
+    refuses(rt.alloc(), &mut files, b"s", 9, ReadError::TooLarge)?;
+    refuses(rt.alloc(), &mut files, b"t", 9, ReadError::ReadFault)
 }
 
 #[test]
 fn a_later_read_fails(rt: HostRuntime) -> Result<(), Fail> {
-    let mut files = MemFiles::new(rt.alloc());
-    files.add(b"s", b"0123456789")?;
+    let mut files = two_files(rt.alloc())?;
     files.fail_at(2)?;
-    let cut = read_all(rt.alloc(), &mut files, b"s", 100);
-    assert_eq!(rt; cut.err(), Some(ReadError::ReadFault));
+    refuses(rt.alloc(), &mut files, b"s", 100, ReadError::ReadFault)?;
     let whole = read_all(rt.alloc(), &mut files, b"s", 100)?;
-    assert_eq!(rt; whole.as_slice(), b"0123456789".as_slice());
-    Ok(())
+    same(&whole, b"0123456789")
+}
+
+/// Not all of five bytes is written, and the sink took these.
+fn leaves(sink: &mut MemSink, taken: &[u8]) -> Result<(), Fail> {
+    must(write_all(sink, b"river").is_err(), "a write that fails")?;
+    same(sink.taken(), taken)
 }
 
 #[test]
 fn writes_to_a_sink_in_memory(rt: HostRuntime) -> Result<(), Fail> {
     let mut sink = MemSink::new(rt.alloc(), 8)?;
-    assert_eq!(rt; write_all(&mut sink, b"event "), Ok(()));
+    write_all(&mut sink, b"event ")?;
     sink.fail_at(3)?;
-    assert_eq!(rt; sink.write(b"d"), Ok(1));
-    assert_eq!(rt; write_all(&mut sink, b"river"), Err(Failed));
-    assert_eq!(rt; sink.taken(), b"event d".as_slice());
-    assert_eq!(rt; write_all(&mut sink, b"river"), Err(Failed));
-    assert_eq!(rt; sink.taken(), b"event dr".as_slice());
-    Ok(())
+    must(sink.write(b"d") == Ok(1), "one byte more")?;
+    leaves(&mut sink, b"event d")?;
+    leaves(&mut sink, b"event dr")
+}
+
+const TEXT: &[u8] = b"driver dev steady\nplug HTREE\\ROOT\\0 OWN\\DEV 1\n";
+
+/// A file of the system is read whole, from within, and from its front.
+fn reads_a_file(alloc: Global, files: &mut impl Files) -> Result<(), Fail> {
+    same(&read_all(alloc, files, b"small.script", 100)?, TEXT)?;
+    let mut buffer = [0u8; 4];
+    let part = files.read(b"small.script", 7, &mut buffer);
+    reads_part(part, 4, &buffer, b"dev ")?;
+    let front = files.read(b"small.script", 0, &mut buffer);
+    reads_part(front, 4, &buffer, b"driv")
 }
 
 #[test]
 fn reads_the_files_of_the_system(rt: HostRuntime) -> Result<(), Fail> {
     let mut files = HostFiles::make(&rt);
-    let text = b"driver dev steady\nplug HTREE\\ROOT\\0 OWN\\DEV 1\n".as_slice();
-    fs::write(&rt, "small.script", text)?;
-    let script = read_all(rt.alloc(), &mut files, b"small.script", 100);
+    fs::write(&rt, "small.script", TEXT)?;
+    let read = reads_a_file(rt.alloc(), &mut files);
+    let removed = fs::remove_file(&rt, "small.script");
+    read?;
+    removed?;
     let mut buffer = [0u8; 4];
-    let part = files.read(b"small.script", 7, &mut buffer);
-    let mut first = [0u8; 4];
-    let front = files.read(b"small.script", 0, &mut first);
-    fs::remove_file(&rt, "small.script")?;
-    assert_eq!(rt; script?.as_slice(), text);
-    assert_eq!(rt; part, Ok(4));
-    assert_eq!(rt; buffer.as_slice(), b"dev ".as_slice());
-    assert_eq!(rt; front, Ok(4));
-    assert_eq!(rt; first.as_slice(), b"driv".as_slice());
-    assert_eq!(rt; files.read(b"missing.script", 0, &mut buffer), Err(Failed));
-    assert_eq!(rt; files.read(b"\xFF", 0, &mut buffer), Err(Failed));
-    Ok(())
+    must(
+        files.read(b"missing.script", 0, &mut buffer).is_err(),
+        "a file that is missing",
+    )?;
+    must(
+        files.read(b"\xFF", 0, &mut buffer).is_err(),
+        "a name that is no text",
+    )
 }
 
 #[test]
-fn writes_to_standard_output(rt: HostRuntime) {
+fn writes_to_standard_output(rt: HostRuntime) -> Result<(), Fail> {
     let mut sink = HostSink::make(&rt);
-    assert_eq!(rt; write_all(&mut sink, b"tree\n"), Ok(()));
+    write_all(&mut sink, b"tree\n")?;
+    Ok(())
 }

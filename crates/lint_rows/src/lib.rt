@@ -6,4 +6,6 @@ mod faults;
 #[cfg(test)]
 mod lints;
 #[cfg(test)]
+mod told;
+#[cfg(test)]
 mod warnings;

@@ -21,7 +21,7 @@ HKR,,\"LowerFilters\",0x00010000,\"low\"
 Own = \"Own\"
 Filters = Filters.Here
 ";
-    gives(&rt, rt.alloc(), inf, Status::Clean, "")
+    gives(rt.alloc(), inf, Status::Clean, "")
 }
 
 #[test]
@@ -31,7 +31,7 @@ fn an_inf_without_models_lines(rt: HostRuntime) -> Result<(), Fail> {
         "inf i: warning: no models line is read, so no device gets a driver from it (problem 28)
 inf i line 4: warning: there is no models section [Models]
 ";
-    gives(&rt, rt.alloc(), inf, Status::Clean, text)
+    gives(rt.alloc(), inf, Status::Clean, text)
 }
 
 #[test]
@@ -51,7 +51,7 @@ Name = Models
         "inf i: warning: no models line is read, so no device gets a driver from it (problem 28)
 inf i line 4: warning: there is no models section [Models], and [Models.NTx86] [models.ntarm64] is not read: no decoration is NTamd64, NT, or begins with NTamd64.
 ";
-    gives(&rt, rt.alloc(), inf, Status::Clean, text)
+    gives(rt.alloc(), inf, Status::Clean, text)
 }
 
 #[test]
@@ -72,7 +72,7 @@ inf i line 6: warning: there is no section [I.Services], which gives the driver
 inf i line 7: warning: there is no section [J], which this line installs
 inf i line 7: warning: there is no section [J.Services], which gives the driver
 ";
-    gives(&rt, rt.alloc(), inf, Status::Clean, text)
+    gives(rt.alloc(), inf, Status::Clean, text)
 }
 
 #[test]
@@ -94,7 +94,7 @@ inf i line 9: warning: \"dev\" is no function driver: its flags have not the bit
 inf i line 10: warning: \"wide\" is no function driver: its flags have not the bit 2
 inf i line 11: warning: \"large\" is no function driver: its flags have not the bit 2
 ";
-    gives(&rt, rt.alloc(), inf, Status::Clean, text)
+    gives(rt.alloc(), inf, Status::Clean, text)
 }
 
 #[test]
@@ -107,7 +107,7 @@ A = I
 AddService = dev, 2, Svc
 [J.Services]
 ";
-    gives(&rt, rt.alloc(), inf, Status::Clean, "")
+    gives(rt.alloc(), inf, Status::Clean, "")
 }
 
 #[test]
@@ -133,12 +133,12 @@ inf i line 8: warning: \"lower\" is named by no driver line of the script (probl
 inf i line 8: warning: \"up\" is named by no driver line of the script (problem 39)
 inf i line 14: warning: there is no section [There], which AddReg names
 ";
-    gives(&rt, rt.alloc(), inf, Status::Clean, text)
+    gives(rt.alloc(), inf, Status::Clean, text)
 }
 
 #[test]
 fn a_refused_inf_has_no_warnings(rt: HostRuntime) -> Result<(), Fail> {
     let inf = "[Manufacturer]\nOwn = M\n[I]\nFeatureScore = 300\n";
     let text = "inf i line 6: FeatureScore is no number up to 255: \"FeatureScore = 300\"\n";
-    gives(&rt, rt.alloc(), inf, Status::Found, text)
+    gives(rt.alloc(), inf, Status::Found, text)
 }

@@ -1,4 +1,5 @@
 //! Windows of bridges, and what they leave of requirements.
+use crate::told::must;
 use bridge_windows::{Bridges, WindowError, clip};
 use devnode_tree::Tree;
 use resource_reqs::{AltList, Group, Kind, Reqs, Res, Want};
@@ -9,44 +10,35 @@ use std::test::Fail;
 fn some_ports() -> Result<Res, Fail> {
     match Res::make(Kind::Port, 0x1000, 0x1fff, false) {
         Some(ports) => Ok(ports),
-        None => Err(Fail::from("ports")),
+        None => Err(Fail::new("ports")),
     }
 }
 
-/// First and last number of a window, if there is one.
-fn ends(window: Option<Res>) -> Option<(u64, u64)> {
-    let res = window?;
-    Some((res.lo, res.hi))
-}
-
-/// The windows of a device that has one of ports: of ports, of memory, and of ports of another device.
-fn found(alloc: Global) -> Result<[Option<(u64, u64)>; 3], Fail> {
-    let mut bridges = Bridges::new(alloc);
-    bridges.set(7, some_ports()?)?;
-    let ports = ends(bridges.window(7, Kind::Port));
-    let memory = ends(bridges.window(7, Kind::Mem));
-    let other = ends(bridges.window(8, Kind::Port));
-    Ok([ports, memory, other])
+/// Whether a window is that of these ports.
+fn has_the_ports(window: Option<Res>) -> bool {
+    match window {
+        Some(res) => res.lo == 0x1000 && res.hi == 0x1fff,
+        None => false,
+    }
 }
 
 #[test]
 fn a_window_is_found(rt: HostRuntime) -> Result<(), Fail> {
-    let windows = found(rt.alloc())?;
-    assert_eq!(rt; windows, [Some((0x1000, 0x1fff)), None, None]);
-    Ok(())
-}
-
-/// Why a device gets no second window of ports.
-fn second(alloc: Global) -> Result<Option<WindowError>, Fail> {
-    let mut bridges = Bridges::new(alloc);
+    let mut bridges = Bridges::new(rt.alloc());
     bridges.set(7, some_ports()?)?;
-    Ok(bridges.set(7, some_ports()?).err())
+    must(has_the_ports(bridges.window(7, Kind::Port)), "of ports")?;
+    must(bridges.window(7, Kind::Mem).is_none(), "of memory")?;
+    must(bridges.window(8, Kind::Port).is_none(), "of another")
 }
 
 #[test]
 fn one_window_of_a_kind(rt: HostRuntime) -> Result<(), Fail> {
-    assert_eq!(rt; second(rt.alloc())?, Some(WindowError::SameWindow));
-    Ok(())
+    let mut bridges = Bridges::new(rt.alloc());
+    bridges.set(7, some_ports()?)?;
+    match bridges.set(7, some_ports()?) {
+        Err(WindowError::SameWindow) => Ok(()),
+        _ => Err(Fail::new("a second window")),
+    }
 }
 
 /// Eight numbers of a kind, at a multiple of eight.
@@ -67,21 +59,11 @@ fn needs(alloc: Global) -> Result<Reqs, Fail> {
     Ok(reqs)
 }
 
-/// Least and greatest number, length and alignment of the first want of a group.
-fn first_want(list: &AltList, at: u32) -> Option<(u64, u64, u64, u64)> {
-    if at < list.len() {
-        let want = list.get(at).get(0);
-        Some((want.min, want.max, want.len, want.align))
-    } else {
-        None
-    }
-}
-
 /// The requirements below the root, which has a window of ports.
 fn clipped(alloc: Global) -> Result<Reqs, Fail> {
     let tree = Tree::new(alloc)?;
     if tree.node(0).is_none() {
-        return Err(Fail::from("the root"));
+        return Err(Fail::new("the root"));
     }
     let mut bridges = Bridges::new(alloc);
     bridges.set(0, some_ports()?)?;
@@ -89,25 +71,33 @@ fn clipped(alloc: Global) -> Result<Reqs, Fail> {
     Ok(clipped)
 }
 
-/// The first wants of the groups of the only list, as `first_want` has them.
-fn first_wants(reqs: &Reqs) -> Result<[Option<(u64, u64, u64, u64)>; 4], Fail> {
-    if reqs.len() != 1 {
-        return Err(Fail::from("the lists"));
+/// The first want of a group has these ends, length and alignment.
+fn first_is(
+    list: &AltList,
+    at: u32,
+    (min, max): (u64, u64),
+    (len, align): (u64, u64),
+) -> Result<(), Fail> {
+    if at >= list.len() {
+        return Err(Fail::new("a group that is not there"));
     }
-    let list = reqs.get(0);
-    let first = first_want(list, 0);
-    let second = first_want(list, 1);
-    let third = first_want(list, 2);
-    let fourth = first_want(list, 3);
-    Ok([first, second, third, fourth])
+    let want = list.get(at).get(0);
+    must(want.min == min && want.max == max, "the ends of a want")?;
+    must(
+        want.len == len && want.align == align,
+        "a want's length and alignment",
+    )
 }
 
 #[test]
 fn ports_come_through_a_window(rt: HostRuntime) -> Result<(), Fail> {
-    let wants = first_wants(&clipped(rt.alloc())?)?;
-    let through = Some((0x1000, 0x1fff, 8, 8));
-    let nothing = Some((1, 1, 1, 2));
-    let memory = Some((0, 0xffff, 8, 8));
-    assert_eq!(rt; wants, [through, nothing, memory, None]);
-    Ok(())
+    let reqs = clipped(rt.alloc())?;
+    if reqs.len() != 1 {
+        return Err(Fail::new("the lists"));
+    }
+    let list = reqs.get(0);
+    first_is(list, 0, (0x1000, 0x1fff), (8, 8))?;
+    first_is(list, 1, (1, 1), (1, 2))?;
+    first_is(list, 2, (0, 0xffff), (8, 8))?;
+    must(list.len() == 3, "a group more")
 }

@@ -1,4 +1,5 @@
 //! Handles that are open to devices.
+use crate::told::must;
 use devnode_tree::{HandleRow, Handles};
 use std::alloc::Global;
 use std::test::Fail;
@@ -6,7 +7,7 @@ use std::test::Fail;
 /// A handle is closed, where one is open.
 fn close(handles: &mut Handles, serial: u64) -> Result<(), Fail> {
     if !handles.is_open(serial) {
-        return Err(Fail::from("a handle"));
+        return Err(Fail::new("a handle"));
     }
     handles.drop_one(serial);
     Ok(())
@@ -21,37 +22,39 @@ fn three(alloc: Global) -> Result<Handles, Fail> {
     Ok(handles)
 }
 
-/// How many are open to devices 3, 5 and 7.
-fn counts(handles: &Handles) -> [u64; 3] {
-    [handles.count(3), handles.count(5), handles.count(7)]
+/// So many are open to devices 3, 5 and 7.
+fn counts_are(handles: &Handles, third: u64, fifth: u64, seventh: u64) -> Result<(), Fail> {
+    must(handles.count(3) == third, "handles to device 3")?;
+    must(handles.count(5) == fifth, "handles to device 5")?;
+    must(handles.count(7) == seventh, "handles to device 7")
+}
+
+/// A row has this device and this count.
+fn row_is(rows: &[HandleRow], at: usize, serial: u64, count: u64) -> bool {
+    match rows.get(at) {
+        Some(row) => row.serial == serial && row.count == count,
+        None => false,
+    }
 }
 
 #[test]
 fn handles_stand_in_order_of_serial(rt: HostRuntime) -> Result<(), Fail> {
     let rows = three(rt.alloc())?.rows(rt.alloc())?;
-    let first = HandleRow {
-        serial: 3,
-        count: 1,
-    };
-    let second = HandleRow {
-        serial: 7,
-        count: 2,
-    };
-    assert!(rt; rows.as_slice() == [first, second].as_slice(), "{rows:?}");
-    Ok(())
+    must(rows.len() == 2, "how many rows")?;
+    must(row_is(&rows, 0, 3, 1), "the row of device 3")?;
+    must(row_is(&rows, 1, 7, 2), "the row of device 7")
 }
 
 #[test]
 fn handles_are_closed_one_by_one(rt: HostRuntime) -> Result<(), Fail> {
     let mut handles = three(rt.alloc())?;
-    assert_eq!(rt; counts(&handles), [1, 0, 2]);
+    counts_are(&handles, 1, 0, 2)?;
     close(&mut handles, 7)?;
-    assert_eq!(rt; counts(&handles), [1, 0, 1]);
+    counts_are(&handles, 1, 0, 1)?;
     close(&mut handles, 7)?;
-    assert_eq!(rt; counts(&handles), [1, 0, 0]);
+    counts_are(&handles, 1, 0, 0)?;
     close(&mut handles, 3)?;
-    assert!(rt; handles.rows(rt.alloc())?.is_empty());
-    Ok(())
+    must(handles.rows(rt.alloc())?.is_empty(), "a row that is left")
 }
 
 /// A handle to each device from 200,000 down to 1.
@@ -70,6 +73,5 @@ fn handles_to_many_devices(rt: HostRuntime) -> Result<(), Fail> {
     for serial in 1..200_001u64 {
         close(&mut handles, serial)?;
     }
-    assert_eq!(rt; counts(&handles), [0, 0, 0]);
-    Ok(())
+    counts_are(&handles, 0, 0, 0)
 }

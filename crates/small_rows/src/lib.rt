@@ -16,6 +16,8 @@ mod searches;
 #[cfg(test)]
 mod sizes;
 #[cfg(test)]
+mod told;
+#[cfg(test)]
 mod trees;
 #[cfg(test)]
 mod trials;

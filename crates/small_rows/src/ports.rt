@@ -3,6 +3,7 @@ ghost use Rattle.std.specs.Prelude.{◌≡◌, ◌≤◌, [], IsTrue, IfOk};
 ghost use Rattle.resource_reqs.specs.declared.kind.Kind.{Kind};
 ghost use Rattle.trial_journal.specs.ByKind.{of_kind};
 
+use crate::told::must;
 use resource_reqs::{Kind, Owner, Res};
 use std::alloc::Global;
 use std::test::Fail;
@@ -12,14 +13,14 @@ use trial_journal::{Arbiters, Journal, Trial};
 fn port(number: u64) -> Result<Res, Fail> {
     match Res::make(Kind::Port, number, number, false) {
         Some(port) => Ok(port),
-        None => Err(Fail::from("a port")),
+        None => Err(Fail::new("a port")),
     }
 }
 
 /// A device holds one resource more, for which there is room.
 fn hold(arbiters: &mut Arbiters, device: u64, res: Res) -> Result<(), Fail> {
     if arbiters.spare(res.kind) == 0 {
-        return Err(Fail::from("room"));
+        return Err(Fail::new("room"));
     }
     arbiters.put(Owner::Device(device), res);
     Ok(())
@@ -66,11 +67,11 @@ fn in_front(arbiters: &mut Arbiters, journal: Journal, res: Res)
     trial.roll_back();
 }
 
-/// The port at a position of the list, where the first device holds it.
-fn held_at(arbiters: &Arbiters, at: u64) -> Option<u64> {
+/// Whether the first device holds this port at a position of the list.
+fn holds(arbiters: &Arbiters, at: u64, number: u64) -> bool {
     match arbiters.held(Kind::Port, at) {
-        Some((Owner::Device(1), port)) => Some(port.lo),
-        _ => None,
+        Some((Owner::Device(1), port)) => port.lo == number,
+        _ => false,
     }
 }
 
@@ -79,11 +80,12 @@ fn ports_in_descending_order(rt: HostRuntime) -> Result<(), Fail> {
     let mut arbiters = roomy(rt.alloc())?;
     descending(&mut arbiters)?;
     let journal = Journal::with_room(rt.alloc(), 1)?;
-    assert!(rt; has_room(&arbiters));
-    in_front(&mut arbiters, journal, port(0)?);
-    for (at, number) in [(0, 2), (100_000, 200_002), (199_999, 400_000)] {
-        assert_eq!(rt; held_at(&arbiters, at), Some(number));
+    if !has_room(&arbiters) {
+        return Err(Fail::new("room"));
     }
-    assert!(rt; arbiters.held(Kind::Port, 200_000).is_none());
-    Ok(())
+    in_front(&mut arbiters, journal, port(0)?);
+    must(holds(&arbiters, 0, 2), "the first port")?;
+    must(holds(&arbiters, 100_000, 200_002), "the port in the middle")?;
+    must(holds(&arbiters, 199_999, 400_000), "the last port")?;
+    must(arbiters.held(Kind::Port, 200_000).is_none(), "a port more")
 }

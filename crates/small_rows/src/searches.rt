@@ -36,7 +36,7 @@ fn answered(alloc: Global, needs: &[&[(u64, u64)]], budget: u64) -> Result<Found
     }
     let mut arbiters = Arbiters::new(alloc)?;
     if budget > 1_000_000 {
-        return Err(Fail::from("the budget"));
+        return Err(Fail::new("the budget"));
     }
     Ok(answer(alloc, &mut arbiters, &movers, budget)?)
 }
@@ -53,39 +53,44 @@ fn numbers(alloc: Global, plan: &Plan) -> Result<Vec<u64>, AllocError> {
     Ok(numbers)
 }
 
-/// A word for an answer, and its numbers.
-fn told(alloc: Global, found: &Found) -> Result<(&'static str, Vec<u64>), AllocError> {
-    match found {
-        Found::Assignment(plan) => Ok(("found", numbers(alloc, plan)?)),
-        Found::NoFit => Ok(("nofit", Vec::new(alloc))),
-        Found::Spent => Ok(("spent", Vec::new(alloc))),
+/// So many tries are not enough.
+fn spends(alloc: Global, needs: &[&[(u64, u64)]], budget: u64) -> Result<(), Fail> {
+    match answered(alloc, needs, budget)? {
+        Found::Spent => Ok(()),
+        _ => Err(Fail::new("a search that ended")),
     }
 }
 
-/// The needs of each mover, the budget, and what is answered.
-type Row = (
-    &'static [&'static [(u64, u64)]],
-    u64,
-    &'static str,
-    &'static [u64],
-);
+/// Within so many tries interrupt 6 is found, and then 5.
+fn finds(alloc: Global, needs: &[&[(u64, u64)]], budget: u64) -> Result<(), Fail> {
+    let Found::Assignment(plan) = answered(alloc, needs, budget)? else {
+        return Err(Fail::new("no assignment"));
+    };
+    match numbers(alloc, &plan)?.as_slice() {
+        [6, 5] => Ok(()),
+        _ => Err(Fail::new("other interrupts")),
+    }
+}
 
-const ROWS: [Row; 6] = [
-    (&[&[(5, 6), (5, 5)]], 3, "spent", &[]),
-    (&[&[(5, 6), (5, 5)]], 4, "found", &[6, 5]),
-    (&[&[(5, 6)], &[(5, 5)]], 4, "spent", &[]),
-    (&[&[(5, 6)], &[(5, 5)]], 5, "found", &[6, 5]),
-    (&[&[(5, 6)], &[(5, 6)], &[(5, 6)]], 6, "spent", &[]),
-    (&[&[(5, 6)], &[(5, 6)], &[(5, 6)]], 7, "nofit", &[]),
-];
+/// One device that needs an interrupt of two and then one of them.
+const ONE: [&[(u64, u64)]; 1] = [&[(5, 6), (5, 5)]];
+
+/// Two devices, of which the second needs one of the first one's two.
+const TWO: [&[(u64, u64)]; 2] = [&[(5, 6)], &[(5, 5)]];
+
+/// Three devices for two interrupts.
+const THREE: [&[(u64, u64)]; 3] = [&[(5, 6)], &[(5, 6)], &[(5, 6)]];
 
 #[test]
 fn tries_are_counted(rt: HostRuntime) -> Result<(), Fail> {
-    for (needs, budget, word, numbers) in ROWS {
-        let found = answered(rt.alloc(), needs, budget)?;
-        let (answer, given) = told(rt.alloc(), &found)?;
-        assert_eq!(rt; answer, word);
-        assert_eq!(rt; given.as_slice(), numbers);
+    let alloc = rt.alloc();
+    spends(alloc, &ONE, 3)?;
+    finds(alloc, &ONE, 4)?;
+    spends(alloc, &TWO, 4)?;
+    finds(alloc, &TWO, 5)?;
+    spends(alloc, &THREE, 6)?;
+    match answered(alloc, &THREE, 7)? {
+        Found::NoFit => Ok(()),
+        _ => Err(Fail::new("three devices for two interrupts")),
     }
-    Ok(())
 }

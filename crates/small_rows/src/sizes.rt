@@ -3,6 +3,7 @@
 ghost use Rattle.std.specs.Prelude.{◌≡◌, ◌<◌, ◌+◌, ◌^◌, length, IfSome, IfOk, OnOk};
 ghost use Rattle.node_pool.specs.Chains.{Stands};
 
+use crate::told::must;
 use bridge_windows::{Bridges, clip};
 use device_ids::{IdList, InstancePath};
 use devnode_tree::Tree;
@@ -33,7 +34,7 @@ fn put(
 {
     match pool.insert_after(0, at, value) {
         Ok(place) => Ok(place),
-        Err(_) => Err(Fail::from("room")),
+        Err(_) => Err(Fail::new("room")),
     }
 }
 
@@ -90,9 +91,8 @@ fn right_values(pool: &Pool<u64>) -> u64
 #[test]
 fn a_million_values(rt: HostRuntime) -> Result<(), Fail> {
     let pool = filled(rt.alloc())?;
-    assert_eq!(rt; pool.spare(), 0);
-    assert_eq!(rt; right_values(&pool), 2 * HALF);
-    Ok(())
+    must(pool.spare() == 0, "room for another value")?;
+    must(right_values(&pool) == 2 * HALF, "the values of the chain")
 }
 
 /// The path of a device, as it was given or in lower case.
@@ -121,13 +121,23 @@ fn wide_tree(alloc: Global, count: u32) -> Result<Tree, Fail> {
     Ok(tree)
 }
 
+/// Whether the node that was found is this one.
+fn is_node(found: Option<u64>, number: u64) -> bool {
+    match found {
+        Some(serial) => serial == number,
+        None => false,
+    }
+}
+
 #[test]
 fn nodes_found_by_their_paths(rt: HostRuntime) -> Result<(), Fail> {
     let alloc = rt.alloc();
     let tree = wide_tree(alloc, 300_000)?;
     for number in 1..300_001u64 {
         let path = path(alloc, "own\\dev", number)?;
-        assert!(rt; tree.find(&path) == Some(number), "{number}");
+        if !is_node(tree.find(&path), number) {
+            return Err(Fail::new(number));
+        }
     }
     Ok(())
 }
@@ -135,7 +145,7 @@ fn nodes_found_by_their_paths(rt: HostRuntime) -> Result<(), Fail> {
 /// What a device that requires nothing may require below a node, where no window was set.
 fn unclipped(alloc: Global, tree: &Tree, parent: u64) -> Result<u64, Fail> {
     if tree.node(parent).is_none() {
-        return Err(Fail::from("the parent"));
+        return Err(Fail::new("the parent"));
     }
     let reqs = Reqs::new(alloc);
     let clipped = clip(alloc, tree, &Bridges::new(alloc), parent, &reqs)?;
@@ -155,6 +165,5 @@ fn deep_tree(alloc: Global, count: u32) -> Result<Tree, Fail> {
 #[test]
 fn no_climb_without_a_window(rt: HostRuntime) -> Result<(), Fail> {
     let tree = deep_tree(rt.alloc(), 200_000)?;
-    assert_eq!(rt; tree.len(), 200_001);
-    Ok(())
+    must(tree.len() == 200_001, "how many nodes")
 }

@@ -1,3 +1,5 @@
+//! A listing of the root, and a child of a node.
+use crate::told::must;
 use device_ids::{IdList, InstancePath};
 use devnode_tree::Tree;
 use resource_reqs::Reqs;
@@ -15,21 +17,17 @@ fn one_device(alloc: Global) -> Result<World, Fail> {
     Ok(world)
 }
 
-/// How many devices a listing of the root finds that join, and how many that are gone, where the tree has the root alone.
-fn found(alloc: Global) -> Result<(u64, u64), Fail> {
-    let world = one_device(alloc)?;
-    let tree = Tree::new(alloc)?;
-    if tree.node(0).is_none() {
-        return Err(Fail::from("the root"));
-    }
-    let found = difference(alloc, &world, &tree, 0)?;
-    Ok((found.joins.len(), found.gone.len()))
-}
-
+/// A listing of the root finds one device that joins and none that is gone, where the tree has the root alone.
 #[test]
 fn a_listing_finds_who_joins(rt: HostRuntime) -> Result<(), Fail> {
-    assert_eq!(rt; found(rt.alloc())?, (1, 0));
-    Ok(())
+    let world = one_device(rt.alloc())?;
+    let tree = Tree::new(rt.alloc())?;
+    if tree.node(0).is_none() {
+        return Err(Fail::new("the root"));
+    }
+    let found = difference(rt.alloc(), &world, &tree, 0)?;
+    must(found.joins.len() == 1, "how many devices join")?;
+    must(found.gone.len() == 0, "how many devices are gone")
 }
 
 /// A tree with one node below the root.
@@ -43,7 +41,8 @@ fn one_node(alloc: Global) -> Result<Tree, Fail> {
 
 #[test]
 fn the_root_has_a_child(rt: HostRuntime) -> Result<(), Fail> {
-    let tree = one_node(rt.alloc())?;
-    assert_eq!(rt; tree.child(0, 0), Some(1));
-    Ok(())
+    match one_node(rt.alloc())?.child(0, 0) {
+        Some(1) => Ok(()),
+        _ => Err(Fail::new("the child of the root")),
+    }
 }

@@ -4,6 +4,7 @@ ghost use Rattle.resource_reqs.specs.declared.kind.Kind.{Kind};
 ghost use Rattle.resource_reqs.specs.declared.owner.Owner.TheVariants.{Device};
 ghost use Rattle.trial_journal.specs.ByKind.{of_kind};
 
+use crate::told::must;
 use resource_reqs::{Kind, Owner, Res};
 use std::alloc::Global;
 use std::test::Fail;
@@ -13,7 +14,7 @@ use trial_journal::{Arbiters, Journal, Trial};
 fn interrupt(number: u64) -> Result<Res, Fail> {
     match Res::make(Kind::Irq, number, number, false) {
         Some(interrupt) => Ok(interrupt),
-        None => Err(Fail::from("an interrupt")),
+        None => Err(Fail::new("an interrupt")),
     }
 }
 
@@ -47,31 +48,33 @@ fn handed_over(arbiters: &mut Arbiters, journal: Journal, held: Res, other: Res,
     }
 }
 
-/// Who holds which interrupt, where it is one alone.
-fn alone(arbiters: &Arbiters) -> Option<(Owner, u64)> {
-    let (owner, res) = arbiters.held(Kind::Irq, 0)?;
+/// The device that holds interrupt 5, where no other interrupt is held.
+fn holder(arbiters: &Arbiters) -> Option<u64> {
     if arbiters.held(Kind::Irq, 1).is_some() {
         return None;
     }
-    Some((owner, res.lo))
+    match arbiters.held(Kind::Irq, 0) {
+        Some((Owner::Device(device), res)) if res.lo == 5 => Some(device),
+        _ => None,
+    }
 }
 
-/// The one holding after a trial on interrupt 5 of the first device.
-fn holding_after(alloc: Global, keep: bool) -> Result<Option<(Owner, u64)>, Fail> {
+/// The device that holds interrupt 5 alone, after a trial on it while the first device holds it.
+fn holder_after(alloc: Global, keep: bool) -> Result<Option<u64>, Fail> {
     let (held, other) = (interrupt(5)?, interrupt(6)?);
     let mut arbiters = first_holds(alloc, held)?;
     let journal = Journal::with_room(alloc, 3)?;
     handed_over(&mut arbiters, journal, held, other, keep);
-    Ok(alone(&arbiters))
+    Ok(holder(&arbiters))
 }
 
 #[test]
 fn an_interrupt_handed_over(rt: HostRuntime) -> Result<(), Fail> {
-    let (kept, rolled_back) = (
-        holding_after(rt.alloc(), true)?,
-        holding_after(rt.alloc(), false)?,
-    );
-    assert!(rt; kept == Some((Owner::Device(2), 5)));
-    assert!(rt; rolled_back == Some((Owner::Device(1), 5)));
-    Ok(())
+    match (
+        holder_after(rt.alloc(), true)?,
+        holder_after(rt.alloc(), false)?,
+    ) {
+        (Some(2), Some(1)) => Ok(()),
+        _ => Err(Fail::new("who holds the interrupt")),
+    }
 }
