@@ -3,3 +3,5 @@
 
 #[cfg(test)]
 mod steps;
+#[cfg(test)]
+mod told;

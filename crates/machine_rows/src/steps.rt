@@ -1,6 +1,7 @@
 ghost use Rattle.std.specs.Prelude.{◌≡◌, ◌<◌, ◌≤◌, ◌+◌, ◌^◌, true, IfOk, OnOk};
 ghost use Rattle.pnp_machine.specs.Machines.{HasFewIds};
 
+use crate::told::same;
 use device_ids::{DeviceId, IdList, InstancePath, Text, TextList, WantOfMemory};
 use driver_rack::{Drivers, Rack, Scripted};
 use inf_reader::{Inf, ModelLine, ModelLines};
@@ -232,8 +233,7 @@ fn held_again(alloc: Global) -> Result<Vec<u8>, WantOfMemory> {
 /// and the device would be up.
 #[test]
 fn a_refused_step_asks_its_driver_once(rt: HostRuntime) -> Result<(), Fail> {
-    let alloc = rt.alloc();
-    let out = lines_again(alloc, Answer::Fail)?;
+    let out = lines_again(rt.alloc(), Answer::Fail)?;
     let expected = b"join 1 OWN\\DEV\\1\n\
         listed HTREE\\ROOT\\0\n\
         install OWN\\DEV\\1 00ff0000 serial\n\
@@ -248,14 +248,12 @@ fn a_refused_step_asks_its_driver_once(rt: HostRuntime) -> Result<(), Fail> {
         0 HTREE\\ROOT\\0 Started\n 1 OWN\\DEV\\1 NoStack problem 10\n\
         map\n\
         outstanding\n";
-    assert_eq!(rt; out.as_slice(), expected.as_slice());
-    Ok(())
+    same(&out, expected)
 }
 
 #[test]
 fn a_start_waits_and_goes_on(rt: HostRuntime) -> Result<(), Fail> {
-    let alloc = rt.alloc();
-    let out = lines_again(alloc, Answer::Pend)?;
+    let out = lines_again(rt.alloc(), Answer::Pend)?;
     let expected = b"join 1 OWN\\DEV\\1\n\
         listed HTREE\\ROOT\\0\n\
         install OWN\\DEV\\1 00ff0000 serial\n\
@@ -267,14 +265,12 @@ fn a_start_waits_and_goes_on(rt: HostRuntime) -> Result<(), Fail> {
         map\n\
         outstanding\n\
         OWN\\DEV\\1 START_DEVICE serial\n";
-    assert_eq!(rt; out.as_slice(), expected.as_slice());
-    Ok(())
+    same(&out, expected)
 }
 
 #[test]
 fn a_device_waits_for_its_handle(rt: HostRuntime) -> Result<(), Fail> {
-    let alloc = rt.alloc();
-    let out = held_again(alloc)?;
+    let out = held_again(rt.alloc())?;
     let expected = b"gone OWN\\DEV\\1\n\
         listed HTREE\\ROOT\\0\n\
         begin surprise OWN\\DEV\\1\n\
@@ -287,6 +283,5 @@ fn a_device_waits_for_its_handle(rt: HostRuntime) -> Result<(), Fail> {
         state OWN\\DEV\\1 NoStack\n\
         leave OWN\\DEV\\1\n\
         end finish OWN\\DEV\\1 done\n";
-    assert_eq!(rt; out.as_slice(), expected.as_slice());
-    Ok(())
+    same(&out, expected)
 }

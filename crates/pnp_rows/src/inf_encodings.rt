@@ -1,10 +1,11 @@
 //! INFs in UTF-8, Latin-1 and UTF-16, and lines at their longest.
+use crate::compared::{must, same};
 use crate::inf_told::{MODELS, gives, joined, model_bytes, told, wide, wide_models};
 use std::alloc::{AllocError, Global};
 use std::test::Fail;
 
 /// UTF-8, and what is none and so is Latin-1.
-const NARROW: [(&[u8], &str); 6] = [
+const NARROW: &[(&[u8], &str)] = &[
     (
         b"x=I,\xF0\x9F\x98\x80\n",
         "6 255 - ids|\u{1F600} lower upper\n",
@@ -29,7 +30,7 @@ const NARROW: [(&[u8], &str); 6] = [
 ];
 
 /// UTF-16: a text, the bytes behind it, and the models line.
-const WIDE: [(&str, &[u8], &str); 8] = [
+const WIDE: &[(&str, &[u8], &str)] = &[
     ("x=I,A\r\n", b"", "6 255 - ids|A lower upper\n"),
     (
         "x=I,",
@@ -81,7 +82,7 @@ fn long(
 
 /// Lines at their longest: what is before a piece, the piece, how often it stands there, and what is behind; and how
 /// the text of what they give begins.
-const LONG: [(&[u8], &[u8], u32, &[u8], &str); 8] = [
+const LONG: &[(&[u8], &[u8], u32, &[u8], &str)] = &[
     (b"x=I,", b"\xE9", 2046, b"\n", "0 0\n"),
     (b"x=I,", b"\xE9", 2047, b"\n", "refused 3 6\n"),
     (b"x=I,", b"\xE2\x82\xAC", 1364, b"\n", "0 0\n"),
@@ -95,12 +96,12 @@ const LONG: [(&[u8], &[u8], u32, &[u8], &str); 8] = [
 #[test]
 fn encodings(rt: HostRuntime) -> Result<(), Fail> {
     let alloc = rt.alloc();
-    model_bytes(&rt, alloc, &NARROW)?;
-    wide_models(&rt, alloc, &WIDE)?;
+    model_bytes(alloc, NARROW)?;
+    wide_models(alloc, WIDE)?;
     for (front, piece, count, end, want) in LONG {
-        let inf = long(alloc, front, piece, count, end)?;
+        let inf = long(alloc, front, piece, *count, end)?;
         let told = told(alloc, &inf)?;
-        assert!(rt; told.starts_with(want.as_bytes()), "{told:?}");
+        must(told.starts_with(want.as_bytes()), want)?;
     }
     Ok(())
 }
@@ -112,9 +113,9 @@ fn long_wide_lines(rt: HostRuntime) -> Result<(), Fail> {
     let shown = often(alloc, b"\xE2\x82\xAC", 1364)?;
     let given = told(alloc, &wide(alloc, "x=I,", &most)?)?;
     let want = joined(alloc, &[b"0 0\n6 255 - ids|", &shown, b" lower upper\n"])?;
-    assert!(rt; given == want);
+    same(&given, &want)?;
     let more = often(alloc, b"\xAC\x20", 1365)?;
-    gives(&rt, alloc, &wide(alloc, "x=I,", &more)?, "refused 3 6\n")
+    gives(alloc, &wide(alloc, "x=I,", &more)?, "refused 3 6\n")
 }
 
 #[test]
@@ -126,6 +127,5 @@ fn long_joined_lines(rt: HostRuntime) -> Result<(), Fail> {
         alloc,
         &[b"0 0\n6 255 - ids|", &half, &half, b" lower upper\n"],
     )?;
-    assert!(rt; told(alloc, &inf)? == want);
-    Ok(())
+    same(&told(alloc, &inf)?, &want)
 }

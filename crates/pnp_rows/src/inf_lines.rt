@@ -4,7 +4,7 @@ use crate::inf_told::{MODELS, models, refuses};
 use std::test::Fail;
 
 /// Lines: their ends, their numbers, and blanks, which are space and tab alone.
-const LINES: [(&str, &str); 8] = [
+const LINES: &[(&str, &str)] = &[
     ("x=I,A\rB\n", "6 255 - ids|A\rB lower upper\n"),
     ("\r\n; c\r\nx=I,A\r\n", "8 255 - ids|A lower upper\n"),
     (
@@ -22,7 +22,7 @@ const LINES: [(&str, &str); 8] = [
 ];
 
 /// Quoted parts and comments.
-const QUOTES: [(&str, &str); 16] = [
+const QUOTES: &[(&str, &str)] = &[
     ("x=I,A\"B;C\"D;E\n", "6 255 - ids|AB;CD lower upper\n"),
     ("x=I,\"A\" \"B\"\n", "6 255 - ids|A B lower upper\n"),
     ("x=I,\"\"\n", "6 255 - ids| lower upper\n"),
@@ -45,7 +45,7 @@ const QUOTES: [(&str, &str); 16] = [
 ];
 
 /// Headers and sections.
-const HEADERS: [(&str, &str); 11] = [
+const HEADERS: &[(&str, &str)] = &[
     ("[Z]]\nq=1\n[M]] x\nx=I,A\n", "9 255 - ids|A lower upper\n"),
     ("[]\nx=I,A\n[M]\ny=I,B\n", "9 255 - ids|B lower upper\n"),
     (
@@ -63,7 +63,7 @@ const HEADERS: [(&str, &str); 11] = [
 ];
 
 /// Lines that go on with the next one.
-const CONTINUED: [(&str, &str); 14] = [
+const CONTINUED: &[(&str, &str)] = &[
     ("x=I,A,\\\r\n\t B\r\n", "6 255 - ids|A|B lower upper\n"),
     ("x=I,A \\\nB\n", "6 255 - ids|A B lower upper\n"),
     ("x=I,A\\\n; c\nB\n", "6 255 - ids|A lower upper\n"),
@@ -90,7 +90,7 @@ const CONTINUED: [(&str, &str); 14] = [
 ];
 
 /// Keys and values.
-const ENTRIES: [(&str, &str); 15] = [
+const ENTRIES: &[(&str, &str)] = &[
     ("x==I,A\n", "6 255 - ids|A lower upper\n"),
     (" x = I , A B ,C \n", "6 255 - ids|A B|C lower upper\n"),
     ("x=I,A,\n", "6 255 - ids|A| lower upper\n"),
@@ -115,7 +115,7 @@ const ENTRIES: [(&str, &str); 15] = [
 ];
 
 /// Headers without their end.
-const OPEN_HEADERS: [(&str, &str); 4] = [
+const OPEN_HEADERS: &[(&str, &str)] = &[
     ("[Z;]\nx=I,A\n", "refused 2 6"),
     ("x=I,A\n  [Z ; ]\n", "refused 2 7"),
     ("[\n", "refused 2 6"),
@@ -123,12 +123,12 @@ const OPEN_HEADERS: [(&str, &str); 4] = [
 ];
 
 /// What is read under `[M]`.
-const TABLES: [&[(&str, &str)]; 5] = [&LINES, &QUOTES, &HEADERS, &CONTINUED, &ENTRIES];
+const TABLES: &[&[(&str, &str)]] = &[LINES, QUOTES, HEADERS, CONTINUED, ENTRIES];
 
 #[test]
 fn lines(rt: HostRuntime) -> Result<(), Fail> {
     for rows in TABLES {
-        models(&rt, rt.alloc(), rows)?;
+        models(rt.alloc(), rows)?;
     }
-    refuses(&rt, rt.alloc(), MODELS, &OPEN_HEADERS)
+    refuses(rt.alloc(), MODELS, OPEN_HEADERS)
 }

@@ -4,7 +4,7 @@ use crate::inf_told::{MODELS, entries, models, refuses, refuses_each};
 use std::test::Fail;
 
 /// Tokens, and the texts that stand for them.
-const TOKENS: [(&str, &str); 20] = [
+const TOKENS: &[(&str, &str)] = &[
     (
         "x=I,%a%%b%\n[Strings]\na=V\nb=W\n",
         "6 255 - ids|VW lower upper\n",
@@ -79,7 +79,7 @@ const TOKENS: [(&str, &str); 20] = [
 ];
 
 /// Install sections, decorated and bare.
-const INSTALLS: [(&str, &str); 11] = [
+const INSTALLS: &[(&str, &str)] = &[
     (
         "x=I,A\n[I.NTamd64]\n[I.NT]\nFeatureScore=1\n[I]\nFeatureScore=2\n",
         "6 255 - ids|A lower upper\n",
@@ -124,7 +124,7 @@ const INSTALLS: [(&str, &str); 11] = [
 ];
 
 /// Which sections an `AddReg` names.
-const REGISTRY: [(&str, &str); 6] = [
+const REGISTRY: &[(&str, &str)] = &[
     (
         "x=I,A\n[I]\nAddReg=R\n[R]\nHKR,,UpperFilters,0x10000,a\n",
         "6 255 - ids|A lower upper\n",
@@ -152,7 +152,7 @@ const REGISTRY: [(&str, &str); 6] = [
 ];
 
 /// Scores that are none, in whatever section.
-const BAD_SCORES_ANYWHERE: [(&str, &str); 3] = [
+const BAD_SCORES_ANYWHERE: &[(&str, &str)] = &[
     ("[Z]\n%f%=300\n[Strings]\nf=FeatureScore\n", "refused 5 7"),
     ("[Strings]\nFeatureScore=%x%\nx=1\n", "refused 5 7"),
     (
@@ -165,7 +165,7 @@ const BAD_SCORES_ANYWHERE: [(&str, &str); 3] = [
 const SCORE: &str = "x=I,A\n[I]\nFeatureScore=";
 
 /// The value of a `FeatureScore`, and the score.
-const SCORES: [(&str, &str); 15] = [
+const SCORES: &[(&str, &str)] = &[
     ("0", "6 0 - ids|A lower upper\n"),
     ("255", "6 255 - ids|A lower upper\n"),
     ("0xff", "6 255 - ids|A lower upper\n"),
@@ -184,7 +184,7 @@ const SCORES: [(&str, &str); 15] = [
 ];
 
 /// Values of a `FeatureScore` that are no score.
-const BAD_SCORES: [&str; 15] = [
+const BAD_SCORES: &[&str] = &[
     "0XFF",
     "0x",
     "",
@@ -203,7 +203,7 @@ const BAD_SCORES: [&str; 15] = [
 ];
 
 /// The values of an `AddService`, and what is behind it, with the service that they give.
-const SERVICES: [(&str, &str); 22] = [
+const SERVICES: &[(&str, &str)] = &[
     (
         "s,%SPSVCINST_ASSOCSERVICE%,T\n[Strings]\nSPSVCINST_ASSOCSERVICE=0x00000002",
         "6 255 =s ids|A lower upper\n",
@@ -241,7 +241,7 @@ const SERVICES: [(&str, &str); 22] = [
 ];
 
 /// The lines of a registry section, with the filters that they give.
-const FILTERS: [(&str, &str); 17] = [
+const FILTERS: &[(&str, &str)] = &[
     (
         "HKR,,\"UpperFilters\",0x00010000,\"a\",\"b\"",
         "6 255 - ids|A lower upper|a|b\n",
@@ -304,24 +304,24 @@ const FILTERS: [(&str, &str); 17] = [
 ];
 
 /// What is read under `[M]`.
-const TABLES: [&[(&str, &str)]; 3] = [&TOKENS, &INSTALLS, &REGISTRY];
+const TABLES: &[&[(&str, &str)]] = &[TOKENS, INSTALLS, REGISTRY];
 
 /// What is read under `[M]` behind a front.
-const VALUES: [(&str, &[(&str, &str)]); 3] = [
-    (SCORE, &SCORES),
-    ("x=I,A\n[I.Services]\nAddService=", &SERVICES),
-    ("x=I,A\n[I.HW]\nAddReg=R\n[R]\n", &FILTERS),
+const VALUES: &[(&str, &[(&str, &str)])] = &[
+    (SCORE, SCORES),
+    ("x=I,A\n[I.Services]\nAddService=", SERVICES),
+    ("x=I,A\n[I.HW]\nAddReg=R\n[R]\n", FILTERS),
 ];
 
 #[test]
 fn parts_of_models_lines(rt: HostRuntime) -> Result<(), Fail> {
     let alloc = rt.alloc();
     for rows in TABLES {
-        models(&rt, alloc, rows)?;
+        models(alloc, rows)?;
     }
     for (front, rows) in VALUES {
-        entries(&rt, alloc, front, rows)?;
+        entries(alloc, front, rows)?;
     }
-    refuses(&rt, alloc, MODELS, &BAD_SCORES_ANYWHERE)?;
-    refuses_each(&rt, alloc, SCORE, &BAD_SCORES, "refused 5 8")
+    refuses(alloc, MODELS, BAD_SCORES_ANYWHERE)?;
+    refuses_each(alloc, SCORE, BAD_SCORES, "refused 5 8")
 }

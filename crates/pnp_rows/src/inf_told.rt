@@ -1,8 +1,8 @@
 //! What INFs give, as a text that a table can hold.
+use crate::compared::same;
 use device_ids::TextList;
 use inf_reader::{Inf, InfError, ModelLine, read};
 use std::alloc::{AllocError, Global};
-use std::process::Abort;
 use std::test::Fail;
 
 /// The head of an INF with a signature: what follows is read under `[Version]`, from line 3 on.
@@ -21,10 +21,18 @@ fn put_texts(out: &mut Vec<u8>, word: &[u8], texts: &TextList) -> Result<(), All
     Ok(())
 }
 
+/// Adds a number's digits.
+fn put_number(alloc: Global, out: &mut Vec<u8>, number: u64) -> Result<(), AllocError> {
+    let text = number.to_string(alloc)?;
+    out.extend_from_slice(text.as_bytes())
+}
+
 /// Adds a models line: its number, score, service, IDs and filters.
 fn put_line(alloc: Global, out: &mut Vec<u8>, line: &ModelLine) -> Result<(), AllocError> {
-    let numbers = format!(in alloc; "{} {} ", line.line, line.score)?;
-    out.extend_from_slice(numbers.as_bytes())?;
+    put_number(alloc, out, line.line as u64)?;
+    out.push(b' ')?;
+    put_number(alloc, out, line.score as u64)?;
+    out.push(b' ')?;
     match &line.service {
         Some(service) => {
             out.push(b'=')?;
@@ -42,8 +50,10 @@ fn put_line(alloc: Global, out: &mut Vec<u8>, line: &ModelLine) -> Result<(), Al
 /// The text of what an INF gives: date and version, and then its models lines.
 fn text_of(alloc: Global, inf: &Inf) -> Result<Vec<u8>, AllocError> {
     let mut out = Vec::new(alloc);
-    let head = format!(in alloc; "{} {}\n", inf.date, inf.version)?;
-    out.extend_from_slice(head.as_bytes())?;
+    put_number(alloc, &mut out, inf.date as u64)?;
+    out.push(b' ')?;
+    put_number(alloc, &mut out, inf.version)?;
+    out.push(b'\n')?;
     for at in 0..inf.lines.len() {
         put_line(alloc, &mut out, inf.lines.get(at))?;
     }
@@ -60,9 +70,11 @@ fn text_of_refusal(alloc: Global, error: InfError) -> Result<Vec<u8>, AllocError
         InfError::BadScore { line } => (5, line),
         InfError::WantOfMemory => (6, 0),
     };
-    let text = format!(in alloc; "refused {} {}\n", number, line)?;
-    let mut out = Vec::new(alloc);
-    out.extend_from_slice(text.as_bytes())?;
+    let mut out = Vec::from_slice(alloc, b"refused ")?;
+    put_number(alloc, &mut out, number)?;
+    out.push(b' ')?;
+    put_number(alloc, &mut out, line as u64)?;
+    out.push(b'\n')?;
     Ok(out)
 }
 
@@ -87,110 +99,100 @@ pub fn joined(alloc: Global, texts: &[&[u8]]) -> Result<Vec<u8>, AllocError> {
 }
 
 /// The INF of these bytes gives this.
-pub fn gives(rt: &impl Abort, alloc: Global, bytes: &[u8], want: &str) -> Result<(), Fail> {
-    let told = told(alloc, bytes)?;
-    assert!(rt; told.as_slice() == want.as_bytes(), "{bytes:?} {told:?}");
-    Ok(())
+pub fn gives(alloc: Global, bytes: &[u8], want: &str) -> Result<(), Fail> {
+    same(&told(alloc, bytes)?, want.as_bytes())
 }
 
 /// Whole INFs, with what they give.
-pub fn whole(rt: &impl Abort, alloc: Global, rows: &[(&str, &str)]) -> Result<(), Fail> {
+pub fn whole(alloc: Global, rows: &[(&str, &str)]) -> Result<(), Fail> {
     for (inf, want) in rows {
-        gives(rt, alloc, inf.as_bytes(), want)?;
+        gives(alloc, inf.as_bytes(), want)?;
     }
     Ok(())
 }
 
 /// Whole INFs in bytes, with what they give.
-pub fn whole_bytes(rt: &impl Abort, alloc: Global, rows: &[(&[u8], &str)]) -> Result<(), Fail> {
+pub fn whole_bytes(alloc: Global, rows: &[(&[u8], &str)]) -> Result<(), Fail> {
     for (inf, want) in rows {
-        gives(rt, alloc, inf, want)?;
+        gives(alloc, inf, want)?;
     }
     Ok(())
 }
 
 /// What follows a head gives these models lines, without date and version.
-fn gives_lines(rt: &impl Abort, alloc: Global, texts: &[&[u8]], lines: &str) -> Result<(), Fail> {
+fn gives_lines(alloc: Global, texts: &[&[u8]], lines: &str) -> Result<(), Fail> {
     let inf = joined(alloc, texts)?;
-    let want = format!(in alloc; "0 0\n{}", lines)?;
-    gives(rt, alloc, &inf, &want)
+    let want = joined(alloc, &[b"0 0\n", lines.as_bytes()])?;
+    same(&told(alloc, &inf)?, &want)
 }
 
 /// Under `[M]`, texts with the models lines that they give.
-pub fn models(rt: &impl Abort, alloc: Global, rows: &[(&str, &str)]) -> Result<(), Fail> {
+pub fn models(alloc: Global, rows: &[(&str, &str)]) -> Result<(), Fail> {
     for (text, lines) in rows {
-        gives_lines(rt, alloc, &[MODELS.as_bytes(), text.as_bytes()], lines)?;
+        gives_lines(alloc, &[MODELS.as_bytes(), text.as_bytes()], lines)?;
     }
     Ok(())
 }
 
 /// Under `[M]`, bytes with the models lines that they give.
-pub fn model_bytes(rt: &impl Abort, alloc: Global, rows: &[(&[u8], &str)]) -> Result<(), Fail> {
+pub fn model_bytes(alloc: Global, rows: &[(&[u8], &str)]) -> Result<(), Fail> {
     for (text, lines) in rows {
-        gives_lines(rt, alloc, &[MODELS.as_bytes(), text], lines)?;
+        gives_lines(alloc, &[MODELS.as_bytes(), text], lines)?;
     }
     Ok(())
 }
 
 /// Under `[M]`, a front with each of these behind it, and the models line that it gives.
-pub fn entries(
-    rt: &impl Abort,
-    alloc: Global,
-    front: &str,
-    rows: &[(&str, &str)],
-) -> Result<(), Fail> {
+pub fn entries(alloc: Global, front: &str, rows: &[(&str, &str)]) -> Result<(), Fail> {
     for (value, lines) in rows {
         let texts: [&[u8]; 4] = [MODELS.as_bytes(), front.as_bytes(), value.as_bytes(), b"\n"];
-        gives_lines(rt, alloc, &texts, lines)?;
+        gives_lines(alloc, &texts, lines)?;
     }
     Ok(())
 }
 
+/// The INF of these bytes gives this one line.
+fn gives_line(alloc: Global, inf: &[u8], line: &str) -> Result<(), Fail> {
+    let want = joined(alloc, &[line.as_bytes(), b"\n"])?;
+    same(&told(alloc, inf)?, &want)
+}
+
 /// What follows a head is refused so.
-pub fn refuses(
-    rt: &impl Abort,
-    alloc: Global,
-    head: &str,
-    rows: &[(&str, &str)],
-) -> Result<(), Fail> {
+pub fn refuses(alloc: Global, head: &str, rows: &[(&str, &str)]) -> Result<(), Fail> {
     for (text, want) in rows {
         let inf = joined(alloc, &[head.as_bytes(), text.as_bytes()])?;
-        let want = format!(in alloc; "{}\n", want)?;
-        gives(rt, alloc, &inf, &want)?;
+        gives_line(alloc, &inf, want)?;
     }
     Ok(())
 }
 
 /// Under `[M]`, a front with each of these behind it is refused so.
-pub fn refuses_each(
-    rt: &impl Abort,
-    alloc: Global,
-    front: &str,
-    values: &[&str],
-    want: &str,
-) -> Result<(), Fail> {
+pub fn refuses_each(alloc: Global, front: &str, values: &[&str], want: &str) -> Result<(), Fail> {
     for value in values {
-        let text = format!(in alloc; "{}{}\n", front, value)?;
-        refuses(rt, alloc, MODELS, &[(&text, want)])?;
+        let texts: [&[u8]; 4] = [MODELS.as_bytes(), front.as_bytes(), value.as_bytes(), b"\n"];
+        gives_line(alloc, &joined(alloc, &texts)?, want)?;
     }
     Ok(())
 }
 
+/// An INF with this value of a `DriverVer`.
+fn dated(alloc: Global, value: &str) -> Result<Vec<u8>, AllocError> {
+    let texts: [&[u8]; 4] = [SIGNED.as_bytes(), b"DriverVer=", value.as_bytes(), b"\n"];
+    joined(alloc, &texts)
+}
+
 /// The values of a `DriverVer`, with date and version.
-pub fn dates_are(rt: &impl Abort, alloc: Global, rows: &[(&str, &str)]) -> Result<(), Fail> {
+pub fn dates_are(alloc: Global, rows: &[(&str, &str)]) -> Result<(), Fail> {
     for (value, want) in rows {
-        let inf = format!(in alloc; "{}DriverVer={}\n", SIGNED, value)?;
-        let want = format!(in alloc; "{}\n", want)?;
-        gives(rt, alloc, inf.as_bytes(), &want)?;
+        gives_line(alloc, &dated(alloc, value)?, want)?;
     }
     Ok(())
 }
 
 /// Values of a `DriverVer` that are no date and version.
-pub fn no_dates(rt: &impl Abort, alloc: Global, values: &[&str]) -> Result<(), Fail> {
+pub fn no_dates(alloc: Global, values: &[&str]) -> Result<(), Fail> {
     for value in values {
-        let inf = format!(in alloc; "{}DriverVer={}\n", SIGNED, value)?;
-        gives(rt, alloc, inf.as_bytes(), "refused 4 3\n")?;
+        gives_line(alloc, &dated(alloc, value)?, "refused 4 3")?;
     }
     Ok(())
 }
@@ -214,14 +216,10 @@ pub fn wide(alloc: Global, text: &str, end: &[u8]) -> Result<Vec<u8>, AllocError
 }
 
 /// Under `[M]`, texts in UTF-16, with the models lines that they give.
-pub fn wide_models(
-    rt: &impl Abort,
-    alloc: Global,
-    rows: &[(&str, &[u8], &str)],
-) -> Result<(), Fail> {
+pub fn wide_models(alloc: Global, rows: &[(&str, &[u8], &str)]) -> Result<(), Fail> {
     for (text, end, lines) in rows {
         let inf = wide(alloc, text, end)?;
-        gives_lines(rt, alloc, &[&inf], lines)?;
+        gives_lines(alloc, &[&inf], lines)?;
     }
     Ok(())
 }

@@ -323,7 +323,7 @@ const STORAGE_GIVES: &str = "20060621 2814751249596417\n\
     10 255 =bstor ids|pci\\ven_1111&dev_2223|pci\\ven_1111&cc_0104|pci\\cc_0104 lower|blow|clow upper\n\
     12 255 =astor ids|pci\\cc_010601|pci\\cc_0106 lower|alow|blow|clow upper|aup\n";
 
-const WHOLE: [(&str, &str); 6] = [
+const WHOLE: &[(&str, &str)] = &[
     (NET, NET_GIVES),
     (AUDIO, AUDIO_GIVES),
     (USB, USB_GIVES),
@@ -333,7 +333,7 @@ const WHOLE: [(&str, &str); 6] = [
 ];
 
 /// What is damaged in the first of them, what stands there then, and the refusal: a score that is none, a header without its end.
-const DAMAGED: [(&str, &str, &str); 2] = [
+const DAMAGED: &[(&str, &str, &str)] = &[
     ("= 0xD0", "= 0x1D0", "refused 5 34\n"),
     ("[Gbe.Service]", "[Gbe.Service", "refused 2 70\n"),
 ];
@@ -341,10 +341,10 @@ const DAMAGED: [(&str, &str, &str); 2] = [
 #[test]
 fn vendors(rt: HostRuntime) -> Result<(), Fail> {
     let alloc = rt.alloc();
-    whole(&rt, alloc, &WHOLE)?;
+    whole(alloc, WHOLE)?;
     for (old, new, want) in DAMAGED {
         let bad = NET.replace(alloc, old, new)?;
-        gives(&rt, alloc, bad.as_bytes(), want)?;
+        gives(alloc, bad.as_bytes(), want)?;
     }
     Ok(())
 }

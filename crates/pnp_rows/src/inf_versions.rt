@@ -3,7 +3,7 @@ use crate::inf_told::{dates_are, no_dates, whole, whole_bytes};
 use std::test::Fail;
 
 /// The values of a `DriverVer`, with date and version.
-const DATES: [(&str, &str); 15] = [
+const DATES: &[(&str, &str)] = &[
     ("1/1/2021", "20210101 0"),
     ("12/31/9999", "99991231 0"),
     ("2/31/2021", "20210231 0"),
@@ -25,7 +25,7 @@ const DATES: [(&str, &str); 15] = [
 ];
 
 /// Values of a `DriverVer` that are no date and version.
-const BAD_DATES: [&str; 27] = [
+const BAD_DATES: &[&str] = &[
     "00/10/2021",
     "1/0/2021",
     "1/32/2021",
@@ -56,7 +56,7 @@ const BAD_DATES: [&str; 27] = [
 ];
 
 /// Whole INFs: signatures and versions.
-const VERSIONS: [(&str, &str); 23] = [
+const VERSIONS: &[(&str, &str)] = &[
     (
         "[Version]\nSignature=x\nSignature=\"$Windows NT$\"\n",
         "0 0\n",
@@ -125,7 +125,7 @@ const VERSIONS: [(&str, &str); 23] = [
 ];
 
 /// Whole INFs: manufacturers and the models sections that they name.
-const MAKERS: [(&str, &str); 18] = [
+const MAKERS: &[(&str, &str)] = &[
     (
         "[Version]\nSignature=\"$Windows NT$\"\n[Manufacturer]\nA=N\nB=M\n[M]\nx=I,1\n[N]\ny=I,2\n",
         "0 0\n9 255 - ids|2 lower upper\n7 255 - ids|1 lower upper\n",
@@ -201,7 +201,7 @@ const MAKERS: [(&str, &str); 18] = [
 ];
 
 /// Whole INFs: the refusal of the least line.
-const REFUSALS: [(&str, &str); 10] = [
+const REFUSALS: &[(&str, &str)] = &[
     (
         "[Version]\nDriverVer=x\n[Z]\nFeatureScore=x\n[Q\n",
         "refused 4 2\n",
@@ -230,7 +230,7 @@ const REFUSALS: [(&str, &str); 10] = [
 ];
 
 /// Whole INFs in bytes that are no INF.
-const BYTES: [(&[u8], &str); 8] = [
+const BYTES: &[(&[u8], &str)] = &[
     (b"\xFF\xFE", "refused 1 0\n"),
     (b"\xFF\xFE[", "refused 1 0\n"),
     (b"\xFE\xFF\0[\0V\0e\0r\0s\0i\0o\0n\0]\0\n", "refused 1 0\n"),
@@ -244,15 +244,15 @@ const BYTES: [(&[u8], &str); 8] = [
     (b"\0", "refused 1 0\n"),
 ];
 
-const WHOLE: [&[(&str, &str)]; 3] = [&VERSIONS, &MAKERS, &REFUSALS];
+const WHOLE: &[&[(&str, &str)]] = &[VERSIONS, MAKERS, REFUSALS];
 
 #[test]
 fn versions_and_makers(rt: HostRuntime) -> Result<(), Fail> {
     let alloc = rt.alloc();
     for rows in WHOLE {
-        whole(&rt, alloc, rows)?;
+        whole(alloc, rows)?;
     }
-    whole_bytes(&rt, alloc, &BYTES)?;
-    dates_are(&rt, alloc, &DATES)?;
-    no_dates(&rt, alloc, &BAD_DATES)
+    whole_bytes(alloc, BYTES)?;
+    dates_are(alloc, DATES)?;
+    no_dates(alloc, BAD_DATES)
 }

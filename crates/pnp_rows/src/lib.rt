@@ -2,6 +2,8 @@
 #![tactic(auto)]
 
 #[cfg(test)]
+mod compared;
+#[cfg(test)]
 mod inf_boards;
 #[cfg(test)]
 mod inf_encodings;

@@ -2,7 +2,7 @@
 use crate::script_lines::reads;
 use std::test::Fail;
 
-const BYTES: [(&[u8], &[u8]); 25] = [
+const BYTES: &[(&[u8], &[u8])] = &[
     (
         b"plug A\\B\\1 A\\B 2 reqs=480000000000000000000000000000000000000000000000000000000100000001000100010000000002010000000000050000000500000000000000000000000000000000000000",
         b"Plug A\\B\\1 A\\B\\2 hw A\\B compat list group Irq 5-5 1 1 false ",
@@ -101,5 +101,5 @@ const BYTES: [(&[u8], &[u8]); 25] = [
 
 #[test]
 fn bytes(rt: HostRuntime) -> Result<(), Fail> {
-    reads(&rt, rt.alloc(), &BYTES)
+    reads(rt.alloc(), BYTES)
 }

@@ -2,7 +2,7 @@
 use crate::script_lines::reads;
 use std::test::Fail;
 
-const CLIENTS: [(&[u8], &[u8]); 57] = [
+const CLIENTS: &[(&[u8], &[u8])] = &[
     (b"watch ed OWN\\DEV\\1 ok", b"Watch ed OWN\\DEV\\1 true "),
     (
         b"watch ed OWN\\DEV\\1 refuse",
@@ -85,5 +85,5 @@ const CLIENTS: [(&[u8], &[u8]); 57] = [
 
 #[test]
 fn clients(rt: HostRuntime) -> Result<(), Fail> {
-    reads(&rt, rt.alloc(), &CLIENTS)
+    reads(rt.alloc(), CLIENTS)
 }

@@ -2,7 +2,7 @@
 use crate::script_lines::reads;
 use std::test::Fail;
 
-const HANDLES: [(&[u8], &[u8]); 21] = [
+const HANDLES: &[(&[u8], &[u8])] = &[
     (b"open OWN\\DEV\\1", b"OpenHandle OWN\\DEV\\1 "),
     (b"close OWN\\DEV\\1", b"CloseHandle OWN\\DEV\\1 "),
     (b"open own\\dev\\1", b"OpenHandle own\\dev\\1 "),
@@ -28,5 +28,5 @@ const HANDLES: [(&[u8], &[u8]); 21] = [
 
 #[test]
 fn handles(rt: HostRuntime) -> Result<(), Fail> {
-    reads(&rt, rt.alloc(), &HANDLES)
+    reads(rt.alloc(), HANDLES)
 }

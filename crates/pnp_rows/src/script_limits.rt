@@ -1,4 +1,5 @@
 //! How many parts a line may have, and how long they may be: with so many it is read, with one more it is bad.
+use crate::compared::must;
 use script_reader::{ScriptEnd, read_events};
 use std::alloc::{AllocError, Global};
 use std::test::Fail;
@@ -12,7 +13,7 @@ type Row = (
     u32,
 );
 
-const ROWS: [Row; 13] = [
+const ROWS: &[Row] = &[
     (b"pull OWN\\DEV\\1", b" ", b"", b"", 4082),
     (b"driver ", b"n", b"", b" steady", 64),
     (b"teach dev add * ok ", b"1", b"", b"", 6),
@@ -55,11 +56,14 @@ fn ends(alloc: Global, row: &Row, more: u32) -> Result<ScriptEnd, Fail> {
 
 #[test]
 fn limits(rt: HostRuntime) -> Result<(), Fail> {
-    for row in &ROWS {
+    for row in ROWS {
         let most = ends(rt.alloc(), row, 0)?;
-        assert!(rt; most == ScriptEnd::End, "{}", row.4);
+        must(matches!(most, ScriptEnd::End), "a line at its limit")?;
         let above = ends(rt.alloc(), row, 1)?;
-        assert!(rt; above == (ScriptEnd::Bad { line: 1 }), "{}", row.4);
+        must(
+            matches!(above, ScriptEnd::Bad { line: 1 }),
+            "a line above its limit",
+        )?;
     }
     Ok(())
 }

@@ -1,9 +1,9 @@
 //! Every form of the script's language, and lines that are none, with the event or the refusal that the language's
 //! description gives.
+use crate::compared::same;
 use crate::script_shown::shown;
 use script_reader::{ScriptEnd, read_events};
 use std::alloc::Global;
-use std::process::Abort;
 use std::test::Fail;
 
 /// What a line of its own is read as: its event, `none` without one, or `bad`.
@@ -21,15 +21,14 @@ fn told(alloc: Global, line: &[u8]) -> Result<Vec<u8>, Fail> {
 }
 
 /// Each line is read as the table says.
-pub fn reads(rt: &impl Abort, alloc: Global, rows: &[(&[u8], &[u8])]) -> Result<(), Fail> {
+pub fn reads(alloc: Global, rows: &[(&[u8], &[u8])]) -> Result<(), Fail> {
     for (line, event) in rows {
-        let told = told(alloc, line)?;
-        assert!(rt; told.as_slice() == *event, "{told:?}");
+        same(&told(alloc, line)?, event)?;
     }
     Ok(())
 }
 
-const DRIVERS: [(&[u8], &[u8]); 26] = [
+const DRIVERS: &[(&[u8], &[u8])] = &[
     (b"driver dev steady", b"Name dev Steady "),
     (b"driver dev scripted", b"Name dev Scripted "),
     (b"driver dev stubborn", b"Name dev Stubborn "),
@@ -58,7 +57,7 @@ const DRIVERS: [(&[u8], &[u8]); 26] = [
     (b"driver dev stead", b"bad "),
 ];
 
-const OTHERS: [(&[u8], &[u8]); 37] = [
+const OTHERS: &[(&[u8], &[u8])] = &[
     (b"", b"none "),
     (b"   ", b"none "),
     (b"\t \t", b"none "),
@@ -98,7 +97,7 @@ const OTHERS: [(&[u8], &[u8]); 37] = [
     (b"\xff", b"bad "),
 ];
 
-const LESSONS: [(&[u8], &[u8]); 25] = [
+const LESSONS: &[(&[u8], &[u8])] = &[
     (b"teach dev add * ok", b"Teach dev Add * Ok None "),
     (
         b"teach dev add OWN\\DEV\\1 fail",
@@ -156,7 +155,7 @@ const LESSONS: [(&[u8], &[u8]); 25] = [
     (b"teach", b"bad "),
 ];
 
-const RELATIONS: [(&[u8], &[u8]); 41] = [
+const RELATIONS: &[(&[u8], &[u8])] = &[
     (
         b"relate removal OWN\\DEV\\1 HTREE\\ROOT\\0",
         b"Relate Removal OWN\\DEV\\1 HTREE\\ROOT\\0 ",
@@ -236,7 +235,7 @@ const RELATIONS: [(&[u8], &[u8]); 41] = [
     (b"complete OWN\\DEV\\1 START_DEVICE ok 1", b"bad "),
 ];
 
-const PLUGS: [(&[u8], &[u8]); 29] = [
+const PLUGS: &[(&[u8], &[u8])] = &[
     (
         b"plug HTREE\\ROOT\\0 OWN\\DEV 1",
         b"Plug HTREE\\ROOT\\0 OWN\\DEV\\1 hw OWN\\DEV compat ",
@@ -298,7 +297,7 @@ const PLUGS: [(&[u8], &[u8]); 29] = [
     (b"plug HTREE\\ROOT\\0 A \\B", b"bad "),
 ];
 
-const WANTS: [(&[u8], &[u8]); 42] = [
+const WANTS: &[(&[u8], &[u8])] = &[
     (
         b"plug HTREE\\ROOT\\0 OWN\\DEV 1 need=irq:5",
         b"Plug HTREE\\ROOT\\0 OWN\\DEV\\1 hw OWN\\DEV compat list group Irq 5-5 1 1 false ",
@@ -409,7 +408,7 @@ const WANTS: [(&[u8], &[u8]); 42] = [
     ),
 ];
 
-const BUSES: [(&[u8], &[u8]); 36] = [
+const BUSES: &[(&[u8], &[u8])] = &[
     (
         b"plug A\\B\\1 A\\B 2 need=bus:0-255/4",
         b"Plug A\\B\\1 A\\B\\2 hw A\\B compat list group Bus 0-255 4 1 false ",
@@ -472,7 +471,7 @@ const BUSES: [(&[u8], &[u8]); 36] = [
     (b"reserve buses:4", b"bad "),
 ];
 
-const WINDOWS: [(&[u8], &[u8]); 26] = [
+const WINDOWS: &[(&[u8], &[u8])] = &[
     (
         b"window OWN\\DEV\\B port:0x1000-0x1fff",
         b"Window OWN\\DEV\\B Port 4096-8191 false ",
@@ -516,7 +515,7 @@ const WINDOWS: [(&[u8], &[u8]); 26] = [
     (b"windows OWN\\DEV\\B port:0-7", b"bad "),
 ];
 
-const CHANGES: [(&[u8], &[u8]); 22] = [
+const CHANGES: &[(&[u8], &[u8])] = &[
     (b"change A\\B\\1", b"Change A\\B\\1 "),
     (
         b"change a\\b\\1 need=irq:5",
@@ -569,18 +568,18 @@ const CHANGES: [(&[u8], &[u8]); 22] = [
 ];
 
 /// The tables; those of what a device needs, of bus numbers, of windows and of changes apart, since a constant has at most 10,000 parts.
-const LINES: [&[(&[u8], &[u8])]; 4] = [&DRIVERS, &OTHERS, &LESSONS, &RELATIONS];
+const LINES: &[&[(&[u8], &[u8])]] = &[DRIVERS, OTHERS, LESSONS, RELATIONS];
 
-const RANGES: [&[(&[u8], &[u8])]; 4] = [&PLUGS, &WANTS, &BUSES, &WINDOWS];
+const RANGES: &[&[(&[u8], &[u8])]] = &[PLUGS, WANTS, BUSES, WINDOWS];
 
 #[test]
 fn lines(rt: HostRuntime) -> Result<(), Fail> {
     for rows in LINES {
-        reads(&rt, rt.alloc(), rows)?;
+        reads(rt.alloc(), rows)?;
     }
     for rows in RANGES {
-        reads(&rt, rt.alloc(), rows)?;
+        reads(rt.alloc(), rows)?;
     }
-    reads(&rt, rt.alloc(), &CHANGES)?;
+    reads(rt.alloc(), CHANGES)?;
     Ok(())
 }

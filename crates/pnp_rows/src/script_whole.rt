@@ -1,8 +1,8 @@
 //! A whole script with every form, in one piece and in pieces of any size.
+use crate::compared::{must, same};
 use crate::script_shown::shown;
 use script_reader::{Script, ScriptEnd, read_events, read_pieces};
 use std::alloc::Global;
-use std::process::Abort;
 use std::test::Fail;
 
 const SCRIPT: &[u8] = b"# every form once\r
@@ -28,7 +28,7 @@ watch ED OWN\\DEV\\1 refuse\r
 unwatch ed own\\dev\\1
 plag";
 
-const EVENTS: [(u64, &[u8]); 18] = [
+const EVENTS: &[(u64, &[u8])] = &[
     (2, b"Name dev Scripted "),
     (
         3,
@@ -52,17 +52,19 @@ const EVENTS: [(u64, &[u8]); 18] = [
     (21, b"Unwatch ed own\\dev\\1 "),
 ];
 
-fn assert_script(rt: &impl Abort, alloc: Global, script: &Script) -> Result<(), Fail> {
-    assert!(rt; script.ends == (ScriptEnd::Bad { line: 22 }));
-    assert_eq!(rt; script.lines.len(), EVENTS.len());
+fn gives_each(alloc: Global, script: &Script) -> Result<(), Fail> {
+    must(
+        matches!(script.ends, ScriptEnd::Bad { line: 22 }),
+        "the end of the script",
+    )?;
+    must(script.lines.len() == EVENTS.len(), "how many events")?;
     let mut at = 0;
     for line in &script.lines {
         let Some((number, text)) = EVENTS.get(at) else {
             break;
         };
-        assert_eq!(rt; line.line, *number);
-        let event = shown(alloc, &line.event)?;
-        assert!(rt; event.as_slice() == *text, "line {number}");
+        must(line.line == *number, "the line of an event")?;
+        same(&shown(alloc, &line.event)?, text)?;
         at += 1;
     }
     Ok(())
@@ -72,11 +74,8 @@ fn assert_script(rt: &impl Abort, alloc: Global, script: &Script) -> Result<(), 
 #[test]
 fn each_form(rt: HostRuntime) -> Result<(), Fail> {
     let script = read_events(rt.alloc(), SCRIPT)?;
-    assert_script(&rt, rt.alloc(), &script)?;
-    for size in [1usize, 7, 4096] {
-        assert!(rt; 0 < size);
-        let script = read_pieces(rt.alloc(), SCRIPT, size)?;
-        assert_script(&rt, rt.alloc(), &script)?;
-    }
-    Ok(())
+    gives_each(rt.alloc(), &script)?;
+    gives_each(rt.alloc(), &read_pieces(rt.alloc(), SCRIPT, 1)?)?;
+    gives_each(rt.alloc(), &read_pieces(rt.alloc(), SCRIPT, 7)?)?;
+    gives_each(rt.alloc(), &read_pieces(rt.alloc(), SCRIPT, 4096)?)
 }

@@ -6,6 +6,8 @@ mod bridges;
 #[cfg(test)]
 mod handles;
 #[cfg(test)]
+mod pages;
+#[cfg(test)]
 mod places;
 #[cfg(test)]
 mod ports;

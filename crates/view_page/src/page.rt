@@ -150,28 +150,3 @@ impl Page {
         self.close()
     }
 }
-
-#[cfg(test)]
-mod tests {
-    use super::*;
-    use std::test::Fail;
-
-    #[test]
-    fn writes(rt: HostRuntime) -> Result<(), Fail> {
-        let mut page = Page::new(rt.alloc())?;
-        page.open(Tag::Body, &[])?;
-        page.element(
-            Tag::P,
-            &[(Attribute::Class, b"a\"b"), (Attribute::Id, b"x")],
-            b"a < b",
-        )?;
-        page.empty(Empty::Br, &[])?;
-        page.arrow(b"one & two", &[(Attribute::D, b"M0 0")])?;
-        page.close()?;
-        let bytes = page.finish()?;
-        let want =
-            b"<!DOCTYPE html>\n<html lang=\"en\">\n<body><p class=\"a&quot;b\" id=\"x\">a &lt; b</p><br/><path data-mark=\"one &amp; two\" d=\"M0 0\"/></body></html>\n";
-        assert_eq!(rt; bytes.as_slice(), want.as_slice());
-        Ok(())
-    }
-}

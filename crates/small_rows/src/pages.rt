@@ -1,0 +1,22 @@
+//! A page with each sort of content.
+use crate::told::same;
+use std::test::Fail;
+use view_page::{Attribute, Empty, Page, Tag};
+
+const PAGE: &[u8] =
+    b"<!DOCTYPE html>\n<html lang=\"en\">\n<body><p class=\"a&quot;b\" id=\"x\">a &lt; b</p><br/><path data-mark=\"one &amp; two\" d=\"M0 0\"/></body></html>\n";
+
+#[test]
+fn a_page_is_written(rt: HostRuntime) -> Result<(), Fail> {
+    let mut page = Page::new(rt.alloc())?;
+    page.open(Tag::Body, &[])?;
+    page.element(
+        Tag::P,
+        &[(Attribute::Class, b"a\"b"), (Attribute::Id, b"x")],
+        b"a < b",
+    )?;
+    page.empty(Empty::Br, &[])?;
+    page.arrow(b"one & two", &[(Attribute::D, b"M0 0")])?;
+    page.close()?;
+    same(&page.finish()?, PAGE)
+}
