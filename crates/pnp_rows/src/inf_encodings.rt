@@ -1,6 +1,6 @@
 //! INFs in UTF-8, Latin-1 and UTF-16, and lines at their longest.
 use crate::compared::{must, same};
-use crate::inf_told::{MODELS, gives, joined, model_bytes, told, wide, wide_models};
+use crate::inf_told::{MODELS, UNDER_M, bytes_give, gives, joined, told, wide, wide_models};
 use std::alloc::{AllocError, Global};
 use std::test::Fail;
 
@@ -96,7 +96,7 @@ const LONG: &[(&[u8], &[u8], u32, &[u8], &str)] = &[
 #[test]
 fn encodings(rt: HostRuntime) -> Result<(), Fail> {
     let alloc = rt.alloc();
-    model_bytes(alloc, NARROW)?;
+    bytes_give(alloc, &UNDER_M, NARROW)?;
     wide_models(alloc, WIDE)?;
     for (front, piece, count, end, want) in LONG {
         let inf = long(alloc, front, piece, *count, end)?;

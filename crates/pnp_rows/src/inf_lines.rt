@@ -1,6 +1,6 @@
 //! The lines of INFs: line ends, quotes, comments, headers, continuations and entries, with the models lines that the
 //! format's description gives.
-use crate::inf_told::{MODELS, models, refuses};
+use crate::inf_told::{REFUSED, UNDER_M, all_give};
 use std::test::Fail;
 
 /// Lines: their ends, their numbers, and blanks, which are space and tab alone.
@@ -122,13 +122,13 @@ const OPEN_HEADERS: &[(&str, &str)] = &[
     ("[Z\r\n]\r\n", "refused 2 6"),
 ];
 
-/// What is read under `[M]`.
-const TABLES: &[&[(&str, &str)]] = &[LINES, QUOTES, HEADERS, CONTINUED, ENTRIES];
-
 #[test]
 fn lines(rt: HostRuntime) -> Result<(), Fail> {
-    for rows in TABLES {
-        models(rt.alloc(), rows)?;
-    }
-    refuses(rt.alloc(), MODELS, OPEN_HEADERS)
+    let alloc = rt.alloc();
+    all_give(alloc, &UNDER_M, LINES)?;
+    all_give(alloc, &UNDER_M, QUOTES)?;
+    all_give(alloc, &UNDER_M, HEADERS)?;
+    all_give(alloc, &UNDER_M, CONTINUED)?;
+    all_give(alloc, &UNDER_M, ENTRIES)?;
+    all_give(alloc, &REFUSED, OPEN_HEADERS)
 }

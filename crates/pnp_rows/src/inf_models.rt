@@ -1,6 +1,6 @@
 //! The parts of models lines in INFs: tokens, install sections, scores, services and filters, with what the format's
 //! description gives.
-use crate::inf_told::{MODELS, entries, models, refuses, refuses_each};
+use crate::inf_told::{Around, REFUSED, UNDER_M, all_give, each_gives};
 use std::test::Fail;
 
 /// Tokens, and the texts that stand for them.
@@ -303,25 +303,43 @@ const FILTERS: &[(&str, &str)] = &[
     ),
 ];
 
-/// What is read under `[M]`.
-const TABLES: &[&[(&str, &str)]] = &[TOKENS, INSTALLS, REGISTRY];
+/// The value of a `FeatureScore`, and the models line.
+const SCORED: Around = Around {
+    front: SCORE,
+    end: "\n",
+    ..UNDER_M
+};
 
-/// What is read under `[M]` behind a front.
-const VALUES: &[(&str, &[(&str, &str)])] = &[
-    (SCORE, SCORES),
-    ("x=I,A\n[I.Services]\nAddService=", SERVICES),
-    ("x=I,A\n[I.HW]\nAddReg=R\n[R]\n", FILTERS),
-];
+/// The value of an `AddService` and what is behind it, and the models line.
+const SERVED: Around = Around {
+    front: "x=I,A\n[I.Services]\nAddService=",
+    end: "\n",
+    ..UNDER_M
+};
+
+/// The lines of a registry section, and the models line.
+const FILTERED: Around = Around {
+    front: "x=I,A\n[I.HW]\nAddReg=R\n[R]\n",
+    end: "\n",
+    ..UNDER_M
+};
+
+/// The value of a `FeatureScore`, and how it is refused.
+const BADLY_SCORED: Around = Around {
+    front: SCORE,
+    end: "\n",
+    ..REFUSED
+};
 
 #[test]
 fn parts_of_models_lines(rt: HostRuntime) -> Result<(), Fail> {
     let alloc = rt.alloc();
-    for rows in TABLES {
-        models(alloc, rows)?;
-    }
-    for (front, rows) in VALUES {
-        entries(alloc, front, rows)?;
-    }
-    refuses(alloc, MODELS, BAD_SCORES_ANYWHERE)?;
-    refuses_each(alloc, SCORE, BAD_SCORES, "refused 5 8")
+    all_give(alloc, &UNDER_M, TOKENS)?;
+    all_give(alloc, &UNDER_M, INSTALLS)?;
+    all_give(alloc, &UNDER_M, REGISTRY)?;
+    all_give(alloc, &SCORED, SCORES)?;
+    all_give(alloc, &SERVED, SERVICES)?;
+    all_give(alloc, &FILTERED, FILTERS)?;
+    all_give(alloc, &REFUSED, BAD_SCORES_ANYWHERE)?;
+    each_gives(alloc, &BADLY_SCORED, BAD_SCORES, "refused 5 8")
 }

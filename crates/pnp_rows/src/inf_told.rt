@@ -103,96 +103,84 @@ pub fn gives(alloc: Global, bytes: &[u8], want: &str) -> Result<(), Fail> {
     same(&told(alloc, bytes)?, want.as_bytes())
 }
 
-/// Whole INFs, with what they give.
-pub fn whole(alloc: Global, rows: &[(&str, &str)]) -> Result<(), Fail> {
-    for (inf, want) in rows {
-        gives(alloc, inf.as_bytes(), want)?;
-    }
-    Ok(())
+/// What stands before and behind each text of a table in its INF, and before and behind what the table says that it gives.
+#[derive(Clone, Copy)]
+pub struct Around {
+    pub head: &'static str,
+    pub front: &'static str,
+    pub end: &'static str,
+    pub gives: &'static str,
+    pub given_end: &'static str,
 }
 
-/// Whole INFs in bytes, with what they give.
-pub fn whole_bytes(alloc: Global, rows: &[(&[u8], &str)]) -> Result<(), Fail> {
-    for (inf, want) in rows {
-        gives(alloc, inf, want)?;
-    }
-    Ok(())
+/// Whole INFs, and all that they give.
+pub const WHOLE: Around = Around {
+    head: "",
+    front: "",
+    end: "",
+    gives: "",
+    given_end: "",
+};
+
+/// What is read under `[M]`, and the models lines that it gives.
+pub const UNDER_M: Around = Around {
+    head: MODELS,
+    front: "",
+    end: "",
+    gives: "0 0\n",
+    given_end: "",
+};
+
+/// What is read under `[M]`, and how it is refused.
+pub const REFUSED: Around = Around {
+    head: MODELS,
+    front: "",
+    end: "",
+    gives: "",
+    given_end: "\n",
+};
+
+/// Values of a `DriverVer`, and date and version.
+pub const DATED: Around = Around {
+    head: SIGNED,
+    front: "DriverVer=",
+    end: "\n",
+    gives: "",
+    given_end: "\n",
+};
+
+/// One text of a table gives this.
+fn gives_in(alloc: Global, around: &Around, text: &[u8], want: &str) -> Result<(), Fail> {
+    let mut inf = Vec::from_slice(alloc, around.head.as_bytes())?;
+    inf.extend_from_slice(around.front.as_bytes())?;
+    inf.extend_from_slice(text)?;
+    inf.extend_from_slice(around.end.as_bytes())?;
+    let mut given = Vec::from_slice(alloc, around.gives.as_bytes())?;
+    given.extend_from_slice(want.as_bytes())?;
+    given.extend_from_slice(around.given_end.as_bytes())?;
+    same(&told(alloc, &inf)?, &given)
 }
 
-/// What follows a head gives these models lines, without date and version.
-fn gives_lines(alloc: Global, texts: &[&[u8]], lines: &str) -> Result<(), Fail> {
-    let inf = joined(alloc, texts)?;
-    let want = joined(alloc, &[b"0 0\n", lines.as_bytes()])?;
-    same(&told(alloc, &inf)?, &want)
-}
-
-/// Under `[M]`, texts with the models lines that they give.
-pub fn models(alloc: Global, rows: &[(&str, &str)]) -> Result<(), Fail> {
-    for (text, lines) in rows {
-        gives_lines(alloc, &[MODELS.as_bytes(), text.as_bytes()], lines)?;
-    }
-    Ok(())
-}
-
-/// Under `[M]`, bytes with the models lines that they give.
-pub fn model_bytes(alloc: Global, rows: &[(&[u8], &str)]) -> Result<(), Fail> {
-    for (text, lines) in rows {
-        gives_lines(alloc, &[MODELS.as_bytes(), text], lines)?;
-    }
-    Ok(())
-}
-
-/// Under `[M]`, a front with each of these behind it, and the models line that it gives.
-pub fn entries(alloc: Global, front: &str, rows: &[(&str, &str)]) -> Result<(), Fail> {
-    for (value, lines) in rows {
-        let texts: [&[u8]; 4] = [MODELS.as_bytes(), front.as_bytes(), value.as_bytes(), b"\n"];
-        gives_lines(alloc, &texts, lines)?;
-    }
-    Ok(())
-}
-
-/// The INF of these bytes gives this one line.
-fn gives_line(alloc: Global, inf: &[u8], line: &str) -> Result<(), Fail> {
-    let want = joined(alloc, &[line.as_bytes(), b"\n"])?;
-    same(&told(alloc, inf)?, &want)
-}
-
-/// What follows a head is refused so.
-pub fn refuses(alloc: Global, head: &str, rows: &[(&str, &str)]) -> Result<(), Fail> {
+/// Texts, with what they give.
+pub fn all_give(alloc: Global, around: &Around, rows: &[(&str, &str)]) -> Result<(), Fail> {
     for (text, want) in rows {
-        let inf = joined(alloc, &[head.as_bytes(), text.as_bytes()])?;
-        gives_line(alloc, &inf, want)?;
+        gives_in(alloc, around, text.as_bytes(), want)?;
     }
     Ok(())
 }
 
-/// Under `[M]`, a front with each of these behind it is refused so.
-pub fn refuses_each(alloc: Global, front: &str, values: &[&str], want: &str) -> Result<(), Fail> {
-    for value in values {
-        let texts: [&[u8]; 4] = [MODELS.as_bytes(), front.as_bytes(), value.as_bytes(), b"\n"];
-        gives_line(alloc, &joined(alloc, &texts)?, want)?;
+/// Texts in bytes, with what they give.
+pub fn bytes_give(alloc: Global, around: &Around, rows: &[(&[u8], &str)]) -> Result<(), Fail> {
+    for (text, want) in rows {
+        gives_in(alloc, around, text, want)?;
     }
     Ok(())
 }
 
-/// An INF with this value of a `DriverVer`.
-fn dated(alloc: Global, value: &str) -> Result<Vec<u8>, AllocError> {
-    let texts: [&[u8]; 4] = [SIGNED.as_bytes(), b"DriverVer=", value.as_bytes(), b"\n"];
-    joined(alloc, &texts)
-}
-
-/// The values of a `DriverVer`, with date and version.
-pub fn dates_are(alloc: Global, rows: &[(&str, &str)]) -> Result<(), Fail> {
-    for (value, want) in rows {
-        gives_line(alloc, &dated(alloc, value)?, want)?;
-    }
-    Ok(())
-}
-
-/// Values of a `DriverVer` that are no date and version.
-pub fn no_dates(alloc: Global, values: &[&str]) -> Result<(), Fail> {
-    for value in values {
-        gives_line(alloc, &dated(alloc, value)?, "refused 4 3")?;
+/// Texts that all give the same.
+pub fn each_gives(alloc: Global, around: &Around, texts: &[&str], want: &str) -> Result<(), Fail> {
+    for text in texts {
+        gives_in(alloc, around, text.as_bytes(), want)?;
     }
     Ok(())
 }
@@ -219,7 +207,8 @@ pub fn wide(alloc: Global, text: &str, end: &[u8]) -> Result<Vec<u8>, AllocError
 pub fn wide_models(alloc: Global, rows: &[(&str, &[u8], &str)]) -> Result<(), Fail> {
     for (text, end, lines) in rows {
         let inf = wide(alloc, text, end)?;
-        gives_lines(alloc, &[&inf], lines)?;
+        let want = joined(alloc, &[b"0 0\n", lines.as_bytes()])?;
+        same(&told(alloc, &inf)?, &want)?;
     }
     Ok(())
 }

@@ -1,5 +1,5 @@
 //! INFs in the style of those that come with hardware, with all that is read over in them.
-use crate::inf_told::{gives, whole};
+use crate::inf_told::{WHOLE, all_give, gives};
 use std::test::Fail;
 
 /// A network adapter, for several systems.
@@ -323,7 +323,7 @@ const STORAGE_GIVES: &str = "20060621 2814751249596417\n\
     10 255 =bstor ids|pci\\ven_1111&dev_2223|pci\\ven_1111&cc_0104|pci\\cc_0104 lower|blow|clow upper\n\
     12 255 =astor ids|pci\\cc_010601|pci\\cc_0106 lower|alow|blow|clow upper|aup\n";
 
-const WHOLE: &[(&str, &str)] = &[
+const VENDORS: &[(&str, &str)] = &[
     (NET, NET_GIVES),
     (AUDIO, AUDIO_GIVES),
     (USB, USB_GIVES),
@@ -341,7 +341,7 @@ const DAMAGED: &[(&str, &str, &str)] = &[
 #[test]
 fn vendors(rt: HostRuntime) -> Result<(), Fail> {
     let alloc = rt.alloc();
-    whole(alloc, WHOLE)?;
+    all_give(alloc, &WHOLE, VENDORS)?;
     for (old, new, want) in DAMAGED {
         let bad = NET.replace(alloc, old, new)?;
         gives(alloc, bad.as_bytes(), want)?;

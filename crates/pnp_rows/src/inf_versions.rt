@@ -1,5 +1,5 @@
 //! Whole INFs: signatures, dates, versions, manufacturers and refusals, with what the format's description gives.
-use crate::inf_told::{dates_are, no_dates, whole, whole_bytes};
+use crate::inf_told::{DATED, WHOLE, all_give, bytes_give, each_gives};
 use std::test::Fail;
 
 /// The values of a `DriverVer`, with date and version.
@@ -244,15 +244,13 @@ const BYTES: &[(&[u8], &str)] = &[
     (b"\0", "refused 1 0\n"),
 ];
 
-const WHOLE: &[&[(&str, &str)]] = &[VERSIONS, MAKERS, REFUSALS];
-
 #[test]
 fn versions_and_makers(rt: HostRuntime) -> Result<(), Fail> {
     let alloc = rt.alloc();
-    for rows in WHOLE {
-        whole(alloc, rows)?;
-    }
-    whole_bytes(alloc, BYTES)?;
-    dates_are(alloc, DATES)?;
-    no_dates(alloc, BAD_DATES)
+    all_give(alloc, &WHOLE, VERSIONS)?;
+    all_give(alloc, &WHOLE, MAKERS)?;
+    all_give(alloc, &WHOLE, REFUSALS)?;
+    bytes_give(alloc, &WHOLE, BYTES)?;
+    all_give(alloc, &DATED, DATES)?;
+    each_gives(alloc, &DATED, BAD_DATES, "refused 4 3")
 }
