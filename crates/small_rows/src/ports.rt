@@ -67,6 +67,24 @@ fn in_front(arbiters: &mut Arbiters, journal: Journal, res: Res)
     trial.roll_back();
 }
 
+/// A resource is put and undone so often, where there is room for one more of each kind.
+fn try_in_front(alloc: Global, arbiters: &mut Arbiters, res: Res) -> Result<(), Fail> {
+    let journal = Journal::with_room(alloc, 1)?;
+    if !has_room(arbiters) {
+        return Err(Fail::new("room"));
+    }
+    in_front(arbiters, journal, res);
+    Ok(())
+}
+
+/// The ports stand in ascending order, and no more.
+fn stand_in_order(arbiters: &Arbiters) -> Result<(), Fail> {
+    must(holds(arbiters, 0, 2), "the first port")?;
+    must(holds(arbiters, 100_000, 200_002), "the port in the middle")?;
+    must(holds(arbiters, 199_999, 400_000), "the last port")?;
+    must(arbiters.held(Kind::Port, 200_000).is_none(), "a port more")
+}
+
 /// Whether the first device holds this port at a position of the list.
 fn holds(arbiters: &Arbiters, at: u64, number: u64) -> bool {
     match arbiters.held(Kind::Port, at) {
@@ -79,13 +97,6 @@ fn holds(arbiters: &Arbiters, at: u64, number: u64) -> bool {
 fn ports_in_descending_order(rt: HostRuntime) -> Result<(), Fail> {
     let mut arbiters = roomy(rt.alloc())?;
     descending(&mut arbiters)?;
-    let journal = Journal::with_room(rt.alloc(), 1)?;
-    if !has_room(&arbiters) {
-        return Err(Fail::new("room"));
-    }
-    in_front(&mut arbiters, journal, port(0)?);
-    must(holds(&arbiters, 0, 2), "the first port")?;
-    must(holds(&arbiters, 100_000, 200_002), "the port in the middle")?;
-    must(holds(&arbiters, 199_999, 400_000), "the last port")?;
-    must(arbiters.held(Kind::Port, 200_000).is_none(), "a port more")
+    try_in_front(rt.alloc(), &mut arbiters, port(0)?)?;
+    stand_in_order(&arbiters)
 }
