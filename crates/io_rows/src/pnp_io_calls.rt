@@ -32,10 +32,10 @@ fn refuses(
     alloc: Global,
     files: &mut MemFiles,
     name: &[u8],
-    most: u64,
+    most: u32,
     want: ReadError,
 ) -> Result<(), Fail> {
-    match read_all(alloc, files, name, most) {
+    match read_all(alloc, files, name, most as u64) {
         Ok(_) => Err(Fail::new("a file that was read")),
         Err(error) => must(error == want, "why a file was not read"),
     }

@@ -82,7 +82,7 @@ fn no_line_is_held_back(rt: HostRuntime) -> Result<(), Fail> {
     }
     let taken = Cell::new(0usize);
     let mut files = Parts {
-        parts: &PARTS,
+        parts: PARTS,
         next: 0,
         taken: &taken,
         seen: [0; NOTED],

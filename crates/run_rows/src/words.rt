@@ -219,7 +219,7 @@ const ALL_THERE: &[(&str, &[u8])] = &[
 #[test]
 fn taken_infs(rt: HostRuntime) -> Result<(), Fail> {
     let alloc = rt.alloc();
-    let mut files = files_of(alloc, &ALL_THERE)?;
+    let mut files = files_of(alloc, ALL_THERE)?;
     let text = "script error line 1\ntree\n0 HTREE\\ROOT\\0 Started\nmap\noutstanding\n";
     answers(alloc, &mut files, Status::BadScript, text)?;
     files.add(b"s", b"")?;
@@ -232,7 +232,7 @@ fn taken_infs(rt: HostRuntime) -> Result<(), Fail> {
 fn each_read_fails(rt: HostRuntime) -> Result<(), Fail> {
     let alloc = rt.alloc();
     for call in 1..9 {
-        let mut files = files_of(alloc, &ALL_THERE)?;
+        let mut files = files_of(alloc, ALL_THERE)?;
         files.fail_at(call)?;
         answers(alloc, &mut files, Status::ReadFault, "")?;
     }
@@ -260,7 +260,7 @@ fn comments(alloc: Global) -> Result<Vec<u8>, Fail> {
 fn large_files(rt: HostRuntime) -> Result<(), Fail> {
     let alloc = rt.alloc();
     let mut bytes = comments(alloc)?;
-    let mut files = files_of(alloc, &ALL_THERE)?;
+    let mut files = files_of(alloc, ALL_THERE)?;
     files.add(b"s", &bytes)?;
     answers(alloc, &mut files, Status::Done, BARE_END)?;
     bytes.push(b'#')?;
@@ -278,7 +278,7 @@ fn large_files(rt: HostRuntime) -> Result<(), Fail> {
 fn a_line_without_end(rt: HostRuntime) -> Result<(), Fail> {
     let alloc = rt.alloc();
     let bytes = vec![in alloc; b'#'; 17_000_000]?;
-    let mut files = files_of(alloc, &ALL_THERE)?;
+    let mut files = files_of(alloc, ALL_THERE)?;
     files.add(b"s", &bytes)?;
     answers(alloc, &mut files, Status::BadScript, BAD_FIRST_LINE)?;
     let line = vec![in alloc; b'#'; 4096]?;
