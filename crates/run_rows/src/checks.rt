@@ -1,9 +1,10 @@
 //! Traces that are checked against a script, whatever the drivers answer.
-use crate::runs::{came_to, ended, ends, files_of, rack_of, words_of};
+use crate::runs::{ended, ends, files_of, rack_of, words_of};
 use crate::scripts::OWN_INF;
 use pnp_cli::Status;
 use pnp_io::MemSink;
 use std::alloc::Global;
+use std::process::Abort;
 use std::test::Fail;
 
 /// A Steady driver and a device.
@@ -25,7 +26,7 @@ const BARE_END: &[u8] = b"tree\n0 HTREE\\ROOT\\0 Started\nmap\noutstanding\n";
 
 /// A script, a trace, and what the check of it comes to: the output; another answer, after which the trace does not go on so; another run;
 /// no script and no trace; one without its last LF, with lines after its end, and with carriage returns; that of a bad line; lines of clients.
-const ROWS: &[(&[u8], &[u8], Status, &[u8])] = &[
+const ROWS: [(&[u8], &[u8], Status, &[u8]); 10] = [
     (SCRIPT, TRACE, Status::Done, b"yes\n"),
     (SCRIPT, OTHER_ANSWER, Status::NotARun, b"no line 9\n"),
     (SCRIPT, PENDED, Status::Done, b"yes\n"),
@@ -65,25 +66,30 @@ const ROWS: &[(&[u8], &[u8], Status, &[u8])] = &[
 
 /// The files with which the trace `t` is checked against the script `s` with the INF `1`, over a Scripted driver, a Steady one and a
 /// Stubborn one, come to this.
-fn checks(alloc: Global, named: &[(&str, &[u8])], want: (Status, &[u8])) -> Result<(), Fail> {
+fn checks(
+    rt: &impl Abort,
+    alloc: Global,
+    named: &[(&str, &[u8])],
+    want: (Status, &[u8]),
+) -> Result<(), Fail> {
     let words = words_of(alloc, &["pnpmgr", "--check", "t", "s", "1"])?;
     let mut files = files_of(alloc, named)?;
     let rack = rack_of(alloc, 1, 1, 1)?;
-    ends(alloc, &words, rack, &mut files, want)
+    ends(rt, alloc, &words, rack, &mut files, want)
 }
 
 #[test]
 fn traces(rt: HostRuntime) -> Result<(), Fail> {
     let alloc = rt.alloc();
     for (script, trace, status, text) in ROWS {
-        let named: [(&str, &[u8]); 3] = [("s", script), ("t", trace), ("1", OWN_INF)];
-        checks(alloc, &named, (*status, text))?;
+        let named = [("s", script), ("t", trace), ("1", OWN_INF)];
+        checks(&rt, alloc, &named, (status, text))?;
     }
     Ok(())
 }
 
 /// Files of which one is not there or refused: the INFs come first, then the trace, then the script.
-const LACKING: &[(&[(&str, &[u8])], Status, &[u8])] = &[
+const LACKING: [(&[(&str, &[u8])], Status, &[u8]); 5] = [
     (&[("s", b""), ("1", OWN_INF)], Status::ReadFault, b""),
     (&[("t", BARE_END), ("1", OWN_INF)], Status::ReadFault, b""),
     (&[("s", b""), ("t", BARE_END)], Status::ReadFault, b""),
@@ -99,7 +105,7 @@ const LACKING: &[(&[(&str, &[u8])], Status, &[u8])] = &[
 fn lacking_files(rt: HostRuntime) -> Result<(), Fail> {
     let alloc = rt.alloc();
     for (named, status, text) in LACKING {
-        checks(alloc, named, (*status, text))?;
+        checks(&rt, alloc, named, (status, text))?;
     }
     Ok(())
 }
@@ -113,7 +119,7 @@ fn each_read_fails(rt: HostRuntime) -> Result<(), Fail> {
         let mut files = files_of(alloc, &[("s", b"#\n"), ("t", BARE_END), ("1", OWN_INF)])?;
         files.fail_at(call)?;
         let want: (Status, &[u8]) = (Status::ReadFault, b"");
-        ends(alloc, &words, Vec::new(alloc), &mut files, want)?;
+        ends(&rt, alloc, &words, Vec::new(alloc), &mut files, want)?;
     }
     Ok(())
 }
@@ -124,7 +130,7 @@ fn a_large_trace(rt: HostRuntime) -> Result<(), Fail> {
     let alloc = rt.alloc();
     let bytes = vec![in alloc; b'#'; 16_777_217]?;
     let named: [(&str, &[u8]); 2] = [("t", &bytes), ("1", OWN_INF)];
-    checks(alloc, &named, (Status::TooLarge, b""))
+    checks(&rt, alloc, &named, (Status::TooLarge, b""))
 }
 
 #[test]
@@ -133,6 +139,8 @@ fn a_verdict_that_is_not_written(rt: HostRuntime) -> Result<(), Fail> {
     let words = words_of(alloc, &["pnpmgr", "--check", "t", "s"])?;
     let mut files = files_of(alloc, &[("s", b""), ("t", b"")])?;
     let mut sink = MemSink::new(alloc, 8)?;
-    let status = ended(alloc, &words, Vec::new(alloc), &mut files, &mut sink)?;
-    came_to(status, &sink, (Status::WriteFault, b"no line "))
+    let answer = ended(&rt, alloc, &words, Vec::new(alloc), &mut files, &mut sink);
+    assert_eq!(rt; answer, Status::WriteFault);
+    assert_eq!(rt; sink.taken(), b"no line ".as_slice());
+    Ok(())
 }

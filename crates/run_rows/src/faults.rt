@@ -1,21 +1,28 @@
 //! Memory or writes that are refused on the way: the status says so, and what was written is a front of the output. The
 //! first three are for runs in which one allocation fails (`rt try --test --fail-alloc N`).
-use crate::runs::{came_to, ended, files_of, words_of};
+use crate::runs::{ended, files_of, words_of};
 use crate::scripts::{ONE_DEVICE_SCRIPT, ONE_DEVICE_TEXT, ended_into};
-use crate::told::{must, same};
 use pnp_cli::Status;
 use pnp_io::{MemFiles, MemSink};
 use std::alloc::Global;
+use std::process::Abort;
 use std::test::Fail;
 
 /// The whole output is written; or memory was refused, and a front of it was.
-fn whole_or_front(alloc: Global, script: &str, text: &str) -> Result<(), Fail> {
+fn whole_or_front(rt: &impl Abort, alloc: Global, script: &str, text: &str) -> Result<(), Fail> {
     let mut sink = MemSink::new(alloc, 4096)?;
-    match ended_into(alloc, script, &mut sink)? {
-        Status::Done => same(sink.taken(), text.as_bytes()),
-        Status::WantOfMemory => must(text.as_bytes().starts_with(sink.taken()), "a front"),
-        _ => Err(Fail::new("another status")),
+    match ended_into(rt, alloc, script, &mut sink)? {
+        Status::Done => assert!(rt; sink.taken() == text.as_bytes(), "{:?}", sink.taken()),
+        Status::WantOfMemory => {
+            assert!(rt;
+                text.as_bytes().starts_with(sink.taken()),
+                "{:?}",
+                sink.taken()
+            )
+        }
+        other => panic!(rt; "{other:?}"),
     }
+    Ok(())
 }
 
 /// A rebalance in which two devices move.
@@ -232,9 +239,15 @@ outstanding
 
 #[test]
 fn whole_or_a_front(rt: HostRuntime) -> Result<(), Fail> {
-    whole_or_front(rt.alloc(), CHAIN_SCRIPT, CHAIN_TEXT)?;
-    whole_or_front(rt.alloc(), VETO_SCRIPT, VETO_TEXT)?;
-    whole_or_front(rt.alloc(), FAILED_RESTART_SCRIPT, FAILED_RESTART_TEXT)
+    let rows = [
+        (CHAIN_SCRIPT, CHAIN_TEXT),
+        (VETO_SCRIPT, VETO_TEXT),
+        (FAILED_RESTART_SCRIPT, FAILED_RESTART_TEXT),
+    ];
+    for (script, text) in rows {
+        whole_or_front(&rt, rt.alloc(), script, text)?;
+    }
+    Ok(())
 }
 
 /// Wherever the sink is full, what it took is the front of the output up to there.
@@ -244,8 +257,9 @@ fn each_write_fails(rt: HostRuntime) -> Result<(), Fail> {
     let text = ONE_DEVICE_TEXT.as_bytes();
     for room in 0..text.len() {
         let mut sink = MemSink::new(alloc, room as u64)?;
-        let status = ended_into(alloc, ONE_DEVICE_SCRIPT, &mut sink)?;
-        came_to(status, &sink, (Status::WriteFault, &text[..room]))?;
+        let status = ended_into(&rt, alloc, ONE_DEVICE_SCRIPT, &mut sink)?;
+        assert_eq!(rt; status, Status::WriteFault);
+        assert!(rt; sink.taken() == &text[..room], "{:?}", sink.taken());
     }
     Ok(())
 }
@@ -254,23 +268,23 @@ fn each_write_fails(rt: HostRuntime) -> Result<(), Fail> {
 const ONE_DEVICE_END: &str =
     "tree\n0 HTREE\\ROOT\\0 Started\n 1 OWN\\DEV\\1 Started\nmap\noutstanding\n";
 
-/// The sink took this front of the output, where this call of write fails.
-fn leaves_when_a_write_fails(alloc: Global, call: u64, front: &str) -> Result<(), Fail> {
-    let mut sink = MemSink::new(alloc, 4096)?;
-    sink.fail_at(call)?;
-    let status = ended_into(alloc, ONE_DEVICE_SCRIPT, &mut sink)?;
-    came_to(status, &sink, (Status::WriteFault, front.as_bytes()))
-}
-
 /// Whichever write fails, what the sink took is the front of the output that the writes before it made; the lines of all
 /// events of one piece are one write, and the end of the output another.
 #[test]
 fn each_call_of_write_fails(rt: HostRuntime) -> Result<(), Fail> {
-    let Some(lines) = ONE_DEVICE_TEXT.strip_suffix(ONE_DEVICE_END) else {
-        return Err(Fail::new("the end of the output"));
-    };
-    leaves_when_a_write_fails(rt.alloc(), 1, "")?;
-    leaves_when_a_write_fails(rt.alloc(), 2, lines)
+    let alloc = rt.alloc();
+    let text = ONE_DEVICE_TEXT.as_bytes();
+    assert!(rt; ONE_DEVICE_TEXT.ends_with(ONE_DEVICE_END));
+    let taken = [0, text.len() - ONE_DEVICE_END.len()];
+    for call in 0..2usize {
+        let mut sink = MemSink::new(alloc, 4096)?;
+        sink.fail_at(call as u64 + 1)?;
+        let status = ended_into(&rt, alloc, ONE_DEVICE_SCRIPT, &mut sink)?;
+        assert_eq!(rt; status, Status::WriteFault);
+        assert_eq!(rt; sink.taken().len(), taken[call]);
+        assert!(rt; text.starts_with(sink.taken()), "{:?}", sink.taken());
+    }
+    Ok(())
 }
 
 /// Reads and writes of one byte at a time, a hundred of each, make the same output.
@@ -281,12 +295,13 @@ fn one_byte_at_a_time(rt: HostRuntime) -> Result<(), Fail> {
     let mut whole = MemSink::new(alloc, 4096)?;
     let mut parts = MemSink::new(alloc, 4096)?;
     let mut files = files_of(alloc, &[("s", ONE_DEVICE_SCRIPT.as_bytes())])?;
-    let long = ended(alloc, &words, Vec::new(alloc), &mut files, &mut whole)?;
-    must(long == Status::Done, "the status of the whole")?;
+    let long = ended(&rt, alloc, &words, Vec::new(alloc), &mut files, &mut whole);
     for call in 1..101u64 {
         files.short_at(call, 1)?;
         parts.short_at(call, 1)?;
     }
-    let short = ended(alloc, &words, Vec::new(alloc), &mut files, &mut parts)?;
-    came_to(short, &parts, (Status::Done, whole.taken()))
+    let short = ended(&rt, alloc, &words, Vec::new(alloc), &mut files, &mut parts);
+    assert_eq!(rt; (long, short), (Status::Done, Status::Done));
+    assert!(rt; parts.taken() == whole.taken(), "{:?}", parts.taken());
+    Ok(())
 }

@@ -22,6 +22,4 @@ mod scripts;
 #[cfg(test)]
 mod small_scripts;
 #[cfg(test)]
-mod told;
-#[cfg(test)]
 mod words;

@@ -1,6 +1,5 @@
 //! What an event led to is on the sink before more of the script is asked for.
 use crate::runs::{rack_of, words_of};
-use crate::told::must;
 use pnp_cli::{Status, run};
 use pnp_io::{Failed, Files, Sink};
 use std::cell::Cell;
@@ -61,7 +60,7 @@ impl<'a> Files for Parts<'a> {
 }
 
 /// Two events, the second of which comes in two parts.
-const PARTS: &[&[u8]] = &[
+const PARTS: [&[u8]; 3] = [
     b"driver dev steady\n",
     b"plug HTREE\\ROOT\\0 ",
     b"OWN\\DEV 1\n# more\n",
@@ -77,12 +76,10 @@ const SECOND: &str =
 fn no_line_is_held_back(rt: HostRuntime) -> Result<(), Fail> {
     let alloc = rt.alloc();
     let rack = rack_of(alloc, 0, 1, 0)?;
-    if rack.len() >= 8 {
-        return Err(Fail::new("a rack of eight drivers"));
-    }
+    assert!(rt; rack.len() < 8);
     let taken = Cell::new(0usize);
     let mut files = Parts {
-        parts: PARTS,
+        parts: &PARTS,
         next: 0,
         taken: &taken,
         seen: [0; NOTED],
@@ -90,9 +87,9 @@ fn no_line_is_held_back(rt: HostRuntime) -> Result<(), Fail> {
     let mut sink = Counting { taken: &taken };
     let words = words_of(alloc, &["pnpmgr", "s"])?;
     let status = run(alloc, &words, rack, &mut files, &mut sink);
-    must(status == Status::Done, "the status")?;
+    assert_eq!(rt; status, Status::Done);
     let first = FIRST.len();
     let both = FIRST.len() + SECOND.len();
-    let wanted = [0, first, first, both, 0, 0, 0, 0];
-    must(files.seen == wanted, "what was on the sink")
+    assert_eq!(rt; files.seen, [0, first, first, both, 0, 0, 0, 0]);
+    Ok(())
 }

@@ -1,9 +1,9 @@
 //! A run over files and a sink in memory, and what it has to come to.
-use crate::told::{must, same};
 use driver_rack::{Driver, Scripted, Steady, Stubborn};
 use pnp_cli::{Status, run};
 use pnp_io::{MemFiles, MemSink};
 use std::alloc::Global;
+use std::process::Abort;
 use std::test::Fail;
 
 /// Drivers in boxes.
@@ -44,26 +44,20 @@ pub fn rack_of(alloc: Global, scripted: u32, steady: u32, stubborn: u32) -> Resu
 
 /// The status of a run over fewer than eight drivers.
 pub fn ended(
+    rt: &impl Abort,
     alloc: Global,
     words: &[String],
     rack: Rack,
     files: &mut MemFiles,
     sink: &mut MemSink,
-) -> Result<Status, Fail> {
-    if rack.len() >= 8 {
-        return Err(Fail::new("a rack of eight drivers"));
-    }
-    Ok(run(alloc, words, rack, files, sink))
-}
-
-/// The status is this, and the sink took these bytes.
-pub fn came_to(status: Status, sink: &MemSink, (want, taken): (Status, &[u8])) -> Result<(), Fail> {
-    same(sink.taken(), taken)?;
-    must(status == want, "the status")
+) -> Status {
+    assert!(rt; rack.len() < 8);
+    run(alloc, words, rack, files, sink)
 }
 
 /// Such a run ends with this status, and its sink, which has room for all that is written, took these bytes.
 pub fn ends(
+    rt: &impl Abort,
     alloc: Global,
     words: &[String],
     rack: Rack,
@@ -71,6 +65,8 @@ pub fn ends(
     want: (Status, &[u8]),
 ) -> Result<(), Fail> {
     let mut sink = MemSink::new(alloc, 4096)?;
-    let status = ended(alloc, words, rack, files, &mut sink)?;
-    came_to(status, &sink, want)
+    let status = ended(rt, alloc, words, rack, files, &mut sink);
+    assert_eq!(rt; status, want.0);
+    assert!(rt; sink.taken() == want.1, "{:?}", sink.taken());
+    Ok(())
 }

@@ -1,8 +1,9 @@
 //! Whole runs, from the words, INFs and script to the bytes that are written, as the description of the machine gives them.
-use crate::runs::{came_to, ended, ends, files_of, rack_of, words_of};
+use crate::runs::{ended, ends, files_of, rack_of, words_of};
 use pnp_cli::Status;
 use pnp_io::{MemFiles, MemSink};
 use std::alloc::Global;
+use std::process::Abort;
 use std::test::Fail;
 
 pub const OWN_INF: &[u8] = br#"[Version]
@@ -24,7 +25,7 @@ HKR,,"LowerFilters",0x00010000,"low"
 "#;
 
 /// The names of at most two INFs.
-const NAMES: &[&str] = &["1", "2"];
+const NAMES: [&str; 2] = ["1", "2"];
 
 /// The words and the files of a script with at most two INFs.
 fn named(alloc: Global, infs: &[&[u8]], script: &str) -> Result<(Vec<String>, MemFiles), Fail> {
@@ -38,21 +39,34 @@ fn named(alloc: Global, infs: &[&[u8]], script: &str) -> Result<(Vec<String>, Me
 }
 
 /// The status of a script with one INF over two Scripted drivers, four Steady ones and a Stubborn one.
-pub fn ended_into(alloc: Global, script: &str, sink: &mut MemSink) -> Result<Status, Fail> {
+pub fn ended_into(
+    rt: &impl Abort,
+    alloc: Global,
+    script: &str,
+    sink: &mut MemSink,
+) -> Result<Status, Fail> {
     let (words, mut files) = named(alloc, &[OWN_INF], script)?;
     let rack = rack_of(alloc, 2, 4, 1)?;
-    ended(alloc, &words, rack, &mut files, sink)
+    Ok(ended(rt, alloc, &words, rack, &mut files, sink))
 }
 
 /// A script with these INFs over those drivers ends with this status and writes this.
 pub fn runs(
+    rt: &impl Abort,
     alloc: Global,
     infs: &[&[u8]],
     script: &str,
     want: (Status, &[u8]),
 ) -> Result<(), Fail> {
     let (words, mut files) = named(alloc, infs, script)?;
-    ends(alloc, &words, rack_of(alloc, 2, 4, 1)?, &mut files, want)
+    ends(
+        rt,
+        alloc,
+        &words,
+        rack_of(alloc, 2, 4, 1)?,
+        &mut files,
+        want,
+    )
 }
 
 /// One device starts.
@@ -381,7 +395,7 @@ type Row = (&'static [&'static [u8]], &'static str, Status, &'static str);
 
 const OWN: &[&[u8]] = &[OWN_INF];
 
-const ROWS: &[Row] = &[
+const ROWS: [Row; 12] = [
     (OWN, ONE_DEVICE_SCRIPT, Status::Done, ONE_DEVICE_TEXT),
     (
         OWN,
@@ -439,7 +453,7 @@ const ROWS: &[Row] = &[
 #[test]
 fn whole_runs(rt: HostRuntime) -> Result<(), Fail> {
     for (infs, script, status, text) in ROWS {
-        runs(rt.alloc(), infs, script, (*status, text.as_bytes()))?;
+        runs(&rt, rt.alloc(), infs, script, (status, text.as_bytes()))?;
     }
     Ok(())
 }
@@ -515,7 +529,7 @@ fn in_utf16(alloc: Global, text: &[u8]) -> Result<Vec<u8>, Fail> {
 }
 
 /// Two INFs, and the service whose driver is chosen: that of the second.
-fn chooses(alloc: Global, infs: &[&[u8]], service: &str) -> Result<(), Fail> {
+fn chooses(rt: &impl Abort, alloc: Global, infs: &[&[u8]], service: &str) -> Result<(), Fail> {
     let text = format!(in alloc;
         "{PLUGGED_TEXT}\
         install OWN\\X\\1 00ff0000 {service}\n\
@@ -530,7 +544,13 @@ fn chooses(alloc: Global, infs: &[&[u8]], service: &str) -> Result<(), Fail> {
         map\n\
         outstanding\n"
     )?;
-    runs(alloc, infs, CHOICE_SCRIPT, (Status::Done, text.as_bytes()))
+    runs(
+        rt,
+        alloc,
+        infs,
+        CHOICE_SCRIPT,
+        (Status::Done, text.as_bytes()),
+    )
 }
 
 /// A match of the hardware ID, a later date, and a higher version, which an INF in UTF-16 has too.
@@ -538,22 +558,29 @@ fn chooses(alloc: Global, infs: &[&[u8]], service: &str) -> Result<(), Fail> {
 fn the_best_driver(rt: HostRuntime) -> Result<(), Fail> {
     let alloc = rt.alloc();
     let wide = in_utf16(alloc, HIGH_INF)?;
-    chooses(alloc, &[NEW_INF, OLD_INF], "old")?;
-    chooses(alloc, &[OLD_INF, LATE_INF], "late")?;
-    chooses(alloc, &[LATE_INF, HIGH_INF], "high")?;
-    chooses(alloc, &[LATE_INF, &wide], "high")
+    let infs: [(&[u8], &[u8], &str); 4] = [
+        (NEW_INF, OLD_INF, "old"),
+        (OLD_INF, LATE_INF, "late"),
+        (LATE_INF, HIGH_INF, "high"),
+        (LATE_INF, &wide, "high"),
+    ];
+    for (first, second, service) in infs {
+        chooses(&rt, alloc, &[first, second], service)?;
+    }
+    Ok(())
 }
 
 /// The script of one device, where the sink has room for so many bytes and a call of write fails: what it took.
-const FAILING_SINKS: &[(u64, u64, &str)] = &[(4096, 1, ""), (8, 2, "event dr")];
+const FAILING_SINKS: [(u64, u64, &str); 2] = [(4096, 1, ""), (8, 2, "event dr")];
 
 #[test]
 fn a_sink_that_fails(rt: HostRuntime) -> Result<(), Fail> {
     for (room, call, taken) in FAILING_SINKS {
-        let mut sink = MemSink::new(rt.alloc(), *room)?;
-        sink.fail_at(*call)?;
-        let status = ended_into(rt.alloc(), ONE_DEVICE_SCRIPT, &mut sink)?;
-        came_to(status, &sink, (Status::WriteFault, taken.as_bytes()))?;
+        let mut sink = MemSink::new(rt.alloc(), room)?;
+        sink.fail_at(call)?;
+        let status = ended_into(&rt, rt.alloc(), ONE_DEVICE_SCRIPT, &mut sink)?;
+        assert_eq!(rt; status, Status::WriteFault);
+        assert!(rt; sink.taken() == taken.as_bytes(), "{:?}", sink.taken());
     }
     Ok(())
 }

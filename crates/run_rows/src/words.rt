@@ -1,9 +1,9 @@
 //! The words of the command line, and the INFs that they name.
-use crate::runs::{came_to, ended, ends, files_of, words_of};
-use crate::told::{must, same};
+use crate::runs::{ended, ends, files_of, words_of};
 use pnp_cli::{Settings, Status, WordsError, settings};
 use pnp_io::{MemFiles, MemSink};
 use std::alloc::{AllocError, Global};
+use std::process::Abort;
 use std::test::Fail;
 
 /// What the words say: the script, the INFs, the trace to check and the budget, or how many devices are generated and the budget.
@@ -30,7 +30,7 @@ fn said(alloc: Global, settings: &Settings) -> Result<Vec<u8>, AllocError> {
     Ok(said)
 }
 
-const GOOD: &[(&[&str], &[u8])] = &[
+const GOOD: [(&[&str], &[u8]); 16] = [
     (&["pnpmgr", "s"], b"s 20000"),
     (&["-", "s"], b"s 20000"),
     (&["pnpmgr", "s", "i", "j"], b"s i j 20000"),
@@ -55,21 +55,23 @@ const GOOD: &[(&[&str], &[u8])] = &[
     (&["pnpmgr", "s", "--", "--check"], b"s --check 20000"),
 ];
 
-/// Words that are taken, and what they say.
-fn says(alloc: Global, texts: &[&str], want: &[u8]) -> Result<(), Fail> {
-    let settings = settings(alloc, &words_of(alloc, texts)?)?;
-    same(&said(alloc, &settings)?, want)
-}
-
 #[test]
 fn good_words(rt: HostRuntime) -> Result<(), Fail> {
+    let alloc = rt.alloc();
     for (texts, want) in GOOD {
-        says(rt.alloc(), texts, want)?;
+        let words = words_of(alloc, texts)?;
+        match settings(alloc, &words) {
+            Ok(settings) => {
+                let said = said(alloc, &settings)?;
+                assert!(rt; said.as_slice() == want, "{texts:?} {said:?}");
+            }
+            Err(error) => panic!(rt; "{texts:?} {error:?}"),
+        }
     }
     Ok(())
 }
 
-const BAD: &[&[&str]] = &[
+const BAD: [&[&str]; 33] = [
     &[],
     &["pnpmgr"],
     &["pnpmgr", "--budget", "0", "s"],
@@ -105,27 +107,24 @@ const BAD: &[&[&str]] = &[
     &["pnpmgr", "s", "-i"],
 ];
 
-/// Words that give no settings.
-fn no_settings(alloc: Global, words: &[String]) -> Result<(), Fail> {
-    match settings(alloc, words) {
-        Err(WordsError::BadWords) => Ok(()),
-        _ => Err(Fail::new("words that were taken")),
-    }
-}
-
-/// Words that give no settings and no run.
-fn is_refused(alloc: Global, texts: &[&str]) -> Result<(), Fail> {
-    let words = words_of(alloc, texts)?;
-    no_settings(alloc, &words)?;
-    let mut files = MemFiles::new(alloc);
-    let refused: (Status, &[u8]) = (Status::BadWords, b"");
-    ends(alloc, &words, Vec::new(alloc), &mut files, refused)
-}
-
 #[test]
 fn bad_words(rt: HostRuntime) -> Result<(), Fail> {
+    let alloc = rt.alloc();
     for texts in BAD {
-        is_refused(rt.alloc(), texts)?;
+        let words = words_of(alloc, texts)?;
+        match settings(alloc, &words) {
+            Ok(_) => panic!(rt; "{texts:?} was taken"),
+            Err(error) => assert_eq!(rt; error, WordsError::BadWords),
+        }
+        let mut files = MemFiles::new(alloc);
+        ends(
+            &rt,
+            alloc,
+            &words,
+            Vec::new(alloc),
+            &mut files,
+            (Status::BadWords, b""),
+        )?;
     }
     Ok(())
 }
@@ -137,17 +136,28 @@ fn at_most_64_infs(rt: HostRuntime) -> Result<(), Fail> {
     for _ in 0..64 {
         words.push(String::from_str(alloc, "i")?)?;
     }
-    must(settings(alloc, &words)?.infs.len() == 64, "64 INFs")?;
+    match settings(alloc, &words) {
+        Ok(settings) => assert_eq!(rt; settings.infs.len(), 64),
+        Err(error) => panic!(rt; "{error:?}"),
+    }
     words.push(String::from_str(alloc, "i")?)?;
-    no_settings(alloc, &words)
+    assert_eq!(rt; settings(alloc, &words).err(), Some(WordsError::BadWords));
+    Ok(())
 }
 
 const GOOD_INF: &[u8] = b"[Version]\nSignature=$Chicago$\n";
 
 /// The script `s` with the INFs `1` to `3` ends with this status and writes this.
-fn answers(alloc: Global, files: &mut MemFiles, status: Status, text: &str) -> Result<(), Fail> {
+fn answers(
+    rt: &impl Abort,
+    alloc: Global,
+    files: &mut MemFiles,
+    status: Status,
+    text: &str,
+) -> Result<(), Fail> {
     let words = words_of(alloc, &["pnpmgr", "s", "1", "2", "3"])?;
     ends(
+        rt,
         alloc,
         &words,
         Vec::new(alloc),
@@ -156,7 +166,7 @@ fn answers(alloc: Global, files: &mut MemFiles, status: Status, text: &str) -> R
     )
 }
 
-const REFUSED: &[(&[(&str, &[u8])], &str)] = &[
+const REFUSED: [(&[(&str, &[u8])], &str); 8] = [
     (&[("1", b"")], "inf 1 error 1 line 0\n"),
     (&[("1", b"[Version")], "inf 1 error 2 line 1\n"),
     (
@@ -187,7 +197,7 @@ const REFUSED: &[(&[(&str, &[u8])], &str)] = &[
 ];
 
 /// Files in which one is not there: the earliest one that is not taken decides.
-const MISSING: &[&[(&str, &[u8])]] = &[
+const MISSING: [&[(&str, &[u8])]; 5] = [
     &[],
     &[("s", b""), ("2", b""), ("3", b"")],
     &[("s", b""), ("1", GOOD_INF), ("3", b"")],
@@ -200,16 +210,16 @@ fn refused_and_missing_files(rt: HostRuntime) -> Result<(), Fail> {
     let alloc = rt.alloc();
     for (named, text) in REFUSED {
         let mut files = files_of(alloc, named)?;
-        answers(alloc, &mut files, Status::BadInf, text)?;
+        answers(&rt, alloc, &mut files, Status::BadInf, text)?;
     }
     for named in MISSING {
         let mut files = files_of(alloc, named)?;
-        answers(alloc, &mut files, Status::ReadFault, "")?;
+        answers(&rt, alloc, &mut files, Status::ReadFault, "")?;
     }
     Ok(())
 }
 
-const ALL_THERE: &[(&str, &[u8])] = &[
+const ALL_THERE: [(&str, &[u8]); 4] = [
     ("s", b"plag"),
     ("1", GOOD_INF),
     ("2", GOOD_INF),
@@ -219,12 +229,12 @@ const ALL_THERE: &[(&str, &[u8])] = &[
 #[test]
 fn taken_infs(rt: HostRuntime) -> Result<(), Fail> {
     let alloc = rt.alloc();
-    let mut files = files_of(alloc, ALL_THERE)?;
+    let mut files = files_of(alloc, &ALL_THERE)?;
     let text = "script error line 1\ntree\n0 HTREE\\ROOT\\0 Started\nmap\noutstanding\n";
-    answers(alloc, &mut files, Status::BadScript, text)?;
+    answers(&rt, alloc, &mut files, Status::BadScript, text)?;
     files.add(b"s", b"")?;
     let text = "tree\n0 HTREE\\ROOT\\0 Started\nmap\noutstanding\n";
-    answers(alloc, &mut files, Status::Done, text)
+    answers(&rt, alloc, &mut files, Status::Done, text)
 }
 
 /// Each file takes two reads; whichever fails, the end of the output is not written.
@@ -232,9 +242,9 @@ fn taken_infs(rt: HostRuntime) -> Result<(), Fail> {
 fn each_read_fails(rt: HostRuntime) -> Result<(), Fail> {
     let alloc = rt.alloc();
     for call in 1..9 {
-        let mut files = files_of(alloc, ALL_THERE)?;
+        let mut files = files_of(alloc, &ALL_THERE)?;
         files.fail_at(call)?;
-        answers(alloc, &mut files, Status::ReadFault, "")?;
+        answers(&rt, alloc, &mut files, Status::ReadFault, "")?;
     }
     Ok(())
 }
@@ -260,17 +270,17 @@ fn comments(alloc: Global) -> Result<Vec<u8>, Fail> {
 fn large_files(rt: HostRuntime) -> Result<(), Fail> {
     let alloc = rt.alloc();
     let mut bytes = comments(alloc)?;
-    let mut files = files_of(alloc, ALL_THERE)?;
+    let mut files = files_of(alloc, &ALL_THERE)?;
     files.add(b"s", &bytes)?;
-    answers(alloc, &mut files, Status::Done, BARE_END)?;
+    answers(&rt, alloc, &mut files, Status::Done, BARE_END)?;
     bytes.push(b'#')?;
     files.add(b"s", &bytes)?;
-    answers(alloc, &mut files, Status::TooLarge, "")?;
+    answers(&rt, alloc, &mut files, Status::TooLarge, "")?;
     files.add(b"2", &bytes)?;
-    answers(alloc, &mut files, Status::TooLarge, "")?;
+    answers(&rt, alloc, &mut files, Status::TooLarge, "")?;
     files.add(b"1", b"")?;
     let text = "inf 1 error 1 line 0\n";
-    answers(alloc, &mut files, Status::BadInf, text)
+    answers(&rt, alloc, &mut files, Status::BadInf, text)
 }
 
 /// A line is bad at its 4,097th byte, however much follows.
@@ -278,12 +288,12 @@ fn large_files(rt: HostRuntime) -> Result<(), Fail> {
 fn a_line_without_end(rt: HostRuntime) -> Result<(), Fail> {
     let alloc = rt.alloc();
     let bytes = vec![in alloc; b'#'; 17_000_000]?;
-    let mut files = files_of(alloc, ALL_THERE)?;
+    let mut files = files_of(alloc, &ALL_THERE)?;
     files.add(b"s", &bytes)?;
-    answers(alloc, &mut files, Status::BadScript, BAD_FIRST_LINE)?;
+    answers(&rt, alloc, &mut files, Status::BadScript, BAD_FIRST_LINE)?;
     let line = vec![in alloc; b'#'; 4096]?;
     files.add(b"s", &line)?;
-    answers(alloc, &mut files, Status::Done, BARE_END)
+    answers(&rt, alloc, &mut files, Status::Done, BARE_END)
 }
 
 #[test]
@@ -292,6 +302,8 @@ fn a_refusal_that_is_not_written(rt: HostRuntime) -> Result<(), Fail> {
     let words = words_of(alloc, &["pnpmgr", "s", "1"])?;
     let mut files = files_of(alloc, &[("1", b"")])?;
     let mut sink = MemSink::new(alloc, 9)?;
-    let status = ended(alloc, &words, Vec::new(alloc), &mut files, &mut sink)?;
-    came_to(status, &sink, (Status::WriteFault, b"inf 1 err"))
+    let answer = ended(&rt, alloc, &words, Vec::new(alloc), &mut files, &mut sink);
+    assert_eq!(rt; answer, Status::WriteFault);
+    assert_eq!(rt; sink.taken(), b"inf 1 err".as_slice());
+    Ok(())
 }
