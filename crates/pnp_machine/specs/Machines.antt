@@ -1,5 +1,6 @@
 -- The machine's state by its parts, and what a step or an event does to it.
-use Rattle.std.specs.Prelude.{◌≡◌, ◌≢◌, ℕ, ◌≤◌, Bool, true, false, ◌&&◌, is_none, ◌==◌, List, [], ◌∷◌, ◌++◌, Option, Some, None, length, slice_get, option_map}
+use Rattle.std.specs.Prelude.{◌≡◌, ◌≢◌, ℕ, ◌≤◌, Bool, true, false, ◌&&◌, is_none, ◌==◌, List, [], ◌∷◌, ◌++◌, Option, Some, None, Result, Ok, Err, length, slice_get, option_map}
+use Rattle.std.specs.declared.alloc.AllocError.{AllocError}
 use Rattle.pnp_labels.specs.Texts.{Text}
 use Rattle.pnp_labels.specs.declared.event.Event.{Event}
 use Rattle.pnp_labels.specs.declared.label.Label.{Label}
@@ -21,10 +22,8 @@ use Rattle.pnp_model.specs.Records.{Device, Node, Driver, Activity, Doing, Setti
 use Rattle.pnp_model.specs.Records as machines
 use Rattle.pnp_machine.specs.Devices.{Devices}
 use Rattle.pnp_machine.specs.Doings.{core_with}
-use Rattle.pnp_machine.specs.Operations.{operation_of, IsTarget, RebalancesBy, RemovesBy}
+use Rattle.pnp_machine.specs.Operations.{operation_of}
 use Rattle.pnp_machine.specs.declared.operation.Operation as declared
-use Rattle.pnp_machine.specs.declared.operation.OperationStep.{OperationStep}
-use Rattle.pnp_machine.specs.declared.operation.OperationStep.TheVariants.{Rebalanced, Removed}
 use Rattle.query_remove.specs.Frames.{is_settling}
 use Rattle.pnp_machine.specs.Starts.{first_ready}
 use Rattle.pnp_machine.specs.TaskLists.{duty_of}
@@ -123,6 +122,17 @@ label_of (removes.Disabled label) = label
 label_of (removes.Ejected label path born) = label
 label_of (removes.Over label) = label
 
+-- the same of a step that may have been refused for memory: then nothing
+abbrev pub beside_made : Result RemoveStep AllocError → Option Text → State → State
+beside_made (Ok step) settled s = beside step settled s
+beside_made (Err error) settled s = s
+
+-- the label is that of the step, and there is none exactly where the step was refused
+abbrev pub IsLabelOf : Result RemoveStep AllocError → Result Label AllocError → Type 0
+IsLabelOf (Ok step) (Ok label) = label ≡ label_of step
+IsLabelOf (Err error) (Err refused) = Unit {0}
+IsLabelOf _ _ = ⊥
+
 -- who is ejected is not the root of the world
 abbrev pub IsNoRoot : RemoveStep → Type 0
 IsNoRoot (removes.Ejected label path born) = born ≢ 0
@@ -148,18 +158,6 @@ path_if _ target first = None
 
 abbrev pub settled_path : Removal → List Node → Option Text
 settled_path o nodes = path_if (is_settling o.stage) o.target (first_node nodes o.todo)
-
--- the same of the operation that runs; none where it is no removal
-abbrev pub settled_in : Option Operation → List Node → Option Text
-settled_in None nodes = None
-settled_in (Some (machines.Operation.Removing o)) nodes = settled_path o nodes
-settled_in (Some _) nodes = None
-
--- the next step of the operation that runs, for this budget: of a rebalance with the device for which it runs, and of a
--- removal with the path of its device, where it settles this one
-abbrev pub MovesBy : ℕ → Devices → List Driver → Operation → OperationStep → Devices → List Driver → Operation → Type 0
-MovesBy budget ds rack o (Rebalanced step target) ds' rack' o' = RebalancesBy budget ds rack o step ds' rack' o' × IsTarget target o'
-MovesBy budget ds rack o (Removed step settled) ds' rack' o' = RemovesBy ds rack o step ds' rack' o' × (settled ≡ settled_in (Some o) ds.tree.nodes)
 
 -- the tasks with one more that lists a node, if there is one
 abbrev pub tasks_over : Option ℕ → List Task → List Task

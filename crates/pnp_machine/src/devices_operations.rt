@@ -157,17 +157,16 @@ impl Devices {
         ensures rack { OnErr result (R.rows rack.new ≡ R.rows rack.old) }
         ensures err { OnErr result (self.new ≡ self.old) }
     {
-        let step = removal.next(
+        self.from = 0;
+        self.whole = None;
+        removal.next(
             alloc,
             &mut self.tree,
             &mut self.relations,
             rack,
             &mut self.arbiters,
             &self.handles,
-        )?;
-        self.from = 0;
-        self.whole = None;
-        Ok(step)
+        )
     }
 
     /// Whether the node of a device is there and its birth number is in the world.
@@ -198,7 +197,9 @@ impl Devices {
         ensures err { OnErr result (self.new ≡ self.old) }
     {
         let in_world = self.is_in_world(surprise.target());
-        let step = surprise.next(
+        self.from = 0;
+        self.whole = None;
+        surprise.next(
             alloc,
             &mut self.tree,
             &mut self.relations,
@@ -206,10 +207,7 @@ impl Devices {
             &mut self.arbiters,
             in_world,
             &self.handles,
-        )?;
-        self.from = 0;
-        self.whole = None;
-        Ok(step)
+        )
     }
 
     /// Whether a device is there and ready to be finished, as `surprise_remove::is_ready` says.
@@ -257,7 +255,9 @@ impl Devices {
         ensures err { OnErr result (self.new ≡ self.old) }
     {
         let in_world = self.is_current_in_world(finish);
-        let step = finish.next(
+        self.from = 0;
+        self.whole = None;
+        finish.next(
             alloc,
             &mut self.tree,
             &mut self.relations,
@@ -265,9 +265,6 @@ impl Devices {
             &mut self.arbiters,
             in_world,
             &self.handles,
-        )?;
-        self.from = 0;
-        self.whole = None;
-        Ok(step)
+        )
     }
 }

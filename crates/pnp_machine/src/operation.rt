@@ -1,17 +1,16 @@
-ghost use Rattle.std.specs.Prelude.{◌≡◌, ◌≤◌, Bool, true, false, IfOk, OnErr, option_map};
+ghost use Rattle.std.specs.Prelude.{◌≡◌, true, IfOk, option_map};
 ghost use Rattle.pnp_model.specs.Events.{operation_at, operation_waits, completed, answer_of};
 ghost use Rattle.pnp_model.specs.Machine.{operation_walk, is_waiting};
 ghost use Rattle.device_stack.specs.Waiting.{minor_of};
-ghost use Rattle.pnp_machine.specs.Operations.{operation_of, MayGo};
-ghost use Rattle.pnp_machine.specs.Machines.{settled_path, CompletesOperation, MovesBy};
+ghost use Rattle.pnp_machine.specs.Operations.{operation_of};
+ghost use Rattle.pnp_machine.specs.Machines.{settled_path, CompletesOperation};
 
 use crate::devices::Devices;
 use device_ids::{InstancePath, WantOfMemory};
 use device_stack::{NoSuchRequest, Walk};
-use driver_rack::Drivers;
-use pnp_labels::{Minor, RemoveStep};
+use pnp_labels::Minor;
 use query_remove::Removal;
-use rebalance::{Rebalance, RebalanceStep};
+use rebalance::Rebalance;
 use std::alloc::Global;
 use surprise_remove::{Finish, Surprise};
 
@@ -28,23 +27,8 @@ pub(crate) enum Operation {
     Finishing(Finish),
 }
 
-/// A step of an operation, with what the machine does beside it: this project's own.
-#[derive(Drop)]
-pub(crate) enum OperationStep {
-    /// Of a rebalance for a device.
-    Rebalanced {
-        step: RebalanceStep,
-        target: u64,
-    },
-    /// Of an operation that removes devices. Where it settled its own device, the path of this one.
-    Removed {
-        step: RemoveStep,
-        settled: Option<InstancePath>,
-    },
-}
-
 /// Where a removal settles the device for which it runs with its next step, the device's path, ready to be disabled.
-fn settled_path(
+pub(crate) fn settled_path(
     alloc: Global,
     devices: &Devices,
     removal: &Removal,
@@ -129,50 +113,5 @@ impl Operation {
         }
         let _ = self.answer(ok);
         true
-    }
-
-    /// The next step of the operation, as `Rebalance::next`, `Removal::next`, `Surprise::next` and `Finish::next` say.
-    /// Conditions: it does not wait, and what it works on is there. After want of memory all is as before, and no driver was
-    /// asked.
-    pub(crate) fn next<R: Drivers>(
-        &mut self,
-        alloc: Global,
-        devices: &mut Devices,
-        rack: &mut R,
-        budget: u64,
-    ) -> Result<OperationStep, WantOfMemory>
-        requires goes { MayGo devices.old.tree.nodes devices.old.relations devices.old.handles (operation_of self.old) }
-        requires budget { budget ≤ 1000000 }
-        ensures moves { IfOk result (λ step. MovesBy budget devices.old (R.rows rack.old) (operation_of self.old) step devices.new (R.rows rack.new) (operation_of self.new)) }
-        ensures operation { OnErr result (operation_of self.new ≡ operation_of self.old) }
-        ensures rack { OnErr result (R.rows rack.new ≡ R.rows rack.old) }
-        ensures err { OnErr result (devices.new ≡ devices.old) }
-    {
-        match self {
-            Operation::Rebalancing(rebalance) => {
-                let step = devices.rebalance(alloc, rebalance, rack, budget)?;
-                let target = rebalance.target();
-                Ok(OperationStep::Rebalanced { step, target })
-            }
-            Operation::Removing(removal) => {
-                let settled = settled_path(alloc, devices, removal)?;
-                let step = devices.remove(alloc, removal, rack)?;
-                Ok(OperationStep::Removed { step, settled })
-            }
-            Operation::Surprising(surprise) => {
-                let step = devices.surprise(alloc, surprise, rack)?;
-                Ok(OperationStep::Removed {
-                    step,
-                    settled: None,
-                })
-            }
-            Operation::Finishing(finish) => {
-                let step = devices.finish(alloc, finish, rack)?;
-                Ok(OperationStep::Removed {
-                    step,
-                    settled: None,
-                })
-            }
-        }
     }
 }

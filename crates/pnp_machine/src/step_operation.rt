@@ -4,7 +4,7 @@ ghost use Rattle.pnp_model.specs.Machine.{Steps};
 ghost use Rattle.pnp_model.specs.Records.{Activity, Driver};
 ghost use Rattle.pnp_model.specs.States.{activity_at};
 ghost use Rattle.start_sequence.specs.Begins.{settings_of};
-ghost use Rattle.pnp_machine.specs.Machines.{IsTurn, state_of, beside, label_of, IsNoRoot, IsNew, tasks_over};
+ghost use Rattle.pnp_machine.specs.Machines.{IsTurn, state_of, beside, beside_made, label_of, IsLabelOf, IsNoRoot, IsNew, tasks_over};
 ghost use Rattle.pnp_machine.specs.Managers.{IsOfRun};
 ghost use Rattle.pnp_machine.specs.Operations.{operation_of};
 ghost use Rattle.pnp_machine.specs.Rebalanced.{rebalance_label, operation_after, works_after, tasks_after};
@@ -13,7 +13,7 @@ ghost use Rattle.pnp_machine.specs.declared.turn.Turn.TheVariants as turns;
 use crate::devices::Devices;
 use crate::disabled::DisabledPaths;
 use crate::machine::Machine;
-use crate::operation::{Operation, OperationStep};
+use crate::operation::{Operation, settled_path};
 use crate::starts::Starts;
 use crate::tasks::{Duty, Tasks};
 use device_ids::{InstancePath, WantOfMemory};
@@ -30,6 +30,14 @@ pub(crate) fn list_again(tasks: &mut Tasks, serial: Option<u64>)
     if let Some(serial) = serial {
         tasks.append(Duty::List, serial);
     }
+}
+
+/// The operation is over. It has a call of its own, so that what is let go is taken apart in no step but the last.
+#[inline(never)]
+fn end_operation(operation: &mut Option<Operation>)
+    ensures { operation.new ≡ None }
+{
+    *operation = None;
 }
 
 /// What the machine does beside a step of an operation that removes devices: where a node left, the world may have another
@@ -68,9 +76,33 @@ fn apply_effect(
             label
         }
         RemoveStep::Over(label) => {
-            *operation = None;
+            end_operation(operation);
             label
         }
+    }
+}
+
+/// The label of a step of an operation that removes devices, once what the machine does beside it is done; most have nothing
+/// beside them. Conditions: those of `apply_effect`, of a step that was made. It takes no memory; after want of memory all is as before.
+fn after_step(
+    devices: &mut Devices,
+    disabled: &mut DisabledPaths,
+    operation: &mut Option<Operation>,
+    tasks: &mut Tasks,
+    moved: Result<RemoveStep, WantOfMemory>,
+    settled: Option<InstancePath>,
+) -> Result<Label, WantOfMemory>
+    requires tasks { 0 < tasks.old.room }
+    requires disabled { 0 < disabled.old.room }
+    requires root { IfOk moved (λ step. IsNoRoot step) }
+    requires new { IfOk moved (λ step. IsNew step settled disabled.old.paths) }
+    ensures label { IsLabelOf moved result }
+    ensures state { (rack : List Driver) (works : List Activity) → state_of devices.new rack disabled.new.paths works (option_map operation_of operation.new) tasks.new.tasks ≡ beside_made moved settled (state_of devices.old rack disabled.old.paths works (option_map operation_of operation.old) tasks.old.tasks) }
+{
+    match moved {
+        Ok(RemoveStep::Did(label)) => Ok(label),
+        Ok(step) => Ok(apply_effect(devices, disabled, operation, tasks, step, settled)),
+        Err(error) => Err(error),
     }
 }
 
@@ -98,17 +130,17 @@ fn apply_rebalance(
             label
         }
         RebalanceStep::OverStart(label) => {
-            *operation = None;
+            end_operation(operation);
             starts.put(StartWork::resume(target));
             label
         }
         RebalanceStep::OverUndo(label) => {
-            *operation = None;
+            end_operation(operation);
             starts.put(StartWork::undo(target));
             label
         }
         RebalanceStep::OverDropped(label) | RebalanceStep::OverChange(label) => {
-            *operation = None;
+            end_operation(operation);
             label
         }
     }
@@ -126,25 +158,35 @@ impl<R: Drivers> Machine<R> {
         self.starts.make_room()?;
         self.disabled.make_room()?;
         self.tasks.make_room()?;
-        let Some(operation) = &mut self.operation else {
-            unreachable!()
-        };
-        match operation.next(self.alloc, &mut self.devices, &mut self.rack, budget)? {
-            OperationStep::Rebalanced { step, target } => Ok(apply_rebalance(
-                &mut self.operation,
-                &mut self.starts,
-                &mut self.tasks,
-                step,
-                target,
-            )),
-            OperationStep::Removed { step, settled } => Ok(apply_effect(
-                &mut self.devices,
-                &mut self.disabled,
-                &mut self.operation,
-                &mut self.tasks,
-                step,
-                settled,
-            )),
+        let Machine {
+            alloc,
+            devices,
+            rack,
+            disabled,
+            starts,
+            operation,
+            tasks,
+        } = self;
+        match operation {
+            Some(Operation::Rebalancing(rebalance)) => {
+                let step = devices.rebalance(*alloc, rebalance, rack, budget)?;
+                let target = rebalance.target();
+                Ok(apply_rebalance(operation, starts, tasks, step, target))
+            }
+            Some(Operation::Removing(removal)) => {
+                let settled = settled_path(*alloc, devices, removal)?;
+                let moved = devices.remove(*alloc, removal, rack);
+                after_step(devices, disabled, operation, tasks, moved, settled)
+            }
+            Some(Operation::Surprising(surprise)) => {
+                let moved = devices.surprise(*alloc, surprise, rack);
+                after_step(devices, disabled, operation, tasks, moved, None)
+            }
+            Some(Operation::Finishing(finish)) => {
+                let moved = devices.finish(*alloc, finish, rack);
+                after_step(devices, disabled, operation, tasks, moved, None)
+            }
+            None => unreachable!(),
         }
     }
 }
