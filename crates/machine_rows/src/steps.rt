@@ -22,15 +22,14 @@ fn has_few_ids(event: &Event) -> bool
 }
 
 /// An event happens, where it may.
-fn happen<R: Drivers>(manager: &mut Manager<R>, event: Event) -> Result<Option<Label>, WantOfMemory>
+fn happen<R: Drivers>(manager: &mut Manager<R>, event: Event) -> Result<(), WantOfMemory>
     requires { manager.old.events < 2 ^ 24 }
     ensures { OnOk result (manager.new.events ≤ manager.old.events + 1) }
 {
     if manager.is_quiet() && has_few_ids(&event) {
-        Ok(Some(manager.apply(event)?))
-    } else {
-        Ok(None)
+        manager.apply(event)?;
     }
+    Ok(())
 }
 
 /// The next step. Where memory is refused, it is tried once more.
@@ -44,6 +43,17 @@ fn step_again<R: Drivers>(manager: &mut Manager<R>) -> Result<Moved, WantOfMemor
     }
 }
 
+/// The line of a label is appended.
+fn tell(alloc: Global, label: &Label, out: &mut Vec<u8>) -> Result<(), WantOfMemory> {
+    out.extend_from_slice(&label_line(alloc, label)?)?;
+    Ok(())
+}
+
+/// The same, and the label is let go: here alone, since each place where one goes takes it apart.
+fn tell_once(alloc: Global, label: Label, out: &mut Vec<u8>) -> Result<(), WantOfMemory> {
+    tell(alloc, &label, out)
+}
+
 /// The machine steps until it is quiet, at most a hundred times, and the lines are appended.
 fn settle<R: Drivers>(
     alloc: Global,
@@ -55,7 +65,7 @@ fn settle<R: Drivers>(
 {
     'steps: for _ in 0..100 {
         match step_again(manager)? {
-            Moved::Label(label) => out.extend_from_slice(&label_line(alloc, &label)?)?,
+            Moved::Label(label) => tell_once(alloc, label, out)?,
             Moved::Quiet => return Ok(()),
         }
     }
@@ -163,33 +173,6 @@ fn arrive<R: Drivers>(alloc: Global, manager: &mut Manager<R>) -> Result<Vec<u8>
     Ok(out)
 }
 
-/// The driver is taught, and the device arrives.
-fn play<R: Drivers>(
-    alloc: Global,
-    manager: &mut Manager<R>,
-    answer: Answer,
-) -> Result<Vec<u8>, WantOfMemory>
-    requires { manager.old.events ≡ 0 }
-    ensures { OnOk result (manager.new.events ≤ 3) }
-{
-    teach(alloc, manager, answer)?;
-    arrive(alloc, manager)
-}
-
-/// The lines of a device that arrives, whose driver answers its first START_DEVICE so, and the end of the output.
-fn lines(alloc: Global, answer: Answer) -> Result<Vec<u8>, WantOfMemory> {
-    let mut manager = one_driver(alloc)?;
-    play(alloc, &mut manager, answer)
-}
-
-/// The same, made anew where memory was refused outside a step.
-fn lines_again(alloc: Global, answer: Answer) -> Result<Vec<u8>, WantOfMemory> {
-    match lines(alloc, answer) {
-        Ok(out) => Ok(out),
-        Err(_) => lines(alloc, answer),
-    }
-}
-
 /// An event happens, and the lines that follow are appended.
 fn follow<R: Drivers>(
     alloc: Global,
@@ -204,28 +187,61 @@ fn follow<R: Drivers>(
     settle(alloc, manager, out)
 }
 
-/// The lines of a device that is pulled while a handle to it is open, and those that follow when the handle is closed.
-fn held_lines(alloc: Global) -> Result<Vec<u8>, WantOfMemory> {
-    let mut manager = one_driver(alloc)?;
-    play(alloc, &mut manager, Answer::Ok)?;
+/// The device is pulled while a handle to it is open, which is then closed: the lines that follow.
+fn hold<R: Drivers>(alloc: Global, manager: &mut Manager<R>) -> Result<Vec<u8>, WantOfMemory>
+    requires { manager.old.events ≤ 3 }
+{
     let mut out = Vec::with_capacity(alloc, 4096)?;
     let path = path(alloc, b"OWN\\DEV\\1")?;
     let opened = path.copy(alloc)?;
     let pulled = path.copy(alloc)?;
-    let open = Event::OpenHandle { path: opened };
-    follow(alloc, &mut manager, open, &mut out)?;
-    let pull = Event::Pull { path: pulled };
-    follow(alloc, &mut manager, pull, &mut out)?;
-    let close = Event::CloseHandle { path };
-    follow(alloc, &mut manager, close, &mut out)?;
+    follow(alloc, manager, Event::OpenHandle { path: opened }, &mut out)?;
+    follow(alloc, manager, Event::Pull { path: pulled }, &mut out)?;
+    follow(alloc, manager, Event::CloseHandle { path }, &mut out)?;
     Ok(out)
 }
 
+/// What happens to the device.
+#[derive(Copy, Clone)]
+enum Story {
+    /// It arrives, and its driver answers its first START_DEVICE so.
+    Arrives(Answer),
+    /// It arrives, starts, and is pulled while it is held open.
+    IsHeld,
+}
+
+/// The story's lines: those of the arrival with the end of the output, or those that follow the arrival.
+fn play<R: Drivers>(
+    alloc: Global,
+    manager: &mut Manager<R>,
+    story: Story,
+) -> Result<Vec<u8>, WantOfMemory>
+    requires { manager.old.events ≡ 0 }
+{
+    match story {
+        Story::Arrives(answer) => {
+            teach(alloc, manager, answer)?;
+            arrive(alloc, manager)
+        }
+        Story::IsHeld => {
+            teach(alloc, manager, Answer::Ok)?;
+            arrive(alloc, manager)?;
+            hold(alloc, manager)
+        }
+    }
+}
+
+/// The lines of a story.
+fn lines(alloc: Global, story: Story) -> Result<Vec<u8>, WantOfMemory> {
+    let mut manager = one_driver(alloc)?;
+    play(alloc, &mut manager, story)
+}
+
 /// The same, made anew where memory was refused outside a step.
-fn held_again(alloc: Global) -> Result<Vec<u8>, WantOfMemory> {
-    match held_lines(alloc) {
+fn lines_again(alloc: Global, story: Story) -> Result<Vec<u8>, WantOfMemory> {
+    match lines(alloc, story) {
         Ok(out) => Ok(out),
-        Err(_) => held_lines(alloc),
+        Err(_) => lines(alloc, story),
     }
 }
 
@@ -233,7 +249,7 @@ fn held_again(alloc: Global) -> Result<Vec<u8>, WantOfMemory> {
 /// and the device would be up.
 #[test]
 fn a_refused_step_asks_its_driver_once(rt: HostRuntime) -> Result<(), Fail> {
-    let out = lines_again(rt.alloc(), Answer::Fail)?;
+    let out = lines_again(rt.alloc(), Story::Arrives(Answer::Fail))?;
     let expected = b"join 1 OWN\\DEV\\1\n\
         listed HTREE\\ROOT\\0\n\
         install OWN\\DEV\\1 00ff0000 serial\n\
@@ -253,7 +269,7 @@ fn a_refused_step_asks_its_driver_once(rt: HostRuntime) -> Result<(), Fail> {
 
 #[test]
 fn a_start_waits_and_goes_on(rt: HostRuntime) -> Result<(), Fail> {
-    let out = lines_again(rt.alloc(), Answer::Pend)?;
+    let out = lines_again(rt.alloc(), Story::Arrives(Answer::Pend))?;
     let expected = b"join 1 OWN\\DEV\\1\n\
         listed HTREE\\ROOT\\0\n\
         install OWN\\DEV\\1 00ff0000 serial\n\
@@ -270,7 +286,7 @@ fn a_start_waits_and_goes_on(rt: HostRuntime) -> Result<(), Fail> {
 
 #[test]
 fn a_device_waits_for_its_handle(rt: HostRuntime) -> Result<(), Fail> {
-    let out = held_again(rt.alloc())?;
+    let out = lines_again(rt.alloc(), Story::IsHeld)?;
     let expected = b"gone OWN\\DEV\\1\n\
         listed HTREE\\ROOT\\0\n\
         begin surprise OWN\\DEV\\1\n\

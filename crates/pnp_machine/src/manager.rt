@@ -43,7 +43,8 @@ pub struct Manager<R: Drivers> {
     infs: Vec<Inf>,
     budget: u64,
     events: u64,
-    machine: Machine<R>,
+    /// In a box, so that who owns a manager has one part to let go, and not each list of the machine.
+    machine: Box<Machine<R>>,
 }
 
 impl<R: Drivers> Model for Manager<R> {
@@ -51,9 +52,9 @@ impl<R: Drivers> Model for Manager<R> {
 
     ghost Value = { Manager };
 
-    ghost view = { λ m. record { infs = m.infs.items; budget = m.budget; events = m.events; state = m.machine } };
+    ghost view = { λ m. record { infs = m.infs.items; budget = m.budget; events = m.events; state = m.machine.value } };
 
-    ghost invariant = { λ m. IsManager m.infs.items m.budget m.events m.machine };
+    ghost invariant = { λ m. IsManager m.infs.items m.budget m.events m.machine.value };
 }
 
 impl<R: Drivers> Manager<R> {
@@ -69,7 +70,7 @@ impl<R: Drivers> Manager<R> {
         requires budget { budget ≤ 1000000 }
         ensures { IfOk result (λ m. m ≡ record { infs = infs.items; budget = budget; events = 0; state = opening (R.rows rack) }) }
     {
-        let machine = Machine::new(alloc, rack)?;
+        let machine = Box::new(alloc, Machine::new(alloc, rack)?)?;
         Ok(Manager {
             infs,
             budget,

@@ -106,16 +106,24 @@ fn encodings(rt: HostRuntime) -> Result<(), Fail> {
     Ok(())
 }
 
+/// An INF with a line of so many signs of three bytes each, in UTF-16.
+fn wide_signs(alloc: Global, count: u32) -> Result<Vec<u8>, AllocError> {
+    let signs = often(alloc, b"\xAC\x20", count)?;
+    wide(alloc, "x=I,", &signs)
+}
+
+/// What it gives where the line is not too long.
+fn signs_given(alloc: Global, count: u32) -> Result<Vec<u8>, AllocError> {
+    let shown = often(alloc, b"\xE2\x82\xAC", count)?;
+    joined(alloc, &[b"0 0\n6 255 - ids|", &shown, b" lower upper\n"])
+}
+
 #[test]
 fn long_wide_lines(rt: HostRuntime) -> Result<(), Fail> {
     let alloc = rt.alloc();
-    let most = often(alloc, b"\xAC\x20", 1364)?;
-    let shown = often(alloc, b"\xE2\x82\xAC", 1364)?;
-    let given = told(alloc, &wide(alloc, "x=I,", &most)?)?;
-    let want = joined(alloc, &[b"0 0\n6 255 - ids|", &shown, b" lower upper\n"])?;
-    same(&given, &want)?;
-    let more = often(alloc, b"\xAC\x20", 1365)?;
-    gives(alloc, &wide(alloc, "x=I,", &more)?, "refused 3 6\n")
+    let given = told(alloc, &wide_signs(alloc, 1364)?)?;
+    same(&given, &signs_given(alloc, 1364)?)?;
+    gives(alloc, &wide_signs(alloc, 1365)?, "refused 3 6\n")
 }
 
 #[test]

@@ -149,15 +149,19 @@ pub const DATED: Around = Around {
     given_end: "\n",
 };
 
+/// A text with what stands before and behind it.
+fn between(alloc: Global, front: &str, text: &[u8], end: &str) -> Result<Vec<u8>, AllocError> {
+    let mut all = Vec::from_slice(alloc, front.as_bytes())?;
+    all.extend_from_slice(text)?;
+    all.extend_from_slice(end.as_bytes())?;
+    Ok(all)
+}
+
 /// One text of a table gives this.
 fn gives_in(alloc: Global, around: &Around, text: &[u8], want: &str) -> Result<(), Fail> {
-    let mut inf = Vec::from_slice(alloc, around.head.as_bytes())?;
-    inf.extend_from_slice(around.front.as_bytes())?;
-    inf.extend_from_slice(text)?;
-    inf.extend_from_slice(around.end.as_bytes())?;
-    let mut given = Vec::from_slice(alloc, around.gives.as_bytes())?;
-    given.extend_from_slice(want.as_bytes())?;
-    given.extend_from_slice(around.given_end.as_bytes())?;
+    let line = between(alloc, around.front, text, around.end)?;
+    let inf = between(alloc, around.head, &line, "")?;
+    let given = between(alloc, around.gives, want.as_bytes(), around.given_end)?;
     same(&told(alloc, &inf)?, &given)
 }
 

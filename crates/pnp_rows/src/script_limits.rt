@@ -29,21 +29,35 @@ const ROWS: &[Row] = &[
     (b"plug A\\B\\1 A\\B 2 ", b"hw=A", b" ", b"", 1),
 ];
 
-/// The line with that many parts, or with more.
-fn line(alloc: Global, row: &Row, more: u32) -> Result<Vec<u8>, AllocError> {
-    let (head, part, between, end, most) = *row;
-    let mut text = Vec::from_slice(alloc, head)?;
-    text.extend_from_slice(part)?;
-    for _ in 1..most {
+/// Adds a part so often, each behind what stands between two.
+fn put_parts(
+    text: &mut Vec<u8>,
+    between: &[u8],
+    part: &[u8],
+    often: u32,
+) -> Result<(), AllocError> {
+    for _ in 0..often {
         text.extend_from_slice(between)?;
         text.extend_from_slice(part)?;
     }
-    for _ in 0..more {
-        text.extend_from_slice(between)?;
-        text.extend_from_slice(part)?;
-    }
+    Ok(())
+}
+
+/// Adds that many parts, or more, and the end of the line.
+fn put_rest(text: &mut Vec<u8>, row: &Row, more: u32) -> Result<(), AllocError> {
+    let (_, part, between, end, most) = *row;
+    put_parts(text, b"", part, 1)?;
+    put_parts(text, between, part, most.saturating_sub(1))?;
+    put_parts(text, between, part, more)?;
     text.extend_from_slice(end)?;
     text.push(b'\n')?;
+    Ok(())
+}
+
+/// The line with that many parts, or with more.
+fn line(alloc: Global, row: &Row, more: u32) -> Result<Vec<u8>, AllocError> {
+    let mut text = Vec::from_slice(alloc, row.0)?;
+    put_rest(&mut text, row, more)?;
     Ok(text)
 }
 

@@ -2,22 +2,27 @@
 //! description gives.
 use crate::compared::same;
 use crate::script_shown::shown;
-use script_reader::{ScriptEnd, read_events};
-use std::alloc::Global;
+use script_reader::{Script, ScriptEnd, read_events};
+use std::alloc::{AllocError, Global};
 use std::test::Fail;
+
+/// What the only line of a script is read as.
+fn told_by(alloc: Global, script: &Script) -> Result<Vec<u8>, AllocError> {
+    if script.ends != ScriptEnd::End {
+        return Vec::from_slice(alloc, b"bad ");
+    }
+    match script.lines.first() {
+        Some(line) => shown(alloc, &line.event),
+        None => Vec::from_slice(alloc, b"none "),
+    }
+}
 
 /// What a line of its own is read as: its event, `none` without one, or `bad`.
 fn told(alloc: Global, line: &[u8]) -> Result<Vec<u8>, Fail> {
     let mut text = Vec::from_slice(alloc, line)?;
     text.push(b'\n')?;
     let script = read_events(alloc, &text)?;
-    if script.ends != ScriptEnd::End {
-        return Ok(Vec::from_slice(alloc, b"bad ")?);
-    }
-    match script.lines.first() {
-        Some(line) => Ok(shown(alloc, &line.event)?),
-        None => Ok(Vec::from_slice(alloc, b"none ")?),
-    }
+    Ok(told_by(alloc, &script)?)
 }
 
 /// Each line is read as the table says.

@@ -109,19 +109,36 @@ fn put_plug(alloc: Global, text: &mut Vec<u8>, event: &Event) -> Result<(), Allo
     Ok(())
 }
 
-/// An event with its fields, each followed by a space.
-pub fn shown(alloc: Global, event: &Event) -> Result<Vec<u8>, AllocError> {
-    let mut text = Vec::new(alloc);
+fn put_driver(alloc: Global, text: &mut Vec<u8>, event: &Event) -> Result<(), AllocError> {
     match event {
-        Event::Plug { .. } => put_plug(alloc, &mut text, event)?,
         Event::Name { name, kind } => {
             let kind = format!(in alloc; "{:?}", kind)?;
-            put_words(&mut text, &[b"Name", name.bytes(), kind.as_bytes()])?;
+            put_words(text, &[b"Name", name.bytes(), kind.as_bytes()])
         }
         Event::Teach { name, rule } => {
-            put_words(&mut text, &[b"Teach", name.bytes()])?;
-            put_rule(alloc, &mut text, rule)?;
+            put_words(text, &[b"Teach", name.bytes()])?;
+            put_rule(alloc, text, rule)
         }
+        _ => Ok(()),
+    }
+}
+
+fn put_range(alloc: Global, text: &mut Vec<u8>, event: &Event) -> Result<(), AllocError> {
+    match event {
+        Event::Reserve { res } => {
+            put(text, b"Reserve")?;
+            put_res(alloc, text, res)
+        }
+        Event::Window { path, res } => {
+            put_words(text, &[b"Window", path.bytes()])?;
+            put_res(alloc, text, res)
+        }
+        _ => Ok(()),
+    }
+}
+
+fn put_device(alloc: Global, text: &mut Vec<u8>, event: &Event) -> Result<(), AllocError> {
+    match event {
         Event::Relate {
             kind,
             owner,
@@ -129,27 +146,38 @@ pub fn shown(alloc: Global, event: &Event) -> Result<Vec<u8>, AllocError> {
         } => {
             let kind = format!(in alloc; "{:?}", kind)?;
             put_words(
-                &mut text,
+                text,
                 &[b"Relate", kind.as_bytes(), owner.bytes(), member.bytes()],
-            )?;
-        }
-        Event::Reserve { res } => {
-            put(&mut text, b"Reserve")?;
-            put_res(alloc, &mut text, res)?;
+            )
         }
         Event::Complete { path, minor, ok } => {
             let end = format!(in alloc; "{:?} {}", minor, ok)?;
-            put_words(&mut text, &[b"Complete", path.bytes(), end.as_bytes()])?;
-        }
-        Event::Window { path, res } => {
-            put_words(&mut text, &[b"Window", path.bytes()])?;
-            put_res(alloc, &mut text, res)?;
+            put_words(text, &[b"Complete", path.bytes(), end.as_bytes()])
         }
         Event::Change { path, reqs } => {
-            put_words(&mut text, &[b"Change", path.bytes()])?;
-            put_reqs(alloc, &mut text, reqs)?;
+            put_words(text, &[b"Change", path.bytes()])?;
+            put_reqs(alloc, text, reqs)
         }
-        _ => put_operation(&mut text, event)?,
+        _ => Ok(()),
     }
+}
+
+/// Adds an event with its fields, each followed by a space.
+fn put_event(alloc: Global, text: &mut Vec<u8>, event: &Event) -> Result<(), AllocError> {
+    match event {
+        Event::Plug { .. } => put_plug(alloc, text, event),
+        Event::Name { .. } | Event::Teach { .. } => put_driver(alloc, text, event),
+        Event::Reserve { .. } | Event::Window { .. } => put_range(alloc, text, event),
+        Event::Relate { .. } | Event::Complete { .. } | Event::Change { .. } => {
+            put_device(alloc, text, event)
+        }
+        _ => put_operation(text, event),
+    }
+}
+
+/// An event with its fields, each followed by a space.
+pub fn shown(alloc: Global, event: &Event) -> Result<Vec<u8>, AllocError> {
+    let mut text = Vec::new(alloc);
+    put_event(alloc, &mut text, event)?;
     Ok(text)
 }

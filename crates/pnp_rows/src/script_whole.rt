@@ -70,12 +70,19 @@ fn gives_each(alloc: Global, script: &Script) -> Result<(), Fail> {
     Ok(())
 }
 
+/// The script gives each form, in pieces of this size.
+fn pieces_give_each(alloc: Global, size: usize) -> Result<(), Fail> {
+    let script = read_pieces(alloc, SCRIPT, size)?;
+    gives_each(alloc, &script)
+}
+
 /// The script gives each form, in one piece and in pieces of any size.
 #[test]
 fn each_form(rt: HostRuntime) -> Result<(), Fail> {
     let script = read_events(rt.alloc(), SCRIPT)?;
     gives_each(rt.alloc(), &script)?;
-    gives_each(rt.alloc(), &read_pieces(rt.alloc(), SCRIPT, 1)?)?;
-    gives_each(rt.alloc(), &read_pieces(rt.alloc(), SCRIPT, 7)?)?;
-    gives_each(rt.alloc(), &read_pieces(rt.alloc(), SCRIPT, 4096)?)
+    for size in [1, 7, 4096] {
+        pieces_give_each(rt.alloc(), size)?;
+    }
+    Ok(())
 }

@@ -287,21 +287,39 @@ fn each_call_of_write_fails(rt: HostRuntime) -> Result<(), Fail> {
     Ok(())
 }
 
+/// Of a hundred reads and a hundred writes, each takes one byte.
+fn take_one_byte(files: &mut MemFiles, sink: &mut MemSink) -> Result<(), Fail> {
+    for call in 1..101u64 {
+        files.short_at(call, 1)?;
+        sink.short_at(call, 1)?;
+    }
+    Ok(())
+}
+
+/// The files with which the script `s` is run over no driver, and what is written byte by byte.
+fn in_parts(
+    rt: &impl Abort,
+    alloc: Global,
+    words: &[String],
+    files: &mut MemFiles,
+    want: &[u8],
+) -> Result<(), Fail> {
+    let mut sink = MemSink::new(alloc, 4096)?;
+    take_one_byte(files, &mut sink)?;
+    let status = ended(rt, alloc, words, Vec::new(alloc), files, &mut sink);
+    assert_eq!(rt; status, Status::Done);
+    assert!(rt; sink.taken() == want, "{:?}", sink.taken());
+    Ok(())
+}
+
 /// Reads and writes of one byte at a time, a hundred of each, make the same output.
 #[test]
 fn one_byte_at_a_time(rt: HostRuntime) -> Result<(), Fail> {
     let alloc = rt.alloc();
     let words = words_of(alloc, &["pnpmgr", "s"])?;
-    let mut whole = MemSink::new(alloc, 4096)?;
-    let mut parts = MemSink::new(alloc, 4096)?;
     let mut files = files_of(alloc, &[("s", ONE_DEVICE_SCRIPT.as_bytes())])?;
-    let long = ended(&rt, alloc, &words, Vec::new(alloc), &mut files, &mut whole);
-    for call in 1..101u64 {
-        files.short_at(call, 1)?;
-        parts.short_at(call, 1)?;
-    }
-    let short = ended(&rt, alloc, &words, Vec::new(alloc), &mut files, &mut parts);
-    assert_eq!(rt; (long, short), (Status::Done, Status::Done));
-    assert!(rt; parts.taken() == whole.taken(), "{:?}", parts.taken());
-    Ok(())
+    let mut whole = MemSink::new(alloc, 4096)?;
+    let status = ended(&rt, alloc, &words, Vec::new(alloc), &mut files, &mut whole);
+    assert_eq!(rt; status, Status::Done);
+    in_parts(&rt, alloc, &words, &mut files, whole.taken())
 }

@@ -7,8 +7,7 @@ use std::process::Abort;
 use std::test::Fail;
 
 /// What the words say: the script, the INFs, the trace to check and the budget, or how many devices are generated and the budget.
-fn said(alloc: Global, settings: &Settings) -> Result<Vec<u8>, AllocError> {
-    let mut said = Vec::new(alloc);
+fn put_said(alloc: Global, said: &mut Vec<u8>, settings: &Settings) -> Result<(), AllocError> {
     match &settings.script {
         Some(script) => said.extend_from_slice(script.bytes())?,
         None => said.extend_from_slice(b"none")?,
@@ -26,7 +25,13 @@ fn said(alloc: Global, settings: &Settings) -> Result<Vec<u8>, AllocError> {
         said.extend_from_slice(trace.bytes())?;
     }
     let budget = format!(in alloc; " {}", settings.budget)?;
-    said.extend_from_slice(budget.as_bytes())?;
+    said.extend_from_slice(budget.as_bytes())
+}
+
+/// The same, as a text of its own.
+fn said(alloc: Global, settings: &Settings) -> Result<Vec<u8>, AllocError> {
+    let mut said = Vec::new(alloc);
+    put_said(alloc, &mut said, settings)?;
     Ok(said)
 }
 
@@ -265,34 +270,49 @@ fn comments(alloc: Global) -> Result<Vec<u8>, Fail> {
     Ok(bytes)
 }
 
-/// An INF of 16,777,217 bytes; a script of 16,777,216, and one of a byte more.
+/// With a script or an INF of these bytes, which are one too many, the run does not begin; a bad INF before that is told.
+fn are_too_many(
+    rt: &impl Abort,
+    alloc: Global,
+    files: &mut MemFiles,
+    bytes: &[u8],
+) -> Result<(), Fail> {
+    files.add(b"s", bytes)?;
+    answers(rt, alloc, files, Status::TooLarge, "")?;
+    files.add(b"2", bytes)?;
+    answers(rt, alloc, files, Status::TooLarge, "")?;
+    files.add(b"1", b"")?;
+    let text = "inf 1 error 1 line 0\n";
+    answers(rt, alloc, files, Status::BadInf, text)
+}
+
+/// A script of 16,777,216 bytes; a script and an INF of a byte more.
 #[test]
 fn large_files(rt: HostRuntime) -> Result<(), Fail> {
     let alloc = rt.alloc();
-    let mut bytes = comments(alloc)?;
     let mut files = files_of(alloc, &ALL_THERE)?;
+    let mut bytes = comments(alloc)?;
     files.add(b"s", &bytes)?;
     answers(&rt, alloc, &mut files, Status::Done, BARE_END)?;
     bytes.push(b'#')?;
-    files.add(b"s", &bytes)?;
-    answers(&rt, alloc, &mut files, Status::TooLarge, "")?;
-    files.add(b"2", &bytes)?;
-    answers(&rt, alloc, &mut files, Status::TooLarge, "")?;
-    files.add(b"1", b"")?;
-    let text = "inf 1 error 1 line 0\n";
-    answers(&rt, alloc, &mut files, Status::BadInf, text)
+    are_too_many(&rt, alloc, &mut files, &bytes)
+}
+
+/// The script is one line of so many bytes, without an end.
+fn put_line(alloc: Global, files: &mut MemFiles, length: usize) -> Result<(), Fail> {
+    let line = vec![in alloc; b'#'; length]?;
+    files.add(b"s", &line)?;
+    Ok(())
 }
 
 /// A line is bad at its 4,097th byte, however much follows.
 #[test]
 fn a_line_without_end(rt: HostRuntime) -> Result<(), Fail> {
     let alloc = rt.alloc();
-    let bytes = vec![in alloc; b'#'; 17_000_000]?;
     let mut files = files_of(alloc, &ALL_THERE)?;
-    files.add(b"s", &bytes)?;
+    put_line(alloc, &mut files, 17_000_000)?;
     answers(&rt, alloc, &mut files, Status::BadScript, BAD_FIRST_LINE)?;
-    let line = vec![in alloc; b'#'; 4096]?;
-    files.add(b"s", &line)?;
+    put_line(alloc, &mut files, 4096)?;
     answers(&rt, alloc, &mut files, Status::Done, BARE_END)
 }
 

@@ -59,16 +59,21 @@ fn needs(alloc: Global) -> Result<Reqs, Fail> {
     Ok(reqs)
 }
 
-/// The requirements below the root, which has a window of ports.
-fn clipped(alloc: Global) -> Result<Reqs, Fail> {
-    let tree = Tree::new(alloc)?;
+/// What is left of these requirements below the root.
+fn left_of(alloc: Global, tree: &Tree, bridges: &Bridges, needs: &Reqs) -> Result<Reqs, Fail> {
     if tree.node(0).is_none() {
         return Err(Fail::new("the root"));
     }
+    Ok(clip(alloc, tree, bridges, 0, needs)?)
+}
+
+/// The requirements below the root, which has a window of ports.
+fn clipped(alloc: Global) -> Result<Reqs, Fail> {
     let mut bridges = Bridges::new(alloc);
     bridges.set(0, some_ports()?)?;
-    let clipped = clip(alloc, &tree, &bridges, 0, &needs(alloc)?)?;
-    Ok(clipped)
+    let needs = needs(alloc)?;
+    let tree = Tree::new(alloc)?;
+    left_of(alloc, &tree, &bridges, &needs)
 }
 
 /// The first want of a group has these ends, length and alignment.

@@ -45,15 +45,20 @@ fn handles_stand_in_order_of_serial(rt: HostRuntime) -> Result<(), Fail> {
     must(row_is(&rows, 1, 7, 2), "the row of device 7")
 }
 
+/// Each of the three is closed, and the others are counted.
+fn close_three(handles: &mut Handles) -> Result<(), Fail> {
+    counts_are(handles, 1, 0, 2)?;
+    close(handles, 7)?;
+    counts_are(handles, 1, 0, 1)?;
+    close(handles, 7)?;
+    counts_are(handles, 1, 0, 0)?;
+    close(handles, 3)
+}
+
 #[test]
 fn handles_are_closed_one_by_one(rt: HostRuntime) -> Result<(), Fail> {
     let mut handles = three(rt.alloc())?;
-    counts_are(&handles, 1, 0, 2)?;
-    close(&mut handles, 7)?;
-    counts_are(&handles, 1, 0, 1)?;
-    close(&mut handles, 7)?;
-    counts_are(&handles, 1, 0, 0)?;
-    close(&mut handles, 3)?;
+    close_three(&mut handles)?;
     must(handles.rows(rt.alloc())?.is_empty(), "a row that is left")
 }
 

@@ -26,11 +26,19 @@ fn hold(arbiters: &mut Arbiters, device: u64, res: Res) -> Result<(), Fail> {
     Ok(())
 }
 
-/// Arbiters with room for 200,001 ports, and for one more of each other kind.
-fn roomy(alloc: Global) -> Result<Arbiters, Fail> {
-    let mut arbiters = Arbiters::new(alloc)?;
+/// Room for 200,001 ports, and for one more of each other kind.
+fn make_room(arbiters: &mut Arbiters) -> Result<(), Fail>
+    requires { (of_kind arbiters.old Kind.Port).pairs ≡ [] }
+{
     arbiters.room_of_each(1)?;
     arbiters.room(Kind::Port, 200_001)?;
+    Ok(())
+}
+
+/// Arbiters with that room.
+fn roomy(alloc: Global) -> Result<Arbiters, Fail> {
+    let mut arbiters = Arbiters::new(alloc)?;
+    make_room(&mut arbiters)?;
     Ok(arbiters)
 }
 
@@ -93,10 +101,15 @@ fn holds(arbiters: &Arbiters, at: u64, number: u64) -> bool {
     }
 }
 
+/// The ports come, and one more in a trial.
+fn come(alloc: Global, arbiters: &mut Arbiters) -> Result<(), Fail> {
+    descending(arbiters)?;
+    try_in_front(alloc, arbiters, port(0)?)?;
+    stand_in_order(arbiters)
+}
+
 #[test]
 fn ports_in_descending_order(rt: HostRuntime) -> Result<(), Fail> {
     let mut arbiters = roomy(rt.alloc())?;
-    descending(&mut arbiters)?;
-    try_in_front(rt.alloc(), &mut arbiters, port(0)?)?;
-    stand_in_order(&arbiters)
+    come(rt.alloc(), &mut arbiters)
 }

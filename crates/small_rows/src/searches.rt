@@ -23,22 +23,32 @@ fn reqs(alloc: Global, ranges: &[(u64, u64)]) -> Result<Reqs, Fail> {
     Ok(reqs)
 }
 
+/// The answer for movers with these requirements.
+fn answered_in(
+    alloc: Global,
+    arbiters: &mut Arbiters,
+    all: &[Reqs],
+    budget: u64,
+) -> Result<Found, Fail> {
+    let mut movers = Vec::new(alloc);
+    for reqs in all {
+        let serial = movers.len() as u64;
+        movers.push(Mover { serial, reqs })?;
+    }
+    if budget > 1_000_000 {
+        return Err(Fail::new("the budget"));
+    }
+    Ok(answer(alloc, arbiters, &movers, budget)?)
+}
+
 /// The answer for movers of these needs, where nothing is held.
 fn answered(alloc: Global, needs: &[&[(u64, u64)]], budget: u64) -> Result<Found, Fail> {
     let mut all = Vec::new(alloc);
     for ranges in needs {
         all.push(reqs(alloc, ranges)?)?;
     }
-    let mut movers = Vec::new(alloc);
-    for reqs in &all {
-        let serial = movers.len() as u64;
-        movers.push(Mover { serial, reqs })?;
-    }
     let mut arbiters = Arbiters::new(alloc)?;
-    if budget > 1_000_000 {
-        return Err(Fail::new("the budget"));
-    }
-    Ok(answer(alloc, &mut arbiters, &movers, budget)?)
+    answered_in(alloc, &mut arbiters, &all, budget)
 }
 
 /// The first numbers of a plan, mover by mover.
