@@ -232,6 +232,18 @@ fn is_function_driver(flags: &[u8]) -> bool {
     number <= 0xFFFF_FFFF && number % 4 >= 2
 }
 
+/// Appends that a service is no function driver.
+fn push_no_driver(
+    alloc: Global,
+    out: &mut Vec<u8>,
+    file: &[u8],
+    entry: &Entry,
+) -> Result<(), AllocError> {
+    push_head(alloc, out, file, entry.line)?;
+    push_quoted(alloc, out, value(entry, 0))?;
+    out.extend_from_slice(b"is no function driver: its flags have not the bit 2\n")
+}
+
 /// Appends the services of a section that are no function drivers, where none is one.
 fn push_flags(
     alloc: Global,
@@ -248,11 +260,7 @@ fn push_flags(
                     if is_function_driver(&replaced(alloc, sections, value(entry, 1))?) {
                         return Ok(());
                     }
-                    push_head(alloc, &mut lines, file, entry.line)?;
-                    push_quoted(alloc, &mut lines, value(entry, 0))?;
-                    lines.extend_from_slice(
-                        b"is no function driver: its flags have not the bit 2\n",
-                    )?;
+                    push_no_driver(alloc, &mut lines, file, entry)?;
                 }
             }
         }
@@ -292,6 +300,33 @@ fn push_filters(
     Ok(())
 }
 
+/// Appends what the section of services lacks, or that it is not there.
+fn push_services(
+    alloc: Global,
+    out: &mut Vec<u8>,
+    file: &[u8],
+    sections: &[Section],
+    line: u32,
+    name: &[u8],
+    taken: &[u8],
+) -> Result<(), AllocError> {
+    let services = joined(alloc, taken, b"Services")?;
+    if has_section(sections, &services) {
+        return push_flags(alloc, out, file, sections, &services);
+    }
+    if !has_section(sections, taken) {
+        push_absent(alloc, out, file, line, name, b", which this line installs")?;
+    }
+    push_absent(
+        alloc,
+        out,
+        file,
+        line,
+        &services,
+        b", which gives the driver",
+    )
+}
+
 /// Appends what the install section of a models line lacks. A section that would be empty need not be there.
 fn push_install(
     alloc: Global,
@@ -302,22 +337,7 @@ fn push_install(
     name: &[u8],
 ) -> Result<(), AllocError> {
     let taken = install_name(alloc, sections, name)?;
-    let services = joined(alloc, &taken, b"Services")?;
-    if has_section(sections, &services) {
-        push_flags(alloc, out, file, sections, &services)?;
-    } else {
-        if !has_section(sections, &taken) {
-            push_absent(alloc, out, file, line, name, b", which this line installs")?;
-        }
-        push_absent(
-            alloc,
-            out,
-            file,
-            line,
-            &services,
-            b", which gives the driver",
-        )?;
-    }
+    push_services(alloc, out, file, sections, line, name, &taken)?;
     push_filters(alloc, out, file, sections, &joined(alloc, &taken, b"HW")?)
 }
 
@@ -357,22 +377,45 @@ fn push_models(
     Ok(())
 }
 
+/// Appends the warnings of what an entry of a maker names.
+fn push_maker(
+    alloc: Global,
+    out: &mut Vec<u8>,
+    file: &[u8],
+    sections: &[Section],
+    entry: &Entry,
+    passed: &mut Vec<Vec<u8>>,
+) -> Result<(), AllocError> {
+    let models = models_name(alloc, sections, entry)?;
+    if has_section(sections, &models) {
+        push_models(alloc, out, file, sections, &models, passed)
+    } else {
+        push_unread(alloc, out, file, sections, entry, &models)
+    }
+}
+
+/// Appends the warnings of an INF with these sections.
+fn push_makers(
+    alloc: Global,
+    out: &mut Vec<u8>,
+    file: &[u8],
+    sections: &[Section],
+) -> Result<(), AllocError> {
+    let mut passed = Vec::new(alloc);
+    for section in sections {
+        if section.name.eq_ignore_ascii_case(b"Manufacturer") {
+            for entry in &section.entries {
+                push_maker(alloc, out, file, sections, entry, &mut passed)?;
+            }
+        }
+    }
+    Ok(())
+}
+
 /// The warnings of an INF that is read, by its sections.
 pub fn notes_of(alloc: Global, file: &[u8], bytes: &[u8]) -> Result<Vec<u8>, AllocError> {
     let sections = sections_of(alloc, bytes)?;
     let mut out = Vec::new(alloc);
-    let mut passed = Vec::new(alloc);
-    for section in &sections {
-        if section.name.eq_ignore_ascii_case(b"Manufacturer") {
-            for entry in &section.entries {
-                let models = models_name(alloc, &sections, entry)?;
-                if has_section(&sections, &models) {
-                    push_models(alloc, &mut out, file, &sections, &models, &mut passed)?;
-                } else {
-                    push_unread(alloc, &mut out, file, &sections, entry, &models)?;
-                }
-            }
-        }
-    }
+    push_makers(alloc, &mut out, file, &sections)?;
     Ok(out)
 }

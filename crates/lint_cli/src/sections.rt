@@ -169,22 +169,45 @@ fn header_name(text: &[u8]) -> &[u8] {
     trimmed(behind)
 }
 
+/// A section of that name, with no entry.
+fn begun(alloc: Global, name: &[u8]) -> Result<Section, AllocError> {
+    let name = Vec::from_slice(alloc, name)?;
+    let entries = Vec::new(alloc);
+    Ok(Section { name, entries })
+}
+
+/// A line begins a section, or is an entry of the last one.
+fn push_line(
+    alloc: Global,
+    all: &mut Vec<Section>,
+    line: u32,
+    text: &[u8],
+) -> Result<(), AllocError> {
+    if text.starts_with(b"[") {
+        all.push(begun(alloc, header_name(text))?)?;
+        return Ok(());
+    }
+    if let Some(last) = all.last_mut() {
+        if !text.is_empty() {
+            last.entries.push(entry_of(alloc, line, text)?)?;
+        }
+    }
+    Ok(())
+}
+
+/// The sections of lines in order, of which the first stands before any header.
+fn sections_in(alloc: Global, lines: &[Whole]) -> Result<Vec<Section>, AllocError> {
+    let mut all = Vec::new(alloc);
+    all.push(begun(alloc, b"")?)?;
+    for whole in lines {
+        push_line(alloc, &mut all, whole.line, &whole.text)?;
+    }
+    Ok(all)
+}
+
 /// The sections of an INF in order, of which the first stands before any header.
 pub fn sections_of(alloc: Global, bytes: &[u8]) -> Result<Vec<Section>, AllocError> {
     let text = plain_text(alloc, bytes)?;
     let plain = text.strip_prefix(&[0xEF, 0xBB, 0xBF]).unwrap_or(&text);
-    let mut all = Vec::new(alloc);
-    let mut name = Vec::new(alloc);
-    let mut entries = Vec::new(alloc);
-    for whole in &whole_lines(alloc, plain)? {
-        if whole.text.starts_with(b"[") {
-            all.push(Section { name, entries })?;
-            name = Vec::from_slice(alloc, header_name(&whole.text))?;
-            entries = Vec::new(alloc);
-        } else if !whole.text.is_empty() {
-            entries.push(entry_of(alloc, whole.line, &whole.text)?)?;
-        }
-    }
-    all.push(Section { name, entries })?;
-    Ok(all)
+    sections_in(alloc, &whole_lines(alloc, plain)?)
 }

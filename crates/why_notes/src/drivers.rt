@@ -78,6 +78,34 @@ fn add_names(text: &mut Vec<u8>, names: &TextList) -> Result<(), WantOfMemory> {
     Ok(())
 }
 
+/// What the line that was taken scores, and which drivers it names beside the service.
+fn tell_score(
+    alloc: Global,
+    found: &Match,
+    line: &ModelLine,
+    lines: &mut Lines,
+) -> Result<(), WantOfMemory> {
+    lines.add(b"The score of the line is ")?;
+    lines.add_number(alloc, line.score as u64)?;
+    let rank = rank_text(alloc, found.rank)?;
+    lines.say_three(
+        alloc,
+        b", and with it the rank ",
+        &rank,
+        b"; less is better.",
+    )?;
+    if line.lower.len() == 0 && line.upper.len() == 0 {
+        return Ok(());
+    }
+    let stack = stack_text(alloc, line)?;
+    lines.say_three(
+        alloc,
+        b"Its drivers from the bottom to the top: ",
+        &stack,
+        b".",
+    )
+}
+
 /// The line that was taken.
 fn tell_taken(
     alloc: Global,
@@ -92,21 +120,8 @@ fn tell_taken(
     add_place(alloc, facts, found, lines)?;
     lines.add(b": ")?;
     add_ids(alloc, found, line, lines)?;
-    lines.add(b".")?;
-    lines.end(alloc)?;
-    lines.add(b"The score of the line is ")?;
-    lines.add_number(alloc, line.score as u64)?;
-    lines.add(b", and with it the rank ")?;
-    lines.add(&rank_text(alloc, found.rank)?)?;
-    lines.add(b"; less is better.")?;
-    lines.end(alloc)?;
-    if line.lower.len() > 0 || line.upper.len() > 0 {
-        lines.add(b"Its drivers from the bottom to the top: ")?;
-        lines.add(&stack_text(alloc, line)?)?;
-        lines.add(b".")?;
-        lines.end(alloc)?;
-    }
-    Ok(())
+    lines.say(alloc, b".")?;
+    tell_score(alloc, found, line, lines)
 }
 
 /// A line that was passed over.
@@ -121,12 +136,9 @@ fn tell_passed(
     };
     lines.add(b"Passed over: ")?;
     add_place(alloc, facts, found, lines)?;
-    lines.add(b", rank ")?;
-    lines.add(&rank_text(alloc, found.rank)?)?;
-    lines.add(b": ")?;
+    lines.add_three(b", rank ", &rank_text(alloc, found.rank)?, b": ")?;
     add_ids(alloc, found, line, lines)?;
-    lines.add(b".")?;
-    lines.end(alloc)
+    lines.say(alloc, b".")
 }
 
 /// The lines behind the one that was taken, in their order.
@@ -151,8 +163,7 @@ fn tell_others(
     }
     lines.add(b"Passed over: ")?;
     lines.add_number(alloc, left as u64)?;
-    lines.add(b" more.")?;
-    lines.end(alloc)
+    lines.say(alloc, b" more.")
 }
 
 /// At `install`: by which line, ID and rank, and which other lines match.
@@ -176,30 +187,33 @@ pub fn on_install(
 
 /// The IDs of a device.
 fn tell_ids(alloc: Global, node: &Node, lines: &mut Lines) -> Result<(), WantOfMemory> {
-    lines.add(b"Its hardware IDs: ")?;
-    lines.add(&ids_text(alloc, &node.hw)?)?;
-    lines.add(b".")?;
-    lines.end(alloc)?;
-    lines.add(b"Its compatible IDs: ")?;
-    lines.add(&ids_text(alloc, &node.compat)?)?;
-    lines.add(b".")?;
-    lines.end(alloc)
+    lines.say_three(
+        alloc,
+        b"Its hardware IDs: ",
+        &ids_text(alloc, &node.hw)?,
+        b".",
+    )?;
+    lines.say_three(
+        alloc,
+        b"Its compatible IDs: ",
+        &ids_text(alloc, &node.compat)?,
+        b".",
+    )
 }
 
 /// The INFs that have no models line.
 fn tell_empty_infs(alloc: Global, facts: &Facts, lines: &mut Lines) -> Result<(), WantOfMemory> {
     if facts.infs.is_empty() {
-        lines.add(b"No INF was given.")?;
-        return lines.end(alloc);
+        return lines.say(alloc, b"No INF was given.");
     }
     for at in 0..facts.infs.len() {
         if facts.infs[at].lines.len() == 0 {
             let name = inf_text(alloc, &facts.inf_names, at as u64)?;
-            lines.add(&name)?;
-            lines.add(
+            lines.say_two(
+                alloc,
+                &name,
                 b" has no models line: the section that [Manufacturer] names for this system is not there, or is empty.",
             )?;
-            lines.end(alloc)?;
         }
     }
     Ok(())
@@ -219,13 +233,12 @@ fn tell_no_service(
     add_place(alloc, facts, found, lines)?;
     lines.add(b": ")?;
     add_ids(alloc, found, line, lines)?;
-    lines.add(b".")?;
-    lines.end(alloc)?;
+    lines.say(alloc, b".")?;
     if line.service.is_none() {
-        lines.add(
+        return lines.say(
+            alloc,
             b"But it names no driver: the section of its name with .Services at the end is not there, or has no AddService whose flags have the bit 2 and whose name is not empty. bin/pnplint tells which.",
-        )?;
-        return lines.end(alloc);
+        );
     }
     let count = line
         .lower
@@ -235,8 +248,7 @@ fn tell_no_service(
     if count > MOST_DRIVERS {
         lines.add(b"But it names ")?;
         lines.add_number(alloc, count)?;
-        lines.add(b" drivers, and a device has at most 16.")?;
-        return lines.end(alloc);
+        return lines.say(alloc, b" drivers, and a device has at most 16.");
     }
     Ok(())
 }
@@ -254,8 +266,10 @@ pub fn on_no_driver(
     };
     let all = matches(alloc, &facts.infs, node)?;
     let Some(best) = best_after(&all, None) else {
-        lines.add(b"No line of any INF has one of the IDs of the device.")?;
-        lines.end(alloc)?;
+        lines.say(
+            alloc,
+            b"No line of any INF has one of the IDs of the device.",
+        )?;
         tell_ids(alloc, node, lines)?;
         return tell_empty_infs(alloc, facts, lines);
     };
@@ -284,14 +298,13 @@ fn tell_missing(
     if is_named(facts, name) {
         return Ok(());
     }
-    lines.add(b"No driver has the name ")?;
-    lines.add(name.bytes())?;
-    lines.add(b", which the INF gives as ")?;
-    lines.add(what)?;
-    lines.add(b". A line `driver ")?;
-    lines.add(name.bytes())?;
-    lines.add(b" KIND` before the device names one.")?;
-    lines.end(alloc)
+    lines.add_three(
+        b"No driver has the name ",
+        name.bytes(),
+        b", which the INF gives as ",
+    )?;
+    lines.add_three(what, b". A line `driver ", name.bytes())?;
+    lines.say(alloc, b" KIND` before the device names one.")
 }
 
 fn tell_all_missing(
@@ -311,8 +324,7 @@ fn tell_all_missing(
 fn tell_names(alloc: Global, facts: &Facts, lines: &mut Lines) -> Result<(), WantOfMemory> {
     let count = facts.drivers.len();
     if count == 0 {
-        lines.add(b"No driver has a name yet.")?;
-        return lines.end(alloc);
+        return lines.say(alloc, b"No driver has a name yet.");
     }
     lines.add(b"Names that drivers have: ")?;
     for at in 0..count.min(MOST_NAMES) {
@@ -326,8 +338,7 @@ fn tell_names(alloc: Global, facts: &Facts, lines: &mut Lines) -> Result<(), Wan
         lines.add_number(alloc, count - MOST_NAMES)?;
         lines.add(b" more")?;
     }
-    lines.add(b".")?;
-    lines.end(alloc)
+    lines.say(alloc, b".")
 }
 
 /// At `problem P 39`: the names that no driver has.
@@ -350,8 +361,7 @@ pub fn on_not_loaded(
     };
     lines.add(b"The best line is ")?;
     add_place(alloc, facts, &best, lines)?;
-    lines.add(b".")?;
-    lines.end(alloc)?;
+    lines.say(alloc, b".")?;
     tell_all_missing(alloc, facts, b"a lower filter", &line.lower, lines)?;
     if let Some(service) = &line.service {
         tell_missing(alloc, facts, b"the service", service, lines)?;

@@ -36,13 +36,8 @@ fn tell_moved(
     if old.as_slice() == new.as_slice() {
         return Ok(());
     }
-    lines.add(node.path.bytes())?;
-    lines.add(b" has now ")?;
-    lines.add(&new)?;
-    lines.add(b"; before: ")?;
-    lines.add(&old)?;
-    lines.add(b".")?;
-    lines.end(alloc)
+    lines.add_three(node.path.bytes(), b" has now ", &new)?;
+    lines.say_three(alloc, b"; before: ", &old, b".")
 }
 
 /// At `commit`: the new holdings of those that moved.

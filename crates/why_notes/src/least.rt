@@ -81,6 +81,33 @@ fn holders(
     Ok(found)
 }
 
+/// Puts what those hold that are not thought away.
+fn put_others(tree: &Tree, holders: &[Holder], board: &mut Arbiters) -> Result<(), WantOfMemory> {
+    for holder in holders {
+        if !holder.away {
+            if let Some(node) = tree.node(holder.serial) {
+                put_all(board, Owner::Device(holder.serial), &node.holds)?;
+            }
+        }
+    }
+    Ok(())
+}
+
+/// The same as `fits_beside`, on arbiters that hold nothing.
+fn fits_on(
+    alloc: Global,
+    facts: &Facts,
+    tree: &Tree,
+    serial: u64,
+    reqs: &Reqs,
+    holders: &[Holder],
+    board: &mut Arbiters,
+) -> Result<Option<bool>, WantOfMemory> {
+    put_all(board, Owner::Reserved, &facts.reserved)?;
+    put_others(tree, holders, board)?;
+    fits(alloc, board, serial, reqs, facts.budget)
+}
+
 /// Whether the device would get what it needs beside what is reserved and those that are not thought away.
 fn fits_beside(
     alloc: Global,
@@ -91,15 +118,7 @@ fn fits_beside(
     holders: &[Holder],
 ) -> Result<Option<bool>, WantOfMemory> {
     let mut board = Arbiters::new(alloc)?;
-    put_all(&mut board, Owner::Reserved, &facts.reserved)?;
-    for holder in holders {
-        if !holder.away {
-            if let Some(node) = tree.node(holder.serial) {
-                put_all(&mut board, Owner::Device(holder.serial), &node.holds)?;
-            }
-        }
-    }
-    fits(alloc, &mut board, serial, reqs, facts.budget)
+    fits_on(alloc, facts, tree, serial, reqs, holders, &mut board)
 }
 
 fn set_away(holders: &mut Vec<Holder>, at: usize, away: bool) {
@@ -142,6 +161,28 @@ fn away_text(alloc: Global, tree: &Tree, holders: &[Holder]) -> Result<Vec<u8>, 
     Ok(text)
 }
 
+/// Those that are thought away, without which it would fit.
+fn tell_away(
+    alloc: Global,
+    tree: &Tree,
+    holders: &[Holder],
+    lines: &mut Lines,
+) -> Result<(), WantOfMemory> {
+    let away = away_text(alloc, tree, holders)?;
+    if away.is_empty() {
+        return lines.say(
+            alloc,
+            b"But for the windows above it it would fit beside what is held now.",
+        );
+    }
+    lines.say_three(
+        alloc,
+        b"It would fit beside all the others if these held nothing, and not if one of them stayed: ",
+        &away,
+        b".",
+    )
+}
+
 /// At `nofit` and at `problem P 12`: without which holders it would fit.
 pub fn tell_least(
     alloc: Global,
@@ -155,27 +196,16 @@ pub fn tell_least(
     match fits_beside(alloc, facts, tree, node.serial, reqs, &holders)? {
         Some(true) => {}
         Some(false) => {
-            lines.add(
+            return lines.say(
+                alloc,
                 b"It would not fit even if no other device held anything: what it needs is reserved, or clashes with itself, or has no place inside the windows above it.",
-            )?;
-            return lines.end(alloc);
+            );
         }
         None => return Ok(()),
     }
     if holders.len() > MOST {
-        lines.add(b"More than 64 devices hold some of these places.")?;
-        return lines.end(alloc);
+        return lines.say(alloc, b"More than 64 devices hold some of these places.");
     }
     lessen(alloc, facts, tree, node.serial, reqs, &mut holders)?;
-    let away = away_text(alloc, tree, &holders)?;
-    if away.is_empty() {
-        lines.add(b"But for the windows above it it would fit beside what is held now.")?;
-        return lines.end(alloc);
-    }
-    lines.add(
-        b"It would fit beside all the others if these held nothing, and not if one of them stayed: ",
-    )?;
-    lines.add(&away)?;
-    lines.add(b".")?;
-    lines.end(alloc)
+    tell_away(alloc, tree, &holders, lines)
 }

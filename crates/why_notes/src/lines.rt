@@ -23,6 +23,18 @@ impl Lines {
         self.open.extend_from_slice(part)
     }
 
+    /// The line that is being written goes on with these two.
+    pub fn add_two(&mut self, one: &[u8], two: &[u8]) -> Result<(), WantOfMemory> {
+        self.add(one)?;
+        self.add(two)
+    }
+
+    /// The line that is being written goes on with these three.
+    pub fn add_three(&mut self, one: &[u8], two: &[u8], three: &[u8]) -> Result<(), WantOfMemory> {
+        self.add_two(one, two)?;
+        self.add(three)
+    }
+
     /// The line that is being written goes on with a number.
     pub fn add_number(&mut self, alloc: Global, n: u64) -> Result<(), WantOfMemory> {
         self.open.extend_from_slice(&number(alloc, n)?)
@@ -39,6 +51,24 @@ impl Lines {
     /// One more line.
     pub fn say(&mut self, alloc: Global, line: &[u8]) -> Result<(), WantOfMemory> {
         self.add(line)?;
+        self.end(alloc)
+    }
+
+    /// The line that is being written goes on with these two, and is over.
+    pub fn say_two(&mut self, alloc: Global, one: &[u8], two: &[u8]) -> Result<(), WantOfMemory> {
+        self.add_two(one, two)?;
+        self.end(alloc)
+    }
+
+    /// The line that is being written goes on with these three, and is over.
+    pub fn say_three(
+        &mut self,
+        alloc: Global,
+        one: &[u8],
+        two: &[u8],
+        three: &[u8],
+    ) -> Result<(), WantOfMemory> {
+        self.add_three(one, two, three)?;
         self.end(alloc)
     }
 

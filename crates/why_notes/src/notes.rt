@@ -108,8 +108,10 @@ fn on_problem(
 fn on_spent(alloc: Global, facts: &Facts, lines: &mut Lines) -> Result<(), WantOfMemory> {
     lines.add(b"The search was not over after ")?;
     lines.add_number(alloc, facts.budget)?;
-    lines.add(b" places, and was allowed no more; --budget says how many, up to 1000000.")?;
-    lines.end(alloc)
+    lines.say(
+        alloc,
+        b" places, and was allowed no more; --budget says how many, up to 1000000.",
+    )
 }
 
 /// At the end of an operation: who refused.
@@ -147,6 +149,26 @@ fn keep(alloc: Global, facts: &mut Facts, tree: &Tree, label: &Label) -> Result<
     Ok(())
 }
 
+/// The lines of the note on a label.
+fn tell_label(
+    alloc: Global,
+    facts: &mut Facts,
+    tree: &Tree,
+    label: &Label,
+    lines: &mut Lines,
+) -> Result<(), WantOfMemory> {
+    match label {
+        Label::Install { path, .. } => on_install(alloc, facts, tree, path, lines),
+        Label::Trouble { path, problem } => on_problem(alloc, facts, tree, path, *problem, lines),
+        Label::NoFit { path } => on_no_fit(alloc, facts, tree, path, lines),
+        Label::Spent { .. } => on_spent(alloc, facts, lines),
+        Label::Commit { .. } => on_commit(alloc, facts, tree, lines),
+        Label::Handles { path } => on_handles(alloc, tree, path, lines),
+        Label::End { result, .. } => on_end(alloc, facts, result, lines),
+        _ => Ok(()),
+    }
+}
+
 /// The note on a label, by the tree as it is beside it, and by what is known: which models line and which rank gave a driver, or why
 /// none did; what holds the places that a device needs, and the least set of holders without which it would fit; what moved; which
 /// driver refused what. Cost: that of what is looked up, and of the searches.
@@ -157,18 +179,7 @@ pub fn notes_on(
     label: &Label,
 ) -> Result<Lines, WantOfMemory> {
     let mut lines = Lines::new(alloc);
-    match label {
-        Label::Install { path, .. } => on_install(alloc, facts, tree, path, &mut lines)?,
-        Label::Trouble { path, problem } => {
-            on_problem(alloc, facts, tree, path, *problem, &mut lines)?;
-        }
-        Label::NoFit { path } => on_no_fit(alloc, facts, tree, path, &mut lines)?,
-        Label::Spent { .. } => on_spent(alloc, facts, &mut lines)?,
-        Label::Commit { .. } => on_commit(alloc, facts, tree, &mut lines)?,
-        Label::Handles { path } => on_handles(alloc, tree, path, &mut lines)?,
-        Label::End { result, .. } => on_end(alloc, facts, result, &mut lines)?,
-        _ => {}
-    }
+    tell_label(alloc, facts, tree, label, &mut lines)?;
     keep(alloc, facts, tree, label)?;
     Ok(lines)
 }

@@ -49,21 +49,16 @@ pub fn on_veto(
 ) -> Result<(), WantOfMemory> {
     match last_of(facts, path) {
         Some(asked) => {
-            lines.add(b"The driver ")?;
-            lines.add(asked.driver.bytes())?;
-            lines.add(b" of ")?;
-            lines.add(path.bytes())?;
-            lines.add(b" failed ")?;
-            lines.add(minor_text(asked.minor))?;
-            lines.add(b". All is as before.")?;
-            lines.end(alloc)
+            lines.add_three(b"The driver ", asked.driver.bytes(), b" of ")?;
+            lines.add_three(path.bytes(), b" failed ", minor_text(asked.minor))?;
+            lines.say(alloc, b". All is as before.")
         },
         None => {
-            lines.add(path.bytes())?;
-            lines.add(
+            lines.say_two(
+                alloc,
+                path.bytes(),
                 b" refused without being asked: see the line `handles` above. All is as before.",
-            )?;
-            lines.end(alloc)
+            )
         },
     }
 }
@@ -79,12 +74,8 @@ pub fn on_failed_start(
         return Ok(());
     };
     let minor = minor_text(asked.minor);
-    lines.add(b"The driver ")?;
-    lines.add(asked.driver.bytes())?;
-    lines.add(b" failed ")?;
-    lines.add(minor)?;
-    lines.add(b".")?;
-    lines.end(alloc)
+    lines.add_three(b"The driver ", asked.driver.bytes(), b" failed ")?;
+    lines.say_two(alloc, minor, b".")
 }
 
 /// Whether a driver would not stop since the operation began.
@@ -112,11 +103,12 @@ pub fn tell_agreed(alloc: Global, facts: &Facts, lines: &mut Lines) -> Result<()
 pub fn tell_stayers(alloc: Global, facts: &Facts, lines: &mut Lines) -> Result<(), WantOfMemory> {
     for asked in &facts.refused {
         if asked.minor == Minor::QueryStop {
-            lines.add(asked.path.bytes())?;
-            lines.add(b" stays as it is: its driver ")?;
-            lines.add(asked.driver.bytes())?;
-            lines.add(b" failed QUERY_STOP_DEVICE.")?;
-            lines.end(alloc)?;
+            lines.add_three(
+                asked.path.bytes(),
+                b" stays as it is: its driver ",
+                asked.driver.bytes(),
+            )?;
+            lines.say(alloc, b" failed QUERY_STOP_DEVICE.")?;
         }
     }
     Ok(())
@@ -133,16 +125,12 @@ pub fn on_handles(
         return Ok(());
     };
     if node.state == DevState::SurpriseRemoved {
-        lines.add(path.bytes())?;
-        lines.add(
+        return lines.say_two(
+            alloc,
+            path.bytes(),
             b" has gone and waits until its last handle is closed, or until what depends on it is finished.",
-        )?;
-        return lines.end(alloc);
+        );
     }
-    lines.add(b"A handle to ")?;
-    lines.add(path.bytes())?;
-    lines.add(b" is open. A line `close ")?;
-    lines.add(path.bytes())?;
-    lines.add(b"` closes one.")?;
-    lines.end(alloc)
+    lines.add_three(b"A handle to ", path.bytes(), b" is open. A line `close ")?;
+    lines.say_two(alloc, path.bytes(), b"` closes one.")
 }

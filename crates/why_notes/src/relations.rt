@@ -1,5 +1,5 @@
 //! Notes on devices that lost their drivers with another one.
-use crate::facts::Facts;
+use crate::facts::{Facts, Relation};
 use crate::lines::Lines;
 use crate::texts::node_of;
 use device_ids::{Text, WantOfMemory};
@@ -15,6 +15,25 @@ fn works(alloc: Global, tree: &Tree, path: &Text) -> Result<bool, WantOfMemory> 
     }
 }
 
+/// A relation by which a device lost its drivers, and the line that made it.
+fn tell_relation(
+    alloc: Global,
+    relation: &Relation,
+    lines: &mut Lines,
+) -> Result<(), WantOfMemory> {
+    let kind: &[u8] = match relation.kind {
+        RelKind::Removal => b"removal",
+        RelKind::Ejection => b"ejection",
+    };
+    lines.add_three(
+        b"It lost its drivers with ",
+        relation.owner.bytes(),
+        b", by the line `relate ",
+    )?;
+    lines.add_three(kind, b" ", relation.owner.bytes())?;
+    lines.say_three(alloc, b" ", relation.member.bytes(), b"`.")
+}
+
 /// At `problem P 47` and `problem P held`: the relations by which the device lost its drivers.
 pub fn on_held(
     alloc: Global,
@@ -26,28 +45,15 @@ pub fn on_held(
     let mut told = false;
     for relation in &facts.relations {
         if relation.member.same(path) && !works(alloc, tree, &relation.owner)? {
-            let kind: &[u8] = match relation.kind {
-                RelKind::Removal => b"removal",
-                RelKind::Ejection => b"ejection",
-            };
-            lines.add(b"It lost its drivers with ")?;
-            lines.add(relation.owner.bytes())?;
-            lines.add(b", by the line `relate ")?;
-            lines.add(kind)?;
-            lines.add(b" ")?;
-            lines.add(relation.owner.bytes())?;
-            lines.add(b" ")?;
-            lines.add(relation.member.bytes())?;
-            lines.add(b"`.")?;
-            lines.end(alloc)?;
+            tell_relation(alloc, relation, lines)?;
             told = true;
         }
     }
     if !told {
-        lines.add(
+        lines.say(
+            alloc,
             b"It had gone and kept its drivers while a handle was open; now they were removed.",
         )?;
-        lines.end(alloc)?;
     }
     Ok(())
 }

@@ -120,8 +120,7 @@ fn tell_want(
         return lines.end(alloc);
     };
     let holders = holders_of(alloc, facts, tree, serial, &range)?;
-    lines.add(b": ")?;
-    lines.add(&holders.text)?;
+    lines.add_two(b": ", &holders.text)?;
     if holders.count == 0 {
         lines.add(b"nobody holds any of it")?;
     }
@@ -130,8 +129,7 @@ fn tell_want(
         lines.add_number(alloc, holders.count.saturating_sub(MOST_HOLDERS))?;
         lines.add(b" more")?;
     }
-    lines.add(b".")?;
-    lines.end(alloc)
+    lines.say(alloc, b".")
 }
 
 /// Tells who holds some of what a list may come from, group by group.
