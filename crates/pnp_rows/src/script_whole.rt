@@ -1,4 +1,6 @@
 //! A whole script with every form, in one piece and in pieces of any size.
+ghost use Rattle.std.specs.Prelude.{◌<◌};
+
 use crate::compared::{must, same};
 use crate::script_shown::shown;
 use script_reader::{Script, ScriptEnd, read_events, read_pieces};
@@ -71,7 +73,9 @@ fn gives_each(alloc: Global, script: &Script) -> Result<(), Fail> {
 }
 
 /// The script gives each form, in pieces of this size.
-fn pieces_give_each(alloc: Global, size: usize) -> Result<(), Fail> {
+fn pieces_give_each(alloc: Global, size: usize) -> Result<(), Fail>
+    requires { 0 < size }
+{
     let script = read_pieces(alloc, SCRIPT, size)?;
     gives_each(alloc, &script)
 }
@@ -81,8 +85,7 @@ fn pieces_give_each(alloc: Global, size: usize) -> Result<(), Fail> {
 fn each_form(rt: HostRuntime) -> Result<(), Fail> {
     let script = read_events(rt.alloc(), SCRIPT)?;
     gives_each(rt.alloc(), &script)?;
-    for size in [1, 7, 4096] {
-        pieces_give_each(rt.alloc(), size)?;
-    }
-    Ok(())
+    pieces_give_each(rt.alloc(), 1)?;
+    pieces_give_each(rt.alloc(), 7)?;
+    pieces_give_each(rt.alloc(), 4096)
 }

@@ -6,8 +6,9 @@ use view_page::{Attribute, Empty, Page, Tag};
 const PAGE: &[u8] =
     b"<!DOCTYPE html>\n<html lang=\"en\">\n<body><p class=\"a&quot;b\" id=\"x\">a &lt; b</p><br/><path data-mark=\"one &amp; two\" d=\"M0 0\"/></body></html>\n";
 
-/// What stands on the page.
-fn write(page: &mut Page) -> Result<(), Fail> {
+#[test]
+fn a_page_is_written(rt: HostRuntime) -> Result<(), Fail> {
+    let mut page = Page::new(rt.alloc())?;
     page.open(Tag::Body, &[])?;
     page.element(
         Tag::P,
@@ -17,12 +18,5 @@ fn write(page: &mut Page) -> Result<(), Fail> {
     page.empty(Empty::Br, &[])?;
     page.arrow(b"one & two", &[(Attribute::D, b"M0 0")])?;
     page.close()?;
-    Ok(())
-}
-
-#[test]
-fn a_page_is_written(rt: HostRuntime) -> Result<(), Fail> {
-    let mut page = Page::new(rt.alloc())?;
-    write(&mut page)?;
     same(&page.finish()?, PAGE)
 }

@@ -11,17 +11,6 @@ fn is_at(place: Option<u64>, number: u64) -> bool {
     }
 }
 
-/// The places that are found, each from a number on.
-fn places_beside(arbiter: &RangeArbiter, wide: &Want, tight: &Want) -> Result<(), Fail> {
-    must(is_at(arbiter.next_place(wide, 0), 0), "from 0 on")?;
-    must(is_at(arbiter.next_place(wide, 1), 0x20), "from 1 on")?;
-    must(arbiter.next_place(wide, 0x21).is_none(), "from 0x21 on")?;
-    must(
-        is_at(arbiter.next_place(tight, 0), 0x20),
-        "of the tight range",
-    )
-}
-
 /// Places for sixteen ports, aligned, beside 0x10 to 0x1f: in a range from 0 on, and in one that begins occupied.
 #[test]
 fn the_least_place(rt: HostRuntime) -> Result<(), Fail> {
@@ -33,5 +22,11 @@ fn the_least_place(rt: HostRuntime) -> Result<(), Fail> {
     let mut arbiter = RangeArbiter::new(rt.alloc(), Kind::Port)?;
     arbiter.room(1)?;
     arbiter.put(Owner::Device(3), held);
-    places_beside(&arbiter, &wide, &tight)
+    must(is_at(arbiter.next_place(&wide, 0), 0), "from 0 on")?;
+    must(is_at(arbiter.next_place(&wide, 1), 0x20), "from 1 on")?;
+    must(arbiter.next_place(&wide, 0x21).is_none(), "from 0x21 on")?;
+    must(
+        is_at(arbiter.next_place(&tight, 0), 0x20),
+        "of the tight range",
+    )
 }

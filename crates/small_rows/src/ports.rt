@@ -28,7 +28,7 @@ fn hold(arbiters: &mut Arbiters, device: u64, res: Res) -> Result<(), Fail> {
 
 /// Room for 200,001 ports, and for one more of each other kind.
 fn make_room(arbiters: &mut Arbiters) -> Result<(), Fail>
-    requires { (of_kind arbiters.old Kind.Port).pairs ≡ [] }
+    requires { (k : Kind) → (of_kind arbiters.old k).pairs ≡ [] }
 {
     arbiters.room_of_each(1)?;
     arbiters.room(Kind::Port, 200_001)?;

@@ -23,22 +23,13 @@ fn reqs(alloc: Global, ranges: &[(u64, u64)]) -> Result<Reqs, Fail> {
     Ok(reqs)
 }
 
-/// The answer for movers with these requirements.
-fn answered_in(
-    alloc: Global,
-    arbiters: &mut Arbiters,
-    all: &[Reqs],
-    budget: u64,
-) -> Result<Found, Fail> {
-    let mut movers = Vec::new(alloc);
-    for reqs in all {
-        let serial = movers.len() as u64;
-        movers.push(Mover { serial, reqs })?;
-    }
+/// The answer for movers, where nothing is held.
+fn found_for(alloc: Global, movers: &[Mover<'_>], budget: u64) -> Result<Found, Fail> {
     if budget > 1_000_000 {
         return Err(Fail::new("the budget"));
     }
-    Ok(answer(alloc, arbiters, &movers, budget)?)
+    let mut arbiters = Arbiters::new(alloc)?;
+    Ok(answer(alloc, &mut arbiters, movers, budget)?)
 }
 
 /// The answer for movers of these needs, where nothing is held.
@@ -47,8 +38,12 @@ fn answered(alloc: Global, needs: &[&[(u64, u64)]], budget: u64) -> Result<Found
     for ranges in needs {
         all.push(reqs(alloc, ranges)?)?;
     }
-    let mut arbiters = Arbiters::new(alloc)?;
-    answered_in(alloc, &mut arbiters, &all, budget)
+    let mut movers = Vec::new(alloc);
+    for reqs in &all {
+        let serial = movers.len() as u64;
+        movers.push(Mover { serial, reqs })?;
+    }
+    found_for(alloc, &movers, budget)
 }
 
 /// The first numbers of a plan, mover by mover.

@@ -15,7 +15,9 @@ fn path(alloc: Global) -> Result<InstancePath, Fail> {
 }
 
 /// The device arrives below the root.
-fn plug(alloc: Global, world: &mut World, root: &InstancePath) -> Result<(), Fail> {
+fn plug(alloc: Global, world: &mut World, root: &InstancePath) -> Result<(), Fail>
+    requires { world.old.next < 2 ^ 63 }
+{
     let path = path(alloc)?;
     let (hw, compat) = (IdList::new(alloc), IdList::new(alloc));
     world.plug(root, path, hw, compat, Reqs::new(alloc))?;
