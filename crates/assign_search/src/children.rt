@@ -50,7 +50,7 @@ fn list_child(movers: &[Mover], mover: usize, from: Step) -> Option<Child>
     })
 }
 
-#[derive(Clone, Copy, Debug)]
+#[derive(Clone, Copy)]
 struct Start {
     want: u32,
     start: u64,

@@ -12,7 +12,7 @@ use resource_reqs::{AltList, Group, Reqs, Res, Want};
 use trial_journal::Arbiters;
 
 /// An open place of a want of a group.
-#[derive(Clone, Copy, Debug)]
+#[derive(Clone, Copy)]
 pub struct Pick {
     /// The number of the want.
     pub want: u32,

@@ -4,7 +4,7 @@ ghost use Rattle.assign_search.specs.Fixed.{reqs_of};
 use resource_reqs::{AltList, Reqs};
 
 /// A device whose resources may be chosen anew.
-#[derive(Clone, Copy, Debug)]
+#[derive(Clone, Copy)]
 pub struct Mover<'a> {
     /// Its serial number: what it holds now does not count as fixed.
     pub serial: u64,

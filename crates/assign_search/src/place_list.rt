@@ -7,7 +7,7 @@ use std::marker::Model;
 
 /// The places by which a mover is watched, one for each group of a list of it. One place takes no memory. A contract sees
 /// the list of them.
-#[derive(Debug, Drop)]
+#[derive(Drop)]
 pub struct PlaceList {
     /// The first place.
     pub first: Option<Res>,

@@ -9,7 +9,7 @@ use std::marker::Model;
 
 /// The places by which movers are watched, and ranges that reach over all of them: most often one for each kind. What
 /// hits none of the ranges hits no place. A contract sees the list of places of each mover.
-#[derive(Debug, Drop)]
+#[derive(Drop)]
 pub struct Places {
     of: Vec<PlaceList>,
     over: Vec<Res>,

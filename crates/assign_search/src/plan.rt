@@ -5,7 +5,7 @@ use std::alloc::Global;
 use std::marker::Model;
 
 /// The resources of each mover, in the order of the movers. A contract sees the list of lists of resources.
-#[derive(Debug, Drop)]
+#[derive(Drop)]
 pub struct Plan {
     parts: Vec<ResList>,
 }
@@ -67,7 +67,7 @@ impl Plan {
 }
 
 /// What is answered to a problem and a budget (this project's own).
-#[derive(Debug, Drop)]
+#[derive(Drop)]
 pub enum Found {
     /// The first assignment, found within the budget.
     Assignment(Plan),

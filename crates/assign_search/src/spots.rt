@@ -1,7 +1,7 @@
 use resource_reqs::Res;
 
 /// A coordinate of a path: what is chosen next.
-#[derive(Clone, Copy, Debug)]
+#[derive(Clone, Copy)]
 pub enum Step {
     /// The number of a list of a requirement.
     Alt(u32),
@@ -10,7 +10,7 @@ pub enum Step {
 }
 
 /// Where a path ends.
-#[derive(Clone, Copy, Debug)]
+#[derive(Clone, Copy)]
 pub enum Spot {
     /// Before the mover of this number, of which nothing is chosen.
     Between(usize),
@@ -19,7 +19,7 @@ pub enum Spot {
 }
 
 /// A coordinate that goes on from a spot.
-#[derive(Clone, Copy, Debug)]
+#[derive(Clone, Copy)]
 pub struct Child {
     /// The coordinate.
     pub step: Step,
@@ -32,7 +32,7 @@ pub struct Child {
 }
 
 /// A coordinate of a path that was taken.
-#[derive(Clone, Copy, Debug)]
+#[derive(Clone, Copy)]
 pub struct Frame {
     /// Where it was taken.
     pub before: Spot,

@@ -15,7 +15,7 @@ use trial_journal::Arbiters;
 
 /// What is remembered of later movers: for each mover from `sure` on places, one for each group of a list of
 /// it. While nothing that clashes with one of them comes to what is held, the mover has a list that is open.
-#[derive(Debug, Drop)]
+#[derive(Drop)]
 pub struct Watch {
     /// The first mover from which on the places are right.
     pub sure: usize,

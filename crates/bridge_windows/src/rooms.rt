@@ -10,7 +10,7 @@ use resource_reqs::{Kind, Res};
 use std::marker::Model;
 
 /// The numbers of a kind that come through, from `lo` to `hi`; none where `lo` is above `hi`.
-#[derive(Clone, Copy, Debug)]
+#[derive(Clone, Copy)]
 pub struct Room {
     pub lo: u64,
     pub hi: u64,
@@ -47,7 +47,7 @@ impl Room {
 }
 
 /// The numbers of each kind that come through.
-#[derive(Clone, Copy, Debug)]
+#[derive(Clone, Copy)]
 pub struct Rooms {
     pub ports: Room,
     pub irqs: Room,

@@ -3,7 +3,7 @@ use std::marker::Model;
 
 /// The device of a birth number passes on only what lies in this range of its kind. A contract sees the record of the
 /// fields.
-#[derive(Clone, Copy, Debug)]
+#[derive(Clone, Copy)]
 pub struct Window {
     /// The birth number of the device.
     pub born: u64,

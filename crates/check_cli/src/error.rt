@@ -3,7 +3,7 @@ use pnp_io::{Failed, ReadError};
 use std::alloc::AllocError;
 
 /// Why a check came to no verdict.
-#[derive(Clone, Copy, Debug, PartialEq, Eq)]
+#[derive(Clone, Copy, PartialEq, Eq)]
 pub(crate) enum CheckError {
     BadWords,
     ReadFault,

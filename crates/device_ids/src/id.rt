@@ -56,7 +56,7 @@ pub fn is_legal(bytes: &[u8]) -> bool
 
 /// A legal identifier of a device: its device ID, instance ID, or a hardware or compatible ID. A contract
 /// sees the list of its bytes (the driver kit, "Device Identification Strings").
-#[derive(Debug, Drop)]
+#[derive(Drop)]
 pub struct DeviceId {
     text: Text,
 }
@@ -109,7 +109,7 @@ impl DeviceId {
 
 /// Identifiers in order of preference, as the hardware IDs of a device. A contract sees the list of their
 /// bytes (the driver kit, "Hardware IDs", "Compatible IDs").
-#[derive(Debug, Drop)]
+#[derive(Drop)]
 pub struct IdList {
     ids: Vec<DeviceId>,
 }

@@ -13,14 +13,14 @@ pub type WantOfMemory = AllocError;
 pub(crate) const FEW: usize = 32;
 
 /// Bytes that several texts keep, the first `len` of them theirs.
-#[derive(Debug, Drop)]
+#[derive(Drop)]
 pub(crate) struct Kept {
     pub(crate) bytes: Bytes,
     pub(crate) len: usize,
 }
 
 /// Few bytes beside the same with ASCII letters folded, or many in memory of their own.
-#[derive(Debug, Drop)]
+#[derive(Drop)]
 pub(crate) enum Bytes {
     Few { text: [u8; FEW], folded: [u8; FEW] },
     Many(Vec<u8>),
@@ -77,7 +77,7 @@ impl Kept {
 
 /// Bytes of any kind, as a driver's name or a value of an INF. A contract sees the list of the bytes.
 /// They are kept once for a text and all its copies. This project's own.
-#[derive(Debug, Drop)]
+#[derive(Drop)]
 pub struct Text {
     kept: Rc<Kept>,
 }
@@ -158,7 +158,7 @@ impl Text {
 }
 
 /// Texts in order, as the IDs of a models line. A contract sees the list of their bytes. This project's own.
-#[derive(Debug, Drop)]
+#[derive(Drop)]
 pub struct TextList {
     texts: Vec<Text>,
 }

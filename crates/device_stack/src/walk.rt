@@ -13,11 +13,11 @@ use std::alloc::Global;
 use std::marker::Model;
 
 /// No request waits there. This project's own.
-#[derive(Clone, Copy, Debug, PartialEq, Eq)]
+#[derive(Clone, Copy, PartialEq, Eq)]
 pub struct NoSuchRequest;
 
 /// What a step of a walk did. Places are counted from the bottom of the stack. This project's own.
-#[derive(Clone, Copy, Debug, PartialEq, Eq)]
+#[derive(Clone, Copy, PartialEq, Eq)]
 pub enum WalkStep {
     /// The driver at the place was asked, and answered.
     Asked { pos: u64, answer: Answer },
@@ -28,7 +28,7 @@ pub enum WalkStep {
 }
 
 /// What a step of a request came to, as the trace shows it. This project's own.
-#[derive(Debug, Drop)]
+#[derive(Drop)]
 pub enum Passed {
     /// A driver was asked; the line tells what it answered.
     Asked(Label),
@@ -41,7 +41,7 @@ pub enum Passed {
 /// does is this project's own), and it is Good after the last driver. A driver that pends the request stops it
 /// until the completion comes. Which requests may be failed, and the directions, are the driver kit's ("Plug and
 /// Play Minor IRPs"). A contract sees how far it has come.
-#[derive(Clone, Copy, Debug)]
+#[derive(Clone, Copy)]
 pub struct Walk {
     minor: Minor,
     asked: u64,

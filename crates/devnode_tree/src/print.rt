@@ -9,7 +9,7 @@ use pnp_labels::SerialList;
 use std::alloc::Global;
 
 /// A line of the printed tree.
-#[derive(Clone, Copy, Debug, PartialEq, Eq)]
+#[derive(Clone, Copy, PartialEq, Eq)]
 pub struct PrintRow {
     /// The node.
     pub serial: u64,

@@ -9,7 +9,7 @@ use std::alloc::Global;
 
 /// What the best models line gives for a device, with where it stands and how well it matches (the driver kit, "How
 /// Windows Selects a Driver Package for a Device").
-#[derive(Debug, Drop)]
+#[derive(Drop)]
 pub struct Choice {
     /// The place of its INF among those that are named, from 0.
     pub inf: u32,

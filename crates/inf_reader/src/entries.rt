@@ -10,7 +10,7 @@ use device_ids::Text;
 use std::alloc::{AllocError, Global};
 
 /// A key: none, one that has a meaning, or another.
-#[derive(Clone, Copy, Debug, PartialEq, Eq)]
+#[derive(Clone, Copy, PartialEq, Eq)]
 pub enum Key {
     Absent,
     Signature,

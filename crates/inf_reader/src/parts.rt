@@ -41,7 +41,7 @@ impl From<AllocError> for InfError {
 
 /// A line of a models section, with what its install section gives (the driver kit, "INF Models Section",
 /// "INF DDInstall Section").
-#[derive(Debug, Drop)]
+#[derive(Drop)]
 pub struct ModelLine {
     /// The number of the line in its file, from 1; of a line that others continue, that of the first.
     pub line: u32,
@@ -58,7 +58,7 @@ pub struct ModelLine {
 }
 
 /// Models lines in order. A contract sees their list. This project's own.
-#[derive(Debug, Drop)]
+#[derive(Drop)]
 pub struct ModelLines {
     lines: Vec<ModelLine>,
 }
@@ -119,7 +119,7 @@ impl ModelLines {
 }
 
 /// The meaning of an INF (the driver kit, "INF Version Section", "INF Manufacturer Section").
-#[derive(Debug, Drop)]
+#[derive(Drop)]
 pub struct Inf {
     /// The date of `DriverVer` as `year * 10000 + month * 100 + day`; 0 without one.
     pub date: u32,

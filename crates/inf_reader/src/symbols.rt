@@ -10,7 +10,7 @@ use std::alloc::{AllocError, Global};
 use std::marker::Model;
 
 /// A character of a line: outside quotes, inside them, or a quote mark that begins or ends a quoted part.
-#[derive(Clone, Copy, Debug, PartialEq, Eq)]
+#[derive(Clone, Copy, PartialEq, Eq)]
 pub enum Symbol {
     Plain(u8),
     Quoted(u8),
@@ -18,7 +18,7 @@ pub enum Symbol {
 }
 
 /// Where a line stands: outside or inside quotes, at the second of two quote marks, or in the comment.
-#[derive(Clone, Copy, Debug, PartialEq, Eq)]
+#[derive(Clone, Copy, PartialEq, Eq)]
 pub enum Place {
     Outside,
     Inside,

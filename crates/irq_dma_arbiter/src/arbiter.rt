@@ -11,7 +11,7 @@ use std::marker::Model;
 /// often of one, kept in the order of the range arbiter (this project's own; the driver kit, "Arbiter
 /// Interface"). A contract sees the kind, the list of pairs, and `spare`, the number of pairs for which memory
 /// is taken.
-#[derive(Debug, Drop)]
+#[derive(Drop)]
 pub struct NumberArbiter {
     numbers: RangeArbiter,
 }

@@ -67,7 +67,7 @@ pub fn driver_names(alloc: Global, script: &[u8]) -> Result<Vec<&[u8]>, AllocErr
 }
 
 /// A driver that a models line names, with the number of the line.
-#[derive(Clone, Copy, Debug)]
+#[derive(Clone, Copy)]
 pub struct Named<'a> {
     /// The number of the line.
     pub line: u32,

@@ -5,7 +5,7 @@ use crate::mend::{bare, plain_text};
 use std::alloc::{AllocError, Global};
 
 /// An entry: the number of its line, its key, which is empty where there is none, and its values.
-#[derive(Debug, Drop)]
+#[derive(Drop)]
 pub struct Entry {
     /// The number of the line, counted from 1.
     pub line: u32,
@@ -16,7 +16,7 @@ pub struct Entry {
 }
 
 /// A section: its name, and the entries below one header.
-#[derive(Debug, Drop)]
+#[derive(Drop)]
 pub struct Section {
     /// The name.
     pub name: Vec<u8>,
@@ -25,7 +25,7 @@ pub struct Section {
 }
 
 /// A line with those that continue it: its number, and its text without comments.
-#[derive(Debug, Drop)]
+#[derive(Drop)]
 struct Whole {
     line: u32,
     text: Vec<u8>,

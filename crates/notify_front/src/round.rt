@@ -10,7 +10,7 @@ use std::alloc::Global;
 use std::marker::Model;
 
 /// How far a round of notices is.
-#[derive(Clone, Copy, Debug)]
+#[derive(Clone, Copy)]
 pub(crate) enum Stage {
     /// There is none.
     Nothing,
@@ -34,7 +34,7 @@ pub(crate) enum Stage {
 }
 
 /// What is to be done next.
-#[derive(Clone, Copy, Debug)]
+#[derive(Clone, Copy)]
 pub(crate) enum Turn {
     /// A client is told.
     Tell,

@@ -49,7 +49,7 @@ pub fn finish_of(tree: &Tree, todo: &SerialQueue) -> Finish
 }
 
 /// A device that is settled, with what tells it and what the machine has to know of it.
-#[derive(Debug, Drop)]
+#[derive(Drop)]
 pub struct Settled {
     pub serial: u64,
     pub parent: u64,

@@ -18,7 +18,7 @@ use std::alloc::Global;
 use trial_journal::Arbiters;
 
 /// A step of a request for a device. This project's own.
-#[derive(Debug, Drop)]
+#[derive(Drop)]
 pub enum Walked {
     /// A driver was asked; the line tells what it answered.
     On(Label),
@@ -28,7 +28,7 @@ pub enum Walked {
 }
 
 /// A device whose request has ended: its path is for the line that tells its state. This project's own.
-#[derive(Debug, Drop)]
+#[derive(Drop)]
 pub struct Asked {
     pub serial: u64,
     pub path: Text,

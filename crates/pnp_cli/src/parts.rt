@@ -3,7 +3,7 @@ use device_ids::{Text, TextList};
 use std::alloc::AllocError;
 
 /// What the words of a command line say. This project's own.
-#[derive(Debug, Drop)]
+#[derive(Drop)]
 pub struct Settings {
     /// The name of the script; none where the script is generated.
     pub script: Option<Text>,

@@ -4,7 +4,7 @@ ghost use Rattle.pnp_cli.specs.Tallies.{has_moved, with_one};
 use pnp_labels::{Label, OpEnd, OpKind};
 
 /// How many labels there were, and how many ends of a rebalance for which devices moved. Both stay where they stand at 2^64 - 1.
-#[derive(Clone, Copy, Debug)]
+#[derive(Clone, Copy)]
 pub struct Tally {
     pub steps: u64,
     pub moved: u64,

@@ -7,7 +7,7 @@ use pnp_io::Failed;
 use std::alloc::AllocError;
 
 /// How a reader stands that has given all its events.
-#[derive(Clone, Copy, Debug, PartialEq, Eq)]
+#[derive(Clone, Copy, PartialEq, Eq)]
 pub enum Ending {
     /// More bytes are needed.
     NeedsMore,
@@ -30,7 +30,7 @@ impl Ending {
 }
 
 /// Why an output was not written whole.
-#[derive(Clone, Copy, Debug, PartialEq, Eq)]
+#[derive(Clone, Copy, PartialEq, Eq)]
 pub enum WriteError {
     WriteFault,
     WantOfMemory,
@@ -59,7 +59,7 @@ impl From<Failed> for WriteError {
 }
 
 /// Why a script was not run to its end.
-#[derive(Clone, Copy, Debug, PartialEq, Eq)]
+#[derive(Clone, Copy, PartialEq, Eq)]
 pub enum PieceError {
     ReadFault,
     WriteFault,

@@ -49,7 +49,7 @@ impl<'a> Files for SureFiles<'a> {
 }
 
 /// A sink that takes every byte and keeps none; it tells nothing, and no write fails. This project's own.
-#[derive(Clone, Copy, Debug, Drop)]
+#[derive(Clone, Copy, Drop)]
 pub struct SureSink;
 
 impl SureSink {

@@ -3,7 +3,7 @@ use device_ids::{IdList, InstancePath, Text};
 use resource_reqs::{Reqs, Res};
 
 /// A question to a driver: what, and for the device of which path. This project's own.
-#[derive(Clone, Copy, Debug)]
+#[derive(Clone, Copy)]
 pub struct Ask<'a> {
     /// What is asked.
     pub what: AskWhat,
@@ -13,7 +13,7 @@ pub struct Ask<'a> {
 
 /// A rule of a driver's book: what it answers when it is asked so for a path, or for any, and how often; without
 /// `uses`, endlessly. This project's own.
-#[derive(Debug, Drop)]
+#[derive(Drop)]
 pub struct Rule {
     /// The question that the rule is for.
     pub what: AskWhat,
@@ -27,7 +27,7 @@ pub struct Rule {
 
 /// What a line of a script says that happens: in the world, to the rack, by the operator, or to a request that
 /// is outstanding. This project's own.
-#[derive(Debug, Drop)]
+#[derive(Drop)]
 pub enum Event {
     /// A device arrives below a parent.
     Plug {

@@ -122,7 +122,7 @@ pub enum OpKind {
 }
 
 /// How an operation ended: this project's own.
-#[derive(Debug, Drop)]
+#[derive(Drop)]
 pub enum OpEnd {
     /// The resources were found and given.
     Moved,
@@ -152,7 +152,7 @@ pub enum NoticeKind {
 }
 
 /// What a step of the machine prints: one line of the trace. This project's own.
-#[derive(Debug, Drop)]
+#[derive(Drop)]
 pub enum Label {
     /// An event was taken.
     Did {
@@ -275,7 +275,7 @@ pub enum Label {
 }
 
 /// A step of an operation that removes devices, with what the machine has to do beside it: this project's own.
-#[derive(Debug, Drop)]
+#[derive(Drop)]
 pub enum RemoveStep {
     /// Nothing.
     Did(Label),

@@ -5,7 +5,7 @@ use std::alloc::Global;
 use std::marker::Model;
 
 /// Serial numbers of nodes in some order. A contract sees the list of the numbers. This project's own.
-#[derive(Debug, Drop)]
+#[derive(Drop)]
 pub struct SerialList {
     serials: Vec<u64>,
 }
@@ -54,7 +54,7 @@ impl SerialList {
 }
 
 /// Birth numbers of world devices in some order. A contract sees the list of the numbers. This project's own.
-#[derive(Debug, Drop)]
+#[derive(Drop)]
 pub struct BornList {
     births: Vec<u64>,
 }
@@ -104,7 +104,7 @@ impl BornList {
 
 /// The drivers of a device by their numbers in the rack, from the bottom: lower filters, function driver, upper
 /// filters (the driver kit, "Device Nodes and Device Stacks"). A contract sees the list of the numbers.
-#[derive(Debug, Drop)]
+#[derive(Drop)]
 pub struct Stack {
     drivers: Vec<u32>,
 }

@@ -15,6 +15,7 @@ ghost use Rattle.pnp_machine.specs.Machines.{IsDone, DoneFor, can_change, can_re
 use crate::listing::is_surprise_removed;
 use crate::machine::Machine;
 use crate::operation::Operation;
+use crate::step_operation::set_operation;
 use device_ids::WantOfMemory;
 use driver_rack::Drivers;
 use pnp_labels::{DevState, Label, OpKind, TaskKind};
@@ -49,7 +50,7 @@ impl<R: Drivers> Machine<R> {
         ensures state { self.new ≡ begun_with operation self.old }
     {
         self.tasks.drop_first();
-        self.operation = Some(operation);
+        set_operation(&mut self.operation, Some(operation));
         label
     }
 

@@ -58,9 +58,9 @@ impl Devices {
         Ok(Devices {
             world: World::new(alloc)?,
             tree: Tree::new(alloc)?,
+            arbiters: Arbiters::new(alloc)?,
             relations: Relations::new(alloc),
             reserved: ResList::new(alloc),
-            arbiters: Arbiters::new(alloc)?,
             bridges: Bridges::new(alloc),
             handles: Handles::new(alloc),
             over: 0,

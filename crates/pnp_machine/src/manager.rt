@@ -27,7 +27,7 @@ use std::alloc::Global;
 use std::marker::Model;
 
 /// What a step of the machine came to. This project's own.
-#[derive(Debug, Drop)]
+#[derive(Drop)]
 pub enum Moved {
     /// A step was made; this is printed.
     Label(Label),

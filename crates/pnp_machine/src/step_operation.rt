@@ -32,12 +32,13 @@ pub(crate) fn list_again(tasks: &mut Tasks, serial: Option<u64>)
     }
 }
 
-/// The operation is over. It has a call of its own, so that what is let go is taken apart in no step but the last.
+/// This operation runs from now on, or none; the one before is let go. It has a call of its own, so that what is let go is taken
+/// apart here alone.
 #[inline(never)]
-fn end_operation(operation: &mut Option<Operation>)
-    ensures { operation.new ≡ None }
+pub(crate) fn set_operation(operation: &mut Option<Operation>, next: Option<Operation>)
+    ensures { operation.new ≡ next }
 {
-    *operation = None;
+    *operation = next;
 }
 
 /// What the machine does beside a step of an operation that removes devices: where a node left, the world may have another
@@ -76,7 +77,7 @@ fn apply_effect(
             label
         }
         RemoveStep::Over(label) => {
-            end_operation(operation);
+            set_operation(operation, None);
             label
         }
     }
@@ -130,17 +131,17 @@ fn apply_rebalance(
             label
         }
         RebalanceStep::OverStart(label) => {
-            end_operation(operation);
+            set_operation(operation, None);
             starts.put(StartWork::resume(target));
             label
         }
         RebalanceStep::OverUndo(label) => {
-            end_operation(operation);
+            set_operation(operation, None);
             starts.put(StartWork::undo(target));
             label
         }
         RebalanceStep::OverDropped(label) | RebalanceStep::OverChange(label) => {
-            end_operation(operation);
+            set_operation(operation, None);
             label
         }
     }

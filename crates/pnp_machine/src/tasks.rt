@@ -12,7 +12,7 @@ use std::collections::{HashMap, VecDeque};
 use std::marker::Model;
 
 /// What waits to be done for a device. This project's own.
-#[derive(Clone, Copy, Debug, PartialEq, Eq)]
+#[derive(Clone, Copy, PartialEq, Eq)]
 pub(crate) enum Duty {
     /// Its children are listed.
     List,
@@ -23,7 +23,7 @@ pub(crate) enum Duty {
 }
 
 /// A task: what is to be done, and for which device. A contract sees the task of the machine.
-#[derive(Debug, Drop)]
+#[derive(Drop)]
 struct Task {
     duty: Duty,
     serial: u64,

@@ -5,7 +5,7 @@ use crate::tasks::Duty;
 use driver_rack::Drivers;
 
 /// Which step is next: this project's own.
-#[derive(Clone, Copy, Debug, PartialEq, Eq)]
+#[derive(Clone, Copy, PartialEq, Eq)]
 pub(crate) enum Turn {
     /// None.
     Quiet,

@@ -14,7 +14,7 @@ use relations::SerialSet;
 use std::marker::Model;
 
 /// What is done with the device that is next: this project's own.
-#[derive(Clone, Copy, Debug, PartialEq, Eq)]
+#[derive(Clone, Copy, PartialEq, Eq)]
 pub(crate) enum Stage {
     /// It is asked next, or refuses unasked.
     Next,

@@ -14,7 +14,7 @@ use resource_reqs::{Owner, Res, clash};
 use std::marker::Model;
 
 /// One to 32 pairs in a row, and what is known of them at once. A contract sees the list of them.
-#[derive(Debug, Drop)]
+#[derive(Drop)]
 pub struct Block {
     pairs: Vec<(Owner, Res)>,
     known: Known,

@@ -7,7 +7,7 @@ use crate::span::{Span, joined, with_one};
 use resource_reqs::{Owner, Res};
 
 /// What is known at once of some pairs, of all and of those that do not share.
-#[derive(Clone, Copy, Debug)]
+#[derive(Clone, Copy)]
 pub struct Known {
     /// Of all.
     pub all: Span,

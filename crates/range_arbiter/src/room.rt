@@ -4,7 +4,7 @@ use resource_reqs::{Owner, Res, WantOfMemory};
 use std::alloc::Global;
 
 /// Memory for the pairs of a block.
-#[derive(Debug, Drop)]
+#[derive(Drop)]
 pub struct Room {
     /// No pairs yet, with place for 32.
     pub pairs: Vec<(Owner, Res)>,

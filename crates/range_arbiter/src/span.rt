@@ -6,7 +6,7 @@ use resource_reqs::{Owner, Res};
 
 /// What is known at once of some pairs, of all of them or of those that do not share. Where there are none, `lo` is above
 /// `reach`.
-#[derive(Clone, Copy, Debug, PartialEq, Eq)]
+#[derive(Clone, Copy, PartialEq, Eq)]
 pub struct Span {
     /// The least number that one of them holds.
     pub lo: u64,

@@ -15,7 +15,7 @@ use crate::starts::start_from;
 use resource_reqs::{Owner, Res, Want};
 
 /// How a sweep ends before it is past all pairs.
-#[derive(Clone, Copy, Debug)]
+#[derive(Clone, Copy)]
 pub enum Ended {
     /// This start is open, and a pair begins beyond it.
     At(u64),

@@ -7,7 +7,7 @@ use resource_reqs::{Owner, Res};
 
 /// What is known at once of all pairs of an arbiter, and what was known before the last of them was put: a search puts a pair
 /// and takes it away again.
-#[derive(Clone, Copy, Debug)]
+#[derive(Clone, Copy)]
 pub struct Whole {
     /// Of all, if anything is known.
     pub known: Option<Known>,

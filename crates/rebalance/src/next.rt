@@ -20,7 +20,7 @@ use std::alloc::Global;
 use trial_journal::Arbiters;
 
 /// A step of a rebalance or of a change, with what the machine has to do beside it. This project's own.
-#[derive(Debug, Drop)]
+#[derive(Drop)]
 pub enum RebalanceStep {
     /// Nothing: the rebalance goes on.
     Did(Label),

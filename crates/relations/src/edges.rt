@@ -6,7 +6,7 @@ ghost use Rattle.std.specs.List.{list_any};
 use pnp_labels::RelKind;
 
 /// A relation as an edge from one device to another, by their serials.
-#[derive(Clone, Copy, Debug)]
+#[derive(Clone, Copy)]
 pub struct Edge {
     pub from: u64,
     pub to: u64,

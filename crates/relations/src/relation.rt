@@ -6,7 +6,7 @@ use std::marker::Model;
 
 /// The member loses its drivers when the owner does (the driver kit, IRP_MN_QUERY_DEVICE_RELATIONS). A contract sees
 /// the record of the fields.
-#[derive(Clone, Copy, Debug)]
+#[derive(Clone, Copy)]
 pub struct Relation {
     /// Of which kind.
     pub kind: RelKind,

@@ -32,7 +32,7 @@ fn u64_at(bytes: &[u8], at: usize) -> u64
 }
 
 /// What the type of a descriptor stands for.
-#[derive(Clone, Copy, Debug, PartialEq, Eq)]
+#[derive(Clone, Copy, PartialEq, Eq)]
 pub enum Sort {
     /// Nothing: the descriptor is passed over.
     Passed,

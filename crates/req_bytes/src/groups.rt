@@ -18,7 +18,7 @@ const WANTS: u32 = 16;
 const WHOLE_GROUPS: u32 = 15;
 
 /// The groups to which nothing is added, and the last one, which is empty only before the first.
-#[derive(Debug, Drop)]
+#[derive(Drop)]
 struct OpenGroups {
     whole: AltList,
     last: Group,

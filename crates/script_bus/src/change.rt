@@ -1,7 +1,7 @@
 use pnp_labels::{BornList, SerialList};
 
 /// What a listing of a device finds.
-#[derive(Debug, Drop)]
+#[derive(Drop)]
 pub struct Difference {
     /// The birth numbers of the devices that join, in order.
     pub joins: BornList,

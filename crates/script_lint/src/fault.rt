@@ -1,7 +1,7 @@
 use crate::cause::Cause;
 
 /// What is wrong with a line: the cause, and the text of the line that it is true of. This project's own.
-#[derive(Clone, Copy, Debug)]
+#[derive(Clone, Copy)]
 pub struct LineFault<'a> {
     /// The cause.
     pub cause: Cause,

@@ -11,7 +11,7 @@ use device_ids::split_once;
 use std::alloc::{AllocError, Global};
 
 /// A bad line of a script: its number, counted from 1, and what is wrong with it. This project's own.
-#[derive(Clone, Copy, Debug)]
+#[derive(Clone, Copy)]
 pub struct BadLine<'a> {
     /// The number of the line.
     pub line: u64,

@@ -1,5 +1,5 @@
 /// Why a line gives no event.
-#[derive(Clone, Copy, Debug, PartialEq, Eq)]
+#[derive(Clone, Copy, PartialEq, Eq)]
 pub enum LineError {
     /// It is outside the grammar.
     Bad,

@@ -1,7 +1,7 @@
 use pnp_labels::Event;
 
 /// An event with the number of its line, counted from 1. This project's own.
-#[derive(Debug, Drop)]
+#[derive(Drop)]
 pub struct Line {
     /// The number of the line.
     pub line: u64,
@@ -10,7 +10,7 @@ pub struct Line {
 }
 
 /// How a script ends. This project's own.
-#[derive(Clone, Copy, Debug, PartialEq, Eq)]
+#[derive(Clone, Copy, PartialEq, Eq)]
 pub enum ScriptEnd {
     /// Every line was read.
     End,
@@ -19,7 +19,7 @@ pub enum ScriptEnd {
 }
 
 /// A script as it is read: its events in order, up to its end or its first bad line. This project's own.
-#[derive(Debug, Drop)]
+#[derive(Drop)]
 pub struct Script {
     /// The events, each with the number of its line.
     pub lines: Vec<Line>,

@@ -1,7 +1,7 @@
 use pnp_labels::Event;
 
 /// What a reader answers. This project's own.
-#[derive(Debug, Drop)]
+#[derive(Drop)]
 pub enum Next {
     /// What the next line with an event says that happens.
     Event(Event),

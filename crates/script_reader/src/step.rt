@@ -1,5 +1,5 @@
 /// What stands at the front of the bytes that are left.
-#[derive(Clone, Copy, Debug)]
+#[derive(Clone, Copy)]
 pub enum Step<'a> {
     /// So many bytes are a line without an event.
     Skip { count: usize },

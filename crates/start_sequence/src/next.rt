@@ -20,7 +20,7 @@ use std::alloc::Global;
 use trial_journal::Arbiters;
 
 /// A step of the start of a device, with what the machine has to do beside it. This project's own.
-#[derive(Debug, Drop)]
+#[derive(Drop)]
 pub enum StartStep {
     /// Nothing: the start goes on.
     Did(Label),
@@ -33,7 +33,7 @@ pub enum StartStep {
 }
 
 /// A step of the request that starts the device.
-#[derive(Debug, Drop)]
+#[derive(Drop)]
 pub(crate) enum Started {
     On(Label),
     Refused(Label),
@@ -41,7 +41,7 @@ pub(crate) enum Started {
 }
 
 /// A step of the request that removes its drivers.
-#[derive(Debug, Drop)]
+#[derive(Drop)]
 pub(crate) enum Removed {
     On(Label),
     Over(Label),

@@ -6,7 +6,7 @@ use std::marker::Model;
 
 /// The drivers that are still to be asked to add a device, from the bottom, by their numbers in the rack. A contract
 /// sees the list. This project's own.
-#[derive(Debug, Drop)]
+#[derive(Drop)]
 pub struct Pending {
     drivers: VecDeque<u32>,
 }

@@ -11,7 +11,7 @@ use pnp_labels::{Minor, Problem};
 use std::marker::Model;
 
 /// Where the start of a device stands: this project's own.
-#[derive(Debug, Drop)]
+#[derive(Drop)]
 pub(crate) enum Phase {
     /// These drivers are still to be asked to add it.
     Adding(Pending),
@@ -28,7 +28,7 @@ pub(crate) enum Phase {
 /// The start of one device, from the choice of its drivers to the end of the request that starts it, or to the end
 /// of the request that removes them (Oney, on AddDevice and IRP_MN_START_DEVICE; that each step is one of the
 /// machine's is this project's own). A contract sees the device's serial and where the start stands.
-#[derive(Debug, Drop)]
+#[derive(Drop)]
 pub struct StartWork {
     pub(crate) serial: u64,
     pub(crate) phase: Phase,

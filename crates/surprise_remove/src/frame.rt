@@ -13,7 +13,7 @@ use relations::SerialSet;
 use std::marker::Model;
 
 /// What is done with the device that is next: this project's own.
-#[derive(Clone, Copy, Debug, PartialEq, Eq)]
+#[derive(Clone, Copy, PartialEq, Eq)]
 pub(crate) enum Stage {
     /// It is told that it is gone.
     Telling,

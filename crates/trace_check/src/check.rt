@@ -15,7 +15,7 @@ use script_reader::Reader;
 use std::alloc::Global;
 
 /// What a check of a trace answers. This project's own.
-#[derive(Clone, Copy, Debug, PartialEq, Eq)]
+#[derive(Clone, Copy, PartialEq, Eq)]
 pub enum Checked {
     /// It is a run of the machine.
     Yes,

@@ -14,7 +14,7 @@ use std::marker::Model;
 /// The arbiters of ports, interrupts, memory, DMA channels and bus numbers, each of which holds pairs of an
 /// owner and a resource (this project's own; the driver kit, "Arbiter Interface"). A contract sees one for each
 /// kind: its kind, its list of pairs and `spare`.
-#[derive(Debug, Drop)]
+#[derive(Drop)]
 pub struct Arbiters {
     ports: RangeArbiter,
     irqs: NumberArbiter,

@@ -1,7 +1,7 @@
 use resource_reqs::{Owner, Res};
 
 /// One change of what is held, as a journal notes it (this project's own).
-#[derive(Clone, Copy, Debug)]
+#[derive(Clone, Copy)]
 pub enum Entry {
     /// The pair was put in.
     Put(Owner, Res),

@@ -7,7 +7,7 @@ use std::marker::Model;
 
 /// The changes of a trial, with memory for all that may come (this project's own). A contract sees the entries,
 /// the latest first, and `room`, how many there may be.
-#[derive(Debug, Drop)]
+#[derive(Drop)]
 pub struct Journal {
     entries: Vec<Entry>,
     room: u32,

@@ -12,7 +12,7 @@ const BREAK: u64 = 30;
 const LETTER: u64 = 8;
 
 /// Numbers of a kind from one on up to another, all held by the same or all free, and where they are drawn.
-#[derive(Clone, Copy, Debug)]
+#[derive(Clone, Copy)]
 pub(crate) struct Stretch {
     pub(crate) first: u64,
     pub(crate) last: u64,

@@ -9,7 +9,7 @@ use pnp_labels::{DevState, Minor};
 use std::marker::Model;
 
 /// How often each row of the state diagram was used. A contract sees the counts in the order of the rows. This project's own.
-#[derive(Debug, Drop)]
+#[derive(Drop)]
 pub struct Used {
     counts: [u64; 19],
 }

@@ -13,7 +13,7 @@ use trial_journal::Arbiters;
 const MOST: usize = 64;
 
 /// A device that holds some of the places, and whether it is thought away.
-#[derive(Clone, Copy, Debug)]
+#[derive(Clone, Copy)]
 struct Holder {
     serial: u64,
     away: bool,
