@@ -1,4 +1,4 @@
-ghost use Rattle.std.specs.Prelude.{◌≡◌, ◌++◌, [], ◌∷◌, false, OnOk, OnErr, map, position};
+ghost use Rattle.std.specs.Prelude.{◌≡◌, ◌<◌, ◌++◌, [], ◌∷◌, false, OnOk, OnErr, map, position, vec_len, vec_capacity};
 ghost use Rattle.std.specs.List.{list_any, All};
 ghost use Rattle.device_ids.specs.Folding.{folded, same};
 ghost use Rattle.pnp_model.specs.Cores.{serials_of};
@@ -71,6 +71,37 @@ pub(crate) fn forget_child(entries: &mut [Entry], parent: u64, serial: u64)
     }
 }
 
+/// Notes the path and the birth number of a node that is to be the last, and the node beside its parent, and takes the room
+/// for it.
+fn note(
+    paths: &mut IndexSet<InstancePath>,
+    births: &mut Births,
+    entries: &mut Vec<Entry>,
+    node: &Node,
+) -> Result<(), WantOfMemory>
+    requires ascends { Ascends 0 (serials_of (nodes_of entries.old.items)) }
+    requires new { list_any (same node.now.path) paths.old.keys ≡ false }
+    ensures path { OnOk result (map folded paths.new.keys ≡ map folded paths.old.keys ++ folded node.now.path ∷ []) }
+    ensures parent { OnOk result (entries.new.items ≡ changed_first (has_serial node.now.parent) (with_child node.now.serial) entries.old.items) }
+    ensures room { OnOk result (vec_len entries.new < vec_capacity entries.new) }
+    ensures err { OnErr result (paths.new.keys ≡ paths.old.keys) }
+    ensures born { OnOk result (births.new ≡ births.old ++ node.now.born ∷ []) }
+    ensures births_err { OnErr result (births.new ≡ births.old) }
+    ensures entries_err { OnErr result (entries.new.items ≡ entries.old.items) }
+{
+    paths.reserve(1)?;
+    entries.reserve(1)?;
+    let key = node.path.copy(*entries.allocator())?;
+    births.push(node.born)?;
+    if let Err(want) = note_child(entries, node.parent, node.serial) {
+        let last = births.len() - 1;
+        births.remove(last);
+        return Err(want);
+    }
+    let _ = paths.insert(key);
+    Ok(())
+}
+
 /// Adds a node as the last, with its path and birth number, and notes it beside its parent.
 pub(crate) fn add(
     paths: &mut IndexSet<InstancePath>,
@@ -87,20 +118,8 @@ pub(crate) fn add(
     ensures births_err { OnErr result (births.new ≡ births.old) }
     ensures entries_err { OnErr result (entries.new.items ≡ entries.old.items) }
 {
-    let alloc = *entries.allocator();
-    let key = node.path.copy(alloc)?;
-    paths.reserve(1)?;
-    entries.reserve(1)?;
-    births.push(node.born)?;
-    if let Err(want) = note_child(entries, node.parent, node.serial) {
-        let last = births.len() - 1;
-        births.remove(last);
-        return Err(want);
-    }
-    let _ = paths.insert(key);
-    let _ = entries.push(Entry {
-        node,
-        children: Vec::new(alloc),
-    });
+    note(paths, births, entries, &node)?;
+    let children = Vec::new(*entries.allocator());
+    let _ = entries.push(Entry { node, children });
     Ok(())
 }

@@ -55,17 +55,11 @@ impl Tree {
         ensures root { IfOk result (λ t. t ≡ record { nodes = root_node ∷ []; next = 1 }) }
         ensures tree { IfOk result (λ t. IsTree t) }
     {
+        let root = root(alloc)?;
         let mut paths = IndexSet::new(alloc);
         let mut births = Births::new(alloc);
         let mut entries = Vec::new(alloc);
-        let node = root(alloc)?;
-        let key = node.path.copy(alloc)?;
-        paths.insert(key)?;
-        births.push(node.born)?;
-        entries.push(Entry {
-            node,
-            children: Vec::new(alloc),
-        })?;
+        add(&mut paths, &mut births, &mut entries, root)?;
         Ok(Tree {
             paths,
             births,

@@ -3,7 +3,7 @@ ghost use Rattle.std.specs.Ordering.{nat_cmp};
 ghost use Rattle.std.specs.BinaryHeap.{IsHeap, heap_items};
 ghost use Rattle.std.specs.HashMap.{get};
 ghost use Rattle.pnp_model.specs.Cores.{node_at};
-ghost use Rattle.relations.specs.Leaving.{IsLeaving};
+ghost use Rattle.relations.specs.Leaving.{over, IsLeaving};
 ghost use Rattle.relations.specs.Queues.{number, IsLowered, Joins, HasFree};
 
 use crate::graph::holders;
@@ -25,6 +25,19 @@ struct Queue {
 }
 
 impl Queue {
+    /// All that were found.
+    fn new(alloc: Global, found: Found) -> Result<Queue, WantOfMemory>
+        ensures counts { IfOk result (λ queue. queue.counts ≡ found.counts) }
+        ensures free { IfOk result (λ queue. HasFree found.counts found.order.items (heap_items queue.free)) }
+        ensures heap { IfOk result (λ queue. IsHeap nat_cmp (heap_items queue.free)) }
+    {
+        let free = free_of(alloc, &found)?;
+        Ok(Queue {
+            counts: found.counts,
+            free,
+        })
+    }
+
     /// An edge to a device is gone.
     fn release(&mut self, serial: u64) -> Result<(), WantOfMemory>
         requires { IfSome (get nat_eq self.old.counts serial) (λ n. 0 < n) }
@@ -54,6 +67,24 @@ impl Queue {
         }
         Ok(())
     }
+
+    /// The edges from a device to what it depends on are gone.
+    fn release_holders(
+        &mut self,
+        alloc: Global,
+        tree: &Tree,
+        relations: &Relations,
+        serial: u64,
+    ) -> Result<(), WantOfMemory>
+        requires enough { (q : ℕ) → IfSome (get nat_eq self.old.counts q) (λ n. number q (over tree.now.nodes relations.now serial) ≤ n) }
+        requires heap { IsHeap nat_cmp (heap_items self.old.free) }
+        ensures lowered { OnOk result (IsLowered self.old.counts self.new.counts (over tree.now.nodes relations.now serial)) }
+        ensures joins { OnOk result (Joins self.old.counts (heap_items self.old.free) (heap_items self.new.free) (over tree.now.nodes relations.now serial)) }
+        ensures heap { OnOk result (IsHeap nat_cmp (heap_items self.new.free)) }
+    {
+        let found = holders(alloc, tree, relations, serial)?;
+        self.release_all(&found)
+    }
 }
 
 /// The devices to which no edge leads.
@@ -81,16 +112,11 @@ pub(crate) fn leave_all(
     ensures { IfOk result (λ order. IsLeaving tree.now.nodes relations.now target order) }
 {
     let found = search(alloc, tree, relations, target)?;
-    let free = free_of(alloc, &found)?;
-    let mut queue = Queue {
-        counts: found.counts,
-        free,
-    };
+    let mut queue = Queue::new(alloc, found)?;
     let mut order = SerialList::new(alloc);
     while let Some(serial) = queue.free.pop() {
         order.push(serial)?;
-        let over = holders(alloc, tree, relations, serial)?;
-        queue.release_all(&over)?;
+        queue.release_holders(alloc, tree, relations, serial)?;
     }
     Ok(order)
 }

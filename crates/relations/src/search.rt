@@ -1,4 +1,4 @@
-ghost use Rattle.std.specs.Prelude.{◌≡◌, IfOk, OnOk, IsSome, ◌≢◌, [], ◌∷◌, nat_eq};
+ghost use Rattle.std.specs.Prelude.{◌≡◌, ℕ, IfOk, OnOk, IsSome, ◌≢◌, [], ◌∷◌, None, nat_eq};
 ghost use Rattle.pnp_model.specs.Cores.{node_at};
 ghost use Rattle.pnp_model.specs.Tests.{has};
 ghost use Rattle.pnp_model.specs.Trees.{dependents};
@@ -67,6 +67,32 @@ impl Found {
     }
 }
 
+/// One search from a device, by what has found nothing yet.
+fn search_with(
+    alloc: Global,
+    tree: &Tree,
+    relations: &Relations,
+    target: u64,
+    found: &mut Found,
+) -> Result<(), WantOfMemory>
+    requires there { IsSome (node_at target tree.now.nodes) }
+    requires tree { IsTree tree.now }
+    requires order { found.old.order.items ≡ [] }
+    requires counts { (q : ℕ) → get nat_eq found.old.counts q ≡ None }
+    ensures { OnOk result (IsSet tree.now.nodes relations.now target found.new.order.items found.new.counts) }
+{
+    found.note(target)?;
+    let mut at = 0;
+    while at < found.order.len() {
+        let serial = found.order[at];
+        let below = direct(alloc, tree, relations, serial)?;
+        found.count(serial, below.len() as u64)?;
+        found.note_all(&below)?;
+        at += 1;
+    }
+    Ok(())
+}
+
 /// One search from a device.
 pub(crate) fn search(
     alloc: Global,
@@ -82,15 +108,7 @@ pub(crate) fn search(
         order: Vec::with_capacity(alloc, tree.len())?,
         counts: HashMap::new(alloc),
     };
-    found.note(target)?;
-    let mut at = 0;
-    while at < found.order.len() {
-        let serial = found.order[at];
-        let below = direct(alloc, tree, relations, serial)?;
-        found.count(serial, below.len() as u64)?;
-        found.note_all(&below)?;
-        at += 1;
-    }
+    search_with(alloc, tree, relations, target, &mut found)?;
     Ok(found)
 }
 

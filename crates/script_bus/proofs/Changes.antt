@@ -7,7 +7,7 @@ use Rattle.std.proofs.lemmas.List.{map-append}
 use Rattle.resource_reqs.specs.Resources.{Reqs}
 use Rattle.resource_reqs.proofs.Counts.{all_push}
 use Rattle.pnp_labels.specs.declared.states.DevState.TheVariants.{NoStack}
-use Rattle.pnp_model.specs.Cores.{is_node, node_at, serials_of, path_of}
+use Rattle.pnp_model.specs.Cores.{is_node, node_at, serials_of}
 use Rattle.pnp_model.specs.Keyed.{changed_first, without_first}
 use Rattle.pnp_model.specs.Runs.{root_node, root_path}
 use Rattle.pnp_model.specs.Records.{Device, Node}
@@ -189,9 +189,6 @@ module _ {S : Type 0} (parts : HashMap ℕ shown.Device S) (places : Tree) (h : 
   }
 
 -- the root alone
-pub root_path_is : (places : Tree) (n : Node) → places ≡ record { nodes = root_node ∷ []; next = 1 } → Some n ≡ node_at 0 places.nodes → n.path ≡ root_path
-root_path_is places n is at = ap path_of (at ∙ ap (λ (t : Tree). node_at 0 t.nodes) is)
-
 pub kept_new : {S : Type 0} (parts : HashMap ℕ shown.Device S) (places : Tree) (d : shown.Device) → places ≡ record { nodes = root_node ∷ []; next = 1 } → IsTree places → get nat_eq parts 0 ≡ Some d → d.path ≡ root_path → IsKept places parts
 kept_new parts places d is tree part path = record {
   tree = tree;

@@ -1,6 +1,9 @@
-ghost use Rattle.std.specs.Prelude.{◌≡◌, ◌≢◌, ◌+◌, ◌<◌, ◌≤◌, ◌^◌, ◌↔◌, [], ◌∷◌, None, IfOk, IfSome, OnOk, OnErr, IsErrOf, IsSome, IsTrue, Bool, true, ℕ, length, option_map, option_copied};
-ghost use Rattle.pnp_model.specs.Runs.{root_device};
+ghost use Rattle.std.specs.Prelude.{◌≡◌, ◌≢◌, ◌+◌, ◌<◌, ◌≤◌, ◌^◌, ◌↔◌, [], ◌∷◌, None, IfOk, IfSome, OnOk, OnErr, IsErrOf, IsSome, IsTrue, Bool, true, ℕ, Some, length, nat_eq, option_map, option_copied};
+ghost use Rattle.std.specs.HashMap.{get};
+ghost use Rattle.pnp_model.specs.Cores.{fresh_node};
+ghost use Rattle.pnp_model.specs.Runs.{root_device, root_node};
 ghost use Rattle.pnp_model.specs.States.{device_born, device_of, has_below, is_in_world};
+ghost use Rattle.devnode_tree.specs.Trees.{IsTree, with_node};
 ghost use Rattle.script_bus.specs.Worlds.{with_device, without_device, plugged, changed, part_of, parent_in, child_births, IsWorld, PassesDown, without_leaf};
 
 use crate::device::Device;
@@ -44,12 +47,7 @@ impl World {
         ensures { IfOk result (λ w. w ≡ record { devices = root_device ∷ []; next = 1 }) }
     {
         let places = Tree::new(alloc)?;
-        let Some(root) = places.node(0) else {
-            return Err(AllocError);
-        };
-        let path = root.path.copy(alloc)?;
-        let mut parts = HashMap::new(alloc);
-        parts.insert(0, bare(alloc, path))?;
+        let parts = root_part(alloc, &places)?;
         Ok(World {
             places,
             parts,
@@ -108,19 +106,10 @@ impl World {
         ensures added { OnOk result (self.new ≡ plugged parent device.path device.hw device.compat device.reqs self.old) }
         ensures err { OnErr result (self.new ≡ self.old) }
     {
-        let alloc = self.alloc;
-        let path = device.path.copy(alloc)?;
         self.parts.reserve(1)?;
-        let ids = IdList::new(alloc);
-        let compat = IdList::new(alloc);
-        let reqs = Reqs::new(alloc);
-        match self.places.join(parent, 0, path, ids, compat, reqs) {
-            Ok(born) => {
-                let _ = self.parts.insert(born, device);
-                Ok(born)
-            }
-            Err(_) => Err(AllocError),
-        }
+        let born = place(self.alloc, &mut self.places, parent, &device.path)?;
+        let _ = self.parts.insert(born, device);
+        Ok(born)
     }
 
     /// Takes the device of a path and all below it out of the world, and gives its parent's birth number. Errors, the
@@ -257,6 +246,39 @@ impl World {
         ensures world { IsWorld self.now }
     {
         self.places.children(born)
+    }
+}
+
+/// What the root shows, by its birth number.
+fn root_part(alloc: Global, places: &Tree) -> Result<HashMap<u64, Device>, WantOfMemory>
+    requires { places.now ≡ record { nodes = root_node ∷ []; next = 1 } }
+    ensures { IfOk result (λ parts. get nat_eq parts 0 ≡ Some (part_of root_device)) }
+{
+    let path = places.at(0).path.copy(alloc)?;
+    let mut parts = HashMap::new(alloc);
+    parts.insert(0, bare(alloc, path))?;
+    Ok(parts)
+}
+
+/// Gives a device a place below another, and its birth number.
+fn place(
+    alloc: Global,
+    places: &mut Tree,
+    parent: u64,
+    path: &InstancePath,
+) -> Result<u64, WantOfMemory>
+    requires { places.old.next < 2 ^ 63 }
+    ensures born { IfOk result (λ born. born ≡ places.old.next) }
+    ensures joined { OnOk result (places.new ≡ with_node (fresh_node places.old.next parent 0 path.now [] [] []) places.old) }
+    ensures tree { OnOk result (IsTree places.new) }
+    ensures err { OnErr result (places.new ≡ places.old) }
+{
+    let copy = path.copy(alloc)?;
+    let ids = IdList::new(alloc);
+    let compat = IdList::new(alloc);
+    match places.join(parent, 0, copy, ids, compat, Reqs::new(alloc)) {
+        Ok(born) => Ok(born),
+        Err(_) => Err(AllocError),
     }
 }
 

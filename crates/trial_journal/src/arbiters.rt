@@ -1,4 +1,4 @@
-ghost use Rattle.std.specs.Prelude.{◌≡◌, ◌≤◌, ◌<◌, ◌+◌, ◌^◌, ℕ, [], length, Contains, IfOk, OnOk, IfSome, IfNone, slice_get};
+ghost use Rattle.std.specs.Prelude.{◌≡◌, ◌≤◌, ◌<◌, ◌+◌, ◌^◌, ◌++◌, ℕ, [], length, Contains, IfOk, OnOk, IfSome, IfNone, slice_get};
 ghost use Rattle.std.specs.List.{list_any};
 ghost use Rattle.resource_reqs.specs.Resources.{IsOpen, clashes};
 ghost use Rattle.range_arbiter.specs.Pairs.{res_list};
@@ -161,16 +161,23 @@ impl Arbiters {
         }
     }
 
+    /// Appends all pairs, kind by kind, in the order of their lists.
+    fn push_onto(&self, list: &mut Vec<(Owner, Res)>) -> Result<(), WantOfMemory>
+        ensures { OnOk result (list.new.items ≡ list.old.items ++ all_pairs self.now) }
+    {
+        self.ports.push_onto(list)?;
+        self.irqs.push_onto(list)?;
+        self.memory.push_onto(list)?;
+        self.channels.push_onto(list)?;
+        self.buses.push_onto(list)
+    }
+
     /// All pairs, kind by kind, in the order of their lists. Cost: their number.
     pub fn pairs(&self, alloc: Global) -> Result<Vec<(Owner, Res)>, WantOfMemory>
         ensures { IfOk result (λ pairs. pairs.items ≡ all_pairs self.now) }
     {
         let mut pairs = Vec::new(alloc);
-        self.ports.push_onto(&mut pairs)?;
-        self.irqs.push_onto(&mut pairs)?;
-        self.memory.push_onto(&mut pairs)?;
-        self.channels.push_onto(&mut pairs)?;
-        self.buses.push_onto(&mut pairs)?;
+        self.push_onto(&mut pairs)?;
         Ok(pairs)
     }
 

@@ -1,5 +1,6 @@
-use Rattle.std.proofs.Common.{◌≡◌, ℕ, ◌+◌, ◌∙◌, [], ◌∷◌, List, ap, sym, subst, length, arith, length-append}
+use Rattle.std.proofs.Common.{◌≡◌, ℕ, ◌+◌, ◌∙◌, [], ◌∷◌, List, ap, refl, sym, subst, length, arith, length-append}
 use Rattle.std.specs.BinaryHeap.{heap_items}
+use Rattle.relations.specs.Leaving.{over}
 use Rattle.relations.proofs.Bases.{leaving_same}
 use Rattle.relations.proofs.Directs.{ascending, there_found}
 use Rattle.relations.proofs.Queueing.{running_none, running_next, running_end, enough, shorter, empty_of, Running}
@@ -12,18 +13,19 @@ loop-serial-init c =
     let m = there_found nodes c.args.target c.requires in
     rw c.new-order.ensures
     (record {
-      running = running_none nodes c.args.relations.now c.args.target g m.0 m.1 c.in_ok-found.found.order.items c.in_ok-found.found.counts (heap_items c.in_ok-free.free) c.in_ok-found.ensures.set c.in_ok-free.ensures.free;
-      heap = c.in_ok-free.ensures.heap;
+      running =
+          rw c.in_ok-queue.ensures.counts
+          (running_none nodes c.args.relations.now c.args.target g m.0 m.1 c.in_ok-found.found.order.items c.in_ok-found.found.counts (heap_items c.in_ok-queue.queue.free) c.in_ok-found.ensures.set c.in_ok-queue.ensures.free);
+      heap = c.in_ok-queue.ensures.heap;
     })
 
-pub release_all-requires-clause-enough : goal.release_all-requires-clause-enough
-release_all-requires-clause-enough c =
+pub release_holders-requires-clause-enough : goal.release_holders-requires-clause-enough
+release_holders-requires-clause-enough c =
     let nodes = c.args.tree.now.nodes in
     let g = ascending 0 nodes c.in_ok-found.ensures.tree.ascends in
     let m = there_found nodes c.args.target c.requires in
-    rw c.deref.ensures.value
-    (enough nodes c.args.relations.now c.args.target g m.0 m.1 c.loop-serial.order (heap_items c.loop-serial.queue.free) (heap_items c.pop.new.self) c.loop-serial.queue.counts c.in-Some.serial
-    c.loop-serial.invariant.running c.in-Some.ensures.permutation (c.in-Some.ensures.below_top c.loop-serial.invariant.heap) c.in_ok-over.over.items c.in_ok-over.ensures)
+    enough nodes c.args.relations.now c.args.target g m.0 m.1 c.loop-serial.order (heap_items c.loop-serial.queue.free) (heap_items c.pop.new.self) c.loop-serial.queue.counts c.in-Some.serial
+    c.loop-serial.invariant.running c.in-Some.ensures.permutation (c.in-Some.ensures.below_top c.loop-serial.invariant.heap) (over nodes c.args.relations.now c.in-Some.serial) (λ f. refl)
 
 pub loop-serial-smaller : goal.loop-serial-smaller
 loop-serial-smaller c =
@@ -45,9 +47,9 @@ loop-serial-preserved c =
     (record {
       running =
           running_next nodes c.args.relations.now c.args.target g m.0 m.1 c.loop-serial.order (heap_items c.loop-serial.queue.free) (heap_items c.pop.new.self) c.loop-serial.queue.counts c.in-Some.serial
-          c.loop-serial.invariant.running c.in-Some.ensures.permutation (c.in-Some.ensures.below_top c.loop-serial.invariant.heap) c.in_ok-over.over.items c.in_ok-over.ensures
-          c.release_all.new.self.counts (heap_items c.release_all.new.self.free) (rw c.deref.ensures.value at c.in_ok-release_all.ensures.lowered) (rw c.deref.ensures.value at c.in_ok-release_all.ensures.joins);
-      heap = c.in_ok-release_all.ensures.heap;
+          c.loop-serial.invariant.running c.in-Some.ensures.permutation (c.in-Some.ensures.below_top c.loop-serial.invariant.heap) (over nodes c.args.relations.now c.in-Some.serial) (λ f. refl)
+          c.release_holders.new.self.counts (heap_items c.release_holders.new.self.free) c.in_ok-release_holders.ensures.lowered c.in_ok-release_holders.ensures.joins;
+      heap = c.in_ok-release_holders.ensures.heap;
     })
 
 pub returns : goal.returns
