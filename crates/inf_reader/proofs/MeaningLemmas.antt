@@ -5,11 +5,9 @@ use Rattle.std.specs.List.{flat_map}
 use Rattle.inf_reader.specs.declared.items.Item.{Item}
 use Rattle.inf_reader.specs.declared.parts.Inf.{Inf}
 use Rattle.inf_reader.specs.declared.parts.InfError.{InfError}
-use Rattle.inf_reader.specs.Text.{text_of}
-use Rattle.inf_reader.specs.Items.{items_of}
 use Rattle.inf_reader.specs.Tokens.{Strings}
 use Rattle.inf_reader.specs.Sections.{Sections, strings_of, sections_of, entries_of}
-use Rattle.inf_reader.specs.Meaning.{Gives, judged, earlier, least_of, mark_of, score_fault, date_fault, driver_entry, makers_of, faults_of, meaning_by, meaning_of, inf}
+use Rattle.inf_reader.specs.Meaning.{Gives, judged, earlier, least_of, mark_of, score_fault, date_fault, driver_entry, makers_of, faults_of, meaning_by, meaning_of}
 use Rattle.inf_reader.proofs.Least.{earlier-assoc, least_of-append}
 
 -- the first of all faults, from the first of each kind
@@ -36,14 +34,14 @@ judged_is items strings sections makers mark bad is_mark is_bad are_makers are_s
     ∙ (ap (λ f. judged meant (makers_of strings items) (earlier (earlier (least_of (flat_map mark_of items)) f) date)) is_bad
     ∙ ap (judged meant (makers_of strings items)) (least_of-faults strings items))))
 
-pub inf_is : (bytes text : List ℕ) (items : List Item) (strings : Strings) (sections : Sections) (makers : List (List ℕ)) (mark bad : Option InfError) (result : Result Inf InfError)
-    → text ≡ text_of bytes → items ≡ items_of text → ((q : List ℕ) → strings q ≡ strings_of items q)
+pub meaning_is : (items : List Item) (strings : Strings) (sections : Sections) (makers : List (List ℕ)) (mark bad : Option InfError) (result : Result Inf InfError)
+    → ((q : List ℕ) → strings q ≡ strings_of items q)
     → mark ≡ least_of (flat_map mark_of items) → bad ≡ least_of (flat_map score_fault (entries_of strings items)) → makers ≡ makers_of strings items → ((q : List ℕ) → sections q ≡ sections_of strings items q)
-    → Gives result (judged sections makers (earlier (earlier mark bad) (least_of (date_fault (driver_entry sections))))) → Gives result (inf bytes)
-unfolding inf meaning_of
-inf_is bytes text items strings sections makers mark bad result is_text are_items are_strings is_mark is_bad are_makers are_sections gives =
-    let e : judged sections makers (earlier (earlier mark bad) (least_of (date_fault (driver_entry sections)))) ≡ inf bytes =
+    → Gives result (judged sections makers (earlier (earlier mark bad) (least_of (date_fault (driver_entry sections))))) → Gives result (meaning_of items)
+unfolding meaning_of
+meaning_is items strings sections makers mark bad result are_strings is_mark is_bad are_makers are_sections gives =
+    let e : judged sections makers (earlier (earlier mark bad) (least_of (date_fault (driver_entry sections)))) ≡ meaning_of items =
     judged_is items strings sections makers mark bad is_mark is_bad are_makers are_sections
-    ∙ (ap (λ s. meaning_by s items) (fun_ext are_strings) ∙ ap meaning_of (are_items ∙ ap items_of is_text)) in
+    ∙ ap (λ s. meaning_by s items) (fun_ext are_strings) in
     let P : Result Inf InfError → Type 0 = λ r. Gives result r in
     subst P e gives

@@ -1,5 +1,5 @@
 //! The entry that a joined line is.
-ghost use Rattle.std.specs.Prelude.{◌≡◌, IfOk, option_map};
+ghost use Rattle.std.specs.Prelude.{◌≡◌, ◌++◌, IfOk, OnOk, option_map};
 ghost use Rattle.inf_reader.specs.Found.{text_found};
 ghost use Rattle.inf_reader.specs.Entries.{sides, part_text, values_of, known_key, key_of, is_keyed, is_signature_key, is_driver_key, is_score_key, is_service_key, is_registry_key, entry_of};
 
@@ -51,6 +51,23 @@ pub fn part_text(
     text_with(alloc, strings, &bytes)
 }
 
+/// Adds the values of a list.
+fn push_values(
+    alloc: Global,
+    strings: Option<&Strings>,
+    symbols: &[Symbol],
+    values: &mut Texts,
+) -> Result<(), AllocError>
+    ensures { OnOk result (values.new ≡ values.old ++ values_of (option_map (λ s. text_found s.now) strings.entry) symbols.now) }
+{
+    let mut rest = symbols;
+    while let Some((part, after)) = cut_plain(b',', rest) {
+        values.push(part_text(alloc, strings, part)?)?;
+        rest = after;
+    }
+    values.push(part_text(alloc, strings, rest)?)
+}
+
 /// The values of a list, separated by commas outside quotes.
 pub fn values_of(
     alloc: Global,
@@ -60,12 +77,7 @@ pub fn values_of(
     ensures { IfOk result (λ values. values ≡ values_of (option_map (λ s. text_found s.now) strings.entry) symbols.now) }
 {
     let mut values = Texts::with_room(alloc, count_of_plain(b',', symbols) + 1)?;
-    let mut rest = symbols;
-    while let Some((part, after)) = cut_plain(b',', rest) {
-        values.push(part_text(alloc, strings, part)?)?;
-        rest = after;
-    }
-    values.push(part_text(alloc, strings, rest)?)?;
+    push_values(alloc, strings, symbols, &mut values)?;
     Ok(values)
 }
 

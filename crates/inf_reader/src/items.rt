@@ -1,6 +1,8 @@
 //! What stands in a text, line by line.
 ghost use Rattle.std.specs.Prelude.{◌≡◌, ◌+◌, ◌<◌, ◌≤◌, ◌^◌, ◌++◌, ◌∷◌, length, IfOk, OnOk, Option, Some, None, List, ℕ};
 ghost use Rattle.std.specs.Str.Lines.{strip_carriage_return};
+ghost use Rattle.device_ids.specs.Folding.{folded};
+ghost use Rattle.inf_reader.specs.Symbols.{trimmed_bytes};
 ghost use Rattle.inf_reader.specs.Items.{header_of, is_header, goes_on, joined_line, settled, opened, given, open_after, left_open, symbols_in, items_of, long_mark, written_lines, written_of};
 
 use crate::symbols::{Symbol, Symbols, is_plain, trimmed_bytes, written_bytes};
@@ -35,6 +37,14 @@ fn is_header(symbols: &[Symbol]) -> bool
     !symbols.is_empty() && is_plain(symbols[0], b'[')
 }
 
+/// The folded name that a header writes.
+fn header_name(alloc: Global, written: &[u8]) -> Result<Text, AllocError>
+    ensures { IfOk result (λ name. name ≡ folded (trimmed_bytes written.now)) }
+{
+    let name = folded_bytes(alloc, trimmed_bytes(written))?;
+    Text::make(alloc, &name)
+}
+
 /// The header that a line is.
 #[tactic(auto, unfolding(crate::specs::Items::header_of))]
 fn header_of(alloc: Global, number: u32, symbols: &[Symbol]) -> Result<Item, AllocError>
@@ -43,10 +53,7 @@ fn header_of(alloc: Global, number: u32, symbols: &[Symbol]) -> Result<Item, All
 {
     let written = written_bytes(alloc, symbols)?;
     match split_once(&written[1..], b']') {
-        Some((name, _)) => {
-            let name = folded_bytes(alloc, trimmed_bytes(name))?;
-            Ok(Item::Header(Text::make(alloc, &name)?))
-        }
+        Some((name, _)) => Ok(Item::Header(header_name(alloc, name)?)),
         None => Ok(Item::OpenHeader(number)),
     }
 }

@@ -2,12 +2,12 @@
 ghost use Rattle.std.specs.Prelude.{◌≡◌, ◌≤◌, ◌++◌, IfOk, option_map, length};
 ghost use Rattle.std.specs.List.{list_any, find};
 ghost use Rattle.inf_reader.specs.Sections.{keyed_in};
-ghost use Rattle.inf_reader.specs.Meaning.{driver_version, dated, date_fault, least_of, earlier, is_driver, is_signature, driver_entry, judged, inf, version_in, Gives};
+ghost use Rattle.inf_reader.specs.Meaning.{driver_version, dated, date_fault, least_of, earlier, is_driver, is_signature, driver_entry, judged, meaning_of, inf, version_in, Gives};
 ghost use Rattle.inf_reader.specs.Found.{section_found};
 
 use crate::entries::Entry;
 use crate::faults::{earlier, first_mark};
-use crate::items::items_of;
+use crate::items::{Item, items_of};
 use crate::models::all_models;
 use crate::numbers::{date_of, version_of};
 use crate::parts::{Inf, InfError};
@@ -112,6 +112,17 @@ fn judged(
     })
 }
 
+/// The meaning of a text's items.
+fn meaning_of(alloc: Global, items: Vec<Item>) -> Result<Inf, InfError>
+    ensures { Gives result (meaning_of items.items) }
+{
+    let strings = strings_of(alloc, &items)?;
+    let mark = first_mark(&items);
+    let index = index_of(alloc, &strings, items)?;
+    let fault = earlier(mark, index.gathered.fault);
+    judged(alloc, &index.sections, &index.gathered.makers, fault)
+}
+
 /// Reads an INF of at most 16,777,216 bytes, a limit of this project's own, as is that it is read leniently:
 /// unknown sections, entries and directives are read over (the driver kit, "General Syntax Rules for INF
 /// Files"). Errors: the fault on the first line that has one, as `InfError` tells; without a fault
@@ -122,10 +133,5 @@ pub fn read(alloc: Global, bytes: &[u8]) -> Result<Inf, InfError>
     ensures { Gives result (inf bytes.now) }
 {
     let text = text_of(alloc, bytes)?;
-    let items = items_of(alloc, text.as_bytes())?;
-    let strings = strings_of(alloc, &items)?;
-    let mark = first_mark(&items);
-    let index = index_of(alloc, &strings, items)?;
-    let fault = earlier(mark, index.gathered.fault);
-    judged(alloc, &index.sections, &index.gathered.makers, fault)
+    meaning_of(alloc, items_of(alloc, text.as_bytes())?)
 }

@@ -1,8 +1,9 @@
 //! The models lines of an INF, and what their install sections give.
 ghost use Rattle.std.specs.Prelude.{◌≡◌, ◌++◌, IfOk, OnOk, option_map, take, drop, map};
 ghost use Rattle.std.specs.List.{find};
+ghost use Rattle.device_ids.specs.Folding.{folded};
 ghost use Rattle.inf_reader.specs.Filters.{has_bit};
-ghost use Rattle.inf_reader.specs.Sections.{keyed_in, filters_at, contents_at};
+ghost use Rattle.inf_reader.specs.Sections.{keyed_in, filters_at, contents_at, is_there};
 ghost use Rattle.inf_reader.specs.Found.{section_found, IsKept};
 ghost use Rattle.inf_reader.specs.Models.{begins, is_word, decoration_of, models_name, install_name, is_score, score_in, is_function_service, service_in, filters_in_all, filters_by, filters_in, install_service, install_filters, install_of, line_with, model_line, models_of, all_models};
 
@@ -11,7 +12,7 @@ use crate::numbers::score_of;
 use crate::parts::{ModelLine, ModelLines};
 use crate::section::{Kind, has_bit};
 use crate::sections::Sections;
-use crate::texts::{Texts, folded_bytes, is_word, joined, texts_from, value_at};
+use crate::texts::{Texts, is_word, joined, texts_from, value_at};
 use device_ids::{Text, TextList};
 use std::alloc::{AllocError, Global};
 use std::collections::BTreeMap;
@@ -89,20 +90,41 @@ pub fn models_name(alloc: Global, values: &Texts) -> Result<Vec<u8>, AllocError>
     Ok(name)
 }
 
-/// The folded name of the install section: the first that is there, else the bare one.
+/// Whether a section is there that has a name with an end behind it.
+fn is_there_with(
+    alloc: Global,
+    sections: &Sections,
+    name: &[u8],
+    end: &[u8],
+) -> Result<bool, AllocError>
+    ensures { IfOk result (λ found. found ≡ is_there (section_found sections.now) (name.now ++ end.now)) }
+{
+    let decorated = joined(alloc, name, end)?;
+    sections.is_there(alloc, &decorated)
+}
+
+/// The end of the install section's name: of the first that is there, else none.
 #[tactic(auto, unfolding(crate::specs::Models::install_name))]
+fn install_end(alloc: Global, sections: &Sections, name: &[u8]) -> Result<&'static [u8], AllocError>
+    ensures { IfOk result (λ end. folded (name.now ++ end.now) ≡ install_name (section_found sections.now) name.now) }
+{
+    if is_there_with(alloc, sections, name, b".NTamd64")? {
+        return Ok(b".NTamd64");
+    }
+    if is_there_with(alloc, sections, name, b".NT")? {
+        return Ok(b".NT");
+    }
+    Ok(b"")
+}
+
+/// The folded name of the install section.
 fn install_name(alloc: Global, sections: &Sections, name: &[u8]) -> Result<Vec<u8>, AllocError>
     ensures { IfOk result (λ install. install.items ≡ install_name (section_found sections.now) name.now) }
 {
-    let decorated = joined(alloc, name, b".NTamd64")?;
-    if sections.is_there(alloc, &decorated)? {
-        return folded_bytes(alloc, &decorated);
-    }
-    let decorated = joined(alloc, name, b".NT")?;
-    if sections.is_there(alloc, &decorated)? {
-        return folded_bytes(alloc, &decorated);
-    }
-    folded_bytes(alloc, name)
+    let end = install_end(alloc, sections, name)?;
+    let mut install = joined(alloc, name, end)?;
+    install.make_ascii_lowercase();
+    Ok(install)
 }
 
 /// The first `FeatureScore`.
@@ -307,6 +329,24 @@ fn line_with(alloc: Global, entry: &Entry, install: &Install) -> Result<ModelLin
     })
 }
 
+/// A models line whose install section is met first: what that gives is kept under its folded name.
+fn first_line_with(
+    alloc: Global,
+    sections: &Sections,
+    installs: &mut Installs,
+    entry: &Entry,
+    name: Vec<u8>,
+) -> Result<ModelLine, AllocError>
+    requires { IsKept (section_found sections.now) installs.old }
+    ensures line { IfOk result (λ line. line ≡ line_with entry.now (install_of (section_found sections.now) name.items)) }
+    ensures kept { OnOk result (IsKept (section_found sections.now) installs.new) }
+{
+    let install = install_of(alloc, sections, &name)?;
+    let line = line_with(alloc, entry, &install)?;
+    installs.kept.insert(name, install)?;
+    Ok(line)
+}
+
 /// The models line that an entry is. What its install section gives is kept for the next line that names it.
 #[tactic(auto, unfolding(crate::specs::Models::model_line))]
 fn model_line(
@@ -323,10 +363,7 @@ fn model_line(
     if let Some(install) = installs.kept.get(name.as_slice()) {
         return line_with(alloc, entry, install);
     }
-    let install = install_of(alloc, sections, &name)?;
-    let line = line_with(alloc, entry, &install)?;
-    installs.kept.insert(name, install)?;
-    Ok(line)
+    first_line_with(alloc, sections, installs, entry, name)
 }
 
 /// Adds the models lines of a section.
@@ -347,8 +384,27 @@ fn push_models(
     Ok(())
 }
 
-/// All models lines, in the order of [Manufacturer]. Cost: what the named sections hold, and what is given.
+/// Adds the models lines of all sections.
 #[tactic(auto, unfolding(crate::specs::Models::all_models))]
+fn push_all_models(
+    alloc: Global,
+    sections: &Sections,
+    makers: &Texts,
+    installs: &mut Installs,
+    lines: &mut ModelLines,
+) -> Result<(), AllocError>
+    requires { IsKept (section_found sections.now) installs.old }
+    ensures { OnOk result (lines.new ≡ lines.old ++ all_models (section_found sections.now) makers.now) }
+{
+    for name in makers.as_slice() {
+        let entries = sections.keyed(alloc, name.bytes())?;
+        lines.reserve(entries.len())?;
+        push_models(alloc, sections, installs, entries, lines)?;
+    }
+    Ok(())
+}
+
+/// All models lines, in the order of [Manufacturer]. Cost: what the named sections hold, and what is given.
 pub fn all_models(
     alloc: Global,
     sections: &Sections,
@@ -360,10 +416,6 @@ pub fn all_models(
     let mut installs = Installs {
         kept: BTreeMap::new(alloc),
     };
-    for name in makers.as_slice() {
-        let entries = sections.keyed(alloc, name.bytes())?;
-        lines.reserve(entries.len())?;
-        push_models(alloc, sections, &mut installs, entries, &mut lines)?;
-    }
+    push_all_models(alloc, sections, makers, &mut installs, &mut lines)?;
     Ok(lines)
 }

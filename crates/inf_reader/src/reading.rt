@@ -1,7 +1,9 @@
 //! The passes over a text's items: what tokens stand for, and what each section holds.
-ghost use Rattle.std.specs.Prelude.{◌≡◌, ◌++◌, ◌∷◌, [], IfOk, OnOk, Some, codes, option_map, if◌then◌else◌, List, ℕ};
+ghost use Rattle.std.specs.Prelude.{◌≡◌, ◌++◌, ◌∷◌, [], IfOk, OnOk, Some, None, codes, option_map, if◌then◌else◌, List, ℕ};
 ghost use Rattle.std.specs.List.{flat_map};
 ghost use Rattle.std.specs.Str.{bytes_eq};
+ghost use Rattle.device_ids.specs.Folding.{folded};
+ghost use Rattle.inf_reader.specs.Entries.{part_text, values_of, value_at};
 ghost use Rattle.inf_reader.specs.Found.{text_found, section_found};
 ghost use Rattle.inf_reader.specs.Maps.{by_key};
 ghost use Rattle.inf_reader.specs.Numbers.{or_else};
@@ -62,6 +64,22 @@ fn is_strings(section: Option<&[u8]>) -> bool
     }
 }
 
+/// A key under [Strings], folded.
+fn string_key(alloc: Global, key: &[Symbol]) -> Result<Vec<u8>, AllocError>
+    ensures { IfOk result (λ name. name.items ≡ folded (part_text None key.now)) }
+{
+    let key = part_text(alloc, None, key)?;
+    folded_bytes(alloc, key.bytes())
+}
+
+/// The first value of a list under [Strings].
+fn string_value(alloc: Global, list: &[Symbol]) -> Result<Text, AllocError>
+    ensures { IfOk result (λ text. text ≡ value_at (values_of None list.now) 0) }
+{
+    let values = values_of(alloc, None, list)?;
+    Text::make(alloc, value_at(&values, 0))
+}
+
 /// Adds what a line under [Strings] gives, if its key is new.
 fn add_string(
     alloc: Global,
@@ -71,13 +89,11 @@ fn add_string(
     ensures { OnOk result ((name : List ℕ) → by_key texts.new name ≡ or_else (by_key texts.old name) (string_in name symbols.now)) }
 {
     let (key, list) = sides(symbols);
-    let key = part_text(alloc, None, key)?;
-    let key = folded_bytes(alloc, key.bytes())?;
+    let key = string_key(alloc, key)?;
     if texts.contains_key(key.as_slice()) {
         return Ok(());
     }
-    let values = values_of(alloc, None, list)?;
-    texts.insert(key, Text::make(alloc, value_at(&values, 0))?)?;
+    texts.insert(key, string_value(alloc, list)?)?;
     Ok(())
 }
 
@@ -169,21 +185,20 @@ fn add_line(
     alloc: Global,
     strings: &Strings,
     gathered: &mut Gathered,
-    mut current: Current,
+    current: &mut Current,
     number: u32,
     symbols: &Symbols,
-) -> Result<Current, AllocError>
-    ensures name { IfOk result (λ next. next.name.items ≡ current.name.items) }
-    ensures section { IfOk result (λ next. next.section ≡ added current.section (entry_at (text_found strings.now) (placed current.name.items number symbols.now) ∷ [])) }
-    ensures makers { OnOk result (gathered.new.makers ≡ gathered.old.makers ++ maker_name current.name.items (entry_at (text_found strings.now) (placed current.name.items number symbols.now))) }
-    ensures fault { OnOk result (gathered.new.fault ≡ earlier gathered.old.fault (least_of (score_fault (entry_at (text_found strings.now) (placed current.name.items number symbols.now))))) }
+) -> Result<(), AllocError>
+    ensures name { OnOk result (current.new.name.items ≡ current.old.name.items) }
+    ensures section { OnOk result (current.new.section ≡ added current.old.section (entry_at (text_found strings.now) (placed current.old.name.items number symbols.now) ∷ [])) }
+    ensures makers { OnOk result (gathered.new.makers ≡ gathered.old.makers ++ maker_name current.old.name.items (entry_at (text_found strings.now) (placed current.old.name.items number symbols.now))) }
+    ensures fault { OnOk result (gathered.new.fault ≡ earlier gathered.old.fault (least_of (score_fault (entry_at (text_found strings.now) (placed current.old.name.items number symbols.now))))) }
 {
     let tokens = tokens_in(strings, &current.name);
     let entry = entry_of(alloc, tokens, number, symbols.as_slice())?;
     gathered.fault = earlier(gathered.fault, score_fault(&entry));
     push_maker(alloc, &mut gathered.makers, &current.name, &entry)?;
-    current.section.add(alloc, entry)?;
-    Ok(current)
+    current.section.add(alloc, entry)
 }
 
 /// Takes in the next item.
@@ -211,9 +226,10 @@ fn take_in(
             Ok(Some(current_of(alloc, sections, &name)?))
         }
         Item::Line(number, symbols) => match current {
-            Some(current) => Ok(Some(add_line(
-                alloc, strings, gathered, current, number, &symbols,
-            )?)),
+            Some(mut current) => {
+                add_line(alloc, strings, gathered, &mut current, number, &symbols)?;
+                Ok(Some(current))
+            }
             None => Ok(None),
         },
     }

@@ -1,5 +1,6 @@
 //! Tokens, and what stands for them.
-ghost use Rattle.std.specs.Prelude.{◌≡◌, ◌++◌, IfOk, OnOk, option_map};
+ghost use Rattle.std.specs.Prelude.{◌≡◌, ◌++◌, ◌∷◌, [], IfOk, OnOk, option_map};
+ghost use Rattle.device_ids.specs.Folding.{folded};
 ghost use Rattle.inf_reader.specs.Tokens.{token, replaced, text_with};
 ghost use Rattle.inf_reader.specs.Found.{text_found};
 
@@ -15,12 +16,23 @@ pub struct Strings {
 }
 
 impl Strings {
-    /// What a folded name stands for. Cost: its length for each of a logarithm of names.
-    fn get(&self, name: &[u8]) -> Option<&Text>
-        ensures { option_map (λ t. t.now) result ≡ text_found self.now name.now }
+    /// What a name stands for; it is folded here. Cost: its length for each of a logarithm of names.
+    fn get(&self, alloc: Global, name: &[u8]) -> Result<Option<&Text>, AllocError>
+        ensures { IfOk result (λ found. option_map (λ t. t.now) found ≡ text_found self.now (folded name.now)) }
     {
-        self.texts.get(name)
+        let folded = folded_bytes(alloc, name)?;
+        Ok(self.texts.get(folded.as_slice()))
     }
+}
+
+/// Adds a name between its marks, as it is written.
+fn push_written(name: &[u8], out: &mut Vec<u8>) -> Result<(), AllocError>
+    ensures { OnOk result (out.new.items ≡ out.old.items ++ 0x25 ∷ name.now ++ 0x25 ∷ []) }
+{
+    out.push(b'%')?;
+    out.extend_from_slice(name)?;
+    out.push(b'%')?;
+    Ok(())
 }
 
 /// Adds what stands for a name between two marks.
@@ -36,36 +48,32 @@ fn push_token(
         out.push(b'%')?;
         return Ok(());
     }
-    let folded = folded_bytes(alloc, name)?;
-    match strings.get(&folded) {
+    match strings.get(alloc, name)? {
         Some(text) => out.extend_from_slice(text.bytes()),
-        None => {
-            out.push(b'%')?;
-            out.extend_from_slice(name)?;
-            out.push(b'%')?;
-            Ok(())
-        }
+        None => push_written(name, out),
     }
 }
 
-/// The bytes of a text with its tokens replaced.
-fn replaced_bytes(alloc: Global, strings: &Strings, text: &[u8]) -> Result<Vec<u8>, AllocError>
-    ensures { IfOk result (λ bytes. bytes.items ≡ replaced (text_found strings.now) text.now) }
+/// Adds a text with its tokens replaced.
+fn push_replaced(
+    alloc: Global,
+    strings: &Strings,
+    text: &[u8],
+    out: &mut Vec<u8>,
+) -> Result<(), AllocError>
+    ensures { OnOk result (out.new.items ≡ out.old.items ++ replaced (text_found strings.now) text.now) }
 {
-    let mut out = Vec::new(alloc);
     let mut rest = text;
     while let Some((plain, name_on)) = split_once(rest, b'%') {
         out.extend_from_slice(plain)?;
         let Some((name, after)) = split_once(name_on, b'%') else {
             out.push(b'%')?;
-            out.extend_from_slice(name_on)?;
-            return Ok(out);
+            return out.extend_from_slice(name_on);
         };
-        push_token(alloc, strings, name, &mut out)?;
+        push_token(alloc, strings, name, out)?;
         rest = after;
     }
-    out.extend_from_slice(rest)?;
-    Ok(out)
+    out.extend_from_slice(rest)
 }
 
 /// A text with its tokens replaced, or as it is written.
@@ -74,7 +82,8 @@ pub fn text_with(alloc: Global, strings: Option<&Strings>, text: &[u8]) -> Resul
 {
     match strings {
         Some(strings) => {
-            let bytes = replaced_bytes(alloc, strings, text)?;
+            let mut bytes = Vec::new(alloc);
+            push_replaced(alloc, strings, text, &mut bytes)?;
             Text::make(alloc, &bytes)
         }
         None => Text::make(alloc, text),

@@ -1,28 +1,16 @@
-use Rattle.std.proofs.Common.{◌∙◌, ap, arith, length, Option, subst}
-use Rattle.std.specs.List.{flat_map}
+use Rattle.std.proofs.Common.{◌∙◌, ap, arith, length, Result, subst}
+use Rattle.inf_reader.specs.declared.parts.Inf.{Inf}
 use Rattle.inf_reader.specs.declared.parts.InfError.{InfError}
-use Rattle.inf_reader.specs.Found.{text_found, section_found}
-use Rattle.inf_reader.specs.Sections.{strings_of}
-use Rattle.inf_reader.specs.Meaning.{mark_of, least_of, earlier, date_fault, driver_entry, judged, Gives}
+use Rattle.inf_reader.specs.Items.{items_of}
+use Rattle.inf_reader.specs.Meaning.{meaning_of, inf, Gives}
 use Rattle.inf_reader.proofs.Bounds.{text_short}
-use Rattle.inf_reader.proofs.MeaningLemmas.{inf_is}
 use Rattle.inf_reader.proofs.meaning.read.Goals as goal
 
 pub items_of-requires : goal.items_of-requires
 items_of-requires c = omega (arith, text_short c.args.bytes.now, ap length (c.as_bytes.ensures.value ∙ c.in_ok-text.ensures))
 
 pub returns : goal.returns
+unfolding inf
 returns c =
-    let strings = text_found c.in_ok-strings.strings in
-    let sections = section_found c.in_ok-index.index.sections in
-    let gathered = c.in_ok-index.index.gathered in
-    let P : Option InfError → Type 0 = λ f. Gives c.judged.result (judged sections gathered.makers (earlier f (least_of (date_fault (driver_entry sections))))) in
-    inf_is c.args.bytes.now c.as_bytes.result.now c.in_ok-items.items.items strings sections gathered.makers c.first_mark-mark.result gathered.fault c.judged.result
-    (c.as_bytes.ensures.value ∙ c.in_ok-text.ensures)
-    c.in_ok-items.ensures
-    (λ q. c.in_ok-strings.ensures q ∙ ap (λ l. strings_of l q) c.deref.ensures.value)
-    (c.first_mark-mark.ensures ∙ ap (λ l. least_of (flat_map mark_of l)) c.deref-2.ensures.value)
-    c.in_ok-index.ensures.fault
-    c.in_ok-index.ensures.makers
-    c.in_ok-index.ensures.sections
-    (subst P c.earlier-fault.ensures c.judged.ensures)
+    let P : Result Inf InfError → Type 0 = λ r. Gives c.meaning_of.result r in
+    subst P (ap meaning_of (c.in_ok-items_of.ensures ∙ ap items_of (c.as_bytes.ensures.value ∙ c.in_ok-text.ensures))) c.meaning_of.ensures
