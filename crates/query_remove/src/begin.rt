@@ -1,13 +1,17 @@
 ghost use Rattle.std.specs.Prelude.{◌≡◌, IfOk, IsSome};
 ghost use Rattle.pnp_model.specs.Cores.{node_at};
 ghost use Rattle.pnp_model.specs.Keyed.{those};
-ghost use Rattle.pnp_model.specs.Removals.{is_queried_node};
+ghost use Rattle.pnp_model.specs.Records.{Core};
+ghost use Rattle.pnp_model.specs.Removals.{is_queried_node, begun_with};
+ghost use Rattle.devnode_tree.specs.Cores.{at_related};
+ghost use Rattle.operation_frame.specs.Queues.{all_after};
+ghost use Rattle.relations.specs.Leaving.{IsLeaving};
 ghost use Rattle.query_remove.specs.Begins.{BegunFor};
 
 use crate::frame::{Removal, Stage};
 use device_ids::WantOfMemory;
 use device_stack::Walk;
-use devnode_tree::Tree;
+use devnode_tree::{Node, Tree};
 use operation_frame::SerialQueue;
 use pnp_labels::{DevState, Label, Minor, OpKind};
 use relations::{Relations, SerialSet};
@@ -37,7 +41,65 @@ fn queried(alloc: Global, tree: &Tree, set: &SerialSet) -> Result<SerialQueue, W
     Ok(queue)
 }
 
+/// Those of a set that are asked, or refuse unasked; and all of it where there are none.
+fn to_ask(
+    alloc: Global,
+    tree: &Tree,
+    set: &SerialSet,
+) -> Result<(SerialQueue, SerialQueue), WantOfMemory>
+    ensures queried { IfOk result (λ queues. queues.0 ≡ those (λ k. is_queried_node (node_at k tree.now.nodes)) set.now) }
+    ensures all { IfOk result (λ queues. queues.1 ≡ all_after set.now queues.0) }
+{
+    let todo = queried(alloc, tree, set)?;
+    let all = todo.all_where_none(alloc, set)?;
+    Ok((todo, all))
+}
+
+/// A device and all that depends on it, in the order in which they leave.
+fn leaving(
+    alloc: Global,
+    tree: &Tree,
+    relations: &Relations,
+    target: u64,
+) -> Result<SerialSet, WantOfMemory>
+    requires { IsSome (node_at target tree.now.nodes) }
+    ensures { IfOk result (λ set. IsLeaving tree.now.nodes relations.now target set) }
+{
+    let order = relations.leaving(alloc, tree, target)?;
+    SerialSet::of(alloc, &order)
+}
+
 impl Removal {
+    /// The removal of a device and of the others of this set stands before the first that is to be asked.
+    fn of_set(
+        alloc: Global,
+        tree: &Tree,
+        relations: &Relations,
+        kind: OpKind,
+        node: &Node,
+        set: SerialSet,
+    ) -> Result<Removal, WantOfMemory>
+        ensures { IfOk result (λ removal. (around : Core) → removal ≡ begun_with (at_related tree.now.nodes relations.now around) kind node.now set) }
+    {
+        let path = node.path.text(alloc)?;
+        let ejecting = relations.ejected(alloc, &set)?;
+        let (todo, all) = to_ask(alloc, tree, &set)?;
+        let mut removal = Removal {
+            kind,
+            target: node.serial,
+            path,
+            set,
+            ejecting,
+            todo,
+            agreed: SerialQueue::new(alloc),
+            refuser: None,
+            stage: Stage::Ending,
+            walk: Walk::begin(Minor::QueryRemove),
+        };
+        removal.ask_next(tree, all);
+        Ok(removal)
+    }
+
     /// The removal of a device begins: its dependents and then it itself are to be asked, those that are Started or wait
     /// to be finished. The line is that of the begin. Condition: the device is there. Cost: that of `Relations::leaving`.
     pub fn begin(
@@ -51,33 +113,9 @@ impl Removal {
         ensures { IfOk result (λ begun. BegunFor (node_at serial tree.now.nodes) tree.now.nodes relations.now kind begun.0 begun.1) }
     {
         let node = tree.at(serial);
-        let target = node.serial;
-        let line = node.path.text(alloc)?;
         let path = node.path.text(alloc)?;
-        let order = relations.leaving(alloc, tree, target)?;
-        let set = SerialSet::of(alloc, &order)?;
-        let ejecting = relations.ejected(alloc, &set)?;
-        let todo = queried(alloc, tree, &set)?;
-        let all = todo.all_where_none(alloc, &set)?;
-        let mut removal = Removal {
-            kind,
-            target,
-            path,
-            set,
-            ejecting,
-            todo,
-            agreed: SerialQueue::new(alloc),
-            refuser: None,
-            stage: Stage::Ending,
-            walk: Walk::begin(Minor::QueryRemove),
-        };
-        removal.ask_next(tree, all);
-        Ok((
-            Label::Begin {
-                op: kind,
-                path: line,
-            },
-            removal,
-        ))
+        let set = leaving(alloc, tree, relations, node.serial)?;
+        let removal = Removal::of_set(alloc, tree, relations, kind, node, set)?;
+        Ok((Label::Begin { op: kind, path }, removal))
     }
 }

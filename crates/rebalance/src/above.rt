@@ -1,4 +1,4 @@
-ghost use Rattle.std.specs.Prelude.{◌≡◌, ℕ, IfOk};
+ghost use Rattle.std.specs.Prelude.{◌≡◌, ℕ, not, IfOk};
 ghost use Rattle.pnp_model.specs.Keyed.{those};
 ghost use Rattle.pnp_model.specs.Tests.{has};
 ghost use Rattle.pnp_model.specs.Trees.{is_up, above, stands_up};
@@ -48,6 +48,23 @@ fn all_above(alloc: Global, tree: &Tree, serial: u64) -> Result<SerialSet, WantO
     Ok(set)
 }
 
+/// Those of a queue that are not of a set, which empties the queue.
+fn others(
+    alloc: Global,
+    set: &SerialSet,
+    queue: &mut SerialQueue,
+) -> Result<SerialQueue, WantOfMemory>
+    ensures { IfOk result (λ left. left ≡ those (λ k. not (has set.now k)) queue.old) }
+{
+    let mut left = SerialQueue::new(alloc);
+    'queue: while let Some(serial) = take_first(queue) {
+        if !set.has(serial) {
+            left.push_back(serial)?;
+        }
+    }
+    Ok(left)
+}
+
 /// What is still to ask after a device that refused: all but those above it. Cost: as `stands_up`, and how many there
 /// are.
 pub(crate) fn left_to_ask(
@@ -59,15 +76,9 @@ pub(crate) fn left_to_ask(
     ensures { IfOk result (λ left. left ≡ those (is_not_above tree.now.nodes refuser) (rest todo.now)) }
 {
     let above = all_above(alloc, tree, refuser)?;
-    let mut others = todo.copy(alloc)?;
-    others.drop_first();
-    let mut left = SerialQueue::new(alloc);
-    'others: while let Some(serial) = take_first(&mut others) {
-        if !above.has(serial) {
-            left.push_back(serial)?;
-        }
-    }
-    Ok(left)
+    let mut todo = todo.copy(alloc)?;
+    todo.drop_first();
+    others(alloc, &above, &mut todo)
 }
 
 /// Devices at the front that have one above that is not Started are passed over. It takes no memory. Cost: as

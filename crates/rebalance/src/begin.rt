@@ -1,5 +1,9 @@
-ghost use Rattle.std.specs.Prelude.{Some, None, IfOk, IsSome};
+ghost use Rattle.std.specs.Prelude.{◌≡◌, Some, None, IfOk, IsSome};
 ghost use Rattle.pnp_model.specs.Cores.{node_at};
+ghost use Rattle.pnp_model.specs.Records.{Core};
+ghost use Rattle.pnp_model.specs.Rebalances.{begun_with};
+ghost use Rattle.devnode_tree.specs.Cores.{at_nodes};
+ghost use Rattle.devnode_tree.specs.Trees.{IsTree};
 ghost use Rattle.rebalance.specs.Begins.{BegunFor};
 
 use crate::asked::asked;
@@ -7,7 +11,7 @@ use crate::frame::{Rebalance, Stage};
 use assign_search::Found;
 use device_ids::WantOfMemory;
 use device_stack::Walk;
-use devnode_tree::Tree;
+use devnode_tree::{Node, Tree};
 use operation_frame::SerialQueue;
 use pnp_labels::{Label, Minor};
 use resource_reqs::Reqs;
@@ -42,6 +46,33 @@ impl Rebalance {
         Rebalance::begin_with(alloc, tree, serial, Some(wanted))
     }
 
+    /// A rebalance stands before the first device that is to be asked, or the change to what is wanted.
+    fn of_wanted(
+        alloc: Global,
+        tree: &Tree,
+        node: &Node,
+        wanted: Option<Reqs>,
+    ) -> Result<Rebalance, WantOfMemory>
+        requires { IsTree tree.now }
+        ensures { IfOk result (λ rebalance. (around : Core) → rebalance ≡ begun_with (at_nodes tree.now.nodes around) node.now wanted) }
+    {
+        let path = node.path.text(alloc)?;
+        let todo = asked(alloc, tree)?;
+        let mut rebalance = Rebalance {
+            target: node.serial,
+            path,
+            wanted,
+            todo: SerialQueue::new(alloc),
+            agreed: SerialQueue::new(alloc),
+            refused: SerialQueue::new(alloc),
+            found: Found::NoFit,
+            stage: Stage::Searching,
+            walk: Walk::begin(Minor::QueryStop),
+        };
+        rebalance.ask_all(alloc, todo)?;
+        Ok(rebalance)
+    }
+
     /// A rebalance begins, or the change to what is wanted.
     fn begin_with(
         alloc: Global,
@@ -53,23 +84,9 @@ impl Rebalance {
         ensures { IfOk result (λ begun. BegunFor wanted (node_at serial tree.now.nodes) tree.now.nodes begun.0 begun.1) }
     {
         let node = tree.at(serial);
-        let target = node.serial;
-        let line = node.path.text(alloc)?;
         let path = node.path.text(alloc)?;
-        let todo = asked(alloc, tree)?;
-        let mut rebalance = Rebalance {
-            target,
-            path,
-            wanted,
-            todo: SerialQueue::new(alloc),
-            agreed: SerialQueue::new(alloc),
-            refused: SerialQueue::new(alloc),
-            found: Found::NoFit,
-            stage: Stage::Searching,
-            walk: Walk::begin(Minor::QueryStop),
-        };
+        let rebalance = Rebalance::of_wanted(alloc, tree, node, wanted)?;
         let op = rebalance.kind();
-        rebalance.ask_all(alloc, todo)?;
-        Ok((Label::Begin { op, path: line }, rebalance))
+        Ok((Label::Begin { op, path }, rebalance))
     }
 }

@@ -163,14 +163,15 @@ impl Rebalance {
         ensures asks { OnOk result (self.new ≡ ask_on self.old todo) }
         ensures err { OnErr result (self.new ≡ self.old) }
     {
-        if todo.get(0).is_some() {
-            self.todo = todo;
-            self.ask_first();
-        } else if self.has_refused() {
-            self.cancel_agreed(alloc)?;
-        } else {
-            self.todo = todo;
+        let is_over = todo.get(0).is_none();
+        if is_over && self.has_refused() {
+            return self.cancel_agreed(alloc);
+        }
+        self.todo = todo;
+        if is_over {
             self.stage = Stage::Searching;
+        } else {
+            self.ask_first();
         }
         Ok(())
     }

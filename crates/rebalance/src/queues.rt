@@ -1,4 +1,4 @@
-ghost use Rattle.std.specs.Prelude.{◌≡◌, ◌==◌, [], ◌∷◌, ◌++◌, reverse, IfOk, IfNone, option_to_list};
+ghost use Rattle.std.specs.Prelude.{◌≡◌, ◌==◌, [], ◌∷◌, ◌++◌, reverse, IfOk, IfNone, OnOk, option_to_list};
 ghost use Rattle.pnp_model.specs.Keyed.{without_first};
 
 use device_ids::WantOfMemory;
@@ -27,6 +27,26 @@ pub(crate) fn reversed(alloc: Global, queue: &SerialQueue) -> Result<SerialQueue
     Ok(turned)
 }
 
+/// Appends a device, and then these without it, which empties the queue.
+fn push_with_first(
+    all: &mut Vec<u64>,
+    first: u64,
+    queue: &mut SerialQueue,
+) -> Result<(), WantOfMemory>
+    ensures { OnOk result (all.new.items ≡ all.old.items ++ first ∷ without_first (λ j. j == first) queue.old) }
+{
+    all.push(first)?;
+    let mut is_left_out = false;
+    'queue: while let Some(serial) = take_first(queue) {
+        if serial == first && !is_left_out {
+            is_left_out = true;
+        } else {
+            all.push(serial)?;
+        }
+    }
+    Ok(())
+}
+
 /// A device, and then these without it.
 pub(crate) fn with_first(
     alloc: Global,
@@ -37,14 +57,6 @@ pub(crate) fn with_first(
 {
     let mut left = queue.copy(alloc)?;
     let mut all = Vec::new(alloc);
-    all.push(first)?;
-    let mut is_left_out = false;
-    'left: while let Some(serial) = take_first(&mut left) {
-        if serial == first && !is_left_out {
-            is_left_out = true;
-        } else {
-            all.push(serial)?;
-        }
-    }
+    push_with_first(&mut all, first, &mut left)?;
     Ok(all)
 }

@@ -1,5 +1,5 @@
 -- The answer to the search for the resources of a device is a step of the machine.
-use Rattle.std.proofs.Common.{◌≡◌, ℕ, List, [], ◌∷◌, Option, Some, refl, sym, ap, ◌∙◌, subst, arith, length}
+use Rattle.std.proofs.Common.{◌≡◌, ℕ, List, [], ◌∷◌, Option, Some, Result, Ok, Err, IfOk, OnOk, refl, sym, ap, ◌∙◌, subst, arith, length}
 use Rattle.std.proofs.lemmas.Bool.Decides.{nat_tests}
 use Rattle.resource_reqs.specs.Resources.{Res, Reqs}
 use Rattle.resource_reqs.specs.Spelling.{IsAnswer, IsPlan}
@@ -8,14 +8,15 @@ use Rattle.pnp_labels.specs.declared.label.Label.{Label}
 use Rattle.pnp_labels.specs.declared.states.Problem.{Problem}
 use Rattle.pnp_labels.specs.declared.words.Minor.{Minor}
 use Rattle.pnp_model.specs.Keyed.{changed_first}
-use Rattle.pnp_model.specs.Records.{Node, Core, Phase}
+use Rattle.pnp_model.specs.Records.{Node, Core, Driver, Phase, Activity}
 use Rattle.pnp_model.specs.Records.Phase.{Starting, Due}
 use Rattle.pnp_model.specs.Records.Doing.{Searches}
 use Rattle.pnp_model.specs.Rebalances.{reqs_of}
-use Rattle.pnp_model.specs.Cores.{is_node, node_at, with_holds}
+use Rattle.pnp_model.specs.Cores.{is_node, node_at, set_rack, with_holds}
 use Rattle.pnp_model.specs.Starts.{own_part, own_problem, searched}
 use Rattle.pnp_model.specs.Walks.{walk_of}
 use Rattle.devnode_tree.specs.Cores.{at_nodes}
+use Rattle.devnode_tree.specs.Trees.{Tree, changed}
 use Rattle.trial_journal.specs.ByKind.{Arbiters}
 use Rattle.assign_search.specs.Fixed.{answer_of}
 use Rattle.assign_search.specs.declared.plan.Found.{Found}
@@ -84,3 +85,14 @@ module _ (budget k : ℕ) (nodes : List Node) (a : Arbiters) (node : Node) (at :
   pub found_spent : Answers nodes a (k ∷ []) budget Spent → SearchedFor budget (node_at k nodes) before (steps.Did (Label.Spent path)) before (Due Problem.Budget)
   found_spent answers =
       for_node (steps.Did (Label.Spent path)) nodes (Due Problem.Budget) (answer_of Spent, own_answer Spent answers, (refl, ap Label.Spent named, refl, refl))
+
+-- The device gets what was found, where there is memory
+module _ (budget k : ℕ) (tree tree' : Tree) (a : Arbiters) (node : Node) (at : node_at k tree.nodes ≡ Some node) (path : Text) (named : path ≡ node.path)
+    (plan : List (List Res)) (answers : Answers tree.nodes a (k ∷ []) budget (Assignment plan)) (holds : List Res) (part : holds ≡ own_part plan) (work work' : Activity) where
+  pub found_given : {E : Type 0} (result : Result StartStep E) → IfOk result (λ step. step ≡ steps.Did (Label.Assign path holds)) → OnOk result (tree' ≡ changed k (with_holds holds) tree)
+      → OnOk result (work' ≡ record work { phase = Starting (walk_of Minor.Start) })
+      → IfOk result (λ step. (rack : List Driver) (around : Core) → Mirrors around.reserved tree.nodes a → SearchedFor budget (node_at k tree.nodes) (at_nodes tree.nodes (set_rack rack around)) step (at_nodes tree'.nodes (set_rack rack around)) work'.phase)
+  found_given (Err error) told given starts = tt
+  found_given (Ok step) told given starts = λ rack around mirrors.
+      subst (λ (s : StartStep). SearchedFor budget (node_at k tree.nodes) (at_nodes tree.nodes (set_rack rack around)) s (at_nodes tree'.nodes (set_rack rack around)) work'.phase) (sym told)
+      (found_assignment budget k tree.nodes a node at path named (set_rack rack around) mirrors plan holds holds tree'.nodes work'.phase answers part refl (ap (λ (t : Tree). t.nodes) given) (ap (λ (w : Activity). w.phase) starts))

@@ -1,5 +1,5 @@
 -- The choice of drivers for a device, and the begin of its start.
-use Rattle.std.specs.Prelude.{◌≡◌, ◌≤◌, ℕ, Bool, true, false, List, ◌++◌, Option, Some, None, option_map, length}
+use Rattle.std.specs.Prelude.{◌≡◌, ◌≤◌, ℕ, Bool, true, false, List, ◌∷◌, ◌++◌, Option, Some, None, option_map, length}
 use Rattle.inf_reader.specs.declared.parts.Inf.{Inf}
 use Rattle.pnp_labels.specs.Texts.{Text}
 use Rattle.pnp_labels.specs.declared.label.Label.{Label}
@@ -29,6 +29,18 @@ AppendedBy (Some numbers) true old new = new ≡ old ++ numbers
 AppendedBy None false old new = Unit {0}
 AppendedBy (Some numbers) false old new = ⊥
 AppendedBy None true old new = ⊥
+
+-- the numbers of the filters with that of the function driver between them
+abbrev pub between : Option (List ℕ) → Option ℕ → Option (List ℕ) → Option (List ℕ)
+between (Some lower) (Some driver) (Some upper) = Some (lower ++ driver ∷ upper)
+between (Some lower) (Some driver) None = None
+between (Some lower) None upper = None
+between None driver upper = None
+
+-- all these were appended, and the function driver is told, where all have namesakes
+abbrev pub AppendedLine : Option (List ℕ) → Option ℕ → Option (List ℕ) → (told : Option ℕ) → List ℕ → List ℕ → Type 0
+AppendedLine lower driver upper (Some told) old new = (driver ≡ Some told) × AppendedBy (between lower driver upper) true old new
+AppendedLine lower driver upper None old new = AppendedBy (between lower driver upper) false old new
 
 -- the step by what was chosen; `drivers` as the machine keeps them
 abbrev pub step_of : State → Node → Chosen → Step

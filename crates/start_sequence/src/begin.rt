@@ -1,11 +1,12 @@
 ghost use Rattle.std.specs.Prelude.{◌≡◌, ◌≤◌, ◌+◌, ℕ, nat_le, IfOk, IfSome, OnErr, IsSome, length};
+ghost use Rattle.pnp_model.specs.Books.{driver_named};
 ghost use Rattle.pnp_model.specs.Cores.{node_at};
 ghost use Rattle.pnp_model.specs.Records.{State};
 ghost use Rattle.pnp_model.specs.Tasks.{start_enabled, numbered};
 ghost use Rattle.devnode_tree.specs.Identities.{identities};
 ghost use Rattle.trial_journal.specs.ByKind as ByKind;
 ghost use Rattle.device_holdings.specs.Mirrors.{KeepsMirror};
-ghost use Rattle.start_sequence.specs.Begins.{settings_of, step_of, AppendedBy, ChosenBy, HasFewIds, BegunFor};
+ghost use Rattle.start_sequence.specs.Begins.{settings_of, step_of, AppendedBy, AppendedLine, ChosenBy, HasFewIds, BegunFor};
 ghost use Rattle.start_sequence.specs.Works.{phase_of};
 ghost use Rattle.pnp_model.specs.Starts.{adding};
 ghost use Rattle.driver_rank.specs.Best.{choice_of};
@@ -13,7 +14,7 @@ ghost use Rattle.driver_rank.specs.Candidates.{match_of};
 
 use crate::pending::Pending;
 use crate::work::{Phase, StartWork};
-use device_ids::{TextList, WantOfMemory};
+use device_ids::{Text, TextList, WantOfMemory};
 use device_stack::driver_name;
 use devnode_tree::{Node, Tree};
 use driver_rack::Drivers;
@@ -55,6 +56,30 @@ fn append_numbers<R: Drivers>(
     Ok(true)
 }
 
+/// Appends the numbers of all drivers of a line, that of the function driver between those of the filters, and tells that
+/// one; none exactly where one of them has no namesake in the rack.
+fn append_line<R: Drivers>(
+    drivers: &mut VecDeque<u32>,
+    rack: &R,
+    lower: &TextList,
+    service: &Text,
+    upper: &TextList,
+) -> Result<Option<u32>, WantOfMemory>
+    ensures { IfOk result (λ driver. AppendedLine (numbered (R.rows rack.now) lower.now) (driver_named service.now (R.rows rack.now)) (numbered (R.rows rack.now) upper.now) driver drivers.old.items drivers.new.items) }
+{
+    if !append_numbers(drivers, rack, lower)? {
+        return Ok(None);
+    }
+    let Some(driver) = rack.find(service) else {
+        return Ok(None);
+    };
+    drivers.push_back(driver)?;
+    if !append_numbers(drivers, rack, upper)? {
+        return Ok(None);
+    }
+    Ok(Some(driver))
+}
+
 /// Whether so many filters and the function driver are not too many drivers.
 fn are_few(lower: u64, upper: u64) -> bool
     ensures { result ≡ nat_le (lower + 1 + upper) 16 }
@@ -75,21 +100,14 @@ fn numbered<R: Drivers>(alloc: Global, rack: &R, best: &Candidate) -> Result<Cho
         return Ok(Chosen::Trouble(Problem::FailedInstall));
     }
     let mut drivers = VecDeque::new(alloc);
-    if !append_numbers(&mut drivers, rack, &line.lower)? {
-        return Ok(Chosen::Trouble(Problem::LoadFailed));
+    match append_line(&mut drivers, rack, &line.lower, service, &line.upper)? {
+        Some(driver) => Ok(Chosen::Drivers {
+            rank: best.rank,
+            driver,
+            drivers: Pending::of(drivers),
+        }),
+        None => Ok(Chosen::Trouble(Problem::LoadFailed)),
     }
-    let Some(driver) = rack.find(service) else {
-        return Ok(Chosen::Trouble(Problem::LoadFailed));
-    };
-    drivers.push_back(driver)?;
-    if !append_numbers(&mut drivers, rack, &line.upper)? {
-        return Ok(Chosen::Trouble(Problem::LoadFailed));
-    }
-    Ok(Chosen::Drivers {
-        rank: best.rank,
-        driver,
-        drivers: Pending::of(drivers),
-    })
 }
 
 /// The drivers for a device, by the best choice of the INFs; or its problem where its path is disabled, or where

@@ -221,12 +221,12 @@ impl StartWork {
         ensures { self.new ≡ record self.old { phase = phase_added self.old.phase ok } }
     {
         if !ok {
-            self.phase = Phase::Due(Problem::FailedAdd);
+            self.enter(Phase::Due(Problem::FailedAdd));
             return;
         }
         if let Phase::Adding(pending) = &mut self.phase {
             if pending.drop_first() {
-                self.phase = Phase::Searching;
+                self.enter(Phase::Searching);
             }
         }
     }
@@ -273,7 +273,7 @@ impl StartWork {
                 Started::On(label) => Ok(StartStep::Did(label)),
                 Started::Up(label) => Ok(StartStep::Up(label)),
                 Started::Refused(label) => {
-                    self.phase = Phase::Due(Problem::FailedStart);
+                    self.enter(Phase::Due(Problem::FailedStart));
                     Ok(StartStep::Did(label))
                 }
             },
@@ -289,7 +289,7 @@ impl StartWork {
                 if !has_drivers {
                     return Ok(StartStep::Over(label));
                 }
-                self.phase = Phase::Removing(Walk::begin(Minor::Remove));
+                self.enter(Phase::Removing(Walk::begin(Minor::Remove)));
                 Ok(StartStep::Did(label))
             }
         }

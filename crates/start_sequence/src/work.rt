@@ -3,7 +3,7 @@ ghost use Rattle.pnp_model.specs.Machine.{phase_walk};
 ghost use Rattle.pnp_model.specs.Walks.{walk_of};
 ghost use Rattle.pnp_model.specs.Records.Phase.{Starting, Removing};
 ghost use Rattle.pnp_labels.specs.declared.words.Minor.TheVariants.{Start, Remove};
-ghost use Rattle.start_sequence.specs.Works.{minor_that_waits, CompletedWork};
+ghost use Rattle.start_sequence.specs.Works.{minor_that_waits, phase_of, CompletedWork};
 
 use crate::pending::Pending;
 use device_stack::{NoSuchRequest, Walk};
@@ -65,6 +65,13 @@ impl StartWork {
         ensures { result ≡ self.now.serial }
     {
         self.serial
+    }
+
+    /// The start goes on from this phase.
+    pub(crate) fn enter(&mut self, phase: Phase)
+        ensures { self.new ≡ record self.old { phase = phase_of phase } }
+    {
+        self.phase = phase;
     }
 
     /// The request that is on its way through the device's drivers; none exactly where none is.

@@ -9,8 +9,6 @@ leaving-requires c = own_there c.args.tree.now.nodes c.args.serial c.node.inside
 
 pub returns : goal.returns
 returns c =
-    let nodes = c.args.tree.now.nodes in
     let seen = c.node.view_is in
-    begun_is nodes c.args.relations.now c.args.kind c.args.serial c.at-node.result.now c.at-node.ensures.node c.in_ok-line.line c.in_ok-path.path c.in_ok-order.order c.in_ok-set.set c.in_ok-ejecting.ejecting c.in_ok-todo.todo c.new.result c.node.inside.serial c.ask_next.new.self
-    (c.in_ok-line.ensures ∙ (ap (λ (n : Node). n.path) seen)) (c.in_ok-path.ensures ∙ (ap (λ (n : Node). n.path) seen)) (ap (λ (n : Node). n.serial) seen)
-    c.in_ok-order.ensures c.in_ok-set.ensures c.in_ok-ejecting.ensures c.in_ok-todo.ensures c.new.ensures c.ask_next.ensures
+    begun_is c.args.tree.now.nodes c.args.relations.now c.args.kind c.at-node.result.now c.args.serial c.in_ok-path.path c.in_ok-set.set c.node.inside.serial c.in_ok-removal.removal c.at-node.ensures.node
+    (c.in_ok-path.ensures ∙ ap (λ (n : Node). n.path) seen) (ap (λ (n : Node). n.serial) seen) c.in_ok-set.ensures c.in_ok-removal.ensures

@@ -19,9 +19,10 @@ returns-in-Refused-clause-acts g c around mirrors =
     let before = at_nodes c.args.tree.now.nodes (set_rack (g.R.Drivers.rows c.args.rack.now) around) in
     let after = at_nodes c.start.new.tree.nodes (set_rack (g.R.Drivers.rows c.start.new.rack) around) in
     let started = (rw c.in-Refused.is at c.in_ok-label-in-Starting.ensures.started) around in
-    subst (λ p. DoneFor c.args.budget (node_at c.args.self.now.serial c.args.tree.now.nodes) before p (steps.Did c.in-Refused.label) after (Due Problem.FailedStart)) (sym phase)
+    subst (λ (p : Phase). DoneFor c.args.budget (node_at c.args.self.now.serial c.args.tree.now.nodes) before c.args.self.now.phase (steps.Did c.in-Refused.label) after p) (sym (ap (λ (a : Activity). a.phase) c.enter.ensures))
+    (subst (λ p. DoneFor c.args.budget (node_at c.args.self.now.serial c.args.tree.now.nodes) before p (steps.Did c.in-Refused.label) after (Due Problem.FailedStart)) (sym phase)
     (start_refused c.args.budget (node_at c.args.self.now.serial c.args.tree.now.nodes) before after c.in-Starting.walk.walk c.start.new.walk.walk c.in-Refused.label
-    (subst (λ k. StartsFor (node_at k c.args.tree.now.nodes) before c.in-Starting.walk.walk (starts.Refused c.in-Refused.label) after c.start.new.walk.walk) same started))
+    (subst (λ k. StartsFor (node_at k c.args.tree.now.nodes) before c.in-Starting.walk.walk (starts.Refused c.in-Refused.label) after c.start.new.walk.walk) same started)))
 
 pub returns-in-Some-clause-mirrors : goal.returns-in-Some-clause-mirrors
 returns-in-Some-clause-mirrors g c = c.add.ensures.mirrors c.args.arbiters.now

@@ -1,30 +1,41 @@
-use Rattle.std.proofs.Common.{◌≡◌, ℕ, ◌∙◌, ap, sym, subst, [], ◌∷◌, length}
+use Rattle.std.proofs.Common.{◌≡◌, ℕ, ◌∙◌, ap, sym, subst, [], ◌∷◌, length, Some}
 use Rattle.pnp_labels.specs.declared.label.Label.{Label}
 use Rattle.pnp_labels.specs.declared.states.Problem.{Problem}
 use Rattle.pnp_model.specs.Cores.{node_at, set_rack}
-use Rattle.pnp_model.specs.Records.{Activity, Node}
-use Rattle.pnp_model.specs.Records.Phase.{Starting, Due}
-use Rattle.device_stack.specs.Standing.{Standing}
+use Rattle.pnp_model.specs.Records.{Activity, Node, Phase}
+use Rattle.pnp_model.specs.Records.Phase.{Due}
 use Rattle.devnode_tree.specs.Cores.{at_nodes}
-use Rattle.devnode_tree.specs.Trees.{Tree}
+use Rattle.assign_search.specs.declared.plan.Found.TheVariants.{Assignment}
+use Rattle.device_holdings.specs.Answers.{Answers}
 use Rattle.start_sequence.specs.Parts.{SearchedFor}
 use Rattle.start_sequence.specs.declared.next.StartStep.TheVariants as steps
-use Rattle.start_sequence.proofs.Finding.{nothing_needed, found_assignment, found_nothing, found_spent}
+use Rattle.start_sequence.proofs.Finding.{nothing_needed, found_given, found_nothing, found_spent}
 use Rattle.start_sequence.proofs.work.StartWork.search.Goals as goal
 
-pub returns-in_ok-assign-in-Assignment-clause-searched : goal.returns-in_ok-assign-in-Assignment-clause-searched
-returns-in_ok-assign-in-Assignment-clause-searched c rack around mirrors =
-    let nodes = c.args.tree.now.nodes in
-    let k = c.self.inside.serial in
+pub returns-in-Assignment-clause-searched : goal.returns-in-Assignment-clause-searched
+returns-in-Assignment-clause-searched c =
+    let tree = c.args.tree.now in
+    let work = c.args.self.now in
+    let node = c.at-node.result.now in
+    let same : c.self.inside.serial ≡ work.serial = ap (λ (a : Activity). a.serial) c.self.view_is in
+    let at : node_at work.serial tree.nodes ≡ Some node = subst (λ (i : ℕ). node_at i tree.nodes ≡ Some node) same (sym c.at-node.ensures.node) in
     let named = c.in_ok-path.ensures ∙ (ap (λ (n : Node). n.path) c.node.view_is) in
-    let held = c.in_ok-held-in-Assignment.held in
-    let answers = rw c.in-Assignment.is at c.in_ok-plan.ensures.answers in
-    subst
-    (λ (i : ℕ). SearchedFor c.args.budget (node_at i nodes) (at_nodes nodes (set_rack rack around)) (steps.Did (Label.Assign c.in_ok-path.path held)) (at_nodes c.assign-in-Assignment.new.tree.nodes (set_rack rack around))
-    (Starting c.begin-in-Assignment.result.walk)) (ap (λ (a : Activity). a.serial) c.self.view_is)
-    (found_assignment c.args.budget k nodes c.args.arbiters.now c.at-node.result.now (sym c.at-node.ensures.node) c.in_ok-path.path named (set_rack rack around) mirrors
-    c.in-Assignment.plan c.own_part-holds.result held c.assign-in-Assignment.new.tree.nodes (Starting c.begin-in-Assignment.result.walk) answers c.own_part-holds.ensures c.in_ok-held-in-Assignment.ensures
-    (ap (λ (t : Tree). t.nodes) c.in_ok-assign-in-Assignment.ensures.assigned) (ap (λ (s : Standing). Starting s.walk) c.begin-in-Assignment.ensures))
+    let plan = c.in-Assignment.plan in
+    let answers = subst (λ (i : ℕ). Answers tree.nodes c.args.arbiters.now (i ∷ []) c.args.budget (Assignment plan)) same (rw c.in-Assignment.is at c.in_ok-plan.ensures.answers) in
+    found_given c.args.budget work.serial tree c.give-in-Assignment.new.tree c.args.arbiters.now node at c.in_ok-path.path named plan answers c.own_part.result c.own_part.ensures work c.give-in-Assignment.new.self c.give-in-Assignment.result
+    c.give-in-Assignment.ensures.told c.give-in-Assignment.ensures.given c.give-in-Assignment.ensures.starts
+
+pub returns-then-len-eq0-clause-searched : goal.returns-then-len-eq0-clause-searched
+returns-then-len-eq0-clause-searched c =
+    let tree = c.args.tree.now in
+    let work = c.args.self.now in
+    let node = c.at-node.result.now in
+    let same : c.self.inside.serial ≡ work.serial = ap (λ (a : Activity). a.serial) c.self.view_is in
+    let at : node_at work.serial tree.nodes ≡ Some node = subst (λ (i : ℕ). node_at i tree.nodes ≡ Some node) same (sym c.at-node.ensures.node) in
+    let named = c.in_ok-path.ensures ∙ (ap (λ (n : Node). n.path) c.node.view_is) in
+    let none : length node.reqs ≡ 0 = ap (λ (n : Node). length n.reqs) (sym c.node.view_is) ∙ (sym c.len.ensures.len ∙ c.if-len-eq0.true) in
+    found_given c.args.budget work.serial tree c.give.new.tree c.args.arbiters.now node at c.in_ok-path.path named ([] ∷ []) (nothing_needed c.args.budget work.serial tree.nodes c.args.arbiters.now node at none) c.new.result c.new.ensures work c.give.new.self c.give.result
+    c.give.ensures.told c.give.ensures.given c.give.ensures.starts
 
 pub returns-in-NoFit-clause-searched : goal.returns-in-NoFit-clause-searched
 returns-in-NoFit-clause-searched c rack around mirrors =
@@ -41,20 +52,6 @@ returns-in-Spent-clause-searched c rack around mirrors =
     let named = c.in_ok-path.ensures ∙ (ap (λ (n : Node). n.path) c.node.view_is) in
     let answers = rw c.in-Spent.is at c.in_ok-plan.ensures.answers in
     let before = at_nodes nodes (set_rack rack around) in
-    subst (λ (i : ℕ). SearchedFor c.args.budget (node_at i nodes) before (steps.Did (Label.Spent c.in_ok-path.path)) before (Due Problem.Budget)) (ap (λ (a : Activity). a.serial) c.self.view_is)
-    (found_spent c.args.budget c.self.inside.serial nodes c.args.arbiters.now c.at-node.result.now (sym c.at-node.ensures.node) c.in_ok-path.path named (set_rack rack around) mirrors answers)
-
-pub returns-then-len-eq0-clause-searched : goal.returns-then-len-eq0-clause-searched
-returns-then-len-eq0-clause-searched c rack around mirrors =
-    let nodes = c.args.tree.now.nodes in
-    let k = c.self.inside.serial in
-    let named = c.in_ok-path.ensures ∙ (ap (λ (n : Node). n.path) c.node.view_is) in
-    let none : length c.at-node.result.now.reqs ≡ 0 = ap (λ (n : Node). length n.reqs) (sym c.node.view_is) ∙ (sym c.len.ensures.len ∙ c.if-len-eq0.true) in
-    let at = sym c.at-node.ensures.node in
-    subst
-    (λ (i : ℕ). SearchedFor c.args.budget (node_at i nodes) (at_nodes nodes (set_rack rack around)) (steps.Did (Label.Assign c.in_ok-path.path c.new-held.result)) (at_nodes c.assign.new.tree.nodes (set_rack rack around))
-    (Starting c.begin.result.walk)) (ap (λ (a : Activity). a.serial) c.self.view_is)
-    (found_assignment c.args.budget k nodes c.args.arbiters.now c.at-node.result.now at c.in_ok-path.path named (set_rack rack around) mirrors
-    ([] ∷ []) c.new.result c.new-held.result c.assign.new.tree.nodes (Starting c.begin.result.walk) (nothing_needed c.args.budget k nodes c.args.arbiters.now c.at-node.result.now at none)
-    c.new.ensures (c.new-held.ensures ∙ sym c.new.ensures)
-    (ap (λ (t : Tree). t.nodes) c.in_ok-assign.ensures.assigned) (ap (λ (s : Standing). Starting s.walk) c.begin.ensures))
+    subst (λ (p : Phase). SearchedFor c.args.budget (node_at c.args.self.now.serial nodes) before (steps.Did (Label.Spent c.in_ok-path.path)) before p) (sym (ap (λ (a : Activity). a.phase) c.enter.ensures))
+    (subst (λ (i : ℕ). SearchedFor c.args.budget (node_at i nodes) before (steps.Did (Label.Spent c.in_ok-path.path)) before (Due Problem.Budget)) (ap (λ (a : Activity). a.serial) c.self.view_is)
+    (found_spent c.args.budget c.self.inside.serial nodes c.args.arbiters.now c.at-node.result.now (sym c.at-node.ensures.node) c.in_ok-path.path named (set_rack rack around) mirrors answers))
