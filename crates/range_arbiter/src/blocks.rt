@@ -41,6 +41,22 @@ pub fn rooms_for(pairs: u32) -> usize
     (pairs as usize).div_ceil(16) + 1
 }
 
+/// Takes rooms, for which there is place in the list, until there are so many.
+fn take_rooms(stock: &mut Vec<Room>, rooms: usize) -> Result<(), WantOfMemory>
+    requires { rooms ≤ vec_capacity stock.old }
+    ensures ok { OnOk result (rooms ≤ vec_len stock.new) }
+    ensures most { vec_len stock.old ≤ rooms → vec_len stock.new ≤ rooms }
+    ensures grows { vec_len stock.old ≤ vec_len stock.new }
+    ensures place { vec_capacity stock.old ≤ vec_capacity stock.new }
+{
+    let alloc = *stock.allocator();
+    'rooms: while stock.len() < rooms {
+        let room = Room::new(alloc)?;
+        let _ = stock.push(room);
+    }
+    Ok(())
+}
+
 /// Takes rooms until there are so many. Cost: that of the rooms that are taken.
 pub fn stock_up(
     blocks: &mut Vec<Block>,
@@ -58,13 +74,9 @@ pub fn stock_up(
     ensures room_place { vec_len blocks.new + vec_len stock.new ≤ vec_capacity stock.new }
 {
     if stock.len() < rooms {
-        let alloc = *stock.allocator();
         blocks.reserve(rooms)?;
         stock.reserve(blocks.len() + (rooms - stock.len()))?;
-        'rooms: while stock.len() < rooms {
-            let room = Room::new(alloc)?;
-            let _ = stock.push(room);
-        }
+        take_rooms(stock, rooms)?;
     }
     Ok(())
 }
