@@ -1,5 +1,5 @@
 //! The models lines of an INF, and what their install sections give.
-ghost use Rattle.std.specs.Prelude.{◌≡◌, ◌++◌, IfOk, OnOk, option_map, take, drop, map};
+ghost use Rattle.std.specs.Prelude.{◌≡◌, ◌++◌, IfOk, OnOk, Some, None, if◌then◌else◌, option_map, take, drop, map};
 ghost use Rattle.std.specs.List.{find};
 ghost use Rattle.device_ids.specs.Folding.{folded};
 ghost use Rattle.inf_reader.specs.Filters.{has_bit};
@@ -12,7 +12,7 @@ use crate::numbers::score_of;
 use crate::parts::{ModelLine, ModelLines};
 use crate::section::{Kind, has_bit};
 use crate::sections::Sections;
-use crate::texts::{Texts, is_word, joined, texts_from, value_at};
+use crate::texts::{Texts, folded_bytes, is_word, joined, texts_from, value_at};
 use device_ids::{Text, TextList};
 use std::alloc::{AllocError, Global};
 use std::collections::BTreeMap;
@@ -90,41 +90,35 @@ pub fn models_name(alloc: Global, values: &Texts) -> Result<Vec<u8>, AllocError>
     Ok(name)
 }
 
-/// Whether a section is there that has a name with an end behind it.
-fn is_there_with(
+/// The folded name with an end behind it, if a section of that name is there.
+fn name_with(
     alloc: Global,
     sections: &Sections,
     name: &[u8],
     end: &[u8],
-) -> Result<bool, AllocError>
-    ensures { IfOk result (λ found. found ≡ is_there (section_found sections.now) (name.now ++ end.now)) }
+) -> Result<Option<Vec<u8>>, AllocError>
+    ensures { IfOk result (λ found. option_map (λ f. f.items) found ≡ if is_there (section_found sections.now) (name.now ++ end.now) then Some (folded (name.now ++ end.now)) else None) }
 {
-    let decorated = joined(alloc, name, end)?;
-    sections.is_there(alloc, &decorated)
+    let mut decorated = joined(alloc, name, end)?;
+    if !sections.is_there(alloc, &decorated)? {
+        return Ok(None);
+    }
+    decorated.make_ascii_lowercase();
+    Ok(Some(decorated))
 }
 
-/// The end of the install section's name: of the first that is there, else none.
+/// The folded name of the install section: the first that is there, else the bare one.
 #[tactic(auto, unfolding(crate::specs::Models::install_name))]
-fn install_end(alloc: Global, sections: &Sections, name: &[u8]) -> Result<&'static [u8], AllocError>
-    ensures { IfOk result (λ end. folded (name.now ++ end.now) ≡ install_name (section_found sections.now) name.now) }
-{
-    if is_there_with(alloc, sections, name, b".NTamd64")? {
-        return Ok(b".NTamd64");
-    }
-    if is_there_with(alloc, sections, name, b".NT")? {
-        return Ok(b".NT");
-    }
-    Ok(b"")
-}
-
-/// The folded name of the install section.
 fn install_name(alloc: Global, sections: &Sections, name: &[u8]) -> Result<Vec<u8>, AllocError>
     ensures { IfOk result (λ install. install.items ≡ install_name (section_found sections.now) name.now) }
 {
-    let end = install_end(alloc, sections, name)?;
-    let mut install = joined(alloc, name, end)?;
-    install.make_ascii_lowercase();
-    Ok(install)
+    if let Some(install) = name_with(alloc, sections, name, b".NTamd64")? {
+        return Ok(install);
+    }
+    if let Some(install) = name_with(alloc, sections, name, b".NT")? {
+        return Ok(install);
+    }
+    folded_bytes(alloc, name)
 }
 
 /// The first `FeatureScore`.

@@ -2,7 +2,7 @@ ghost use Rattle.std.specs.Prelude.{◌≡◌, ◌∷◌, OnOk};
 
 use crate::holding::Holding;
 use crate::legend::draw_legend;
-use crate::scale::{Scale, number_text, owner_text, scale_of};
+use crate::scale::{Scale, Stretch, number_text, owner_text, scale_of};
 use crate::shapes::{Place, label, numbered, rect, stroke, worded};
 use device_ids::WantOfMemory;
 use pnp_labels::decimal;
@@ -117,6 +117,21 @@ fn block_class(holding: &Holding, is_moved: bool) -> &'static [u8] {
     }
 }
 
+/// What stands in a block: the bar's sign where the other list does not have it, and who holds it.
+fn block_words(
+    alloc: Global,
+    bar: &Bar<'_>,
+    holding: &Holding,
+    is_moved: bool,
+) -> Result<Vec<u8>, WantOfMemory> {
+    let mut words = Vec::new(alloc);
+    if is_moved {
+        words.extend_from_slice(bar.sign)?;
+    }
+    words.extend_from_slice(&owner_text(alloc, holding.owner)?)?;
+    Ok(words)
+}
+
 /// A block with who holds it.
 fn draw_block(
     alloc: Global,
@@ -138,11 +153,7 @@ fn draw_block(
         height: LANE - 4,
     };
     rect(alloc, page, block_class(holding, is_moved), place)?;
-    let mut words = Vec::new(alloc);
-    if is_moved {
-        words.extend_from_slice(bar.sign)?;
-    }
-    words.extend_from_slice(&owner_text(alloc, holding.owner)?)?;
+    let words = block_words(alloc, bar, holding, is_moved)?;
     label(
         alloc,
         page,
@@ -185,6 +196,52 @@ fn break_path(alloc: Global, x: u64, y: u64) -> Result<Vec<u8>, WantOfMemory> {
     Ok(path)
 }
 
+/// The line of the axis below a stretch that is held, or the zigzag below a free one.
+fn draw_stretch(
+    alloc: Global,
+    page: &mut Page,
+    stretch: &Stretch,
+    y: u64,
+) -> Result<(), WantOfMemory>
+    ensures elements { OnOk result (page.new.elements ≡ page.old.elements) }
+    ensures marks { OnOk result (page.new.marks ≡ page.old.marks) }
+{
+    if stretch.is_held {
+        let place = Place {
+            x: stretch.x,
+            y,
+            width: stretch.width,
+            height: 2,
+        };
+        return rect(alloc, page, b"axis", place);
+    }
+    let path = break_path(alloc, stretch.x, y.saturating_add(1))?;
+    stroke(page, b"axis-break", &path)
+}
+
+/// The first number of a stretch.
+fn draw_first(
+    alloc: Global,
+    page: &mut Page,
+    kind: Kind,
+    stretch: &Stretch,
+    y: u64,
+) -> Result<(), WantOfMemory>
+    ensures elements { OnOk result (page.new.elements ≡ page.old.elements) }
+    ensures marks { OnOk result (page.new.marks ≡ page.old.marks) }
+{
+    let number = number_text(alloc, kind, stretch.first)?;
+    let x = stretch.x.saturating_add(1);
+    label(
+        alloc,
+        page,
+        b"axis-words",
+        x,
+        y.saturating_add(16),
+        number.as_bytes(),
+    )
+}
+
 /// The axis: a line below each stretch that is held, with its first number where it follows a free one, and a zigzag below a free
 /// one.
 fn draw_axis(
@@ -198,29 +255,9 @@ fn draw_axis(
     ensures marks { OnOk result (page.new.marks ≡ page.old.marks) }
 {
     'stretches: for stretch in &scale.stretches {
-        if stretch.is_held {
-            let place = Place {
-                x: stretch.x,
-                y,
-                width: stretch.width,
-                height: 2,
-            };
-            rect(alloc, page, b"axis", place)?;
-        } else {
-            let path = break_path(alloc, stretch.x, y.saturating_add(1))?;
-            stroke(page, b"axis-break", &path)?;
-        }
+        draw_stretch(alloc, page, stretch, y)?;
         if stretch.is_start {
-            let number = number_text(alloc, kind, stretch.first)?;
-            let x = stretch.x.saturating_add(1);
-            label(
-                alloc,
-                page,
-                b"axis-words",
-                x,
-                y.saturating_add(16),
-                number.as_bytes(),
-            )?;
+            draw_first(alloc, page, kind, stretch, y)?;
         }
     }
     Ok(())
@@ -282,15 +319,15 @@ fn open_bars<'a>(
     )
 }
 
-/// The bars of a kind in a frame that scrolls where it is too narrow.
-fn draw_frame(
+/// Begins the frame of a kind's bars, which scrolls where it is too narrow.
+fn open_frame(
     alloc: Global,
     page: &mut Page,
     kind: Kind,
     scale: &Scale,
     bars: &[Bar<'_>],
 ) -> Result<(), WantOfMemory>
-    ensures elements { OnOk result (page.new.elements ≡ page.old.elements) }
+    ensures elements { OnOk result (page.new.elements ≡ Tag.Svg ∷ Tag.Div ∷ page.old.elements) }
     ensures marks { OnOk result (page.new.marks ≡ page.old.marks) }
 {
     let width = decimal(alloc, scale.width.max(80))?;
@@ -302,7 +339,21 @@ fn draw_frame(
             (Attribute::Tabindex, b"0"),
         ],
     )?;
-    open_bars(page, kind_text(kind), width.as_bytes(), height.as_bytes())?;
+    open_bars(page, kind_text(kind), width.as_bytes(), height.as_bytes())
+}
+
+/// The bars of a kind in a frame that scrolls where it is too narrow.
+fn draw_frame(
+    alloc: Global,
+    page: &mut Page,
+    kind: Kind,
+    scale: &Scale,
+    bars: &[Bar<'_>],
+) -> Result<(), WantOfMemory>
+    ensures elements { OnOk result (page.new.elements ≡ page.old.elements) }
+    ensures marks { OnOk result (page.new.marks ≡ page.old.marks) }
+{
+    open_frame(alloc, page, kind, scale, bars)?;
     draw_bars(alloc, page, kind, scale, bars)?;
     page.close()?;
     page.close()

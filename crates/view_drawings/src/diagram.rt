@@ -1,6 +1,6 @@
 ghost use Rattle.std.specs.Prelude.{◌≡◌, OnOk};
 
-use crate::places::{STATES, VIEW, edge_of, line_of, place_of};
+use crate::places::{Edge, STATES, VIEW, edge_of, line_of, place_of};
 use crate::rows::{ROWS, Row};
 use crate::shapes::{label, numbered, rect, stroke, worded};
 use crate::used::Used;
@@ -9,22 +9,37 @@ use pnp_labels::{DevState, minor_text, state_text};
 use std::alloc::Global;
 use view_page::{Attribute, Page, Tag};
 
-/// The words of a row: its request, whether it was refused, and how often it was used.
-fn row_words(alloc: Global, row: Row, count: u64) -> Result<Vec<u8>, WantOfMemory> {
-    let mut words = Vec::new(alloc);
+/// The request of a row.
+fn request_text(row: Row) -> &'static [u8] {
     match row.minor() {
-        Some(minor) => words.extend_from_slice(minor_text(minor))?,
-        None => words.extend_from_slice(b"AddDevice")?,
+        Some(minor) => minor_text(minor),
+        None => b"AddDevice",
     }
+}
+
+/// Appends how often a row was used, if it was.
+fn push_count(alloc: Global, words: &mut Vec<u8>, count: u64) -> Result<(), WantOfMemory> {
+    if count > 9999 {
+        words.extend_from_slice(b" x9999+")
+    } else if count > 0 {
+        words.extend_from_slice(&numbered(alloc, b" x", count)?)
+    } else {
+        Ok(())
+    }
+}
+
+/// Appends the words of a row: its request, whether it was refused, and how often it was used.
+fn push_words(
+    alloc: Global,
+    words: &mut Vec<u8>,
+    row: Row,
+    count: u64,
+) -> Result<(), WantOfMemory> {
+    words.extend_from_slice(request_text(row))?;
     if row.is_bad() {
         words.extend_from_slice(b" refused")?;
     }
-    if count > 9999 {
-        words.extend_from_slice(b" x9999+")?;
-    } else if count > 0 {
-        words.extend_from_slice(&numbered(alloc, b" x", count)?)?;
-    }
-    Ok(words)
+    push_count(alloc, words, count)
 }
 
 /// A small arrow that turns back to where it began, before the words of a row that keeps a state.
@@ -35,63 +50,88 @@ fn loop_path(alloc: Global, x: u64, y: u64) -> Result<Vec<u8>, WantOfMemory> {
     Ok(path)
 }
 
-/// A row: a line with its words, or a line of words in the box of the state that it keeps.
-fn draw_row(alloc: Global, page: &mut Page, row: Row, count: u64) -> Result<(), WantOfMemory>
+/// A row that leads to another state: a line with its words.
+fn draw_edge(
+    alloc: Global,
+    page: &mut Page,
+    edge: Edge,
+    is_used: bool,
+    words: &[u8],
+) -> Result<(), WantOfMemory>
     ensures elements { OnOk result (page.new.elements ≡ page.old.elements) }
     ensures marks { OnOk result (page.new.marks ≡ page.old.marks) }
 {
-    let words = row_words(alloc, row, count)?;
-    let is_used = count > 0;
+    let line_class: &[u8] = if is_used {
+        b"row-line used"
+    } else {
+        b"row-line"
+    };
+    stroke(page, line_class, edge.path)?;
+    let words_class: &[u8] = match (edge.is_before, is_used) {
+        (true, true) => b"row-words before used",
+        (true, false) => b"row-words before",
+        (false, true) => b"row-words used",
+        (false, false) => b"row-words",
+    };
+    label(alloc, page, words_class, edge.x, edge.y, words)
+}
+
+/// The arrow of a row that keeps a state.
+fn draw_arrow(
+    alloc: Global,
+    page: &mut Page,
+    class: &[u8],
+    x: u64,
+    y: u64,
+) -> Result<(), WantOfMemory>
+    ensures elements { OnOk result (page.new.elements ≡ page.old.elements) }
+    ensures marks { OnOk result (page.new.marks ≡ page.old.marks) }
+{
+    let path = loop_path(alloc, x, y)?;
+    stroke(page, class, &path)
+}
+
+/// A row that keeps a state: a line of words in the state's box.
+fn draw_loop(
+    alloc: Global,
+    page: &mut Page,
+    row: Row,
+    is_used: bool,
+    words: &[u8],
+) -> Result<(), WantOfMemory>
+    ensures elements { OnOk result (page.new.elements ≡ page.old.elements) }
+    ensures marks { OnOk result (page.new.marks ≡ page.old.marks) }
+{
+    let arrow_class: &[u8] = if is_used {
+        b"row-loop used"
+    } else {
+        b"row-loop"
+    };
     let words_class: &[u8] = if is_used {
         b"row-words used"
     } else {
         b"row-words"
     };
-    let before_class: &[u8] = if is_used {
-        b"row-words before used"
-    } else {
-        b"row-words before"
-    };
+    let place = place_of(row.from());
+    let y = place
+        .y
+        .saturating_add(line_of(row).saturating_mul(20))
+        .saturating_add(48);
+    draw_arrow(alloc, page, arrow_class, place.x.saturating_add(20), y)?;
+    let x = place.x.saturating_add(32);
+    label(alloc, page, words_class, x, y, words)
+}
+
+/// A row: a line with its words, or a line of words in the box of the state that it keeps.
+fn draw_row(alloc: Global, page: &mut Page, row: Row, count: u64) -> Result<(), WantOfMemory>
+    ensures elements { OnOk result (page.new.elements ≡ page.old.elements) }
+    ensures marks { OnOk result (page.new.marks ≡ page.old.marks) }
+{
+    let mut words = Vec::new(alloc);
+    push_words(alloc, &mut words, row, count)?;
     match edge_of(row) {
-        Some(edge) => {
-            let class: &[u8] = if is_used {
-                b"row-line used"
-            } else {
-                b"row-line"
-            };
-            stroke(page, class, edge.path)?;
-            let class = if edge.is_before {
-                before_class
-            } else {
-                words_class
-            };
-            label(alloc, page, class, edge.x, edge.y, &words)
-        }
-        None => {
-            let place = place_of(row.from());
-            let y = place
-                .y
-                .saturating_add(line_of(row).saturating_mul(20))
-                .saturating_add(48);
-            let class: &[u8] = if is_used {
-                b"row-loop used"
-            } else {
-                b"row-loop"
-            };
-            stroke(
-                page,
-                class,
-                &loop_path(alloc, place.x.saturating_add(20), y)?,
-            )?;
-            label(
-                alloc,
-                page,
-                words_class,
-                place.x.saturating_add(32),
-                y,
-                &words,
-            )
-        }
+        Some(edge) => draw_edge(alloc, page, edge, count > 0, &words),
+        None => draw_loop(alloc, page, row, count > 0, &words),
     }
 }
 

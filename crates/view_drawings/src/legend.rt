@@ -33,6 +33,46 @@ fn draw_change(page: &mut Page, bar: &Bar<'_>, is_moved: bool) -> Result<(), Wan
     worded(page, Tag::Td, b"map-change", change)
 }
 
+/// The cells of a row: who, the numbers, the path, and whether they are shared.
+fn draw_cells(
+    page: &mut Page,
+    who: &[u8],
+    range: &[u8],
+    holding: &Holding,
+) -> Result<(), WantOfMemory>
+    ensures elements { OnOk result (page.new.elements ≡ page.old.elements) }
+    ensures marks { OnOk result (page.new.marks ≡ page.old.marks) }
+{
+    let shared: &[u8] = if holding.res.shared { b"shared" } else { b"" };
+    worded(page, Tag::Td, b"map-who", who)?;
+    worded(page, Tag::Td, b"map-range", range)?;
+    worded(page, Tag::Td, b"map-owner", holding.words.bytes())?;
+    worded(page, Tag::Td, b"map-shared", shared)
+}
+
+/// A row of the table, with the words for who and for the numbers.
+fn draw_line_with(
+    page: &mut Page,
+    who: &[u8],
+    range: &[u8],
+    bar: &Bar<'_>,
+    holding: &Holding,
+    is_moved: bool,
+) -> Result<(), WantOfMemory>
+    ensures elements { OnOk result (page.new.elements ≡ page.old.elements) }
+    ensures marks { OnOk result (page.new.marks ≡ page.old.marks) }
+{
+    let class: &[u8] = if is_moved {
+        b"map-line moved"
+    } else {
+        b"map-line"
+    };
+    page.open(Tag::Tr, &[(Attribute::Class, class)])?;
+    draw_cells(page, who, range, holding)?;
+    draw_change(page, bar, is_moved)?;
+    page.close()
+}
+
 /// A row of the table: who, the numbers, the path, whether they are shared, and what changed.
 fn draw_line(
     alloc: Global,
@@ -46,19 +86,7 @@ fn draw_line(
 {
     let who = owner_text(alloc, holding.owner)?;
     let range = range_words(alloc, holding)?;
-    let shared: &[u8] = if holding.res.shared { b"shared" } else { b"" };
-    let class: &[u8] = if is_moved {
-        b"map-line moved"
-    } else {
-        b"map-line"
-    };
-    page.open(Tag::Tr, &[(Attribute::Class, class)])?;
-    worded(page, Tag::Td, b"map-who", &who)?;
-    worded(page, Tag::Td, b"map-range", &range)?;
-    worded(page, Tag::Td, b"map-owner", holding.words.bytes())?;
-    worded(page, Tag::Td, b"map-shared", shared)?;
-    draw_change(page, bar, is_moved)?;
-    page.close()
+    draw_line_with(page, &who, &range, bar, holding, is_moved)
 }
 
 /// The rows of a bar.

@@ -73,34 +73,45 @@ impl RunRows {
         }
     }
 
+    /// A driver of the device of a path was asked.
+    fn note_asked(&mut self, path: &Text, minor: Minor) -> Result<(), WantOfMemory> {
+        let place = self.place(path)?;
+        if let Some(device) = self.devices.get_mut(place) {
+            device.asked = Some(minor);
+        }
+        Ok(())
+    }
+
+    /// A driver was added to the device of a path.
+    fn note_added(&mut self, path: &Text) -> Result<(), WantOfMemory> {
+        let place = self.place(path)?;
+        if let Some(device) = self.devices.get_mut(place) {
+            self.all.note_added(device.state);
+            device.add();
+        }
+        Ok(())
+    }
+
+    /// The device of a path is in a state now.
+    fn note_state(&mut self, path: &Text, state: DevState) -> Result<(), WantOfMemory> {
+        let place = self.place(path)?;
+        if let Some(device) = self.devices.get_mut(place) {
+            if let Some(minor) = device.asked {
+                self.all.note(device.state, state, minor);
+            }
+            device.end(state);
+        }
+        Ok(())
+    }
+
     /// The next label of the run. Cost: the length of its path times the logarithm of the number of devices.
     pub fn note(&mut self, label: &Label) -> Result<(), WantOfMemory> {
         match label {
-            Label::Asked { minor, path, .. } => {
-                let place = self.place(path)?;
-                if let Some(device) = self.devices.get_mut(place) {
-                    device.asked = Some(*minor);
-                }
-            }
-            Label::Add { path, ok: true, .. } => {
-                let place = self.place(path)?;
-                if let Some(device) = self.devices.get_mut(place) {
-                    self.all.note_added(device.state);
-                    device.add();
-                }
-            }
-            Label::State { path, state } => {
-                let place = self.place(path)?;
-                if let Some(device) = self.devices.get_mut(place) {
-                    if let Some(minor) = device.asked {
-                        self.all.note(device.state, *state, minor);
-                    }
-                    device.end(*state);
-                }
-            }
-            _ => {}
+            Label::Asked { minor, path, .. } => self.note_asked(path, *minor),
+            Label::Add { path, ok: true, .. } => self.note_added(path),
+            Label::State { path, state } => self.note_state(path, *state),
+            _ => Ok(()),
         }
-        Ok(())
     }
 
     /// How often each row was used by all devices together.

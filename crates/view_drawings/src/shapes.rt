@@ -39,6 +39,23 @@ fn rect_by<'a>(
     )
 }
 
+/// A box with round corners, by the texts of its place.
+fn rect_at(
+    alloc: Global,
+    page: &mut Page,
+    class: &[u8],
+    x: &[u8],
+    y: &[u8],
+    place: Place,
+) -> Result<(), WantOfMemory>
+    ensures elements { OnOk result (page.new.elements ≡ page.old.elements) }
+    ensures marks { OnOk result (page.new.marks ≡ page.old.marks) }
+{
+    let width = decimal(alloc, place.width)?;
+    let height = decimal(alloc, place.height)?;
+    rect_by(page, class, x, y, width.as_bytes(), height.as_bytes())
+}
+
 /// A box with round corners.
 pub(crate) fn rect(
     alloc: Global,
@@ -51,16 +68,7 @@ pub(crate) fn rect(
 {
     let x = decimal(alloc, place.x)?;
     let y = decimal(alloc, place.y)?;
-    let width = decimal(alloc, place.width)?;
-    let height = decimal(alloc, place.height)?;
-    rect_by(
-        page,
-        class,
-        x.as_bytes(),
-        y.as_bytes(),
-        width.as_bytes(),
-        height.as_bytes(),
-    )
+    rect_at(alloc, page, class, x.as_bytes(), y.as_bytes(), place)
 }
 
 /// Words whose first line stands at a point.

@@ -1,10 +1,10 @@
-ghost use Rattle.std.specs.Prelude.{◌≡◌, OnOk};
+ghost use Rattle.std.specs.Prelude.{◌≡◌, ◌∷◌, OnOk};
 
 use crate::names::DriverNames;
 use crate::shapes::{numbered, worded};
 use device_ids::WantOfMemory;
-use devnode_tree::{Node, Tree};
-use pnp_labels::{Stack, problem_text, res_text, state_text};
+use devnode_tree::{Node, PrintRow, Tree};
+use pnp_labels::{Problem, Stack, problem_text, res_text, state_text};
 use resource_reqs::ResList;
 use std::alloc::Global;
 use view_page::{Attribute, Page, Tag};
@@ -37,21 +37,69 @@ fn draw_holdings(alloc: Global, page: &mut Page, held: &ResList) -> Result<(), W
     Ok(())
 }
 
+/// Its number.
+fn draw_number(alloc: Global, page: &mut Page, serial: u64) -> Result<(), WantOfMemory>
+    ensures elements { OnOk result (page.new.elements ≡ page.old.elements) }
+    ensures marks { OnOk result (page.new.marks ≡ page.old.marks) }
+{
+    let number = numbered(alloc, b"#", serial)?;
+    worded(page, Tag::Span, b"tree-number", &number)
+}
+
+/// Its problem.
+fn draw_problem(alloc: Global, page: &mut Page, problem: Problem) -> Result<(), WantOfMemory>
+    ensures elements { OnOk result (page.new.elements ≡ page.old.elements) }
+    ensures marks { OnOk result (page.new.marks ≡ page.old.marks) }
+{
+    let mut text = Vec::from_slice(alloc, b"problem ")?;
+    text.extend_from_slice(problem_text(problem))?;
+    worded(page, Tag::B, b"tree-problem", &text)
+}
+
 /// Its number, path, state and problem.
 fn draw_head(alloc: Global, page: &mut Page, node: &Node) -> Result<(), WantOfMemory>
     ensures elements { OnOk result (page.new.elements ≡ page.old.elements) }
     ensures marks { OnOk result (page.new.marks ≡ page.old.marks) }
 {
-    let number = numbered(alloc, b"#", node.serial)?;
-    worded(page, Tag::Span, b"tree-number", &number)?;
+    draw_number(alloc, page, node.serial)?;
     worded(page, Tag::Code, b"tree-path", node.path.bytes())?;
     worded(page, Tag::Span, b"tree-state", state_text(node.state))?;
-    if let Some(problem) = node.problem {
-        let mut text = Vec::from_slice(alloc, b"problem ")?;
-        text.extend_from_slice(problem_text(problem))?;
-        worded(page, Tag::B, b"tree-problem", &text)?;
+    match node.problem {
+        Some(problem) => draw_problem(alloc, page, problem),
+        None => Ok(()),
     }
-    Ok(())
+}
+
+/// Its drivers, if it has any.
+fn draw_drivers(
+    alloc: Global,
+    page: &mut Page,
+    stack: &Stack,
+    names: &DriverNames,
+) -> Result<(), WantOfMemory>
+    ensures elements { OnOk result (page.new.elements ≡ page.old.elements) }
+    ensures marks { OnOk result (page.new.marks ≡ page.old.marks) }
+{
+    if stack.len() == 0 {
+        return Ok(());
+    }
+    let line = driver_line(alloc, stack, names)?;
+    worded(page, Tag::Span, b"tree-drivers", &line)
+}
+
+/// Begins the line of a device, so many levels below the root.
+fn open_node(alloc: Global, page: &mut Page, depth: u64) -> Result<(), WantOfMemory>
+    ensures elements { OnOk result (page.new.elements ≡ Tag.Li ∷ page.old.elements) }
+    ensures marks { OnOk result (page.new.marks ≡ page.old.marks) }
+{
+    let style = numbered(alloc, b"--depth:", depth)?;
+    page.open(
+        Tag::Li,
+        &[
+            (Attribute::Class, b"tree-node"),
+            (Attribute::Style, style.as_slice()),
+        ],
+    )
 }
 
 /// A device as a line of the tree, so many levels below the root.
@@ -65,20 +113,49 @@ fn draw_node(
     ensures elements { OnOk result (page.new.elements ≡ page.old.elements) }
     ensures marks { OnOk result (page.new.marks ≡ page.old.marks) }
 {
-    let style = numbered(alloc, b"--depth:", depth)?;
-    page.open(
-        Tag::Li,
-        &[
-            (Attribute::Class, b"tree-node"),
-            (Attribute::Style, style.as_slice()),
-        ],
-    )?;
+    open_node(alloc, page, depth)?;
     draw_head(alloc, page, node)?;
-    if node.stack.len() > 0 {
-        let line = driver_line(alloc, &node.stack, names)?;
-        worded(page, Tag::Span, b"tree-drivers", &line)?;
-    }
+    draw_drivers(alloc, page, &node.stack, names)?;
     draw_holdings(alloc, page, &node.holds)?;
+    page.close()
+}
+
+/// The devices, in the order in which they are printed.
+fn draw_nodes(
+    alloc: Global,
+    page: &mut Page,
+    rows: &[PrintRow],
+    tree: &Tree,
+    names: &DriverNames,
+) -> Result<(), WantOfMemory>
+    ensures elements { OnOk result (page.new.elements ≡ page.old.elements) }
+    ensures marks { OnOk result (page.new.marks ≡ page.old.marks) }
+{
+    'rows: for row in rows {
+        if let Some(node) = tree.node(row.serial) {
+            draw_node(alloc, page, row.depth, node, names)?;
+        }
+    }
+    Ok(())
+}
+
+/// The drawing with its title, by the rows of the tree.
+fn draw_tree(
+    alloc: Global,
+    page: &mut Page,
+    title: &[u8],
+    rows: &[PrintRow],
+    tree: &Tree,
+    names: &DriverNames,
+) -> Result<(), WantOfMemory>
+    ensures elements { OnOk result (page.new.elements ≡ page.old.elements) }
+    ensures marks { OnOk result (page.new.marks ≡ page.old.marks) }
+{
+    page.open(Tag::Figure, &[(Attribute::Class, b"drawing")])?;
+    worded(page, Tag::Figcaption, b"drawing-title", title)?;
+    page.open(Tag::Ul, &[(Attribute::Class, b"device-tree")])?;
+    draw_nodes(alloc, page, rows, tree, names)?;
+    page.close()?;
     page.close()
 }
 
@@ -96,14 +173,5 @@ pub fn device_tree(
     ensures marks { OnOk result (page.new.marks ≡ page.old.marks) }
 {
     let rows = tree.print_rows(alloc)?;
-    page.open(Tag::Figure, &[(Attribute::Class, b"drawing")])?;
-    worded(page, Tag::Figcaption, b"drawing-title", title)?;
-    page.open(Tag::Ul, &[(Attribute::Class, b"device-tree")])?;
-    'rows: for row in &rows {
-        if let Some(node) = tree.node(row.serial) {
-            draw_node(alloc, page, row.depth, node, names)?;
-        }
-    }
-    page.close()?;
-    page.close()
+    draw_tree(alloc, page, title, &rows, tree, names)
 }
