@@ -1,15 +1,19 @@
-ghost use Rattle.std.specs.Prelude.{◌≡◌, IfOk, IsSome};
+ghost use Rattle.std.specs.Prelude.{◌≡◌, List, IfOk, IsSome};
 ghost use Rattle.pnp_model.specs.Cores.{node_at};
 ghost use Rattle.pnp_model.specs.Keyed.{those};
 ghost use Rattle.pnp_model.specs.Handles.{was_told};
-ghost use Rattle.pnp_model.specs.Surprises.{is_told_node};
+ghost use Rattle.pnp_model.specs.Records.{Core, Relation};
+ghost use Rattle.pnp_model.specs.Surprises.{is_told_node, begun_with};
+ghost use Rattle.devnode_tree.specs.Cores.{at_related};
+ghost use Rattle.operation_frame.specs.Queues.{all_after};
+ghost use Rattle.relations.specs.Leaving.{IsLeaving};
 ghost use Rattle.surprise_remove.specs.Begins.{BegunFor};
 
 use crate::frame::{Stage, Surprise};
 use crate::readiness::was_told;
 use device_ids::WantOfMemory;
 use device_stack::Walk;
-use devnode_tree::Tree;
+use devnode_tree::{Node, Tree};
 use operation_frame::SerialQueue;
 use pnp_labels::{DevState, Label, Minor, OpKind};
 use relations::{Relations, SerialSet};
@@ -53,7 +57,61 @@ fn told_before(alloc: Global, tree: &Tree, set: &SerialSet) -> Result<SerialSet,
     Ok(told)
 }
 
+/// Those of a set that are told that they are gone; and all of it where there are none.
+fn to_tell_or_all(
+    alloc: Global,
+    tree: &Tree,
+    set: &SerialSet,
+) -> Result<(SerialQueue, SerialQueue), WantOfMemory>
+    ensures told { IfOk result (λ queues. queues.0 ≡ those (λ k. is_told_node (node_at k tree.now.nodes)) set.now) }
+    ensures all { IfOk result (λ queues. queues.1 ≡ all_after set.now queues.0) }
+{
+    let todo = to_tell(alloc, tree, set)?;
+    let all = todo.all_where_none(alloc, set)?;
+    Ok((todo, all))
+}
+
+/// A device and all that depends on it, in the order in which they leave.
+fn leaving(
+    alloc: Global,
+    tree: &Tree,
+    relations: &Relations,
+    target: u64,
+) -> Result<SerialSet, WantOfMemory>
+    requires { IsSome (node_at target tree.now.nodes) }
+    ensures { IfOk result (λ set. IsLeaving tree.now.nodes relations.now target set) }
+{
+    let order = relations.leaving(alloc, tree, target)?;
+    SerialSet::of(alloc, &order)
+}
+
 impl Surprise {
+    /// The surprise removal of a device and of the others of this set stands before the first that is to be told.
+    fn of_set(
+        alloc: Global,
+        tree: &Tree,
+        node: &Node,
+        set: SerialSet,
+    ) -> Result<Surprise, WantOfMemory>
+        ensures { IfOk result (λ surprise. (relations : List Relation) (around : Core) → surprise ≡ begun_with (at_related tree.now.nodes relations around) node.now set) }
+    {
+        let path = node.path.text(alloc)?;
+        let told = told_before(alloc, tree, &set)?;
+        let (todo, all) = to_tell_or_all(alloc, tree, &set)?;
+        let mut surprise = Surprise {
+            target: node.serial,
+            path,
+            set,
+            told,
+            behind: SerialSet::new(alloc),
+            todo,
+            stage: Stage::Ending,
+            walk: Walk::begin(Minor::SurpriseRemoval),
+        };
+        surprise.tell_next(all);
+        Ok(surprise)
+    }
+
     /// The surprise removal of a device begins: of its dependents and then itself, who is Started or Stopped is to be told,
     /// and who was told before will stay behind. The line is that of the begin. Condition: the device is there. Cost: that of
     /// `Relations::leaving`.
@@ -67,31 +125,10 @@ impl Surprise {
         ensures { IfOk result (λ begun. BegunFor (node_at serial tree.now.nodes) tree.now.nodes relations.now begun.0 begun.1) }
     {
         let node = tree.at(serial);
-        let target = node.serial;
-        let line = node.path.text(alloc)?;
         let path = node.path.text(alloc)?;
-        let order = relations.leaving(alloc, tree, target)?;
-        let set = SerialSet::of(alloc, &order)?;
-        let told = told_before(alloc, tree, &set)?;
-        let todo = to_tell(alloc, tree, &set)?;
-        let all = todo.all_where_none(alloc, &set)?;
-        let mut surprise = Surprise {
-            target,
-            path,
-            set,
-            told,
-            behind: SerialSet::new(alloc),
-            todo,
-            stage: Stage::Ending,
-            walk: Walk::begin(Minor::SurpriseRemoval),
-        };
-        surprise.tell_next(all);
-        Ok((
-            Label::Begin {
-                op: OpKind::Surprise,
-                path: line,
-            },
-            surprise,
-        ))
+        let set = leaving(alloc, tree, relations, node.serial)?;
+        let surprise = Surprise::of_set(alloc, tree, node, set)?;
+        let op = OpKind::Surprise;
+        Ok((Label::Begin { op, path }, surprise))
     }
 }
