@@ -18,12 +18,18 @@ fn reads_part(
     same(buffer, want)
 }
 
-/// Two files, the first of which was added twice.
-fn two_files(alloc: Global) -> Result<MemFiles, Fail> {
-    let mut files = MemFiles::new(alloc);
+/// Adds two files, the first of them twice.
+fn add_two(files: &mut MemFiles) -> Result<(), Fail> {
     files.add(b"s", b"old")?;
     files.add(b"inf", b"[Version]")?;
     files.add(b"s", b"0123456789")?;
+    Ok(())
+}
+
+/// Two files, the first of which was added twice.
+fn two_files(alloc: Global) -> Result<MemFiles, Fail> {
+    let mut files = MemFiles::new(alloc);
+    add_two(&mut files)?;
     Ok(files)
 }
 
@@ -41,17 +47,27 @@ fn refuses(
     }
 }
 
-#[test]
-fn reads_files_in_memory(rt: HostRuntime) -> Result<(), Fail> {
-    let mut files = two_files(rt.alloc())?;
+/// The end of a file is read, and nothing behind it.
+fn reads_the_end(files: &mut MemFiles) -> Result<(), Fail> {
     let mut buffer = [0u8; 4];
     let end = files.read(b"s", 7, &mut buffer);
     reads_part(end, 3, &buffer, b"789\0")?;
     let behind = files.read(b"s", 10, &mut buffer);
-    reads_part(behind, 0, &buffer, b"789\0")?;
-    same(&read_all(rt.alloc(), &mut files, b"inf", 9)?, b"[Version]")?;
-    refuses(rt.alloc(), &mut files, b"s", 9, ReadError::TooLarge)?;
-    refuses(rt.alloc(), &mut files, b"t", 9, ReadError::ReadFault)
+    reads_part(behind, 0, &buffer, b"789\0")
+}
+
+/// A file is read whole; one is too large, and one is not there.
+fn reads_whole(alloc: Global, files: &mut MemFiles) -> Result<(), Fail> {
+    same(&read_all(alloc, files, b"inf", 9)?, b"[Version]")?;
+    refuses(alloc, files, b"s", 9, ReadError::TooLarge)?;
+    refuses(alloc, files, b"t", 9, ReadError::ReadFault)
+}
+
+#[test]
+fn reads_files_in_memory(rt: HostRuntime) -> Result<(), Fail> {
+    let mut files = two_files(rt.alloc())?;
+    reads_the_end(&mut files)?;
+    reads_whole(rt.alloc(), &mut files)
 }
 
 #[test]
@@ -69,14 +85,19 @@ fn leaves(sink: &mut MemSink, taken: &[u8]) -> Result<(), Fail> {
     same(sink.taken(), taken)
 }
 
+/// The third write to a sink with room for eight bytes fails, and then it is full.
+fn takes_a_front(sink: &mut MemSink) -> Result<(), Fail> {
+    write_all(sink, b"event ")?;
+    sink.fail_at(3)?;
+    must(sink.write(b"d") == Ok(1), "one byte more")?;
+    leaves(sink, b"event d")?;
+    leaves(sink, b"event dr")
+}
+
 #[test]
 fn writes_to_a_sink_in_memory(rt: HostRuntime) -> Result<(), Fail> {
     let mut sink = MemSink::new(rt.alloc(), 8)?;
-    write_all(&mut sink, b"event ")?;
-    sink.fail_at(3)?;
-    must(sink.write(b"d") == Ok(1), "one byte more")?;
-    leaves(&mut sink, b"event d")?;
-    leaves(&mut sink, b"event dr")
+    takes_a_front(&mut sink)
 }
 
 const TEXT: &[u8] = b"driver dev steady\nplug HTREE\\ROOT\\0 OWN\\DEV 1\n";

@@ -70,5 +70,5 @@ fn boards(rt: HostRuntime) -> Result<(), Fail> {
         14 255 =serial ids|*PNP0501 lower upper\n15 255 =parport ids|*PNP0400 lower upper\n";
     let own = "20200101 281474976710656\n7 255 =dev ids|OWN\\DEV lower upper\n\
         8 255 =hard ids|OWN\\HARD lower upper\n9 255 =dev ids|OWN\\FIL lower|low upper\n";
-    all_give(rt.alloc(), &WHOLE, &[(BOARD, board), (OWN, own)])
+    all_give(rt.alloc(), WHOLE, &[(BOARD, board), (OWN, own)])
 }

@@ -93,15 +93,26 @@ const LONG: &[(&[u8], &[u8], u32, &[u8], &str)] = &[
     (b"x=I,A\\\n", b"B", 4097, b"\n", "refused 3 7\n"),
 ];
 
+/// What an INF gives begins so.
+fn begins(alloc: Global, inf: &[u8], want: &str) -> Result<(), Fail> {
+    must(told(alloc, inf)?.starts_with(want.as_bytes()), want)
+}
+
 #[test]
-fn encodings(rt: HostRuntime) -> Result<(), Fail> {
+fn narrow_encodings(rt: HostRuntime) -> Result<(), Fail> {
+    bytes_give(rt.alloc(), UNDER_M, NARROW)
+}
+
+#[test]
+fn wide_encodings(rt: HostRuntime) -> Result<(), Fail> {
+    wide_models(rt.alloc(), WIDE)
+}
+
+#[test]
+fn long_lines(rt: HostRuntime) -> Result<(), Fail> {
     let alloc = rt.alloc();
-    bytes_give(alloc, &UNDER_M, NARROW)?;
-    wide_models(alloc, WIDE)?;
     for (front, piece, count, end, want) in LONG {
-        let inf = long(alloc, front, piece, *count, end)?;
-        let told = told(alloc, &inf)?;
-        must(told.starts_with(want.as_bytes()), want)?;
+        begins(alloc, &long(alloc, front, piece, *count, end)?, want)?;
     }
     Ok(())
 }

@@ -124,11 +124,30 @@ const OPEN_HEADERS: &[(&str, &str)] = &[
 
 #[test]
 fn lines(rt: HostRuntime) -> Result<(), Fail> {
-    let alloc = rt.alloc();
-    all_give(alloc, &UNDER_M, LINES)?;
-    all_give(alloc, &UNDER_M, QUOTES)?;
-    all_give(alloc, &UNDER_M, HEADERS)?;
-    all_give(alloc, &UNDER_M, CONTINUED)?;
-    all_give(alloc, &UNDER_M, ENTRIES)?;
-    all_give(alloc, &REFUSED, OPEN_HEADERS)
+    all_give(rt.alloc(), UNDER_M, LINES)
+}
+
+#[test]
+fn quotes(rt: HostRuntime) -> Result<(), Fail> {
+    all_give(rt.alloc(), UNDER_M, QUOTES)
+}
+
+#[test]
+fn headers(rt: HostRuntime) -> Result<(), Fail> {
+    all_give(rt.alloc(), UNDER_M, HEADERS)
+}
+
+#[test]
+fn continued_lines(rt: HostRuntime) -> Result<(), Fail> {
+    all_give(rt.alloc(), UNDER_M, CONTINUED)
+}
+
+#[test]
+fn entries(rt: HostRuntime) -> Result<(), Fail> {
+    all_give(rt.alloc(), UNDER_M, ENTRIES)
+}
+
+#[test]
+fn open_headers(rt: HostRuntime) -> Result<(), Fail> {
+    all_give(rt.alloc(), REFUSED, OPEN_HEADERS)
 }

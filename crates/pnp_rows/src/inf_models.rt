@@ -1,6 +1,6 @@
 //! The parts of models lines in INFs: tokens, install sections, scores, services and filters, with what the format's
 //! description gives.
-use crate::inf_told::{Around, REFUSED, UNDER_M, all_give, each_gives};
+use crate::inf_told::{Around, MODELS, REFUSED, UNDER_M, all_give, each_gives};
 use std::test::Fail;
 
 /// Tokens, and the texts that stand for them.
@@ -304,42 +304,77 @@ const FILTERS: &[(&str, &str)] = &[
 ];
 
 /// The value of a `FeatureScore`, and the models line.
-const SCORED: Around = Around {
+const SCORED: &Around = &Around {
+    head: MODELS,
     front: SCORE,
     end: "\n",
-    ..UNDER_M
+    gives: "0 0\n",
+    given_end: "",
 };
 
 /// The value of an `AddService` and what is behind it, and the models line.
-const SERVED: Around = Around {
+const SERVED: &Around = &Around {
+    head: MODELS,
     front: "x=I,A\n[I.Services]\nAddService=",
     end: "\n",
-    ..UNDER_M
+    gives: "0 0\n",
+    given_end: "",
 };
 
 /// The lines of a registry section, and the models line.
-const FILTERED: Around = Around {
+const FILTERED: &Around = &Around {
+    head: MODELS,
     front: "x=I,A\n[I.HW]\nAddReg=R\n[R]\n",
     end: "\n",
-    ..UNDER_M
+    gives: "0 0\n",
+    given_end: "",
 };
 
 /// The value of a `FeatureScore`, and how it is refused.
-const BADLY_SCORED: Around = Around {
+const BADLY_SCORED: &Around = &Around {
+    head: MODELS,
     front: SCORE,
     end: "\n",
-    ..REFUSED
+    gives: "",
+    given_end: "\n",
 };
 
 #[test]
-fn parts_of_models_lines(rt: HostRuntime) -> Result<(), Fail> {
-    let alloc = rt.alloc();
-    all_give(alloc, &UNDER_M, TOKENS)?;
-    all_give(alloc, &UNDER_M, INSTALLS)?;
-    all_give(alloc, &UNDER_M, REGISTRY)?;
-    all_give(alloc, &SCORED, SCORES)?;
-    all_give(alloc, &SERVED, SERVICES)?;
-    all_give(alloc, &FILTERED, FILTERS)?;
-    all_give(alloc, &REFUSED, BAD_SCORES_ANYWHERE)?;
-    each_gives(alloc, &BADLY_SCORED, BAD_SCORES, "refused 5 8")
+fn tokens(rt: HostRuntime) -> Result<(), Fail> {
+    all_give(rt.alloc(), UNDER_M, TOKENS)
+}
+
+#[test]
+fn install_sections(rt: HostRuntime) -> Result<(), Fail> {
+    all_give(rt.alloc(), UNDER_M, INSTALLS)
+}
+
+#[test]
+fn registry_sections(rt: HostRuntime) -> Result<(), Fail> {
+    all_give(rt.alloc(), UNDER_M, REGISTRY)
+}
+
+#[test]
+fn scores(rt: HostRuntime) -> Result<(), Fail> {
+    all_give(rt.alloc(), SCORED, SCORES)
+}
+
+#[test]
+fn services(rt: HostRuntime) -> Result<(), Fail> {
+    all_give(rt.alloc(), SERVED, SERVICES)
+}
+
+#[test]
+fn filters(rt: HostRuntime) -> Result<(), Fail> {
+    all_give(rt.alloc(), FILTERED, FILTERS)
+}
+
+#[test]
+fn bad_scores_anywhere(rt: HostRuntime) -> Result<(), Fail> {
+    all_give(rt.alloc(), REFUSED, BAD_SCORES_ANYWHERE)
+}
+
+#[test]
+fn bad_scores(rt: HostRuntime) -> Result<(), Fail> {
+    each_gives(rt.alloc(), BADLY_SCORED, BAD_SCORES, "refused 5 8")
 }

@@ -114,7 +114,7 @@ pub struct Around {
 }
 
 /// Whole INFs, and all that they give.
-pub const WHOLE: Around = Around {
+pub const WHOLE: &Around = &Around {
     head: "",
     front: "",
     end: "",
@@ -123,7 +123,7 @@ pub const WHOLE: Around = Around {
 };
 
 /// What is read under `[M]`, and the models lines that it gives.
-pub const UNDER_M: Around = Around {
+pub const UNDER_M: &Around = &Around {
     head: MODELS,
     front: "",
     end: "",
@@ -132,7 +132,7 @@ pub const UNDER_M: Around = Around {
 };
 
 /// What is read under `[M]`, and how it is refused.
-pub const REFUSED: Around = Around {
+pub const REFUSED: &Around = &Around {
     head: MODELS,
     front: "",
     end: "",
@@ -141,7 +141,7 @@ pub const REFUSED: Around = Around {
 };
 
 /// Values of a `DriverVer`, and date and version.
-pub const DATED: Around = Around {
+pub const DATED: &Around = &Around {
     head: SIGNED,
     front: "DriverVer=",
     end: "\n",
@@ -149,19 +149,31 @@ pub const DATED: Around = Around {
     given_end: "\n",
 };
 
-/// A text with what stands before and behind it.
-fn between(alloc: Global, front: &str, text: &[u8], end: &str) -> Result<Vec<u8>, AllocError> {
-    let mut all = Vec::from_slice(alloc, front.as_bytes())?;
-    all.extend_from_slice(text)?;
-    all.extend_from_slice(end.as_bytes())?;
-    Ok(all)
+/// Adds a text with what stands before and behind it.
+fn put_between(out: &mut Vec<u8>, front: &str, text: &[u8], end: &str) -> Result<(), AllocError> {
+    out.extend_from_slice(front.as_bytes())?;
+    out.extend_from_slice(text)?;
+    out.extend_from_slice(end.as_bytes())
+}
+
+/// The INF in which a text of a table stands.
+fn inf_of(alloc: Global, around: &Around, text: &[u8]) -> Result<Vec<u8>, AllocError> {
+    let mut inf = Vec::from_slice(alloc, around.head.as_bytes())?;
+    put_between(&mut inf, around.front, text, around.end)?;
+    Ok(inf)
+}
+
+/// All that an INF gives, where the table says this of a text.
+fn given_by(alloc: Global, around: &Around, want: &str) -> Result<Vec<u8>, AllocError> {
+    let mut given = Vec::new(alloc);
+    put_between(&mut given, around.gives, want.as_bytes(), around.given_end)?;
+    Ok(given)
 }
 
 /// One text of a table gives this.
 fn gives_in(alloc: Global, around: &Around, text: &[u8], want: &str) -> Result<(), Fail> {
-    let line = between(alloc, around.front, text, around.end)?;
-    let inf = between(alloc, around.head, &line, "")?;
-    let given = between(alloc, around.gives, want.as_bytes(), around.given_end)?;
+    let inf = inf_of(alloc, around, text)?;
+    let given = given_by(alloc, around, want)?;
     same(&told(alloc, &inf)?, &given)
 }
 

@@ -1,5 +1,6 @@
 //! INFs in the style of those that come with hardware, with all that is read over in them.
 use crate::inf_told::{WHOLE, all_give, gives};
+use std::alloc::Global;
 use std::test::Fail;
 
 /// A network adapter, for several systems.
@@ -338,13 +339,21 @@ const DAMAGED: &[(&str, &str, &str)] = &[
     ("[Gbe.Service]", "[Gbe.Service", "refused 2 70\n"),
 ];
 
+/// The first of them gives this, where what it says is damaged.
+fn damaged_gives(alloc: Global, old: &str, new: &str, want: &str) -> Result<(), Fail> {
+    let bad = NET.replace(alloc, old, new)?;
+    gives(alloc, bad.as_bytes(), want)
+}
+
 #[test]
 fn vendors(rt: HostRuntime) -> Result<(), Fail> {
-    let alloc = rt.alloc();
-    all_give(alloc, &WHOLE, VENDORS)?;
+    all_give(rt.alloc(), WHOLE, VENDORS)
+}
+
+#[test]
+fn damaged(rt: HostRuntime) -> Result<(), Fail> {
     for (old, new, want) in DAMAGED {
-        let bad = NET.replace(alloc, old, new)?;
-        gives(alloc, bad.as_bytes(), want)?;
+        damaged_gives(rt.alloc(), old, new, want)?;
     }
     Ok(())
 }

@@ -245,12 +245,31 @@ const BYTES: &[(&[u8], &str)] = &[
 ];
 
 #[test]
-fn versions_and_makers(rt: HostRuntime) -> Result<(), Fail> {
-    let alloc = rt.alloc();
-    all_give(alloc, &WHOLE, VERSIONS)?;
-    all_give(alloc, &WHOLE, MAKERS)?;
-    all_give(alloc, &WHOLE, REFUSALS)?;
-    bytes_give(alloc, &WHOLE, BYTES)?;
-    all_give(alloc, &DATED, DATES)?;
-    each_gives(alloc, &DATED, BAD_DATES, "refused 4 3")
+fn versions(rt: HostRuntime) -> Result<(), Fail> {
+    all_give(rt.alloc(), WHOLE, VERSIONS)
+}
+
+#[test]
+fn makers(rt: HostRuntime) -> Result<(), Fail> {
+    all_give(rt.alloc(), WHOLE, MAKERS)
+}
+
+#[test]
+fn refusals(rt: HostRuntime) -> Result<(), Fail> {
+    all_give(rt.alloc(), WHOLE, REFUSALS)
+}
+
+#[test]
+fn dates(rt: HostRuntime) -> Result<(), Fail> {
+    all_give(rt.alloc(), DATED, DATES)
+}
+
+#[test]
+fn bytes_that_are_no_inf(rt: HostRuntime) -> Result<(), Fail> {
+    bytes_give(rt.alloc(), WHOLE, BYTES)
+}
+
+#[test]
+fn bad_dates(rt: HostRuntime) -> Result<(), Fail> {
+    each_gives(rt.alloc(), DATED, BAD_DATES, "refused 4 3")
 }

@@ -30,4 +30,6 @@ mod script_lines;
 #[cfg(test)]
 mod script_shown;
 #[cfg(test)]
+mod script_wants;
+#[cfg(test)]
 mod script_whole;

@@ -1,4 +1,4 @@
-//! Every form of the script's language, and lines that are none, with the event or the refusal that the language's
+//! Forms of the script's language, and lines that are none, with the event or the refusal that the language's
 //! description gives.
 use crate::compared::same;
 use crate::script_shown::shown;
@@ -33,6 +33,14 @@ pub fn reads(alloc: Global, rows: &[(&[u8], &[u8])]) -> Result<(), Fail> {
     Ok(())
 }
 
+/// Each line is bad.
+pub fn are_bad(alloc: Global, lines: &[&[u8]]) -> Result<(), Fail> {
+    for line in lines {
+        same(&told(alloc, line)?, b"bad ")?;
+    }
+    Ok(())
+}
+
 const DRIVERS: &[(&[u8], &[u8])] = &[
     (b"driver dev steady", b"Name dev Steady "),
     (b"driver dev scripted", b"Name dev Scripted "),
@@ -43,23 +51,26 @@ const DRIVERS: &[(&[u8], &[u8])] = &[
     (b"driver 0 steady", b"Name 0 Steady "),
     (b"driver - steady", b"Name - Steady "),
     (b"driver . steady", b"Name . Steady "),
-    (b"Driver dev steady", b"bad "),
-    (b"DRIVER dev steady", b"bad "),
-    (b"driver dev Steady", b"bad "),
-    (b"driver dev", b"bad "),
-    (b"driver", b"bad "),
-    (b"driver dev steady now", b"bad "),
-    (b"driver dev steady # note", b"bad "),
-    (b"driver d\\v steady", b"bad "),
-    (b"driver d:v steady", b"bad "),
-    (b"driver d*v steady", b"bad "),
-    (b"driver d,v steady", b"bad "),
-    (b"driver d\x01v steady", b"bad "),
-    (b"drive dev steady", b"bad "),
-    (b"drivers dev steady", b"bad "),
-    (b"dev driver steady", b"bad "),
-    (b"driver dev steadyy", b"bad "),
-    (b"driver dev stead", b"bad "),
+];
+
+const BAD_DRIVERS: &[&[u8]] = &[
+    b"Driver dev steady",
+    b"DRIVER dev steady",
+    b"driver dev Steady",
+    b"driver dev",
+    b"driver",
+    b"driver dev steady now",
+    b"driver dev steady # note",
+    b"driver d\\v steady",
+    b"driver d:v steady",
+    b"driver d*v steady",
+    b"driver d,v steady",
+    b"driver d\x01v steady",
+    b"drive dev steady",
+    b"drivers dev steady",
+    b"dev driver steady",
+    b"driver dev steadyy",
+    b"driver dev stead",
 ];
 
 const OTHERS: &[(&[u8], &[u8])] = &[
@@ -74,32 +85,35 @@ const OTHERS: &[(&[u8], &[u8])] = &[
     (b"# note\r", b"none "),
     (b"pull OWN\\DEV\\1", b"Pull OWN\\DEV\\1 "),
     (b"pull OWN\\DEV\\1\r", b"Pull OWN\\DEV\\1 "),
-    (b"pull OWN\\DEV\\1\r\r", b"bad "),
-    (b"pull\r OWN\\DEV\\1", b"bad "),
-    (b"pull", b"bad "),
-    (b"pull OWN\\DEV", b"bad "),
-    (b"pull OWN\\DEV\\1 OWN\\DEV\\1", b"bad "),
-    (b"pull \\DEV\\1", b"bad "),
-    (b"pull OWN\\DEV\\", b"bad "),
-    (b"pull OWN\\D,V\\1", b"bad "),
-    (b"Pull OWN\\DEV\\1", b"bad "),
     (b"disable OWN\\DEV\\1", b"Disable OWN\\DEV\\1 "),
     (b"disable HTREE\\ROOT\\0", b"Disable HTREE\\ROOT\\0 "),
-    (b"disable", b"bad "),
-    (b"disable OWN\\DEV\\1 now", b"bad "),
     (b"enable OWN\\DEV\\1", b"Enable OWN\\DEV\\1 "),
     (b"enable own\\dev\\1", b"Enable own\\dev\\1 "),
-    (b"enable OWN", b"bad "),
     (b"eject OWN\\DEV\\1", b"Eject OWN\\DEV\\1 "),
-    (b"eject OWN\\DEV\\1\\2", b"bad "),
-    (b"eject", b"bad "),
-    (b"; note", b"bad "),
-    (b"// note", b"bad "),
-    (b"handle OWN\\DEV\\1", b"bad "),
-    (b"restart OWN\\DEV\\1", b"bad "),
-    (b"plag", b"bad "),
-    (b"\0", b"bad "),
-    (b"\xff", b"bad "),
+];
+
+const BAD_OTHERS: &[&[u8]] = &[
+    b"pull OWN\\DEV\\1\r\r",
+    b"pull\r OWN\\DEV\\1",
+    b"pull",
+    b"pull OWN\\DEV",
+    b"pull OWN\\DEV\\1 OWN\\DEV\\1",
+    b"pull \\DEV\\1",
+    b"pull OWN\\DEV\\",
+    b"pull OWN\\D,V\\1",
+    b"Pull OWN\\DEV\\1",
+    b"disable",
+    b"disable OWN\\DEV\\1 now",
+    b"enable OWN",
+    b"eject OWN\\DEV\\1\\2",
+    b"eject",
+    b"; note",
+    b"// note",
+    b"handle OWN\\DEV\\1",
+    b"restart OWN\\DEV\\1",
+    b"plag",
+    b"\0",
+    b"\xff",
 ];
 
 const LESSONS: &[(&[u8], &[u8])] = &[
@@ -144,20 +158,23 @@ const LESSONS: &[(&[u8], &[u8])] = &[
         b"teach dev SURPRISE_REMOVAL * ok 0007",
         b"Teach dev Irp(SurpriseRemoval) * Ok Some(7) ",
     ),
-    (b"teach dev add * ok 1000001", b"bad "),
-    (b"teach dev add * ok 0", b"bad "),
-    (b"teach dev add * ok x", b"bad "),
-    (b"teach dev add * ok 1 1", b"bad "),
-    (b"teach dev add * pend", b"bad "),
-    (b"teach dev ADD * ok", b"bad "),
-    (b"teach dev start_device * ok", b"bad "),
-    (b"teach dev START_DEVICE * Ok", b"bad "),
-    (b"teach dev START_DEVICE ok", b"bad "),
-    (b"teach dev START_DEVICE OWN\\DEV ok", b"bad "),
-    (b"teach dev START_DEVICE ** ok", b"bad "),
-    (b"teach d\\v add * ok", b"bad "),
-    (b"teach add * ok", b"bad "),
-    (b"teach", b"bad "),
+];
+
+const BAD_LESSONS: &[&[u8]] = &[
+    b"teach dev add * ok 1000001",
+    b"teach dev add * ok 0",
+    b"teach dev add * ok x",
+    b"teach dev add * ok 1 1",
+    b"teach dev add * pend",
+    b"teach dev ADD * ok",
+    b"teach dev start_device * ok",
+    b"teach dev START_DEVICE * Ok",
+    b"teach dev START_DEVICE ok",
+    b"teach dev START_DEVICE OWN\\DEV ok",
+    b"teach dev START_DEVICE ** ok",
+    b"teach d\\v add * ok",
+    b"teach add * ok",
+    b"teach",
 ];
 
 const RELATIONS: &[(&[u8], &[u8])] = &[
@@ -173,16 +190,6 @@ const RELATIONS: &[(&[u8], &[u8])] = &[
         b"relate removal OWN\\DEV\\1 OWN\\DEV\\1",
         b"Relate Removal OWN\\DEV\\1 OWN\\DEV\\1 ",
     ),
-    (b"relate Removal OWN\\DEV\\1 HTREE\\ROOT\\0", b"bad "),
-    (b"relate bus OWN\\DEV\\1 HTREE\\ROOT\\0", b"bad "),
-    (b"relate removal OWN\\DEV\\1", b"bad "),
-    (
-        b"relate removal OWN\\DEV\\1 HTREE\\ROOT\\0 HTREE\\ROOT\\0",
-        b"bad ",
-    ),
-    (b"relate removal OWN\\DEV HTREE\\ROOT\\0", b"bad "),
-    (b"relate removal HTREE\\ROOT\\0 OWN\\DEV", b"bad "),
-    (b"relate", b"bad "),
     (b"reserve irq:4", b"Reserve Irq 4-4 false "),
     (
         b"reserve port:0x3F8-0x3ff",
@@ -205,22 +212,6 @@ const RELATIONS: &[(&[u8], &[u8])] = &[
         b"reserve mem:000000000000000000000000000000012",
         b"Reserve Mem 12-12 false ",
     ),
-    (b"reserve port:18446744073709551616", b"bad "),
-    (b"reserve port:0x10000000000000000", b"bad "),
-    (b"reserve port:2-1", b"bad "),
-    (b"reserve port:1-", b"bad "),
-    (b"reserve port:-1", b"bad "),
-    (b"reserve port:", b"bad "),
-    (b"reserve port", b"bad "),
-    (b"reserve port:0x", b"bad "),
-    (b"reserve port:0X10", b"bad "),
-    (b"reserve port:1g", b"bad "),
-    (b"reserve port:1-2-3", b"bad "),
-    (b"reserve irq:4:shared", b"bad "),
-    (b"reserve Irq:4", b"bad "),
-    (b"reserve pci:4", b"bad "),
-    (b"reserve irq: 4", b"bad "),
-    (b"reserve", b"bad "),
     (
         b"complete OWN\\DEV\\1 START_DEVICE ok",
         b"Complete OWN\\DEV\\1 Start true ",
@@ -233,11 +224,37 @@ const RELATIONS: &[(&[u8], &[u8])] = &[
         b"complete OWN\\DEV\\1 SURPRISE_REMOVAL ok",
         b"Complete OWN\\DEV\\1 SurpriseRemoval true ",
     ),
-    (b"complete OWN\\DEV\\1 START_DEVICE pend", b"bad "),
-    (b"complete OWN\\DEV\\1 add ok", b"bad "),
-    (b"complete OWN\\DEV\\1 START_DEVICE", b"bad "),
-    (b"complete START_DEVICE OWN\\DEV\\1 ok", b"bad "),
-    (b"complete OWN\\DEV\\1 START_DEVICE ok 1", b"bad "),
+];
+
+const BAD_RELATIONS: &[&[u8]] = &[
+    b"relate Removal OWN\\DEV\\1 HTREE\\ROOT\\0",
+    b"relate bus OWN\\DEV\\1 HTREE\\ROOT\\0",
+    b"relate removal OWN\\DEV\\1",
+    b"relate removal OWN\\DEV\\1 HTREE\\ROOT\\0 HTREE\\ROOT\\0",
+    b"relate removal OWN\\DEV HTREE\\ROOT\\0",
+    b"relate removal HTREE\\ROOT\\0 OWN\\DEV",
+    b"relate",
+    b"reserve port:18446744073709551616",
+    b"reserve port:0x10000000000000000",
+    b"reserve port:2-1",
+    b"reserve port:1-",
+    b"reserve port:-1",
+    b"reserve port:",
+    b"reserve port",
+    b"reserve port:0x",
+    b"reserve port:0X10",
+    b"reserve port:1g",
+    b"reserve port:1-2-3",
+    b"reserve irq:4:shared",
+    b"reserve Irq:4",
+    b"reserve pci:4",
+    b"reserve irq: 4",
+    b"reserve",
+    b"complete OWN\\DEV\\1 START_DEVICE pend",
+    b"complete OWN\\DEV\\1 add ok",
+    b"complete OWN\\DEV\\1 START_DEVICE",
+    b"complete START_DEVICE OWN\\DEV\\1 ok",
+    b"complete OWN\\DEV\\1 START_DEVICE ok 1",
 ];
 
 const PLUGS: &[(&[u8], &[u8])] = &[
@@ -249,7 +266,6 @@ const PLUGS: &[(&[u8], &[u8])] = &[
         b"plug HTREE\\ROOT\\0 own\\dev 1",
         b"Plug HTREE\\ROOT\\0 own\\dev\\1 hw own\\dev compat ",
     ),
-    (b"plug OWN\\DEV\\1 A B", b"bad "),
     (
         b"plug OWN\\DEV\\1 A B\\C",
         b"Plug OWN\\DEV\\1 A\\B\\C hw A compat ",
@@ -278,310 +294,60 @@ const PLUGS: &[(&[u8], &[u8])] = &[
         b"plug HTREE\\ROOT\\0 OWN\\DEV 1 hw=H need=irq:5 compat=C",
         b"Plug HTREE\\ROOT\\0 OWN\\DEV\\1 hw H compat C list group Irq 5-5 1 1 false ",
     ),
-    (b"plug HTREE\\ROOT\\0 OWN\\DEV 1 hw=", b"bad "),
-    (b"plug HTREE\\ROOT\\0 OWN\\DEV 1 hw=A,", b"bad "),
-    (b"plug HTREE\\ROOT\\0 OWN\\DEV 1 hw=,A", b"bad "),
-    (b"plug HTREE\\ROOT\\0 OWN\\DEV 1 hw=A,,B", b"bad "),
-    (b"plug HTREE\\ROOT\\0 OWN\\DEV 1 hw=A hw=B", b"bad "),
-    (b"plug HTREE\\ROOT\\0 OWN\\DEV 1 compat=A compat=B", b"bad "),
-    (b"plug HTREE\\ROOT\\0 OWN\\DEV 1 compat=", b"bad "),
     (
         b"plug HTREE\\ROOT\\0 OWN\\DEV 1 hw=A\\B,C*",
         b"Plug HTREE\\ROOT\\0 OWN\\DEV\\1 hw A\\B C* compat ",
     ),
-    (b"plug HTREE\\ROOT\\0 OWN\\DEV 1 HW=A", b"bad "),
-    (b"plug HTREE\\ROOT\\0 OWN\\DEV 1 note", b"bad "),
-    (b"plug HTREE\\ROOT\\0 OWN\\DEV 1 hw = A", b"bad "),
-    (b"plug HTREE\\ROOT\\0 OWN\\DEV", b"bad "),
-    (b"plug HTREE\\ROOT\\0", b"bad "),
-    (b"plug", b"bad "),
-    (b"plug ROOT OWN\\DEV 1", b"bad "),
-    (b"plug HTREE\\ROOT\\0 OWN\\D,V 1", b"bad "),
-    (b"plug HTREE\\ROOT\\0 OWN\\DEV 1,2", b"bad "),
-    (b"plug HTREE\\ROOT\\0 \\DEV 1", b"bad "),
-    (b"plug HTREE\\ROOT\\0 A \\B", b"bad "),
 ];
 
-const WANTS: &[(&[u8], &[u8])] = &[
-    (
-        b"plug HTREE\\ROOT\\0 OWN\\DEV 1 need=irq:5",
-        b"Plug HTREE\\ROOT\\0 OWN\\DEV\\1 hw OWN\\DEV compat list group Irq 5-5 1 1 false ",
-    ),
-    (
-        b"plug HTREE\\ROOT\\0 OWN\\DEV 1 need=irq:3-7:shared",
-        b"Plug HTREE\\ROOT\\0 OWN\\DEV\\1 hw OWN\\DEV compat list group Irq 3-7 1 1 true ",
-    ),
-    (
-        b"plug HTREE\\ROOT\\0 OWN\\DEV 1 need=dma:1",
-        b"Plug HTREE\\ROOT\\0 OWN\\DEV\\1 hw OWN\\DEV compat list group Dma 1-1 1 1 false ",
-    ),
-    (
-        b"plug HTREE\\ROOT\\0 OWN\\DEV 1 need=dma:0-3:shared",
-        b"Plug HTREE\\ROOT\\0 OWN\\DEV\\1 hw OWN\\DEV compat list group Dma 0-3 1 1 true ",
-    ),
-    (
-        b"plug HTREE\\ROOT\\0 OWN\\DEV 1 need=port:0x3f8-0x3ff/8",
-        b"Plug HTREE\\ROOT\\0 OWN\\DEV\\1 hw OWN\\DEV compat list group Port 1016-1023 8 1 false ",
-    ),
-    (
-        b"plug HTREE\\ROOT\\0 OWN\\DEV 1 need=port:8-15/8@8",
-        b"Plug HTREE\\ROOT\\0 OWN\\DEV\\1 hw OWN\\DEV compat list group Port 8-15 8 8 false ",
-    ),
-    (
-        b"plug HTREE\\ROOT\\0 OWN\\DEV 1 need=port:8-15@8",
-        b"Plug HTREE\\ROOT\\0 OWN\\DEV\\1 hw OWN\\DEV compat list group Port 8-15 1 8 false ",
-    ),
-    (
-        b"plug HTREE\\ROOT\\0 OWN\\DEV 1 need=port:8-15@8:shared",
-        b"Plug HTREE\\ROOT\\0 OWN\\DEV\\1 hw OWN\\DEV compat list group Port 8-15 1 8 true ",
-    ),
-    (
-        b"plug HTREE\\ROOT\\0 OWN\\DEV 1 need=mem:0-0xff/0x10@0x10:shared",
-        b"Plug HTREE\\ROOT\\0 OWN\\DEV\\1 hw OWN\\DEV compat list group Mem 0-255 16 16 true ",
-    ),
-    (
-        b"plug HTREE\\ROOT\\0 OWN\\DEV 1 need=mem:4",
-        b"Plug HTREE\\ROOT\\0 OWN\\DEV\\1 hw OWN\\DEV compat list group Mem 4-4 1 1 false ",
-    ),
-    (
-        b"plug HTREE\\ROOT\\0 OWN\\DEV 1 need=irq:5|irq:7",
-        b"Plug HTREE\\ROOT\\0 OWN\\DEV\\1 hw OWN\\DEV compat list group Irq 5-5 1 1 false Irq 7-7 1 1 false ",
-    ),
-    (
-        b"plug HTREE\\ROOT\\0 OWN\\DEV 1 need=irq:5;port:8-15/8",
-        b"Plug HTREE\\ROOT\\0 OWN\\DEV\\1 hw OWN\\DEV compat list group Irq 5-5 1 1 false group Port 8-15 8 1 false ",
-    ),
-    (
-        b"plug HTREE\\ROOT\\0 OWN\\DEV 1 need=irq:5|irq:7;dma:1|dma:2:shared",
-        b"Plug HTREE\\ROOT\\0 OWN\\DEV\\1 hw OWN\\DEV compat list group Irq 5-5 1 1 false Irq 7-7 1 1 false group Dma 1-1 1 1 false Dma 2-2 1 1 true ",
-    ),
-    (
-        b"plug HTREE\\ROOT\\0 OWN\\DEV 1 need=irq:5 need=irq:6",
-        b"Plug HTREE\\ROOT\\0 OWN\\DEV\\1 hw OWN\\DEV compat list group Irq 5-5 1 1 false list group Irq 6-6 1 1 false ",
-    ),
-    (
-        b"plug HTREE\\ROOT\\0 OWN\\DEV 1 need=irq:1 need=irq:1 need=irq:1 need=irq:1 need=irq:1 need=irq:1 need=irq:1 need=irq:1 need=irq:1",
-        b"bad ",
-    ),
-    (b"plug HTREE\\ROOT\\0 OWN\\DEV 1 need=", b"bad "),
-    (b"plug HTREE\\ROOT\\0 OWN\\DEV 1 need=irq:5;", b"bad "),
-    (b"plug HTREE\\ROOT\\0 OWN\\DEV 1 need=;irq:5", b"bad "),
-    (b"plug HTREE\\ROOT\\0 OWN\\DEV 1 need=irq:5|", b"bad "),
-    (b"plug HTREE\\ROOT\\0 OWN\\DEV 1 need=|irq:5", b"bad "),
-    (b"plug HTREE\\ROOT\\0 OWN\\DEV 1 need=irq:5;;irq:6", b"bad "),
-    (b"plug HTREE\\ROOT\\0 OWN\\DEV 1 need=irq", b"bad "),
-    (b"plug HTREE\\ROOT\\0 OWN\\DEV 1 need=irq:", b"bad "),
-    (b"plug HTREE\\ROOT\\0 OWN\\DEV 1 need=irq:7-3", b"bad "),
-    (b"plug HTREE\\ROOT\\0 OWN\\DEV 1 need=irq:5/1", b"bad "),
-    (b"plug HTREE\\ROOT\\0 OWN\\DEV 1 need=irq:5@1", b"bad "),
-    (b"plug HTREE\\ROOT\\0 OWN\\DEV 1 need=dma:5/1", b"bad "),
-    (b"plug HTREE\\ROOT\\0 OWN\\DEV 1 need=irq:5:Shared", b"bad "),
-    (
-        b"plug HTREE\\ROOT\\0 OWN\\DEV 1 need=irq:5:shared:shared",
-        b"bad ",
-    ),
-    (
-        b"plug HTREE\\ROOT\\0 OWN\\DEV 1 need=port:8-15@8/8",
-        b"bad ",
-    ),
-    (
-        b"plug HTREE\\ROOT\\0 OWN\\DEV 1 need=port:8-15/8/8",
-        b"bad ",
-    ),
-    (
-        b"plug HTREE\\ROOT\\0 OWN\\DEV 1 need=port:8-15:shared@8",
-        b"bad ",
-    ),
-    (b"plug HTREE\\ROOT\\0 OWN\\DEV 1 need=port:8-15/0", b"bad "),
-    (b"plug HTREE\\ROOT\\0 OWN\\DEV 1 need=port:8-15@0", b"bad "),
-    (
-        b"plug HTREE\\ROOT\\0 OWN\\DEV 1 need=port:8-15@3",
-        b"Plug HTREE\\ROOT\\0 OWN\\DEV\\1 hw OWN\\DEV compat list group Port 8-15 1 3 false ",
-    ),
-    (b"plug HTREE\\ROOT\\0 OWN\\DEV 1 need=port:8-15/9", b"bad "),
-    (b"plug HTREE\\ROOT\\0 OWN\\DEV 1 need=port:8-15/", b"bad "),
-    (b"plug HTREE\\ROOT\\0 OWN\\DEV 1 need=port:8-15@", b"bad "),
-    (b"plug HTREE\\ROOT\\0 OWN\\DEV 1 need=pci:1", b"bad "),
-    (b"plug HTREE\\ROOT\\0 OWN\\DEV 1 need=irq:5,irq:6", b"bad "),
-    (
-        b"plug HTREE\\ROOT\\0 OWN\\DEV 1 need=mem:0-0xffffffffffffffff/0x8000000000000000",
-        b"Plug HTREE\\ROOT\\0 OWN\\DEV\\1 hw OWN\\DEV compat list group Mem 0-18446744073709551615 9223372036854775808 1 false ",
-    ),
-    (
-        b"plug HTREE\\ROOT\\0 OWN\\DEV 1 need=mem:0-18446744073709551616",
-        b"bad ",
-    ),
-];
-
-const BUSES: &[(&[u8], &[u8])] = &[
-    (
-        b"plug A\\B\\1 A\\B 2 need=bus:0-255/4",
-        b"Plug A\\B\\1 A\\B\\2 hw A\\B compat list group Bus 0-255 4 1 false ",
-    ),
-    (
-        b"plug A\\B\\1 A\\B 2 need=bus:3",
-        b"Plug A\\B\\1 A\\B\\2 hw A\\B compat list group Bus 3-3 1 1 false ",
-    ),
-    (
-        b"plug A\\B\\1 A\\B 2 need=bus:255",
-        b"Plug A\\B\\1 A\\B\\2 hw A\\B compat list group Bus 255-255 1 1 false ",
-    ),
-    (
-        b"plug A\\B\\1 A\\B 2 need=bus:0x10-0xff/16:shared",
-        b"Plug A\\B\\1 A\\B\\2 hw A\\B compat list group Bus 16-255 16 1 true ",
-    ),
-    (
-        b"plug A\\B\\1 A\\B 2 need=bus:0-255/256",
-        b"Plug A\\B\\1 A\\B\\2 hw A\\B compat list group Bus 0-255 256 1 false ",
-    ),
-    (
-        b"plug A\\B\\1 A\\B 2 need=bus:1:shared",
-        b"Plug A\\B\\1 A\\B\\2 hw A\\B compat list group Bus 1-1 1 1 true ",
-    ),
-    (
-        b"plug A\\B\\1 A\\B 2 need=bus:1-2|irq:5;bus:3",
-        b"Plug A\\B\\1 A\\B\\2 hw A\\B compat list group Bus 1-2 1 1 false Irq 5-5 1 1 false group Bus 3-3 1 1 false ",
-    ),
-    (
-        b"plug A\\B\\1 A\\B 2 need=irq:256",
-        b"Plug A\\B\\1 A\\B\\2 hw A\\B compat list group Irq 256-256 1 1 false ",
-    ),
-    (b"plug A\\B\\1 A\\B 2 need=bus:256", b"bad "),
-    (b"plug A\\B\\1 A\\B 2 need=bus:0-256", b"bad "),
-    (b"plug A\\B\\1 A\\B 2 need=bus:255-256", b"bad "),
-    (b"plug A\\B\\1 A\\B 2 need=bus:0x100", b"bad "),
-    (b"plug A\\B\\1 A\\B 2 need=bus:0-255/257", b"bad "),
-    (b"plug A\\B\\1 A\\B 2 need=bus:0-3/0", b"bad "),
-    (b"plug A\\B\\1 A\\B 2 need=bus:0-3/", b"bad "),
-    (b"plug A\\B\\1 A\\B 2 need=bus:0-3@1", b"bad "),
-    (b"plug A\\B\\1 A\\B 2 need=bus:0-3/2@2", b"bad "),
-    (b"plug A\\B\\1 A\\B 2 need=bus:0-3:shared/2", b"bad "),
-    (b"plug A\\B\\1 A\\B 2 need=bus:3-0", b"bad "),
-    (b"plug A\\B\\1 A\\B 2 need=bus:", b"bad "),
-    (b"plug A\\B\\1 A\\B 2 need=bus", b"bad "),
-    (b"plug A\\B\\1 A\\B 2 need=Bus:1", b"bad "),
-    (b"plug A\\B\\1 A\\B 2 need=bus:1|bus:256", b"bad "),
-    (b"plug A\\B\\1 A\\B 2 need=bus:1:alone", b"bad "),
-    (b"reserve bus:0", b"Reserve Bus 0-0 false "),
-    (b"reserve bus:0-255", b"Reserve Bus 0-255 false "),
-    (b"reserve bus:0x10-0x1f", b"Reserve Bus 16-31 false "),
-    (b"reserve irq:256", b"Reserve Irq 256-256 false "),
-    (b"reserve bus:256", b"bad "),
-    (b"reserve bus:0-256", b"bad "),
-    (b"reserve bus:18446744073709551615", b"bad "),
-    (b"reserve bus:0:shared", b"bad "),
-    (b"reserve bus:0/1", b"bad "),
-    (b"reserve bus:", b"bad "),
-    (b"reserve bus:2-1", b"bad "),
-    (b"reserve buses:4", b"bad "),
-];
-
-const WINDOWS: &[(&[u8], &[u8])] = &[
-    (
-        b"window OWN\\DEV\\B port:0x1000-0x1fff",
-        b"Window OWN\\DEV\\B Port 4096-8191 false ",
-    ),
-    (
-        b"window OWN\\DEV\\B mem:0-18446744073709551615",
-        b"Window OWN\\DEV\\B Mem 0-18446744073709551615 false ",
-    ),
-    (
-        b"window own\\dev\\b mem:7",
-        b"Window own\\dev\\b Mem 7-7 false ",
-    ),
-    (
-        b"window HTREE\\ROOT\\0 port:0-7",
-        b"Window HTREE\\ROOT\\0 Port 0-7 false ",
-    ),
-    (
-        b"\twindow  OWN\\DEV\\B\tmem:0-7 ",
-        b"Window OWN\\DEV\\B Mem 0-7 false ",
-    ),
-    (b"window OWN\\DEV\\B irq:1", b"bad "),
-    (b"window OWN\\DEV\\B dma:1", b"bad "),
-    (b"window OWN\\DEV\\B bus:1", b"bad "),
-    (b"window OWN\\DEV\\B port:0-7:shared", b"bad "),
-    (b"window OWN\\DEV\\B port:0-7/8", b"bad "),
-    (b"window OWN\\DEV\\B port:0-7@8", b"bad "),
-    (b"window OWN\\DEV\\B port:7-0", b"bad "),
-    (b"window OWN\\DEV\\B port:-1", b"bad "),
-    (b"window OWN\\DEV\\B port:", b"bad "),
-    (b"window OWN\\DEV\\B port", b"bad "),
-    (b"window OWN\\DEV\\B Port:0-7", b"bad "),
-    (b"window OWN\\DEV\\B port:0X10", b"bad "),
-    (b"window OWN\\DEV\\B mem:0-18446744073709551616", b"bad "),
-    (b"window OWN\\DEV\\B port:0-7 mem:0-7", b"bad "),
-    (b"window OWN\\DEV\\B", b"bad "),
-    (b"window port:0-7 OWN\\DEV\\B", b"bad "),
-    (b"window OWN\\DEV port:0-7", b"bad "),
-    (b"window * port:0-7", b"bad "),
-    (b"window", b"bad "),
-    (b"Window OWN\\DEV\\B port:0-7", b"bad "),
-    (b"windows OWN\\DEV\\B port:0-7", b"bad "),
-];
-
-const CHANGES: &[(&[u8], &[u8])] = &[
-    (b"change A\\B\\1", b"Change A\\B\\1 "),
-    (
-        b"change a\\b\\1 need=irq:5",
-        b"Change a\\b\\1 list group Irq 5-5 1 1 false ",
-    ),
-    (
-        b"change HTREE\\ROOT\\0 need=irq:5 need=port:0-7/8@8;irq:3|irq:4:shared",
-        b"Change HTREE\\ROOT\\0 list group Irq 5-5 1 1 false list group Port 0-7 8 8 false group Irq 3-3 1 1 false Irq 4-4 1 1 true ",
-    ),
-    (
-        b"change A\\B\\1 reqs=480000000000000000000000000000000000000000000000000000000100000001000100010000000002010000000000050000000500000000000000000000000000000000000000",
-        b"Change A\\B\\1 list group Irq 5-5 1 1 false ",
-    ),
-    (
-        b"\tchange  A\\B\\1\tneed=bus:0-255/4 ",
-        b"Change A\\B\\1 list group Bus 0-255 4 1 false ",
-    ),
-    (
-        b"change A\\B\\1 need=irq:1 need=irq:1 need=irq:1 need=irq:1 need=irq:1 need=irq:1 need=irq:1 need=irq:1",
-        b"Change A\\B\\1 list group Irq 1-1 1 1 false list group Irq 1-1 1 1 false list group Irq 1-1 1 1 false list group Irq 1-1 1 1 false list group Irq 1-1 1 1 false list group Irq 1-1 1 1 false list group Irq 1-1 1 1 false list group Irq 1-1 1 1 false ",
-    ),
-    (
-        b"change A\\B\\1 need=irq:1 need=irq:1 need=irq:1 need=irq:1 need=irq:1 need=irq:1 need=irq:1 need=irq:1 need=irq:1",
-        b"bad ",
-    ),
-    (b"change", b"bad "),
-    (b"change A\\B", b"bad "),
-    (b"change * need=irq:5", b"bad "),
-    (b"change A\\B\\1 irq:5", b"bad "),
-    (b"change A\\B\\1 hw=A\\B", b"bad "),
-    (b"change A\\B\\1 compat=A\\B", b"bad "),
-    (b"change A\\B\\1 need=irq:5 hw=A\\B", b"bad "),
-    (b"change A\\B\\1 need=bus:256", b"bad "),
-    (b"change A\\B\\1 need=", b"bad "),
-    (
-        b"change A\\B\\1 reqs=480000000000000000000000000000000000000000000000000000000100000001000100010000000002010000000000050000000500000000000000000000000000000000000000 need=irq:5",
-        b"bad ",
-    ),
-    (
-        b"change A\\B\\1 reqs=480000000000000000000000000000000000000000000000000000000100000001000100010000000002010000000000050000000500000000000000000000000000000000000000 reqs=480000000000000000000000000000000000000000000000000000000100000001000100010000000002010000000000050000000500000000000000000000000000000000000000",
-        b"bad ",
-    ),
-    (
-        b"change A\\B\\1 reqs=4800000000000000000000000000000000000000000000000000000001000000010001000100000000020100000000000500000005000000000000000000000000000000000000",
-        b"bad ",
-    ),
-    (b"change A\\B\\1 A\\B\\2", b"bad "),
-    (b"Change A\\B\\1", b"bad "),
-    (b"changes A\\B\\1", b"bad "),
+const BAD_PLUGS: &[&[u8]] = &[
+    b"plug OWN\\DEV\\1 A B",
+    b"plug HTREE\\ROOT\\0 OWN\\DEV 1 hw=",
+    b"plug HTREE\\ROOT\\0 OWN\\DEV 1 hw=A,",
+    b"plug HTREE\\ROOT\\0 OWN\\DEV 1 hw=,A",
+    b"plug HTREE\\ROOT\\0 OWN\\DEV 1 hw=A,,B",
+    b"plug HTREE\\ROOT\\0 OWN\\DEV 1 hw=A hw=B",
+    b"plug HTREE\\ROOT\\0 OWN\\DEV 1 compat=A compat=B",
+    b"plug HTREE\\ROOT\\0 OWN\\DEV 1 compat=",
+    b"plug HTREE\\ROOT\\0 OWN\\DEV 1 HW=A",
+    b"plug HTREE\\ROOT\\0 OWN\\DEV 1 note",
+    b"plug HTREE\\ROOT\\0 OWN\\DEV 1 hw = A",
+    b"plug HTREE\\ROOT\\0 OWN\\DEV",
+    b"plug HTREE\\ROOT\\0",
+    b"plug",
+    b"plug ROOT OWN\\DEV 1",
+    b"plug HTREE\\ROOT\\0 OWN\\D,V 1",
+    b"plug HTREE\\ROOT\\0 OWN\\DEV 1,2",
+    b"plug HTREE\\ROOT\\0 \\DEV 1",
+    b"plug HTREE\\ROOT\\0 A \\B",
 ];
 
 #[test]
-fn lines(rt: HostRuntime) -> Result<(), Fail> {
-    let alloc = rt.alloc();
-    reads(alloc, DRIVERS)?;
-    reads(alloc, OTHERS)?;
-    reads(alloc, LESSONS)?;
-    reads(alloc, RELATIONS)?;
-    reads(alloc, PLUGS)?;
-    reads(alloc, WANTS)?;
-    reads(alloc, BUSES)?;
-    reads(alloc, WINDOWS)?;
-    reads(alloc, CHANGES)
+fn drivers(rt: HostRuntime) -> Result<(), Fail> {
+    reads(rt.alloc(), DRIVERS)?;
+    are_bad(rt.alloc(), BAD_DRIVERS)
+}
+
+#[test]
+fn other_lines(rt: HostRuntime) -> Result<(), Fail> {
+    reads(rt.alloc(), OTHERS)?;
+    are_bad(rt.alloc(), BAD_OTHERS)
+}
+
+#[test]
+fn lessons(rt: HostRuntime) -> Result<(), Fail> {
+    reads(rt.alloc(), LESSONS)?;
+    are_bad(rt.alloc(), BAD_LESSONS)
+}
+
+#[test]
+fn relations(rt: HostRuntime) -> Result<(), Fail> {
+    reads(rt.alloc(), RELATIONS)?;
+    are_bad(rt.alloc(), BAD_RELATIONS)
+}
+
+#[test]
+fn plugs(rt: HostRuntime) -> Result<(), Fail> {
+    reads(rt.alloc(), PLUGS)?;
+    are_bad(rt.alloc(), BAD_PLUGS)
 }
