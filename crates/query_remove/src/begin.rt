@@ -4,8 +4,6 @@ ghost use Rattle.pnp_model.specs.Keyed.{those};
 ghost use Rattle.pnp_model.specs.Records.{Core};
 ghost use Rattle.pnp_model.specs.Removals.{is_queried_node, begun_with};
 ghost use Rattle.devnode_tree.specs.Cores.{at_related};
-ghost use Rattle.operation_frame.specs.Queues.{all_after};
-ghost use Rattle.relations.specs.Leaving.{IsLeaving};
 ghost use Rattle.query_remove.specs.Begins.{BegunFor};
 
 use crate::frame::{Removal, Stage};
@@ -41,34 +39,6 @@ fn queried(alloc: Global, tree: &Tree, set: &SerialSet) -> Result<SerialQueue, W
     Ok(queue)
 }
 
-/// Those of a set that are asked, or refuse unasked; and all of it where there are none.
-fn to_ask(
-    alloc: Global,
-    tree: &Tree,
-    set: &SerialSet,
-) -> Result<(SerialQueue, SerialQueue), WantOfMemory>
-    ensures queried { IfOk result (λ queues. queues.0 ≡ those (λ k. is_queried_node (node_at k tree.now.nodes)) set.now) }
-    ensures all { IfOk result (λ queues. queues.1 ≡ all_after set.now queues.0) }
-{
-    let todo = queried(alloc, tree, set)?;
-    let all = todo.all_where_none(alloc, set)?;
-    Ok((todo, all))
-}
-
-/// A device and all that depends on it, in the order in which they leave.
-fn leaving(
-    alloc: Global,
-    tree: &Tree,
-    relations: &Relations,
-    target: u64,
-) -> Result<SerialSet, WantOfMemory>
-    requires { IsSome (node_at target tree.now.nodes) }
-    ensures { IfOk result (λ set. IsLeaving tree.now.nodes relations.now target set) }
-{
-    let order = relations.leaving(alloc, tree, target)?;
-    SerialSet::of(alloc, &order)
-}
-
 impl Removal {
     /// The removal of a device and of the others of this set stands before the first that is to be asked.
     fn of_set(
@@ -83,7 +53,8 @@ impl Removal {
     {
         let path = node.path.text(alloc)?;
         let ejecting = relations.ejected(alloc, &set)?;
-        let (todo, all) = to_ask(alloc, tree, &set)?;
+        let todo = queried(alloc, tree, &set)?;
+        let all = todo.all_where_none(alloc, &set)?;
         let mut removal = Removal {
             kind,
             target: node.serial,
@@ -114,7 +85,8 @@ impl Removal {
     {
         let node = tree.at(serial);
         let path = node.path.text(alloc)?;
-        let set = leaving(alloc, tree, relations, node.serial)?;
+        let order = relations.leaving(alloc, tree, node.serial)?;
+        let set = SerialSet::of(alloc, &order)?;
         let removal = Removal::of_set(alloc, tree, relations, kind, node, set)?;
         Ok((Label::Begin { op: kind, path }, removal))
     }

@@ -5,8 +5,6 @@ ghost use Rattle.pnp_model.specs.Handles.{was_told};
 ghost use Rattle.pnp_model.specs.Records.{Core, Relation};
 ghost use Rattle.pnp_model.specs.Surprises.{is_told_node, begun_with};
 ghost use Rattle.devnode_tree.specs.Cores.{at_related};
-ghost use Rattle.operation_frame.specs.Queues.{all_after};
-ghost use Rattle.relations.specs.Leaving.{IsLeaving};
 ghost use Rattle.surprise_remove.specs.Begins.{BegunFor};
 
 use crate::frame::{Stage, Surprise};
@@ -57,34 +55,6 @@ fn told_before(alloc: Global, tree: &Tree, set: &SerialSet) -> Result<SerialSet,
     Ok(told)
 }
 
-/// Those of a set that are told that they are gone; and all of it where there are none.
-fn to_tell_or_all(
-    alloc: Global,
-    tree: &Tree,
-    set: &SerialSet,
-) -> Result<(SerialQueue, SerialQueue), WantOfMemory>
-    ensures told { IfOk result (λ queues. queues.0 ≡ those (λ k. is_told_node (node_at k tree.now.nodes)) set.now) }
-    ensures all { IfOk result (λ queues. queues.1 ≡ all_after set.now queues.0) }
-{
-    let todo = to_tell(alloc, tree, set)?;
-    let all = todo.all_where_none(alloc, set)?;
-    Ok((todo, all))
-}
-
-/// A device and all that depends on it, in the order in which they leave.
-fn leaving(
-    alloc: Global,
-    tree: &Tree,
-    relations: &Relations,
-    target: u64,
-) -> Result<SerialSet, WantOfMemory>
-    requires { IsSome (node_at target tree.now.nodes) }
-    ensures { IfOk result (λ set. IsLeaving tree.now.nodes relations.now target set) }
-{
-    let order = relations.leaving(alloc, tree, target)?;
-    SerialSet::of(alloc, &order)
-}
-
 impl Surprise {
     /// The surprise removal of a device and of the others of this set stands before the first that is to be told.
     fn of_set(
@@ -97,7 +67,8 @@ impl Surprise {
     {
         let path = node.path.text(alloc)?;
         let told = told_before(alloc, tree, &set)?;
-        let (todo, all) = to_tell_or_all(alloc, tree, &set)?;
+        let todo = to_tell(alloc, tree, &set)?;
+        let all = todo.all_where_none(alloc, &set)?;
         let mut surprise = Surprise {
             target: node.serial,
             path,
@@ -126,7 +97,8 @@ impl Surprise {
     {
         let node = tree.at(serial);
         let path = node.path.text(alloc)?;
-        let set = leaving(alloc, tree, relations, node.serial)?;
+        let order = relations.leaving(alloc, tree, node.serial)?;
+        let set = SerialSet::of(alloc, &order)?;
         let surprise = Surprise::of_set(alloc, tree, node, set)?;
         let op = OpKind::Surprise;
         Ok((Label::Begin { op, path }, surprise))

@@ -11,4 +11,4 @@ pub returns : goal.returns
 returns c =
     let seen = c.node.view_is in
     begun_is c.args.tree.now.nodes c.args.relations.now c.at-node.result.now c.args.serial c.in_ok-path.path c.in_ok-set.set c.node.inside.serial c.in_ok-surprise.surprise c.at-node.ensures.node
-    (c.in_ok-path.ensures ∙ ap (λ (n : Node). n.path) seen) (ap (λ (n : Node). n.serial) seen) c.in_ok-set.ensures (c.in_ok-surprise.ensures c.args.relations.now)
+    (c.in_ok-path.ensures ∙ ap (λ (n : Node). n.path) seen) (ap (λ (n : Node). n.serial) seen) (rw c.in_ok-set.ensures c.in_ok-order.ensures) (c.in_ok-surprise.ensures c.args.relations.now)

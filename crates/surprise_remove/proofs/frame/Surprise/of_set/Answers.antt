@@ -8,5 +8,5 @@ pub returns : goal.returns
 returns c relations =
     let seen = c.node.view_is in
     of_set_is c.args.tree.now.nodes relations c.args.node.now c.in_ok-path.path c.args.set c.in_ok-told.told c.in_ok-todo.todo c.node.inside.serial c.tell_next.new.self
-    (c.in_ok-path.ensures ∙ ap (λ (n : Node). n.path) seen) (ap (λ (n : Node). n.serial) seen) c.in_ok-told.ensures c.in_ok-todo.ensures.told
+    (c.in_ok-path.ensures ∙ ap (λ (n : Node). n.path) seen) (ap (λ (n : Node). n.serial) seen) c.in_ok-told.ensures c.in_ok-todo.ensures
     (c.tell_next.ensures ∙ ap (λ (b : List ℕ). tell_on (record { target = c.node.inside.serial; path = c.in_ok-path.path; set = c.args.set; told = c.in_ok-told.told; behind = reverse b; todo = c.in_ok-todo.todo; stage = SurpriseStage.Ending }) c.in_ok-todo.todo) c.new.ensures)
