@@ -14,4 +14,5 @@ pub mod Rows
 pub mod Shapes
 pub mod Taking
 pub mod Pieces
+pub mod Plugging
 pub mod OneReading

@@ -81,15 +81,22 @@ fn bytes_alone(alloc: Global, text: &[u8], needs: &[&[u8]]) -> Result<Reqs, Line
     reqs_by_bytes(alloc, text)
 }
 
+/// The requirements that the values of `reqs` and of `need` are.
+fn reqs_from(alloc: Global, bytes: &[&[u8]], needs: &[&[u8]]) -> Result<Reqs, LineError>
+    ensures { Gives result (reqs_from (map (λ w. w.now) bytes.now) (map (λ w. w.now) needs.now)) }
+{
+    match bytes {
+        [] => lists_of(alloc, needs),
+        [text] => bytes_alone(alloc, text, needs),
+        _ => Err(LineError::Bad),
+    }
+}
+
 /// The requirements: an alternative list for each `need`, or the bytes that stand in place of them.
 pub fn reqs_of(alloc: Global, attributes: &[&[u8]]) -> Result<Reqs, LineError>
     ensures { Gives result (reqs_of (map (λ w. w.now) attributes.now)) }
 {
     let needs = values(alloc, b"need=", attributes)?;
     let bytes = values(alloc, b"reqs=", attributes)?;
-    match bytes.as_slice() {
-        [] => lists_of(alloc, &needs),
-        [text] => bytes_alone(alloc, text, &needs),
-        _ => Err(LineError::Bad),
-    }
+    reqs_from(alloc, &bytes, &needs)
 }

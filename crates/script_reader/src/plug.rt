@@ -1,7 +1,7 @@
-ghost use Rattle.std.specs.Prelude.{◌≡◌, map, IfOk, [], ◌∷◌};
+ghost use Rattle.std.specs.Prelude.{◌≡◌, map, IfOk, None, if◌then◌else◌, [], ◌∷◌};
 ghost use Rattle.std.specs.List.{list_all};
 ghost use Rattle.script_reader.specs.Faults.{Gives};
-ghost use Rattle.script_reader.specs.Lines.{is_attribute, hw_of, compat_of, plugged, plug_of};
+ghost use Rattle.script_reader.specs.Lines.{is_attribute, hw_of, compat_of, plugged, plug_of, reqs_of};
 
 use crate::fault::LineError;
 use crate::lines::path_of;
@@ -9,6 +9,7 @@ use crate::needs::{is_need, reqs_of, value_at, values};
 use crate::wants::{id_of, ids_of};
 use device_ids::{DeviceId, IdList, InstancePath};
 use pnp_labels::Event;
+use resource_reqs::Reqs;
 use std::alloc::{AllocError, Global};
 
 /// Whether the word is an attribute of `plug`.
@@ -69,6 +70,18 @@ fn compat_of(alloc: Global, attributes: &[&[u8]]) -> Result<IdList, LineError>
     }
 }
 
+/// The requirements, where each word is an attribute of `plug`.
+fn reqs_among(alloc: Global, attributes: &[&[u8]]) -> Result<Reqs, LineError>
+    ensures { Gives result (if list_all is_attribute (map (λ w. w.now) attributes.now) then reqs_of (map (λ w. w.now) attributes.now) else None) }
+{
+    let reqs = reqs_of(alloc, attributes)?;
+    if are_attributes(attributes) {
+        Ok(reqs)
+    } else {
+        Err(LineError::Bad)
+    }
+}
+
 /// The device of this path below the parent, with what its attributes say.
 fn plugged(
     alloc: Global,
@@ -81,10 +94,7 @@ fn plugged(
 {
     let hw = hw_of(alloc, device, attributes)?;
     let compat = compat_of(alloc, attributes)?;
-    let reqs = reqs_of(alloc, attributes)?;
-    if !are_attributes(attributes) {
-        return Err(LineError::Bad);
-    }
+    let reqs = reqs_among(alloc, attributes)?;
     Ok(Event::Plug {
         parent,
         path,

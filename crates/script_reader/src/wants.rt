@@ -1,7 +1,7 @@
 ghost use Rattle.std.specs.Prelude.{◌≡◌, ◌<◌, ◌+◌, ◌^◌, length, map, IfOk};
 ghost use Rattle.std.specs.Option.{option_map};
 ghost use Rattle.script_reader.specs.Faults.{Gives};
-ghost use Rattle.script_reader.specs.Wants.{tail_at, shared_of, number_or_one, want_from, sized_by, sized, spanned, counted, want_of, group_of, list_of, id_of, ids_of};
+ghost use Rattle.script_reader.specs.Wants.{tail_at, shared_of, number_or_one, want_from, sized_by, sized, spanned, counted, want_of, all_of, at_most, group_of, list_of, id_of, ids_of};
 
 use crate::fault::LineError;
 use crate::numbers::{number_of, range_in};
@@ -107,14 +107,14 @@ fn want_of(text: &[u8]) -> Option<Want>
     }
 }
 
-/// The group that the text is.
-fn group_of(alloc: Global, text: &[u8]) -> Result<Group, LineError>
-    ensures gives { Gives result (group_of text.now) }
+/// The group that the texts are.
+fn group_from(alloc: Global, parts: &[&[u8]]) -> Result<Group, LineError>
+    requires { 0 < length parts.now }
+    ensures gives { Gives result (at_most 16 (all_of want_of (map (λ x. x.now) parts.now))) }
     ensures some { IfOk result (λ group. 0 < length group) }
 {
-    let parts = cut(alloc, text, b'|')?;
     let mut group = Group::new(alloc);
-    for part in &parts {
+    for part in parts {
         let Some(want) = want_of(part) else {
             return Err(LineError::Bad);
         };
@@ -123,17 +123,49 @@ fn group_of(alloc: Global, text: &[u8]) -> Result<Group, LineError>
     Ok(group)
 }
 
+/// The group that the text is.
+fn group_of(alloc: Global, text: &[u8]) -> Result<Group, LineError>
+    ensures gives { Gives result (group_of text.now) }
+    ensures some { IfOk result (λ group. 0 < length group) }
+{
+    let parts = cut(alloc, text, b'|')?;
+    group_from(alloc, &parts)
+}
+
+/// The alternative list that the texts are.
+fn list_from(alloc: Global, parts: &[&[u8]]) -> Result<AltList, LineError>
+    requires { 0 < length parts.now }
+    ensures gives { Gives result (at_most 16 (all_of group_of (map (λ x. x.now) parts.now))) }
+    ensures some { IfOk result (λ list. 0 < length list) }
+{
+    let mut list = AltList::new(alloc);
+    for part in parts {
+        list.push(group_of(alloc, part)?)?;
+    }
+    Ok(list)
+}
+
 /// The alternative list that the text is.
 pub fn list_of(alloc: Global, text: &[u8]) -> Result<AltList, LineError>
     ensures gives { Gives result (list_of text.now) }
     ensures some { IfOk result (λ list. 0 < length list) }
 {
     let parts = cut(alloc, text, b';')?;
-    let mut list = AltList::new(alloc);
-    for part in &parts {
-        list.push(group_of(alloc, part)?)?;
+    list_from(alloc, &parts)
+}
+
+/// The identifiers that the texts are.
+fn ids_from(alloc: Global, parts: &[&[u8]]) -> Result<IdList, LineError>
+    ensures { Gives result (at_most 64 (all_of id_of (map (λ x. x.now) parts.now))) }
+{
+    if parts.len() > MOST_IDS {
+        return Err(LineError::Bad);
     }
-    Ok(list)
+    let mut ids = IdList::new(alloc);
+    for part in parts {
+        ids.push(id_of(alloc, part)?)?;
+    }
+    Ok(ids)
 }
 
 /// The identifiers that the text is.
@@ -141,14 +173,7 @@ pub fn ids_of(alloc: Global, text: &[u8]) -> Result<IdList, LineError>
     ensures { Gives result (ids_of text.now) }
 {
     let parts = cut(alloc, text, b',')?;
-    if parts.len() > MOST_IDS {
-        return Err(LineError::Bad);
-    }
-    let mut ids = IdList::new(alloc);
-    for part in &parts {
-        ids.push(id_of(alloc, part)?)?;
-    }
-    Ok(ids)
+    ids_from(alloc, &parts)
 }
 
 /// The identifier that the text is.
