@@ -4,6 +4,7 @@
 use crate::sections::{Entry, Section, sections_of};
 use crate::shown::{push_quoted, push_shown};
 use crate::warnings::push_head;
+use device_ids::split_once;
 use std::alloc::{AllocError, Global};
 
 /// The most install sections of an INF that are looked at.
@@ -49,28 +50,25 @@ fn push_token(text: &mut Vec<u8>, sections: &[Section], token: &[u8]) -> Result<
     Ok(())
 }
 
+/// Appends a text with its tokens replaced.
+fn push_replaced(all: &mut Vec<u8>, sections: &[Section], text: &[u8]) -> Result<(), AllocError> {
+    let mut rest = text;
+    while let Some((plain, behind)) = split_once(rest, b'%') {
+        all.extend_from_slice(plain)?;
+        let Some((token, after)) = split_once(behind, b'%') else {
+            all.push(b'%')?;
+            return all.extend_from_slice(behind);
+        };
+        push_token(all, sections, token)?;
+        rest = after;
+    }
+    all.extend_from_slice(rest)
+}
+
 /// A text with its tokens replaced.
 fn replaced(alloc: Global, sections: &[Section], text: &[u8]) -> Result<Vec<u8>, AllocError> {
     let mut all = Vec::new(alloc);
-    let mut token = Vec::new(alloc);
-    let mut open = false;
-    for byte in text {
-        if *byte == b'%' {
-            if open {
-                push_token(&mut all, sections, &token)?;
-                token = Vec::new(alloc);
-            }
-            open = !open;
-        } else if open {
-            token.push(*byte)?;
-        } else {
-            all.push(*byte)?;
-        }
-    }
-    if open {
-        all.push(b'%')?;
-        all.extend_from_slice(&token)?;
-    }
+    push_replaced(&mut all, sections, text)?;
     Ok(all)
 }
 
@@ -191,14 +189,27 @@ fn models_name(alloc: Global, sections: &[Section], entry: &Entry) -> Result<Vec
     }
 }
 
+/// A name with this decoration, if a section has it.
+fn decorated(
+    alloc: Global,
+    sections: &[Section],
+    name: &[u8],
+    decoration: &[u8],
+) -> Result<Option<Vec<u8>>, AllocError> {
+    let decorated = joined(alloc, name, decoration)?;
+    if has_section(sections, &decorated) {
+        Ok(Some(decorated))
+    } else {
+        Ok(None)
+    }
+}
+
 /// The name of the install section that is taken, and the bare name where none is there.
 fn install_name(alloc: Global, sections: &[Section], name: &[u8]) -> Result<Vec<u8>, AllocError> {
-    let first = joined(alloc, name, b"NTamd64")?;
-    if has_section(sections, &first) {
+    if let Some(first) = decorated(alloc, sections, name, b"NTamd64")? {
         return Ok(first);
     }
-    let second = joined(alloc, name, b"NT")?;
-    if has_section(sections, &second) {
+    if let Some(second) = decorated(alloc, sections, name, b"NT")? {
         return Ok(second);
     }
     Vec::from_slice(alloc, name)
@@ -244,6 +255,31 @@ fn push_no_driver(
     out.extend_from_slice(b"is no function driver: its flags have not the bit 2\n")
 }
 
+/// Whether the flags of an entry make its service the function driver.
+fn adds_driver(alloc: Global, sections: &[Section], entry: &Entry) -> Result<bool, AllocError> {
+    let flags = replaced(alloc, sections, value(entry, 1))?;
+    Ok(is_function_driver(&flags))
+}
+
+/// Appends the services of entries that are no function drivers, up to one that is; whether there is one.
+fn push_entry_flags(
+    alloc: Global,
+    lines: &mut Vec<u8>,
+    file: &[u8],
+    sections: &[Section],
+    entries: &[Entry],
+) -> Result<bool, AllocError> {
+    for entry in entries {
+        if entry.key.eq_ignore_ascii_case(b"AddService") {
+            if adds_driver(alloc, sections, entry)? {
+                return Ok(true);
+            }
+            push_no_driver(alloc, lines, file, entry)?;
+        }
+    }
+    Ok(false)
+}
+
 /// Appends the services of a section that are no function drivers, where none is one.
 fn push_flags(
     alloc: Global,
@@ -254,18 +290,46 @@ fn push_flags(
 ) -> Result<(), AllocError> {
     let mut lines = Vec::new(alloc);
     for section in sections {
-        if section.name.eq_ignore_ascii_case(name) {
-            for entry in &section.entries {
-                if entry.key.eq_ignore_ascii_case(b"AddService") {
-                    if is_function_driver(&replaced(alloc, sections, value(entry, 1))?) {
-                        return Ok(());
-                    }
-                    push_no_driver(alloc, &mut lines, file, entry)?;
-                }
-            }
+        if section.name.eq_ignore_ascii_case(name)
+            && push_entry_flags(alloc, &mut lines, file, sections, &section.entries)?
+        {
+            return Ok(());
         }
     }
     out.extend_from_slice(&lines)
+}
+
+/// Appends that the section of filters that a value names is not there.
+fn push_filter(
+    alloc: Global,
+    out: &mut Vec<u8>,
+    file: &[u8],
+    sections: &[Section],
+    line: u32,
+    text: &[u8],
+) -> Result<(), AllocError> {
+    let named = replaced(alloc, sections, text)?;
+    if named.is_empty() || has_section(sections, &named) {
+        return Ok(());
+    }
+    push_absent(alloc, out, file, line, &named, b", which AddReg names")
+}
+
+/// Appends the sections of filters that an entry names and that are not there.
+fn push_entry_filters(
+    alloc: Global,
+    out: &mut Vec<u8>,
+    file: &[u8],
+    sections: &[Section],
+    entry: &Entry,
+) -> Result<(), AllocError> {
+    if !entry.key.eq_ignore_ascii_case(b"AddReg") {
+        return Ok(());
+    }
+    for text in &entry.values {
+        push_filter(alloc, out, file, sections, entry.line, text)?;
+    }
+    Ok(())
 }
 
 /// Appends the sections of filters that are not there.
@@ -279,21 +343,7 @@ fn push_filters(
     for section in sections {
         if section.name.eq_ignore_ascii_case(name) {
             for entry in &section.entries {
-                if entry.key.eq_ignore_ascii_case(b"AddReg") {
-                    for text in &entry.values {
-                        let named = replaced(alloc, sections, text)?;
-                        if !named.is_empty() && !has_section(sections, &named) {
-                            push_absent(
-                                alloc,
-                                out,
-                                file,
-                                entry.line,
-                                &named,
-                                b", which AddReg names",
-                            )?;
-                        }
-                    }
-                }
+                push_entry_filters(alloc, out, file, sections, entry)?;
             }
         }
     }
@@ -351,6 +401,24 @@ fn is_among(names: &[Vec<u8>], name: &[u8]) -> bool {
     false
 }
 
+/// Appends what the install section of an entry lacks, unless it was named before.
+fn push_model(
+    alloc: Global,
+    out: &mut Vec<u8>,
+    file: &[u8],
+    sections: &[Section],
+    entry: &Entry,
+    passed: &mut Vec<Vec<u8>>,
+) -> Result<(), AllocError> {
+    let name = replaced(alloc, sections, value(entry, 0))?;
+    if entry.key.is_empty() || passed.len() >= MOST_INSTALLS || is_among(passed, &name) {
+        return Ok(());
+    }
+    push_install(alloc, out, file, sections, entry.line, &name)?;
+    passed.push(name)?;
+    Ok(())
+}
+
 /// Appends what the install sections of a models section lack, of each the first time that it is named.
 fn push_models(
     alloc: Global,
@@ -363,14 +431,7 @@ fn push_models(
     for section in sections {
         if section.name.eq_ignore_ascii_case(models) {
             for entry in &section.entries {
-                let name = replaced(alloc, sections, value(entry, 0))?;
-                if !entry.key.is_empty()
-                    && passed.len() < MOST_INSTALLS
-                    && !is_among(passed, &name)
-                {
-                    push_install(alloc, out, file, sections, entry.line, &name)?;
-                    passed.push(name)?;
-                }
+                push_model(alloc, out, file, sections, entry, passed)?;
             }
         }
     }

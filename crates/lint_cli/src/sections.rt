@@ -1,5 +1,6 @@
 //! The sections of an INF, with their entries, for the warnings that name causes. Nothing is claimed of them: `inf_reader` has the
 //! rules, and here they are read once more.
+ghost use Rattle.std.specs.Prelude.{◌<◌, length, IfSome};
 
 use crate::mend::{bare, plain_text};
 use std::alloc::{AllocError, Global};
@@ -63,9 +64,8 @@ fn said(line: &[u8]) -> (&[u8], bool) {
     }
 }
 
-/// The lines of a text, each with those that continue it.
-fn whole_lines(alloc: Global, text: &[u8]) -> Result<Vec<Whole>, AllocError> {
-    let mut all = Vec::new(alloc);
+/// Appends the lines of a text, each with those that continue it.
+fn push_whole_lines(alloc: Global, all: &mut Vec<Whole>, text: &[u8]) -> Result<(), AllocError> {
     let mut current = Vec::new(alloc);
     let mut line = 1u32;
     let mut first = 1u32;
@@ -86,6 +86,13 @@ fn whole_lines(alloc: Global, text: &[u8]) -> Result<Vec<Whole>, AllocError> {
         line: first,
         text: current,
     })?;
+    Ok(())
+}
+
+/// The lines of a text, each with those that continue it.
+fn whole_lines(alloc: Global, text: &[u8]) -> Result<Vec<Whole>, AllocError> {
+    let mut all = Vec::new(alloc);
+    push_whole_lines(alloc, &mut all, text)?;
     Ok(all)
 }
 
@@ -109,53 +116,50 @@ fn unquoted(alloc: Global, text: &[u8]) -> Result<Vec<u8>, AllocError> {
     Ok(all)
 }
 
-/// The pieces between such bytes outside quotes.
-fn pieces(alloc: Global, text: &[u8], mark: u8) -> Result<Vec<Vec<u8>>, AllocError> {
-    let mut all = Vec::new(alloc);
-    let mut current = Vec::new(alloc);
-    let mut quoted = false;
-    for byte in text {
-        if *byte == b'"' {
-            quoted = !quoted;
-        }
-        if *byte == mark && !quoted {
-            all.push(unquoted(alloc, &current)?)?;
-            current = Vec::new(alloc);
-        } else {
-            current.push(*byte)?;
-        }
-    }
-    all.push(unquoted(alloc, &current)?)?;
-    Ok(all)
-}
-
-/// What stands before and behind the first `=` outside quotes.
-fn cut_equals(text: &[u8]) -> Option<(&[u8], &[u8])> {
+/// What stands before and behind the first such byte outside quotes.
+fn cut_plain(text: &[u8], mark: u8) -> Option<(&[u8], &[u8])>
+    ensures { IfSome result (λ parts. length parts.1.now < length text.now) }
+{
     let mut quoted = false;
     for at in 0..text.len() {
         if text[at] == b'"' {
             quoted = !quoted;
-        } else if text[at] == b'=' && !quoted {
+        } else if text[at] == mark && !quoted {
             return Some((&text[..at], &text[at + 1..]));
         }
     }
     None
 }
 
+/// Appends a value without its quotes.
+fn push_value(alloc: Global, values: &mut Vec<Vec<u8>>, text: &[u8]) -> Result<(), AllocError> {
+    values.push(unquoted(alloc, text)?)?;
+    Ok(())
+}
+
+/// Appends the values between commas outside quotes.
+fn push_values(alloc: Global, values: &mut Vec<Vec<u8>>, text: &[u8]) -> Result<(), AllocError> {
+    let mut rest = text;
+    while let Some((part, after)) = cut_plain(rest, b',') {
+        push_value(alloc, values, part)?;
+        rest = after;
+    }
+    push_value(alloc, values, rest)
+}
+
+/// The values between commas outside quotes.
+fn values_of(alloc: Global, text: &[u8]) -> Result<Vec<Vec<u8>>, AllocError> {
+    let mut values = Vec::new(alloc);
+    push_values(alloc, &mut values, text)?;
+    Ok(values)
+}
+
 /// The entry of a line.
 fn entry_of(alloc: Global, line: u32, text: &[u8]) -> Result<Entry, AllocError> {
-    match cut_equals(text) {
-        Some((key, values)) => Ok(Entry {
-            line,
-            key: unquoted(alloc, key)?,
-            values: pieces(alloc, values, b',')?,
-        }),
-        None => Ok(Entry {
-            line,
-            key: Vec::new(alloc),
-            values: pieces(alloc, text, b',')?,
-        }),
-    }
+    let (key, list) = cut_plain(text, b'=').unwrap_or((&[], text));
+    let key = unquoted(alloc, key)?;
+    let values = values_of(alloc, list)?;
+    Ok(Entry { line, key, values })
 }
 
 /// The name in a header.
@@ -195,13 +199,19 @@ fn push_line(
     Ok(())
 }
 
+/// Appends the sections of lines in order, of which the first stands before any header.
+fn push_sections(alloc: Global, all: &mut Vec<Section>, lines: &[Whole]) -> Result<(), AllocError> {
+    all.push(begun(alloc, b"")?)?;
+    for whole in lines {
+        push_line(alloc, all, whole.line, &whole.text)?;
+    }
+    Ok(())
+}
+
 /// The sections of lines in order, of which the first stands before any header.
 fn sections_in(alloc: Global, lines: &[Whole]) -> Result<Vec<Section>, AllocError> {
     let mut all = Vec::new(alloc);
-    all.push(begun(alloc, b"")?)?;
-    for whole in lines {
-        push_line(alloc, &mut all, whole.line, &whole.text)?;
-    }
+    push_sections(alloc, &mut all, lines)?;
     Ok(all)
 }
 
