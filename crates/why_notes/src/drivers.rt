@@ -1,7 +1,7 @@
 //! Notes on which driver was chosen, and why none was.
 use crate::facts::Facts;
 use crate::lines::Lines;
-use crate::matches::{Match, best_after, line_of, matches};
+use crate::matches::{Match, best_after, best_of, line_of, matches};
 use crate::texts::{ids_text, inf_text, node_of, rank_text};
 use device_ids::{Text, TextList, WantOfMemory};
 use devnode_tree::{Node, Tree};
@@ -141,6 +141,16 @@ fn tell_passed(
     lines.say(alloc, b".")
 }
 
+/// How many lines more were passed over.
+fn tell_left(alloc: Global, left: usize, lines: &mut Lines) -> Result<(), WantOfMemory> {
+    if left == 0 {
+        return Ok(());
+    }
+    lines.add(b"Passed over: ")?;
+    lines.add_number(alloc, left as u64)?;
+    lines.say(alloc, b" more.")
+}
+
 /// The lines behind the one that was taken, in their order.
 fn tell_others(
     alloc: Global,
@@ -157,13 +167,21 @@ fn tell_others(
         tell_passed(alloc, facts, &next, lines)?;
         last = next;
     }
-    let left = all.len().saturating_sub(MOST_OTHERS + 1);
-    if left == 0 {
+    tell_left(alloc, all.len().saturating_sub(MOST_OTHERS + 1), lines)
+}
+
+/// The line that was taken of those that match, and the others.
+fn tell_matches(
+    alloc: Global,
+    facts: &Facts,
+    all: &[Match],
+    lines: &mut Lines,
+) -> Result<(), WantOfMemory> {
+    let Some(taken) = best_after(all, None) else {
         return Ok(());
-    }
-    lines.add(b"Passed over: ")?;
-    lines.add_number(alloc, left as u64)?;
-    lines.say(alloc, b" more.")
+    };
+    tell_taken(alloc, facts, &taken, lines)?;
+    tell_others(alloc, facts, all, taken, lines)
 }
 
 /// At `install`: by which line, ID and rank, and which other lines match.
@@ -178,11 +196,7 @@ pub fn on_install(
         return Ok(());
     };
     let all = matches(alloc, &facts.infs, node)?;
-    let Some(taken) = best_after(&all, None) else {
-        return Ok(());
-    };
-    tell_taken(alloc, facts, &taken, lines)?;
-    tell_others(alloc, facts, &all, taken, lines)
+    tell_matches(alloc, facts, &all, lines)
 }
 
 /// The IDs of a device.
@@ -253,6 +267,21 @@ fn tell_no_service(
     Ok(())
 }
 
+/// That no line matches, and which IDs were tried.
+fn tell_no_line(
+    alloc: Global,
+    facts: &Facts,
+    node: &Node,
+    lines: &mut Lines,
+) -> Result<(), WantOfMemory> {
+    lines.say(
+        alloc,
+        b"No line of any INF has one of the IDs of the device.",
+    )?;
+    tell_ids(alloc, node, lines)?;
+    tell_empty_infs(alloc, facts, lines)
+}
+
 /// At `problem P 28`: which IDs were tried, and which of the causes it is.
 pub fn on_no_driver(
     alloc: Global,
@@ -264,14 +293,8 @@ pub fn on_no_driver(
     let Some(node) = node_of(alloc, tree, path)? else {
         return Ok(());
     };
-    let all = matches(alloc, &facts.infs, node)?;
-    let Some(best) = best_after(&all, None) else {
-        lines.say(
-            alloc,
-            b"No line of any INF has one of the IDs of the device.",
-        )?;
-        tell_ids(alloc, node, lines)?;
-        return tell_empty_infs(alloc, facts, lines);
+    let Some(best) = best_of(alloc, &facts.infs, node)? else {
+        return tell_no_line(alloc, facts, node, lines);
     };
     tell_no_service(alloc, facts, &best, lines)?;
     tell_ids(alloc, node, lines)
@@ -320,6 +343,20 @@ fn tell_all_missing(
     Ok(())
 }
 
+/// Says which of the names that a line gives no driver has.
+fn tell_line_missing(
+    alloc: Global,
+    facts: &Facts,
+    line: &ModelLine,
+    lines: &mut Lines,
+) -> Result<(), WantOfMemory> {
+    tell_all_missing(alloc, facts, b"a lower filter", &line.lower, lines)?;
+    if let Some(service) = &line.service {
+        tell_missing(alloc, facts, b"the service", service, lines)?;
+    }
+    tell_all_missing(alloc, facts, b"an upper filter", &line.upper, lines)
+}
+
 /// The names that drivers have, as far as they are told.
 fn tell_names(alloc: Global, facts: &Facts, lines: &mut Lines) -> Result<(), WantOfMemory> {
     let count = facts.drivers.len();
@@ -352,8 +389,7 @@ pub fn on_not_loaded(
     let Some(node) = node_of(alloc, tree, path)? else {
         return Ok(());
     };
-    let all = matches(alloc, &facts.infs, node)?;
-    let Some(best) = best_after(&all, None) else {
+    let Some(best) = best_of(alloc, &facts.infs, node)? else {
         return Ok(());
     };
     let Some(line) = line_of(&facts.infs, &best) else {
@@ -362,10 +398,6 @@ pub fn on_not_loaded(
     lines.add(b"The best line is ")?;
     add_place(alloc, facts, &best, lines)?;
     lines.say(alloc, b".")?;
-    tell_all_missing(alloc, facts, b"a lower filter", &line.lower, lines)?;
-    if let Some(service) = &line.service {
-        tell_missing(alloc, facts, b"the service", service, lines)?;
-    }
-    tell_all_missing(alloc, facts, b"an upper filter", &line.upper, lines)?;
+    tell_line_missing(alloc, facts, line, lines)?;
     tell_names(alloc, facts, lines)
 }
