@@ -3,7 +3,7 @@ use crate::facts::Facts;
 use crate::lines::Lines;
 use crate::matches::{Match, best_after, best_of, line_of, matches};
 use crate::texts::{ids_text, inf_text, node_of, rank_text};
-use device_ids::{Text, TextList, WantOfMemory};
+use device_ids::{IdList, Text, TextList, WantOfMemory};
 use devnode_tree::{Node, Tree};
 use inf_reader::ModelLine;
 use std::alloc::Global;
@@ -56,12 +56,17 @@ fn add_ids(
 /// The services and filters of a line, from the bottom to the top.
 fn stack_text(alloc: Global, line: &ModelLine) -> Result<Vec<u8>, WantOfMemory> {
     let mut text = Vec::new(alloc);
-    add_names(&mut text, &line.lower)?;
-    if let Some(service) = &line.service {
-        add_name(&mut text, service)?;
-    }
-    add_names(&mut text, &line.upper)?;
+    add_stack(&mut text, line)?;
     Ok(text)
+}
+
+/// The services and filters of a line are added to a text, from the bottom to the top.
+fn add_stack(text: &mut Vec<u8>, line: &ModelLine) -> Result<(), WantOfMemory> {
+    add_names(text, &line.lower)?;
+    if let Some(service) = &line.service {
+        add_name(text, service)?;
+    }
+    add_names(text, &line.upper)
 }
 
 fn add_name(text: &mut Vec<u8>, name: &Text) -> Result<(), WantOfMemory> {
@@ -78,6 +83,17 @@ fn add_names(text: &mut Vec<u8>, names: &TextList) -> Result<(), WantOfMemory> {
     Ok(())
 }
 
+/// The rank of the line that was taken.
+fn tell_rank(alloc: Global, found: &Match, lines: &mut Lines) -> Result<(), WantOfMemory> {
+    let rank = rank_text(alloc, found.rank)?;
+    lines.say_three(
+        alloc,
+        b", and with it the rank ",
+        &rank,
+        b"; less is better.",
+    )
+}
+
 /// What the line that was taken scores, and which drivers it names beside the service.
 fn tell_score(
     alloc: Global,
@@ -87,13 +103,7 @@ fn tell_score(
 ) -> Result<(), WantOfMemory> {
     lines.add(b"The score of the line is ")?;
     lines.add_number(alloc, line.score as u64)?;
-    let rank = rank_text(alloc, found.rank)?;
-    lines.say_three(
-        alloc,
-        b", and with it the rank ",
-        &rank,
-        b"; less is better.",
-    )?;
+    tell_rank(alloc, found, lines)?;
     if line.lower.len() == 0 && line.upper.len() == 0 {
         return Ok(());
     }
@@ -199,19 +209,35 @@ pub fn on_install(
     tell_matches(alloc, facts, &all, lines)
 }
 
+/// The IDs of a list, behind what they are.
+fn tell_id_list(
+    alloc: Global,
+    what: &[u8],
+    ids: &IdList,
+    lines: &mut Lines,
+) -> Result<(), WantOfMemory> {
+    let text = ids_text(alloc, ids)?;
+    lines.say_three(alloc, what, &text, b".")
+}
+
 /// The IDs of a device.
 fn tell_ids(alloc: Global, node: &Node, lines: &mut Lines) -> Result<(), WantOfMemory> {
-    lines.say_three(
+    tell_id_list(alloc, b"Its hardware IDs: ", &node.hw, lines)?;
+    tell_id_list(alloc, b"Its compatible IDs: ", &node.compat, lines)
+}
+
+/// That an INF has no models line.
+fn tell_empty_inf(
+    alloc: Global,
+    facts: &Facts,
+    inf: u64,
+    lines: &mut Lines,
+) -> Result<(), WantOfMemory> {
+    let name = inf_text(alloc, &facts.inf_names, inf)?;
+    lines.say_two(
         alloc,
-        b"Its hardware IDs: ",
-        &ids_text(alloc, &node.hw)?,
-        b".",
-    )?;
-    lines.say_three(
-        alloc,
-        b"Its compatible IDs: ",
-        &ids_text(alloc, &node.compat)?,
-        b".",
+        &name,
+        b" has no models line: the section that [Manufacturer] names for this system is not there, or is empty.",
     )
 }
 
@@ -222,12 +248,7 @@ fn tell_empty_infs(alloc: Global, facts: &Facts, lines: &mut Lines) -> Result<()
     }
     for at in 0..facts.infs.len() {
         if facts.infs[at].lines.len() == 0 {
-            let name = inf_text(alloc, &facts.inf_names, at as u64)?;
-            lines.say_two(
-                alloc,
-                &name,
-                b" has no models line: the section that [Manufacturer] names for this system is not there, or is empty.",
-            )?;
+            tell_empty_inf(alloc, facts, at as u64, lines)?;
         }
     }
     Ok(())
