@@ -1,9 +1,9 @@
 //! Notes on which driver was chosen, and why none was.
 use crate::facts::Facts;
 use crate::lines::Lines;
-use crate::matches::{Match, best_after, line_of, matches};
+use crate::matches::{Match, best_after, best_of, line_of, matches};
 use crate::texts::{ids_text, inf_text, node_of, rank_text};
-use device_ids::{Text, TextList, WantOfMemory};
+use device_ids::{IdList, Text, TextList, WantOfMemory};
 use devnode_tree::{Node, Tree};
 use inf_reader::ModelLine;
 use std::alloc::Global;
@@ -56,12 +56,17 @@ fn add_ids(
 /// The services and filters of a line, from the bottom to the top.
 fn stack_text(alloc: Global, line: &ModelLine) -> Result<Vec<u8>, WantOfMemory> {
     let mut text = Vec::new(alloc);
-    add_names(&mut text, &line.lower)?;
-    if let Some(service) = &line.service {
-        add_name(&mut text, service)?;
-    }
-    add_names(&mut text, &line.upper)?;
+    add_stack(&mut text, line)?;
     Ok(text)
+}
+
+/// The services and filters of a line are added to a text, from the bottom to the top.
+fn add_stack(text: &mut Vec<u8>, line: &ModelLine) -> Result<(), WantOfMemory> {
+    add_names(text, &line.lower)?;
+    if let Some(service) = &line.service {
+        add_name(text, service)?;
+    }
+    add_names(text, &line.upper)
 }
 
 fn add_name(text: &mut Vec<u8>, name: &Text) -> Result<(), WantOfMemory> {
@@ -78,6 +83,17 @@ fn add_names(text: &mut Vec<u8>, names: &TextList) -> Result<(), WantOfMemory> {
     Ok(())
 }
 
+/// The rank of the line that was taken.
+fn tell_rank(alloc: Global, found: &Match, lines: &mut Lines) -> Result<(), WantOfMemory> {
+    let rank = rank_text(alloc, found.rank)?;
+    lines.say_three(
+        alloc,
+        b", and with it the rank ",
+        &rank,
+        b"; less is better.",
+    )
+}
+
 /// What the line that was taken scores, and which drivers it names beside the service.
 fn tell_score(
     alloc: Global,
@@ -87,13 +103,7 @@ fn tell_score(
 ) -> Result<(), WantOfMemory> {
     lines.add(b"The score of the line is ")?;
     lines.add_number(alloc, line.score as u64)?;
-    let rank = rank_text(alloc, found.rank)?;
-    lines.say_three(
-        alloc,
-        b", and with it the rank ",
-        &rank,
-        b"; less is better.",
-    )?;
+    tell_rank(alloc, found, lines)?;
     if line.lower.len() == 0 && line.upper.len() == 0 {
         return Ok(());
     }
@@ -141,6 +151,16 @@ fn tell_passed(
     lines.say(alloc, b".")
 }
 
+/// How many lines more were passed over.
+fn tell_left(alloc: Global, left: usize, lines: &mut Lines) -> Result<(), WantOfMemory> {
+    if left == 0 {
+        return Ok(());
+    }
+    lines.add(b"Passed over: ")?;
+    lines.add_number(alloc, left as u64)?;
+    lines.say(alloc, b" more.")
+}
+
 /// The lines behind the one that was taken, in their order.
 fn tell_others(
     alloc: Global,
@@ -157,13 +177,21 @@ fn tell_others(
         tell_passed(alloc, facts, &next, lines)?;
         last = next;
     }
-    let left = all.len().saturating_sub(MOST_OTHERS + 1);
-    if left == 0 {
+    tell_left(alloc, all.len().saturating_sub(MOST_OTHERS + 1), lines)
+}
+
+/// The line that was taken of those that match, and the others.
+fn tell_matches(
+    alloc: Global,
+    facts: &Facts,
+    all: &[Match],
+    lines: &mut Lines,
+) -> Result<(), WantOfMemory> {
+    let Some(taken) = best_after(all, None) else {
         return Ok(());
-    }
-    lines.add(b"Passed over: ")?;
-    lines.add_number(alloc, left as u64)?;
-    lines.say(alloc, b" more.")
+    };
+    tell_taken(alloc, facts, &taken, lines)?;
+    tell_others(alloc, facts, all, taken, lines)
 }
 
 /// At `install`: by which line, ID and rank, and which other lines match.
@@ -178,26 +206,38 @@ pub fn on_install(
         return Ok(());
     };
     let all = matches(alloc, &facts.infs, node)?;
-    let Some(taken) = best_after(&all, None) else {
-        return Ok(());
-    };
-    tell_taken(alloc, facts, &taken, lines)?;
-    tell_others(alloc, facts, &all, taken, lines)
+    tell_matches(alloc, facts, &all, lines)
+}
+
+/// The IDs of a list, behind what they are.
+fn tell_id_list(
+    alloc: Global,
+    what: &[u8],
+    ids: &IdList,
+    lines: &mut Lines,
+) -> Result<(), WantOfMemory> {
+    let text = ids_text(alloc, ids)?;
+    lines.say_three(alloc, what, &text, b".")
 }
 
 /// The IDs of a device.
 fn tell_ids(alloc: Global, node: &Node, lines: &mut Lines) -> Result<(), WantOfMemory> {
-    lines.say_three(
+    tell_id_list(alloc, b"Its hardware IDs: ", &node.hw, lines)?;
+    tell_id_list(alloc, b"Its compatible IDs: ", &node.compat, lines)
+}
+
+/// That an INF has no models line.
+fn tell_empty_inf(
+    alloc: Global,
+    facts: &Facts,
+    inf: u64,
+    lines: &mut Lines,
+) -> Result<(), WantOfMemory> {
+    let name = inf_text(alloc, &facts.inf_names, inf)?;
+    lines.say_two(
         alloc,
-        b"Its hardware IDs: ",
-        &ids_text(alloc, &node.hw)?,
-        b".",
-    )?;
-    lines.say_three(
-        alloc,
-        b"Its compatible IDs: ",
-        &ids_text(alloc, &node.compat)?,
-        b".",
+        &name,
+        b" has no models line: the section that [Manufacturer] names for this system is not there, or is empty.",
     )
 }
 
@@ -208,12 +248,7 @@ fn tell_empty_infs(alloc: Global, facts: &Facts, lines: &mut Lines) -> Result<()
     }
     for at in 0..facts.infs.len() {
         if facts.infs[at].lines.len() == 0 {
-            let name = inf_text(alloc, &facts.inf_names, at as u64)?;
-            lines.say_two(
-                alloc,
-                &name,
-                b" has no models line: the section that [Manufacturer] names for this system is not there, or is empty.",
-            )?;
+            tell_empty_inf(alloc, facts, at as u64, lines)?;
         }
     }
     Ok(())
@@ -253,6 +288,21 @@ fn tell_no_service(
     Ok(())
 }
 
+/// That no line matches, and which IDs were tried.
+fn tell_no_line(
+    alloc: Global,
+    facts: &Facts,
+    node: &Node,
+    lines: &mut Lines,
+) -> Result<(), WantOfMemory> {
+    lines.say(
+        alloc,
+        b"No line of any INF has one of the IDs of the device.",
+    )?;
+    tell_ids(alloc, node, lines)?;
+    tell_empty_infs(alloc, facts, lines)
+}
+
 /// At `problem P 28`: which IDs were tried, and which of the causes it is.
 pub fn on_no_driver(
     alloc: Global,
@@ -264,14 +314,8 @@ pub fn on_no_driver(
     let Some(node) = node_of(alloc, tree, path)? else {
         return Ok(());
     };
-    let all = matches(alloc, &facts.infs, node)?;
-    let Some(best) = best_after(&all, None) else {
-        lines.say(
-            alloc,
-            b"No line of any INF has one of the IDs of the device.",
-        )?;
-        tell_ids(alloc, node, lines)?;
-        return tell_empty_infs(alloc, facts, lines);
+    let Some(best) = best_of(alloc, &facts.infs, node)? else {
+        return tell_no_line(alloc, facts, node, lines);
     };
     tell_no_service(alloc, facts, &best, lines)?;
     tell_ids(alloc, node, lines)
@@ -320,6 +364,20 @@ fn tell_all_missing(
     Ok(())
 }
 
+/// Says which of the names that a line gives no driver has.
+fn tell_line_missing(
+    alloc: Global,
+    facts: &Facts,
+    line: &ModelLine,
+    lines: &mut Lines,
+) -> Result<(), WantOfMemory> {
+    tell_all_missing(alloc, facts, b"a lower filter", &line.lower, lines)?;
+    if let Some(service) = &line.service {
+        tell_missing(alloc, facts, b"the service", service, lines)?;
+    }
+    tell_all_missing(alloc, facts, b"an upper filter", &line.upper, lines)
+}
+
 /// The names that drivers have, as far as they are told.
 fn tell_names(alloc: Global, facts: &Facts, lines: &mut Lines) -> Result<(), WantOfMemory> {
     let count = facts.drivers.len();
@@ -352,8 +410,7 @@ pub fn on_not_loaded(
     let Some(node) = node_of(alloc, tree, path)? else {
         return Ok(());
     };
-    let all = matches(alloc, &facts.infs, node)?;
-    let Some(best) = best_after(&all, None) else {
+    let Some(best) = best_of(alloc, &facts.infs, node)? else {
         return Ok(());
     };
     let Some(line) = line_of(&facts.infs, &best) else {
@@ -362,10 +419,6 @@ pub fn on_not_loaded(
     lines.add(b"The best line is ")?;
     add_place(alloc, facts, &best, lines)?;
     lines.say(alloc, b".")?;
-    tell_all_missing(alloc, facts, b"a lower filter", &line.lower, lines)?;
-    if let Some(service) = &line.service {
-        tell_missing(alloc, facts, b"the service", service, lines)?;
-    }
-    tell_all_missing(alloc, facts, b"an upper filter", &line.upper, lines)?;
+    tell_line_missing(alloc, facts, line, lines)?;
     tell_names(alloc, facts, lines)
 }

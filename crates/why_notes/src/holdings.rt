@@ -21,6 +21,21 @@ pub fn keep_holdings(alloc: Global, facts: &mut Facts, tree: &Tree) -> Result<()
     Ok(())
 }
 
+/// Tells what a device holds and what it held, where that is not the same.
+fn tell_change(
+    alloc: Global,
+    path: &[u8],
+    old: &[u8],
+    new: &[u8],
+    lines: &mut Lines,
+) -> Result<(), WantOfMemory> {
+    if old == new {
+        return Ok(());
+    }
+    lines.add_three(path, b" has now ", new)?;
+    lines.say_three(alloc, b"; before: ", old, b".")
+}
+
 /// Tells a device whose holdings are other than before.
 fn tell_moved(
     alloc: Global,
@@ -33,11 +48,7 @@ fn tell_moved(
     }
     let old = held_text(alloc, &before.held)?;
     let new = held_text(alloc, &node.holds)?;
-    if old.as_slice() == new.as_slice() {
-        return Ok(());
-    }
-    lines.add_three(node.path.bytes(), b" has now ", &new)?;
-    lines.say_three(alloc, b"; before: ", &old, b".")
+    tell_change(alloc, node.path.bytes(), &old, &new, lines)
 }
 
 /// At `commit`: the new holdings of those that moved.

@@ -183,6 +183,43 @@ fn tell_away(
     )
 }
 
+/// Without which of the holders it would fit, where it would without all of them.
+fn tell_fewest(
+    alloc: Global,
+    facts: &Facts,
+    tree: &Tree,
+    serial: u64,
+    reqs: &Reqs,
+    holders: &mut Vec<Holder>,
+    lines: &mut Lines,
+) -> Result<(), WantOfMemory> {
+    if holders.len() > MOST {
+        return lines.say(alloc, b"More than 64 devices hold some of these places.");
+    }
+    lessen(alloc, facts, tree, serial, reqs, holders)?;
+    tell_away(alloc, tree, holders, lines)
+}
+
+/// Without which of the holders it would fit, if it would without all of them.
+fn tell_holders(
+    alloc: Global,
+    facts: &Facts,
+    tree: &Tree,
+    serial: u64,
+    reqs: &Reqs,
+    holders: &mut Vec<Holder>,
+    lines: &mut Lines,
+) -> Result<(), WantOfMemory> {
+    match fits_beside(alloc, facts, tree, serial, reqs, holders)? {
+        Some(true) => tell_fewest(alloc, facts, tree, serial, reqs, holders, lines),
+        Some(false) => lines.say(
+            alloc,
+            b"It would not fit even if no other device held anything: what it needs is reserved, or clashes with itself, or has no place inside the windows above it.",
+        ),
+        None => Ok(()),
+    }
+}
+
 /// At `nofit` and at `problem P 12`: without which holders it would fit.
 pub fn tell_least(
     alloc: Global,
@@ -193,19 +230,5 @@ pub fn tell_least(
     lines: &mut Lines,
 ) -> Result<(), WantOfMemory> {
     let mut holders = holders(alloc, tree, node.serial, reqs)?;
-    match fits_beside(alloc, facts, tree, node.serial, reqs, &holders)? {
-        Some(true) => {}
-        Some(false) => {
-            return lines.say(
-                alloc,
-                b"It would not fit even if no other device held anything: what it needs is reserved, or clashes with itself, or has no place inside the windows above it.",
-            );
-        }
-        None => return Ok(()),
-    }
-    if holders.len() > MOST {
-        return lines.say(alloc, b"More than 64 devices hold some of these places.");
-    }
-    lessen(alloc, facts, tree, node.serial, reqs, &mut holders)?;
-    tell_away(alloc, tree, &holders, lines)
+    tell_holders(alloc, facts, tree, node.serial, reqs, &mut holders, lines)
 }

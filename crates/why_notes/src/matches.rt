@@ -159,6 +159,12 @@ pub fn best_after(all: &[Match], after: Option<Match>) -> Option<Match> {
     best
 }
 
+/// The best of the lines that match a device.
+pub fn best_of(alloc: Global, infs: &[Inf], node: &Node) -> Result<Option<Match>, WantOfMemory> {
+    let all = matches(alloc, infs, node)?;
+    Ok(best_after(&all, None))
+}
+
 /// The models line of a match.
 pub fn line_of<'a>(infs: &'a [Inf], found: &Match) -> Option<&'a ModelLine> {
     let inf = infs.get(found.inf as usize)?;

@@ -48,6 +48,15 @@ pub fn put_all(board: &mut Arbiters, owner: Owner, held: &ResList) -> Result<(),
     Ok(())
 }
 
+/// Whether a search found that all fits, if it tells.
+fn verdict_of(found: &Found) -> Option<bool> {
+    match found {
+        Found::Assignment(_) => Some(true),
+        Found::NoFit => Some(false),
+        Found::Spent => None,
+    }
+}
+
 /// Whether a device would get what it needs beside what is on a board; none, where the search does not tell.
 pub fn fits(
     alloc: Global,
@@ -61,9 +70,6 @@ pub fn fits(
     }
     let mut movers = Vec::new(alloc);
     movers.push(Mover { serial, reqs })?;
-    match answer(alloc, board, &movers, budget.min(1_000_000))? {
-        Found::Assignment(_) => Ok(Some(true)),
-        Found::NoFit => Ok(Some(false)),
-        Found::Spent => Ok(None),
-    }
+    let found = answer(alloc, board, &movers, budget.min(1_000_000))?;
+    Ok(verdict_of(&found))
 }

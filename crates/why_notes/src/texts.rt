@@ -80,14 +80,30 @@ pub fn node_of<'a>(
     }
 }
 
+/// A name between brackets is added to a text.
+fn add_bracketed(text: &mut Vec<u8>, name: &Text) -> Result<(), WantOfMemory> {
+    text.extend_from_slice(b" (")?;
+    text.extend_from_slice(name.bytes())?;
+    text.extend_from_slice(b")")
+}
+
+/// The number of an INF, counted from 1, and its name, are added to a text.
+fn add_inf(
+    alloc: Global,
+    names: &TextList,
+    inf: u64,
+    text: &mut Vec<u8>,
+) -> Result<(), WantOfMemory> {
+    text.extend_from_slice(&number(alloc, inf.saturating_add(1))?)?;
+    if inf < names.len() {
+        add_bracketed(text, names.get(inf))?;
+    }
+    Ok(())
+}
+
 /// The number of an INF, counted from 1, and its name.
 pub fn inf_text(alloc: Global, names: &TextList, inf: u64) -> Result<Vec<u8>, WantOfMemory> {
     let mut text = Vec::from_slice(alloc, b"INF ")?;
-    text.extend_from_slice(&number(alloc, inf.saturating_add(1))?)?;
-    if inf < names.len() {
-        text.extend_from_slice(b" (")?;
-        text.extend_from_slice(names.get(inf).bytes())?;
-        text.extend_from_slice(b")")?;
-    }
+    add_inf(alloc, names, inf, &mut text)?;
     Ok(text)
 }

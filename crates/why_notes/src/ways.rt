@@ -100,6 +100,20 @@ fn has_place(want: &Want) -> bool {
     }
 }
 
+/// Tells of those who hold some of a range.
+fn tell_holders(alloc: Global, holders: &Holders, lines: &mut Lines) -> Result<(), WantOfMemory> {
+    lines.add_two(b": ", &holders.text)?;
+    if holders.count == 0 {
+        lines.add(b"nobody holds any of it")?;
+    }
+    if holders.count > MOST_HOLDERS {
+        lines.add(b", and ")?;
+        lines.add_number(alloc, holders.count.saturating_sub(MOST_HOLDERS))?;
+        lines.add(b" more")?;
+    }
+    lines.say(alloc, b".")
+}
+
 /// Tells who holds some of what a want may come from.
 fn tell_want(
     alloc: Global,
@@ -120,16 +134,7 @@ fn tell_want(
         return lines.end(alloc);
     };
     let holders = holders_of(alloc, facts, tree, serial, &range)?;
-    lines.add_two(b": ", &holders.text)?;
-    if holders.count == 0 {
-        lines.add(b"nobody holds any of it")?;
-    }
-    if holders.count > MOST_HOLDERS {
-        lines.add(b", and ")?;
-        lines.add_number(alloc, holders.count.saturating_sub(MOST_HOLDERS))?;
-        lines.add(b" more")?;
-    }
-    lines.say(alloc, b".")
+    tell_holders(alloc, &holders, lines)
 }
 
 /// Tells who holds some of what a list may come from, group by group.
