@@ -254,21 +254,12 @@ fn tell_empty_infs(alloc: Global, facts: &Facts, lines: &mut Lines) -> Result<()
     Ok(())
 }
 
-/// Why the best line gives no driver.
-fn tell_no_service(
+/// That a line names no driver, or too many.
+fn tell_unfit_stack(
     alloc: Global,
-    facts: &Facts,
-    found: &Match,
+    line: &ModelLine,
     lines: &mut Lines,
 ) -> Result<(), WantOfMemory> {
-    let Some(line) = line_of(&facts.infs, found) else {
-        return Ok(());
-    };
-    lines.add(b"The best line is ")?;
-    add_place(alloc, facts, found, lines)?;
-    lines.add(b": ")?;
-    add_ids(alloc, found, line, lines)?;
-    lines.say(alloc, b".")?;
     if line.service.is_none() {
         return lines.say(
             alloc,
@@ -286,6 +277,24 @@ fn tell_no_service(
         return lines.say(alloc, b" drivers, and a device has at most 16.");
     }
     Ok(())
+}
+
+/// Why the best line gives no driver.
+fn tell_no_service(
+    alloc: Global,
+    facts: &Facts,
+    found: &Match,
+    lines: &mut Lines,
+) -> Result<(), WantOfMemory> {
+    let Some(line) = line_of(&facts.infs, found) else {
+        return Ok(());
+    };
+    lines.add(b"The best line is ")?;
+    add_place(alloc, facts, found, lines)?;
+    lines.add(b": ")?;
+    add_ids(alloc, found, line, lines)?;
+    lines.say(alloc, b".")?;
+    tell_unfit_stack(alloc, line, lines)
 }
 
 /// That no line matches, and which IDs were tried.
