@@ -58,6 +58,16 @@ impl<R: Drivers> Desk<R> {
         ensures count { OnOk result (self.new.manager.events ≡ machine_events event self.old.manager.events) }
         ensures err { OnErr result (self.new ≡ self.old) }
     {
+        match &event {
+            Event::Watch { .. } | Event::Unwatch { .. } => self.register(event),
+            _ => self.manager.apply(event),
+        }
+    }
+
+    /// An event of a client, which changes the registrations.
+    #[inline(never)]
+    fn register(&mut self, event: Event) -> Result<Label, WantOfMemory>
+    {
         match event {
             Event::Watch {
                 client,
@@ -65,7 +75,7 @@ impl<R: Drivers> Desk<R> {
                 agrees,
             } => self.watch(client, &path, agrees),
             Event::Unwatch { client, path } => self.unwatch(&client, &path),
-            event => self.manager.apply(event),
+            _ => unreachable!(),
         }
     }
 
@@ -88,18 +98,18 @@ impl<R: Drivers> Desk<R> {
         ensures err { OnErr result (self.new ≡ self.old) }
     {
         match self.round.turn() {
-            Turn::Tell => Ok(Moved::Label(self.tell()?)),
+            Turn::Tell => self.tell(),
             Turn::Idle => self.idle(),
             Turn::Begin => self.begin(),
-            Turn::Decline(kind, serial) => Ok(Moved::Label(self.decline(kind, serial)?)),
+            Turn::Decline(kind, serial) => self.decline(kind, serial),
             Turn::Run => self.run(),
         }
     }
 
     /// The next client is told; after the last notice that it hears it is registered no more.
-    fn tell(&mut self) -> Result<Label, WantOfMemory>
+    fn tell(&mut self) -> Result<Moved, WantOfMemory>
         requires { IsSome (next_told self.old.hand) }
-        ensures moves { IfOk result (λ label. FrontMoves (told_of self.old) (front_of self.old) (Printed label) (front_of self.new)) }
+        ensures moves { IfOk result (λ moved. FrontMoves (told_of self.old) (front_of self.old) moved (front_of self.new)) }
         ensures same { self.new.manager ≡ self.old.manager }
         ensures err { OnErr result (self.new ≡ self.old) }
     {
@@ -109,7 +119,7 @@ impl<R: Drivers> Desk<R> {
         let label = self.round.notice(self.alloc, client)?;
         self.registrations.heard(client, self.round.is_ended());
         self.round.advance();
-        Ok(label)
+        Ok(Moved::Label(label))
     }
 
     /// Copies of those on a device and on what depends on it, in leaving order.
@@ -200,11 +210,11 @@ impl<R: Drivers> Desk<R> {
     }
 
     /// One client refused: what was due is dropped.
-    fn decline(&mut self, kind: OpKind, serial: u64) -> Result<Label, WantOfMemory>
+    fn decline(&mut self, kind: OpKind, serial: u64) -> Result<Moved, WantOfMemory>
         requires hand { AllCancelled kind serial self.old.hand }
         requires is_due { due self.old.manager.state ≡ Some (begins kind serial) }
         requires in_order { is_in_order kind ≡ true }
-        ensures moves { IfOk result (λ label. FrontMoves (told_of self.old) (front_of self.old) (Printed label) (front_of self.new)) }
+        ensures moves { IfOk result (λ moved. FrontMoves (told_of self.old) (front_of self.old) moved (front_of self.new)) }
         ensures same { self.new.manager ≡ record self.old.manager { state = self.new.manager.state } }
         ensures err { OnErr result (self.new ≡ self.old) }
     {
@@ -212,11 +222,11 @@ impl<R: Drivers> Desk<R> {
         let client = self.round.refuser().copy(self.alloc)?;
         self.manager.drop_due();
         self.round.finish();
-        Ok(Label::Declined {
+        Ok(Moved::Label(Label::Declined {
             op: kind,
             path,
             client,
-        })
+        }))
     }
 
     /// An operation goes on, or ends.

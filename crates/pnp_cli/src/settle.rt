@@ -5,7 +5,7 @@ ghost use Rattle.notify_front.specs.Desks.{IsOfFrontRun, front_of, told_of};
 ghost use Rattle.pnp_cli.specs.Turns.{Settled, Answered, Awaits, SettlesFront, FollowsFront};
 
 use crate::tally::Tally;
-use crate::tell::tell;
+use crate::tell::{tell_answer, tell_moved};
 use crate::turn::WriteError;
 use driver_rack::Drivers;
 use notify_front::Front;
@@ -30,12 +30,8 @@ fn settle<R: Drivers, K: Sink>(
     if front.is_quiet() {
         return Ok(());
     }
-    'steps: loop {
-        match front.step()? {
-            Moved::Label(label) => tell(sink, lines, tally, label)?,
-            Moved::Quiet => return Ok(()),
-        }
-    }
+    'steps: while tell_moved(sink, lines, tally, front.step())? {}
+    Ok(())
 }
 
 /// An event happens, and the front does all that follows from it; the line of each label comes behind those that wait.
@@ -54,8 +50,6 @@ pub fn answer_event<R: Drivers, K: Sink>(
     ensures failed { IsErrOf result WriteError.WriteFault → Rose (K.faults sink.old) (K.faults sink.new) }
     ensures counts { K.faults sink.old ≤ K.faults sink.new }
 {
-    let label = front.apply(event)?;
-    tell(sink, lines, tally, label)?;
-    settle(front, lines, sink, tally)?;
-    Ok(())
+    tell_answer(sink, lines, tally, front.apply(event))?;
+    settle(front, lines, sink, tally)
 }

@@ -5,8 +5,10 @@ ghost use Rattle.pnp_cli.specs.Turns.{Held, Passes};
 
 use crate::tally::{Tally, count};
 use crate::turn::WriteError;
+use device_ids::WantOfMemory;
 use pnp_io::{Failed, Sink, write_all};
 use pnp_labels::{Label, push_line};
+use pnp_machine::Moved;
 
 /// Where so many bytes wait, they are written.
 const MOST: usize = 16384;
@@ -57,18 +59,34 @@ fn tell_one<K: Sink>(
     Ok(())
 }
 
-/// The same, and lets the label go: here alone, since each place where one goes takes it apart.
-pub fn tell<K: Sink>(
+/// The same of what a call answers, which goes here alone: each place where a label goes takes it apart.
+pub fn tell_answer<K: Sink>(
     sink: &mut K,
     lines: &mut Vec<u8>,
     tally: &mut Tally,
-    label: Label,
+    answer: Result<Label, WantOfMemory>,
 ) -> Result<(), WriteError>
-    ensures held { OnOk result (Held (K.taken sink.old) lines.old.items tally.old (label ∷ []) (K.taken sink.new) lines.new.items tally.new) }
-    ensures few { OnOk result (length lines.new.items < 16384) }
-    ensures front { AppendsFront (K.taken sink.old) (K.taken sink.new) (lines.old.items ++ text_of (label ∷ [])) }
-    ensures failed { IsErrOf result WriteError.WriteFault → Rose (K.faults sink.old) (K.faults sink.new) }
-    ensures counts { K.faults sink.old ≤ K.faults sink.new }
 {
-    tell_one(sink, lines, tally, &label)
+    match &answer {
+        Ok(label) => tell_one(sink, lines, tally, label),
+        Err(_) => Err(WriteError::WantOfMemory),
+    }
+}
+
+/// The same of what a step came to, and whether one was next.
+pub fn tell_moved<K: Sink>(
+    sink: &mut K,
+    lines: &mut Vec<u8>,
+    tally: &mut Tally,
+    moved: Result<Moved, WantOfMemory>,
+) -> Result<bool, WriteError>
+{
+    match &moved {
+        Ok(Moved::Label(label)) => {
+            tell_one(sink, lines, tally, label)?;
+            Ok(true)
+        }
+        Ok(Moved::Quiet) => Ok(false),
+        Err(_) => Err(WriteError::WantOfMemory),
+    }
 }

@@ -1,10 +1,13 @@
 -- How a call of a reader passes over the script.
-use Rattle.std.proofs.Common.{◌≡◌, ℕ, ◌+◌, ◌≤◌, List, [], ◌∷◌, ◌++◌, length, take, drop, Bool, refl, sym, ◌∙◌, ap, arith, append_assoc, length-drop, subst, ◌-◌, add_assoc, Bor, Result, Ok, Err, IfOk, true}
+use Rattle.std.proofs.Common.{◌≡◌, ℕ, ◌+◌, ◌≤◌, List, [], ◌∷◌, ◌++◌, length, take, drop, Bool, refl, sym, ◌∙◌, ap, arith, append_assoc, length-drop, subst, ◌-◌, add_assoc, Bor, Result, Ok, Err, IfOk, Some, true}
 use Rattle.std.proofs.lemmas.List.{take-append-drop, drop-drop}
 use Rattle.pnp_labels.specs.declared.event.Event.{Event}
 use Rattle.script_reader.specs.declared.line.Line.{Line}
 use Rattle.script_reader.specs.declared.fault.LineError.{LineError}
 use Rattle.script_reader.specs.Faults.{Gives}
+use Rattle.script_reader.specs.Fronts.{LeadsTo, event_at}
+use Rattle.script_reader.specs.declared.events.Front.TheVariants as fronts
+use Rattle.pnp_labels.specs.declared.label.EventWord.{EventWord}
 use Rattle.script_reader.specs.Lines.{event_of}
 use Rattle.script_reader.specs.Words.{words_of}
 use Rattle.script_reader.specs.Script.{trace, gives, MayFollow, GivesEvent, IsStuck}
@@ -98,6 +101,10 @@ pub gives_event : (finished : Bool) (rest : List ℕ) (k : ℕ) (text : List ℕ
     → Gives read (event_of (words_of text)) → IfOk read (λ event. GivesEvent finished rest k event)
 gives_event finished rest k text (Ok event) says is = says.gives_event event is
 gives_event finished rest k text (Err fault) says is = tt
+
+pub gives_at : (finished : Bool) (rest : List ℕ) (k : ℕ) (text : List ℕ) (keyword : EventWord) (path : List ℕ) (event : Event) → Reads finished rest k text
+    → LeadsTo (fronts.At keyword path) (event_of (words_of text)) → event ≡ event_at keyword path → GivesEvent finished rest k event
+gives_at finished rest k text keyword path event says leads is = says.gives_event event (leads.1 ∙ ap Some (sym is))
 
 pub answer_event : (old : Reading) (bytes : List ℕ) (at passed line fed : ℕ) (finished bad_ : Bool) (count lines k : ℕ) (event : Event)
     → seen bytes at passed line fed finished bad_ ≡ old → SkipsTo old.finished old.rest count lines

@@ -81,6 +81,7 @@ pub fn front_of<'a>(
 }
 
 /// The event of a keyword that is followed by one path alone.
+#[inline(always)]
 pub fn event_at(keyword: EventWord, path: InstancePath) -> Event
     requires { takes_one_path keyword ≡ true }
     ensures { result ≡ event_at keyword path }

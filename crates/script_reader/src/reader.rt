@@ -150,6 +150,23 @@ impl Reader {
         Next::Bad { line: self.line }
     }
 
+    /// Passes so many bytes and so many lines, which have no event, and then a line of so many bytes, which has one.
+    #[inline(always)]
+    fn pass(&mut self, count: usize, more: usize, lines: u64)
+        requires reach { SkipsTo self.old.finished self.old.rest count lines }
+        requires event { (event : Event) × GivesEvent self.old.finished (drop count self.old.rest) more event }
+        requires open { self.old.bad ≡ false }
+        requires few { length self.old.rest < 2 ^ 63 }
+        ensures answers { (event : Event) → GivesEvent self.old.finished (drop count self.old.rest) more event
+            → Answers (Next.Event event) self.old self.new }
+        ensures reads { (event : Event) → GivesEvent self.old.finished (drop count self.old.rest) more event
+            → (all : List ℕ) (events : List Line) → HasRead all events self.old → HasRead all (events ++ given (Next.Event event) self.new) self.new }
+    {
+        self.at += count + more;
+        self.passed += lines + 1;
+        self.line = self.passed;
+    }
+
     /// The answer to a line that was read, which has so many bytes and stands behind so many that have no event.
     #[inline(always)]
     fn answer(
@@ -171,9 +188,7 @@ impl Reader {
     {
         match read {
             Ok(event) => {
-                self.at += count + more;
-                self.passed += lines + 1;
-                self.line = self.passed;
+                self.pass(count, more, lines);
                 Ok(Next::Event(event))
             }
             Err(fault) => match fault {
@@ -204,7 +219,8 @@ impl Reader {
             Step::Read { count: more, text } => {
                 match front_of(self.alloc, text, &mut self.recent) {
                     Ok(Front::At(keyword, path)) => {
-                        self.answer(Ok(event_at(keyword, path)), count, more, lines)
+                        self.pass(count, more, lines);
+                        Ok(Next::Event(event_at(keyword, path)))
                     }
                     Ok(Front::By(keyword, rest)) => {
                         let read = event_by(self.alloc, keyword, rest);

@@ -1,18 +1,11 @@
-use Rattle.std.proofs.Common.{IfOk, Err, drop, subst, ap, ◌∙◌, arith, length-drop}
+use Rattle.std.proofs.Common.{IfOk, Err, drop, subst, ap, ◌∙◌}
 use Rattle.script_reader.specs.Script.{GivesEvent}
-use Rattle.script_reader.proofs.Moving.{answer_event, answer_stop, stop_moves}
+use Rattle.script_reader.proofs.Moving.{answer_stop, stop_moves}
 use Rattle.script_reader.proofs.Feeding.{has_read_moves}
 use Rattle.script_reader.proofs.reader.Reader.answer.Goals as goal
 
-pub overflow_add-self : goal.overflow_add-self
-overflow_add-self c =
-    let gives : GivesEvent c.args.self.now.finished (drop c.args.count c.args.self.now.rest) c.args.more c.in-Ok.event =
-    subst (λ r. IfOk r (λ event. GivesEvent c.args.self.now.finished (drop c.args.count c.args.self.now.rest) c.args.more event)) c.in-Ok.is c.requires.event in
-    omega (arith, gives.inside, c.requires.reach.inside, c.requires.few, length-drop c.args.count c.args.self.now.rest)
-
 pub returns-in-Ok-clause-answers : goal.returns-in-Ok-clause-answers
-returns-in-Ok-clause-answers c =
-    answer_event c.args.self.now c.self.inside.bytes.items c.self.inside.at c.self.inside.passed c.self.inside.line c.self.inside.fed c.self.inside.finished c.self.inside.bad c.args.count c.args.lines c.args.more c.in-Ok.event c.self.view_is c.requires.reach
+returns-in-Ok-clause-answers c = c.pass.ensures.answers c.in-Ok.event
     (subst (λ r. IfOk r (λ event. GivesEvent c.args.self.now.finished (drop c.args.count c.args.self.now.rest) c.args.more event)) c.in-Ok.is c.requires.event)
 
 pub returns-in-Bad-clause-answers : goal.returns-in-Bad-clause-answers
@@ -22,7 +15,12 @@ returns-in-Bad-clause-answers c =
     c.stop.ensures.new c.stop.ensures.result
 
 pub returns-in-Ok-clause-reads : goal.returns-in-Ok-clause-reads
-returns-in-Ok-clause-reads c = λ all events h. has_read_moves all events _ _ _ (returns-in-Ok-clause-answers c).0 h
+returns-in-Ok-clause-reads c = c.pass.ensures.reads c.in-Ok.event
+    (subst (λ r. IfOk r (λ event. GivesEvent c.args.self.now.finished (drop c.args.count c.args.self.now.rest) c.args.more event)) c.in-Ok.is c.requires.event)
+
+pub pass-requires-clause-event : goal.pass-requires-clause-event
+pass-requires-clause-event c = (c.in-Ok.event,
+    subst (λ r. IfOk r (λ event. GivesEvent c.args.self.now.finished (drop c.args.count c.args.self.now.rest) c.args.more event)) c.in-Ok.is c.requires.event)
 
 pub returns-in-Bad-clause-reads : goal.returns-in-Bad-clause-reads
 returns-in-Bad-clause-reads c = λ all events h. has_read_moves all events _ _ _

@@ -1,7 +1,10 @@
-use Rattle.std.proofs.Common.{ap, refl, sym, subst, ◌∙◌}
+use Rattle.std.proofs.Common.{ap, drop, refl, sym, subst, ◌∙◌}
+use Rattle.script_reader.specs.Fronts.{LeadsTo}
+use Rattle.script_reader.specs.Lines.{event_of}
 use Rattle.script_reader.specs.Script.{Waits, Ends}
+use Rattle.script_reader.specs.Words.{words_of}
 use Rattle.script_reader.specs.declared.step.Step.TheVariants as steps
-use Rattle.script_reader.proofs.Moving.{answer_over, answer_dropped, answer_stop, stop_moves, says_here, skips_from, stuck_from, over_here, is_stop}
+use Rattle.script_reader.proofs.Moving.{answer_over, answer_dropped, answer_stop, gives_at, stop_moves, says_here, skips_from, stuck_from, over_here, is_stop}
 use Rattle.script_reader.proofs.Feeding.{has_read_moves}
 use Rattle.script_reader.proofs.reader.Reader.next_event.Goals as goal
 
@@ -40,3 +43,9 @@ pub returns-in_default-clause-reads : goal.returns-in_default-clause-reads
 returns-in_default-clause-reads c = λ all events h. has_read_moves all events _ _ _ (stop_moves c.args.self.now c.stop.new.self c.stop.result c.skip_lines-count.result.count c.skip_lines-count.result.lines
     (skips_from c.args.self.now c.self.inside.bytes.items c.deref.result.now c.self.inside.at c.self.inside.passed c.self.inside.line c.self.inside.fed c.self.inside.finished c.self.inside.bad c.skip_lines-count.result.count c.skip_lines-count.result.lines c.self.view_is c.deref.ensures.value c.skip_lines-count.ensures.reach)
     c.stop.ensures.new c.stop.ensures.result) h
+
+pub returns-in-Ok-At-clause-answers : goal.returns-in-Ok-At-clause-answers
+returns-in-Ok-At-clause-answers c = rw (← c.self.view_is) (c.pass.ensures.answers c.event_at.result
+    (gives_at c.self.inside.finished (drop c.skip_lines-count.result.count (drop c.self.inside.at c.self.inside.bytes.items)) c.in-Read.more c.in-Read.text.now c.in-Ok-At.keyword c.in-Ok-At.path c.event_at.result
+    (says_here c.self.inside.bytes.items c.deref.result.now c.self.inside.at c.self.inside.finished c.skip_lines-count.result.count c.skip_lines-count.result.step (steps.Read c.in-Read.more c.in-Read.text) c.deref.ensures.value c.in-Read.is c.skip_lines-count.ensures.step)
+    (subst (λ f. LeadsTo f (event_of (words_of c.in-Read.text.now))) c.in-Ok-At.field-0-is c.in-Ok-At.ensures) c.event_at.ensures))
