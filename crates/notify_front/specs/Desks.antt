@@ -37,6 +37,12 @@ pub record IsAtStart (m : Manager) : Type 0 where
   pub opens : m.state ≡ opening rack
   pub events : m.events ≡ 0
 
+-- an event of a client
+abbrev pub is_of_client : Event → Bool
+is_of_client (Event.Watch client path agrees) = true
+is_of_client (Event.Unwatch client path) = true
+is_of_client event = false
+
 -- how many events the machine has taken after this one: those of clients are not its own
 abbrev pub machine_events : Event → ℕ → ℕ
 machine_events (Event.Watch client path agrees) n = n

@@ -1,9 +1,9 @@
-ghost use Rattle.std.specs.Prelude.{◌≡◌, IfOk, OnErr};
+ghost use Rattle.std.specs.Prelude.{◌≡◌, IfOk, OnErr, true};
 ghost use Rattle.pnp_labels.specs.declared.label.Label.TheVariants as Label;
 ghost use Rattle.pnp_model.specs.States.{node_of};
 ghost use Rattle.pnp_model.specs.Tests.{is_started};
-ghost use Rattle.notify_front.specs.Desks.{IsAnswered, front_of};
-ghost use Rattle.notify_front.specs.Fronts.{says, watch_at, unwatch_at};
+ghost use Rattle.notify_front.specs.Desks.{IsAnswered, IsFrontDone, front_of, is_of_client, machine_events};
+ghost use Rattle.notify_front.specs.Fronts.{front_happens, says, watch_at, unwatch_at};
 
 use crate::desk::Desk;
 use crate::registration::Registration;
@@ -11,7 +11,7 @@ use device_ids::{InstancePath, Text, WantOfMemory};
 use devnode_tree::Node;
 use driver_rack::Drivers;
 use pnp_labels::spaced::two;
-use pnp_labels::{DevState, EventWord, Label, Reason};
+use pnp_labels::{DevState, Event, EventWord, Label, Reason};
 use std::alloc::Global;
 
 /// The label of an event that is refused.
@@ -97,5 +97,26 @@ impl<R: Drivers> Desk<R> {
         let what = says(self.alloc, client, self.manager.tree().at(device))?;
         self.registrations.take(client, device);
         Ok(Label::Did { word, what })
+    }
+
+    /// An event of a client happens, as the front's definition says: it changes the registrations alone. Condition: it is one of
+    /// a client. It has a call of its own, so that any other event is handed on to the manager as it stands.
+    #[inline(never)]
+    pub(crate) fn apply_of_client(&mut self, event: Event) -> Result<Label, WantOfMemory>
+        requires { is_of_client event ≡ true }
+        ensures done { IfOk result (λ label. IsFrontDone (front_happens (front_of self.old) event) label (front_of self.new)) }
+        ensures same { self.new.manager ≡ self.old.manager }
+        ensures count { machine_events event self.old.manager.events ≡ self.old.manager.events }
+        ensures err { OnErr result (self.new ≡ self.old) }
+    {
+        match event {
+            Event::Watch {
+                client,
+                path,
+                agrees,
+            } => self.watch(client, &path, agrees),
+            Event::Unwatch { client, path } => self.unwatch(&client, &path),
+            _ => unreachable!(),
+        }
     }
 }

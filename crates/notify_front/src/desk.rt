@@ -4,8 +4,7 @@ ghost use Rattle.pnp_model.specs.Machine.{IsQuiet, due, is_in_order};
 ghost use Rattle.pnp_machine.specs.Machines.{HasFewIds};
 ghost use Rattle.notify_front.specs.Fronts.{Hand, front_happens, on_set};
 ghost use Rattle.notify_front.specs.Desks.{FrontMoves, IfFrontQuiet, IsAlone, IsFrontDone, IsOfFrontRun, front_of, machine_events, opening_desk, told_of};
-ghost use Rattle.notify_front.specs.Hands.{AllCancelled, IsBegun, IsRunning, begins, next_told};
-ghost use Rattle.pnp_machine.specs.declared.manager.Moved.TheVariants.{Label as Printed};
+ghost use Rattle.notify_front.specs.Hands.{AllCancelled, IsBegun, IsRunning, IsTurn, begins, next_told};
 
 use crate::registration::Registration;
 use crate::registrations::Registrations;
@@ -59,23 +58,8 @@ impl<R: Drivers> Desk<R> {
         ensures err { OnErr result (self.new ≡ self.old) }
     {
         match &event {
-            Event::Watch { .. } | Event::Unwatch { .. } => self.register(event),
+            Event::Watch { .. } | Event::Unwatch { .. } => self.apply_of_client(event),
             _ => self.manager.apply(event),
-        }
-    }
-
-    /// An event of a client, which changes the registrations.
-    #[inline(never)]
-    fn register(&mut self, event: Event) -> Result<Label, WantOfMemory>
-    {
-        match event {
-            Event::Watch {
-                client,
-                path,
-                agrees,
-            } => self.watch(client, &path, agrees),
-            Event::Unwatch { client, path } => self.unwatch(&client, &path),
-            _ => unreachable!(),
         }
     }
 
@@ -98,6 +82,22 @@ impl<R: Drivers> Desk<R> {
         ensures err { OnErr result (self.new ≡ self.old) }
     {
         match self.round.turn() {
+            Turn::Idle => self.idle(),
+            turn => self.step_of_round(turn),
+        }
+    }
+
+    /// The same where something is at hand, in a call of its own: mostly nothing is, and then what the manager answers is handed on
+    /// as it stands.
+    #[inline(never)]
+    fn step_of_round(&mut self, turn: Turn) -> Result<Moved, WantOfMemory>
+        requires run { IsOfFrontRun (told_of self.old) self.old.manager.events (front_of self.old) }
+        requires turn { IsTurn turn self.old.hand }
+        ensures moves { IfOk result (λ moved. FrontMoves (told_of self.old) (front_of self.old) moved (front_of self.new)) }
+        ensures same { self.new.manager ≡ record self.old.manager { state = self.new.manager.state } }
+        ensures err { OnErr result (self.new ≡ self.old) }
+    {
+        match turn {
             Turn::Tell => self.tell(),
             Turn::Idle => self.idle(),
             Turn::Begin => self.begin(),
@@ -152,6 +152,17 @@ impl<R: Drivers> Desk<R> {
         if self.registrations.is_empty() {
             return self.pass();
         }
+        self.announce_due()
+    }
+
+    /// The same where clients are registered.
+    #[inline(never)]
+    fn announce_due(&mut self) -> Result<Moved, WantOfMemory>
+        requires { self.old.hand ≡ Hand.Nothing }
+        ensures moves { IfOk result (λ moved. FrontMoves (told_of self.old) (front_of self.old) moved (front_of self.new)) }
+        ensures same { self.new.manager ≡ record self.old.manager { state = self.new.manager.state } }
+        ensures err { OnErr result (self.new ≡ self.old) }
+    {
         let Some((kind, serial)) = self.manager.due() else {
             return self.pass();
         };

@@ -1,5 +1,7 @@
 -- Steps one after another until nothing is next, and their labels.
-use Rattle.std.proofs.Common.{◌≡◌, ℕ, ◌+◌, ◌<◌, ◌≤◌, List, [], ◌∷◌, ◌++◌, Option, refl, sym, ◌∙◌, ap, subst, append_assoc, arith}
+use Rattle.std.proofs.Common.{◌≡◌, ℕ, ◌+◌, ◌<◌, ◌≤◌, Bool, true, false, List, [], ◌∷◌, ◌++◌, Option, Result, Ok, Err, IfOk, OnOk, refl, sym, ◌∙◌, ap, subst, append_assoc, arith}
+use Rattle.std.specs.declared.alloc.AllocError.{AllocError}
+use Rattle.std.proofs.lemmas.Bool.{false≢true, true≢false}
 use Rattle.pnp_io.specs.Outside.{AppendsFront}
 use Rattle.pnp_labels.specs.Texts.{Text}
 use Rattle.pnp_labels.specs.declared.event.Event.{Event}
@@ -11,7 +13,7 @@ use Rattle.notify_front.proofs.FrontLeft.{front_steps_left, front_left_falls}
 use Rattle.pnp_machine.specs.declared.manager.Moved.{Moved}
 use Rattle.pnp_cli.specs.declared.tally.Tally.{Tally}
 use Rattle.pnp_cli.specs.Outputs.{Makes, Settles, Follows, text_of}
-use Rattle.pnp_cli.specs.Turns.{Held, Settled, Answered, Awaits, SettlesFront, FollowsFront}
+use Rattle.pnp_cli.specs.Turns.{AnswerFront, AnswerHeld, Held, MovedFront, MovedHeld, Settled, Answered, Awaits, SettlesFront, FollowsFront}
 use Rattle.pnp_cli.proofs.Telling.{held_none, held_both, lines_front, lines_held}
 use Rattle.pnp_cli.proofs.FrontEntries.{settles_quiet}
 use Rattle.pnp_cli.proofs.Fronts.{none_is_front}
@@ -23,10 +25,6 @@ pub record Stepped (d : Desk) (label : Label) (d' : Desk) : Type 0 where
   pub same : told_of d' ≡ told_of d
   pub events : d'.manager.events ≡ d.manager.events
   pub run : IsOfFrontRun (told_of d') d'.manager.events (front_of d')
-
-pub stepped_by : (d d' : Desk) (moved : Moved) (label : Label) → moved ≡ Moved.Label label → FrontMoves (told_of d) (front_of d) moved (front_of d') → told_of d' ≡ told_of d → d'.manager.events ≡ d.manager.events
-    → IsOfFrontRun (told_of d') d'.manager.events (front_of d') → Stepped d label d'
-stepped_by d d' moved label is moves same events run = record { steps = subst (λ (x : Moved). FrontMoves (told_of d) (front_of d) x (front_of d')) is moves; same = same; events = events; run = run }
 
 -- with each step fewer are left
 pub less_left : (d d' : Desk) (label : Label) → IsOfFrontRun (told_of d) d.manager.events (front_of d) → Stepped d label d' → front_steps_left (told_of d') (front_of d') < front_steps_left (told_of d) (front_of d)
@@ -106,6 +104,48 @@ stepping_front_more d d' d'' t t' t'' p p' c c' label h stepped front = λ label
     let q = peel (told_of d) (front_of d') (front_of d'') last label b.0 steps b.2 in
     lines_front t t' t'' p p' c c' labels h.done (label ∷ []) q.0 (b.1 ∙ ap (λ (x : List Label). h.done ++ x) q.1) h.held front
 
+-- What a step came to, and was told ---------------------------------------------------------
+
+-- a step, as its call answers it
+pub record Made (d : Desk) (moved : Result Moved AllocError) (d' : Desk) : Type 0 where
+  pub moves : IfOk moved (λ m. FrontMoves (told_of d) (front_of d) m (front_of d'))
+  pub same : told_of d' ≡ told_of d
+  pub events : d'.manager.events ≡ d.manager.events
+  pub run : IsOfFrontRun (told_of d') d'.manager.events (front_of d')
+
+stepped_of : (d d' : Desk) (label : Label) → Made d (Ok (Moved.Label label)) d' → Stepped d label d'
+stepped_of d d' label h = record { steps = h.moves; same = h.same; events = h.events; run = h.run }
+
+-- one was next: its label was told, and fewer are left
+pub told_less : (d d' : Desk) (moved : Result Moved AllocError) (t t' : Option Text) (p p' : Text) (c c' : Tally) (was_next : Bool) → was_next ≡ true → IsOfFrontRun (told_of d) d.manager.events (front_of d) → Made d moved d'
+    → MovedHeld moved was_next t p c t' p' c' → front_steps_left (told_of d') (front_of d') < front_steps_left (told_of d) (front_of d)
+told_less d d' (Ok (Moved.Label label)) t t' p p' c c' was_next is run made held = less_left d d' label run (stepped_of d d' label made)
+told_less d d' (Ok Moved.Quiet) t t' p p' c c' was_next is run made held = absurd (true≢false (sym is ∙ held.0))
+told_less d d' (Err error) t t' p p' c c' was_next is run made held = absurd held
+
+pub told_more : (d d' d'' : Desk) (moved : Result Moved AllocError) (t t' t'' : Option Text) (p p' p'' : Text) (c c' c'' : Tally) (was_next : Bool) → was_next ≡ true → Stepping d t p c d' t' p' c' → Made d' moved d''
+    → MovedHeld moved was_next t' p' c' t'' p'' c'' → Stepping d t p c d'' t'' p'' c''
+told_more d d' d'' (Ok (Moved.Label label)) t t' t'' p p' p'' c c' c'' was_next is h made held = stepping_more d d' d'' t t' t'' p p' p'' c c' c'' label h (stepped_of d' d'' label made) held.1
+told_more d d' d'' (Ok Moved.Quiet) t t' t'' p p' p'' c c' c'' was_next is h made held = absurd (true≢false (sym is ∙ held.0))
+told_more d d' d'' (Err error) t t' t'' p p' p'' c c' c'' was_next is h made held = absurd held
+
+-- none was
+pub told_quiet : (d d' d'' : Desk) (moved : Result Moved AllocError) (t t' t'' : Option Text) (p p' p'' : Text) (c c' c'' : Tally) (was_next : Bool) → was_next ≡ false → Stepping d t p c d' t' p' c' → Made d' moved d''
+    → MovedHeld moved was_next t' p' c' t'' p'' c'' → Settled d t p c d'' t'' p'' c''
+told_quiet d d' d'' (Ok (Moved.Label label)) t t' t'' p p' p'' c c' c'' was_next is h made held = absurd (false≢true (sym is ∙ held.0))
+told_quiet d d' d'' (Ok Moved.Quiet) t t' t'' p p' p'' c c' c'' was_next is h made held =
+    subst (λ (x : Option Text). Settled d t p c d'' x p'' c'') (sym held.1)
+    (subst (λ (x : Text). Settled d t p c d'' t' x c'') (sym held.2)
+    (subst (λ (x : Tally). Settled d t p c d'' t' p' x) (sym held.3)
+    (stepping_quiet d d' d'' t t' p p' c c' h Moved.Quiet refl made.moves made.same made.events made.run)))
+told_quiet d d' d'' (Err error) t t' t'' p p' p'' c c' c'' was_next is h made held = absurd held
+
+-- whatever a step came to, a front was written
+pub told_front : (d d' d'' : Desk) (moved : Result Moved AllocError) (t t' t'' : Option Text) (p p' : Text) (c c' : Tally) → Stepping d t p c d' t' p' c' → Made d' moved d'' → MovedFront moved t' p' t'' → SettlesFront d p t t''
+told_front d d' d'' (Ok (Moved.Label label)) t t' t'' p p' c c' h made front = stepping_front_more d d' d'' t t' t'' p p' c c' label h (stepped_of d' d'' label made) front
+told_front d d' d'' (Ok Moved.Quiet) t t' t'' p p' c c' h made front = subst (λ (x : Option Text). SettlesFront d p t x) (sym front) (stepping_front d d' t t' p p' c c' h)
+told_front d d' d'' (Err error) t t' t'' p p' c c' h made front = subst (λ (x : Option Text). SettlesFront d p t x) (sym front) (stepping_front d d' t t' p p' c c' h)
+
 -- an event of a client is none of the machine's
 few_events : (event : Event) (n : ℕ) → machine_events event n ≤ n + 1
 few_events (Event.Watch client path agrees) n = omega arith
@@ -154,6 +194,23 @@ follows_front_more d d' event label t t' t'' p p' c c' done same held front = λ
     let f = first_is d d' event label labels last done h in
     let settled : Settles (told_of d') (front_of d') h.more last = subst (λ (x : Settings). Settles x (front_of d') h.more last) (sym same) (subst (λ (x : Front). Settles (told_of d) x h.more last) f.1 h.settled) in
     lines_front t t' t'' p p' c c' labels (label ∷ []) h.more [] (f.0 ∙ ap (λ (x : List Label). label ∷ x) (sym (labels_nil h.more))) held (front h.more last settled)
+
+-- The same of what the call answered -----------------------------------------------------
+
+pub answer_told : (d d' d'' : Desk) (event : Event) (answer : Result Label AllocError) (t t' t'' : Option Text) (p p' p'' : Text) (c c' c'' : Tally) → IfOk answer (λ label. IsFrontDone (front_happens (front_of d) event) label (front_of d'))
+    → told_of d' ≡ told_of d → OnOk answer (d'.manager.events ≡ machine_events event d.manager.events) → AnswerHeld answer t p c t' p' c' → Settled d' t' p' c' d'' t'' p'' c'' → Answered d event t p c d'' t'' p'' c''
+answer_told d d' d'' event (Ok label) t t' t'' p p' p'' c c' c'' happened same events held settled = answered_by d d' d'' event label t t' t'' p p' p'' c c' c'' happened same events held settled
+answer_told d d' d'' event (Err error) t t' t'' p p' p'' c c' c'' happened same events held settled = absurd held
+
+pub answer_front : (d d' : Desk) (event : Event) (answer : Result Label AllocError) (t t' : Option Text) (p : Text) → IfOk answer (λ label. IsFrontDone (front_happens (front_of d) event) label (front_of d')) → AnswerFront answer t p t'
+    → FollowsFront d event p t t'
+answer_front d d' event (Ok label) t t' p done front = follows_front_first d d' event label t t' p done front
+answer_front d d' event (Err error) t t' p done front = subst (λ (x : Option Text). FollowsFront d event p t x) (sym front) (follows_front_none d event p t)
+
+pub answer_front_more : (d d' : Desk) (event : Event) (answer : Result Label AllocError) (t t' t'' : Option Text) (p p' : Text) (c c' : Tally) → IfOk answer (λ label. IsFrontDone (front_happens (front_of d) event) label (front_of d'))
+    → told_of d' ≡ told_of d → AnswerHeld answer t p c t' p' c' → SettlesFront d' p' t' t'' → FollowsFront d event p t t''
+answer_front_more d d' event (Ok label) t t' t'' p p' c c' done same held front = follows_front_more d d' event label t t' t'' p p' c c' done same held front
+answer_front_more d d' event (Err error) t t' t'' p p' c c' done same held front = absurd held
 
 -- Where the steps end, the front awaits what comes -----------------------------------
 

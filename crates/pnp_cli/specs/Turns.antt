@@ -1,10 +1,12 @@
 -- How the reading of a script and the running of its events go on together.
-use Rattle.std.specs.Prelude.{ℕ, ◌≡◌, ◌≤◌, ◌+◌, Bool, true, List, [], ◌++◌, Option, Some, None, length}
+use Rattle.std.specs.Prelude.{ℕ, ◌≡◌, ◌≤◌, ◌+◌, Bool, true, false, List, [], ◌∷◌, ◌++◌, Option, Some, None, Result, Ok, Err, length}
+use Rattle.std.specs.declared.alloc.AllocError.{AllocError}
 use Rattle.pnp_io.specs.Outside.{Appends, AppendsFront}
 use Rattle.pnp_labels.specs.Texts.{Text}
 use Rattle.pnp_labels.specs.declared.event.Event.{Event}
 use Rattle.pnp_labels.specs.declared.label.Label.{Label}
 use Rattle.pnp_model.specs.Records.{Settings}
+use Rattle.pnp_machine.specs.declared.manager.Moved.{Moved}
 use Rattle.notify_front.specs.Fronts.{Front, IsFrontQuiet}
 use Rattle.notify_front.specs.Desks.{Desk, IsOfFrontRun, front_of, told_of}
 use Rattle.script_reader.specs.Reading.{Reading}
@@ -38,6 +40,27 @@ pub record Held (old : Option Text) (waits : Text) (tally : Tally) (labels : Lis
   pub took : Appends old new wrote
   pub all : waits ++ text_of labels ≡ wrote ++ waits'
   pub counted : tally' ≡ with_all tally labels
+
+-- the line of the label that a call answered came behind those that waited; some front of all of them was written
+abbrev pub AnswerHeld : Result Label AllocError → Option Text → Text → Tally → Option Text → Text → Tally → Type 0
+AnswerHeld (Ok label) old waits tally new waits' tally' = Held old waits tally (label ∷ []) new waits' tally'
+AnswerHeld (Err error) old waits tally new waits' tally' = ⊥
+
+-- a front was written of what waits and of that line
+abbrev pub AnswerFront : Result Label AllocError → Option Text → Text → Option Text → Type 0
+AnswerFront (Ok label) old waits new = AppendsFront old new (waits ++ text_of (label ∷ []))
+AnswerFront (Err error) old waits new = new ≡ old
+
+-- the same of what a step came to, and whether one was next: else all is as before
+abbrev pub MovedHeld : Result Moved AllocError → Bool → Option Text → Text → Tally → Option Text → Text → Tally → Type 0
+MovedHeld (Ok (Moved.Label label)) was_next old waits tally new waits' tally' = (was_next ≡ true) × Held old waits tally (label ∷ []) new waits' tally'
+MovedHeld (Ok Moved.Quiet) was_next old waits tally new waits' tally' = (was_next ≡ false) × (new ≡ old) × (waits' ≡ waits) × (tally' ≡ tally)
+MovedHeld (Err error) was_next old waits tally new waits' tally' = ⊥
+
+abbrev pub MovedFront : Result Moved AllocError → Option Text → Text → Option Text → Type 0
+MovedFront (Ok (Moved.Label label)) old waits new = AppendsFront old new (waits ++ text_of (label ∷ []))
+MovedFront (Ok Moved.Quiet) old waits new = new ≡ old
+MovedFront (Err error) old waits new = new ≡ old
 
 -- the front stepped until it was quiet, and the lines of its labels came behind those that waited
 pub record Settled (old : Desk) (taken : Option Text) (waits : Text) (tally : Tally) (new : Desk) (taken' : Option Text) (waits' : Text) (tally' : Tally) : Type 0 where

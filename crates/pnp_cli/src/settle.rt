@@ -11,7 +11,6 @@ use driver_rack::Drivers;
 use notify_front::Front;
 use pnp_io::Sink;
 use pnp_labels::Event;
-use pnp_machine::Moved;
 
 /// The front steps until it is quiet, and the line of each label comes behind those that wait.
 fn settle<R: Drivers, K: Sink>(

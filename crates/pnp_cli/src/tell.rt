@@ -1,7 +1,7 @@
-ghost use Rattle.std.specs.Prelude.{◌≡◌, ◌≤◌, ◌<◌, ◌++◌, ◌∷◌, [], OnOk, OnErr, IsErr, IsErrOf, length};
+ghost use Rattle.std.specs.Prelude.{◌≡◌, ◌≤◌, ◌<◌, ◌++◌, ◌∷◌, [], IfOk, OnOk, OnErr, IsErr, IsErrOf, length};
 ghost use Rattle.pnp_io.specs.Outside.{Rose, Appends, AppendsFront};
 ghost use Rattle.pnp_cli.specs.Outputs.{text_of};
-ghost use Rattle.pnp_cli.specs.Turns.{Held, Passes};
+ghost use Rattle.pnp_cli.specs.Turns.{AnswerFront, AnswerHeld, Held, MovedFront, MovedHeld, Passes};
 
 use crate::tally::{Tally, count};
 use crate::turn::WriteError;
@@ -59,13 +59,18 @@ fn tell_one<K: Sink>(
     Ok(())
 }
 
-/// The same of what a call answers, which goes here alone: each place where a label goes takes it apart.
+/// The same of what a call answers, which goes here alone: each place where a label goes takes it apart. It is lent on as it
+/// stands, since it is large.
 pub fn tell_answer<K: Sink>(
     sink: &mut K,
     lines: &mut Vec<u8>,
     tally: &mut Tally,
     answer: Result<Label, WantOfMemory>,
 ) -> Result<(), WriteError>
+    ensures held { OnOk result (AnswerHeld answer (K.taken sink.old) lines.old.items tally.old (K.taken sink.new) lines.new.items tally.new) }
+    ensures front { AnswerFront answer (K.taken sink.old) lines.old.items (K.taken sink.new) }
+    ensures failed { IsErrOf result WriteError.WriteFault → Rose (K.faults sink.old) (K.faults sink.new) }
+    ensures counts { K.faults sink.old ≤ K.faults sink.new }
 {
     match &answer {
         Ok(label) => tell_one(sink, lines, tally, label),
@@ -80,6 +85,10 @@ pub fn tell_moved<K: Sink>(
     tally: &mut Tally,
     moved: Result<Moved, WantOfMemory>,
 ) -> Result<bool, WriteError>
+    ensures held { IfOk result (λ was_next. MovedHeld moved was_next (K.taken sink.old) lines.old.items tally.old (K.taken sink.new) lines.new.items tally.new) }
+    ensures front { MovedFront moved (K.taken sink.old) lines.old.items (K.taken sink.new) }
+    ensures failed { IsErrOf result WriteError.WriteFault → Rose (K.faults sink.old) (K.faults sink.new) }
+    ensures counts { K.faults sink.old ≤ K.faults sink.new }
 {
     match &moved {
         Ok(Moved::Label(label)) => {

@@ -95,9 +95,9 @@ impl<R: Drivers> Manager<R> {
         ensures err { OnErr result (self.new ≡ self.old) }
     {
         needs_are_few(&event);
-        let answer = self.machine.apply(event);
-        self.events += u64::from(answer.is_ok());
-        answer
+        let label = self.machine.apply(event)?;
+        self.events += 1;
+        Ok(label)
     }
 
     /// The next step of the machine, exactly as its definition says. Quiet comes exactly where no step is next, and then
