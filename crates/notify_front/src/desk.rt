@@ -75,6 +75,7 @@ impl<R: Drivers> Desk<R> {
     }
 
     /// The next step, as the front's definition says. Condition: the front is one of a run. After want of memory all is as before.
+    #[inline(always)]
     pub(crate) fn step(&mut self) -> Result<Moved, WantOfMemory>
         requires { IsOfFrontRun (told_of self.old) self.old.manager.events (front_of self.old) }
         ensures moves { IfOk result (λ moved. FrontMoves (told_of self.old) (front_of self.old) moved (front_of self.new)) }
@@ -132,6 +133,7 @@ impl<R: Drivers> Desk<R> {
     }
 
     /// Nobody is told: the machine steps. Conditions: nothing is at hand, and so it is by the front's definition.
+    #[inline(always)]
     fn pass(&mut self) -> Result<Moved, WantOfMemory>
         requires hand { self.old.hand ≡ Hand.Nothing }
         requires alone { IsAlone (told_of self.old) (front_of self.old) }
@@ -143,6 +145,7 @@ impl<R: Drivers> Desk<R> {
     }
 
     /// Nothing is at hand: what is due is announced, or the machine steps.
+    #[inline(always)]
     fn idle(&mut self) -> Result<Moved, WantOfMemory>
         requires { self.old.hand ≡ Hand.Nothing }
         ensures moves { IfOk result (λ moved. FrontMoves (told_of self.old) (front_of self.old) moved (front_of self.new)) }

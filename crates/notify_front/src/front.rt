@@ -66,6 +66,7 @@ impl<R: Drivers> Front<R> {
     /// front, the manager and every book are as before, no driver was asked, and the same step can be tried again. Cost: where
     /// nobody is registered that of the manager's step; the first notice of an operation costs what depends on its device, and
     /// the number of clients on these.
+    #[inline(always)]
     pub fn step(&mut self) -> Result<Moved, WantOfMemory>
         ensures moves { IfOk result (λ moved. FrontMoves (told_of self.old) (front_of self.old) moved (front_of self.new)) }
         ensures settings { told_of self.new ≡ told_of self.old }

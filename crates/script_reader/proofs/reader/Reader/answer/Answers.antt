@@ -19,8 +19,10 @@ returns-in-Ok-clause-reads c = c.pass.ensures.reads c.in-Ok.event
     (subst (λ r. IfOk r (λ event. GivesEvent c.args.self.now.finished (drop c.args.count c.args.self.now.rest) c.args.more event)) c.in-Ok.is c.requires.event)
 
 pub pass-requires-clause-event : goal.pass-requires-clause-event
-pass-requires-clause-event c = (c.in-Ok.event,
-    subst (λ r. IfOk r (λ event. GivesEvent c.args.self.now.finished (drop c.args.count c.args.self.now.rest) c.args.more event)) c.in-Ok.is c.requires.event)
+pass-requires-clause-event c = (
+  c.in-Ok.event,
+  subst (λ r. IfOk r (λ event. GivesEvent c.args.self.now.finished (drop c.args.count c.args.self.now.rest) c.args.more event)) c.in-Ok.is c.requires.event,
+)
 
 pub returns-in-Bad-clause-reads : goal.returns-in-Bad-clause-reads
 returns-in-Bad-clause-reads c = λ all events h. has_read_moves all events _ _ _

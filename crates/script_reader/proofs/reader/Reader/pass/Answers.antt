@@ -1,4 +1,3 @@
-use Rattle.std.proofs.Common.{arith, length-drop}
 use Rattle.script_reader.proofs.Moving.{answer_event}
 use Rattle.script_reader.proofs.Feeding.{has_read_moves}
 use Rattle.script_reader.proofs.reader.Reader.pass.Goals as goal
