@@ -5,8 +5,8 @@ use Rattle.pnp_labels.specs.declared.event.Event.{Event}
 use Rattle.script_reader.specs.declared.line.Line.{Line}
 use Rattle.script_reader.specs.declared.fault.LineError.{LineError}
 use Rattle.script_reader.specs.Faults.{Gives}
-use Rattle.script_reader.specs.Fronts.{LeadsTo, event_at}
-use Rattle.script_reader.specs.declared.events.Front.TheVariants as fronts
+use Rattle.script_reader.specs.Openings.{LeadsTo, event_at}
+use Rattle.script_reader.specs.declared.events.Opening.TheVariants as openings
 use Rattle.pnp_labels.specs.declared.label.EventWord.{EventWord}
 use Rattle.script_reader.specs.Lines.{event_of}
 use Rattle.script_reader.specs.Words.{words_of}
@@ -103,7 +103,7 @@ gives_event finished rest k text (Ok event) says is = says.gives_event event is
 gives_event finished rest k text (Err fault) says is = tt
 
 pub gives_at : (finished : Bool) (rest : List ℕ) (k : ℕ) (text : List ℕ) (keyword : EventWord) (path : List ℕ) (event : Event) → Reads finished rest k text
-    → LeadsTo (fronts.At keyword path) (event_of (words_of text)) → event ≡ event_at keyword path → GivesEvent finished rest k event
+    → LeadsTo (openings.At keyword path) (event_of (words_of text)) → event ≡ event_at keyword path → GivesEvent finished rest k event
 gives_at finished rest k text keyword path event says leads is = says.gives_event event (leads.1 ∙ ap Some (sym is))
 
 pub answer_event : (old : Reading) (bytes : List ℕ) (at passed line fed : ℕ) (finished bad_ : Bool) (count lines k : ℕ) (event : Event)

@@ -5,7 +5,7 @@ pub mod Numbers
 pub mod Bytes
 pub mod Wants
 pub mod Lines
-pub mod Fronts
+pub mod Openings
 pub mod Script
 pub mod Steps
 pub mod Reading

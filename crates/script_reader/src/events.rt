@@ -1,6 +1,6 @@
 ghost use Rattle.std.specs.Prelude.{◌≡◌, ◌<◌, ◌≤◌, true, false, length, map, Err};
 ghost use Rattle.script_reader.specs.Faults.{Gives};
-ghost use Rattle.script_reader.specs.Fronts.{GivesFront, event_at, takes_one_path};
+ghost use Rattle.script_reader.specs.Openings.{GivesOpening, event_at, takes_one_path};
 ghost use Rattle.script_reader.specs.Lines.{event_of, event_by};
 ghost use Rattle.script_reader.specs.Words.{words_of};
 
@@ -51,7 +51,7 @@ fn takes_one_path(keyword: EventWord) -> bool
 }
 
 /// The first word of a line, and what was read behind it.
-pub enum Front<'a> {
+pub enum Opening<'a> {
     /// A keyword that is followed by one path alone, and the path.
     At(EventWord, InstancePath),
     /// Any other keyword, and what follows it.
@@ -60,12 +60,12 @@ pub enum Front<'a> {
 
 /// The first word of a line, with the path where it is followed by one path alone. `recent` is the path of the last such line,
 /// if there is one.
-pub fn front_of<'a>(
+pub fn opening_of<'a>(
     alloc: Global,
     line: &'a [u8],
     recent: &mut Option<InstancePath>,
-) -> Result<Front<'a>, LineError>
-    ensures { GivesFront result (event_of (words_of line.now)) }
+) -> Result<Opening<'a>, LineError>
+    ensures { GivesOpening result (event_of (words_of line.now)) }
 {
     let Some((word, rest)) = next_word(line) else {
         return Err(LineError::Bad);
@@ -74,9 +74,9 @@ pub fn front_of<'a>(
         return Err(LineError::Bad);
     };
     if takes_one_path(keyword) {
-        Ok(Front::At(keyword, lone_path(alloc, rest, recent)?))
+        Ok(Opening::At(keyword, lone_path(alloc, rest, recent)?))
     } else {
-        Ok(Front::By(keyword, rest))
+        Ok(Opening::By(keyword, rest))
     }
 }
 

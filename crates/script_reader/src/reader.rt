@@ -4,7 +4,7 @@ ghost use Rattle.script_reader.specs.Script.{GivesEvent, IsStuck};
 ghost use Rattle.script_reader.specs.Answers.{Answers, given};
 ghost use Rattle.script_reader.specs.declared.line.Line.{Line};
 
-use crate::events::{Front, event_at, event_by, front_of};
+use crate::events::{Opening, event_at, event_by, opening_of};
 use crate::fault::LineError;
 use crate::next::Next;
 use crate::skip::{Skipped, skip_lines};
@@ -217,12 +217,12 @@ impl Reader {
         let Skipped { count, lines, step } = skip_lines(&self.bytes[self.at..], self.finished);
         match step {
             Step::Read { count: more, text } => {
-                match front_of(self.alloc, text, &mut self.recent) {
-                    Ok(Front::At(keyword, path)) => {
+                match opening_of(self.alloc, text, &mut self.recent) {
+                    Ok(Opening::At(keyword, path)) => {
                         self.pass(count, more, lines);
                         Ok(Next::Event(event_at(keyword, path)))
                     }
-                    Ok(Front::By(keyword, rest)) => {
+                    Ok(Opening::By(keyword, rest)) => {
                         let read = event_by(self.alloc, keyword, rest);
                         self.answer(read, count, more, lines)
                     }

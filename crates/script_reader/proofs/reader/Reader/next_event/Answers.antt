@@ -1,5 +1,5 @@
 use Rattle.std.proofs.Common.{ap, drop, refl, sym, subst, ◌∙◌}
-use Rattle.script_reader.specs.Fronts.{LeadsTo}
+use Rattle.script_reader.specs.Openings.{LeadsTo}
 use Rattle.script_reader.specs.Lines.{event_of}
 use Rattle.script_reader.specs.Script.{Waits, Ends}
 use Rattle.script_reader.specs.Words.{words_of}

@@ -3,8 +3,8 @@ use Rattle.std.specs.Prelude.{◌≡◌, ℕ, Bool, true, false, List, Result, O
 use Rattle.pnp_labels.specs.declared.event.Event.{Event}
 use Rattle.pnp_labels.specs.declared.event.Event.TheVariants as events
 use Rattle.pnp_labels.specs.declared.label.EventWord.{EventWord}
-use Rattle.script_reader.specs.declared.events.Front.{Front}
-use Rattle.script_reader.specs.declared.events.Front.TheVariants as fronts
+use Rattle.script_reader.specs.declared.events.Opening.{Opening}
+use Rattle.script_reader.specs.declared.events.Opening.TheVariants as openings
 use Rattle.script_reader.specs.declared.fault.LineError.{LineError}
 use Rattle.script_reader.specs.Faults.{Fails}
 use Rattle.script_reader.specs.Lines.{event_by}
@@ -30,11 +30,11 @@ event_at EventWord.HandleOpen path = events.OpenHandle path
 event_at _ path = events.CloseHandle path
 
 -- with what follows it leads to what reading the line gives
-abbrev pub LeadsTo : Front → Option Event → Type 0
-LeadsTo (fronts.At keyword path) read = (takes_one_path keyword ≡ true) × (read ≡ Some (event_at keyword path))
-LeadsTo (fronts.By keyword rest) read = (takes_one_path keyword ≡ false) × (read ≡ event_by keyword (words_of rest.now))
+abbrev pub LeadsTo : Opening → Option Event → Type 0
+LeadsTo (openings.At keyword path) read = (takes_one_path keyword ≡ true) × (read ≡ Some (event_at keyword path))
+LeadsTo (openings.By keyword rest) read = (takes_one_path keyword ≡ false) × (read ≡ event_by keyword (words_of rest.now))
 
 -- the same of what a call gave, unless memory ran out
-abbrev pub GivesFront : Result Front LineError → Option Event → Type 0
-GivesFront (Ok front) read = LeadsTo front read
-GivesFront (Err fault) read = Fails fault read
+abbrev pub GivesOpening : Result Opening LineError → Option Event → Type 0
+GivesOpening (Ok line) read = LeadsTo line read
+GivesOpening (Err fault) read = Fails fault read
