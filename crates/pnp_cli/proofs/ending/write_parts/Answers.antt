@@ -1,4 +1,4 @@
-use Rattle.std.proofs.Common.{◌≡◌, ℕ, [], ◌++◌, sym, ◌∙◌, ap, arith}
+use Rattle.std.proofs.Common.{[], ◌++◌, sym, ◌∙◌, ap, arith}
 use Rattle.pnp_machine.specs.Endings.{left}
 use Rattle.pnp_cli.proofs.Fronts.{all_is_front}
 use Rattle.pnp_cli.proofs.PartsWritten.{part_passes, part_front, passed_front, last_written}
