@@ -17,12 +17,22 @@ use std::alloc::Global;
 use std::marker::Model;
 
 /// A manager, who is registered, and what is at hand. A contract sees these three.
-#[derive(Drop)]
 pub(crate) struct Desk<R: Drivers> {
     pub(crate) alloc: Global,
     pub(crate) manager: Manager<R>,
     pub(crate) registrations: Registrations,
     pub(crate) round: Round,
+}
+
+impl<R: Drivers> Drop for Desk<R> {
+    fn drop(self) {
+        let Desk {
+            alloc: _,
+            manager: _,
+            registrations: _,
+            round: _,
+        } = self;
+    }
 }
 
 impl<R: Drivers> Model for Desk<R> {

@@ -16,9 +16,14 @@ use std::marker::Model;
 
 /// The front over a manager: clients are asked before a removal and hear of its end, after the driver kit's notices of a target
 /// device; the order and the rules are this project's own. A contract sees the manager, who is registered and what is at hand.
-#[derive(Drop)]
 pub struct Front<R: Drivers> {
     desk: Desk<R>,
+}
+
+impl<R: Drivers> Drop for Front<R> {
+    fn drop(self) {
+        let Front { desk: _ } = self;
+    }
 }
 
 impl<R: Drivers> Model for Front<R> {

@@ -22,7 +22,6 @@ use std::marker::Model;
 use std::mem;
 
 /// The machine between two steps. A contract sees its whole state.
-#[derive(Drop)]
 pub(crate) struct Machine<R: Drivers> {
     pub(crate) alloc: Global,
     pub(crate) devices: Devices,
@@ -31,6 +30,20 @@ pub(crate) struct Machine<R: Drivers> {
     pub(crate) starts: Starts,
     pub(crate) operation: Option<Operation>,
     pub(crate) tasks: Tasks,
+}
+
+impl<R: Drivers> Drop for Machine<R> {
+    fn drop(self) {
+        let Machine {
+            alloc: _,
+            devices: _,
+            rack: _,
+            disabled: _,
+            starts: _,
+            operation: _,
+            tasks: _,
+        } = self;
+    }
 }
 
 impl<R: Drivers> Model for Machine<R> {
