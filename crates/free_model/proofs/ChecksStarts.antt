@@ -1,5 +1,5 @@
 -- Starts: whole outputs that are runs, and what is none, as the definition computes it.
-use Rattle.std.proofs.Common.{[], ◌∷◌, ◌≡◌, refl, true}
+use Rattle.std.proofs.Common.{[], ◌∷◌, ◌++◌, ◌≡◌, refl, true}
 use Rattle.std.specs.Prelude.{codes, take, drop}
 use Rattle.std.specs.Fmt.{digits}
 use Rattle.pnp_labels.specs.declared.event.Event.{Event}

@@ -2,6 +2,7 @@ pub mod Keyed
 pub mod Determined
 pub mod Clips
 pub mod Due
+pub mod Guards
 pub mod RowBase
 pub mod RowsStarts
 mod RowsChoices
