@@ -2,6 +2,7 @@ ghost use Rattle.std.specs.Prelude.{◌≡◌, ◌<◌, ◌^◌, ◌++◌, IfOk,
 ghost use Rattle.pnp_laws.specs.Printed.{TreeIsPrinted};
 ghost use Rattle.pnp_machine.specs.Machines.{HasFewIds};
 ghost use Rattle.pnp_model.specs.Endings.{ending, joined};
+ghost use Rattle.pnp_model.specs.Runs.{opening};
 ghost use Rattle.notify_front.specs.Fronts.{IsFrontQuiet, front_happens};
 ghost use Rattle.notify_front.specs.Desks.{IsAtStart, IsFrontDone, IsOfFrontRun, IfFrontQuiet, FrontLawsOf, FrontMoves, front_of, machine_events, opening_desk, told_of};
 
@@ -46,6 +47,17 @@ impl<R: Drivers> Front<R> {
         Front {
             desk: Desk::new(alloc, manager),
         }
+    }
+
+    /// As a new one over a new manager of the same INFs and budget and another rack, whose place the drivers that were there take. After
+    /// want of memory front and rack are as before. Cost: that of letting go what the machine held.
+    pub fn restart(&mut self, rack: &mut R) -> Result<(), WantOfMemory>
+        ensures opens { OnOk result (self.new ≡ opening_desk (record self.old.manager { events = 0; state = opening (R.rows rack.old) })) }
+        ensures back { OnOk result (R.rows rack.new ≡ self.old.manager.state.core.rack) }
+        ensures err { OnErr result (self.new ≡ self.old) }
+        ensures kept { OnErr result (R.rows rack.new ≡ R.rows rack.old) }
+    {
+        self.desk.restart(rack)
     }
 
     /// An event happens, at a quiet front: exactly what the front's definition says. Those of clients change the registrations
