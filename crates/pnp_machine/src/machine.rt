@@ -115,7 +115,7 @@ impl<R: Drivers> Machine<R> {
         self.starts = Starts::new(self.alloc);
         self.operation = None;
         self.tasks = Tasks::new(self.alloc);
-        mem::swap(&mut self.rack, rack);
+        mem::swap(rack, &mut self.rack);
         Ok(())
     }
 
