@@ -1,8 +1,6 @@
-//! The sections of an INF, with their entries, for the warnings that name causes. Nothing is claimed of them: `inf_reader` has the
-//! rules, and here they are read once more.
 ghost use Rattle.std.specs.Prelude.{◌<◌, length, IfSome};
 
-use crate::mend::{bare, plain_text};
+use crate::encoding::{bare, plain_text};
 use std::alloc::{AllocError, Global};
 
 /// An entry: the number of its line, its key, which is empty where there is none, and its values.
@@ -16,9 +14,11 @@ pub struct Entry {
     pub values: Vec<Vec<u8>>,
 }
 
-/// A section: its name, and the entries below one header.
+/// A section: the number of its header's line, its name, and the entries below this header.
 #[derive(Drop)]
 pub struct Section {
+    /// The number of the line, counted from 1; 0 of what stands before any header.
+    pub line: u32,
     /// The name.
     pub name: Vec<u8>,
     /// The entries.
@@ -33,7 +33,7 @@ struct Whole {
 }
 
 /// The text without blanks at its ends.
-pub fn trimmed(text: &[u8]) -> &[u8] {
+fn trimmed(text: &[u8]) -> &[u8] {
     text.trim_ascii()
 }
 
@@ -174,10 +174,14 @@ fn header_name(text: &[u8]) -> &[u8] {
 }
 
 /// A section of that name, with no entry.
-fn begun(alloc: Global, name: &[u8]) -> Result<Section, AllocError> {
+fn begun(alloc: Global, line: u32, name: &[u8]) -> Result<Section, AllocError> {
     let name = Vec::from_slice(alloc, name)?;
     let entries = Vec::new(alloc);
-    Ok(Section { name, entries })
+    Ok(Section {
+        line,
+        name,
+        entries,
+    })
 }
 
 /// A line begins a section, or is an entry of the last one.
@@ -188,7 +192,7 @@ fn push_line(
     text: &[u8],
 ) -> Result<(), AllocError> {
     if text.starts_with(b"[") {
-        all.push(begun(alloc, header_name(text))?)?;
+        all.push(begun(alloc, line, header_name(text))?)?;
         return Ok(());
     }
     if let Some(last) = all.last_mut() {
@@ -201,7 +205,7 @@ fn push_line(
 
 /// Appends the sections of lines in order, of which the first stands before any header.
 fn push_sections(alloc: Global, all: &mut Vec<Section>, lines: &[Whole]) -> Result<(), AllocError> {
-    all.push(begun(alloc, b"")?)?;
+    all.push(begun(alloc, 0, b"")?)?;
     for whole in lines {
         push_line(alloc, all, whole.line, &whole.text)?;
     }
