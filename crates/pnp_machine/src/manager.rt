@@ -79,6 +79,19 @@ impl<R: Drivers> Manager<R> {
         })
     }
 
+    /// As a new one of the same INFs and budget over another rack, whose place the drivers that were there take. After want of memory
+    /// manager and rack are as before. Cost: that of letting go what the machine held.
+    pub fn restart(&mut self, rack: &mut R) -> Result<(), WantOfMemory>
+        ensures opens { OnOk result (self.new ≡ record self.old { events = 0; state = opening (R.rows rack.old) }) }
+        ensures back { OnOk result (R.rows rack.new ≡ self.old.state.core.rack) }
+        ensures err { OnErr result (self.new ≡ self.old) }
+        ensures kept { OnErr result (R.rows rack.new ≡ R.rows rack.old) }
+    {
+        self.machine.restart(rack)?;
+        self.events = 0;
+        Ok(())
+    }
+
     /// An event happens, at a quiet state: exactly what the machine's definition says, which for a refusal is a label with
     /// the reason and no change. Conditions: the state is quiet, the event has at most 64 IDs of each sort, and fewer than
     /// 2^24 events happened before. After want of memory the manager is as before. Cost: near that of the look-ups by path
