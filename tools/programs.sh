@@ -1,6 +1,7 @@
 # What a checkout has of its programs: which there are, which crates each is made from, and whether one is there that was made from
 # the sources as they stand. To be sourced by bin/run and tools/build, with `top` set to the top of the checkout.
 # shellcheck shell=bash
+: "${top:?}"
 
 # The programs: the crates of crates.txt that have a main.
 programs() {
@@ -45,7 +46,7 @@ sum_of_sources() {
     (
         cd "$top" || exit
         {
-            crates_of "$1" | while read -r crate; do grep "^${crate}[ :]" crates.txt; done
+            crates_of "$1" | sed 's/.*/^&[ :]/' | grep -f - crates.txt
             folders_of "$1" | xargs -0 -r sh -c 'find "$@" -type f -print0' find | LC_ALL=C sort -z | xargs -0 -r sha256sum --
         } | sha256sum | cut -c -64
     )
@@ -78,6 +79,7 @@ is_left() {
     record=$(proved_record "$1")
     [ -f "$file" ] && [ -x "$file" ] || return 1
     [ ! -f "$record" ] || [ "$(sed -n 's/^program //p' "$record")" != "$(sum_of_file "$file")" ] || return 1
+    # shellcheck disable=SC2016  # the inner shell expands these
     [ -z "$(cd "$top" && folders_of "$1" | xargs -0 -r sh -c 'file=$1; shift; find crates.txt "$@" -newer "$file" -print -quit' find "$file")" ]
 }
 
