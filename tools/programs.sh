@@ -93,3 +93,20 @@ is_proved() {
 }
 
 is_checked() { is_recorded "$(checked_file "$1")" "$(checked_record "$1")" "${2-$(sum_of_sources "$1")}"; }
+
+# lock FILE WORDS: waits until nobody else holds the file, which is then held until descriptor 9 is closed; the words are said where it waits.
+lock() {
+    exec 9>"$1"
+    command -v flock >/dev/null || return 0
+    flock -n 9 || say "$2"
+    until flock -n 9; do sleep 0.5; done
+}
+
+# What is to be said of a proved program that is not there.
+proving() {
+    if [ -s "$top/out/build.now" ] && ! flock -n "$top/out/build.lock" true 2>/dev/null; then
+        printf 'tools/build is at work: %s' "$(cat "$top/out/build.now")"
+    else
+        printf 'tools/build %s proves it' "$1"
+    fi
+}
