@@ -42,15 +42,17 @@ or_false false = refl
 
 any_behind : {X : Type 0} (p : X → Bool) (xs : List X) (x : X) → list_any p (xs ++ x ∷ []) ≡ cond (p x) true (list_any p xs)
 any_behind p [] x = by_last (p x)
-  where by_last : (b : Bool) → (b || false) ≡ cond b true false
-        by_last true = refl
-        by_last false = refl
+  where
+    by_last : (b : Bool) → (b || false) ≡ cond b true false
+    by_last true = refl
+    by_last false = refl
 any_behind p (y ∷ xs) x = ap (λ b. p y || b) (any_behind p xs x) ∙ by_front (p y) (p x) (list_any p xs)
-  where by_front : (a b c : Bool) → (a || cond b true c) ≡ cond b true (a || c)
-        by_front true true c = refl
-        by_front true false c = refl
-        by_front false true c = refl
-        by_front false false c = refl
+  where
+    by_front : (a b c : Bool) → (a || cond b true c) ≡ cond b true (a || c)
+    by_front true true c = refl
+    by_front true false c = refl
+    by_front false true c = refl
+    by_front false false c = refl
 
 some_of : {X : Type 0} (b : Bool) (v : X) (o : _) → is_some (cond b (Some v) o) ≡ cond b true (is_some o)
 some_of true v o = refl
