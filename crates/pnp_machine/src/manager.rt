@@ -38,13 +38,23 @@ pub enum Moved {
 /// The Plug and Play manager over a rack of drivers: devices arrive and depart, drivers are chosen by INFs and asked, one
 /// step at a time, in the order of the machine's definition, whose steps are this project's own. A contract sees the INFs,
 /// the budget, how many events happened, and the machine's whole state, which is always one of a run.
-#[derive(Drop)]
 pub struct Manager<R: Drivers> {
     infs: Vec<Inf>,
     budget: u64,
     events: u64,
     /// In a box, so that who owns a manager has one part to let go, and not each list of the machine.
     machine: Box<Machine<R>>,
+}
+
+impl<R: Drivers> Drop for Manager<R> {
+    fn drop(self) {
+        let Manager {
+            infs: _,
+            budget: _,
+            events: _,
+            machine: _,
+        } = self;
+    }
 }
 
 impl<R: Drivers> Model for Manager<R> {

@@ -37,7 +37,6 @@ pub struct Change {
 }
 
 /// All that notes know besides the tree. This project's own.
-#[derive(Drop)]
 pub struct Facts {
     /// The INFs, and their names in the same order.
     pub infs: Vec<Inf>,
@@ -64,6 +63,25 @@ pub struct Facts {
     pub(crate) operation: Option<OpKind>,
     /// What all devices held when a rebalance found that it fits.
     pub(crate) before: Vec<Holding>,
+}
+
+impl Drop for Facts {
+    fn drop(self) {
+        let Facts {
+            infs: _,
+            inf_names: _,
+            budget: _,
+            drivers: _,
+            relations: _,
+            reserved: _,
+            changes: _,
+            pended: _,
+            refused: _,
+            windows: _,
+            operation: _,
+            before: _,
+        } = self;
+    }
 }
 
 impl Facts {
