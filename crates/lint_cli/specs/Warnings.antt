@@ -1,5 +1,5 @@
 -- What an INF that is read lacks for its devices: the drivers that no line of the script names, the lines without a service, and an INF without lines.
-use Rattle.std.specs.Prelude.{ℕ, ◌||◌, ◌&&◌, ◌==◌, Bool, true, not, List, [], ◌∷◌, ◌++◌, length, map, take, drop, codes, if◌then◌else◌, Option, Some, None}
+use Rattle.std.specs.Prelude.{ℕ, ◌||◌, ◌&&◌, ◌==◌, Bool, true, not, List, [], ◌∷◌, ◌++◌, length, map, codes, if◌then◌else◌, Option, Some, None}
 use Rattle.std.specs.Str.{bytes_eq}
 use Rattle.std.specs.List.{flat_map, filter, list_any, find}
 use Rattle.device_ids.specs.Cuts.{parts}
@@ -10,6 +10,7 @@ use Rattle.inf_reader.specs.declared.parts.ModelLine.{ModelLine}
 use Rattle.lint_cli.specs.declared.drivers.Named.{Named}
 use Rattle.lint_cli.specs.declared.warnings.Known.{Known as Given}
 use Rattle.script_reader.specs.Words.{words_of}
+use Rattle.script_reader.specs.Lines.{value_at}
 use Rattle.lint_cli.specs.Reports.{quoted, warning_head}
 
 -- a line whose first word is `driver` names its second word
@@ -22,10 +23,13 @@ name_in (word ∷ name ∷ words) = if bytes_eq word (codes "driver") then name 
 abbrev pub driver_names : List ℕ → List Text
 driver_names script = flat_map (λ line. name_in (words_of line)) (parts 0x0A script)
 
--- the identifiers that an attribute of a device writes
+-- the identifiers that an attribute of a device writes: `hw=ID,ID` or `compat=ID,ID`
+abbrev pub ids_at : Option Text → List Text
+ids_at None = []
+ids_at (Some value) = parts 0x2C value
+
 abbrev pub ids_of : Text → List Text
-ids_of word = if bytes_eq (take 3 word) (codes "hw=") then parts 0x2C (drop 3 word)
-    else (if bytes_eq (take 7 word) (codes "compat=") then parts 0x2C (drop 7 word) else [])
+ids_of word = ids_at (value_at (codes "hw=") word) ++ ids_at (value_at (codes "compat=") word)
 
 -- a line whose first word is `plug` writes those of a device: its third word, and those of its attributes
 abbrev pub ids_in : List Text → List Text

@@ -1,10 +1,12 @@
 //! What the lines of a script name: drivers, and the identifiers of devices. And the drivers that an INF names.
-ghost use Rattle.std.specs.Prelude.{◌≡◌, ◌∷◌, ◌++◌, [], IfOk, OnOk, map, codes, take, drop, length};
+ghost use Rattle.std.specs.Prelude.{◌≡◌, ◌∷◌, ◌++◌, [], IfOk, OnOk, map, codes};
+ghost use Rattle.std.specs.Option.{option_map};
 ghost use Rattle.std.specs.Str.{bytes_eq};
 ghost use Rattle.std.specs.List.{flat_map};
 ghost use Rattle.device_ids.specs.Cuts.{parts};
 ghost use Rattle.script_reader.specs.Words.{is_blank, words_of};
-ghost use Rattle.lint_cli.specs.Warnings.{seen, name_in, driver_names, ids_of, ids_in, script_ids, service_of, names_of};
+ghost use Rattle.script_reader.specs.Lines.{value_at};
+ghost use Rattle.lint_cli.specs.Warnings.{seen, name_in, driver_names, ids_at, ids_of, ids_in, script_ids, service_of, names_of};
 
 use crate::names::Names;
 use device_ids::{Text, TextList, split_once};
@@ -92,24 +94,33 @@ fn push_parts<'a>(alloc: Global, names: &mut Names<'a>, text: &'a [u8]) -> Resul
     names.push(alloc, rest)
 }
 
-/// Whether a text begins with another.
-fn begins(text: &[u8], front: &[u8]) -> bool
-    ensures { result ≡ bytes_eq (take (length front.now) text.now) front.now }
+/// What follows the attribute's name, where the word is one of that name.
+fn value_at<'a>(name: &[u8], word: &'a [u8]) -> Option<&'a [u8]>
+    ensures { option_map (λ x. x.now) result ≡ value_at name.now word.now }
 {
-    text.len() >= front.len() && &text[..front.len()] == front
+    word.strip_prefix(name)
+}
+
+/// Appends the identifiers of a value, if there is one.
+fn push_value<'a>(
+    alloc: Global,
+    names: &mut Names<'a>,
+    value: Option<&'a [u8]>,
+) -> Result<(), AllocError>
+    ensures { OnOk result (names.new ≡ names.old ++ ids_at (option_map (λ x. x.now) value.entry)) }
+{
+    match value {
+        None => Ok(()),
+        Some(value) => push_parts(alloc, names, value),
+    }
 }
 
 /// Appends the identifiers that an attribute writes.
 fn push_ids<'a>(alloc: Global, names: &mut Names<'a>, word: &'a [u8]) -> Result<(), AllocError>
     ensures { OnOk result (names.new ≡ names.old ++ ids_of word.now) }
 {
-    if begins(word, b"hw=") {
-        return push_parts(alloc, names, &word[3..]);
-    }
-    if begins(word, b"compat=") {
-        return push_parts(alloc, names, &word[7..]);
-    }
-    Ok(())
+    push_value(alloc, names, value_at(b"hw=", word))?;
+    push_value(alloc, names, value_at(b"compat=", word))
 }
 
 /// Appends the identifiers that attributes write.

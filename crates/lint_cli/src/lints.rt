@@ -13,7 +13,7 @@ use crate::names::Names;
 use crate::report::report_script;
 use crate::status::Status;
 use crate::warnings::Known;
-use crate::words::{Options, are_words, asked};
+use crate::words::{Options, are_words, asked_by};
 use pnp_io::{Files, ReadError, Sink, read_all, write_all};
 use std::alloc::{AllocError, Global};
 
@@ -256,6 +256,6 @@ pub fn lint<F: Files, K: Sink>(
     if !are_words(words) {
         return Status::BadWords;
     }
-    let asked = asked(words);
+    let asked = asked_by(words);
     lint_named(alloc, asked.options, asked.names, files, sink)
 }

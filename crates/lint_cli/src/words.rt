@@ -74,7 +74,7 @@ pub struct Asked<'a> {
 }
 
 /// What the words behind the program's name ask for.
-pub fn asked(words: &[String]) -> Asked<'_>
+pub fn asked_by(words: &[String]) -> Asked<'_>
     ensures options { result.options ≡ options_of (texts words.now) }
     ensures names { texts result.names.now ≡ named (texts words.now) }
 {
@@ -119,7 +119,7 @@ fn most_names(bare: bool) -> usize
 pub fn are_words(words: &[String]) -> bool
     ensures { result ≡ are_words (texts words.now) }
 {
-    let asked = asked(words);
+    let asked = asked_by(words);
     if asked.names.is_empty() || asked.names.len() > most_names(asked.options.bare) {
         return false;
     }
