@@ -70,6 +70,7 @@ impl Drop for Facts {
         let Facts {
             infs: _,
             inf_names: _,
+            places: _,
             budget: _,
             drivers: _,
             relations: _,
