@@ -14,6 +14,7 @@ use Rattle.std.proofs.lemmas.Bool.{cases_Bool, cond-true, cond-false}
 use Rattle.std.proofs.lemmas.Map.Text.{is_eq-slice_cmp}
 use Rattle.device_ids.specs.Folding.{folded}
 use Rattle.lint_cli.specs.Names.{by_key, IsIndexOf}
+use Rattle.lint_cli.specs.Warnings.{knows}
 
 apart : (bs cs ks : List ℕ) → bytes_eq bs cs ≡ false → bytes_eq bs ks ≡ true → bytes_eq cs ks ≡ false
 apart bs cs ks n y = nat_list_eq_equiv.symm cs ks ∙ sym (nat_list_eq_equiv.congr bs ks cs y) ∙ n
@@ -67,3 +68,8 @@ index_put m n names name key v is text h q =
     ∙ ap (λ b. cond (bytes_eq key q) true b) (is q)
     ∙ ap (λ b. cond b true (list_any (λ known. bytes_eq q (folded known)) names)) (nat_list_eq_equiv.symm key q ∙ ap (λ t. bytes_eq q t) text)
     ∙ sym (any_behind (λ known. bytes_eq q (folded known)) names name)
+
+-- a name is found by its folded text
+pub index_has : {X : Type 0} (m : BTreeMap (Vec ℕ Global) X) (names : List (List ℕ)) (name key : List ℕ) (found : Bool) → IsIndexOf m names → key ≡ folded name
+    → found ≡ is_some (by_key m key) → found ≡ knows names name
+index_has m names name key found is text there = there ∙ is key ∙ ap (λ t. list_any (λ known. bytes_eq t (folded known)) names) text
