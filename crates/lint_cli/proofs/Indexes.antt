@@ -80,3 +80,7 @@ pub index_more : {X N : Type 0} (see : N → List ℕ) (m n : BTreeMap (Vec ℕ 
     → UpdatesBy (λ x y. slice_cmp nat_cmp x.items y.items) (λ k. slice_cmp nat_cmp key k.items) m n (Some v) → new ≡ old ++ name ∷ [] → IsIndexOf n (map see new)
 index_more see m n old new name key v is text h more =
     subst (λ l. IsIndexOf n (map see l)) (sym more) (subst (IsIndexOf n) (sym (map-append see old (name ∷ []))) (index_put m n (map see old) (see name) key v is text h))
+
+-- what is there behind a call that succeeds
+pub taken : {X : Type 0} (b : Bool) (x y z : X) → b ≡ true → z ≡ cond b x y → z ≡ x
+taken b x y z h e = e ∙ ap (λ b. cond b x y) h

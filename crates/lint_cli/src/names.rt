@@ -47,7 +47,6 @@ impl<'a> Names<'a> {
     }
 
     /// Appends a name. Cost: its length for each of a logarithm of names.
-    #[tactic(auto, using(crate::proofs::Indexes::index_more))]
     pub fn push(&mut self, alloc: Global, name: &'a [u8]) -> Result<(), AllocError>
         ensures { OnOk result (self.new ≡ self.old ++ name.now ∷ []) }
     {
