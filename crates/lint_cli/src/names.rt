@@ -47,7 +47,6 @@ impl<'a> Names<'a> {
     }
 
     /// Appends a name. Cost: its length for each of a logarithm of names.
-    #[tactic(auto, using(crate::proofs::Indexes::index_put))]
     pub fn push(&mut self, alloc: Global, name: &'a [u8]) -> Result<(), AllocError>
         ensures { OnOk result (self.new ≡ self.old ++ name.now ∷ []) }
     {
@@ -59,7 +58,6 @@ impl<'a> Names<'a> {
     }
 
     /// Whether a name is one of these, in any letters. Cost: its length for each of a logarithm of names.
-    #[tactic(auto, using(crate::proofs::Indexes::index_has))]
     pub fn has(&self, alloc: Global, name: &[u8]) -> Result<bool, AllocError>
         ensures { IfOk result (λ found. found ≡ knows self.now name.now) }
     {
