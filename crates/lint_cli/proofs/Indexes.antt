@@ -1,5 +1,5 @@
 -- Names behind a map: a name more, and a name that is looked for.
-use Rattle.std.proofs.Common.{◌≡◌, refl, sym, ap, subst, ◌∙◌, Bool, true, false, cond, ◌||◌, List, [], ◌∷◌, ◌++◌, ℕ, Some, ⊎_elim}
+use Rattle.std.proofs.Common.{◌≡◌, refl, sym, ap, subst, ◌∙◌, Bool, true, false, cond, ◌||◌, List, [], ◌∷◌, ◌++◌, ℕ, map, Some, ⊎_elim}
 use Rattle.std.specs.Option.{is_some}
 use Rattle.std.specs.List.{list_any}
 use Rattle.std.specs.Ordering.{is_eq, nat_cmp}
@@ -11,9 +11,11 @@ use Rattle.std.specs.declared.alloc.Global.{Global}
 use Rattle.std.specs.BTreeMap.{BTreeMap, UpdatesBy}
 use Rattle.std.specs.Map.{lookup, IsKeyTest, AreApart, KeepsOthers}
 use Rattle.std.proofs.lemmas.Bool.{cases_Bool, cond-true, cond-false}
+use Rattle.std.proofs.lemmas.List.{map-append}
 use Rattle.std.proofs.lemmas.Map.Text.{is_eq-slice_cmp}
 use Rattle.device_ids.specs.Folding.{folded}
 use Rattle.lint_cli.specs.Names.{by_key, IsIndexOf}
+use Rattle.lint_cli.specs.Warnings.{knows}
 
 apart : (bs cs ks : List ℕ) → bytes_eq bs cs ≡ false → bytes_eq bs ks ≡ true → bytes_eq cs ks ≡ false
 apart bs cs ks n y = nat_list_eq_equiv.symm cs ks ∙ sym (nat_list_eq_equiv.congr bs ks cs y) ∙ n
@@ -67,3 +69,18 @@ index_put m n names name key v is text h q =
     ∙ ap (λ b. cond (bytes_eq key q) true b) (is q)
     ∙ ap (λ b. cond b true (list_any (λ known. bytes_eq q (folded known)) names)) (nat_list_eq_equiv.symm key q ∙ ap (λ t. bytes_eq q t) text)
     ∙ sym (any_behind (λ known. bytes_eq q (folded known)) names name)
+
+-- a name is found by its folded text
+pub index_has : {X : Type 0} (m : BTreeMap (Vec ℕ Global) X) (names : List (List ℕ)) (name key : List ℕ) (found : Bool) → IsIndexOf m names → key ≡ folded name
+    → found ≡ is_some (by_key m key) → found ≡ knows names name
+index_has m names name key found is text there = there ∙ is key ∙ ap (λ t. list_any (λ known. bytes_eq t (folded known)) names) text
+
+-- the same of names that are seen through others
+pub index_more : {X N : Type 0} (see : N → List ℕ) (m n : BTreeMap (Vec ℕ Global) X) (old new : List N) (name : N) (key : List ℕ) (v : X) → IsIndexOf m (map see old) → key ≡ folded (see name)
+    → UpdatesBy (λ x y. slice_cmp nat_cmp x.items y.items) (λ k. slice_cmp nat_cmp key k.items) m n (Some v) → new ≡ old ++ name ∷ [] → IsIndexOf n (map see new)
+index_more see m n old new name key v is text h more =
+    subst (λ l. IsIndexOf n (map see l)) (sym more) (subst (IsIndexOf n) (sym (map-append see old (name ∷ []))) (index_put m n (map see old) (see name) key v is text h))
+
+-- what is there behind a call that succeeds
+pub taken : {X : Type 0} (b : Bool) (x y z : X) → b ≡ true → z ≡ cond b x y → z ≡ x
+taken b x y z h e = e ∙ ap (λ b. cond b x y) h

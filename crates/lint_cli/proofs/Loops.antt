@@ -1,6 +1,6 @@
 -- Loops over lists, place by place.
-use Rattle.std.proofs.Common.{◌≡◌, ℕ, suc, ◌+◌, ◌<◌, Bool, true, false, List, [], ◌∷◌, ◌++◌, length, drop, map, Option, Some, refl, sym, ◌∙◌, ap, append_assoc, get_or, add-one, drop-cons, if◌then◌else◌}
-use Rattle.std.specs.List.{flat_map, find}
+use Rattle.std.proofs.Common.{◌≡◌, ℕ, suc, ◌+◌, ◌<◌, Bool, true, false, List, [], ◌∷◌, ◌++◌, length, drop, map, Option, Some, refl, sym, ◌∙◌, ap, append_assoc, get_or, add-one, drop-cons, if◌then◌else◌, cond, ◌||◌}
+use Rattle.std.specs.List.{flat_map, find, filter, list_any}
 use Rattle.lint_cli.specs.Warnings.{Naming, is_told, text_by, passed_by, missing, missing_texts}
 use Rattle.pnp_labels.specs.Texts.{Text}
 
@@ -30,6 +30,35 @@ pub found_later : {X : Type 0} (p : X → Bool) (all : Option X) (xs : List X) (
     → p x ≡ false → find p (drop (at + 1) xs) ≡ all
 found_later p all xs at x e within item passes =
     sym (ap (λ b. if b then Some x else find p (drop (at + 1) xs)) passes) ∙ ap (λ l. find p l) (sym (drop_at xs at x within item)) ∙ e
+
+-- whether one passes
+pub any_here : {X : Type 0} (p : X → Bool) (all : Bool) (xs : List X) (at : ℕ) (x : X) → list_any p (drop at xs) ≡ all → at < length xs → ((d : X) → get_or xs at d ≡ x)
+    → p x ≡ true → true ≡ all
+any_here p all xs at x e within item passes =
+    sym (ap (λ b. b || list_any p (drop (at + 1) xs)) passes) ∙ ap (λ l. list_any p l) (sym (drop_at xs at x within item)) ∙ e
+
+pub any_later : {X : Type 0} (p : X → Bool) (all : Bool) (xs : List X) (at : ℕ) (x : X) → list_any p (drop at xs) ≡ all → at < length xs → ((d : X) → get_or xs at d ≡ x)
+    → p x ≡ false → list_any p (drop (at + 1) xs) ≡ all
+any_later p all xs at x e within item passes =
+    sym (ap (λ b. b || list_any p (drop (at + 1) xs)) passes) ∙ ap (λ l. list_any p l) (sym (drop_at xs at x within item)) ∙ e
+
+-- those that pass
+filter_one : {X : Type 0} (x : X) (xs : List X) (b : Bool) → cond b (x ∷ xs) xs ≡ cond b (x ∷ []) [] ++ xs
+filter_one x xs true = refl
+filter_one x xs false = refl
+
+pub filter_more : {X : Type 0} (p : X → Bool) (out all new : List X) (xs : List X) (at : ℕ) (x : X) → out ++ filter p (drop at xs) ≡ all → at < length xs
+    → ((d : X) → get_or xs at d ≡ x) → new ≡ out ++ filter p (x ∷ []) → new ++ filter p (drop (at + 1) xs) ≡ all
+filter_more p out all new xs at x e within item put =
+    ap (λ l. l ++ filter p (drop (at + 1) xs)) put
+    ∙ append_assoc out (filter p (x ∷ [])) (filter p (drop (at + 1) xs))
+    ∙ ap (λ l. out ++ l) (sym (filter_one x (filter p (drop (at + 1) xs)) (p x)))
+    ∙ ap (λ l. out ++ filter p l) (sym (drop_at xs at x within item))
+    ∙ e
+
+-- three texts more
+pub three_more : (a h q t x y z : Text) → x ≡ a ++ h → y ≡ x ++ q → z ≡ y ++ t → z ≡ a ++ (h ++ (q ++ t))
+three_more a h q t x y z one two three = three ∙ ap (λ l. l ++ t) (two ∙ ap (λ l. l ++ q) one) ∙ append_assoc (a ++ h) q t ∙ append_assoc a h (q ++ t)
 
 -- the warning of one driver, and then those of the others
 one_then : (file : Text) (drivers passed : List Text) (named : Naming) (more : List Naming) (told : Bool)

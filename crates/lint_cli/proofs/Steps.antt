@@ -142,11 +142,19 @@ large_next None all rest name one so = tt
 large_next (Some told) all rest name one so = sym so ∙ ap (λ b. b || some_large told rest) one
 
 -- the sizes of the files, by the answer
+not_too_large : (status : Status) → is_reported status ≡ true → is_too_large status ≡ false
+not_too_large Status.Clean reported = refl
+not_too_large Status.Found reported = refl
+not_too_large Status.BadWords reported = refl
+not_too_large Status.ReadFault reported = refl
+not_too_large Status.WriteFault reported = refl
+not_too_large Status.WantOfMemory reported = refl
+not_too_large Status.TooLarge reported = cc
+
 pub sizes_fit : (contents : Option (List ℕ → Option (List ℕ))) (names : List (List ℕ)) (status : Status) → is_reported status ≡ true
     → IfSome contents (λ told. some_large told names ≡ false) → IfSome contents (λ told. Sizes told names status)
-sizes_fit None names status reported fits = tt
-sizes_fit (Some told) names Status.Clean reported fits = fits
-sizes_fit (Some told) names Status.Found reported fits = fits
+sizes_fit None names status reported small = tt
+sizes_fit (Some told) names status reported small = small ∙ sym (not_too_large status reported)
 
 pub sizes_exceed : (contents : Option (List ℕ → Option (List ℕ))) (names : List (List ℕ)) (status : Status) → status ≡ Status.TooLarge
     → IfSome contents (λ told. some_large told names ≡ true) → IfSome contents (λ told. Sizes told names status)
