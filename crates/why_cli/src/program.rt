@@ -17,7 +17,7 @@ use inf_reader::Inf;
 use inf_sections::{InfPlaces, places_of};
 use pnp_cli::{InfsError, LIMIT, Settings, Status, WordsError, read_infs, settings};
 use pnp_io::{Files, ReadError, Sink, read_all, write_all};
-use std::alloc::Global;
+use std::alloc::{AllocError, Global};
 
 /// Where the lines of an INF stand, which is read once more; a file that cannot be read twice tells nothing of them.
 fn places_in<F: Files>(
@@ -27,7 +27,8 @@ fn places_in<F: Files>(
 ) -> Result<InfPlaces, WantOfMemory> {
     match read_all(alloc, files, name, LIMIT) {
         Ok(bytes) => places_of(alloc, &bytes),
-        Err(_) => Ok(InfPlaces::none(alloc)),
+        Err(ReadError::WantOfMemory) => Err(AllocError),
+        Err(ReadError::ReadFault | ReadError::TooLarge) => Ok(InfPlaces::none(alloc)),
     }
 }
 
