@@ -1,0 +1,137 @@
+//! A family as it is read.
+use crate::error::FamilyError;
+use crate::parts::Parts;
+use crate::sort::{BlockKind, LineSort};
+use device_ids::WantOfMemory;
+use std::alloc::Global;
+
+/// The most lines that are woven.
+const MOST_WOVEN: usize = 1024;
+
+/// A block that is open.
+#[derive(Clone, Copy)]
+pub(crate) struct Block {
+    kind: BlockKind,
+    line: u64,
+    before: usize,
+    over: Option<usize>,
+}
+
+/// What was read so far: the part that is being read, and the blocks around it.
+#[derive(Drop)]
+pub(crate) struct Draft {
+    pub(crate) parts: Parts,
+    pub(crate) now: usize,
+    blocks: Vec<Block>,
+}
+
+/// Whether two kinds are the same.
+fn same_kind(one: BlockKind, other: BlockKind) -> bool {
+    match (one, other) {
+        (BlockKind::Either, BlockKind::Either) => true,
+        (BlockKind::Together, BlockKind::Together) => true,
+        _ => false,
+    }
+}
+
+impl Draft {
+    /// Nothing was read.
+    pub(crate) fn new(alloc: Global) -> Result<Draft, WantOfMemory> {
+        let mut parts = Parts::new(alloc);
+        parts.push_silent()?;
+        Ok(Draft {
+            parts,
+            now: 0,
+            blocks: Vec::new(alloc),
+        })
+    }
+
+    /// Appends a line to the part that is being read.
+    fn say(&mut self, at: usize) -> Result<(), FamilyError> {
+        let line = self.parts.len();
+        self.parts.push_line(at)?;
+        self.parts.push_followed(self.now, line)?;
+        self.now = line + 1;
+        Ok(())
+    }
+
+    /// Opens a block.
+    fn open(&mut self, kind: BlockKind, line: u64) -> Result<(), FamilyError> {
+        self.blocks.push(Block {
+            kind,
+            line,
+            before: self.now,
+            over: None,
+        })?;
+        self.now = self.parts.len();
+        self.parts.push_silent()?;
+        Ok(())
+    }
+
+    /// The parts of a block put together.
+    fn join(&mut self, block: Block) -> Result<usize, FamilyError> {
+        let Some(over) = block.over else {
+            return Ok(self.now);
+        };
+        let joined = self.parts.len();
+        match block.kind {
+            BlockKind::Either => self.parts.push_chosen(over, self.now)?,
+            BlockKind::Together => {
+                if self.parts.most(over) + self.parts.most(self.now) > MOST_WOVEN {
+                    return Err(FamilyError::TooLarge);
+                }
+                self.parts.push_woven(over, self.now)?
+            }
+        }
+        Ok(joined)
+    }
+
+    /// Begins the next part of the innermost block.
+    fn next_part(&mut self, kind: BlockKind, line: u64) -> Result<(), FamilyError> {
+        let Some(block) = self.blocks.pop() else {
+            return Err(FamilyError::BadLine { line });
+        };
+        if !same_kind(kind, block.kind) {
+            return Err(FamilyError::BadLine { line });
+        }
+        let over = self.join(block)?;
+        self.blocks.push(Block {
+            kind: block.kind,
+            line: block.line,
+            before: block.before,
+            over: Some(over),
+        })?;
+        self.now = self.parts.len();
+        self.parts.push_silent()?;
+        Ok(())
+    }
+
+    /// Ends the innermost block.
+    fn close(&mut self, line: u64) -> Result<(), FamilyError> {
+        let Some(block) = self.blocks.pop() else {
+            return Err(FamilyError::BadLine { line });
+        };
+        let joined = self.join(block)?;
+        self.now = self.parts.len();
+        self.parts.push_followed(block.before, joined)?;
+        Ok(())
+    }
+
+    /// Takes the line of this number, that begins at this place.
+    pub(crate) fn take(&mut self, sort: LineSort, line: u64, at: usize) -> Result<(), FamilyError> {
+        match sort {
+            LineSort::Nothing => Ok(()),
+            LineSort::Said => self.say(at),
+            LineSort::Opens(kind) => self.open(kind, line),
+            LineSort::Parts(kind) => self.next_part(kind, line),
+            LineSort::Closes => self.close(line),
+            LineSort::Bad => Err(FamilyError::BadLine { line }),
+        }
+    }
+
+    /// The line that opened the innermost block, if one is open.
+    pub(crate) fn open_line(&self) -> Option<u64> {
+        let block = self.blocks.last()?;
+        Some(block.line)
+    }
+}
