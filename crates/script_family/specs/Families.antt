@@ -66,10 +66,11 @@ scripts f = over (scripts_of f) (suc (most f))
 
 -- The same in the subject's own words, without an order and without numbers -------------------
 
+-- z has the lines of x and those of y, each in its own order
 pub data Weaves : Script → Script → Script → Type 0 where
-  none : Weaves [] [] []
-  first : (x : ℕ) (xs ys zs : Script) → Weaves xs ys zs → Weaves (x ∷ xs) ys (x ∷ zs)
-  second : (y : ℕ) (xs ys zs : Script) → Weaves xs ys zs → Weaves xs (y ∷ ys) (y ∷ zs)
+  over_both : Weaves [] [] []
+  takes_first : (x : ℕ) (xs ys zs : Script) → Weaves xs ys zs → Weaves (x ∷ xs) ys (x ∷ zs)
+  takes_second : (y : ℕ) (xs ys zs : Script) → Weaves xs ys zs → Weaves xs (y ∷ ys) (y ∷ zs)
 
 pub data IsScript : Family → Script → Type 0 where
   silent : IsScript Silent []

@@ -1,5 +1,8 @@
 pub mod Families
 pub mod Counts
+pub mod Tables
+pub mod Parts
+pub mod Pairs
 pub mod Texts
 pub mod Lines
 pub mod Reading

@@ -1,5 +1,10 @@
 //! Two parts of which each script takes one of both: how many there are, and where a number stands among them.
-use crate::part::Part;
+ghost use Rattle.std.specs.Prelude.{◌≡◌, ◌+◌, ◌-◌, ◌*◌, ◌<◌, ◌≤◌, ◌^◌, suc, true, length, get_or, IfOk, ℕ};
+ghost use Rattle.script_family.specs.Counts.{sums, capped};
+ghost use Rattle.script_family.specs.Parts.{row_at};
+ghost use Rattle.script_family.specs.Pairs.{times, count_of, term, ArePair, HasTable, IsPlace};
+
+use crate::part::{Part, count_at};
 use crate::ways::Ways;
 use device_ids::WantOfMemory;
 use std::alloc::Global;
@@ -22,76 +27,120 @@ pub(crate) struct Place {
     pub(crate) way: u64,
 }
 
-impl Pair<'_> {
-    /// In how many ways a script of the first, of k lines, goes together with one of the second, of n lines in all.
-    fn factor(&self, n: usize, k: usize) -> u64 {
-        if self.woven { self.ways.of(n, k) } else { 1 }
-    }
+/// In how many ways a script of k lines goes together with another, to n lines in all.
+fn factor(pair: Pair, n: usize, k: usize) -> u64
+    requires { HasTable pair n }
+    ensures { result ≡ capped (times pair.entry.woven n k) }
+{
+    if pair.woven { pair.ways.of(n, k) } else { 1 }
+}
 
-    /// How many scripts of n lines have k of the first.
-    fn block(&self, n: usize, k: usize) -> u64 {
-        self.first
-            .count(k)
-            .saturating_mul(self.second.count(n - k))
-            .saturating_mul(self.factor(n, k))
-    }
+/// How many scripts of n lines have k of the first. Condition: k is at most n.
+fn block(pair: Pair, n: usize, k: usize) -> u64
+    requires table { HasTable pair n }
+    requires inside { k ≤ n }
+    ensures { result ≡ capped (term pair.entry n k) }
+{
+    count_at(pair.first.least, &pair.first.row, k)
+        .saturating_mul(count_at(pair.second.least, &pair.second.row, n - k))
+        .saturating_mul(factor(pair, n, k))
+}
 
-    /// The least number of lines of the first where all have n.
-    fn start(&self, n: usize) -> usize {
-        let start = (n + 1).saturating_sub(self.second.end());
-        start.max(self.first.least).min(n + 1)
-    }
+/// From which number of lines of the first on there may be scripts of n lines, and one more than up to which.
+fn window(pair: Pair, n: usize) -> (usize, usize)
+    requires pair { ArePair pair }
+    requires few { n < 2 ^ 32 }
+    ensures order { result.0 ≤ result.1 }
+    ensures inside { result.1 ≤ n + 1 }
+    ensures before { (k : ℕ) → k < result.0 → term pair.entry n k ≡ 0 }
+    ensures behind { (k : ℕ) → result.1 ≤ k → k < n + 1 → term pair.entry n k ≡ 0 }
+{
+    let second_end = pair.second.least + pair.second.row.len();
+    let first_end = pair.first.least + pair.first.row.len();
+    let start = (n + 1)
+        .saturating_sub(second_end)
+        .max(pair.first.least)
+        .min(n + 1);
+    let end = (n + 1)
+        .saturating_sub(pair.second.least)
+        .min(first_end)
+        .max(start);
+    (start, end)
+}
 
-    /// One more than the most lines of the first where all have n.
-    fn end(&self, n: usize) -> usize {
-        let end = (n + 1).saturating_sub(self.second.least);
-        end.min(self.first.end()).max(self.start(n))
+/// How many scripts have n lines.
+fn count_pair(pair: Pair, n: usize) -> u64
+    requires pair { ArePair pair }
+    requires table { HasTable pair n }
+    requires few { n < 2 ^ 32 }
+    ensures { result ≡ capped (sums (term pair.entry n) (n + 1)) }
+{
+    let (start, end) = window(pair, n);
+    let mut sum: u64 = 0;
+    for k in start..end {
+        sum = sum.saturating_add(block(pair, n, k));
     }
+    sum
+}
 
-    /// How many scripts have n lines.
-    fn count(&self, n: usize) -> u64 {
-        let mut sum: u64 = 0;
-        for k in self.start(n)..self.end(n) {
-            sum = sum.saturating_add(self.block(n, k));
+/// How many scripts there are of each number of lines, from the least to the most.
+pub(crate) fn pair_row(alloc: Global, pair: Pair) -> Result<Vec<u64>, WantOfMemory>
+    requires pair { ArePair pair }
+    requires table { pair.woven ≡ true → pair.first.now.least + pair.second.now.least + length pair.first.now.row.items + length pair.second.now.row.items ≤ pair.ways.now + 1 }
+    ensures width { IfOk result (λ row. length row.items + 1 ≡ length pair.entry.first.now.row.items + length pair.entry.second.now.row.items) }
+    ensures counts { IfOk result (λ row. (at : ℕ) → at < length row.items
+        → get_or row.items at 0 ≡ capped (sums (term pair.entry (pair.entry.first.now.least + pair.entry.second.now.least + at)) (pair.entry.first.now.least + pair.entry.second.now.least + at + 1))) }
+{
+    let least = pair.first.least + pair.second.least;
+    let width = pair.first.row.len() + pair.second.row.len() - 1;
+    let mut row = Vec::new(alloc);
+    for at in 0..width {
+        row.push(count_pair(pair, least + at))?;
+    }
+    Ok(row)
+}
+
+/// How many lines the first has in the script of this number among those of n lines, and how many such scripts are before it.
+fn find_lines(pair: Pair, n: usize, number: u64) -> (usize, u64)
+    requires pair { ArePair pair }
+    requires table { HasTable pair n }
+    requires few { n < 2 ^ 32 }
+    requires there { number < sums (term pair n) (n + 1) }
+    requires exact { number < 2 ^ 64 - 1 }
+    ensures inside { result.0 ≤ n }
+    ensures number { sums (term pair.entry n) result.0 + result.1 ≡ number }
+    ensures block { result.1 < term pair.entry n result.0 }
+{
+    let (start, end) = window(pair, n);
+    let mut rest = number;
+    for k in start..end {
+        let many = block(pair, n, k);
+        if rest < many {
+            return (k, rest);
         }
-        sum
+        rest -= many;
     }
+    unreachable!()
+}
 
-    /// How many scripts there are of each number of lines, from the least to the most.
-    pub(crate) fn row(&self, alloc: Global) -> Result<Vec<u64>, WantOfMemory> {
-        let least = self.first.least + self.second.least;
-        let width = self.first.row.len() + self.second.row.len() - 1;
-        let mut row = Vec::with_capacity(alloc, width)?;
-        for at in 0..width {
-            row.push(self.count(least + at))?;
-        }
-        Ok(row)
-    }
-
-    /// How many lines the first has in the script of this number among those of n lines, and how many such scripts are before it.
-    fn find(&self, n: usize, number: u64) -> (usize, u64) {
-        let mut rest = number;
-        for k in self.start(n)..self.end(n) {
-            let block = self.block(n, k);
-            if rest < block {
-                return (k, rest);
-            }
-            rest -= block;
-        }
-        (n, 0)
-    }
-
-    /// The script of this number among those of n lines.
-    pub(crate) fn place(&self, n: usize, number: u64) -> Place {
-        let (lines, rest) = self.find(n, number);
-        let ways = self.factor(n, lines);
-        let each = self.second.count(n - lines).saturating_mul(ways);
-        let among = rest % each;
-        Place {
-            lines,
-            first: rest / each,
-            second: among / ways,
-            way: among % ways,
-        }
+/// The script of this number among those of n lines.
+pub(crate) fn place_of(pair: Pair, n: usize, number: u64) -> Place
+    requires pair { ArePair pair }
+    requires table { HasTable pair n }
+    requires few { n < 2 ^ 32 }
+    requires there { number < sums (term pair n) (n + 1) }
+    requires exact { number < 2 ^ 64 - 1 }
+    ensures { IsPlace pair.entry n number result }
+{
+    let (lines, rest) = find_lines(pair, n, number);
+    let ways = factor(pair, n, lines);
+    let each =
+        count_at(pair.second.least, &pair.second.row, n - lines).saturating_mul(ways);
+    let among = rest % each;
+    Place {
+        lines,
+        first: rest / each,
+        second: among / ways,
+        way: among % ways,
     }
 }

@@ -1,4 +1,4 @@
-ghost use Rattle.std.specs.Prelude.{◌≡◌, ◌+◌, length};
+ghost use Rattle.std.specs.Prelude.{◌≡◌, ◌+◌, ◌<◌, ◌≤◌, ◌^◌, length};
 ghost use Rattle.script_family.specs.Parts.{row_at};
 
 /// What a part of a family is. It names its own parts by their places in the list of all, which are before its own.
@@ -24,20 +24,15 @@ pub(crate) struct Part {
     pub(crate) row: Vec<u64>,
 }
 
-impl Part {
-    /// How many scripts it has of so many lines, up to 2^64 - 1.
-    pub(crate) fn count(&self, lines: usize) -> u64 {
-        if lines < self.least {
-            return 0;
-        }
-        match self.row.get(lines - self.least) {
-            Some(count) => *count,
-            None => 0,
-        }
+/// What a row says of so many lines; it begins at the least.
+pub(crate) fn count_at(least: usize, row: &[u64], lines: usize) -> u64
+    ensures { result ≡ row_at least row.now lines }
+{
+    if lines < least {
+        return 0;
     }
-
-    /// One more than the most lines of a script.
-    pub(crate) fn end(&self) -> usize {
-        self.least + self.row.len()
+    match row.get(lines - least) {
+        Some(count) => *count,
+        None => 0,
     }
 }
