@@ -5,3 +5,12 @@ pub mod Capping
 pub mod Windows
 pub mod Pascal
 pub mod Placing
+pub mod Rows
+pub mod Growing
+pub mod Stepping
+pub mod Weaving
+pub mod Leading
+pub mod Totals
+pub mod Bytes
+pub mod Sorting
+pub mod Sharing

@@ -14,6 +14,11 @@ ways zero (suc k) = 0
 ways (suc n) zero = ways n zero
 ways (suc n) (suc k) = ways n k + ways n (suc k)
 
+-- how many of the ways to choose k of n + 1 places choose the first of them
+abbrev pub firsts_of : ℕ → ℕ → ℕ
+firsts_of n zero = 0
+firsts_of n (suc k) = ways n k
+
 abbrev pub one_at : ℕ → ℕ
 one_at zero = 0
 one_at (suc zero) = 1

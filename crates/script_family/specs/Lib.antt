@@ -3,8 +3,15 @@ pub mod Counts
 pub mod Tables
 pub mod Parts
 pub mod Pairs
+pub mod Numbered
+pub mod Steps
+pub mod Codes
+pub mod Tasks
 pub mod Texts
+pub mod Weights
 pub mod Lines
 pub mod Reading
+pub mod Drafts
 pub mod Reads
+pub mod ToldCodes
 pub mod Laws

@@ -1,4 +1,9 @@
 //! A family as it is read.
+ghost use Rattle.std.specs.Prelude.{◌≡◌, ◌+◌, ◌<◌, ◌≤◌, ◌∷◌, IfOk, MatchResult, length, get_or};
+ghost use Rattle.script_family.specs.Families.{Silent, Followed};
+ghost use Rattle.script_family.specs.Reading.{same_kind, is_small, joined, turn, next_part, closed, beginning};
+ghost use Rattle.script_family.specs.Drafts.{standing_of, standing_most, IsDraft, Stopped, Went};
+
 use crate::error::FamilyError;
 use crate::parts::Parts;
 use crate::sort::{BlockKind, LineSort};
@@ -10,7 +15,7 @@ const MOST_WOVEN: usize = 1024;
 
 /// A block that is open.
 #[derive(Clone, Copy)]
-pub(crate) struct Block {
+pub(crate) struct OpenBlock {
     kind: BlockKind,
     line: u64,
     before: usize,
@@ -22,11 +27,13 @@ pub(crate) struct Block {
 pub(crate) struct Draft {
     pub(crate) parts: Parts,
     pub(crate) now: usize,
-    blocks: Vec<Block>,
+    blocks: Vec<OpenBlock>,
 }
 
 /// Whether two kinds are the same.
-fn same_kind(one: BlockKind, other: BlockKind) -> bool {
+fn same_kind(one: BlockKind, other: BlockKind) -> bool
+    ensures { result ≡ same_kind one other }
+{
     match (one, other) {
         (BlockKind::Either, BlockKind::Either) => true,
         (BlockKind::Together, BlockKind::Together) => true,
@@ -36,7 +43,10 @@ fn same_kind(one: BlockKind, other: BlockKind) -> bool {
 
 impl Draft {
     /// Nothing was read.
-    pub(crate) fn new(alloc: Global) -> Result<Draft, WantOfMemory> {
+    pub(crate) fn new(alloc: Global) -> Result<Draft, WantOfMemory>
+        ensures good { IfOk result (λ d. IsDraft d) }
+        ensures begins { IfOk result (λ d. standing_of d ≡ beginning) }
+    {
         let mut parts = Parts::new(alloc);
         parts.push_silent()?;
         Ok(Draft {
@@ -47,17 +57,26 @@ impl Draft {
     }
 
     /// Appends a line to the part that is being read.
-    fn say(&mut self, at: usize) -> Result<(), FamilyError> {
-        let line = self.parts.len();
+    fn say(&mut self, line: u64, at: usize) -> Result<(), FamilyError>
+        requires good { IsDraft self.old }
+        requires few { standing_most (standing_of self.old) < 16777216 }
+        ensures { MatchResult result (λ _. Went (turn LineSort.Said line at (standing_of self.old)) self.old self.new)
+            (λ e. Stopped e (turn LineSort.Said line at (standing_of self.old))) }
+    {
+        let said = self.parts.len();
         self.parts.push_line(at)?;
-        self.parts.push_followed(self.now, line)?;
-        self.now = line + 1;
+        self.parts.push_followed(self.now, said)?;
+        self.now = said + 1;
         Ok(())
     }
 
     /// Opens a block.
-    fn open(&mut self, kind: BlockKind, line: u64) -> Result<(), FamilyError> {
-        self.blocks.push(Block {
+    fn open(&mut self, kind: BlockKind, line: u64, at: usize) -> Result<(), FamilyError>
+        requires { IsDraft self.old }
+        ensures { MatchResult result (λ _. Went (turn (LineSort.Opens kind) line at (standing_of self.old)) self.old self.new)
+            (λ e. Stopped e (turn (LineSort.Opens kind) line at (standing_of self.old))) }
+    {
+        self.blocks.push(OpenBlock {
             kind,
             line,
             before: self.now,
@@ -69,7 +88,7 @@ impl Draft {
     }
 
     /// The parts of a block put together.
-    fn join(&mut self, block: Block) -> Result<usize, FamilyError> {
+    fn join(&mut self, block: OpenBlock) -> Result<usize, FamilyError> {
         let Some(over) = block.over else {
             return Ok(self.now);
         };
@@ -95,7 +114,7 @@ impl Draft {
             return Err(FamilyError::BadLine { line });
         }
         let over = self.join(block)?;
-        self.blocks.push(Block {
+        self.blocks.push(OpenBlock {
             kind: block.kind,
             line: block.line,
             before: block.before,
@@ -118,11 +137,16 @@ impl Draft {
     }
 
     /// Takes the line of this number, that begins at this place.
-    pub(crate) fn take(&mut self, sort: LineSort, line: u64, at: usize) -> Result<(), FamilyError> {
+    pub(crate) fn take(&mut self, sort: LineSort, line: u64, at: usize) -> Result<(), FamilyError>
+        requires good { IsDraft self.old }
+        requires few { standing_most (standing_of self.old) < 16777216 }
+        ensures { MatchResult result (λ _. Went (turn sort line at (standing_of self.old)) self.old self.new)
+            (λ e. Stopped e (turn sort line at (standing_of self.old))) }
+    {
         match sort {
             LineSort::Nothing => Ok(()),
-            LineSort::Said => self.say(at),
-            LineSort::Opens(kind) => self.open(kind, line),
+            LineSort::Said => self.say(line, at),
+            LineSort::Opens(kind) => self.open(kind, line, at),
             LineSort::Parts(kind) => self.next_part(kind, line),
             LineSort::Closes => self.close(line),
             LineSort::Bad => Err(FamilyError::BadLine { line }),

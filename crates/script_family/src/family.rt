@@ -1,8 +1,9 @@
 //! A family of scripts.
-ghost use Rattle.std.specs.Prelude.{◌≡◌, ◌<◌, ◌≤◌, IfOk, MatchResult, length, get_or, []};
-ghost use Rattle.script_family.specs.Families.{scripts};
-ghost use Rattle.script_family.specs.Counts.{capped};
-ghost use Rattle.script_family.specs.Texts.{text_of};
+ghost use Rattle.std.specs.Prelude.{◌≡◌, ◌+◌, ◌<◌, ◌≤◌, ◌++◌, IfOk, MatchResult, length, get_or, []};
+ghost use Rattle.script_family.specs.Families.{scripts, most};
+ghost use Rattle.script_family.specs.Counts.{count, sums, total, capped};
+ghost use Rattle.script_family.specs.Steps.{shape};
+ghost use Rattle.script_family.specs.Texts.{ended, line_at, text_of};
 ghost use Rattle.script_family.specs.Reads.{IsRead, Refuses};
 
 use crate::draft::Draft;
@@ -28,22 +29,106 @@ pub struct ScriptFamily {
     count: u64,
 }
 
-/// Reads the lines of a text.
+impl Model for ScriptFamily {
+    ghost use Rattle.std.specs.Prelude.{get_or};
+    ghost use Rattle.script_family.specs.Families.{Silent};
+    ghost use Rattle.script_family.specs.Reads.{Told, IsWhole};
+    ghost use Rattle.script_family.specs.ToldCodes.{told_code};
+
+    ghost Value = { Told };
+
+    ghost coded = { told_code };
+
+    ghost view = { λ f. record { text = f.text.items; family = get_or f.parts.families f.root Silent } };
+
+    ghost invariant = { λ f. IsWhole f.text.items f.parts.families f.root f.count };
+}
+
+/// The text with the line feed of its last line.
+fn with_feed(text: Vec<u8>) -> Result<Vec<u8>, WantOfMemory>
+    ensures { IfOk result (λ whole. whole.items ≡ ended text.items) }
+{
+    let mut text = text;
+    if let Some(last) = text.last() {
+        if *last != b'\n' {
+            text.push(b'\n')?;
+        }
+    }
+    Ok(text)
+}
+
+/// Reads the lines of a text that has its last line feed.
 fn read_lines(alloc: Global, text: &[u8]) -> Result<Draft, FamilyError> {
     let mut draft = Draft::new(alloc)?;
     let mut rest = text;
     let mut passed = 0;
     while let Some((line, after)) = split_once(rest, b'\n') {
-        let at = text.len() - rest.len();
         passed += 1;
-        let sort = sort_of(alloc, &text[at..at + line.len() + 1])?;
-        draft.take(sort, passed, at)?;
+        let sort = sort_of(alloc, line, &rest[..line.len() + 1])?;
+        draft.take(sort, passed, text.len() - rest.len())?;
         rest = after;
     }
     match draft.open_line() {
         Some(line) => Err(FamilyError::BadLine { line }),
         None => Ok(draft),
     }
+}
+
+/// How many scripts a part has in all, up to 2^64 - 1.
+fn total_of(parts: &Parts, part: usize) -> u64
+    requires { part < length parts.now.families }
+    ensures { result ≡ capped (total (shape parts.now part)) }
+{
+    let mut sum: u64 = 0;
+    for lines in 0..parts.most(part) + 1 {
+        sum = sum.saturating_add(parts.count(part, lines));
+    }
+    sum
+}
+
+/// How many lines the script of this number of a part has, and how many scripts of so many lines are before it.
+fn lines_of(parts: &Parts, part: usize, number: u64) -> (usize, u64)
+    requires there { part < length parts.now.families }
+    requires below { number < capped (total (shape parts.now part)) }
+    ensures inside { result.0 ≤ most (shape parts.now part) }
+    ensures number { sums (count (shape parts.now part)) result.0 + result.1 ≡ number }
+    ensures one { result.1 < count (shape parts.now part) result.0 }
+{
+    let mut rest = number;
+    for lines in 0..parts.most(part) + 1 {
+        let many = parts.count(part, lines);
+        if rest < many {
+            return (lines, rest);
+        }
+        rest -= many;
+    }
+    unreachable!()
+}
+
+/// The line that begins at this place, without its line feed. Cost: its length.
+fn line_at(text: &[u8], at: usize) -> &[u8]
+    ensures { result.now ≡ line_at text.now at }
+{
+    if text.len() <= at {
+        return &[];
+    }
+    let rest = &text[at..];
+    match split_once(rest, b'\n') {
+        Some((line, _)) => line,
+        None => rest,
+    }
+}
+
+/// The lines that begin at these places, with a line feed each. Cost: their length.
+fn text_of(alloc: Global, text: &[u8], places: &[usize]) -> Result<Vec<u8>, WantOfMemory>
+    ensures { IfOk result (λ lines. lines.items ≡ text_of text.now places.now) }
+{
+    let mut lines = Vec::new(alloc);
+    for at in places {
+        lines.extend_from_slice(line_at(text, *at))?;
+        lines.push(b'\n')?;
+    }
+    Ok(lines)
 }
 
 impl ScriptFamily {
@@ -53,20 +138,12 @@ impl ScriptFamily {
     pub fn read(alloc: Global, text: Vec<u8>) -> Result<ScriptFamily, FamilyError>
         ensures { MatchResult result (λ f. IsRead f text.items) (λ e. Refuses e text.items) }
     {
-        let mut text = text;
-        if let Some(last) = text.last() {
-            if *last != b'\n' {
-                text.push(b'\n')?;
-            }
-        }
+        let text = with_feed(text)?;
         if text.len() > MOST_BYTES {
             return Err(FamilyError::TooLarge);
         }
         let Draft { parts, now, .. } = read_lines(alloc, &text)?;
-        let mut count: u64 = 0;
-        for lines in 0..parts.most(now) + 1 {
-            count = count.saturating_add(parts.count(now, lines));
-        }
+        let count = total_of(&parts, now);
         Ok(ScriptFamily {
             alloc,
             text,
@@ -91,24 +168,8 @@ impl ScriptFamily {
         ensures text { IfOk result (λ text. text.items ≡ text_of self.now.text (get_or (scripts self.now.family) number [])) }
         ensures short { IfOk result (λ text. length text.items ≤ 16777216) }
     {
-        let mut rest = number;
-        let mut found = 0;
-        for lines in 0..self.parts.most(self.root) + 1 {
-            let count = self.parts.count(self.root, lines);
-            found = lines;
-            if rest < count {
-                break;
-            }
-            rest -= count;
-        }
-        let places = script_of(self.alloc, &self.parts, self.root, found, rest)?;
-        let mut text = Vec::new(self.alloc);
-        for at in &places {
-            if let Some((line, _)) = split_once(&self.text[*at..], b'\n') {
-                text.extend_from_slice(line)?;
-                text.push(b'\n')?;
-            }
-        }
-        Ok(text)
+        let (lines, rest) = lines_of(&self.parts, self.root, number);
+        let places = script_of(self.alloc, &self.parts, self.root, lines, rest)?;
+        text_of(self.alloc, &self.text, &places)
     }
 }

@@ -1,10 +1,12 @@
 //! What a line of a family is.
-ghost use Rattle.std.specs.Prelude.{◌≡◌, ◌∷◌, ◌++◌, [], IfOk, map};
+ghost use Rattle.std.specs.Prelude.{◌≡◌, ◌∷◌, [], ℕ, List, IfOk, map};
+ghost use Rattle.device_ids.specs.Cuts.{parts};
 ghost use Rattle.std.specs.Str.Lines.{strip_carriage_return};
 ghost use Rattle.script_reader.specs.Tables.{among};
 ghost use Rattle.script_reader.specs.Words.{is_blank, words_of};
 ghost use Rattle.script_reader.specs.Script.{whole_line};
-ghost use Rattle.script_family.specs.Lines.{keyword_of, by_meaning, by_words, sort_of};
+ghost use Rattle.script_family.specs.Lines.{keyword_of, by_meaning, or_else, by_words, sort_of};
+ghost use Rattle.script_family.specs.declared.sort.LineSort.{LineSort as LineSorts};
 
 use crate::sort::{BlockKind, LineSort};
 use device_ids::WantOfMemory;
@@ -72,29 +74,45 @@ fn without_return(line: &[u8]) -> &[u8]
     }
 }
 
-/// What a line is with its line feed, as a reader of scripts has it that is fed this line alone.
+/// What a line is that is no keyword, from what a reader of scripts gives that is fed it alone, with its line feed.
 fn meaning_of(alloc: Global, fed: &[u8]) -> Result<LineSort, WantOfMemory>
-    ensures { IfOk result (λ sort. (line : List ℕ) → parts 0x0A fed.now ≡ line ∷ [] ∷ [] → sort ≡ by_meaning (whole_line line)) }
+    ensures { IfOk result (λ sort. (line : List ℕ) → parts 0x0A fed.now ≡ line ∷ ([] ∷ []) → sort ≡ by_meaning (whole_line line)) }
 {
     let script = read_events(alloc, fed)?;
-    Ok(match script.ends {
+    let sort = match script.ends {
         ScriptEnd::Bad { .. } => LineSort::Bad,
-        ScriptEnd::End if script.lines.is_empty() => LineSort::Nothing,
-        ScriptEnd::End => LineSort::Said,
-    })
+        ScriptEnd::End => {
+            if script.lines.is_empty() {
+                LineSort::Nothing
+            } else {
+                LineSort::Said
+            }
+        }
+    };
+    Ok(sort)
 }
 
-/// What a line is that stands in front of the last of these bytes, which is its line feed. Cost: its length.
-pub(crate) fn sort_of(alloc: Global, fed: &[u8]) -> Result<LineSort, WantOfMemory>
+/// Which keyword stands alone on a line, if one does.
+fn lone_keyword(alloc: Global, line: &[u8]) -> Result<Option<LineSort>, WantOfMemory>
+    ensures { IfOk result (λ found. (sort : LineSorts) → by_words (words_of line.now) sort ≡ or_else sort found) }
 {
-    let line = &fed[..fed.len() - 1];
+    let words = words(alloc, line)?;
+    let [word] = words.as_slice() else {
+        return Ok(None);
+    };
+    Ok(keyword_of(word))
+}
+
+/// What a line is. `fed` is the line with its line feed. Cost: its length.
+pub(crate) fn sort_of(alloc: Global, line: &[u8], fed: &[u8]) -> Result<LineSort, WantOfMemory>
+    requires { parts 0x0A fed.now ≡ line.now ∷ ([] ∷ []) }
+    ensures { IfOk result (λ sort. sort ≡ sort_of line.now) }
+{
     if line.len() > LONGEST {
         return Ok(LineSort::Bad);
     }
-    if let [word] = words(alloc, without_return(line))?.as_slice() {
-        if let Some(sort) = keyword_of(word) {
-            return Ok(sort);
-        }
+    match lone_keyword(alloc, without_return(line))? {
+        Some(sort) => Ok(sort),
+        None => meaning_of(alloc, fed),
     }
-    meaning_of(alloc, fed)
 }

@@ -1,6 +1,13 @@
 //! A script of a family, by its number, without recursion.
-use crate::part::Node;
-use crate::parts::Parts;
+ghost use Rattle.std.specs.Prelude.{◌≡◌, ◌+◌, ◌-◌, ◌<◌, ◌≤◌, ◌++◌, ◌∷◌, OnOk, IfOk, reverse};
+ghost use Rattle.script_family.specs.Families.{Script};
+ghost use Rattle.script_family.specs.Parts.{script_at};
+ghost use Rattle.script_family.specs.Steps.{shape, size, Has};
+ghost use Rattle.script_family.specs.Tasks.{Leads, load};
+ghost use Rattle.script_family.specs.declared.making.Task.TheVariants as tasks;
+
+use crate::pairs::Place;
+use crate::parts::{Parts, Step};
 use crate::weaving::weave;
 use device_ids::WantOfMemory;
 use std::alloc::Global;
@@ -22,30 +29,24 @@ pub(crate) enum Task {
     },
 }
 
-/// Puts the tasks of two parts on the list, so that the first is taken next.
+/// Puts the tasks of a script of two parts on the list, the first to be taken next.
 fn push_both(
-    parts: &Parts,
-    tasks: &mut Vec<Task>,
+    todo: &mut Vec<Task>,
+    lines: usize,
     first: usize,
     second: usize,
-    woven: bool,
-    lines: usize,
-    number: u64,
-) -> Result<(), WantOfMemory> {
-    let place = parts.pair(first, second, woven).place(lines, number);
-    if woven {
-        tasks.push(Task::Weave {
-            lines,
-            first: place.lines,
-            way: place.way,
-        })?;
-    }
-    tasks.push(Task::Make {
+    place: Place,
+) -> Result<(), WantOfMemory>
+    requires { place.lines ≤ lines }
+    ensures { OnOk result (reverse todo.new.items
+        ≡ tasks.Make first place.lines place.first ∷ (tasks.Make second (lines - place.lines) place.second ∷ reverse todo.old.items)) }
+{
+    todo.push(Task::Make {
         part: second,
         lines: lines - place.lines,
         number: place.second,
     })?;
-    tasks.push(Task::Make {
+    todo.push(Task::Make {
         part: first,
         lines: place.lines,
         number: place.first,
@@ -56,71 +57,72 @@ fn push_both(
 /// Begins a script of a part: it is a line, or tasks.
 fn make(
     parts: &Parts,
-    tasks: &mut Vec<Task>,
+    todo: &mut Vec<Task>,
     out: &mut Vec<usize>,
     part: usize,
     lines: usize,
     number: u64,
-) -> Result<(), WantOfMemory> {
-    match parts.list[part].node {
-        Node::Silent => Ok(()),
-        Node::Line { at } => {
-            out.push(at)?;
-            Ok(())
-        }
-        Node::Followed { first, second } => {
-            push_both(parts, tasks, first, second, false, lines, number)
-        }
-        Node::Woven { first, second } => {
-            push_both(parts, tasks, first, second, true, lines, number)
-        }
-        Node::Chosen { first, second } => {
-            let of_first = parts.count(first, lines);
-            let task = if number < of_first {
-                Task::Make {
-                    part: first,
-                    lines,
-                    number,
-                }
-            } else {
-                Task::Make {
-                    part: second,
-                    lines,
-                    number: number - of_first,
-                }
-            };
-            tasks.push(task)?;
-            Ok(())
+) -> Result<(), WantOfMemory>
+    requires { Has parts.now part lines number }
+    ensures leads { OnOk result ((script : Script) → Leads parts.now (reverse todo.old.items) (out.old.items ++ script_at (shape parts.now part) lines number) script
+        → Leads parts.now (reverse todo.new.items) out.new.items script) }
+    ensures less { OnOk result (load parts.now (reverse todo.new.items) < size (shape parts.now part) + load parts.now (reverse todo.old.items)) }
+{
+    match parts.step(part, lines, number) {
+        Step::Nothing => {}
+        Step::Line { at } => out.push(at)?,
+        Step::One { part, number } => todo.push(Task::Make {
+            part,
+            lines,
+            number,
+        })?,
+        Step::Both {
+            first,
+            second,
+            place,
+        } => push_both(todo, lines, first, second, place)?,
+        Step::Woven {
+            first,
+            second,
+            place,
+        } => {
+            todo.push(Task::Weave {
+                lines,
+                first: place.lines,
+                way: place.way,
+            })?;
+            push_both(todo, lines, first, second, place)?;
         }
     }
+    Ok(())
 }
 
-/// The script of this number among those of so many lines of a part: where its lines begin.
+/// The script of this number among those of so many lines of a part: where its lines begin. Condition: the part has it.
 pub(crate) fn script_of(
     alloc: Global,
     parts: &Parts,
     part: usize,
     lines: usize,
     number: u64,
-) -> Result<Vec<usize>, WantOfMemory> {
-    let mut out = Vec::with_capacity(alloc, lines)?;
-    let mut tasks = Vec::new(alloc);
-    tasks.push(Task::Make {
+) -> Result<Vec<usize>, WantOfMemory>
+    requires { Has parts.now part lines number }
+    ensures { IfOk result (λ out. out.items ≡ script_at (shape parts.now part) lines number) }
+{
+    let mut out = Vec::new(alloc);
+    let mut todo = Vec::new(alloc);
+    todo.push(Task::Make {
         part,
         lines,
         number,
     })?;
-    for _ in 0..10000000 {
-        match tasks.pop() {
-            Some(Task::Make {
+    'tasks: while let Some(task) = todo.pop() {
+        match task {
+            Task::Make {
                 part,
                 lines,
                 number,
-            }) => make(parts, &mut tasks, &mut out, part, lines, number)?,
-            Some(Task::Weave { lines, first, way }) => {
-                weave(alloc, &parts.ways, &mut out, lines, first, way)?
-            }
-            None => return Ok(out),
+            } => make(parts, &mut todo, &mut out, part, lines, number)?,
+            Task::Weave { lines, first, way } => weave(alloc, parts, &mut out, lines, first, way)?,
         }
     }
     Ok(out)

@@ -1,0 +1,25 @@
+-- All scripts of a family: how many, and which has a number.
+use Rattle.std.proofs.Common.{◌≡◌, refl, sym, ◌∙◌, ap, subst, ℕ, zero, suc, ◌+◌, ◌-◌, ◌<◌, ◌≤◌, min, arith, length, get_or, [], List}
+use Rattle.script_family.specs.Families.{Family, scripts_of, scripts, most}
+use Rattle.script_family.specs.Counts.{sums, count, total, capped}
+use Rattle.script_family.specs.Parts.{script_at}
+use Rattle.script_family.proofs.Counting.{counted, all_counted, sums_same}
+use Rattle.script_family.proofs.Numbering.{at_block}
+
+pub script_numbered : (f : Family) (n rest number : ℕ) → n ≤ most f → sums (count f) n + rest ≡ number → rest < count f n
+    → get_or (scripts f) number [] ≡ script_at f n rest
+script_numbered f n rest number le is lt =
+    let before : sums (count f) n ≡ sums (λ m. length (scripts_of f m)) n = sums_same (count f) (λ m. length (scripts_of f m)) (λ m. sym (counted f m)) n in
+    ap (λ m. get_or (scripts f) m []) (sym is ∙ ap (λ m. m + rest) before)
+    ∙ at_block (scripts_of f) (suc (most f)) n rest (omega arith) (omega (arith, counted f n))
+
+pub capped_scripts : (f : Family) → capped (total f) ≡ capped (length (scripts f))
+capped_scripts f = ap capped (sym (all_counted f))
+
+-- behind the most lines nothing is left
+pub none_left : (f : Family) (lines rest number : ℕ) → number < capped (total f) → lines ≡ most f + 1 → sums (count f) lines + rest ≡ number → ⊥
+none_left f lines rest number below at is =
+    let all : sums (count f) lines ≡ total f = ap (sums (count f)) (at ∙ next (most f)) in omega arith
+  where
+  next : (n : ℕ) → n + 1 ≡ suc n
+  next n = omega arith
