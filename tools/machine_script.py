@@ -43,7 +43,7 @@ class Resource:
 
 @dataclass
 class Device:
-    """A device: its parent's path, the two parts of its own, its IDs, what it has, and its driver's name."""
+    """A device: its parent's path, the two parts of its own, its IDs, what it has, its driver's name, and a bridge's windows."""
 
     title: str
     parent: str
@@ -55,6 +55,7 @@ class Device:
     model: str
     resources: list = field(default_factory=list)
     notes: list = field(default_factory=list)
+    windows: list = field(default_factory=list)
 
     @property
     def path(self):
@@ -118,6 +119,31 @@ def reserve_the_rest(devices):
     return rest
 
 
+def set_windows(devices):
+    """Leaves each bridge one window of a kind, as the language has it: from the first to the last of those that it has. One outside of which something below it lies is left out."""
+    below = {}
+    for it in devices:
+        below.setdefault(it.parent, []).append(it)
+    for bridge in (it for it in devices if it.windows):
+        under = list(below.get(bridge.path, []))
+        for it in under:
+            under += below.get(it.path, [])
+        windows = {}
+        for it in bridge.windows:
+            windows.setdefault(it.kind, []).append(it)
+        bridge.windows = []
+        for kind, own in windows.items():
+            window = Resource(kind, min(it.low for it in own), max(it.high for it in own))
+            outside = [(device, it) for device in under for it in device.resources if it.kind == kind and (it.low < window.low or window.high < it.high)]
+            if outside:
+                device, it = outside[0]
+                bridge.notes.append(f"window {window.place()} is not set: {device.title} below it has {it.place()}")
+                continue
+            if own[1:]:
+                bridge.notes.append(f"windows {', '.join(it.place() for it in own)}: one of a kind can be set, so it is from the first to the last")
+            bridge.windows.append(window)
+
+
 def name_drivers(devices):
     """Gives all beyond the most drivers one in common, and returns the names, each once."""
     names = list(dict.fromkeys(it.driver.lower() for it in devices))
@@ -137,6 +163,7 @@ def script_of(heading, reserved, devices):
     for device in devices:
         lines += [f"# {plain(it)}" for it in [device.title, *device.notes]]
         lines.append(device.line())
+        lines += [f"window {device.path} {it.place()}" for it in device.windows]
     return "\n".join([*lines, ""])
 
 

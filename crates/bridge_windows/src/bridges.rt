@@ -15,11 +15,16 @@ use std::marker::Model;
 
 /// The windows that were set, at most one of each kind for a device; a window is never taken back. A contract sees the
 /// list of birth numbers and ranges in the order in which they were set. This project's own.
-#[derive(Drop)]
 pub struct Bridges {
     list: Vec<Window>,
     /// The ranges of a device, by its birth number.
     ranges: HashMap<u64, Vec<Res>>,
+}
+
+impl Drop for Bridges {
+    fn drop(self) {
+        let Bridges { list: _, ranges: _ } = self;
+    }
 }
 
 impl Model for Bridges {

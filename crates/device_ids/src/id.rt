@@ -56,9 +56,14 @@ pub fn is_legal(bytes: &[u8]) -> bool
 
 /// A legal identifier of a device: its device ID, instance ID, or a hardware or compatible ID. A contract
 /// sees the list of its bytes (the driver kit, "Device Identification Strings").
-#[derive(Drop)]
 pub struct DeviceId {
     text: Text,
+}
+
+impl Drop for DeviceId {
+    fn drop(self) {
+        let DeviceId { text: _ } = self;
+    }
 }
 
 impl Model for DeviceId {
@@ -109,9 +114,14 @@ impl DeviceId {
 
 /// Identifiers in order of preference, as the hardware IDs of a device. A contract sees the list of their
 /// bytes (the driver kit, "Hardware IDs", "Compatible IDs").
-#[derive(Drop)]
 pub struct IdList {
     ids: Vec<DeviceId>,
+}
+
+impl Drop for IdList {
+    fn drop(self) {
+        let IdList { ids: _ } = self;
+    }
 }
 
 impl Model for IdList {

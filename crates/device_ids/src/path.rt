@@ -133,9 +133,14 @@ fn many_read(alloc: Global, bytes: &[u8]) -> Result<Rc<Kept>, PathError>
 /// The name of a device in the tree: device ID, backslash, instance ID (the driver kit, "Device Instance
 /// IDs"). A contract sees the list of its bytes. The folded text is kept beside them, so that a look-up by it
 /// takes no memory. They are kept once for a path, its copies and their texts.
-#[derive(Drop)]
 pub struct InstancePath {
     kept: Rc<Kept>,
+}
+
+impl Drop for InstancePath {
+    fn drop(self) {
+        let InstancePath { kept: _ } = self;
+    }
 }
 
 impl Model for InstancePath {

@@ -77,9 +77,14 @@ impl Kept {
 
 /// Bytes of any kind, as a driver's name or a value of an INF. A contract sees the list of the bytes.
 /// They are kept once for a text and all its copies. This project's own.
-#[derive(Drop)]
 pub struct Text {
     kept: Rc<Kept>,
+}
+
+impl Drop for Text {
+    fn drop(self) {
+        let Text { kept: _ } = self;
+    }
 }
 
 impl Model for Text {
@@ -158,9 +163,14 @@ impl Text {
 }
 
 /// Texts in order, as the IDs of a models line. A contract sees the list of their bytes. This project's own.
-#[derive(Drop)]
 pub struct TextList {
     texts: Vec<Text>,
+}
+
+impl Drop for TextList {
+    fn drop(self) {
+        let TextList { texts: _ } = self;
+    }
 }
 
 impl Model for TextList {

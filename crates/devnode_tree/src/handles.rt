@@ -30,10 +30,15 @@ impl Model for HandleRow {
 
 /// The handles that are open to devices: how many to each, a device without one left out. A contract sees the list in
 /// order of serial.
-#[derive(Drop)]
 pub struct Handles {
     /// How many are open, by serial: at least one.
     counts: BTreeMap<u64, u64>,
+}
+
+impl Drop for Handles {
+    fn drop(self) {
+        let Handles { counts: _ } = self;
+    }
 }
 
 impl Model for Handles {

@@ -9,7 +9,6 @@ use std::alloc::{AllocError, Global};
 use std::marker::Model;
 
 /// A device node (the driver kit, "Device Nodes and Device Stacks"). A contract sees the record of the fields.
-#[derive(Drop)]
 pub struct Node {
     /// Its number in the tree, given once and to no other node: this project's own.
     pub serial: u64,
@@ -33,6 +32,24 @@ pub struct Node {
     pub stack: Stack,
     /// The resources that it holds.
     pub holds: ResList,
+}
+
+impl Drop for Node {
+    fn drop(self) {
+        let Node {
+            serial: _,
+            parent: _,
+            born: _,
+            path: _,
+            hw: _,
+            compat: _,
+            reqs: _,
+            state: _,
+            problem: _,
+            stack: _,
+            holds: _,
+        } = self;
+    }
 }
 
 impl Model for Node {

@@ -24,7 +24,6 @@ use std::marker::Model;
 /// The device nodes, the root at the head, looked up by serial and by path without a scan (the driver kit,
 /// "Device Nodes and Device Stacks"). A contract sees the nodes in the order in which they joined, which is that
 /// of their serials, and the next serial.
-#[derive(Drop)]
 pub struct Tree {
     /// Copies of the paths of the nodes, in the order of the entries.
     paths: IndexSet<InstancePath>,
@@ -34,6 +33,18 @@ pub struct Tree {
     lowest: u64,
     entries: Vec<Entry>,
     next: u64,
+}
+
+impl Drop for Tree {
+    fn drop(self) {
+        let Tree {
+            paths: _,
+            births: _,
+            lowest: _,
+            entries: _,
+            next: _,
+        } = self;
+    }
 }
 
 impl Model for Tree {

@@ -12,9 +12,14 @@ use std::marker::Model;
 const MOST_RULES: usize = 64;
 
 /// A driver that answers by the rules that it was taught. A contract sees the list of the rules. This project's own.
-#[derive(Drop)]
 pub struct Scripted {
     rules: Vec<Rule>,
+}
+
+impl Drop for Scripted {
+    fn drop(self) {
+        let Scripted { rules: _ } = self;
+    }
 }
 
 impl Model for Scripted {

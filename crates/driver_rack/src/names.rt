@@ -18,10 +18,15 @@ fn folded_cmp(own: &Text, other: &Text) -> Ordering
 }
 
 /// A name, and the number of the driver that has it.
-#[derive(Drop)]
 struct Entry {
     name: Text,
     driver: u32,
+}
+
+impl Drop for Entry {
+    fn drop(self) {
+        let Entry { name: _, driver: _ } = self;
+    }
 }
 
 impl Model for Entry {
@@ -51,11 +56,20 @@ fn search(index: &[Entry], name: &Text) -> Result<usize, usize>
 
 /// The names of drivers, by number. Beside them stands an index in the order of the folded names, so that one is
 /// found without folding all. A contract sees the list of the names.
-#[derive(Drop)]
 pub(crate) struct Names {
     alloc: Global,
     names: Vec<Option<Text>>,
     index: Vec<Entry>,
+}
+
+impl Drop for Names {
+    fn drop(self) {
+        let Names {
+            alloc: _,
+            names: _,
+            index: _,
+        } = self;
+    }
 }
 
 impl Model for Names {

@@ -14,10 +14,18 @@ use std::marker::Model;
 
 /// Drivers with their names, numbered from 0. A contract sees the kind, name and book of each. The drivers may be
 /// boxes, of which no two need be of one type. This project's own.
-#[derive(Drop)]
 pub struct Rack<D: Driver> {
     drivers: Vec<D>,
     names: Names,
+}
+
+impl<D: Driver> Drop for Rack<D> {
+    fn drop(self) {
+        let Rack {
+            drivers: _,
+            names: _,
+        } = self;
+    }
 }
 
 impl<D: Driver> Model for Rack<D> {

@@ -1,6 +1,6 @@
 -- Each run of the machine whatever its drivers answer, in which none is taught, is one over drivers that answer so.
-use Rattle.std.proofs.Common.{ℕ, zero, suc, ◌+◌, ◌≡◌, Bool, true, false, List, [], ◌∷◌, map, length, Option, Some, None, slice_get, refl, sym, ap, ◌∙◌, subst, arith, cond}
-use Rattle.std.specs.Prelude.{◌&&◌, option_map, find, is_none, nat_lt}
+use Rattle.std.proofs.Common.{ℕ, zero, suc, ◌+◌, ◌≡◌, Bool, true, false, not, List, [], ◌∷◌, map, length, Option, Some, None, is_some, slice_get, refl, sym, ap, ◌∙◌, subst, arith, cond}
+use Rattle.std.specs.Prelude.{◌&&◌, option_map, find, is_none, nat_le, if◌then◌else◌}
 use Rattle.std.proofs.lemmas.Option.{slice_get-map}
 use Rattle.pnp_labels.specs.Texts.{Text}
 use Rattle.pnp_labels.specs.declared.words.Answer.{Answer}
@@ -9,7 +9,9 @@ use Rattle.pnp_labels.specs.declared.words.AskWhat.{AskWhat}
 use Rattle.pnp_labels.specs.declared.words.DriverKind.{DriverKind}
 use Rattle.pnp_labels.specs.declared.event.Rule.{Rule}
 use Rattle.pnp_labels.specs.declared.event.Event.{Event}
+use Rattle.pnp_labels.specs.declared.label.EventWord.{EventWord}
 use Rattle.pnp_labels.specs.declared.label.Label.{Label}
+use Rattle.pnp_labels.specs.declared.label.Reason.{Reason}
 use Rattle.pnp_model.specs.Keyed.{changed_first}
 use Rattle.pnp_model.specs.Tests.{same_kind, is_scripted}
 use Rattle.pnp_model.specs.Books.{book_of, reply, rack_reply, is_named, is_unnamed, with_name, name_is}
@@ -19,12 +21,13 @@ use Rattle.pnp_model.specs.Events as events
 use Rattle.pnp_model.specs.Events.{happens}
 use Rattle.pnp_model.specs.Runs.{Entry, Run}
 use Rattle.pnp_model.specs.Runs.Entry.{Happens, Did, Declines}
+use Rattle.pnp_model.proofs.Guards.{by_test, by_found, both_tests}
 use Rattle.free_model.specs.Asks.{Query, next_query}
 use Rattle.free_model.specs.Frees.{told, telling, with_rack, free_opening, new_driver}
 use Rattle.free_model.specs.Runs.{FreeRun, IsUntaught, and_then, without_teaching, EachFreeRunIsARun}
 use Rattle.free_model.proofs.Racks.{faces_told, tells}
 use Rattle.free_model.specs.Shapes.{Face, face, faces}
-use Rattle.free_model.proofs.TwinEvents.{find_map, changed_map}
+use Rattle.free_model.proofs.TwinEvents.{find_map, changed_map, some_if, none_if}
 use Rattle.free_model.proofs.Quiets.{quiet_same}
 use Rattle.free_model.proofs.Ways.{rack_by, Agree}
 use Rattle.free_model.proofs.WaySteps.{way_next, step_by}
@@ -79,26 +82,26 @@ pub record Happened (books : Books) (s : State) (r : List Driver) (x y : Step) :
   pub is : y ≡ record { label = x.label; state = with_rack rack x.state }
   pub armed : Armed books rack x.state.core.rack
 
-name_free : (books : Books) (s : State) (r : List Driver) (name : Text) (kind : DriverKind) (o p : Option Driver) → Armed books r s.core.rack → option_map face p ≡ option_map face o
-    → Happened books s r (events.name_free s name kind o) (events.name_free (with_rack r s) name kind p)
-name_free books s r name kind None None h e = record { rack = r; is = refl; armed = h }
-name_free books s r name kind (Some d) (Some c) h e = record { rack = named name kind r; is = refl; armed = armed_named books name kind r s.core.rack h }
-name_free books s r name kind None (Some c) h e = absurd (cc)
-name_free books s r name kind (Some d) None h e = absurd (cc)
+-- a test refuses in both, or in none
+guard : (books : Books) (s : State) (r : List Driver) (b c : Bool) → c ≡ b → (word : EventWord) (reason : Reason) (x y : Step) → Armed books r s.core.rack → Happened books s r x y
+    → Happened books s r (if b then events.refused word reason s else x) (if c then events.refused word reason (with_rack r s) else y)
+guard books s r b c e word reason x y h on =
+    subst (λ (z : Bool). Happened books s r (if b then events.refused word reason s else x) (if z then events.refused word reason (with_rack r s) else y)) (sym e)
+    (both_tests (Happened books s r) b _ x _ y (λ e. record { rack = r; is = refl; armed = h }) (λ e. on))
 
-name_at : (books : Books) (s : State) (r : List Driver) (name : Text) (kind : DriverKind) (o p : Option Driver) → Armed books r s.core.rack → option_map face p ≡ option_map face o
-    → Happened books s r (events.name_at s name kind o) (events.name_at (with_rack r s) name kind p)
-name_at books s r name kind (Some d) (Some c) h e = record { rack = r; is = refl; armed = h }
-name_at books s r name kind None None h e =
-    name_free books s r name kind (find (is_unnamed kind) s.core.rack) (find (is_unnamed kind) r) h (found_same (λ f. same_kind f.kind kind && is_none f.name) r s.core.rack h.shown)
-name_at books s r name kind None (Some c) h e = absurd (cc)
-name_at books s r name kind (Some d) None h e = absurd (cc)
+names : (books : Books) (s : State) (r : List Driver) (name : Text) (kind : DriverKind) → Armed books r s.core.rack → Happened books s r (events.names s name kind) (events.names (with_rack r s) name kind)
+names books s r name kind h =
+    let named_too = found_same (λ f. name_is name f.name) r s.core.rack h.shown in
+    let unnamed_too = found_same (λ f. same_kind f.kind kind && is_none f.name) r s.core.rack h.shown in
+    guard books s r _ _ (sym (some_if face (find (is_named name) r)) ∙ ap is_some named_too ∙ some_if face (find (is_named name) s.core.rack)) _ _ _ _ h
+    (guard books s r _ _ (sym (none_if face (find (is_unnamed kind) r)) ∙ ap is_none unnamed_too ∙ none_if face (find (is_unnamed kind) s.core.rack)) _ _ _ _ h
+    (record { rack = named name kind r; is = refl; armed = armed_named books name kind r s.core.rack h }))
 
 by_moved : (books : Books) (s : State) (r : List Driver) (x y : Step) → Armed books r s.core.rack → Moved s r x y → Happened books s r x y
 by_moved books s r x y h moved = record { rack = r; is = moved.is; armed = subst (Armed books r) (sym moved.own) h }
 
 pub happened : (books : Books) (s : State) (r : List Driver) (event : Event) → IsUntaught event → Armed books r s.core.rack → Happened books s r (happens s event) (happens (with_rack r s) event)
-happened books s r (Event.Name name kind) untaught h = name_at books s r name kind (find (is_named name) s.core.rack) (find (is_named name) r) h (found_same (λ f. name_is name f.name) r s.core.rack h.shown)
+happened books s r (Event.Name name kind) untaught h = names books s r name kind h
 happened books s r (Event.Teach name rule) untaught h = absurd untaught
 happened books s r (Event.Plug parent path hw compat reqs) untaught h = by_moved books s r _ _ h (untaught_moved s r (Event.Plug parent path hw compat reqs) tt)
 happened books s r (Event.Pull path) untaught h = by_moved books s r _ _ h (untaught_moved s r (Event.Pull path) tt)
@@ -166,23 +169,19 @@ record ButBooks (s t : State) : Type 0 where
   is : t ≡ with_rack rack s
   shown : faces rack ≡ faces s.core.rack
 
-taught_room : (s : State) (d : Driver) (name : Text) (rule : Rule) (b : Bool) → ButBooks s (events.teach_room s d name rule b).state
-taught_room s d name rule false = record { rack = s.core.rack; is = refl; shown = refl }
-taught_room s d name rule true =
+taught : (s : State) (name : Text) (rule : Rule) → ButBooks s (events.teaches s name rule).state
+taught s name rule =
+    let same : ButBooks s s = record { rack = s.core.rack; is = refl; shown = refl } in
     let q : Face → Bool = λ f. name_is name f.name in
+    let P : Step → Type 0 = λ x. ButBooks s x.state in
+    by_found P (find (is_named name) s.core.rack) _ _ (λ none. same) (λ driver there.
+    by_test P (not (is_scripted driver.kind)) _ _ (λ e. same) (λ kind.
+    by_test P (nat_le 64 (length driver.book)) _ _ (λ e. same) (λ room.
     record {
       rack = changed_first (is_named name) (events.with_rule rule) s.core.rack;
       is = refl;
       shown = changed_map face q (events.with_rule rule) (λ f. f) (λ x. refl) s.core.rack ∙ unchanged q (faces s.core.rack);
-    }
-
-taught_kind : (s : State) (d : Driver) (name : Text) (rule : Rule) (b : Bool) → ButBooks s (events.teach_kind s d name rule b).state
-taught_kind s d name rule false = record { rack = s.core.rack; is = refl; shown = refl }
-taught_kind s d name rule true = taught_room s d name rule (nat_lt (length d.book) 64)
-
-taught : (s : State) (name : Text) (rule : Rule) (o : Option Driver) → ButBooks s (events.teach_at s name rule o).state
-taught s name rule None = record { rack = s.core.rack; is = refl; shown = refl }
-taught s name rule (Some d) = taught_kind s d name rule (is_scripted d.kind)
+    })))
 
 -- does it teach?
 pub data Sort (label : Label) (rest : List Entry) : Event → Type 0 where
@@ -231,7 +230,7 @@ event_first settings wanted f mid last event label rest quiet so later (other _ 
           );
     }
 event_first settings wanted f mid last _ label rest quiet so later (teaches name rule) =
-    let but = taught f name rule (find (is_named name) f.core.rack) in
+    let but = taught f name rule in
     let state : mid ≡ with_rack but.rack f = sym (ap (λ (s : Step). s.state) so) ∙ but.is in
     record {
       books = later.books;

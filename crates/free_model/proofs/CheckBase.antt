@@ -1,27 +1,15 @@
 -- How the worked rows of the check are posed: settings, drivers and scripts, and changed traces.
-use Rattle.std.proofs.Common.{ℕ, ◌+◌, ◌-◌, List, [], ◌∷◌, ◌++◌, Option, None}
-use Rattle.std.specs.Prelude.{find, option_map, take, drop}
-use Rattle.std.specs.Str.{bytes_eq}
+use Rattle.std.proofs.Common.{ℕ, ◌+◌, ◌-◌, List, [], ◌∷◌, ◌++◌}
+use Rattle.std.specs.Prelude.{take, drop}
 use Rattle.pnp_labels.specs.Texts.{Text}
 use Rattle.pnp_labels.specs.declared.event.Event.{Event}
 use Rattle.pnp_labels.specs.declared.words.DriverKind.{DriverKind}
 use Rattle.pnp_labels.specs.declared.words.DriverKind.TheVariants.{Scripted, Steady, Stubborn}
-use Rattle.pnp_model.specs.Records.{Settings, Choice, Found}
+use Rattle.pnp_model.specs.Records.{Found}
+use Rattle.pnp_model.proofs.RowBase.{Known, settings_of}
 use Rattle.script_reader.specs.Script.{Trace, gives, ends, stops}
 use Rattle.free_model.specs.Checks.{Verdict, beginning}
 use Rattle.free_model.specs.Follows.{checked}
-
--- the best choice of a device with this first hardware ID
-pub record Known : Type 0 where
-  pub id : Text
-  pub choice : Choice
-
-abbrev pub best_known : List Known → List Text → List Text → Option Choice
-best_known known [] compat = None
-best_known known (id ∷ hw) compat = option_map (λ k. k.choice) (find (λ k. bytes_eq k.id id) known)
-
-abbrev pub settings_of : List Known → Settings
-settings_of known = record { best = best_known known; budget = 20000 }
 
 abbrev pub small_kinds : List DriverKind
 small_kinds =

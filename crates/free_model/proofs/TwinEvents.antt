@@ -1,6 +1,6 @@
 -- What happens, with other books of the same shapes.
-use Rattle.std.proofs.Common.{ℕ, ◌+◌, ◌≡◌, Bool, true, false, List, [], ◌∷◌, ◌++◌, map, length, Option, Some, None, refl, sym, ap, ◌∙◌, subst, arith, cond}
-use Rattle.std.specs.Prelude.{◌&&◌, nat_lt, option_map, find, is_none}
+use Rattle.std.proofs.Common.{ℕ, ◌+◌, ◌≡◌, Bool, true, false, not, List, [], ◌∷◌, ◌++◌, map, length, Option, Some, None, is_some, refl, sym, ap, ◌∙◌, subst, arith, cond}
+use Rattle.std.specs.Prelude.{◌&&◌, nat_le, option_map, find, is_none, if◌then◌else◌}
 use Rattle.pnp_labels.specs.Texts.{Text}
 use Rattle.pnp_labels.specs.declared.words.DriverKind.{DriverKind}
 use Rattle.pnp_labels.specs.declared.words.DriverKind.TheVariants.{Scripted, Steady, Stubborn}
@@ -8,12 +8,14 @@ use Rattle.pnp_labels.specs.declared.event.Rule.{Rule}
 use Rattle.pnp_labels.specs.declared.event.Event.{Event}
 use Rattle.pnp_labels.specs.declared.label.EventWord.{EventWord}
 use Rattle.pnp_labels.specs.declared.label.Label.{Label}
+use Rattle.pnp_labels.specs.declared.label.Reason.{Reason}
 use Rattle.pnp_model.specs.Keyed.{changed_first}
 use Rattle.pnp_model.specs.Tests.{is_scripted, same_kind}
 use Rattle.pnp_model.specs.Books.{name_is, is_named, is_unnamed, with_name, printed_name}
 use Rattle.pnp_model.specs.Records.{Driver, State, Step}
 use Rattle.pnp_model.specs.Events as events
-use Rattle.pnp_model.specs.Events.{happens, with_rule, is_relation, operation_waits, waits_for}
+use Rattle.pnp_model.specs.Events.{happens, with_rule}
+use Rattle.pnp_model.proofs.Guards.{both_tests, not_not}
 use Rattle.free_model.specs.Frees.{with_rack}
 use Rattle.free_model.specs.Shapes.{Shape, shape, shapes, counted}
 use Rattle.free_model.proofs.Happenings.{Moved, untaught_moved}
@@ -79,37 +81,46 @@ taught_shape rule d = ap (λ (n : ℕ). record { kind = d.kind; name = d.name; r
 
 -- driver and teach ---------------------------------------------------------------------------
 
--- another rack, and another state
-placed : (r r' : List Driver) (s : State) (x : Step) → shapes r' ≡ shapes x.state.core.rack → TwinEvent x (record { label = x.label; state = with_rack r' x.state })
-placed r r' s x h = record { label = refl; state = record { rack = r'; is = refl; shape = h } }
+some_same : {A B : Type 0} (f : A → B) (x y : A) → option_map f (Some x) ≡ option_map f (Some y) → f x ≡ f y
+some_same f x y e = cc
 
-name_free : (s : State) (r : List Driver) (name : Text) (kind : DriverKind) (o p : Option Driver) → shapes r ≡ shapes s.core.rack → option_map shape p ≡ option_map shape o
-    → TwinEvent (events.name_free s name kind o) (events.name_free (with_rack r s) name kind p)
-name_free s r name kind None None h e = same r s (events.name_free s name kind None) refl h
-name_free s r name kind (Some d) (Some c) h e =
-    placed r (changed_first (is_unnamed kind) (with_name name) r) s (events.name_free s name kind (Some d))
-    (changed_same (λ x. same_kind x.kind kind && is_none x.name) (with_name name) (renamed name) (λ x. refl) r s.core.rack h)
-name_free s r name kind None (Some c) h e = absurd (cc)
-name_free s r name kind (Some d) None h e = absurd (cc)
+-- a test refuses in both, or in none
+guard : (s : State) (r : List Driver) (b c : Bool) → c ≡ b → (word : EventWord) (reason : Reason) (x y : Step) → shapes r ≡ shapes s.core.rack → (b ≡ false → TwinEvent x y)
+    → TwinEvent (if b then events.refused word reason s else x) (if c then events.refused word reason (with_rack r s) else y)
+guard s r b c e word reason x y h twin =
+    subst (λ (z : Bool). TwinEvent (if b then events.refused word reason s else x) (if z then events.refused word reason (with_rack r s) else y)) (sym e)
+    (both_tests TwinEvent b _ x _ y (λ e. same r s (events.refused word reason s) refl h) twin)
 
-name_at : (s : State) (r : List Driver) (name : Text) (kind : DriverKind) (o p : Option Driver) → shapes r ≡ shapes s.core.rack → option_map shape p ≡ option_map shape o
-    → TwinEvent (events.name_at s name kind o) (events.name_at (with_rack r s) name kind p)
-name_at s r name kind (Some d) (Some c) h e = same r s (events.name_at s name kind (Some d)) refl h
-name_at s r name kind None None h e =
-    name_free s r name kind (find (is_unnamed kind) s.core.rack) (find (is_unnamed kind) r) h
-    (found_same (λ x. same_kind x.kind kind && is_none x.name) r s.core.rack h)
-name_at s r name kind None (Some c) h e = absurd (cc)
-name_at s r name kind (Some d) None h e = absurd (cc)
+-- two drivers are found that show the same, or none is
+found : (s : State) (r : List Driver) (o p : Option Driver) → option_map shape p ≡ option_map shape o → (word : EventWord) (reason : Reason) (f g : Driver → Step) → shapes r ≡ shapes s.core.rack
+    → ((d c : Driver) → shape c ≡ shape d → TwinEvent (f d) (g c)) → TwinEvent (events.unless o (events.refused word reason s) f) (events.unless p (events.refused word reason (with_rack r s)) g)
+found s r None None e word reason f g h twin = same r s (events.refused word reason s) refl h
+found s r (Some d) (Some c) e word reason f g h twin = twin d c (some_same shape c d e)
+found s r None (Some c) e word reason f g h twin = absurd (cc)
+found s r (Some d) None e word reason f g h twin = absurd (cc)
 
--- the same event of another driver that shows the same
-teach_room : (s : State) (r : List Driver) (d c : Driver) (name : Text) (rule : Rule) (b : Bool) → shapes r ≡ shapes s.core.rack → shape c ≡ shape d
-    → TwinEvent (events.teach_room s d name rule b) (events.teach_room (with_rack r s) c name rule b)
-teach_room s r d c name rule false h e = same r s (events.teach_room s d name rule false) refl h
-teach_room s r d c name rule true h e =
+pub some_if : {A B : Type 0} (f : A → B) (o : Option A) → is_some (option_map f o) ≡ is_some o
+some_if f None = refl
+some_if f (Some a) = refl
+
+pub none_if : {A B : Type 0} (f : A → B) (o : Option A) → is_none (option_map f o) ≡ is_none o
+none_if f None = refl
+none_if f (Some a) = refl
+
+names : (s : State) (r : List Driver) (name : Text) (kind : DriverKind) → shapes r ≡ shapes s.core.rack → TwinEvent (events.names s name kind) (events.names (with_rack r s) name kind)
+names s r name kind h =
+    let named = found_same (λ x. name_is name x.name) r s.core.rack h in
+    let unnamed = found_same (λ x. same_kind x.kind kind && is_none x.name) r s.core.rack h in
+    guard s r _ _ (sym (some_if shape (find (is_named name) r)) ∙ ap is_some named ∙ some_if shape (find (is_named name) s.core.rack)) _ _ _ _ h (λ fresh.
+    guard s r _ _ (sym (none_if shape (find (is_unnamed kind) r)) ∙ ap is_none unnamed ∙ none_if shape (find (is_unnamed kind) s.core.rack)) _ _ _ _ h (λ free.
     record {
-      label = ap (λ (x : Shape). Label.Did EventWord.Teach (printed_name x.name)) e;
-      state = record { rack = changed_first (is_named name) (with_rule rule) r; is = refl; shape = changed_same (λ x. name_is name x.name) (with_rule rule) counts_more (taught_shape rule) r s.core.rack h };
-    }
+      label = refl;
+      state = record {
+        rack = changed_first (is_unnamed kind) (with_name name) r;
+        is = refl;
+        shape = changed_same (λ x. same_kind x.kind kind && is_none x.name) (with_name name) (renamed name) (λ x. refl) r s.core.rack h;
+      };
+    }))
 
 scripted_counts : (kind : DriverKind) (n : ℕ) → is_scripted kind ≡ true → counted kind n ≡ n
 scripted_counts Scripted n e = refl
@@ -123,25 +134,16 @@ rules_of d c e taught =
     let rules : counted c.kind (length c.book) ≡ counted d.kind (length d.book) = ap (λ (x : Shape). x.rules) e in
     sym (scripted_counts c.kind (length c.book) (ap is_scripted kinds ∙ taught)) ∙ rules ∙ scripted_counts d.kind (length d.book) taught
 
-teach_kind : (s : State) (r : List Driver) (d c : Driver) (name : Text) (rule : Rule) (b : Bool) → is_scripted d.kind ≡ b → shapes r ≡ shapes s.core.rack → shape c ≡ shape d
-    → TwinEvent (events.teach_kind s d name rule b) (events.teach_kind (with_rack r s) c name rule b)
-teach_kind s r d c name rule false taught h e = same r s (events.teach_kind s d name rule false) refl h
-teach_kind s r d c name rule true taught h e =
-    subst (λ (n : ℕ). TwinEvent (events.teach_room s d name rule (nat_lt (length d.book) 64)) (events.teach_room (with_rack r s) c name rule (nat_lt n 64))) (sym (rules_of d c e taught))
-    (teach_room s r d c name rule (nat_lt (length d.book) 64) h e)
-
-some_same : {A B : Type 0} (f : A → B) (x y : A) → option_map f (Some x) ≡ option_map f (Some y) → f x ≡ f y
-some_same f x y e = cc
-
-teach_at : (s : State) (r : List Driver) (name : Text) (rule : Rule) (o p : Option Driver) → shapes r ≡ shapes s.core.rack → option_map shape p ≡ option_map shape o
-    → TwinEvent (events.teach_at s name rule o) (events.teach_at (with_rack r s) name rule p)
-teach_at s r name rule None None h e = same r s (events.teach_at s name rule None) refl h
-teach_at s r name rule (Some d) (Some c) h e =
-    let shown : shape c ≡ shape d = some_same shape c d e in
-    subst (λ (b : Bool). TwinEvent (events.teach_kind s d name rule (is_scripted d.kind)) (events.teach_kind (with_rack r s) c name rule b)) (sym (ap (λ (x : Shape). is_scripted x.kind) shown))
-    (teach_kind s r d c name rule (is_scripted d.kind) refl h shown)
-teach_at s r name rule None (Some c) h e = absurd (cc)
-teach_at s r name rule (Some d) None h e = absurd (cc)
+-- a driver that shows the same is taught the same
+teaches : (s : State) (r : List Driver) (name : Text) (rule : Rule) → shapes r ≡ shapes s.core.rack → TwinEvent (events.teaches s name rule) (events.teaches (with_rack r s) name rule)
+teaches s r name rule h =
+    found s r (find (is_named name) s.core.rack) (find (is_named name) r) (found_same (λ x. name_is name x.name) r s.core.rack h) _ _ _ _ h (λ d c shown.
+    guard s r (not (is_scripted d.kind)) (not (is_scripted c.kind)) (ap (λ (x : Shape). not (is_scripted x.kind)) shown) _ _ _ _ h (λ kind.
+    guard s r (nat_le 64 (length d.book)) (nat_le 64 (length c.book)) (ap (nat_le 64) (rules_of d c shown (not_not (is_scripted d.kind) kind))) _ _ _ _ h (λ room.
+    record {
+      label = ap (λ (x : Shape). Label.Did EventWord.Teach (printed_name x.name)) shown;
+      state = record { rack = changed_first (is_named name) (with_rule rule) r; is = refl; shape = changed_same (λ x. name_is name x.name) (with_rule rule) counts_more (taught_shape rule) r s.core.rack h };
+    })))
 
 -- all events -------------------------------------------------------------------------------------------
 
@@ -154,10 +156,8 @@ by_moved s r x y h moved =
     }
 
 pub twin_happens : (s : State) (r : List Driver) (event : Event) → shapes r ≡ shapes s.core.rack → TwinEvent (happens s event) (happens (with_rack r s) event)
-twin_happens s r (Event.Name name kind) h =
-    name_at s r name kind (find (is_named name) s.core.rack) (find (is_named name) r) h (found_same (λ x. name_is name x.name) r s.core.rack h)
-twin_happens s r (Event.Teach name rule) h =
-    teach_at s r name rule (find (is_named name) s.core.rack) (find (is_named name) r) h (found_same (λ x. name_is name x.name) r s.core.rack h)
+twin_happens s r (Event.Name name kind) h = names s r name kind h
+twin_happens s r (Event.Teach name rule) h = teaches s r name rule h
 twin_happens s r (Event.Plug parent path hw compat reqs) h = by_moved s r _ _ h (untaught_moved s r (Event.Plug parent path hw compat reqs) tt)
 twin_happens s r (Event.Pull path) h = by_moved s r _ _ h (untaught_moved s r (Event.Pull path) tt)
 twin_happens s r (Event.Disable path) h = by_moved s r _ _ h (untaught_moved s r (Event.Disable path) tt)

@@ -1,6 +1,6 @@
 -- What an event does to the names of a rack that tells one answer.
-use Rattle.std.proofs.Common.{◌≡◌, Bool, true, false, List, [], ◌∷◌, map, length, Option, Some, None, Result, Ok, Err, IfOk, OnOk, option_map, cond, refl, sym, ap, ◌∙◌, subst, ◌+◌}
-use Rattle.std.specs.Prelude.{find, nat_lt}
+use Rattle.std.proofs.Common.{◌≡◌, Bool, true, false, not, List, [], ◌∷◌, map, length, Option, Some, None, is_some, Result, Ok, Err, IfOk, OnOk, option_map, cond, refl, sym, ap, ◌∙◌, subst, ◌+◌}
+use Rattle.std.specs.Prelude.{find, is_none, nat_le}
 use Rattle.std.specs.declared.alloc.AllocError.{AllocError}
 use Rattle.pnp_labels.specs.Texts.{Text}
 use Rattle.pnp_labels.specs.declared.event.Event.{Event}
@@ -12,8 +12,9 @@ use Rattle.pnp_model.specs.Books.{is_named, is_unnamed, with_name}
 use Rattle.pnp_model.specs.Events as events
 use Rattle.pnp_model.specs.Events.{happens, with_rule}
 use Rattle.pnp_model.specs.Keyed.{changed_first}
-use Rattle.pnp_model.specs.Records.{Driver, State}
+use Rattle.pnp_model.specs.Records.{Driver, State, Step}
 use Rattle.pnp_model.specs.Tests.{is_scripted}
+use Rattle.pnp_model.proofs.Guards.{by_found, by_test}
 use Rattle.free_model.specs.Frees.{telling, told}
 use Rattle.free_model.proofs.Happenings.{IsOther, untaught_moved}
 use Rattle.free_model.proofs.TwinEvents.{find_map, changed_map}
@@ -45,14 +46,25 @@ unfound : {A : Type 0} (test : A → Bool) (f : A → A) (xs : List A) → find 
 unfound test f [] e = refl
 unfound test f (x ∷ xs) e = unfound_or test f x xs (test x) (unfound test f xs) e
 
-free_rack : (s : State) (name : Text) (kind : DriverKind) (o : Option Driver) → find (is_unnamed kind) s.core.rack ≡ o
-    → (events.name_free s name kind o).state.core.rack ≡ changed_first (is_unnamed kind) (with_name name) s.core.rack
-free_rack s name kind None e = sym (unfound (is_unnamed kind) (with_name name) s.core.rack e)
-free_rack s name kind (Some d) e = refl
+name_rack : (s : State) (name : Text) (kind : DriverKind) → (events.names s name kind).state.core.rack ≡ named_by name kind s.core.rack (find (is_named name) s.core.rack)
+name_rack s name kind =
+    let P : Step → Type 0 = λ x. x.state.core.rack ≡ named_by name kind s.core.rack (find (is_named name) s.core.rack) in
+    by_test P (is_some (find (is_named name) s.core.rack)) _ _ (taken (find (is_named name) s.core.rack)) (λ fresh.
+    by_test P (is_none (find (is_unnamed kind) s.core.rack)) _ _
+    (λ none. sym (unfound (is_unnamed kind) (with_name name) s.core.rack (none_found (find (is_unnamed kind) s.core.rack) none)) ∙ free (find (is_named name) s.core.rack) fresh)
+    (λ one. free (find (is_named name) s.core.rack) fresh))
+  where
+    taken : (o : Option Driver) → is_some o ≡ true → s.core.rack ≡ named_by name kind s.core.rack o
+    taken None e = absurd (cc)
+    taken (Some d) e = refl
 
-name_rack : (s : State) (name : Text) (kind : DriverKind) (o : Option Driver) → (events.name_at s name kind o).state.core.rack ≡ named_by name kind s.core.rack o
-name_rack s name kind (Some d) = refl
-name_rack s name kind None = free_rack s name kind (find (is_unnamed kind) s.core.rack) refl
+    free : (o : Option Driver) → is_some o ≡ false → changed_first (is_unnamed kind) (with_name name) s.core.rack ≡ named_by name kind s.core.rack o
+    free None e = refl
+    free (Some d) e = absurd (cc)
+
+    none_found : (o : Option Driver) → is_none o ≡ true → o ≡ None
+    none_found None e = refl
+    none_found (Some d) e = absurd (cc)
 
 -- A lesson ----------------------------------------------------------------------------------
 
@@ -65,17 +77,12 @@ unchanged : {A B : Type 0} (g : A → B) (test : A → Bool) (f : A → A) → (
 unchanged g test f e [] = refl
 unchanged g test f e (x ∷ xs) = unchanged_or g f (test x) x xs (changed_first test f xs) (e x) (unchanged g test f e xs)
 
-room_told : (answer : Answer) (s : State) (d : Driver) (name : Text) (rule : Rule) (b : Bool) → told answer (events.teach_room s d name rule b).state.core.rack ≡ told answer s.core.rack
-room_told answer s d name rule false = refl
-room_told answer s d name rule true = unchanged (telling answer) (is_named name) (with_rule rule) (λ x. refl) s.core.rack
-
-kind_told : (answer : Answer) (s : State) (d : Driver) (name : Text) (rule : Rule) (b : Bool) → told answer (events.teach_kind s d name rule b).state.core.rack ≡ told answer s.core.rack
-kind_told answer s d name rule false = refl
-kind_told answer s d name rule true = room_told answer s d name rule (nat_lt (length d.book) 64)
-
-teach_told : (answer : Answer) (s : State) (name : Text) (rule : Rule) (o : Option Driver) → told answer (events.teach_at s name rule o).state.core.rack ≡ told answer s.core.rack
-teach_told answer s name rule None = refl
-teach_told answer s name rule (Some d) = kind_told answer s d name rule (is_scripted d.kind)
+teach_told : (answer : Answer) (s : State) (name : Text) (rule : Rule) → told answer (events.teaches s name rule).state.core.rack ≡ told answer s.core.rack
+teach_told answer s name rule =
+    let P : Step → Type 0 = λ x. told answer x.state.core.rack ≡ told answer s.core.rack in
+    by_found P (find (is_named name) s.core.rack) _ _ (λ none. refl) (λ driver there.
+    by_test P (not (is_scripted driver.kind)) _ _ (λ e. refl) (λ kind.
+    by_test P (nat_le 64 (length driver.book)) _ _ (λ e. refl) (λ room. unchanged (telling answer) (is_named name) (with_rule rule) (λ x. refl) s.core.rack)))
 
 -- All events --------------------------------------------------------------------------------
 
@@ -104,8 +111,8 @@ sort (Event.Watch client path agrees) = other (Event.Watch client path agrees) t
 sort (Event.Unwatch client path) = other (Event.Unwatch client path) tt (λ rack. refl)
 
 by_sort : (answer : Answer) (s : State) (event : Event) → Sort event → told answer (happens s event).state.core.rack ≡ named_in event (told answer s.core.rack)
-by_sort answer s _ (names name kind) = ap (told answer) (name_rack s name kind (find (is_named name) s.core.rack)) ∙ named_told answer name kind s.core.rack
-by_sort answer s _ (teaches name rule) = teach_told answer s name rule (find (is_named name) s.core.rack)
+by_sort answer s _ (names name kind) = ap (told answer) (name_rack s name kind) ∙ named_told answer name kind s.core.rack
+by_sort answer s _ (teaches name rule) = teach_told answer s name rule
 by_sort answer s event (other _ is same) = ap (told answer) (untaught_moved s s.core.rack event is).own ∙ sym (same (told answer s.core.rack))
 
 -- where the told rack hears of the event, it is that of the state after it

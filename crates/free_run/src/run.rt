@@ -19,10 +19,18 @@ use std::marker::Model;
 /// A run of the machine whatever its drivers answer. Beside the machine it has a rack for each answer, which takes the place
 /// of the machine's own for a step. A contract sees the INFs, the budget, how many events happened and the state, in which a
 /// driver's book is what it was taught.
-#[derive(Drop)]
 pub struct FreeRun {
     manager: Manager<Rack<FreeDriver>>,
     told: ToldRacks,
+}
+
+impl Drop for FreeRun {
+    fn drop(self) {
+        let FreeRun {
+            manager: _,
+            told: _,
+        } = self;
+    }
 }
 
 impl Model for FreeRun {

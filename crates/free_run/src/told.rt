@@ -39,11 +39,20 @@ fn step_over(
 }
 
 /// A rack for each answer, whose drivers give that one to all that they are asked. This project's own.
-#[derive(Drop)]
 pub(crate) struct ToldRacks {
     ok: Rack<FreeDriver>,
     fail: Rack<FreeDriver>,
     pend: Rack<FreeDriver>,
+}
+
+impl Drop for ToldRacks {
+    fn drop(self) {
+        let ToldRacks {
+            ok: _,
+            fail: _,
+            pend: _,
+        } = self;
+    }
 }
 
 impl ToldRacks {

@@ -22,11 +22,20 @@ pub enum Key {
 }
 
 /// An entry of a section, with the number of its line.
-#[derive(Drop)]
 pub struct Entry {
     pub line: u32,
     pub key: Key,
     pub values: Texts,
+}
+
+impl Drop for Entry {
+    fn drop(self) {
+        let Entry {
+            line: _,
+            key: _,
+            values: _,
+        } = self;
+    }
 }
 
 /// The key's side of a line, and the values'.

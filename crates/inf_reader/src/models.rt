@@ -18,7 +18,6 @@ use std::alloc::{AllocError, Global};
 use std::collections::BTreeMap;
 
 /// What an install section gives.
-#[derive(Drop)]
 pub struct Install {
     pub score: u8,
     pub service: Option<Text>,
@@ -26,10 +25,26 @@ pub struct Install {
     pub upper: TextList,
 }
 
+impl Drop for Install {
+    fn drop(self) {
+        let Install {
+            score: _,
+            service: _,
+            lower: _,
+            upper: _,
+        } = self;
+    }
+}
+
 /// What the install sections gave that were met, by their folded names: many models lines may share one.
-#[derive(Drop)]
 pub struct Installs {
     pub kept: BTreeMap<Vec<u8>, Install>,
+}
+
+impl Drop for Installs {
+    fn drop(self) {
+        let Installs { kept: _ } = self;
+    }
 }
 
 /// Whether a text begins with a word, after folding.

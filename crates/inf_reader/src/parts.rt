@@ -41,7 +41,6 @@ impl From<AllocError> for InfError {
 
 /// A line of a models section, with what its install section gives (the driver kit, "INF Models Section",
 /// "INF DDInstall Section").
-#[derive(Drop)]
 pub struct ModelLine {
     /// The number of the line in its file, from 1; of a line that others continue, that of the first.
     pub line: u32,
@@ -57,10 +56,28 @@ pub struct ModelLine {
     pub upper: TextList,
 }
 
+impl Drop for ModelLine {
+    fn drop(self) {
+        let ModelLine {
+            line: _,
+            ids: _,
+            score: _,
+            service: _,
+            lower: _,
+            upper: _,
+        } = self;
+    }
+}
+
 /// Models lines in order. A contract sees their list. This project's own.
-#[derive(Drop)]
 pub struct ModelLines {
     lines: Vec<ModelLine>,
+}
+
+impl Drop for ModelLines {
+    fn drop(self) {
+        let ModelLines { lines: _ } = self;
+    }
 }
 
 impl Model for ModelLines {
@@ -119,7 +136,6 @@ impl ModelLines {
 }
 
 /// The meaning of an INF (the driver kit, "INF Version Section", "INF Manufacturer Section").
-#[derive(Drop)]
 pub struct Inf {
     /// The date of `DriverVer` as `year * 10000 + month * 100 + day`; 0 without one.
     pub date: u32,
@@ -127,4 +143,14 @@ pub struct Inf {
     pub version: u64,
     /// The models lines, in the order of the entries of `[Manufacturer]` and of each models section.
     pub lines: ModelLines,
+}
+
+impl Drop for Inf {
+    fn drop(self) {
+        let Inf {
+            date: _,
+            version: _,
+            lines: _,
+        } = self;
+    }
 }

@@ -34,17 +34,33 @@ pub struct Current {
 
 /// What is gathered beside the sections: the names of the models sections, by the entries of [Manufacturer],
 /// and the first bad score.
-#[derive(Drop)]
 pub struct Gathered {
     pub makers: Texts,
     pub fault: Option<InfError>,
 }
 
+impl Drop for Gathered {
+    fn drop(self) {
+        let Gathered {
+            makers: _,
+            fault: _,
+        } = self;
+    }
+}
+
 /// What the lines of a text give.
-#[derive(Drop)]
 pub struct Index {
     pub sections: Sections,
     pub gathered: Gathered,
+}
+
+impl Drop for Index {
+    fn drop(self) {
+        let Index {
+            sections: _,
+            gathered: _,
+        } = self;
+    }
 }
 
 /// Whether two texts are equal.

@@ -20,11 +20,20 @@ pub enum Kind {
 
 /// What a section holds: its entries with a key, and the filters that its lines add. It is made as the
 /// lines are read, so that no line is read again. A contract sees its `Contents`.
-#[derive(Drop)]
 pub struct Section {
     keyed: Vec<Entry>,
     lower: TextList,
     upper: TextList,
+}
+
+impl Drop for Section {
+    fn drop(self) {
+        let Section {
+            keyed: _,
+            lower: _,
+            upper: _,
+        } = self;
+    }
 }
 
 impl Model for Section {

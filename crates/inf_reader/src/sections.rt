@@ -12,9 +12,14 @@ use std::collections::BTreeMap;
 
 /// What each section holds, by its folded name. Cost of each look-up: the name's length for each of a
 /// logarithm of sections.
-#[derive(Drop)]
 pub struct Sections {
     pub sections: BTreeMap<Vec<u8>, Section>,
+}
+
+impl Drop for Sections {
+    fn drop(self) {
+        let Sections { sections: _ } = self;
+    }
 }
 
 impl Sections {

@@ -27,9 +27,14 @@ pub enum Place {
 }
 
 /// The characters of a line. A contract sees their list.
-#[derive(Drop)]
 pub struct Symbols {
     symbols: Vec<Symbol>,
+}
+
+impl Drop for Symbols {
+    fn drop(self) {
+        let Symbols { symbols: _ } = self;
+    }
 }
 
 impl Model for Symbols {

@@ -9,9 +9,14 @@ use std::marker::Model;
 
 /// Texts in order, with room for as many as were told of at first: most entries of an INF have one value.
 /// A contract sees the list of their bytes.
-#[derive(Drop)]
 pub struct Texts {
     texts: Vec<Text>,
+}
+
+impl Drop for Texts {
+    fn drop(self) {
+        let Texts { texts: _ } = self;
+    }
 }
 
 impl Model for Texts {

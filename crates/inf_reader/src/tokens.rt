@@ -10,9 +10,14 @@ use std::alloc::{AllocError, Global};
 use std::collections::BTreeMap;
 
 /// What the folded names of tokens stand for.
-#[derive(Drop)]
 pub struct Strings {
     pub texts: BTreeMap<Vec<u8>, Text>,
+}
+
+impl Drop for Strings {
+    fn drop(self) {
+        let Strings { texts: _ } = self;
+    }
 }
 
 impl Strings {

@@ -6,14 +6,15 @@ use Rattle.std.specs.List.{flat_map}
 use Rattle.script_lint.specs.declared.script.BadLine.{BadLine}
 use Rattle.script_lint.specs.Script.{told}
 use Rattle.lint_cli.specs.Words.{texts}
-use Rattle.pnp_io.specs.Outside.{Holds, HoldsMore, Rose}
+use Rattle.pnp_io.specs.Outside.{Holds, HoldsMore, Rose, Appends}
 use Rattle.inf_reader.specs.declared.parts.Inf.{Inf}
 use Rattle.inf_reader.specs.declared.parts.InfError.{InfError}
 use Rattle.lint_cli.specs.Reports.{bad_text, script_text, inf_text, IsFront}
-use Rattle.lint_cli.specs.Warnings.{driver_names, warnings_text}
+use Rattle.lint_cli.specs.Warnings.{Known, known_of, warnings_text}
 use Rattle.inf_reader.specs.Meaning.{inf}
-use Rattle.lint_cli.specs.Lints.{is_bad_file, is_bad_set, bad_infs, is_bad_script, is_bad_inf, is_large, some_large, is_decided, decided, Answers, AddsInf, AddsFile, AddsInfs, IsText, SomeRose}
+use Rattle.lint_cli.specs.Lints.{is_bad_file, is_bad_set, is_bad_by, bad_infs, is_bad_script, is_bad_inf, is_large, some_large, is_too_large, is_decided, is_reported, answer_by, Answers, IsTextBy, WroteBy, Sizes, AddsInf, AddsFile, AddsInfs, IsText, SomeRose}
 use Rattle.lint_cli.specs.declared.status.Status.{Status}
+use Rattle.lint_cli.specs.declared.words.Options.{Options}
 use Rattle.std.proofs.lemmas.Bool.Decides.{nat_tests}
 
 pub told_bad : (is_bad : List ℕ → Bool) (contents : Option (List ℕ → Option (List ℕ))) (name bytes : List ℕ) (b : Bool) → Holds contents name bytes → b ≡ is_bad bytes
@@ -27,37 +28,37 @@ front_same old new is = ([], is ∙ sym (append-nil old))
 pub front_more : (a b c more : List ℕ) → IsFront a b → c ≡ b ++ more → IsFront a c
 front_more a b c more front is = (front.0 ++ more, is ∙ ap (λ t. t ++ more) front.1 ∙ append_assoc a front.0 more)
 
-pub adds_read : (name old middle more new : List ℕ) (drivers : List (List ℕ)) (read : Inf) → middle ≡ old ++ warnings_text name drivers read → new ≡ middle ++ more
-    → AddsInf name drivers (Ok read) old new
-adds_read name old middle more new drivers read begun is = (more, is ∙ ap (λ t. t ++ more) begun ∙ append_assoc old (warnings_text name drivers read) more)
+pub adds_read : (name old middle more new : List ℕ) (known : Known) (read : Inf) → middle ≡ old ++ warnings_text name known read → new ≡ middle ++ more
+    → AddsInf name known (Ok read) old new
+adds_read name old middle more new known read begun is = (more, is ∙ ap (λ t. t ++ more) begun ∙ append_assoc old (warnings_text name known read) more)
 
-pub adds_ok : (name old new : List ℕ) (drivers : List (List ℕ)) (read : Inf) (r : Result Inf InfError) → r ≡ Ok read → AddsInf name drivers (Ok read) old new
-    → AddsInf name drivers r old new
-adds_ok name old new drivers read r is adds = subst (λ x. AddsInf name drivers x old new) (sym is) adds
+pub adds_ok : (name old new : List ℕ) (known : Known) (read : Inf) (r : Result Inf InfError) → r ≡ Ok read → AddsInf name known (Ok read) old new
+    → AddsInf name known r old new
+adds_ok name old new known read r is adds = subst (λ x. AddsInf name known x old new) (sym is) adds
 
-pub adds_more : (name old middle new : List ℕ) (drivers : List (List ℕ)) (error : InfError) (r : Result Inf InfError) → r ≡ Err error → middle ≡ old ++ inf_text name error
-    → IsFront middle new → AddsInf name drivers r old new
-adds_more name old middle new drivers error r is begun front =
-    subst (λ x. AddsInf name drivers x old new) (sym is)
+pub adds_more : (name old middle new : List ℕ) (known : Known) (error : InfError) (r : Result Inf InfError) → r ≡ Err error → middle ≡ old ++ inf_text name error
+    → IsFront middle new → AddsInf name known r old new
+adds_more name old middle new known error r is begun front =
+    subst (λ x. AddsInf name known x old new) (sym is)
     (front.0, front.1 ∙ ap (λ t. t ++ front.0) begun ∙ append_assoc old (inf_text name error) front.0)
 
-pub told_file : (contents : Option (List ℕ → Option (List ℕ))) (name bytes old new : List ℕ) (drivers : List (List ℕ)) → Holds contents name bytes
-    → AddsInf name drivers (inf bytes) old new → IfSome contents (λ told. AddsFile name drivers (told name) old new)
-told_file None name bytes old new drivers holds adds = tt
-told_file (Some told) name bytes old new drivers holds adds = subst (λ o. AddsFile name drivers o old new) (sym holds) adds
+pub told_file : (contents : Option (List ℕ → Option (List ℕ))) (name bytes old new : List ℕ) (known : Known) → Holds contents name bytes
+    → AddsInf name known (inf bytes) old new → IfSome contents (λ told. AddsFile name known (told name) old new)
+told_file None name bytes old new known holds adds = tt
+told_file (Some told) name bytes old new known holds adds = subst (λ o. AddsFile name known o old new) (sym holds) adds
 
-pub adds_next : (contents : Option (List ℕ → Option (List ℕ))) (all rest drivers : List (List ℕ)) (name initial old middle : List ℕ)
-    → IfSome contents (λ told. AddsFile name drivers (told name) old middle)
-    → ((new : List ℕ) → IfSome contents (λ told. AddsInfs told drivers (name ∷ rest) old new → AddsInfs told drivers all initial new))
-    → (new : List ℕ) → IfSome contents (λ told. AddsInfs told drivers rest middle new → AddsInfs told drivers all initial new)
-adds_next None all rest drivers name initial old middle file so new = tt
-adds_next (Some told) all rest drivers name initial old middle file so new = λ more. so new (middle, file, more)
+pub adds_next : (contents : Option (List ℕ → Option (List ℕ))) (all rest : List (List ℕ)) (known : Known) (name initial old middle : List ℕ)
+    → IfSome contents (λ told. AddsFile name known (told name) old middle)
+    → ((new : List ℕ) → IfSome contents (λ told. AddsInfs told known (name ∷ rest) old new → AddsInfs told known all initial new))
+    → (new : List ℕ) → IfSome contents (λ told. AddsInfs told known rest middle new → AddsInfs told known all initial new)
+adds_next None all rest known name initial old middle file so new = tt
+adds_next (Some told) all rest known name initial old middle file so new = λ more. so new (middle, file, more)
 
-pub adds_end : (contents : Option (List ℕ → Option (List ℕ))) (all drivers : List (List ℕ)) (initial out : List ℕ)
-    → ((new : List ℕ) → IfSome contents (λ told. AddsInfs told drivers [] out new → AddsInfs told drivers all initial new))
-    → IfSome contents (λ told. AddsInfs told drivers all initial out)
-adds_end None all drivers initial out so = tt
-adds_end (Some told) all drivers initial out so = so out refl
+pub adds_end : (contents : Option (List ℕ → Option (List ℕ))) (all : List (List ℕ)) (known : Known) (initial out : List ℕ)
+    → ((new : List ℕ) → IfSome contents (λ told. AddsInfs told known [] out new → AddsInfs told known all initial new))
+    → IfSome contents (λ told. AddsInfs told known all initial out)
+adds_end None all known initial out so = tt
+adds_end (Some told) all known initial out so = so out refl
 
 -- of a script that was read, and its INFs
 pub told_set_bad : (contents : Option (List ℕ → Option (List ℕ))) (name bytes : List ℕ) (infs : List (List ℕ)) (b : Bool) → Holds contents name bytes
@@ -65,14 +66,10 @@ pub told_set_bad : (contents : Option (List ℕ → Option (List ℕ))) (name by
 told_set_bad None name bytes infs b holds is = tt
 told_set_bad (Some told) name bytes infs b holds is = is ∙ ap (λ o. is_bad_file is_bad_script o || bad_infs told infs) (sym holds)
 
-pub told_text : (contents : Option (List ℕ → Option (List ℕ))) (name bytes out : List ℕ) (infs : List (List ℕ)) → Holds contents name bytes
-    → IfSome contents (λ told. AddsInfs told (driver_names bytes) infs (script_text bytes) out) → IfSome contents (λ told. IsText told (told name) infs out)
-told_text None name bytes out infs holds adds = tt
-told_text (Some told) name bytes out infs holds adds = subst (λ o. IsText told o infs out) (sym holds) adds
-
-pub behind_first : (words : List (String Global)) → texts (drop 1 words) ≡ drop 1 (texts words)
-behind_first [] = refl
-behind_first (word ∷ words) = refl
+pub told_text : (contents : Option (List ℕ → Option (List ℕ))) (all : Bool) (name bytes out : List ℕ) (infs : List (List ℕ)) → Holds contents name bytes
+    → IfSome contents (λ told. AddsInfs told (known_of all bytes) infs (script_text name bytes) out) → IfSome contents (λ told. IsText told all name (told name) infs out)
+told_text None all name bytes out infs holds adds = tt
+told_text (Some told) all name bytes out infs holds adds = subst (λ o. IsText told all name o infs out) (sym holds) adds
 
 regroup : (a b c : Bool) → ((a || b) || c) ≡ (a || (b || c))
 regroup true b c = refl
@@ -88,13 +85,13 @@ told_next (Some told) all rest name before b found is bad so =
     ap (λ x. x || bad_infs told rest) is ∙ regroup before b (bad_infs told rest) ∙ ap (λ y. before || (y || bad_infs told rest)) bad ∙ so
 
 -- one bad line more
-pub one_bad : (items : List BadLine) (i : ℕ) (d : BadLine) (all old new : List ℕ) → i < length items → new ≡ old ++ bad_text (told (get_or items i d))
-    → old ++ flat_map bad_text (map told (drop i items)) ≡ all → new ++ flat_map bad_text (map told (drop (i + 1) items)) ≡ all
-one_bad items i d all old new less more so =
-    ap (λ t. t ++ flat_map bad_text (map told (drop (i + 1) items))) more
-    ∙ append_assoc old (bad_text (told (get_or items i d))) (flat_map bad_text (map told (drop (i + 1) items)))
-    ∙ ap (λ n. old ++ (bad_text (told (get_or items i d)) ++ flat_map bad_text (map told (drop n items)))) (add-one i)
-    ∙ ap (λ l. old ++ flat_map bad_text (map told l)) (sym (drop-cons items i d less)) ∙ so
+pub one_bad : (file : List ℕ) (items : List BadLine) (i : ℕ) (d : BadLine) (all old new : List ℕ) → i < length items → new ≡ old ++ bad_text file (told (get_or items i d))
+    → old ++ flat_map (bad_text file) (map told (drop i items)) ≡ all → new ++ flat_map (bad_text file) (map told (drop (i + 1) items)) ≡ all
+one_bad file items i d all old new less more so =
+    ap (λ t. t ++ flat_map (bad_text file) (map told (drop (i + 1) items))) more
+    ∙ append_assoc old (bad_text file (told (get_or items i d))) (flat_map (bad_text file) (map told (drop (i + 1) items)))
+    ∙ ap (λ n. old ++ (bad_text file (told (get_or items i d)) ++ flat_map (bad_text file) (map told (drop n items)))) (add-one i)
+    ∙ ap (λ l. old ++ flat_map (bad_text file) (map told l)) (sym (drop-cons items i d less)) ∙ so
 
 -- a file that was read is not too large, and one of which more bytes came is
 fits_by : (o : Option (List ℕ)) (bytes : List ℕ) → o ≡ Some bytes → length bytes ≤ 16777216 → is_large o ≡ false
@@ -144,18 +141,35 @@ pub large_next : (contents : Option (List ℕ → Option (List ℕ))) (all rest 
 large_next None all rest name one so = tt
 large_next (Some told) all rest name one so = sym so ∙ ap (λ b. b || some_large told rest) one
 
+-- the sizes of the files, by the answer
+pub sizes_fit : (contents : Option (List ℕ → Option (List ℕ))) (names : List (List ℕ)) (status : Status) → is_reported status ≡ true
+    → IfSome contents (λ told. some_large told names ≡ false) → IfSome contents (λ told. Sizes told names status)
+sizes_fit None names status reported fits = tt
+sizes_fit (Some told) names Status.Clean reported fits = fits
+sizes_fit (Some told) names Status.Found reported fits = fits
+
+pub sizes_exceed : (contents : Option (List ℕ → Option (List ℕ))) (names : List (List ℕ)) (status : Status) → status ≡ Status.TooLarge
+    → IfSome contents (λ told. some_large told names ≡ true) → IfSome contents (λ told. Sizes told names status)
+sizes_exceed None names status is large = tt
+sizes_exceed (Some told) names status is large = large ∙ sym (ap is_too_large is)
+
+-- what was written, and the answer
+pub wrote_by : (contents : Option (List ℕ → Option (List ℕ))) (o : Options) (names : List (List ℕ)) (text : List ℕ) (bad : Bool) (status : Status) (old new : Option (List ℕ))
+    → IfSome contents (λ told. IsTextBy o.bare o.all told names text) → IfSome contents (λ told. bad ≡ is_bad_by o.bare told names) → Appends old new text
+    → status ≡ answer_by o.strict bad text → IfSome contents (λ told. WroteBy o told names status old new)
+wrote_by None o names text bad status old new is_text is_bad wrote is = tt
+wrote_by (Some told) o names text bad status old new is_text is_bad wrote is = (text, is_text, wrote, is ∙ ap (λ b. answer_by o.strict b text) is_bad)
+
 -- the answer where no count rose
-pub answers : (contents : Option (List ℕ → Option (List ℕ))) (words : List (List ℕ)) (status : Status) (read write : Type 0)
-    → (is_decided status ≡ true → IfSome contents (λ told. decided told words ≡ status)) → (status ≡ Status.ReadFault → read) → (status ≡ Status.WriteFault → write)
-    → (status ≡ Status.BadWords → ⊥) → IfSome contents (λ told. Answers (decided told words) read write status)
-answers None words status read write decides on_read on_write no_words = tt
-answers (Some told) words Status.Clean read write decides on_read on_write no_words = λ a b. inl (decides refl)
-answers (Some told) words Status.Found read write decides on_read on_write no_words = λ a b. inl (decides refl)
-answers (Some told) words Status.TooLarge read write decides on_read on_write no_words = λ a b. inl (decides refl)
-answers (Some told) words Status.WantOfMemory read write decides on_read on_write no_words = λ a b. inr refl
-answers (Some told) words Status.ReadFault read write decides on_read on_write no_words = λ a b. absurd (a (on_read refl))
-answers (Some told) words Status.WriteFault read write decides on_read on_write no_words = λ a b. absurd (b (on_write refl))
-answers (Some told) words Status.BadWords read write decides on_read on_write no_words = λ a b. absurd (no_words refl)
+pub answers : (status : Status) (read write : Type 0) → (status ≡ Status.ReadFault → read) → (status ≡ Status.WriteFault → write)
+    → (status ≡ Status.BadWords → ⊥) → Answers read write status
+answers Status.Clean read write on_read on_write no_words = λ a b. inl refl
+answers Status.Found read write on_read on_write no_words = λ a b. inl refl
+answers Status.TooLarge read write on_read on_write no_words = λ a b. inl refl
+answers Status.WantOfMemory read write on_read on_write no_words = λ a b. inr refl
+answers Status.ReadFault read write on_read on_write no_words = λ a b. absurd (a (on_read refl))
+answers Status.WriteFault read write on_read on_write no_words = λ a b. absurd (b (on_write refl))
+answers Status.BadWords read write on_read on_write no_words = λ a b. absurd (no_words refl)
 
 -- the count of a name rose, also from before
 rose_before : (old middle new : ℕ) → old ≤ middle → Rose middle new → Rose old new

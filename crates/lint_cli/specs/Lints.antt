@@ -1,5 +1,5 @@
 -- What a lint answers, by what the files hold.
-use Rattle.std.specs.Prelude.{◌≡◌, ◌⊎◌, ℕ, Bool, true, false, ◌||◌, nat_lt, List, [], ◌∷◌, ◌++◌, length, Option, Some, None, Result, Ok, Err, Contains}
+use Rattle.std.specs.Prelude.{◌≡◌, ◌⊎◌, ℕ, Bool, true, false, not, ◌==◌, ◌||◌, ◌&&◌, nat_lt, if◌then◌else◌, List, [], ◌∷◌, ◌++◌, length, Option, Some, None, Result, Ok, Err, Contains}
 use Rattle.std.specs.Option.{is_some}
 use Rattle.std.specs.List.{list_any}
 use Rattle.pnp_io.specs.Outside.{Appends, Rose}
@@ -10,7 +10,8 @@ use Rattle.inf_reader.specs.Meaning.{inf}
 use Rattle.script_reader.specs.Script.{trace}
 use Rattle.script_lint.specs.Script.{stop_of}
 use Rattle.lint_cli.specs.Reports.{script_text, inf_text}
-use Rattle.lint_cli.specs.Warnings.{driver_names, warnings_text}
+use Rattle.lint_cli.specs.Warnings.{Known, nothing_known, known_of, warnings_text}
+use Rattle.lint_cli.specs.declared.words.Options.{Options}
 use Rattle.lint_cli.specs.declared.status.Status.{Status}
 
 -- a run of the script ends at a bad line
@@ -32,9 +33,15 @@ is_bad_file is_bad (Some bytes) = is_bad bytes
 abbrev pub bad_infs : (Text → Option (List ℕ)) → List Text → Bool
 bad_infs told names = list_any (λ name. is_bad_file is_bad_inf (told name)) names
 
--- the script has a bad line, or one of the INFs is refused
+-- the script, which is named first, has a bad line, or one of the INFs is refused
 abbrev pub is_bad_set : (Text → Option (List ℕ)) → Text → List Text → Bool
 is_bad_set told script infs = is_bad_file is_bad_script (told script) || bad_infs told infs
+
+-- the same of all names, by whether there is no script among them
+abbrev pub is_bad_by : Bool → (Text → Option (List ℕ)) → List Text → Bool
+is_bad_by true told names = bad_infs told names
+is_bad_by false told [] = false
+is_bad_by false told (script ∷ infs) = is_bad_set told script infs
 
 -- the most bytes that a file may have
 abbrev pub limit : ℕ
@@ -52,18 +59,9 @@ abbrev pub found_by : Bool → Status
 found_by true = Status.Found
 found_by false = Status.Clean
 
--- the answer, by whether a file is too large, and whether something is bad
-abbrev pub answer_by : Bool → Bool → Status
-answer_by true bad = Status.TooLarge
-answer_by false bad = found_by bad
-
-abbrev pub decided_for : (Text → Option (List ℕ)) → Text → List Text → Status
-decided_for told script infs = answer_by (some_large told (script ∷ infs)) (is_bad_set told script infs)
-
--- the answer that the contents of the files decide, by words
-abbrev pub decided : (Text → Option (List ℕ)) → List Text → Status
-decided told (program ∷ script ∷ infs) = decided_for told script infs
-decided told _ = Status.BadWords
+-- the answer: something is bad, or it is strict and something is written
+abbrev pub answer_by : Bool → Bool → Text → Status
+answer_by strict bad text = found_by (bad || (strict && not (length text == 0)))
 
 -- the answers that come only where the contents decide them
 abbrev pub is_decided : Status → Bool
@@ -71,6 +69,10 @@ is_decided Status.Clean = true
 is_decided Status.Found = true
 is_decided Status.TooLarge = true
 is_decided _ = false
+
+abbrev pub is_too_large : Status → Bool
+is_too_large Status.TooLarge = true
+is_too_large _ = false
 
 -- the answers after which all was read and written
 abbrev pub is_reported : Status → Bool
@@ -86,9 +88,9 @@ is_unwritten Status.TooLarge = true
 is_unwritten Status.WantOfMemory = true
 is_unwritten _ = false
 
--- where no count rose, the answer is the one that is decided, or want of memory
-abbrev pub Answers : Status → Type 0 → Type 0 → Status → Type 0
-Answers decides read_rose write_rose status = (read_rose → ⊥) → (write_rose → ⊥) → (decides ≡ status) ⊎ (status ≡ Status.WantOfMemory)
+-- where no count rose, the answer is one that the contents decide, or want of memory
+abbrev pub Answers : Type 0 → Type 0 → Status → Type 0
+Answers read_rose write_rose status = (read_rose → ⊥) → (write_rose → ⊥) → (is_decided status ≡ true) ⊎ (status ≡ Status.WantOfMemory)
 
 -- the count of one of these names rose
 pub record SomeRose (old new : Text → ℕ) (names : List Text) : Type 0 where
@@ -97,29 +99,34 @@ pub record SomeRose (old new : Text → ℕ) (names : List Text) : Type 0 where
   pub rose : Rose (old name) (new name)
 
 -- of an INF that is read its warnings are added, and then more; of another first that for which `read` refuses it
-abbrev pub AddsInf : Text → List Text → Result Inf InfError → Text → Text → Type 0
-AddsInf name drivers (Ok read) old new = (more : Text) × (new ≡ old ++ (warnings_text name drivers read ++ more))
-AddsInf name drivers (Err error) old new = (more : Text) × (new ≡ old ++ (inf_text name error ++ more))
+abbrev pub AddsInf : Text → Known → Result Inf InfError → Text → Text → Type 0
+AddsInf name known (Ok read) old new = (more : Text) × (new ≡ old ++ (warnings_text name known read ++ more))
+AddsInf name known (Err error) old new = (more : Text) × (new ≡ old ++ (inf_text name error ++ more))
 
-abbrev pub AddsFile : Text → List Text → Option (List ℕ) → Text → Text → Type 0
-AddsFile name drivers None old new = Unit {0}
-AddsFile name drivers (Some bytes) old new = AddsInf name drivers (inf bytes) old new
+abbrev pub AddsFile : Text → Known → Option (List ℕ) → Text → Text → Type 0
+AddsFile name known None old new = Unit {0}
+AddsFile name known (Some bytes) old new = AddsInf name known (inf bytes) old new
 
 -- the same of the INFs of these names, one after another
-abbrev pub AddsInfs : (Text → Option (List ℕ)) → List Text → List Text → Text → Text → Type 0
-AddsInfs told drivers [] old new = new ≡ old
-AddsInfs told drivers (name ∷ names) old new = (middle : Text) × AddsFile name drivers (told name) old middle × AddsInfs told drivers names middle new
+abbrev pub AddsInfs : (Text → Option (List ℕ)) → Known → List Text → Text → Text → Type 0
+AddsInfs told known [] old new = new ≡ old
+AddsInfs told known (name ∷ names) old new = (middle : Text) × AddsFile name known (told name) old middle × AddsInfs told known names middle new
 
--- a text has the bad lines of the script, and behind them what is added of the INFs, by the drivers that the script names
-abbrev pub IsText : (Text → Option (List ℕ)) → Option (List ℕ) → List Text → Text → Type 0
-IsText told None infs text = Unit {0}
-IsText told (Some script) infs text = AddsInfs told (driver_names script) infs (script_text script) text
+-- a text has what is written of the script, and behind it what is added of the INFs, by what the script tells
+abbrev pub IsText : (Text → Option (List ℕ)) → Bool → Text → Option (List ℕ) → List Text → Text → Type 0
+IsText told all name None infs text = Unit {0}
+IsText told all name (Some script) infs text = AddsInfs told (known_of all script) infs (script_text name script) text
 
--- such a text was written
-abbrev pub WroteSet : (Text → Option (List ℕ)) → Text → List Text → Option Text → Option Text → Type 0
-WroteSet told script infs old new = (text : Text) × IsText told (told script) infs text × Appends old new text
+-- the same by names, where there may be no script among them
+abbrev pub IsTextBy : Bool → Bool → (Text → Option (List ℕ)) → List Text → Text → Type 0
+IsTextBy true all told names text = AddsInfs told nothing_known names [] text
+IsTextBy false all told [] text = Unit {0}
+IsTextBy false all told (script ∷ infs) text = IsText told all script (told script) infs text
 
--- the same by words
-abbrev pub WroteBy : (Text → Option (List ℕ)) → List Text → Option Text → Option Text → Type 0
-WroteBy told (program ∷ script ∷ infs) old new = WroteSet told script infs old new
-WroteBy told _ old new = Unit {0}
+-- such a text was written, and the answer is its
+abbrev pub WroteBy : Options → (Text → Option (List ℕ)) → List Text → Status → Option Text → Option Text → Type 0
+WroteBy o told names status old new = (text : Text) × IsTextBy o.bare o.all told names text × Appends old new text × (status ≡ answer_by o.strict (is_bad_by o.bare told names) text)
+
+-- no file is too large where a text was written, and one is where `TooLarge` is the answer
+abbrev pub Sizes : (Text → Option (List ℕ)) → List Text → Status → Type 0
+Sizes told names status = some_large told names ≡ is_too_large status

@@ -1,14 +1,16 @@
 //! What is written of an INF.
-ghost use Rattle.std.specs.Prelude.{◌≡◌, ◌≤◌, ◌++◌, IfOk, OnOk, Ok, length, map};
+ghost use Rattle.std.specs.Prelude.{◌≡◌, ◌≤◌, ◌++◌, IfOk, OnOk, Ok, length};
 ghost use Rattle.inf_reader.specs.Meaning.{inf};
-ghost use Rattle.lint_cli.specs.Reports.{error_text, error_place, inf_text, line_text, IsFront};
+ghost use Rattle.lint_cli.specs.Reports.{error_text, error_line, inf_text, line_text, IsFront};
+ghost use Rattle.lint_cli.specs.Warnings.{told};
 ghost use Rattle.lint_cli.specs.Lints.{is_bad_inf, AddsInf};
 
-use crate::mend::{line_of, mended, plain_text};
-use crate::notes::notes_of;
-use crate::shown::{push_at_line, push_shown};
-use crate::warnings::push_warnings;
+use crate::mend::{line_of, mended};
+use crate::notes::{encoding_note, notes_of};
+use crate::shown::{push_error_head, push_shown};
+use crate::warnings::{Known, push_warnings};
 use inf_reader::{Inf, InfError, read};
+use inf_sections::plain_text;
 use std::alloc::{AllocError, Global};
 
 /// The most faults of an INF that are told.
@@ -33,16 +35,16 @@ fn error_text(error: InfError) -> &'static [u8]
     }
 }
 
-/// Appends where an error stands.
-fn push_place(alloc: Global, out: &mut Vec<u8>, error: InfError) -> Result<(), AllocError>
-    ensures { OnOk result (out.new.items ≡ out.old.items ++ error_place error) }
+/// The line that an error stands on, and the first where it is of the whole file.
+fn error_line(error: InfError) -> u32
+    ensures { result ≡ error_line error }
 {
     match error {
         InfError::OpenHeader { line }
         | InfError::LineTooLong { line }
         | InfError::BadDate { line }
-        | InfError::BadScore { line } => push_at_line(alloc, out, line),
-        InfError::NoSignature | InfError::WantOfMemory => Ok(()),
+        | InfError::BadScore { line } => line,
+        InfError::NoSignature | InfError::WantOfMemory => 1,
     }
 }
 
@@ -55,10 +57,7 @@ fn push_error(
 ) -> Result<(), AllocError>
     ensures { OnOk result (out.new.items ≡ out.old.items ++ inf_text name.now error) }
 {
-    out.extend_from_slice(b"inf ")?;
-    push_shown(alloc, out, name)?;
-    push_place(alloc, out, error)?;
-    out.extend_from_slice(b": ")?;
+    push_error_head(alloc, out, name, error_line(error) as u64)?;
     out.extend_from_slice(error_text(error))?;
     Ok(())
 }
@@ -118,6 +117,22 @@ fn push_others(
     Ok(())
 }
 
+/// Appends the faults of an INF that are left once the first is mended, and a word on bytes that are read otherwise than they were meant.
+#[tactic(auto, using(crate::proofs::Steps::front_more))]
+fn push_behind(
+    alloc: Global,
+    out: &mut Vec<u8>,
+    name: &[u8],
+    bytes: &[u8],
+    first: InfError,
+) -> Result<(), AllocError>
+    ensures { OnOk result (IsFront out.old.items out.new.items) }
+{
+    push_others(alloc, out, name, bytes, first)?;
+    out.extend_from_slice(&encoding_note(alloc, name, bytes)?)?;
+    Ok(())
+}
+
 /// Appends the warnings of an INF that is read: those that follow from what it means, and then those that name causes.
 #[tactic(auto, using(crate::proofs::Steps::adds_read))]
 fn push_lacks(
@@ -125,39 +140,39 @@ fn push_lacks(
     out: &mut Vec<u8>,
     name: &[u8],
     bytes: &[u8],
-    drivers: &[&[u8]],
+    known: &Known,
     read: &Inf,
 ) -> Result<(), AllocError>
-    ensures { OnOk result (AddsInf name.now (map (λ d. d.now) drivers.now) (Ok read.now) out.old.items out.new.items) }
+    ensures { OnOk result (AddsInf name.now (told known.now) (Ok read.now) out.old.items out.new.items) }
 {
-    push_warnings(alloc, out, name, drivers, read)?;
-    out.extend_from_slice(&notes_of(alloc, name, bytes)?)?;
+    push_warnings(alloc, out, name, known, read)?;
+    out.extend_from_slice(&notes_of(alloc, name, bytes, known.ids.as_ref())?)?;
     Ok(())
 }
 
-/// Appends the faults of an INF, first that for which it is refused, or where it has none its warnings, by the names of the script's
-/// drivers; whether it is refused.
+/// Appends the faults of an INF, first that for which it is refused, or where it has none its warnings, by what the script tells;
+/// whether it is refused.
 #[tactic(auto, using(crate::proofs::Steps::adds_ok, crate::proofs::Steps::adds_more))]
 pub fn report_inf(
     alloc: Global,
     name: &[u8],
     bytes: &[u8],
-    drivers: &[&[u8]],
+    known: &Known,
     out: &mut Vec<u8>,
 ) -> Result<bool, AllocError>
     requires { length bytes.now ≤ 16777216 }
-    ensures text { OnOk result (AddsInf name.now (map (λ d. d.now) drivers.now) (inf bytes.now) out.old.items out.new.items) }
+    ensures text { OnOk result (AddsInf name.now (told known.now) (inf bytes.now) out.old.items out.new.items) }
     ensures bad { IfOk result (λ bad. bad ≡ is_bad_inf bytes.now) }
 {
     match read(alloc, bytes) {
         Ok(inf) => {
-            push_lacks(alloc, out, name, bytes, drivers, &inf)?;
+            push_lacks(alloc, out, name, bytes, known, &inf)?;
             Ok(false)
         }
         Err(InfError::WantOfMemory) => Err(AllocError),
         Err(error) => {
             push_error(alloc, out, name, error)?;
-            push_others(alloc, out, name, bytes, error)?;
+            push_behind(alloc, out, name, bytes, error)?;
             Ok(true)
         }
     }

@@ -4,11 +4,13 @@
 mod causes;
 mod drivers;
 mod infs;
+mod installs;
 mod lints;
 mod mend;
+mod names;
 mod notes;
+mod over;
 mod report;
-mod sections;
 mod shown;
 mod status;
 mod warnings;

@@ -2,30 +2,11 @@
 ghost use Rattle.std.specs.Prelude.{◌≤◌, length};
 
 use inf_reader::InfError;
+use inf_sections::bare;
 use std::alloc::{AllocError, Global};
 
 /// The most bytes of a line.
 const LONGEST: usize = 4096;
-
-/// The units of UTF-16, the lower byte first.
-fn units(alloc: Global, bytes: &[u8]) -> Result<Vec<u16>, AllocError> {
-    let mut all = Vec::new(alloc);
-    for at in 0..bytes.len() / 2 {
-        all.push(bytes[2 * at] as u16 + 256 * (bytes[2 * at + 1] as u16))?;
-    }
-    Ok(all)
-}
-
-/// The bytes of a file, as UTF-8 where they are UTF-16.
-pub fn plain_text(alloc: Global, bytes: &[u8]) -> Result<Vec<u8>, AllocError> {
-    if bytes.starts_with(&[0xFF, 0xFE]) {
-        let units = units(alloc, &bytes[2..])?;
-        let text = String::from_utf16_lossy(alloc, &units)?;
-        Vec::from_slice(alloc, text.as_bytes())
-    } else {
-        Vec::from_slice(alloc, bytes)
-    }
-}
 
 /// The line that an error stands on.
 fn line_number(error: InfError) -> Option<u32> {
@@ -64,14 +45,6 @@ fn front_of(text: &[u8]) -> &[u8]
         }
     }
     text
-}
-
-/// A line without blanks before it and without a carriage return.
-pub fn bare(line: &[u8]) -> &[u8] {
-    match line {
-        [front @ .., b'\r'] => front,
-        _ => line,
-    }
 }
 
 /// The line that an error stands on; nothing where it has none.

@@ -1,10 +1,14 @@
-//! What sections an INF names and has not, which models sections it has that are not read, and which services are no function
-//! drivers: the causes of problem 28, each as a warning. Nothing is claimed of them, and they are tested.
+//! What is told of an INF by its sections: how its bytes look, what is read over, and what its models and install sections lack. Nothing
+//! is claimed of it, and it is tested.
 
-use crate::sections::{Entry, Section, sections_of};
-use crate::shown::{push_quoted, push_shown};
-use crate::warnings::push_head;
-use device_ids::split_once;
+use crate::installs::push_install;
+use crate::names::Names;
+use crate::over::{push_class_filters, push_unread_models, push_version};
+use crate::shown::{push_shown, push_warning_head};
+use inf_sections::{
+    Encoding, Entry, Maker, Section, begins, encoding_of, has_section, joined, maker_of, replaced,
+    sections_of, value,
+};
 use std::alloc::{AllocError, Global};
 
 /// The most install sections of an INF that are looked at.
@@ -13,382 +17,78 @@ const MOST_INSTALLS: usize = 1024;
 /// The most sections that are told in one warning.
 const MOST_TOLD: usize = 8;
 
-/// Whether a section of the name is there.
-fn has_section(sections: &[Section], name: &[u8]) -> bool {
-    for section in sections {
-        if section.name.eq_ignore_ascii_case(name) {
-            return true;
-        }
-    }
-    false
-}
+/// The most IDs of a models line.
+const MOST_IDS: usize = 8;
 
-/// A value of an entry, empty where it is not there.
-fn value(entry: &Entry, at: usize) -> &[u8] {
-    match entry.values.get(at) {
-        Some(text) => text,
-        None => &[],
-    }
-}
-
-/// Appends what a token stands for.
-fn push_token(text: &mut Vec<u8>, sections: &[Section], token: &[u8]) -> Result<(), AllocError> {
-    for section in sections {
-        if section.name.eq_ignore_ascii_case(b"Strings") {
-            for entry in &section.entries {
-                if !token.is_empty() && entry.key.eq_ignore_ascii_case(token) {
-                    return text.extend_from_slice(value(entry, 0));
-                }
-            }
-        }
-    }
-    text.push(b'%')?;
-    if !token.is_empty() {
-        text.extend_from_slice(token)?;
-        text.push(b'%')?;
-    }
-    Ok(())
-}
-
-/// Appends a text with its tokens replaced.
-fn push_replaced(all: &mut Vec<u8>, sections: &[Section], text: &[u8]) -> Result<(), AllocError> {
-    let mut rest = text;
-    while let Some((plain, behind)) = split_once(rest, b'%') {
-        all.extend_from_slice(plain)?;
-        let Some((token, after)) = split_once(behind, b'%') else {
-            all.push(b'%')?;
-            return all.extend_from_slice(behind);
-        };
-        push_token(all, sections, token)?;
-        rest = after;
-    }
-    all.extend_from_slice(rest)
-}
-
-/// A text with its tokens replaced.
-fn replaced(alloc: Global, sections: &[Section], text: &[u8]) -> Result<Vec<u8>, AllocError> {
-    let mut all = Vec::new(alloc);
-    push_replaced(&mut all, sections, text)?;
-    Ok(all)
-}
-
-/// A name, a point, and what follows it.
-fn joined(alloc: Global, name: &[u8], more: &[u8]) -> Result<Vec<u8>, AllocError> {
-    let mut all = Vec::from_slice(alloc, name)?;
-    all.push(b'.')?;
-    all.extend_from_slice(more)?;
-    Ok(all)
-}
-
-/// Whether a text begins with another, in any letters.
-fn begins(text: &[u8], front: &[u8]) -> bool {
-    match text.get(..front.len()) {
-        Some(begun) => begun.eq_ignore_ascii_case(front),
-        None => false,
-    }
-}
-
-/// The decoration that is taken, if one is.
-fn decoration_of(decorations: &[Vec<u8>]) -> Option<&[u8]> {
-    for decoration in decorations {
-        if decoration.eq_ignore_ascii_case(b"NTamd64") {
-            return Some(decoration);
-        }
-    }
-    for decoration in decorations {
-        if begins(decoration, b"NTamd64.") {
-            return Some(decoration);
-        }
-    }
-    for decoration in decorations {
-        if decoration.eq_ignore_ascii_case(b"NT") {
-            return Some(decoration);
-        }
-    }
-    None
+/// An INF that is looked at: its name, its sections, and the IDs of which a line must have one to be told of, if there are some.
+#[derive(Drop)]
+pub struct Looked<'a> {
+    pub file: &'a [u8],
+    pub sections: &'a [Section],
+    pub ids: Option<&'a Names<'a>>,
 }
 
 /// Appends a name between brackets.
-fn push_section(alloc: Global, out: &mut Vec<u8>, name: &[u8]) -> Result<(), AllocError> {
+pub fn push_section(alloc: Global, out: &mut Vec<u8>, name: &[u8]) -> Result<(), AllocError> {
     out.push(b'[')?;
     push_shown(alloc, out, name)?;
     out.push(b']')?;
     Ok(())
 }
 
-/// Appends that a section is not there.
-fn push_absent(
-    alloc: Global,
-    out: &mut Vec<u8>,
-    file: &[u8],
-    line: u32,
-    name: &[u8],
-    why: &[u8],
-) -> Result<(), AllocError> {
-    push_head(alloc, out, file, line)?;
-    out.extend_from_slice(b"there is no section ")?;
-    push_section(alloc, out, name)?;
-    out.extend_from_slice(why)?;
-    out.push(b'\n')?;
+/// Appends names between brackets, a blank between any two, as far as they are told.
+pub fn push_names(alloc: Global, out: &mut Vec<u8>, names: &[Vec<u8>]) -> Result<(), AllocError> {
+    for at in 0..names.len().min(MOST_TOLD) {
+        if at > 0 {
+            out.push(b' ')?;
+        }
+        push_section(alloc, out, &names[at])?;
+    }
+    if names.len() > MOST_TOLD {
+        out.extend_from_slice(b" ..")?;
+    }
     Ok(())
 }
 
-/// Appends the sections of a name with any decoration.
-fn push_decorated(
+/// The sections of a name with any decoration.
+fn decorated_names(
     alloc: Global,
-    out: &mut Vec<u8>,
     sections: &[Section],
     name: &[u8],
-) -> Result<(), AllocError> {
+) -> Result<Vec<Vec<u8>>, AllocError> {
     let front = joined(alloc, name, &[])?;
-    let mut told = 0;
+    let mut names = Vec::new(alloc);
     for section in sections {
-        if told < MOST_TOLD
-            && (section.name.eq_ignore_ascii_case(name) || begins(&section.name, &front))
-        {
-            out.extend_from_slice(if told == 0 { b", and " } else { b" " })?;
-            push_section(alloc, out, &section.name)?;
-            told += 1;
+        if section.name.eq_ignore_ascii_case(name) || begins(&section.name, &front) {
+            names.push(Vec::from_slice(alloc, &section.name)?)?;
         }
     }
-    out.extend_from_slice(if told == 0 { b"" } else { b" is not read" })
+    Ok(names)
 }
 
 /// Appends why no models line is read for an entry of `[Manufacturer]`.
-fn push_unread(
+fn push_absent_models(
     alloc: Global,
     out: &mut Vec<u8>,
-    file: &[u8],
-    sections: &[Section],
+    inf: &Looked,
     entry: &Entry,
+    maker: &Maker,
     models: &[u8],
 ) -> Result<(), AllocError> {
-    push_head(alloc, out, file, entry.line)?;
+    push_warning_head(alloc, out, inf.file, entry.line)?;
     out.extend_from_slice(b"there is no models section ")?;
     push_section(alloc, out, models)?;
-    push_decorated(
-        alloc,
-        out,
-        sections,
-        &replaced(alloc, sections, value(entry, 0))?,
-    )?;
-    let decorations = entry.values.get(1..).unwrap_or(&[]);
-    if !decorations.is_empty() && decoration_of(decorations).is_none() {
+    let names = decorated_names(alloc, inf.sections, &maker.name)?;
+    if !names.is_empty() {
+        out.extend_from_slice(b", and ")?;
+        push_names(alloc, out, &names)?;
+        out.extend_from_slice(b" is not read")?;
+    }
+    if !maker.decorations.is_empty() && maker.taken().is_none() {
         out.extend_from_slice(b": no decoration is NTamd64, NT, or begins with NTamd64.")?;
     }
     out.push(b'\n')?;
     Ok(())
-}
-
-/// The name of the models section that an entry of `[Manufacturer]` names.
-fn models_name(alloc: Global, sections: &[Section], entry: &Entry) -> Result<Vec<u8>, AllocError> {
-    let name = replaced(alloc, sections, value(entry, 0))?;
-    match decoration_of(entry.values.get(1..).unwrap_or(&[])) {
-        Some(decoration) => joined(alloc, &name, &replaced(alloc, sections, decoration)?),
-        None => Ok(name),
-    }
-}
-
-/// A name with this decoration, if a section has it.
-fn decorated(
-    alloc: Global,
-    sections: &[Section],
-    name: &[u8],
-    decoration: &[u8],
-) -> Result<Option<Vec<u8>>, AllocError> {
-    let decorated = joined(alloc, name, decoration)?;
-    if has_section(sections, &decorated) {
-        Ok(Some(decorated))
-    } else {
-        Ok(None)
-    }
-}
-
-/// The name of the install section that is taken, and the bare name where none is there.
-fn install_name(alloc: Global, sections: &[Section], name: &[u8]) -> Result<Vec<u8>, AllocError> {
-    if let Some(first) = decorated(alloc, sections, name, b"NTamd64")? {
-        return Ok(first);
-    }
-    if let Some(second) = decorated(alloc, sections, name, b"NT")? {
-        return Ok(second);
-    }
-    Vec::from_slice(alloc, name)
-}
-
-/// The value of a digit, if the byte is one.
-fn digit(byte: u8) -> Option<u64> {
-    match byte {
-        b'0'..=b'9' => Some((byte - b'0') as u64),
-        b'a'..=b'f' => Some((byte - b'a') as u64 + 10),
-        b'A'..=b'F' => Some((byte - b'A') as u64 + 10),
-        _ => None,
-    }
-}
-
-/// Whether the flags are a number below 2^32 that has the bit 2.
-fn is_function_driver(flags: &[u8]) -> bool {
-    let (digits, base) = match flags {
-        [b'0', b'x', digits @ ..] => (digits, 16u64),
-        _ => (flags, 10u64),
-    };
-    let mut number = 0u64;
-    for byte in digits {
-        match digit(*byte) {
-            Some(one) if one < base => {
-                number = number.saturating_mul(base).saturating_add(one);
-            }
-            _ => return false,
-        }
-    }
-    number <= 0xFFFF_FFFF && number % 4 >= 2
-}
-
-/// Appends that a service is no function driver.
-fn push_no_driver(
-    alloc: Global,
-    out: &mut Vec<u8>,
-    file: &[u8],
-    entry: &Entry,
-) -> Result<(), AllocError> {
-    push_head(alloc, out, file, entry.line)?;
-    push_quoted(alloc, out, value(entry, 0))?;
-    out.extend_from_slice(b"is no function driver: its flags have not the bit 2\n")
-}
-
-/// Whether the flags of an entry make its service the function driver.
-fn adds_driver(alloc: Global, sections: &[Section], entry: &Entry) -> Result<bool, AllocError> {
-    let flags = replaced(alloc, sections, value(entry, 1))?;
-    Ok(is_function_driver(&flags))
-}
-
-/// Appends the services of entries that are no function drivers, up to one that is; whether there is one.
-fn push_entry_flags(
-    alloc: Global,
-    lines: &mut Vec<u8>,
-    file: &[u8],
-    sections: &[Section],
-    entries: &[Entry],
-) -> Result<bool, AllocError> {
-    for entry in entries {
-        if entry.key.eq_ignore_ascii_case(b"AddService") {
-            if adds_driver(alloc, sections, entry)? {
-                return Ok(true);
-            }
-            push_no_driver(alloc, lines, file, entry)?;
-        }
-    }
-    Ok(false)
-}
-
-/// Appends the services of a section that are no function drivers, where none is one.
-fn push_flags(
-    alloc: Global,
-    out: &mut Vec<u8>,
-    file: &[u8],
-    sections: &[Section],
-    name: &[u8],
-) -> Result<(), AllocError> {
-    let mut lines = Vec::new(alloc);
-    for section in sections {
-        if section.name.eq_ignore_ascii_case(name)
-            && push_entry_flags(alloc, &mut lines, file, sections, &section.entries)?
-        {
-            return Ok(());
-        }
-    }
-    out.extend_from_slice(&lines)
-}
-
-/// Appends that the section of filters that a value names is not there.
-fn push_filter(
-    alloc: Global,
-    out: &mut Vec<u8>,
-    file: &[u8],
-    sections: &[Section],
-    line: u32,
-    text: &[u8],
-) -> Result<(), AllocError> {
-    let named = replaced(alloc, sections, text)?;
-    if named.is_empty() || has_section(sections, &named) {
-        return Ok(());
-    }
-    push_absent(alloc, out, file, line, &named, b", which AddReg names")
-}
-
-/// Appends the sections of filters that an entry names and that are not there.
-fn push_entry_filters(
-    alloc: Global,
-    out: &mut Vec<u8>,
-    file: &[u8],
-    sections: &[Section],
-    entry: &Entry,
-) -> Result<(), AllocError> {
-    if !entry.key.eq_ignore_ascii_case(b"AddReg") {
-        return Ok(());
-    }
-    for text in &entry.values {
-        push_filter(alloc, out, file, sections, entry.line, text)?;
-    }
-    Ok(())
-}
-
-/// Appends the sections of filters that are not there.
-fn push_filters(
-    alloc: Global,
-    out: &mut Vec<u8>,
-    file: &[u8],
-    sections: &[Section],
-    name: &[u8],
-) -> Result<(), AllocError> {
-    for section in sections {
-        if section.name.eq_ignore_ascii_case(name) {
-            for entry in &section.entries {
-                push_entry_filters(alloc, out, file, sections, entry)?;
-            }
-        }
-    }
-    Ok(())
-}
-
-/// Appends what the section of services lacks, or that it is not there.
-fn push_services(
-    alloc: Global,
-    out: &mut Vec<u8>,
-    file: &[u8],
-    sections: &[Section],
-    line: u32,
-    name: &[u8],
-    taken: &[u8],
-) -> Result<(), AllocError> {
-    let services = joined(alloc, taken, b"Services")?;
-    if has_section(sections, &services) {
-        return push_flags(alloc, out, file, sections, &services);
-    }
-    if !has_section(sections, taken) {
-        push_absent(alloc, out, file, line, name, b", which this line installs")?;
-    }
-    push_absent(
-        alloc,
-        out,
-        file,
-        line,
-        &services,
-        b", which gives the driver",
-    )
-}
-
-/// Appends what the install section of a models line lacks. A section that would be empty need not be there.
-fn push_install(
-    alloc: Global,
-    out: &mut Vec<u8>,
-    file: &[u8],
-    sections: &[Section],
-    line: u32,
-    name: &[u8],
-) -> Result<(), AllocError> {
-    let taken = install_name(alloc, sections, name)?;
-    push_services(alloc, out, file, sections, line, name, &taken)?;
-    push_filters(alloc, out, file, sections, &joined(alloc, &taken, b"HW")?)
 }
 
 /// Whether the name is one of these, in any letters.
@@ -401,82 +101,129 @@ fn is_among(names: &[Vec<u8>], name: &[u8]) -> bool {
     false
 }
 
-/// Appends what the install section of an entry lacks, unless it was named before.
+/// Whether one of the IDs of a models line is one of these.
+fn has_id(alloc: Global, inf: &Looked, ids: &Names, entry: &Entry) -> Result<bool, AllocError> {
+    for at in 1..=MOST_IDS {
+        let id = replaced(alloc, inf.sections, value(entry, at))?;
+        if !id.is_empty() && ids.has(alloc, &id)? {
+            return Ok(true);
+        }
+    }
+    Ok(false)
+}
+
+/// Whether an entry is a models line that counts.
+fn counts(alloc: Global, inf: &Looked, entry: &Entry) -> Result<bool, AllocError> {
+    if entry.key.is_empty() {
+        return Ok(false);
+    }
+    match inf.ids {
+        None => Ok(true),
+        Some(ids) => has_id(alloc, inf, ids, entry),
+    }
+}
+
+/// Appends what is told of the install section of an entry, unless it was named before.
 fn push_model(
     alloc: Global,
     out: &mut Vec<u8>,
-    file: &[u8],
-    sections: &[Section],
+    inf: &Looked,
     entry: &Entry,
     passed: &mut Vec<Vec<u8>>,
 ) -> Result<(), AllocError> {
-    let name = replaced(alloc, sections, value(entry, 0))?;
-    if entry.key.is_empty() || passed.len() >= MOST_INSTALLS || is_among(passed, &name) {
+    if passed.len() >= MOST_INSTALLS || !counts(alloc, inf, entry)? {
         return Ok(());
     }
-    push_install(alloc, out, file, sections, entry.line, &name)?;
+    let name = replaced(alloc, inf.sections, value(entry, 0))?;
+    if is_among(passed, &name) {
+        return Ok(());
+    }
+    push_install(alloc, out, inf, entry.line, &name)?;
     passed.push(name)?;
     Ok(())
 }
 
-/// Appends what the install sections of a models section lack, of each the first time that it is named.
+/// Appends what is told of the install sections of a models section, of each the first time that it is named.
 fn push_models(
     alloc: Global,
     out: &mut Vec<u8>,
-    file: &[u8],
-    sections: &[Section],
+    inf: &Looked,
     models: &[u8],
     passed: &mut Vec<Vec<u8>>,
 ) -> Result<(), AllocError> {
-    for section in sections {
+    for section in inf.sections {
         if section.name.eq_ignore_ascii_case(models) {
             for entry in &section.entries {
-                push_model(alloc, out, file, sections, entry, passed)?;
+                push_model(alloc, out, inf, entry, passed)?;
             }
         }
     }
     Ok(())
 }
 
-/// Appends the warnings of what an entry of a maker names.
+/// Appends what is told of an entry of `[Manufacturer]`.
 fn push_maker(
     alloc: Global,
     out: &mut Vec<u8>,
-    file: &[u8],
-    sections: &[Section],
+    inf: &Looked,
     entry: &Entry,
     passed: &mut Vec<Vec<u8>>,
 ) -> Result<(), AllocError> {
-    let models = models_name(alloc, sections, entry)?;
-    if has_section(sections, &models) {
-        push_models(alloc, out, file, sections, &models, passed)
-    } else {
-        push_unread(alloc, out, file, sections, entry, &models)
+    let maker = maker_of(alloc, inf.sections, entry)?;
+    let models = maker.read_name(alloc)?;
+    if !has_section(inf.sections, &models) {
+        return push_absent_models(alloc, out, inf, entry, &maker, &models);
     }
+    push_unread_models(alloc, out, inf, entry.line, &maker, &models)?;
+    push_models(alloc, out, inf, &models, passed)
 }
 
-/// Appends the warnings of an INF with these sections.
-fn push_makers(
-    alloc: Global,
-    out: &mut Vec<u8>,
-    file: &[u8],
-    sections: &[Section],
-) -> Result<(), AllocError> {
+/// Appends what is told of the entries of `[Manufacturer]`.
+fn push_makers(alloc: Global, out: &mut Vec<u8>, inf: &Looked) -> Result<(), AllocError> {
     let mut passed = Vec::new(alloc);
-    for section in sections {
+    for section in inf.sections {
         if section.name.eq_ignore_ascii_case(b"Manufacturer") {
             for entry in &section.entries {
-                push_maker(alloc, out, file, sections, entry, &mut passed)?;
+                push_maker(alloc, out, inf, entry, &mut passed)?;
             }
         }
     }
     Ok(())
 }
 
-/// The warnings of an INF that is read, by its sections.
-pub fn notes_of(alloc: Global, file: &[u8], bytes: &[u8]) -> Result<Vec<u8>, AllocError> {
-    let sections = sections_of(alloc, bytes)?;
+/// What is told of bytes that are read otherwise than they were meant.
+pub fn encoding_note(alloc: Global, file: &[u8], bytes: &[u8]) -> Result<Vec<u8>, AllocError> {
     let mut out = Vec::new(alloc);
-    push_makers(alloc, &mut out, file, &sections)?;
+    let text = match encoding_of(bytes) {
+        Encoding::Read => return Ok(out),
+        Encoding::Unmarked => {
+            b"the file looks like UTF-16 without the mark FF FE, and is not read as such\n".as_slice()
+        }
+        Encoding::HigherFirst => {
+            b"the file looks like UTF-16 with the higher byte first, which is not read\n".as_slice()
+        }
+    };
+    push_warning_head(alloc, &mut out, file, 1)?;
+    out.extend_from_slice(text)?;
+    Ok(out)
+}
+
+/// What is told of an INF that is read, by its bytes and its sections.
+pub fn notes_of(
+    alloc: Global,
+    file: &[u8],
+    bytes: &[u8],
+    ids: Option<&Names>,
+) -> Result<Vec<u8>, AllocError> {
+    let sections = sections_of(alloc, bytes)?;
+    let inf = Looked {
+        file,
+        sections: &sections,
+        ids,
+    };
+    let mut out = encoding_note(alloc, file, bytes)?;
+    push_version(alloc, &mut out, &inf)?;
+    push_class_filters(alloc, &mut out, &inf)?;
+    push_makers(alloc, &mut out, &inf)?;
     Ok(out)
 }

@@ -1,34 +1,14 @@
 //! What is written of the bad lines of a script.
-ghost use Rattle.std.specs.Fmt.{decimal};
-ghost use Rattle.std.specs.Prelude.{codes, ◌≡◌, ◌++◌, ◌∷◌, [], true, IfOk, OnOk};
-ghost use Rattle.std.specs.Option.{is_some};
+ghost use Rattle.std.specs.Prelude.{◌≡◌, ◌++◌, IfOk, OnOk};
 ghost use Rattle.script_lint.specs.Faults.{seen};
 ghost use Rattle.script_lint.specs.Script.{told};
-ghost use Rattle.lint_cli.specs.Reports.{head_text, fault_text, bad_text, script_text};
+ghost use Rattle.lint_cli.specs.Reports.{fault_text, bad_text, bad_texts, is_space, opens_inf, is_marked, hint_text, script_text};
 ghost use Rattle.lint_cli.specs.Lints.{is_bad_script};
 
 use crate::causes::cause_text;
-use crate::shown::push_quoted;
-use pnp_labels::decimal;
+use crate::shown::{push_error_head, push_quoted, push_warning_head};
 use script_lint::{BadLine, LineFault, faults_of};
 use std::alloc::{AllocError, Global};
-
-/// Appends a number and a colon.
-fn push_number(alloc: Global, out: &mut Vec<u8>, number: u64) -> Result<(), AllocError>
-    ensures { OnOk result (out.new.items ≡ out.old.items ++ (decimal number ++ codes ": ")) }
-{
-    out.extend_from_slice(decimal(alloc, number)?.as_bytes())?;
-    out.extend_from_slice(b": ")?;
-    Ok(())
-}
-
-/// Appends the front of the line of a bad line, up to its number.
-fn push_head(alloc: Global, out: &mut Vec<u8>, line: u64) -> Result<(), AllocError>
-    ensures { OnOk result (out.new.items ≡ out.old.items ++ head_text line) }
-{
-    out.extend_from_slice(b"script line ")?;
-    push_number(alloc, out, line)
-}
 
 /// Appends the word and the cause.
 fn push_fault(alloc: Global, out: &mut Vec<u8>, fault: &LineFault) -> Result<(), AllocError>
@@ -41,21 +21,83 @@ fn push_fault(alloc: Global, out: &mut Vec<u8>, fault: &LineFault) -> Result<(),
 }
 
 /// Appends the line of a bad line.
-fn push_bad(alloc: Global, out: &mut Vec<u8>, bad: &BadLine) -> Result<(), AllocError>
-    ensures { OnOk result (out.new.items ≡ out.old.items ++ bad_text (told bad.now)) }
+fn push_bad(alloc: Global, out: &mut Vec<u8>, file: &[u8], bad: &BadLine) -> Result<(), AllocError>
+    ensures { OnOk result (out.new.items ≡ out.old.items ++ bad_text file.now (told bad.now)) }
 {
-    push_head(alloc, out, bad.line)?;
+    push_error_head(alloc, out, file, bad.line)?;
     push_fault(alloc, out, &bad.fault)
 }
 
 /// Appends a line for each bad line of a script; whether there is one.
-pub fn report_script(alloc: Global, script: &[u8], out: &mut Vec<u8>) -> Result<bool, AllocError>
-    ensures text { OnOk result (out.new.items ≡ out.old.items ++ script_text script.now) }
+fn push_all_bad(
+    alloc: Global,
+    file: &[u8],
+    script: &[u8],
+    out: &mut Vec<u8>,
+) -> Result<bool, AllocError>
+    ensures text { OnOk result (out.new.items ≡ out.old.items ++ bad_texts file.now script.now) }
     ensures bad { IfOk result (λ bad. bad ≡ is_bad_script script.now) }
 {
     let bad = faults_of(alloc, script)?;
     for line in &bad {
-        push_bad(alloc, out, line)?;
+        push_bad(alloc, out, file, line)?;
     }
     Ok(!bad.is_empty())
+}
+
+/// Whether a byte stands between words or lines.
+fn is_space(byte: u8) -> bool
+    ensures { result ≡ is_space byte }
+{
+    byte == b' ' || byte == b'\t' || byte == b'\r' || byte == b'\n'
+}
+
+/// Whether a script begins as a section or a comment of an INF does.
+fn opens_inf(script: &[u8]) -> bool
+    ensures { result ≡ opens_inf script.now }
+{
+    for byte in script {
+        if !is_space(*byte) {
+            return *byte == b'[' || *byte == b';';
+        }
+    }
+    false
+}
+
+/// Whether a script begins with a mark of UTF-16.
+fn is_marked(script: &[u8]) -> bool
+    ensures { result ≡ is_marked script.now }
+{
+    match script {
+        [0xFF, 0xFE, ..] | [0xFE, 0xFF, ..] => true,
+        _ => false,
+    }
+}
+
+/// Appends what is told of an INF that is given as the script.
+fn push_hint(alloc: Global, file: &[u8], script: &[u8], out: &mut Vec<u8>) -> Result<(), AllocError>
+    ensures { OnOk result (out.new.items ≡ out.old.items ++ hint_text file.now script.now) }
+{
+    if is_marked(script) || opens_inf(script) {
+        push_warning_head(alloc, out, file, 1)?;
+        out.extend_from_slice(
+            b"this looks like an INF; the script comes first, and behind --inf there is none\n",
+        )?;
+    }
+    Ok(())
+}
+
+/// Appends what is written of a script: a line for each bad line, and a hint where it is an INF; whether there is a bad line.
+pub fn report_script(
+    alloc: Global,
+    file: &[u8],
+    script: &[u8],
+    out: &mut Vec<u8>,
+) -> Result<bool, AllocError>
+    ensures text { OnOk result (out.new.items ≡ out.old.items ++ script_text file.now script.now) }
+    ensures bad { IfOk result (λ bad. bad ≡ is_bad_script script.now) }
+{
+    let bad = push_all_bad(alloc, file, script, out)?;
+    push_hint(alloc, file, script, out)?;
+    Ok(bad)
 }

@@ -1,6 +1,6 @@
 //! Texts of files as they are printed.
 ghost use Rattle.std.specs.Prelude.{◌≡◌, ◌++◌, OnOk, IfOk, map, take};
-ghost use Rattle.lint_cli.specs.Reports.{shown_byte, shown, quoted, at_line};
+ghost use Rattle.lint_cli.specs.Reports.{shown_byte, shown, quoted, name_byte, shown_name, place_text, error_head, warning_head};
 
 use pnp_labels::decimal;
 use std::alloc::{AllocError, Global};
@@ -56,11 +56,62 @@ pub fn push_quoted(alloc: Global, out: &mut Vec<u8>, word: &[u8]) -> Result<(), 
     Ok(())
 }
 
-/// Appends the number of a line.
-pub fn push_at_line(alloc: Global, out: &mut Vec<u8>, line: u32) -> Result<(), AllocError>
-    ensures { OnOk result (out.new.items ≡ out.old.items ++ at_line line) }
+/// A byte of a file's name as it is printed.
+fn name_byte(byte: u8) -> u8
+    ensures { result ≡ name_byte byte }
 {
-    out.extend_from_slice(b" line ")?;
-    out.extend_from_slice(decimal(alloc, line as u64)?.as_bytes())?;
+    if byte < 0x20 || byte == 0x7F {
+        b'?'
+    } else {
+        byte
+    }
+}
+
+/// Appends the name of a file.
+fn push_name(out: &mut Vec<u8>, name: &[u8]) -> Result<(), AllocError>
+    ensures { OnOk result (out.new.items ≡ out.old.items ++ shown_name name.now) }
+{
+    for byte in name {
+        out.push(name_byte(*byte))?;
+    }
+    Ok(())
+}
+
+/// Appends the name of a file and the number of a line.
+fn push_place(alloc: Global, out: &mut Vec<u8>, file: &[u8], line: u64) -> Result<(), AllocError>
+    ensures { OnOk result (out.new.items ≡ out.old.items ++ place_text file.now line) }
+{
+    push_name(out, file)?;
+    out.extend_from_slice(b":")?;
+    out.extend_from_slice(decimal(alloc, line)?.as_bytes())?;
+    out.extend_from_slice(b": ")?;
+    Ok(())
+}
+
+/// Appends the front of an error of a line.
+pub fn push_error_head(
+    alloc: Global,
+    out: &mut Vec<u8>,
+    file: &[u8],
+    line: u64,
+) -> Result<(), AllocError>
+    ensures { OnOk result (out.new.items ≡ out.old.items ++ error_head file.now line) }
+{
+    push_place(alloc, out, file, line)?;
+    out.extend_from_slice(b"error: ")?;
+    Ok(())
+}
+
+/// Appends the front of a warning of a line.
+pub fn push_warning_head(
+    alloc: Global,
+    out: &mut Vec<u8>,
+    file: &[u8],
+    line: u32,
+) -> Result<(), AllocError>
+    ensures { OnOk result (out.new.items ≡ out.old.items ++ warning_head file.now line) }
+{
+    push_place(alloc, out, file, line as u64)?;
+    out.extend_from_slice(b"warning: ")?;
     Ok(())
 }

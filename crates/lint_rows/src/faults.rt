@@ -11,7 +11,7 @@ fn reads_and_writes_that_fail(rt: HostRuntime) -> Result<(), Fail> {
     files.add(b"s", b"Driver dev steady\n")?;
     ends(rt.alloc(), &mut files, 40, Status::ReadFault, "")?;
     files.add(b"i", b"[Version]\nSignature=$Chicago$\n")?;
-    let front = "script line 1: \"Driver\" is no keyword; k";
+    let front = "s:1: error: \"Driver\" is no keyword; keyw";
     ends(rt.alloc(), &mut files, 40, Status::WriteFault, front)
 }
 
@@ -33,9 +33,9 @@ fn an_inf_in_utf_16(rt: HostRuntime) -> Result<(), Fail> {
     files.add(b"s", b"# nothing\n")?;
     files.add(b"i", &in_utf16(rt.alloc(), text)?)?;
     let wanted =
-        "inf i line 6: warning: \"OWN\\A\" gets no driver: its models line has no service, which an AddService with the flag 2 gives (problem 28)
-inf i line 6: warning: there is no section [I], which this line installs
-inf i line 6: warning: there is no section [I.Services], which gives the driver
+        "i:6: warning: \"OWN\\A\" gets no driver: its models line has no service, which an AddService with the flag 2 gives (problem 28)
+i:6: warning: there is no section [I], which this line installs
+i:6: warning: there is no section [I.Services], which gives the driver
 ";
     ends(rt.alloc(), &mut files, 4096, Status::Clean, wanted)
 }

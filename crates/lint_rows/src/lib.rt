@@ -6,6 +6,8 @@ mod faults;
 #[cfg(test)]
 mod lints;
 #[cfg(test)]
+mod over;
+#[cfg(test)]
 mod told;
 #[cfg(test)]
 mod warnings;

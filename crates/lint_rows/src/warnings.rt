@@ -28,8 +28,8 @@ Filters = Filters.Here
 fn an_inf_without_models_lines(rt: HostRuntime) -> Result<(), Fail> {
     let inf = "[Manufacturer]\nOwn = Models\n";
     let text =
-        "inf i: warning: no models line is read, so no device gets a driver from it (problem 28)
-inf i line 4: warning: there is no models section [Models]
+        "i:1: warning: no models line is read, so no device gets a driver from it (problem 28)
+i:4: warning: there is no models section [Models]
 ";
     gives(rt.alloc(), inf, Status::Clean, text)
 }
@@ -48,8 +48,8 @@ A = I, OWN\\DEV
 Name = Models
 ";
     let text =
-        "inf i: warning: no models line is read, so no device gets a driver from it (problem 28)
-inf i line 4: warning: there is no models section [Models], and [Models.NTx86] [models.ntarm64] is not read: no decoration is NTamd64, NT, or begins with NTamd64.
+        "i:1: warning: no models line is read, so no device gets a driver from it (problem 28)
+i:4: warning: there is no models section [Models], and [Models.NTx86] [models.ntarm64] is not read: no decoration is NTamd64, NT, or begins with NTamd64.
 ";
     gives(rt.alloc(), inf, Status::Clean, text)
 }
@@ -66,11 +66,11 @@ B = J, OWN\\OTHER
 AddService = dev, 2, Svc
 ";
     let text =
-        "inf i line 6: warning: \"OWN\\DEV\" gets no driver: its models line has no service, which an AddService with the flag 2 gives (problem 28)
-inf i line 7: warning: \"OWN\\OTHER\" gets no driver: its models line has no service, which an AddService with the flag 2 gives (problem 28)
-inf i line 6: warning: there is no section [I.Services], which gives the driver
-inf i line 7: warning: there is no section [J], which this line installs
-inf i line 7: warning: there is no section [J.Services], which gives the driver
+        "i:6: warning: \"OWN\\DEV\" gets no driver: its models line has no service, which an AddService with the flag 2 gives (problem 28)
+i:7: warning: \"OWN\\OTHER\" gets no driver: its models line has no service, which an AddService with the flag 2 gives (problem 28)
+i:6: warning: there is no section [I.Services], which gives the driver
+i:7: warning: there is no section [J], which this line installs
+i:7: warning: there is no section [J.Services], which gives the driver
 ";
     gives(rt.alloc(), inf, Status::Clean, text)
 }
@@ -88,11 +88,11 @@ AddService = wide, 0x100000002, Svc
 AddService = large, 0X2, Svc
 ";
     let text =
-        "inf i line 6: warning: \"OWN\\DEV\" gets no driver: its models line has no service, which an AddService with the flag 2 gives (problem 28)
-inf i line 8: warning: \"power\" is no function driver: its flags have not the bit 2
-inf i line 9: warning: \"dev\" is no function driver: its flags have not the bit 2
-inf i line 10: warning: \"wide\" is no function driver: its flags have not the bit 2
-inf i line 11: warning: \"large\" is no function driver: its flags have not the bit 2
+        "i:6: warning: \"OWN\\DEV\" gets no driver: its models line has no service, which an AddService with the flag 2 gives (problem 28)
+i:8: warning: \"power\" is no function driver: its flags have not the bit 2
+i:9: warning: \"dev\" is no function driver: its flags have not the bit 2
+i:10: warning: \"wide\" is no function driver: its flags have not the bit 2
+i:11: warning: \"large\" is no function driver: its flags have not the bit 2
 ";
     gives(rt.alloc(), inf, Status::Clean, text)
 }
@@ -128,10 +128,10 @@ AddReg = Here, There
 HKR,,\"LowerFilters\",0x00010000,\"LOW\",\"lower\"
 HKR,,\"UpperFilters\",0x00010000,\"div\",\"up\"
 ";
-    let text = "inf i line 6: warning: \"div\" is named by no driver line of the script (problem 39)
-inf i line 8: warning: \"lower\" is named by no driver line of the script (problem 39)
-inf i line 8: warning: \"up\" is named by no driver line of the script (problem 39)
-inf i line 14: warning: there is no section [There], which AddReg names
+    let text = "i:6: warning: \"div\" is named by no driver line of the script (problem 39)
+i:8: warning: \"lower\" is named by no driver line of the script (problem 39)
+i:8: warning: \"up\" is named by no driver line of the script (problem 39)
+i:14: warning: there is no section [There], which AddReg names
 ";
     gives(rt.alloc(), inf, Status::Clean, text)
 }
@@ -139,6 +139,6 @@ inf i line 14: warning: there is no section [There], which AddReg names
 #[test]
 fn a_refused_inf_has_no_warnings(rt: HostRuntime) -> Result<(), Fail> {
     let inf = "[Manufacturer]\nOwn = M\n[I]\nFeatureScore = 300\n";
-    let text = "inf i line 6: FeatureScore is no number up to 255: \"FeatureScore = 300\"\n";
+    let text = "i:6: error: FeatureScore is no number up to 255: \"FeatureScore = 300\"\n";
     gives(rt.alloc(), inf, Status::Found, text)
 }

@@ -6,7 +6,7 @@ use Rattle.pnp_labels.specs.declared.label.OpKind.{OpKind}
 use Rattle.pnp_labels.specs.declared.event.Event.{Event}
 use Rattle.pnp_labels.specs.declared.label.Label.{Label}
 use Rattle.pnp_model.specs.Machine as ma
-use Rattle.pnp_model.specs.Records.{Beginning, Settings, State}
+use Rattle.pnp_model.specs.Records.{Beginning, Driver, Settings, State}
 use Rattle.pnp_model.specs.Runs.{Entry, opening}
 use Rattle.pnp_laws.specs.Needs.{IsEntryWithin, IsEventWithin}
 use Rattle.pnp_laws.specs.Ends.{events}
@@ -16,7 +16,7 @@ use Rattle.pnp_machine.specs.declared.manager.Moved.TheVariants.{Label as Printe
 use Rattle.notify_front.specs.Fronts.{Front, FrontEntry, Hand, IsFrontQuiet, Registration, front_happens, opening_front}
 use Rattle.notify_front.specs.Notices.{FrontGoes, FrontRun, machine_part}
 use Rattle.notify_front.specs.Laws.{IsOwn}
-use Rattle.notify_front.specs.Desks.{Desk, FrontLawsOf, FrontMoves, IsFrontDone, IsOfFrontRun, front_of, machine_events, told_of}
+use Rattle.notify_front.specs.Desks.{Desk, FrontLawsOf, FrontMoves, IsFrontDone, IsOfFrontRun, front_of, machine_events, opening_desk, told_of}
 use Rattle.notify_front.specs.Hands.{AllAgreed, AllCancelled, IsBegun, begins}
 use Rattle.notify_front.proofs.OwnSteps.{goes_on, own_step}
 use Rattle.notify_front.proofs.Runs.{Fits, IsReady, keeps_core, machine_run, quiet_hand}
@@ -156,6 +156,12 @@ module _ (d d' : Desk) (h : IsReached d) where
       IfOk r (λ label. IsFrontDone (front_happens (front_of d) event) label (front_of d')) → told_of d' ≡ told_of d → OnOk r (d'.manager.events ≡ machine_events event d.manager.events) → OnErr r (d' ≡ d) → IsReached d'
   reached_applied event quiet within (Ok label) done same count err = reached_event event label quiet within done same count
   reached_applied event quiet within (Err refused) done same count err = subst (λ (x : Desk). IsReached x) (sym err) h
+
+  -- after it restarted over a rack, which may be refused for want of memory
+  pub reached_restarted : (rack : List Driver) (r : Result (Unit {0}) AllocError) → OnOk r (d' ≡ opening_desk (record d.manager { events = 0; state = opening rack })) → OnErr r (d' ≡ d) → IsReached d'
+  reached_restarted rack (Ok done) opens err =
+      subst (λ (x : Desk). IsReached x) (sym opens) (record { rack = rack; entries = []; reaches = refl; count = refl; within = tt })
+  reached_restarted rack (Err refused) opens err = subst (λ (x : Desk). IsReached x) (sym err) h
 
   pub run_ok : (event : Event) → IsFrontQuiet (told_of d) (front_of d) → IsEventWithin 16 event → (r : Result Label AllocError) →
       IfOk r (λ label. IsFrontDone (front_happens (front_of d) event) label (front_of d')) → told_of d' ≡ told_of d → OnOk r (d'.manager.events ≡ machine_events event d.manager.events) → OnErr r (d' ≡ d) → OnOk r (IsReached d')

@@ -14,7 +14,7 @@ use Rattle.pnp_model.specs.Runs.{opening}
 use Rattle.pnp_model.specs.Endings.{ending}
 use Rattle.notify_front.specs.Fronts.{opening_front}
 use Rattle.notify_front.specs.Notices.{FrontTrace, traced}
-use Rattle.notify_front.proofs.RowBase.{settings_of, small_rack, Known}
+use Rattle.pnp_model.proofs.RowBase.{settings_of, small_rack, Known}
 
 abbrev lines : FrontTrace → List Text
 lines t = map label_line t.labels ++ ending t.front.state

@@ -1,6 +1,7 @@
 ghost use Rattle.std.specs.Prelude.{◌≡◌, ◌<◌, ◌^◌, true, Some, IfOk, OnOk, OnErr, IsSome};
 ghost use Rattle.pnp_model.specs.Cores.{node_at};
 ghost use Rattle.pnp_model.specs.Machine.{IsQuiet, due, is_in_order};
+ghost use Rattle.pnp_model.specs.Runs.{opening};
 ghost use Rattle.pnp_machine.specs.Machines.{HasFewIds};
 ghost use Rattle.notify_front.specs.Fronts.{Hand, front_happens, on_set};
 ghost use Rattle.notify_front.specs.Desks.{FrontMoves, IfFrontQuiet, IsAlone, IsFrontDone, IsOfFrontRun, front_of, machine_events, opening_desk, told_of};
@@ -17,12 +18,22 @@ use std::alloc::Global;
 use std::marker::Model;
 
 /// A manager, who is registered, and what is at hand. A contract sees these three.
-#[derive(Drop)]
 pub(crate) struct Desk<R: Drivers> {
     pub(crate) alloc: Global,
     pub(crate) manager: Manager<R>,
     pub(crate) registrations: Registrations,
     pub(crate) round: Round,
+}
+
+impl<R: Drivers> Drop for Desk<R> {
+    fn drop(self) {
+        let Desk {
+            alloc: _,
+            manager: _,
+            registrations: _,
+            round: _,
+        } = self;
+    }
 }
 
 impl<R: Drivers> Model for Desk<R> {
@@ -44,6 +55,20 @@ impl<R: Drivers> Desk<R> {
             registrations: Registrations::new(alloc),
             round: Round::nothing(alloc),
         }
+    }
+
+    /// Nobody is registered over the manager, which restarts over another rack, whose place the drivers that were there take. After want
+    /// of memory all is as before.
+    pub(crate) fn restart(&mut self, rack: &mut R) -> Result<(), WantOfMemory>
+        ensures opens { OnOk result (self.new ≡ opening_desk (record self.old.manager { events = 0; state = opening (R.rows rack.old) })) }
+        ensures back { OnOk result (R.rows rack.new ≡ self.old.manager.state.core.rack) }
+        ensures err { OnErr result (self.new ≡ self.old) }
+        ensures kept { OnErr result (R.rows rack.new ≡ R.rows rack.old) }
+    {
+        self.manager.restart(rack)?;
+        self.registrations = Registrations::new(self.alloc);
+        self.round = Round::nothing(self.alloc);
+        Ok(())
     }
 
     /// An event happens, as the front's definition says: those of clients change the registrations, all others are the manager's.

@@ -2,6 +2,7 @@ ghost use Rattle.std.specs.Prelude.{◌≡◌, ◌<◌, ◌^◌, ◌++◌, IfOk,
 ghost use Rattle.pnp_laws.specs.Printed.{TreeIsPrinted};
 ghost use Rattle.pnp_machine.specs.Machines.{HasFewIds};
 ghost use Rattle.pnp_model.specs.Endings.{ending, joined};
+ghost use Rattle.pnp_model.specs.Runs.{opening};
 ghost use Rattle.notify_front.specs.Fronts.{IsFrontQuiet, front_happens};
 ghost use Rattle.notify_front.specs.Desks.{IsAtStart, IsFrontDone, IsOfFrontRun, IfFrontQuiet, FrontLawsOf, FrontMoves, front_of, machine_events, opening_desk, told_of};
 
@@ -16,9 +17,14 @@ use std::marker::Model;
 
 /// The front over a manager: clients are asked before a removal and hear of its end, after the driver kit's notices of a target
 /// device; the order and the rules are this project's own. A contract sees the manager, who is registered and what is at hand.
-#[derive(Drop)]
 pub struct Front<R: Drivers> {
     desk: Desk<R>,
+}
+
+impl<R: Drivers> Drop for Front<R> {
+    fn drop(self) {
+        let Front { desk: _ } = self;
+    }
 }
 
 impl<R: Drivers> Model for Front<R> {
@@ -41,6 +47,17 @@ impl<R: Drivers> Front<R> {
         Front {
             desk: Desk::new(alloc, manager),
         }
+    }
+
+    /// As a new one over a new manager of the same INFs and budget and another rack, whose place the drivers that were there take. After
+    /// want of memory front and rack are as before. Cost: that of letting go what the machine held.
+    pub fn restart(&mut self, rack: &mut R) -> Result<(), WantOfMemory>
+        ensures opens { OnOk result (self.new ≡ opening_desk (record self.old.manager { events = 0; state = opening (R.rows rack.old) })) }
+        ensures back { OnOk result (R.rows rack.new ≡ self.old.manager.state.core.rack) }
+        ensures err { OnErr result (self.new ≡ self.old) }
+        ensures kept { OnErr result (R.rows rack.new ≡ R.rows rack.old) }
+    {
+        self.desk.restart(rack)
     }
 
     /// An event happens, at a quiet front: exactly what the front's definition says. Those of clients change the registrations

@@ -8,12 +8,22 @@ use std::marker::Model;
 
 /// A client that is registered on a device, and agrees to its removal or not. The path of the device is kept, as the device
 /// may have left when the client hears of it.
-#[derive(Drop)]
 pub(crate) struct Registration {
     pub(crate) client: Text,
     pub(crate) device: u64,
     pub(crate) path: Text,
     pub(crate) agrees: bool,
+}
+
+impl Drop for Registration {
+    fn drop(self) {
+        let Registration {
+            client: _,
+            device: _,
+            path: _,
+            agrees: _,
+        } = self;
+    }
 }
 
 impl Model for Registration {

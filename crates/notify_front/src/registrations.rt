@@ -13,9 +13,14 @@ use std::marker::Model;
 
 /// Who is registered on which device. A contract sees the registrations in the order of the devices' serials, those of one device
 /// as they were made.
-#[derive(Drop)]
 pub(crate) struct Registrations {
     items: Vec<Registration>,
+}
+
+impl Drop for Registrations {
+    fn drop(self) {
+        let Registrations { items: _ } = self;
+    }
 }
 
 impl Model for Registrations {

@@ -49,11 +49,20 @@ pub(crate) enum Turn {
 }
 
 /// A round of notices: the clients whom an operation concerns in leaving order, and how far they were told.
-#[derive(Drop)]
 pub(crate) struct Round {
     stage: Stage,
     told: Vec<Registration>,
     at: usize,
+}
+
+impl Drop for Round {
+    fn drop(self) {
+        let Round {
+            stage: _,
+            told: _,
+            at: _,
+        } = self;
+    }
 }
 
 impl Model for Round {

@@ -11,9 +11,14 @@ use std::marker::Model;
 
 /// The devices of an operation that are still to do, by their serials; the first is the next. Each call costs the same
 /// whatever there is in it, on average, except where it says more. A contract sees the list. This project's own.
-#[derive(Drop)]
 pub struct SerialQueue {
     serials: VecDeque<u64>,
+}
+
+impl Drop for SerialQueue {
+    fn drop(self) {
+        let SerialQueue { serials: _ } = self;
+    }
 }
 
 impl Model for SerialQueue {
@@ -132,7 +137,7 @@ impl SerialQueue {
         if !self.serials.is_empty() {
             return false;
         }
-        self.serials = all.serials;
+        *self = all;
         true
     }
 

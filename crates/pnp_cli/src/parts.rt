@@ -3,7 +3,6 @@ use device_ids::{Text, TextList};
 use std::alloc::AllocError;
 
 /// What the words of a command line say. This project's own.
-#[derive(Drop)]
 pub struct Settings {
     /// The name of the script; none where the script is generated.
     pub script: Option<Text>,
@@ -15,6 +14,18 @@ pub struct Settings {
     pub made: Option<u64>,
     /// The name of the trace that is checked, where one is; it needs a script.
     pub check: Option<Text>,
+}
+
+impl Drop for Settings {
+    fn drop(self) {
+        let Settings {
+            script: _,
+            infs: _,
+            budget: _,
+            made: _,
+            check: _,
+        } = self;
+    }
 }
 
 /// Why words give no settings. This project's own.

@@ -14,10 +14,15 @@ use std::marker::Model;
 pub type WantOfMemory = AllocError;
 
 /// A name and its bytes.
-#[derive(Drop)]
 struct Entry {
     name: Vec<u8>,
     bytes: Vec<u8>,
+}
+
+impl Drop for Entry {
+    fn drop(self) {
+        let Entry { name: _, bytes: _ } = self;
+    }
 }
 
 impl Model for Entry {
@@ -115,7 +120,6 @@ pub fn read_from(bytes: &[u8], at: u64, short: &[Short], call: u64, into: &mut [
 /// Files in memory, whose contents are told. A contract sees the names with their bytes, the numbers of the
 /// reads that are to fail and of those that are to be short, and how many reads were made and how many failed, of
 /// any name. This project's own.
-#[derive(Drop)]
 pub struct MemFiles {
     alloc: Global,
     entries: Vec<Entry>,
@@ -123,6 +127,19 @@ pub struct MemFiles {
     short: Vec<Short>,
     calls: u64,
     faults: u64,
+}
+
+impl Drop for MemFiles {
+    fn drop(self) {
+        let MemFiles {
+            alloc: _,
+            entries: _,
+            listed: _,
+            short: _,
+            calls: _,
+            faults: _,
+        } = self;
+    }
 }
 
 impl Model for MemFiles {
@@ -217,7 +234,6 @@ impl Files for MemFiles {
 /// A sink in memory, which tells the bytes that it took. A contract sees these, how many it takes at most, the
 /// numbers of the writes that are to fail and of those that are to be short, and how many writes were made and
 /// how many failed. This project's own.
-#[derive(Drop)]
 pub struct MemSink {
     taken: Vec<u8>,
     room: usize,
@@ -225,6 +241,19 @@ pub struct MemSink {
     short: Vec<Short>,
     calls: u64,
     faults: u64,
+}
+
+impl Drop for MemSink {
+    fn drop(self) {
+        let MemSink {
+            taken: _,
+            room: _,
+            listed: _,
+            short: _,
+            calls: _,
+            faults: _,
+        } = self;
+    }
 }
 
 impl Model for MemSink {

@@ -13,7 +13,6 @@ pub struct Ask<'a> {
 
 /// A rule of a driver's book: what it answers when it is asked so for a path, or for any, and how often; without
 /// `uses`, endlessly. This project's own.
-#[derive(Drop)]
 pub struct Rule {
     /// The question that the rule is for.
     pub what: AskWhat,
@@ -23,6 +22,17 @@ pub struct Rule {
     pub answer: Answer,
     /// How many more times it is given; none for endlessly.
     pub uses: Option<u32>,
+}
+
+impl Drop for Rule {
+    fn drop(self) {
+        let Rule {
+            what: _,
+            path: _,
+            answer: _,
+            uses: _,
+        } = self;
+    }
 }
 
 /// What a line of a script says that happens: in the world, to the rack, by the operator, or to a request that

@@ -122,7 +122,6 @@ pub enum OpKind {
 }
 
 /// How an operation ended: this project's own.
-#[derive(Drop)]
 pub enum OpEnd {
     /// The resources were found and given.
     Moved,
@@ -140,6 +139,20 @@ pub enum OpEnd {
     Veto(Text),
 }
 
+impl Drop for OpEnd {
+    fn drop(self) {
+        match self {
+            OpEnd::Moved => {}
+            OpEnd::NoFit => {}
+            OpEnd::Spent => {}
+            OpEnd::Done => {}
+            OpEnd::Waiting => {}
+            OpEnd::Refused => {}
+            OpEnd::Veto(_) => {}
+        }
+    }
+}
+
 /// What a client is told of a removal: after the driver kit's notices of a target device.
 #[derive(Clone, Copy, Debug, PartialEq, Eq)]
 pub enum NoticeKind {
@@ -152,7 +165,6 @@ pub enum NoticeKind {
 }
 
 /// What a step of the machine prints: one line of the trace. This project's own.
-#[derive(Drop)]
 pub enum Label {
     /// An event was taken.
     Did {
@@ -272,6 +284,66 @@ pub enum Label {
         path: Text,
         client: Text,
     },
+}
+
+impl Drop for Label {
+    fn drop(self) {
+        match self {
+            Label::Did { word: _, what: _ } => {}
+            Label::Refused { word: _, reason: _ } => {}
+            Label::Skip { task: _, serial: _ } => {}
+            Label::Join { serial: _, path: _ } => {}
+            Label::Gone { path: _ } => {}
+            Label::Listed { path: _ } => {}
+            Label::Install {
+                path: _,
+                rank: _,
+                driver: _,
+            } => {}
+            Label::Trouble {
+                path: _,
+                problem: _,
+            } => {}
+            Label::Add {
+                path: _,
+                driver: _,
+                ok: _,
+            } => {}
+            Label::Assign { path: _, held: _ } => {}
+            Label::Fits { path: _ } => {}
+            Label::NoFit { path: _ } => {}
+            Label::Spent { path: _ } => {}
+            Label::Asked {
+                minor: _,
+                path: _,
+                driver: _,
+                shown: _,
+            } => {}
+            Label::State { path: _, state: _ } => {}
+            Label::Begin { op: _, path: _ } => {}
+            Label::Commit { movers: _ } => {}
+            Label::Leave { path: _ } => {}
+            Label::Ejected { path: _ } => {}
+            Label::Handles { path: _ } => {}
+            Label::Waits { path: _ } => {}
+            Label::End {
+                op: _,
+                path: _,
+                result: _,
+            } => {}
+            Label::Notice {
+                what: _,
+                client: _,
+                path: _,
+                agrees: _,
+            } => {}
+            Label::Declined {
+                op: _,
+                path: _,
+                client: _,
+            } => {}
+        }
+    }
 }
 
 /// A step of an operation that removes devices, with what the machine has to do beside it: this project's own.

@@ -5,9 +5,14 @@ use std::alloc::Global;
 use std::marker::Model;
 
 /// Serial numbers of nodes in some order. A contract sees the list of the numbers. This project's own.
-#[derive(Drop)]
 pub struct SerialList {
     serials: Vec<u64>,
+}
+
+impl Drop for SerialList {
+    fn drop(self) {
+        let SerialList { serials: _ } = self;
+    }
 }
 
 impl Model for SerialList {
@@ -54,9 +59,14 @@ impl SerialList {
 }
 
 /// Birth numbers of world devices in some order. A contract sees the list of the numbers. This project's own.
-#[derive(Drop)]
 pub struct BornList {
     births: Vec<u64>,
+}
+
+impl Drop for BornList {
+    fn drop(self) {
+        let BornList { births: _ } = self;
+    }
 }
 
 impl Model for BornList {
@@ -104,9 +114,14 @@ impl BornList {
 
 /// The drivers of a device by their numbers in the rack, from the bottom: lower filters, function driver, upper
 /// filters (the driver kit, "Device Nodes and Device Stacks"). A contract sees the list of the numbers.
-#[derive(Drop)]
 pub struct Stack {
     drivers: Vec<u32>,
+}
+
+impl Drop for Stack {
+    fn drop(self) {
+        let Stack { drivers: _ } = self;
+    }
 }
 
 impl Model for Stack {

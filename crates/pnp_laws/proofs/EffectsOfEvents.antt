@@ -1,5 +1,6 @@
 -- What an event does.
-use Rattle.std.proofs.Common.{◌≡◌, ◌==◌, ◌&&◌, ◌||◌, Bool, true, false, not, List, [], ◌∷◌, ◌++◌, ◌∙◌, length, nat_le, nat_lt, Option, Some, None, refl, sym, ap, arith}
+use Rattle.std.proofs.Common.{◌≡◌, ◌==◌, ◌&&◌, ◌||◌, Bool, true, false, not, List, [], ◌∷◌, ◌++◌, ◌∙◌, length, nat_le, nat_lt, Option, Some, None, is_some, refl, sym, ap, arith}
+use Rattle.std.specs.Prelude.{is_none, if◌then◌else◌}
 use Rattle.std.specs.List.{find, list_any}
 use Rattle.resource_reqs.specs.Resources.{Res, Reqs, clashes}
 use Rattle.pnp_labels.specs.Texts.{Text, res_text, spaced}
@@ -14,18 +15,20 @@ use Rattle.pnp_labels.specs.declared.label.Reason.{Reason}
 use Rattle.pnp_labels.specs.declared.label.Label.{Label}
 use Rattle.pnp_model.specs.Books.{is_named, is_unnamed}
 use Rattle.pnp_model.specs.Frames.{held_by}
-use Rattle.pnp_model.specs.Records.{Activity, Core, Device, Driver, Duty, Handle, Node, Operation, State, Step, Task}
+use Rattle.pnp_model.specs.Records.{Activity, Core, Device, Duty, Handle, Node, Operation, Relation, State, Step, Task}
 use Rattle.pnp_model.specs.Runs.Entry.{Happens}
 use Rattle.pnp_model.specs.States.{activity_at, device_of, enable_path, has_below, is_in_world, list_node, node_born, node_of, plug, unplug}
-use Rattle.pnp_model.specs.Tests.{has, is_started, is_surprise_removed}
+use Rattle.pnp_model.specs.Machine.{phase_walk}
+use Rattle.pnp_model.specs.Tests.{has, has_same, is_scripted, is_started, is_surprise_removed}
 use Rattle.pnp_model.specs.Windows.{is_window_on}
 use Rattle.pnp_model.specs.Handles.{closed_with, is_handle_of}
 use Rattle.pnp_model.specs.Trees.{dependents}
 use Rattle.pnp_laws.specs.Words.{IsWord, joined}
-use Rattle.pnp_laws.specs.Effects.{ActivityEffect, AnswerEffect, DriverEffect, Effect, HandleEffect, JoinEffect, NodeEffect, PathEffect, PhaseStep, RangeEffect, Related, CommandEffect, WindowEffect, Windowed, WorldEffect}
+use Rattle.pnp_laws.specs.Effects.{ActivityEffect, AnswerEffect, DriverEffect, Effect, HandleEffect, IsUnasked, JoinEffect, NodeEffect, PathEffect, PhaseStep, RangeEffect, Related, CommandEffect, WindowEffect, Windowed, WorldEffect}
 use Rattle.pnp_laws.proofs.OpSteps.{is_Started, is_SurpriseRemoved}
 use Rattle.pnp_laws.proofs.EffectsOfStarts.{lasting, quiet_label, same_handles, same_paths, same_windows}
 use Rattle.pnp_laws.proofs.Truths.{and_both, or_neither}
+use Rattle.pnp_model.proofs.Guards.{by_test, by_found, not_not, none_if}
 use Rattle.device_ids.specs.Folding as folding
 use Rattle.pnp_model.specs.Events as ev
 
@@ -75,180 +78,134 @@ module _ (s : State) (event : Event) where
       by_world (WorldEffect.changed n path reqs label at up is there e a b) = WorldEffect.changed n path reqs label at up is there e a b
       by_world (WorldEffect.unplugged born unplugs a b) = WorldEffect.unplugged born unplugs a b
 
-  pull_device : (d : Device) (path : Text) (b : Bool) → device_of path s.world ≡ Some d → (d.born == 0) ≡ b → Happened s event (ev.pull_device s d b)
-  pull_device d path true there e = nothing _ _
-  pull_device d path false there e =
-      listed _ _ (unplug d.born s) (node_born d.parent s.core.nodes) refl refl refl refl refl refl (WorldEffect.unplugged d.born (d, path, there, refl, e) refl refl)
+  -- where a test refuses, nothing is done
+  guard : (b : Bool) (word : EventWord) (reason : Reason) (y : Step) → (b ≡ false → Happened s event y) → Happened s event (if b then ev.refused word reason s else y)
+  guard b word reason y h = by_test (Happened s event) b (ev.refused word reason s) y (λ e. nothing word reason) h
 
-  pull_at : (path : Text) (o : Option Device) → device_of path s.world ≡ o → Happened s event (ev.pull_at s o)
-  pull_at path None e = nothing _ _
-  pull_at path (Some d) e = pull_device d path _ e refl
+  found : {A : Type 0} (o : Option A) (word : EventWord) (reason : Reason) (f : A → Step) → ((a : A) → o ≡ Some a → Happened s event (f a)) → Happened s event (ev.unless o (ev.refused word reason s) f)
+  found o word reason f h = by_found (Happened s event) o (ev.refused word reason s) f (λ e. nothing word reason) h
 
-  name_free : (name : Text) (kind : DriverKind) (o : Option Driver) → event ≡ Event.Name name kind → Happened s event (ev.name_free s name kind o)
-  name_free name kind None is = nothing _ _
-  name_free name kind (Some driver) is = kept _ _ tt refl refl refl refl refl refl refl refl refl refl (DriverEffect.named kind name _ (ap (λ (e : Event). Happens e (Label.Did EventWord.Name name)) is) tt refl) (CommandEffect.same refl)
+  plugs : (parent path : Text) (hw compat : List Text) (reqs : Reqs) → event ≡ Event.Plug parent path hw compat reqs → Happened s event (ev.plugs s parent path hw compat reqs)
+  plugs parent path hw compat reqs is =
+      found (device_of parent s.world) _ _ _ (λ over there.
+      guard (is_some (device_of path s.world)) _ _ _ (λ fresh.
+      guard (not (nat_le (length s.world) 4096)) _ _ _ (λ few.
+      let d : Device = record { born = s.next_born; parent = over.born; path = path; hw = hw; compat = compat; reqs = reqs } in
+      let label = Label.Did EventWord.Plug path in
+      listed _ _ (plug d s) (node_born over.born s.core.nodes) refl refl refl refl refl refl
+      (WorldEffect.plugged d (record { over = over; parent = parent; label = label; there = there; under = refl; born = refl; room = not_not (nat_le (length s.world) 4096) few; event = ap (λ (e : Event). Happens e label) is }) refl refl))))
 
-  name_at : (name : Text) (kind : DriverKind) (o : Option Driver) → event ≡ Event.Name name kind → Happened s event (ev.name_at s name kind o)
-  name_at name kind (Some driver) is = nothing _ _
-  name_at name kind None is = name_free name kind (find (is_unnamed kind) s.core.rack) is
+  pulls : (path : Text) → Happened s event (ev.pulls s path)
+  pulls path =
+      found (device_of path s.world) _ _ _ (λ d there.
+      guard (d.born == 0) _ _ _ (λ up.
+      listed _ _ (unplug d.born s) (node_born d.parent s.core.nodes) refl refl refl refl refl refl (WorldEffect.unplugged d.born (d, path, there, refl, up) refl refl)))
 
-  teach_room : (driver : Driver) (name : Text) (rule : Rule) (b : Bool) → Happened s event (ev.teach_room s driver name rule b)
-  teach_room driver name rule false = nothing _ _
-  teach_room driver name rule true = kept _ _ tt refl refl refl refl refl refl refl refl refl refl (DriverEffect.taught name rule tt refl) (CommandEffect.same refl)
+  names : (name : Text) (kind : DriverKind) → event ≡ Event.Name name kind → Happened s event (ev.names s name kind)
+  names name kind is =
+      guard (is_some (find (is_named name) s.core.rack)) _ _ _ (λ fresh.
+      guard (is_none (find (is_unnamed kind) s.core.rack)) _ _ _ (λ free.
+      kept _ _ tt refl refl refl refl refl refl refl refl refl refl (DriverEffect.named kind name _ (ap (λ (e : Event). Happens e (Label.Did EventWord.Name name)) is) tt refl) (CommandEffect.same refl)))
 
-  teach_kind : (driver : Driver) (name : Text) (rule : Rule) (b : Bool) → Happened s event (ev.teach_kind s driver name rule b)
-  teach_kind driver name rule false = nothing _ _
-  teach_kind driver name rule true = teach_room driver name rule _
+  teaches : (name : Text) (rule : Rule) → Happened s event (ev.teaches s name rule)
+  teaches name rule =
+      found (find (is_named name) s.core.rack) _ _ _ (λ driver there.
+      guard (not (is_scripted driver.kind)) _ _ _ (λ kind.
+      guard (nat_le 64 (length driver.book)) _ _ _ (λ room.
+      kept _ _ tt refl refl refl refl refl refl refl refl refl refl (DriverEffect.taught name rule tt refl) (CommandEffect.same refl))))
 
-  teach_at : (name : Text) (rule : Rule) (o : Option Driver) → Happened s event (ev.teach_at s name rule o)
-  teach_at name rule None = nothing _ _
-  teach_at name rule (Some driver) = teach_kind driver name rule _
+  disables : (path : Text) → Happened s event (ev.disables s path)
+  disables path =
+      found (node_of path s.core.nodes) _ _ _ (λ node at.
+      guard (node.serial == 0) _ _ _ (λ up.
+      guard (has_same path s.disabled) _ _ _ (λ enabled.
+      kept _ _ tt refl refl refl refl refl refl refl refl refl refl (DriverEffect.same tt refl) (CommandEffect.begins OpKind.Disable node path at up refl))))
 
-  module _ (path : Text) (node : Node) (at : node_of path s.core.nodes ≡ Some node) where
-    disable_enabled : (b : Bool) → (node.serial == 0) ≡ false → Happened s event (ev.disable_enabled s node b)
-    disable_enabled true up = nothing _ _
-    disable_enabled false up =
-        kept _ _ tt refl refl refl refl refl refl refl refl refl refl (DriverEffect.same tt refl) (CommandEffect.begins OpKind.Disable node path at up refl)
+  enables : (path : Text) → Happened s event (ev.enables s path)
+  enables path = found (find (folding.same path) s.disabled) _ _ _ (λ own there. started own (node_of path s.core.nodes) refl)
+    where
+      started : (own : Text) (o : Option Node) → node_of path s.core.nodes ≡ o → Happened s event (ev.did EventWord.Enable own (ev.start_node o (enable_path path s)))
+      started own None e = outside _ _ tt refl refl refl refl refl (NodeEffect.same refl refl) (DriverEffect.same tt refl) (RangeEffect.same refl) (CommandEffect.same refl) (WorldEffect.same refl refl) (PathEffect.enables path refl) (WindowEffect.same refl) (HandleEffect.same refl)
+      started own (Some n) e =
+          outside _ _ tt refl refl refl refl refl (NodeEffect.same refl refl) (DriverEffect.same tt refl) (RangeEffect.same refl) (CommandEffect.starts path n (record { at = e; stays = refl }) refl)
+          (WorldEffect.same refl refl) (PathEffect.enables path refl) (WindowEffect.same refl) (HandleEffect.same refl)
 
-    disable_below : (b : Bool) → (node.serial == 0) ≡ b → Happened s event (ev.disable_below s path node b)
-    disable_below true e = nothing _ _
-    disable_below false e = disable_enabled _ e
+  ejects : (path : Text) → Happened s event (ev.ejects s path)
+  ejects path =
+      found (node_of path s.core.nodes) _ _ _ (λ node at.
+      guard (node.serial == 0) _ _ _ (λ up.
+      kept _ _ tt refl refl refl refl refl refl refl refl refl refl (DriverEffect.same tt refl) (CommandEffect.begins OpKind.Eject node path at up refl)))
 
-    eject_below : (b : Bool) → (node.serial == 0) ≡ b → Happened s event (ev.eject_below s node b)
-    eject_below true e = nothing _ _
-    eject_below false e =
-        kept _ _ tt refl refl refl refl refl refl refl refl refl refl (DriverEffect.same tt refl) (CommandEffect.begins OpKind.Eject node path at e refl)
+  relates : (kind : RelKind) (owner member : Text) → Happened s event (ev.relates s kind owner member)
+  relates kind owner member =
+      found (node_of owner s.core.nodes) _ _ _ (λ a owner_at.
+      found (node_of member s.core.nodes) _ _ _ (λ b member_at.
+      guard (is_some s.operation) _ _ _ (λ idle.
+      guard (a.serial == b.serial) _ _ _ (λ apart.
+      guard (list_any (ev.is_relation kind a.serial b.serial) s.core.relations) _ _ _ (λ first.
+      guard (has (dependents s.core b.serial) a.serial) _ _ _ (λ free.
+      guard (not (is_started a.state && is_started b.state)) _ _ _ (λ up.
+      let both = and_both (is_started a.state) (is_started b.state) (not_not (is_started a.state && is_started b.state) up) in
+      let relation : Relation = record { kind = kind; owner = a.serial; member = b.serial } in
+      let related : Related s relation =
+      record {
+        none = none_if s.operation idle;
+        owner = a;
+        member = b;
+        owner_path = owner;
+        member_path = member;
+        owner_at = owner_at;
+        member_at = member_at;
+        owner_is = refl;
+        member_is = refl;
+        owner_up = both.0;
+        member_up = both.1;
+        apart = apart;
+        free = free;
+      } in
+      outside _ _ tt refl refl refl refl refl (NodeEffect.related relation related refl refl) (DriverEffect.same tt refl) (RangeEffect.same refl) (CommandEffect.same refl) (WorldEffect.same refl refl) (PathEffect.same refl) (WindowEffect.same refl) (HandleEffect.same refl))))))))
 
-  disable_at : (path : Text) (o : Option Node) → node_of path s.core.nodes ≡ o → Happened s event (ev.disable_at s path o)
-  disable_at path None e = nothing _ _
-  disable_at path (Some node) e = disable_below path node e _ refl
+  reserves : (res : Res) → Happened s event (ev.reserves s res)
+  reserves res =
+      guard (is_some s.operation) _ _ _ (λ idle.
+      guard (list_any (clashes res) (s.core.reserved ++ held_by s.core.nodes)) _ _ _ (λ free.
+      outside _ _ tt refl refl refl refl refl (NodeEffect.same refl refl) (DriverEffect.same tt refl) (RangeEffect.reserves res (none_if s.operation idle) free refl refl event _ refl) (CommandEffect.same refl) (WorldEffect.same refl refl) (PathEffect.same refl) (WindowEffect.same refl) (HandleEffect.same refl)))
 
-  eject_at : (path : Text) (o : Option Node) → node_of path s.core.nodes ≡ o → Happened s event (ev.eject_at s o)
-  eject_at path None e = nothing _ _
-  eject_at path (Some node) e = eject_below path node e _ refl
+  sets_window : (path : Text) (res : Res) → event ≡ Event.Window path res → Happened s event (ev.sets_window s path res)
+  sets_window path res is =
+      found (device_of path s.world) _ _ _ (λ d there.
+      guard (d.born == 0) _ _ _ (λ up.
+      guard (has_below d.born s.world || ev.has_children s.core.nodes (node_born d.born s.core.nodes)) _ _ _ (λ childless.
+      guard (list_any (is_window_on res.kind (d.born ∷ [])) s.windows) _ _ _ (λ first.
+      let neither = or_neither (has_below d.born s.world) (ev.has_children s.core.nodes (node_born d.born s.core.nodes)) childless in
+      let label = Label.Did EventWord.Window (spaced (d.path ∷ res_text res ∷ [])) in
+      let windowed : Windowed s (Happens event label) d res =
+      record { path = path; label = label; there = there; root_stays = up; no_device = neither.0; no_node = neither.1; first = first; event = ap (λ (x : Event). Happens x label) is } in
+      outside _ _ tt refl refl refl refl refl (NodeEffect.same refl refl) (DriverEffect.same tt refl) (RangeEffect.same refl) (CommandEffect.same refl) (WorldEffect.same refl refl) (PathEffect.same refl) (WindowEffect.sets d res windowed refl refl) (HandleEffect.same refl)))))
 
-  started : (path own : Text) (o : Option Node) → node_of path s.core.nodes ≡ o → Happened s event (ev.did EventWord.Enable own (ev.start_node o (enable_path path s)))
-  started path own None e = outside _ _ tt refl refl refl refl refl (NodeEffect.same refl refl) (DriverEffect.same tt refl) (RangeEffect.same refl) (CommandEffect.same refl) (WorldEffect.same refl refl) (PathEffect.enables path refl) (WindowEffect.same refl) (HandleEffect.same refl)
-  started path own (Some n) e =
-      outside _ _ tt refl refl refl refl refl (NodeEffect.same refl refl) (DriverEffect.same tt refl) (RangeEffect.same refl) (CommandEffect.starts path n (record { at = e; stays = refl }) refl)
-      (WorldEffect.same refl refl) (PathEffect.enables path refl) (WindowEffect.same refl) (HandleEffect.same refl)
-
-  enable_at : (path : Text) (o : Option Text) → Happened s event (ev.enable_at s path o)
-  enable_at path None = nothing _ _
-  enable_at path (Some own) = started path own (node_of path s.core.nodes) refl
-
-  -- two devices are related
-  module _ (kind : RelKind) (owner_path member_path : Text) (a b : Node) (owner_at : node_of owner_path s.core.nodes ≡ Some a) (member_at : node_of member_path s.core.nodes ≡ Some b) (none : s.operation ≡ None) where
-    relate_up : (x : Bool) → (a.serial == b.serial) ≡ false → has (dependents s.core b.serial) a.serial ≡ false → (is_started a.state && is_started b.state) ≡ x → Happened s event (ev.relate_up s kind a b x)
-    relate_up false apart free e = nothing _ _
-    relate_up true apart free e =
-        let both = and_both (is_started a.state) (is_started b.state) e in
-        let related : Related s (record { kind = kind; owner = a.serial; member = b.serial }) =
-        record {
-          none = none;
-          owner = a;
-          member = b;
-          owner_path = owner_path;
-          member_path = member_path;
-          owner_at = owner_at;
-          member_at = member_at;
-          owner_is = refl;
-          member_is = refl;
-          owner_up = both.0;
-          member_up = both.1;
-          apart = apart;
-          free = free;
-        } in
-        outside _ _ tt refl refl refl refl refl (NodeEffect.related (record { kind = kind; owner = a.serial; member = b.serial }) related refl refl) (DriverEffect.same tt refl) (RangeEffect.same refl) (CommandEffect.same refl) (WorldEffect.same refl refl) (PathEffect.same refl) (WindowEffect.same refl) (HandleEffect.same refl)
-
-    relate_free : (x : Bool) → (a.serial == b.serial) ≡ false → has (dependents s.core b.serial) a.serial ≡ x → Happened s event (ev.relate_free s kind a b x)
-    relate_free true apart e = nothing _ _
-    relate_free false apart e = relate_up _ apart e refl
-
-    relate_new : (x : Bool) → (a.serial == b.serial) ≡ false → Happened s event (ev.relate_new s kind a b x)
-    relate_new true apart = nothing _ _
-    relate_new false apart = relate_free _ apart refl
-
-    relate_two : (x : Bool) → (a.serial == b.serial) ≡ x → Happened s event (ev.relate_two s kind a b x)
-    relate_two true e = nothing _ _
-    relate_two false e = relate_new _ e
-
-  relate_idle : (kind : RelKind) (owner member : Text) (a b : Node) (o : Option Operation) → node_of owner s.core.nodes ≡ Some a → node_of member s.core.nodes ≡ Some b → s.operation ≡ o → Happened s event (ev.relate_idle s kind a b o)
-  relate_idle kind owner member a b (Some o) owner_at member_at e = nothing _ _
-  relate_idle kind owner member a b None owner_at member_at e = relate_two kind owner member a b owner_at member_at e _ refl
-
-  relate_at : (kind : RelKind) (owner member : Text) (a b : Option Node) → node_of owner s.core.nodes ≡ a → node_of member s.core.nodes ≡ b → Happened s event (ev.relate_at s kind a b)
-  relate_at kind owner member (Some a) (Some b) owner_at member_at = relate_idle kind owner member a b s.operation owner_at member_at refl
-  relate_at kind owner member (Some a) None owner_at member_at = nothing _ _
-  relate_at kind owner member None b owner_at member_at = nothing _ _
-
-  reserve_free : (res : Res) (b : Bool) → s.operation ≡ None → list_any (clashes res) (s.core.reserved ++ held_by s.core.nodes) ≡ b → Happened s event (ev.reserve_free s res b)
-  reserve_free res true none e = nothing _ _
-  reserve_free res false none e =
-      outside _ _ tt refl refl refl refl refl (NodeEffect.same refl refl) (DriverEffect.same tt refl) (RangeEffect.reserves res none e refl refl event _ refl) (CommandEffect.same refl) (WorldEffect.same refl refl) (PathEffect.same refl) (WindowEffect.same refl) (HandleEffect.same refl)
-
-  reserve_idle : (res : Res) (o : Option Operation) → s.operation ≡ o → Happened s event (ev.reserve_idle s res o)
-  reserve_idle res (Some o) e = nothing _ _
-  reserve_idle res None e = reserve_free res _ e refl
-
-  -- a window is set
-  module _ (path : Text) (res : Res) (d : Device) (there : device_of path s.world ≡ Some d) (is : event ≡ Event.Window path res) where
-    window_new : (b : Bool) → (d.born == 0) ≡ false → (has_below d.born s.world || ev.has_children s.core.nodes (node_born d.born s.core.nodes)) ≡ false → list_any (is_window_on res.kind (d.born ∷ [])) s.windows ≡ b
-        → Happened s event (ev.window_new s res d b)
-    window_new true low childless e = nothing _ _
-    window_new false low childless e =
-        let neither = or_neither (has_below d.born s.world) (ev.has_children s.core.nodes (node_born d.born s.core.nodes)) childless in
-        let label = Label.Did EventWord.Window (spaced (d.path ∷ res_text res ∷ [])) in
-        let windowed : Windowed s (Happens event label) d res =
-        record { path = path; label = label; there = there; root_stays = low; no_device = neither.0; no_node = neither.1; first = e; event = ap (λ (x : Event). Happens x label) is } in
-        outside _ _ tt refl refl refl refl refl (NodeEffect.same refl refl) (DriverEffect.same tt refl) (RangeEffect.same refl) (CommandEffect.same refl) (WorldEffect.same refl refl) (PathEffect.same refl) (WindowEffect.sets d res windowed refl refl) (HandleEffect.same refl)
-
-    window_childless : (b : Bool) → (d.born == 0) ≡ false → (has_below d.born s.world || ev.has_children s.core.nodes (node_born d.born s.core.nodes)) ≡ b → Happened s event (ev.window_childless s res d b)
-    window_childless true low e = nothing _ _
-    window_childless false low e = window_new _ low e refl
-
-    window_device : (b : Bool) → (d.born == 0) ≡ b → Happened s event (ev.window_device s res d b)
-    window_device true e = nothing _ _
-    window_device false e = window_childless _ e refl
-
-  window_at : (path : Text) (res : Res) (o : Option Device) → device_of path s.world ≡ o → event ≡ Event.Window path res → Happened s event (ev.window_at s res o)
-  window_at path res None e is = nothing _ _
-  window_at path res (Some d) e is = window_device path res d e is _ refl
-
-  -- a handle is opened
-  module _ (path : Text) (node : Node) (at : node_of path s.core.nodes ≡ Some node) (is : event ≡ Event.OpenHandle path) where
-    open_up : (b : Bool) → s.operation ≡ None → (node.serial == 0) ≡ false → is_started node.state ≡ b → Happened s event (ev.open_up s node b)
-    open_up false none below e = nothing _ _
-    open_up true none below e =
-        outside _ _ tt refl refl refl refl refl (NodeEffect.same refl refl) (DriverEffect.same tt refl) (RangeEffect.same refl) (CommandEffect.same refl) (WorldEffect.same refl refl) (PathEffect.same refl) (WindowEffect.same refl)
-        (HandleEffect.opens node path _ none at below (is_Started node.state e) (ap (λ (x : Event). Happens x (Label.Did EventWord.HandleOpen node.path)) is) refl)
-
-    open_idle : (o : Option Operation) → (node.serial == 0) ≡ false → s.operation ≡ o → Happened s event (ev.open_idle s node o)
-    open_idle (Some o) below e = nothing _ _
-    open_idle None below e = open_up _ e below refl
-
-    open_below : (b : Bool) → (node.serial == 0) ≡ b → Happened s event (ev.open_below s node b)
-    open_below true e = nothing _ _
-    open_below false e = open_idle _ e refl
-
-  open_at : (path : Text) (o : Option Node) → node_of path s.core.nodes ≡ o → event ≡ Event.OpenHandle path → Happened s event (ev.open_at s o)
-  open_at path None e is = nothing _ _
-  open_at path (Some node) e is = open_below path node e is _ refl
+  opens : (path : Text) → event ≡ Event.OpenHandle path → Happened s event (ev.opens s path)
+  opens path is =
+      found (node_of path s.core.nodes) _ _ _ (λ node at.
+      guard (node.serial == 0) _ _ _ (λ below.
+      guard (is_some s.operation) _ _ _ (λ idle.
+      guard (not (is_started node.state)) _ _ _ (λ up.
+      outside _ _ tt refl refl refl refl refl (NodeEffect.same refl refl) (DriverEffect.same tt refl) (RangeEffect.same refl) (CommandEffect.same refl) (WorldEffect.same refl refl) (PathEffect.same refl) (WindowEffect.same refl)
+      (HandleEffect.opens node path _ (none_if s.operation idle) at below (is_Started node.state (not_not (is_started node.state) up)) (ap (λ (x : Event). Happens x (Label.Did EventWord.HandleOpen node.path)) is) refl)))))
 
   -- a handle is closed
-  module _ (path : Text) (node : Node) (at : node_of path s.core.nodes ≡ Some node) (is : event ≡ Event.CloseHandle path) (h : Handle) (found : find (is_handle_of node.serial) s.handles ≡ Some h) where
+  module _ (path : Text) (node : Node) (at : node_of path s.core.nodes ≡ Some node) (is : event ≡ Event.CloseHandle path) (h : Handle) (held : find (is_handle_of node.serial) s.handles ≡ Some h) where
     closed : (more due : Bool) → nat_lt 1 h.count ≡ more → (not more && is_surprise_removed node.state) ≡ due → CommandEffect s (ev.finish_due node due (ev.with_handles (closed_with node.serial s.handles more) s))
         → Happened s event (ev.did EventWord.HandleClose node.path (ev.finish_due node due (ev.with_handles (closed_with node.serial s.handles more) s)))
     closed more false e is_due tasks =
         outside _ _ tt refl refl refl refl refl (NodeEffect.same refl refl) (DriverEffect.same tt refl) (RangeEffect.same refl) tasks (WorldEffect.same refl refl) (PathEffect.same refl) (WindowEffect.same refl)
-        (HandleEffect.closes node path _ h at found (ap (λ (x : Event). Happens x (Label.Did EventWord.HandleClose node.path)) is) (ap (closed_with node.serial s.handles) (sym e))
+        (HandleEffect.closes node path _ h at held (ap (λ (x : Event). Happens x (Label.Did EventWord.HandleClose node.path)) is) (ap (closed_with node.serial s.handles) (sym e))
         (ap (λ b. ev.finish_due node b (ev.with_handles (closed_with node.serial s.handles more) s)) (sym is_due ∙ ap (λ b. not b && is_surprise_removed node.state) (sym e))))
     closed more true e is_due tasks =
         outside _ _ tt refl refl refl refl refl (NodeEffect.same refl refl) (DriverEffect.same tt refl) (RangeEffect.same refl) tasks (WorldEffect.same refl refl) (PathEffect.same refl) (WindowEffect.same refl)
-        (HandleEffect.closes node path _ h at found (ap (λ (x : Event). Happens x (Label.Did EventWord.HandleClose node.path)) is) (ap (closed_with node.serial s.handles) (sym e))
+        (HandleEffect.closes node path _ h at held (ap (λ (x : Event). Happens x (Label.Did EventWord.HandleClose node.path)) is) (ap (closed_with node.serial s.handles) (sym e))
         (ap (λ b. ev.finish_due node b (ev.with_handles (closed_with node.serial s.handles more) s)) (sym is_due ∙ ap (λ b. not b && is_surprise_removed node.state) (sym e))))
 
-    close_handle : (more : Bool) → nat_lt 1 h.count ≡ more → Happened s event (ev.close_handle s node more)
+    close_handle : (more : Bool) → nat_lt 1 h.count ≡ more → Happened s event (ev.did EventWord.HandleClose node.path (ev.finish_due node (not more && is_surprise_removed node.state) (ev.with_handles (closed_with node.serial s.handles more) s)))
     close_handle true e = closed true false e refl (CommandEffect.same refl)
     close_handle false e = by_state (is_surprise_removed node.state) refl
       where
@@ -256,113 +213,69 @@ module _ (s : State) (event : Event) where
         by_state false calm = closed false false e calm (CommandEffect.same refl)
         by_state true told = closed false true e told (CommandEffect.finishes node path at (is_SurpriseRemoved node.state told) refl)
 
-  close_open : (path : Text) (node : Node) (o : Option Handle) → node_of path s.core.nodes ≡ Some node → find (is_handle_of node.serial) s.handles ≡ o → event ≡ Event.CloseHandle path → Happened s event (ev.close_open s node o)
-  close_open path node None at found is = nothing _ _
-  close_open path node (Some h) at found is = close_handle path node at is h found _ refl
+  closes : (path : Text) → event ≡ Event.CloseHandle path → Happened s event (ev.closes s path)
+  closes path is =
+      found (node_of path s.core.nodes) _ _ _ (λ node at.
+      found (find (is_handle_of node.serial) s.handles) _ _ _ (λ h held. close_handle path node at is h held (nat_lt 1 h.count) refl))
 
-  close_at : (path : Text) (o : Option Node) → node_of path s.core.nodes ≡ o → event ≡ Event.CloseHandle path → Happened s event (ev.close_at s o)
-  close_at path None e is = nothing _ _
-  close_at path (Some node) e is = close_open path node (find (is_handle_of node.serial) s.handles) e refl is
+  changes : (path : Text) (reqs : Reqs) → event ≡ Event.Change path reqs → Happened s event (ev.changes s path reqs)
+  changes path reqs is =
+      found (node_of path s.core.nodes) _ _ _ (λ node at.
+      guard (not (is_in_world s.world node.born)) _ _ _ (λ there.
+      guard (node.serial == 0) _ _ _ (λ below.
+      guard (not (is_started node.state)) _ _ _ (λ up.
+      outside _ _ tt refl refl refl refl refl (NodeEffect.same refl refl) (DriverEffect.same tt refl) (RangeEffect.same refl) (CommandEffect.begins OpKind.Change node path at below refl)
+      (WorldEffect.changed node path reqs (Label.Did EventWord.Change node.path) at below (is_Started node.state (not_not (is_started node.state) up)) (not_not (is_in_world s.world node.born) there)
+      (ap (λ (x : Event). Happens x (Label.Did EventWord.Change node.path)) is) refl refl) (PathEffect.same refl) (WindowEffect.same refl) (HandleEffect.same refl)))))
 
-  -- a device requires something else
-  module _ (path : Text) (reqs : Reqs) (node : Node) (at : node_of path s.core.nodes ≡ Some node) (is : event ≡ Event.Change path reqs) where
-    change_up : (b : Bool) → is_in_world s.world node.born ≡ true → (node.serial == 0) ≡ false → is_started node.state ≡ b → Happened s event (ev.change_up s reqs node b)
-    change_up false there below e = nothing _ _
-    change_up true there below e =
-        outside _ _ tt refl refl refl refl refl (NodeEffect.same refl refl) (DriverEffect.same tt refl) (RangeEffect.same refl) (CommandEffect.begins OpKind.Change node path at below refl)
-        (WorldEffect.changed node path reqs (Label.Did EventWord.Change node.path) at below (is_Started node.state e) there (ap (λ (x : Event). Happens x (Label.Did EventWord.Change node.path)) is) refl refl) (PathEffect.same refl) (WindowEffect.same refl) (HandleEffect.same refl)
-
-    change_below : (b : Bool) → is_in_world s.world node.born ≡ true → (node.serial == 0) ≡ b → Happened s event (ev.change_below s reqs node b)
-    change_below true there e = nothing _ _
-    change_below false there e = change_up _ there e refl
-
-    change_there : (b : Bool) → is_in_world s.world node.born ≡ b → Happened s event (ev.change_there s reqs node b)
-    change_there false e = nothing _ _
-    change_there true e = change_below _ e refl
-
-  change_at : (path : Text) (reqs : Reqs) (o : Option Node) → node_of path s.core.nodes ≡ o → event ≡ Event.Change path reqs → Happened s event (ev.change_at s reqs o)
-  change_at path reqs None e is = nothing _ _
-  change_at path reqs (Some node) e is = change_there path reqs node e is _ refl
-
-  complete_activity : (node : Node) (minor : Minor) (ok : Bool) (a : Activity) (b : Bool) → activity_at node.serial s.activities ≡ Some a → Happened s event (ev.complete_activity s node minor ok a b)
-  complete_activity node minor ok a false at = nothing _ _
-  complete_activity node minor ok a true at =
+  -- a walk got its answer
+  answered : (label : Label) (activities : List Activity) (operation : Option Operation) → IsUnasked label → joined label ≡ 0
+      → AnswerEffect s label (record s { activities = activities; operation = operation }) → ActivityEffect s (record s { activities = activities; operation = operation })
+      → Happened s event (record { label = label; state = record s { activities = activities; operation = operation } })
+  answered label activities operation unasked quiet answer starts =
       record {
         nodes = NodeEffect.same refl refl;
-        drivers = DriverEffect.same tt refl;
+        drivers = DriverEffect.same unasked refl;
         ranges = RangeEffect.same refl;
-        operation = AnswerEffect.answers tt refl node.serial a ok at refl refl;
-        activities = ActivityEffect.goes node.serial a.phase (ev.completed_phase (ev.answer_of ok) a.phase) (PhaseStep.answered a ok at refl) refl;
+        operation = answer;
+        activities = starts;
         tasks = CommandEffect.same refl;
         world = WorldEffect.same refl refl;
         paths = PathEffect.same refl;
         windows = WindowEffect.same refl;
         handles = HandleEffect.same refl;
-        joins = JoinEffect.none tt;
+        joins = JoinEffect.none (quiet_label label quiet);
         serial = omega arith;
       }
 
-  complete_active : (node : Node) (minor : Minor) (ok : Bool) (o : Option Activity) → activity_at node.serial s.activities ≡ o → Happened s event (ev.complete_active s node minor ok o)
-  complete_active node minor ok None e = nothing _ _
-  complete_active node minor ok (Some a) e = complete_activity node minor ok a _ e
+  completes_start : (node : Node) (minor : Minor) (ok : Bool) → Happened s event (ev.completes_start s node minor ok)
+  completes_start node minor ok =
+      found (activity_at node.serial s.activities) _ _ _ (λ a at.
+      guard (not (ev.waits_for minor (phase_walk a.phase))) _ _ _ (λ waits.
+      answered (Label.Did EventWord.Complete (ev.complete_what node minor ok)) _ s.operation tt refl (AnswerEffect.answers tt refl node.serial a ok at refl refl)
+      (ActivityEffect.goes node.serial a.phase (ev.completed_phase (ev.answer_of ok) a.phase) (PhaseStep.answered a ok at refl) refl)))
 
-  complete_operation : (node : Node) (minor : Minor) (ok : Bool) (o : Operation) (b : Bool) → s.operation ≡ Some o → Happened s event (ev.complete_operation s node minor ok o b)
-  complete_operation node minor ok o true runs =
-      record {
-        nodes = NodeEffect.same refl refl;
-        drivers = DriverEffect.same tt refl;
-        ranges = RangeEffect.same refl;
-        operation = AnswerEffect.answered tt refl refl ok o runs refl;
-        activities = ActivityEffect.same refl;
-        tasks = CommandEffect.same refl;
-        world = WorldEffect.same refl refl;
-        paths = PathEffect.same refl;
-        windows = WindowEffect.same refl;
-        handles = HandleEffect.same refl;
-        joins = JoinEffect.none tt;
-        serial = omega arith;
-      }
-  complete_operation node minor ok o false runs = complete_active node minor ok (activity_at node.serial s.activities) refl
-
-  complete_node : (node : Node) (minor : Minor) (ok : Bool) (o : Option Operation) → s.operation ≡ o → Happened s event (ev.complete_node s node minor ok o)
-  complete_node node minor ok (Some o) e = complete_operation node minor ok o (ev.operation_waits minor node.serial o) e
-  complete_node node minor ok None e = complete_active node minor ok (activity_at node.serial s.activities) refl
-
-  complete_at : (minor : Minor) (ok : Bool) (o : Option Node) → Happened s event (ev.complete_at s minor ok o)
-  complete_at minor ok None = nothing _ _
-  complete_at minor ok (Some node) = complete_node node minor ok s.operation refl
-
--- a device is plugged in
-module _ (s : State) (parent path : Text) (hw compat : List Text) (reqs : Reqs) where
-  plug_room : (over : Device) (b : Bool) → device_of parent s.world ≡ Some over → nat_le (length s.world) 4096 ≡ b → Happened s (Event.Plug parent path hw compat reqs) (ev.plug_room s (ev.new_device s over.born path hw compat reqs) b)
-  plug_room over false there e = nothing s (Event.Plug parent path hw compat reqs) _ _
-  plug_room over true there e =
-      let d = ev.new_device s over.born path hw compat reqs in
-      listed s (Event.Plug parent path hw compat reqs) _ _ (plug d s) (node_born d.parent s.core.nodes) refl refl refl refl refl refl
-      (WorldEffect.plugged d (record { over = over; parent = parent; label = Label.Did EventWord.Plug path; there = there; under = refl; born = refl; room = e; event = refl }) refl refl)
-
-  plug_fresh : (over : Device) (o : Option Device) → device_of parent s.world ≡ Some over → Happened s (Event.Plug parent path hw compat reqs) (ev.plug_fresh s (ev.new_device s over.born path hw compat reqs) o)
-  plug_fresh over (Some other) there = nothing s (Event.Plug parent path hw compat reqs) _ _
-  plug_fresh over None there = plug_room over _ there refl
-
-  plug_below : (o : Option Device) → device_of parent s.world ≡ o → Happened s (Event.Plug parent path hw compat reqs) (ev.plug_below s path hw compat reqs o)
-  plug_below None e = nothing s (Event.Plug parent path hw compat reqs) _ _
-  plug_below (Some over) e = plug_fresh over (device_of path s.world) e
+  completes : (path : Text) (minor : Minor) (ok : Bool) → Happened s event (ev.completes s path minor ok)
+  completes path minor ok =
+      found (node_of path s.core.nodes) _ _ _ (λ node at.
+      by_found (Happened s event) s.operation _ _ (λ none. completes_start node minor ok) (λ o runs.
+      by_test (Happened s event) (not (ev.operation_waits minor node.serial o)) _ _ (λ not_waiting. completes_start node minor ok) (λ waits.
+      answered (Label.Did EventWord.Complete (ev.complete_what node minor ok)) s.activities _ tt refl (AnswerEffect.answered tt refl refl ok o runs refl) (ActivityEffect.same refl))))
 
 pub event_effect : (s : State) (event : Event) → Happened s event (ev.happens s event)
-event_effect s (Event.Plug parent path hw compat reqs) = plug_below s parent path hw compat reqs (device_of parent s.world) refl
-event_effect s (Event.Pull path) = pull_at s (Event.Pull path) path (device_of path s.world) refl
-event_effect s (Event.Name name kind) = name_at s (Event.Name name kind) name kind (find (is_named name) s.core.rack) refl
-event_effect s (Event.Teach name rule) = teach_at s (Event.Teach name rule) name rule (find (is_named name) s.core.rack)
-event_effect s (Event.Disable path) = disable_at s (Event.Disable path) path (node_of path s.core.nodes) refl
-event_effect s (Event.Enable path) = enable_at s (Event.Enable path) path (find (folding.same path) s.disabled)
-event_effect s (Event.Eject path) = eject_at s (Event.Eject path) path (node_of path s.core.nodes) refl
-event_effect s (Event.Relate kind owner member) = relate_at s (Event.Relate kind owner member) kind owner member (node_of owner s.core.nodes) (node_of member s.core.nodes) refl refl
-event_effect s (Event.Reserve res) = reserve_idle s (Event.Reserve res) res s.operation refl
-event_effect s (Event.Complete path minor ok) = complete_at s (Event.Complete path minor ok) minor ok (node_of path s.core.nodes)
-event_effect s (Event.Window path res) = window_at s (Event.Window path res) path res (device_of path s.world) refl refl
-event_effect s (Event.Change path reqs) = change_at s (Event.Change path reqs) path reqs (node_of path s.core.nodes) refl refl
-event_effect s (Event.OpenHandle path) = open_at s (Event.OpenHandle path) path (node_of path s.core.nodes) refl refl
-event_effect s (Event.CloseHandle path) = close_at s (Event.CloseHandle path) path (node_of path s.core.nodes) refl refl
+event_effect s (Event.Plug parent path hw compat reqs) = plugs s (Event.Plug parent path hw compat reqs) parent path hw compat reqs refl
+event_effect s (Event.Pull path) = pulls s (Event.Pull path) path
+event_effect s (Event.Name name kind) = names s (Event.Name name kind) name kind refl
+event_effect s (Event.Teach name rule) = teaches s (Event.Teach name rule) name rule
+event_effect s (Event.Disable path) = disables s (Event.Disable path) path
+event_effect s (Event.Enable path) = enables s (Event.Enable path) path
+event_effect s (Event.Eject path) = ejects s (Event.Eject path) path
+event_effect s (Event.Relate kind owner member) = relates s (Event.Relate kind owner member) kind owner member
+event_effect s (Event.Reserve res) = reserves s (Event.Reserve res) res
+event_effect s (Event.Complete path minor ok) = completes s (Event.Complete path minor ok) path minor ok
+event_effect s (Event.Window path res) = sets_window s (Event.Window path res) path res refl
+event_effect s (Event.Change path reqs) = changes s (Event.Change path reqs) path reqs refl
+event_effect s (Event.OpenHandle path) = opens s (Event.OpenHandle path) path refl
+event_effect s (Event.CloseHandle path) = closes s (Event.CloseHandle path) path refl
 event_effect s (Event.Watch client path agrees) = nothing s (Event.Watch client path agrees) _ _
 event_effect s (Event.Unwatch client path) = nothing s (Event.Unwatch client path) _ _

@@ -9,11 +9,12 @@ use Rattle.pnp_labels.specs.declared.label.OpKind.{OpKind}
 use Rattle.pnp_labels.specs.declared.label.Reason.{Reason}
 use Rattle.pnp_labels.specs.declared.words.RelKind.{RelKind}
 use Rattle.pnp_model.specs.Cores.{node_at, path_of, serials_of}
-use Rattle.pnp_model.specs.Events.{open_at, open_below, open_idle, open_up, close_at, close_open, close_handle, finish_due, with_handles, change_at, change_below, change_there, change_up, happens, disable_at, disable_below, disable_enabled, eject_at, eject_below, relate_at, relate_idle, relate_two, refused}
+use Rattle.pnp_model.specs.Events.{finish_due, with_handles, happens, relates_two, refused}
+use Rattle.pnp_model.proofs.Guards.{where_false, where_some, where_true}
 use Rattle.pnp_model.specs.Handles.{closed_with, is_handle_of, opened}
 use Rattle.pnp_model.specs.Machine.{is_born}
 use Rattle.pnp_model.specs.Records.{Node, Driver, Activity, Operation, State, Step, Task, Duty}
-use Rattle.pnp_model.specs.States.{node_of}
+use Rattle.pnp_model.specs.States.{is_in_world, node_of}
 use Rattle.pnp_model.specs.Tests.{has_same, is_started, is_surprise_removed}
 use Rattle.resource_reqs.specs.Resources.{Reqs}
 use Rattle.script_bus.specs.Worlds.{changed}
@@ -31,10 +32,6 @@ use Rattle.pnp_machine.proofs.EventSteps.{FoundAt, found_at}
 pub idle_if : (o : Option declared.Operation) → is_some o ≡ false → is_some (option_map operation_of o) ≡ false
 idle_if None e = refl
 idle_if (Some o) e = absurd (cc)
-
-none_if : (o : Option Operation) → is_some o ≡ false → o ≡ None
-none_if None e = refl
-none_if (Some o) e = absurd (cc)
 
 -- a handle is open where the count is not 0
 some_handle : (k n : ℕ) → (n ≡ 0 → ⊥) → handle_with k n ≡ Some (record { serial = k; count = n })
@@ -79,14 +76,14 @@ module _ (ds : Devices) (rack : List Driver) (paths : List Text) (works : List A
     pub disables : has_same path paths ≡ false → tasks' ≡ tasks ++ record { kind = Duty.Begins OpKind.Disable; serial = k } ∷ []
         → IsDone (happens s0 (Event.Disable path)) (Label.Did EventWord.Disable what) t
     disables enabled more =
-        done_of (Event.Disable path) (Label.Did EventWord.Disable what) t (disable_enabled s n.node false)
-        (ap (disable_at s path) n.found ∙ ap (disable_below s path n.node) (not_root n.node.serial k n.own up) ∙ ap (disable_enabled s n.node) enabled)
+        done_of (Event.Disable path) (Label.Did EventWord.Disable what) t _
+        (where_some (node_of path ds.tree.nodes) n.node _ _ n.found ∙ where_false (n.node.serial == 0) _ _ (not_root n.node.serial k n.own up) ∙ where_false (has_same path paths) _ _ enabled)
         (ap (Label.Did EventWord.Disable) (spelled ∙ path_is path k n), more_is (Duty.Begins OpKind.Disable) more)
 
     pub ejects : tasks' ≡ tasks ++ record { kind = Duty.Begins OpKind.Eject; serial = k } ∷ [] → IsDone (happens s0 (Event.Eject path)) (Label.Did EventWord.Eject what) t
     ejects more =
-        done_of (Event.Eject path) (Label.Did EventWord.Eject what) t (eject_below s n.node false)
-        (ap (eject_at s) n.found ∙ ap (eject_below s n.node) (not_root n.node.serial k n.own up))
+        done_of (Event.Eject path) (Label.Did EventWord.Eject what) t _
+        (where_some (node_of path ds.tree.nodes) n.node _ _ n.found ∙ where_false (n.node.serial == 0) _ _ (not_root n.node.serial k n.own up))
         (ap (Label.Did EventWord.Eject) (spelled ∙ path_is path k n), more_is (Duty.Begins OpKind.Eject) more)
 
   -- A device requires something else --------------------------------------------------------
@@ -98,30 +95,38 @@ module _ (ds : Devices) (rack : List Driver) (paths : List Text) (works : List A
     abbrev Changed : Label → State → Type 0
     Changed label t = IsDone (happens s0 (Event.Change path reqs)) label t
 
-    -- the step, by whether the device is in the world
-    there : (b : Bool) → b ≡ is_born ds.world.devices (node_at k ds.tree.nodes) → happens s (Event.Change path reqs) ≡ change_there s reqs m.node b
-    there b e = ap (change_at s reqs) m.found ∙ ap (change_there s reqs m.node) (sym (ap (is_born ds.world.devices) m.at) ∙ sym e)
+    -- whether the device is in the world
+    there : (b : Bool) → b ≡ is_born ds.world.devices (node_at k ds.tree.nodes) → not (is_in_world ds.world.devices m.node.born) ≡ not b
+    there b e = ap not (sym (ap (is_born ds.world.devices) m.at) ∙ sym e)
+
+    refuses_change : (reason : Reason) → happens s (Event.Change path reqs) ≡ refused EventWord.Change reason s → Changed (Label.Refused EventWord.Change reason) s0
+    refuses_change reason step = done_of (Event.Change path reqs) (Label.Refused EventWord.Change reason) s0 (refused EventWord.Change reason s) step (refl, sym is)
 
     pub change_absent : false ≡ is_born ds.world.devices (node_at k ds.tree.nodes) → Changed (Label.Refused EventWord.Change Reason.NoDevice) s0
-    change_absent e = done_of (Event.Change path reqs) (Label.Refused EventWord.Change Reason.NoDevice) s0 (refused EventWord.Change Reason.NoDevice s) (there false e) (refl, sym is)
+    change_absent e =
+        refuses_change Reason.NoDevice
+        (where_some (node_of path ds.tree.nodes) m.node _ _ m.found ∙ where_true (not (is_in_world ds.world.devices m.node.born)) _ _ (there false e))
 
     module _ (e : true ≡ is_born ds.world.devices (node_at k ds.tree.nodes)) where
       pub change_of_root : k ≡ 0 → Changed (Label.Refused EventWord.Change Reason.RootStays) s0
       change_of_root z =
           let root : (m.node.serial == 0) ≡ true = (let own = m.own in grind (arith, nat_tests)) in
-          done_of (Event.Change path reqs) (Label.Refused EventWord.Change Reason.RootStays) s0 (refused EventWord.Change Reason.RootStays s) (there true e ∙ ap (change_below s reqs m.node) root) (refl, sym is)
+          refuses_change Reason.RootStays
+          (where_some (node_of path ds.tree.nodes) m.node _ _ m.found ∙ where_false (not (is_in_world ds.world.devices m.node.born)) _ _ (there true e)
+          ∙ where_true (m.node.serial == 0) _ _ root)
 
       module _ (up : k ≡ 0 → ⊥) (x : Node) (at : Some x ≡ node_at k ds.tree.nodes) where
         same_node : x ≡ m.node
         same_node = let own = m.at in cc
 
-        started : (b : Bool) → is_started x.state ≡ b → happens s (Event.Change path reqs) ≡ change_up s reqs m.node b
-        started b h =
-            there true e ∙ ap (change_below s reqs m.node) (not_root m.node.serial k m.own up)
-            ∙ ap (change_up s reqs m.node) (sym (ap (λ (y : Node). is_started y.state) same_node) ∙ h)
+        started : (b : Bool) → is_started x.state ≡ b → not (is_started m.node.state) ≡ not b
+        started b h = ap not (sym (ap (λ (y : Node). is_started y.state) same_node) ∙ h)
 
         pub change_down : is_started x.state ≡ false → Changed (Label.Refused EventWord.Change Reason.NotStarted) s0
-        change_down h = done_of (Event.Change path reqs) (Label.Refused EventWord.Change Reason.NotStarted) s0 (refused EventWord.Change Reason.NotStarted s) (started false h) (refl, sym is)
+        change_down h =
+            refuses_change Reason.NotStarted
+            (where_some (node_of path ds.tree.nodes) m.node _ _ m.found ∙ where_false (not (is_in_world ds.world.devices m.node.born)) _ _ (there true e)
+            ∙ where_false (m.node.serial == 0) _ _ (not_root m.node.serial k m.own up) ∙ where_true (not (is_started m.node.state)) _ _ (started false h))
 
         pub changes : (ds' : Devices) (tasks' : List Task) (what : Text) → is_started x.state ≡ true → what ≡ path_of (node_at k s0.core.nodes)
             → IfSome (node_at k ds.tree.nodes) (λ n. ds' ≡ record ds { world = changed n.born reqs ds.world }) → tasks' ≡ tasks ++ record { kind = Duty.Begins OpKind.Change; serial = k } ∷ []
@@ -129,7 +134,9 @@ module _ (ds : Devices) (rack : List Driver) (paths : List Text) (works : List A
         changes ds' tasks' what h spelled now more =
             let own : ds' ≡ record ds { world = changed m.node.born reqs ds.world } =
             subst (λ (o : Option Node). IfSome o (λ n. ds' ≡ record ds { world = changed n.born reqs ds.world })) m.at now in
-            done_of (Event.Change path reqs) (Label.Did EventWord.Change what) (state_of ds' rack paths works operation tasks') (change_up s reqs m.node true) (started true h) (
+            done_of (Event.Change path reqs) (Label.Did EventWord.Change what) (state_of ds' rack paths works operation tasks') _
+            (where_some (node_of path ds.tree.nodes) m.node _ _ m.found ∙ where_false (not (is_in_world ds.world.devices m.node.born)) _ _ (there true e)
+            ∙ where_false (m.node.serial == 0) _ _ (not_root m.node.serial k m.own up) ∙ where_false (not (is_started m.node.state)) _ _ (started true h)) (
               ap (Label.Did EventWord.Change) (spelled ∙ path_is path k m),
               ap (λ d. state_of d rack paths works operation tasks') own
                   ∙ ap (state_of (record ds { world = changed m.node.born reqs ds.world }) rack paths works operation) (more ∙ ap (λ i. tasks ++ record { kind = Duty.Begins OpKind.Change; serial = i } ∷ []) (sym m.own)),
@@ -145,19 +152,21 @@ module _ (ds : Devices) (rack : List Driver) (paths : List Text) (works : List A
     own_node = let own = o.at in cc
 
     module _ (idle : is_some operation ≡ false) (up : k ≡ 0 → ⊥) where
-      opens_by : (b : Bool) → is_started x.state ≡ b → happens s (Event.OpenHandle path) ≡ open_up s o.node b
-      opens_by b h =
-          ap (open_at s) o.found ∙ ap (open_below s o.node) (not_root o.node.serial k o.own up) ∙ ap (open_idle s o.node) (none_if operation idle)
-          ∙ ap (open_up s o.node) (sym (ap (λ (y : Node). is_started y.state) own_node) ∙ h)
+      started_by : (b : Bool) → is_started x.state ≡ b → not (is_started o.node.state) ≡ not b
+      started_by b h = ap not (sym (ap (λ (y : Node). is_started y.state) own_node) ∙ h)
 
       pub open_down : is_started x.state ≡ false → IsDone (happens s0 (Event.OpenHandle path)) (Label.Refused EventWord.HandleOpen Reason.NotStarted) s0
       open_down h =
-          done_of (Event.OpenHandle path) (Label.Refused EventWord.HandleOpen Reason.NotStarted) s0 (refused EventWord.HandleOpen Reason.NotStarted s) (opens_by false h) (refl, sym is)
+          done_of (Event.OpenHandle path) (Label.Refused EventWord.HandleOpen Reason.NotStarted) s0 (refused EventWord.HandleOpen Reason.NotStarted s)
+          (where_some (node_of path ds.tree.nodes) o.node _ _ o.found ∙ where_false (o.node.serial == 0) _ _ (not_root o.node.serial k o.own up)
+          ∙ where_false (is_some operation) _ _ idle ∙ where_true (not (is_started o.node.state)) _ _ (started_by false h)) (refl, sym is)
 
       pub opens : (ds' : Devices) (what : Text) → is_started x.state ≡ true → what ≡ path_of (node_at k s0.core.nodes) → ds' ≡ record ds { handles = opened k ds.handles }
           → IsDone (happens s0 (Event.OpenHandle path)) (Label.Did EventWord.HandleOpen what) (state_of ds' rack paths works operation tasks)
       opens ds' what h spelled now =
-          done_of (Event.OpenHandle path) (Label.Did EventWord.HandleOpen what) (state_of ds' rack paths works operation tasks) (open_up s o.node true) (opens_by true h) (
+          done_of (Event.OpenHandle path) (Label.Did EventWord.HandleOpen what) (state_of ds' rack paths works operation tasks) _
+          (where_some (node_of path ds.tree.nodes) o.node _ _ o.found ∙ where_false (o.node.serial == 0) _ _ (not_root o.node.serial k o.own up)
+          ∙ where_false (is_some operation) _ _ idle ∙ where_false (not (is_started o.node.state)) _ _ (started_by true h)) (
             ap (Label.Did EventWord.HandleOpen) (spelled ∙ path_is path k o),
             ap (λ d. state_of d rack paths works operation tasks) (now ∙ ap (λ i. record ds { handles = opened i ds.handles }) (sym o.own)),
           )
@@ -166,11 +175,6 @@ module _ (ds : Devices) (rack : List Driver) (paths : List Text) (works : List A
       -- is another one open?
       abbrev more : Bool
       more = nat_lt 1 count
-
-      closes_it : happens s (Event.CloseHandle path) ≡ close_handle s o.node more
-      closes_it =
-          ap (close_at s) o.found
-          ∙ ap (close_open s o.node) (ap (λ i. find (is_handle_of i) ds.handles) o.own ∙ held ∙ some_handle k count some)
 
       abbrev less : Devices
       less = record ds { handles = closed_with o.node.serial ds.handles more }
@@ -185,7 +189,9 @@ module _ (ds : Devices) (rack : List Driver) (paths : List Text) (works : List A
           → tasks' ≡ cond (not more && is_surprise_removed x.state) (tasks ++ record { kind = Duty.Begins OpKind.Finish; serial = k } ∷ []) tasks
           → IsDone (happens s0 (Event.CloseHandle path)) (Label.Did EventWord.HandleClose what) (state_of ds' rack paths works operation tasks')
       closes ds' tasks' what spelled now due =
-          done_of (Event.CloseHandle path) (Label.Did EventWord.HandleClose what) (state_of ds' rack paths works operation tasks') (close_handle s o.node more) closes_it (
+          done_of (Event.CloseHandle path) (Label.Did EventWord.HandleClose what) (state_of ds' rack paths works operation tasks') _
+          (where_some (node_of path ds.tree.nodes) o.node _ _ o.found
+          ∙ where_some (find (is_handle_of o.node.serial) ds.handles) (record { serial = k; count = count }) _ _ (ap (λ i. find (is_handle_of i) ds.handles) o.own ∙ held ∙ some_handle k count some)) (
             ap (Label.Did EventWord.HandleClose) (spelled ∙ path_is path k o),
             ap (λ d. state_of d rack paths works operation tasks') (now ∙ ap (λ i. record ds { handles = closed_with i ds.handles more }) (sym o.own))
                 ∙ due_is (not more && is_surprise_removed o.node.state) tasks' (due ∙ ap (λ (y : Node). cond (not more && is_surprise_removed y.state) (tasks ++ record { kind = Duty.Begins OpKind.Finish; serial = k } ∷ []) tasks) own_node),
@@ -209,12 +215,12 @@ module _ (ds : Devices) (rack : List Driver) (paths : List Text) (works : List A
     b = here member j found_member
 
     abbrev two : Step
-    two = relate_two s kind a.node b.node (a.node.serial == b.node.serial)
+    two = relates_two s kind a.node b.node
 
     step : happens s (Event.Relate kind owner member) ≡ two
     step =
-        ap (λ o. relate_at s kind o (node_of member ds.tree.nodes)) a.found ∙ ap (relate_at s kind (Some a.node)) b.found
-        ∙ ap (relate_idle s kind a.node b.node) (none_if operation idle)
+        where_some (node_of owner ds.tree.nodes) a.node _ _ a.found ∙ where_some (node_of member ds.tree.nodes) b.node _ _ b.found
+        ∙ where_false (is_some operation) _ _ idle
 
     relates : (result : Result (Unit {0}) RelateError) → IsRelated result → Relates s kind a.node b.node ds.relations result ds'.relations
     relates result h =

@@ -1,6 +1,7 @@
 -- What the parts of the machine do at an event, as what happens by its definition.
-use Rattle.std.proofs.Common.{◌≡◌, ◌≢◌, ℕ, ◌+◌, ◌<◌, ◌≤◌, ◌==◌, Bool, true, false, cond, List, [], ◌∷◌, find, length, Option, Some, None, IsSome, Ok, Err, get_or, nat_lt, refl, sym, ◌∙◌, ap, subst, arith, option_map, slice_get}
+use Rattle.std.proofs.Common.{◌≡◌, ◌≢◌, ℕ, ◌+◌, ◌<◌, ◌≤◌, ◌==◌, Bool, true, false, cond, List, [], ◌∷◌, find, length, Option, Some, None, IsSome, is_some, Ok, Err, get_or, nat_le, not, refl, sym, ◌∙◌, ap, subst, arith, option_map, slice_get}
 use Rattle.std.proofs.lemmas.Bool.Decides.{nat_tests}
+use Rattle.std.specs.Prelude.{is_none}
 use Rattle.std.proofs.lemmas.Option.{get_or_from_slice_get}
 use Rattle.device_ids.specs.Folding.{same}
 use Rattle.pnp_labels.specs.Texts.{Text}
@@ -12,10 +13,11 @@ use Rattle.pnp_labels.specs.declared.label.Reason.{Reason}
 use Rattle.pnp_labels.specs.declared.words.DriverKind.{DriverKind}
 use Rattle.pnp_model.specs.Books.{is_named, is_unnamed, name_or_none, printed_name, driver_named, name_of}
 use Rattle.pnp_model.specs.Cores.{node_at, serials_of}
-use Rattle.pnp_model.specs.Events.{happens, name_at, name_free, teach_at, teach_kind, teach_room, with_rule}
+use Rattle.pnp_model.specs.Events.{happens, refused, with_rule}
 use Rattle.pnp_model.specs.Records.{Node, Driver, Activity, Operation, State, Step, Task}
 use Rattle.pnp_model.specs.States.{node_of}
 use Rattle.pnp_model.specs.Tests.{is_scripted}
+use Rattle.pnp_model.proofs.Guards.{where_false, where_none, where_some, where_true}
 use Rattle.pnp_model.proofs.Keyed.{find_from_position, find_from_none, changed_first_at}
 use Rattle.driver_rack.specs.Rows.{Named, TaughtOne}
 use Rattle.driver_rack.specs.declared.errors.NameError.TheVariants as NameError
@@ -37,25 +39,33 @@ module _ (ds : Devices) (old new : List Driver) (paths : List Text) (works : Lis
   abbrev after : State
   after = state_of ds new paths works operation tasks
 
+  rows_are : (rows : List Driver) → new ≡ rows → after ≡ state_of ds rows paths works operation tasks
+  rows_are rows is = ap (λ r. state_of ds r paths works operation tasks) is
+
+  done_by : (event : Event) (label : Label) (step : Step) → happens before event ≡ step → IsDone step label after → IsDone (happens before event) label after
+  done_by event label step e h = subst (λ x. IsDone x label after) (sym e) h
+
   pub name_given : (kind : DriverKind) (name : Text) (k : ℕ) → Named (Ok k) kind name old new → IsDone (happens before (Event.Name name kind)) (Label.Did EventWord.Name name) after
   name_given kind name k (free, place, is) =
-      let step : happens before (Event.Name name kind) ≡ name_free before name kind (Some (get_or old k some_driver)) =
-      ap (name_at before name kind) (find_from_none (is_named name) old free)
-      ∙ ap (name_free before name kind) (find_from_position (is_unnamed kind) old k some_driver place) in
-      (ap (λ (x : Step). x.label) (sym step), ap (λ rows. state_of ds rows paths works operation tasks) is ∙ ap (λ (x : Step). x.state) (sym step))
+      done_by (Event.Name name kind) (Label.Did EventWord.Name name) _
+      (where_false (is_some (find (is_named name) old)) _ _ (ap is_some (find_from_none (is_named name) old free))
+      ∙ where_false (is_none (find (is_unnamed kind) old)) _ _ (ap is_none (find_from_position (is_unnamed kind) old k some_driver place)))
+      (refl, rows_are _ is)
 
   pub name_taken : (kind : DriverKind) (name : Text) → Named (Err NameError.SameName) kind name old new
       → IsDone (happens before (Event.Name name kind)) (Label.Refused EventWord.Name Reason.SameName) after
   name_taken kind name ((k, at), is) =
-      let step = ap (name_at before name kind) (find_from_position (is_named name) old k some_driver at) in
-      (ap (λ (x : Step). x.label) (sym step), ap (λ rows. state_of ds rows paths works operation tasks) is ∙ ap (λ (x : Step). x.state) (sym step))
+      done_by (Event.Name name kind) (Label.Refused EventWord.Name Reason.SameName) (refused EventWord.Name Reason.SameName before)
+      (where_true (is_some (find (is_named name) old)) _ _ (ap is_some (find_from_position (is_named name) old k some_driver at)))
+      (refl, rows_are old is)
 
   pub name_none : (kind : DriverKind) (name : Text) → Named (Err NameError.RackEmpty) kind name old new
       → IsDone (happens before (Event.Name name kind)) (Label.Refused EventWord.Name Reason.RackEmpty) after
   name_none kind name (free, none, is) =
-      let step =
-      ap (name_at before name kind) (find_from_none (is_named name) old free) ∙ ap (name_free before name kind) (find_from_none (is_unnamed kind) old none) in
-      (ap (λ (x : Step). x.label) (sym step), ap (λ rows. state_of ds rows paths works operation tasks) is ∙ ap (λ (x : Step). x.state) (sym step))
+      done_by (Event.Name name kind) (Label.Refused EventWord.Name Reason.RackEmpty) (refused EventWord.Name Reason.RackEmpty before)
+      (where_false (is_some (find (is_named name) old)) _ _ (ap is_some (find_from_none (is_named name) old free))
+      ∙ where_true (is_none (find (is_unnamed kind) old)) _ _ (ap is_none (find_from_none (is_unnamed kind) old none)))
+      (refl, rows_are old is)
 
   -- A driver is taught
 
@@ -73,8 +83,8 @@ module _ (ds : Devices) (old new : List Driver) (paths : List Text) (works : Lis
 
     pub teach_none : driver_named name old ≡ None → new ≡ old → IsDone teaches (Label.Refused EventWord.Teach Reason.NoDriver) after
     teach_none none is =
-        let step = ap (teach_at before name rule) (find_from_none (is_named name) old none) in
-        (ap (λ (x : Step). x.label) (sym step), ap (λ rows. state_of ds rows paths works operation tasks) is ∙ ap (λ (x : Step). x.state) (sym step))
+        done_by (Event.Teach name rule) (Label.Refused EventWord.Teach Reason.NoDriver) (refused EventWord.Teach Reason.NoDriver before)
+        (where_none (find (is_named name) old) _ _ (find_from_none (is_named name) old none)) (refl, rows_are old is)
 
     module _ (k : ℕ) (d : Driver) (place : driver_named name old ≡ Some k) (was : slice_get old k ≡ Some d) where
       here : get_or old k some_driver ≡ d
@@ -86,33 +96,32 @@ module _ (ds : Devices) (old new : List Driver) (paths : List Text) (works : Lis
       label_is : name_of old k ≡ printed_name d.name
       label_is = ap (λ o. printed_name (name_or_none o)) was
 
+      few : (n : ℕ) → n < 64 → nat_le 64 n ≡ false
+      few n h = grind (arith, nat_tests)
+
+      many : (n : ℕ) → 64 ≤ n → nat_le 64 n ≡ true
+      many n h = grind (arith, nat_tests)
+
       pub teach_done : TaughtOne d k rule (Ok tt) old new → IsDone teaches (Label.Did EventWord.Teach (name_of old k)) after
       teach_done (kind, room, is) =
-          let step : teaches ≡ teach_room before d name rule true =
-          ap (teach_at before name rule) found ∙ ap (teach_kind before d name rule) (scripted d.kind kind)
-          ∙ ap (teach_room before d name rule) (few (length d.book) room) in
-          let changed = changed_first_at (is_named name) (with_rule rule) old k (with_rule rule d) some_driver place (ap (with_rule rule) (sym here)) in (
-            ap (Label.Did EventWord.Teach) label_is ∙ ap (λ (x : Step). x.label) (sym step),
-            ap (λ rows. state_of ds rows paths works operation tasks) (is ∙ changed) ∙ ap (λ (x : Step). x.state) (sym step),
-          )
-        where
-          few : (n : ℕ) → n < 64 → nat_lt n 64 ≡ true
-          few n h = grind (arith, nat_tests)
+          let changed = changed_first_at (is_named name) (with_rule rule) old k (with_rule rule d) some_driver place (ap (with_rule rule) (sym here)) in
+          done_by (Event.Teach name rule) (Label.Did EventWord.Teach (name_of old k)) _
+          (where_some (find (is_named name) old) d _ _ found ∙ where_false (not (is_scripted d.kind)) _ _ (ap not (scripted d.kind kind))
+          ∙ where_false (nat_le 64 (length d.book)) _ _ (few (length d.book) room))
+          (ap (Label.Did EventWord.Teach) label_is, rows_are _ (is ∙ changed))
 
       pub teach_not : TaughtOne d k rule (Err TeachError.NotTeachable) old new → IsDone teaches (Label.Refused EventWord.Teach Reason.NotTeachable) after
       teach_not (kind, is) =
-          let step = ap (teach_at before name rule) found ∙ ap (teach_kind before d name rule) (not_scripted d.kind kind) in
-          (ap (λ (x : Step). x.label) (sym step), ap (λ rows. state_of ds rows paths works operation tasks) is ∙ ap (λ (x : Step). x.state) (sym step))
+          done_by (Event.Teach name rule) (Label.Refused EventWord.Teach Reason.NotTeachable) (refused EventWord.Teach Reason.NotTeachable before)
+          (where_some (find (is_named name) old) d _ _ found ∙ where_true (not (is_scripted d.kind)) _ _ (ap not (not_scripted d.kind kind)))
+          (refl, rows_are old is)
 
       pub teach_full : TaughtOne d k rule (Err TeachError.BookFull) old new → IsDone teaches (Label.Refused EventWord.Teach Reason.BookFull) after
       teach_full (kind, full, is) =
-          let step =
-          ap (teach_at before name rule) found ∙ ap (teach_kind before d name rule) (scripted d.kind kind)
-          ∙ ap (teach_room before d name rule) (many (length d.book) full) in
-          (ap (λ (x : Step). x.label) (sym step), ap (λ rows. state_of ds rows paths works operation tasks) is ∙ ap (λ (x : Step). x.state) (sym step))
-        where
-          many : (n : ℕ) → 64 ≤ n → nat_lt n 64 ≡ false
-          many n h = grind (arith, nat_tests)
+          done_by (Event.Teach name rule) (Label.Refused EventWord.Teach Reason.BookFull) (refused EventWord.Teach Reason.BookFull before)
+          (where_some (find (is_named name) old) d _ _ found ∙ where_false (not (is_scripted d.kind)) _ _ (ap not (scripted d.kind kind))
+          ∙ where_true (nat_le 64 (length d.book)) _ _ (many (length d.book) full))
+          (refl, rows_are old is)
 
 -- Nodes by their paths ---------------------------------------------------------------------
 

@@ -1,6 +1,6 @@
 -- What holds of a state or a step whatever books the drivers have, and what holds of an event that teaches, which changes books alone.
-use Rattle.std.proofs.Common.{ℕ, ◌≡◌, Bool, true, false, List, [], ◌∷◌, Option, Some, None, inl, slice_get, option_map, refl, sym, ap, ◌∙◌, subst}
-use Rattle.std.specs.Prelude.{nat_lt, find, length}
+use Rattle.std.proofs.Common.{ℕ, ◌≡◌, true, false, not, List, [], ◌∷◌, Option, Some, None, inl, slice_get, option_map, refl, sym, ap, ◌∙◌, subst}
+use Rattle.std.specs.Prelude.{nat_le, find, length}
 use Rattle.std.proofs.lemmas.Option.{slice_get-map}
 use Rattle.pnp_labels.specs.Texts.{Text}
 use Rattle.pnp_labels.specs.declared.event.Event.{Event}
@@ -12,13 +12,14 @@ use Rattle.pnp_model.specs.Cores.{node_at, set_rack}
 use Rattle.pnp_model.specs.Diagram.{Change, FollowsDiagram, Walked}
 use Rattle.pnp_model.specs.Events as happenings
 use Rattle.pnp_model.specs.Laws.{DependentsFirst}
-use Rattle.pnp_model.specs.Records.{Core, Driver, Node, State, Walk}
+use Rattle.pnp_model.specs.Records.{Core, Driver, Node, State, Step, Walk}
 use Rattle.pnp_model.specs.Tests.{has, is_scripted}
 use Rattle.pnp_laws.specs.Keys.{IsAcyclic, Keyed}
 use Rattle.pnp_laws.specs.Stacks.{AllNamed, HasName, NamesDriver, StacksFit}
 use Rattle.pnp_laws.specs.Strays.{NobodyForgotten}
 use Rattle.pnp_laws.specs.Told.{IsWalkOf, StatesTold}
 use Rattle.pnp_laws.specs.Waiting.{DependentsTold, OpenHandles}
+use Rattle.pnp_model.proofs.Guards.{by_found, by_test}
 use Rattle.free_model.specs.Frees.{with_rack}
 use Rattle.free_model.specs.Shapes.{Face, face, faces}
 use Rattle.free_model.proofs.Alikes.{dependents_same}
@@ -93,20 +94,12 @@ IsTakenOr (Label.Did word what) = Unit {0}
 IsTakenOr (Label.Refused word reason) = Unit {0}
 IsTakenOr _ = ⊥
 
-room_says : (s : State) (d : Driver) (name : Text) (rule : Rule) (b : Bool) → IsTakenOr (happenings.teach_room s d name rule b).label
-room_says s d name rule true = tt
-room_says s d name rule false = tt
-
-kind_says : (s : State) (d : Driver) (name : Text) (rule : Rule) (b : Bool) → IsTakenOr (happenings.teach_kind s d name rule b).label
-kind_says s d name rule true = room_says s d name rule (nat_lt (length d.book) 64)
-kind_says s d name rule false = tt
-
-at_says : (s : State) (name : Text) (rule : Rule) (o : Option Driver) → IsTakenOr (happenings.teach_at s name rule o).label
-at_says s name rule None = tt
-at_says s name rule (Some d) = kind_says s d name rule (is_scripted d.kind)
-
 pub teaching_says : (s : State) (name : Text) (rule : Rule) → IsTakenOr (happenings.happens s (Event.Teach name rule)).label
-teaching_says s name rule = at_says s name rule (find (is_named name) s.core.rack)
+teaching_says s name rule =
+    let P : Step → Type 0 = λ x. IsTakenOr x.label in
+    by_found P (find (is_named name) s.core.rack) _ _ (λ none. tt) (λ driver there.
+    by_test P (not (is_scripted driver.kind)) _ _ (λ e. tt) (λ kind.
+    by_test P (nat_le 64 (length driver.book)) _ _ (λ e. tt) (λ room. tt)))
 
 -- a state stays as it is
 stays : (label : Label) (a : DevState) → Change label a a

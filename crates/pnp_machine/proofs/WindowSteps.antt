@@ -1,22 +1,24 @@
 -- A bridge gets a window, as what happens by the definition.
 use Rattle.std.proofs.Common.{◌≡◌, ◌↔◌, ℕ, ◌==◌, Bool, true, false, not, ◌||◌, cond, IsTrue, Result, Ok, Err, arith, List, [], ◌∷◌, ◌++◌, length, Option, Some, None, refl, sym, ◌∙◌, ap, subst, option_map}
+use Rattle.std.specs.Prelude.{if◌then◌else◌}
 use Rattle.std.specs.List.{list_any}
 use Rattle.std.specs.Result.{IsErrOf, OnOk, OnErr, IfOk}
 use Rattle.std.specs.declared.alloc.AllocError.{AllocError}
 use Rattle.std.proofs.lemmas.Bool.Decides.{nat_tests}
 use Rattle.resource_reqs.specs.Resources.{Res}
 use Rattle.pnp_labels.specs.Texts.{Text, spaced, res_text}
+use Rattle.pnp_labels.specs.declared.event.Event.{Event}
 use Rattle.pnp_labels.specs.declared.label.EventWord.{EventWord}
 use Rattle.pnp_labels.specs.declared.label.Label.{Label}
 use Rattle.pnp_labels.specs.declared.label.Reason.{Reason}
-use Rattle.pnp_model.specs.Events.{did, has_children, refused, window_at, window_device, window_childless, window_new}
+use Rattle.pnp_model.specs.Events.{did, happens, has_children, refused}
+use Rattle.pnp_model.proofs.Guards.{where_none, where_some}
 use Rattle.pnp_model.specs.Records.{Device, Node, Driver, Activity, Operation, State, Step, Task, Window}
-use Rattle.pnp_model.specs.States.{add_window, has_below, node_born}
+use Rattle.pnp_model.specs.States.{add_window, device_of, has_below, node_born}
 use Rattle.pnp_model.specs.Trees.{is_child}
 use Rattle.pnp_model.specs.Windows.{is_window_on}
 use Rattle.devnode_tree.specs.Entries.{child_serials}
 use Rattle.script_bus.proofs.Places.{some_those}
-use Rattle.script_bus.proofs.Unplugs.{by_bool}
 use Rattle.bridge_windows.specs.declared.error.WindowError.{WindowError}
 use Rattle.bridge_windows.specs.declared.error.WindowError.TheVariants.{SameWindow, WantOfMemory}
 use Rattle.pnp_machine.specs.Devices.{Devices, has_any_below, serial_born, window_refusal, with_window, IsTold}
@@ -39,43 +41,53 @@ module _ (ds : Devices) (rack : List Driver) (paths : List Text) (works : List A
   Comes d None step = step ≡ did EventWord.Window (spaced (d.path ∷ res_text res ∷ [])) (add_window d.born res s)
   Comes d (Some reason) step = step ≡ refused EventWord.Window reason s
 
-  comes : (d : Device) → Comes d (window_refusal ds res (Some d)) (window_at s res (Some d))
-  comes d =
+  told : (d : Device) (b : Bool) (reason : Reason) (r : Option Reason) (x : Step) → Comes d r x → Comes d (cond b (Some reason) r) (if b then refused EventWord.Window reason s else x)
+  told d true reason r x h = refl
+  told d false reason r x h = h
+
+  comes : (path : Text) (d : Device) → device_of path ds.world.devices ≡ Some d → Comes d (window_refusal ds res (Some d)) (happens s (Event.Window path res))
+  comes path d found =
       let below = has_any_below ds d.born in
       let same = list_any (is_window_on res.kind (d.born ∷ [])) ds.windows in
-      by_bool (λ b. Comes d (cond b (Some Reason.RootStays) (cond below (Some Reason.HasChildren) (cond same (Some Reason.SameWindow) None))) (window_device s res d b)) (d.born == 0)
-      (λ e. refl)
-      (λ e.
-      by_bool (λ b. Comes d (cond b (Some Reason.HasChildren) (cond same (Some Reason.SameWindow) None)) (window_childless s res d b)) below
-      (λ e. refl)
-      (λ e. by_bool (λ b. Comes d (cond b (Some Reason.SameWindow) None) (window_new s res d b)) same (λ e. refl) (λ e. refl)))
-
-  -- the world has no such device
-  pub window_absent : (o : Option Device) → None ≡ option_map (λ d. d.path) o → IsDone (window_at s res o) (Label.Refused EventWord.Window Reason.NoDevice) s
-  window_absent None e = (refl, refl)
-  window_absent (Some d) e = absurd (cc)
+      let done : Step = did EventWord.Window (spaced (d.path ∷ res_text res ∷ [])) (add_window d.born res s) in
+      let fresh : Step = if same then refused EventWord.Window Reason.SameWindow s else done in
+      let childless : Step = if below then refused EventWord.Window Reason.HasChildren s else fresh in
+      let known : Step = if d.born == 0 then refused EventWord.Window Reason.RootStays s else childless in
+      let step : happens s (Event.Window path res) ≡ known = where_some (device_of path ds.world.devices) d _ _ found in
+      subst (Comes d (window_refusal ds res (Some d))) (sym step)
+      (told d (d.born == 0) Reason.RootStays (cond below (Some Reason.HasChildren) (cond same (Some Reason.SameWindow) None)) childless
+      (told d below Reason.HasChildren (cond same (Some Reason.SameWindow) None) fresh (told d same Reason.SameWindow None done refl)))
 
   -- refused
-  pub window_refused : (o : Option Device) (ds' : Devices) (reason : Reason) → Some reason ≡ window_refusal ds res o → ds' ≡ with_window ds res o (Some reason)
-      → IsDone (window_at s res o) (Label.Refused EventWord.Window reason) (with_devices ds')
-  window_refused o ds' reason why same = by o why (ap with_devices (same ∙ stays_refused ds res o reason))
+  pub window_refused : (path : Text) (ds' : Devices) (reason : Reason) → Some reason ≡ window_refusal ds res (device_of path ds.world.devices) → ds' ≡ with_window ds res (device_of path ds.world.devices) (Some reason)
+      → IsDone (happens s (Event.Window path res)) (Label.Refused EventWord.Window reason) (with_devices ds')
+  window_refused path ds' reason why same =
+      by (device_of path ds.world.devices) refl why (ap with_devices (same ∙ stays_refused ds res (device_of path ds.world.devices) reason))
     where
-      by : (o : Option Device) → Some reason ≡ window_refusal ds res o → with_devices ds' ≡ s → IsDone (window_at s res o) (Label.Refused EventWord.Window reason) (with_devices ds')
-      by None why stays = let e : reason ≡ Reason.NoDevice = cc in (ap (Label.Refused EventWord.Window) e, stays)
-      by (Some d) why stays =
-          let step = subst (λ r. Comes d r (window_at s res (Some d))) (sym why) (comes d) in
+      by : (o : Option Device) → device_of path ds.world.devices ≡ o → Some reason ≡ window_refusal ds res o → with_devices ds' ≡ s → IsDone (happens s (Event.Window path res)) (Label.Refused EventWord.Window reason) (with_devices ds')
+      by None found why stays =
+          let e : reason ≡ Reason.NoDevice = cc in
+          let step : happens s (Event.Window path res) ≡ refused EventWord.Window Reason.NoDevice s = where_none (device_of path ds.world.devices) _ _ found in
+          (ap (Label.Refused EventWord.Window) e ∙ sym (ap (λ (x : Step). x.label) step), stays ∙ sym (ap (λ (x : Step). x.state) step))
+      by (Some d) found why stays =
+          let step = subst (λ r. Comes d r (happens s (Event.Window path res))) (sym why) (comes path d found) in
           (sym (ap (λ (x : Step). x.label) step), stays ∙ sym (ap (λ (x : Step). x.state) step))
 
   -- taken
-  pub window_taken : (o : Option Device) (ds' : Devices) (own what : Text) → None ≡ window_refusal ds res o → ds' ≡ with_window ds res o None → Some own ≡ option_map (λ d. d.path) o
-      → what ≡ spaced (own ∷ res_text res ∷ []) → IsDone (window_at s res o) (Label.Did EventWord.Window what) (with_devices ds')
-  window_taken None ds' own what why set path text = absurd (cc)
-  window_taken (Some d) ds' own what why set path text =
-      let step = subst (λ r. Comes d r (window_at s res (Some d))) (sym why) (comes d) in
-      let same : own ≡ d.path = cc in (
-        ap (Label.Did EventWord.Window) (text ∙ ap (λ p. spaced (p ∷ res_text res ∷ [])) same) ∙ sym (ap (λ (x : Step). x.label) step),
-        ap with_devices set ∙ sym (ap (λ (x : Step). x.state) step),
-      )
+  pub window_taken : (path : Text) (ds' : Devices) (own what : Text) → None ≡ window_refusal ds res (device_of path ds.world.devices) → ds' ≡ with_window ds res (device_of path ds.world.devices) None
+      → Some own ≡ option_map (λ d. d.path) (device_of path ds.world.devices) → what ≡ spaced (own ∷ res_text res ∷ [])
+      → IsDone (happens s (Event.Window path res)) (Label.Did EventWord.Window what) (with_devices ds')
+  window_taken path ds' own what = by (device_of path ds.world.devices) refl
+    where
+      by : (o : Option Device) → device_of path ds.world.devices ≡ o → None ≡ window_refusal ds res o → ds' ≡ with_window ds res o None → Some own ≡ option_map (λ d. d.path) o
+          → what ≡ spaced (own ∷ res_text res ∷ []) → IsDone (happens s (Event.Window path res)) (Label.Did EventWord.Window what) (with_devices ds')
+      by None found why set spelled text = absurd (cc)
+      by (Some d) found why set spelled text =
+          let step = subst (λ r. Comes d r (happens s (Event.Window path res))) (sym why) (comes path d found) in
+          let same : own ≡ d.path = cc in (
+            ap (Label.Did EventWord.Window) (text ∙ ap (λ p. spaced (p ∷ res_text res ∷ [])) same) ∙ sym (ap (λ (x : Step). x.label) step),
+            ap with_devices set ∙ sym (ap (λ (x : Step). x.state) step),
+          )
 
 -- Whether a device stands below ---------------------------------------------------
 

@@ -8,7 +8,7 @@ use Rattle.pnp_labels.specs.declared.label.RemoveStep.{RemoveStep}
 use Rattle.pnp_labels.specs.declared.label.RemoveStep.TheVariants as removes
 use Rattle.pnp_model.specs.Machine.{Steps, IsQuiet, IsStep, operation_walk, is_born, is_waiting}
 use Rattle.pnp_model.specs.Cores.{node_at}
-use Rattle.pnp_model.specs.Events.{completed, answer_of, complete_node, complete_what}
+use Rattle.pnp_model.specs.Events.{completed, answer_of, completes_at, complete_what}
 use Rattle.pnp_model.specs.Tasks.{gone_child}
 use Rattle.pnp_labels.specs.declared.words.Minor.{Minor}
 use Rattle.pnp_labels.specs.declared.label.EventWord.{EventWord}
@@ -194,7 +194,7 @@ answer_label node minor ok false = Label.Refused EventWord.Complete Reason.NoSuc
 -- whether a request of the minor waited at the device is told, and if it did it got its answer
 abbrev pub IsAnswered : State → ℕ → Minor → Bool → Bool → State → Type 0
 IsAnswered old k minor ok done new =
-    (node : Node) → node.serial ≡ k → IsDone (complete_node old node minor ok old.operation) (answer_label node minor ok done) new
+    (node : Node) → node.serial ≡ k → IsDone (completes_at old node minor ok) (answer_label node minor ok done) new
 
 -- what a listing does where no device joins
 abbrev pub gone_or_listed_path : State → Text → Option Node → Step

@@ -23,7 +23,6 @@ use trial_journal::Arbiters;
 
 /// The devices of the world, their nodes in the tree, their relations, what is reserved, the arbiters that mirror what is
 /// held, the windows of bridges, and the handles that are open. A contract sees all but the arbiters.
-#[derive(Drop)]
 pub(crate) struct Devices {
     pub(crate) world: World,
     pub(crate) tree: Tree,
@@ -38,6 +37,23 @@ pub(crate) struct Devices {
     pub(crate) from: u64,
     /// A node of which each child is known to be in the world or SurpriseRemoved, if one is.
     pub(crate) whole: Option<u64>,
+}
+
+impl Drop for Devices {
+    fn drop(self) {
+        let Devices {
+            world: _,
+            tree: _,
+            relations: _,
+            reserved: _,
+            arbiters: _,
+            bridges: _,
+            handles: _,
+            over: _,
+            from: _,
+            whole: _,
+        } = self;
+    }
 }
 
 impl Model for Devices {

@@ -10,10 +10,15 @@ use std::marker::Model;
 
 /// The disabled paths in the order in which they were disabled, looked up without a scan (this project's own). No two
 /// are the same up to ASCII case. A contract sees the paths, and for how many more there is room.
-#[derive(Drop)]
 pub(crate) struct DisabledPaths {
     paths: IndexSet<InstancePath>,
     room: usize,
+}
+
+impl Drop for DisabledPaths {
+    fn drop(self) {
+        let DisabledPaths { paths: _, room: _ } = self;
+    }
 }
 
 impl Model for DisabledPaths {

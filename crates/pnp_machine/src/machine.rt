@@ -1,4 +1,4 @@
-ghost use Rattle.std.specs.Prelude.{◌≡◌, ◌<◌, ◌≤◌, ◌^◌, ℕ, IfOk, OnErr, List, length};
+ghost use Rattle.std.specs.Prelude.{◌≡◌, ◌<◌, ◌≤◌, ◌^◌, ℕ, IfOk, OnOk, OnErr, List, length};
 ghost use Rattle.pnp_model.specs.Runs.{opening};
 ghost use Rattle.free_model.specs.Frees.{with_rack};
 ghost use Rattle.start_sequence.specs.Begins.{settings_of};
@@ -22,7 +22,6 @@ use std::marker::Model;
 use std::mem;
 
 /// The machine between two steps. A contract sees its whole state.
-#[derive(Drop)]
 pub(crate) struct Machine<R: Drivers> {
     pub(crate) alloc: Global,
     pub(crate) devices: Devices,
@@ -31,6 +30,20 @@ pub(crate) struct Machine<R: Drivers> {
     pub(crate) starts: Starts,
     pub(crate) operation: Option<Operation>,
     pub(crate) tasks: Tasks,
+}
+
+impl<R: Drivers> Drop for Machine<R> {
+    fn drop(self) {
+        let Machine {
+            alloc: _,
+            devices: _,
+            rack: _,
+            disabled: _,
+            starts: _,
+            operation: _,
+            tasks: _,
+        } = self;
+    }
 }
 
 impl<R: Drivers> Model for Machine<R> {
@@ -88,6 +101,22 @@ impl<R: Drivers> Machine<R> {
             Turn::Do(Duty::Start, serial) => Ok(Moved::Label(self.start(infs, serial)?)),
             Turn::Do(Duty::Begin(kind), serial) => Ok(Moved::Label(self.begin(kind, serial)?)),
         }
+    }
+
+    /// The root alone again, over another rack; the drivers that were there are handed back. After want of memory all is as before.
+    pub(crate) fn restart(&mut self, rack: &mut R) -> Result<(), WantOfMemory>
+        ensures opens { OnOk result (self.new ≡ opening (R.rows rack.old)) }
+        ensures back { OnOk result (R.rows rack.new ≡ self.old.core.rack) }
+        ensures err { OnErr result (self.new ≡ self.old) }
+        ensures kept { OnErr result (R.rows rack.new ≡ R.rows rack.old) }
+    {
+        self.devices = Devices::new(self.alloc)?;
+        self.disabled = DisabledPaths::new(self.alloc);
+        self.starts = Starts::new(self.alloc);
+        self.operation = None;
+        self.tasks = Tasks::new(self.alloc);
+        mem::swap(rack, &mut self.rack);
+        Ok(())
     }
 
     /// Another rack takes the place of the drivers, which are handed back. It takes no memory.

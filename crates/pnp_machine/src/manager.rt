@@ -38,13 +38,23 @@ pub enum Moved {
 /// The Plug and Play manager over a rack of drivers: devices arrive and depart, drivers are chosen by INFs and asked, one
 /// step at a time, in the order of the machine's definition, whose steps are this project's own. A contract sees the INFs,
 /// the budget, how many events happened, and the machine's whole state, which is always one of a run.
-#[derive(Drop)]
 pub struct Manager<R: Drivers> {
     infs: Vec<Inf>,
     budget: u64,
     events: u64,
     /// In a box, so that who owns a manager has one part to let go, and not each list of the machine.
     machine: Box<Machine<R>>,
+}
+
+impl<R: Drivers> Drop for Manager<R> {
+    fn drop(self) {
+        let Manager {
+            infs: _,
+            budget: _,
+            events: _,
+            machine: _,
+        } = self;
+    }
 }
 
 impl<R: Drivers> Model for Manager<R> {
@@ -77,6 +87,19 @@ impl<R: Drivers> Manager<R> {
             events: 0,
             machine,
         })
+    }
+
+    /// As a new one of the same INFs and budget over another rack, whose place the drivers that were there take. After want of memory
+    /// manager and rack are as before. Cost: that of letting go what the machine held.
+    pub fn restart(&mut self, rack: &mut R) -> Result<(), WantOfMemory>
+        ensures opens { OnOk result (self.new ≡ record self.old { events = 0; state = opening (R.rows rack.old) }) }
+        ensures back { OnOk result (R.rows rack.new ≡ self.old.state.core.rack) }
+        ensures err { OnErr result (self.new ≡ self.old) }
+        ensures kept { OnErr result (R.rows rack.new ≡ R.rows rack.old) }
+    {
+        self.machine.restart(rack)?;
+        self.events = 0;
+        Ok(())
     }
 
     /// An event happens, at a quiet state: exactly what the machine's definition says, which for a refusal is a label with

@@ -15,7 +15,6 @@ use std::alloc::Global;
 use surprise_remove::{Finish, Surprise};
 
 /// The operation that runs: this project's own.
-#[derive(Drop)]
 pub(crate) enum Operation {
     /// Devices stop so that one more can have its resources.
     Rebalancing(Rebalance),
@@ -25,6 +24,17 @@ pub(crate) enum Operation {
     Surprising(Surprise),
     /// Devices that stayed behind when they had gone lose their drivers.
     Finishing(Finish),
+}
+
+impl Drop for Operation {
+    fn drop(self) {
+        match self {
+            Operation::Rebalancing(_) => {}
+            Operation::Removing(_) => {}
+            Operation::Surprising(_) => {}
+            Operation::Finishing(_) => {}
+        }
+    }
 }
 
 /// Where a removal settles the device for which it runs with its next step, the device's path, ready to be disabled.

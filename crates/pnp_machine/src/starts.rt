@@ -20,12 +20,21 @@ use std::marker::Model;
 
 /// The starts of devices, in order of serial, with an index of those that do not wait. A contract sees the starts, and
 /// for how many more there is room.
-#[derive(Drop)]
 pub(crate) struct Starts {
     works: Vec<StartWork>,
     /// The serials of those that do not wait, in order.
     ready: Vec<u64>,
     room: usize,
+}
+
+impl Drop for Starts {
+    fn drop(self) {
+        let Starts {
+            works: _,
+            ready: _,
+            room: _,
+        } = self;
+    }
 }
 
 impl Model for Starts {

@@ -23,10 +23,15 @@ pub(crate) enum Duty {
 }
 
 /// A task: what is to be done, and for which device. A contract sees the task of the machine.
-#[derive(Drop)]
 struct Task {
     duty: Duty,
     serial: u64,
+}
+
+impl Drop for Task {
+    fn drop(self) {
+        let Task { duty: _, serial: _ } = self;
+    }
 }
 
 impl Model for Task {
@@ -40,12 +45,21 @@ impl Model for Task {
 
 /// The tasks of the machine, the next one at the head, with an index of the surprise tasks (this project's own). A contract
 /// sees the tasks, and for how many more there is room.
-#[derive(Drop)]
 pub(crate) struct Tasks {
     tasks: VecDeque<Task>,
     /// How many surprise tasks each device has, where it has any.
     surprises: HashMap<u64, u64>,
     room: usize,
+}
+
+impl Drop for Tasks {
+    fn drop(self) {
+        let Tasks {
+            tasks: _,
+            surprises: _,
+            room: _,
+        } = self;
+    }
 }
 
 impl Model for Tasks {

@@ -2,27 +2,28 @@ pub mod Keyed
 pub mod Determined
 pub mod Clips
 pub mod Due
-mod RowBase
-mod RowsStarts
+pub mod Guards
+pub mod RowBase
+pub mod RowsStarts
 mod RowsChoices
-mod RowsTroubles
-mod RowsBooks
-mod RowsRebalances
-mod RowsRestarts
-mod RowsRemovals
+pub mod RowsTroubles
+pub mod RowsBooks
+pub mod RowsRebalances
+pub mod RowsRestarts
+pub mod RowsRemovals
 mod RowsRelations
 mod RowsReturns
-mod RowsBoard
-mod RowsBuses
-mod RowsWindows
+pub mod RowsBoard
+pub mod RowsBuses
+pub mod RowsWindows
 mod RowsWindowsMore
-mod RowsChanges
+pub mod RowsChanges
 mod RowsChangesBeside
-mod RowsChangesMore
-mod RowsHandles
+pub mod RowsChangesMore
+pub mod RowsHandles
 mod RowsHandlesMore
-mod RowsBehind
-mod RowsFinishes
+pub mod RowsBehind
+pub mod RowsFinishes
 mod RowsKept
 mod RowsMixed
 mod RowsMixedMore

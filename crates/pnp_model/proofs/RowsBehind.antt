@@ -317,13 +317,13 @@ pub row_kept_with_its_problem_asks : (traced (settings_of row_kept_with_its_prob
 row_kept_with_its_problem_asks = refl
 
 -- held after a finish
-abbrev row_held_after_a_finish_known : List Known
+abbrev pub row_held_after_a_finish_known : List Known
 row_held_after_a_finish_known = record { id = codes "OWN\\DEV"; choice = record { rank = 16711680; lower = []; service = Some (codes "dev"); upper = [] } } ∷ []
 
-abbrev row_held_after_a_finish_found : List Found
+abbrev pub row_held_after_a_finish_found : List Found
 row_held_after_a_finish_found = assignment (([]) ∷ []) ∷ assignment (([]) ∷ []) ∷ []
 
-abbrev row_held_after_a_finish_events : List Event
+abbrev pub row_held_after_a_finish_events : List Event
 row_held_after_a_finish_events =
     Event.Name (codes "dev") DriverKind.Steady
     ∷ Event.Plug (codes "HTREE\\ROOT\\0") (codes "OWN\\DEV\\A") (codes "OWN\\DEV" ∷ []) ([]) ([])
@@ -334,7 +334,7 @@ row_held_after_a_finish_events =
     ∷ Event.CloseHandle (codes "OWN\\DEV\\A")
     ∷ []
 
-abbrev row_held_after_a_finish_lines : List Text
+abbrev pub row_held_after_a_finish_lines : List Text
 row_held_after_a_finish_lines =
     codes "event driver dev"
     ∷ codes "event plug OWN\\DEV\\A"

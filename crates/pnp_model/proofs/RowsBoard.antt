@@ -13,13 +13,13 @@ use Rattle.pnp_model.proofs.RowBase.{settings_of, small_rack, Known}
 use Rattle.resource_reqs.specs.declared.kind.Kind.TheVariants as kinds
 
 -- small board
-abbrev row_small_board_known : List Known
+abbrev pub row_small_board_known : List Known
 row_small_board_known = record { id = codes "ACPI\\PNP0A03"; choice = record { rank = 16646152; lower = []; service = Some (codes "pci"); upper = [] } } ∷ record { id = codes "PCI\\VEN_1234&DEV_0001"; choice = record { rank = 16711680; lower = []; service = Some (codes "gfx"); upper = [] } } ∷ record { id = codes "PCI\\VEN_1234&DEV_0002"; choice = record { rank = 16711680; lower = []; service = Some (codes "net"); upper = [] } } ∷ record { id = codes "PCI\\VEN_1234&DEV_0003"; choice = record { rank = 16711680; lower = []; service = Some (codes "disk"); upper = [] } } ∷ record { id = codes "PCI\\VEN_1234&DEV_0009"; choice = record { rank = 16723969; lower = []; service = Some (codes "disk"); upper = [] } } ∷ record { id = codes "ACPI\\PNP0501"; choice = record { rank = 16711688; lower = []; service = Some (codes "serial"); upper = [] } } ∷ record { id = codes "ACPI\\PNP0400"; choice = record { rank = 16711688; lower = []; service = Some (codes "parport"); upper = [] } } ∷ []
 
-abbrev row_small_board_found : List Found
+abbrev pub row_small_board_found : List Found
 row_small_board_found = assignment (([]) ∷ []) ∷ assignment ((record { kind = kinds.Mem; lo = 3758096384; hi = 3774873599; shared = false } ∷ record { kind = kinds.Irq; lo = 16; hi = 16; shared = true } ∷ []) ∷ []) ∷ assignment ((record { kind = kinds.Mem; lo = 3774873600; hi = 3775004671; shared = false } ∷ record { kind = kinds.Port; lo = 49152; hi = 49215; shared = false } ∷ record { kind = kinds.Irq; lo = 16; hi = 16; shared = true } ∷ []) ∷ []) ∷ assignment ((record { kind = kinds.Port; lo = 49216; hi = 49231; shared = false } ∷ record { kind = kinds.Irq; lo = 14; hi = 14; shared = false } ∷ []) ∷ []) ∷ assignment ((record { kind = kinds.Port; lo = 49232; hi = 49247; shared = false } ∷ record { kind = kinds.Irq; lo = 15; hi = 15; shared = false } ∷ []) ∷ []) ∷ assignment ((record { kind = kinds.Port; lo = 760; hi = 767; shared = false } ∷ record { kind = kinds.Irq; lo = 3; hi = 3; shared = false } ∷ []) ∷ []) ∷ assignment ((record { kind = kinds.Port; lo = 888; hi = 895; shared = false } ∷ record { kind = kinds.Irq; lo = 7; hi = 7; shared = false } ∷ []) ∷ []) ∷ []
 
-abbrev row_small_board_events : List Event
+abbrev pub row_small_board_events : List Event
 row_small_board_events =
     Event.Name (codes "pci") DriverKind.Steady
     ∷ Event.Name (codes "gfx") DriverKind.Steady
@@ -37,7 +37,7 @@ row_small_board_events =
     ∷ Event.Plug (codes "ACPI\\PNP0A03\\0") (codes "ACPI\\PNP0400\\1") (codes "ACPI\\PNP0400" ∷ codes "*PNP0400" ∷ []) ([]) (((record { kind = kinds.Port; min = 888; max = 895; len = 8; align = 8; shared = false } ∷ []) ∷ (record { kind = kinds.Irq; min = 7; max = 7; len = 1; align = 1; shared = false } ∷ []) ∷ []) ∷ ((record { kind = kinds.Port; min = 632; max = 639; len = 8; align = 8; shared = false } ∷ []) ∷ (record { kind = kinds.Irq; min = 5; max = 5; len = 1; align = 1; shared = false } ∷ []) ∷ []) ∷ [])
     ∷ []
 
-abbrev row_small_board_lines : List Text
+abbrev pub row_small_board_lines : List Text
 row_small_board_lines =
     codes "event driver pci"
     ∷ codes "event driver gfx"

@@ -15,13 +15,13 @@ use Rattle.pnp_model.specs.Endings.{lines}
 use Rattle.pnp_model.proofs.RowBase.{settings_of, small_rack, Known}
 
 -- full book
-abbrev row_full_book_known : List Known
+abbrev pub row_full_book_known : List Known
 row_full_book_known = []
 
-abbrev row_full_book_found : List Found
+abbrev pub row_full_book_found : List Found
 row_full_book_found = []
 
-abbrev row_full_book_events : List Event
+abbrev pub row_full_book_events : List Event
 row_full_book_events =
     Event.Name (codes "dev") DriverKind.Scripted
     ∷ Event.Teach (codes "dev") (record { what = AskWhat.Add; path = None; answer = Answer.Ok; uses = None })
@@ -91,7 +91,7 @@ row_full_book_events =
     ∷ Event.Teach (codes "dev") (record { what = AskWhat.Add; path = None; answer = Answer.Ok; uses = None })
     ∷ []
 
-abbrev row_full_book_lines : List Text
+abbrev pub row_full_book_lines : List Text
 row_full_book_lines =
     codes "event driver dev"
     ∷ codes "event teach dev"
@@ -177,13 +177,13 @@ pub row_full_book_asks : (traced (settings_of row_full_book_known) 200 (opening 
 row_full_book_asks = refl
 
 -- filter stack
-abbrev row_filter_stack_known : List Known
+abbrev pub row_filter_stack_known : List Known
 row_filter_stack_known = record { id = codes "OWN\\FIL"; choice = record { rank = 16711680; lower = codes "low" ∷ []; service = Some (codes "dev"); upper = [] } } ∷ []
 
-abbrev row_filter_stack_found : List Found
+abbrev pub row_filter_stack_found : List Found
 row_filter_stack_found = assignment (([]) ∷ []) ∷ assignment (([]) ∷ []) ∷ []
 
-abbrev row_filter_stack_events : List Event
+abbrev pub row_filter_stack_events : List Event
 row_filter_stack_events =
     Event.Name (codes "dev") DriverKind.Steady
     ∷ Event.Name (codes "low") DriverKind.Scripted
@@ -195,7 +195,7 @@ row_filter_stack_events =
     ∷ Event.Complete (codes "OWN\\FIL\\1") Minor.QueryRemove true
     ∷ []
 
-abbrev row_filter_stack_lines : List Text
+abbrev pub row_filter_stack_lines : List Text
 row_filter_stack_lines =
     codes "event driver dev"
     ∷ codes "event driver low"

@@ -12,7 +12,7 @@ use Rattle.pnp_model.specs.Runs.{traced, opening}
 use Rattle.pnp_model.specs.Endings.{lines}
 use Rattle.pnp_model.proofs.RowBase.{settings_of, small_rack, Known}
 
-abbrev known : List Known
+abbrev pub known : List Known
 known = record { id = codes "OWN\\DEV"; choice = record { rank = 16711680; lower = []; service = Some (codes "dev"); upper = [] } } ∷ []
 
 -- the least numbers behind a reserved one, four for each bus
@@ -74,17 +74,17 @@ pub row_bus_numbers_asks : (traced (settings_of known) 200 (opening small_rack) 
 row_bus_numbers_asks = refl
 
 -- bus numbers stand last in the map, and are shared as other numbers are
-abbrev row_buses_last_found : List Found
+abbrev pub row_buses_last_found : List Found
 row_buses_last_found = assignment ((record { kind = kinds.Bus; lo = 0; hi = 1; shared = true } ∷ record { kind = kinds.Dma; lo = 1; hi = 1; shared = false } ∷ record { kind = kinds.Mem; lo = 4096; hi = 8191; shared = false } ∷ []) ∷ []) ∷ assignment ((record { kind = kinds.Bus; lo = 1; hi = 1; shared = true } ∷ record { kind = kinds.Dma; lo = 0; hi = 0; shared = false } ∷ []) ∷ []) ∷ []
 
-abbrev row_buses_last_events : List Event
+abbrev pub row_buses_last_events : List Event
 row_buses_last_events =
     Event.Name (codes "dev") DriverKind.Steady
     ∷ Event.Plug (codes "HTREE\\ROOT\\0") (codes "OWN\\DEV\\1") (codes "OWN\\DEV" ∷ []) ([]) (((record { kind = kinds.Bus; min = 0; max = 255; len = 2; align = 1; shared = true } ∷ []) ∷ (record { kind = kinds.Dma; min = 1; max = 1; len = 1; align = 1; shared = false } ∷ []) ∷ (record { kind = kinds.Mem; min = 4096; max = 8191; len = 4096; align = 1; shared = false } ∷ []) ∷ []) ∷ [])
     ∷ Event.Plug (codes "HTREE\\ROOT\\0") (codes "OWN\\DEV\\2") (codes "OWN\\DEV" ∷ []) ([]) (((record { kind = kinds.Bus; min = 0; max = 1; len = 2; align = 1; shared = false } ∷ []) ∷ (record { kind = kinds.Dma; min = 0; max = 3; len = 1; align = 1; shared = false } ∷ []) ∷ []) ∷ ((record { kind = kinds.Bus; min = 1; max = 255; len = 1; align = 1; shared = true } ∷ []) ∷ (record { kind = kinds.Dma; min = 0; max = 3; len = 1; align = 1; shared = false } ∷ []) ∷ []) ∷ [])
     ∷ []
 
-abbrev row_buses_last_lines : List Text
+abbrev pub row_buses_last_lines : List Text
 row_buses_last_lines =
     codes "event driver dev"
     ∷ codes "event plug OWN\\DEV\\1"

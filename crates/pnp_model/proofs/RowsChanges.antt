@@ -13,20 +13,20 @@ use Rattle.pnp_model.proofs.RowBase.{settings_of, small_rack, Known}
 use Rattle.resource_reqs.specs.declared.kind.Kind.TheVariants as kinds
 
 -- a change
-abbrev row_a_change_known : List Known
+abbrev pub row_a_change_known : List Known
 row_a_change_known = record { id = codes "OWN\\DEV"; choice = record { rank = 16711680; lower = []; service = Some (codes "dev"); upper = [] } } ∷ []
 
-abbrev row_a_change_found : List Found
+abbrev pub row_a_change_found : List Found
 row_a_change_found = assignment ((record { kind = kinds.Irq; lo = 5; hi = 5; shared = false } ∷ []) ∷ []) ∷ assignment ((record { kind = kinds.Irq; lo = 6; hi = 6; shared = false } ∷ []) ∷ []) ∷ []
 
-abbrev row_a_change_events : List Event
+abbrev pub row_a_change_events : List Event
 row_a_change_events =
     Event.Name (codes "dev") DriverKind.Steady
     ∷ Event.Plug (codes "HTREE\\ROOT\\0") (codes "OWN\\DEV\\A") (codes "OWN\\DEV" ∷ []) ([]) (((record { kind = kinds.Irq; min = 5; max = 5; len = 1; align = 1; shared = false } ∷ []) ∷ []) ∷ [])
     ∷ Event.Change (codes "OWN\\DEV\\A") (((record { kind = kinds.Irq; min = 6; max = 6; len = 1; align = 1; shared = false } ∷ []) ∷ []) ∷ [])
     ∷ []
 
-abbrev row_a_change_lines : List Text
+abbrev pub row_a_change_lines : List Text
 row_a_change_lines =
     codes "event driver dev"
     ∷ codes "event plug OWN\\DEV\\A"
@@ -293,20 +293,20 @@ pub row_a_device_moves_by_what_it_had_asks : (traced (settings_of row_a_device_m
 row_a_device_moves_by_what_it_had_asks = refl
 
 -- a change that its device refuses
-abbrev row_a_change_that_its_device_refuses_known : List Known
+abbrev pub row_a_change_that_its_device_refuses_known : List Known
 row_a_change_that_its_device_refuses_known = record { id = codes "OWN\\DEV"; choice = record { rank = 16711680; lower = []; service = Some (codes "dev"); upper = [] } } ∷ record { id = codes "OWN\\HARD"; choice = record { rank = 16711680; lower = []; service = Some (codes "hard"); upper = [] } } ∷ []
 
-abbrev row_a_change_that_its_device_refuses_found : List Found
+abbrev pub row_a_change_that_its_device_refuses_found : List Found
 row_a_change_that_its_device_refuses_found = assignment ((record { kind = kinds.Irq; lo = 5; hi = 5; shared = false } ∷ []) ∷ []) ∷ []
 
-abbrev row_a_change_that_its_device_refuses_events : List Event
+abbrev pub row_a_change_that_its_device_refuses_events : List Event
 row_a_change_that_its_device_refuses_events =
     Event.Name (codes "hard") DriverKind.Stubborn
     ∷ Event.Plug (codes "HTREE\\ROOT\\0") (codes "OWN\\HARD\\A") (codes "OWN\\HARD" ∷ []) ([]) (((record { kind = kinds.Irq; min = 5; max = 5; len = 1; align = 1; shared = false } ∷ []) ∷ []) ∷ [])
     ∷ Event.Change (codes "OWN\\HARD\\A") (((record { kind = kinds.Irq; min = 6; max = 6; len = 1; align = 1; shared = false } ∷ []) ∷ []) ∷ [])
     ∷ []
 
-abbrev row_a_change_that_its_device_refuses_lines : List Text
+abbrev pub row_a_change_that_its_device_refuses_lines : List Text
 row_a_change_that_its_device_refuses_lines =
     codes "event driver hard"
     ∷ codes "event plug OWN\\HARD\\A"

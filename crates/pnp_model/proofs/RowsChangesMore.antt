@@ -16,13 +16,13 @@ use Rattle.pnp_model.proofs.RowBase.{settings_of, small_rack, Known}
 use Rattle.resource_reqs.specs.declared.kind.Kind.TheVariants as kinds
 
 -- a change that fails to restart
-abbrev row_a_change_that_fails_to_restart_known : List Known
+abbrev pub row_a_change_that_fails_to_restart_known : List Known
 row_a_change_that_fails_to_restart_known = record { id = codes "OWN\\DEV"; choice = record { rank = 16711680; lower = []; service = Some (codes "dev"); upper = [] } } ∷ []
 
-abbrev row_a_change_that_fails_to_restart_found : List Found
+abbrev pub row_a_change_that_fails_to_restart_found : List Found
 row_a_change_that_fails_to_restart_found = assignment ((record { kind = kinds.Irq; lo = 5; hi = 5; shared = false } ∷ []) ∷ []) ∷ assignment ((record { kind = kinds.Irq; lo = 9; hi = 9; shared = false } ∷ []) ∷ []) ∷ assignment ((record { kind = kinds.Irq; lo = 6; hi = 6; shared = false } ∷ []) ∷ (record { kind = kinds.Irq; lo = 9; hi = 9; shared = false } ∷ []) ∷ []) ∷ []
 
-abbrev row_a_change_that_fails_to_restart_events : List Event
+abbrev pub row_a_change_that_fails_to_restart_events : List Event
 row_a_change_that_fails_to_restart_events =
     Event.Name (codes "dev") DriverKind.Scripted
     ∷ Event.Teach (codes "dev") (record { what = AskWhat.Irp Minor.Start; path = Some (codes "OWN\\DEV\\A"); answer = Answer.Ok; uses = Some 1 })
@@ -32,7 +32,7 @@ row_a_change_that_fails_to_restart_events =
     ∷ Event.Change (codes "OWN\\DEV\\A") (((record { kind = kinds.Irq; min = 6; max = 6; len = 1; align = 1; shared = false } ∷ []) ∷ []) ∷ [])
     ∷ []
 
-abbrev row_a_change_that_fails_to_restart_lines : List Text
+abbrev pub row_a_change_that_fails_to_restart_lines : List Text
 row_a_change_that_fails_to_restart_lines =
     codes "event driver dev"
     ∷ codes "event teach dev"
@@ -274,13 +274,13 @@ pub row_a_change_while_one_is_asked_asks : (traced (settings_of row_a_change_whi
 row_a_change_while_one_is_asked_asks = refl
 
 -- a change below a window
-abbrev row_a_change_below_a_window_known : List Known
+abbrev pub row_a_change_below_a_window_known : List Known
 row_a_change_below_a_window_known = record { id = codes "OWN\\DEV"; choice = record { rank = 16711680; lower = []; service = Some (codes "dev"); upper = [] } } ∷ []
 
-abbrev row_a_change_below_a_window_found : List Found
+abbrev pub row_a_change_below_a_window_found : List Found
 row_a_change_below_a_window_found = assignment (([]) ∷ []) ∷ assignment ((record { kind = kinds.Port; lo = 4096; hi = 4103; shared = false } ∷ []) ∷ []) ∷ assignment ((record { kind = kinds.Port; lo = 8176; hi = 8183; shared = false } ∷ []) ∷ ([]) ∷ []) ∷ assignment (([]) ∷ ([]) ∷ []) ∷ []
 
-abbrev row_a_change_below_a_window_events : List Event
+abbrev pub row_a_change_below_a_window_events : List Event
 row_a_change_below_a_window_events =
     Event.Name (codes "dev") DriverKind.Steady
     ∷ Event.Plug (codes "HTREE\\ROOT\\0") (codes "OWN\\DEV\\B") (codes "OWN\\DEV" ∷ []) ([]) ([])
@@ -290,7 +290,7 @@ row_a_change_below_a_window_events =
     ∷ Event.Change (codes "OWN\\DEV\\C") ([])
     ∷ []
 
-abbrev row_a_change_below_a_window_lines : List Text
+abbrev pub row_a_change_below_a_window_lines : List Text
 row_a_change_below_a_window_lines =
     codes "event driver dev"
     ∷ codes "event plug OWN\\DEV\\B"

@@ -15,13 +15,13 @@ use Rattle.pnp_model.specs.Endings.{lines}
 use Rattle.pnp_model.proofs.RowBase.{settings_of, small_rack, Known}
 
 -- the greatest is finished first
-abbrev row_the_greatest_is_finished_first_known : List Known
+abbrev pub row_the_greatest_is_finished_first_known : List Known
 row_the_greatest_is_finished_first_known = record { id = codes "OWN\\DEV"; choice = record { rank = 16711680; lower = []; service = Some (codes "dev"); upper = [] } } ∷ []
 
-abbrev row_the_greatest_is_finished_first_found : List Found
+abbrev pub row_the_greatest_is_finished_first_found : List Found
 row_the_greatest_is_finished_first_found = assignment (([]) ∷ []) ∷ assignment (([]) ∷ []) ∷ assignment (([]) ∷ []) ∷ assignment (([]) ∷ []) ∷ []
 
-abbrev row_the_greatest_is_finished_first_events : List Event
+abbrev pub row_the_greatest_is_finished_first_events : List Event
 row_the_greatest_is_finished_first_events =
     Event.Name (codes "dev") DriverKind.Scripted
     ∷ Event.Teach (codes "dev") (record { what = AskWhat.Irp Minor.Remove; path = Some (codes "OWN\\DEV\\4"); answer = Answer.Pend; uses = Some 1 })
@@ -40,7 +40,7 @@ row_the_greatest_is_finished_first_events =
     ∷ Event.Complete (codes "OWN\\DEV\\4") Minor.Remove true
     ∷ []
 
-abbrev row_the_greatest_is_finished_first_lines : List Text
+abbrev pub row_the_greatest_is_finished_first_lines : List Text
 row_the_greatest_is_finished_first_lines =
     codes "event driver dev"
     ∷ codes "event teach dev"
@@ -387,13 +387,13 @@ pub row_told_and_not_told_again_asks : (traced (settings_of row_told_and_not_tol
 row_told_and_not_told_again_asks = refl
 
 -- told and refusing
-abbrev row_told_and_refusing_known : List Known
+abbrev pub row_told_and_refusing_known : List Known
 row_told_and_refusing_known = record { id = codes "OWN\\DEV"; choice = record { rank = 16711680; lower = []; service = Some (codes "dev"); upper = [] } } ∷ []
 
-abbrev row_told_and_refusing_found : List Found
+abbrev pub row_told_and_refusing_found : List Found
 row_told_and_refusing_found = assignment (([]) ∷ []) ∷ assignment (([]) ∷ []) ∷ assignment (([]) ∷ []) ∷ []
 
-abbrev row_told_and_refusing_events : List Event
+abbrev pub row_told_and_refusing_events : List Event
 row_told_and_refusing_events =
     Event.Name (codes "dev") DriverKind.Scripted
     ∷ Event.Teach (codes "dev") (record { what = AskWhat.Irp Minor.QueryRemove; path = Some (codes "OWN\\DEV\\Z"); answer = Answer.Pend; uses = Some 1 })
@@ -408,7 +408,7 @@ row_told_and_refusing_events =
     ∷ Event.Complete (codes "OWN\\DEV\\Z") Minor.QueryRemove true
     ∷ []
 
-abbrev row_told_and_refusing_lines : List Text
+abbrev pub row_told_and_refusing_lines : List Text
 row_told_and_refusing_lines =
     codes "event driver dev"
     ∷ codes "event teach dev"

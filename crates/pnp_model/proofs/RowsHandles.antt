@@ -16,13 +16,13 @@ use Rattle.pnp_model.proofs.RowBase.{settings_of, small_rack, Known}
 use Rattle.resource_reqs.specs.declared.kind.Kind.TheVariants as kinds
 
 -- a handle below what was pulled
-abbrev row_a_handle_below_what_was_pulled_known : List Known
+abbrev pub row_a_handle_below_what_was_pulled_known : List Known
 row_a_handle_below_what_was_pulled_known = record { id = codes "OWN\\DEV"; choice = record { rank = 16711680; lower = []; service = Some (codes "dev"); upper = [] } } ∷ []
 
-abbrev row_a_handle_below_what_was_pulled_found : List Found
+abbrev pub row_a_handle_below_what_was_pulled_found : List Found
 row_a_handle_below_what_was_pulled_found = assignment (([]) ∷ []) ∷ assignment (([]) ∷ []) ∷ []
 
-abbrev row_a_handle_below_what_was_pulled_events : List Event
+abbrev pub row_a_handle_below_what_was_pulled_events : List Event
 row_a_handle_below_what_was_pulled_events =
     Event.Name (codes "dev") DriverKind.Steady
     ∷ Event.Plug (codes "HTREE\\ROOT\\0") (codes "OWN\\DEV\\H") (codes "OWN\\DEV" ∷ []) ([]) ([])
@@ -32,7 +32,7 @@ row_a_handle_below_what_was_pulled_events =
     ∷ Event.CloseHandle (codes "OWN\\DEV\\C")
     ∷ []
 
-abbrev row_a_handle_below_what_was_pulled_lines : List Text
+abbrev pub row_a_handle_below_what_was_pulled_lines : List Text
 row_a_handle_below_what_was_pulled_lines =
     codes "event driver dev"
     ∷ codes "event plug OWN\\DEV\\H"
@@ -94,13 +94,13 @@ pub row_a_handle_below_what_was_pulled_asks : (traced (settings_of row_a_handle_
 row_a_handle_below_what_was_pulled_asks = refl
 
 -- a handle refuses a removal
-abbrev row_a_handle_refuses_a_removal_known : List Known
+abbrev pub row_a_handle_refuses_a_removal_known : List Known
 row_a_handle_refuses_a_removal_known = record { id = codes "OWN\\DEV"; choice = record { rank = 16711680; lower = []; service = Some (codes "dev"); upper = [] } } ∷ []
 
-abbrev row_a_handle_refuses_a_removal_found : List Found
+abbrev pub row_a_handle_refuses_a_removal_found : List Found
 row_a_handle_refuses_a_removal_found = assignment (([]) ∷ []) ∷ []
 
-abbrev row_a_handle_refuses_a_removal_events : List Event
+abbrev pub row_a_handle_refuses_a_removal_events : List Event
 row_a_handle_refuses_a_removal_events =
     Event.Name (codes "dev") DriverKind.Steady
     ∷ Event.Plug (codes "HTREE\\ROOT\\0") (codes "OWN\\DEV\\1") (codes "OWN\\DEV" ∷ []) ([]) ([])
@@ -110,7 +110,7 @@ row_a_handle_refuses_a_removal_events =
     ∷ Event.CloseHandle (codes "OWN\\DEV\\1")
     ∷ []
 
-abbrev row_a_handle_refuses_a_removal_lines : List Text
+abbrev pub row_a_handle_refuses_a_removal_lines : List Text
 row_a_handle_refuses_a_removal_lines =
     codes "event driver dev"
     ∷ codes "event plug OWN\\DEV\\1"

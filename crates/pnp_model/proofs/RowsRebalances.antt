@@ -13,20 +13,20 @@ use Rattle.pnp_model.proofs.RowBase.{settings_of, small_rack, Known}
 use Rattle.resource_reqs.specs.declared.kind.Kind.TheVariants as kinds
 
 -- rebalance
-abbrev row_rebalance_known : List Known
+abbrev pub row_rebalance_known : List Known
 row_rebalance_known = record { id = codes "OWN\\DEV"; choice = record { rank = 16711680; lower = []; service = Some (codes "dev"); upper = [] } } ∷ []
 
-abbrev row_rebalance_found : List Found
+abbrev pub row_rebalance_found : List Found
 row_rebalance_found = assignment ((record { kind = kinds.Irq; lo = 5; hi = 5; shared = false } ∷ []) ∷ []) ∷ no_fit ∷ assignment ((record { kind = kinds.Irq; lo = 5; hi = 5; shared = false } ∷ []) ∷ (record { kind = kinds.Irq; lo = 6; hi = 6; shared = false } ∷ []) ∷ []) ∷ []
 
-abbrev row_rebalance_events : List Event
+abbrev pub row_rebalance_events : List Event
 row_rebalance_events =
     Event.Name (codes "dev") DriverKind.Steady
     ∷ Event.Plug (codes "HTREE\\ROOT\\0") (codes "OWN\\DEV\\A") (codes "OWN\\DEV" ∷ []) ([]) (((record { kind = kinds.Irq; min = 5; max = 6; len = 1; align = 1; shared = false } ∷ []) ∷ []) ∷ [])
     ∷ Event.Plug (codes "HTREE\\ROOT\\0") (codes "OWN\\DEV\\D") (codes "OWN\\DEV" ∷ []) ([]) (((record { kind = kinds.Irq; min = 5; max = 5; len = 1; align = 1; shared = false } ∷ []) ∷ []) ∷ [])
     ∷ []
 
-abbrev row_rebalance_lines : List Text
+abbrev pub row_rebalance_lines : List Text
 row_rebalance_lines =
     codes "event driver dev"
     ∷ codes "event plug OWN\\DEV\\A"
@@ -325,13 +325,13 @@ pub row_chain_within_a_budget_of_six_asks : (traced (settings_of row_chain_withi
 row_chain_within_a_budget_of_six_asks = refl
 
 -- chain over a budget of five
-abbrev row_chain_over_a_budget_of_five_known : List Known
+abbrev pub row_chain_over_a_budget_of_five_known : List Known
 row_chain_over_a_budget_of_five_known = record { id = codes "OWN\\DEV"; choice = record { rank = 16711680; lower = []; service = Some (codes "dev"); upper = [] } } ∷ []
 
-abbrev row_chain_over_a_budget_of_five_found : List Found
+abbrev pub row_chain_over_a_budget_of_five_found : List Found
 row_chain_over_a_budget_of_five_found = assignment ((record { kind = kinds.Irq; lo = 3; hi = 3; shared = false } ∷ []) ∷ []) ∷ assignment ((record { kind = kinds.Irq; lo = 4; hi = 4; shared = false } ∷ []) ∷ []) ∷ no_fit ∷ spent ∷ []
 
-abbrev row_chain_over_a_budget_of_five_events : List Event
+abbrev pub row_chain_over_a_budget_of_five_events : List Event
 row_chain_over_a_budget_of_five_events =
     Event.Name (codes "dev") DriverKind.Steady
     ∷ Event.Plug (codes "HTREE\\ROOT\\0") (codes "OWN\\DEV\\A") (codes "OWN\\DEV" ∷ []) ([]) (((record { kind = kinds.Irq; min = 3; max = 4; len = 1; align = 1; shared = false } ∷ []) ∷ []) ∷ [])
@@ -339,7 +339,7 @@ row_chain_over_a_budget_of_five_events =
     ∷ Event.Plug (codes "HTREE\\ROOT\\0") (codes "OWN\\DEV\\D") (codes "OWN\\DEV" ∷ []) ([]) (((record { kind = kinds.Irq; min = 3; max = 3; len = 1; align = 1; shared = false } ∷ []) ∷ []) ∷ [])
     ∷ []
 
-abbrev row_chain_over_a_budget_of_five_lines : List Text
+abbrev pub row_chain_over_a_budget_of_five_lines : List Text
 row_chain_over_a_budget_of_five_lines =
     codes "event driver dev"
     ∷ codes "event plug OWN\\DEV\\A"

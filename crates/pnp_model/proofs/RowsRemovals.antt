@@ -17,13 +17,13 @@ use Rattle.pnp_labels.specs.declared.words.RelKind.{RelKind}
 use Rattle.resource_reqs.specs.declared.kind.Kind.TheVariants as kinds
 
 -- veto
-abbrev row_veto_known : List Known
+abbrev pub row_veto_known : List Known
 row_veto_known = record { id = codes "OWN\\DEV"; choice = record { rank = 16711680; lower = []; service = Some (codes "dev"); upper = [] } } ∷ record { id = codes "OWN\\FIL"; choice = record { rank = 16711680; lower = codes "low" ∷ []; service = Some (codes "dev"); upper = [] } } ∷ []
 
-abbrev row_veto_found : List Found
+abbrev pub row_veto_found : List Found
 row_veto_found = assignment (([]) ∷ []) ∷ assignment (([]) ∷ []) ∷ assignment (([]) ∷ []) ∷ assignment (([]) ∷ []) ∷ []
 
-abbrev row_veto_events : List Event
+abbrev pub row_veto_events : List Event
 row_veto_events =
     Event.Name (codes "dev") DriverKind.Steady
     ∷ Event.Name (codes "low") DriverKind.Scripted
@@ -35,7 +35,7 @@ row_veto_events =
     ∷ Event.Disable (codes "OWN\\DEV\\H")
     ∷ []
 
-abbrev row_veto_lines : List Text
+abbrev pub row_veto_lines : List Text
 row_veto_lines =
     codes "event driver dev"
     ∷ codes "event driver low"
@@ -249,13 +249,13 @@ pub row_departure_during_a_start_asks : (traced (settings_of row_departure_durin
 row_departure_during_a_start_asks = refl
 
 -- eject
-abbrev row_eject_known : List Known
+abbrev pub row_eject_known : List Known
 row_eject_known = record { id = codes "OWN\\DEV"; choice = record { rank = 16711680; lower = []; service = Some (codes "dev"); upper = [] } } ∷ []
 
-abbrev row_eject_found : List Found
+abbrev pub row_eject_found : List Found
 row_eject_found = assignment (([]) ∷ []) ∷ assignment (([]) ∷ []) ∷ []
 
-abbrev row_eject_events : List Event
+abbrev pub row_eject_events : List Event
 row_eject_events =
     Event.Name (codes "dev") DriverKind.Steady
     ∷ Event.Plug (codes "HTREE\\ROOT\\0") (codes "OWN\\DEV\\A") (codes "OWN\\DEV" ∷ []) ([]) ([])
@@ -264,7 +264,7 @@ row_eject_events =
     ∷ Event.Eject (codes "OWN\\DEV\\B")
     ∷ []
 
-abbrev row_eject_lines : List Text
+abbrev pub row_eject_lines : List Text
 row_eject_lines =
     codes "event driver dev"
     ∷ codes "event plug OWN\\DEV\\A"
@@ -438,13 +438,13 @@ pub row_enable_asks : (traced (settings_of row_enable_known) 200 (opening small_
 row_enable_asks = refl
 
 -- surprise
-abbrev row_surprise_known : List Known
+abbrev pub row_surprise_known : List Known
 row_surprise_known = record { id = codes "OWN\\DEV"; choice = record { rank = 16711680; lower = []; service = Some (codes "dev"); upper = [] } } ∷ []
 
-abbrev row_surprise_found : List Found
+abbrev pub row_surprise_found : List Found
 row_surprise_found = assignment (([]) ∷ []) ∷ assignment (([]) ∷ []) ∷ []
 
-abbrev row_surprise_events : List Event
+abbrev pub row_surprise_events : List Event
 row_surprise_events =
     Event.Name (codes "dev") DriverKind.Steady
     ∷ Event.Plug (codes "HTREE\\ROOT\\0") (codes "OWN\\DEV\\H") (codes "OWN\\DEV" ∷ []) ([]) ([])
@@ -452,7 +452,7 @@ row_surprise_events =
     ∷ Event.Pull (codes "OWN\\DEV\\H")
     ∷ []
 
-abbrev row_surprise_lines : List Text
+abbrev pub row_surprise_lines : List Text
 row_surprise_lines =
     codes "event driver dev"
     ∷ codes "event plug OWN\\DEV\\H"

@@ -194,13 +194,13 @@ pub row_stays_by_a_new_plug_asks : (traced (settings_of row_stays_by_a_new_plug_
 row_stays_by_a_new_plug_asks = refl
 
 -- violation
-abbrev row_violation_known : List Known
+abbrev pub row_violation_known : List Known
 row_violation_known = record { id = codes "OWN\\DEV"; choice = record { rank = 16711680; lower = []; service = Some (codes "dev"); upper = [] } } ∷ []
 
-abbrev row_violation_found : List Found
+abbrev pub row_violation_found : List Found
 row_violation_found = assignment ((record { kind = kinds.Irq; lo = 5; hi = 5; shared = false } ∷ []) ∷ []) ∷ no_fit ∷ assignment ((record { kind = kinds.Irq; lo = 5; hi = 5; shared = false } ∷ []) ∷ (record { kind = kinds.Irq; lo = 6; hi = 6; shared = false } ∷ []) ∷ []) ∷ []
 
-abbrev row_violation_events : List Event
+abbrev pub row_violation_events : List Event
 row_violation_events =
     Event.Name (codes "dev") DriverKind.Scripted
     ∷ Event.Teach (codes "dev") (record { what = AskWhat.Irp Minor.Stop; path = None; answer = Answer.Fail; uses = None })
@@ -208,7 +208,7 @@ row_violation_events =
     ∷ Event.Plug (codes "HTREE\\ROOT\\0") (codes "OWN\\DEV\\D") (codes "OWN\\DEV" ∷ []) ([]) (((record { kind = kinds.Irq; min = 5; max = 5; len = 1; align = 1; shared = false } ∷ []) ∷ []) ∷ [])
     ∷ []
 
-abbrev row_violation_lines : List Text
+abbrev pub row_violation_lines : List Text
 row_violation_lines =
     codes "event driver dev"
     ∷ codes "event teach dev"

@@ -16,17 +16,17 @@ use Rattle.pnp_model.proofs.RowBase.{settings_of, small_rack, Known}
 use Rattle.resource_reqs.specs.declared.kind.Kind.TheVariants as kinds
 
 -- empty script
-abbrev row_empty_script_known : List Known
+abbrev pub row_empty_script_known : List Known
 row_empty_script_known = []
 
-abbrev row_empty_script_found : List Found
+abbrev pub row_empty_script_found : List Found
 row_empty_script_found = []
 
-abbrev row_empty_script_events : List Event
+abbrev pub row_empty_script_events : List Event
 row_empty_script_events =
     []
 
-abbrev row_empty_script_lines : List Text
+abbrev pub row_empty_script_lines : List Text
 row_empty_script_lines =
     codes "tree"
     ∷ codes "0 HTREE\\ROOT\\0 Started"
@@ -46,19 +46,19 @@ pub row_empty_script_asks : (traced (settings_of row_empty_script_known) 200 (op
 row_empty_script_asks = refl
 
 -- one device
-abbrev row_one_device_known : List Known
+abbrev pub row_one_device_known : List Known
 row_one_device_known = record { id = codes "OWN\\DEV"; choice = record { rank = 16711680; lower = []; service = Some (codes "dev"); upper = [] } } ∷ []
 
-abbrev row_one_device_found : List Found
+abbrev pub row_one_device_found : List Found
 row_one_device_found = assignment (([]) ∷ []) ∷ []
 
-abbrev row_one_device_events : List Event
+abbrev pub row_one_device_events : List Event
 row_one_device_events =
     Event.Name (codes "dev") DriverKind.Steady
     ∷ Event.Plug (codes "HTREE\\ROOT\\0") (codes "OWN\\DEV\\1") (codes "OWN\\DEV" ∷ []) ([]) ([])
     ∷ []
 
-abbrev row_one_device_lines : List Text
+abbrev pub row_one_device_lines : List Text
 row_one_device_lines =
     codes "event driver dev"
     ∷ codes "event plug OWN\\DEV\\1"
@@ -90,13 +90,13 @@ pub row_one_device_asks : (traced (settings_of row_one_device_known) 200 (openin
 row_one_device_asks = refl
 
 -- two starts at once
-abbrev row_two_starts_at_once_known : List Known
+abbrev pub row_two_starts_at_once_known : List Known
 row_two_starts_at_once_known = record { id = codes "OWN\\DEV"; choice = record { rank = 16711680; lower = []; service = Some (codes "dev"); upper = [] } } ∷ []
 
-abbrev row_two_starts_at_once_found : List Found
+abbrev pub row_two_starts_at_once_found : List Found
 row_two_starts_at_once_found = assignment (([]) ∷ []) ∷ assignment (([]) ∷ []) ∷ []
 
-abbrev row_two_starts_at_once_events : List Event
+abbrev pub row_two_starts_at_once_events : List Event
 row_two_starts_at_once_events =
     Event.Name (codes "dev") DriverKind.Scripted
     ∷ Event.Teach (codes "dev") (record { what = AskWhat.Irp Minor.Start; path = None; answer = Answer.Pend; uses = None })
@@ -106,7 +106,7 @@ row_two_starts_at_once_events =
     ∷ Event.Complete (codes "OWN\\DEV\\1") Minor.Start true
     ∷ []
 
-abbrev row_two_starts_at_once_lines : List Text
+abbrev pub row_two_starts_at_once_lines : List Text
 row_two_starts_at_once_lines =
     codes "event driver dev"
     ∷ codes "event teach dev"

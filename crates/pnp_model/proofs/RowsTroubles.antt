@@ -138,20 +138,20 @@ pub row_no_driver_of_the_name_asks : (traced (settings_of row_no_driver_of_the_n
 row_no_driver_of_the_name_asks = refl
 
 -- refused add
-abbrev row_refused_add_known : List Known
+abbrev pub row_refused_add_known : List Known
 row_refused_add_known = record { id = codes "OWN\\DEV"; choice = record { rank = 16711680; lower = []; service = Some (codes "dev"); upper = [] } } ∷ []
 
-abbrev row_refused_add_found : List Found
+abbrev pub row_refused_add_found : List Found
 row_refused_add_found = []
 
-abbrev row_refused_add_events : List Event
+abbrev pub row_refused_add_events : List Event
 row_refused_add_events =
     Event.Name (codes "dev") DriverKind.Scripted
     ∷ Event.Teach (codes "dev") (record { what = AskWhat.Add; path = None; answer = Answer.Fail; uses = None })
     ∷ Event.Plug (codes "HTREE\\ROOT\\0") (codes "OWN\\DEV\\1") (codes "OWN\\DEV" ∷ []) ([]) ([])
     ∷ []
 
-abbrev row_refused_add_lines : List Text
+abbrev pub row_refused_add_lines : List Text
 row_refused_add_lines =
     codes "event driver dev"
     ∷ codes "event teach dev"

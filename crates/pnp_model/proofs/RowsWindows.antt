@@ -13,13 +13,13 @@ use Rattle.pnp_model.proofs.RowBase.{settings_of, small_rack, Known}
 use Rattle.resource_reqs.specs.declared.kind.Kind.TheVariants as kinds
 
 -- window
-abbrev row_window_known : List Known
+abbrev pub row_window_known : List Known
 row_window_known = record { id = codes "OWN\\DEV"; choice = record { rank = 16711680; lower = []; service = Some (codes "dev"); upper = [] } } ∷ []
 
-abbrev row_window_found : List Found
+abbrev pub row_window_found : List Found
 row_window_found = assignment (([]) ∷ []) ∷ assignment ((record { kind = kinds.Port; lo = 4096; hi = 4103; shared = false } ∷ []) ∷ []) ∷ []
 
-abbrev row_window_events : List Event
+abbrev pub row_window_events : List Event
 row_window_events =
     Event.Name (codes "dev") DriverKind.Steady
     ∷ Event.Plug (codes "HTREE\\ROOT\\0") (codes "OWN\\DEV\\B") (codes "OWN\\DEV" ∷ []) ([]) ([])
@@ -28,7 +28,7 @@ row_window_events =
     ∷ Event.Window (codes "OWN\\DEV\\B") (record { kind = kinds.Mem; lo = 0; hi = 7; shared = false })
     ∷ []
 
-abbrev row_window_lines : List Text
+abbrev pub row_window_lines : List Text
 row_window_lines =
     codes "event driver dev"
     ∷ codes "event plug OWN\\DEV\\B"
@@ -74,13 +74,13 @@ pub row_window_asks : (traced (settings_of row_window_known) 200 (opening small_
 row_window_asks = refl
 
 -- nothing in the window
-abbrev row_nothing_in_the_window_known : List Known
+abbrev pub row_nothing_in_the_window_known : List Known
 row_nothing_in_the_window_known = record { id = codes "OWN\\DEV"; choice = record { rank = 16711680; lower = []; service = Some (codes "dev"); upper = [] } } ∷ []
 
-abbrev row_nothing_in_the_window_found : List Found
+abbrev pub row_nothing_in_the_window_found : List Found
 row_nothing_in_the_window_found = assignment (([]) ∷ []) ∷ no_fit ∷ no_fit ∷ []
 
-abbrev row_nothing_in_the_window_events : List Event
+abbrev pub row_nothing_in_the_window_events : List Event
 row_nothing_in_the_window_events =
     Event.Name (codes "dev") DriverKind.Steady
     ∷ Event.Plug (codes "HTREE\\ROOT\\0") (codes "OWN\\DEV\\B") (codes "OWN\\DEV" ∷ []) ([]) ([])
@@ -88,7 +88,7 @@ row_nothing_in_the_window_events =
     ∷ Event.Plug (codes "OWN\\DEV\\B") (codes "OWN\\DEV\\D") (codes "OWN\\DEV" ∷ []) ([]) (((record { kind = kinds.Port; min = 8192; max = 8447; len = 8; align = 8; shared = false } ∷ []) ∷ []) ∷ [])
     ∷ []
 
-abbrev row_nothing_in_the_window_lines : List Text
+abbrev pub row_nothing_in_the_window_lines : List Text
 row_nothing_in_the_window_lines =
     codes "event driver dev"
     ∷ codes "event plug OWN\\DEV\\B"

@@ -1,5 +1,6 @@
--- What an event does to a quiet machine: a label, and the state after it.
-use Rattle.std.specs.Prelude.{ℕ, ◌==◌, Bool, true, false, not, ◌&&◌, ◌||◌, List, [], ◌∷◌, ◌++◌, Option, Some, None, nat_le, nat_lt, find, length}
+-- What an event does to a quiet machine: a label, and the state after it. Each event is one definition: its refusals from the
+-- top, in the order in which they are tested, and below them what is done.
+use Rattle.std.specs.Prelude.{ℕ, ◌==◌, Bool, true, false, not, ◌&&◌, ◌||◌, List, [], ◌∷◌, ◌++◌, Option, Some, None, is_some, is_none, nat_lt, nat_le, find, length, if◌then◌else◌}
 use Rattle.std.specs.List.{list_any}
 use Rattle.resource_reqs.specs.Resources.{Res, Reqs, clashes}
 use Rattle.pnp_model.specs.Keyed.{changed_first}
@@ -15,7 +16,7 @@ use Rattle.pnp_model.specs.Frames.{held_by}
 use Rattle.pnp_model.specs.States.{with_core, append_task, list_node, node_born, node_of, device_of, has_below, add_window, is_in_world, change_device, plug, unplug, enable_path, activity_at, set_phase, set_operation}
 use Rattle.pnp_model.specs.Machine.{phase_walk, operation_walk}
 use Rattle.pnp_labels.specs.Texts.{spaced, minor_text, shown_text, res_text, Text}
-use Rattle.pnp_model.specs.Records.{Node, Core, Walk, Device, Driver, Relation, Activity, Phase, State, Step, Operation, RebalanceStage, RemovalStage, SurpriseStage, FinishStage, Handle, Duty}
+use Rattle.pnp_model.specs.Records.{Node, Core, Walk, Device, Driver, Relation, Phase, State, Step, Operation, RebalanceStage, RemovalStage, SurpriseStage, FinishStage, Handle, Duty}
 use Rattle.pnp_model.specs.Records.Phase.{Starting, Removing}
 use Rattle.pnp_labels.specs.declared.words.Minor.{Minor}
 use Rattle.pnp_labels.specs.declared.words.Answer.{Answer}
@@ -25,7 +26,9 @@ use Rattle.pnp_labels.specs.declared.words.RelKind.{RelKind}
 use Rattle.pnp_labels.specs.declared.label.OpKind.{OpKind}
 use Rattle.pnp_labels.specs.declared.event.Event.{Event}
 use Rattle.pnp_labels.specs.declared.label.EventWord.{EventWord}
+use Rattle.pnp_labels.specs.declared.label.EventWord.TheVariants.{Plug, Pull, Name, Teach, Disable, Enable, Eject, Relate, Reserve, Complete, HandleOpen, HandleClose, Change, Window, Watch, Unwatch}
 use Rattle.pnp_labels.specs.declared.label.Reason.{Reason}
+use Rattle.pnp_labels.specs.declared.label.Reason.TheVariants.{NoParent, SameId, WorldFull, NoDevice, RootStays, SameName, RackEmpty, NoDriver, NotTeachable, BookFull, AlreadyDisabled, NotDisabled, Busy, SelfRelation, SameRelation, RelationCycle, NotStarted, InUse, NoHandle, HasChildren, SameWindow, NoSuchRequest}
 use Rattle.pnp_labels.specs.declared.label.Label.{Label}
 
 abbrev pub refused : EventWord → Reason → State → Step
@@ -34,100 +37,123 @@ refused word reason s = record { label = Label.Refused word reason; state = s }
 abbrev pub did : EventWord → Text → State → Step
 did word what s = record { label = Label.Did word what; state = s }
 
--- plug ------------------------------------------------------------------------
+-- the step where something is not there, and else the one with it
+abbrev pub unless : {A : Type 0} → Option A → Step → (A → Step) → Step
+unless None otherwise next = otherwise
+unless (Some x) otherwise next = next x
 
-abbrev pub new_device : State → ℕ → Text → List Text → List Text → Reqs → Device
-new_device s parent path hw compat reqs =
-    record { born = s.next_born; parent = parent; path = path; hw = hw; compat = compat; reqs = reqs }
-
--- has the world room?
-abbrev pub plug_room : State → Device → Bool → Step
-plug_room s d false = refused EventWord.Plug Reason.WorldFull s
-plug_room s d true = did EventWord.Plug d.path (list_node (node_born d.parent s.core.nodes) (plug d s))
+-- devices of the world --------------------------------------------------------
 
 -- the root is one of the 4,097
-abbrev pub plug_fresh : State → Device → Option Device → Step
-plug_fresh s d (Some other) = refused EventWord.Plug Reason.SameId s
-plug_fresh s d None = plug_room s d (nat_le (length s.world) 4096)
+abbrev pub plugs : State → Text → Text → List Text → List Text → Reqs → Step
+plugs s parent path hw compat reqs =
+    unless (device_of parent s.world) (refused Plug NoParent s) (λ over.
+    if is_some (device_of path s.world) then refused Plug SameId s
+    else if not (nat_le (length s.world) 4096) then refused Plug WorldFull s
+    else
+    let d : Device = record { born = s.next_born; parent = over.born; path = path; hw = hw; compat = compat; reqs = reqs } in
+    did Plug path (list_node (node_born over.born s.core.nodes) (plug d s)))
 
-abbrev pub plug_below : State → Text → List Text → List Text → Reqs → Option Device → Step
-plug_below s path hw compat reqs None = refused EventWord.Plug Reason.NoParent s
-plug_below s path hw compat reqs (Some over) =
-    plug_fresh s (new_device s over.born path hw compat reqs) (device_of path s.world)
+abbrev pub pulls : State → Text → Step
+pulls s path =
+    unless (device_of path s.world) (refused Pull NoDevice s) (λ d.
+    if d.born == 0 then refused Pull RootStays s
+    else did Pull d.path (list_node (node_born d.parent s.core.nodes) (unplug d.born s)))
 
--- pull ------------------------------------------------------------------------
+-- a node has this one as parent
+abbrev pub has_children : List Node → Option Node → Bool
+has_children nodes None = false
+has_children nodes (Some node) = list_any (is_child node.serial) nodes
 
--- is it the root?
-abbrev pub pull_device : State → Device → Bool → Step
-pull_device s d true = refused EventWord.Pull Reason.RootStays s
-pull_device s d false = did EventWord.Pull d.path (list_node (node_born d.parent s.core.nodes) (unplug d.born s))
+abbrev pub sets_window : State → Text → Res → Step
+sets_window s path res =
+    unless (device_of path s.world) (refused Window NoDevice s) (λ d.
+    if d.born == 0 then refused Window RootStays s
+    else if has_below d.born s.world || has_children s.core.nodes (node_born d.born s.core.nodes) then refused Window HasChildren s
+    else if list_any (is_window_on res.kind (d.born ∷ [])) s.windows then refused Window SameWindow s
+    else did Window (spaced (d.path ∷ res_text res ∷ [])) (add_window d.born res s))
 
-abbrev pub pull_at : State → Option Device → Step
-pull_at s None = refused EventWord.Pull Reason.NoDevice s
-pull_at s (Some d) = pull_device s d (d.born == 0)
+-- drivers ---------------------------------------------------------------------
 
--- driver and teach ------------------------------------------------------------
-
-abbrev pub name_free : State → Text → DriverKind → Option Driver → Step
-name_free s name kind None = refused EventWord.Name Reason.RackEmpty s
-name_free s name kind (Some driver) =
-    did EventWord.Name name
-    (with_core (set_rack (changed_first (is_unnamed kind) (with_name name) s.core.rack) s.core) s)
-
-abbrev pub name_at : State → Text → DriverKind → Option Driver → Step
-name_at s name kind (Some driver) = refused EventWord.Name Reason.SameName s
-name_at s name kind None = name_free s name kind (find (is_unnamed kind) s.core.rack)
+abbrev pub names : State → Text → DriverKind → Step
+names s name kind =
+    if is_some (find (is_named name) s.core.rack) then refused Name SameName s
+    else if is_none (find (is_unnamed kind) s.core.rack) then refused Name RackEmpty s
+    else did Name name (with_core (set_rack (changed_first (is_unnamed kind) (with_name name) s.core.rack) s.core) s)
 
 abbrev pub with_rule : Rule → Driver → Driver
 with_rule rule driver = record driver { book = driver.book ++ rule ∷ [] }
 
--- has the book room?
-abbrev pub teach_room : State → Driver → Text → Rule → Bool → Step
-teach_room s driver name rule false = refused EventWord.Teach Reason.BookFull s
-teach_room s driver name rule true =
-    did EventWord.Teach (printed_name driver.name)
-    (with_core (set_rack (changed_first (is_named name) (with_rule rule) s.core.rack) s.core) s)
+abbrev pub teaches : State → Text → Rule → Step
+teaches s name rule =
+    unless (find (is_named name) s.core.rack) (refused Teach NoDriver s) (λ driver.
+    if not (is_scripted driver.kind) then refused Teach NotTeachable s
+    else if nat_le 64 (length driver.book) then refused Teach BookFull s
+    else
+    did Teach (printed_name driver.name)
+    (with_core (set_rack (changed_first (is_named name) (with_rule rule) s.core.rack) s.core) s))
 
-abbrev pub teach_kind : State → Driver → Text → Rule → Bool → Step
-teach_kind s driver name rule false = refused EventWord.Teach Reason.NotTeachable s
-teach_kind s driver name rule true = teach_room s driver name rule (nat_lt (length driver.book) 64)
+-- nodes -----------------------------------------------------------------------
 
-abbrev pub teach_at : State → Text → Rule → Option Driver → Step
-teach_at s name rule None = refused EventWord.Teach Reason.NoDriver s
-teach_at s name rule (Some driver) = teach_kind s driver name rule (is_scripted driver.kind)
-
--- disable, enable and eject ---------------------------------------------------
-
-abbrev pub disable_enabled : State → Node → Bool → Step
-disable_enabled s node true = refused EventWord.Disable Reason.AlreadyDisabled s
-disable_enabled s node false =
-    did EventWord.Disable node.path (append_task (Duty.Begins OpKind.Disable) node.serial s)
-
-abbrev pub disable_below : State → Text → Node → Bool → Step
-disable_below s path node true = refused EventWord.Disable Reason.RootStays s
-disable_below s path node false = disable_enabled s node (has_same path s.disabled)
-
-abbrev pub disable_at : State → Text → Option Node → Step
-disable_at s path None = refused EventWord.Disable Reason.NoDevice s
-disable_at s path (Some node) = disable_below s path node (node.serial == 0)
+abbrev pub disables : State → Text → Step
+disables s path =
+    unless (node_of path s.core.nodes) (refused Disable NoDevice s) (λ node.
+    if node.serial == 0 then refused Disable RootStays s
+    else if has_same path s.disabled then refused Disable AlreadyDisabled s
+    else did Disable node.path (append_task (Duty.Begins OpKind.Disable) node.serial s))
 
 abbrev pub start_node : Option Node → State → State
 start_node None s = s
 start_node (Some n) s = append_task Duty.Starting n.serial s
 
-abbrev pub enable_at : State → Text → Option Text → Step
-enable_at s path None = refused EventWord.Enable Reason.NotDisabled s
-enable_at s path (Some own) = did EventWord.Enable own (start_node (node_of path s.core.nodes) (enable_path path s))
+abbrev pub enables : State → Text → Step
+enables s path =
+    unless (find (same path) s.disabled) (refused Enable NotDisabled s) (λ own.
+    did Enable own (start_node (node_of path s.core.nodes) (enable_path path s)))
 
-abbrev pub eject_below : State → Node → Bool → Step
-eject_below s node true = refused EventWord.Eject Reason.RootStays s
-eject_below s node false = did EventWord.Eject node.path (append_task (Duty.Begins OpKind.Eject) node.serial s)
+abbrev pub ejects : State → Text → Step
+ejects s path =
+    unless (node_of path s.core.nodes) (refused Eject NoDevice s) (λ node.
+    if node.serial == 0 then refused Eject RootStays s
+    else did Eject node.path (append_task (Duty.Begins OpKind.Eject) node.serial s))
 
-abbrev pub eject_at : State → Option Node → Step
-eject_at s None = refused EventWord.Eject Reason.NoDevice s
-eject_at s (Some node) = eject_below s node (node.serial == 0)
+-- the device runs, and it is in the world
+abbrev pub changes : State → Text → Reqs → Step
+changes s path reqs =
+    unless (node_of path s.core.nodes) (refused Change NoDevice s) (λ node.
+    if not (is_in_world s.world node.born) then refused Change NoDevice s
+    else if node.serial == 0 then refused Change RootStays s
+    else if not (is_started node.state) then refused Change NotStarted s
+    else did Change node.path (append_task (Duty.Begins OpKind.Change) node.serial (change_device node.born reqs s)))
 
--- relate ----------------------------------------------------------------------
+-- handles ---------------------------------------------------------------------
+
+abbrev pub with_handles : List Handle → State → State
+with_handles handles s = record s { handles = handles }
+
+abbrev pub opens : State → Text → Step
+opens s path =
+    unless (node_of path s.core.nodes) (refused HandleOpen NoDevice s) (λ node.
+    if node.serial == 0 then refused HandleOpen RootStays s
+    else if is_some s.operation then refused HandleOpen Busy s
+    else if not (is_started node.state) then refused HandleOpen NotStarted s
+    else did HandleOpen node.path (with_handles (opened node.serial s.handles) s))
+
+-- it was the last one of a device that waits to be finished
+abbrev pub finish_due : Node → Bool → State → State
+finish_due node true s = append_task (Duty.Begins OpKind.Finish) node.serial s
+finish_due node false s = s
+
+-- is another one open?
+abbrev pub closes : State → Text → Step
+closes s path =
+    unless (node_of path s.core.nodes) (refused HandleClose NoDevice s) (λ node.
+    unless (find (is_handle_of node.serial) s.handles) (refused HandleClose NoHandle s) (λ h.
+    let more : Bool = nat_lt 1 h.count in
+    did HandleClose node.path
+    (finish_due node (not more && is_surprise_removed node.state) (with_handles (closed_with node.serial s.handles more) s))))
+
+-- relations and ranges --------------------------------------------------------
 
 abbrev pub is_relation : RelKind → ℕ → ℕ → Relation → Bool
 is_relation kind owner member r = same_rel r.kind kind && (r.owner == owner && r.member == member)
@@ -135,141 +161,29 @@ is_relation kind owner member r = same_rel r.kind kind && (r.owner == owner && r
 abbrev pub add_relation : Relation → Core → Core
 add_relation r c = record c { relations = c.relations ++ r ∷ [] }
 
--- are both Started?
-abbrev pub relate_up : State → RelKind → Node → Node → Bool → Step
-relate_up s kind owner member false = refused EventWord.Relate Reason.NotStarted s
-relate_up s kind owner member true =
-    did EventWord.Relate (spaced (owner.path ∷ member.path ∷ []))
+-- two nodes, while no operation runs
+abbrev pub relates_two : State → RelKind → Node → Node → Step
+relates_two s kind owner member =
+    if owner.serial == member.serial then refused Relate SelfRelation s
+    else if list_any (is_relation kind owner.serial member.serial) s.core.relations then refused Relate SameRelation s
+    else if has (dependents s.core member.serial) owner.serial then refused Relate RelationCycle s
+    else if not (is_started owner.state && is_started member.state) then refused Relate NotStarted s
+    else
+    did Relate (spaced (owner.path ∷ member.path ∷ []))
     (with_core (add_relation (record { kind = kind; owner = owner.serial; member = member.serial }) s.core) s)
 
--- is the owner a dependent of the member?
-abbrev pub relate_free : State → RelKind → Node → Node → Bool → Step
-relate_free s kind owner member true = refused EventWord.Relate Reason.RelationCycle s
-relate_free s kind owner member false =
-    relate_up s kind owner member (is_started owner.state && is_started member.state)
+abbrev pub relates : State → RelKind → Text → Text → Step
+relates s kind owner member =
+    unless (node_of owner s.core.nodes) (refused Relate NoDevice s) (λ owner.
+    unless (node_of member s.core.nodes) (refused Relate NoDevice s) (λ member.
+    if is_some s.operation then refused Relate Busy s
+    else relates_two s kind owner member))
 
-abbrev pub relate_new : State → RelKind → Node → Node → Bool → Step
-relate_new s kind owner member true = refused EventWord.Relate Reason.SameRelation s
-relate_new s kind owner member false =
-    relate_free s kind owner member (has (dependents s.core member.serial) owner.serial)
-
-abbrev pub relate_two : State → RelKind → Node → Node → Bool → Step
-relate_two s kind owner member true = refused EventWord.Relate Reason.SelfRelation s
-relate_two s kind owner member false =
-    relate_new s kind owner member (list_any (is_relation kind owner.serial member.serial) s.core.relations)
-
-abbrev pub relate_idle : State → RelKind → Node → Node → Option Operation → Step
-relate_idle s kind owner member (Some o) = refused EventWord.Relate Reason.Busy s
-relate_idle s kind owner member None = relate_two s kind owner member (owner.serial == member.serial)
-
-abbrev pub relate_at : State → RelKind → Option Node → Option Node → Step
-relate_at s kind (Some owner) (Some member) = relate_idle s kind owner member s.operation
-relate_at s kind (Some owner) None = refused EventWord.Relate Reason.NoDevice s
-relate_at s kind None member = refused EventWord.Relate Reason.NoDevice s
-
--- reserve ---------------------------------------------------------------------
-
-abbrev pub reserve_range : Res → Core → Core
-reserve_range res c = record c { reserved = c.reserved ++ res ∷ [] }
-
--- is it in use?
-abbrev pub reserve_free : State → Res → Bool → Step
-reserve_free s res true = refused EventWord.Reserve Reason.InUse s
-reserve_free s res false = did EventWord.Reserve (res_text res) (with_core (reserve_range res s.core) s)
-
-abbrev pub reserve_idle : State → Res → Option Operation → Step
-reserve_idle s res (Some o) = refused EventWord.Reserve Reason.Busy s
-reserve_idle s res None =
-    reserve_free s res (list_any (clashes res) (s.core.reserved ++ held_by s.core.nodes))
-
--- open and close --------------------------------------------------------------
-
-abbrev pub with_handles : List Handle → State → State
-with_handles handles s = record s { handles = handles }
-
-abbrev pub open_up : State → Node → Bool → Step
-open_up s node false = refused EventWord.HandleOpen Reason.NotStarted s
-open_up s node true = did EventWord.HandleOpen node.path (with_handles (opened node.serial s.handles) s)
-
-abbrev pub open_idle : State → Node → Option Operation → Step
-open_idle s node (Some o) = refused EventWord.HandleOpen Reason.Busy s
-open_idle s node None = open_up s node (is_started node.state)
-
--- is it the root?
-abbrev pub open_below : State → Node → Bool → Step
-open_below s node true = refused EventWord.HandleOpen Reason.RootStays s
-open_below s node false = open_idle s node s.operation
-
-abbrev pub open_at : State → Option Node → Step
-open_at s None = refused EventWord.HandleOpen Reason.NoDevice s
-open_at s (Some node) = open_below s node (node.serial == 0)
-
--- was it the last one of a device that waits to be finished?
-abbrev pub finish_due : Node → Bool → State → State
-finish_due node true s = append_task (Duty.Begins OpKind.Finish) node.serial s
-finish_due node false s = s
-
--- is another one open?
-abbrev pub close_handle : State → Node → Bool → Step
-close_handle s node more =
-    did EventWord.HandleClose node.path
-    (finish_due node (not more && is_surprise_removed node.state) (with_handles (closed_with node.serial s.handles more) s))
-
-abbrev pub close_open : State → Node → Option Handle → Step
-close_open s node None = refused EventWord.HandleClose Reason.NoHandle s
-close_open s node (Some h) = close_handle s node (nat_lt 1 h.count)
-
-abbrev pub close_at : State → Option Node → Step
-close_at s None = refused EventWord.HandleClose Reason.NoDevice s
-close_at s (Some node) = close_open s node (find (is_handle_of node.serial) s.handles)
-
--- change ----------------------------------------------------------------------
-
-abbrev pub change_up : State → Reqs → Node → Bool → Step
-change_up s reqs node false = refused EventWord.Change Reason.NotStarted s
-change_up s reqs node true =
-    did EventWord.Change node.path (append_task (Duty.Begins OpKind.Change) node.serial (change_device node.born reqs s))
-
-abbrev pub change_below : State → Reqs → Node → Bool → Step
-change_below s reqs node true = refused EventWord.Change Reason.RootStays s
-change_below s reqs node false = change_up s reqs node (is_started node.state)
-
--- is its device in the world?
-abbrev pub change_there : State → Reqs → Node → Bool → Step
-change_there s reqs node false = refused EventWord.Change Reason.NoDevice s
-change_there s reqs node true = change_below s reqs node (node.serial == 0)
-
-abbrev pub change_at : State → Reqs → Option Node → Step
-change_at s reqs None = refused EventWord.Change Reason.NoDevice s
-change_at s reqs (Some node) = change_there s reqs node (is_in_world s.world node.born)
-
--- window ----------------------------------------------------------------------
-
--- a node has this one as parent
-abbrev pub has_children : List Node → Option Node → Bool
-has_children nodes None = false
-has_children nodes (Some node) = list_any (is_child node.serial) nodes
-
--- has it a window of the kind?
-abbrev pub window_new : State → Res → Device → Bool → Step
-window_new s res d true = refused EventWord.Window Reason.SameWindow s
-window_new s res d false =
-    did EventWord.Window (spaced (d.path ∷ res_text res ∷ [])) (add_window d.born res s)
-
--- is a device below it, in the world or in the tree?
-abbrev pub window_childless : State → Res → Device → Bool → Step
-window_childless s res d true = refused EventWord.Window Reason.HasChildren s
-window_childless s res d false = window_new s res d (list_any (is_window_on res.kind (d.born ∷ [])) s.windows)
-
--- is it the root?
-abbrev pub window_device : State → Res → Device → Bool → Step
-window_device s res d true = refused EventWord.Window Reason.RootStays s
-window_device s res d false =
-    window_childless s res d (has_below d.born s.world || has_children s.core.nodes (node_born d.born s.core.nodes))
-
-abbrev pub window_at : State → Res → Option Device → Step
-window_at s res None = refused EventWord.Window Reason.NoDevice s
-window_at s res (Some d) = window_device s res d (d.born == 0)
+abbrev pub reserves : State → Res → Step
+reserves s res =
+    if is_some s.operation then refused Reserve Busy s
+    else if list_any (clashes res) (s.core.reserved ++ held_by s.core.nodes) then refused Reserve InUse s
+    else did Reserve (res_text res) (with_core (record s.core { reserved = s.core.reserved ++ res ∷ [] }) s)
 
 -- complete --------------------------------------------------------------------
 
@@ -341,45 +255,41 @@ abbrev pub complete_what : Node → Minor → Bool → Text
 complete_what node minor ok =
     spaced (node.path ∷ minor_text minor ∷ shown_text (shown_of minor (answer_of ok)) ∷ [])
 
-abbrev pub complete_activity : State → Node → Minor → Bool → Activity → Bool → Step
-complete_activity s node minor ok a false = refused EventWord.Complete Reason.NoSuchRequest s
-complete_activity s node minor ok a true =
-    did EventWord.Complete (complete_what node minor ok) (set_phase node.serial (completed_phase (answer_of ok) a.phase) s)
+-- the start of a device
+abbrev pub completes_start : State → Node → Minor → Bool → Step
+completes_start s node minor ok =
+    unless (activity_at node.serial s.activities) (refused Complete NoSuchRequest s) (λ a.
+    if not (waits_for minor (phase_walk a.phase)) then refused Complete NoSuchRequest s
+    else did Complete (complete_what node minor ok) (set_phase node.serial (completed_phase (answer_of ok) a.phase) s))
 
-abbrev pub complete_active : State → Node → Minor → Bool → Option Activity → Step
-complete_active s node minor ok None = refused EventWord.Complete Reason.NoSuchRequest s
-complete_active s node minor ok (Some a) = complete_activity s node minor ok a (waits_for minor (phase_walk a.phase))
+-- at a node: the operation, or else a start
+abbrev pub completes_at : State → Node → Minor → Bool → Step
+completes_at s node minor ok =
+    unless s.operation (completes_start s node minor ok) (λ o.
+    if not (operation_waits minor node.serial o) then completes_start s node minor ok
+    else did Complete (complete_what node minor ok) (set_operation (Some (completed (answer_of ok) o)) s))
 
-abbrev pub complete_operation : State → Node → Minor → Bool → Operation → Bool → Step
-complete_operation s node minor ok o true =
-    did EventWord.Complete (complete_what node minor ok) (set_operation (Some (completed (answer_of ok) o)) s)
-complete_operation s node minor ok o false = complete_active s node minor ok (activity_at node.serial s.activities)
-
-abbrev pub complete_node : State → Node → Minor → Bool → Option Operation → Step
-complete_node s node minor ok (Some o) = complete_operation s node minor ok o (operation_waits minor node.serial o)
-complete_node s node minor ok None = complete_active s node minor ok (activity_at node.serial s.activities)
-
-abbrev pub complete_at : State → Minor → Bool → Option Node → Step
-complete_at s minor ok None = refused EventWord.Complete Reason.NoSuchRequest s
-complete_at s minor ok (Some node) = complete_node s node minor ok s.operation
+abbrev pub completes : State → Text → Minor → Bool → Step
+completes s path minor ok =
+    unless (node_of path s.core.nodes) (refused Complete NoSuchRequest s) (λ node. completes_at s node minor ok)
 
 -- all events ------------------------------------------------------------------
 
 abbrev pub happens : State → Event → Step
-happens s (Event.Plug parent path hw compat reqs) = plug_below s path hw compat reqs (device_of parent s.world)
-happens s (Event.Pull path) = pull_at s (device_of path s.world)
-happens s (Event.Name name kind) = name_at s name kind (find (is_named name) s.core.rack)
-happens s (Event.Teach name rule) = teach_at s name rule (find (is_named name) s.core.rack)
-happens s (Event.Disable path) = disable_at s path (node_of path s.core.nodes)
-happens s (Event.Enable path) = enable_at s path (find (same path) s.disabled)
-happens s (Event.Eject path) = eject_at s (node_of path s.core.nodes)
-happens s (Event.Relate kind owner member) = relate_at s kind (node_of owner s.core.nodes) (node_of member s.core.nodes)
-happens s (Event.Reserve res) = reserve_idle s res s.operation
-happens s (Event.Complete path minor ok) = complete_at s minor ok (node_of path s.core.nodes)
-happens s (Event.OpenHandle path) = open_at s (node_of path s.core.nodes)
-happens s (Event.CloseHandle path) = close_at s (node_of path s.core.nodes)
-happens s (Event.Change path reqs) = change_at s reqs (node_of path s.core.nodes)
-happens s (Event.Window path res) = window_at s res (device_of path s.world)
+happens s (Event.Plug parent path hw compat reqs) = plugs s parent path hw compat reqs
+happens s (Event.Pull path) = pulls s path
+happens s (Event.Name name kind) = names s name kind
+happens s (Event.Teach name rule) = teaches s name rule
+happens s (Event.Disable path) = disables s path
+happens s (Event.Enable path) = enables s path
+happens s (Event.Eject path) = ejects s path
+happens s (Event.Relate kind owner member) = relates s kind owner member
+happens s (Event.Reserve res) = reserves s res
+happens s (Event.Complete path minor ok) = completes s path minor ok
+happens s (Event.OpenHandle path) = opens s path
+happens s (Event.CloseHandle path) = closes s path
+happens s (Event.Change path reqs) = changes s path reqs
+happens s (Event.Window path res) = sets_window s path res
 -- the machine knows no clients: what stands before it does
-happens s (Event.Watch client path agrees) = refused EventWord.Watch Reason.NoDevice s
-happens s (Event.Unwatch client path) = refused EventWord.Unwatch Reason.NoDevice s
+happens s (Event.Watch client path agrees) = refused Watch NoDevice s
+happens s (Event.Unwatch client path) = refused Unwatch NoDevice s

@@ -35,7 +35,6 @@ pub(crate) enum Stage {
 /// A removal in order, with veto: a device is disabled or ejected (the driver kit, IRP_MN_QUERY_REMOVE_DEVICE and
 /// IRP_MN_REMOVE_DEVICE; that each step is one of the machine's is this project's own). A contract sees the record of
 /// where it stands.
-#[derive(Drop)]
 pub struct Removal {
     pub(crate) kind: OpKind,
     pub(crate) target: u64,
@@ -47,6 +46,23 @@ pub struct Removal {
     pub(crate) refuser: Option<u64>,
     pub(crate) stage: Stage,
     pub(crate) walk: Walk,
+}
+
+impl Drop for Removal {
+    fn drop(self) {
+        let Removal {
+            kind: _,
+            target: _,
+            path: _,
+            set: _,
+            ejecting: _,
+            todo: _,
+            agreed: _,
+            refuser: _,
+            stage: _,
+            walk: _,
+        } = self;
+    }
 }
 
 impl Model for Removal {

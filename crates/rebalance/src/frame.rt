@@ -47,7 +47,6 @@ pub(crate) enum Stage {
 /// (the driver kit, IRP_MN_QUERY_STOP_DEVICE and IRP_MN_STOP_DEVICE; that each step is one of the machine's is this
 /// project's own). Or the change of a running device that is to require something else, which stops and starts again as
 /// the others do. A contract sees the record of where it stands.
-#[derive(Drop)]
 pub struct Rebalance {
     pub(crate) target: u64,
     pub(crate) path: Text,
@@ -59,6 +58,22 @@ pub struct Rebalance {
     pub(crate) found: Found,
     pub(crate) stage: Stage,
     pub(crate) walk: Walk,
+}
+
+impl Drop for Rebalance {
+    fn drop(self) {
+        let Rebalance {
+            target: _,
+            path: _,
+            wanted: _,
+            todo: _,
+            agreed: _,
+            refused: _,
+            found: _,
+            stage: _,
+            walk: _,
+        } = self;
+    }
 }
 
 impl Model for Rebalance {

@@ -1,10 +1,10 @@
 -- Two devices are related, as the machine has it.
-use Rattle.std.specs.Prelude.{◌≡◌, ℕ, ◌==◌, Bool, true, false, ◌&&◌, List, [], ◌∷◌, ◌++◌, Option, Some, None, Result, Ok, Err, map}
+use Rattle.std.specs.Prelude.{◌≡◌, ℕ, Bool, true, false, ◌&&◌, List, [], ◌∷◌, ◌++◌, Option, Some, None, Result, Ok, Err, map}
 use Rattle.pnp_model.specs.Keyed.{those}
 use Rattle.pnp_model.specs.Records.{Node, Core, Relation, State}
 use Rattle.pnp_model.specs.Removals.{is_ejecting}
 use Rattle.pnp_model.specs.States.{with_core}
-use Rattle.pnp_model.specs.Events.{refused, did, relate_two}
+use Rattle.pnp_model.specs.Events.{refused, did, relates_two}
 use Rattle.pnp_model.specs.Trees.{is_up}
 use Rattle.pnp_labels.specs.Texts.{spaced}
 use Rattle.pnp_labels.specs.declared.words.RelKind.{RelKind}
@@ -17,16 +17,16 @@ use Rattle.relations.specs.declared.error.RelateError.TheVariants.{SelfRelation,
 -- the line and the state after it, by the answer; after want of memory nothing has happened
 abbrev pub Relates : State → RelKind → Node → Node → List Relation → Result (Unit {0}) RelateError → List Relation → Type 0
 Relates s kind owner member old (Ok done) new =
-    relate_two s kind owner member (owner.serial == member.serial)
+    relates_two s kind owner member
     ≡ did EventWord.Relate (spaced (owner.path ∷ member.path ∷ [])) (with_core (record s.core { relations = new }) s)
 Relates s kind owner member old (Err SelfRelation) new =
-    (new ≡ old) × (relate_two s kind owner member (owner.serial == member.serial) ≡ refused EventWord.Relate Reason.SelfRelation s)
+    (new ≡ old) × (relates_two s kind owner member ≡ refused EventWord.Relate Reason.SelfRelation s)
 Relates s kind owner member old (Err SameRelation) new =
-    (new ≡ old) × (relate_two s kind owner member (owner.serial == member.serial) ≡ refused EventWord.Relate Reason.SameRelation s)
+    (new ≡ old) × (relates_two s kind owner member ≡ refused EventWord.Relate Reason.SameRelation s)
 Relates s kind owner member old (Err RelationCycle) new =
-    (new ≡ old) × (relate_two s kind owner member (owner.serial == member.serial) ≡ refused EventWord.Relate Reason.RelationCycle s)
+    (new ≡ old) × (relates_two s kind owner member ≡ refused EventWord.Relate Reason.RelationCycle s)
 Relates s kind owner member old (Err NotStarted) new =
-    (new ≡ old) × (relate_two s kind owner member (owner.serial == member.serial) ≡ refused EventWord.Relate Reason.NotStarted s)
+    (new ≡ old) × (relates_two s kind owner member ≡ refused EventWord.Relate Reason.NotStarted s)
 Relates s kind owner member old (Err WantOfMemory) new = new ≡ old
 
 -- in each state with these nodes and relations

@@ -16,12 +16,17 @@ use std::alloc::Global;
 use std::collections::{BinaryHeap, HashMap};
 
 /// The devices that are still to leave.
-#[derive(Drop)]
 struct Queue {
     /// For each the number of edges from what depends on it directly and is left.
     counts: HashMap<u64, u64>,
     /// Those of which nothing that depends on them is left.
     free: BinaryHeap<u64>,
+}
+
+impl Drop for Queue {
+    fn drop(self) {
+        let Queue { counts: _, free: _ } = self;
+    }
 }
 
 impl Queue {

@@ -22,13 +22,22 @@ use std::marker::Model;
 
 /// Who loses the drivers with whom, beside children with their parents (the driver kit, IRP_MN_QUERY_DEVICE_RELATIONS).
 /// A contract sees the relations in the order in which they were made.
-#[derive(Drop)]
 pub struct Relations {
     list: Vec<Relation>,
     /// From owners to members, sorted by owner.
     by_owner: Vec<Edge>,
     /// From members to owners, sorted by member.
     by_member: Vec<Edge>,
+}
+
+impl Drop for Relations {
+    fn drop(self) {
+        let Relations {
+            list: _,
+            by_owner: _,
+            by_member: _,
+        } = self;
+    }
 }
 
 impl Model for Relations {

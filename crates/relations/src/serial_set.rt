@@ -9,10 +9,18 @@ use std::marker::Model;
 
 /// Serials in an order, looked up by a hash. Each call costs the same whatever there is in it, except where it says
 /// more. A contract sees the list. This project's own.
-#[derive(Drop)]
 pub struct SerialSet {
     serials: Vec<u64>,
     index: HashSet<u64>,
+}
+
+impl Drop for SerialSet {
+    fn drop(self) {
+        let SerialSet {
+            serials: _,
+            index: _,
+        } = self;
+    }
 }
 
 impl Model for SerialSet {

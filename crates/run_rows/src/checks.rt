@@ -1,10 +1,9 @@
 //! Traces that are checked against a script, whatever the drivers answer.
-use crate::runs::{ended, ends, files_of, rack_of, words_of};
+use crate::runs::{comes_to, ended, ends, files_of, rack_of, words_of};
 use crate::scripts::OWN_INF;
 use pnp_cli::Status;
 use pnp_io::MemSink;
 use std::alloc::Global;
-use std::process::Abort;
 use std::test::Fail;
 
 /// A Steady driver and a device.
@@ -66,16 +65,11 @@ const ROWS: [(&[u8], &[u8], Status, &[u8]); 10] = [
 
 /// The files with which the trace `t` is checked against the script `s` with the INF `1`, over a Scripted driver, a Steady one and a
 /// Stubborn one, come to this.
-fn checks(
-    rt: &impl Abort,
-    alloc: Global,
-    named: &[(&str, &[u8])],
-    want: (Status, &[u8]),
-) -> Result<(), Fail> {
+fn checks(alloc: Global, named: &[(&str, &[u8])], want: (Status, &[u8])) -> Result<(), Fail> {
     let words = words_of(alloc, &["pnpmgr", "--check", "t", "s", "1"])?;
     let mut files = files_of(alloc, named)?;
     let rack = rack_of(alloc, 1, 1, 1)?;
-    ends(rt, alloc, &words, rack, &mut files, want)
+    ends(alloc, &words, rack, &mut files, want)
 }
 
 #[test]
@@ -83,7 +77,7 @@ fn traces(rt: HostRuntime) -> Result<(), Fail> {
     let alloc = rt.alloc();
     for (script, trace, status, text) in ROWS {
         let named = [("s", script), ("t", trace), ("1", OWN_INF)];
-        checks(&rt, alloc, &named, (status, text))?;
+        checks(alloc, &named, (status, text))?;
     }
     Ok(())
 }
@@ -105,7 +99,7 @@ const LACKING: [(&[(&str, &[u8])], Status, &[u8]); 5] = [
 fn lacking_files(rt: HostRuntime) -> Result<(), Fail> {
     let alloc = rt.alloc();
     for (named, status, text) in LACKING {
-        checks(&rt, alloc, named, (status, text))?;
+        checks(alloc, named, (status, text))?;
     }
     Ok(())
 }
@@ -119,7 +113,7 @@ fn each_read_fails(rt: HostRuntime) -> Result<(), Fail> {
         let mut files = files_of(alloc, &[("s", b"#\n"), ("t", BARE_END), ("1", OWN_INF)])?;
         files.fail_at(call)?;
         let want: (Status, &[u8]) = (Status::ReadFault, b"");
-        ends(&rt, alloc, &words, Vec::new(alloc), &mut files, want)?;
+        ends(alloc, &words, Vec::new(alloc), &mut files, want)?;
     }
     Ok(())
 }
@@ -130,7 +124,7 @@ fn a_large_trace(rt: HostRuntime) -> Result<(), Fail> {
     let alloc = rt.alloc();
     let bytes = vec![in alloc; b'#'; 16_777_217]?;
     let named: [(&str, &[u8]); 2] = [("t", &bytes), ("1", OWN_INF)];
-    checks(&rt, alloc, &named, (Status::TooLarge, b""))
+    checks(alloc, &named, (Status::TooLarge, b""))
 }
 
 #[test]
@@ -139,8 +133,6 @@ fn a_verdict_that_is_not_written(rt: HostRuntime) -> Result<(), Fail> {
     let words = words_of(alloc, &["pnpmgr", "--check", "t", "s"])?;
     let mut files = files_of(alloc, &[("s", b""), ("t", b"")])?;
     let mut sink = MemSink::new(alloc, 8)?;
-    let answer = ended(&rt, alloc, &words, Vec::new(alloc), &mut files, &mut sink);
-    assert_eq!(rt; answer, Status::WriteFault);
-    assert_eq!(rt; sink.taken(), b"no line ".as_slice());
-    Ok(())
+    let answer = ended(alloc, &words, Vec::new(alloc), &mut files, &mut sink)?;
+    comes_to(answer, &sink, (Status::WriteFault, b"no line "))
 }

@@ -91,6 +91,6 @@ fn clients_are_asked_and_told(rt: HostRuntime) -> Result<(), Fail> {
     let alloc = rt.alloc();
     let refused = (Status::Done, REFUSED_BY_A_CLIENT_TEXT.as_bytes());
     let vetoed = (Status::Done, VETOED_AND_DONE_TEXT.as_bytes());
-    runs(&rt, alloc, &[OWN_INF], REFUSED_BY_A_CLIENT_SCRIPT, refused)?;
-    runs(&rt, alloc, &[OWN_INF], VETOED_AND_DONE_SCRIPT, vetoed)
+    runs(alloc, &[OWN_INF], REFUSED_BY_A_CLIENT_SCRIPT, refused)?;
+    runs(alloc, &[OWN_INF], VETOED_AND_DONE_SCRIPT, vetoed)
 }

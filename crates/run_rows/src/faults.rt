@@ -1,28 +1,27 @@
 //! Memory or writes that are refused on the way: the status says so, and what was written is a front of the output. The
 //! first three are for runs in which one allocation fails (`rt try --test --fail-alloc N`).
-use crate::runs::{ended, files_of, words_of};
+use crate::runs::{comes_to, ended, files_of, words_of};
 use crate::scripts::{ONE_DEVICE_SCRIPT, ONE_DEVICE_TEXT, ended_into};
+use crate::told::{must, same};
 use pnp_cli::Status;
 use pnp_io::{MemFiles, MemSink};
 use std::alloc::Global;
-use std::process::Abort;
 use std::test::Fail;
 
+/// What the sink took is a front of a text.
+fn is_front(sink: &MemSink, text: &str) -> Result<(), Fail> {
+    let front = text.as_bytes().starts_with(sink.taken());
+    must(front, "a front of the output")
+}
+
 /// The whole output is written; or memory was refused, and a front of it was.
-fn whole_or_front(rt: &impl Abort, alloc: Global, script: &str, text: &str) -> Result<(), Fail> {
+fn whole_or_front(alloc: Global, script: &str, text: &str) -> Result<(), Fail> {
     let mut sink = MemSink::new(alloc, 4096)?;
-    match ended_into(rt, alloc, script, &mut sink)? {
-        Status::Done => assert!(rt; sink.taken() == text.as_bytes(), "{:?}", sink.taken()),
-        Status::WantOfMemory => {
-            assert!(rt;
-                text.as_bytes().starts_with(sink.taken()),
-                "{:?}",
-                sink.taken()
-            )
-        }
-        other => panic!(rt; "{other:?}"),
+    match ended_into(alloc, script, &mut sink)? {
+        Status::Done => same(sink.taken(), text.as_bytes()),
+        Status::WantOfMemory => is_front(&sink, text),
+        _ => Err(Fail::new("how a run ended")),
     }
-    Ok(())
 }
 
 /// A rebalance in which two devices move.
@@ -245,7 +244,7 @@ fn whole_or_a_front(rt: HostRuntime) -> Result<(), Fail> {
         (FAILED_RESTART_SCRIPT, FAILED_RESTART_TEXT),
     ];
     for (script, text) in rows {
-        whole_or_front(&rt, rt.alloc(), script, text)?;
+        whole_or_front(rt.alloc(), script, text)?;
     }
     Ok(())
 }
@@ -257,9 +256,8 @@ fn each_write_fails(rt: HostRuntime) -> Result<(), Fail> {
     let text = ONE_DEVICE_TEXT.as_bytes();
     for room in 0..text.len() {
         let mut sink = MemSink::new(alloc, room as u64)?;
-        let status = ended_into(&rt, alloc, ONE_DEVICE_SCRIPT, &mut sink)?;
-        assert_eq!(rt; status, Status::WriteFault);
-        assert!(rt; sink.taken() == &text[..room], "{:?}", sink.taken());
+        let status = ended_into(alloc, ONE_DEVICE_SCRIPT, &mut sink)?;
+        comes_to(status, &sink, (Status::WriteFault, &text[..room]))?;
     }
     Ok(())
 }
@@ -268,23 +266,23 @@ fn each_write_fails(rt: HostRuntime) -> Result<(), Fail> {
 const ONE_DEVICE_END: &str =
     "tree\n0 HTREE\\ROOT\\0 Started\n 1 OWN\\DEV\\1 Started\nmap\noutstanding\n";
 
+/// Where this write fails, the sink took this.
+fn one_write_fails(alloc: Global, call: u64, taken: &[u8]) -> Result<(), Fail> {
+    let mut sink = MemSink::new(alloc, 4096)?;
+    sink.fail_at(call)?;
+    let status = ended_into(alloc, ONE_DEVICE_SCRIPT, &mut sink)?;
+    comes_to(status, &sink, (Status::WriteFault, taken))
+}
+
 /// Whichever write fails, what the sink took is the front of the output that the writes before it made; the lines of all
 /// events of one piece are one write, and the end of the output another.
 #[test]
 fn each_call_of_write_fails(rt: HostRuntime) -> Result<(), Fail> {
-    let alloc = rt.alloc();
-    let text = ONE_DEVICE_TEXT.as_bytes();
-    assert!(rt; ONE_DEVICE_TEXT.ends_with(ONE_DEVICE_END));
-    let taken = [0, text.len() - ONE_DEVICE_END.len()];
-    for call in 0..2usize {
-        let mut sink = MemSink::new(alloc, 4096)?;
-        sink.fail_at(call as u64 + 1)?;
-        let status = ended_into(&rt, alloc, ONE_DEVICE_SCRIPT, &mut sink)?;
-        assert_eq!(rt; status, Status::WriteFault);
-        assert_eq!(rt; sink.taken().len(), taken[call]);
-        assert!(rt; text.starts_with(sink.taken()), "{:?}", sink.taken());
-    }
-    Ok(())
+    let Some(lines) = ONE_DEVICE_TEXT.strip_suffix(ONE_DEVICE_END) else {
+        return Err(Fail::new("the end of the output"));
+    };
+    one_write_fails(rt.alloc(), 1, b"")?;
+    one_write_fails(rt.alloc(), 2, lines.as_bytes())
 }
 
 /// Of a hundred reads and a hundred writes, each takes one byte.
@@ -298,7 +296,6 @@ fn take_one_byte(files: &mut MemFiles, sink: &mut MemSink) -> Result<(), Fail> {
 
 /// The files with which the script `s` is run over no driver, and what is written byte by byte.
 fn in_parts(
-    rt: &impl Abort,
     alloc: Global,
     words: &[String],
     files: &mut MemFiles,
@@ -306,10 +303,8 @@ fn in_parts(
 ) -> Result<(), Fail> {
     let mut sink = MemSink::new(alloc, 4096)?;
     take_one_byte(files, &mut sink)?;
-    let status = ended(rt, alloc, words, Vec::new(alloc), files, &mut sink);
-    assert_eq!(rt; status, Status::Done);
-    assert!(rt; sink.taken() == want, "{:?}", sink.taken());
-    Ok(())
+    let status = ended(alloc, words, Vec::new(alloc), files, &mut sink)?;
+    comes_to(status, &sink, (Status::Done, want))
 }
 
 /// Reads and writes of one byte at a time, a hundred of each, make the same output.
@@ -319,7 +314,7 @@ fn one_byte_at_a_time(rt: HostRuntime) -> Result<(), Fail> {
     let words = words_of(alloc, &["pnpmgr", "s"])?;
     let mut files = files_of(alloc, &[("s", ONE_DEVICE_SCRIPT.as_bytes())])?;
     let mut whole = MemSink::new(alloc, 4096)?;
-    let status = ended(&rt, alloc, &words, Vec::new(alloc), &mut files, &mut whole);
-    assert_eq!(rt; status, Status::Done);
-    in_parts(&rt, alloc, &words, &mut files, whole.taken())
+    let status = ended(alloc, &words, Vec::new(alloc), &mut files, &mut whole)?;
+    must(status == Status::Done, "how a run ended")?;
+    in_parts(alloc, &words, &mut files, whole.taken())
 }

@@ -1,11 +1,11 @@
 //! Summaries of generated scripts, over racks of drivers; and the generated texts.
 use crate::runs::{Rack, ends, rack_of, words_of};
+use crate::told::must;
 use driver_rack::{Driver, TeachError};
 use pnp_cli::{Status, gen_inf, gen_script};
 use pnp_io::MemFiles;
 use pnp_labels::{Answer, Ask, AskWhat, DriverKind, Minor, Rule};
 use std::alloc::Global;
-use std::process::Abort;
 use std::test::Fail;
 
 /// A driver that fails each START_DEVICE, answers all else with success and can be taught nothing.
@@ -39,10 +39,10 @@ impl Driver for Unwilling {
 }
 
 /// `--gen` with this number over a rack writes this summary.
-fn sums_up(rt: &impl Abort, alloc: Global, rack: Rack, n: &str, text: &[u8]) -> Result<(), Fail> {
+fn sums_up(alloc: Global, rack: Rack, n: &str, text: &[u8]) -> Result<(), Fail> {
     let words = words_of(alloc, &["pnpmgr", "--gen", n])?;
     let mut files = MemFiles::new(alloc);
-    ends(rt, alloc, &words, rack, &mut files, (Status::Done, text))
+    ends(alloc, &words, rack, &mut files, (Status::Done, text))
 }
 
 /// How many Steady drivers, how many devices, and the summary: no driver; one device; fifty, of which the last needs the ports of the
@@ -70,12 +70,12 @@ const SUMMARIES: [(u32, &str, &[u8]); 3] = [
 fn summaries(rt: HostRuntime) -> Result<(), Fail> {
     let alloc = rt.alloc();
     for (drivers, n, text) in SUMMARIES {
-        sums_up(&rt, alloc, rack_of(alloc, 0, drivers, 0)?, n, text)?;
+        sums_up(alloc, rack_of(alloc, 0, drivers, 0)?, n, text)?;
     }
     let mut rack = rack_of(alloc, 0, 1, 0)?;
     rack.push(Box::new(alloc, Unwilling {})?)?;
     let failed = b"devices 1\nsteps 22\nstarted 1\nproblem12 0\nmoved 0\n";
-    sums_up(&rt, alloc, rack, "1", failed)
+    sums_up(alloc, rack, "1", failed)
 }
 
 /// The generated texts.
@@ -87,12 +87,11 @@ fn generated_texts(rt: HostRuntime) -> Result<(), Fail> {
         b"driver bus steady\ndriver dev steady\nplug HTREE\\ROOT\\0 GEN\\BUS 0\nplug GEN\\BUS\\0 GEN\\DEV 1 need=port:4096-65535/8@8;irq:16-23:shared\n";
     let last =
         b"\nplug GEN\\BUS\\0 GEN\\DEV 49 need=port:4096-65535/8@8;irq:16-23:shared\nplug GEN\\BUS\\0 GEN\\DEV 50 need=port:4096-4103/8@8\n";
-    assert!(rt; script.starts_with(first), "{script:?}");
-    assert!(rt; script.ends_with(last), "{script:?}");
+    must(script.starts_with(first), "the first generated lines")?;
+    must(script.ends_with(last), "the last generated lines")?;
     let inf = gen_inf(alloc)?;
-    assert!(rt;
+    must(
         inf.ends_with(b"\n[D.Services]\nAddService=dev,2,S\n"),
-        "{inf:?}"
-    );
-    Ok(())
+        "the end of the generated INF",
+    )
 }

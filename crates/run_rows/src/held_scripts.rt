@@ -96,6 +96,6 @@ fn a_device_is_held_open(rt: HostRuntime) -> Result<(), Fail> {
     let alloc = rt.alloc();
     let pulled = (Status::Done, HELD_WHILE_PULLED_TEXT.as_bytes());
     let disabled = (Status::Done, HELD_WHILE_DISABLED_TEXT.as_bytes());
-    runs(&rt, alloc, &[OWN_INF], HELD_WHILE_PULLED_SCRIPT, pulled)?;
-    runs(&rt, alloc, &[OWN_INF], HELD_WHILE_DISABLED_SCRIPT, disabled)
+    runs(alloc, &[OWN_INF], HELD_WHILE_PULLED_SCRIPT, pulled)?;
+    runs(alloc, &[OWN_INF], HELD_WHILE_DISABLED_SCRIPT, disabled)
 }

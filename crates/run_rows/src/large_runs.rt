@@ -1,10 +1,10 @@
 //! Scripts of thousands of lines. Their outputs' lengths are those of texts that were put together by another program after
 //! the rule that short scripts of the same form show.
 use crate::runs::{ended, files_of, rack_of, words_of};
+use crate::told::must;
 use pnp_cli::Status;
 use pnp_io::MemSink;
 use std::alloc::{AllocError, Global};
-use std::process::Abort;
 use std::test::Fail;
 
 /// The driver of each device of the scripts.
@@ -93,27 +93,27 @@ fn script_of(alloc: Global, parts: &[Lines], last: &[u8]) -> Result<Vec<u8>, All
     Ok(script)
 }
 
-/// The status of a script over one driver, which answers ok, and how many bytes were written.
-fn written(rt: &impl Abort, alloc: Global, script: &[u8]) -> Result<(Status, usize), Fail> {
+/// A script over one driver, which answers ok, is done, and writes so many bytes.
+fn writes(alloc: Global, script: &[u8], length: usize) -> Result<(), Fail> {
     let words = words_of(alloc, &["pnpmgr", "s", "inf"])?;
     let mut files = files_of(alloc, &[("s", script), ("inf", INF)])?;
     let mut sink = MemSink::new(alloc, 2_000_000)?;
     let status = ended(
-        rt,
         alloc,
         &words,
         rack_of(alloc, 0, 1, 0)?,
         &mut files,
         &mut sink,
-    );
-    Ok((status, sink.taken().len()))
+    )?;
+    must(status == Status::Done, "how a run ended")?;
+    must(sink.taken().len() == length, "how long the output is")
 }
 
 #[test]
 fn large_runs(rt: HostRuntime) -> Result<(), Fail> {
     for (parts, last, length) in RUNS {
         let script = script_of(rt.alloc(), parts, last)?;
-        assert_eq!(rt; written(&rt, rt.alloc(), &script)?, (Status::Done, length));
+        writes(rt.alloc(), &script, length)?;
     }
     Ok(())
 }

@@ -22,4 +22,6 @@ mod scripts;
 #[cfg(test)]
 mod small_scripts;
 #[cfg(test)]
+mod told;
+#[cfg(test)]
 mod words;

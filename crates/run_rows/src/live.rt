@@ -1,5 +1,6 @@
 //! What an event led to is on the sink before more of the script is asked for.
 use crate::runs::{rack_of, words_of};
+use crate::told::must;
 use pnp_cli::{Status, run};
 use pnp_io::{Failed, Files, Sink};
 use std::cell::Cell;
@@ -76,7 +77,9 @@ const SECOND: &str =
 fn no_line_is_held_back(rt: HostRuntime) -> Result<(), Fail> {
     let alloc = rt.alloc();
     let rack = rack_of(alloc, 0, 1, 0)?;
-    assert!(rt; rack.len() < 8);
+    if rack.len() >= 8 {
+        return Err(Fail::new("eight drivers or more"));
+    }
     let taken = Cell::new(0usize);
     let mut files = Parts {
         parts: &PARTS,
@@ -87,9 +90,11 @@ fn no_line_is_held_back(rt: HostRuntime) -> Result<(), Fail> {
     let mut sink = Counting { taken: &taken };
     let words = words_of(alloc, &["pnpmgr", "s"])?;
     let status = run(alloc, &words, rack, &mut files, &mut sink);
-    assert_eq!(rt; status, Status::Done);
+    must(status == Status::Done, "how a run ended")?;
     let first = FIRST.len();
     let both = FIRST.len() + SECOND.len();
-    assert_eq!(rt; files.seen, [0, first, first, both, 0, 0, 0, 0]);
-    Ok(())
+    must(
+        files.seen == [0, first, first, both, 0, 0, 0, 0],
+        "how much was written before each read",
+    )
 }

@@ -1,9 +1,9 @@
 //! A run over files and a sink in memory, and what it has to come to.
+use crate::told::{must, same};
 use driver_rack::{Driver, Scripted, Steady, Stubborn};
 use pnp_cli::{Status, run};
 use pnp_io::{MemFiles, MemSink};
 use std::alloc::Global;
-use std::process::Abort;
 use std::test::Fail;
 
 /// Drivers in boxes.
@@ -42,22 +42,28 @@ pub fn rack_of(alloc: Global, scripted: u32, steady: u32, stubborn: u32) -> Resu
     Ok(rack)
 }
 
-/// The status of a run over fewer than eight drivers.
+/// The status of a run over fewer than eight drivers; the test fails where there are more.
 pub fn ended(
-    rt: &impl Abort,
     alloc: Global,
     words: &[String],
     rack: Rack,
     files: &mut MemFiles,
     sink: &mut MemSink,
-) -> Status {
-    assert!(rt; rack.len() < 8);
-    run(alloc, words, rack, files, sink)
+) -> Result<Status, Fail> {
+    if rack.len() >= 8 {
+        return Err(Fail::new("eight drivers or more"));
+    }
+    Ok(run(alloc, words, rack, files, sink))
+}
+
+/// A run ended with this status, and its sink took these bytes.
+pub fn comes_to(status: Status, sink: &MemSink, want: (Status, &[u8])) -> Result<(), Fail> {
+    must(status == want.0, "how a run ended")?;
+    same(sink.taken(), want.1)
 }
 
 /// Such a run ends with this status, and its sink, which has room for all that is written, took these bytes.
 pub fn ends(
-    rt: &impl Abort,
     alloc: Global,
     words: &[String],
     rack: Rack,
@@ -65,8 +71,6 @@ pub fn ends(
     want: (Status, &[u8]),
 ) -> Result<(), Fail> {
     let mut sink = MemSink::new(alloc, 4096)?;
-    let status = ended(rt, alloc, words, rack, files, &mut sink);
-    assert_eq!(rt; status, want.0);
-    assert!(rt; sink.taken() == want.1, "{:?}", sink.taken());
-    Ok(())
+    let status = ended(alloc, words, rack, files, &mut sink)?;
+    comes_to(status, &sink, want)
 }

@@ -1,9 +1,8 @@
 //! Whole runs, from the words, INFs and script to the bytes that are written, as the description of the machine gives them.
-use crate::runs::{ended, ends, files_of, rack_of, words_of};
+use crate::runs::{comes_to, ended, ends, files_of, rack_of, words_of};
 use pnp_cli::Status;
 use pnp_io::{MemFiles, MemSink};
 use std::alloc::Global;
-use std::process::Abort;
 use std::test::Fail;
 
 pub const OWN_INF: &[u8] = br#"[Version]
@@ -39,34 +38,21 @@ fn named(alloc: Global, infs: &[&[u8]], script: &str) -> Result<(Vec<String>, Me
 }
 
 /// The status of a script with one INF over two Scripted drivers, four Steady ones and a Stubborn one.
-pub fn ended_into(
-    rt: &impl Abort,
-    alloc: Global,
-    script: &str,
-    sink: &mut MemSink,
-) -> Result<Status, Fail> {
+pub fn ended_into(alloc: Global, script: &str, sink: &mut MemSink) -> Result<Status, Fail> {
     let (words, mut files) = named(alloc, &[OWN_INF], script)?;
     let rack = rack_of(alloc, 2, 4, 1)?;
-    Ok(ended(rt, alloc, &words, rack, &mut files, sink))
+    ended(alloc, &words, rack, &mut files, sink)
 }
 
 /// A script with these INFs over those drivers ends with this status and writes this.
 pub fn runs(
-    rt: &impl Abort,
     alloc: Global,
     infs: &[&[u8]],
     script: &str,
     want: (Status, &[u8]),
 ) -> Result<(), Fail> {
     let (words, mut files) = named(alloc, infs, script)?;
-    ends(
-        rt,
-        alloc,
-        &words,
-        rack_of(alloc, 2, 4, 1)?,
-        &mut files,
-        want,
-    )
+    ends(alloc, &words, rack_of(alloc, 2, 4, 1)?, &mut files, want)
 }
 
 /// One device starts.
@@ -453,7 +439,7 @@ const ROWS: [Row; 12] = [
 #[test]
 fn whole_runs(rt: HostRuntime) -> Result<(), Fail> {
     for (infs, script, status, text) in ROWS {
-        runs(&rt, rt.alloc(), infs, script, (status, text.as_bytes()))?;
+        runs(rt.alloc(), infs, script, (status, text.as_bytes()))?;
     }
     Ok(())
 }
@@ -529,7 +515,7 @@ fn in_utf16(alloc: Global, text: &[u8]) -> Result<Vec<u8>, Fail> {
 }
 
 /// Two INFs, and the service whose driver is chosen: that of the second.
-fn chooses(rt: &impl Abort, alloc: Global, infs: &[&[u8]], service: &str) -> Result<(), Fail> {
+fn chooses(alloc: Global, infs: &[&[u8]], service: &str) -> Result<(), Fail> {
     let text = format!(in alloc;
         "{PLUGGED_TEXT}\
         install OWN\\X\\1 00ff0000 {service}\n\
@@ -544,13 +530,7 @@ fn chooses(rt: &impl Abort, alloc: Global, infs: &[&[u8]], service: &str) -> Res
         map\n\
         outstanding\n"
     )?;
-    runs(
-        rt,
-        alloc,
-        infs,
-        CHOICE_SCRIPT,
-        (Status::Done, text.as_bytes()),
-    )
+    runs(alloc, infs, CHOICE_SCRIPT, (Status::Done, text.as_bytes()))
 }
 
 /// A match of the hardware ID, a later date, and a higher version, which an INF in UTF-16 has too.
@@ -565,7 +545,7 @@ fn the_best_driver(rt: HostRuntime) -> Result<(), Fail> {
         (LATE_INF, &wide, "high"),
     ];
     for (first, second, service) in infs {
-        chooses(&rt, alloc, &[first, second], service)?;
+        chooses(alloc, &[first, second], service)?;
     }
     Ok(())
 }
@@ -578,9 +558,8 @@ fn a_sink_that_fails(rt: HostRuntime) -> Result<(), Fail> {
     for (room, call, taken) in FAILING_SINKS {
         let mut sink = MemSink::new(rt.alloc(), room)?;
         sink.fail_at(call)?;
-        let status = ended_into(&rt, rt.alloc(), ONE_DEVICE_SCRIPT, &mut sink)?;
-        assert_eq!(rt; status, Status::WriteFault);
-        assert!(rt; sink.taken() == taken.as_bytes(), "{:?}", sink.taken());
+        let status = ended_into(rt.alloc(), ONE_DEVICE_SCRIPT, &mut sink)?;
+        comes_to(status, &sink, (Status::WriteFault, taken.as_bytes()))?;
     }
     Ok(())
 }

@@ -1,9 +1,9 @@
 //! The words of the command line, and the INFs that they name.
-use crate::runs::{ended, ends, files_of, words_of};
+use crate::runs::{comes_to, ended, ends, files_of, words_of};
+use crate::told::{must, same};
 use pnp_cli::{Settings, Status, WordsError, settings};
 use pnp_io::{MemFiles, MemSink};
 use std::alloc::{AllocError, Global};
-use std::process::Abort;
 use std::test::Fail;
 
 /// What the words say: the script, the INFs, the trace to check and the budget, or how many devices are generated and the budget.
@@ -68,9 +68,9 @@ fn good_words(rt: HostRuntime) -> Result<(), Fail> {
         match settings(alloc, &words) {
             Ok(settings) => {
                 let said = said(alloc, &settings)?;
-                assert!(rt; said.as_slice() == want, "{texts:?} {said:?}");
+                same(said.as_slice(), want)?;
             }
-            Err(error) => panic!(rt; "{texts:?} {error:?}"),
+            Err(_) => return Err(Fail::new("words that are refused")),
         }
     }
     Ok(())
@@ -118,12 +118,11 @@ fn bad_words(rt: HostRuntime) -> Result<(), Fail> {
     for texts in BAD {
         let words = words_of(alloc, texts)?;
         match settings(alloc, &words) {
-            Ok(_) => panic!(rt; "{texts:?} was taken"),
-            Err(error) => assert_eq!(rt; error, WordsError::BadWords),
+            Ok(_) => return Err(Fail::new("words that are taken")),
+            Err(error) => must(error == WordsError::BadWords, "why words are refused")?,
         }
         let mut files = MemFiles::new(alloc);
         ends(
-            &rt,
             alloc,
             &words,
             Vec::new(alloc),
@@ -142,27 +141,20 @@ fn at_most_64_infs(rt: HostRuntime) -> Result<(), Fail> {
         words.push(String::from_str(alloc, "i")?)?;
     }
     match settings(alloc, &words) {
-        Ok(settings) => assert_eq!(rt; settings.infs.len(), 64),
-        Err(error) => panic!(rt; "{error:?}"),
+        Ok(settings) => must(settings.infs.len() == 64, "how many INFs are named")?,
+        Err(_) => return Err(Fail::new("words that are refused")),
     }
     words.push(String::from_str(alloc, "i")?)?;
-    assert_eq!(rt; settings(alloc, &words).err(), Some(WordsError::BadWords));
-    Ok(())
+    let error = settings(alloc, &words).err();
+    must(error == Some(WordsError::BadWords), "why words are refused")
 }
 
 const GOOD_INF: &[u8] = b"[Version]\nSignature=$Chicago$\n";
 
 /// The script `s` with the INFs `1` to `3` ends with this status and writes this.
-fn answers(
-    rt: &impl Abort,
-    alloc: Global,
-    files: &mut MemFiles,
-    status: Status,
-    text: &str,
-) -> Result<(), Fail> {
+fn answers(alloc: Global, files: &mut MemFiles, status: Status, text: &str) -> Result<(), Fail> {
     let words = words_of(alloc, &["pnpmgr", "s", "1", "2", "3"])?;
     ends(
-        rt,
         alloc,
         &words,
         Vec::new(alloc),
@@ -215,11 +207,11 @@ fn refused_and_missing_files(rt: HostRuntime) -> Result<(), Fail> {
     let alloc = rt.alloc();
     for (named, text) in REFUSED {
         let mut files = files_of(alloc, named)?;
-        answers(&rt, alloc, &mut files, Status::BadInf, text)?;
+        answers(alloc, &mut files, Status::BadInf, text)?;
     }
     for named in MISSING {
         let mut files = files_of(alloc, named)?;
-        answers(&rt, alloc, &mut files, Status::ReadFault, "")?;
+        answers(alloc, &mut files, Status::ReadFault, "")?;
     }
     Ok(())
 }
@@ -236,10 +228,10 @@ fn taken_infs(rt: HostRuntime) -> Result<(), Fail> {
     let alloc = rt.alloc();
     let mut files = files_of(alloc, &ALL_THERE)?;
     let text = "script error line 1\ntree\n0 HTREE\\ROOT\\0 Started\nmap\noutstanding\n";
-    answers(&rt, alloc, &mut files, Status::BadScript, text)?;
+    answers(alloc, &mut files, Status::BadScript, text)?;
     files.add(b"s", b"")?;
     let text = "tree\n0 HTREE\\ROOT\\0 Started\nmap\noutstanding\n";
-    answers(&rt, alloc, &mut files, Status::Done, text)
+    answers(alloc, &mut files, Status::Done, text)
 }
 
 /// Each file takes two reads; whichever fails, the end of the output is not written.
@@ -249,7 +241,7 @@ fn each_read_fails(rt: HostRuntime) -> Result<(), Fail> {
     for call in 1..9 {
         let mut files = files_of(alloc, &ALL_THERE)?;
         files.fail_at(call)?;
-        answers(&rt, alloc, &mut files, Status::ReadFault, "")?;
+        answers(alloc, &mut files, Status::ReadFault, "")?;
     }
     Ok(())
 }
@@ -271,19 +263,14 @@ fn comments(alloc: Global) -> Result<Vec<u8>, Fail> {
 }
 
 /// With a script or an INF of these bytes, which are one too many, the run does not begin; a bad INF before that is told.
-fn are_too_many(
-    rt: &impl Abort,
-    alloc: Global,
-    files: &mut MemFiles,
-    bytes: &[u8],
-) -> Result<(), Fail> {
+fn are_too_many(alloc: Global, files: &mut MemFiles, bytes: &[u8]) -> Result<(), Fail> {
     files.add(b"s", bytes)?;
-    answers(rt, alloc, files, Status::TooLarge, "")?;
+    answers(alloc, files, Status::TooLarge, "")?;
     files.add(b"2", bytes)?;
-    answers(rt, alloc, files, Status::TooLarge, "")?;
+    answers(alloc, files, Status::TooLarge, "")?;
     files.add(b"1", b"")?;
     let text = "inf 1 error 1 line 0\n";
-    answers(rt, alloc, files, Status::BadInf, text)
+    answers(alloc, files, Status::BadInf, text)
 }
 
 /// A script of 16,777,216 bytes; a script and an INF of a byte more.
@@ -293,9 +280,9 @@ fn large_files(rt: HostRuntime) -> Result<(), Fail> {
     let mut files = files_of(alloc, &ALL_THERE)?;
     let mut bytes = comments(alloc)?;
     files.add(b"s", &bytes)?;
-    answers(&rt, alloc, &mut files, Status::Done, BARE_END)?;
+    answers(alloc, &mut files, Status::Done, BARE_END)?;
     bytes.push(b'#')?;
-    are_too_many(&rt, alloc, &mut files, &bytes)
+    are_too_many(alloc, &mut files, &bytes)
 }
 
 /// The script is one line of so many bytes, without an end.
@@ -311,9 +298,9 @@ fn a_line_without_end(rt: HostRuntime) -> Result<(), Fail> {
     let alloc = rt.alloc();
     let mut files = files_of(alloc, &ALL_THERE)?;
     put_line(alloc, &mut files, 17_000_000)?;
-    answers(&rt, alloc, &mut files, Status::BadScript, BAD_FIRST_LINE)?;
+    answers(alloc, &mut files, Status::BadScript, BAD_FIRST_LINE)?;
     put_line(alloc, &mut files, 4096)?;
-    answers(&rt, alloc, &mut files, Status::Done, BARE_END)
+    answers(alloc, &mut files, Status::Done, BARE_END)
 }
 
 #[test]
@@ -322,8 +309,6 @@ fn a_refusal_that_is_not_written(rt: HostRuntime) -> Result<(), Fail> {
     let words = words_of(alloc, &["pnpmgr", "s", "1"])?;
     let mut files = files_of(alloc, &[("1", b"")])?;
     let mut sink = MemSink::new(alloc, 9)?;
-    let answer = ended(&rt, alloc, &words, Vec::new(alloc), &mut files, &mut sink);
-    assert_eq!(rt; answer, Status::WriteFault);
-    assert_eq!(rt; sink.taken(), b"inf 1 err".as_slice());
-    Ok(())
+    let answer = ended(alloc, &words, Vec::new(alloc), &mut files, &mut sink)?;
+    comes_to(answer, &sink, (Status::WriteFault, b"inf 1 err"))
 }

@@ -21,13 +21,22 @@ const MOST_DEVICES: usize = 4096;
 /// The devices that a script has plugged and not pulled, the root at the head, looked up by birth number and by path
 /// without a scan. Birth numbers ascend and none is given twice. A contract sees the devices in the order of their
 /// births, and the next birth number. This project's own.
-#[derive(Drop)]
 pub struct World {
     /// Who stands below whom, with the birth numbers as serials; these nodes have no drivers and no IDs.
     places: Tree,
     /// What each device shows, by its birth number.
     parts: HashMap<u64, Device>,
     alloc: Global,
+}
+
+impl Drop for World {
+    fn drop(self) {
+        let World {
+            places: _,
+            parts: _,
+            alloc: _,
+        } = self;
+    }
 }
 
 impl Model for World {

@@ -6,9 +6,14 @@ use std::marker::Model;
 
 /// The drivers that are still to be asked to add a device, from the bottom, by their numbers in the rack. A contract
 /// sees the list. This project's own.
-#[derive(Drop)]
 pub struct Pending {
     drivers: VecDeque<u32>,
+}
+
+impl Drop for Pending {
+    fn drop(self) {
+        let Pending { drivers: _ } = self;
+    }
 }
 
 impl Model for Pending {

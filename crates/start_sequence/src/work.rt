@@ -11,7 +11,6 @@ use pnp_labels::{Minor, Problem};
 use std::marker::Model;
 
 /// Where the start of a device stands: this project's own.
-#[derive(Drop)]
 pub(crate) enum Phase {
     /// These drivers are still to be asked to add it.
     Adding(Pending),
@@ -25,13 +24,33 @@ pub(crate) enum Phase {
     Due(Problem),
 }
 
+impl Drop for Phase {
+    fn drop(self) {
+        match self {
+            Phase::Adding(_) => {}
+            Phase::Searching => {}
+            Phase::Starting(_) => {}
+            Phase::Removing(_) => {}
+            Phase::Due(_) => {}
+        }
+    }
+}
+
 /// The start of one device, from the choice of its drivers to the end of the request that starts it, or to the end
 /// of the request that removes them (Oney, on AddDevice and IRP_MN_START_DEVICE; that each step is one of the
 /// machine's is this project's own). A contract sees the device's serial and where the start stands.
-#[derive(Drop)]
 pub struct StartWork {
     pub(crate) serial: u64,
     pub(crate) phase: Phase,
+}
+
+impl Drop for StartWork {
+    fn drop(self) {
+        let StartWork {
+            serial: _,
+            phase: _,
+        } = self;
+    }
 }
 
 impl Model for StartWork {

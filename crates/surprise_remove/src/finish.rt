@@ -30,12 +30,22 @@ pub(crate) enum Stage {
 /// The end of surprise removals: devices that stayed behind when they had gone lose their drivers, one after another, as
 /// no handle holds them any more (the driver kit, IRP_MN_REMOVE_DEVICE; that each step is one of the machine's is this
 /// project's own). A contract sees the record of where it stands.
-#[derive(Drop)]
 pub struct Finish {
     target: u64,
     path: Text,
     pub(crate) stage: Stage,
     pub(crate) walk: Walk,
+}
+
+impl Drop for Finish {
+    fn drop(self) {
+        let Finish {
+            target: _,
+            path: _,
+            stage: _,
+            walk: _,
+        } = self;
+    }
 }
 
 impl Model for Finish {

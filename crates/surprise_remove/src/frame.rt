@@ -29,7 +29,6 @@ pub(crate) enum Stage {
 
 /// A surprise removal, without veto: a device is gone from its bus (the driver kit, IRP_MN_SURPRISE_REMOVAL; that each step
 /// is one of the machine's is this project's own). A contract sees the record of where it stands.
-#[derive(Drop)]
 pub struct Surprise {
     pub(crate) target: u64,
     pub(crate) path: Text,
@@ -41,6 +40,21 @@ pub struct Surprise {
     pub(crate) todo: SerialQueue,
     pub(crate) stage: Stage,
     pub(crate) walk: Walk,
+}
+
+impl Drop for Surprise {
+    fn drop(self) {
+        let Surprise {
+            target: _,
+            path: _,
+            set: _,
+            told: _,
+            behind: _,
+            todo: _,
+            stage: _,
+            walk: _,
+        } = self;
+    }
 }
 
 impl Model for Surprise {

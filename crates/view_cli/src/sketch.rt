@@ -46,7 +46,6 @@ impl Change {
 }
 
 /// What was drawn of a run, and what of it is drawn behind its rows. This project's own.
-#[derive(Drop)]
 pub struct Sketch {
     rows: Rows,
     used: RunRows,
@@ -54,6 +53,19 @@ pub struct Sketch {
     reserved: Vec<Res>,
     before: Vec<Holding>,
     changes: Vec<Change>,
+}
+
+impl Drop for Sketch {
+    fn drop(self) {
+        let Sketch {
+            rows: _,
+            used: _,
+            names: _,
+            reserved: _,
+            before: _,
+            changes: _,
+        } = self;
+    }
 }
 
 /// Says that something is not drawn.

@@ -15,6 +15,7 @@ use crate::telling::tell_all;
 use device_ids::{TextList, WantOfMemory};
 use driver_rack::Drivers;
 use inf_reader::Inf;
+use inf_sections::InfPlaces;
 use notify_front::Front;
 use pnp_cli::Status;
 use pnp_labels::decimal;
@@ -132,11 +133,12 @@ fn first_facts(
     alloc: Global,
     infs: &[Inf],
     names: &TextList,
+    places: Vec<InfPlaces>,
     budget: u64,
 ) -> Result<Facts, WantOfMemory> {
     let own_names = copied_names(alloc, names)?;
     match copied_infs(alloc, infs) {
-        Ok(own) => Ok(Facts::new(alloc, own, own_names, budget)),
+        Ok(own) => Ok(Facts::new(alloc, own, own_names, places, budget)),
         Err(error) => Err(error),
     }
 }
@@ -147,6 +149,7 @@ pub fn explain<R: Drivers>(
     script: &[u8],
     infs: Vec<Inf>,
     names: &TextList,
+    places: Vec<InfPlaces>,
     budget: u64,
     rack: R,
 ) -> Result<Explained, WantOfMemory>
@@ -155,7 +158,7 @@ pub fn explain<R: Drivers>(
     requires small { length script.now ≤ 16777216 }
     ensures { IfOk result (λ e. IsExplanation (machine infs.items budget) (opening_front (opening (R.rows rack))) (events_of script.now) e.text.items e.status) }
 {
-    match first_facts(alloc, &infs, names, budget) {
+    match first_facts(alloc, &infs, names, places, budget) {
         Ok(mut facts) => explain_infs(alloc, script, infs, budget, rack, &mut facts),
         Err(error) => Err(error),
     }

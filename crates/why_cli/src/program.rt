@@ -11,12 +11,38 @@ ghost use Rattle.why_cli.specs.Answers.{Explains, IsWhy, IsTooLarge, IsTooLargeF
 
 use crate::explained::{Explained, explain};
 use crate::refusal::explain_refusal;
-use device_ids::TextList;
+use device_ids::{TextList, WantOfMemory};
 use driver_rack::{Driver, Drivers, Rack};
 use inf_reader::Inf;
+use inf_sections::{InfPlaces, places_of};
 use pnp_cli::{InfsError, LIMIT, Settings, Status, WordsError, read_infs, settings};
 use pnp_io::{Files, ReadError, Sink, read_all, write_all};
 use std::alloc::Global;
+
+/// Where the lines of an INF stand, which is read once more; a file that cannot be read twice tells nothing of them.
+fn places_in<F: Files>(
+    alloc: Global,
+    files: &mut F,
+    name: &[u8],
+) -> Result<InfPlaces, WantOfMemory> {
+    match read_all(alloc, files, name, LIMIT) {
+        Ok(bytes) => places_of(alloc, &bytes),
+        Err(_) => Ok(InfPlaces::none(alloc)),
+    }
+}
+
+/// Where the lines of the INFs of these names stand.
+fn all_places<F: Files>(
+    alloc: Global,
+    files: &mut F,
+    names: &TextList,
+) -> Result<Vec<InfPlaces>, WantOfMemory> {
+    let mut places = Vec::new(alloc);
+    for at in 0..names.len() {
+        places.push(places_in(alloc, files, names.get(at).bytes())?)?;
+    }
+    Ok(places)
+}
 
 /// The text for the script of this name and these INFs, and the answer.
 fn explain_script<R: Drivers, F: Files>(
@@ -36,7 +62,8 @@ fn explain_script<R: Drivers, F: Files>(
     ensures failed { IsErrOf result ReadFault → Rose (F.faults files.old name.now) (F.faults files.new name.now) }
 {
     let script = read_all(alloc, files, name, LIMIT)?;
-    let explained = explain(alloc, &script, infs, names, budget, rack)?;
+    let places = all_places(alloc, files, names)?;
+    let explained = explain(alloc, &script, infs, names, places, budget, rack)?;
     Ok(explained)
 }
 

@@ -3,6 +3,8 @@ use crate::facts::Facts;
 use crate::lines::Lines;
 use crate::matches::{Match, best_after, best_of, line_of, matches};
 use crate::texts::{ids_text, inf_text, node_of, rank_text};
+use crate::ties::add_tie;
+use crate::unread::tell_unread;
 use device_ids::{IdList, Text, TextList, WantOfMemory};
 use devnode_tree::{Node, Tree};
 use inf_reader::ModelLine;
@@ -17,7 +19,18 @@ const MOST_NAMES: u64 = 16;
 /// The most drivers of a device.
 const MOST_DRIVERS: u64 = 16;
 
-/// Where a line stands: its number, its INF, and the name of that.
+/// The section in which a line stands, if that is known.
+fn add_section(facts: &Facts, found: &Match, lines: &mut Lines) -> Result<(), WantOfMemory> {
+    let Some(places) = facts.places.get(found.inf as usize) else {
+        return Ok(());
+    };
+    match places.section_of(found.line) {
+        Some(name) => lines.add_three(b" in [", name, b"]"),
+        None => Ok(()),
+    }
+}
+
+/// Where a line stands: its number, its INF, the name of that, and the section.
 fn add_place(
     alloc: Global,
     facts: &Facts,
@@ -27,7 +40,8 @@ fn add_place(
     lines.add(b"line ")?;
     lines.add_number(alloc, found.line as u64)?;
     lines.add(b" of ")?;
-    lines.add(&inf_text(alloc, &facts.inf_names, found.inf)?)
+    lines.add(&inf_text(alloc, &facts.inf_names, found.inf)?)?;
+    add_section(facts, found, lines)
 }
 
 /// Which ID of the line agrees with which of the device.
@@ -134,11 +148,12 @@ fn tell_taken(
     tell_score(alloc, found, line, lines)
 }
 
-/// A line that was passed over.
+/// A line that was passed over, and at the same rank why.
 fn tell_passed(
     alloc: Global,
     facts: &Facts,
     found: &Match,
+    taken: &Match,
     lines: &mut Lines,
 ) -> Result<(), WantOfMemory> {
     let Some(line) = line_of(&facts.infs, found) else {
@@ -148,6 +163,7 @@ fn tell_passed(
     add_place(alloc, facts, found, lines)?;
     lines.add_three(b", rank ", &rank_text(alloc, found.rank)?, b": ")?;
     add_ids(alloc, found, line, lines)?;
+    add_tie(alloc, found, taken, lines)?;
     lines.say(alloc, b".")
 }
 
@@ -174,7 +190,7 @@ fn tell_others(
         let Some(next) = best_after(all, Some(last)) else {
             return Ok(());
         };
-        tell_passed(alloc, facts, &next, lines)?;
+        tell_passed(alloc, facts, &next, &taken, lines)?;
         last = next;
     }
     tell_left(alloc, all.len().saturating_sub(MOST_OTHERS + 1), lines)
@@ -206,7 +222,8 @@ pub fn on_install(
         return Ok(());
     };
     let all = matches(alloc, &facts.infs, node)?;
-    tell_matches(alloc, facts, &all, lines)
+    tell_matches(alloc, facts, &all, lines)?;
+    tell_unread(alloc, facts, node, lines)
 }
 
 /// The IDs of a list, behind what they are.
@@ -309,7 +326,8 @@ fn tell_no_line(
         b"No line of any INF has one of the IDs of the device.",
     )?;
     tell_ids(alloc, node, lines)?;
-    tell_empty_infs(alloc, facts, lines)
+    tell_empty_infs(alloc, facts, lines)?;
+    tell_unread(alloc, facts, node, lines)
 }
 
 /// At `problem P 28`: which IDs were tried, and which of the causes it is.
@@ -327,7 +345,8 @@ pub fn on_no_driver(
         return tell_no_line(alloc, facts, node, lines);
     };
     tell_no_service(alloc, facts, &best, lines)?;
-    tell_ids(alloc, node, lines)
+    tell_ids(alloc, node, lines)?;
+    tell_unread(alloc, facts, node, lines)
 }
 
 /// Whether a driver has the name.

@@ -1,6 +1,7 @@
 //! What notes have to know besides the tree: what was said that it does not show, and what was seen since an operation began.
 use device_ids::{Text, TextList, WantOfMemory};
 use inf_reader::Inf;
+use inf_sections::InfPlaces;
 use pnp_labels::{Minor, OpKind, RelKind};
 use resource_reqs::{Reqs, Res, ResList};
 use std::alloc::Global;
@@ -36,11 +37,12 @@ pub struct Change {
 }
 
 /// All that notes know besides the tree. This project's own.
-#[derive(Drop)]
 pub struct Facts {
     /// The INFs, and their names in the same order.
     pub infs: Vec<Inf>,
     pub inf_names: TextList,
+    /// Where the lines of each stand, as far as that is known.
+    pub places: Vec<InfPlaces>,
     /// How many places a search may try.
     pub budget: u64,
     /// The names that drivers got.
@@ -63,12 +65,39 @@ pub struct Facts {
     pub(crate) before: Vec<Holding>,
 }
 
+impl Drop for Facts {
+    fn drop(self) {
+        let Facts {
+            infs: _,
+            inf_names: _,
+            places: _,
+            budget: _,
+            drivers: _,
+            relations: _,
+            reserved: _,
+            changes: _,
+            pended: _,
+            refused: _,
+            windows: _,
+            operation: _,
+            before: _,
+        } = self;
+    }
+}
+
 impl Facts {
     /// Nothing was said yet. It takes no memory.
-    pub fn new(alloc: Global, infs: Vec<Inf>, inf_names: TextList, budget: u64) -> Facts {
+    pub fn new(
+        alloc: Global,
+        infs: Vec<Inf>,
+        inf_names: TextList,
+        places: Vec<InfPlaces>,
+        budget: u64,
+    ) -> Facts {
         Facts {
             infs,
             inf_names,
+            places,
             budget,
             drivers: TextList::new(alloc),
             relations: Vec::new(alloc),

@@ -13,6 +13,8 @@ mod refusals;
 mod relations;
 mod search;
 mod texts;
+mod ties;
+mod unread;
 mod ways;
 
 pub use copies::copied_infs;

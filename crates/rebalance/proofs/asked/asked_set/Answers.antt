@@ -1,4 +1,4 @@
-use Rattle.std.proofs.Common.{◌≡◌, ℕ, ◌+◌, ◌∙◌, ◌++◌, [], ◌∷◌, List, take, slice_get, length, sym, ap, subst, arith}
+use Rattle.std.proofs.Common.{◌≡◌, ℕ, ◌+◌, ◌∙◌, ◌++◌, [], ◌∷◌, List, take, length, sym, ap, subst, arith}
 use Rattle.std.proofs.lemmas.List.{take_all}
 use Rattle.std.specs.BTreeSet.{BTreeSet}
 use Rattle.device_holdings.proofs.Putting.{front_at}
@@ -9,10 +9,10 @@ use Rattle.rebalance.proofs.asked.asked_set.Goals.{then-is_asked+in_ok-insert, e
 pub order-preserved : goal.order-preserved
 order-preserved c =
     let nodes = c.args.tree.now.nodes in
-    let order = c.order-2.inside.serials.items in
+    let order = c.in_ok-order.order in
     let k = c.get-serial.result.now in
     let so_far = c.order.invariant in
-    let cut : take (c.order.at + 1) order ≡ take c.order.at order ++ k ∷ [] = front_at order c.order.at k (ap (λ (l : List ℕ). slice_get l c.order.at) c.order-2.view_is ∙ c.get-serial.ensures) in
+    let cut : take (c.order.at + 1) order ≡ take c.order.at order ++ k ∷ [] = front_at order c.order.at k c.get-serial.ensures in
     subst (λ (l : List ℕ). IsCollected nodes l c.if-is_asked.set.keys) (sym cut)
     (elim c.if-is_asked.branch [
       | then-is_asked+in_ok-insert w ↦
@@ -24,6 +24,6 @@ order-preserved c =
 
 pub returns : goal.returns
 returns c =
-    let order = c.order-2.inside.serials.items in
-    let all : take c.order.at order ≡ order = take_all c.order.at order (omega (arith, c.len-at-end.ensures, ap length c.order-2.view_is)) in
-    all_collected c.args.tree.now c.requires (take c.order.at order) c.order.set.keys (all ∙ (c.order-2.view_is ∙ c.in_ok-order.ensures)) c.order.invariant
+    let order = c.in_ok-order.order in
+    let all : take c.order.at order ≡ order = take_all c.order.at order (omega (arith, c.len-at-end.ensures)) in
+    all_collected c.args.tree.now c.requires (take c.order.at order) c.order.set.keys (all ∙ c.in_ok-order.ensures) c.order.invariant

@@ -10,7 +10,7 @@ returns-in-Some-2-clause-done g c =
     let s = c.self.inside in
     let o = device_of c.args.path.now s.devices.world.devices in
     rw (← c.self.view_is, c.refusal-in-Some-2.ensures)
-    (window_refused s.devices (g.R.Drivers.rows s.rack) s.disabled.paths s.starts.works (option_map operation_of s.operation) s.tasks.tasks c.args.res o c.set_window.new.self c.in-Some-2.reason
+    (window_refused s.devices (g.R.Drivers.rows s.rack) s.disabled.paths s.starts.works (option_map operation_of s.operation) s.tasks.tasks c.args.res c.args.path.now c.set_window.new.self c.in-Some-2.reason
     (sym c.in-Some-2.is ∙ c.in_ok-reason.ensures.refused) (c.in_ok-reason.ensures.set ∙ ap (with_window s.devices c.args.res o) c.in-Some-2.is))
 
 pub returns-clause-done : goal.returns-clause-done
@@ -18,5 +18,5 @@ returns-clause-done g c =
     let s = c.self.inside in
     let o = device_of c.args.path.now s.devices.world.devices in
     rw (← c.self.view_is)
-    (window_taken s.devices (g.R.Drivers.rows s.rack) s.disabled.paths s.starts.works (option_map operation_of s.operation) s.tasks.tasks c.args.res o c.set_window.new.self c.in-Some.own.now c.in_ok-what.what
+    (window_taken s.devices (g.R.Drivers.rows s.rack) s.disabled.paths s.starts.works (option_map operation_of s.operation) s.tasks.tasks c.args.res c.args.path.now c.set_window.new.self c.in-Some.own.now c.in_ok-what.what
     (sym c.in_default-2.is ∙ c.in_ok-reason.ensures.refused) (c.in_ok-reason.ensures.set ∙ ap (with_window s.devices c.args.res o) c.in_default-2.is) c.in-Some.ensures c.in_ok-what.ensures)

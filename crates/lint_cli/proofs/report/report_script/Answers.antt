@@ -1,7 +1,0 @@
-use Rattle.lint_cli.proofs.Steps.{one_bad}
-use Rattle.lint_cli.proofs.report.report_script.Goals as goal
-
-pub loop-line-preserved : goal.loop-line-preserved
-loop-line-preserved c =
-    one_bad c.deref-line-items.result.now c.loop-line.line-index _ _ c.loop-line.out.items c.push_bad.new.out.items c.loop-line-test.true c.in_ok-push_bad.ensures
-    c.loop-line.invariant
