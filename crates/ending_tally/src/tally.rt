@@ -134,7 +134,8 @@ impl Tally {
 
     /// The endings, by their first scripts.
     pub fn endings(&mut self) -> &[Ending] {
-        self.endings.sort_unstable_by_key(|ending| ending.mark.first);
+        self.endings
+            .sort_unstable_by_key(|ending| ending.mark.first);
         &self.endings
     }
 }

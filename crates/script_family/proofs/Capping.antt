@@ -17,11 +17,11 @@ pub cap_left : (a b m : ℕ) → min (min a m * b) m ≡ min (a * b) m
 cap_left a zero m = omega arith
 cap_left a (suc b) m =
     elim (cases_lt a m) [
-      inl lt ↦ ap (λ v. min (v * suc b) m) (min-eq_left (omega arith))
-    | inr le ↦
-        ap (λ v. min (v * suc b) m) (min-eq_right le)
-        ∙ ap (λ v. min v m) (mul_comm m (suc b)) ∙ times_big (suc b) m m (omega arith) (omega arith)
-        ∙ sym (ap (λ v. min v m) (mul_comm a (suc b)) ∙ times_big (suc b) a m (omega arith) le)
+      | inl lt ↦ ap (λ v. min (v * suc b) m) (min-eq_left (omega arith))
+      | inr le ↦
+          ap (λ v. min (v * suc b) m) (min-eq_right le)
+          ∙ ap (λ v. min v m) (mul_comm m (suc b)) ∙ times_big (suc b) m m (omega arith) (omega arith)
+          ∙ sym (ap (λ v. min v m) (mul_comm a (suc b)) ∙ times_big (suc b) a m (omega arith) le)
     ]
 
 pub cap_right : (a b m : ℕ) → min (a * min b m) m ≡ min (a * b) m
@@ -38,15 +38,15 @@ cap_three a b t m = sym (cap_left (min a m * min b m) t m) ∙ ap (λ v. min (v 
 pub cap_div : (r d m : ℕ) → r < m → r / min d m ≡ r / d
 cap_div r d m lt =
     elim (cases_lt d m) [
-      inl less ↦ ap (λ v. r / v) (min-eq_left (omega arith))
-    | inr le ↦ ap (λ v. r / v) (min-eq_right le) ∙ div-eq_of_lt lt ∙ sym (div-eq_of_lt (omega arith))
+      | inl less ↦ ap (λ v. r / v) (min-eq_left (omega arith))
+      | inr le ↦ ap (λ v. r / v) (min-eq_right le) ∙ div-eq_of_lt lt ∙ sym (div-eq_of_lt (omega arith))
     ]
 
 pub cap_mod : (r d m : ℕ) → r < m → r % min d m ≡ r % d
 cap_mod r d m lt =
     elim (cases_lt d m) [
-      inl less ↦ ap (λ v. r % v) (min-eq_left (omega arith))
-    | inr le ↦ ap (λ v. r % v) (min-eq_right le) ∙ mod-eq_of_lt lt ∙ sym (mod-eq_of_lt (omega arith))
+      | inl less ↦ ap (λ v. r % v) (min-eq_left (omega arith))
+      | inr le ↦ ap (λ v. r % v) (min-eq_right le) ∙ mod-eq_of_lt lt ∙ sym (mod-eq_of_lt (omega arith))
     ]
 
 -- a sum whose terms are capped before
@@ -59,5 +59,5 @@ cap_sums f g m same (suc n) =
 pub cap_more : (f : ℕ → ℕ) (n s b m : ℕ) → s ≡ min (sums f n) m → b ≡ min (f n) m → min (s + b) m ≡ min (sums f (n + 1)) m
 cap_more f n s b m hs hb = ap₂ (λ u v. min (u + v) m) hs hb ∙ cap_add (sums f n) (f n) m ∙ ap (λ k. min (sums f k) m) (suc_is n)
   where
-  suc_is : (n : ℕ) → suc n ≡ n + 1
-  suc_is n = omega arith
+    suc_is : (n : ℕ) → suc n ≡ n + 1
+    suc_is n = omega arith

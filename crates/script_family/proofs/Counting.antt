@@ -20,8 +20,8 @@ length_patterns (suc n) zero = length-map (patterns n zero) (λ p. false ∷ p) 
 length_patterns (suc n) (suc k) =
     length-append (map (λ p. true ∷ p) (patterns n k)) (map (λ p. false ∷ p) (patterns n (suc k)))
     ∙ ap₂ (λ a b. a + b)
-        (length-map (patterns n k) (λ p. true ∷ p) ∙ length_patterns n k)
-        (length-map (patterns n (suc k)) (λ p. false ∷ p) ∙ length_patterns n (suc k))
+    (length-map (patterns n k) (λ p. true ∷ p) ∙ length_patterns n k)
+    (length-map (patterns n (suc k)) (λ p. false ∷ p) ∙ length_patterns n (suc k))
 
 -- pieces of one length each
 suc_times : (m c : ℕ) → c + m * c ≡ suc m * c
@@ -54,8 +54,8 @@ pub length_blocks : (a b : ℕ → List Script) (ca cb c : ℕ → ℕ) (f : ℕ
 length_blocks a b ca cb c f n as' bs' fs =
     length_over (λ k. pairs (f k) (a k) (b (n - k))) (suc n)
     ∙ sums_same (λ k. length (pairs (f k) (a k) (b (n - k)))) (λ k. ca k * cb (n - k) * c k)
-        (λ k. length_pairs (f k) (c k) (fs k) (a k) (b (n - k)) ∙ ap₂ (λ p q. p * q * c k) (as' k) (bs' (n - k)))
-        (suc n)
+    (λ k. length_pairs (f k) (c k) (fs k) (a k) (b (n - k)) ∙ ap₂ (λ p q. p * q * c k) (as' k) (bs' (n - k)))
+    (suc n)
 
 pub counted : (f : Family) (n : ℕ) → length (scripts_of f n) ≡ count f n
 counted Silent zero = refl

@@ -54,20 +54,22 @@ said_stands fs now said at bs new named is grown =
     let all : length (gs ++ f ∷ []) ≡ length gs + 1 = length-append gs (f ∷ []) in
     let kept : AreIn (length gs) bs = are_in_more (length fs) (length gs) bs (omega arith) named.blocks_in in
     let now_is : part_at (gs ++ f ∷ []) (said + 1) ≡ Followed (part_at fs now) (Says at) =
-      at_end gs f (said + 1) (omega arith) ∙ ap₂ Followed (at_left fs (Says at ∷ []) now named.now_in) (at_end fs (Says at) said is) in
-    let make : Family → List Block → Standing = λ g blocks. record { now = g; blocks = blocks } in
-    (ap (λ v. standing v (said + 1) bs) grown ∙ stands gs (f ∷ []) (said + 1) (Followed (part_at fs now) (Says at)) bs kept now_is
-        ∙ ap (λ v. make (Followed (part_at fs now) (Says at)) v) (blocks_kept fs (Says at ∷ []) bs named.blocks_in),
+    at_end gs f (said + 1) (omega arith) ∙ ap₂ Followed (at_left fs (Says at ∷ []) now named.now_in) (at_end fs (Says at) said is) in
+    let make : Family → List Block → Standing = λ g blocks. record { now = g; blocks = blocks } in (
+      ap (λ v. standing v (said + 1) bs) grown ∙ stands gs (f ∷ []) (said + 1) (Followed (part_at fs now) (Says at)) bs kept now_is
+          ∙ ap (λ v. make (Followed (part_at fs now) (Says at)) v) (blocks_kept fs (Says at ∷ []) bs named.blocks_in),
       subst (λ v. AreNamed v (said + 1) bs) (sym grown)
-        (record { now_in = omega arith; blocks_in = are_in_more (length fs) (length (gs ++ f ∷ [])) bs (omega arith) named.blocks_in }))
+          (record { now_in = omega arith; blocks_in = are_in_more (length fs) (length (gs ++ f ∷ [])) bs (omega arith) named.blocks_in }),
+    )
 
 -- a silent part begins
 pub silent_stands : (fs : List Family) (now : ℕ) (bs : List OpenBlock) (new : List Family) → AreIn (length fs) bs → now ≡ length fs → new ≡ fs ++ Silent ∷ []
     → (standing new now bs ≡ record { now = Silent; blocks = map (block_of fs) bs }) × AreNamed new now bs
 silent_stands fs now bs new ok is grown =
-    let all : length (fs ++ Silent ∷ []) ≡ length fs + 1 = length-append fs (Silent ∷ []) in
-    (ap (λ v. standing v now bs) grown ∙ stands fs (Silent ∷ []) now Silent bs ok (at_end fs Silent now is),
-      subst (λ v. AreNamed v now bs) (sym grown) (record { now_in = omega arith; blocks_in = are_in_more (length fs) (length (fs ++ Silent ∷ [])) bs (omega arith) ok }))
+    let all : length (fs ++ Silent ∷ []) ≡ length fs + 1 = length-append fs (Silent ∷ []) in (
+      ap (λ v. standing v now bs) grown ∙ stands fs (Silent ∷ []) now Silent bs ok (at_end fs Silent now is),
+      subst (λ v. AreNamed v now bs) (sym grown) (record { now_in = omega arith; blocks_in = are_in_more (length fs) (length (fs ++ Silent ∷ [])) bs (omega arith) ok }),
+    )
 
 -- How many lines a script has at the most ----------------------------------------------------------
 

@@ -21,14 +21,14 @@ length_grown made (q ∷ ps) =
     length_grown (made ++ family_of made q.node ∷ []) ps
     ∙ ap (λ m. m + length ps) (length-append made (family_of made q.node ∷ [])) ∙ shift (length made) (length ps)
   where
-  shift : (m n : ℕ) → m + 1 + n ≡ m + suc n
-  shift m n = omega arith
+    shift : (m n : ℕ) → m + 1 + n ≡ m + suc n
+    shift m n = omega arith
 
 pub length_families : (ps : List Part) → length (families ps) ≡ length ps
 length_families ps = length_grown [] ps ∙ none (length ps)
   where
-  none : (n : ℕ) → 0 + n ≡ n
-  none n = omega arith
+    none : (n : ℕ) → 0 + n ≡ n
+    none n = omega arith
 
 pub at_left : (fs gs : List Family) (i : ℕ) → i < length fs → get_or (fs ++ gs) i Silent ≡ get_or fs i Silent
 at_left fs gs i lt = get_or_append_left fs gs Silent i lt
@@ -70,15 +70,15 @@ parts_push ps part rows all one i d lt =
     let fs : List Family = families ps in
     let count : length fs ≡ length ps = length_families ps in
     subst (λ gs. IsPart gs rows i (get_or (ps ++ part ∷ []) i d)) (sym (families_push ps part))
-      (elim (cases_lt i (length ps)) [
-        inl old ↦
+    (elim (cases_lt i (length ps)) [
+      | inl old ↦
           subst (IsPart (fs ++ family_of fs part.node ∷ []) rows i) (sym (get_or_append_left ps (part ∷ []) d i old))
-            (part_kept fs (family_of fs part.node ∷ []) rows rows i (get_or ps i d) (omega (arith, count)) (omega arith) (all i d old))
+          (part_kept fs (family_of fs part.node ∷ []) rows rows i (get_or ps i d) (omega (arith, count)) (omega arith) (all i d old))
       | inr new ↦
           let here : length ps ≡ i = omega (arith, length-append ps (part ∷ [])) in
           subst (IsPart (fs ++ family_of fs part.node ∷ []) rows i) (sym (get_or_push ps part d i here))
-            (subst (λ m. IsPart (fs ++ family_of fs part.node ∷ []) rows m part) (count ∙ here) one)
-      ])
+          (subst (λ m. IsPart (fs ++ family_of fs part.node ∷ []) rows m part) (count ∙ here) one)
+    ])
 
 -- the part that was read
 pub part_read : (fs : List Family) (rows : ℕ) (ps : List Part) (i : ℕ) (x : Part) → IsParts fs rows ps → i < length ps → x ≡ get_or ps i x → IsPart fs rows i x

@@ -8,7 +8,7 @@ use Rattle.script_family.specs.Families.{Family, Silent, Says, Followed, Chosen,
 use Rattle.script_family.specs.Parts.{script_at}
 use Rattle.script_family.specs.Steps.{Shapes, shape, size, Has, Begins}
 use Rattle.script_family.specs.Tasks.{Leads, load, rewoven}
-use Rattle.script_family.proofs.Weaving.{length_at, rewoven_is}
+use Rattle.script_family.proofs.Interleaving.{length_at, rewoven_is}
 
 -- the tasks new, and what stands there, make each script that the tasks old make of that with this script behind it
 abbrev pub GoesOn : Shapes → List Task → Script → Script → List Task → Script → Type 0
@@ -31,9 +31,13 @@ pub both_more : (s : Shapes) (old new : List Task) (out made : Script) (part n r
 both_more s old new out made part n r first second place is begins made_is script leads =
     let x : Script = script_at (shape s first) place.lines place.first in
     let y : Script = script_at (shape s second) (n - place.lines) place.second in
-    subst (λ ts. Leads s ts out script) (sym is)
-      (begins.0.first_has, (begins.0.second_has,
-        subst (λ v. Leads s old v script) (ap (λ v. out ++ v) (made_is ∙ begins.1) ∙ sym (append_assoc out x y)) leads))
+    subst (λ ts. Leads s ts out script) (sym is) (
+      begins.0.first_has,
+      (
+        begins.0.second_has,
+        subst (λ v. Leads s old v script) (ap (λ v. out ++ v) (made_is ∙ begins.1) ∙ sym (append_assoc out x y)) leads,
+      ),
+    )
 
 pub woven_more : (s : Shapes) (old new : List Task) (out made : Script) (part n r first second : ℕ) (place : Place)
     → new ≡ tasks.Make first place.lines place.first ∷ (tasks.Make second (n - place.lines) place.second ∷ (tasks.Weave n place.lines place.way ∷ old))
@@ -45,10 +49,14 @@ woven_more s old new out made part n r first second place is begins made_is scri
     let ly : length y ≡ n - place.lines = length_at (shape s second) (n - place.lines) place.second begins.0.second_has.below in
     let enough : n ≤ length (out ++ x ++ y) = omega (arith, length-append (out ++ x) y, length-append out x, begins.0.inside) in
     let woven_is : rewoven n place.lines place.way (out ++ x ++ y) ≡ out ++ made =
-      rewoven_is n place.lines place.way out x y begins.0.inside lx ly ∙ ap (λ v. out ++ v) (sym (made_is ∙ begins.4)) in
-    subst (λ ts. Leads s ts out script) (sym is)
-      (begins.0.first_has, (begins.0.second_has,
-        (begins.0.inside, enough, begins.1, begins.2, begins.3, subst (λ v. Leads s old v script) (sym woven_is) leads)))
+    rewoven_is n place.lines place.way out x y begins.0.inside lx ly ∙ ap (λ v. out ++ v) (sym (made_is ∙ begins.4)) in
+    subst (λ ts. Leads s ts out script) (sym is) (
+      begins.0.first_has,
+      (
+        begins.0.second_has,
+        (begins.0.inside, enough, begins.1, begins.2, begins.3, subst (λ v. Leads s old v script) (sym woven_is) leads),
+      ),
+    )
 
 -- what is to be done becomes less ------------------------------------------------------------------
 

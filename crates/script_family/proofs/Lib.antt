@@ -8,9 +8,10 @@ pub mod Placing
 pub mod Rows
 pub mod Growing
 pub mod Stepping
-pub mod Weaving
+pub mod Interleaving
 pub mod Leading
 pub mod Totals
 pub mod Bytes
 pub mod Sorting
 pub mod Sharing
+pub mod Drafting

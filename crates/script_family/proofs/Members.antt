@@ -44,8 +44,8 @@ pub elem_of_flat : {X Y : Type 0} (f : X → List Y) (z : Y) (xs : List X) → E
 elem_of_flat f z [] h = absurd h
 elem_of_flat f z (y ∷ xs) h =
     elim (elem_split z (f y) (flat_map f xs) h) [
-      inl a ↦ (y, inl refl, a)
-    | inr b ↦ let r = elem_of_flat f z xs b in (r.0, inr r.1, r.2)
+      | inl a ↦ (y, inl refl, a)
+      | inr b ↦ let r = elem_of_flat f z xs b in (r.0, inr r.1, r.2)
     ]
 
 last_or_below : (k n : ℕ) → k < suc n → (k < n) ⊎ (k ≡ n)
@@ -58,16 +58,16 @@ pub elem_over : (f : ℕ → List Script) (n k : ℕ) (z : Script) → k < n →
 elem_over f zero k z lt h = absurd (omega arith)
 elem_over f (suc n) k z lt h =
     elim (last_or_below k n lt) [
-      inl below ↦ elem_left z (over f n) (f n) (elem_over f n k z below h)
-    | inr e ↦ elem_right z (over f n) (f n) (subst (λ m. Elem z (f m)) e h)
+      | inl below ↦ elem_left z (over f n) (f n) (elem_over f n k z below h)
+      | inr e ↦ elem_right z (over f n) (f n) (subst (λ m. Elem z (f m)) e h)
     ]
 
 pub elem_of_over : (f : ℕ → List Script) (n : ℕ) (z : Script) → Elem z (over f n) → (k : ℕ) × (k < n) × Elem z (f k)
 elem_of_over f zero z h = absurd h
 elem_of_over f (suc n) z h =
     elim (elem_split z (over f n) (f n) h) [
-      inl a ↦ let r = elem_of_over f n z a in (r.0, omega (arith, r.1), r.2)
-    | inr b ↦ (n, omega arith, b)
+      | inl a ↦ let r = elem_of_over f n z a in (r.0, omega (arith, r.1), r.2)
+      | inr b ↦ (n, omega arith, b)
     ]
 
 pub elem_pairs : (f : Script → Script → List Script) (x y z : Script) (xs ys : List Script) → Elem x xs → Elem y ys → Elem z (f x y) → Elem z (pairs f xs ys)
@@ -88,8 +88,8 @@ patterns_few zero (suc k) p h = absurd h
 patterns_few (suc n) zero p h = omega arith
 patterns_few (suc n) (suc k) p h =
     elim (elem_split p (map (λ q. true ∷ q) (patterns n k)) (map (λ q. false ∷ q) (patterns n (suc k))) h) [
-      inl a ↦ let r = elem_of_map (λ q. true ∷ q) p (patterns n k) a in let le : k ≤ n = patterns_few n k r.0 r.1 in omega arith
-    | inr b ↦ let r = elem_of_map (λ q. false ∷ q) p (patterns n (suc k)) b in let le : suc k ≤ n = patterns_few n (suc k) r.0 r.1 in omega arith
+      | inl a ↦ let r = elem_of_map (λ q. true ∷ q) p (patterns n k) a in let le : k ≤ n = patterns_few n k r.0 r.1 in omega arith
+      | inr b ↦ let r = elem_of_map (λ q. false ∷ q) p (patterns n (suc k)) b in let le : suc k ≤ n = patterns_few n (suc k) r.0 r.1 in omega arith
     ]
 
 pub weaves_by : (n k : ℕ) (p : List Bool) (xs ys : Script) → Elem p (patterns n k) → length xs ≡ k → length ys + k ≡ n → Weaves xs ys (woven p xs ys)
@@ -102,28 +102,28 @@ weaves_by (suc n) zero p [] [] h lx ly = absurd (omega arith)
 weaves_by (suc n) zero p [] (y ∷ ys) h lx ly =
     let r = elem_of_map (λ q. false ∷ q) p (patterns n zero) h in
     subst (λ q. Weaves [] (y ∷ ys) (woven q [] (y ∷ ys))) (sym r.2)
-      (takes_second y [] ys (woven r.0 [] ys) (weaves_by n zero r.0 [] ys r.1 refl (omega arith)))
+    (takes_second y [] ys (woven r.0 [] ys) (weaves_by n zero r.0 [] ys r.1 refl (omega arith)))
 weaves_by (suc n) (suc k) p [] ys h lx ly = absurd (omega arith)
 weaves_by (suc n) (suc k) p (x ∷ xs) [] h lx ly =
     elim (elem_split p (map (λ q. true ∷ q) (patterns n k)) (map (λ q. false ∷ q) (patterns n (suc k))) h) [
-      inl a ↦
-        let r = elem_of_map (λ q. true ∷ q) p (patterns n k) a in
-        subst (λ q. Weaves (x ∷ xs) [] (woven q (x ∷ xs) [])) (sym r.2)
+      | inl a ↦
+          let r = elem_of_map (λ q. true ∷ q) p (patterns n k) a in
+          subst (λ q. Weaves (x ∷ xs) [] (woven q (x ∷ xs) [])) (sym r.2)
           (takes_first x xs [] (woven r.0 xs []) (weaves_by n k r.0 xs [] r.1 (omega arith) (omega arith)))
-    | inr b ↦
-        let r = elem_of_map (λ q. false ∷ q) p (patterns n (suc k)) b in
-        let le : suc k ≤ n = patterns_few n (suc k) r.0 r.1 in
-        absurd (omega arith)
+      | inr b ↦
+          let r = elem_of_map (λ q. false ∷ q) p (patterns n (suc k)) b in
+          let le : suc k ≤ n = patterns_few n (suc k) r.0 r.1 in
+          absurd (omega arith)
     ]
 weaves_by (suc n) (suc k) p (x ∷ xs) (y ∷ ys) h lx ly =
     elim (elem_split p (map (λ q. true ∷ q) (patterns n k)) (map (λ q. false ∷ q) (patterns n (suc k))) h) [
-      inl a ↦
-        let r = elem_of_map (λ q. true ∷ q) p (patterns n k) a in
-        subst (λ q. Weaves (x ∷ xs) (y ∷ ys) (woven q (x ∷ xs) (y ∷ ys))) (sym r.2)
+      | inl a ↦
+          let r = elem_of_map (λ q. true ∷ q) p (patterns n k) a in
+          subst (λ q. Weaves (x ∷ xs) (y ∷ ys) (woven q (x ∷ xs) (y ∷ ys))) (sym r.2)
           (takes_first x xs (y ∷ ys) (woven r.0 xs (y ∷ ys)) (weaves_by n k r.0 xs (y ∷ ys) r.1 (omega arith) (omega arith)))
-    | inr b ↦
-        let r = elem_of_map (λ q. false ∷ q) p (patterns n (suc k)) b in
-        subst (λ q. Weaves (x ∷ xs) (y ∷ ys) (woven q (x ∷ xs) (y ∷ ys))) (sym r.2)
+      | inr b ↦
+          let r = elem_of_map (λ q. false ∷ q) p (patterns n (suc k)) b in
+          subst (λ q. Weaves (x ∷ xs) (y ∷ ys) (woven q (x ∷ xs) (y ∷ ys))) (sym r.2)
           (takes_second y (x ∷ xs) ys (woven r.0 (x ∷ xs) ys) (weaves_by n (suc k) r.0 (x ∷ xs) ys r.1 lx (omega arith)))
     ]
 
@@ -136,11 +136,12 @@ pattern_second n (suc k) p h =
 pub way_of : (xs ys zs : Script) → Weaves xs ys zs → (p : List Bool) × Elem p (patterns (length zs) (length xs)) × (zs ≡ woven p xs ys)
 way_of _ _ _ over_both = ([], inl refl, refl)
 way_of _ _ _ (takes_first x xs ys zs w) =
-    let r = way_of xs ys zs w in
-    (true ∷ r.0,
+    let r = way_of xs ys zs w in (
+      true ∷ r.0,
       elem_left (true ∷ r.0) (map (λ q. true ∷ q) (patterns (length zs) (length xs))) (map (λ q. false ∷ q) (patterns (length zs) (suc (length xs))))
-        (elem_map (λ q. true ∷ q) r.0 (patterns (length zs) (length xs)) r.1),
-      ap (λ v. x ∷ v) r.2)
+          (elem_map (λ q. true ∷ q) r.0 (patterns (length zs) (length xs)) r.1),
+      ap (λ v. x ∷ v) r.2,
+    )
 way_of _ _ _ (takes_second y xs ys zs w) =
     let r = way_of xs ys zs w in
     (false ∷ r.0, pattern_second (length zs) (length xs) r.0 r.1, ap (λ v. y ∷ v) r.2)
@@ -196,8 +197,8 @@ is_script_of (Followed a b) n s h =
     subst (λ v. IsScript (Followed a b) v) (sym is) (followed a b q.0 q.1 (is_script_of a r.0 q.0 q.2) (is_script_of b (n - r.0) q.1 q.3))
 is_script_of (Chosen a b) n s h =
     elim (elem_split s (scripts_of a n) (scripts_of b n) h) [
-      inl x ↦ chosen_first a b s (is_script_of a n s x)
-    | inr y ↦ chosen_second a b s (is_script_of b n s y)
+      | inl x ↦ chosen_first a b s (is_script_of a n s x)
+      | inr y ↦ chosen_second a b s (is_script_of b n s y)
     ]
 is_script_of (Woven a b) n s h =
     let r = elem_of_over (λ k. pairs (λ x y. map (λ p. woven p x y) (patterns n k)) (scripts_of a k) (scripts_of b (n - k))) (suc n) s h in
@@ -207,8 +208,8 @@ is_script_of (Woven a b) n s h =
     let w = elem_of_map (λ p. woven p q.0 q.1) s (patterns n r.0) q.4 in
     let k_is : length q.1 + r.0 ≡ n = omega (arith, ly, r.1) in
     subst (λ v. IsScript (Woven a b) v) (sym w.2)
-      (woven_both a b q.0 q.1 (woven w.0 q.0 q.1) (is_script_of a r.0 q.0 q.2) (is_script_of b (n - r.0) q.1 q.3)
-        (weaves_by n r.0 w.0 q.0 q.1 w.1 lx k_is))
+    (woven_both a b q.0 q.1 (woven w.0 q.0 q.1) (is_script_of a r.0 q.0 q.2) (is_script_of b (n - r.0) q.1 q.3)
+    (weaves_by n r.0 w.0 q.0 q.1 w.1 lx k_is))
 
 -- A script stands in the list of its number of lines -------------------------------------------------
 
@@ -221,18 +222,18 @@ stands _ _ (says line) = inl refl
 stands _ _ (followed a b x y hx hy) =
     let m = minus_of (length (x ++ y)) (length x) (length y) (length-append x y) in
     elem_over (λ k. pairs (λ u v. (u ++ v) ∷ []) (scripts_of a k) (scripts_of b (length (x ++ y) - k))) (suc (length (x ++ y))) (length x) (x ++ y) m.1
-      (elem_pairs (λ u v. (u ++ v) ∷ []) x y (x ++ y) (scripts_of a (length x)) (scripts_of b (length (x ++ y) - length x)) (stands a x hx)
-        (subst (λ i. Elem y (scripts_of b i)) (sym m.0) (stands b y hy)) (inl refl))
+    (elem_pairs (λ u v. (u ++ v) ∷ []) x y (x ++ y) (scripts_of a (length x)) (scripts_of b (length (x ++ y) - length x)) (stands a x hx)
+    (subst (λ i. Elem y (scripts_of b i)) (sym m.0) (stands b y hy)) (inl refl))
 stands _ _ (chosen_first a b s h) = elem_left s (scripts_of a (length s)) (scripts_of b (length s)) (stands a s h)
 stands _ _ (chosen_second a b s h) = elem_right s (scripts_of a (length s)) (scripts_of b (length s)) (stands b s h)
 stands _ _ (woven_both a b x y z hx hy w) =
     let m = minus_of (length z) (length x) (length y) (length_weaves x y z w) in
     let way = way_of x y z w in
     elem_over (λ k. pairs (λ u v. map (λ p. woven p u v) (patterns (length z) k)) (scripts_of a k) (scripts_of b (length z - k))) (suc (length z)) (length x) z m.1
-      (elem_pairs (λ u v. map (λ p. woven p u v) (patterns (length z) (length x))) x y z (scripts_of a (length x)) (scripts_of b (length z - length x)) (stands a x hx)
-        (subst (λ i. Elem y (scripts_of b i)) (sym m.0) (stands b y hy))
-        (subst (λ v. Elem v (map (λ p. woven p x y) (patterns (length z) (length x)))) (sym way.2)
-          (elem_map (λ p. woven p x y) way.0 (patterns (length z) (length x)) way.1)))
+    (elem_pairs (λ u v. map (λ p. woven p u v) (patterns (length z) (length x))) x y z (scripts_of a (length x)) (scripts_of b (length z - length x)) (stands a x hx)
+    (subst (λ i. Elem y (scripts_of b i)) (sym m.0) (stands b y hy))
+    (subst (λ v. Elem v (map (λ p. woven p x y) (patterns (length z) (length x)))) (sym way.2)
+    (elem_map (λ p. woven p x y) way.0 (patterns (length z) (length x)) way.1)))
 
 pub no_more : (f : Family) (s : Script) → IsScript f s → length s ≤ most f
 no_more _ _ silent = omega arith
@@ -262,7 +263,7 @@ elem_get (y ∷ xs) (suc k) d lt = inr (elem_get xs k d (omega arith))
 pub has_a_number : (f : Family) (s : Script) → IsScript f s ↔ Contains (scripts f) s
 has_a_number f s = (
   (λ h. let few : length s < suc (most f) = omega (arith, no_more f s h) in
-    contains s (scripts f) (elem_over (scripts_of f) (suc (most f)) (length s) s few (stands f s h))),
+      contains s (scripts f) (elem_over (scripts_of f) (suc (most f)) (length s) s few (stands f s h))),
   (λ c. let r = elem_of_over (scripts_of f) (suc (most f)) s (elem_at s (scripts f) c.0 c.1 c.2) in is_script_of f r.0 s r.2),
 )
 
@@ -285,18 +286,18 @@ pub over_ordered : (f : ℕ → List Script) → ((n : ℕ) (s : Script) → Ele
 over_ordered f has zero i j le lt = absurd (omega arith)
 over_ordered f has (suc n) i j le lt =
     elim (cases_lt j (length (over f n))) [
-      inl j_in ↦
-        let i_in : i < length (over f n) = omega arith in
-        let a = get_or_append_left (over f n) (f n) [] i i_in in
-        let b = get_or_append_left (over f n) (f n) [] j j_in in
-        omega (arith, ap length a, ap length b, over_ordered f has n i j le j_in)
-    | inr j_out ↦
-        elim (cases_lt i (length (over f n))) [
-          inl i_in ↦
-            let a = get_or_append_left (over f n) (f n) [] i i_in in
-            omega (arith, ap length a, shorter_below f has n i i_in, at_last f has n j j_out lt)
-        | inr i_out ↦ omega (arith, at_last f has n i i_out (omega arith), at_last f has n j j_out lt)
-        ]
+      | inl j_in ↦
+          let i_in : i < length (over f n) = omega arith in
+          let a = get_or_append_left (over f n) (f n) [] i i_in in
+          let b = get_or_append_left (over f n) (f n) [] j j_in in
+          omega (arith, ap length a, ap length b, over_ordered f has n i j le j_in)
+      | inr j_out ↦
+          elim (cases_lt i (length (over f n))) [
+            | inl i_in ↦
+                let a = get_or_append_left (over f n) (f n) [] i i_in in
+                omega (arith, ap length a, shorter_below f has n i i_in, at_last f has n j j_out lt)
+            | inr i_out ↦ omega (arith, at_last f has n i i_out (omega arith), at_last f has n j j_out lt)
+          ]
     ]
 
 pub shorter_before : (f : Family) (i j : ℕ) → i ≤ j → j < length (scripts f) → length (get_or (scripts f) i []) ≤ length (get_or (scripts f) j [])

@@ -49,8 +49,8 @@ pub sums_below : (g : ℕ → ℕ) (n k : ℕ) → k < n → sums g k + g k ≤ 
 sums_below g zero k lt = omega arith
 sums_below g (suc n) k lt =
     elim (below_or_last k n lt) [
-      inl h ↦ let before : sums g k + g k ≤ sums g n = sums_below g n k h in omega arith
-    | inr e ↦ let P : ℕ → Type 0 = λ m. sums g m + g m ≤ sums g n + g n in subst P (sym e) (omega arith)
+      | inl h ↦ let before : sums g k + g k ≤ sums g n = sums_below g n k h in omega arith
+      | inr e ↦ let P : ℕ → Type 0 = λ m. sums g m + g m ≤ sums g n + g n in subst P (sym e) (omega arith)
     ]
 
 -- the place q of the block k of n blocks
@@ -59,14 +59,14 @@ pub at_block : (f : ℕ → List Script) (n k q : ℕ) → k < n → q < length 
 at_block f zero k q lt in' = absurd (omega arith)
 at_block f (suc n) k q lt in' =
     elim (below_or_last k n lt) [
-      inl h ↦
-        let before : sums (λ m. length (f m)) k + length (f k) ≤ sums (λ m. length (f m)) n = sums_below (λ m. length (f m)) n k h in
-        let all : length (over f n) ≡ sums (λ m. length (f m)) n = length_over f n in
-        let within : sums (λ m. length (f m)) k + q < length (over f n) = omega (arith, all) in
-        get_or_append_left (over f n) (f n) [] (sums (λ m. length (f m)) k + q) within ∙ at_block f n k q h in'
-    | inr e ↦
-        let P : ℕ → Type 0 = λ m. get_or (over f n ++ f n) (sums (λ i. length (f i)) m + q) [] ≡ get_or (f m) q [] in
-        subst P (sym e) (ap (λ m. get_or (over f n ++ f n) (m + q) []) (sym (length_over f n)) ∙ get_or-append-add (over f n) (f n) q [])
+      | inl h ↦
+          let before : sums (λ m. length (f m)) k + length (f k) ≤ sums (λ m. length (f m)) n = sums_below (λ m. length (f m)) n k h in
+          let all : length (over f n) ≡ sums (λ m. length (f m)) n = length_over f n in
+          let within : sums (λ m. length (f m)) k + q < length (over f n) = omega (arith, all) in
+          get_or_append_left (over f n) (f n) [] (sums (λ m. length (f m)) k + q) within ∙ at_block f n k q h in'
+      | inr e ↦
+          let P : ℕ → Type 0 = λ m. get_or (over f n ++ f n) (sums (λ i. length (f i)) m + q) [] ≡ get_or (f m) q [] in
+          subst P (sym e) (ap (λ m. get_or (over f n ++ f n) (m + q) []) (sym (length_over f n)) ∙ get_or-append-add (over f n) (f n) q [])
     ]
 
 pub at_chosen_first : (a b : Family) (n r : ℕ) → r < count a n → script_at (Chosen a b) n r ≡ script_at a n r
@@ -81,11 +81,11 @@ pub at_blocks : (a b : ℕ → List Script) (ca cb c : ℕ → ℕ) (f : ℕ →
     → ((m : ℕ) → length (a m) ≡ ca m) → ((m : ℕ) → length (b m) ≡ cb m) → ((m : ℕ) (x y : Script) → length (f m x y) ≡ c m)
     → k < suc n → i < ca k → j < cb (n - k) → p < c k
     → get_or (over (λ m. pairs (f m) (a m) (b (n - m))) (suc n)) (sums (λ m. ca m * cb (n - m) * c m) k + (i * (cb (n - k) * c k) + (j * c k + p))) []
-        ≡ get_or (f k (get_or (a k) i []) (get_or (b (n - k)) j [])) p []
+    ≡ get_or (f k (get_or (a k) i []) (get_or (b (n - k)) j [])) p []
 at_blocks a b ca cb c f n k i j p as' bs' fs lt il jl pl =
     let F : ℕ → List Script = λ m. pairs (f m) (a m) (b (n - m)) in
     let size : (m : ℕ) → length (F m) ≡ ca m * cb (n - m) * c m =
-        λ m. length_pairs (f m) (c m) (fs m) (a m) (b (n - m)) ∙ ap₂ (λ u v. u * v * c m) (as' m) (bs' (n - m)) in
+    λ m. length_pairs (f m) (c m) (fs m) (a m) (b (n - m)) ∙ ap₂ (λ u v. u * v * c m) (as' m) (bs' (n - m)) in
     let il' : i < length (a k) = subst (λ u. i < u) (sym (as' k)) il in
     let jl' : j < length (b (n - k)) = subst (λ u. j < u) (sym (bs' (n - k))) jl in
     let inner : j * c k + p < cb (n - k) * c k = in_row j (cb (n - k)) (c k) p jl pl in
@@ -110,9 +110,9 @@ at_map g (x ∷ xs) (suc p) d lt = at_map g xs p d (omega arith)
 
 pub numbers_of_woven : (a b : Family) (n k i j p : ℕ) → k < suc n → i < count a k → j < count b (n - k) → p < ways n k
     → script_at (Woven a b) n (sums (λ m. count a m * count b (n - m) * ways n m) k + (i * (count b (n - k) * ways n k) + (j * ways n k + p)))
-        ≡ woven (get_or (patterns n k) p []) (script_at a k i) (script_at b (n - k) j)
+    ≡ woven (get_or (patterns n k) p []) (script_at a k i) (script_at b (n - k) j)
 numbers_of_woven a b n k i j p lt il jl pl =
     let pl' : p < length (patterns n k) = subst (λ u. p < u) (sym (length_patterns n k)) pl in
     at_blocks (scripts_of a) (scripts_of b) (count a) (count b) (ways n) (λ m x y. map (λ w. woven w x y) (patterns n m)) n k i j p (counted a) (counted b)
-      (λ m x y. length-map (patterns n m) (λ w. woven w x y) ∙ length_patterns n m) lt il jl pl
+    (λ m x y. length-map (patterns n m) (λ w. woven w x y) ∙ length_patterns n m) lt il jl pl
     ∙ at_map (λ w. woven w (script_at a k i) (script_at b (n - k) j)) (patterns n k) p [] pl'

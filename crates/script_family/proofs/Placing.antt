@@ -23,14 +23,14 @@ row_behind least row n le = let past : get_or row (n - least) 0 ≡ 0 = get_or_p
 zero_first : (a b t : ℕ) → a ≡ 0 → a * b * t ≡ 0
 zero_first a b t e = ap (λ v. v * b * t) e ∙ no b t
   where
-  no : (b t : ℕ) → 0 * b * t ≡ 0
-  no b t = omega arith
+    no : (b t : ℕ) → 0 * b * t ≡ 0
+    no b t = omega arith
 
 zero_second : (a b t : ℕ) → b ≡ 0 → a * b * t ≡ 0
 zero_second a b t e = ap (λ v. a * v * t) e ∙ no a t
   where
-  no : (a t : ℕ) → a * 0 * t ≡ 0
-  no a t = omega arith
+    no : (a t : ℕ) → a * 0 * t ≡ 0
+    no a t = omega arith
 
 -- no script has so few lines of the first, or so many
 pub none_first : (p : Pair) (n k : ℕ) → (k < p.first.now.least) ⊎ (p.first.now.least + length p.first.now.row.items ≤ k) → term p n k ≡ 0
@@ -45,16 +45,16 @@ pub none_before : (p : Pair) (n k start : ℕ) → start ≡ min (max (n + 1 - (
     → term p n k ≡ 0
 none_before p n k start is lt =
     elim (cases_lt k p.first.now.least) [
-      inl low ↦ none_first p n k (inl low)
-    | inr high ↦ none_second p n k (inr (omega arith))
+      | inl low ↦ none_first p n k (inl low)
+      | inr high ↦ none_second p n k (inr (omega arith))
     ]
 
 pub none_behind : (p : Pair) (n k start end : ℕ) → start ≡ min (max (n + 1 - (p.second.now.least + length p.second.now.row.items)) p.first.now.least) (n + 1)
     → end ≡ max (min (n + 1 - p.second.now.least) (p.first.now.least + length p.first.now.row.items)) start → end ≤ k → k < n + 1 → term p n k ≡ 0
 none_behind p n k start end begins ends le lt =
     elim (cases_lt k (p.first.now.least + length p.first.now.row.items)) [
-      inl low ↦ none_second p n k (inl (omega arith))
-    | inr high ↦ none_first p n k (inr high)
+      | inl low ↦ none_second p n k (inl (omega arith))
+      | inr high ↦ none_first p n k (inr high)
     ]
 
 -- the product of three numbers, whose last is capped before
@@ -73,8 +73,8 @@ positive_times : (y t : ℕ) → 0 < y → 0 < t → 0 < y * t
 positive_times zero t a b = absurd (omega arith)
 positive_times (suc y) t a b = omega (arith, more t y b)
   where
-  more : (t y : ℕ) → 0 < t → 0 < suc y * t
-  more t y b = omega arith
+    more : (t y : ℕ) → 0 < t → 0 < suc y * t
+    more t y b = omega arith
 
 factor_positive : (x t r : ℕ) → r < x * t → 0 < t
 factor_positive x zero r lt = absurd (omega arith)
@@ -90,7 +90,7 @@ each_positive x y t r m lt pos =
 
 pub divided : (x y t r m : ℕ) → r < x * y * t → r < m → 0 < m
     → (r / min (y * min t m) m < x) × ((r % min (y * min t m) m) / min t m < y) × ((r % min (y * min t m) m) % min t m < t)
-      × (r / min (y * min t m) m * (y * t) + ((r % min (y * min t m) m) / min t m * t + (r % min (y * min t m) m) % min t m) ≡ r)
+    × (r / min (y * min t m) m * (y * t) + ((r % min (y * min t m) m) / min t m * t + (r % min (y * min t m) m) % min t m) ≡ r)
 divided x y t r m lt small pos =
     let lt' : r < x * (y * t) = subst (λ v. r < v) (mul_assoc x y t) lt in
     let d_pos : 0 < y * t = factor_positive x (y * t) r lt' in
@@ -103,19 +103,20 @@ divided x y t r m lt small pos =
     let among_small : r % (y * t) < m = omega (arith, whole) in
     let second : (r % min (y * min t m) m) / min t m ≡ (r % (y * t)) / t = ap (λ v. v / min t m) among ∙ cap_div (r % (y * t)) t m among_small in
     let way : (r % min (y * min t m) m) % min t m ≡ (r % (y * t)) % t = ap (λ v. v % min t m) among ∙ cap_mod (r % (y * t)) t m among_small in
-    let inner : (r % (y * t)) / t * t + (r % (y * t)) % t ≡ r % (y * t) = div-add-mod' (r % (y * t)) t in
-    (subst (λ v. v < x) (sym quotient) (div_below r (y * t) x d_pos lt'),
+    let inner : (r % (y * t)) / t * t + (r % (y * t)) % t ≡ r % (y * t) = div-add-mod' (r % (y * t)) t in (
+      subst (λ v. v < x) (sym quotient) (div_below r (y * t) x d_pos lt'),
       subst (λ v. v < y) (sym second) (div_below (r % (y * t)) t y t_pos among_lt),
       subst (λ v. v < t) (sym way) (mod_below (r % (y * t)) t t_pos),
-      ap₂ (λ u v. u * (y * t) + v) quotient (ap₂ (λ u v. u * t + v) second way ∙ inner) ∙ whole)
+      ap₂ (λ u v. u * (y * t) + v) quotient (ap₂ (λ u v. u * t + v) second way ∙ inner) ∙ whole,
+    )
 
 pub place_is : (p : Pair) (n number k rest : ℕ) (place : Place) → k ≤ n → sums (term p n) k + rest ≡ number → rest < term p n k → number < 2 ^ 64 - 1
     → place ≡ record {
-        lines = k;
-        first = rest / min (count_of p.second.now (n - k) * capped (times p.woven n k)) (2 ^ 64 - 1);
-        second = (rest % min (count_of p.second.now (n - k) * capped (times p.woven n k)) (2 ^ 64 - 1)) / capped (times p.woven n k);
-        way = (rest % min (count_of p.second.now (n - k) * capped (times p.woven n k)) (2 ^ 64 - 1)) % capped (times p.woven n k)
-      }
+      lines = k;
+      first = rest / min (count_of p.second.now (n - k) * capped (times p.woven n k)) (2 ^ 64 - 1);
+      second = (rest % min (count_of p.second.now (n - k) * capped (times p.woven n k)) (2 ^ 64 - 1)) / capped (times p.woven n k);
+      way = (rest % min (count_of p.second.now (n - k) * capped (times p.woven n k)) (2 ^ 64 - 1)) % capped (times p.woven n k);
+    }
     → IsPlace p n number place
 place_is p n number k rest place le is lt small same =
     let d = divided (count_of p.first.now k) (count_of p.second.now (n - k)) (times p.woven n k) rest (2 ^ 64 - 1) lt (omega arith) (omega arith) in

@@ -31,10 +31,10 @@ pub row_from : (f : Family) (least : ℕ) (row : List ℕ) → ((n : ℕ) → le
     → ((n : ℕ) → n < least → count f n ≡ 0) → ((n : ℕ) → least + length row ≤ n → count f n ≡ 0) → (n : ℕ) → row_at least row n ≡ capped (count f n)
 row_from f least row inside low high n =
     elim (cases_lt n least) [
-      inl lt ↦ row_below least row n lt ∙ sym (ap capped (low n lt))
-    | inr le ↦ elim (cases_lt n (least + length row)) [
-        inl lt ↦ row_inside least row n le ∙ inside n le lt
-      | inr past ↦ row_behind least row n past ∙ sym (ap capped (high n past))
+      | inl lt ↦ row_below least row n lt ∙ sym (ap capped (low n lt))
+      | inr le ↦ elim (cases_lt n (least + length row)) [
+        | inl lt ↦ row_inside least row n le ∙ inside n le lt
+        | inr past ↦ row_behind least row n past ∙ sym (ap capped (high n past))
       ]
     ]
 
@@ -42,17 +42,17 @@ row_from f least row inside low high n =
 pub silent_row : (row : List ℕ) → row ≡ 1 ∷ [] → IsRow Silent 0 row
 silent_row row is = subst (IsRow Silent 0) (sym is) (record { counts = at; ends = refl; some = omega arith })
   where
-  at : (n : ℕ) → row_at 0 (1 ∷ []) n ≡ capped (count Silent n)
-  at zero = refl
-  at (suc n) = row_behind 0 (1 ∷ []) (suc n) (omega arith)
+    at : (n : ℕ) → row_at 0 (1 ∷ []) n ≡ capped (count Silent n)
+    at zero = refl
+    at (suc n) = row_behind 0 (1 ∷ []) (suc n) (omega arith)
 
 pub says_row : (at : ℕ) (row : List ℕ) → row ≡ 1 ∷ [] → IsRow (Says at) 1 row
 says_row place row is = subst (IsRow (Says place) 1) (sym is) (record { counts = at; ends = refl; some = omega arith })
   where
-  at : (n : ℕ) → row_at 1 (1 ∷ []) n ≡ capped (count (Says place) n)
-  at zero = refl
-  at (suc zero) = refl
-  at (suc (suc n)) = row_behind 1 (1 ∷ []) (suc (suc n)) (omega arith)
+    at : (n : ℕ) → row_at 1 (1 ∷ []) n ≡ capped (count (Says place) n)
+    at zero = refl
+    at (suc zero) = refl
+    at (suc (suc n)) = row_behind 1 (1 ∷ []) (suc (suc n)) (omega arith)
 
 -- one of both -----------------------------------------------------------------------------------
 
@@ -62,14 +62,14 @@ pub chosen_row : (a b : Family) (la lb : ℕ) (ra rb row : List ℕ) → IsRow a
     → IsRow (Chosen a b) (min la lb) row
 chosen_row a b la lb ra rb row isa isb width numbers = record {
   counts = row_from (Chosen a b) (min la lb) row
-    (λ n le lt.
+      (λ n le lt.
       let place : min la lb + (n - min la lb) ≡ n = omega arith in
       numbers (n - min la lb) (omega arith)
       ∙ ap (λ m. min (row_at la ra m + row_at lb rb m) (2 ^ 64 - 1)) place
       ∙ ap₂ (λ u v. min (u + v) (2 ^ 64 - 1)) (isa.counts n) (isb.counts n)
       ∙ cap_add (count a n) (count b n) (2 ^ 64 - 1))
-    (λ n lt. omega (arith, none_below a la ra isa n (omega arith), none_below b lb rb isb n (omega arith)))
-    (λ n past. omega (arith, none_above a la ra isa n (omega (arith, isa.ends, isb.ends)), none_above b lb rb isb n (omega (arith, isa.ends, isb.ends))));
+      (λ n lt. omega (arith, none_below a la ra isa n (omega arith), none_below b lb rb isb n (omega arith)))
+      (λ n past. omega (arith, none_above a la ra isa n (omega (arith, isa.ends, isb.ends)), none_above b lb rb isb n (omega (arith, isa.ends, isb.ends))));
   ends = omega (arith, isa.ends, isb.ends, width);
   some = omega (arith, isa.some, isb.some, width);
 }
@@ -91,39 +91,39 @@ pub same_terms : (a b : Family) (la lb : ℕ) (ra rb : List ℕ) (woven : Bool) 
     → capped (sums (row_term la ra lb rb woven n) m) ≡ capped (sums (together a b woven n) m)
 same_terms a b la lb ra rb woven isa isb n m =
     cap_sums (row_term la ra lb rb woven n) (together a b woven n) (2 ^ 64 - 1)
-      (λ k. ap₂ (λ u v. min (u * v * times woven n k) (2 ^ 64 - 1)) (isa.counts k) (isb.counts (n - k))
-        ∙ cap_three (count a k) (count b (n - k)) (times woven n k) (2 ^ 64 - 1))
-      m
+    (λ k. ap₂ (λ u v. min (u * v * times woven n k) (2 ^ 64 - 1)) (isa.counts k) (isb.counts (n - k))
+    ∙ cap_three (count a k) (count b (n - k)) (times woven n k) (2 ^ 64 - 1))
+    m
 
 zero_left : (a b t : ℕ) → a ≡ 0 → a * b * t ≡ 0
 zero_left a b t e = ap (λ v. v * b * t) e ∙ no b t
   where
-  no : (b t : ℕ) → 0 * b * t ≡ 0
-  no b t = omega arith
+    no : (b t : ℕ) → 0 * b * t ≡ 0
+    no b t = omega arith
 
 zero_right : (a b t : ℕ) → b ≡ 0 → a * b * t ≡ 0
 zero_right a b t e = ap (λ v. a * v * t) e ∙ no a t
   where
-  no : (a t : ℕ) → a * 0 * t ≡ 0
-  no a t = omega arith
+    no : (a t : ℕ) → a * 0 * t ≡ 0
+    no a t = omega arith
 
 pub none_low : (a b : Family) (la lb : ℕ) (ra rb : List ℕ) (woven : Bool) → IsRow a la ra → IsRow b lb rb → (n : ℕ) → n < la + lb
     → sums (together a b woven n) (suc n) ≡ 0
 none_low a b la lb ra rb woven isa isb n lt =
     sums_zero (together a b woven n) (suc n)
-      (λ k below. elim (cases_lt k la) [
-        inl low ↦ zero_left (count a k) (count b (n - k)) (times woven n k) (none_below a la ra isa k low)
+    (λ k below. elim (cases_lt k la) [
+      | inl low ↦ zero_left (count a k) (count b (n - k)) (times woven n k) (none_below a la ra isa k low)
       | inr high ↦ zero_right (count a k) (count b (n - k)) (times woven n k) (none_below b lb rb isb (n - k) (omega arith))
-      ])
+    ])
 
 pub none_high : (a b : Family) (la lb : ℕ) (ra rb : List ℕ) (woven : Bool) → IsRow a la ra → IsRow b lb rb → (n : ℕ) → most a + most b < n
     → sums (together a b woven n) (suc n) ≡ 0
 none_high a b la lb ra rb woven isa isb n lt =
     sums_zero (together a b woven n) (suc n)
-      (λ k below. elim (cases_lt (most a) k) [
-        inl high ↦ zero_left (count a k) (count b (n - k)) (times woven n k) (none_above a la ra isa k high)
+    (λ k below. elim (cases_lt (most a) k) [
+      | inl high ↦ zero_left (count a k) (count b (n - k)) (times woven n k) (none_above a la ra isa k high)
       | inr low ↦ zero_right (count a k) (count b (n - k)) (times woven n k) (none_above b lb rb isb (n - k) (omega arith))
-      ])
+    ])
 
 pub paired_row : (a b : Family) (la lb : ℕ) (ra rb row : List ℕ) (woven : Bool) → IsRow a la ra → IsRow b lb rb
     → length row + 1 ≡ length ra + length rb
@@ -131,7 +131,7 @@ pub paired_row : (a b : Family) (la lb : ℕ) (ra rb row : List ℕ) (woven : Bo
     → IsRow (paired woven a b) (la + lb) row
 paired_row a b la lb ra rb row woven isa isb width numbers = record {
   counts = row_from (paired woven a b) (la + lb) row
-    (λ n le lt.
+      (λ n le lt.
       let place : la + lb + (n - (la + lb)) ≡ n = omega arith in
       let next : n + 1 ≡ suc n = omega arith in
       numbers (n - (la + lb)) (omega arith)
@@ -139,8 +139,8 @@ paired_row a b la lb ra rb row woven isa isb width numbers = record {
       ∙ ap (λ m. capped (sums (row_term la ra lb rb woven n) m)) next
       ∙ same_terms a b la lb ra rb woven isa isb n (suc n)
       ∙ ap capped (sym (count_paired woven a b n)))
-    (λ n lt. count_paired woven a b n ∙ none_low a b la lb ra rb woven isa isb n lt)
-    (λ n past. count_paired woven a b n ∙ none_high a b la lb ra rb woven isa isb n (omega (arith, isa.ends, isb.ends, width)));
+      (λ n lt. count_paired woven a b n ∙ none_low a b la lb ra rb woven isa isb n lt)
+      (λ n past. count_paired woven a b n ∙ none_high a b la lb ra rb woven isa isb n (omega (arith, isa.ends, isb.ends, width)));
   ends = omega (arith, isa.ends, isb.ends, width, most_paired woven a b);
   some = omega (arith, isa.some, isb.some, width);
 }
@@ -165,45 +165,46 @@ at_least_once : (i y t : ℕ) → 0 < t → y ≤ y * t
 at_least_once i y zero pos = absurd (omega arith)
 at_least_once i y (suc t) pos = omega (arith, mul_comm y (suc t), more y t)
   where
-  more : (y t : ℕ) → y ≤ suc t * y
-  more y t = omega arith
+    more : (y t : ℕ) → y ≤ suc t * y
+    more y t = omega arith
 
 none_of_many : (i y t : ℕ) → 2 ^ 64 - 1 ≤ y → 0 < t → i * (y * t) < 2 ^ 64 - 1 → i ≡ 0
 none_of_many zero y t le pos lt = refl
 none_of_many (suc i) y t le pos lt = absurd (omega (arith, at_least_once i y t pos, one i (y * t)))
   where
-  one : (i v : ℕ) → v ≤ suc i * v
-  one i v = omega arith
+    one : (i v : ℕ) → v ≤ suc i * v
+    one i v = omega arith
 
 same_product : (i c y t r : ℕ) → y ≡ capped c → 0 < t → i * (y * t) ≤ r → r < 2 ^ 64 - 1 → i * (y * t) ≡ i * (c * t)
 same_product i c y t r is pos le small =
     elim (cases_lt c (2 ^ 64 - 1)) [
-      inl lt ↦ ap (λ v. i * (v * t)) (is ∙ min-eq_left (omega arith))
-    | inr big ↦
-        let none : i ≡ 0 = none_of_many i y t (omega (arith, is)) pos (omega arith) in
-        ap (λ v. v * (y * t)) none ∙ nothing (y * t) (c * t) ∙ sym (ap (λ v. v * (c * t)) none)
+      | inl lt ↦ ap (λ v. i * (v * t)) (is ∙ min-eq_left (omega arith))
+      | inr big ↦
+          let none : i ≡ 0 = none_of_many i y t (omega (arith, is)) pos (omega arith) in
+          ap (λ v. v * (y * t)) none ∙ nothing (y * t) (c * t) ∙ sym (ap (λ v. v * (c * t)) none)
     ]
   where
-  nothing : (u v : ℕ) → 0 * u ≡ 0 * v
-  nothing u v = omega arith
+    nothing : (u v : ℕ) → 0 * u ≡ 0 * v
+    nothing u v = omega arith
 
 small_first : (i y t q r : ℕ) → 0 < y → 0 < t → i * (y * t) + q ≤ r → i ≤ r
 small_first i zero t q r a b le = absurd (omega arith)
 small_first i (suc y) zero q r a b le = absurd (omega arith)
 small_first i (suc y) (suc t) q r a b le = omega (arith, mul_comm i (suc y * suc t), more i (suc y * suc t) (positive y t))
   where
-  positive : (y t : ℕ) → 0 < suc y * suc t
-  positive y t = omega arith
-  more : (i v : ℕ) → 0 < v → i ≤ v * i
-  more i zero pos = absurd (omega arith)
-  more i (suc v) pos = omega arith
+    positive : (y t : ℕ) → 0 < suc y * suc t
+    positive y t = omega arith
+
+    more : (i v : ℕ) → 0 < v → i ≤ v * i
+    more i zero pos = absurd (omega arith)
+    more i (suc v) pos = omega arith
 
 small_second : (j t p r : ℕ) → 0 < t → j * t + p ≤ r → j ≤ r
 small_second j zero p r pos le = absurd (omega arith)
 small_second j (suc t) p r pos le = omega (arith, mul_comm j (suc t), more j t)
   where
-  more : (j t : ℕ) → j ≤ suc t * j
-  more j t = omega arith
+    more : (j t : ℕ) → j ≤ suc t * j
+    more j t = omega arith
 
 -- a number by the rows is one by the families
 pub numbered : (a b : Family) (la lb : ℕ) (ra rb : List ℕ) (woven : Bool) → IsRow a la ra → IsRow b lb rb → (n r k i j p : ℕ) → r < 2 ^ 64 - 1 → k ≤ n
@@ -214,9 +215,9 @@ numbered a b la lb ra rb woven isa isb n r k i j p small le first second way sum
     let t_pos : 0 < times woven n k = omega arith in
     let y_pos : 0 < row_at lb rb (n - k) = omega arith in
     let sums_same : sums (row_term la ra lb rb woven n) k ≡ sums (together a b woven n) k =
-      uncapped (sums (row_term la ra lb rb woven n) k) (sums (together a b woven n) k) (same_terms a b la lb ra rb woven isa isb n k) (omega arith) in
+    uncapped (sums (row_term la ra lb rb woven n) k) (sums (together a b woven n) k) (same_terms a b la lb ra rb woven isa isb n k) (omega arith) in
     let product : i * (row_at lb rb (n - k) * times woven n k) ≡ i * (count b (n - k) * times woven n k) =
-      same_product i (count b (n - k)) (row_at lb rb (n - k)) (times woven n k) r (isb.counts (n - k)) t_pos (omega arith) small in
+    same_product i (count b (n - k)) (row_at lb rb (n - k)) (times woven n k) r (isb.counts (n - k)) t_pos (omega arith) small in
     let i_le : i ≤ r = small_first i (row_at lb rb (n - k)) (times woven n k) (j * times woven n k + p) r y_pos t_pos (omega arith) in
     let j_le : j ≤ r = small_second j (times woven n k) p r t_pos (omega arith) in
     record {

@@ -26,18 +26,18 @@ filter_joined p q r one [] = IsPermutation-refl []
 filter_joined p q r one (x ∷ xs) =
     let rest : IsPermutation (filter p xs ++ filter q xs) (filter r xs) = filter_joined p q r one xs in
     elim (one x).cases [
-      inl a ↦
-        same_perm (filter p (x ∷ xs) ++ filter q (x ∷ xs)) (filter r (x ∷ xs)) (x ∷ (filter p xs ++ filter q xs)) (x ∷ filter r xs)
+      | inl a ↦
+          same_perm (filter p (x ∷ xs) ++ filter q (x ∷ xs)) (filter r (x ∷ xs)) (x ∷ (filter p xs ++ filter q xs)) (x ∷ filter r xs)
           (ap (λ v. v ++ filter q (x ∷ xs)) (filter_yes p x xs a.0) ∙ ap (λ v. x ∷ (filter p xs ++ v)) (filter_no q x xs a.1)) (filter_yes r x xs a.2)
           (IsPermutation-cons x (filter p xs ++ filter q xs) (filter r xs) rest)
-    | inr b ↦ elim b [
-        inl a ↦
-          same_perm (filter p (x ∷ xs) ++ filter q (x ∷ xs)) (filter r (x ∷ xs)) (filter p xs ++ x ∷ filter q xs) (x ∷ filter r xs)
+      | inr b ↦ elim b [
+        | inl a ↦
+            same_perm (filter p (x ∷ xs) ++ filter q (x ∷ xs)) (filter r (x ∷ xs)) (filter p xs ++ x ∷ filter q xs) (x ∷ filter r xs)
             (ap (λ v. v ++ filter q (x ∷ xs)) (filter_no p x xs a.0) ∙ ap (λ v. filter p xs ++ v) (filter_yes q x xs a.1)) (filter_yes r x xs a.2)
             (IsPermutation-trans (filter p xs ++ x ∷ filter q xs) (x ∷ (filter p xs ++ filter q xs)) (x ∷ filter r xs)
-              (IsPermutation-middle (filter p xs) x (filter q xs)) (IsPermutation-cons x (filter p xs ++ filter q xs) (filter r xs) rest))
-      | inr a ↦
-          same_perm (filter p (x ∷ xs) ++ filter q (x ∷ xs)) (filter r (x ∷ xs)) (filter p xs ++ filter q xs) (filter r xs)
+            (IsPermutation-middle (filter p xs) x (filter q xs)) (IsPermutation-cons x (filter p xs ++ filter q xs) (filter r xs) rest))
+        | inr a ↦
+            same_perm (filter p (x ∷ xs) ++ filter q (x ∷ xs)) (filter r (x ∷ xs)) (filter p xs ++ filter q xs) (filter r xs)
             (ap (λ v. v ++ filter q (x ∷ xs)) (filter_no p x xs a.0) ∙ ap (λ v. filter p xs ++ v) (filter_no q x xs a.1)) (filter_no r x xs a.2) rest
       ]
     ]
@@ -57,12 +57,12 @@ eq_false a b h = grind (arith, nat_tests)
 one_of : (parts m k : ℕ) → OneOf (λ i. nat_lt (i % parts) m) (λ i. i % parts == m) (λ i. nat_lt (i % parts) (suc m)) k
 one_of parts m k = record {
   cases = elim (cases_order (k % parts) m) [
-      inl e ↦ inr (inl (lt_false (k % parts) m (omega arith), eq_true (k % parts) m e, lt_true (k % parts) (suc m) (omega arith)))
+    | inl e ↦ inr (inl (lt_false (k % parts) m (omega arith), eq_true (k % parts) m e, lt_true (k % parts) (suc m) (omega arith)))
     | inr h ↦ elim h [
-        inl lt ↦ inl (lt_true (k % parts) m lt, eq_false (k % parts) m (λ e. omega arith), lt_true (k % parts) (suc m) (omega arith))
+      | inl lt ↦ inl (lt_true (k % parts) m lt, eq_false (k % parts) m (λ e. omega arith), lt_true (k % parts) (suc m) (omega arith))
       | inr gt ↦ inr (inr (lt_false (k % parts) m (omega arith), eq_false (k % parts) m (λ e. omega arith), lt_false (k % parts) (suc m) (omega arith)))
-      ]
-    ];
+    ]
+  ];
 }
 
 filter_none : (p : ℕ → Bool) → ((k : ℕ) → p k ≡ false) → (xs : List ℕ) → filter p xs ≡ []
@@ -81,14 +81,14 @@ shared parts (suc m) xs =
     let some : List ℕ = flat_map (λ part. filter (λ k. k % parts == part) xs) (below m) in
     let next : List ℕ = filter (λ k. k % parts == m) xs in
     let all : flat_map (λ part. filter (λ k. k % parts == part) xs) (below m ++ m ∷ []) ≡ some ++ next =
-      flat_map-append (λ part. filter (λ k. k % parts == part) xs) (below m) (m ∷ []) ∙ ap (λ v. some ++ v) (append-nil next) in
+    flat_map-append (λ part. filter (λ k. k % parts == part) xs) (below m) (m ∷ []) ∙ ap (λ v. some ++ v) (append-nil next) in
     subst (λ v. IsPermutation v (filter (λ k. nat_lt (k % parts) (suc m)) xs)) (sym all)
-      (IsPermutation-trans (some ++ next) (filter (λ k. nat_lt (k % parts) m) xs ++ next) (filter (λ k. nat_lt (k % parts) (suc m)) xs)
-        (IsPermutation-append_left next some (filter (λ k. nat_lt (k % parts) m) xs) (shared parts m xs))
-        (filter_joined (λ k. nat_lt (k % parts) m) (λ k. k % parts == m) (λ k. nat_lt (k % parts) (suc m)) (one_of parts m) xs))
+    (IsPermutation-trans (some ++ next) (filter (λ k. nat_lt (k % parts) m) xs ++ next) (filter (λ k. nat_lt (k % parts) (suc m)) xs)
+    (IsPermutation-append_left next some (filter (λ k. nat_lt (k % parts) m) xs) (shared parts m xs))
+    (filter_joined (λ k. nat_lt (k % parts) m) (λ k. k % parts == m) (λ k. nat_lt (k % parts) (suc m)) (one_of parts m) xs))
 
 pub parts_are_all : (parts n : ℕ) → 0 < parts → IsPermutation (flat_map (λ part. part_of parts part n) (below parts)) (below n)
 parts_are_all parts n pos =
     subst (λ v. IsPermutation (flat_map (λ part. part_of parts part n) (below parts)) v)
-      (filter_all (λ k. nat_lt (k % parts) parts) (λ k. lt_true (k % parts) parts (mod_below k parts pos)) (below n))
-      (shared parts parts (below n))
+    (filter_all (λ k. nat_lt (k % parts) parts) (λ k. lt_true (k % parts) parts (mod_below k parts pos)) (below n))
+    (shared parts parts (below n))

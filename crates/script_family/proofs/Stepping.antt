@@ -33,20 +33,22 @@ size_two f a b is = let e : size f ≡ suc (size a + size b) = ap size is in (om
 pub begins_first : (s : Shapes) (part n r first second : ℕ) → shape s part ≡ Chosen (shape s first) (shape s second) → first < part → Has s part n r → r < capped (count (shape s first) n)
     → Begins s part n r (steps.One first r)
 begins_first s part n r first second is before has lt =
-    let less : r < count (shape s first) n = omega (arith, lt) in
-    (record { there = omega (arith, has.there); below = less; exact = has.exact },
+    let less : r < count (shape s first) n = omega (arith, lt) in (
+      record { there = omega (arith, has.there); below = less; exact = has.exact },
       ap (λ f. script_at f n r) is ∙ at_chosen_first (shape s first) (shape s second) n r less,
-      (size_two (shape s part) (shape s first) (shape s second) is).0)
+      (size_two (shape s part) (shape s first) (shape s second) is).0,
+    )
 
 pub begins_second : (s : Shapes) (part n r first second of_first : ℕ) → shape s part ≡ Chosen (shape s first) (shape s second) → second < part → Has s part n r
     → of_first ≡ capped (count (shape s first) n) → of_first ≤ r → Begins s part n r (steps.One second (r - of_first))
 begins_second s part n r first second of_first is before has count_is le =
     let all : r < count (shape s first) n + count (shape s second) n = subst (λ f. r < count f n) is has.below in
     let exact : of_first ≡ count (shape s first) n = omega (arith, has.exact) in
-    let back : r ≡ count (shape s first) n + (r - of_first) = omega arith in
-    (record { there = omega (arith, has.there); below = omega arith; exact = omega (arith, has.exact) },
+    let back : r ≡ count (shape s first) n + (r - of_first) = omega arith in (
+      record { there = omega (arith, has.there); below = omega arith; exact = omega (arith, has.exact) },
       ap (λ f. script_at f n r) is ∙ ap (script_at (Chosen (shape s first) (shape s second)) n) back ∙ at_chosen_second (shape s first) (shape s second) n (r - of_first),
-      (size_two (shape s part) (shape s first) (shape s second) is).1)
+      (size_two (shape s part) (shape s first) (shape s second) is).1,
+    )
 
 both_of : (s : Shapes) (part n r first second : ℕ) (woven : Bool) (place : Place) → first < part → second < part → part < length s.families
     → Numbered (shape s first) (shape s second) woven n r place.lines place.first place.second place.way → IsBoth s n first place.lines place.first second place.second
@@ -71,21 +73,23 @@ begins_both s part n r first second place is fb sb has at =
     let a : Family = shape s first in
     let b : Family = shape s second in
     let number : sums (together a b false n) place.lines + (place.first * (count b (n - place.lines) * 1) + (place.second * 1 + 0)) ≡ r =
-      ap (λ v. sums (together a b false n) place.lines + (place.first * (count b (n - place.lines) * 1) + v)) (sym (no_way place.second place.way at.way)) ∙ at.sum in
-    (both_of s part n r first second false place fb sb has.there at,
+    ap (λ v. sums (together a b false n) place.lines + (place.first * (count b (n - place.lines) * 1) + v)) (sym (no_way place.second place.way at.way)) ∙ at.sum in (
+      both_of s part n r first second false place fb sb has.there at,
       ap (λ f. script_at f n r) is ∙ ap (script_at (Followed a b) n) (sym number)
-        ∙ numbers_of_followed a b n place.lines place.first place.second at.inside at.first at.second,
-      size_followed (shape s part) a b is)
+          ∙ numbers_of_followed a b n place.lines place.first place.second at.inside at.first at.second,
+      size_followed (shape s part) a b is,
+    )
 
 pub begins_woven : (s : Shapes) (part n r first second : ℕ) (place : Place) → shape s part ≡ Woven (shape s first) (shape s second) → first < part → second < part → Has s part n r → n < s.rows
     → Numbered (shape s first) (shape s second) true n r place.lines place.first place.second place.way → Begins s part n r (steps.Woven first second place)
 begins_woven s part n r first second place is fb sb has rows at =
     let a : Family = shape s first in
-    let b : Family = shape s second in
-    (both_of s part n r first second true place fb sb has.there at,
+    let b : Family = shape s second in (
+      both_of s part n r first second true place fb sb has.there at,
       at.way,
       at.way_small,
       rows,
       ap (λ f. script_at f n r) is ∙ ap (script_at (Woven a b) n) (sym at.sum)
-        ∙ numbers_of_woven a b n place.lines place.first place.second place.way at.inside at.first at.second at.way,
-      size_woven (shape s part) a b is)
+          ∙ numbers_of_woven a b n place.lines place.first place.second place.way at.inside at.first at.second at.way,
+      size_woven (shape s part) a b is,
+    )

@@ -21,5 +21,5 @@ pub none_left : (f : Family) (lines rest number : ℕ) → number < capped (tota
 none_left f lines rest number below at is =
     let all : sums (count f) lines ≡ total f = ap (sums (count f)) (at ∙ next (most f)) in omega arith
   where
-  next : (n : ℕ) → n + 1 ≡ suc n
-  next n = omega arith
+    next : (n : ℕ) → n + 1 ≡ suc n
+    next n = omega arith

@@ -1,12 +1,12 @@
 -- A family as it is read in code, as what was read so far.
-use Rattle.std.specs.Prelude.{ℕ, ◌+◌, ◌<◌, ◌≤◌, ◌≡◌, List, [], ◌∷◌, length, get_or, map, reverse, Option, Some, None}
+use Rattle.std.specs.Prelude.{ℕ, ◌+◌, ◌<◌, ◌≤◌, ◌≡◌, true, false, List, [], ◌∷◌, ◌++◌, length, get_or, map, reverse, Option, Some, None}
 use Rattle.std.specs.Option.{option_map}
 use Rattle.script_family.specs.declared.error.FamilyError.{FamilyError}
 use Rattle.script_family.specs.declared.error.FamilyError.TheVariants.{BadLine, TooLarge, WantOfMemory}
 use Rattle.script_family.specs.declared.draft.OpenBlock.{OpenBlock}
 use Rattle.script_family.specs.declared.draft.Draft.{Draft}
 use Rattle.script_family.specs.Families.{Family, Silent, most}
-use Rattle.script_family.specs.Reading.{Block, Standing, bad_line, too_large, Turn, goes, stops}
+use Rattle.script_family.specs.Reading.{Block, Standing, bad_line, too_large, joined, is_small, Turn, goes, stops}
 
 -- the family of a part
 abbrev pub part_at : List Family → ℕ → Family
@@ -63,3 +63,21 @@ Stopped WantOfMemory turn = Unit {0}
 pub record Went (turn : Turn) (new : Draft) : Type 0 where
   pub there : turn ≡ goes (standing_of new)
   pub named : IsDraft new
+
+-- the parts of a block were put together in the part i, and nothing else changed but that parts were added
+pub record Joined (old new : Draft) (block : OpenBlock) (i : ℕ) : Type 0 where
+  pub more : List Family
+  pub grown : new.parts.families ≡ old.parts.families ++ more
+  pub now_kept : new.now ≡ old.now
+  pub blocks_kept : new.blocks.items ≡ old.blocks.items
+  pub there : i < length new.parts.families
+  pub same : part_at new.parts.families i
+      ≡ joined block.kind (option_map (part_at old.parts.families) block.over) (part_at old.parts.families old.now)
+  pub small : is_small block.kind (option_map (part_at old.parts.families) block.over) (part_at old.parts.families old.now) ≡ true
+
+-- too many lines would be woven
+abbrev pub NotJoined : FamilyError → Draft → OpenBlock → Type 0
+NotJoined (BadLine line) old block = ⊥
+NotJoined TooLarge old block =
+    is_small block.kind (option_map (part_at old.parts.families) block.over) (part_at old.parts.families old.now) ≡ false
+NotJoined WantOfMemory old block = Unit {0}

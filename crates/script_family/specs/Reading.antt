@@ -59,8 +59,8 @@ next_part kind number now [] = stops (bad_line number)
 next_part kind number now (b ∷ blocks) =
     if same_kind kind b.kind
     then (if is_small b.kind b.over now
-      then goes (record { now = Silent; blocks = record b { over = Some (joined b.kind b.over now) } ∷ blocks })
-      else stops too_large)
+    then goes (record { now = Silent; blocks = record b { over = Some (joined b.kind b.over now) } ∷ blocks })
+    else stops too_large)
     else stops (bad_line number)
 
 -- the innermost block is over, and follows what stood before it

@@ -43,7 +43,7 @@ Begins s part lines number (steps.One other rest) =
 Begins s part lines number (steps.Both first second place) =
     IsBoth s lines first place.lines place.first second place.second
     × (script_at (shape s part) lines number
-        ≡ script_at (shape s first) place.lines place.first ++ script_at (shape s second) (lines - place.lines) place.second)
+    ≡ script_at (shape s first) place.lines place.first ++ script_at (shape s second) (lines - place.lines) place.second)
     × (size (shape s first) + size (shape s second) < size (shape s part))
 Begins s part lines number (steps.Woven first second place) =
     IsBoth s lines first place.lines place.first second place.second
@@ -51,5 +51,5 @@ Begins s part lines number (steps.Woven first second place) =
     × (place.way < 2 ^ 64 - 1)
     × (lines < s.rows)
     × (script_at (shape s part) lines number
-        ≡ woven (get_or (patterns lines place.lines) place.way []) (script_at (shape s first) place.lines place.first) (script_at (shape s second) (lines - place.lines) place.second))
+    ≡ woven (get_or (patterns lines place.lines) place.way []) (script_at (shape s first) place.lines place.first) (script_at (shape s second) (lines - place.lines) place.second))
     × (suc (size (shape s first) + size (shape s second)) < size (shape s part))

@@ -2,7 +2,7 @@
 ghost use Rattle.std.specs.Prelude.{◌≡◌, ◌+◌, ◌<◌, ◌≤◌, ◌∷◌, IfOk, MatchResult, length, get_or};
 ghost use Rattle.script_family.specs.Families.{Silent, Followed};
 ghost use Rattle.script_family.specs.Reading.{same_kind, is_small, joined, turn, next_part, closed, beginning};
-ghost use Rattle.script_family.specs.Drafts.{standing_of, standing_most, IsDraft, Stopped, Went};
+ghost use Rattle.script_family.specs.Drafts.{standing_of, standing_most, blocks_most, IsIn, IsDraft, Stopped, Went, Joined, NotJoined};
 
 use crate::error::FamilyError;
 use crate::parts::Parts;
@@ -60,7 +60,7 @@ impl Draft {
     fn say(&mut self, line: u64, at: usize) -> Result<(), FamilyError>
         requires good { IsDraft self.old }
         requires few { standing_most (standing_of self.old) < 16777216 }
-        ensures { MatchResult result (λ _. Went (turn LineSort.Said line at (standing_of self.old)) self.old self.new)
+        ensures { MatchResult result (λ _. Went (turn LineSort.Said line at (standing_of self.old)) self.new)
             (λ e. Stopped e (turn LineSort.Said line at (standing_of self.old))) }
     {
         let said = self.parts.len();
@@ -71,10 +71,10 @@ impl Draft {
     }
 
     /// Opens a block.
-    fn open(&mut self, kind: BlockKind, line: u64, at: usize) -> Result<(), FamilyError>
+    fn open(&mut self, kind: BlockKind, line: u64) -> Result<(), FamilyError>
         requires { IsDraft self.old }
-        ensures { MatchResult result (λ _. Went (turn (LineSort.Opens kind) line at (standing_of self.old)) self.old self.new)
-            (λ e. Stopped e (turn (LineSort.Opens kind) line at (standing_of self.old))) }
+        ensures { MatchResult result (λ _. Went (turn (LineSort.Opens kind) line 0 (standing_of self.old)) self.new)
+            (λ e. Stopped e (turn (LineSort.Opens kind) line 0 (standing_of self.old))) }
     {
         self.blocks.push(OpenBlock {
             kind,
@@ -88,7 +88,11 @@ impl Draft {
     }
 
     /// The parts of a block put together.
-    fn join(&mut self, block: OpenBlock) -> Result<usize, FamilyError> {
+    fn join(&mut self, block: OpenBlock) -> Result<usize, FamilyError>
+        requires now { self.old.now < length self.old.parts.families }
+        requires block { IsIn (length self.old.parts.families) block }
+        ensures { MatchResult result (λ i. Joined self.old self.new block i) (λ e. NotJoined e self.old block) }
+    {
         let Some(over) = block.over else {
             return Ok(self.now);
         };
@@ -106,7 +110,11 @@ impl Draft {
     }
 
     /// Begins the next part of the innermost block.
-    fn next_part(&mut self, kind: BlockKind, line: u64) -> Result<(), FamilyError> {
+    fn next_part(&mut self, kind: BlockKind, line: u64) -> Result<(), FamilyError>
+        requires { IsDraft self.old }
+        ensures { MatchResult result (λ _. Went (turn (LineSort.Parts kind) line 0 (standing_of self.old)) self.new)
+            (λ e. Stopped e (turn (LineSort.Parts kind) line 0 (standing_of self.old))) }
+    {
         let Some(block) = self.blocks.pop() else {
             return Err(FamilyError::BadLine { line });
         };
@@ -126,7 +134,12 @@ impl Draft {
     }
 
     /// Ends the innermost block.
-    fn close(&mut self, line: u64) -> Result<(), FamilyError> {
+    fn close(&mut self, line: u64) -> Result<(), FamilyError>
+        requires good { IsDraft self.old }
+        requires few { standing_most (standing_of self.old) ≤ 16777216 }
+        ensures { MatchResult result (λ _. Went (turn LineSort.Closes line 0 (standing_of self.old)) self.new)
+            (λ e. Stopped e (turn LineSort.Closes line 0 (standing_of self.old))) }
+    {
         let Some(block) = self.blocks.pop() else {
             return Err(FamilyError::BadLine { line });
         };
@@ -140,13 +153,13 @@ impl Draft {
     pub(crate) fn take(&mut self, sort: LineSort, line: u64, at: usize) -> Result<(), FamilyError>
         requires good { IsDraft self.old }
         requires few { standing_most (standing_of self.old) < 16777216 }
-        ensures { MatchResult result (λ _. Went (turn sort line at (standing_of self.old)) self.old self.new)
+        ensures { MatchResult result (λ _. Went (turn sort line at (standing_of self.old)) self.new)
             (λ e. Stopped e (turn sort line at (standing_of self.old))) }
     {
         match sort {
             LineSort::Nothing => Ok(()),
             LineSort::Said => self.say(line, at),
-            LineSort::Opens(kind) => self.open(kind, line, at),
+            LineSort::Opens(kind) => self.open(kind, line),
             LineSort::Parts(kind) => self.next_part(kind, line),
             LineSort::Closes => self.close(line),
             LineSort::Bad => Err(FamilyError::BadLine { line }),

@@ -134,8 +134,7 @@ pub(crate) fn place_of(pair: Pair, n: usize, number: u64) -> Place
 {
     let (lines, rest) = find_lines(pair, n, number);
     let ways = factor(pair, n, lines);
-    let each =
-        count_at(pair.second.least, &pair.second.row, n - lines).saturating_mul(ways);
+    let each = count_at(pair.second.least, &pair.second.row, n - lines).saturating_mul(ways);
     let among = rest % each;
     Place {
         lines,

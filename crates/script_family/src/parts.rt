@@ -20,13 +20,26 @@ pub(crate) enum Step {
     /// It has no lines.
     Nothing,
     /// It is the line that begins at this place.
-    Line { at: usize },
+    Line {
+        at: usize,
+    },
     /// It is the script of this number of another part.
-    One { part: usize, number: u64 },
+    One {
+        part: usize,
+        number: u64,
+    },
     /// It is one of the first, and then one of the second.
-    Both { first: usize, second: usize, place: Place },
+    Both {
+        first: usize,
+        second: usize,
+        place: Place,
+    },
     /// It is one of the first and one of the second, woven.
-    Woven { first: usize, second: usize, place: Place },
+    Woven {
+        first: usize,
+        second: usize,
+        place: Place,
+    },
 }
 
 /// The parts of a family, and Pascal's table for those that are woven. A contract sees the family of each part and the rows of the table.
@@ -249,6 +262,10 @@ impl Parts {
         requires { left < self.now.rows }
         ensures { result ≡ capped (firsts_of left firsts) }
     {
-        if firsts == 0 { 0 } else { self.ways.of(left, firsts - 1) }
+        if firsts == 0 {
+            0
+        } else {
+            self.ways.of(left, firsts - 1)
+        }
     }
 }

@@ -11,4 +11,4 @@ pub returns : goal.returns
 returns c =
     c.loop-k.invariant
     ∙ sym (ap capped (sums_window (term c.args.pair c.args.n) c.loop-k.k (c.args.n + 1) (omega arith)
-        (λ j low high. c.window-start.ensures.behind j (omega arith) high)))
+    (λ j low high. c.window-start.ensures.behind j (omega arith) high)))

@@ -10,4 +10,4 @@ loop-k-init c = omega (arith, sums_zero (term c.args.pair c.args.n) c.window-sta
 pub unreachable-requires : goal.unreachable-requires
 unreachable-requires c =
     never_behind c.args.pair c.args.n c.loop-k.k c.args.number c.loop-k.rest (omega arith)
-      (λ j low high. c.window-start.ensures.behind j (omega arith) high) c.requires.there c.loop-k.invariant
+    (λ j low high. c.window-start.ensures.behind j (omega arith) high) c.requires.there c.loop-k.invariant

@@ -12,13 +12,13 @@ each_is : (c : After-saturating_mul-each) → c.saturating_mul-each.result
 each_is c =
     c.saturating_mul-each.ensures
     ∙ ap₂ (λ a b. min (a * b) (2 ^ 64 - 1))
-        (c.count_at.ensures ∙ ap (λ r. row_at c.args.pair.second.now.least r (c.args.n - c.find_lines-lines.result.0)) c.deref.ensures.value) c.factor-ways.ensures
+    (c.count_at.ensures ∙ ap (λ r. row_at c.args.pair.second.now.least r (c.args.n - c.find_lines-lines.result.0)) c.deref.ensures.value) c.factor-ways.ensures
 
 positive : (c : After-saturating_mul-each) → 0 < c.saturating_mul-each.result
 positive c =
     subst (λ v. 0 < v) (sym (each_is c))
-      (each_positive (count_of c.args.pair.first.now c.find_lines-lines.result.0) (count_of c.args.pair.second.now (c.args.n - c.find_lines-lines.result.0))
-        (times c.args.pair.woven c.args.n c.find_lines-lines.result.0) c.find_lines-lines.result.1 (2 ^ 64 - 1) c.find_lines-lines.ensures.block (omega arith))
+    (each_positive (count_of c.args.pair.first.now c.find_lines-lines.result.0) (count_of c.args.pair.second.now (c.args.n - c.find_lines-lines.result.0))
+    (times c.args.pair.woven c.args.n c.find_lines-lines.result.0) c.find_lines-lines.result.1 (2 ^ 64 - 1) c.find_lines-lines.ensures.block (omega arith))
 
 pub nonzero_rem-among : goal.nonzero_rem-among
 nonzero_rem-among c = positive (goal.at.nonzero_rem-among c).After-saturating_mul-each
@@ -32,9 +32,9 @@ returns c =
       lines = c.find_lines-lines.result.0;
       first = c.find_lines-lines.result.1 / each;
       second = c.find_lines-lines.result.1 % each / ways;
-      way = c.find_lines-lines.result.1 % each % ways
+      way = c.find_lines-lines.result.1 % each % ways;
     } in
     place_is c.args.pair c.args.n c.args.number c.find_lines-lines.result.0 c.find_lines-lines.result.1
-      (make c.saturating_mul-each.result c.factor-ways.result)
-      c.find_lines-lines.ensures.inside c.find_lines-lines.ensures.number c.find_lines-lines.ensures.block c.requires.exact
-      (ap₂ make (each_is (goal.at.returns c).After-saturating_mul-each) c.factor-ways.ensures)
+    (make c.saturating_mul-each.result c.factor-ways.result)
+    c.find_lines-lines.ensures.inside c.find_lines-lines.ensures.number c.find_lines-lines.ensures.block c.requires.exact
+    (ap₂ make (each_is (goal.at.returns c).After-saturating_mul-each) c.factor-ways.ensures)

@@ -9,7 +9,7 @@ loop-k-init c = first_way c.len-n.result c.push.new.self.items (c.in_ok-push.ens
 pub loop-k-preserved : goal.loop-k-preserved
 loop-k-preserved c =
     next_way c.len-n.result c.loop-k.k c.loop-k.row.items c.push-in-loop-k.new.self.items c.saturating_add.result c.loop-k.invariant c.in_ok-push-2.ensures.items
-      (c.saturating_add.ensures ∙ ap₂ (λ a b. min (a + b) (2 ^ 64 - 1)) c.of.ensures c.of-in-loop-k.ensures ∙ ways_more c.len-n.result c.loop-k.k (omega arith))
+    (c.saturating_add.ensures ∙ ap₂ (λ a b. min (a + b) (2 ^ 64 - 1)) c.of.ensures c.of-in-loop-k.ensures ∙ ways_more c.len-n.result c.loop-k.k (omega arith))
 
 pub returns : goal.returns
 returns c =

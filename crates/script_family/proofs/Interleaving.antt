@@ -18,15 +18,15 @@ pub way_first : (n k p : ℕ) → p < ways n k → get_or (patterns (suc n) (suc
 way_first n k p lt =
     let few : p < length (patterns n k) = omega (arith, length_patterns n k) in
     get_or_append_left (map (λ q. true ∷ q) (patterns n k)) (map (λ q. false ∷ q) (patterns n (suc k))) [] p
-      (omega (arith, length-map (patterns n k) (λ q. true ∷ q)))
+    (omega (arith, length-map (patterns n k) (λ q. true ∷ q)))
     ∙ get_map true (patterns n k) p few
 
 pub way_second : (n k p : ℕ) → firsts_of n k ≤ p → p < ways (suc n) k → get_or (patterns (suc n) k) p [] ≡ false ∷ get_or (patterns n k) (p - firsts_of n k) []
 way_second n zero p le lt =
     get_map false (patterns n zero) p (omega (arith, length_patterns n zero)) ∙ ap (λ m. false ∷ get_or (patterns n zero) m []) (same p)
   where
-  same : (p : ℕ) → p ≡ p - 0
-  same p = omega arith
+    same : (p : ℕ) → p ≡ p - 0
+    same p = omega arith
 way_second n (suc k) p le lt =
     let firsts : length (map (λ q. true ∷ q) (patterns n k)) ≡ ways n k = length-map (patterns n k) (λ q. true ∷ q) ∙ length_patterns n k in
     get_or-append_right (map (λ q. true ∷ q) (patterns n k)) (map (λ q. false ∷ q) (patterns n (suc k))) (ways n k) p [] firsts le
@@ -68,10 +68,10 @@ next_first rows (x ∷ fs) ss out new w b whole is begin lt more =
       there = lt';
       exact = is.exact;
       leads =
-        ap (λ v. v ++ woven (get_or (patterns n k) w []) fs ss) more
-        ∙ append_assoc out (x ∷ []) (woven (get_or (patterns n k) w []) fs ss)
-        ∙ ap (λ q. out ++ woven q (x ∷ fs) ss) (sym (ap (λ m. get_or (patterns m (suc k)) w []) (suc_left (length fs) (length ss)) ∙ way_first n k w lt'))
-        ∙ is.leads;
+          ap (λ v. v ++ woven (get_or (patterns n k) w []) fs ss) more
+          ∙ append_assoc out (x ∷ []) (woven (get_or (patterns n k) w []) fs ss)
+          ∙ ap (λ q. out ++ woven q (x ∷ fs) ss) (sym (ap (λ m. get_or (patterns m (suc k)) w []) (suc_left (length fs) (length ss)) ∙ way_first n k w lt'))
+          ∙ is.leads;
     }
 
 -- the next line is of the second
@@ -86,10 +86,11 @@ no_second (x ∷ fs) w lt pos =
     let none : ways k (suc k) ≡ 0 = ways_none k (suc k) (omega arith) in
     subst (λ m. w < firsts_of m (suc k)) (sym (less k)) (omega (arith, all, none))
   where
-  plain : (k : ℕ) → suc k + 0 ≡ suc k
-  plain k = omega arith
-  less : (k : ℕ) → suc k + 0 - 1 ≡ k
-  less k = omega arith
+    plain : (k : ℕ) → suc k + 0 ≡ suc k
+    plain k = omega arith
+
+    less : (k : ℕ) → suc k + 0 - 1 ≡ k
+    less k = omega arith
 
 pub some_second : (rows : ℕ) (fs ss out : Script) (w b : ℕ) (whole : Script) → Weaving rows fs ss out w whole
     → b ≡ capped (firsts_of (length fs + length ss - 1) (length fs)) → b ≤ w → 0 < length fs + length ss → 0 < length ss
@@ -109,7 +110,7 @@ next_second rows fs (y ∷ ss) out new w b whole is begin le some more =
     let n : ℕ = length fs + length ss in
     let k : ℕ = length fs in
     let begin' : b ≡ firsts_of n k =
-      exact_begin w b (firsts_of (length fs + suc (length ss) - 1) k) begin le is.exact ∙ ap (λ m. firsts_of m k) (one_less_right (length fs) (length ss)) in
+    exact_begin w b (firsts_of (length fs + suc (length ss) - 1) k) begin le is.exact ∙ ap (λ m. firsts_of m k) (one_less_right (length fs) (length ss)) in
     let there' : w < ways (suc n) k = subst (λ m. w < ways m k) (suc_right (length fs) (length ss)) is.there in
     let le' : firsts_of n k ≤ w = subst (λ m. m ≤ w) begin' le in
     let rest : w - b ≡ w - firsts_of n k = ap (λ m. w - m) begin' in
@@ -118,16 +119,16 @@ next_second rows fs (y ∷ ss) out new w b whole is begin le some more =
       there = subst (λ m. m < ways n k) (sym rest) (ways_less n k w le' there');
       exact = omega (arith, is.exact);
       leads =
-        ap (λ v. v ++ woven (get_or (patterns n k) (w - b) []) fs ss) more
-        ∙ append_assoc out (y ∷ []) (woven (get_or (patterns n k) (w - b) []) fs ss)
-        ∙ ap (λ m. out ++ y ∷ woven (get_or (patterns n k) m []) fs ss) rest
-        ∙ ap (λ q. out ++ q) (sym (by_second (get_or (patterns n k) (w - firsts_of n k) []) fs y ss))
-        ∙ ap (λ q. out ++ woven q fs (y ∷ ss)) (sym (ap (λ m. get_or (patterns m k) w []) (suc_right (length fs) (length ss)) ∙ way_second n k w le' there'))
-        ∙ is.leads;
+          ap (λ v. v ++ woven (get_or (patterns n k) (w - b) []) fs ss) more
+          ∙ append_assoc out (y ∷ []) (woven (get_or (patterns n k) (w - b) []) fs ss)
+          ∙ ap (λ m. out ++ y ∷ woven (get_or (patterns n k) m []) fs ss) rest
+          ∙ ap (λ q. out ++ q) (sym (by_second (get_or (patterns n k) (w - firsts_of n k) []) fs y ss))
+          ∙ ap (λ q. out ++ woven q fs (y ∷ ss)) (sym (ap (λ m. get_or (patterns m k) w []) (suc_right (length fs) (length ss)) ∙ way_second n k w le' there'))
+          ∙ is.leads;
     }
   where
-  by_second : (q : List Bool) (fs : Script) (y : ℕ) (ss : Script) → woven (false ∷ q) fs (y ∷ ss) ≡ y ∷ woven q fs ss
-  by_second q fs y ss = refl
+    by_second : (q : List Bool) (fs : Script) (y : ℕ) (ss : Script) → woven (false ∷ q) fs (y ∷ ss) ≡ y ∷ woven q fs ss
+    by_second q fs y ss = refl
 
 woven_none : (p : List Bool) → woven p [] [] ≡ []
 woven_none [] = refl
