@@ -1,5 +1,5 @@
 -- A family as it is read, line by line.
-use Rattle.std.proofs.Common.{◌≡◌, refl, sym, ◌∙◌, ap, ap₂, subst, ℕ, zero, suc, ◌+◌, ◌<◌, ◌≤◌, max, arith, length, length-append, get_or, map, List, [], ◌∷◌, ◌++◌, Option, Some, None, Bool, true, false}
+use Rattle.std.proofs.Common.{◌≡◌, refl, sym, ◌∙◌, ap, ap₂, subst, ℕ, zero, suc, ◌+◌, ◌<◌, ◌≤◌, max, arith, length, length-append, get_or, map, List, [], ◌∷◌, ◌++◌, Option, Some, None, Bool, true, false, cond, ◌⊎◌, inl, inr}
 use Rattle.std.proofs.lemmas.List.{get_or_push}
 use Rattle.std.specs.Option.{option_map}
 use Rattle.script_family.specs.declared.draft.OpenBlock.{OpenBlock}
@@ -8,8 +8,9 @@ use Rattle.script_family.specs.declared.sort.BlockKind.TheVariants as kinds
 use Rattle.script_family.specs.declared.sort.LineSort.{LineSort}
 use Rattle.script_family.specs.declared.sort.LineSort.TheVariants as sorts
 use Rattle.script_family.specs.Families.{Family, Silent, Says, Followed, Chosen, Woven, most}
-use Rattle.script_family.specs.Reading.{Block, Standing, Turn, goes, stops, Outcome, joined, is_small, same_kind, next_part, closed, turn}
-use Rattle.script_family.specs.Drafts.{part_at, block_of, standing, IfIn, IsIn, AreIn, AreNamed, if_most, blocks_most, standing_most}
+use Rattle.script_family.specs.Reading.{bad_line, too_large, Block, Standing, Turn, goes, stops, Outcome, joined, is_small, same_kind, next_part, closed, turn}
+use Rattle.script_family.specs.Drafts.{part_at, block_of, standing, IfIn, IsIn, AreIn, AreNamed, if_heavy, blocks_heavy, standing_heavy, standing_most}
+use Rattle.script_family.specs.Weights.{heaviest}
 use Rattle.script_family.proofs.Growing.{at_left}
 
 if_in_more : (n m : ℕ) (o : Option ℕ) → n ≤ m → IfIn n o → IfIn m o
@@ -71,9 +72,137 @@ silent_stands fs now bs new ok is grown =
       subst (λ v. AreNamed v now bs) (sym grown) (record { now_in = omega arith; blocks_in = are_in_more (length fs) (length (fs ++ Silent ∷ [])) bs (omega arith) ok }),
     )
 
--- How many lines a script has at the most ----------------------------------------------------------
+-- The next part of a block, and its end -------------------------------------------------------------
 
-joined_most : (kind : BlockKind) (over : Option Family) (f : Family) → most (joined kind over f) ≤ if_most over + most f
-joined_most kind None f = omega arith
-joined_most kinds.Either (Some g) f = omega arith
-joined_most kinds.Together (Some g) f = omega arith
+pub next_stands : (fs more : List Family) (now i now' : ℕ) (b : OpenBlock) (bs : List OpenBlock) (new : List Family) (f : Family) → AreNamed fs now (b ∷ bs)
+    → i < length (fs ++ more) → part_at (fs ++ more) i ≡ f → now' ≡ length (fs ++ more) → new ≡ (fs ++ more) ++ Silent ∷ []
+    → (standing new now' (record { kind = b.kind; line = b.line; before = b.before; over = Some i } ∷ bs)
+    ≡ record { now = Silent; blocks = record { kind = b.kind; line = b.line; before = part_at fs b.before; over = Some f } ∷ map (block_of fs) bs })
+    × AreNamed new now' (record { kind = b.kind; line = b.line; before = b.before; over = Some i } ∷ bs)
+next_stands fs more now i now' b bs new f named there is now_is grown =
+    let gs : List Family = fs ++ more in
+    let next : OpenBlock = record { kind = b.kind; line = b.line; before = b.before; over = Some i } in
+    let count : length gs ≡ length fs + length more = length-append fs more in
+    let before_in : b.before < length gs = omega (arith, named.blocks_in.0.0) in
+    let kept : AreIn (length gs) bs = are_in_more (length fs) (length gs) bs (omega arith) named.blocks_in.1 in
+    let make : Family → Family → List Block → Standing = λ g h blocks. record { now = Silent; blocks = record { kind = b.kind; line = b.line; before = g; over = Some h } ∷ blocks } in
+    let s = silent_stands gs now' (next ∷ bs) new ((before_in, there), kept) now_is grown in (
+      s.0 ∙ ap₂ (λ g h. make g h (map (block_of gs) bs)) (at_left fs more b.before named.blocks_in.0.0) is ∙ ap (make (part_at fs b.before) f) (blocks_kept fs more bs named.blocks_in.1),
+      s.1,
+    )
+
+pub close_stands : (fs more : List Family) (now i now' : ℕ) (b : OpenBlock) (bs : List OpenBlock) (new : List Family) (f : Family) → AreNamed fs now (b ∷ bs)
+    → i < length (fs ++ more) → part_at (fs ++ more) i ≡ f → now' ≡ length (fs ++ more)
+    → new ≡ (fs ++ more) ++ Followed (part_at (fs ++ more) b.before) (part_at (fs ++ more) i) ∷ []
+    → (standing new now' bs ≡ record { now = Followed (part_at fs b.before) f; blocks = map (block_of fs) bs }) × AreNamed new now' bs
+close_stands fs more now i now' b bs new f named there is now_is grown =
+    let gs : List Family = fs ++ more in
+    let g : Family = Followed (part_at gs b.before) (part_at gs i) in
+    let count : length gs ≡ length fs + length more = length-append fs more in
+    let all : length (gs ++ g ∷ []) ≡ length gs + 1 = length-append gs (g ∷ []) in
+    let kept : AreIn (length gs) bs = are_in_more (length fs) (length gs) bs (omega arith) named.blocks_in.1 in
+    let make : Family → List Block → Standing = λ h blocks. record { now = h; blocks = blocks } in
+    let now_at : part_at (gs ++ g ∷ []) now' ≡ Followed (part_at fs b.before) f =
+    at_end gs g now' now_is ∙ ap₂ Followed (at_left fs more b.before named.blocks_in.0.0) is in (
+      ap (λ v. standing v now' bs) grown ∙ stands gs (g ∷ []) now' (Followed (part_at fs b.before) f) bs kept now_at
+          ∙ ap (make (Followed (part_at fs b.before) f)) (blocks_kept fs more bs named.blocks_in.1),
+      subst (λ v. AreNamed v now' bs) (sym grown)
+          (record { now_in = omega arith; blocks_in = are_in_more (length gs) (length (gs ++ g ∷ [])) bs (omega arith) kept }),
+    )
+
+pub turn_next : (kind : BlockKind) (n : ℕ) (now : Family) (b : Block) (bs : List Block) → same_kind kind b.kind ≡ true → is_small b.kind b.over now ≡ true
+    → next_part kind n now (b ∷ bs)
+    ≡ goes (record { now = Silent; blocks = record { kind = b.kind; line = b.line; before = b.before; over = Some (joined b.kind b.over now) } ∷ bs })
+turn_next kind n now b bs same small =
+    let there : Turn = goes (record { now = Silent; blocks = record { kind = b.kind; line = b.line; before = b.before; over = Some (joined b.kind b.over now) } ∷ bs }) in
+    ap (λ c. cond c (cond (is_small b.kind b.over now) there (stops too_large)) (stops (bad_line n))) same ∙ ap (λ c. cond c there (stops too_large)) small
+
+pub turn_other : (kind : BlockKind) (n : ℕ) (now : Family) (b : Block) (bs : List Block) → same_kind kind b.kind ≡ false → next_part kind n now (b ∷ bs) ≡ stops (bad_line n)
+turn_other kind n now b bs other =
+    ap (λ c. cond c
+    (cond (is_small b.kind b.over now)
+    (goes (record { now = Silent; blocks = record { kind = b.kind; line = b.line; before = b.before; over = Some (joined b.kind b.over now) } ∷ bs })) (stops too_large))
+    (stops (bad_line n))) other
+
+pub turn_next_large : (kind : BlockKind) (n : ℕ) (now : Family) (b : Block) (bs : List Block) → same_kind kind b.kind ≡ true → is_small b.kind b.over now ≡ false
+    → next_part kind n now (b ∷ bs) ≡ stops too_large
+turn_next_large kind n now b bs same large =
+    let there : Turn = goes (record { now = Silent; blocks = record { kind = b.kind; line = b.line; before = b.before; over = Some (joined b.kind b.over now) } ∷ bs }) in
+    ap (λ c. cond c (cond (is_small b.kind b.over now) there (stops too_large)) (stops (bad_line n))) same ∙ ap (λ c. cond c there (stops too_large)) large
+
+pub turn_close : (n : ℕ) (now : Family) (b : Block) (bs : List Block) → is_small b.kind b.over now ≡ true
+    → closed n now (b ∷ bs) ≡ goes (record { now = Followed b.before (joined b.kind b.over now); blocks = bs })
+turn_close n now b bs small = ap (λ c. cond c (goes (record { now = Followed b.before (joined b.kind b.over now); blocks = bs })) (stops too_large)) small
+
+pub turn_close_large : (n : ℕ) (now : Family) (b : Block) (bs : List Block) → is_small b.kind b.over now ≡ false → closed n now (b ∷ bs) ≡ stops too_large
+turn_close_large n now b bs large = ap (λ c. cond c (goes (record { now = Followed b.before (joined b.kind b.over now); blocks = bs })) (stops too_large)) large
+
+-- How heavy it is ---------------------------------------------------------------------------------
+
+bool_cases : (b : Bool) → (b ≡ true) ⊎ (b ≡ false)
+bool_cases true = inl refl
+bool_cases false = inr refl
+
+pub most_is : (f : Family) → most f ≡ heaviest (λ at. 1) f
+most_is Silent = refl
+most_is (Says line) = refl
+most_is (Followed a b) = ap₂ (λ m n. m + n) (most_is a) (most_is b)
+most_is (Chosen a b) = ap₂ (λ m n. max m n) (most_is a) (most_is b)
+most_is (Woven a b) = ap₂ (λ m n. m + n) (most_is a) (most_is b)
+
+joined_heavy : (w : ℕ → ℕ) (kind : BlockKind) (over : Option Family) (f : Family) → heaviest w (joined kind over f) ≤ if_heavy w over + heaviest w f
+joined_heavy w kind None f = omega arith
+joined_heavy w kinds.Either (Some g) f = omega arith
+joined_heavy w kinds.Together (Some g) f = omega arith
+
+-- two parts that are put one behind the other
+pub close_most : (now : Family) (b : Block) (bs : List Block) → standing_most (record { now = now; blocks = b ∷ bs }) ≤ 16777216
+    → most b.before + most (joined b.kind b.over now) ≤ 16777216
+close_most now b bs few =
+    omega (arith, few, joined_heavy (λ at. 1) b.kind b.over now, most_is b.before, most_is (joined b.kind b.over now))
+
+turn_goes : (a b : Standing) → goes a ≡ goes b → a ≡ b
+turn_goes a b e = cc
+
+never_stops : (o : Outcome) (s : Standing) → stops o ≡ goes s → ⊥
+never_stops o s e = cc
+
+next_heavy : (w : ℕ → ℕ) (kind : BlockKind) (n m : ℕ) (now : Family) (bs : List Block) (s : Standing) → next_part kind n now bs ≡ goes s
+    → standing_heavy w s ≤ heaviest w now + blocks_heavy w bs + m
+next_heavy w kind n m now [] s e = absurd (never_stops (bad_line n) s e)
+next_heavy w kind n m now (b ∷ bs) s e =
+    elim (bool_cases (same_kind kind b.kind)) [
+      | inl same ↦ elim (bool_cases (is_small b.kind b.over now)) [
+        | inl small ↦
+            let there : Standing = record { now = Silent; blocks = record { kind = b.kind; line = b.line; before = b.before; over = Some (joined b.kind b.over now) } ∷ bs } in
+            let is : there ≡ s = turn_goes there s (sym (turn_next kind n now b bs same small) ∙ e) in
+            subst (λ v. standing_heavy w v ≤ heaviest w now + blocks_heavy w (b ∷ bs) + m) is (omega (arith, joined_heavy w b.kind b.over now))
+        | inr large ↦ absurd (never_stops too_large s (sym (turn_next_large kind n now b bs same large) ∙ e))
+      ]
+      | inr other ↦ absurd (never_stops (bad_line n) s (sym (turn_other kind n now b bs other) ∙ e))
+    ]
+
+close_heavy : (w : ℕ → ℕ) (n m : ℕ) (now : Family) (bs : List Block) (s : Standing) → closed n now bs ≡ goes s
+    → standing_heavy w s ≤ heaviest w now + blocks_heavy w bs + m
+close_heavy w n m now [] s e = absurd (never_stops (bad_line n) s e)
+close_heavy w n m now (b ∷ bs) s e =
+    elim (bool_cases (is_small b.kind b.over now)) [
+      | inl small ↦
+          let there : Standing = record { now = Followed b.before (joined b.kind b.over now); blocks = bs } in
+          let is : there ≡ s = turn_goes there s (sym (turn_close n now b bs small) ∙ e) in
+          subst (λ v. standing_heavy w v ≤ heaviest w now + blocks_heavy w (b ∷ bs) + m) is (omega (arith, joined_heavy w b.kind b.over now))
+      | inr large ↦ absurd (never_stops too_large s (sym (turn_close_large n now b bs large) ∙ e))
+    ]
+
+-- a turn adds at most the weight of the line
+pub turn_heavy : (w : ℕ → ℕ) (sort : LineSort) (n at : ℕ) (s t : Standing) → turn sort n at s ≡ goes t → standing_heavy w t ≤ standing_heavy w s + w at
+turn_heavy w sorts.Nothing n at s t e = subst (λ v. standing_heavy w v ≤ standing_heavy w s + w at) (turn_goes s t e) (omega arith)
+turn_heavy w sorts.Said n at s t e =
+    let there : Standing = record { now = Followed s.now (Says at); blocks = s.blocks } in
+    subst (λ v. standing_heavy w v ≤ standing_heavy w s + w at) (turn_goes there t e) (omega arith)
+turn_heavy w (sorts.Opens kind) n at s t e =
+    let there : Standing = record { now = Silent; blocks = record { kind = kind; line = n; before = s.now; over = None } ∷ s.blocks } in
+    subst (λ v. standing_heavy w v ≤ standing_heavy w s + w at) (turn_goes there t e) (omega arith)
+turn_heavy w (sorts.Parts kind) n at s t e = next_heavy w kind n (w at) s.now s.blocks t e
+turn_heavy w sorts.Closes n at s t e = close_heavy w n (w at) s.now s.blocks t e
+turn_heavy w sorts.Bad n at s t e = absurd (never_stops (bad_line n) t e)

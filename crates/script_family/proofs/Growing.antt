@@ -6,6 +6,9 @@ use Rattle.script_family.specs.declared.part.Node.{Node}
 use Rattle.script_family.specs.declared.part.Node.TheVariants as nodes
 use Rattle.script_family.specs.declared.part.Part.{Part}
 use Rattle.script_family.specs.Families.{Family, Silent, Followed, Chosen, Woven, most}
+use Rattle.script_family.specs.Counts.{count}
+use Rattle.script_family.specs.Steps.{Shapes, shape}
+use Rattle.script_family.proofs.Rows.{none_above}
 use Rattle.script_family.specs.Parts.{family_of, grown, families, NamesBefore, HasRows, IsRow, IsPart, IsParts}
 
 pub grown_push : (made : List Family) (ps : List Part) (p : Part) → grown made (ps ++ p ∷ []) ≡ grown made ps ++ family_of (grown made ps) p.node ∷ []
@@ -83,3 +86,51 @@ parts_push ps part rows all one i d lt =
 -- the part that was read
 pub part_read : (fs : List Family) (rows : ℕ) (ps : List Part) (i : ℕ) (x : Part) → IsParts fs rows ps → i < length ps → x ≡ get_or ps i x → IsPart fs rows i x
 part_read fs rows ps i x all lt is = subst (IsPart fs rows i) (sym is) (all i x lt)
+
+-- the part that was read, by what a contract sees
+pub part_in : (ps : List Part) (rows : ℕ) (s : Shapes) (i : ℕ) (x : Part) → IsParts (families ps) rows ps → record { families = families ps; rows = rows } ≡ s
+    → i < length s.families → x ≡ get_or ps i x → IsPart s.families s.rows i x
+part_in ps rows s i x all view lt is =
+    let count : length (families ps) ≡ length ps = length_families ps in
+    let same : length (families ps) ≡ length s.families = ap (λ (t : Shapes). length t.families) view in
+    subst (λ (t : Shapes). IsPart t.families t.rows i x) view (part_read (families ps) rows ps i x all (omega arith) is)
+
+-- a part that is added
+pub new_part : (s : Shapes) (part : Part) (f : Family) → family_of s.families part.node ≡ f → NamesBefore (length s.families) part.node → IsRow f part.least part.row.items
+    → most f ≤ 16777216 → HasRows s.rows (most f) part.node → IsPart (s.families ++ f ∷ []) s.rows (length s.families) part
+new_part s part f is names row few table =
+    let at : get_or (s.families ++ f ∷ []) (length s.families) Silent ≡ f = get_or_push s.families f Silent (length s.families) refl in
+    record {
+      names = names;
+      same = at ∙ sym is ∙ sym (names_kept s.families (f ∷ []) (length s.families) part.node names (omega arith));
+      row = subst (λ g. IsRow g part.least part.row.items) (sym at) row;
+      few = subst (λ g. most g ≤ 16777216) (sym at) few;
+      table = subst (λ g. HasRows s.rows (most g) part.node) (sym at) table;
+    }
+
+-- what a part is that names two others
+pub is_followed : (s : Shapes) (i a b : ℕ) (x : Part) → IsPart s.families s.rows i x → x.node ≡ nodes.Followed a b
+    → (shape s i ≡ Followed (shape s a) (shape s b)) × (a < i) × (b < i)
+is_followed s i a b x part node =
+    let names : NamesBefore i (nodes.Followed a b) = subst (NamesBefore i) node part.names in
+    (part.same ∙ ap (family_of s.families) node, names.0, names.1)
+
+pub is_chosen : (s : Shapes) (i a b : ℕ) (x : Part) → IsPart s.families s.rows i x → x.node ≡ nodes.Chosen a b
+    → (shape s i ≡ Chosen (shape s a) (shape s b)) × (a < i) × (b < i)
+is_chosen s i a b x part node =
+    let names : NamesBefore i (nodes.Chosen a b) = subst (NamesBefore i) node part.names in
+    (part.same ∙ ap (family_of s.families) node, names.0, names.1)
+
+pub is_woven : (s : Shapes) (i a b : ℕ) (x : Part) → IsPart s.families s.rows i x → x.node ≡ nodes.Woven a b
+    → (shape s i ≡ Woven (shape s a) (shape s b)) × (a < i) × (b < i) × (most (shape s i) < s.rows)
+is_woven s i a b x part node =
+    let names : NamesBefore i (nodes.Woven a b) = subst (NamesBefore i) node part.names in
+    (part.same ∙ ap (family_of s.families) node, names.0, names.1, subst (HasRows s.rows (most (shape s i))) node part.table)
+
+-- a script has no more lines than the part has at the most
+pub few_lines : (s : Shapes) (i n r : ℕ) (x : Part) → IsPart s.families s.rows i x → r < count (shape s i) n → (n ≤ most (shape s i)) × (n ≤ 16777216)
+few_lines s i n r x part lt =
+    elim (cases_lt (most (shape s i)) n) [
+      | inl more ↦ absurd (omega (arith, none_above (shape s i) x.least x.row.items part.row n more))
+      | inr le ↦ (le, omega (arith, part.few))
+    ]

@@ -37,6 +37,7 @@ pub record Weaving (rows : ℕ) (fs ss out : Script) (w : ℕ) (whole : Script) 
   pub room : length fs + length ss < rows
   pub there : w < ways (length fs + length ss) (length fs)
   pub exact : w < 2 ^ 64 - 1
+  pub small : length fs + length ss < 2 ^ 64
   pub leads : out ++ woven (get_or (patterns (length fs + length ss) (length fs)) w []) fs ss ≡ whole
 
 suc_left : (a b : ℕ) → suc a + b ≡ suc (a + b)
@@ -67,6 +68,7 @@ next_first rows (x ∷ fs) ss out new w b whole is begin lt more =
       room = omega (arith, is.room);
       there = lt';
       exact = is.exact;
+      small = omega (arith, is.small);
       leads =
           ap (λ v. v ++ woven (get_or (patterns n k) w []) fs ss) more
           ∙ append_assoc out (x ∷ []) (woven (get_or (patterns n k) w []) fs ss)
@@ -118,6 +120,7 @@ next_second rows fs (y ∷ ss) out new w b whole is begin le some more =
       room = omega (arith, is.room);
       there = subst (λ m. m < ways n k) (sym rest) (ways_less n k w le' there');
       exact = omega (arith, is.exact);
+      small = omega (arith, is.small);
       leads =
           ap (λ v. v ++ woven (get_or (patterns n k) (w - b) []) fs ss) more
           ∙ append_assoc out (y ∷ []) (woven (get_or (patterns n k) (w - b) []) fs ss)

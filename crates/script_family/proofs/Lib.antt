@@ -15,3 +15,5 @@ pub mod Bytes
 pub mod Sorting
 pub mod Sharing
 pub mod Drafting
+pub mod Readings
+pub mod Ending

@@ -66,12 +66,12 @@ one_of parts m k = record {
 }
 
 filter_none : (p : ℕ → Bool) → ((k : ℕ) → p k ≡ false) → (xs : List ℕ) → filter p xs ≡ []
-filter_none p no [] = refl
-filter_none p no (x ∷ xs) = filter_no p x xs (no x) ∙ filter_none p no xs
+filter_none p fails [] = refl
+filter_none p fails (x ∷ xs) = filter_no p x xs (fails x) ∙ filter_none p fails xs
 
 filter_all : (p : ℕ → Bool) → ((k : ℕ) → p k ≡ true) → (xs : List ℕ) → filter p xs ≡ xs
-filter_all p yes [] = refl
-filter_all p yes (x ∷ xs) = filter_yes p x xs (yes x) ∙ ap (λ v. x ∷ v) (filter_all p yes xs)
+filter_all p holds [] = refl
+filter_all p holds (x ∷ xs) = filter_yes p x xs (holds x) ∙ ap (λ v. x ∷ v) (filter_all p holds xs)
 
 -- the first m parts of some numbers
 shared : (parts m : ℕ) (xs : List ℕ) → IsPermutation (flat_map (λ part. filter (λ k. k % parts == part) xs) (below m)) (filter (λ k. nat_lt (k % parts) m) xs)

@@ -1,5 +1,5 @@
 -- What a line is, from what a reader of scripts gives.
-use Rattle.std.proofs.Common.{◌≡◌, refl, sym, ◌∙◌, ap, ℕ, ◌+◌, List, [], ◌∷◌, true}
+use Rattle.std.proofs.Common.{◌≡◌, refl, sym, ◌∙◌, ap, ℕ, ◌+◌, ◌<◌, length, arith, List, [], ◌∷◌, true}
 use Rattle.device_ids.specs.Cuts.{parts}
 use Rattle.script_reader.specs.declared.line.Line.{Line}
 use Rattle.script_reader.specs.declared.line.ScriptEnd.{ScriptEnd}
@@ -9,13 +9,7 @@ use Rattle.script_reader.specs.Reading.{give_all}
 use Rattle.script_reader.specs.Whole.{end_of}
 use Rattle.script_family.specs.declared.sort.LineSort.{LineSort}
 use Rattle.script_family.specs.declared.sort.LineSort.TheVariants as sorts
-use Rattle.script_family.specs.Lines.{by_meaning}
-
--- what a script of one line tells of it
-abbrev pub tells : List Line → ScriptEnd → LineSort
-tells lines (script_ends.Bad line) = sorts.Bad
-tells [] script_ends.End = sorts.Nothing
-tells (line ∷ lines) script_ends.End = sorts.Said
+use Rattle.script_family.specs.Lines.{by_meaning, tells}
 
 told : (m : Meaning) (lines : List Line) (e : ScriptEnd) → give_all lines (end_of e) ≡ onward (0 + 1) m ends → tells lines e ≡ by_meaning m
 told nothing [] script_ends.End is = refl
@@ -34,3 +28,11 @@ told bad (line ∷ lines) e is = absurd (let k : gives line.line line.event (giv
 pub sort_told : (fed line : List ℕ) (lines : List Line) (e : ScriptEnd) → give_all lines (end_of e) ≡ trace true 0 fed → parts 0x0A fed ≡ line ∷ ([] ∷ [])
     → tells lines e ≡ by_meaning (whole_line line)
 sort_told fed line lines e is cut = told (whole_line line) lines e (is ∙ ap (of_lines true 0) cut)
+
+pub tells_nothing : (lines : List Line) → length lines ≡ 0 → tells lines script_ends.End ≡ sorts.Nothing
+tells_nothing [] none = refl
+tells_nothing (line ∷ lines) none = absurd (omega arith)
+
+pub tells_said : (lines : List Line) → 0 < length lines → tells lines script_ends.End ≡ sorts.Said
+tells_said [] some = absurd (omega arith)
+tells_said (line ∷ lines) some = refl

@@ -5,7 +5,8 @@ use Rattle.script_family.specs.declared.error.FamilyError.{FamilyError}
 use Rattle.script_family.specs.declared.error.FamilyError.TheVariants.{BadLine, TooLarge, WantOfMemory}
 use Rattle.script_family.specs.declared.draft.OpenBlock.{OpenBlock}
 use Rattle.script_family.specs.declared.draft.Draft.{Draft}
-use Rattle.script_family.specs.Families.{Family, Silent, most}
+use Rattle.script_family.specs.Families.{Family, Silent}
+use Rattle.script_family.specs.Weights.{heaviest}
 use Rattle.script_family.specs.Reading.{Block, Standing, bad_line, too_large, joined, is_small, Turn, goes, stops}
 
 -- the family of a part
@@ -20,7 +21,7 @@ abbrev pub standing : List Family → ℕ → List OpenBlock → Standing
 standing made now blocks = record { now = part_at made now; blocks = map (block_of made) blocks }
 
 abbrev pub standing_of : Draft → Standing
-standing_of d = standing d.parts.families d.now (reverse d.blocks.items)
+standing_of d = standing d.parts.families d.current (reverse d.blocks.items)
 
 -- what a draft names is there
 abbrev pub IfIn : ℕ → Option ℕ → Type 0
@@ -39,19 +40,23 @@ pub record AreNamed (made : List Family) (now : ℕ) (blocks : List OpenBlock) :
   pub blocks_in : AreIn (length made) blocks
 
 abbrev pub IsDraft : Draft → Type 0
-IsDraft d = AreNamed d.parts.families d.now (reverse d.blocks.items)
+IsDraft d = AreNamed d.parts.families d.current (reverse d.blocks.items)
 
--- the most lines of a script of what was read so far
-abbrev pub if_most : Option Family → ℕ
-if_most None = 0
-if_most (Some f) = most f
+-- the most that the lines of a script of what was read so far weigh
+abbrev pub if_heavy : (ℕ → ℕ) → Option Family → ℕ
+if_heavy weight None = 0
+if_heavy weight (Some f) = heaviest weight f
 
-abbrev pub blocks_most : List Block → ℕ
-blocks_most [] = 0
-blocks_most (b ∷ blocks) = most b.before + if_most b.over + blocks_most blocks
+abbrev pub blocks_heavy : (ℕ → ℕ) → List Block → ℕ
+blocks_heavy weight [] = 0
+blocks_heavy weight (b ∷ blocks) = heaviest weight b.before + if_heavy weight b.over + blocks_heavy weight blocks
 
+abbrev pub standing_heavy : (ℕ → ℕ) → Standing → ℕ
+standing_heavy weight s = heaviest weight s.now + blocks_heavy weight s.blocks
+
+-- the most lines of it
 abbrev pub standing_most : Standing → ℕ
-standing_most s = most s.now + blocks_most s.blocks
+standing_most s = standing_heavy (λ at. 1) s
 
 -- what a refusal of a line says
 abbrev pub Stopped : FamilyError → Turn → Type 0
@@ -68,16 +73,16 @@ pub record Went (turn : Turn) (new : Draft) : Type 0 where
 pub record Joined (old new : Draft) (block : OpenBlock) (i : ℕ) : Type 0 where
   pub more : List Family
   pub grown : new.parts.families ≡ old.parts.families ++ more
-  pub now_kept : new.now ≡ old.now
+  pub now_kept : new.current ≡ old.current
   pub blocks_kept : new.blocks.items ≡ old.blocks.items
   pub there : i < length new.parts.families
   pub same : part_at new.parts.families i
-      ≡ joined block.kind (option_map (part_at old.parts.families) block.over) (part_at old.parts.families old.now)
-  pub small : is_small block.kind (option_map (part_at old.parts.families) block.over) (part_at old.parts.families old.now) ≡ true
+      ≡ joined block.kind (option_map (part_at old.parts.families) block.over) (part_at old.parts.families old.current)
+  pub small : is_small block.kind (option_map (part_at old.parts.families) block.over) (part_at old.parts.families old.current) ≡ true
 
 -- too many lines would be woven
 abbrev pub NotJoined : FamilyError → Draft → OpenBlock → Type 0
 NotJoined (BadLine line) old block = ⊥
 NotJoined TooLarge old block =
-    is_small block.kind (option_map (part_at old.parts.families) block.over) (part_at old.parts.families old.now) ≡ false
+    is_small block.kind (option_map (part_at old.parts.families) block.over) (part_at old.parts.families old.current) ≡ false
 NotJoined WantOfMemory old block = Unit {0}

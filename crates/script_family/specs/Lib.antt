@@ -12,6 +12,7 @@ pub mod Weights
 pub mod Lines
 pub mod Reading
 pub mod Drafts
+pub mod Loops
 pub mod Reads
 pub mod ToldCodes
 pub mod Laws

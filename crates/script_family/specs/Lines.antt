@@ -2,6 +2,9 @@
 use Rattle.std.specs.Prelude.{ℕ, ◌≡◌, nat_le, List, [], ◌∷◌, length, codes, Option, Some, None, if◌then◌else◌}
 use Rattle.std.specs.Str.Lines.{strip_carriage_return}
 use Rattle.script_reader.specs.Words.{words_of}
+use Rattle.script_reader.specs.declared.line.Line.{Line}
+use Rattle.script_reader.specs.declared.line.ScriptEnd.{ScriptEnd}
+use Rattle.script_reader.specs.declared.line.ScriptEnd.TheVariants as script_ends
 use Rattle.script_reader.specs.Tables.{among}
 use Rattle.script_reader.specs.Script.{Meaning, nothing, means, bad, whole_line}
 use Rattle.script_family.specs.declared.sort.BlockKind.TheVariants as kinds
@@ -22,6 +25,12 @@ abbrev pub by_meaning : Meaning → LineSort
 by_meaning nothing = sorts.Nothing
 by_meaning (means event) = sorts.Said
 by_meaning bad = sorts.Bad
+
+-- what the events of a script of one line, and its end, tell of the line
+abbrev pub tells : List Line → ScriptEnd → LineSort
+tells lines (script_ends.Bad number) = sorts.Bad
+tells [] script_ends.End = sorts.Nothing
+tells (line ∷ lines) script_ends.End = sorts.Said
 
 abbrev pub or_else : LineSort → Option LineSort → LineSort
 or_else sort None = sort

@@ -2,7 +2,8 @@
 ghost use Rattle.std.specs.Prelude.{◌≡◌, ◌+◌, ◌<◌, ◌≤◌, ◌∷◌, IfOk, MatchResult, length, get_or};
 ghost use Rattle.script_family.specs.Families.{Silent, Followed};
 ghost use Rattle.script_family.specs.Reading.{same_kind, is_small, joined, turn, next_part, closed, beginning};
-ghost use Rattle.script_family.specs.Drafts.{standing_of, standing_most, blocks_most, IsIn, IsDraft, Stopped, Went, Joined, NotJoined};
+ghost use Rattle.script_family.specs.Drafts.{standing_of, standing_most, IsIn, IsDraft, Stopped, Went, Joined, NotJoined};
+ghost use Rattle.script_family.specs.Loops.{Opened};
 
 use crate::error::FamilyError;
 use crate::parts::Parts;
@@ -26,7 +27,7 @@ pub(crate) struct OpenBlock {
 #[derive(Drop)]
 pub(crate) struct Draft {
     pub(crate) parts: Parts,
-    pub(crate) now: usize,
+    pub(crate) current: usize,
     blocks: Vec<OpenBlock>,
 }
 
@@ -51,7 +52,7 @@ impl Draft {
         parts.push_silent()?;
         Ok(Draft {
             parts,
-            now: 0,
+            current: 0,
             blocks: Vec::new(alloc),
         })
     }
@@ -65,8 +66,8 @@ impl Draft {
     {
         let said = self.parts.len();
         self.parts.push_line(at)?;
-        self.parts.push_followed(self.now, said)?;
-        self.now = said + 1;
+        self.parts.push_followed(self.current, said)?;
+        self.current = said + 1;
         Ok(())
     }
 
@@ -79,31 +80,31 @@ impl Draft {
         self.blocks.push(OpenBlock {
             kind,
             line,
-            before: self.now,
+            before: self.current,
             over: None,
         })?;
-        self.now = self.parts.len();
+        self.current = self.parts.len();
         self.parts.push_silent()?;
         Ok(())
     }
 
     /// The parts of a block put together.
     fn join(&mut self, block: OpenBlock) -> Result<usize, FamilyError>
-        requires now { self.old.now < length self.old.parts.families }
+        requires current { self.old.current < length self.old.parts.families }
         requires block { IsIn (length self.old.parts.families) block }
         ensures { MatchResult result (λ i. Joined self.old self.new block i) (λ e. NotJoined e self.old block) }
     {
         let Some(over) = block.over else {
-            return Ok(self.now);
+            return Ok(self.current);
         };
         let joined = self.parts.len();
         match block.kind {
-            BlockKind::Either => self.parts.push_chosen(over, self.now)?,
+            BlockKind::Either => self.parts.push_chosen(over, self.current)?,
             BlockKind::Together => {
-                if self.parts.most(over) + self.parts.most(self.now) > MOST_WOVEN {
+                if self.parts.most(over) + self.parts.most(self.current) > MOST_WOVEN {
                     return Err(FamilyError::TooLarge);
                 }
-                self.parts.push_woven(over, self.now)?
+                self.parts.push_woven(over, self.current)?
             }
         }
         Ok(joined)
@@ -128,7 +129,7 @@ impl Draft {
             before: block.before,
             over: Some(over),
         })?;
-        self.now = self.parts.len();
+        self.current = self.parts.len();
         self.parts.push_silent()?;
         Ok(())
     }
@@ -144,7 +145,7 @@ impl Draft {
             return Err(FamilyError::BadLine { line });
         };
         let joined = self.join(block)?;
-        self.now = self.parts.len();
+        self.current = self.parts.len();
         self.parts.push_followed(block.before, joined)?;
         Ok(())
     }
@@ -167,7 +168,9 @@ impl Draft {
     }
 
     /// The line that opened the innermost block, if one is open.
-    pub(crate) fn open_line(&self) -> Option<u64> {
+    pub(crate) fn open_line(&self) -> Option<u64>
+        ensures { Opened result (standing_of self.now).blocks }
+    {
         let block = self.blocks.last()?;
         Some(block.line)
     }

@@ -1,9 +1,10 @@
 //! A family of scripts.
-ghost use Rattle.std.specs.Prelude.{◌≡◌, ◌+◌, ◌<◌, ◌≤◌, ◌++◌, IfOk, MatchResult, length, get_or, []};
+ghost use Rattle.std.specs.Prelude.{◌≡◌, ◌+◌, ◌<◌, ◌≤◌, ◌++◌, ◌∷◌, [], IfOk, OnOk, MatchResult, length, get_or};
 ghost use Rattle.script_family.specs.Families.{scripts, most};
 ghost use Rattle.script_family.specs.Counts.{count, sums, total, capped};
 ghost use Rattle.script_family.specs.Steps.{shape};
-ghost use Rattle.script_family.specs.Texts.{ended, line_at, text_of};
+ghost use Rattle.script_family.specs.Texts.{is_ended, ended, line_at, text_of};
+ghost use Rattle.script_family.specs.Loops.{IsDraftOf, RefusesLines};
 ghost use Rattle.script_family.specs.Reads.{IsRead, Refuses};
 
 use crate::draft::Draft;
@@ -44,21 +45,31 @@ impl Model for ScriptFamily {
     ghost invariant = { λ f. IsWhole f.text.items f.parts.families f.root f.count };
 }
 
+/// Whether the last line has its line feed.
+#[tactic(auto, using(crate::proofs::Ending::last_byte, crate::proofs::Ending::no_byte))]
+fn is_ended(text: &[u8]) -> bool
+    ensures { result ≡ is_ended text.now }
+{
+    text.is_empty() || text[text.len() - 1] == b'\n'
+}
+
 /// The text with the line feed of its last line.
 fn with_feed(text: Vec<u8>) -> Result<Vec<u8>, WantOfMemory>
     ensures { IfOk result (λ whole. whole.items ≡ ended text.items) }
 {
-    let mut text = text;
-    if let Some(last) = text.last() {
-        if *last != b'\n' {
-            text.push(b'\n')?;
-        }
+    if is_ended(&text) {
+        return Ok(text);
     }
+    let mut text = text;
+    text.push(b'\n')?;
     Ok(text)
 }
 
 /// Reads the lines of a text that has its last line feed.
-fn read_lines(alloc: Global, text: &[u8]) -> Result<Draft, FamilyError> {
+fn read_lines(alloc: Global, text: &[u8]) -> Result<Draft, FamilyError>
+    requires { length text.now ≤ 16777216 }
+    ensures { MatchResult result (λ d. IsDraftOf text.now d) (λ e. RefusesLines e text.now) }
+{
     let mut draft = Draft::new(alloc)?;
     let mut rest = text;
     let mut passed = 0;
@@ -119,14 +130,22 @@ fn line_at(text: &[u8], at: usize) -> &[u8]
     }
 }
 
+/// Appends a line with a line feed.
+fn push_line(lines: &mut Vec<u8>, line: &[u8]) -> Result<(), WantOfMemory>
+    ensures { OnOk result (lines.new.items ≡ lines.old.items ++ (line.now ++ 0x0A ∷ [])) }
+{
+    lines.extend_from_slice(line)?;
+    lines.push(b'\n')?;
+    Ok(())
+}
+
 /// The lines that begin at these places, with a line feed each. Cost: their length.
 fn text_of(alloc: Global, text: &[u8], places: &[usize]) -> Result<Vec<u8>, WantOfMemory>
     ensures { IfOk result (λ lines. lines.items ≡ text_of text.now places.now) }
 {
     let mut lines = Vec::new(alloc);
     for at in places {
-        lines.extend_from_slice(line_at(text, *at))?;
-        lines.push(b'\n')?;
+        push_line(&mut lines, line_at(text, *at))?;
     }
     Ok(lines)
 }
@@ -142,13 +161,13 @@ impl ScriptFamily {
         if text.len() > MOST_BYTES {
             return Err(FamilyError::TooLarge);
         }
-        let Draft { parts, now, .. } = read_lines(alloc, &text)?;
-        let count = total_of(&parts, now);
+        let Draft { parts, current, .. } = read_lines(alloc, &text)?;
+        let count = total_of(&parts, current);
         Ok(ScriptFamily {
             alloc,
             text,
             parts,
-            root: now,
+            root: current,
             count,
         })
     }

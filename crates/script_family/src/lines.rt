@@ -5,12 +5,12 @@ ghost use Rattle.std.specs.Str.Lines.{strip_carriage_return};
 ghost use Rattle.script_reader.specs.Tables.{among};
 ghost use Rattle.script_reader.specs.Words.{is_blank, words_of};
 ghost use Rattle.script_reader.specs.Script.{whole_line};
-ghost use Rattle.script_family.specs.Lines.{keyword_of, by_meaning, or_else, by_words, sort_of};
+ghost use Rattle.script_family.specs.Lines.{keyword_of, by_meaning, tells, or_else, by_words, sort_of};
 ghost use Rattle.script_family.specs.declared.sort.LineSort.{LineSort as LineSorts};
 
 use crate::sort::{BlockKind, LineSort};
 use device_ids::WantOfMemory;
-use script_reader::{ScriptEnd, read_events};
+use script_reader::{Line, ScriptEnd, read_events};
 use std::alloc::Global;
 
 /// The most bytes of a line before its line feed.
@@ -25,7 +25,7 @@ const KEYWORDS: [(&[u8], LineSort); 5] = [
 ];
 
 /// What stands beside the word in the first row that has it.
-fn among(rows: &[(&[u8], LineSort)], word: &[u8]) -> Option<LineSort>
+fn among<T: Copy>(rows: &[(&[u8], T)], word: &[u8]) -> Option<T>
     ensures { result ≡ among (map (λ row. (row.0.now, row.1)) rows.now) word.now }
 {
     for row in rows {
@@ -74,22 +74,29 @@ fn without_return(line: &[u8]) -> &[u8]
     }
 }
 
-/// What a line is that is no keyword, from what a reader of scripts gives that is fed it alone, with its line feed.
-fn meaning_of(alloc: Global, fed: &[u8]) -> Result<LineSort, WantOfMemory>
-    ensures { IfOk result (λ sort. (line : List ℕ) → parts 0x0A fed.now ≡ line ∷ ([] ∷ []) → sort ≡ by_meaning (whole_line line)) }
+/// What the events of a script of one line, and its end, tell of the line.
+#[tactic(auto, using(crate::proofs::Sorting::tells_nothing, crate::proofs::Sorting::tells_said))]
+fn sort_told(lines: &[Line], ends: ScriptEnd) -> LineSort
+    ensures { result ≡ tells lines.now ends }
 {
-    let script = read_events(alloc, fed)?;
-    let sort = match script.ends {
+    match ends {
         ScriptEnd::Bad { .. } => LineSort::Bad,
         ScriptEnd::End => {
-            if script.lines.is_empty() {
+            if lines.len() == 0 {
                 LineSort::Nothing
             } else {
                 LineSort::Said
             }
         }
-    };
-    Ok(sort)
+    }
+}
+
+/// What a line is that is no keyword, from what a reader of scripts gives that is fed it alone, with its line feed.
+fn meaning_of(alloc: Global, fed: &[u8]) -> Result<LineSort, WantOfMemory>
+    ensures { IfOk result (λ sort. (line : List ℕ) → parts 0x0A fed.now ≡ line ∷ ([] ∷ []) → sort ≡ by_meaning (whole_line line)) }
+{
+    let script = read_events(alloc, fed)?;
+    Ok(sort_told(&script.lines, script.ends))
 }
 
 /// Which keyword stands alone on a line, if one does.

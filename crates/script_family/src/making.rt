@@ -54,7 +54,29 @@ fn push_both(
     Ok(())
 }
 
+/// Puts the tasks of a script of two woven parts on the list, the first to be taken next.
+fn push_woven(
+    todo: &mut Vec<Task>,
+    lines: usize,
+    first: usize,
+    second: usize,
+    place: Place,
+) -> Result<(), WantOfMemory>
+    requires { place.lines ≤ lines }
+    ensures { OnOk result (reverse todo.new.items
+        ≡ tasks.Make first place.lines place.first ∷ (tasks.Make second (lines - place.lines) place.second
+        ∷ (tasks.Weave lines place.lines place.way ∷ reverse todo.old.items))) }
+{
+    todo.push(Task::Weave {
+        lines,
+        first: place.lines,
+        way: place.way,
+    })?;
+    push_both(todo, lines, first, second, place)
+}
+
 /// Begins a script of a part: it is a line, or tasks.
+#[tactic(auto, using(crate::proofs::Leading::less_nothing, crate::proofs::Leading::woven_more))]
 fn make(
     parts: &Parts,
     todo: &mut Vec<Task>,
@@ -85,14 +107,7 @@ fn make(
             first,
             second,
             place,
-        } => {
-            todo.push(Task::Weave {
-                lines,
-                first: place.lines,
-                way: place.way,
-            })?;
-            push_both(todo, lines, first, second, place)?;
-        }
+        } => push_woven(todo, lines, first, second, place)?,
     }
     Ok(())
 }

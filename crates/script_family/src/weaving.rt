@@ -19,6 +19,7 @@ fn weave_both(
     requires rows { length first.now + length second.now < parts.now.rows }
     requires there { way < ways (length first.now + length second.now) (length first.now) }
     requires exact { way < 2 ^ 64 - 1 }
+    requires small { length first.now + length second.now < 2 ^ 64 }
     ensures { OnOk result (out.new.items ≡ out.old.items ++ woven (get_or (patterns (length first.now + length second.now) (length first.now)) way []) first.now second.now) }
 {
     let mut firsts = first;
