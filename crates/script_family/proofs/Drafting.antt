@@ -1,7 +1,8 @@
 -- A family as it is read, line by line.
-use Rattle.std.proofs.Common.{◌≡◌, refl, sym, ◌∙◌, ap, ap₂, subst, ℕ, zero, suc, ◌+◌, ◌<◌, ◌≤◌, max, arith, length, length-append, get_or, map, List, [], ◌∷◌, ◌++◌, Option, Some, None, Bool, true, false, cond, ◌⊎◌, inl, inr}
+use Rattle.std.proofs.Common.{◌≡◌, refl, sym, ◌∙◌, ap, ap₂, subst, ℕ, zero, suc, ◌+◌, ◌<◌, ◌≤◌, max, arith, length, length-append, get_or, map, reverse, List, [], ◌∷◌, ◌++◌, Option, Some, None, Bool, true, false, cond, ◌⊎◌, inl, inr}
 use Rattle.std.proofs.lemmas.List.{get_or_push}
 use Rattle.std.specs.Option.{option_map}
+use Rattle.script_family.specs.declared.draft.Draft.{Draft}
 use Rattle.script_family.specs.declared.draft.OpenBlock.{OpenBlock}
 use Rattle.script_family.specs.declared.sort.BlockKind.{BlockKind}
 use Rattle.script_family.specs.declared.sort.BlockKind.TheVariants as kinds
@@ -9,7 +10,7 @@ use Rattle.script_family.specs.declared.sort.LineSort.{LineSort}
 use Rattle.script_family.specs.declared.sort.LineSort.TheVariants as sorts
 use Rattle.script_family.specs.Families.{Family, Silent, Says, Followed, Chosen, Woven, most}
 use Rattle.script_family.specs.Reading.{bad_line, too_large, Block, Standing, Turn, goes, stops, Outcome, joined, is_small, same_kind, next_part, closed, turn}
-use Rattle.script_family.specs.Drafts.{part_at, block_of, standing, IfIn, IsIn, AreIn, AreNamed, if_heavy, blocks_heavy, standing_heavy, standing_most}
+use Rattle.script_family.specs.Drafts.{Went, part_at, block_of, standing, IfIn, IsIn, AreIn, AreNamed, if_heavy, blocks_heavy, standing_heavy, standing_most}
 use Rattle.script_family.specs.Weights.{heaviest}
 use Rattle.script_family.proofs.Growing.{at_left}
 
@@ -44,22 +45,32 @@ stands fs gs now f bs ok is =
     let make : Family → List Block → Standing = λ g blocks. record { now = g; blocks = blocks } in
     ap₂ make is (blocks_kept fs gs bs ok)
 
+-- where a draft stands whose blocks are these
+pub went : (e : Draft) (bs : List OpenBlock) (s : Standing) → reverse e.blocks.items ≡ bs → standing e.parts.families e.current bs ≡ s
+    → AreNamed e.parts.families e.current bs → Went (goes s) e
+went e bs s rev is named = record {
+  there = ap goes (sym is ∙ ap (standing e.parts.families e.current) (sym rev));
+  named = subst (AreNamed e.parts.families e.current) (sym rev) named;
+}
+
 -- a line was said
-pub said_stands : (fs : List Family) (now said at : ℕ) (bs : List OpenBlock) (new : List Family) → AreNamed fs now bs → said ≡ length fs
-    → new ≡ fs ++ Says at ∷ [] ++ Followed (part_at (fs ++ Says at ∷ []) now) (part_at (fs ++ Says at ∷ []) said) ∷ []
-    → (standing new (said + 1) bs ≡ record { now = Followed (part_at fs now) (Says at); blocks = map (block_of fs) bs }) × AreNamed new (said + 1) bs
-said_stands fs now said at bs new named is grown =
+pub said_stands : (fs : List Family) (now said now' at : ℕ) (bs : List OpenBlock) (mid new : List Family) → AreNamed fs now bs → said ≡ length fs
+    → mid ≡ fs ++ Says at ∷ [] → now' ≡ length mid → new ≡ mid ++ Followed (part_at mid now) (part_at mid said) ∷ []
+    → (standing new now' bs ≡ record { now = Followed (part_at fs now) (Says at); blocks = map (block_of fs) bs }) × AreNamed new now' bs
+said_stands fs now said now' at bs mid new named is middle next grown =
     let gs : List Family = fs ++ Says at ∷ [] in
     let f : Family = Followed (part_at gs now) (part_at gs said) in
+    let whole : new ≡ gs ++ f ∷ [] = grown ∙ ap (λ v. v ++ Followed (part_at v now) (part_at v said) ∷ []) middle in
+    let next' : now' ≡ length gs = next ∙ ap (λ (v : List Family). length v) middle in
     let counts : length gs ≡ length fs + 1 = length-append fs (Says at ∷ []) in
     let all : length (gs ++ f ∷ []) ≡ length gs + 1 = length-append gs (f ∷ []) in
     let kept : AreIn (length gs) bs = are_in_more (length fs) (length gs) bs (omega arith) named.blocks_in in
-    let now_is : part_at (gs ++ f ∷ []) (said + 1) ≡ Followed (part_at fs now) (Says at) =
-    at_end gs f (said + 1) (omega arith) ∙ ap₂ Followed (at_left fs (Says at ∷ []) now named.now_in) (at_end fs (Says at) said is) in
+    let now_is : part_at (gs ++ f ∷ []) now' ≡ Followed (part_at fs now) (Says at) =
+    at_end gs f now' next' ∙ ap₂ Followed (at_left fs (Says at ∷ []) now named.now_in) (at_end fs (Says at) said is) in
     let make : Family → List Block → Standing = λ g blocks. record { now = g; blocks = blocks } in (
-      ap (λ v. standing v (said + 1) bs) grown ∙ stands gs (f ∷ []) (said + 1) (Followed (part_at fs now) (Says at)) bs kept now_is
+      ap (λ v. standing v now' bs) whole ∙ stands gs (f ∷ []) now' (Followed (part_at fs now) (Says at)) bs kept now_is
           ∙ ap (λ v. make (Followed (part_at fs now) (Says at)) v) (blocks_kept fs (Says at ∷ []) bs named.blocks_in),
-      subst (λ v. AreNamed v (said + 1) bs) (sym grown)
+      subst (λ v. AreNamed v now' bs) (sym whole)
           (record { now_in = omega arith; blocks_in = are_in_more (length fs) (length (gs ++ f ∷ [])) bs (omega arith) named.blocks_in }),
     )
 
@@ -206,3 +217,53 @@ turn_heavy w (sorts.Opens kind) n at s t e =
 turn_heavy w (sorts.Parts kind) n at s t e = next_heavy w kind n (w at) s.now s.blocks t e
 turn_heavy w sorts.Closes n at s t e = close_heavy w n (w at) s.now s.blocks t e
 turn_heavy w sorts.Bad n at s t e = absurd (never_stops (bad_line n) t e)
+
+-- a line behind what is read now
+pub said_few : (fs : List Family) (now said at : ℕ) (bs : List OpenBlock) (mid : List Family) → AreNamed fs now bs → said ≡ length fs → mid ≡ fs ++ Says at ∷ []
+    → standing_most (standing fs now bs) < 16777216 → most (part_at mid now) + most (part_at mid said) ≤ 16777216
+said_few fs now said at bs mid named is middle few =
+    let first : most (part_at mid now) ≡ most (part_at fs now) =
+    ap (λ v. most (part_at v now)) middle ∙ ap most (at_left fs (Says at ∷ []) now named.now_in) in
+    let second : most (part_at mid said) ≡ 1 = ap (λ v. most (part_at v said)) middle ∙ ap most (at_end fs (Says at) said is) in
+    omega (arith, first, second, most_is (part_at fs now), few)
+
+-- By what the code does -----------------------------------------------------------------------------
+
+pub close_few : (fs more new : List Family) (cur i : ℕ) (b : OpenBlock) (bs : List OpenBlock) → AreNamed fs cur (b ∷ bs) → new ≡ fs ++ more
+    → part_at new i ≡ joined b.kind (option_map (part_at fs) b.over) (part_at fs cur) → standing_most (standing fs cur (b ∷ bs)) ≤ 16777216
+    → most (part_at new b.before) + most (part_at new i) ≤ 16777216
+close_few fs more new cur i b bs named grown is few =
+    let first : most (part_at new b.before) ≡ most (part_at fs b.before) =
+    ap (λ v. most (part_at v b.before)) grown ∙ ap most (at_left fs more b.before named.blocks_in.0.0) in
+    omega (arith, first, ap most is, close_most (part_at fs cur) (block_of fs b) (map (block_of fs) bs) few)
+
+pub close_went : (fs more mid : List Family) (cur i line : ℕ) (b : OpenBlock) (bs old : List OpenBlock) (e : Draft) → old ≡ b ∷ bs → AreNamed fs cur old → mid ≡ fs ++ more
+    → i < length mid → part_at mid i ≡ joined b.kind (option_map (part_at fs) b.over) (part_at fs cur)
+    → is_small b.kind (option_map (part_at fs) b.over) (part_at fs cur) ≡ true → e.current ≡ length mid
+    → e.parts.families ≡ mid ++ Followed (part_at mid b.before) (part_at mid i) ∷ [] → reverse e.blocks.items ≡ bs
+    → Went (closed line (part_at fs cur) (map (block_of fs) old)) e
+close_went fs more mid cur i line b bs old e rev named grown there is small next new blocks =
+    let f : Family = joined b.kind (option_map (part_at fs) b.over) (part_at fs cur) in
+    let named' : AreNamed fs cur (b ∷ bs) = subst (AreNamed fs cur) rev named in
+    let s = close_stands fs more cur i e.current b bs e.parts.families f named' (subst (λ (v : List Family). i < length v) grown there)
+    (ap (λ v. part_at v i) (sym grown) ∙ is) (next ∙ ap (λ (v : List Family). length v) grown)
+    (new ∙ ap (λ v. v ++ Followed (part_at v b.before) (part_at v i) ∷ []) grown) in
+    let to : Standing = record { now = Followed (part_at fs b.before) f; blocks = map (block_of fs) bs } in
+    let is_turn : closed line (part_at fs cur) (map (block_of fs) old) ≡ goes to =
+    ap (λ v. closed line (part_at fs cur) (map (block_of fs) v)) rev ∙ turn_close line (part_at fs cur) (block_of fs b) (map (block_of fs) bs) small in
+    subst (λ t. Went t e) (sym is_turn) (went e bs to blocks s.0 s.1)
+
+pub next_went : (fs more mid : List Family) (cur i line : ℕ) (kind : BlockKind) (b : OpenBlock) (bs old : List OpenBlock) (e : Draft) → old ≡ b ∷ bs → AreNamed fs cur old
+    → mid ≡ fs ++ more → i < length mid → part_at mid i ≡ joined b.kind (option_map (part_at fs) b.over) (part_at fs cur)
+    → is_small b.kind (option_map (part_at fs) b.over) (part_at fs cur) ≡ true → same_kind kind b.kind ≡ true → e.current ≡ length mid
+    → e.parts.families ≡ mid ++ Silent ∷ [] → reverse e.blocks.items ≡ record { kind = b.kind; line = b.line; before = b.before; over = Some i } ∷ bs
+    → Went (next_part kind line (part_at fs cur) (map (block_of fs) old)) e
+next_went fs more mid cur i line kind b bs old e rev named grown there is small same next new blocks =
+    let f : Family = joined b.kind (option_map (part_at fs) b.over) (part_at fs cur) in
+    let named' : AreNamed fs cur (b ∷ bs) = subst (AreNamed fs cur) rev named in
+    let s = next_stands fs more cur i e.current b bs e.parts.families f named' (subst (λ (v : List Family). i < length v) grown there)
+    (ap (λ v. part_at v i) (sym grown) ∙ is) (next ∙ ap (λ (v : List Family). length v) grown) (new ∙ ap (λ v. v ++ Silent ∷ []) grown) in
+    let to : Standing = record { now = Silent; blocks = record { kind = b.kind; line = b.line; before = part_at fs b.before; over = Some f } ∷ map (block_of fs) bs } in
+    let is_turn : next_part kind line (part_at fs cur) (map (block_of fs) old) ≡ goes to =
+    ap (λ v. next_part kind line (part_at fs cur) (map (block_of fs) v)) rev ∙ turn_next kind line (part_at fs cur) (block_of fs b) (map (block_of fs) bs) same small in
+    subst (λ t. Went t e) (sym is_turn) (went e (record { kind = b.kind; line = b.line; before = b.before; over = Some i } ∷ bs) to blocks s.0 s.1)

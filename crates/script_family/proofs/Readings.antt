@@ -1,6 +1,6 @@
 -- A text that is read line by line.
-use Rattle.std.proofs.Common.{◌≡◌, refl, sym, ◌∙◌, ap, ap₂, subst, ℕ, zero, suc, ◌+◌, ◌-◌, ◌<◌, ◌≤◌, arith, length, length-append, get_or, drop, List, [], ◌∷◌, ◌++◌, append_assoc}
-use Rattle.std.proofs.lemmas.List.{drop-drop, drop_at}
+use Rattle.std.proofs.Common.{◌≡◌, refl, sym, ◌∙◌, ap, ap₂, subst, ℕ, zero, suc, ◌+◌, ◌-◌, ◌<◌, ◌≤◌, arith, length, length-append, get_or, drop, take, List, [], ◌∷◌, ◌++◌, append_assoc}
+use Rattle.std.proofs.lemmas.List.{drop-drop, drop_at, take_at}
 use Rattle.device_ids.specs.Cuts.{parts}
 use Rattle.script_reader.proofs.Gathering.{some_parts}
 use Rattle.script_reader.proofs.Scripts.{parts_whole}
@@ -25,6 +25,10 @@ next_line passed at line (p ∷ ps) s some = refl
 -- a line with its line feed, alone
 pub line_alone : (line fed after rest : List ℕ) → parts 10 line ≡ line ∷ [] → rest ≡ line ++ 10 ∷ after → fed ≡ line ++ 10 ∷ [] → parts 10 fed ≡ line ∷ ([] ∷ [])
 line_alone line fed after rest one cut is = ap (parts 10) is ∙ parts_whole 10 line [] one
+
+pub line_fed : (line after rest : List ℕ) → rest ≡ line ++ 10 ∷ after → take (length line + 1) rest ≡ line ++ 10 ∷ []
+line_fed line after rest is =
+    ap (take (length line + 1)) (is ∙ sym (append_assoc line (10 ∷ []) after)) ∙ take_at (line ++ 10 ∷ []) after (length line + 1) (length-append line (10 ∷ []))
 
 -- at the beginning
 pub at_first : (text : List ℕ) (d : Draft) → IsDraft d → standing_of d ≡ beginning → AtLine text text 0 d

@@ -23,3 +23,6 @@ none_left f lines rest number below at is =
   where
     next : (n : ℕ) → n + 1 ≡ suc n
     next n = omega arith
+
+pub below_total : (f : Family) (number : ℕ) → number < capped (length (scripts f)) → number < capped (total f)
+below_total f number lt = subst (λ m. number < m) (sym (capped_scripts f)) lt

@@ -66,8 +66,9 @@ impl Draft {
     {
         let said = self.parts.len();
         self.parts.push_line(at)?;
+        let current = self.parts.len();
         self.parts.push_followed(self.current, said)?;
-        self.current = said + 1;
+        self.current = current;
         Ok(())
     }
 
