@@ -1,6 +1,6 @@
 -- Two scripts woven line by line, by the number of the way.
 use Rattle.std.proofs.Common.{◌≡◌, refl, sym, ◌∙◌, ap, ap₂, subst, ℕ, zero, suc, ◌+◌, ◌-◌, ◌^◌, ◌<◌, ◌≤◌, ◌⊎◌, inl, inr, min, arith, length, length-append, get_or, take, drop, map, List, [], ◌∷◌, ◌++◌, Bool, true, false, append_assoc, append-nil, length-drop, length-take}
-use Rattle.std.proofs.lemmas.List.{get_or_append_left, get_or-append_right, length-map, take_at, drop_at}
+use Rattle.std.proofs.lemmas.List.{get_or_append_left, get_or-append_right, length-map, take_at, drop_at, take_rest}
 use Rattle.script_family.specs.Families.{Family, Script, patterns, woven, scripts_of}
 use Rattle.script_family.specs.Counts.{ways, firsts_of, count, capped}
 use Rattle.script_family.specs.Parts.{script_at}
@@ -166,3 +166,16 @@ both_lengths n k out le inside =
     let front : length (take k (drop (length out - n) out)) ≡ min k (length (drop (length out - n) out)) = length-take k (drop (length out - n) out) in
     let rest : length (drop k (drop (length out - n) out)) ≡ length (drop (length out - n) out) - k = length-drop k (drop (length out - n) out) in
     (omega arith, omega arith)
+
+-- the same, of what is left as the code has it
+pub left_first : (rows : ℕ) (fs ss out new : Script) (w b : ℕ) (whole : Script) → Weaving rows fs ss out w whole
+    → b ≡ capped (firsts_of (length fs + length ss - 1) (length fs)) → w < b → new ≡ out ++ get_or fs 0 0 ∷ []
+    → Weaving rows (take (length fs - 1) (drop 1 fs)) ss new w whole
+left_first rows fs ss out new w b whole is begin lt more =
+    subst (λ v. Weaving rows v ss new w whole) (sym (take_rest fs 1)) (next_first rows fs ss out new w b whole is begin lt more)
+
+pub left_second : (rows : ℕ) (fs ss out new : Script) (w b : ℕ) (whole : Script) → Weaving rows fs ss out w whole
+    → b ≡ capped (firsts_of (length fs + length ss - 1) (length fs)) → b ≤ w → 0 < length ss → new ≡ out ++ get_or ss 0 0 ∷ []
+    → Weaving rows fs (take (length ss - 1) (drop 1 ss)) new (w - b) whole
+left_second rows fs ss out new w b whole is begin le some more =
+    subst (λ v. Weaving rows fs v new (w - b) whole) (sym (take_rest ss 1)) (next_second rows fs ss out new w b whole is begin le some more)

@@ -13,7 +13,7 @@ returns-in_err-take c =
     let refuses : RefusesLines c.in_err-take.field-0.0 c.args.text.now =
     line_refused c.args.text.now c.loop-line.rest.now c.in-Some.line.now c.in-Some.after.now c.loop-line.passed c.loop-line.draft c.in_ok-sort.sort
     c.in_err-take.field-0.0 c.loop-line.invariant c.in-Some.ensures.cut.0 c.in_ok-sort.ensures c.in_err-take.ensures in
-    first_of (rw c.from_residual-in_err-take.ensures refuses, search (rules, refuses), grind (arith, refuses))
+    first_of (search (rules, refuses), grind (arith, refuses))
 
 pub loop-line-preserved : goal.loop-line-preserved
 loop-line-preserved c =
