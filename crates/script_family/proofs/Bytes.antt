@@ -1,9 +1,9 @@
 -- How long the text of a script is.
-use Rattle.std.proofs.Common.{◌≡◌, refl, sym, ◌∙◌, ap, ℕ, zero, suc, ◌+◌, ◌<◌, ◌≤◌, max, arith, length, length-append, List, [], ◌∷◌, ◌++◌}
+use Rattle.std.proofs.Common.{◌≡◌, ◌∙◌, ap, ℕ, ◌+◌, ◌≤◌, arith, length, length-append, List, [], ◌∷◌, ◌++◌}
 use Rattle.std.proofs.lemmas.List.Concat.{flat_map-append}
 use Rattle.script_family.specs.Families.{Family, Script, Weaves, over_both, takes_first, takes_second, IsScript, silent, says, followed, chosen_first, chosen_second, woven_both}
 use Rattle.script_family.specs.Texts.{line_at, text_of}
-use Rattle.script_family.specs.Weights.{line_bytes, most_bytes}
+use Rattle.script_family.specs.Weights.{most_bytes}
 
 bytes_of_line : (text : List ℕ) (at : ℕ) (s : Script) → length (text_of text (at ∷ s)) ≡ length (line_at text at) + 1 + length (text_of text s)
 bytes_of_line text at s =

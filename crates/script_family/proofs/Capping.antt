@@ -1,8 +1,8 @@
 -- Numbers up to a greatest one, which stands for all from there on.
-use Rattle.std.proofs.Common.{◌≡◌, refl, sym, ◌∙◌, ap, ap₂, ℕ, zero, suc, ◌+◌, ◌-◌, ◌*◌, ◌/◌, ◌%◌, ◌<◌, ◌≤◌, ◌⊎◌, inl, inr, min, arith, mul_comm}
+use Rattle.std.proofs.Common.{◌≡◌, refl, sym, ◌∙◌, ap, ap₂, ℕ, zero, suc, ◌+◌, ◌*◌, ◌/◌, ◌%◌, ◌<◌, ◌≤◌, inl, inr, min, arith, mul_comm}
 use Rattle.std.proofs.Math.Nat.{min-eq_right, min-eq_left, mul-le-mul_right, div-eq_of_lt, mod-eq_of_lt}
 use Rattle.std.proofs.lemmas.Bool.{cases_lt}
-use Rattle.script_family.specs.Counts.{sums, capped}
+use Rattle.script_family.specs.Counts.{sums}
 
 pub cap_add : (a b m : ℕ) → min (min a m + min b m) m ≡ min (a + b) m
 cap_add a b m = omega arith

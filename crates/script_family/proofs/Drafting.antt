@@ -1,5 +1,5 @@
 -- A family as it is read, line by line.
-use Rattle.std.proofs.Common.{◌≡◌, refl, sym, ◌∙◌, ap, ap₂, subst, ℕ, zero, suc, ◌+◌, ◌<◌, ◌≤◌, max, arith, length, length-append, get_or, map, reverse, List, [], ◌∷◌, ◌++◌, Option, Some, None, Bool, true, false, cond, ◌⊎◌, inl, inr}
+use Rattle.std.proofs.Common.{◌≡◌, refl, sym, ◌∙◌, ap, ap₂, subst, ℕ, ◌+◌, ◌<◌, ◌≤◌, max, arith, length, length-append, map, reverse, List, [], ◌∷◌, ◌++◌, Option, Some, None, Bool, true, false, cond, ◌⊎◌, inl, inr}
 use Rattle.std.proofs.lemmas.List.{get_or_push}
 use Rattle.std.specs.Option.{option_map}
 use Rattle.script_family.specs.declared.draft.Draft.{Draft}

@@ -1,5 +1,5 @@
 -- The last byte of a text.
-use Rattle.std.proofs.Common.{◌≡◌, refl, ℕ, zero, suc, ◌-◌, ◌<◌, ◌==◌, Bool, true, arith, length, get_or, List, [], ◌∷◌, ap, ◌∙◌, sym}
+use Rattle.std.proofs.Common.{◌≡◌, refl, ℕ, zero, suc, ◌-◌, ◌<◌, ◌==◌, true, arith, length, get_or, List, [], ◌∷◌, ap, ◌∙◌, sym}
 use Rattle.script_family.specs.Texts.{is_ended}
 
 next : (b : ℕ) (bytes : List ℕ) (n : ℕ) → n ≡ length bytes → 0 < n → get_or (b ∷ bytes) (suc n - 1) 0 ≡ get_or bytes (n - 1) 0

@@ -1,5 +1,5 @@
 -- Two scripts woven line by line, by the number of the way.
-use Rattle.std.proofs.Common.{◌≡◌, refl, sym, ◌∙◌, ap, ap₂, subst, ℕ, zero, suc, ◌+◌, ◌-◌, ◌^◌, ◌<◌, ◌≤◌, ◌⊎◌, inl, inr, min, arith, length, length-append, get_or, take, drop, map, List, [], ◌∷◌, ◌++◌, Bool, true, false, append_assoc, append-nil, length-drop, length-take}
+use Rattle.std.proofs.Common.{◌≡◌, refl, sym, ◌∙◌, ap, ap₂, subst, ℕ, zero, suc, ◌+◌, ◌-◌, ◌^◌, ◌<◌, ◌≤◌, min, arith, length, length-append, get_or, take, drop, map, List, [], ◌∷◌, ◌++◌, Bool, true, false, append_assoc, append-nil, length-drop, length-take}
 use Rattle.std.proofs.lemmas.List.{get_or_append_left, get_or-append_right, length-map, take_at, drop_at, take_rest}
 use Rattle.script_family.specs.Families.{Family, Script, patterns, woven, scripts_of}
 use Rattle.script_family.specs.Counts.{ways, firsts_of, count, capped}

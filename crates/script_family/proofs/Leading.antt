@@ -1,10 +1,10 @@
 -- The tasks of a script, one step on.
-use Rattle.std.proofs.Common.{◌≡◌, refl, sym, ◌∙◌, ap, ap₂, subst, ℕ, zero, suc, ◌+◌, ◌-◌, ◌<◌, ◌≤◌, arith, length, length-append, get_or, List, [], ◌∷◌, ◌++◌, append_assoc, append-nil, reverse}
+use Rattle.std.proofs.Common.{◌≡◌, sym, ◌∙◌, ap, subst, ℕ, suc, ◌+◌, ◌-◌, ◌<◌, ◌≤◌, arith, length, length-append, List, [], ◌∷◌, ◌++◌, append_assoc, append-nil}
 use Rattle.script_family.specs.declared.making.Task.{Task}
 use Rattle.script_family.specs.declared.making.Task.TheVariants as tasks
 use Rattle.script_family.specs.declared.pairs.Place.{Place}
 use Rattle.script_family.specs.declared.parts.Step.TheVariants as steps
-use Rattle.script_family.specs.Families.{Family, Silent, Says, Followed, Chosen, Woven, Script, patterns, woven}
+use Rattle.script_family.specs.Families.{Family, Silent, Says, Followed, Chosen, Woven, Script}
 use Rattle.script_family.specs.Parts.{script_at}
 use Rattle.script_family.specs.Steps.{Shapes, shape, size, Has, Begins}
 use Rattle.script_family.specs.Tasks.{Leads, load, rewoven}

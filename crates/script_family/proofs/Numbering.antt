@@ -1,9 +1,9 @@
 -- Which script has a number: by the block of its number, and then by quotient and remainder.
-use Rattle.std.proofs.Common.{mul_assoc, mul_comm, ◌≡◌, refl, sym, ◌∙◌, ap, ap₂, ℕ, zero, suc, ◌+◌, ◌-◌, ◌*◌, ◌<◌, ◌≤◌, ◌⊎◌, inl, inr, Bool, true, false, List, [], ◌∷◌, ◌++◌, map, length, get_or, arith, subst}
+use Rattle.std.proofs.Common.{mul_assoc, mul_comm, ◌≡◌, refl, sym, ◌∙◌, ap, ap₂, ℕ, zero, suc, ◌+◌, ◌-◌, ◌*◌, ◌<◌, ◌≤◌, ◌⊎◌, inl, inr, List, [], ◌∷◌, ◌++◌, map, length, get_or, arith, subst}
 use Rattle.std.proofs.lemmas.Nat.{mul-add-lt}
-use Rattle.std.proofs.lemmas.List.{length-append, length-map, get_or_append_left, get_or-append-add}
+use Rattle.std.proofs.lemmas.List.{length-map, get_or_append_left, get_or-append-add}
 use Rattle.std.specs.List.{flat_map}
-use Rattle.script_family.specs.Families.{Family, Silent, Says, Followed, Chosen, Woven, Script, patterns, woven, pairs, over, scripts_of}
+use Rattle.script_family.specs.Families.{Family, Followed, Chosen, Woven, Script, patterns, woven, pairs, over, scripts_of}
 use Rattle.script_family.specs.Counts.{sums, ways, count}
 use Rattle.script_family.specs.Parts.{script_at}
 use Rattle.script_family.proofs.Counting.{length_over, length_pieces, length_pairs, length_patterns, counted, sums_same}

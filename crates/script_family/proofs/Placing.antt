@@ -1,17 +1,15 @@
 -- Two parts by their rows: the window of numbers of lines, sums over it, and the place of a number.
-use Rattle.std.proofs.Common.{◌≡◌, refl, sym, ◌∙◌, ap, ap₂, subst, ℕ, zero, suc, ◌+◌, ◌-◌, ◌*◌, ◌/◌, ◌%◌, ◌^◌, ◌<◌, ◌≤◌, ◌⊎◌, inl, inr, min, max, arith, length, get_or, List, Bool, true, false, mul_comm, mul_assoc}
-use Rattle.std.proofs.Math.Nat.{min-eq_left}
+use Rattle.std.proofs.Common.{◌≡◌, sym, ◌∙◌, ap, ap₂, subst, ℕ, zero, suc, ◌+◌, ◌-◌, ◌*◌, ◌/◌, ◌%◌, ◌^◌, ◌<◌, ◌≤◌, ◌⊎◌, inl, inr, min, max, arith, length, get_or, List, mul_assoc}
 use Rattle.std.proofs.lemmas.Bool.{cases_lt}
 use Rattle.std.proofs.lemmas.List.{get_or_past}
 use Rattle.std.proofs.lemmas.Nat.{div_below, div-add-mod', mod_below}
-use Rattle.script_family.specs.Counts.{sums, ways, capped}
+use Rattle.script_family.specs.Counts.{sums, capped}
 use Rattle.script_family.specs.Parts.{row_at}
-use Rattle.script_family.specs.declared.part.Part.{Part}
 use Rattle.script_family.specs.declared.pairs.Pair.{Pair}
 use Rattle.script_family.specs.declared.pairs.Place.{Place}
-use Rattle.script_family.specs.Pairs.{times, count_of, term, ArePair, IsPlace}
-use Rattle.script_family.proofs.Capping.{cap_three, cap_both, cap_right, cap_add, cap_div, cap_mod}
-use Rattle.script_family.proofs.Windows.{sums_zero, sums_window, sums_grow}
+use Rattle.script_family.specs.Pairs.{times, count_of, term, IsPlace}
+use Rattle.script_family.proofs.Capping.{cap_both, cap_right, cap_div, cap_mod}
+use Rattle.script_family.proofs.Windows.{sums_window}
 
 -- a row says nothing before its least number of lines and behind its most
 pub row_below : (least : ℕ) (row : List ℕ) (n : ℕ) → n < least → row_at least row n ≡ 0

@@ -1,5 +1,5 @@
 -- A text that is read line by line.
-use Rattle.std.proofs.Common.{◌≡◌, refl, sym, ◌∙◌, ap, ap₂, subst, ℕ, zero, suc, ◌+◌, ◌-◌, ◌<◌, ◌≤◌, arith, length, length-append, get_or, drop, take, List, [], ◌∷◌, ◌++◌, append_assoc}
+use Rattle.std.proofs.Common.{◌≡◌, refl, sym, ◌∙◌, ap, ap₂, ℕ, suc, ◌+◌, ◌-◌, ◌<◌, ◌≤◌, arith, length, length-append, get_or, drop, take, List, [], ◌∷◌, ◌++◌, append_assoc}
 use Rattle.std.proofs.lemmas.List.{drop-drop, drop_at, take_at}
 use Rattle.device_ids.specs.Cuts.{parts}
 use Rattle.script_reader.proofs.Gathering.{some_parts}
@@ -11,10 +11,10 @@ use Rattle.script_family.specs.declared.sort.LineSort.{LineSort}
 use Rattle.script_family.specs.Families.{Family}
 use Rattle.script_family.specs.Lines.{sort_of}
 use Rattle.script_family.specs.Texts.{line_at}
-use Rattle.script_family.specs.Weights.{line_bytes, most_bytes}
-use Rattle.script_family.specs.Reading.{Standing, Outcome, gives, bad_line, too_large, Turn, goes, stops, turn, onward, read_lines, finish, beginning}
-use Rattle.script_family.specs.Drafts.{part_at, standing_of, standing_heavy, standing_most, IsDraft, Stopped, Went}
-use Rattle.script_family.specs.Loops.{all_lines, AtLine, IsDraftOf, RefusesLines, Opened}
+use Rattle.script_family.specs.Weights.{line_bytes}
+use Rattle.script_family.specs.Reading.{Standing, bad_line, goes, turn, onward, read_lines, finish, beginning}
+use Rattle.script_family.specs.Drafts.{standing_of, standing_heavy, standing_most, IsDraft, Stopped, Went}
+use Rattle.script_family.specs.Loops.{all_lines, AtLine, IsDraftOf, RefusesLines}
 use Rattle.script_family.proofs.Drafting.{turn_heavy}
 
 next_line : (passed at : ℕ) (line : List ℕ) (ps : List (List ℕ)) (s : Standing) → 0 < length ps

@@ -1,15 +1,14 @@
 -- Rows of counts: of a line, of two parts, and what a number among two parts is by their families.
-use Rattle.std.proofs.Common.{◌≡◌, refl, sym, ◌∙◌, ap, ap₂, subst, ℕ, zero, suc, ◌+◌, ◌-◌, ◌*◌, ◌^◌, ◌<◌, ◌≤◌, ◌⊎◌, inl, inr, min, max, arith, length, get_or, List, [], ◌∷◌, Bool, true, false, mul_comm, mul_assoc, nat_lt}
-use Rattle.std.proofs.Math.Nat.{min-eq_left, min-eq_right, mul-le-mul_left}
+use Rattle.std.proofs.Common.{◌≡◌, refl, sym, ◌∙◌, ap, ap₂, subst, ℕ, zero, suc, ◌+◌, ◌-◌, ◌*◌, ◌^◌, ◌<◌, ◌≤◌, inl, inr, min, max, arith, length, get_or, List, [], ◌∷◌, Bool, true, false, mul_comm}
+use Rattle.std.proofs.Math.Nat.{min-eq_left}
 use Rattle.std.proofs.lemmas.Bool.{cases_lt}
-use Rattle.std.proofs.lemmas.List.{get_or_past}
-use Rattle.script_family.specs.Families.{Family, Silent, Says, Followed, Chosen, Woven, most}
-use Rattle.script_family.specs.Counts.{sums, ways, one_at, count, capped}
+use Rattle.script_family.specs.Families.{Family, Silent, Says, Chosen, most}
+use Rattle.script_family.specs.Counts.{sums, count, capped}
 use Rattle.script_family.specs.Parts.{row_at, IsRow}
 use Rattle.script_family.specs.Pairs.{times}
 use Rattle.script_family.specs.Numbered.{paired, together, Numbered}
 use Rattle.script_family.proofs.Capping.{cap_three, cap_add, cap_sums}
-use Rattle.script_family.proofs.Windows.{sums_zero, sums_grow}
+use Rattle.script_family.proofs.Windows.{sums_zero}
 use Rattle.script_family.proofs.Placing.{row_below, row_behind}
 
 capped_zero : (c : ℕ) → 0 ≡ capped c → c ≡ 0

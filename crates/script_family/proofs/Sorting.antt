@@ -1,13 +1,12 @@
 -- What a line is, from what a reader of scripts gives.
-use Rattle.std.proofs.Common.{◌≡◌, refl, sym, ◌∙◌, ap, ℕ, ◌+◌, ◌<◌, length, arith, List, [], ◌∷◌, true}
+use Rattle.std.proofs.Common.{◌≡◌, refl, ◌∙◌, ap, ℕ, ◌+◌, ◌<◌, length, arith, List, [], ◌∷◌, true}
 use Rattle.device_ids.specs.Cuts.{parts}
 use Rattle.script_reader.specs.declared.line.Line.{Line}
 use Rattle.script_reader.specs.declared.line.ScriptEnd.{ScriptEnd}
 use Rattle.script_reader.specs.declared.line.ScriptEnd.TheVariants as script_ends
-use Rattle.script_reader.specs.Script.{Meaning, nothing, means, bad, Trace, gives, waits, ends, stops, onward, of_lines, whole_line, trace}
+use Rattle.script_reader.specs.Script.{Meaning, nothing, means, bad, gives, ends, stops, onward, of_lines, whole_line, trace}
 use Rattle.script_reader.specs.Reading.{give_all}
 use Rattle.script_reader.specs.Whole.{end_of}
-use Rattle.script_family.specs.declared.sort.LineSort.{LineSort}
 use Rattle.script_family.specs.declared.sort.LineSort.TheVariants as sorts
 use Rattle.script_family.specs.Lines.{by_meaning, tells}
 

@@ -1,12 +1,11 @@
 -- With what a script of a part begins.
-use Rattle.std.proofs.Common.{◌≡◌, refl, sym, ◌∙◌, ap, ap₂, subst, ℕ, zero, suc, ◌+◌, ◌-◌, ◌*◌, ◌^◌, ◌<◌, ◌≤◌, ◌⊎◌, inl, inr, min, arith, length, get_or, List, [], ◌∷◌, ◌++◌, Bool, true, false}
+use Rattle.std.proofs.Common.{◌≡◌, refl, sym, ◌∙◌, ap, subst, ℕ, zero, suc, ◌+◌, ◌-◌, ◌*◌, ◌<◌, ◌≤◌, arith, length, [], ◌∷◌, Bool, true, false}
 use Rattle.script_family.specs.declared.pairs.Place.{Place}
 use Rattle.script_family.specs.declared.parts.Step.TheVariants as steps
-use Rattle.script_family.specs.Families.{Family, Silent, Says, Followed, Chosen, Woven, Script, patterns, woven, scripts_of, most}
-use Rattle.script_family.specs.Counts.{sums, ways, count, capped}
-use Rattle.script_family.specs.Parts.{script_at, IsRow}
-use Rattle.script_family.specs.Pairs.{times}
-use Rattle.script_family.specs.Numbered.{paired, together, Numbered}
+use Rattle.script_family.specs.Families.{Family, Silent, Says, Followed, Chosen, Woven, woven}
+use Rattle.script_family.specs.Counts.{sums, count, capped}
+use Rattle.script_family.specs.Parts.{script_at}
+use Rattle.script_family.specs.Numbered.{together, Numbered}
 use Rattle.script_family.specs.Steps.{Shapes, shape, size, Has, IsBoth, Begins}
 use Rattle.script_family.proofs.Numbering.{numbers_of_followed, numbers_of_woven, at_chosen_first, at_chosen_second}
 

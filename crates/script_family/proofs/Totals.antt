@@ -1,5 +1,5 @@
 -- All scripts of a family: how many, and which has a number.
-use Rattle.std.proofs.Common.{◌≡◌, refl, sym, ◌∙◌, ap, subst, ℕ, zero, suc, ◌+◌, ◌-◌, ◌<◌, ◌≤◌, min, arith, length, get_or, [], List}
+use Rattle.std.proofs.Common.{◌≡◌, sym, ◌∙◌, ap, subst, ℕ, suc, ◌+◌, ◌<◌, ◌≤◌, arith, length, get_or, [], List}
 use Rattle.script_family.specs.Families.{Family, scripts_of, scripts, most, IsScript}
 use Rattle.script_family.specs.Counts.{sums, count, total, capped}
 use Rattle.script_family.specs.Parts.{script_at}

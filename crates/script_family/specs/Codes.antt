@@ -1,7 +1,7 @@
 -- A family as a list of numbers that gives it back, by which proofs tell families apart. It says nothing of scripts.
 use Rattle.std.specs.Prelude.{ℕ, zero, suc, ◌≡◌, refl, List, [], ◌∷◌, ◌++◌}
 use Rattle.std.specs.Coded.{Coded, code_by, coded×, coded_ℕ, coded_list}
-use Rattle.std.proofs.Common.{◌∙◌, ap, sym}
+use Rattle.std.proofs.Common.{◌∙◌, ap}
 use Rattle.script_family.specs.Families.{Family, Silent, Says, Followed, Chosen, Woven}
 use Rattle.script_family.specs.Steps.{Shapes}
 

@@ -1,5 +1,5 @@
 -- A family as it is read in code, as what was read so far.
-use Rattle.std.specs.Prelude.{ℕ, ◌+◌, ◌<◌, ◌≤◌, ◌≡◌, true, false, List, [], ◌∷◌, ◌++◌, length, get_or, map, reverse, Option, Some, None}
+use Rattle.std.specs.Prelude.{ℕ, ◌+◌, ◌<◌, ◌≡◌, true, false, List, [], ◌∷◌, ◌++◌, length, get_or, map, reverse, Option, Some, None}
 use Rattle.std.specs.Option.{option_map}
 use Rattle.script_family.specs.declared.error.FamilyError.{FamilyError}
 use Rattle.script_family.specs.declared.error.FamilyError.TheVariants.{BadLine, TooLarge, WantOfMemory}

@@ -1,5 +1,5 @@
 -- What is proved of every family.
-use Rattle.std.specs.Prelude.{ℕ, zero, suc, ◌+◌, ◌-◌, ◌*◌, ◌%◌, ◌<◌, ◌≤◌, ◌≡◌, ◌==◌, ◌↔◌, List, [], ◌∷◌, ◌++◌, length, get_or, IsPermutation}
+use Rattle.std.specs.Prelude.{ℕ, zero, suc, ◌%◌, ◌<◌, ◌≤◌, ◌≡◌, ◌==◌, ◌↔◌, List, [], ◌∷◌, ◌++◌, length, get_or, IsPermutation}
 use Rattle.std.specs.List.{Contains, filter, flat_map}
 use Rattle.script_family.specs.Families.{Family, Script, scripts_of, scripts, IsScript}
 use Rattle.script_family.specs.Counts.{count, total}

@@ -1,5 +1,5 @@
 -- What a line of a family is.
-use Rattle.std.specs.Prelude.{ℕ, ◌≡◌, nat_le, List, [], ◌∷◌, length, codes, Option, Some, None, if◌then◌else◌}
+use Rattle.std.specs.Prelude.{ℕ, nat_le, List, [], ◌∷◌, length, codes, Option, Some, None, if◌then◌else◌}
 use Rattle.std.specs.Str.Lines.{strip_carriage_return}
 use Rattle.script_reader.specs.Words.{words_of}
 use Rattle.script_reader.specs.declared.line.Line.{Line}

@@ -1,5 +1,5 @@
 -- Where the code stands that reads the lines of a text.
-use Rattle.std.specs.Prelude.{ℕ, ◌+◌, ◌-◌, ◌<◌, ◌≤◌, ◌≡◌, List, [], ◌∷◌, length, drop, Option, Some, None}
+use Rattle.std.specs.Prelude.{ℕ, ◌+◌, ◌-◌, ◌<◌, ◌≤◌, ◌≡◌, List, [], length, drop, Option, Some, None}
 use Rattle.device_ids.specs.Cuts.{parts}
 use Rattle.script_family.specs.declared.error.FamilyError.{FamilyError}
 use Rattle.script_family.specs.declared.error.FamilyError.TheVariants.{BadLine, TooLarge, WantOfMemory}

@@ -1,5 +1,5 @@
 -- Two parts of which each script takes one of both, by their rows.
-use Rattle.std.specs.Prelude.{ℕ, suc, ◌+◌, ◌-◌, ◌*◌, ◌<◌, ◌≤◌, ◌≡◌, Bool, true, false, length}
+use Rattle.std.specs.Prelude.{ℕ, ◌+◌, ◌-◌, ◌*◌, ◌<◌, ◌≤◌, ◌≡◌, Bool, true, false, length}
 use Rattle.script_family.specs.declared.part.Part.{Part}
 use Rattle.script_family.specs.declared.pairs.Pair.{Pair}
 use Rattle.script_family.specs.declared.pairs.Place.{Place}

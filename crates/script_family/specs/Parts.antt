@@ -1,5 +1,5 @@
 -- A family as a list of parts, each behind those that it names.
-use Rattle.std.specs.Prelude.{ℕ, zero, suc, ◌+◌, ◌-◌, ◌*◌, ◌<◌, ◌≤◌, ◌≡◌, nat_lt, Bool, List, [], ◌∷◌, ◌++◌, length, get_or, if◌then◌else◌}
+use Rattle.std.specs.Prelude.{ℕ, suc, ◌+◌, ◌-◌, ◌<◌, ◌≤◌, ◌≡◌, nat_lt, List, [], ◌∷◌, ◌++◌, length, get_or, if◌then◌else◌}
 use Rattle.script_family.specs.declared.part.Node.{Node}
 use Rattle.script_family.specs.declared.part.Node.TheVariants as nodes
 use Rattle.script_family.specs.declared.part.Part.{Part}

@@ -1,5 +1,5 @@
 -- Which family a text is: its lines from the first to the last, with the blocks that are open.
-use Rattle.std.specs.Prelude.{ℕ, ◌+◌, ◌≡◌, Bool, true, false, nat_le, List, [], ◌∷◌, length, Option, Some, None, if◌then◌else◌}
+use Rattle.std.specs.Prelude.{ℕ, ◌+◌, Bool, true, false, nat_le, List, [], ◌∷◌, length, Option, Some, None, if◌then◌else◌}
 use Rattle.device_ids.specs.Cuts.{parts}
 use Rattle.script_family.specs.declared.sort.BlockKind.{BlockKind}
 use Rattle.script_family.specs.declared.sort.BlockKind.TheVariants as kinds

@@ -5,7 +5,7 @@ use Rattle.script_family.specs.declared.error.FamilyError.TheVariants.{BadLine, 
 use Rattle.script_family.specs.Families.{Family, Silent}
 use Rattle.script_family.specs.Counts.{total, capped}
 use Rattle.script_family.specs.Weights.{most_bytes}
-use Rattle.script_family.specs.Reading.{Outcome, gives, bad_line, too_large, outcome_of}
+use Rattle.script_family.specs.Reading.{gives, bad_line, too_large, outcome_of}
 use Rattle.script_family.specs.Texts.{ended}
 
 pub record Told : Type 0 where

@@ -1,11 +1,10 @@
 -- With what a script of a part begins, by its number.
-use Rattle.std.specs.Prelude.{ℕ, suc, ◌+◌, ◌-◌, ◌^◌, ◌<◌, ◌≤◌, ◌≡◌, List, [], ◌∷◌, ◌++◌, length, get_or, true, false}
+use Rattle.std.specs.Prelude.{ℕ, suc, ◌+◌, ◌-◌, ◌^◌, ◌<◌, ◌≤◌, ◌≡◌, List, [], ◌∷◌, ◌++◌, length, get_or}
 use Rattle.script_family.specs.declared.parts.Step.{Step}
 use Rattle.script_family.specs.declared.parts.Step.TheVariants as steps
-use Rattle.script_family.specs.Families.{Family, Silent, Says, Followed, Chosen, Woven, Script, patterns, woven}
+use Rattle.script_family.specs.Families.{Family, Silent, Says, Followed, Chosen, Woven, patterns, woven}
 use Rattle.script_family.specs.Counts.{ways, count}
 use Rattle.script_family.specs.Parts.{script_at}
-use Rattle.script_family.specs.Pairs.{times}
 
 -- what a contract sees of the parts: their families, and how many rows Pascal's table has
 pub record Shapes : Type 0 where

@@ -1,4 +1,4 @@
-use Rattle.std.proofs.Common.{ℕ, List, ◌+◌, ◌++◌, [], get_or, length}
+use Rattle.std.proofs.Common.{◌+◌, ◌++◌, [], get_or, length}
 use Rattle.script_family.specs.Families.{patterns, woven}
 use Rattle.script_family.proofs.Interleaving.{Weaving}
 use Rattle.script_family.proofs.weaving.weave_both.Given as goal

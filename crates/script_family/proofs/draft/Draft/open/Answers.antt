@@ -1,4 +1,4 @@
-use Rattle.std.proofs.Common.{◌≡◌, ◌∙◌, ap, List, [], ◌∷◌, ◌++◌, map, reverse, None}
+use Rattle.std.proofs.Common.{◌≡◌, ◌∙◌, ap, List, [], ◌∷◌, map, reverse, None}
 use Rattle.std.proofs.lemmas.List.{reverse-append}
 use Rattle.script_family.specs.declared.draft.OpenBlock.{OpenBlock}
 use Rattle.script_family.specs.Families.{Silent}

@@ -1,4 +1,3 @@
-use Rattle.std.proofs.Common.{ap}
 use Rattle.script_family.specs.Parts.{IsPart}
 use Rattle.script_family.specs.Steps.{shape}
 use Rattle.script_family.proofs.Growing.{part_in}

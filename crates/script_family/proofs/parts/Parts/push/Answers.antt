@@ -1,4 +1,4 @@
-use Rattle.std.proofs.Common.{◌≡◌, ◌∙◌, sym, ap, subst, List, [], ◌∷◌, ◌++◌, length}
+use Rattle.std.proofs.Common.{◌∙◌, sym, ap, subst, [], ◌∷◌, ◌++◌, length}
 use Rattle.script_family.specs.declared.part.Part.{Part}
 use Rattle.script_family.specs.Parts.{family_of, families, IsPart, IsParts}
 use Rattle.script_family.specs.Steps.{Shapes}

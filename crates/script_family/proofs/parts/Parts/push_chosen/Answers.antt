@@ -1,4 +1,4 @@
-use Rattle.std.proofs.Common.{◌≡◌, ◌∙◌, sym, ap, subst, refl, ◌+◌, ◌-◌, ◌^◌, min, length, arith}
+use Rattle.std.proofs.Common.{◌∙◌, sym, ap, subst, refl, ◌+◌, ◌-◌, ◌^◌, min, arith}
 use Rattle.script_family.specs.declared.part.Node.TheVariants as nodes
 use Rattle.script_family.specs.Families.{Chosen}
 use Rattle.script_family.specs.Parts.{row_at, IsRow}

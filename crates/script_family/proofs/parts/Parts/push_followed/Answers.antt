@@ -1,7 +1,6 @@
 use Rattle.std.proofs.Common.{refl, false, ◌+◌}
 use Rattle.script_family.specs.declared.part.Node.TheVariants as nodes
 use Rattle.script_family.specs.Families.{Followed}
-use Rattle.script_family.specs.Parts.{IsPart}
 use Rattle.script_family.specs.Steps.{shape}
 use Rattle.script_family.proofs.Growing.{part_in, new_part}
 use Rattle.script_family.proofs.Rows.{paired_row}

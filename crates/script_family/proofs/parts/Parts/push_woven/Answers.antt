@@ -1,6 +1,6 @@
-use Rattle.std.proofs.Common.{◌≡◌, ◌∙◌, ◌<◌, ◌≤◌, ◌+◌, sym, ap, subst, refl, true, length, get_or, arith}
+use Rattle.std.proofs.Common.{◌≡◌, ◌∙◌, ◌<◌, ◌≤◌, ◌+◌, sym, ap, subst, refl, true, length, arith}
 use Rattle.script_family.specs.declared.part.Node.TheVariants as nodes
-use Rattle.script_family.specs.Families.{Silent, Woven, most}
+use Rattle.script_family.specs.Families.{Woven, most}
 use Rattle.script_family.specs.Parts.{families}
 use Rattle.script_family.specs.Steps.{Shapes, shape}
 use Rattle.script_family.proofs.Growing.{part_in, new_part, parts_rows}

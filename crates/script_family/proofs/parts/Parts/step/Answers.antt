@@ -1,6 +1,5 @@
 use Rattle.std.proofs.Common.{arith}
 use Rattle.script_family.specs.Parts.{IsPart}
-use Rattle.script_family.specs.Steps.{shape}
 use Rattle.script_family.proofs.Growing.{part_in, is_followed, is_chosen, is_woven, few_lines}
 use Rattle.script_family.proofs.Stepping.{begins_both, begins_woven, begins_first, begins_second}
 use Rattle.script_family.proofs.parts.Parts.step.Goals as goal

@@ -1,4 +1,4 @@
-use Rattle.std.proofs.Common.{◌≡◌, ◌+◌, ◌-◌, ◌^◌, ◌∷◌, ◌++◌, [], ◌∙◌, sym, ap, ap₂, subst, min, arith, length}
+use Rattle.std.proofs.Common.{◌≡◌, ◌+◌, ◌-◌, ◌^◌, ◌∷◌, ◌++◌, [], ◌∙◌, ap, ap₂, subst, min, arith, length}
 use Rattle.script_family.specs.Tables.{IsWaysRow}
 use Rattle.script_family.proofs.Pascal.{HasWays, first_way, next_way, whole_row, ways_more}
 use Rattle.script_family.proofs.ways.Ways.next_row.Goals as goal
