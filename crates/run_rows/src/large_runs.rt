@@ -1,7 +1,6 @@
-//! Scripts of thousands of lines. Their outputs' lengths are those of texts that were put together by another program after
-//! the rule that short scripts of the same form show.
-use crate::runs::{ended, files_of, rack_of, words_of};
-use crate::told::must;
+//! Scripts at a limit and large ones, and what is written for them, byte for byte. Scripts and outputs are put together from texts that differ in
+//! their numbers alone.
+use crate::runs::{comes_to, ended, files_of, rack_of, words_of};
 use pnp_cli::Status;
 use pnp_io::MemSink;
 use std::alloc::{AllocError, Global};
@@ -11,58 +10,296 @@ use std::test::Fail;
 const INF: &[u8] = b"[Version]\nSignature=\"$Windows NT$\"\nDriverVer=01/01/2020,1.0.0.0\n\
     [Manufacturer]\nOwn=M\n[M]\nDevice=I,OWN\\DEV\n[I.Services]\nAddService=dev,2,S\n";
 
-/// The lines that each script begins with.
-const BEGIN: &[u8] = b"driver dev steady\nplug HTREE\\ROOT\\0 OWN\\DEV 0\n";
+/// A text that comes once for each number, from the first to the last, which may be the lower one. In it `@` stands for the number, `^` for the
+/// one before, and `~` for as many spaces.
+type Lines = (&'static [u8], u64, u64);
 
-/// Lines that differ in their numbers: the text before a number, that between it and the next, the first and the one behind the last.
-#[derive(Clone, Copy)]
-struct Lines {
-    before: &'static [u8],
-    between: &'static [u8],
-    first: u64,
-    end: u64,
-}
+/// The budget, a script, its status and what is written, each text in parts.
+type Run = (
+    &'static str,
+    &'static [&'static [Lines]],
+    Status,
+    &'static [&'static [Lines]],
+);
 
-/// Devices on the first one, all that may be in the world and one more.
-const BUS: Lines = Lines {
-    before: b"plug OWN\\DEV\\0 OWN\\DEV ",
-    between: b" compat=OWN\\",
-    first: 1,
-    end: 4097,
-};
+/// Devices each on the one before, as many as may be in the world.
+const CHAIN: &[Lines] = &[
+    (b"driver dev steady\nplug HTREE\\ROOT\\0 OWN\\DEV @\n", 1, 1),
+    (b"plug OWN\\DEV\\^ OWN\\DEV @\n", 2, 4096),
+];
 
-/// Devices each on the one before; as deep as may be, and one device more.
-const CHAIN: Lines = Lines {
-    before: b"plug OWN\\DEV\\",
-    between: b" OWN\\DEV ",
-    first: 0,
-    end: 1024,
-};
+/// They start.
+const CHAIN_STARTS: &[Lines] = &[
+    (
+        b"event driver dev\nevent plug OWN\\DEV\\@\njoin @ OWN\\DEV\\@\nlisted HTREE\\ROOT\\0\ninstall OWN\\DEV\\@ 00ff0000 dev\nadd OWN\\DEV\\@ dev ok\nassign OWN\\DEV\\@\nSTART_DEVICE OWN\\DEV\\@ dev ok\nstate OWN\\DEV\\@ Started\nlisted OWN\\DEV\\@\n",
+        1,
+        1,
+    ),
+    (
+        b"event plug OWN\\DEV\\@\njoin @ OWN\\DEV\\@\nlisted OWN\\DEV\\^\ninstall OWN\\DEV\\@ 00ff0000 dev\nadd OWN\\DEV\\@ dev ok\nassign OWN\\DEV\\@\nSTART_DEVICE OWN\\DEV\\@ dev ok\nstate OWN\\DEV\\@ Started\nlisted OWN\\DEV\\@\n",
+        2,
+        4096,
+    ),
+];
 
-const DEEPEST: Lines = Lines { end: 4096, ..CHAIN };
+/// One device more, and the tree.
+const WORLD_FULL_SCRIPT: &[Lines] = &[(b"plug OWN\\DEV\\^ OWN\\DEV @\n", 4097, 4097)];
 
-/// Devices below the root, and each related to the next one.
-const DEVICES: Lines = Lines {
-    before: b"plug HTREE\\ROOT\\0 OWN\\DEV ",
-    between: b" compat=OWN\\",
-    first: 1,
-    end: 4096,
-};
+/// What follows.
+const WORLD_FULL: &[Lines] = &[
+    (
+        b"refused plug WorldFull\ntree\n0 HTREE\\ROOT\\0 Started\n",
+        1,
+        1,
+    ),
+    (b"~@ OWN\\DEV\\@ Started\n", 1, 4096),
+    (b"map\noutstanding\n", 1, 1),
+];
 
-const RELATIONS: Lines = Lines {
-    before: b"relate removal OWN\\DEV\\",
-    between: b" OWN\\DEV\\",
-    first: 0,
-    end: 4095,
-};
+/// The first of them is disabled, and the others leave.
+const CHAIN_DISABLED_SCRIPT: &[Lines] = &[(b"disable OWN\\DEV\\1\n", 1, 1)];
 
-/// The lines of a script, its last line, and how many bytes are written: the full bus is pulled, a deep tree is printed, the
-/// deepest is disabled, and a chain of relations, whose last device leaves first.
-const RUNS: [(&[Lines], &[u8], usize); 4] = [
-    (&[BUS], b"pull OWN\\DEV\\0\n", 1_516_563),
-    (&[CHAIN], b"", 769_847),
-    (&[DEEPEST], b"disable OWN\\DEV\\0\n", 1_531_837),
-    (&[DEVICES, RELATIONS], b"disable OWN\\DEV\\0\n", 1_880_666),
+/// What follows.
+const CHAIN_DISABLED: &[Lines] = &[
+    (
+        b"event disable OWN\\DEV\\1\nbegin disable OWN\\DEV\\1\n",
+        1,
+        1,
+    ),
+    (
+        b"QUERY_REMOVE_DEVICE OWN\\DEV\\@ dev ok\nstate OWN\\DEV\\@ RemovePending\n",
+        4096,
+        1,
+    ),
+    (
+        b"REMOVE_DEVICE OWN\\DEV\\@ dev ok\nstate OWN\\DEV\\@ NoStack\nleave OWN\\DEV\\@\n",
+        4096,
+        2,
+    ),
+    (
+        b"REMOVE_DEVICE OWN\\DEV\\@ dev ok\nstate OWN\\DEV\\@ NoStack\nproblem OWN\\DEV\\@ 22\nend disable OWN\\DEV\\@ done\ntree\n0 HTREE\\ROOT\\0 Started\n @ OWN\\DEV\\@ NoStack problem 22\nmap\noutstanding\n",
+        1,
+        1,
+    ),
+];
+
+/// A hub with as many devices as there may be, and one more, is pulled.
+const HUB_PULLED_SCRIPT: &[Lines] = &[
+    (b"driver dev steady\nplug HTREE\\ROOT\\0 OWN\\DEV @\n", 1, 1),
+    (b"plug OWN\\DEV\\1 OWN\\DEV @\n", 2, 4097),
+    (b"pull OWN\\DEV\\1\n", 1, 1),
+];
+
+/// What is written.
+const HUB_PULLED: &[Lines] = &[
+    (
+        b"event driver dev\nevent plug OWN\\DEV\\@\njoin @ OWN\\DEV\\@\nlisted HTREE\\ROOT\\0\ninstall OWN\\DEV\\@ 00ff0000 dev\nadd OWN\\DEV\\@ dev ok\nassign OWN\\DEV\\@\nSTART_DEVICE OWN\\DEV\\@ dev ok\nstate OWN\\DEV\\@ Started\nlisted OWN\\DEV\\@\n",
+        1,
+        1,
+    ),
+    (
+        b"event plug OWN\\DEV\\@\njoin @ OWN\\DEV\\@\nlisted OWN\\DEV\\1\ninstall OWN\\DEV\\@ 00ff0000 dev\nadd OWN\\DEV\\@ dev ok\nassign OWN\\DEV\\@\nSTART_DEVICE OWN\\DEV\\@ dev ok\nstate OWN\\DEV\\@ Started\nlisted OWN\\DEV\\@\n",
+        2,
+        4096,
+    ),
+    (
+        b"refused plug WorldFull\nevent pull OWN\\DEV\\1\ngone OWN\\DEV\\1\nlisted HTREE\\ROOT\\0\nbegin surprise OWN\\DEV\\1\n",
+        1,
+        1,
+    ),
+    (
+        b"SURPRISE_REMOVAL OWN\\DEV\\@ dev ok\nstate OWN\\DEV\\@ SurpriseRemoved\n",
+        4096,
+        1,
+    ),
+    (
+        b"REMOVE_DEVICE OWN\\DEV\\@ dev ok\nstate OWN\\DEV\\@ NoStack\nleave OWN\\DEV\\@\n",
+        4096,
+        1,
+    ),
+    (
+        b"end surprise OWN\\DEV\\1 done\ntree\n0 HTREE\\ROOT\\0 Started\nmap\noutstanding\n",
+        1,
+        1,
+    ),
+];
+
+/// A chain of relations, whose last device leaves first.
+const RELATED_DISABLED_SCRIPT: &[Lines] = &[
+    (b"driver dev steady\n", 1, 1),
+    (b"plug HTREE\\ROOT\\0 OWN\\DEV @\n", 1, 4096),
+    (b"relate removal OWN\\DEV\\^ OWN\\DEV\\@\n", 2, 4096),
+    (b"disable OWN\\DEV\\1\n", 1, 1),
+];
+
+/// What is written.
+const RELATED_DISABLED: &[Lines] = &[
+    (b"event driver dev\n", 1, 1),
+    (
+        b"event plug OWN\\DEV\\@\njoin @ OWN\\DEV\\@\nlisted HTREE\\ROOT\\0\ninstall OWN\\DEV\\@ 00ff0000 dev\nadd OWN\\DEV\\@ dev ok\nassign OWN\\DEV\\@\nSTART_DEVICE OWN\\DEV\\@ dev ok\nstate OWN\\DEV\\@ Started\nlisted OWN\\DEV\\@\n",
+        1,
+        4096,
+    ),
+    (b"event relate OWN\\DEV\\^ OWN\\DEV\\@\n", 2, 4096),
+    (
+        b"event disable OWN\\DEV\\1\nbegin disable OWN\\DEV\\1\n",
+        1,
+        1,
+    ),
+    (
+        b"QUERY_REMOVE_DEVICE OWN\\DEV\\@ dev ok\nstate OWN\\DEV\\@ RemovePending\n",
+        4096,
+        1,
+    ),
+    (
+        b"REMOVE_DEVICE OWN\\DEV\\@ dev ok\nstate OWN\\DEV\\@ NoStack\nproblem OWN\\DEV\\@ held\n",
+        4096,
+        2,
+    ),
+    (
+        b"REMOVE_DEVICE OWN\\DEV\\@ dev ok\nstate OWN\\DEV\\@ NoStack\nproblem OWN\\DEV\\@ 22\nend disable OWN\\DEV\\@ done\ntree\n0 HTREE\\ROOT\\0 Started\n @ OWN\\DEV\\@ NoStack problem 22\n",
+        1,
+        1,
+    ),
+    (b" @ OWN\\DEV\\@ NoStack problem held\n", 2, 4096),
+    (b"map\noutstanding\n", 1, 1),
+];
+
+const LARGE: &[Run] = &[
+    (
+        "20000",
+        &[CHAIN, WORLD_FULL_SCRIPT],
+        Status::Done,
+        &[CHAIN_STARTS, WORLD_FULL],
+    ),
+    (
+        "20000",
+        &[CHAIN, CHAIN_DISABLED_SCRIPT],
+        Status::Done,
+        &[CHAIN_STARTS, CHAIN_DISABLED],
+    ),
+    ("20000", &[HUB_PULLED_SCRIPT], Status::Done, &[HUB_PULLED]),
+    (
+        "20000",
+        &[RELATED_DISABLED_SCRIPT],
+        Status::Done,
+        &[RELATED_DISABLED],
+    ),
+];
+
+/// A book with one rule more than it may have.
+const RULES_SCRIPT: &[Lines] = &[
+    (b"driver dev scripted\n", 1, 1),
+    (b"teach dev add OWN\\DEV\\@ ok\n", 1, 65),
+];
+
+/// What is written.
+const RULES_TEXT: &[Lines] = &[
+    (b"event driver dev\n", 1, 1),
+    (b"event teach dev\n", 1, 64),
+    (
+        b"refused teach BookFull\ntree\n0 HTREE\\ROOT\\0 Started\nmap\noutstanding\n",
+        1,
+        1,
+    ),
+];
+
+/// A comment as long as a line may be.
+const COMMENT_SCRIPT: &[Lines] = &[(b"#", 1, 4096), (b"\n", 1, 1)];
+
+/// What is written.
+const COMMENT_TEXT: &[Lines] = &[(b"tree\n0 HTREE\\ROOT\\0 Started\nmap\noutstanding\n", 1, 1)];
+
+/// A comment that is a byte longer.
+const LONG_COMMENT_SCRIPT: &[Lines] = &[(b"#", 1, 4097), (b"\n", 1, 1)];
+
+/// What is written.
+const LONG_COMMENT_TEXT: &[Lines] = &[(
+    b"script error line 1\ntree\n0 HTREE\\ROOT\\0 Started\nmap\noutstanding\n",
+    1,
+    1,
+)];
+
+/// Nine devices of which eight can have an interrupt.
+const NINE_SCRIPT: &[Lines] = &[
+    (b"driver dev steady\n", 1, 1),
+    (b"plug HTREE\\ROOT\\0 OWN\\DEV @ need=irq:1-8\n", 1, 9),
+];
+
+/// Eight start, and are asked to stop.
+const NINE_ASKED: &[Lines] = &[
+    (b"event driver dev\n", 1, 1),
+    (
+        b"event plug OWN\\DEV\\@\njoin @ OWN\\DEV\\@\nlisted HTREE\\ROOT\\0\ninstall OWN\\DEV\\@ 00ff0000 dev\nadd OWN\\DEV\\@ dev ok\nassign OWN\\DEV\\@ irq:@-@\nSTART_DEVICE OWN\\DEV\\@ dev ok\nstate OWN\\DEV\\@ Started\nlisted OWN\\DEV\\@\n",
+        1,
+        8,
+    ),
+    (
+        b"event plug OWN\\DEV\\@\njoin @ OWN\\DEV\\@\nlisted HTREE\\ROOT\\0\ninstall OWN\\DEV\\@ 00ff0000 dev\nadd OWN\\DEV\\@ dev ok\nnofit OWN\\DEV\\@\nbegin rebalance OWN\\DEV\\@\n",
+        9,
+        9,
+    ),
+    (
+        b"QUERY_STOP_DEVICE OWN\\DEV\\@ dev ok\nstate OWN\\DEV\\@ StopPending\n",
+        8,
+        1,
+    ),
+];
+
+/// The search is spent.
+const SPENT: &[Lines] = &[
+    (b"spent OWN\\DEV\\@\n", 9, 9),
+    (
+        b"CANCEL_STOP_DEVICE OWN\\DEV\\@ dev ok\nstate OWN\\DEV\\@ Started\n",
+        1,
+        8,
+    ),
+    (
+        b"problem OWN\\DEV\\@ budget\nend rebalance OWN\\DEV\\@ spent\nREMOVE_DEVICE OWN\\DEV\\@ dev ok\nstate OWN\\DEV\\@ NoStack\ntree\n0 HTREE\\ROOT\\0 Started\n",
+        9,
+        9,
+    ),
+    (b" @ OWN\\DEV\\@ Started\n", 1, 8),
+    (b" @ OWN\\DEV\\@ NoStack problem budget\nmap\n", 9, 9),
+    (b"irq:@-@ OWN\\DEV\\@\n", 1, 8),
+    (b"outstanding\n", 1, 1),
+];
+
+/// It comes to its end.
+const NOFIT: &[Lines] = &[
+    (b"nofit OWN\\DEV\\@\n", 9, 9),
+    (
+        b"CANCEL_STOP_DEVICE OWN\\DEV\\@ dev ok\nstate OWN\\DEV\\@ Started\n",
+        1,
+        8,
+    ),
+    (
+        b"problem OWN\\DEV\\@ 12\nend rebalance OWN\\DEV\\@ nofit\nREMOVE_DEVICE OWN\\DEV\\@ dev ok\nstate OWN\\DEV\\@ NoStack\ntree\n0 HTREE\\ROOT\\0 Started\n",
+        9,
+        9,
+    ),
+    (b" @ OWN\\DEV\\@ Started\n", 1, 8),
+    (b" @ OWN\\DEV\\@ NoStack problem 12\nmap\n", 9, 9),
+    (b"irq:@-@ OWN\\DEV\\@\n", 1, 8),
+    (b"outstanding\n", 1, 1),
+];
+
+/// Of a book and of a line.
+const LIMITS: &[Run] = &[
+    ("20000", &[RULES_SCRIPT], Status::Done, &[RULES_TEXT]),
+    ("20000", &[COMMENT_SCRIPT], Status::Done, &[COMMENT_TEXT]),
+    (
+        "20000",
+        &[LONG_COMMENT_SCRIPT],
+        Status::BadScript,
+        &[LONG_COMMENT_TEXT],
+    ),
+];
+
+/// A prefix less than the search tries, and just as many.
+const BUDGETS: &[Run] = &[
+    ("178880", &[NINE_SCRIPT], Status::Done, &[NINE_ASKED, SPENT]),
+    ("178881", &[NINE_SCRIPT], Status::Done, &[NINE_ASKED, NOFIT]),
 ];
 
 /// Adds a number's digits.
@@ -71,49 +308,87 @@ fn push_number(alloc: Global, out: &mut Vec<u8>, number: u64) -> Result<(), Allo
     out.extend_from_slice(text.as_bytes())
 }
 
-/// Adds such lines to a script.
-fn push_lines(alloc: Global, out: &mut Vec<u8>, lines: &Lines) -> Result<(), AllocError> {
-    for number in lines.first..lines.end {
-        out.extend_from_slice(lines.before)?;
-        push_number(alloc, out, number)?;
-        out.extend_from_slice(lines.between)?;
-        push_number(alloc, out, number + 1)?;
-        out.push(b'\n')?;
+/// Adds so many spaces.
+fn push_spaces(out: &mut Vec<u8>, many: u64) -> Result<(), AllocError> {
+    for _ in 0..many {
+        out.push(b' ')?;
     }
     Ok(())
 }
 
-/// A script of these lines.
-fn script_of(alloc: Global, parts: &[Lines], last: &[u8]) -> Result<Vec<u8>, AllocError> {
-    let mut script = Vec::from_slice(alloc, BEGIN)?;
-    for lines in parts {
-        push_lines(alloc, &mut script, lines)?;
+/// Adds a text for a number.
+fn push_text(alloc: Global, out: &mut Vec<u8>, text: &[u8], number: u64) -> Result<(), AllocError> {
+    for byte in text {
+        match *byte {
+            b'@' => push_number(alloc, out, number)?,
+            b'^' => push_number(alloc, out, number.saturating_sub(1))?,
+            b'~' => push_spaces(out, number)?,
+            other => out.push(other)?,
+        }
     }
-    script.extend_from_slice(last)?;
-    Ok(script)
+    Ok(())
 }
 
-/// A script over one driver, which answers ok, is done, and writes so many bytes.
-fn writes(alloc: Global, script: &[u8], length: usize) -> Result<(), Fail> {
-    let words = words_of(alloc, &["pnpmgr", "s", "inf"])?;
+/// Adds a text for each of its numbers.
+fn push_each(alloc: Global, out: &mut Vec<u8>, lines: &Lines) -> Result<(), AllocError> {
+    let (text, first, last) = *lines;
+    let steps = first.max(last).saturating_sub(first.min(last));
+    for step in 0..steps.saturating_add(1) {
+        let number = if first <= last {
+            first.saturating_add(step)
+        } else {
+            first.saturating_sub(step)
+        };
+        push_text(alloc, out, text, number)?;
+    }
+    Ok(())
+}
+
+/// The text of these parts.
+fn text_of(alloc: Global, parts: &[&[Lines]]) -> Result<Vec<u8>, AllocError> {
+    let mut text = Vec::new(alloc);
+    for part in parts {
+        for lines in *part {
+            push_each(alloc, &mut text, lines)?;
+        }
+    }
+    Ok(text)
+}
+
+/// The most bytes that are written.
+const ROOM: u64 = 12_000_000;
+
+/// A script over a Scripted driver and a Steady one ends so, and this is written.
+fn writes(alloc: Global, budget: &str, script: &[u8], want: (Status, &[u8])) -> Result<(), Fail> {
+    let words = words_of(alloc, &["pnpmgr", "--budget", budget, "s", "inf"])?;
     let mut files = files_of(alloc, &[("s", script), ("inf", INF)])?;
-    let mut sink = MemSink::new(alloc, 2_000_000)?;
-    let status = ended(
-        alloc,
-        &words,
-        rack_of(alloc, 0, 1, 0)?,
-        &mut files,
-        &mut sink,
-    )?;
-    must(status == Status::Done, "how a run ended")?;
-    must(sink.taken().len() == length, "how long the output is")
+    let mut sink = MemSink::new(alloc, ROOM)?;
+    let rack = rack_of(alloc, 1, 1, 0)?;
+    let status = ended(alloc, &words, rack, &mut files, &mut sink)?;
+    comes_to(status, &sink, want)
+}
+
+/// Each of these runs does.
+fn all_write(alloc: Global, runs: &[Run]) -> Result<(), Fail> {
+    for (budget, script, status, text) in runs {
+        let script = text_of(alloc, script)?;
+        let text = text_of(alloc, text)?;
+        writes(alloc, budget, &script, (*status, &text))?;
+    }
+    Ok(())
 }
 
 #[test]
 fn large_runs(rt: HostRuntime) -> Result<(), Fail> {
-    for (parts, last, length) in RUNS {
-        let script = script_of(rt.alloc(), parts, last)?;
-        writes(rt.alloc(), &script, length)?;
-    }
-    Ok(())
+    all_write(rt.alloc(), LARGE)
+}
+
+#[test]
+fn at_a_limit(rt: HostRuntime) -> Result<(), Fail> {
+    all_write(rt.alloc(), LIMITS)
+}
+
+#[test]
+fn at_a_budget(rt: HostRuntime) -> Result<(), Fail> {
+    all_write(rt.alloc(), BUDGETS)
 }

@@ -1,7 +1,6 @@
 //! Small scripts, read without an INF.
-use crate::runs::{comes_to, ended, ends, files_of, rack_of, words_of};
+use crate::runs::{ends, files_of, rack_of, words_of};
 use pnp_cli::Status;
-use pnp_io::MemSink;
 use std::alloc::Global;
 use std::test::Fail;
 
@@ -40,32 +39,4 @@ fn small_scripts(rt: HostRuntime) -> Result<(), Fail> {
         ends(alloc, &words, rack, &mut files, (status, text))?;
     }
     Ok(())
-}
-
-/// A run without drivers, over a sink with room for eight bytes: its status, and what the sink took.
-fn leaves_a_front(
-    alloc: Global,
-    words: &[&str],
-    named: &[(&str, &[u8])],
-    want: (Status, &[u8]),
-) -> Result<(), Fail> {
-    let words = words_of(alloc, words)?;
-    let mut files = files_of(alloc, named)?;
-    let mut sink = MemSink::new(alloc, 8)?;
-    let answer = ended(alloc, &words, Vec::new(alloc), &mut files, &mut sink)?;
-    comes_to(answer, &sink, want)
-}
-
-/// No words; no file; an empty one and a sink with room for eight bytes.
-#[test]
-fn faults_leave_a_front(rt: HostRuntime) -> Result<(), Fail> {
-    let alloc = rt.alloc();
-    leaves_a_front(alloc, &[], &[], (Status::BadWords, b""))?;
-    leaves_a_front(alloc, &["pnpmgr", "s"], &[], (Status::ReadFault, b""))?;
-    leaves_a_front(
-        alloc,
-        &["pnpmgr", "s"],
-        &[("s", b"")],
-        (Status::WriteFault, b"tree\n0 H"),
-    )
 }

@@ -4,11 +4,15 @@
 #[cfg(test)]
 mod bridges;
 #[cfg(test)]
+mod bytes;
+#[cfg(test)]
 mod handles;
 #[cfg(test)]
 mod pages;
 #[cfg(test)]
 mod places;
+#[cfg(test)]
+mod pools;
 #[cfg(test)]
 mod ports;
 #[cfg(test)]

@@ -5,7 +5,7 @@ ghost use Rattle.resource_reqs.specs.declared.owner.Owner.TheVariants.{Device};
 ghost use Rattle.trial_journal.specs.ByKind.{of_kind};
 
 use crate::told::must;
-use resource_reqs::{Kind, Owner, Res};
+use resource_reqs::{Kind, Owner, Res, Want};
 use std::alloc::Global;
 use std::test::Fail;
 use trial_journal::{Arbiters, Journal, Trial};
@@ -77,4 +77,45 @@ fn an_interrupt_handed_over(rt: HostRuntime) -> Result<(), Fail> {
         (Some(2), Some(1)) => Ok(()),
         _ => Err(Fail::new("who holds the interrupt")),
     }
+}
+
+/// Ports 0x10 to 0x17.
+fn some_ports() -> Result<Res, Fail> {
+    match Res::make(Kind::Port, 0x10, 0x17, false) {
+        Some(ports) => Ok(ports),
+        None => Err(Fail::new("ports")),
+    }
+}
+
+/// What a trial tells: how many changes there are, and the least free place for a want.
+type Told = (u32, Option<u64>);
+
+/// What a trial with room for one change tells at its begin, after ports are put, and after that is undone.
+fn told_by_a_trial(
+    alloc: Global,
+    arbiters: &mut Arbiters,
+    ports: Res,
+    want: &Want,
+) -> Result<[Told; 3], Fail>
+    requires { (k : Kind) → (of_kind arbiters.old k).pairs ≡ [] }
+{
+    let mut trial = Trial::begin(alloc, arbiters, 1)?;
+    let first = (trial.mark(), trial.next_place(want, 0));
+    trial.put(Owner::Device(1), ports);
+    let second = (trial.mark(), trial.next_place(want, 0));
+    trial.undo_to(0);
+    let third = (trial.mark(), trial.next_place(want, 0));
+    trial.roll_back();
+    Ok([first, second, third])
+}
+
+#[test]
+fn a_trial_tells_its_changes(rt: HostRuntime) -> Result<(), Fail> {
+    let want = Want::make(Kind::Port, 0x10, 0x2f, 8, 8, false)?;
+    let mut arbiters = Arbiters::new(rt.alloc())?;
+    let told = told_by_a_trial(rt.alloc(), &mut arbiters, some_ports()?, &want)?;
+    must(
+        told == [(0, Some(0x10)), (1, Some(0x18)), (0, Some(0x10))],
+        "what a trial tells",
+    )
 }

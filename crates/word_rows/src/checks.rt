@@ -1,6 +1,6 @@
 //! Traces that are checked against a script, whatever the drivers answer.
+use crate::infs::OWN_INF;
 use crate::runs::{comes_to, ended, ends, files_of, rack_of, words_of};
-use crate::scripts::OWN_INF;
 use pnp_cli::Status;
 use pnp_io::MemSink;
 use std::alloc::Global;

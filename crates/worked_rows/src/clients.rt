@@ -1,7 +1,7 @@
-//! Scripts in which clients are registered on a device, and what is written.
-use crate::scripts::{OWN_INF, runs};
+//! Scripts in which clients are registered on a device: what is written.
+use crate::infs::OWN_INF;
+use crate::runs::Row;
 use pnp_cli::Status;
-use std::test::Fail;
 
 /// A client refuses, so a disable does not begin; it cannot be registered twice.
 const REFUSED_BY_A_CLIENT_SCRIPT: &str = r"driver dev steady
@@ -86,11 +86,19 @@ map
 outstanding
 ";
 
-#[test]
-fn clients_are_asked_and_told(rt: HostRuntime) -> Result<(), Fail> {
-    let alloc = rt.alloc();
-    let refused = (Status::Done, REFUSED_BY_A_CLIENT_TEXT.as_bytes());
-    let vetoed = (Status::Done, VETOED_AND_DONE_TEXT.as_bytes());
-    runs(alloc, &[OWN_INF], REFUSED_BY_A_CLIENT_SCRIPT, refused)?;
-    runs(alloc, &[OWN_INF], VETOED_AND_DONE_SCRIPT, vetoed)
-}
+pub const ROWS: &[Row] = &[
+    Row {
+        words: &[],
+        infs: &[OWN_INF],
+        script: REFUSED_BY_A_CLIENT_SCRIPT,
+        status: Status::Done,
+        text: REFUSED_BY_A_CLIENT_TEXT,
+    },
+    Row {
+        words: &[],
+        infs: &[OWN_INF],
+        script: VETOED_AND_DONE_SCRIPT,
+        status: Status::Done,
+        text: VETOED_AND_DONE_TEXT,
+    },
+];

@@ -1,37 +1,83 @@
-//! Memory or writes that are refused on the way: the status says so, and what was written is a front of the output. The
-//! first three are for runs in which one allocation fails (`rt try --test --fail-alloc N`).
-use crate::runs::{comes_to, ended, files_of, words_of};
-use crate::scripts::{ONE_DEVICE_SCRIPT, ONE_DEVICE_TEXT, ended_into};
-use crate::told::{must, same};
+//! Scripts with the INF of their devices, and what is written for them.
+use crate::runs::{ended, files_of, rack_of, words_of};
 use pnp_cli::Status;
 use pnp_io::{MemFiles, MemSink};
 use std::alloc::Global;
 use std::test::Fail;
 
-/// What the sink took is a front of a text.
-fn is_front(sink: &MemSink, text: &str) -> Result<(), Fail> {
-    let front = text.as_bytes().starts_with(sink.taken());
-    must(front, "a front of the output")
+/// The INF of their devices.
+pub const OWN_INF: &[u8] = br#"[Version]
+Signature="$Windows NT$"
+DriverVer=01/01/2020,1.0.0.0
+[Manufacturer]
+Own=M
+[M]
+Device=I,OWN\DEV
+Filtered=K,OWN\FIL
+[I.Services]
+AddService=dev,2,S
+[K.Services]
+AddService=dev,2,S
+[K.HW]
+AddReg=R
+[R]
+HKR,,"LowerFilters",0x00010000,"low"
+"#;
+
+/// The words and the files of a script with that INF.
+pub fn named(alloc: Global, script: &str) -> Result<(Vec<String>, MemFiles), Fail> {
+    let words = words_of(alloc, &["pnpmgr", "s", "1"])?;
+    let files = files_of(alloc, &[("s", script.as_bytes()), ("1", OWN_INF)])?;
+    Ok((words, files))
 }
 
-/// The whole output is written; or memory was refused, and a front of it was.
-fn whole_or_front(alloc: Global, script: &str, text: &str) -> Result<(), Fail> {
-    let mut sink = MemSink::new(alloc, 4096)?;
-    match ended_into(alloc, script, &mut sink)? {
-        Status::Done => same(sink.taken(), text.as_bytes()),
-        Status::WantOfMemory => is_front(&sink, text),
-        _ => Err(Fail::new("how a run ended")),
-    }
+/// The status of such a run over these files, with two Scripted drivers, four Steady ones and a Stubborn one.
+pub fn ended_over(
+    alloc: Global,
+    words: &[String],
+    files: &mut MemFiles,
+    sink: &mut MemSink,
+) -> Result<Status, Fail> {
+    let rack = rack_of(alloc, 2, 4, 1)?;
+    ended(alloc, words, rack, files, sink)
 }
+
+/// The status of a script with that INF.
+pub fn ended_into(alloc: Global, script: &str, sink: &mut MemSink) -> Result<Status, Fail> {
+    let (words, mut files) = named(alloc, script)?;
+    ended_over(alloc, &words, &mut files, sink)
+}
+
+/// One device starts.
+pub const ONE_DEVICE_SCRIPT: &str = r"driver dev steady
+plug HTREE\ROOT\0 OWN\DEV 1
+";
+
+pub const ONE_DEVICE_TEXT: &str = r"event driver dev
+event plug OWN\DEV\1
+join 1 OWN\DEV\1
+listed HTREE\ROOT\0
+install OWN\DEV\1 00ff0000 dev
+add OWN\DEV\1 dev ok
+assign OWN\DEV\1
+START_DEVICE OWN\DEV\1 dev ok
+state OWN\DEV\1 Started
+listed OWN\DEV\1
+tree
+0 HTREE\ROOT\0 Started
+ 1 OWN\DEV\1 Started
+map
+outstanding
+";
 
 /// A rebalance in which two devices move.
-const CHAIN_SCRIPT: &str = r"driver dev steady
+pub const CHAIN_SCRIPT: &str = r"driver dev steady
 plug HTREE\ROOT\0 OWN\DEV A need=irq:3-4
 plug HTREE\ROOT\0 OWN\DEV B need=irq:4-5
 plug HTREE\ROOT\0 OWN\DEV D need=irq:3
 ";
 
-const CHAIN_TEXT: &str = r"event driver dev
+pub const CHAIN_TEXT: &str = r"event driver dev
 event plug OWN\DEV\A
 join 1 OWN\DEV\A
 listed HTREE\ROOT\0
@@ -88,7 +134,7 @@ outstanding
 ";
 
 /// A veto, after which the devices that agreed are told.
-const VETO_SCRIPT: &str = r"driver dev steady
+pub const VETO_SCRIPT: &str = r"driver dev steady
 driver low scripted
 teach low QUERY_REMOVE_DEVICE OWN\FIL\2 fail
 plug HTREE\ROOT\0 OWN\DEV H
@@ -98,7 +144,7 @@ plug OWN\DEV\H OWN\DEV 3
 disable OWN\DEV\H
 ";
 
-const VETO_TEXT: &str = r"event driver dev
+pub const VETO_TEXT: &str = r"event driver dev
 event driver low
 event teach low
 event plug OWN\DEV\H
@@ -163,7 +209,7 @@ outstanding
 ";
 
 /// A rebalance in which a device does not start again.
-const FAILED_RESTART_SCRIPT: &str = r"driver dev scripted
+pub const FAILED_RESTART_SCRIPT: &str = r"driver dev scripted
 teach dev START_DEVICE OWN\DEV\H ok 1
 teach dev START_DEVICE OWN\DEV\H fail
 plug HTREE\ROOT\0 OWN\DEV H need=irq:5-6
@@ -171,7 +217,7 @@ plug OWN\DEV\H OWN\DEV C
 plug HTREE\ROOT\0 OWN\DEV D need=irq:5
 ";
 
-const FAILED_RESTART_TEXT: &str = r"event driver dev
+pub const FAILED_RESTART_TEXT: &str = r"event driver dev
 event teach dev
 event teach dev
 event plug OWN\DEV\H
@@ -235,86 +281,3 @@ map
 irq:5-5 OWN\DEV\D
 outstanding
 ";
-
-#[test]
-fn whole_or_a_front(rt: HostRuntime) -> Result<(), Fail> {
-    let rows = [
-        (CHAIN_SCRIPT, CHAIN_TEXT),
-        (VETO_SCRIPT, VETO_TEXT),
-        (FAILED_RESTART_SCRIPT, FAILED_RESTART_TEXT),
-    ];
-    for (script, text) in rows {
-        whole_or_front(rt.alloc(), script, text)?;
-    }
-    Ok(())
-}
-
-/// Wherever the sink is full, what it took is the front of the output up to there.
-#[test]
-fn each_write_fails(rt: HostRuntime) -> Result<(), Fail> {
-    let alloc = rt.alloc();
-    let text = ONE_DEVICE_TEXT.as_bytes();
-    for room in 0..text.len() {
-        let mut sink = MemSink::new(alloc, room as u64)?;
-        let status = ended_into(alloc, ONE_DEVICE_SCRIPT, &mut sink)?;
-        comes_to(status, &sink, (Status::WriteFault, &text[..room]))?;
-    }
-    Ok(())
-}
-
-/// What stands behind the lines of its labels.
-const ONE_DEVICE_END: &str =
-    "tree\n0 HTREE\\ROOT\\0 Started\n 1 OWN\\DEV\\1 Started\nmap\noutstanding\n";
-
-/// Where this write fails, the sink took this.
-fn one_write_fails(alloc: Global, call: u64, taken: &[u8]) -> Result<(), Fail> {
-    let mut sink = MemSink::new(alloc, 4096)?;
-    sink.fail_at(call)?;
-    let status = ended_into(alloc, ONE_DEVICE_SCRIPT, &mut sink)?;
-    comes_to(status, &sink, (Status::WriteFault, taken))
-}
-
-/// Whichever write fails, what the sink took is the front of the output that the writes before it made; the lines of all
-/// events of one piece are one write, and the end of the output another.
-#[test]
-fn each_call_of_write_fails(rt: HostRuntime) -> Result<(), Fail> {
-    let Some(lines) = ONE_DEVICE_TEXT.strip_suffix(ONE_DEVICE_END) else {
-        return Err(Fail::new("the end of the output"));
-    };
-    one_write_fails(rt.alloc(), 1, b"")?;
-    one_write_fails(rt.alloc(), 2, lines.as_bytes())
-}
-
-/// Of a hundred reads and a hundred writes, each takes one byte.
-fn take_one_byte(files: &mut MemFiles, sink: &mut MemSink) -> Result<(), Fail> {
-    for call in 1..101u64 {
-        files.short_at(call, 1)?;
-        sink.short_at(call, 1)?;
-    }
-    Ok(())
-}
-
-/// The files with which the script `s` is run over no driver, and what is written byte by byte.
-fn in_parts(
-    alloc: Global,
-    words: &[String],
-    files: &mut MemFiles,
-    want: &[u8],
-) -> Result<(), Fail> {
-    let mut sink = MemSink::new(alloc, 4096)?;
-    take_one_byte(files, &mut sink)?;
-    let status = ended(alloc, words, Vec::new(alloc), files, &mut sink)?;
-    comes_to(status, &sink, (Status::Done, want))
-}
-
-/// Reads and writes of one byte at a time, a hundred of each, make the same output.
-#[test]
-fn one_byte_at_a_time(rt: HostRuntime) -> Result<(), Fail> {
-    let alloc = rt.alloc();
-    let words = words_of(alloc, &["pnpmgr", "s"])?;
-    let mut files = files_of(alloc, &[("s", ONE_DEVICE_SCRIPT.as_bytes())])?;
-    let mut whole = MemSink::new(alloc, 4096)?;
-    let status = ended(alloc, &words, Vec::new(alloc), &mut files, &mut whole)?;
-    must(status == Status::Done, "how a run ended")?;
-    in_parts(alloc, &words, &mut files, whole.taken())
-}
