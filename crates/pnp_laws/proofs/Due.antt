@@ -26,7 +26,7 @@ pub none_leads : (tasks : List Task) (task : Task) → slice_get tasks 0 ≡ Som
 none_leads [] task h e = refl
 none_leads (t ∷ tasks) task h e = grind (arith)
 
-no_due : (ks : List ℕ) → list_any (λ j. has [] j) ks ≡ false
+pub no_due : (ks : List ℕ) → list_any (λ j. has [] j) ks ≡ false
 no_due [] = refl
 no_due (k ∷ ks) = no_due ks
 

@@ -125,3 +125,5 @@ pub mod FirstFinish
 pub mod ReadyEffects
 pub mod ReadySteps
 pub mod RunsReady
+pub mod Related
+pub mod RunsFacts

@@ -1,5 +1,5 @@
 -- In each run problem 12 comes only where nothing fits the device and all that can move.
-use Rattle.std.proofs.Common.{ℕ, ◌≡◌, ◌≢◌, ◌==◌, ◌⊎◌, inl, inr, true, false, List, [], ◌∷◌, ◌++◌, map, Some, refl, sym, ap, ◌∙◌, subst, arith}
+use Rattle.std.proofs.Common.{ℕ, ◌≡◌, ◌≢◌, ◌==◌, ◌⊎◌, inl, inr, true, false, List, [], ◌∷◌, ◌++◌, map, Some, None, refl, sym, ap, ◌∙◌, subst, arith}
 use Rattle.std.proofs.lemmas.Bool.Decides.{nat_tests}
 use Rattle.resource_reqs.specs.Resources.{Res, Reqs, Fits}
 use Rattle.resource_reqs.specs.Spelling.Answer.{assignment, no_fit, spent}
@@ -21,7 +21,8 @@ use Rattle.pnp_labels.specs.declared.label.Label.{Label}
 use Rattle.pnp_labels.specs.declared.label.OpKind.{OpKind}
 use Rattle.pnp_laws.specs.Words.{IsBeside}
 use Rattle.pnp_laws.specs.Holdings.{has_plan}
-use Rattle.pnp_laws.specs.Rebalanced.{Undone, AskedSince, Asks, IsAskedAt, Underway}
+use Rattle.pnp_laws.specs.Listed.{AreFreeBy, CanMoveBy, ListedConflictLaw}
+use Rattle.pnp_laws.specs.Rebalanced.{Undone, AskedSince, Asks, IsAskedAt, StaysOut, Underway}
 use Rattle.pnp_laws.proofs.Lookups.{own_serial}
 use Rattle.pnp_laws.proofs.Standing.{Tree}
 use Rattle.pnp_laws.proofs.Reached.{reached_is_good, reached_tree}
@@ -173,6 +174,7 @@ record AtConflict (settings : Settings) (rack : List Driver) (begin_path path : 
   under : Underway begin_path before.core last
   stuck : AtStuck settings rack begin_path before begun entries last under
   device : path ≡ begin_path
+  plain : under.frame.wanted ≡ None
   none : NothingFits last.core (under.frame.target ∷ under.frame.agreed)
 
 at_conflict : (settings : Settings) (rack : List Driver) (earlier entries : List Entry) (before begun last after : State) (begin_path path : Text) →
@@ -199,6 +201,7 @@ at_conflict settings rack earlier entries before begun last after begin_path pat
         tells = refusers_told settings rack begin_path before begun entries last tree since within u is_stuck.stage;
       };
       device = is_stuck.device ∙ u.named;
+      plain = plain_since settings rack begin_path before begun entries last since;
       none = nothing_fits_still before.core last.core (r.target ∷ r.agreed) undone.0.nodes undone.0.reserved (asked.1 (plain_since settings rack begin_path before begun entries last since) found);
     }
 
@@ -229,5 +232,55 @@ each_conflict_is_real settings rack entries s entry t path reaches goes e =
       node = u.target.0;
       there = subst (λ (x : List Node). node_at u.frame.target x ≡ Some u.target.0) (sym c.stuck.nodes) u.target.1;
       named = u.target.2;
+      none = c.none;
+    }
+
+-- By the list of the operation ----------------------------------------------------------------------
+
+-- where nobody is left to ask, those that agreed are those that can move by the list of those that refused
+listed_free : (nodes : List Node) (agreed refused : List ℕ) → Asks nodes [] agreed refused → AreFreeBy nodes refused agreed
+listed_free nodes agreed refused asks =
+    record {
+      ascending = increasing_from_rising agreed asks.rising;
+      each = λ k. ((λ c. moves k (has_from_contains agreed k c)), (λ is. contains_from_has agreed k (agrees k is)));
+    }
+  where
+    stays : (k : ℕ) → has agreed k ≡ true → StaysOut nodes refused k → ⊥
+    stays k h (inl listed) = not_both agreed k h (asks.refuses k listed).1
+    stays k h (inr (j, listed, up)) = not_both agreed k h (asks.above j k listed up).1
+
+    moves : (k : ℕ) → has agreed k ≡ true → CanMoveBy nodes refused k
+    moves k h =
+        let asked = asks.agrees k h in
+        let node = asked.0 in
+        let parts = asked_up node asked.2 in
+        let own = own_serial k node nodes asked.1 in
+        ((λ z. parts.1 (own ∙ z)), (node, asked.1, parts.0), stays k h)
+
+    agrees : (k : ℕ) → CanMoveBy nodes refused k → has agreed k ≡ true
+    agrees k is =
+        let node = is.1.0 in
+        let own = own_serial k node nodes is.1.1 in
+        let asked : IsAskedAt k nodes = (node, is.1.1, asked_node node is.1.2 (λ z. is.0 (sym own ∙ z))) in
+        elim (asks.each k asked) [
+          | inl e ↦ absurd (cc)
+          | inr (inl e) ↦ e
+          | inr (inr out) ↦ absurd (is.2 out)
+        ]
+
+pub each_conflict_is_listed : ListedConflictLaw
+each_conflict_is_listed settings rack entries s entry t path reaches goes e =
+    let began : HasBegun settings rack entries s OpKind.Rebalance path = subst (λ (x : Label). Belongs settings rack entries s x) e (operations_begin settings rack entries s entry t reaches goes) in
+    let c = at_conflict settings rack began.earlier began.later began.before began.begun s t path path began.reaches began.begins began.run began.within (subst (λ (x : Label). Goes settings s (Did x) t) e (step_did settings s entry t goes (λ beside. subst (λ (x : Label). IsBeside x) e beside))) in
+    let u = c.under in
+    record {
+      frame = u.frame;
+      runs = u.runs;
+      plain = c.plain;
+      node = u.target.0;
+      there = subst (λ (x : List Node). node_at u.frame.target x ≡ Some u.target.0) (sym c.stuck.nodes) u.target.1;
+      named = u.target.2;
+      movers = u.frame.agreed;
+      free = subst (λ (x : List Node). AreFreeBy x u.frame.refused u.frame.agreed) (sym c.stuck.nodes) (listed_free began.before.core.nodes u.frame.agreed u.frame.refused c.stuck.asks);
       none = c.none;
     }

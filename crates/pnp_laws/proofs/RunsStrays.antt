@@ -10,7 +10,7 @@ use Rattle.pnp_labels.specs.declared.states.DevState.TheVariants.{NoStack, NotSt
 use Rattle.pnp_model.specs.Events.{answer_of}
 use Rattle.pnp_model.specs.Cores.{bare, node_at, serials_of}
 use Rattle.pnp_model.specs.Diagram.{FollowsDiagram}
-use Rattle.pnp_model.specs.Laws.{DependentsFirst}
+use Rattle.pnp_model.specs.Laws.{DependentsFirst, Reaches}
 use Rattle.pnp_model.specs.Rebalances.{committed, movers, plan_of}
 use Rattle.pnp_model.specs.Records.{Activity, Driver, Duty, Node, Operation, Settings, State, Step, Surprise, SurpriseStage, Task}
 use Rattle.pnp_model.specs.Runs.{Entry, Goes, opening, printed}
@@ -286,9 +286,13 @@ opening_seen rack =
       strays = λ k n at stray. absurd (let up = ap (λ (x : Node). x.state) (root_is k n at).0 in let waits = stray.waits in cc);
     }
 
+-- each state of a run is so, also within operations
+pub each_stray_is_seen : (settings : Settings) (rack : List Driver) (entries : List Entry) (s : State) → Reaches settings rack entries s → Seen s
+each_stray_is_seen settings rack entries s run = kept Seen settings rack (seen_goes settings rack) (opening_seen rack) s (entries, run)
+
 pub nobody_is_forgotten : StraysLaw
 nobody_is_forgotten settings rack entries s run none =
-    let seen = kept Seen settings rack (seen_goes settings rack) (opening_seen rack) s (entries, run) in
+    let seen = each_stray_is_seen settings rack entries s run in
     let due = subst (λ (x : Option Operation). DueBut (waiting x) s.tasks s.core.nodes) none (reaches_kept settings rack entries s run).stands.due in
     record {
       stopped = λ k n at e. elim (due k n at e) [ inl q ↦ q | inr q ↦ absurd (cc) ];

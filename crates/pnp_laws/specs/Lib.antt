@@ -22,3 +22,5 @@ pub mod Held
 pub mod Needs
 pub mod Windows
 pub mod Waiting
+pub mod Facts
+pub mod Listed

@@ -3,7 +3,9 @@
 ghost use Rattle.pnp_laws.specs.Begun.{BegunLaw, EachConflictLaw, EachEndLaw, UnchangedLaw};
 ghost use Rattle.pnp_laws.specs.Effects.{EffectLaw};
 ghost use Rattle.pnp_laws.specs.Ends.{SettlesLaw, JoinsLaw, FewJoinLaw};
+ghost use Rattle.pnp_laws.specs.Facts.{FactsLaw};
 ghost use Rattle.pnp_laws.specs.Held.{FewHeldLaw, PartsLaw};
+ghost use Rattle.pnp_laws.specs.Listed.{ListedConflictLaw};
 ghost use Rattle.pnp_laws.specs.Needs.{NeedsLaw, PluggedLaw};
 ghost use Rattle.pnp_laws.specs.Keys.{KeysLaw, MapLaw, NoCycleLaw};
 ghost use Rattle.pnp_laws.specs.Printed.{GivenLaw, TreeLaw};
@@ -123,6 +125,14 @@ pub fn each_conflict_is_real()
     ensures { EachConflictLaw }
 {}
 
+/// Before each step that prints problem 12 a rebalance runs for the device, and no assignment exists for the device and all
+/// that can move by the list of those that refused which the rebalance itself keeps: those that are Started, but not the
+/// root, one on the list, or one that stands above one on the list.
+#[tactic(auto, using(crate::proofs::RunsConflict::each_conflict_is_listed))]
+pub fn each_conflict_is_listed()
+    ensures { ListedConflictLaw }
+{}
+
 /// Each end with a veto restores all that was before the operation began, which did begin, and so does each end of a
 /// change with `nofit`, `spent` or `refused`; each end of a rebalance with `nofit` or `spent` all but the problem of its
 /// device.
@@ -200,6 +210,16 @@ pub fn states_are_told()
 #[tactic(auto, using(crate::proofs::RunsStrays::nobody_is_forgotten))]
 pub fn nobody_is_forgotten()
     ensures { StraysLaw }
+{}
+
+/// In each state of each run, also while an operation runs: owner and member of each relation are there and have drivers,
+/// but for the root, and a device that is NotStarted is neither; nothing stands below a device in NoStack or NotStarted;
+/// nothing is being started while an operation runs; and each device that is Stopped, or NotStarted with holdings and not
+/// being started, is due to go, or is the device of a rebalance, or to be started again by it, or of the set of a surprise
+/// removal and to be finished. In a disable, an eject or a finish there is no such device.
+#[tactic(auto, using(crate::proofs::RunsFacts::facts_are_kept))]
+pub fn facts_are_kept()
+    ensures { FactsLaw }
 {}
 
 /// In each state of each run each device holds one whole alternative of its requirements, or nothing, whatever its state.

@@ -36,7 +36,7 @@ use Rattle.surprise_remove.specs.Steps as surprise
 use Rattle.surprise_remove.specs.FinishSteps as finish
 use Rattle.surprise_remove.proofs.Given.{surprise_ready}
 use Rattle.surprise_remove.proofs.FinishGiven.{finish_ready}
-use Rattle.pnp_machine.proofs.Related.{related_up, no_relations}
+use Rattle.pnp_laws.proofs.Related.{related_up, no_relations}
 
 -- The root needs nothing and holds nothing ---------------------------------------------------
 

@@ -4,7 +4,6 @@ pub mod Inserts
 pub mod Ready
 pub mod Indexes
 pub mod Fresh
-pub mod Related
 pub mod Ids
 pub mod Givens
 pub mod Arrivals

@@ -1,8 +1,10 @@
 -- What a manager keeps, and what holds of each of its steps and events: the laws of runs.
 use Rattle.std.proofs.Common.{◌≡◌, Option, Some, None, IsSomeAnd, true, Result, Ok, Err, IfOk, OnErr, ℕ, ◌+◌, ◌<◌, ◌≤◌, ◌^◌, List, [], ◌∷◌, ◌++◌, refl, sym, ◌∙◌, ap, subst, arith}
 use Rattle.std.specs.declared.alloc.AllocError.{AllocError}
+use Rattle.pnp_labels.specs.Texts.{Text}
 use Rattle.pnp_labels.specs.declared.event.Event.{Event}
 use Rattle.pnp_labels.specs.declared.label.Label.{Label}
+use Rattle.pnp_labels.specs.declared.states.Problem.TheVariants.{NormalConflict}
 use Rattle.pnp_model.specs.Events.{happens}
 use Rattle.pnp_model.specs.Cores.{node_at, path_of}
 use Rattle.pnp_model.specs.Machine.{IsDeclined, IsQuiet, due, is_in_order}
@@ -14,6 +16,7 @@ use Rattle.pnp_model.specs.States.{drop_task}
 use Rattle.pnp_model.specs.Runs.Entry.{Happens, Did, Declines}
 use Rattle.pnp_laws.specs.Ends.{events}
 use Rattle.pnp_laws.specs.Kept.{IsGood}
+use Rattle.pnp_laws.specs.Listed.{IsHopelessBy}
 use Rattle.pnp_laws.specs.Needs.{IsEntryWithin, IsEventWithin}
 use Rattle.pnp_laws.specs.Printed.{TreeIsPrinted}
 use Rattle.pnp_laws.specs.Stacks.{NamesDriver}
@@ -25,8 +28,9 @@ use Rattle.free_model.proofs.Answered.{Sort, other, sort, teaches}
 use Rattle.pnp_laws.proofs.NodesPlugged.{needs_are_within}
 use Rattle.pnp_laws.proofs.Reached.{reached_is_good}
 use Rattle.pnp_laws.proofs.RunsBegun.{operations_begin}
-use Rattle.pnp_laws.proofs.RunsConflict.{each_conflict_is_real}
+use Rattle.pnp_laws.proofs.RunsConflict.{each_conflict_is_listed, each_conflict_is_real}
 use Rattle.pnp_laws.proofs.RunsEnds.{each_end_restores}
+use Rattle.pnp_laws.proofs.RunsFacts.{facts_are_kept}
 use Rattle.pnp_laws.proofs.RunsHeld.{each_holds_a_part, few_held}
 use Rattle.pnp_laws.proofs.RunsKeys.{no_cycle, nothing_printed_clashes}
 use Rattle.pnp_laws.proofs.RunsSerials.{few_serials, few_births}
@@ -44,12 +48,12 @@ use Rattle.pnp_laws.proofs.TreePrints.{each_node_is_printed_once}
 use Rattle.pnp_machine.specs.Machines.{IsDone, Moves}
 use Rattle.pnp_machine.specs.Ids.{AreFewIds}
 use Rattle.pnp_machine.specs.Machines.{HasFewIds}
-use Rattle.pnp_machine.specs.Managers.{IsRunOf, IsOfRun, KeepsLaws, LawsOf}
+use Rattle.pnp_machine.specs.Managers.{IsRunOf, IsOfRun, KeepsFacts, KeepsLaws, LawsOf}
 use Rattle.pnp_machine.specs.declared.manager.Moved.{Moved}
 use Rattle.pnp_machine.specs.declared.manager.Moved.TheVariants.{Label as Printed, Quiet}
 use Rattle.pnp_machine.proofs.ButBooks.{ShadowStep, all_left, fewer, one_rack, shadow, shadow_step, swaps_end, swaps_on}
 use Rattle.pnp_machine.proofs.Ids.{few_goes, one_more_has}
-use Rattle.pnp_machine.proofs.SameLaws.{IsTakenOr, acyclic_same, first_same, handles_same, keyed_same, names_same, nobody_same, stacks_same, still_first, still_follows, still_names, still_told, still_walked, teaching_says, told_same, walk_same}
+use Rattle.pnp_machine.proofs.SameLaws.{IsTakenOr, acyclic_same, facts_same, first_same, handles_same, hopeless_same, keyed_same, names_same, nobody_same, stacks_same, still_first, still_follows, still_names, still_told, still_walked, teaching_says, told_same, walk_same}
 
 events_more : (xs : List Entry) (event : Event) (label : Label) → events (xs ++ Happens event label ∷ []) ≡ events xs + 1
 events_more [] event label = refl
@@ -81,6 +85,7 @@ record StepLaws (label : Label) (s t : State) : Type 0 where
   states : StatesTold label s t
   first : DependentsFirst label s.core t.core
   names : NamesDriver label t.core.rack
+  listed : (path : Text) → label ≡ Label.Trouble path NormalConflict → IsHopelessBy s path
 
 module _ (told : Settings) (entries : List Entry) (s : State) (entry : Entry) (t : State) (h : ShadowStep told entries s entry t) where
   -- of a step that the machine itself makes
@@ -98,6 +103,7 @@ module _ (told : Settings) (entries : List Entry) (s : State) (entry : Entry) (t
         states = record { alone = told_so.alone; walked = λ path state is k n at named. let (w, walks, ended, row) = told_so.walked path state is k n at named in (w, walk_same s h.here k w walks, ended, row) };
         first = first_same (printed entry) s.core t.core h.here h.there (dependents_go_first told h.rack earlier old entry new h.reaches goes);
         names = names_same h.there t.core.rack h.there_shown (printed entry) (names_are_known told h.rack earlier old entry new h.reaches goes);
+        listed = λ path is. hopeless_same s h.here path (each_conflict_is_listed told h.rack earlier old entry new path h.reaches goes is);
       }
 
 happened_laws : (told : Settings) (entries : List Entry) (s : State) (event : Event) (label : Label) (t : State) (h : ShadowStep told entries s (Happens event label) t) → happens s event ≡ record { label = label; state = t }
@@ -113,6 +119,7 @@ happened_laws told entries s _ label t h so (teaches name rule) =
       states = still_told label says s t same;
       first = still_first label says s t same;
       names = still_names label says s t same;
+      listed = λ path is. absurd (subst IsTakenOr is says);
     }
 
 step_laws : (told : Settings) (entries : List Entry) (s : State) (entry : Entry) (t : State) → ShadowStep told entries s entry t → Goes told s entry t → StepLaws (printed entry) s t
@@ -153,6 +160,7 @@ module _ (told : Settings) (s t : State) where
         stacks = stacks_same t after.here after.shown (stacks_fit told after.rack left new after.reaches);
         names = steps.names;
         remembered = λ idle. nobody_same t after.here (nobody_is_forgotten told after.rack left new after.reaches idle);
+        listed = steps.listed;
         begun = λ rack entries reaches. operations_begin told rack entries s entry t reaches goes;
         restores = λ rack entries reaches. each_end_restores told rack entries s entry t reaches goes;
         conflicts = λ rack entries path reaches is. each_conflict_is_real told rack entries s entry t path reaches goes is;
@@ -199,6 +207,20 @@ pub of_run_good : (s : State) → IsOfRun s → IsGood s
 of_run_good s run =
     let own = one_rack s run in
     reached_is_good own.told own.rack (with_rack own.here s) (own.entries, own.reaches)
+
+-- what each state keeps
+pub facts_of : (told : Settings) (n : ℕ) (s : State) → IsRunOf told n s → AreFewIds s → KeepsFacts s
+facts_of told n s run few =
+    let h = shadow told run.rack run.entries s run.reaches in
+    let left = without_teaching run.entries in
+    let one : State = with_rack h.here s in
+    record {
+      keyed = keyed_same s h.here (keyed told h.rack left one h.reaches);
+      acyclic = acyclic_same s.core h.here (no_cycle told h.rack left one h.reaches);
+      stacks = stacks_same s h.here h.shown (stacks_fit told h.rack left one h.reaches);
+      facts = facts_same s h.here (facts_are_kept told h.rack left one h.reaches);
+      ids = few;
+    }
 
 pub of_run_printed : (told : Settings) (n : ℕ) (s : State) → IsRunOf told n s → TreeIsPrinted s.core.nodes
 of_run_printed told n s run =

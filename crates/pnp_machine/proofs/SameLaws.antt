@@ -1,5 +1,5 @@
 -- What holds of a state or a step whatever books the drivers have, and what holds of an event that teaches, which changes books alone.
-use Rattle.std.proofs.Common.{ℕ, ◌≡◌, true, false, not, List, [], ◌∷◌, Option, Some, None, inl, slice_get, option_map, refl, sym, ap, ◌∙◌, subst}
+use Rattle.std.proofs.Common.{ℕ, ◌≡◌, true, false, not, List, [], ◌∷◌, Option, Some, None, inl, inr, slice_get, option_map, refl, sym, ap, ◌∙◌, subst}
 use Rattle.std.specs.Prelude.{nat_le, find, length}
 use Rattle.std.proofs.lemmas.Option.{slice_get-map}
 use Rattle.pnp_labels.specs.Texts.{Text}
@@ -14,7 +14,9 @@ use Rattle.pnp_model.specs.Events as happenings
 use Rattle.pnp_model.specs.Laws.{DependentsFirst}
 use Rattle.pnp_model.specs.Records.{Core, Driver, Node, State, Step, Walk}
 use Rattle.pnp_model.specs.Tests.{has, is_scripted}
+use Rattle.pnp_laws.specs.Facts.{Facts, IsAdrift}
 use Rattle.pnp_laws.specs.Keys.{IsAcyclic, Keyed}
+use Rattle.pnp_laws.specs.Listed.{IsHopelessBy}
 use Rattle.pnp_laws.specs.Stacks.{AllNamed, HasName, NamesDriver, StacksFit}
 use Rattle.pnp_laws.specs.Strays.{NobodyForgotten}
 use Rattle.pnp_laws.specs.Told.{IsWalkOf, StatesTold}
@@ -50,6 +52,25 @@ keyed_same s r h = record { serials = h.serials; births = h.births; paths = h.pa
 pub nobody_same : (s : State) (r : List Driver) → NobodyForgotten (with_rack r s) → NobodyForgotten s
 nobody_same s r h =
     record { stopped = h.stopped; strays = λ k n at stray. h.strays k n at (record { waits = stray.waits; holds = stray.holds; idle = stray.idle }) }
+
+adrift_same : (s : State) (r : List Driver) (k : ℕ) (n : Node) → IsAdrift s k n → IsAdrift (with_rack r s) k n
+adrift_same s r k n (inl stopped) = inl stopped
+adrift_same s r k n (inr stray) = inr (record { waits = stray.waits; holds = stray.holds; idle = stray.idle })
+
+pub facts_same : (s : State) (r : List Driver) → Facts (with_rack r s) → Facts s
+facts_same s r h =
+    record {
+      ends = h.ends;
+      unstarted = h.unstarted;
+      childless = h.childless;
+      alone = h.alone;
+      adrift = λ k n at adrift. h.adrift k n at (adrift_same s r k n adrift);
+      none = λ quiet k n at adrift. h.none quiet k n at (adrift_same s r k n adrift);
+    }
+
+pub hopeless_same : (s : State) (r : List Driver) (path : Text) → IsHopelessBy (with_rack r s) path → IsHopelessBy s path
+hopeless_same s r path h =
+    record { frame = h.frame; runs = h.runs; plain = h.plain; node = h.node; there = h.there; named = h.named; movers = h.movers; free = h.free; none = h.none }
 
 -- the request that is on its way
 pub walk_same : (s : State) (r : List Driver) (k : ℕ) (w : Walk) → IsWalkOf (with_rack r s) k w → IsWalkOf s k w

@@ -13,8 +13,10 @@ use Rattle.pnp_model.specs.Sharing.{Clear}
 use Rattle.free_model.specs.Frees.{with_rack}
 use Rattle.free_model.specs.Shapes.{faces}
 use Rattle.pnp_laws.specs.Begun.{Belongs, Restoring, Conflicts}
+use Rattle.pnp_laws.specs.Facts.{Facts}
 use Rattle.pnp_laws.specs.Held.{AllHoldParts, how_many}
 use Rattle.pnp_laws.specs.Keys.{Keyed, IsAcyclic, NothingHeldClashes}
+use Rattle.pnp_laws.specs.Listed.{IsHopelessBy}
 use Rattle.pnp_laws.specs.Needs.{IsEntryWithin}
 use Rattle.pnp_laws.specs.Stacks.{NamesDriver, StacksFit}
 use Rattle.pnp_laws.specs.Strays.{NobodyForgotten}
@@ -69,14 +71,25 @@ pub record IsManager (infs : List Inf) (budget events : ℕ) (s : State) : Type 
   pub ids : AreFewIds s
   pub run : IsRunOf (settings_of infs budget) events s
 
+-- what each state keeps that a manager comes to, also within operations: nodes are told apart, each below the one above it, and nothing depends on
+-- itself; stacks are short and of drivers with names; who is related has drivers, and one that is NotStarted has no relations; nothing stands below a
+-- device in NoStack or NotStarted; nothing is being started while an operation runs; whoever is Stopped, or holds something and is not up, is due to
+-- go or seen to by the operation that runs; and each node and each device of the world has at most 64 IDs of each sort
+pub record KeepsFacts (s : State) : Type 0 where
+  pub keyed : Keyed s
+  pub acyclic : IsAcyclic s.core
+  pub stacks : StacksFit s
+  pub facts : Facts s
+  pub ids : AreFewIds s
+
 -- what holds of each step and each event: states change by rows of the diagram, at the printed path alone and by the
 -- request that has just ended there; nothing clashes, devices that are up hold one whole alternative and all others one or
 -- nothing, so that fewer than 2^29 resources are held or reserved, and each inside the windows above; who has an open handle is up or waits to be finished, what depends on a device that waits
 -- waits as well, and one that is ready has a task; dependents go first; nodes are told apart, nothing
 -- depends on itself, no two of the printed resources clash, stacks are short and of drivers with names, and such a name is
 -- printed where a driver is asked; where no operation runs, who was stopped, or holds something and is not up, is being
--- started or is due to go; and whatever run leads to it, what ends has begun in it, a veto and a futile rebalance restore,
--- and problem 12 is real
+-- started or is due to go; where problem 12 is printed nothing fits by the list of those that refused that the operation keeps; and whatever run
+-- leads to it, what ends has begun in it, a veto and a futile rebalance restore, and problem 12 is real
 pub record KeepsLaws (told : Settings) (label : Label) (old new : State) : Type 0 where
   pub diagram : FollowsDiagram label old.core.nodes new.core.nodes
   pub walked : Walked label old.core.nodes new.core.nodes
@@ -96,6 +109,7 @@ pub record KeepsLaws (told : Settings) (label : Label) (old new : State) : Type 
   pub stacks : StacksFit new
   pub names : NamesDriver label new.core.rack
   pub remembered : new.operation ≡ None → NobodyForgotten new
+  pub listed : (path : Text) → label ≡ Label.Trouble path NormalConflict → IsHopelessBy old path
   pub begun : (rack : List Driver) (entries : List Entry) → Reaches told rack entries old → Belongs told rack entries old label
   pub restores : (rack : List Driver) (entries : List Entry) → Reaches told rack entries old → Restoring told rack entries old new label
   pub conflicts : (rack : List Driver) (entries : List Entry) (path : Text) → Reaches told rack entries old → label ≡ Label.Trouble path NormalConflict

@@ -12,7 +12,7 @@ ghost use Rattle.free_model.specs.Frees.{with_rack};
 ghost use Rattle.free_model.specs.Shapes.{faces};
 ghost use Rattle.pnp_machine.specs.Dues.{beginning_of};
 ghost use Rattle.pnp_machine.specs.Machines.{IsDone, Moves, HasFewIds};
-ghost use Rattle.pnp_machine.specs.Managers.{settings, IsRunOf, KeepsLaws, LawsOf, IfQuiet};
+ghost use Rattle.pnp_machine.specs.Managers.{settings, IsRunOf, KeepsFacts, KeepsLaws, LawsOf, IfQuiet};
 
 use crate::ending::EndParts;
 use crate::machine::Machine;
@@ -94,6 +94,7 @@ impl<R: Drivers> Manager<R> {
     pub fn restart(&mut self, rack: &mut R) -> Result<(), WantOfMemory>
         ensures opens { OnOk result (self.new ≡ record self.old { events = 0; state = opening (R.rows rack.old) }) }
         ensures back { OnOk result (R.rows rack.new ≡ self.old.state.core.rack) }
+        ensures facts { OnOk result (KeepsFacts self.new.state) }
         ensures err { OnErr result (self.new ≡ self.old) }
         ensures kept { OnErr result (R.rows rack.new ≡ R.rows rack.old) }
     {
@@ -115,6 +116,7 @@ impl<R: Drivers> Manager<R> {
         ensures count { OnOk result (self.new ≡ record self.old { events = self.old.events + 1; state = self.new.state }) }
         ensures laws { IfOk result (λ label. KeepsLaws (settings self.old) label self.old.state self.new.state) }
         ensures run { OnOk result (IsRunOf (settings self.new) self.new.events self.new.state) }
+        ensures facts { OnOk result (KeepsFacts self.new.state) }
         ensures err { OnErr result (self.new ≡ self.old) }
     {
         needs_are_few(&event);
@@ -131,9 +133,19 @@ impl<R: Drivers> Manager<R> {
         ensures same { self.new ≡ record self.old { state = self.new.state } }
         ensures laws { IfOk result (λ moved. LawsOf (settings self.old) moved self.old.state self.new.state) }
         ensures run { IsRunOf (settings self.new) self.new.events self.new.state }
+        ensures facts { KeepsFacts self.new.state }
         ensures err { OnErr result (self.new ≡ self.old) }
     {
         self.machine.step(&self.infs, self.budget)
+    }
+
+    /// Says of a manager, also of a new one and whatever was done to it, what each state keeps that it comes to; there is nothing to
+    /// run.
+    #[inline(always)]
+    pub fn keeps_facts(&self)
+        ensures { KeepsFacts self.now.state }
+    {
+        let _ = self.budget;
     }
 
     /// Whether no step is next.
@@ -159,6 +171,7 @@ impl<R: Drivers> Manager<R> {
         requires { IsSomeAnd (due self.old.state) (λ first. is_in_order first.kind ≡ true) }
         ensures dropped { self.new ≡ record self.old { state = drop_task self.old.state } }
         ensures run { IsRunOf (settings self.new) self.new.events self.new.state }
+        ensures facts { KeepsFacts self.new.state }
     {
         self.machine.drop_due();
     }
@@ -170,6 +183,7 @@ impl<R: Drivers> Manager<R> {
         ensures given { self.new ≡ record self.old { state = with_rack (R.rows rack.old) self.old.state } }
         ensures back { R.rows rack.new ≡ self.old.state.core.rack }
         ensures run { IsRunOf (settings self.new) self.new.events self.new.state }
+        ensures facts { KeepsFacts self.new.state }
     {
         self.machine.swap_rack(rack);
     }

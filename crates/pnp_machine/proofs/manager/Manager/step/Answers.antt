@@ -1,5 +1,5 @@
 use Rattle.start_sequence.specs.Begins.{settings_of}
-use Rattle.pnp_machine.proofs.RunLaws.{run_serials, run_after, laws_after, few_after}
+use Rattle.pnp_machine.proofs.RunLaws.{facts_of, run_serials, run_after, laws_after, few_after}
 use Rattle.pnp_machine.proofs.manager.Manager.step.Goals as goal
 
 pub step-requires-clause-room : goal.step-requires-clause-room
@@ -27,3 +27,10 @@ returns-clause-run g c =
     let moves = rw c.deref_mut.ensures.value at (rw c.deref.ensures.value at c.step.ensures.moves) in
     let err = rw c.deref_mut.ensures.value at c.step.ensures.err in
     run_after _ _ _ _ c.self.invariant.run c.step.result moves err
+
+pub returns-clause-facts : goal.returns-clause-facts
+returns-clause-facts g c =
+    let moves = rw c.deref_mut.ensures.value at (rw c.deref.ensures.value at c.step.ensures.moves) in
+    let err = rw c.deref_mut.ensures.value at c.step.ensures.err in
+    let told = settings_of c.self.inside.infs.items c.self.inside.budget in
+    facts_of told _ _ (run_after _ _ _ _ c.self.invariant.run c.step.result moves err) (few_after told _ _ c.self.invariant.ids c.step.result moves err)
