@@ -1,6 +1,6 @@
--- The generated INF is accepted, and a generated script is run to its end.
-use Rattle.std.proofs.Common.{◌≡◌, ◌≤◌, ◌+◌, ◌*◌, ◌==◌, ◌||◌, ◌&&◌, ℕ, zero, suc, Bool, true, false, not, List, [], ◌∷◌, ◌++◌, Option, Some, Result, Ok, Err, length, take, refl, sym, ◌∙◌, ap, subst, arith, append_assoc, append-nil, length-append}
-use Rattle.std.specs.Prelude.{codes, is_ok, nat_le}
+-- A generated script is run to its end.
+use Rattle.std.proofs.Common.{◌≡◌, ◌≤◌, ◌+◌, ◌*◌, ◌==◌, ◌||◌, ◌&&◌, ℕ, zero, suc, Bool, true, false, not, List, [], ◌∷◌, ◌++◌, Option, Some, length, take, refl, sym, ◌∙◌, ap, subst, arith, append_assoc, append-nil, length-append}
+use Rattle.std.specs.Prelude.{codes, nat_le}
 use Rattle.std.specs.List.{onto_first}
 use Rattle.std.proofs.lemmas.Bool.{le-leb}
 use Rattle.std.proofs.lemmas.Bool.Decides.{nat_tests}
@@ -8,30 +8,14 @@ use Rattle.std.proofs.lemmas.List.{take_all}
 use Rattle.std.proofs.lemmas.List.Splits.{slice_split-cons_no}
 use Rattle.device_ids.specs.Cuts.{parts}
 use Rattle.pnp_laws.proofs.Truths.{and_both, not_true, or_neither}
-use Rattle.inf_reader.specs.declared.parts.Inf.{Inf}
-use Rattle.inf_reader.specs.declared.parts.InfError.{InfError}
-use Rattle.inf_reader.specs.Meaning.{inf}
 use Rattle.script_reader.specs.Script.{Meaning, nothing, means, bad, whole_line, Trace, onward, trace}
 use Rattle.script_reader.proofs.Scripts.{IsOne, trace_line}
 use Rattle.pnp_cli.specs.Contents.{answer_of, decided_of, script_status}
-use Rattle.pnp_cli.specs.Generated.{device_line, device_lines, gen_inf, gen_script, head, line}
-use Rattle.pnp_cli.specs.GeneratedLaws.{InfLaw, ScriptLaw}
+use Rattle.pnp_cli.specs.Generated.{device_line, device_lines, gen_script, head, line}
+use Rattle.pnp_cli.specs.GeneratedLaws.{ScriptLaw}
 use Rattle.pnp_cli.specs.Infs.{limit}
 use Rattle.pnp_cli.specs.declared.status.Status.{Status}
 use Rattle.pnp_cli.proofs.GoodLines.{device_good, device_text, has_feed, is_event, is_good}
-
--- The INF ------------------------------------------------------------------------------------
-
-accepted : (r : Result Inf InfError) → is_ok r ≡ true → (made : Inf) × (r ≡ Ok made)
-accepted (Ok made) e = (made, refl)
-accepted (Err error) e = absurd (cc)
-
-inf_is_accepted : is_ok (inf gen_inf) ≡ true
-unfolding gen_inf
-inf_is_accepted = refl
-
-pub generated_inf : InfLaw
-generated_inf = accepted (inf gen_inf) inf_is_accepted
 
 -- Lines ---------------------------------------------------------------------------------------
 
@@ -41,14 +25,12 @@ record Fine (text : List ℕ) (most : ℕ) : Type 0 where
   short : length text ≤ most
 
 one_of : (text : List ℕ) → has_feed text ≡ false → IsOne 10 text
-unfolding has_feed
 one_of [] none = refl
 one_of (x ∷ text) none =
     let two = or_neither (x == 10) (has_feed text) none in
     slice_split-cons_no (λ b. b == 10) x text two.0 ∙ ap (onto_first x) (one_of text two.1)
 
 onward_answer : (number : ℕ) (m : Meaning) (rest : Trace) → is_event m ≡ true → answer_of (onward number m rest) ≡ answer_of rest
-unfolding is_event
 onward_answer number nothing rest e = absurd (cc)
 onward_answer number (means event) rest e = refl
 onward_answer number bad rest e = absurd (cc)
@@ -90,7 +72,6 @@ fine_lines (suc k) low =
     (fine_both (device_lines k) (line (device_text (suc k))) (128 * k) 128 (fine_lines k (omega (arith, low))) (fine_line (device_text (suc k)) (device_good k low)))
 
 fine_head : Fine head 384
-unfolding is_event has_feed
 fine_head =
     fine_both (line (codes "driver bus steady") ++ line (codes "driver dev steady")) (line (codes "plug HTREE\\ROOT\\0 GEN\\BUS 0")) 256 128
     (fine_both (line (codes "driver bus steady")) (line (codes "driver dev steady")) 128 128 (fine_line (codes "driver bus steady") refl) (fine_line (codes "driver dev steady") refl))

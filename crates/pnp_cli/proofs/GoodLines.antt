@@ -1,17 +1,17 @@
 -- Each line of a generated script is good. This is computed, for each of the 400 devices.
 use Rattle.std.proofs.Common.{◌≡◌, ◌≤◌, ◌==◌, ◌||◌, ◌&&◌, ◌+◌, ◌-◌, ℕ, zero, suc, Bool, true, false, not, List, [], ◌∷◌, ◌++◌, length, refl, subst, arith}
 use Rattle.std.specs.Prelude.{codes, nat_le}
-use Rattle.std.specs.Fmt.{decimal}
+use Rattle.std.specs.Fmt.{decimal, digits}
 use Rattle.pnp_laws.proofs.Truths.{and_both}
 use Rattle.script_reader.specs.Script.{Meaning, nothing, means, bad, whole_line}
 use Rattle.pnp_cli.specs.Generated.{need_of}
 
-pub is_event : Meaning → Bool
+abbrev pub is_event : Meaning → Bool
 is_event nothing = false
 is_event (means event) = true
 is_event bad = false
 
-pub has_feed : List ℕ → Bool
+abbrev pub has_feed : List ℕ → Bool
 has_feed [] = false
 has_feed (byte ∷ bytes) = byte == 10 || has_feed bytes
 
@@ -29,7 +29,7 @@ all_good (suc k) = is_good (device_text (suc k)) && all_good k
 
 -- the lines of all devices are good
 four_hundred : all_good 400 ≡ true
-unfolding all_good is_event has_feed
+unfolding all_good digits
 four_hundred = refl
 
 first_sum : (k : ℕ) → zero + suc k ≡ suc k

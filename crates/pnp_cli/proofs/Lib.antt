@@ -19,6 +19,7 @@ pub mod WordRows
 pub mod InfSteps
 pub mod Limited
 mod GoodLines
+pub mod GeneratedInf
 pub mod GeneratedLaws
 pub mod MadeRuns
 pub mod MadeLines

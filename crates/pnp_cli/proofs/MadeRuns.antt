@@ -21,7 +21,8 @@ use Rattle.pnp_cli.specs.declared.tally.Tally.{Tally}
 use Rattle.pnp_cli.specs.declared.status.Status.{Status}
 use Rattle.pnp_cli.specs.declared.turn.PieceError.{PieceError}
 use Rattle.pnp_cli.proofs.Fronts.{none_is_front}
-use Rattle.pnp_cli.proofs.GeneratedLaws.{generated_inf, generated_script}
+use Rattle.pnp_cli.proofs.GeneratedInf.{generated_inf}
+use Rattle.pnp_cli.proofs.GeneratedLaws.{generated_script}
 use Rattle.pnp_cli.proofs.OneOutput.{shows_one}
 
 -- the run of a file that is there

@@ -30,7 +30,7 @@ pub fn each_output_is_checked()
 {}
 
 /// The generated INF is accepted.
-#[tactic(auto, using(crate::proofs::GeneratedLaws::generated_inf))]
+#[tactic(auto, using(crate::proofs::GeneratedInf::generated_inf))]
 pub fn generated_inf_is_accepted()
     ensures { InfLaw }
 {}
