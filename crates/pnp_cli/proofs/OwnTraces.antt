@@ -1,23 +1,25 @@
 -- What is written for a script is a trace to which the check answers `yes`.
-use Rattle.std.proofs.Common.{◌≡◌, ◌≤◌, ℕ, Bool, true, false, List, [], ◌∷◌, ◌++◌, Option, Some, None, Result, Ok, Err, length, map, refl, sym, ◌∙◌, ap, subst, arith}
+use Rattle.std.proofs.Common.{◌≡◌, ◌≤◌, inl, inr, ℕ, Bool, true, false, List, [], ◌∷◌, ◌++◌, Option, Some, None, Result, Ok, Err, length, map, refl, sym, ◌∙◌, ap, subst, arith}
 use Rattle.std.specs.Prelude.{nat_le}
 use Rattle.std.proofs.lemmas.Bool.Decides.{nat_tests}
 use Rattle.pnp_labels.specs.Texts.{Text}
 use Rattle.pnp_labels.specs.declared.words.DriverKind.{DriverKind}
 use Rattle.pnp_model.specs.Records as machines
-use Rattle.pnp_model.specs.Records.{Driver}
+use Rattle.pnp_model.specs.Records.{Driver, State}
+use Rattle.pnp_model.specs.Events.{happens}
 use Rattle.pnp_model.specs.Runs.{opening}
 use Rattle.inf_reader.specs.declared.parts.Inf.{Inf}
-use Rattle.script_reader.specs.Script.{Trace}
+use Rattle.script_reader.specs.Script.{Trace, gives, waits, ends, stops}
 use Rattle.notify_front.specs.Fronts.{opening_front}
-use Rattle.free_model.specs.Checks.{IsChecked, Verdict, Yes, beginning}
+use Rattle.free_model.specs.Checks.{Follow, IsChecked, Place, Runs, Ends, Verdict, Yes, beginning}
+use Rattle.free_model.specs.Frees.{free_opening}
 use Rattle.free_model.proofs.Outs.{each_output}
 use Rattle.pnp_cli.specs.Contents.{events_of}
 use Rattle.pnp_cli.specs.Checks.{ComesTo, Outcome, ShowsOutcome, file_in, verdict_line}
 use Rattle.pnp_cli.specs.Infs.{infs_in, limit}
 use Rattle.pnp_cli.specs.Lawful.{OfOutput}
 use Rattle.pnp_cli.specs.Outputs.{HasNoClients, Prints, Report, Shows, written}
-use Rattle.pnp_cli.specs.OwnTraces.{ChecksOutput, ChecksYes, IsUntaught, OwnCheckLaw, OwnTraceLaw}
+use Rattle.pnp_cli.specs.OwnTraces.{ChecksOutput, ChecksYes, IsUntaught, NoClientsLaw, OwnCheckLaw, OwnTraceLaw}
 use Rattle.pnp_cli.specs.Runs.{IsOutput, IsOutputBy, IsOutputFor, IsOutputWith, IsScriptOutput, IsVerdict, machine}
 use Rattle.pnp_cli.specs.declared.infs.InfsError.{InfsError}
 use Rattle.pnp_cli.specs.declared.parts.Settings.{Settings}
@@ -38,6 +40,22 @@ output_checks words contents rack =
     of_output ChecksYes rack
     (λ settings script report text shows whole none untaught.
     own_trace_of settings rack (events_of script) text none untaught (subst (λ (r : Report). Shows settings (opening_front (opening rack)) (events_of script) r text) whole shows)) words contents
+
+-- With a line of a client ----------------------------------------------------------------------
+
+-- where lines lead to the end, no event that comes is one of a client
+no_clients : (settings : machines.Settings) (lines : List Text) (s : State) (t : Trace) → Follow settings (Runs s t) lines (Ends []) → HasNoClients t
+no_clients settings [] s t is = absurd (cc)
+no_clients settings (line ∷ lines) s t (mid, inl (label, new, step, told, next), follow) =
+    no_clients settings lines new t (subst (λ (x : Place). Follow settings x lines (Ends [])) next follow)
+no_clients settings (line ∷ lines) s (gives number event rest) (mid, inr (quiet, (own, told, next)), follow) =
+    (own, no_clients settings lines (happens s event).state rest (subst (λ (x : Place). Follow settings x lines (Ends [])) next follow))
+no_clients settings (line ∷ lines) s (stops number) (mid, inr (quiet, rest), follow) = tt
+no_clients settings (line ∷ lines) s ends (mid, inr (quiet, rest), follow) = tt
+no_clients settings (line ∷ lines) s waits (mid, inr (quiet, rest), follow) = absurd rest
+
+pub without_clients : NoClientsLaw
+without_clients settings kinds script trace yes = no_clients settings yes.0 (free_opening kinds) (events_of script) yes.1
 
 -- A later command ------------------------------------------------------------------------------
 

@@ -1,6 +1,7 @@
 -- That what is written for a script is a trace to which the check answers `yes`.
 use Rattle.std.specs.Prelude.{ℕ, ◌≡◌, ◌≤◌, List, Option, Some, None, Ok, length, map}
 use Rattle.pnp_labels.specs.Texts.{Text}
+use Rattle.pnp_labels.specs.declared.words.DriverKind.{DriverKind}
 use Rattle.pnp_model.specs.Records as machines
 use Rattle.pnp_model.specs.Records.{Driver}
 use Rattle.pnp_model.specs.Runs.{opening}
@@ -31,6 +32,11 @@ abbrev pub OwnTraceLaw : Type 0
 OwnTraceLaw =
     (settings : machines.Settings) (rack : List Driver) (script : List ℕ) (text : Text) → HasNoClients (events_of script) → IsUntaught rack
     → Prints settings (opening_front (opening rack)) (events_of script) text → IsChecked settings (beginning (map (λ d. d.kind) rack) (events_of script)) text Yes
+
+-- and where a line of the script is one of a client, no trace is a run of it: the check knows no clients
+abbrev pub NoClientsLaw : Type 0
+NoClientsLaw =
+    (settings : machines.Settings) (kinds : List DriverKind) (script trace : List ℕ) → IsChecked settings (beginning kinds (events_of script)) trace Yes → HasNoClients (events_of script)
 
 -- A command runs a script that is there, with INFs that are taken, and a later one checks this text as its trace: with the same INFs, budget
 -- and script, over drivers of the same kinds. Script and text are not too large.

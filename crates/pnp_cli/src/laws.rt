@@ -1,7 +1,7 @@
 //! What holds of every output.
 
 ghost use Rattle.pnp_cli.specs.GeneratedLaws.{InfLaw, ScriptLaw};
-ghost use Rattle.pnp_cli.specs.OwnTraces.{OwnCheckLaw, OwnTraceLaw};
+ghost use Rattle.pnp_cli.specs.OwnTraces.{NoClientsLaw, OwnCheckLaw, OwnTraceLaw};
 ghost use Rattle.pnp_cli.specs.Runs.{OutputLaw, VerdictLaw};
 
 /// Whatever the settings and the rack of drivers, each script has one output and no other. So what is said of the output
@@ -20,6 +20,12 @@ pub fn exactly_one_verdict()
 #[tactic(auto, using(crate::proofs::OwnTraces::own_trace))]
 pub fn each_output_is_a_trace()
     ensures { OwnTraceLaw }
+{}
+
+/// And where a line of a script is one of a client, no trace is a run of it: the check answers with the number of a line.
+#[tactic(auto, using(crate::proofs::OwnTraces::without_clients))]
+pub fn no_trace_has_clients()
+    ensures { NoClientsLaw }
 {}
 
 /// So of two commands: where one wrote its output for such a script, and another checks these bytes as its trace, with the same INFs, budget and
