@@ -12,7 +12,7 @@ use Rattle.script_reader.specs.Script.{Trace, gives, waits, ends, stops}
 use Rattle.free_model.specs.Asks.{Query, next_query}
 use Rattle.free_model.specs.Frees.{told, with_rack, free_opening, new_driver}
 use Rattle.free_model.specs.Checks.{Place, Runs, Ends, Follow, bad_line, end_bytes}
-use Rattle.free_model.specs.Outputs.{Settles, text_of, end_text, Prints, TeachesNone, EachRunIsAnOutput}
+use Rattle.free_model.specs.Outputs.{Settles, text_of, end_text, MachinePrints, TeachesNone, EachRunIsAnOutput}
 use Rattle.free_model.proofs.Racks.{faces_told}
 use Rattle.free_model.proofs.Quiets.{quiet_same}
 use Rattle.free_model.proofs.Ways.{rack_by}
@@ -27,7 +27,7 @@ record PrintsOn (settings : Settings) (s : State) (script : Trace) (out : Text) 
   new : State
   more : Text
   settles : Settles settings s labels new
-  prints : Prints settings new script more
+  prints : MachinePrints settings new script more
   is : out ≡ text_of labels ++ more
 
 -- with these books, and whatever is used up before them, the machine prints these lines
@@ -49,7 +49,7 @@ all_due settings due [] h = ap due_of h
 all_due settings due (l ∷ lines) (mid, (more, is, none, there), h) =
     ap (λ (t : Text). l ++ 10 ∷ t) (all_due settings more lines (subst (λ (x : Place). Follow settings x lines (Ends [])) there h)) ∙ sym is
 
-at_once : (settings : Settings) (s : State) (script : Trace) (out : Text) → IsQuiet settings s → Prints settings s script out → PrintsOn settings s script out
+at_once : (settings : Settings) (s : State) (script : Trace) (out : Text) → IsQuiet settings s → MachinePrints settings s script out → PrintsOn settings s script out
 at_once settings s script out quiet prints = record { labels = []; new = s; more = out; settles = (refl, quiet); prints = prints; is = refl }
 
 -- a label's line before those of more labels
@@ -116,11 +116,11 @@ prints_so settings (line ∷ lines) f (stops number) none (mid, inr (quiet, (l, 
 prints_so settings (line ∷ lines) f waits none (mid, inr (quiet, allows), follow) = absurd allows
 
 -- what is printed on from a quiet state is printed from it
-from_rest : (settings : Settings) (s : State) (script : Trace) (out : Text) → next settings s ≡ None → PrintsOn settings s script out → Prints settings s script out
+from_rest : (settings : Settings) (s : State) (script : Trace) (out : Text) → next settings s ≡ None → PrintsOn settings s script out → MachinePrints settings s script out
 from_rest settings s script out quiet on = by_labels on.labels on.settles on.is
   where
-    by_labels : (labels : List Label) → Settles settings s labels on.new → out ≡ text_of labels ++ on.more → Prints settings s script out
-    by_labels [] (same, rests_now) is = subst (λ (x : State). Prints settings x script out) same (subst (Prints settings on.new script) (sym is) on.prints)
+    by_labels : (labels : List Label) → Settles settings s labels on.new → out ≡ text_of labels ++ on.more → MachinePrints settings s script out
+    by_labels [] (same, rests_now) is = subst (λ (x : State). MachinePrints settings x script out) same (subst (MachinePrints settings on.new script) (sym is) on.prints)
     by_labels (label ∷ labels) (mid, step, more) is = absurd (subst (λ (o : Option (Doing Step)). IsStep settings o (record { label = label; state = mid })) quiet step)
 
 pub each_run : EachRunIsAnOutput
@@ -133,4 +133,4 @@ each_run settings kinds script out none (lines, follow, is) =
       has = λ k d at. ([], tt, built_book so.books 0 kinds k d at ∙ ap so.books (omega arith));
     }
     in
-    (rack, built_kinds so.books 0 kinds, subst (Prints settings (opening rack) script) (sym is) (from_rest settings (opening rack) script (joined lines) refl (so.run rack armed)))
+    (rack, built_kinds so.books 0 kinds, subst (MachinePrints settings (opening rack) script) (sym is) (from_rest settings (opening rack) script (joined lines) refl (so.run rack armed)))

@@ -22,7 +22,7 @@ use Rattle.script_reader.specs.Script.{Trace, gives, waits, ends, stops}
 use Rattle.free_model.specs.Frees.{told, with_rack, FreeSteps, new_driver, free_opening}
 use Rattle.free_model.specs.Shapes.{Shape, shape, shapes, AreOf, faces}
 use Rattle.free_model.specs.Checks.{Place, Runs, Ends, Follow, IsYes, bad_line, AllowsFirst, has_feed, end_bytes}
-use Rattle.free_model.specs.Outputs.{Settles, text_of, error_line, end_text, Prints, EachOutputIsARun}
+use Rattle.free_model.specs.Outputs.{Settles, text_of, error_line, end_text, MachinePrints, EachOutputIsARun}
 use Rattle.free_model.proofs.Racks.{faces_of, faces_told, same_names, same_told, replies_told, shapes_after}
 use Rattle.free_model.proofs.Alikes.{Alike, rests, does, searches}
 use Rattle.free_model.proofs.Ways.{Way, rack_by, reply_to, Agree}
@@ -185,7 +185,7 @@ pub error_too : (number : ℕ) (more : Text) → error_line number ++ more ≡ b
 error_too number more = append_assoc (bad_line number) (10 ∷ []) more
 
 -- from a quiet state on
-output_is_a_run : (settings : Settings) (script : Trace) (f s : State) (out : Text) → Related f s → IsQuiet settings s → Prints settings s script out → IsYes settings (Runs f script) out
+output_is_a_run : (settings : Settings) (script : Trace) (f s : State) (out : Text) → Related f s → IsQuiet settings s → MachinePrints settings s script out → IsYes settings (Runs f script) out
 output_is_a_run settings (gives number event rest) f s out related quiet (labels, new, more, follows, prints, e) =
     let happened : TwinEvent (happens s event) (happens (with_rack related.rack s) event) = twin_happens s related.rack event related.shape in
     let line : label_line (happens f event).label ≡ label_line follows.first =

@@ -42,19 +42,19 @@ abbrev pub end_text : State → Text
 end_text s = joined (ending s)
 
 -- what is written for the events of a script from a quiet state on, and for how it ends
-abbrev pub Prints : Settings → State → Trace → Text → Type 0
-Prints settings s (gives number event rest) out =
+abbrev pub MachinePrints : Settings → State → Trace → Text → Type 0
+MachinePrints settings s (gives number event rest) out =
     (labels : List Label) × (new : State) × (more : Text)
-    × Follows settings s event labels new × Prints settings new rest more × (out ≡ text_of labels ++ more)
-Prints settings s ends out = out ≡ end_text s
-Prints settings s (stops number) out = out ≡ error_line number ++ end_text s
-Prints settings s waits out = ⊥
+    × Follows settings s event labels new × MachinePrints settings new rest more × (out ≡ text_of labels ++ more)
+MachinePrints settings s ends out = out ≡ end_text s
+MachinePrints settings s (stops number) out = out ≡ error_line number ++ end_text s
+MachinePrints settings s waits out = ⊥
 
 -- The law: the output of every script, for every rack of these kinds of which those that can be taught were taught nothing, is a run.
 abbrev pub EachOutputIsARun : Type 0
 EachOutputIsARun =
     (settings : Settings) (kinds : List DriverKind) (rack : List Driver) (script : Trace) (out : Text)
-    → AreOf kinds rack → Prints settings (opening rack) script out → IsYes settings (beginning kinds script) out
+    → AreOf kinds rack → MachinePrints settings (opening rack) script out → IsYes settings (beginning kinds script) out
 
 -- no line of the script teaches a driver
 abbrev pub TeachesNone : Trace → Type 0
@@ -67,4 +67,4 @@ TeachesNone waits = Unit {0}
 abbrev pub EachRunIsAnOutput : Type 0
 EachRunIsAnOutput =
     (settings : Settings) (kinds : List DriverKind) (script : Trace) (out : Text) → TeachesNone script → IsYes settings (beginning kinds script) out
-    → (rack : List Driver) × (map (λ d. d.kind) rack ≡ kinds) × Prints settings (opening rack) script out
+    → (rack : List Driver) × (map (λ d. d.kind) rack ≡ kinds) × MachinePrints settings (opening rack) script out

@@ -5,7 +5,7 @@ use Rattle.pnp_io.specs.Outside.{Appends, AppendsFront}
 use Rattle.pnp_labels.specs.Texts.{Text}
 use Rattle.pnp_model.specs.Records.{Driver}
 use Rattle.pnp_cli.specs.declared.parts.Settings.{Settings}
-use Rattle.pnp_cli.specs.Runs.{IsOutput, WroteFront}
+use Rattle.pnp_cli.specs.Runs.{IsOutput, WroteFront, told_to}
 
 -- nothing was appended
 pub none_appends : (taken : Option (List ℕ)) → Appends taken taken []
@@ -49,9 +49,13 @@ front_after old mid new xs ys h g = (
   subst (λ (t : List ℕ). Appends old new t) (sym (take_after xs ys g.0)) (appends_both old mid new xs (take g.0 ys) h g.2),
 )
 
+-- without a condition on the contents
+pub for_all : (contents : Option (Text → Option (List ℕ))) (P : (Text → Option (List ℕ)) → Type 0) → ((told : Text → Option (List ℕ)) → P told) → IfSome contents P
+for_all None P h = tt
+for_all (Some told) P h = h told
+
 -- a front of whatever the output is, where nothing was written
 pub none_of_output : (s : Option Settings) (contents : Option (Text → Option (List ℕ))) (rack : List Driver) (taken : Option Text)
-    → IfSome s (λ s. IfSome contents (λ told. WroteFront (IsOutput rack told s) taken taken))
+    → IfSome s (λ s. IfSome (told_to s.script contents) (λ told. WroteFront (IsOutput rack told s) taken taken))
 none_of_output None contents rack taken = tt
-none_of_output (Some s) None rack taken = tt
-none_of_output (Some s) (Some told) rack taken = λ text is. none_is_front taken text
+none_of_output (Some s) contents rack taken = for_all (told_to s.script contents) (λ told. WroteFront (IsOutput rack told s) taken taken) (λ told text is. none_is_front taken text)

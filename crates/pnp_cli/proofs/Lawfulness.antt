@@ -52,7 +52,7 @@ use Rattle.pnp_cli.specs.Outputs.{Settles, Follows, Plays, Report, Shows, writte
 use Rattle.pnp_cli.specs.Generated.{gen_script, gen_inf}
 use Rattle.pnp_cli.specs.Summaries.{summary}
 use Rattle.pnp_cli.specs.Infs.{infs_in}
-use Rattle.pnp_cli.specs.Runs.{IsOutput, IsOutputBy, IsOutputFor, IsOutputWith, IsScriptOutput, IsSummaryBy, machine}
+use Rattle.pnp_cli.specs.Runs.{IsOutput, IsOutputBy, IsOutputFor, IsOutputWith, IsScriptOutput, IsSummaryBy, machine, told_to}
 use Rattle.pnp_cli.specs.Contents.{events_of}
 use Rattle.pnp_cli.specs.Words.{settings_of}
 use Rattle.pnp_cli.specs.Lawful.{happened, events_in, IsStep, IsTold, Said, SomeRun, OfRun, EachPassed, EachState, EachStep, OfScript, OfInfs, OfMade, OfSource, OfOutput, ByDiagram, NothingClashes, AllHoldWhole, OperationsBegan, EndsRestore, DependentsGoFirst, ConflictsAreReal, FewJoin, AllStatesTold, NodesAreKeyed, NothingOnItself, MapIsClear, AllStacksFit, NamesAreKnown, NobodyIsForgotten, EachHoldsPart, HeldInsideWindows, HandlesAreKept, FewAreHeld, NamesAreShown, ShowsName, TreeIsWhole, OfFrontRun, EachFrontStep, MachineRuns, ClientsWereAsked, ClientsDecline, NoticesKeepAll, ClientsHear, MachineAlone}
@@ -126,7 +126,7 @@ some_run settings rack t report text (labels, last, plays, is) =
 -- What is said of outputs ----------------------------------------------------------------
 
 -- what holds of each report of a script's run, over this rack
-Holds : Said → List Driver → Type 0
+pub Holds : Said → List Driver → Type 0
 Holds Says rack =
     (settings : machines.Settings) (script : List ℕ) (report : Report) (text : Text) → Shows settings (opening_front (opening rack)) (events_of script) report text
     → Says settings rack (events_of script) report text
@@ -154,15 +154,19 @@ of_source Says rack holds budget told infs (Some name) made text is = of_infs Sa
 of_source Says rack holds budget told infs None (Some n) text is = of_made Says rack holds budget n (inf gen_inf) text is
 of_source Says rack holds budget told infs None None text is = tt
 
-of_settings : (Says : Said) (rack : List Driver) → Holds Says rack
-    → (s : Option Settings) (contents : Option (Text → Option (List ℕ)))
-    → IfSome s (λ s. IfSome contents (λ told. s.check ≡ None → (text : Text) → IsOutput rack told s text → OfSource Says rack s.budget told s.infs s.script s.made text))
-of_settings Says rack holds None contents = tt
-of_settings Says rack holds (Some s) None = tt
-of_settings Says rack holds (Some s) (Some told) = λ none text is.
+of_contents : (Says : Said) (rack : List Driver) → Holds Says rack → (s : Settings) (contents : Option (Text → Option (List ℕ)))
+    → IfSome contents (λ told. s.check ≡ None → (text : Text) → IsOutput rack told s text → OfSource Says rack s.budget told s.infs s.script s.made text)
+of_contents Says rack holds s None = tt
+of_contents Says rack holds s (Some told) = λ none text is.
     of_source Says rack holds s.budget told s.infs s.script s.made text (subst (λ (check : Option Text). IsOutputWith rack told s check text) none is)
 
-of_output : (Says : Said) (rack : List Driver) → Holds Says rack
+of_settings : (Says : Said) (rack : List Driver) → Holds Says rack
+    → (s : Option Settings) (contents : Option (Text → Option (List ℕ)))
+    → IfSome s (λ s. IfSome (told_to s.script contents) (λ told. s.check ≡ None → (text : Text) → IsOutput rack told s text → OfSource Says rack s.budget told s.infs s.script s.made text))
+of_settings Says rack holds None contents = tt
+of_settings Says rack holds (Some s) contents = of_contents Says rack holds s (told_to s.script contents)
+
+pub of_output : (Says : Said) (rack : List Driver) → Holds Says rack
     → (words : List Text) (contents : Option (Text → Option (List ℕ))) → OfOutput Says words contents rack
 of_output Says rack holds words contents = of_settings Says rack holds (settings_of words) contents
 

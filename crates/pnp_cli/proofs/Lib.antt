@@ -6,15 +6,21 @@ pub mod Telling
 pub mod PartsWritten
 pub mod Sameness
 pub mod Settling
+pub mod SoFar
 pub mod Going
 pub mod Whole
 pub mod Ended
 pub mod OneOutput
 pub mod Lawfulness
+mod MachineAlone
+mod OwnTraces
 pub mod Refusals
 pub mod WordRows
 pub mod InfSteps
 pub mod Limited
+mod GoodLines
+pub mod GeneratedInf
+pub mod GeneratedLaws
 pub mod MadeRuns
 pub mod MadeLines
 pub mod Counts

@@ -1,24 +1,28 @@
 -- What the summary of a run over a generated script says.
-use Rattle.std.proofs.Common.{◌≡◌, ℕ, List, [], ◌∷◌, ◌++◌, ◌≤◌, length, Option, Some, Result, Ok, Err, IfOk, Vec, sym, ◌∙◌, subst, append_assoc, ap, arith}
+use Rattle.std.proofs.Common.{◌≡◌, ℕ, inl, inr, refl, Option, List, [], ◌∷◌, ◌++◌, ◌≤◌, length, Some, Result, Ok, Err, IfOk, Vec, sym, ◌∙◌, subst, append_assoc, ap, arith}
 use Rattle.std.specs.Global.{Global}
-use Rattle.pnp_io.specs.Outside.{AppendsFront}
+use Rattle.pnp_io.specs.Outside.{AppendsFront, Rose}
 use Rattle.pnp_labels.specs.Texts.{Text}
 use Rattle.pnp_model.specs.Records.{Driver}
 use Rattle.pnp_model.specs.Runs.{opening}
 use Rattle.inf_reader.specs.declared.parts.Inf.{Inf}
 use Rattle.inf_reader.specs.declared.parts.InfError.{InfError}
-use Rattle.inf_reader.specs.Meaning.{inf}
+use Rattle.inf_reader.specs.Meaning.{Gives, inf}
 use Rattle.pnp_machine.specs.Managers.{Manager, settings}
 use Rattle.notify_front.specs.Desks.{Desk, front_of, told_of}
 use Rattle.notify_front.specs.Fronts.{opening_front}
-use Rattle.pnp_cli.specs.Contents.{events_of}
+use Rattle.pnp_cli.specs.Contents.{events_of, script_status}
 use Rattle.pnp_cli.specs.Generated.{gen_script, gen_inf}
 use Rattle.pnp_cli.specs.Outputs.{Shows}
 use Rattle.pnp_cli.specs.Pieces.{Ran}
 use Rattle.pnp_cli.specs.Runs.{IsSummary, IsSummaryBy, WroteFront, machine}
 use Rattle.pnp_cli.specs.Summaries.{Counted, summary}
 use Rattle.pnp_cli.specs.declared.tally.Tally.{Tally}
+use Rattle.pnp_cli.specs.declared.status.Status.{Status}
+use Rattle.pnp_cli.specs.declared.turn.PieceError.{PieceError}
 use Rattle.pnp_cli.proofs.Fronts.{none_is_front}
+use Rattle.pnp_cli.proofs.GeneratedInf.{generated_inf}
+use Rattle.pnp_cli.proofs.GeneratedLaws.{generated_script}
 use Rattle.pnp_cli.proofs.OneOutput.{shows_one}
 
 -- the run of a file that is there
@@ -72,3 +76,32 @@ five_lines a b c d e o0 o1 o2 o3 o4 o5 h0 h1 h2 h3 h4 h5 =
     h5
     ∙ ap (λ (x : List ℕ). x ++ e)
     (h4 ∙ ap (λ (x : List ℕ). x ++ d) (h3 ∙ ap (λ (x : List ℕ). x ++ c) (h2 ∙ ap (λ (x : List ℕ). x ++ b) (h1 ∙ ap (λ (x : List ℕ). x ++ a) h0))))
+
+-- What is left is want of memory ---------------------------------------------------------------
+
+-- where an INF is accepted
+pub inf_wants : (error : InfError) (bytes : List ℕ) → bytes ≡ gen_inf → Gives (Err error) (inf bytes) → error ≡ InfError.WantOfMemory
+inf_wants error bytes is gives = refused error (generated_inf.1) (subst (λ (x : List ℕ). Gives (Err error) (inf x)) is gives)
+  where
+    refused : (e : InfError) → inf gen_inf ≡ Ok generated_inf.0 → Gives (Err e) (inf gen_inf) → e ≡ InfError.WantOfMemory
+    refused InfError.WantOfMemory taken h = refl
+    refused InfError.NoSignature taken h = absurd (let other = sym taken ∙ h in cc)
+    refused (InfError.OpenHeader line) taken h = absurd (let other = sym taken ∙ h in cc)
+    refused (InfError.LineTooLong line) taken h = absurd (let other = sym taken ∙ h in cc)
+    refused (InfError.BadDate line) taken h = absurd (let other = sym taken ∙ h in cc)
+    refused (InfError.BadScore line) taken h = absurd (let other = sym taken ∙ h in cc)
+
+never_rose : Rose 0 0 → ⊥
+never_rose (inl less) = absurd (omega (arith, less))
+never_rose (inr most) = absurd (omega (arith, most))
+
+not_both : (o : Option Status) → o ≡ Some Status.Done → o ≡ Some Status.TooLarge → ⊥
+not_both o done large = let same = sym done ∙ large in cc
+
+-- where a script is run to its end, and no read and no write can fail
+pub run_wants : (error : PieceError) (n : ℕ) (script : List ℕ) → n ≤ 400 → script ≡ gen_script n → (error ≡ PieceError.TooLarge → script_status (Some script) ≡ Some Status.TooLarge)
+    → (error ≡ PieceError.ReadFault → Rose 0 0) → (error ≡ PieceError.WriteFault → Rose 0 0) → error ≡ PieceError.WantOfMemory
+run_wants PieceError.WantOfMemory n script few is large reads writes = refl
+run_wants PieceError.ReadFault n script few is large reads writes = absurd (never_rose (reads refl))
+run_wants PieceError.WriteFault n script few is large reads writes = absurd (never_rose (writes refl))
+run_wants PieceError.TooLarge n script few is large reads writes = absurd (not_both (script_status (Some script)) (ap (λ (x : List ℕ). script_status (Some x)) is ∙ generated_script n few) (large refl))

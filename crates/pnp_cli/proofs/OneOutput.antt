@@ -22,7 +22,7 @@ use Rattle.pnp_cli.specs.Infs.{infs_in, refusal_line}
 use Rattle.pnp_cli.specs.Outputs.{Settles, Follows, Plays, Report, Shows, written}
 use Rattle.pnp_cli.specs.Generated.{gen_script, gen_inf}
 use Rattle.pnp_cli.specs.Summaries.{summary}
-use Rattle.pnp_cli.specs.Runs.{IsOnly, IsOutput, IsOutputBy, IsOutputFor, IsOutputWith, IsScriptOutput, IsSummaryBy, IsVerdict, OutputLaw, WroteFront, WroteOneFront, machine}
+use Rattle.pnp_cli.specs.Runs.{IsOnly, IsOutput, IsOutputBy, IsOutputFor, IsOutputWith, IsScriptOutput, IsSummaryBy, IsVerdict, OutputLaw, WroteFront, WroteOneFront, machine, told_to}
 use Rattle.pnp_cli.specs.declared.infs.InfsError.{InfsError}
 use Rattle.pnp_cli.specs.declared.infs.InfsError.TheVariants as faults
 use Rattle.pnp_cli.specs.declared.parts.Settings.{Settings}
@@ -159,10 +159,15 @@ one_with rack told s None = one_for rack s.budget told s.infs s.script s.made
 one_with rack told s (Some trace) = one_checked rack told s trace s.script
 
 -- a front of whatever the output is, is a front of the one that there is
-pub one_front : (s : Option Settings) (contents : Option (Text → Option (List ℕ))) (rack : List Driver) (old new : Option Text)
-    → IfSome s (λ s. IfSome contents (λ told. WroteFront (IsOutput rack told s) old new)) → IfSome s (λ s. IfSome contents (λ told. WroteOneFront (IsOutput rack told s) old new))
-one_front None contents rack old new front = tt
-one_front (Some s) None rack old new front = tt
-one_front (Some s) (Some told) rack old new front =
+one_front_of : (s : Settings) (contents : Option (Text → Option (List ℕ))) (rack : List Driver) (old new : Option Text)
+    → IfSome contents (λ told. WroteFront (IsOutput rack told s) old new) → IfSome contents (λ told. WroteOneFront (IsOutput rack told s) old new)
+one_front_of s None rack old new front = tt
+one_front_of s (Some told) rack old new front =
     let one = one_with rack told s s.check in
     (one.0, one.1, front one.0 one.1.0)
+
+pub one_front : (s : Option Settings) (contents : Option (Text → Option (List ℕ))) (rack : List Driver) (old new : Option Text)
+    → IfSome s (λ s. IfSome (told_to s.script contents) (λ told. WroteFront (IsOutput rack told s) old new))
+    → IfSome s (λ s. IfSome (told_to s.script contents) (λ told. WroteOneFront (IsOutput rack told s) old new))
+one_front None contents rack old new front = tt
+one_front (Some s) contents rack old new front = one_front_of s (told_to s.script contents) rack old new front

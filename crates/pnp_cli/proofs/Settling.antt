@@ -13,7 +13,7 @@ use Rattle.notify_front.proofs.FrontLeft.{front_steps_left, front_left_falls}
 use Rattle.pnp_machine.specs.declared.manager.Moved.{Moved}
 use Rattle.pnp_cli.specs.declared.tally.Tally.{Tally}
 use Rattle.pnp_cli.specs.Outputs.{Makes, Settles, Follows, text_of}
-use Rattle.pnp_cli.specs.Turns.{AnswerFront, AnswerHeld, Held, MovedFront, MovedHeld, Settled, Answered, Awaits, SettlesFront, FollowsFront}
+use Rattle.pnp_cli.specs.Turns.{AnswerFront, AnswerHeld, Held, MovedFront, MovedHeld, Settled, Answered, Awaits, SettlesFront, FollowsFront, StepsOn}
 use Rattle.pnp_cli.proofs.Telling.{held_none, held_both, lines_front, lines_held}
 use Rattle.pnp_cli.proofs.FrontEntries.{settles_quiet}
 use Rattle.pnp_cli.proofs.Fronts.{none_is_front}
@@ -32,9 +32,15 @@ less_left d d' label run h =
     subst (λ (x : Settings). front_steps_left x (front_of d') < front_steps_left (told_of d) (front_of d)) (sym h.same)
     (front_left_falls (told_of d) run.rack run.entries (front_of d) (front_of d') h.steps.0 run.reaches h.steps.2)
 
+-- one step more
+steps_more : (told : Settings) (f g new : Front) (xs : List Label) (label : Label) → StepsOn told f xs g → Makes told g label new → StepsOn told f (xs ++ label ∷ []) new
+steps_more told f g new [] label is step = (new, subst (λ (x : Front). Makes told x label new) is step, refl)
+steps_more told f g new (x ∷ xs) label (mid, first, more) step = (mid, first, steps_more told mid g new xs label more step)
+
 -- these steps were done, and their labels told
 pub record Stepping (d : Desk) (t : Option Text) (p : Text) (c : Tally) (d' : Desk) (t' : Option Text) (p' : Text) (c' : Tally) : Type 0 where
   pub done : List Label
+  pub steps : StepsOn (told_of d) (front_of d) done (front_of d')
   pub leads : (labels : List Label) (new : Front) → Settles (told_of d) (front_of d') labels new → Settles (told_of d) (front_of d) (done ++ labels) new
   pub back : (labels : List Label) (new : Front) → Settles (told_of d) (front_of d) labels new → (more : List Label) × (labels ≡ done ++ more) × Settles (told_of d) (front_of d') more new
   pub held : Held t p c done t' p' c'
@@ -47,7 +53,7 @@ labels_nil [] = refl
 labels_nil (x ∷ xs) = ap (λ rest. x ∷ rest) (labels_nil xs)
 
 pub stepping_none : (d : Desk) (t : Option Text) (p : Text) (c : Tally) → IsOfFrontRun (told_of d) d.manager.events (front_of d) → Stepping d t p c d t p c
-stepping_none d t p c run = record { run = run; done = []; leads = λ labels new h. h; back = λ labels new h. (labels, refl, h); held = held_none t p c; same = refl; events = refl }
+stepping_none d t p c run = record { run = run; done = []; steps = refl; leads = λ labels new h. h; back = λ labels new h. (labels, refl, h); held = held_none t p c; same = refl; events = refl }
 
 stepped_back : (told : Settings) (f f' f'' new : Front) (label : Label) (done labels : List Label) → Makes told f' label f''
     → (more : List Label) × (labels ≡ done ++ more) × Settles told f' more new
@@ -62,6 +68,7 @@ stepping_more d d' d'' t t' t'' p p' p'' c c' c'' label h stepped held =
     let steps : Makes (told_of d) (front_of d') label (front_of d'') = subst (λ (x : Settings). Makes x (front_of d') label (front_of d'')) h.same stepped.steps in
     record {
       done = h.done ++ label ∷ [];
+      steps = steps_more (told_of d) (front_of d) (front_of d') (front_of d'') h.done label h.steps steps;
       leads = λ labels new settles.
           let goes : Settles (told_of d) (front_of d') (label ∷ labels) new = (front_of d'', steps, settles) in
           let P : List Label → Type 0 = λ ls. Settles (told_of d) (front_of d) ls new in
@@ -113,7 +120,7 @@ pub record Made (d : Desk) (moved : Result Moved AllocError) (d' : Desk) : Type 
   pub events : d'.manager.events ≡ d.manager.events
   pub run : IsOfFrontRun (told_of d') d'.manager.events (front_of d')
 
-stepped_of : (d d' : Desk) (label : Label) → Made d (Ok (Moved.Label label)) d' → Stepped d label d'
+pub stepped_of : (d d' : Desk) (label : Label) → Made d (Ok (Moved.Label label)) d' → Stepped d label d'
 stepped_of d d' label h = record { steps = h.moves; same = h.same; events = h.events; run = h.run }
 
 -- one was next: its label was told, and fewer are left

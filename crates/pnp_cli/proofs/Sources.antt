@@ -1,26 +1,27 @@
 -- The output and the answer, by whether a script is named or generated.
-use Rattle.std.proofs.Common.{◌≡◌, ◌≤◌, ◌⊎◌, inl, inr, ℕ, true, List, [], ◌∷◌, ◌++◌, Option, Some, None, IfSome, sym, ap, subst}
+use Rattle.std.proofs.Common.{◌≡◌, ◌≤◌, ◌⊎◌, inl, inr, ℕ, true, List, [], ◌∷◌, ◌++◌, Option, Some, None, IfSome, refl, sym, ap, subst}
 use Rattle.pnp_labels.specs.Texts.{Text}
 use Rattle.pnp_model.specs.Records.{Driver}
 use Rattle.pnp_cli.specs.Infs.{SomeRose, infs_in}
 use Rattle.pnp_cli.specs.Limits.{HasSource}
-use Rattle.pnp_cli.specs.Runs.{IsOutputBy, IsOutputFor, IsRunOutput, IsSummary, Wrote, WroteFront, is_decided, is_whole, names_of, status_by, status_for, status_of}
+use Rattle.pnp_cli.specs.Runs.{IsOutputBy, IsOutputFor, IsRunOutput, IsSummary, Wrote, WroteFront, is_decided, is_whole, names_of, status_by, status_for, status_of, told_to}
 use Rattle.pnp_cli.specs.declared.parts.Settings.{Settings}
 use Rattle.pnp_cli.specs.declared.status.Status.{Status}
+use Rattle.pnp_cli.proofs.Fronts.{for_all}
 
 -- Where a script is named ------------------------------------------------------------------
 
 module _ (contents : Option (Text → Option (List ℕ))) (s : Settings) (name : Text) (is : s.script ≡ Some name) where
-  pub named_decided : (status : Status) → IfSome contents (λ told. status_by (infs_in told s.infs) (told name) ≡ Some status) → IfSome contents (λ told. status_of told s ≡ Some status)
-  named_decided status h = subst (λ (o : Option Text). IfSome contents (λ told. status_for told s.infs o ≡ Some status)) (sym is) h
+  pub named_decided : (status : Status) → IfSome contents (λ told. status_by (infs_in told s.infs) (told name) ≡ Some status) → IfSome (told_to s.script contents) (λ told. status_of told s ≡ Some status)
+  named_decided status h = subst (λ (o : Option Text). IfSome (told_to o contents) (λ told. status_for told s.infs o ≡ Some status)) (sym is) h
 
   pub named_whole : (rack : List Driver) (old new : Option Text) → IfSome contents (λ told. Wrote (IsOutputBy rack s.budget (infs_in told s.infs) (told name)) old new)
-      → IfSome contents (λ told. Wrote (IsRunOutput rack told s) old new)
-  named_whole rack old new h = subst (λ (o : Option Text). IfSome contents (λ told. Wrote (λ text. IsOutputFor rack s.budget told s.infs o s.made text) old new)) (sym is) h
+      → IfSome (told_to s.script contents) (λ told. Wrote (IsRunOutput rack told s) old new)
+  named_whole rack old new h = subst (λ (o : Option Text). IfSome (told_to o contents) (λ told. Wrote (λ text. IsOutputFor rack s.budget told s.infs o s.made text) old new)) (sym is) h
 
   pub named_front : (rack : List Driver) (old new : Option Text) → IfSome contents (λ told. WroteFront (IsOutputBy rack s.budget (infs_in told s.infs) (told name)) old new)
-      → IfSome contents (λ told. WroteFront (IsRunOutput rack told s) old new)
-  named_front rack old new h = subst (λ (o : Option Text). IfSome contents (λ told. WroteFront (λ text. IsOutputFor rack s.budget told s.infs o s.made text) old new)) (sym is) h
+      → IfSome (told_to s.script contents) (λ told. WroteFront (IsRunOutput rack told s) old new)
+  named_front rack old new h = subst (λ (o : Option Text). IfSome (told_to o contents) (λ told. WroteFront (λ text. IsOutputFor rack s.budget told s.infs o s.made text) old new)) (sym is) h
 
   pub named_rose : (old new : Text → ℕ) → SomeRose old new (s.infs ++ name ∷ []) → SomeRose old new (names_of s.infs s.script)
   named_rose old new h = subst (λ (o : Option Text). SomeRose old new (names_of s.infs o)) (sym is) h
@@ -41,27 +42,22 @@ done_whole status (inl done) h = done
 done_whole status (inr (inl fault)) h = absurd (subst (λ (x : Status). is_whole x ≡ true → ⊥) (sym fault) (λ e. cc) h)
 done_whole status (inr (inr want)) h = absurd (subst (λ (x : Status). is_whole x ≡ true → ⊥) (sym want) (λ e. cc) h)
 
--- without a condition on the contents
-for_all : (contents : Option (Text → Option (List ℕ))) (P : (Text → Option (List ℕ)) → Type 0) → ((told : Text → Option (List ℕ)) → P told) → IfSome contents P
-for_all None P h = tt
-for_all (Some told) P h = h told
-
 module _ (contents : Option (Text → Option (List ℕ))) (s : Settings) (none : s.script ≡ None) where
-  pub made_decided : (status : Status) → IsMadeAnswer status → is_decided status ≡ true → IfSome contents (λ told. status_of told s ≡ Some status)
+  pub made_decided : (status : Status) → IsMadeAnswer status → is_decided status ≡ true → IfSome (told_to s.script contents) (λ told. status_of told s ≡ Some status)
   made_decided status may h =
-      for_all contents (λ told. status_of told s ≡ Some status)
+      for_all (told_to s.script contents) (λ told. status_of told s ≡ Some status)
       (λ told. subst (λ (o : Option Text). status_for told s.infs o ≡ Some status) (sym none) (ap Some (sym (done_alone status may h))))
 
-  pub made_whole : (n : ℕ) (rack : List Driver) (old new : Option Text) → s.made ≡ Some n → Wrote (IsSummary rack s.budget n) old new → IfSome contents (λ told. Wrote (IsRunOutput rack told s) old new)
+  pub made_whole : (n : ℕ) (rack : List Driver) (old new : Option Text) → s.made ≡ Some n → Wrote (IsSummary rack s.budget n) old new → IfSome (told_to s.script contents) (λ told. Wrote (IsRunOutput rack told s) old new)
   made_whole n rack old new some h =
-      for_all contents (λ told. Wrote (IsRunOutput rack told s) old new)
+      for_all (told_to s.script contents) (λ told. Wrote (IsRunOutput rack told s) old new)
       (λ told. subst (λ (o : Option Text). Wrote (λ text. IsOutputFor rack s.budget told s.infs o s.made text) old new) (sym none)
       (subst (λ (m : Option ℕ). Wrote (λ text. IsOutputFor rack s.budget told s.infs None m text) old new) (sym some) h))
 
   pub made_front : (n : ℕ) (rack : List Driver) (old new : Option Text) → s.made ≡ Some n → WroteFront (IsSummary rack s.budget n) old new
-      → IfSome contents (λ told. WroteFront (IsRunOutput rack told s) old new)
+      → IfSome (told_to s.script contents) (λ told. WroteFront (IsRunOutput rack told s) old new)
   made_front n rack old new some h =
-      for_all contents (λ told. WroteFront (IsRunOutput rack told s) old new)
+      for_all (told_to s.script contents) (λ told. WroteFront (IsRunOutput rack told s) old new)
       (λ told. subst (λ (o : Option Text). WroteFront (λ text. IsOutputFor rack s.budget told s.infs o s.made text) old new) (sym none)
       (subst (λ (m : Option ℕ). WroteFront (λ text. IsOutputFor rack s.budget told s.infs None m text) old new) (sym some) h))
 
@@ -93,3 +89,12 @@ pub check_source : (s : Settings) (trace : Text) → HasSource s.script s.made s
 check_source s trace h none some =
     check_of s.made trace
     (subst (λ (c : Option Text). HasSource None s.made c) some (subst (λ (o : Option Text). HasSource o s.made s.check) none h))
+
+-- so what is said where its files tell their contents is said of what is told to it
+pub of_check : (contents : Option (Text → Option (List ℕ))) (s : Settings) (trace : Text) (P : (Text → Option (List ℕ)) → Type 0) → HasSource s.script s.made s.check → s.check ≡ Some trace
+    → IfSome contents P → IfSome (told_to s.script contents) P
+of_check contents s trace P h some given = by_script s.script refl
+  where
+    by_script : (o : Option Text) → s.script ≡ o → IfSome (told_to s.script contents) P
+    by_script None none = absurd (check_source s trace h none some)
+    by_script (Some name) is = subst (λ (o : Option Text). IfSome (told_to o contents) P) (sym is) given

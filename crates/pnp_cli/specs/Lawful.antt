@@ -38,7 +38,7 @@ use Rattle.pnp_cli.specs.Generated.{gen_script, gen_inf}
 use Rattle.pnp_cli.specs.Summaries.{summary}
 use Rattle.pnp_cli.specs.Infs.{infs_in}
 use Rattle.pnp_cli.specs.Contents.{events_of}
-use Rattle.pnp_cli.specs.Runs.{Given, IsOutput, machine}
+use Rattle.pnp_cli.specs.Runs.{IsOutput, Known, machine}
 use Rattle.pnp_cli.specs.declared.infs.InfsError.{InfsError}
 
 -- The run that an output tells ----------------------------------------------------------
@@ -157,10 +157,10 @@ OfSource Says rack budget told infs (Some name) made text = OfInfs Says rack bud
 OfSource Says rack budget told infs None (Some n) text = OfMade Says rack budget n (inf gen_inf) text
 OfSource Says rack budget told infs None None text = Unit {0}
 
--- it is so of the output for the words, the contents that the files tell, and the kinds and books of a rack, where no trace is to be checked
+-- it is so of the output for the words, the contents that their files tell, and the kinds and books of a rack, where no trace is to be checked
 abbrev pub OfOutput : Said → List Text → Option (Text → Option (List ℕ)) → List Driver → Type 0
 OfOutput Says words contents rack =
-    Given words contents (λ s told. s.check ≡ None → (text : Text) → IsOutput rack told s text → OfSource Says rack s.budget told s.infs s.script s.made text)
+    Known words contents (λ s told. s.check ≡ None → (text : Text) → IsOutput rack told s text → OfSource Says rack s.budget told s.infs s.script s.made text)
 
 -- The laws ----------------------------------------------------------------------------------
 

@@ -10,5 +10,7 @@ pub mod Summaries
 pub mod Pieces
 pub mod Runs
 pub mod Lawful
+pub mod OwnTraces
+pub mod GeneratedLaws
 pub mod Limits
 pub mod Racks

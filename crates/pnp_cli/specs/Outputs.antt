@@ -9,6 +9,7 @@ use Rattle.pnp_model.specs.Endings.{ending, joined}
 use Rattle.script_reader.specs.Script.{Trace, gives, waits, ends, stops}
 use Rattle.notify_front.specs.Fronts.{Front, FrontEntry, FrontSteps, IsFrontQuiet, front_happens, front_printed}
 use Rattle.notify_front.specs.Desks.{IsFrontDone}
+use Rattle.free_model.specs.Checks.{IsOfMachine}
 
 -- a step of the front prints this label
 abbrev pub Makes : Settings → Front → Label → Front → Type 0
@@ -71,3 +72,10 @@ written t labels last = text_of labels ++ (bad_text t ++ end_text last)
 -- what is written for the events of a script from a quiet front on, and for how it ends
 abbrev pub Prints : Settings → Front → Trace → Text → Type 0
 Prints settings f t text = Shows settings f t (written t) text
+
+-- no line of the script is one of a client
+abbrev pub HasNoClients : Trace → Type 0
+HasNoClients (gives number event rest) = IsOfMachine event × HasNoClients rest
+HasNoClients ends = Unit {0}
+HasNoClients (stops number) = Unit {0}
+HasNoClients waits = Unit {0}

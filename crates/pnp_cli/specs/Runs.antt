@@ -134,6 +134,15 @@ is_whole _ = false
 abbrev pub Given : List Text → Option (Text → Option (List ℕ)) → (Settings → (Text → Option (List ℕ)) → Type 0) → Type 0
 Given words contents Says = IfSome (settings_of words) (λ s. IfSome contents (λ told. Says s told))
 
+-- what files tell to a command: where it names no script, it reads no file, and nothing has to be told
+abbrev pub told_to : Option Text → Option (Text → Option (List ℕ)) → Option (Text → Option (List ℕ))
+told_to None contents = Some (λ name. None)
+told_to (Some script) contents = contents
+
+-- what holds of the settings that words give and of what their files tell, where they do, or where no file is named
+abbrev pub Known : List Text → Option (Text → Option (List ℕ)) → (Settings → (Text → Option (List ℕ)) → Type 0) → Type 0
+Known words contents Says = IfSome (settings_of words) (λ s. IfSome (told_to s.script contents) (λ told. Says s told))
+
 -- some text of which this holds was written whole
 abbrev pub Wrote : (Text → Type 0) → Option Text → Option Text → Type 0
 Wrote output old new = (text : Text) × output text × Appends old new text

@@ -1,5 +1,5 @@
 -- How the reading of a script and the running of its events go on together.
-use Rattle.std.specs.Prelude.{ℕ, ◌≡◌, ◌≤◌, ◌+◌, Bool, true, false, List, [], ◌∷◌, ◌++◌, Option, Some, None, Result, Ok, Err, length}
+use Rattle.std.specs.Prelude.{ℕ, ◌≡◌, ◌⊎◌, ◌≤◌, ◌+◌, Bool, true, false, List, [], ◌∷◌, ◌++◌, Option, Some, None, Result, Ok, Err, length}
 use Rattle.std.specs.declared.alloc.AllocError.{AllocError}
 use Rattle.pnp_io.specs.Outside.{Appends, AppendsFront}
 use Rattle.pnp_labels.specs.Texts.{Text}
@@ -7,11 +7,11 @@ use Rattle.pnp_labels.specs.declared.event.Event.{Event}
 use Rattle.pnp_labels.specs.declared.label.Label.{Label}
 use Rattle.pnp_model.specs.Records.{Settings}
 use Rattle.pnp_machine.specs.declared.manager.Moved.{Moved}
-use Rattle.notify_front.specs.Fronts.{Front, IsFrontQuiet}
-use Rattle.notify_front.specs.Desks.{Desk, IsOfFrontRun, front_of, told_of}
+use Rattle.notify_front.specs.Fronts.{Front, IsFrontQuiet, front_happens}
+use Rattle.notify_front.specs.Desks.{Desk, IsFrontDone, IsOfFrontRun, front_of, told_of}
 use Rattle.script_reader.specs.Reading.{Reading}
 use Rattle.script_reader.specs.Script.{Trace, trace, MayFollow, IsStuck, Waits, Ends}
-use Rattle.pnp_cli.specs.Outputs.{Settles, Follows, Plays, bad_text, text_of}
+use Rattle.pnp_cli.specs.Outputs.{Makes, Settles, Follows, Plays, bad_text, text_of}
 use Rattle.pnp_cli.specs.Tallies.{with_all}
 use Rattle.pnp_cli.specs.Contents.{answer_of}
 use Rattle.pnp_cli.specs.declared.tally.Tally.{Tally}
@@ -79,6 +79,50 @@ pub record Answered (old : Desk) (event : Event) (taken : Option Text) (waits : 
   pub same : told_of new ≡ told_of old
   pub events : new.manager.events ≤ old.manager.events + 1
   pub run : IsOfFrontRun (told_of new) new.manager.events (front_of new)
+
+-- nothing was written, and the same waits
+abbrev pub Keeps : Option Text → Text → Option Text → Text → Type 0
+Keeps old waits new waits' = (new ≡ old) × (waits' ≡ waits)
+
+-- the front makes steps that print these labels
+abbrev pub StepsOn : Settings → Front → List Label → Front → Type 0
+StepsOn told f [] new = new ≡ f
+StepsOn told f (label ∷ labels) new = (mid : Front) × Makes told f label mid × StepsOn told mid labels new
+
+-- the step that failed was not made, or was made and not told
+abbrev pub StaysOrSteps : Settings → Front → Front → Type 0
+StaysOrSteps told f new = (new ≡ f) ⊎ ((label : Label) × Makes told f label new)
+
+-- Memory ran out at a step. The steps before it printed these labels, and their lines came behind those that waited; some front of all of
+-- them was written, and the others wait.
+pub record SettledSoFar (told : Settings) (f : Front) (taken : Option Text) (waits : Text) (f' : Front) (taken' : Option Text) (waits' : Text) : Type 0 where
+  pub labels : List Label
+  pub there : Front
+  pub steps : StepsOn told f labels there
+  pub failed : StaysOrSteps told there f'
+  pub wrote : Text
+  pub took : Appends taken taken' wrote
+  pub all : waits ++ text_of labels ≡ wrote ++ waits'
+
+-- of what follows from an event, these labels come first: none, where the event did not happen or was not told; else its own, and those of steps
+abbrev pub FollowsSoFar : Settings → Front → Event → List Label → Front → Type 0
+FollowsSoFar told f event [] f' = (f' ≡ f) ⊎ ((label : Label) × IsFrontDone (front_happens f event) label f')
+FollowsSoFar told f event (label ∷ labels) f' =
+    (begun : Front) × (there : Front) × IsFrontDone (front_happens f event) label begun × StepsOn told begun labels there × StaysOrSteps told there f'
+
+-- the same of an event and what follows from it
+pub record AnsweredSoFar (told : Settings) (f : Front) (event : Event) (taken : Option Text) (waits : Text) (f' : Front) (taken' : Option Text) (waits' : Text) : Type 0 where
+  pub labels : List Label
+  pub follows : FollowsSoFar told f event labels f'
+  pub wrote : Text
+  pub took : Appends taken taken' wrote
+  pub all : waits ++ text_of labels ≡ wrote ++ waits'
+
+-- the lines of all labels before the step that failed were written
+pub record WroteSoFar (told : Settings) (f : Front) (event : Event) (taken : Option Text) (f' : Front) (taken' : Option Text) : Type 0 where
+  pub labels : List Label
+  pub follows : FollowsSoFar told f event labels f'
+  pub took : Appends taken taken' (text_of labels)
 
 -- a front was written of what waits and of the lines of whatever labels follow
 abbrev pub SettlesFront : Desk → Text → Option Text → Option Text → Type 0

@@ -2,6 +2,7 @@
 ghost use Rattle.std.specs.Prelude.{◌≡◌, ◌⊎◌, ◌≤◌, ◌∷◌, [], Ok, IfOk, OnOk, IsErrOf};
 ghost use Rattle.inf_reader.specs.Meaning.{inf};
 ghost use Rattle.inf_reader.specs.declared.parts.Inf.{Inf};
+ghost use Rattle.inf_reader.specs.declared.parts.InfError.{InfError};
 ghost use Rattle.pnp_io.specs.Outside.{Appends, AppendsFront, Rose};
 ghost use Rattle.pnp_machine.specs.Managers.{settings};
 ghost use Rattle.notify_front.specs.Desks.{IsAtStart, front_of, told_of};
@@ -12,28 +13,40 @@ ghost use Rattle.pnp_cli.specs.Outputs.{Shows};
 ghost use Rattle.pnp_cli.specs.Runs.{IsSummary, Wrote, WroteFront};
 ghost use Rattle.pnp_cli.specs.Summaries.{Counted, summary};
 ghost use Rattle.pnp_cli.specs.Turns.{Awaits};
+ghost use Rattle.pnp_cli.specs.declared.turn.PieceError.{PieceError};
 
 use crate::generated::{gen_inf, gen_script};
 use crate::pieces::run_pieces;
 use crate::status::Status;
 use crate::summary::summary;
 use crate::tally::Tally;
+use crate::turn::PieceError;
 use device_ids::WantOfMemory;
 use driver_rack::Drivers;
-use inf_reader::{Inf, read};
+use inf_reader::{Inf, InfError, read};
 use notify_front::Front;
 use pnp_io::{Sink, SureFiles, SureSink, write_all};
 use pnp_machine::Manager;
 use std::alloc::{AllocError, Global};
 
-/// The meaning of the generated INF.
+/// An INF that can be refused for want of memory alone.
+fn inf_memory(error: InfError) -> WantOfMemory
+    requires { error ≡ InfError.WantOfMemory }
+{
+    match error {
+        InfError::WantOfMemory => AllocError,
+        _ => unreachable!(),
+    }
+}
+
+/// The meaning of the generated INF, which is accepted.
 fn read_made(alloc: Global) -> Result<Inf, WantOfMemory>
     ensures { IfOk result (λ made. inf gen_inf ≡ Ok made) }
 {
     let bytes = gen_inf(alloc)?;
     match read(alloc, &bytes) {
         Ok(made) => Ok(made),
-        Err(_) => Err(AllocError),
+        Err(error) => Err(inf_memory(error)),
     }
 }
 
@@ -46,7 +59,18 @@ fn made_infs(alloc: Global) -> Result<Vec<Inf>, WantOfMemory>
     Ok(infs)
 }
 
-/// Runs the generated script over a front to which nothing happened, and counts the labels. Nothing is written.
+/// A run that can end before its script for want of memory alone.
+fn run_memory(error: PieceError) -> WantOfMemory
+    requires { error ≡ PieceError.WantOfMemory }
+{
+    match error {
+        PieceError::WantOfMemory => AllocError,
+        _ => unreachable!(),
+    }
+}
+
+/// Runs the generated script, which has no bad line and is not too large, over a front to which nothing happened, and counts the labels.
+/// Nothing is written.
 fn run_generated<R: Drivers>(
     alloc: Global,
     front: &mut Front<R>,
@@ -63,7 +87,7 @@ fn run_generated<R: Drivers>(
     let mut tally = Tally { steps: 0, moved: 0 };
     match run_pieces(alloc, front, &mut files, b"", &mut sink, &mut tally) {
         Ok(_) => Ok(tally),
-        Err(_) => Err(AllocError),
+        Err(error) => Err(run_memory(error)),
     }
 }
 

@@ -2,7 +2,7 @@ ghost use Rattle.std.specs.Prelude.{◌≡◌, ◌⊎◌, ◌<◌, ◌≤◌, �
 ghost use Rattle.pnp_io.specs.Outside.{Rose};
 ghost use Rattle.pnp_cli.specs.Words.{texts, settings_of};
 ghost use Rattle.pnp_cli.specs.Infs.{infs_in, SomeRose};
-ghost use Rattle.pnp_cli.specs.Runs.{named, names_of, IsPrintedFor, IsScriptOutput, IsOutput, IsOutputBy, IsRunOutput, machine, status_of, status_by, is_decided, is_whole, Wrote, Given, WroteFront, WroteOneFront, Answers, Decides, Untouched};
+ghost use Rattle.pnp_cli.specs.Runs.{named, names_of, IsPrintedFor, IsScriptOutput, IsOutput, IsOutputBy, IsRunOutput, machine, status_of, status_by, is_decided, is_whole, Wrote, Known, told_to, WroteFront, WroteOneFront, Answers, Decides, Untouched};
 ghost use Rattle.pnp_cli.specs.Contents.{script_status};
 ghost use Rattle.pnp_cli.specs.Pieces.{answer_by};
 ghost use Rattle.pnp_cli.specs.Turns.{Awaits};
@@ -10,6 +10,7 @@ ghost use Rattle.pnp_machine.specs.Managers.{settings};
 ghost use Rattle.notify_front.specs.Desks.{IsAtStart, front_of, told_of};
 ghost use Rattle.notify_front.specs.Fronts.{opening_front};
 ghost use Rattle.pnp_cli.specs.Lawful.{OfOutput, SomeRun, OfRun, EachState, EachStep, ByDiagram, NothingClashes, AllHoldWhole, OperationsBegan, EndsRestore, DependentsGoFirst, ConflictsAreReal, FewJoin, AllStatesTold, NodesAreKeyed, NothingOnItself, MapIsClear, AllStacksFit, NamesAreKnown, NobodyIsForgotten, EachPassed, EachHoldsPart, HeldInsideWindows, HandlesAreKept, FewAreHeld, NamesAreShown, TreeIsWhole, OfFrontRun, EachFrontStep, MachineRuns, ClientsWereAsked, ClientsHear, ClientsDecline, NoticesKeepAll, MachineAlone};
+ghost use Rattle.pnp_cli.specs.OwnTraces.{ChecksYes};
 ghost use Rattle.pnp_cli.specs.Limits.{IsWithin};
 ghost use Rattle.driver_rack.specs.Rows.{unnamed};
 
@@ -168,9 +169,9 @@ fn run_settings<R: Drivers, F: Files, K: Sink>(
 ) -> Status
     requires { IsWithin settings.now }
     ensures words { result ≡ Status.BadWords → ⊥ }
-    ensures decided { is_decided result ≡ true → IfSome (F.contents files.old) (λ told. status_of told settings.now ≡ Some result) }
-    ensures whole { is_whole result ≡ true → IfSome (F.contents files.old) (λ told. Wrote (IsRunOutput (R.rows rack) told settings.now) (K.taken sink.old) (K.taken sink.new)) }
-    ensures front { IfSome (F.contents files.old) (λ told. WroteFront (IsRunOutput (R.rows rack) told settings.now) (K.taken sink.old) (K.taken sink.new)) }
+    ensures decided { is_decided result ≡ true → IfSome (told_to settings.now.script (F.contents files.old)) (λ told. status_of told settings.now ≡ Some result) }
+    ensures whole { is_whole result ≡ true → IfSome (told_to settings.now.script (F.contents files.old)) (λ told. Wrote (IsRunOutput (R.rows rack) told settings.now) (K.taken sink.old) (K.taken sink.new)) }
+    ensures front { IfSome (told_to settings.now.script (F.contents files.old)) (λ told. WroteFront (IsRunOutput (R.rows rack) told settings.now) (K.taken sink.old) (K.taken sink.new)) }
     ensures read_fault { result ≡ Status.ReadFault → SomeRose (F.faults files.old) (F.faults files.new) (names_of settings.now.infs settings.now.script) }
     ensures write_fault { result ≡ Status.WriteFault → Rose (K.faults sink.old) (K.faults sink.new) }
 {
@@ -204,9 +205,9 @@ fn run_drivers<D: Driver, F: Files, K: Sink>(
     requires drivers { length drivers.items < 2 ^ 32 }
     requires none { settings.now.check ≡ None }
     ensures words { result ≡ Status.BadWords → ⊥ }
-    ensures decided { is_decided result ≡ true → IfSome (F.contents files.old) (λ told. Decides (map (λ d. unnamed (D.kind_of d) (D.book d)) drivers.items) told settings.now result) }
-    ensures whole { is_whole result ≡ true → IfSome (F.contents files.old) (λ told. Wrote (IsOutput (map (λ d. unnamed (D.kind_of d) (D.book d)) drivers.items) told settings.now) (K.taken sink.old) (K.taken sink.new)) }
-    ensures front { IfSome (F.contents files.old) (λ told. WroteFront (IsOutput (map (λ d. unnamed (D.kind_of d) (D.book d)) drivers.items) told settings.now) (K.taken sink.old) (K.taken sink.new)) }
+    ensures decided { is_decided result ≡ true → IfSome (told_to settings.now.script (F.contents files.old)) (λ told. Decides (map (λ d. unnamed (D.kind_of d) (D.book d)) drivers.items) told settings.now result) }
+    ensures whole { is_whole result ≡ true → IfSome (told_to settings.now.script (F.contents files.old)) (λ told. Wrote (IsOutput (map (λ d. unnamed (D.kind_of d) (D.book d)) drivers.items) told settings.now) (K.taken sink.old) (K.taken sink.new)) }
+    ensures front { IfSome (told_to settings.now.script (F.contents files.old)) (λ told. WroteFront (IsOutput (map (λ d. unnamed (D.kind_of d) (D.book d)) drivers.items) told settings.now) (K.taken sink.old) (K.taken sink.new)) }
     ensures read_fault { result ≡ Status.ReadFault → SomeRose (F.faults files.old) (F.faults files.new) (named settings.now) }
     ensures write_fault { result ≡ Status.WriteFault → Rose (K.faults sink.old) (K.faults sink.new) }
 {
@@ -227,9 +228,9 @@ fn run_accepted<D: Driver, F: Files, K: Sink>(
     requires within { IsWithin settings.now }
     requires drivers { length drivers.items < 2 ^ 32 }
     ensures words { result ≡ Status.BadWords → ⊥ }
-    ensures decided { is_decided result ≡ true → IfSome (F.contents files.old) (λ told. Decides (map (λ d. unnamed (D.kind_of d) (D.book d)) drivers.items) told settings.now result) }
-    ensures whole { is_whole result ≡ true → IfSome (F.contents files.old) (λ told. Wrote (IsOutput (map (λ d. unnamed (D.kind_of d) (D.book d)) drivers.items) told settings.now) (K.taken sink.old) (K.taken sink.new)) }
-    ensures front { IfSome (F.contents files.old) (λ told. WroteFront (IsOutput (map (λ d. unnamed (D.kind_of d) (D.book d)) drivers.items) told settings.now) (K.taken sink.old) (K.taken sink.new)) }
+    ensures decided { is_decided result ≡ true → IfSome (told_to settings.now.script (F.contents files.old)) (λ told. Decides (map (λ d. unnamed (D.kind_of d) (D.book d)) drivers.items) told settings.now result) }
+    ensures whole { is_whole result ≡ true → IfSome (told_to settings.now.script (F.contents files.old)) (λ told. Wrote (IsOutput (map (λ d. unnamed (D.kind_of d) (D.book d)) drivers.items) told settings.now) (K.taken sink.old) (K.taken sink.new)) }
+    ensures front { IfSome (told_to settings.now.script (F.contents files.old)) (λ told. WroteFront (IsOutput (map (λ d. unnamed (D.kind_of d) (D.book d)) drivers.items) told settings.now) (K.taken sink.old) (K.taken sink.new)) }
     ensures read_fault { result ≡ Status.ReadFault → SomeRose (F.faults files.old) (F.faults files.new) (named settings.now) }
     ensures write_fault { result ≡ Status.WriteFault → Rose (K.faults sink.old) (K.faults sink.new) }
 {
@@ -251,9 +252,9 @@ fn run_over<D: Driver, F: Files, K: Sink>(
     ensures bad_words { result ≡ Status.BadWords → settings_of (texts words.now) ≡ None }
     ensures refused { settings_of (texts words.now) ≡ None → (result ≡ Status.BadWords) ⊎ (result ≡ Status.WantOfMemory) }
     ensures untouched { settings_of (texts words.now) ≡ None → Untouched F.contents F.faults K.taken K.faults files.old files.new sink.old sink.new }
-    ensures decided { is_decided result ≡ true → Given (texts words.now) (F.contents files.old) (λ s told. Decides (map (λ d. unnamed (D.kind_of d) (D.book d)) drivers.items) told s result) }
-    ensures whole { is_whole result ≡ true → Given (texts words.now) (F.contents files.old) (λ s told. Wrote (IsOutput (map (λ d. unnamed (D.kind_of d) (D.book d)) drivers.items) told s) (K.taken sink.old) (K.taken sink.new)) }
-    ensures front { Given (texts words.now) (F.contents files.old) (λ s told. WroteFront (IsOutput (map (λ d. unnamed (D.kind_of d) (D.book d)) drivers.items) told s) (K.taken sink.old) (K.taken sink.new)) }
+    ensures decided { is_decided result ≡ true → Known (texts words.now) (F.contents files.old) (λ s told. Decides (map (λ d. unnamed (D.kind_of d) (D.book d)) drivers.items) told s result) }
+    ensures whole { is_whole result ≡ true → Known (texts words.now) (F.contents files.old) (λ s told. Wrote (IsOutput (map (λ d. unnamed (D.kind_of d) (D.book d)) drivers.items) told s) (K.taken sink.old) (K.taken sink.new)) }
+    ensures front { Known (texts words.now) (F.contents files.old) (λ s told. WroteFront (IsOutput (map (λ d. unnamed (D.kind_of d) (D.book d)) drivers.items) told s) (K.taken sink.old) (K.taken sink.new)) }
     ensures read_fault { result ≡ Status.ReadFault → IfSome (settings_of (texts words.now)) (λ s. SomeRose (F.faults files.old) (F.faults files.new) (named s)) }
     ensures write_fault { result ≡ Status.WriteFault → Rose (K.faults sink.old) (K.faults sink.new) }
 {
@@ -266,7 +267,7 @@ fn run_over<D: Driver, F: Files, K: Sink>(
 
 /// Reads the words, then each INF that they name, which is checked before the next one is read, and then the
 /// script, runs it over the drivers of a rack, and writes its output and nothing else; where an INF is refused,
-/// its number, error and line are the output. With `--gen N` no file is read: the script and the INF are generated ones, and the
+/// its number, error and line are the output. With `--gen N` no file is read, and none has to tell its contents: the script and the INF are generated ones, and the
 /// summary of the run is all that is written. With `--check TRACE` the INFs, the trace and the script are read, each whole and in
 /// this order, nothing is run, and the output is the line `yes` where the trace is a run of the machine for the script over drivers of
 /// these kinds, whatever they answer, or else `no line N` with its first line that is not. The condition is that the rack has fewer than 2^32 drivers. Each
@@ -284,12 +285,12 @@ pub fn run<F: Files, K: Sink>(
     ensures bad_words { result ≡ Status.BadWords → settings_of (texts words.now) ≡ None }
     ensures refused { settings_of (texts words.now) ≡ None → (result ≡ Status.BadWords) ⊎ (result ≡ Status.WantOfMemory) }
     ensures untouched { settings_of (texts words.now) ≡ None → Untouched F.contents F.faults K.taken K.faults files.old files.new sink.old sink.new }
-    ensures decided { is_decided result ≡ true → Given (texts words.now) (F.contents files.old) (λ s told. Decides (map (λ b. unnamed (kind_of b) (book b)) rack.items) told s result) }
-    ensures whole { is_whole result ≡ true → Given (texts words.now) (F.contents files.old) (λ s told. Wrote (IsOutput (map (λ b. unnamed (kind_of b) (book b)) rack.items) told s) (K.taken sink.old) (K.taken sink.new)) }
-    ensures front { Given (texts words.now) (F.contents files.old) (λ s told. WroteOneFront (IsOutput (map (λ b. unnamed (kind_of b) (book b)) rack.items) told s) (K.taken sink.old) (K.taken sink.new)) }
+    ensures decided { is_decided result ≡ true → Known (texts words.now) (F.contents files.old) (λ s told. Decides (map (λ b. unnamed (kind_of b) (book b)) rack.items) told s result) }
+    ensures whole { is_whole result ≡ true → Known (texts words.now) (F.contents files.old) (λ s told. Wrote (IsOutput (map (λ b. unnamed (kind_of b) (book b)) rack.items) told s) (K.taken sink.old) (K.taken sink.new)) }
+    ensures front { Known (texts words.now) (F.contents files.old) (λ s told. WroteOneFront (IsOutput (map (λ b. unnamed (kind_of b) (book b)) rack.items) told s) (K.taken sink.old) (K.taken sink.new)) }
     ensures read_fault { result ≡ Status.ReadFault → IfSome (settings_of (texts words.now)) (λ s. SomeRose (F.faults files.old) (F.faults files.new) (named s)) }
     ensures write_fault { result ≡ Status.WriteFault → Rose (K.faults sink.old) (K.faults sink.new) }
-    ensures answered { Given (texts words.now) (F.contents files.old) (λ s told. Answers (Decides (map (λ b. unnamed (kind_of b) (book b)) rack.items) told s) (SomeRose (F.faults files.old) (F.faults files.new) (named s)) (Rose (K.faults sink.old) (K.faults sink.new)) result) }
+    ensures answered { Known (texts words.now) (F.contents files.old) (λ s told. Answers (Decides (map (λ b. unnamed (kind_of b) (book b)) rack.items) told s) (SomeRose (F.faults files.old) (F.faults files.new) (named s)) (Rose (K.faults sink.old) (K.faults sink.new)) result) }
     ensures tells { OfOutput SomeRun (texts words.now) (F.contents files.old) (map (λ b. unnamed (kind_of b) (book b)) rack.items) }
     ensures diagram { OfOutput (EachStep ByDiagram) (texts words.now) (F.contents files.old) (map (λ b. unnamed (kind_of b) (book b)) rack.items) }
     ensures sharing { OfOutput (EachState NothingClashes) (texts words.now) (F.contents files.old) (map (λ b. unnamed (kind_of b) (book b)) rack.items) }
@@ -318,6 +319,7 @@ pub fn run<F: Files, K: Sink>(
     ensures declines { OfOutput (EachFrontStep ClientsDecline) (texts words.now) (F.contents files.old) (map (λ b. unnamed (kind_of b) (book b)) rack.items) }
     ensures notices { OfOutput (EachFrontStep NoticesKeepAll) (texts words.now) (F.contents files.old) (map (λ b. unnamed (kind_of b) (book b)) rack.items) }
     ensures alone { OfOutput (OfFrontRun MachineAlone) (texts words.now) (F.contents files.old) (map (λ b. unnamed (kind_of b) (book b)) rack.items) }
+    ensures checks { OfOutput ChecksYes (texts words.now) (F.contents files.old) (map (λ b. unnamed (kind_of b) (book b)) rack.items) }
 {
     run_over(alloc, words, rack, files, sink)
 }

@@ -4,7 +4,7 @@ ghost use Rattle.pnp_cli.specs.Turns.{Awaits, Taken, TakenBad, TakenFront, fed_w
 
 use crate::settle::answer_event;
 use crate::tally::Tally;
-use crate::tell::write_lines;
+use crate::tell::Lines;
 use crate::turn::{Ending, PieceError, WriteError};
 use driver_rack::Drivers;
 use notify_front::Front;
@@ -12,18 +12,20 @@ use pnp_io::Sink;
 use script_reader::{Next, Reader};
 use std::alloc::Global;
 
-/// All events that the bytes fed so far give happen, one after another, and how the reader then stands; the lines come behind those that wait.
-fn gather_events<R: Drivers, K: Sink>(
+/// All events that the bytes fed so far give happen, one after another, and how the reader then stands. Whenever an event is read nothing
+/// waits: the lines of all labels before it were written.
+fn answer_events<R: Drivers, K: Sink>(
     front: &mut Front<R>,
     reader: &mut Reader,
-    lines: &mut Vec<u8>,
+    lines: &mut Lines,
     sink: &mut K,
     tally: &mut Tally,
 ) -> Result<Ending, WriteError>
     requires awaits { Awaits front.old }
     requires room { front.old.manager.events + length reader.old.rest ≤ 2 ^ 24 }
-    ensures ok { IfOk result (λ ending_. Taken front.old reader.old (K.taken sink.old) lines.old.items tally.old ending_ front.new reader.new (K.taken sink.new) lines.new.items tally.new) }
-    ensures front { TakenFront front.old reader.old lines.old.items (K.taken sink.old) (K.taken sink.new) }
+    requires none { lines.old.waiting.items ≡ [] }
+    ensures ok { IfOk result (λ ending_. Taken front.old reader.old (K.taken sink.old) [] tally.old ending_ front.new reader.new (K.taken sink.new) [] tally.new) }
+    ensures front { TakenFront front.old reader.old [] (K.taken sink.old) (K.taken sink.new) }
     ensures failed { IsErrOf result WriteError.WriteFault → Rose (K.faults sink.old) (K.faults sink.new) }
     ensures counts { K.faults sink.old ≤ K.faults sink.new }
 {
@@ -37,7 +39,7 @@ fn gather_events<R: Drivers, K: Sink>(
     }
 }
 
-/// The same, and all lines are written.
+/// The same, where nothing waits at first.
 fn take_events<R: Drivers, K: Sink>(
     alloc: Global,
     front: &mut Front<R>,
@@ -52,10 +54,8 @@ fn take_events<R: Drivers, K: Sink>(
     ensures failed { IsErrOf result WriteError.WriteFault → Rose (K.faults sink.old) (K.faults sink.new) }
     ensures counts { K.faults sink.old ≤ K.faults sink.new }
 {
-    let mut lines = Vec::new(alloc);
-    let ending = gather_events(front, reader, &mut lines, sink, tally)?;
-    write_lines(sink, &mut lines)?;
-    Ok(ending)
+    let mut lines = Lines::new(alloc);
+    answer_events(front, reader, &mut lines, sink, tally)
 }
 
 /// A piece is fed, and all events that it gives happen; the number of a bad line, if there is one.

@@ -1,5 +1,6 @@
 use Rattle.pnp_cli.specs.Words.{texts, settings_of}
 use Rattle.pnp_cli.proofs.Lawfulness.{output_tells, output_by_diagram, output_shares, output_holds_whole, output_restores, output_dependents, output_conflicts, output_begins, output_joins, output_told, output_keyed, output_acyclic, output_map_clear, output_stacks, output_names, output_remembers, output_holds_parts, output_inside_windows, output_handles, output_holds_few, output_shown, output_tree, output_of_machine, output_asks, output_hears, output_declines, output_notices, output_alone}
+use Rattle.pnp_cli.proofs.OwnTraces.{output_checks}
 use Rattle.pnp_cli.proofs.Answered.{all_answered}
 use Rattle.pnp_cli.proofs.OneOutput.{one_front}
 use Rattle.pnp_io.specs.Outside.{Rose}
@@ -96,3 +97,6 @@ returns-clause-notices g c = output_notices (texts c.args.words.now) (g.F.Files.
 
 pub returns-clause-alone : goal.returns-clause-alone
 returns-clause-alone g c = output_alone (texts c.args.words.now) (g.F.Files.contents c.args.files.now) _
+
+pub returns-clause-checks : goal.returns-clause-checks
+returns-clause-checks g c = output_checks (texts c.args.words.now) (g.F.Files.contents c.args.files.now) _

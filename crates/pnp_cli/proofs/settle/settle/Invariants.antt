@@ -6,7 +6,7 @@ use Rattle.pnp_cli.proofs.settle.settle.Given as goal
 
 abbrev pub invariant-steps : goal.invariant-steps
 invariant-steps g l = record {
-  stepping : Stepping l.initial.front (g.K.Sink.taken l.initial.sink) l.initial.lines.items l.initial.tally l.front (g.K.Sink.taken l.sink) l.lines.items l.tally;
+  stepping : Stepping l.initial.front (g.K.Sink.taken l.initial.sink) l.initial.lines.waiting.items l.initial.tally l.front (g.K.Sink.taken l.sink) l.lines.waiting.items l.tally;
   counts : g.K.Sink.faults l.initial.sink ≤ g.K.Sink.faults l.sink;
 }
 

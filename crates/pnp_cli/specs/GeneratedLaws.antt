@@ -1,0 +1,15 @@
+-- What is so of the generated texts.
+use Rattle.std.specs.Prelude.{ℕ, ◌≡◌, ◌≤◌, Ok, Some}
+use Rattle.inf_reader.specs.declared.parts.Inf.{Inf}
+use Rattle.inf_reader.specs.Meaning.{inf}
+use Rattle.pnp_cli.specs.Contents.{script_status}
+use Rattle.pnp_cli.specs.Generated.{gen_inf, gen_script}
+use Rattle.pnp_cli.specs.declared.status.Status.{Status}
+
+-- the generated INF is accepted
+abbrev pub InfLaw : Type 0
+InfLaw = (made : Inf) × (inf gen_inf ≡ Ok made)
+
+-- a generated script has no bad line and is not too large: it is run to its end
+abbrev pub ScriptLaw : Type 0
+ScriptLaw = (n : ℕ) → n ≤ 400 → script_status (Some (gen_script n)) ≡ Some Status.Done
