@@ -57,23 +57,36 @@ fn each_write_fails(rt: HostRuntime) -> Result<(), Fail> {
 const ONE_DEVICE_END: &str =
     "tree\n0 HTREE\\ROOT\\0 Started\n 1 OWN\\DEV\\1 Started\nmap\noutstanding\n";
 
-/// Where this write fails, the sink took this.
-fn one_write_fails(alloc: Global, call: u64, taken: &[u8]) -> Result<(), Fail> {
+/// What the first event led to.
+const FIRST_EVENT: &str = "event driver dev\n";
+
+/// Where this write fails the sink took all of some events, and the answer is yes; where there is none of this number, no.
+fn write_fails(alloc: Global, call: u64, both: &str) -> Result<bool, Fail> {
     let mut sink = MemSink::new(alloc, 4096)?;
     sink.fail_at(call)?;
     let status = ended_into(alloc, ONE_DEVICE_SCRIPT, &mut sink)?;
-    comes_to(status, &sink, (Status::WriteFault, taken))
+    if status == Status::Done {
+        return Ok(false);
+    }
+    must(status == Status::WriteFault, "how a run ended")?;
+    let taken = sink.taken();
+    let is_whole = taken.is_empty() || taken == FIRST_EVENT.as_bytes() || taken == both.as_bytes();
+    must(is_whole, "lines of whole events")?;
+    Ok(true)
 }
 
-/// Whichever write fails, what the sink took is the front of the output that the writes before it made; the lines of all
-/// events of one piece are one write, and the end of the output another.
+/// Whichever write fails, what the sink took ends with an event, and is a front of the output.
 #[test]
 fn each_call_of_write_fails(rt: HostRuntime) -> Result<(), Fail> {
-    let Some(lines) = ONE_DEVICE_TEXT.strip_suffix(ONE_DEVICE_END) else {
+    let Some(both) = ONE_DEVICE_TEXT.strip_suffix(ONE_DEVICE_END) else {
         return Err(Fail::new("the end of the output"));
     };
-    one_write_fails(rt.alloc(), 1, b"")?;
-    one_write_fails(rt.alloc(), 2, lines.as_bytes())
+    for call in 1..100u64 {
+        if !write_fails(rt.alloc(), call, both)? {
+            return must(call > 2, "two writes that fail");
+        }
+    }
+    Err(Fail::new("a hundred writes"))
 }
 
 /// Of a hundred reads and a hundred writes, each takes one byte.

@@ -39,7 +39,7 @@ fn faults_leave_a_front(rt: HostRuntime) -> Result<(), Fail> {
 
 /// Where a read or a write of this number fails, what the sink took is a front of the output, and the answer is yes; where there is none of this
 /// number the whole is there, and the answer is no.
-fn leaves_a_front(alloc: Global, read: u64, write: u64, fault: Status) -> Result<bool, Fail> {
+fn call_fails(alloc: Global, read: u64, write: u64, fault: Status) -> Result<bool, Fail> {
     let (words, mut files) = named(alloc, CHAIN_SCRIPT)?;
     files.fail_at(read)?;
     let mut sink = MemSink::new(alloc, 4096)?;
@@ -62,7 +62,7 @@ const CALLS: u64 = 100;
 #[test]
 fn each_write_of_a_rebalance_fails(rt: HostRuntime) -> Result<(), Fail> {
     for call in 1..CALLS {
-        if !leaves_a_front(rt.alloc(), 0, call, Status::WriteFault)? {
+        if !call_fails(rt.alloc(), 0, call, Status::WriteFault)? {
             return must(call > 1, "a write that fails");
         }
     }
@@ -73,7 +73,7 @@ fn each_write_of_a_rebalance_fails(rt: HostRuntime) -> Result<(), Fail> {
 #[test]
 fn each_read_of_a_rebalance_fails(rt: HostRuntime) -> Result<(), Fail> {
     for call in 1..CALLS {
-        if !leaves_a_front(rt.alloc(), call, 0, Status::ReadFault)? {
+        if !call_fails(rt.alloc(), call, 0, Status::ReadFault)? {
             return must(call > 2, "reads that fail");
         }
     }

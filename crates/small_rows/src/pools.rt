@@ -34,8 +34,9 @@ fn in_and_out(pool: &mut Pool<u64>, value: u64) -> Result<(), Fail>
     let Ok(place) = put(pool, value) else {
         return Err(Fail::new("room for a value"));
     };
-    if put(pool, 9) != Err(9) {
-        return Err(Fail::new("a value more"));
+    match put(pool, 9) {
+        Err(9) => {}
+        _ => return Err(Fail::new("a value more")),
     }
     must(take(pool, place) == value, "the value that comes out")
 }

@@ -51,19 +51,29 @@ fn program_rack(alloc: Global) -> Result<Vec<Box<dyn Driver>>, Fail> {
     Ok(rack)
 }
 
-/// With these words and files a run over those drivers ends with this status, and its sink took this.
+/// The status of a run over those drivers.
+fn ended(
+    alloc: Global,
+    words: &[String],
+    files: &mut MemFiles,
+    sink: &mut MemSink,
+) -> Result<Status, Fail> {
+    let rack = program_rack(alloc)?;
+    if rack.len() >= 200 {
+        return Err(Fail::new("200 drivers or more"));
+    }
+    Ok(run(alloc, words, rack, files, sink))
+}
+
+/// With these words and files a run ends with this status, and its sink took this.
 pub fn ends(
     alloc: Global,
     words: &[String],
     files: &mut MemFiles,
     want: (Status, &[u8]),
 ) -> Result<(), Fail> {
-    let rack = program_rack(alloc)?;
-    if rack.len() >= 200 {
-        return Err(Fail::new("200 drivers or more"));
-    }
     let mut sink = MemSink::new(alloc, 8192)?;
-    let status = run(alloc, words, rack, files, &mut sink);
+    let status = ended(alloc, words, files, &mut sink)?;
     must(status == want.0, "how a run ended")?;
     same(sink.taken(), want.1)
 }
