@@ -145,7 +145,7 @@ impl<R: Drivers> Manager<R> {
     pub fn keeps_facts(&self)
         ensures { KeepsFacts self.now.state }
     {
-        let _ = self.budget;
+        let _ = self.infs.len();
     }
 
     /// Whether no step is next.
