@@ -20,12 +20,12 @@ use Rattle.pnp_cli.proofs.Settling.{Made, Stepping, labels_nil}
 use Rattle.pnp_cli.proofs.Telling.{held_text, held_written, lines_last, text_append}
 
 -- an error that is handed on as it is
+err_of : {A : Type 0} (a b : WriteError) → IsErrOf {T = A} (Err a) b → a ≡ b
+err_of a b same = cc
+
 pub back_error : {A B : Type 0} (r : Result A WriteError) (e w : WriteError) → IsErr r × IsErrAnd r (λ f. f ≡ e) → IsErrOf r w → IsErrOf {T = B} (Err e) w
 back_error (Ok x) e w h is = absurd h.1
 back_error (Err f) e w h is = ap Err (sym h.1 ∙ err_of f w is)
-  where
-    err_of : (a b : WriteError) → Err a ≡ Err b → a ≡ b
-    err_of a b same = cc
 
 -- Up to the step that failed ---------------------------------------------------------------
 
