@@ -126,7 +126,7 @@ some_run settings rack t report text (labels, last, plays, is) =
 -- What is said of outputs ----------------------------------------------------------------
 
 -- what holds of each report of a script's run, over this rack
-pub Holds : Said → List Driver → Type 0
+unfoldable pub Holds : Said → List Driver → Type 0
 Holds Says rack =
     (settings : machines.Settings) (script : List ℕ) (report : Report) (text : Text) → Shows settings (opening_front (opening rack)) (events_of script) report text
     → Says settings rack (events_of script) report text

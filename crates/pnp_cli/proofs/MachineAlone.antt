@@ -141,10 +141,10 @@ prints_on settings f (gives number event rest) labels last free (own, none) (her
       ap (λ (ls : List Label). text_of ls ++ (bad_text rest ++ end_text last.state)) is ∙ ap (λ (x : Text). x ++ (bad_text rest ++ end_text last.state)) (text_append here more)
           ∙ append_assoc (text_of here) (text_of more) (bad_text rest ++ end_text last.state),
     )
-prints_on settings f ends labels last free none (no, is) =
-    ap₂ (λ (ls : List Label) (x : Front). text_of ls ++ end_text x.state) no is
-prints_on settings f (stops number) labels last free none (no, is) =
-    ap₂ (λ (ls : List Label) (x : Front). text_of ls ++ (alone.error_line number ++ end_text x.state)) no is
+prints_on settings f ends labels last free none h =
+    ap₂ (λ (ls : List Label) (x : Front). text_of ls ++ end_text x.state) h.0 h.1
+prints_on settings f (stops number) labels last free none h =
+    ap₂ (λ (ls : List Label) (x : Front). text_of ls ++ (alone.error_line number ++ end_text x.state)) h.0 h.1
 prints_on settings f waits labels last free none h = absurd h
 
 -- what is printed for a script without lines of clients is what the machine prints

@@ -1,7 +1,7 @@
 -- What the summary of a run over a generated script says.
-use Rattle.std.proofs.Common.{◌≡◌, ℕ, inl, inr, refl, Option, List, [], ◌∷◌, ◌++◌, ◌≤◌, length, Some, Result, Ok, Err, IfOk, Vec, sym, ◌∙◌, subst, append_assoc, ap, arith}
+use Rattle.std.proofs.Common.{◌≡◌, ℕ, refl, Option, List, [], ◌∷◌, ◌++◌, ◌≤◌, length, Some, Result, Ok, Err, IfOk, Vec, sym, ◌∙◌, subst, append_assoc, ap, arith}
 use Rattle.std.specs.Global.{Global}
-use Rattle.pnp_io.specs.Outside.{AppendsFront, Rose}
+use Rattle.pnp_io.specs.Outside.{AppendsFront}
 use Rattle.pnp_labels.specs.Texts.{Text}
 use Rattle.pnp_model.specs.Records.{Driver}
 use Rattle.pnp_model.specs.Runs.{opening}
@@ -11,18 +11,15 @@ use Rattle.inf_reader.specs.Meaning.{Gives, inf}
 use Rattle.pnp_machine.specs.Managers.{Manager, settings}
 use Rattle.notify_front.specs.Desks.{Desk, front_of, told_of}
 use Rattle.notify_front.specs.Fronts.{opening_front}
-use Rattle.pnp_cli.specs.Contents.{events_of, script_status}
+use Rattle.pnp_cli.specs.Contents.{events_of}
 use Rattle.pnp_cli.specs.Generated.{gen_script, gen_inf}
 use Rattle.pnp_cli.specs.Outputs.{Shows}
 use Rattle.pnp_cli.specs.Pieces.{Ran}
 use Rattle.pnp_cli.specs.Runs.{IsSummary, IsSummaryBy, WroteFront, machine}
 use Rattle.pnp_cli.specs.Summaries.{Counted, summary}
 use Rattle.pnp_cli.specs.declared.tally.Tally.{Tally}
-use Rattle.pnp_cli.specs.declared.status.Status.{Status}
-use Rattle.pnp_cli.specs.declared.turn.PieceError.{PieceError}
 use Rattle.pnp_cli.proofs.Fronts.{none_is_front}
 use Rattle.pnp_cli.proofs.GeneratedInf.{generated_inf}
-use Rattle.pnp_cli.proofs.GeneratedLaws.{generated_script}
 use Rattle.pnp_cli.proofs.OneOutput.{shows_one}
 
 -- the run of a file that is there
@@ -90,18 +87,3 @@ inf_wants error bytes is gives = refused error (generated_inf.1) (subst (λ (x :
     refused (InfError.LineTooLong line) taken h = absurd (let other = sym taken ∙ h in cc)
     refused (InfError.BadDate line) taken h = absurd (let other = sym taken ∙ h in cc)
     refused (InfError.BadScore line) taken h = absurd (let other = sym taken ∙ h in cc)
-
-never_rose : Rose 0 0 → ⊥
-never_rose (inl less) = absurd (omega (arith, less))
-never_rose (inr most) = absurd (omega (arith, most))
-
-not_both : (o : Option Status) → o ≡ Some Status.Done → o ≡ Some Status.TooLarge → ⊥
-not_both o done large = let same = sym done ∙ large in cc
-
--- where a script is run to its end, and no read and no write can fail
-pub run_wants : (error : PieceError) (n : ℕ) (script : List ℕ) → n ≤ 400 → script ≡ gen_script n → (error ≡ PieceError.TooLarge → script_status (Some script) ≡ Some Status.TooLarge)
-    → (error ≡ PieceError.ReadFault → Rose 0 0) → (error ≡ PieceError.WriteFault → Rose 0 0) → error ≡ PieceError.WantOfMemory
-run_wants PieceError.WantOfMemory n script few is large reads writes = refl
-run_wants PieceError.ReadFault n script few is large reads writes = absurd (never_rose (reads refl))
-run_wants PieceError.WriteFault n script few is large reads writes = absurd (never_rose (writes refl))
-run_wants PieceError.TooLarge n script few is large reads writes = absurd (not_both (script_status (Some script)) (ap (λ (x : List ℕ). script_status (Some x)) is ∙ generated_script n few) (large refl))

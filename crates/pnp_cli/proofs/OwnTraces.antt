@@ -1,7 +1,6 @@
 -- What is written for a script is a trace to which the check answers `yes`.
-use Rattle.std.proofs.Common.{◌≡◌, ◌≤◌, inl, inr, ℕ, Bool, true, false, List, [], ◌∷◌, ◌++◌, Option, Some, None, Result, Ok, Err, length, map, refl, sym, ◌∙◌, ap, subst, arith}
-use Rattle.std.specs.Prelude.{nat_le}
-use Rattle.std.proofs.lemmas.Bool.Decides.{nat_tests}
+use Rattle.std.proofs.Common.{◌≡◌, ◌≤◌, inl, inr, ℕ, Bool, cond, List, [], ◌∷◌, ◌++◌, Option, Some, None, Result, Ok, Err, length, map, refl, sym, ◌∙◌, ap, subst}
+use Rattle.std.proofs.lemmas.Bool.{le-leb}
 use Rattle.pnp_labels.specs.Texts.{Text}
 use Rattle.pnp_labels.specs.declared.words.DriverKind.{DriverKind}
 use Rattle.pnp_model.specs.Records as machines
@@ -55,16 +54,14 @@ no_clients settings (line ∷ lines) s ends (mid, inr (quiet, rest), follow) = t
 no_clients settings (line ∷ lines) s waits (mid, inr (quiet, rest), follow) = absurd rest
 
 pub without_clients : NoClientsLaw
-without_clients settings kinds script trace yes = no_clients settings yes.0 (free_opening kinds) (events_of script) yes.1
+without_clients settings kinds script trace run = no_clients settings run.0 (free_opening kinds) (events_of script) run.1
 
 -- A later command ------------------------------------------------------------------------------
 
 file_taken : (file : Option (List ℕ)) (bytes : List ℕ) → file ≡ Some bytes → length bytes ≤ limit → file_in file ≡ Ok bytes
-file_taken file bytes is small = ap file_in is ∙ by_test (nat_le (length bytes) limit) refl
-  where
-    by_test : (b : Bool) → nat_le (length bytes) limit ≡ b → file_in (Some bytes) ≡ Ok bytes
-    by_test true e = grind e
-    by_test false e = absurd (grind (arith, nat_tests))
+file_taken file bytes is small =
+    let pick : Bool → Result Text InfsError = λ b. cond b (Ok bytes) (Err InfsError.TooLarge) in
+    ap file_in is ∙ ap pick (le-leb (length bytes) limit small)
 
 -- what was written, by the parts of the command that wrote it
 written_by : (rack : List Driver) (told : Text → Option (List ℕ)) (s : Settings) (infs : List Inf) (name : Text) (script : List ℕ) (text : Text)
@@ -78,9 +75,9 @@ written_by rack told s infs name script text none named taken there is =
 shown_by : (other : List Driver) (later : Text → Option (List ℕ)) (t : Settings) (infs : List Inf) (trace again : Text) (text : Text) (script : List ℕ)
     → t.check ≡ Some trace → t.script ≡ Some again → infs_in later t.infs ≡ Ok infs → file_in (later trace) ≡ Ok text → file_in (later again) ≡ Ok script
     → IsChecked (machine infs t.budget) (beginning (map (λ d. d.kind) other) (events_of script)) text Yes → IsOutput other later t (verdict_line Yes)
-shown_by other later t infs trace again text script checks named taken bytes there yes =
+shown_by other later t infs trace again text script checks named taken bytes there run =
     let kinds : List DriverKind = map (λ d. d.kind) other in
-    let own : ComesTo kinds t.budget (Ok infs) (Ok text) (Ok script) (Ok Yes) = (Yes, yes, refl) in
+    let own : ComesTo kinds t.budget (Ok infs) (Ok text) (Ok script) (Ok Yes) = (Yes, run, refl) in
     let of_script : ComesTo kinds t.budget (Ok infs) (Ok text) (file_in (later again)) (Ok Yes) = subst (λ (f : Result Text InfsError). ComesTo kinds t.budget (Ok infs) (Ok text) f (Ok Yes)) (sym there) own in
     let of_trace : ComesTo kinds t.budget (Ok infs) (file_in (later trace)) (file_in (later again)) (Ok Yes) =
     subst (λ (f : Result Text InfsError). ComesTo kinds t.budget (Ok infs) f (file_in (later again)) (Ok Yes)) (sym bytes) of_script
@@ -94,11 +91,11 @@ shown_by other later t infs trace again text script checks named taken bytes the
 pub own_check : OwnCheckLaw
 own_check rack told s other later t text command none untaught is =
     let prints = written_by rack told s command.infs command.name command.script text command.runs command.named command.taken command.there is in
-    let yes : IsChecked (machine command.infs s.budget) (beginning (map (λ d. d.kind) rack) (events_of command.script)) text Yes =
+    let run : IsChecked (machine command.infs s.budget) (beginning (map (λ d. d.kind) rack) (events_of command.script)) text Yes =
     own_trace (machine command.infs s.budget) rack command.script text none untaught prints
     in
     let kinds : IsChecked (machine command.infs s.budget) (beginning (map (λ d. d.kind) other) (events_of command.script)) text Yes =
-    subst (λ (k : List DriverKind). IsChecked (machine command.infs s.budget) (beginning k (events_of command.script)) text Yes) (sym command.same_kinds) yes
+    subst (λ (k : List DriverKind). IsChecked (machine command.infs s.budget) (beginning k (events_of command.script)) text Yes) (sym command.same_kinds) run
     in
     let budget : IsChecked (machine command.infs t.budget) (beginning (map (λ d. d.kind) other) (events_of command.script)) text Yes =
     subst (λ (b : ℕ). IsChecked (machine command.infs b) (beginning (map (λ d. d.kind) other) (events_of command.script)) text Yes) (sym command.same_budget) kinds

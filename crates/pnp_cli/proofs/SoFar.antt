@@ -1,6 +1,8 @@
 -- Where memory runs out, what was done before is written.
-use Rattle.std.proofs.Common.{◌≡◌, ℕ, inl, inr, List, [], ◌∷◌, ◌++◌, Option, Result, Ok, Err, IfOk, OnErr, refl, sym, ◌∙◌, ap, subst, append_assoc, append-nil}
+use Rattle.std.proofs.Common.{◌≡◌, ℕ, inl, inr, List, [], ◌∷◌, ◌++◌, Option, Result, Ok, Err, IfOk, OnErr, IsErr, IsErrOf, refl, sym, ◌∙◌, ap, subst, append_assoc, append-nil}
 use Rattle.std.specs.declared.alloc.AllocError.{AllocError}
+use Rattle.std.specs.Result.{IsErrAnd}
+use Rattle.pnp_cli.specs.declared.turn.WriteError.{WriteError}
 use Rattle.pnp_io.specs.Outside.{Appends, AppendsFront}
 use Rattle.pnp_labels.specs.Texts.{Text}
 use Rattle.pnp_labels.specs.declared.event.Event.{Event}
@@ -16,6 +18,14 @@ use Rattle.pnp_cli.proofs.Fronts.{none_appends, appends_both, all_is_front, fron
 use Rattle.pnp_cli.proofs.Sameness.{SameEnd, follows_one, peel}
 use Rattle.pnp_cli.proofs.Settling.{Made, Stepping, labels_nil}
 use Rattle.pnp_cli.proofs.Telling.{held_text, held_written, lines_last, text_append}
+
+-- an error that is handed on as it is
+err_of : {A : Type 0} (a b : WriteError) → IsErrOf {T = A} (Err a) b → a ≡ b
+err_of a b same = cc
+
+pub back_error : {A B : Type 0} (r : Result A WriteError) (e w : WriteError) → IsErr r × IsErrAnd r (λ f. f ≡ e) → IsErrOf r w → IsErrOf {T = B} (Err e) w
+back_error (Ok x) e w h is = absurd h.1
+back_error (Err f) e w h is = ap Err (sym h.1 ∙ err_of f w is)
 
 -- Up to the step that failed ---------------------------------------------------------------
 

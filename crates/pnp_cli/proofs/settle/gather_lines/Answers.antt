@@ -1,6 +1,7 @@
 use Rattle.std.proofs.lemmas.Result.{on_ok_weaker}
 use Rattle.pnp_cli.proofs.Settling.{answer_front, answer_front_more, answer_told}
-use Rattle.pnp_cli.proofs.SoFar.{answer_so_far, answer_so_far_more}
+use Rattle.pnp_cli.proofs.SoFar.{answer_so_far, answer_so_far_more, back_error}
+use Rattle.pnp_cli.specs.declared.turn.WriteError.{WriteError}
 use Rattle.pnp_cli.proofs.settle.gather_lines.Goals as goal
 
 pub returns-in_err-tell_answer-clause-front : goal.returns-in_err-tell_answer-clause-front
@@ -22,7 +23,7 @@ returns-clause-front g c =
 pub returns-in_err-tell_answer-clause-so_far : goal.returns-in_err-tell_answer-clause-so_far
 returns-in_err-tell_answer-clause-so_far g c = λ want.
     answer_so_far c.args.front.now c.apply.new.self c.args.event c.apply.result (g.K.Sink.taken c.args.sink.now) (g.K.Sink.taken c.tell_answer.new.sink) c.args.lines.now.waiting.items c.tell_answer.new.lines.waiting.items
-    c.apply.ensures.done c.apply.ensures.err (c.in_err-tell_answer.ensures.kept want)
+    c.apply.ensures.done c.apply.ensures.err (c.in_err-tell_answer.ensures.kept (back_error c.from_residual.result c.in_err-tell_answer.field-0.0 WriteError.WantOfMemory c.from_residual.ensures want))
 
 pub returns-clause-so_far : goal.returns-clause-so_far
 returns-clause-so_far g c = λ want.

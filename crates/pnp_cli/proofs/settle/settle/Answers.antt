@@ -1,7 +1,8 @@
 use Rattle.std.proofs.Common.{arith, refl}
 use Rattle.pnp_machine.specs.declared.manager.Moved.TheVariants.{Quiet}
 use Rattle.pnp_cli.proofs.Settling.{Made, stepping_none, stepping_quiet, told_front, told_less, told_more, told_quiet}
-use Rattle.pnp_cli.proofs.SoFar.{settled_so_far}
+use Rattle.pnp_cli.proofs.SoFar.{back_error, settled_so_far}
+use Rattle.pnp_cli.specs.declared.turn.WriteError.{WriteError}
 use Rattle.pnp_cli.proofs.settle.settle.Goals as goal
 
 pub returns-then-is_quiet-clause-ok : goal.returns-then-is_quiet-clause-ok
@@ -58,4 +59,4 @@ pub returns-in_err-tell_moved-clause-so_far : goal.returns-in_err-tell_moved-cla
 returns-in_err-tell_moved-clause-so_far g c = λ want.
     let made : Made c.steps.front c.step.result c.step.new.self = record { moves = c.step.ensures.moves; same = c.step.ensures.settings; events = c.step.ensures.events; run = c.step.ensures.run } in
     settled_so_far c.args.front.now c.steps.front c.step.new.self c.step.result (g.K.Sink.taken c.args.sink.now) (g.K.Sink.taken c.steps.sink) (g.K.Sink.taken c.tell_moved.new.sink)
-    c.args.lines.now.waiting.items c.steps.lines.waiting.items c.tell_moved.new.lines.waiting.items c.args.tally.now c.steps.tally c.steps.invariant.stepping made c.step.ensures.err (c.in_err-tell_moved.ensures.kept want)
+    c.args.lines.now.waiting.items c.steps.lines.waiting.items c.tell_moved.new.lines.waiting.items c.args.tally.now c.steps.tally c.steps.invariant.stepping made c.step.ensures.err (c.in_err-tell_moved.ensures.kept (back_error c.from_residual.result c.in_err-tell_moved.field-0.0 WriteError.WantOfMemory c.from_residual.ensures want))
