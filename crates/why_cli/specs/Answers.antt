@@ -1,5 +1,6 @@
 -- What is written and answered, by the words and by the contents of the files as they are told.
-use Rattle.std.specs.Prelude.{◌≡◌, ◌⊎◌, ℕ, Bool, true, false, List, Option, Some, None, IfSome, Result, Ok, Err}
+use Rattle.std.specs.Prelude.{◌≡◌, ◌⊎◌, ℕ, Bool, true, false, List, [], ◌∷◌, Option, Some, None, IfSome, Result, Ok, Err, codes}
+use Rattle.std.specs.Str.{bytes_eq}
 use Rattle.pnp_io.specs.Outside.{Appends, AppendsFront}
 use Rattle.pnp_io.specs.declared.whole.ReadError.{ReadError}
 use Rattle.pnp_io.specs.declared.whole.ReadError.TheVariants as reads
@@ -15,6 +16,21 @@ use Rattle.pnp_cli.specs.declared.parts.Settings.{Settings}
 use Rattle.pnp_cli.specs.declared.status.Status.{Status}
 use Rattle.why_cli.specs.Woven.{IsWoven}
 use Rattle.why_cli.specs.declared.explained.Explained.{Explained}
+
+-- the word of the option for lines
+abbrev pub is_lines : Text → Bool
+is_lines word = bytes_eq word (codes "--lines")
+
+-- The words without the option for lines, which stands first behind the program's name or nowhere. It then takes the place of that name,
+-- which means nothing.
+abbrev pub without_lines : Text → List Text → Text → Bool → List Text
+without_lines program words word true = word ∷ words
+without_lines program words word false = program ∷ word ∷ words
+
+abbrev pub plain_words : List Text → List Text
+plain_words [] = []
+plain_words (program ∷ []) = program ∷ []
+plain_words (program ∷ word ∷ words) = without_lines program words word (is_lines word)
 
 -- the script that settings name, where no trace is to be checked
 abbrev pub plain_script : Option Text → Option Text → Option Text
