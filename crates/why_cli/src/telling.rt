@@ -1,12 +1,13 @@
 //! The labels of a run are told with their notes.
-ghost use Rattle.std.specs.Prelude.{◌≡◌, ◌++◌, ◌∷◌, [], List, OnOk};
+ghost use Rattle.std.specs.Prelude.{◌≡◌, ◌++◌, ◌∷◌, [], List, OnOk, true};
 ghost use Rattle.notify_front.specs.Fronts.{IsFrontQuiet};
 ghost use Rattle.notify_front.specs.Desks.{front_of, told_of};
 ghost use Rattle.pnp_cli.specs.Outputs.{text_of};
+ghost use Rattle.pnp_labels.specs.Texts.{label_line};
 ghost use Rattle.pnp_labels.specs.declared.label.Label.{Label as Labels};
 ghost use Rattle.script_play.specs.Playing.{Playing};
-ghost use Rattle.why_cli.specs.Woven.{HasNotes};
-ghost use Rattle.why_cli.specs.Explained.{Writing, Written};
+ghost use Rattle.why_cli.specs.Woven.{HasNotes, note_lines};
+ghost use Rattle.why_cli.specs.Explained.{Writing, Written, is_refused};
 
 use crate::script_lines::{ScriptLine, ScriptLines};
 use crate::weave::{push_label, push_notes};
@@ -34,7 +35,8 @@ fn tell_with(
     notes: &Lines,
     text: &mut Vec<u8>,
 ) -> Result<(), WantOfMemory>
-    ensures { OnOk result ((labels : List Labels) → HasNotes (text_of labels) text.old.items → HasNotes (text_of (labels ++ label.now ∷ [])) text.new.items) }
+    ensures behind { OnOk result (text.new.items ≡ text.old.items ++ ((label_line label.now ++ 10 ∷ []) ++ note_lines notes.now.lines)) }
+    ensures notes { OnOk result ((labels : List Labels) → HasNotes (text_of labels) text.old.items → HasNotes (text_of (labels ++ label.now ∷ [])) text.new.items) }
 {
     push_label(alloc, text, label)?;
     push_notes(alloc, text, notes)
@@ -68,7 +70,9 @@ fn learn_from(
     facts: &mut Facts,
     label: &Label,
     said: Said,
-) -> Result<(), WantOfMemory> {
+) -> Result<(), WantOfMemory>
+    ensures { OnOk result (is_refused label.now ≡ true → facts.new ≡ facts.old) }
+{
     match label {
         Label::Did { .. } => learn(alloc, facts, said),
         _ => Ok(()),
