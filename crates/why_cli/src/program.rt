@@ -7,7 +7,7 @@ ghost use Rattle.pnp_cli.specs.Infs.{infs_in, limit, SomeRose};
 ghost use Rattle.pnp_cli.specs.Limits.{IsWithin};
 ghost use Rattle.pnp_cli.specs.Runs.{named, status_by, Decides, IsOutput, IsOutputBy, Wrote, Given, Untouched};
 ghost use Rattle.pnp_cli.specs.declared.status.Status.{Status};
-ghost use Rattle.why_cli.specs.Answers.{Explains, IsWhy, IsTooLarge, IsTooLargeFor, WroteOut, WroteSome, is_lines, plain_words, script_of, script_named, is_told};
+ghost use Rattle.why_cli.specs.Answers.{Explains, IsWhy, IsTooLarge, IsTooLargeFor, WroteOut, WroteSome, is_lines, opens_with_lines, asks_for_lines, plain_words, script_of, script_named, is_told};
 
 use crate::explained::{Explained, explain};
 use crate::refusal::explain_refusal;
@@ -213,24 +213,60 @@ fn is_lines(word: &str) -> bool
     word.as_bytes() == b"--lines".as_slice()
 }
 
-/// The words as those of `run`: without the option for lines, if it stands first behind the program's name, in whose place it then stands.
+/// Whether the option for lines stands first.
+fn opens_with_lines(words: &[String]) -> bool
+    ensures { result ≡ opens_with_lines (texts words.now) }
+{
+    match words {
+        [] => false,
+        [word, ..] => is_lines(word.as_str()),
+    }
+}
+
+/// Whether the line of the script is to be told at each event: the option stands first behind the program's name.
+fn asks_for_lines(words: &[String]) -> bool
+    ensures { result ≡ asks_for_lines (texts words.now) }
+{
+    match words {
+        [] => false,
+        [_, behind @ ..] => opens_with_lines(behind),
+    }
+}
+
+/// The words as those of `run`: without the option for lines, which then takes the place of the program's name.
 fn plain_words(words: &[String]) -> &[String]
     ensures { texts result.now ≡ plain_words (texts words.now) }
 {
     match words {
-        [_, rest @ ..] => match rest {
-            [word, ..] if is_lines(word.as_str()) => rest,
-            _ => words,
-        },
-        _ => words,
+        [] => words,
+        [_, behind @ ..] => if opens_with_lines(behind) { behind } else { words },
     }
 }
 
-/// Whether the line of the script is to be told at each event.
-fn asks_for_lines(words: &[String]) -> bool {
-    match words {
-        [_, word, ..] => is_lines(word.as_str()),
-        _ => false,
+/// The same as `why` of words without the option for lines.
+fn why_words<D: Driver, F: Files, K: Sink>(
+    alloc: Global,
+    words: &[String],
+    all_lines: bool,
+    drivers: Vec<D>,
+    files: &mut F,
+    sink: &mut K,
+) -> Status
+    requires { length drivers.items < 2 ^ 32 }
+    ensures bad_words { result ≡ Status.BadWords → script_of (settings_of (texts words.now)) ≡ None }
+    ensures refused { script_of (settings_of (texts words.now)) ≡ None → (result ≡ Status.BadWords) ⊎ (result ≡ Status.WantOfMemory) }
+    ensures untouched { script_of (settings_of (texts words.now)) ≡ None → Untouched F.contents F.faults K.taken K.faults files.old files.new sink.old sink.new }
+    ensures decided { is_told result ≡ true → Given (texts words.now) (F.contents files.old) (λ s told. Decides (map (λ d. unnamed (D.kind_of d) (D.book d)) drivers.items) told s result) }
+    ensures whole { is_told result ≡ true → Given (texts words.now) (F.contents files.old) (λ s told. Wrote (Explains (IsOutput (map (λ d. unnamed (D.kind_of d) (D.book d)) drivers.items) told s)) (K.taken sink.old) (K.taken sink.new)) }
+    ensures front { Given (texts words.now) (F.contents files.old) (λ s told. WroteSome (Explains (IsOutput (map (λ d. unnamed (D.kind_of d) (D.book d)) drivers.items) told s)) (K.taken sink.old) (K.taken sink.new)) }
+    ensures read_fault { result ≡ Status.ReadFault → IfSome (settings_of (texts words.now)) (λ s. SomeRose (F.faults files.old) (F.faults files.new) (named s)) }
+    ensures write_fault { result ≡ Status.WriteFault → Rose (K.faults sink.old) (K.faults sink.new) }
+    ensures too_large { result ≡ Status.TooLarge → Given (texts words.now) (F.contents files.old) (λ s told. IsTooLargeFor told s) }
+{
+    match settings(alloc, words) {
+        Err(WordsError::BadWords) => Status::BadWords,
+        Err(WordsError::WantOfMemory) => Status::WantOfMemory,
+        Ok(settings) => why_settings(alloc, &settings, all_lines, drivers, files, sink),
     }
 }
 
@@ -257,11 +293,7 @@ pub fn why<D: Driver, F: Files, K: Sink>(
     ensures write_fault { result ≡ Status.WriteFault → Rose (K.faults sink.old) (K.faults sink.new) }
     ensures too_large { result ≡ Status.TooLarge → Given (plain_words (texts words.now)) (F.contents files.old) (λ s told. IsTooLargeFor told s) }
 {
-    match settings(alloc, plain_words(words)) {
-        Err(WordsError::BadWords) => Status::BadWords,
-        Err(WordsError::WantOfMemory) => Status::WantOfMemory,
-        Ok(settings) => {
-            why_settings(alloc, &settings, asks_for_lines(words), drivers, files, sink)
-        }
-    }
+    let plain = plain_words(words);
+    let all_lines = asks_for_lines(words);
+    why_words(alloc, plain, all_lines, drivers, files, sink)
 }
