@@ -200,7 +200,15 @@ fn why_settings<D: Driver, F: Files, K: Sink>(
     match &settings.check {
         Some(_) => Status::BadWords,
         None => match &settings.script {
-            Some(name) => why_drivers(alloc, settings, name.bytes(), all_lines, drivers, files, sink),
+            Some(name) => why_drivers(
+                alloc,
+                settings,
+                name.bytes(),
+                all_lines,
+                drivers,
+                files,
+                sink,
+            ),
             None => Status::BadWords,
         },
     }
@@ -239,7 +247,11 @@ fn plain_words(words: &[String]) -> &[String]
 {
     match words {
         [] => words,
-        [_, behind @ ..] => if opens_with_lines(behind) { behind } else { words },
+        [_, behind @ ..] => if opens_with_lines(behind) {
+            behind
+        } else {
+            words
+        },
     }
 }
 

@@ -147,7 +147,16 @@ fn add_line_notes(
     match label {
         Label::Refused { word, reason } => {
             add_line(alloc, line, notes)?;
-            add_refusal(alloc, &telling.facts, tree, *word, *reason, line, range, notes)
+            add_refusal(
+                alloc,
+                &telling.facts,
+                tree,
+                *word,
+                *reason,
+                line,
+                range,
+                notes,
+            )
         }
         _ => {
             if telling.all_lines {

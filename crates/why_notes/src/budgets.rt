@@ -86,11 +86,7 @@ fn least(
 }
 
 /// Says which budget suffices.
-fn tell_least(
-    alloc: Global,
-    found: Option<Enough>,
-    lines: &mut Lines,
-) -> Result<(), WantOfMemory> {
+fn tell_least(alloc: Global, found: Option<Enough>, lines: &mut Lines) -> Result<(), WantOfMemory> {
     let Some(enough) = found else {
         return lines.say(
             alloc,

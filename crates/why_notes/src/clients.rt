@@ -17,10 +17,17 @@ pub fn on_declined(
 ) -> Result<(), WantOfMemory> {
     lines.add_two(b"The client ", client.bytes())?;
     let Some(device) = &facts.refused_on else {
-        return lines.say(alloc, b" refused. No driver was asked, and nothing changed.");
+        return lines.say(
+            alloc,
+            b" refused. No driver was asked, and nothing changed.",
+        );
     };
     lines.add_three(b", registered on ", device.bytes(), b", refused. No driver")?;
-    lines.add_three(b" was asked, and nothing changed. After `unwatch ", client.bytes(), b" ")?;
+    lines.add_three(
+        b" was asked, and nothing changed. After `unwatch ",
+        client.bytes(),
+        b" ",
+    )?;
     lines.add_three(device.bytes(), b"` another `", op_word(op))?;
     lines.say_three(alloc, b" ", path.bytes(), b"` does not ask it.")
 }
@@ -67,7 +74,11 @@ pub fn on_waits(
 ) -> Result<(), WantOfMemory> {
     if is_open(facts, path) {
         lines.add_three(b"A handle to ", path.bytes(), b" is open. Once `close ")?;
-        return lines.say_two(alloc, path.bytes(), b"` closed the last one, a `finish` removes its drivers.");
+        return lines.say_two(
+            alloc,
+            path.bytes(),
+            b"` closed the last one, a `finish` removes its drivers.",
+        );
     }
     lines.say_two(
         alloc,

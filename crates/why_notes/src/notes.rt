@@ -2,7 +2,7 @@
 use crate::budgets::tell_enough;
 use crate::clients::{on_completed_violation, on_declined, on_violation, on_waits};
 use crate::drivers::{on_install, on_no_driver, on_not_loaded};
-use crate::facts::{FailedAdd, Facts, InTheWay, Joined};
+use crate::facts::{Facts, FailedAdd, InTheWay, Joined};
 use crate::holdings::{keep_holdings, on_commit};
 use crate::least::tell_least;
 use crate::lines::Lines;
@@ -286,11 +286,7 @@ fn keep(alloc: Global, facts: &mut Facts, tree: &Tree, label: &Label) -> Result<
 }
 
 /// The note on an answer that may not be.
-fn on_shown(
-    alloc: Global,
-    label: &Label,
-    lines: &mut Lines,
-) -> Result<(), WantOfMemory> {
+fn on_shown(alloc: Global, label: &Label, lines: &mut Lines) -> Result<(), WantOfMemory> {
     match label {
         Label::Asked {
             minor,

@@ -9,14 +9,17 @@ use std::alloc::Global;
 fn problem_words(problem: Problem) -> &'static [u8] {
     match problem {
         Problem::FailedStart => b"its drivers failed START_DEVICE",
-        Problem::NormalConflict => b"nothing fits for it, even if all devices that agree to stop may move",
+        Problem::NormalConflict =>
+            b"nothing fits for it, even if all devices that agree to stop may move",
         Problem::Disabled => b"its path is disabled",
         Problem::FailedInstall => b"no INF has a driver for it",
         Problem::FailedAdd => b"a driver did not add it",
         Problem::LoadFailed => b"a driver that the INF names is not there",
         Problem::HeldForEject => b"it was related to a device that was ejected, and stays",
-        Problem::Budget => b"the budget of a search was spent, so it is not known whether anything fits",
-        Problem::Held => b"it lost its drivers with another device, or when its last handle was closed, and stays",
+        Problem::Budget =>
+            b"the budget of a search was spent, so it is not known whether anything fits",
+        Problem::Held =>
+            b"it lost its drivers with another device, or when its last handle was closed, and stays",
     }
 }
 
@@ -32,7 +35,11 @@ pub fn tell_meaning(
 
 /// At `problem P 22`: what starts the device.
 pub fn on_disabled(alloc: Global, path: &Text, lines: &mut Lines) -> Result<(), WantOfMemory> {
-    lines.add_three(b"A line `disable ", path.bytes(), b"` did that, and `enable ")?;
+    lines.add_three(
+        b"A line `disable ",
+        path.bytes(),
+        b"` did that, and `enable ",
+    )?;
     lines.say_two(alloc, path.bytes(), b"` ends it.")
 }
 

@@ -51,7 +51,11 @@ fn later<'a>(
 ) -> Option<&'a AskedDriver>
     ensures { option_copied result ≡ later path.now (option_copied last.entry) asked.now }
 {
-    if asked.path.same(path) { Some(asked) } else { last }
+    if asked.path.same(path) {
+        Some(asked)
+    } else {
+        last
+    }
 }
 
 /// At `end .. veto Q`: the driver that refused and what it was asked; or that the device did by itself.

@@ -91,7 +91,11 @@ fn on_no_device(
         }
         _ => {
             if tell_absent(alloc, tree, path, lines)? {
-                lines.say_two(alloc, path, b" is in the world no more, and loses its drivers.")?;
+                lines.say_two(
+                    alloc,
+                    path,
+                    b" is in the world no more, and loses its drivers.",
+                )?;
             }
         }
     }
@@ -227,7 +231,10 @@ fn on_driver(
     if reason == Reason::BookFull {
         return lines.say(alloc, b" has 64 rules, and these are the most.");
     }
-    lines.say(alloc, b" is not scripted, and only a scripted one can be taught.")
+    lines.say(
+        alloc,
+        b" is not scripted, and only a scripted one can be taught.",
+    )
 }
 
 /// `SameName` and `NoDriver`.
@@ -239,7 +246,11 @@ fn on_name(
     lines: &mut Lines,
 ) -> Result<(), WantOfMemory> {
     if reason == Reason::SameName {
-        lines.add_three(b"A driver has the name ", name, b" already, in any letters.")?;
+        lines.add_three(
+            b"A driver has the name ",
+            name,
+            b" already, in any letters.",
+        )?;
         return lines.say(alloc, b" Another name goes.");
     }
     lines.add_three(b"No driver has the name ", name, b". A line `driver ")?;
@@ -304,16 +315,22 @@ fn on_path(
     lines: &mut Lines,
 ) -> Result<(), WantOfMemory> {
     match reason {
-        Reason::RootStays => {
-            lines.say_two(alloc, path, b" is the root, which stays as it is.")
-        }
+        Reason::RootStays => { lines.say_two(alloc, path, b" is the root, which stays as it is.") }
         Reason::AlreadyDisabled => {
             lines.add_three(b"The path ", path, b" is disabled already. `enable ")?;
             lines.say_two(alloc, path, b"` ends that.")
         }
         Reason::NotDisabled => {
-            lines.add_three(b"The path ", path, b" is not disabled. A device with another")?;
-            lines.add_three(b" problem than 22 is tried again by `disable ", path, b"` and")?;
+            lines.add_three(
+                b"The path ",
+                path,
+                b" is not disabled. A device with another",
+            )?;
+            lines.add_three(
+                b" problem than 22 is tried again by `disable ",
+                path,
+                b"` and",
+            )?;
             lines.say_three(alloc, b" then `enable ", path, b"`.")
         }
         Reason::NoHandle => {
@@ -325,7 +342,11 @@ fn on_path(
             lines.say(alloc, b". A window is set before anything is below.")
         }
         Reason::SameWindow => {
-            lines.say_two(alloc, path, b" has a window of this kind, and gets one of each at most.")
+            lines.say_two(
+                alloc,
+                path,
+                b" has a window of this kind, and gets one of each at most.",
+            )
         }
         _ => Ok(()),
     }

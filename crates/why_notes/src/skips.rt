@@ -7,7 +7,12 @@ use pnp_labels::{DevState, TaskKind, state_text};
 use std::alloc::Global;
 
 /// What the device of a node lacks for the task, where its state says it.
-fn tell_state(alloc: Global, node: &Node, what: &[u8], lines: &mut Lines) -> Result<(), WantOfMemory> {
+fn tell_state(
+    alloc: Global,
+    node: &Node,
+    what: &[u8],
+    lines: &mut Lines,
+) -> Result<(), WantOfMemory> {
     lines.add_three(node.path.bytes(), b" is ", state_text(node.state))?;
     lines.say(alloc, what)
 }
@@ -21,7 +26,12 @@ fn tell_why(
 ) -> Result<(), WantOfMemory> {
     let path = node.path.bytes();
     match task {
-        TaskKind::List => tell_state(alloc, node, b", and only below a Started device is looked for others.", lines),
+        TaskKind::List => tell_state(
+            alloc,
+            node,
+            b", and only below a Started device is looked for others.",
+            lines,
+        ),
         TaskKind::Start if node.state == DevState::NoStack => {
             lines.say_two(alloc, path, b" is being started already.")
         }
@@ -40,7 +50,12 @@ fn tell_why(
         TaskKind::Change if node.state == DevState::Started => {
             lines.say_two(alloc, path, b" is in the world no more.")
         }
-        TaskKind::Change => tell_state(alloc, node, b", and only a Started device is changed.", lines),
+        TaskKind::Change => tell_state(
+            alloc,
+            node,
+            b", and only a Started device is changed.",
+            lines,
+        ),
         TaskKind::Eject => Ok(()),
     }
 }
