@@ -7,7 +7,7 @@ use Rattle.notify_front.specs.Fronts.{opening_front}
 use Rattle.notify_front.specs.Desks.{Desk, front_of, told_of, opening_desk}
 use Rattle.script_reader.specs.Script.{Trace}
 use Rattle.pnp_cli.specs.Contents.{events_of}
-use Rattle.pnp_cli.specs.Outputs.{bad_text, end_text, text_of, written}
+use Rattle.pnp_cli.specs.Outputs.{end_text, text_of, written}
 use Rattle.pnp_cli.specs.Pieces.{line_of_bad, answer_by}
 use Rattle.pnp_cli.specs.declared.status.Status.{Status}
 use Rattle.script_play.specs.Playing.{Playing, Played, Begins, Stepped, StepTold, EventTold, left_of}
