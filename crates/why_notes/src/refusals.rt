@@ -37,8 +37,8 @@ fn last_of<'a>(refused: &'a [AskedDriver], path: &Text) -> Option<&'a AskedDrive
     ensures { option_copied result ≡ last_of path.now refused.now }
 {
     let mut last = None;
-    for asked in refused {
-        last = later(last, asked, path);
+    for at in 0..refused.len() {
+        last = later(last, &refused[at], path);
     }
     last
 }
