@@ -1,5 +1,5 @@
 -- Lines of a note.
-use Rattle.std.specs.Prelude.{ℕ, List, [], ◌∷◌, ◌++◌, codes}
+use Rattle.std.specs.Prelude.{List, [], ◌∷◌, ◌++◌, codes}
 use Rattle.pnp_labels.specs.Texts.{Text}
 
 -- the lines that are over, and the one that is being written
@@ -21,10 +21,6 @@ ended n = record { lines = n.lines ++ n.open_ ∷ []; open_ = [] }
 -- it goes on with this and is over
 abbrev pub said : Text → Noting → Noting
 said part n = ended (added part n)
-
--- lines behind those that are over
-abbrev pub followed : List Text → Noting → Noting
-followed lines n = record n { lines = n.lines ++ lines }
 
 -- `PATH has now NEW; before: OLD.`
 abbrev pub moved : Text → Text → Text → Noting → Noting

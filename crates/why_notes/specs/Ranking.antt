@@ -1,5 +1,5 @@
 -- The order of the lines that match a device, and the first place of a want.
-use Rattle.std.specs.Prelude.{ℕ, Bool, not, nat_lt, [], List}
+use Rattle.std.specs.Prelude.{ℕ, Bool, not, nat_lt, []}
 use Rattle.driver_rank.specs.Best.{Given, by}
 use Rattle.why_notes.specs.declared.matches.Match.{Match}
 

