@@ -25,8 +25,8 @@ fn shown_all(alloc: Global, note: &[u8]) -> Result<Vec<u8>, WantOfMemory>
 }
 
 /// Appends a line of a note.
-fn push_note(alloc: Global, text: &mut Vec<u8>, note: &[u8]) -> Result<(), WantOfMemory>
-    ensures { OnOk result (text.new.items ≡ text.old.items ++ note_line (map shown note.now)) }
+fn push_note(alloc: Global, text: &mut Vec<u8>, note: &Vec<u8>) -> Result<(), WantOfMemory>
+    ensures { OnOk result (text.new.items ≡ text.old.items ++ note_line (map shown note.now.items)) }
 {
     let words = shown_all(alloc, note)?;
     text.extend_from_slice(b"# ")?;
