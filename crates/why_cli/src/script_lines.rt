@@ -45,6 +45,45 @@ fn is_event(words: &[&[u8]]) -> bool {
     }
 }
 
+/// A line, if it is neither empty nor a comment.
+fn event_line(
+    alloc: Global,
+    number: u64,
+    line: &[u8],
+) -> Result<Option<ScriptLine<'_>>, WantOfMemory> {
+    let text = without_return(line);
+    let words = words_of(alloc, text)?;
+    if !is_event(&words) {
+        return Ok(None);
+    }
+    Ok(Some(ScriptLine {
+        number,
+        text,
+        words,
+    }))
+}
+
+/// The first line that is neither empty nor a comment, and what stands behind it; so many lines stand before.
+fn first_event<'a>(
+    alloc: Global,
+    script: &'a [u8],
+    before: u64,
+) -> Result<Option<(ScriptLine<'a>, &'a [u8])>, WantOfMemory> {
+    let mut rest = script;
+    let mut number = before;
+    while let Some((line, after)) = split_once(rest, b'\n') {
+        number = number.saturating_add(1);
+        rest = after;
+        if let Some(found) = event_line(alloc, number, line)? {
+            return Ok(Some((found, rest)));
+        }
+    }
+    match event_line(alloc, number.saturating_add(1), rest)? {
+        Some(found) => Ok(Some((found, &[]))),
+        None => Ok(None),
+    }
+}
+
 impl<'a> ScriptLines<'a> {
     /// All lines of a script are left.
     pub fn new(script: &'a [u8]) -> ScriptLines<'a> {
@@ -54,39 +93,18 @@ impl<'a> ScriptLines<'a> {
         }
     }
 
-    /// The next line that is left; none at the end.
-    fn next_line(&mut self) -> Option<&'a [u8]> {
-        if self.rest.is_empty() {
-            return None;
-        }
-        self.passed = self.passed.saturating_add(1);
-        match split_once(self.rest, b'\n') {
-            Some((line, after)) => {
-                self.rest = after;
-                Some(line)
-            }
-            None => {
-                let line = self.rest;
-                self.rest = &[];
-                Some(line)
-            }
-        }
-    }
-
     /// The next line that is neither empty nor a comment: the one that the next event comes from.
     pub fn next_event(&mut self, alloc: Global) -> Result<Option<ScriptLine<'a>>, WantOfMemory> {
-        while let Some(line) = self.next_line() {
-            let text = without_return(line);
-            let words = words_of(alloc, text)?;
-            if is_event(&words) {
-                let number = self.passed;
-                return Ok(Some(ScriptLine {
-                    number,
-                    text,
-                    words,
-                }));
+        match first_event(alloc, self.rest, self.passed)? {
+            Some((line, rest)) => {
+                self.rest = rest;
+                self.passed = line.number;
+                Ok(Some(line))
+            }
+            None => {
+                self.rest = &[];
+                Ok(None)
             }
         }
-        Ok(None)
     }
 }
