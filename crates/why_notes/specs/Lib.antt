@@ -1,0 +1,3 @@
+pub mod Notes
+pub mod Ranking
+pub mod Refusing
