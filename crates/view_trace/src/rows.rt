@@ -291,6 +291,14 @@ impl Rows {
         Ok(())
     }
 
+    /// A label more waits.
+    fn wait(&mut self, label: Label) -> Result<(), WantOfMemory>
+        ensures { OnOk result (self.new ≡ self.old ++ label ∷ []) }
+    {
+        self.waiting.push(label)?;
+        Ok(())
+    }
+
     /// Takes the next label, which is drawn when the next event comes, or the end. Cost: where it is an event's, the length of the
     /// lines of the event before it, each times the number of lanes.
     pub fn draw(&mut self, alloc: Global, page: &mut Page, label: Label) -> Result<(), WantOfMemory>
@@ -298,7 +306,7 @@ impl Rows {
         ensures marks { OnOk result (page.new.marks ++ asks self.new ≡ (page.old.marks ++ asks self.old) ++ asks_of label) }
     {
         self.draw_before(alloc, page, &label)?;
-        self.waiting.push(label)?;
+        self.wait(label)?;
         Ok(())
     }
 
