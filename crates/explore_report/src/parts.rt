@@ -41,8 +41,6 @@ pub struct Exploration {
     pub exact: bool,
     /// How many scripts are run at most, the first ones.
     pub first: u64,
-    /// Whether it is to be told how far the runs are.
-    pub progress: bool,
     pub share: Share,
 }
 

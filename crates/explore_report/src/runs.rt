@@ -103,9 +103,7 @@ pub(crate) fn run_numbers<R: Runs, P: Progress>(
             tally,
         )?;
         done = done.saturating_add(1);
-        if exploration.progress {
-            tell_progress(done, numbers.of, progress);
-        }
+        tell_progress(done, numbers.of, progress);
         number = number.saturating_add(numbers.step);
     }
     Ok(())

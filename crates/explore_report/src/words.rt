@@ -65,16 +65,12 @@ fn shares<'a>(alloc: Global, command: Command<'a>) -> Result<Command<'a>, WantOf
 fn command<'a>(alloc: Global) -> Result<Command<'a>, WantOfMemory> {
     let plain = Command::new(alloc, "pnpexplore").disable_help_flag(true);
     let budget = Arg::new(alloc, "budget").long("budget");
-    let progress = Arg::new(alloc, "progress")
-        .long("progress")
-        .action(ArgAction::SetTrue);
     let family = Arg::new(alloc, "family");
     let inf = Arg::new(alloc, "inf").action(ArgAction::Append);
     let with_budget = plain.arg(budget)?;
     let with_expectations = expectations(alloc, with_budget)?;
     let with_shares = shares(alloc, with_expectations)?;
-    let with_progress = with_shares.arg(progress)?;
-    let with_family = with_progress.arg(family)?;
+    let with_family = with_shares.arg(family)?;
     with_family.arg(inf)
 }
 
@@ -184,7 +180,6 @@ fn exploration(alloc: Global, found: &ArgMatches) -> Result<Exploration, ReportE
     let endings = option_number(found, "endings", u64::MAX)?;
     let first = option_number(found, "first", u64::MAX)?.unwrap_or(FIRST);
     let exact = found.get_flag("exact");
-    let progress = found.get_flag("progress");
     let never = texts(alloc, found, "never", MOST_PATTERNS)?;
     let always = texts(alloc, found, "always", MOST_PATTERNS)?;
     let infs = texts(alloc, found, "inf", MOST_INFS)?;
@@ -201,7 +196,6 @@ fn exploration(alloc: Global, found: &ArgMatches) -> Result<Exploration, ReportE
         endings,
         exact,
         first,
-        progress,
         share,
     })
 }
@@ -232,7 +226,7 @@ fn task(alloc: Global, found: &ArgMatches) -> Result<Task, ReportError> {
 
 /// What the words say, of which the first is the program's name, and is not looked at:
 /// `[--budget N] [--never W].. [--always W].. [--endings N] [--exact] [--first N] [--part I/N] FAMILY [INF ..]`, or with `--from PART ..` in place of
-/// `--part`, or `--script N FAMILY`, or `--count FAMILY`; and in each `--progress`. Other words are refused.
+/// `--part`, or `--script N FAMILY`, or `--count FAMILY`. Other words are refused.
 pub fn words_of(alloc: Global, words: &[String]) -> Result<Words, ReportError> {
     if words.is_empty() {
         return Err(ReportError::BadWords);

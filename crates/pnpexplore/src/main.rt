@@ -1,10 +1,10 @@
 //! The program `pnpexplore`: the words, the files of the system and standard output, handed to `explore`. It prints nothing itself
-//! but how far the runs are, on standard error: whatever comes before `explore` has a status of its own.
+//! but how far the runs are, on standard error where that is a terminal: whatever comes before `explore` has a status of its own.
 #![tactic(auto)]
 
 use explore_cli::{Progress, Status, explore};
 use pnp_io::{HostFiles, HostSink};
-use std::io::ErrorKind;
+use std::io::{ErrorKind, IsTerminal};
 use std::process::ExitCode;
 use std::time::{Clock, Instant};
 
@@ -12,6 +12,8 @@ use std::time::{Clock, Instant};
 #[derive(Drop)]
 struct Screen<'a, R: Eprint + Clock> {
     rt: &'a R,
+    /// Whether it is a terminal; else nothing is told.
+    is_shown: bool,
     /// When it began, if the clock tells.
     start: Option<Instant>,
 }
@@ -29,6 +31,9 @@ fn rate<R: Clock>(rt: &R, start: Option<Instant>, done: u64) -> u64 {
 
 impl<'a, R: Eprint + Clock> Progress for Screen<'a, R> {
     fn tell(&mut self, done: u64, of: u64) {
+        if !self.is_shown {
+            return;
+        }
         let rt = self.rt;
         let rate = rate(rt, self.start, done);
         let end = if done == of { "\n" } else { "" };
@@ -59,6 +64,7 @@ fn answer(rt: &HostRuntime) -> Status {
             let mut sink = HostSink::make(rt);
             let mut screen = Screen {
                 rt,
+                is_shown: rt.stderr().is_terminal(),
                 start: Instant::now(rt).ok(),
             };
             explore(rt.alloc(), &words, &mut files, &mut sink, &mut screen)
