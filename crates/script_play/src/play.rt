@@ -91,7 +91,6 @@ impl<R: Drivers> Play<R> {
     pub fn step(&mut self) -> Result<Option<Label>, WantOfMemory>
         ensures moves { IfOk result (λ label. Stepped label self.old self.new) }
         ensures played { IfOk result (λ label. (start : Playing) (labels : List Label) → Played start labels self.old → StepTold start labels label self.new) }
-        ensures settings { told_of self.new.desk ≡ told_of self.old.desk }
     {
         match self.front.step()? {
             Moved::Label(label) => Ok(Some(label)),
@@ -105,7 +104,6 @@ impl<R: Drivers> Play<R> {
         requires { IsFrontQuiet (told_of self.old.desk) (front_of self.old.desk) }
         ensures came { IfOk result (λ happened. Came happened self.old self.new) }
         ensures played { IfOk result (λ happened. (start : Playing) (labels : List Label) → Played start labels self.old → EventTold start labels happened self.new) }
-        ensures settings { told_of self.new.desk ≡ told_of self.old.desk }
     {
         match self.reader.next_event()? {
             Next::Event(event) => {
