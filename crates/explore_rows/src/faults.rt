@@ -49,11 +49,12 @@ fn whole_bad_line(rt: HostRuntime) -> Result<(), Fail> {
 fn each_write_fails(rt: HostRuntime) -> Result<(), Fail> {
     let alloc = rt.alloc();
     let words = words_of(alloc, &["p", "pulled", "own"])?;
-    for room in 0..PULLED_REPORT.len() {
+    let text = PULLED_REPORT;
+    for room in 0..text.len() {
         let mut files = files_of(alloc, &[("pulled", PULLED), ("own", OWN_INF)])?;
         let mut sink = MemSink::new(alloc, room as u64)?;
         let status = ended(alloc, &words, &mut files, &mut sink);
-        comes_to(status, &sink, (Status::WriteFault, &PULLED_REPORT[..room]))?;
+        comes_to(status, &sink, (Status::WriteFault, &text[..room]))?;
     }
     Ok(())
 }
@@ -73,7 +74,7 @@ fn each_read_fails(rt: HostRuntime) -> Result<(), Fail> {
     Ok(())
 }
 
-/// A family of more bytes than are taken, and one with a block of more lines.
+/// A family of more bytes than are taken.
 #[test]
 fn too_large(rt: HostRuntime) -> Result<(), Fail> {
     let alloc = rt.alloc();

@@ -9,25 +9,19 @@ use std::test::Fail;
 
 /// Both parts of the exploration of `pulled`, in files of their names.
 const ONE: &[&str] = &["p", "--part", "1/2", "pulled", "own"];
+
 const TWO: &[&str] = &["p", "--part=2/2", "pulled", "own"];
+
 const BOTH: &[&str] = &["p", "--from", "one", "--from", "two", "pulled", "own"];
 
-/// A family, an INF, and what both parts came to.
-#[derive(Drop)]
-struct Parts {
-    files: MemFiles,
-    one: Vec<u8>,
-}
-
-
-/// They are run.
-fn parts(alloc: Global) -> Result<Parts, Fail> {
+/// A family, an INF and what both parts came to, in files, and the first of the parts.
+fn parts(alloc: Global) -> Result<(MemFiles, Vec<u8>), Fail> {
     let mut files = files_of(alloc, &[("pulled", PULLED), ("own", OWN_INF)])?;
     let one = written(alloc, ONE, &mut files, Status::Done)?;
     let two = written(alloc, TWO, &mut files, Status::Done)?;
     files.add(b"one", &one)?;
     files.add(b"two", &two)?;
-    Ok(Parts { files, one })
+    Ok((files, one))
 }
 
 /// What is written of the second part, behind its first line, where it has a mark.
@@ -45,15 +39,19 @@ sum ";
 #[test]
 fn put_together(rt: HostRuntime) -> Result<(), Fail> {
     let alloc = rt.alloc();
-    let mut parts = parts(alloc)?;
-    ends(alloc, BOTH, &mut parts.files, (Status::Done, PULLED_REPORT))?;
-    let turned: &[&str] = &["p", "--endings", "1", "--from", "two", "--from=one", "pulled", "own"];
-    ends(
-        alloc,
-        turned,
-        &mut parts.files,
-        (Status::Broken, PULLED_REPORT),
-    )
+    let (mut files, _) = parts(alloc)?;
+    ends(alloc, BOTH, &mut files, (Status::Done, PULLED_REPORT))?;
+    let turned: &[&str] = &[
+        "p",
+        "--endings",
+        "1",
+        "--from",
+        "two",
+        "--from=one",
+        "pulled",
+        "own",
+    ];
+    ends(alloc, turned, &mut files, (Status::Broken, PULLED_REPORT))
 }
 
 #[test]
@@ -78,9 +76,9 @@ fn refuses(alloc: Global, files: &mut MemFiles, one: &[u8]) -> Result<(), Fail> 
 #[test]
 fn cut(rt: HostRuntime) -> Result<(), Fail> {
     let alloc = rt.alloc();
-    let mut parts = parts(alloc)?;
-    for end in 0..parts.one.len() {
-        refuses(alloc, &mut parts.files, &parts.one[..end])?;
+    let (mut files, one) = parts(alloc)?;
+    for end in 0..one.len() {
+        refuses(alloc, &mut files, &one[..end])?;
     }
     Ok(())
 }
@@ -89,13 +87,13 @@ fn cut(rt: HostRuntime) -> Result<(), Fail> {
 #[test]
 fn changed(rt: HostRuntime) -> Result<(), Fail> {
     let alloc = rt.alloc();
-    let mut parts = parts(alloc)?;
-    for at in 0..parts.one.len() {
-        let mut changed = Vec::from_slice(alloc, &parts.one)?;
+    let (mut files, one) = parts(alloc)?;
+    for at in 0..one.len() {
+        let mut changed = Vec::from_slice(alloc, &one)?;
         if let Some(byte) = changed.get_mut(at) {
             *byte = *byte ^ 1;
         }
-        refuses(alloc, &mut parts.files, &changed)?;
+        refuses(alloc, &mut files, &changed)?;
     }
     Ok(())
 }
@@ -105,15 +103,48 @@ const OTHERS: [&[&str]; 12] = [
     &["p", "--from", "one", "pulled", "own"],
     &["p", "--from", "two", "pulled", "own"],
     &["p", "--from", "one", "--from", "one", "pulled", "own"],
-    &["p", "--from", "one", "--from", "two", "--from", "two", "pulled", "own"],
+    &[
+        "p", "--from", "one", "--from", "two", "--from", "two", "pulled", "own",
+    ],
     &["p", "--from", "one", "--from", "two", "pulled"],
-    &["p", "--from", "one", "--from", "two", "pulled", "own", "own"],
+    &[
+        "p", "--from", "one", "--from", "two", "pulled", "own", "own",
+    ],
     &["p", "--from", "one", "--from", "two", "other", "own"],
     &["p", "--from", "one", "--from", "pulled", "pulled", "own"],
-    &["p", "--exact", "--from", "one", "--from", "two", "pulled", "own"],
-    &["p", "--budget=7", "--from", "one", "--from", "two", "pulled", "own"],
-    &["p", "--first=3", "--from", "one", "--from", "two", "pulled", "own"],
-    &["p", "--never=x", "--from", "one", "--from", "two", "pulled", "own"],
+    &[
+        "p", "--exact", "--from", "one", "--from", "two", "pulled", "own",
+    ],
+    &[
+        "p",
+        "--budget=7",
+        "--from",
+        "one",
+        "--from",
+        "two",
+        "pulled",
+        "own",
+    ],
+    &[
+        "p",
+        "--first=3",
+        "--from",
+        "one",
+        "--from",
+        "two",
+        "pulled",
+        "own",
+    ],
+    &[
+        "p",
+        "--never=x",
+        "--from",
+        "one",
+        "--from",
+        "two",
+        "pulled",
+        "own",
+    ],
 ];
 
 /// The same scripts, of another text.
@@ -131,11 +162,11 @@ end
 #[test]
 fn of_something_else(rt: HostRuntime) -> Result<(), Fail> {
     let alloc = rt.alloc();
-    let mut parts = parts(alloc)?;
-    parts.files.add(b"other", OTHER)?;
+    let (mut files, _) = parts(alloc)?;
+    files.add(b"other", OTHER)?;
     for texts in OTHERS {
-        ends(alloc, texts, &mut parts.files, (Status::BadParts, b""))?;
+        ends(alloc, texts, &mut files, (Status::BadParts, b""))?;
     }
     let missing: &[&str] = &["p", "--from", "one", "--from", "none", "pulled", "own"];
-    ends(alloc, missing, &mut parts.files, (Status::ReadFault, b""))
+    ends(alloc, missing, &mut files, (Status::ReadFault, b""))
 }

@@ -197,13 +197,13 @@ const ROWS: [(&[&str], Status, &[u8]); 15] = [
         BROKEN_REPORT,
     ),
     (&["p", "--count", "pulled"], Status::Done, b"scripts 3\n"),
-    (&["p", "--script", "3", "pulled"], Status::Done, THIRD_SCRIPT),
-    (&["p", "--script", "4", "pulled"], Status::BadWords, b""),
     (
-        &["p", "open"],
-        Status::BadFamily,
-        b"family error line 2\n",
+        &["p", "--script", "3", "pulled"],
+        Status::Done,
+        THIRD_SCRIPT,
     ),
+    (&["p", "--script", "4", "pulled"], Status::BadWords, b""),
+    (&["p", "open"], Status::BadFamily, b"family error line 2\n"),
     (
         &["p", "pulled", "own", "unsigned"],
         Status::BadInf,
