@@ -2,10 +2,12 @@
 use Rattle.std.proofs.Common.{◌≡◌, Result, Ok, IfOk, ℕ, ◌+◌, ◌<◌, ◌≤◌, Bool, true, false, List, [], ◌∷◌, ◌++◌, Option, Some, None, length, refl, sym, ◌∙◌, ap, ap₂, subst, append_assoc, append-nil, arith, ◌^◌}
 use Rattle.pnp_labels.specs.declared.event.Event.{Event}
 use Rattle.pnp_labels.specs.declared.label.Label.{Label}
-use Rattle.pnp_model.specs.Records.{Settings, Doing}
+use Rattle.pnp_model.specs.Records.{Settings, Doing, Driver}
+use Rattle.pnp_model.specs.Runs.{opening}
 use Rattle.notify_front.specs.Fronts.{Front, FrontEntry, FrontStep, IsFrontStep, IsFrontQuiet, front_happens, front_next}
-use Rattle.notify_front.specs.Desks.{Desk, FrontMoves, IsFrontDone, IsOfFrontRun, front_of, told_of}
+use Rattle.notify_front.specs.Desks.{Desk, FrontMoves, IsFrontDone, IsOfFrontRun, front_of, opening_desk, told_of}
 use Rattle.notify_front.proofs.FrontLeft.{front_steps_left, front_left_falls}
+use Rattle.pnp_machine.specs.Managers.{Manager}
 use Rattle.pnp_machine.specs.declared.manager.Moved.{Moved}
 use Rattle.script_reader.specs.Reading.{Reading, Moves}
 use Rattle.script_reader.specs.Answers.{Answers}
@@ -16,6 +18,8 @@ use Rattle.script_reader.specs.Script.{Trace, gives, ends, stops, trace, Ends, I
 use Rattle.pnp_cli.specs.Outputs.{Makes, Settles, Follows, Plays, bad_text}
 use Rattle.pnp_cli.specs.Contents.{answer_of}
 use Rattle.pnp_cli.specs.Pieces.{line_of_bad, answer_by}
+use Rattle.pnp_cli.specs.Turns.{Awaits}
+use Rattle.pnp_cli.proofs.Ended.{awaits_first}
 use Rattle.pnp_cli.proofs.Going.{event_here}
 use Rattle.script_play.specs.Playing.{Playing, PlaysOn, Played, Ended, IsPlaying, IsStepped, Stepped, StepTold, left_of}
 
@@ -50,6 +54,10 @@ played_none p rests =
       bad = refl;
       answer = refl;
     }
+
+-- a front that restarted awaits the first event
+pub awaits_again : (m : Manager) (rack : List Driver) (d : Desk) → d ≡ opening_desk (record m { events = 0; state = opening rack }) → Awaits d
+awaits_again m rack d opens = subst (λ (x : Desk). Awaits x) (sym opens) (awaits_first (record m { events = 0; state = opening rack }) (record { rack = rack; opens = refl; events = refl }))
 
 -- A step ------------------------------------------------------------------------------------
 

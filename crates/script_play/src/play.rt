@@ -1,8 +1,9 @@
-ghost use Rattle.std.specs.Prelude.{◌≡◌, ◌≤◌, ◌^◌, [], List, IfOk, length};
-ghost use Rattle.notify_front.specs.Desks.{front_of, told_of};
+ghost use Rattle.std.specs.Prelude.{◌≡◌, ◌≤◌, ◌^◌, [], List, IfOk, OnOk, OnErr, length};
+ghost use Rattle.notify_front.specs.Desks.{front_of, opening_desk, told_of};
 ghost use Rattle.notify_front.specs.Fronts.{IsFrontQuiet};
 ghost use Rattle.pnp_labels.specs.declared.label.Label.{Label};
 ghost use Rattle.pnp_model.specs.Endings.{ending, joined};
+ghost use Rattle.pnp_model.specs.Runs.{opening};
 ghost use Rattle.pnp_cli.specs.Turns.{Awaits};
 ghost use Rattle.script_play.specs.Playing.{Playing, Begins, Played, Stepped, Came, StepTold, EventTold};
 
@@ -63,6 +64,26 @@ impl<R: Drivers> Play<R> {
             reader,
             bad: None,
         })
+    }
+
+    /// Another script is to happen, to the front as it was at first: it restarts over another rack, whose place the drivers that were there
+    /// take. Condition: the script has at most 16,777,216 bytes. After want of memory play and rack are as before. Cost: the bytes of the
+    /// script, and that of the front's restart.
+    pub fn restart(&mut self, rack: &mut R, script: &[u8]) -> Result<(), WantOfMemory>
+        requires { length script.now ≤ 2 ^ 24 }
+        ensures begins { OnOk result (Begins (opening_desk (record self.old.desk.manager { events = 0; state = opening (R.rows rack.old) })) script.now self.new) }
+        ensures none { OnOk result (Played self.new [] self.new) }
+        ensures back { OnOk result (R.rows rack.new ≡ self.old.desk.manager.state.core.rack) }
+        ensures err { OnErr result (self.new ≡ self.old) }
+        ensures kept { OnErr result (R.rows rack.new ≡ R.rows rack.old) }
+    {
+        let mut reader = Reader::new(self.alloc);
+        reader.feed(script)?;
+        reader.finish();
+        self.front.restart(rack)?;
+        self.reader = reader;
+        self.bad = None;
+        Ok(())
     }
 
     /// The next label of what follows by itself; none exactly where nothing is next. After want of

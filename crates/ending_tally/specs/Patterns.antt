@@ -1,0 +1,20 @@
+-- Patterns of words, and the lines that fit them.
+use Rattle.std.specs.Prelude.{ℕ, ◌≤◌, ◌<◌, Bool, ◌==◌, ◌||◌, not, List, [], ◌∷◌, length}
+use Rattle.std.specs.List.{slice_split, filter}
+use Rattle.std.specs.Str.{bytes_eq}
+
+-- a space or a tab
+abbrev pub is_blank : ℕ → Bool
+is_blank byte = (byte == 0x20) || (byte == 0x09)
+
+-- what stands between blanks
+abbrev pub words_of : List ℕ → List (List ℕ)
+words_of line = filter (λ word. not (length word == 0)) (slice_split is_blank line)
+
+-- a star is any one word
+abbrev pub word_fits : List ℕ → List ℕ → Bool
+word_fits pattern word = bytes_eq pattern (0x2A ∷ []) || bytes_eq pattern word
+
+-- a pattern has 1 to 16 words
+abbrev pub IsPattern : List (List ℕ) → Type 0
+IsPattern words = (0 < length words) × (length words ≤ 16)

@@ -1,0 +1,13 @@
+//! The explorer as a library: the words of the command line, the family and the INFs that they name, and what is written of the runs of
+//! all scripts.
+#![tactic(auto)]
+
+mod error;
+mod files;
+mod player;
+mod program;
+mod status;
+
+pub use explore_report::Progress;
+pub use program::explore;
+pub use status::Status;

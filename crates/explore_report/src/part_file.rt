@@ -1,0 +1,259 @@
+//! A part is read again: what it tells of its scripts, if it is a part of this exploration, and as it was written.
+use crate::expected::Expected;
+use crate::mark::push_digest;
+use crate::parts::Part;
+use crate::report::{push_count, push_part};
+use crate::words::{number_of, part_of};
+use device_ids::{WantOfMemory, split_once};
+use ending_tally::{Mark, Tally, plain_ending};
+use sha2::{Digest, Sha256};
+use std::alloc::Global;
+
+/// How many bytes the last line of a part has: a word, a blank, 64 digits and a line feed.
+const SUM: usize = 69;
+
+/// What a part is to be of.
+#[derive(Clone, Copy)]
+pub(crate) struct Of<'a> {
+    pub(crate) mark: &'a [u8; 32],
+    /// How many scripts the family has.
+    pub(crate) count: u64,
+    /// How many of them are run in all parts.
+    pub(crate) below: u64,
+    pub(crate) exact: bool,
+    pub(crate) expected: &'a Expected,
+}
+
+/// The lines of a part that are still to be read.
+#[derive(Drop)]
+struct Lines<'a> {
+    rest: &'a [u8],
+}
+
+impl<'a> Lines<'a> {
+    /// The next line, without its line feed.
+    fn next(&mut self) -> Option<&'a [u8]> {
+        let (line, rest) = split_once(self.rest, b'\n')?;
+        self.rest = rest;
+        Some(line)
+    }
+
+    /// The number behind these words, which are all else that the next line has.
+    fn number(&mut self, words: &[u8]) -> Option<u64> {
+        number_of(self.next()?.strip_prefix(words)?)
+    }
+
+    /// So many lines, with their line feeds.
+    fn take(&mut self, count: u64) -> Option<&'a [u8]> {
+        let all = self.rest;
+        for _ in 0..count {
+            self.next()?;
+        }
+        all.get(..all.len().checked_sub(self.rest.len())?)
+    }
+}
+
+/// How many scripts a part has.
+pub(crate) fn scripts_in(part: Part, below: u64) -> u64 {
+    if part.number > below || part.number == 0 || part.of == 0 {
+        0
+    } else {
+        ((below - part.number) / part.of).saturating_add(1)
+    }
+}
+
+/// The text before the last line, where this one has the digest of it.
+fn unsealed(alloc: Global, text: &[u8]) -> Result<Option<&[u8]>, WantOfMemory> {
+    if text.len() < SUM {
+        return Ok(None);
+    }
+    let front = &text[..text.len() - SUM];
+    let mut sum = Vec::from_slice(alloc, b"sum ")?;
+    push_digest(&mut sum, &Sha256::digest(front))?;
+    sum.push(b'\n')?;
+    if sum.as_slice() == &text[text.len() - SUM..] {
+        Ok(Some(front))
+    } else {
+        Ok(None)
+    }
+}
+
+/// Which part the first line names, where it is one of this exploration.
+fn part_named(alloc: Global, line: &[u8], mark: &[u8; 32]) -> Result<Option<Part>, WantOfMemory> {
+    let Some(part) = named(line) else {
+        return Ok(None);
+    };
+    let mut wanted = Vec::new(alloc);
+    push_part(&mut wanted, part, mark)?;
+    match wanted.as_slice() {
+        [wanted @ .., _] if wanted == line => Ok(Some(part)),
+        _ => Ok(None),
+    }
+}
+
+/// The part that a line `part I/N MARK` names.
+fn named(line: &[u8]) -> Option<Part> {
+    let (part, _) = split_once(line.strip_prefix(b"part ".as_slice())?, b' ')?;
+    part_of(part)
+}
+
+/// Whether the next line tells this count of scripts.
+fn tells_count(alloc: Global, lines: &mut Lines, count: u64) -> Result<bool, WantOfMemory> {
+    let mut wanted = Vec::new(alloc);
+    push_count(&mut wanted, count)?;
+    let line = lines.take(1);
+    Ok(line == Some(wanted.as_slice()))
+}
+
+/// What a line tells of an expectation, behind its word and number.
+fn broken_of(line: &[u8]) -> Option<Mark> {
+    let (_, told) = split_once(line, b' ')?;
+    let (_, told) = split_once(told, b' ')?;
+    let told = told.strip_prefix(b"broken by ".as_slice())?;
+    match split_once(told, b' ') {
+        None => match number_of(told)? {
+            0 => Some(Mark {
+                scripts: 0,
+                first: 0,
+            }),
+            _ => None,
+        },
+        Some((scripts, told)) => Some(Mark {
+            scripts: number_of(scripts)?,
+            first: number_of(told.strip_prefix(b"first ".as_slice())?)?.checked_sub(1)?,
+        }),
+    }
+}
+
+/// What a line `ending J scripts C first N` tells: how many scripts, and the number of the first, from 0.
+fn ending_of(line: &[u8]) -> Option<(u64, u64)> {
+    let (_, told) = split_once(line.strip_prefix(b"ending ".as_slice())?, b' ')?;
+    let (scripts, told) = split_once(told.strip_prefix(b"scripts ".as_slice())?, b' ')?;
+    let first = number_of(told.strip_prefix(b"first ".as_slice())?)?;
+    Some((number_of(scripts)?, first.checked_sub(1)?))
+}
+
+/// Reads what is told of the expectations; whether all of it stands there.
+fn read_broken(lines: &mut Lines, expected: &Expected, tally: &mut Tally) -> bool {
+    for at in 0..expected.len() {
+        let Some(line) = lines.next() else {
+            return false;
+        };
+        match broken_of(line) {
+            Some(broken) => tally.add_broken(at, broken),
+            None => return false,
+        }
+    }
+    true
+}
+
+/// Whether a part has the script of this number, counted from 0.
+fn has(part: Part, below: u64, number: u64) -> bool {
+    part.of > 0 && number < below && number % part.of == part.number.saturating_sub(1)
+}
+
+/// Reads an ending; how many scripts lead to it.
+fn read_ending(
+    alloc: Global,
+    lines: &mut Lines,
+    part: Part,
+    of: Of,
+    tally: &mut Tally,
+) -> Result<Option<u64>, WantOfMemory> {
+    let Some((scripts, first)) = told_ending(lines) else {
+        return Ok(None);
+    };
+    if scripts == 0 || !has(part, of.below, first) {
+        return Ok(None);
+    }
+    let Some(text) = told_text(lines) else {
+        return Ok(None);
+    };
+    let mark = Mark { scripts, first };
+    if of.exact {
+        tally.add_ending(text, mark, text)?;
+    } else {
+        let plain = plain_ending(alloc, text)?;
+        tally.add_ending(&plain, mark, text)?;
+    }
+    Ok(Some(scripts))
+}
+
+/// What the next line tells of an ending.
+fn told_ending(lines: &mut Lines) -> Option<(u64, u64)> {
+    ending_of(lines.next()?)
+}
+
+/// The lines of an ending, behind the line that says how many there are.
+fn told_text<'a>(lines: &mut Lines<'a>) -> Option<&'a [u8]> {
+    let count = lines.number(b"lines ")?;
+    lines.take(count)
+}
+
+/// Reads all endings; how many scripts lead to one.
+fn read_endings(
+    alloc: Global,
+    lines: &mut Lines,
+    part: Part,
+    of: Of,
+    tally: &mut Tally,
+) -> Result<Option<u64>, WantOfMemory> {
+    let Some(endings) = lines.number(b"endings ") else {
+        return Ok(None);
+    };
+    let mut scripts = 0u64;
+    for _ in 0..endings {
+        match read_ending(alloc, lines, part, of, tally)? {
+            Some(more) => scripts = scripts.saturating_add(more),
+            None => return Ok(None),
+        }
+    }
+    Ok(Some(scripts))
+}
+
+/// Reads what stands behind the first line.
+fn read_tally(
+    alloc: Global,
+    lines: &mut Lines,
+    part: Part,
+    of: Of,
+    tally: &mut Tally,
+) -> Result<bool, WantOfMemory> {
+    if !tells_count(alloc, lines, of.count)? {
+        return Ok(false);
+    }
+    let run = lines.number(b"run ");
+    if run != Some(scripts_in(part, of.below)) {
+        return Ok(false);
+    }
+    if !read_broken(lines, of.expected, tally) {
+        return Ok(false);
+    }
+    let scripts = read_endings(alloc, lines, part, of, tally)?;
+    tally.add_scripts(run.unwrap_or(0));
+    Ok(scripts == run && lines.rest.is_empty())
+}
+
+/// Which part a text is, where it is one of this exploration and as it was written; what it tells is put into the tally. Cost: its bytes.
+pub(crate) fn read_part(
+    alloc: Global,
+    text: &[u8],
+    of: Of,
+    tally: &mut Tally,
+) -> Result<Option<Part>, WantOfMemory> {
+    let Some(front) = unsealed(alloc, text)? else {
+        return Ok(None);
+    };
+    let mut lines = Lines { rest: front };
+    let Some(first) = lines.next() else {
+        return Ok(None);
+    };
+    let Some(part) = part_named(alloc, first, of.mark)? else {
+        return Ok(None);
+    };
+    if read_tally(alloc, &mut lines, part, of, tally)? {
+        Ok(Some(part))
+    } else {
+        Ok(None)
+    }
+}
