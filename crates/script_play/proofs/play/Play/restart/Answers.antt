@@ -8,8 +8,8 @@ pub invariant_of-self-2 : goal.invariant_of-self-2
 invariant_of-self-2 g c =
     let opens = c.in_ok-restart.ensures.opens in
     let rest =
-        ap (λ (r : Reading). r.rest) c.finish.ensures.shut ∙ ap (λ (r : Reading). r.rest) c.in_ok-feed.ensures.ok
-        ∙ ap (λ (r : Reading). r.rest ++ c.args.script.now) c.new-reader.ensures.new
+    ap (λ (r : Reading). r.rest) c.finish.ensures.shut ∙ ap (λ (r : Reading). r.rest) c.in_ok-feed.ensures.ok
+    ∙ ap (λ (r : Reading). r.rest ++ c.args.script.now) c.new-reader.ensures.new
     in
     record {
       run = (awaits_again c.self.inside.front.manager (g.R.Drivers.rows c.args.rack.now) c.restart.new.self opens).run;
