@@ -1,6 +1,6 @@
 //! A page as it is written.
 ghost use Rattle.std.specs.Prelude.{◌≡◌, ◌++◌, ◌∷◌, [], List, IfOk, OnOk, OnErr, map};
-ghost use Rattle.view_page.specs.Pages.{IsPage, arrow_tag, empty_tag, escaped, open_tag, page_end, page_front};
+ghost use Rattle.view_page.specs.Pages.{IsPage, arrow_tag, close_tag, empty_tag, escaped, open_tag, page_end, page_front};
 ghost use Rattle.view_page.specs.declared.words.Tag.{Tag as Tags};
 
 use crate::escape::{WantOfMemory, push_escaped};
@@ -69,6 +69,7 @@ impl Page {
         requires { (tag : Tags) × (outer : List Tags) × (self.old.elements ≡ tag ∷ outer) }
         ensures elements { OnOk result ((tag : Tags) (outer : List Tags) → self.old.elements ≡ tag ∷ outer → self.new.elements ≡ outer) }
         ensures marks { OnOk result (self.new.marks ≡ self.old.marks) }
+        ensures text { OnOk result ((tag : Tags) (outer : List Tags) → self.old.elements ≡ tag ∷ outer → self.new.text ≡ self.old.text ++ close_tag tag) }
         ensures err { OnErr result (self.new ≡ self.old) }
     {
         let tag = self.elements[self.elements.len() - 1];
@@ -150,6 +151,7 @@ impl Page {
     ) -> Result<(), WantOfMemory>
         ensures elements { OnOk result (self.new.elements ≡ self.old.elements) }
         ensures marks { OnOk result (self.new.marks ≡ self.old.marks) }
+        ensures text { OnOk result (self.new.text ≡ self.old.text ++ open_tag tag (map (λ a. (a.0, a.1.now)) attributes.now) ++ escaped words.now ++ close_tag tag) }
     {
         self.open(tag, attributes)?;
         self.words(words)?;
