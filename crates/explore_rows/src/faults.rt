@@ -44,17 +44,21 @@ fn whole_bad_line(rt: HostRuntime) -> Result<(), Fail> {
     }
 }
 
-/// Wherever the sink is full, what it took is the front of the report up to there.
+/// Wherever the sink is full, at each 12th byte, what it took is the front of the report up to there.
 #[test]
 fn each_write_fails(rt: HostRuntime) -> Result<(), Fail> {
     let alloc = rt.alloc();
     let words = words_of(alloc, &["p", "pulled", "own"])?;
     let text = PULLED_REPORT;
-    for room in 0..text.len() {
+    for at in 0..20usize {
+        let room = at * 12;
+        let Some(front) = text.get(..room) else {
+            return Err(Fail::new("how long the report is"));
+        };
         let mut files = files_of(alloc, &[("pulled", PULLED), ("own", OWN_INF)])?;
         let mut sink = MemSink::new(alloc, room as u64)?;
         let status = ended(alloc, &words, &mut files, &mut sink);
-        comes_to(status, &sink, (Status::WriteFault, &text[..room]))?;
+        comes_to(status, &sink, (Status::WriteFault, front))?;
     }
     Ok(())
 }

@@ -7,7 +7,7 @@ use pnp_io::MemFiles;
 use std::alloc::Global;
 use std::test::Fail;
 
-/// Both parts of the exploration of `pulled`, in files of their names.
+/// Words for the first part of the scripts of `pulled`, for the second, and to put both together.
 const ONE: &[&str] = &["p", "--part", "1/2", "pulled", "own"];
 
 const TWO: &[&str] = &["p", "--part=2/2", "pulled", "own"];
@@ -72,27 +72,39 @@ fn refuses(alloc: Global, files: &mut MemFiles, one: &[u8]) -> Result<(), Fail> 
     ends(alloc, BOTH, files, (Status::BadParts, b""))
 }
 
-/// Wherever it is cut.
+/// Wherever it is cut: at each 14th byte, and before the last one.
 #[test]
 fn cut(rt: HostRuntime) -> Result<(), Fail> {
     let alloc = rt.alloc();
     let (mut files, one) = parts(alloc)?;
-    for end in 0..one.len() {
-        refuses(alloc, &mut files, &one[..end])?;
+    for at in 0..24usize {
+        if let Some(front) = one.get(..at * 14) {
+            refuses(alloc, &mut files, front)?;
+        }
     }
-    Ok(())
+    match one.as_slice() {
+        [front @ .., _] => refuses(alloc, &mut files, front),
+        [] => Err(Fail::new("a part of no byte")),
+    }
 }
 
-/// Whichever byte is changed.
+/// The part with a bit of this byte changed.
+fn changed_at(alloc: Global, part: &[u8], at: usize) -> Result<Vec<u8>, Fail> {
+    let mut changed = Vec::from_slice(alloc, part)?;
+    match changed.get_mut(at) {
+        Some(byte) => *byte = *byte ^ 1,
+        None => return Err(Fail::new("how long a part is")),
+    }
+    Ok(changed)
+}
+
+/// Whichever byte is changed: each 11th one.
 #[test]
 fn changed(rt: HostRuntime) -> Result<(), Fail> {
     let alloc = rt.alloc();
     let (mut files, one) = parts(alloc)?;
-    for at in 0..one.len() {
-        let mut changed = Vec::from_slice(alloc, &one)?;
-        if let Some(byte) = changed.get_mut(at) {
-            *byte = *byte ^ 1;
-        }
+    for at in 0..31usize {
+        let changed = changed_at(alloc, &one, at * 11)?;
         refuses(alloc, &mut files, &changed)?;
     }
     Ok(())
