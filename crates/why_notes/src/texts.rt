@@ -1,7 +1,4 @@
 //! Numbers, ranks and lists as people read them.
-ghost use Rattle.std.specs.Prelude.{◌≡◌, IfOk};
-ghost use Rattle.std.specs.Fmt.{decimal};
-
 use device_ids::{IdList, InstancePath, PathError, Text, TextList, WantOfMemory};
 use devnode_tree::{Node, Tree};
 use pnp_labels::{OpKind, decimal, res_text};
