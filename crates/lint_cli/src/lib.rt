@@ -17,5 +17,4 @@ mod warnings;
 mod words;
 
 pub use lints::lint;
-pub use report::fault_words;
 pub use status::Status;

@@ -1,6 +1,3 @@
-ghost use Rattle.std.specs.Prelude.{◌≡◌, IfOk};
-ghost use Rattle.script_play.specs.Saying.{said_of};
-
 use device_ids::{Text, WantOfMemory};
 use pnp_labels::{Event, Minor, RelKind};
 use resource_reqs::{Reqs, Res};
@@ -35,9 +32,7 @@ pub enum Said {
 }
 
 /// What an event says.
-pub fn said_of(alloc: Global, event: &Event) -> Result<Said, WantOfMemory>
-    ensures { IfOk result (λ said. said ≡ said_of event.now) }
-{
+pub fn said_of(alloc: Global, event: &Event) -> Result<Said, WantOfMemory> {
     match event {
         Event::Name { name, .. } => Ok(Said::Name(name.copy(alloc)?)),
         Event::Relate {

@@ -1,4 +1,3 @@
 pub mod Woven
 pub mod Explained
 pub mod Answers
-pub mod Refusals

@@ -1,9 +1,7 @@
 //! The text for an INF that is refused.
-ghost use Rattle.std.specs.Prelude.{◌≡◌, ◌++◌, ◌∷◌, [], IfOk};
-ghost use Rattle.pnp_labels.specs.Texts.{Text};
+ghost use Rattle.std.specs.Prelude.{◌≡◌, IfOk};
 ghost use Rattle.pnp_cli.specs.Infs.{refusal_line};
 ghost use Rattle.pnp_cli.specs.declared.status.Status.{Status};
-ghost use Rattle.why_cli.specs.Refusals.{refusal_words};
 ghost use Rattle.why_cli.specs.Woven.{IsWoven};
 
 use crate::explained::Explained;
@@ -15,9 +13,7 @@ use std::alloc::Global;
 use why_notes::Lines;
 
 /// Why an INF is refused, in words.
-fn refusal_words(error: InfError) -> &'static [u8]
-    ensures { result.now ≡ refusal_words error }
-{
+fn refusal_words(error: InfError) -> &'static [u8] {
     match error {
         InfError::NoSignature => { b"[Version] has no Signature of $Windows NT$ or $CHICAGO$." }
         InfError::OpenHeader { .. } => b"A header has no ].",
@@ -36,9 +32,7 @@ fn refusal_note(
     number: u64,
     error: InfError,
     names: &TextList,
-) -> Result<Lines, WantOfMemory>
-    ensures { IfOk result (λ notes. (front : Text) × (notes.lines ≡ (front ++ refusal_words error) ∷ [])) }
-{
+) -> Result<Lines, WantOfMemory> {
     let mut notes = Lines::new(alloc);
     if 0 < number && number <= names.len() {
         notes.add(names.get(number - 1).bytes())?;

@@ -407,7 +407,7 @@ fn tell_line_missing(
 }
 
 /// The names that drivers have, as far as they are told.
-pub fn tell_names(alloc: Global, facts: &Facts, lines: &mut Lines) -> Result<(), WantOfMemory> {
+fn tell_names(alloc: Global, facts: &Facts, lines: &mut Lines) -> Result<(), WantOfMemory> {
     let count = facts.drivers.len();
     if count == 0 {
         return lines.say(alloc, b"No driver has a name yet.");

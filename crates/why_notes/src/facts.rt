@@ -22,27 +22,6 @@ pub struct AskedDriver {
     pub driver: Text,
 }
 
-/// A device that got a node of this serial.
-#[derive(Drop)]
-pub struct Joined {
-    pub serial: u64,
-    pub path: Text,
-}
-
-/// A driver that did not add a device.
-#[derive(Drop)]
-pub struct FailedAdd {
-    pub path: Text,
-    pub driver: Text,
-}
-
-/// The lines that were told at the last `nofit` of a device outside a rebalance.
-#[derive(Drop)]
-pub struct InTheWay {
-    pub path: Text,
-    pub lines: Vec<Vec<u8>>,
-}
-
 /// What a device of this serial held at some time.
 #[derive(Drop)]
 pub struct Holding {
@@ -74,25 +53,14 @@ pub struct Facts {
     pub(crate) reserved: ResList,
     /// What devices are to require from now on.
     pub(crate) changes: Vec<Change>,
-    /// The drivers that pended a request which no line completed.
+    /// The drivers that pended a request, also those whose request was completed.
     pub(crate) pended: Vec<AskedDriver>,
     /// The drivers that refused since the last operation began.
     pub(crate) refused: Vec<AskedDriver>,
     /// Whether a window was set.
     pub(crate) windows: bool,
-    /// The operation that runs, and the path of its device.
+    /// The operation that runs.
     pub(crate) operation: Option<OpKind>,
-    pub(crate) target: Vec<u8>,
-    /// The nodes that joined, also those that left.
-    pub(crate) joined: Vec<Joined>,
-    /// The paths of the handles that are open, one for each handle.
-    pub(crate) handles: Vec<Text>,
-    /// The device for which a client refused last.
-    pub(crate) refused_on: Option<Text>,
-    /// The driver that did not add a device last.
-    pub(crate) failed_add: Option<FailedAdd>,
-    /// What was told to be in the way of a device last.
-    pub(crate) in_the_way: Option<InTheWay>,
     /// What all devices held when a rebalance found that it fits.
     pub(crate) before: Vec<Holding>,
 }
@@ -112,21 +80,8 @@ impl Drop for Facts {
             refused: _,
             windows: _,
             operation: _,
-            target: _,
-            joined: _,
-            handles: _,
-            refused_on: _,
-            failed_add: _,
-            in_the_way: _,
             before: _,
         } = self;
-    }
-}
-
-/// Takes out what stands at a place, if something does.
-fn remove_at<T: Drop>(all: &mut Vec<T>, at: usize) {
-    if at < all.len() {
-        let _ = all.remove(at);
     }
 }
 
@@ -152,12 +107,6 @@ impl Facts {
             refused: Vec::new(alloc),
             windows: false,
             operation: None,
-            target: Vec::new(alloc),
-            joined: Vec::new(alloc),
-            handles: Vec::new(alloc),
-            refused_on: None,
-            failed_add: None,
-            in_the_way: None,
             before: Vec::new(alloc),
         }
     }
@@ -210,37 +159,5 @@ impl Facts {
             })?;
         }
         Ok(())
-    }
-
-    /// A request that a driver pended was completed.
-    pub fn completed(&mut self, path: &Text, minor: Minor) {
-        let mut last = None;
-        for at in 0..self.pended.len() {
-            if self.pended[at].minor == minor && self.pended[at].path.same(path) {
-                last = Some(at);
-            }
-        }
-        if let Some(at) = last {
-            remove_at(&mut self.pended, at);
-        }
-    }
-
-    /// A handle to the device of a path was opened.
-    pub(crate) fn opened(&mut self, path: Text) -> Result<(), WantOfMemory> {
-        self.handles.push(path)?;
-        Ok(())
-    }
-
-    /// One was closed.
-    pub(crate) fn closed(&mut self, path: &Text) {
-        let mut last = None;
-        for at in 0..self.handles.len() {
-            if self.handles[at].same(path) {
-                last = Some(at);
-            }
-        }
-        if let Some(at) = last {
-            remove_at(&mut self.handles, at);
-        }
     }
 }

@@ -1,8 +1,4 @@
 //! Notes on what moved.
-ghost use Rattle.std.specs.Prelude.{◌≡◌, OnOk, if◌then◌else◌};
-ghost use Rattle.std.specs.Str.{bytes_eq};
-ghost use Rattle.why_notes.specs.Notes.{moved};
-
 use crate::facts::{Facts, Holding};
 use crate::lines::Lines;
 use crate::texts::held_text;
@@ -32,9 +28,7 @@ fn tell_change(
     old: &[u8],
     new: &[u8],
     lines: &mut Lines,
-) -> Result<(), WantOfMemory>
-    ensures { OnOk result (lines.new ≡ (if bytes_eq old.now new.now then lines.old else moved path.now old.now new.now lines.old)) }
-{
+) -> Result<(), WantOfMemory> {
     if old == new {
         return Ok(());
     }

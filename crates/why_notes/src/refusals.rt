@@ -1,7 +1,4 @@
 //! Notes on who refused.
-ghost use Rattle.std.specs.Prelude.{◌≡◌, None, option_copied};
-ghost use Rattle.why_notes.specs.Refusing.{later, last_of};
-
 use crate::facts::{AskedDriver, Facts};
 use crate::lines::Lines;
 use crate::texts::node_of;
@@ -33,29 +30,14 @@ pub fn keep_asked(
 }
 
 /// The last refusal of a device's drivers.
-fn last_of<'a>(refused: &'a [AskedDriver], path: &Text) -> Option<&'a AskedDriver>
-    ensures { option_copied result ≡ last_of path.now refused.now }
-{
+fn last_of<'a>(facts: &'a Facts, path: &Text) -> Option<&'a AskedDriver> {
     let mut last = None;
-    for at in 0..refused.len() {
-        last = later(last, &refused[at], path);
+    for asked in &facts.refused {
+        if asked.path.same(path) {
+            last = Some(asked);
+        }
     }
     last
-}
-
-/// This one, if it is of the path, and else the one before.
-fn later<'a>(
-    last: Option<&'a AskedDriver>,
-    asked: &'a AskedDriver,
-    path: &Text,
-) -> Option<&'a AskedDriver>
-    ensures { option_copied result ≡ later path.now (option_copied last.entry) asked.now }
-{
-    if asked.path.same(path) {
-        Some(asked)
-    } else {
-        last
-    }
 }
 
 /// At `end .. veto Q`: the driver that refused and what it was asked; or that the device did by itself.
@@ -65,7 +47,7 @@ pub fn on_veto(
     path: &Text,
     lines: &mut Lines,
 ) -> Result<(), WantOfMemory> {
-    match last_of(&facts.refused, path) {
+    match last_of(facts, path) {
         Some(asked) => {
             lines.add_three(b"The driver ", asked.driver.bytes(), b" of ")?;
             lines.add_three(path.bytes(), b" failed ", minor_text(asked.minor))?;
@@ -88,7 +70,7 @@ pub fn on_failed_start(
     path: &Text,
     lines: &mut Lines,
 ) -> Result<(), WantOfMemory> {
-    let Some(asked) = last_of(&facts.refused, path) else {
+    let Some(asked) = last_of(facts, path) else {
         return Ok(());
     };
     let minor = minor_text(asked.minor);

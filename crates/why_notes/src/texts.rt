@@ -1,14 +1,12 @@
 //! Numbers, ranks and lists as people read them.
 use device_ids::{IdList, InstancePath, PathError, Text, TextList, WantOfMemory};
 use devnode_tree::{Node, Tree};
-use pnp_labels::{OpKind, decimal, res_text};
+use pnp_labels::{decimal, res_text};
 use resource_reqs::{Res, ResList, Want};
 use std::alloc::{AllocError, Global};
 
 /// A number in decimal digits.
-pub fn number(alloc: Global, n: u64) -> Result<Vec<u8>, WantOfMemory>
-    ensures { IfOk result (λ digits. digits.items ≡ decimal n) }
-{
+pub fn number(alloc: Global, n: u64) -> Result<Vec<u8>, WantOfMemory> {
     let digits = decimal(alloc, n)?;
     Vec::from_slice(alloc, digits.as_bytes())
 }
@@ -66,40 +64,19 @@ pub fn want_text(alloc: Global, want: &Want) -> Result<Vec<u8>, WantOfMemory> {
     Ok(text)
 }
 
-/// The node of a path, if there is one.
-pub fn node_at<'a>(
-    alloc: Global,
-    tree: &'a Tree,
-    path: &[u8],
-) -> Result<Option<&'a Node>, WantOfMemory> {
-    match InstancePath::read(alloc, path) {
-        Ok(path) => match tree.find(&path) {
-            Some(serial) => Ok(tree.node(serial)),
-            None => Ok(None),
-        },
-        Err(PathError::WantOfMemory) => Err(AllocError),
-        Err(_) => Ok(None),
-    }
-}
-
 /// The node of a path that a label tells.
 pub fn node_of<'a>(
     alloc: Global,
     tree: &'a Tree,
     path: &Text,
 ) -> Result<Option<&'a Node>, WantOfMemory> {
-    node_at(alloc, tree, path.bytes())
-}
-
-/// An operation as its lines name it.
-pub fn op_word(op: OpKind) -> &'static [u8] {
-    match op {
-        OpKind::Rebalance => b"rebalance",
-        OpKind::Disable => b"disable",
-        OpKind::Eject => b"eject",
-        OpKind::Surprise => b"surprise",
-        OpKind::Finish => b"finish",
-        OpKind::Change => b"change",
+    match InstancePath::read(alloc, path.bytes()) {
+        Ok(path) => match tree.find(&path) {
+            Some(serial) => Ok(tree.node(serial)),
+            None => Ok(None),
+        },
+        Err(PathError::WantOfMemory) => Err(AllocError),
+        Err(_) => Ok(None),
     }
 }
 

@@ -1,6 +1,4 @@
 //! Notes on what holds the places that a device needs.
-ghost use Rattle.std.specs.Prelude.{◌≡◌, ◌≢◌, ◌≤◌, ◌<◌, ◌%◌, ℕ, IfSome};
-
 use crate::facts::Facts;
 use crate::lines::Lines;
 use crate::texts::want_text;
@@ -80,11 +78,7 @@ fn holders_of(
 }
 
 /// The least number that a want may begin at, if it is below 2^64.
-#[tactic(auto, using(crate::proofs::Aligning::unaligned_before, crate::proofs::Aligning::aligned_there))]
-fn first_of(want: &Want) -> Option<u64>
-    ensures found { IfSome result (λ first. (want.now.min ≤ first) × (first % want.now.align ≡ 0)) }
-    ensures least { IfSome result (λ first. (t : ℕ) → want.now.min ≤ t → t < first → t % want.now.align ≢ 0) }
-{
+fn first_of(want: &Want) -> Option<u64> {
     if want.align == 0 {
         return None;
     }
@@ -118,19 +112,6 @@ fn tell_holders(alloc: Global, holders: &Holders, lines: &mut Lines) -> Result<(
         lines.add(b" more")?;
     }
     lines.say(alloc, b".")
-}
-
-/// Tells who holds some of a range that is to be reserved.
-pub fn tell_range(
-    alloc: Global,
-    facts: &Facts,
-    tree: &Tree,
-    range: &Res,
-    lines: &mut Lines,
-) -> Result<(), WantOfMemory> {
-    lines.add(&res_text(alloc, range)?)?;
-    let holders = holders_of(alloc, facts, tree, u64::MAX, range)?;
-    tell_holders(alloc, &holders, lines)
 }
 
 /// Tells who holds some of what a want may come from.

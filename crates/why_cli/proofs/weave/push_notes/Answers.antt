@@ -1,9 +1,5 @@
-use Rattle.std.proofs.Common.{◌∙◌, ◌++◌, ap}
-use Rattle.why_cli.specs.Woven.{note_lines}
-use Rattle.why_cli.proofs.Weaving.{notes_more}
+use Rattle.why_cli.proofs.Weaving.{notes_note}
 use Rattle.why_cli.proofs.weave.push_notes.Goals as goal
 
-pub returns-clause-notes : goal.returns-clause-notes
-returns-clause-notes c = λ lines has.
-    notes_more lines c.args.text.now.items c.push_all.new.text.items c.args.notes.now.lines
-    (c.in_ok-push_all.ensures ∙ ap (λ x. c.args.text.now.items ++ note_lines x) c.all.ensures) has
+pub notes-preserved : goal.notes-preserved
+notes-preserved c = λ lines has. notes_note lines c.notes.text.items c.push_note.new.text.items _ c.in_ok-push_note.ensures (c.notes.invariant lines has)
