@@ -1,14 +1,14 @@
 -- Which places stand in a chain, once a value was put in or taken out, and that no place stands there twice.
-use Rattle.std.proofs.Common.{◌≡◌, ◌≢◌, ℕ, zero, suc, ◌<◌, ◌+◌, ◌-◌, ◌^◌, Bool, true, false, cond, eqb, List, [], ◌∷◌, length, replicate, Option, Some, None, Contains, IfSome, get_or, set, refl, sym, ◌∙◌, ap, subst, arith, length-set, inl, inr}
+use Rattle.std.proofs.Common.{◌≡◌, ◌≢◌, ℕ, zero, suc, ◌<◌, ◌+◌, ◌^◌, Bool, true, false, cond, eqb, List, [], ◌∷◌, length, Option, Some, None, Contains, IfSome, get_or, set, refl, sym, ◌∙◌, ap, subst, arith, length-set, inl, inr}
 use Rattle.std.proofs.Math.ListN.{length-map}
 use Rattle.std.proofs.lemmas.List.{get_or-set_same, get_or-set_other}
 use Rattle.std.proofs.lemmas.Bool.{cases_eq}
-use Rattle.node_pool.specs.Chains.{Apart, Chains, Stands, chain, held, places, first_of, after_of, inserted_behind, inserted, without_place}
+use Rattle.node_pool.specs.Chains.{Each, Apart, Chains, Stands, chain, places, first_of, after_of, inserted_behind, inserted, without_place}
 use Rattle.node_pool.specs.Places.{place_number}
-use Rattle.node_pool.specs.Rings.{IsPool, all_along, total}
+use Rattle.node_pool.specs.Rings.{IsPool, all_along}
 use Rattle.node_pool.specs.declared.pool.Place.{Place}
 use Rattle.node_pool.proofs.Reading.{places_listed, two_of_total}
-use Rattle.node_pool.proofs.Viewed.{chain_is, length-all_along}
+use Rattle.node_pool.proofs.Viewed.{chain_is}
 
 module _ {T : Type 0} where
   more : (x : ℕ × T) (xs : List (ℕ × T)) (k : ℕ) → Contains (places xs) k → Contains (places (x ∷ xs)) k
@@ -122,45 +122,9 @@ module _ {T : Type 0} where
   pub few_in : (next prev : List ℕ) (values : List (Option T)) (chains spare : ℕ) (p : IsPool next prev values chains spare) (v : Chains T)
       → all_along next values 0 chains ≡ v.chains → (c : ℕ) → c < chains → length (chain v c) + spare < 2 ^ 32
   few_in next prev values chains spare p v is c within =
-      let count = p.count in let free = p.free in let filled = p.all in let small = p.small in
+      let count = p.count in let free = p.free in let few = p.few in let small = p.small in
       let nodes : places (get_or v.chains c []) ≡ get_or p.rings c [] =
       ap (λ l. places (get_or l c [])) (sym is) ∙ ap places (chain_is next prev values chains spare p c within []) ∙ places_listed values (get_or p.rings c []) (p.full c within) in
       let same : length (chain v c) ≡ length (get_or p.rings c []) = sym (length-map (chain v c) (λ (x : ℕ × T). x.0)) ∙ ap length nodes in
       let both = two_of_total p.rings c chains (omega arith) (omega arith) (λ s. omega arith) in
       omega arith
-
-  -- the rings of the chains, and the one of the spare nodes
-  total_held : (rings : List (List ℕ)) (cs : List (List (ℕ × T))) → length rings ≡ length cs + 1 → ((c : ℕ) → c < length cs → length (get_or cs c []) ≡ length (get_or rings c []))
-      → total rings ≡ held cs + length (get_or rings (length cs) [])
-  total_held [] cs long same = absurd (omega arith)
-  total_held (r ∷ []) [] long same = omega arith
-  total_held (r ∷ s ∷ rs) [] long same = absurd (omega arith)
-  total_held (r ∷ rs) (x ∷ xs) long same =
-      let first = same 0 (omega arith) in
-      let more = total_held rs xs (omega arith) (λ c within. same (suc c) (omega arith)) in
-      omega arith
-
-  -- each node is the end of a chain, that of the spare ones, holds a value, or is spare
-  pub nodes_in : (next prev : List ℕ) (values : List (Option T)) (chains spare : ℕ) (p : IsPool next prev values chains spare) (v : Chains T)
-      → all_along next values 0 chains ≡ v.chains → length next ≡ length v.chains + 1 + held v.chains + spare
-  nodes_in next prev values chains spare p v is =
-      let count = p.count in let free = p.free in let filled = p.all in
-      let long : length v.chains ≡ chains = sym (ap length is) ∙ length-all_along next values 0 chains in
-      let same : (c : ℕ) → c < length v.chains → length (get_or v.chains c []) ≡ length (get_or p.rings c []) =
-      λ c within.
-      let nodes : places (get_or v.chains c []) ≡ get_or p.rings c [] =
-      ap (λ l. places (get_or l c [])) (sym is) ∙ ap places (chain_is next prev values chains spare p c (omega arith) []) ∙ places_listed values (get_or p.rings c []) (p.full c (omega arith)) in
-      sym (length-map (chain v c) (λ (x : ℕ × T). x.0)) ∙ ap length nodes in
-      let all = total_held p.rings v.chains (omega arith) same in
-      let last : length (get_or p.rings (length v.chains) []) ≡ spare = ap (λ c. length (get_or p.rings c [])) long ∙ free in
-      omega arith
-
-  -- so there is room for one more where these are few
-  pub one_fits : (next prev : List ℕ) (values : List (Option T)) (chains spare : ℕ) (p : IsPool next prev values chains spare) (v : Chains T)
-      → all_along next values 0 chains ≡ v.chains → spare ≡ v.spare → length v.chains + held v.chains + v.spare < 2 ^ 32 - 2 → length next + 1 < 2 ^ 32
-  one_fits next prev values chains spare p v is same few = let all = nodes_in next prev values chains spare p v is in omega arith
-
--- empty chains hold nothing
-pub held_none : (T : Type 0) (n : ℕ) → held {T = T} (replicate n []) ≡ 0
-held_none T zero = refl
-held_none T (suc n) = let more = held_none T n in omega arith
