@@ -7,6 +7,7 @@ use Rattle.pnp_labels.specs.Texts.{Text}
 use Rattle.pnp_labels.specs.declared.words.Minor.{Minor}
 use Rattle.pnp_labels.specs.declared.words.RelKind.{RelKind}
 use Rattle.pnp_labels.specs.declared.event.Event.{Event}
+use Rattle.pnp_labels.specs.declared.deed.Deed.{Deed}
 use Rattle.pnp_labels.specs.declared.label.EventWord.{EventWord}
 use Rattle.pnp_labels.specs.declared.label.Reason.{Reason}
 use Rattle.device_ids.specs.Folding.{same as same_text}
@@ -59,10 +60,10 @@ listed_core None u = refl
 listed_core (Some n) u = refl
 
 -- an event that lists a node
-lists : (r : List Driver) (s u : State) (word : EventWord) (what : Text) (o : Option Node) → u.core ≡ s.core
-    → Moved s r (events.did word what (list_node o u)) (events.did word what (list_node o (with_rack r u)))
-lists r s u word what o e =
-    record { is = ap (λ (x : State). events.did word what x) (listed_over r o u); own = ap (λ (c : Core). c.rack) (listed_core o u ∙ e) }
+lists : (r : List Driver) (s u : State) (deed : Deed) (o : Option Node) → u.core ≡ s.core
+    → Moved s r (events.did deed (list_node o u)) (events.did deed (list_node o (with_rack r u)))
+lists r s u deed o e =
+    record { is = ap (λ (x : State). events.did deed x) (listed_over r o u); own = ap (λ (c : Core). c.rack) (listed_core o u ∙ e) }
 
 plugs : (s : State) (r : List Driver) (parent path : Text) (hw compat : List Text) (reqs : Reqs)
     → Moved s r (events.plugs s parent path hw compat reqs) (events.plugs (with_rack r s) parent path hw compat reqs)
@@ -71,13 +72,13 @@ plugs s r parent path hw compat reqs =
     guard s r (is_some (device_of path s.world)) _ _ _ _
     (guard s r (not (nat_le (length s.world) 4096)) _ _ _ _
     (let d : Device = record { born = s.next_born; parent = over.born; path = path; hw = hw; compat = compat; reqs = reqs } in
-    lists r s (states.plug d s) EventWord.Plug path (node_born over.born s.core.nodes) refl)))
+    lists r s (states.plug d s) (Deed.Plugged path) (node_born over.born s.core.nodes) refl)))
 
 pulls : (s : State) (r : List Driver) (path : Text) → Moved s r (events.pulls s path) (events.pulls (with_rack r s) path)
 pulls s r path =
     found s r (device_of path s.world) _ _ _ _ (λ d.
     guard s r (d.born == 0) _ _ _ _
-    (lists r s (states.unplug d.born s) EventWord.Pull d.path (node_born d.parent s.core.nodes) refl))
+    (lists r s (states.unplug d.born s) (Deed.Pulled d.path) (node_born d.parent s.core.nodes) refl))
 
 -- disable, enable and eject ----------------------------------------------------------------------
 
@@ -100,7 +101,7 @@ enables s r path =
     let u = states.enable_path path s in
     let o = node_of path s.core.nodes in
     found s r (find (same_text path) s.disabled) _ _ _ _ (λ own.
-    record { is = ap (λ (x : State). events.did EventWord.Enable own x) (started_over r o u); own = ap (λ (c : Core). c.rack) (started_core o u) })
+    record { is = ap (λ (x : State). events.did (Deed.Enabled own) x) (started_over r o u); own = ap (λ (c : Core). c.rack) (started_core o u) })
 
 ejects : (s : State) (r : List Driver) (path : Text) → Moved s r (events.ejects s path) (events.ejects (with_rack r s) path)
 ejects s r path =
@@ -147,9 +148,9 @@ opens s r path =
     (guard s r (not (is_started node.state)) _ _ _ _ (still s r _ refl))))
 
 finish_due : (s : State) (r : List Driver) (node : Node) (handles : List Handle) (b : Bool)
-    → Moved s r (events.did EventWord.HandleClose node.path (events.finish_due node b (events.with_handles handles s))) (events.did EventWord.HandleClose node.path (events.finish_due node b (events.with_handles handles (with_rack r s))))
-finish_due s r node handles true = still s r (events.did EventWord.HandleClose node.path (events.finish_due node true (events.with_handles handles s))) refl
-finish_due s r node handles false = still s r (events.did EventWord.HandleClose node.path (events.finish_due node false (events.with_handles handles s))) refl
+    → Moved s r (events.did (Deed.HandleClosed node.path) (events.finish_due node b (events.with_handles handles s))) (events.did (Deed.HandleClosed node.path) (events.finish_due node b (events.with_handles handles (with_rack r s))))
+finish_due s r node handles true = still s r (events.did (Deed.HandleClosed node.path) (events.finish_due node true (events.with_handles handles s))) refl
+finish_due s r node handles false = still s r (events.did (Deed.HandleClosed node.path) (events.finish_due node false (events.with_handles handles s))) refl
 
 closes : (s : State) (r : List Driver) (path : Text) → Moved s r (events.closes s path) (events.closes (with_rack r s) path)
 closes s r path =

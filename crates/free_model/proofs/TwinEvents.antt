@@ -6,6 +6,7 @@ use Rattle.pnp_labels.specs.declared.words.DriverKind.{DriverKind}
 use Rattle.pnp_labels.specs.declared.words.DriverKind.TheVariants.{Scripted, Steady, Stubborn}
 use Rattle.pnp_labels.specs.declared.event.Rule.{Rule}
 use Rattle.pnp_labels.specs.declared.event.Event.{Event}
+use Rattle.pnp_labels.specs.declared.deed.Deed.{Deed}
 use Rattle.pnp_labels.specs.declared.label.EventWord.{EventWord}
 use Rattle.pnp_labels.specs.declared.label.Label.{Label}
 use Rattle.pnp_labels.specs.declared.label.Reason.{Reason}
@@ -141,7 +142,7 @@ teaches s r name rule h =
     guard s r (not (is_scripted d.kind)) (not (is_scripted c.kind)) (ap (λ (x : Shape). not (is_scripted x.kind)) shown) _ _ _ _ h (λ kind.
     guard s r (nat_le 64 (length d.book)) (nat_le 64 (length c.book)) (ap (nat_le 64) (rules_of d c shown (not_not (is_scripted d.kind) kind))) _ _ _ _ h (λ room.
     record {
-      label = ap (λ (x : Shape). Label.Did EventWord.Teach (printed_name x.name)) shown;
+      label = ap (λ (x : Shape). Label.Did (Deed.Taught (printed_name x.name))) shown;
       state = record { rack = changed_first (is_named name) (with_rule rule) r; is = refl; shape = changed_same (λ x. name_is name x.name) (with_rule rule) counts_more (taught_shape rule) r s.core.rack h };
     })))
 

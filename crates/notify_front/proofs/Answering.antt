@@ -4,6 +4,7 @@ use Rattle.std.specs.List.{list_any}
 use Rattle.std.proofs.lemmas.Bool.Decides.{nat_tests}
 use Rattle.std.proofs.lemmas.Slice.Eq.{bytes_eq-Decides}
 use Rattle.pnp_labels.specs.Texts.{Text}
+use Rattle.pnp_labels.specs.declared.deed.Deed.{Deed}
 use Rattle.pnp_labels.specs.declared.label.EventWord.{EventWord}
 use Rattle.pnp_labels.specs.declared.label.Label.{Label}
 use Rattle.pnp_labels.specs.declared.label.Reason.{Reason}
@@ -15,7 +16,7 @@ use Rattle.pnp_model.specs.Tests.{is_started}
 use Rattle.devnode_tree.specs.Trees.{Ascends}
 use Rattle.pnp_machine.proofs.EventSteps.{FoundAt, found_at}
 use Rattle.pnp_machine.specs.Managers.{Manager}
-use Rattle.notify_front.specs.Fronts.{Answered, Front, Hand, Registration, comes_after, is_of, says, unwatch_at, unwatch_idle, unwatch_old, watch_at, watch_idle, watch_new, watch_up}
+use Rattle.notify_front.specs.Fronts.{Answered, Front, Hand, Registration, comes_after, is_of, unwatch_at, unwatch_idle, unwatch_old, watch_at, watch_idle, watch_new, watch_up}
 use Rattle.notify_front.specs.Desks.{Desk, IsAnswered, front_of}
 use Rattle.notify_front.proofs.DeskMoves.{desk_of}
 
@@ -135,22 +136,22 @@ module _ (m : Manager) (rs : List Registration) (h : Hand) (d : Desk) (is : desk
       pub watch_same : list_any (is_of client k) rs ≡ true → Watched agrees (Label.Refused EventWord.Watch Reason.SameWatch) (front_of d)
       watch_same same = watched agrees (Label.Refused EventWord.Watch Reason.SameWatch) (front_of d) (watch_new f client x agrees true) (up_is true same) (refl, as_before)
 
-      pub watch_done : (what : Text) (rs' : List Registration) → list_any (is_of client k) rs ≡ false → what ≡ says client x →
-          rs' ≡ put_before (comes_after k) (record { client = client; device = k; path = x.path; agrees = agrees }) rs → Watched agrees (Label.Did EventWord.Watch what) (front_of (desk_of m rs' h))
-      watch_done what rs' new spelled put =
-          watched agrees (Label.Did EventWord.Watch what) (front_of (desk_of m rs' h)) (watch_new f client x agrees false) (up_is false new) (
-            ap (Label.Did EventWord.Watch) spelled,
+      pub watch_done : (deed : Deed) (rs' : List Registration) → list_any (is_of client k) rs ≡ false → deed ≡ Deed.Watched client x.path →
+          rs' ≡ put_before (comes_after k) (record { client = client; device = k; path = x.path; agrees = agrees }) rs → Watched agrees (Label.Did deed) (front_of (desk_of m rs' h))
+      watch_done deed rs' new spelled put =
+          watched agrees (Label.Did deed) (front_of (desk_of m rs' h)) (watch_new f client x agrees false) (up_is false new) (
+            ap (λ (d : Deed). Label.Did d) spelled,
             ap (λ (l : List Registration). front_of (desk_of m l h))
                 (put ∙ ap (λ i. put_before (comes_after i) (record { client = client; device = i; path = x.path; agrees = agrees }) rs) (sym own)),
           )
 
-    pub unwatch_done : (what : Text) (rs' : List Registration) → list_any (is_of client k) rs ≡ true → what ≡ says client x → rs' ≡ without_first (is_of client k) rs →
-        Unwatched (Label.Did EventWord.Unwatch what) (front_of (desk_of m rs' h))
-    unwatch_done what rs' old spelled left =
+    pub unwatch_done : (deed : Deed) (rs' : List Registration) → list_any (is_of client k) rs ≡ true → deed ≡ Deed.Unwatched client x.path → rs' ≡ without_first (is_of client k) rs →
+        Unwatched (Label.Did deed) (front_of (desk_of m rs' h))
+    unwatch_done deed rs' old spelled left =
         let r = found_some (is_of client k) rs old in
         let same = same_of client k r.one r.passes in
-        unwatched (Label.Did EventWord.Unwatch what) (front_of (desk_of m rs' h)) (unwatch_old f client x (Some r.one)) (unwatch_is x here own ∙ ap (unwatch_old f client x) r.found) (
-          ap (Label.Did EventWord.Unwatch) spelled,
+        unwatched (Label.Did deed) (front_of (desk_of m rs' h)) (unwatch_old f client x (Some r.one)) (unwatch_is x here own ∙ ap (unwatch_old f client x) r.found) (
+          ap (λ (d : Deed). Label.Did d) spelled,
           ap (λ (l : List Registration). front_of (desk_of m l h))
               (left ∙ ap (λ c. without_first (is_of c k) rs) (sym same.client_is) ∙ ap (λ i. without_first (is_of r.one.client i) rs) (sym same.device_is)),
         )

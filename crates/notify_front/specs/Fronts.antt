@@ -13,13 +13,14 @@ use Rattle.pnp_model.specs.Machine.{next, due}
 use Rattle.pnp_model.specs.Runs.{Entry, printed}
 use Rattle.pnp_model.specs.Records.{Node, State, Step, Settings, Operation, Found, Doing, doing_map, Beginning}
 use Rattle.pnp_model.specs.Records.Doing.{Does, Searches}
-use Rattle.pnp_labels.specs.Texts.{Text, spaced}
+use Rattle.pnp_labels.specs.Texts.{Text}
 use Rattle.pnp_labels.specs.declared.event.Event.{Event}
 use Rattle.pnp_labels.specs.declared.label.EventWord.{EventWord}
 use Rattle.pnp_labels.specs.declared.label.Reason.{Reason}
 use Rattle.pnp_labels.specs.declared.label.OpKind.{OpKind}
 use Rattle.pnp_labels.specs.declared.label.OpEnd.{OpEnd}
 use Rattle.pnp_labels.specs.declared.label.NoticeKind.{NoticeKind}
+use Rattle.pnp_labels.specs.declared.deed.Deed.{Deed}
 use Rattle.pnp_labels.specs.declared.label.Label.{Label}
 
 -- a client is registered on a device, and agrees to its removal or not. The path is kept, since the device may have left
@@ -211,9 +212,6 @@ pub record Answered : Type 0 where
 abbrev pub refuses : EventWord → Reason → Front → Answered
 refuses word reason f = record { label = Label.Refused word reason; front = f }
 
-abbrev pub says : Text → Node → Text
-says client node = spaced (client ∷ node.path ∷ [])
-
 abbrev pub registration : Text → Node → Bool → Registration
 registration client node agrees = record { client = client; device = node.serial; path = node.path; agrees = agrees }
 
@@ -222,7 +220,7 @@ abbrev pub watch_new : Front → Text → Node → Bool → Bool → Answered
 watch_new f client node agrees true = refuses EventWord.Watch Reason.SameWatch f
 watch_new f client node agrees false =
     record {
-      label = Label.Did EventWord.Watch (says client node);
+      label = Label.Did (Deed.Watched client node.path);
       front = record f { registrations = put_before (comes_after node.serial) (registration client node agrees) f.registrations };
     }
 
@@ -242,7 +240,7 @@ watch_at f client agrees (Some node) = watch_idle f client node agrees f.state.o
 abbrev pub unwatch_old : Front → Text → Node → Option Registration → Answered
 unwatch_old f client node None = refuses EventWord.Unwatch Reason.NoWatch f
 unwatch_old f client node (Some r) =
-    record { label = Label.Did EventWord.Unwatch (says client node); front = without r f }
+    record { label = Label.Did (Deed.Unwatched client node.path); front = without r f }
 
 abbrev pub unwatch_idle : Front → Text → Node → Option Operation → Answered
 unwatch_idle f client node (Some o) = refuses EventWord.Unwatch Reason.Busy f

@@ -3,16 +3,13 @@ ghost use Rattle.pnp_labels.specs.declared.label.Label.TheVariants as Label;
 ghost use Rattle.pnp_model.specs.States.{node_of};
 ghost use Rattle.pnp_model.specs.Tests.{is_started};
 ghost use Rattle.notify_front.specs.Desks.{IsAnswered, IsFrontDone, front_of, is_of_client, machine_events};
-ghost use Rattle.notify_front.specs.Fronts.{front_happens, says, watch_at, unwatch_at};
+ghost use Rattle.notify_front.specs.Fronts.{front_happens, watch_at, unwatch_at};
 
 use crate::desk::Desk;
 use crate::registration::Registration;
 use device_ids::{InstancePath, Text, WantOfMemory};
-use devnode_tree::Node;
 use driver_rack::Drivers;
-use pnp_labels::spaced::two;
-use pnp_labels::{DevState, Event, EventWord, Label, Reason};
-use std::alloc::Global;
+use pnp_labels::{Deed, DevState, Event, EventWord, Label, Reason};
 
 /// The label of an event that is refused.
 fn refusal(word: EventWord, reason: Reason) -> Label
@@ -26,15 +23,6 @@ fn is_started(state: DevState) -> bool
     ensures { result ≡ is_started state }
 {
     matches!(state, DevState::Started)
-}
-
-/// What the label of a client's event says: the client, and the device's path as the tree spells it.
-fn says(alloc: Global, client: &Text, node: &Node) -> Result<Text, WantOfMemory>
-    ensures { IfOk result (λ what. what ≡ says client.now node.now) }
-{
-    let mut line = Vec::new(alloc);
-    two(&mut line, client.bytes(), node.path.bytes())?;
-    Text::make(alloc, &line)
 }
 
 impl<R: Drivers> Desk<R> {
@@ -63,7 +51,10 @@ impl<R: Drivers> Desk<R> {
         if self.registrations.has(&client, device) {
             return Ok(refusal(word, Reason::SameWatch));
         }
-        let what = says(self.alloc, &client, node)?;
+        let deed = Deed::Watched {
+            client: client.copy(self.alloc)?,
+            path: node.path.text(self.alloc)?,
+        };
         let path = node.path.text(self.alloc)?;
         self.registrations.put(Registration {
             client,
@@ -71,7 +62,7 @@ impl<R: Drivers> Desk<R> {
             path,
             agrees,
         })?;
-        Ok(Label::Did { word, what })
+        Ok(Label::Did(deed))
     }
 
     /// A client is to hear no more of a device.
@@ -94,9 +85,11 @@ impl<R: Drivers> Desk<R> {
         if !self.registrations.has(client, device) {
             return Ok(refusal(word, Reason::NoWatch));
         }
-        let what = says(self.alloc, client, self.manager.tree().at(device))?;
+        let node = self.manager.tree().at(device);
+        let path = node.path.text(self.alloc)?;
+        let name = client.copy(self.alloc)?;
         self.registrations.take(client, device);
-        Ok(Label::Did { word, what })
+        Ok(Label::Did(Deed::Unwatched { client: name, path }))
     }
 
     /// An event of a client happens, as the front's definition says: it changes the registrations alone. Condition: it is one of

@@ -14,6 +14,7 @@ use Rattle.pnp_labels.specs.declared.label.Shown.{Shown}
 use Rattle.pnp_labels.specs.declared.label.TaskKind.{TaskKind}
 use Rattle.pnp_labels.specs.declared.label.OpKind.{OpKind}
 use Rattle.pnp_labels.specs.declared.label.OpEnd.{OpEnd}
+use Rattle.pnp_labels.specs.declared.deed.Deed.{Deed}
 use Rattle.pnp_labels.specs.declared.label.Label.{Label}
 
 -- a text is its bytes
@@ -173,9 +174,28 @@ res_text res = range_text res.kind res.lo res.hi ++ share_text res.shared
 abbrev pub rank_text : ℕ → Text
 rank_text n = replicate (8 - length (digits 16 false n)) 48 ++ digits 16 false n
 
+-- which event was taken, and what was done
+abbrev pub deed_words : Deed → List Text
+deed_words (Deed.Plugged path) = word_text EventWord.Plug ∷ path ∷ []
+deed_words (Deed.Pulled path) = word_text EventWord.Pull ∷ path ∷ []
+deed_words (Deed.Named driver) = word_text EventWord.Name ∷ driver ∷ []
+deed_words (Deed.Taught driver) = word_text EventWord.Teach ∷ driver ∷ []
+deed_words (Deed.Disabled path) = word_text EventWord.Disable ∷ path ∷ []
+deed_words (Deed.Enabled path) = word_text EventWord.Enable ∷ path ∷ []
+deed_words (Deed.Ejected path) = word_text EventWord.Eject ∷ path ∷ []
+deed_words (Deed.Related kind owner member) = word_text EventWord.Relate ∷ owner ∷ member ∷ []
+deed_words (Deed.Reserved res) = word_text EventWord.Reserve ∷ res_text res ∷ []
+deed_words (Deed.Completed path minor shown) = word_text EventWord.Complete ∷ path ∷ minor_text minor ∷ shown_text shown ∷ []
+deed_words (Deed.HandleOpened path) = word_text EventWord.HandleOpen ∷ path ∷ []
+deed_words (Deed.HandleClosed path) = word_text EventWord.HandleClose ∷ path ∷ []
+deed_words (Deed.Windowed path res) = word_text EventWord.Window ∷ path ∷ res_text res ∷ []
+deed_words (Deed.Changed path) = word_text EventWord.Change ∷ path ∷ []
+deed_words (Deed.Watched client path) = word_text EventWord.Watch ∷ client ∷ path ∷ []
+deed_words (Deed.Unwatched client path) = word_text EventWord.Unwatch ∷ client ∷ path ∷ []
+
 -- the line of a label, without its end
 abbrev pub label_line : Label → Text
-label_line (Label.Did word what) = spaced (codes "event" ∷ word_text word ∷ what ∷ [])
+label_line (Label.Did deed) = spaced (codes "event" ∷ deed_words deed)
 label_line (Label.Refused word reason) = spaced (codes "refused" ∷ word_text word ∷ reason_text reason ∷ [])
 label_line (Label.Skip task serial) = spaced (codes "skip" ∷ task_text task ∷ decimal serial ∷ [])
 label_line (Label.Join serial path) = spaced (codes "join" ∷ decimal serial ∷ path ∷ [])

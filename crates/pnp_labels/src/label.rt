@@ -1,3 +1,4 @@
+use crate::deed::Deed;
 use crate::states::{DevState, Problem};
 use crate::words::Minor;
 use device_ids::{InstancePath, Text};
@@ -166,11 +167,8 @@ pub enum NoticeKind {
 
 /// What a step of the machine prints: one line of the trace. This project's own.
 pub enum Label {
-    /// An event was taken.
-    Did {
-        word: EventWord,
-        what: Text,
-    },
+    /// An event was taken, and this was done.
+    Did(Deed),
     /// An event was refused.
     Refused {
         word: EventWord,
@@ -289,7 +287,7 @@ pub enum Label {
 impl Drop for Label {
     fn drop(self) {
         match self {
-            Label::Did { word: _, what: _ } => {}
+            Label::Did(_) => {}
             Label::Refused { word: _, reason: _ } => {}
             Label::Skip { task: _, serial: _ } => {}
             Label::Join { serial: _, path: _ } => {}

@@ -1,6 +1,7 @@
 //! The words of the manager: requests, states, problems, events and labels, and the line of each label.
 #![tactic(auto)]
 
+mod deed;
 mod digits;
 mod event;
 mod label;
@@ -11,6 +12,7 @@ mod states;
 mod texts;
 mod words;
 
+pub use deed::Deed;
 pub use digits::push_decimal;
 pub use event::{Ask, Event, Rule};
 pub use label::{EventWord, Label, NoticeKind, OpEnd, OpKind, Reason, RemoveStep, Shown, TaskKind};

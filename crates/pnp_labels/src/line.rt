@@ -1,15 +1,17 @@
 ghost use Rattle.std.specs.Prelude.{◌≡◌, ◌++◌, ◌∷◌, [], IfOk, OnOk, map, string_bytes, false, codes};
 ghost use Rattle.std.specs.Fmt.{decimal, digits};
-ghost use Rattle.pnp_labels.specs.Texts.{label_line, res_text, spaced, range_text, hex, ok_text, end_text};
+ghost use Rattle.pnp_labels.specs.Texts.{label_line, word_text, res_text, spaced, range_text, hex, ok_text, end_text};
 
+use crate::deed::Deed;
 use crate::digits::{decimal_in, push_decimal, push_hexadecimal, rank_in};
-use crate::label::{Label, NoticeKind, OpEnd, OpKind, TaskKind};
+use crate::label::{EventWord, Label, NoticeKind, OpEnd, OpKind, Shown, TaskKind};
 use crate::spaced::{four, three, two};
 use crate::texts::{
     minor_text, notice_text, op_text, problem_text, reason_text, shown_text, state_text, task_text,
     word_text,
 };
-use device_ids::WantOfMemory;
+use crate::words::Minor;
+use device_ids::{Text, WantOfMemory};
 use resource_reqs::{Kind, Res, ResList};
 use std::alloc::Global;
 
@@ -117,6 +119,86 @@ fn push_end(line: &mut Vec<u8>, op: OpKind, path: &[u8], end: &OpEnd) -> Result<
     push_end_text(line, end)
 }
 
+/// Appends which event was taken, and the first word of what was done.
+fn push_event(line: &mut Vec<u8>, word: EventWord, first: &Text) -> Result<(), WantOfMemory>
+    ensures { OnOk result (line.new.items ≡ line.old.items ++ spaced (codes "event" ∷ word_text word ∷ first.now ∷ [])) }
+{
+    three(line, b"event", word_text(word), first.bytes())
+}
+
+/// Appends which event was taken, and the two words of what was done.
+fn push_event_of_two(
+    line: &mut Vec<u8>,
+    word: EventWord,
+    first: &Text,
+    second: &Text,
+) -> Result<(), WantOfMemory>
+    ensures { OnOk result (line.new.items ≡ line.old.items ++ spaced (codes "event" ∷ word_text word ∷ first.now ∷ second.now ∷ [])) }
+{
+    let (first, second) = (first.bytes(), second.bytes());
+    four(line, b"event", word_text(word), first, second)
+}
+
+/// Appends that a pended request got its answer.
+fn push_completed(
+    line: &mut Vec<u8>,
+    path: &Text,
+    minor: Minor,
+    shown: Shown,
+) -> Result<(), WantOfMemory>
+    ensures { OnOk result (line.new.items ≡ line.old.items ++ label_line (Label.Did (Deed.Completed path.now minor shown))) }
+{
+    push_event(line, EventWord::Complete, path)?;
+    line.push(b' ')?;
+    two(line, minor_text(minor), shown_text(shown))
+}
+
+/// Appends that a range was reserved.
+fn push_reserved(line: &mut Vec<u8>, res: &Res) -> Result<(), WantOfMemory>
+    ensures { OnOk result (line.new.items ≡ line.old.items ++ label_line (Label.Did (Deed.Reserved res.now))) }
+{
+    two(line, b"event", word_text(EventWord::Reserve))?;
+    line.push(b' ')?;
+    push_res(line, res)
+}
+
+/// Appends that a device passes on only what lies in a range.
+fn push_windowed(line: &mut Vec<u8>, path: &Text, res: &Res) -> Result<(), WantOfMemory>
+    ensures { OnOk result (line.new.items ≡ line.old.items ++ label_line (Label.Did (Deed.Windowed path.now res.now))) }
+{
+    push_event(line, EventWord::Window, path)?;
+    line.push(b' ')?;
+    push_res(line, res)
+}
+
+/// Appends that an event was taken, and what was done.
+fn push_deed(line: &mut Vec<u8>, deed: &Deed) -> Result<(), WantOfMemory>
+    ensures { OnOk result (line.new.items ≡ line.old.items ++ label_line (Label.Did deed.now)) }
+{
+    match deed {
+        Deed::Plugged { path } => push_event(line, EventWord::Plug, path),
+        Deed::Pulled { path } => push_event(line, EventWord::Pull, path),
+        Deed::Named { driver } => push_event(line, EventWord::Name, driver),
+        Deed::Taught { driver } => push_event(line, EventWord::Teach, driver),
+        Deed::Disabled { path } => push_event(line, EventWord::Disable, path),
+        Deed::Enabled { path } => push_event(line, EventWord::Enable, path),
+        Deed::Ejected { path } => push_event(line, EventWord::Eject, path),
+        Deed::Related { owner, member, .. } => {
+            push_event_of_two(line, EventWord::Relate, owner, member)
+        }
+        Deed::Reserved { res } => push_reserved(line, res),
+        Deed::Completed { path, minor, shown } => push_completed(line, path, *minor, *shown),
+        Deed::HandleOpened { path } => push_event(line, EventWord::HandleOpen, path),
+        Deed::HandleClosed { path } => push_event(line, EventWord::HandleClose, path),
+        Deed::Windowed { path, res } => push_windowed(line, path, res),
+        Deed::Changed { path } => push_event(line, EventWord::Change, path),
+        Deed::Watched { client, path } => push_event_of_two(line, EventWord::Watch, client, path),
+        Deed::Unwatched { client, path } => {
+            push_event_of_two(line, EventWord::Unwatch, client, path)
+        }
+    }
+}
+
 fn push_skip(line: &mut Vec<u8>, task: TaskKind, serial: u64) -> Result<(), WantOfMemory>
     ensures { OnOk result (line.new.items ≡ line.old.items ++ label_line (Label.Skip task serial)) }
 {
@@ -178,7 +260,7 @@ fn push_words(line: &mut Vec<u8>, label: &Label) -> Result<(), WantOfMemory>
     ensures { OnOk result (line.new.items ≡ line.old.items ++ label_line label.now) }
 {
     match label {
-        Label::Did { word, what } => three(line, b"event", word_text(*word), what.bytes()),
+        Label::Did(deed) => push_deed(line, deed),
         Label::Refused { word, reason } => {
             three(line, b"refused", word_text(*word), reason_text(*reason))
         }

@@ -3,12 +3,13 @@ use Rattle.std.proofs.Common.{◌≡◌, ◌==◌, ◌&&◌, ◌||◌, Bool, tru
 use Rattle.std.specs.Prelude.{is_none, if◌then◌else◌}
 use Rattle.std.specs.List.{find, list_any}
 use Rattle.resource_reqs.specs.Resources.{Res, Reqs, clashes}
-use Rattle.pnp_labels.specs.Texts.{Text, res_text, spaced}
+use Rattle.pnp_labels.specs.Texts.{Text}
 use Rattle.pnp_labels.specs.declared.words.Minor.{Minor}
 use Rattle.pnp_labels.specs.declared.event.Rule.{Rule}
 use Rattle.pnp_labels.specs.declared.words.DriverKind.{DriverKind}
 use Rattle.pnp_labels.specs.declared.words.RelKind.{RelKind}
 use Rattle.pnp_labels.specs.declared.event.Event.{Event}
+use Rattle.pnp_labels.specs.declared.deed.Deed.{Deed}
 use Rattle.pnp_labels.specs.declared.label.EventWord.{EventWord}
 use Rattle.pnp_labels.specs.declared.label.OpKind.{OpKind}
 use Rattle.pnp_labels.specs.declared.label.Reason.{Reason}
@@ -64,15 +65,15 @@ module _ (s : State) (event : Event) where
   nothing : (word : EventWord) (reason : Reason) → Happened s event (ev.refused word reason s)
   nothing word reason = kept _ s tt refl refl refl refl refl refl refl refl refl refl (DriverEffect.same tt refl) (CommandEffect.same refl)
 
-  listed : (word : EventWord) (what : Text) (u : State) (o : Option Node) → u.next_serial ≡ s.next_serial → u.operation ≡ s.operation → u.activities ≡ s.activities → u.core ≡ s.core → u.tasks ≡ s.tasks → lasting u ≡ lasting s
-      → WorldEffect s (Happens event (Label.Did word what)) u → Happened s event (ev.did word what (list_node o u))
-  listed word what u None serial operation activities core tasks last world =
+  listed : (deed : Deed) (u : State) (o : Option Node) → u.next_serial ≡ s.next_serial → u.operation ≡ s.operation → u.activities ≡ s.activities → u.core ≡ s.core → u.tasks ≡ s.tasks → lasting u ≡ lasting s
+      → WorldEffect s (Happens event (Label.Did deed)) u → Happened s event (ev.did deed (list_node o u))
+  listed deed u None serial operation activities core tasks last world =
       outside _ u tt refl serial operation activities (ap (λ (c : Core). c.nodes) core) (NodeEffect.same (ap (λ (c : Core). c.nodes) core) (ap (λ (c : Core). c.relations) core)) (DriverEffect.same tt (ap (λ (c : Core). c.rack) core)) (RangeEffect.same (ap (λ (c : Core). c.reserved) core)) (CommandEffect.same tasks) world (PathEffect.same (same_paths s u last)) (WindowEffect.same (same_windows s u last)) (HandleEffect.same (same_handles s u last))
-  listed word what u (Some n) serial operation activities core tasks last world =
+  listed deed u (Some n) serial operation activities core tasks last world =
       outside _ (list_node (Some n) u) tt refl serial operation activities (ap (λ (c : Core). c.nodes) core) (NodeEffect.same (ap (λ (c : Core). c.nodes) core) (ap (λ (c : Core). c.relations) core)) (DriverEffect.same tt (ap (λ (c : Core). c.rack) core)) (RangeEffect.same (ap (λ (c : Core). c.reserved) core))
       (CommandEffect.lists n.serial (ap (λ (ts : List Task). ts ++ record { kind = Duty.Listing; serial = n.serial } ∷ []) tasks)) (by_world world) (PathEffect.same (same_paths s u last)) (WindowEffect.same (same_windows s u last)) (HandleEffect.same (same_handles s u last))
     where
-      by_world : WorldEffect s (Happens event (Label.Did word what)) u → WorldEffect s (Happens event (Label.Did word what)) (list_node (Some n) u)
+      by_world : WorldEffect s (Happens event (Label.Did deed)) u → WorldEffect s (Happens event (Label.Did deed)) (list_node (Some n) u)
       by_world (WorldEffect.same a b) = WorldEffect.same a b
       by_world (WorldEffect.plugged d plugs a b) = WorldEffect.plugged d plugs a b
       by_world (WorldEffect.changed n path reqs label at up is there e a b) = WorldEffect.changed n path reqs label at up is there e a b
@@ -91,21 +92,21 @@ module _ (s : State) (event : Event) where
       guard (is_some (device_of path s.world)) _ _ _ (λ fresh.
       guard (not (nat_le (length s.world) 4096)) _ _ _ (λ few.
       let d : Device = record { born = s.next_born; parent = over.born; path = path; hw = hw; compat = compat; reqs = reqs } in
-      let label = Label.Did EventWord.Plug path in
-      listed _ _ (plug d s) (node_born over.born s.core.nodes) refl refl refl refl refl refl
+      let label = Label.Did (Deed.Plugged path) in
+      listed _ (plug d s) (node_born over.born s.core.nodes) refl refl refl refl refl refl
       (WorldEffect.plugged d (record { over = over; parent = parent; label = label; there = there; under = refl; born = refl; room = not_not (nat_le (length s.world) 4096) few; event = ap (λ (e : Event). Happens e label) is }) refl refl))))
 
   pulls : (path : Text) → Happened s event (ev.pulls s path)
   pulls path =
       found (device_of path s.world) _ _ _ (λ d there.
       guard (d.born == 0) _ _ _ (λ up.
-      listed _ _ (unplug d.born s) (node_born d.parent s.core.nodes) refl refl refl refl refl refl (WorldEffect.unplugged d.born (d, path, there, refl, up) refl refl)))
+      listed _ (unplug d.born s) (node_born d.parent s.core.nodes) refl refl refl refl refl refl (WorldEffect.unplugged d.born (d, path, there, refl, up) refl refl)))
 
   names : (name : Text) (kind : DriverKind) → event ≡ Event.Name name kind → Happened s event (ev.names s name kind)
   names name kind is =
       guard (is_some (find (is_named name) s.core.rack)) _ _ _ (λ fresh.
       guard (is_none (find (is_unnamed kind) s.core.rack)) _ _ _ (λ free.
-      kept _ _ tt refl refl refl refl refl refl refl refl refl refl (DriverEffect.named kind name _ (ap (λ (e : Event). Happens e (Label.Did EventWord.Name name)) is) tt refl) (CommandEffect.same refl)))
+      kept _ _ tt refl refl refl refl refl refl refl refl refl refl (DriverEffect.named kind name _ (ap (λ (e : Event). Happens e (Label.Did (Deed.Named name))) is) tt refl) (CommandEffect.same refl)))
 
   teaches : (name : Text) (rule : Rule) → Happened s event (ev.teaches s name rule)
   teaches name rule =
@@ -124,7 +125,7 @@ module _ (s : State) (event : Event) where
   enables : (path : Text) → Happened s event (ev.enables s path)
   enables path = found (find (folding.same path) s.disabled) _ _ _ (λ own there. started own (node_of path s.core.nodes) refl)
     where
-      started : (own : Text) (o : Option Node) → node_of path s.core.nodes ≡ o → Happened s event (ev.did EventWord.Enable own (ev.start_node o (enable_path path s)))
+      started : (own : Text) (o : Option Node) → node_of path s.core.nodes ≡ o → Happened s event (ev.did (Deed.Enabled own) (ev.start_node o (enable_path path s)))
       started own None e = outside _ _ tt refl refl refl refl refl (NodeEffect.same refl refl) (DriverEffect.same tt refl) (RangeEffect.same refl) (CommandEffect.same refl) (WorldEffect.same refl refl) (PathEffect.enables path refl) (WindowEffect.same refl) (HandleEffect.same refl)
       started own (Some n) e =
           outside _ _ tt refl refl refl refl refl (NodeEffect.same refl refl) (DriverEffect.same tt refl) (RangeEffect.same refl) (CommandEffect.starts path n (record { at = e; stays = refl }) refl)
@@ -178,7 +179,7 @@ module _ (s : State) (event : Event) where
       guard (has_below d.born s.world || ev.has_children s.core.nodes (node_born d.born s.core.nodes)) _ _ _ (λ childless.
       guard (list_any (is_window_on res.kind (d.born ∷ [])) s.windows) _ _ _ (λ first.
       let neither = or_neither (has_below d.born s.world) (ev.has_children s.core.nodes (node_born d.born s.core.nodes)) childless in
-      let label = Label.Did EventWord.Window (spaced (d.path ∷ res_text res ∷ [])) in
+      let label = Label.Did (Deed.Windowed d.path res) in
       let windowed : Windowed s (Happens event label) d res =
       record { path = path; label = label; there = there; root_stays = up; no_device = neither.0; no_node = neither.1; first = first; event = ap (λ (x : Event). Happens x label) is } in
       outside _ _ tt refl refl refl refl refl (NodeEffect.same refl refl) (DriverEffect.same tt refl) (RangeEffect.same refl) (CommandEffect.same refl) (WorldEffect.same refl refl) (PathEffect.same refl) (WindowEffect.sets d res windowed refl refl) (HandleEffect.same refl)))))
@@ -190,26 +191,26 @@ module _ (s : State) (event : Event) where
       guard (is_some s.operation) _ _ _ (λ idle.
       guard (not (is_started node.state)) _ _ _ (λ up.
       outside _ _ tt refl refl refl refl refl (NodeEffect.same refl refl) (DriverEffect.same tt refl) (RangeEffect.same refl) (CommandEffect.same refl) (WorldEffect.same refl refl) (PathEffect.same refl) (WindowEffect.same refl)
-      (HandleEffect.opens node path _ (none_if s.operation idle) at below (is_Started node.state (not_not (is_started node.state) up)) (ap (λ (x : Event). Happens x (Label.Did EventWord.HandleOpen node.path)) is) refl)))))
+      (HandleEffect.opens node path _ (none_if s.operation idle) at below (is_Started node.state (not_not (is_started node.state) up)) (ap (λ (x : Event). Happens x (Label.Did (Deed.HandleOpened node.path))) is) refl)))))
 
   -- a handle is closed
   module _ (path : Text) (node : Node) (at : node_of path s.core.nodes ≡ Some node) (is : event ≡ Event.CloseHandle path) (h : Handle) (held : find (is_handle_of node.serial) s.handles ≡ Some h) where
     closed : (more due : Bool) → nat_lt 1 h.count ≡ more → (not more && is_surprise_removed node.state) ≡ due → CommandEffect s (ev.finish_due node due (ev.with_handles (closed_with node.serial s.handles more) s))
-        → Happened s event (ev.did EventWord.HandleClose node.path (ev.finish_due node due (ev.with_handles (closed_with node.serial s.handles more) s)))
+        → Happened s event (ev.did (Deed.HandleClosed node.path) (ev.finish_due node due (ev.with_handles (closed_with node.serial s.handles more) s)))
     closed more false e is_due tasks =
         outside _ _ tt refl refl refl refl refl (NodeEffect.same refl refl) (DriverEffect.same tt refl) (RangeEffect.same refl) tasks (WorldEffect.same refl refl) (PathEffect.same refl) (WindowEffect.same refl)
-        (HandleEffect.closes node path _ h at held (ap (λ (x : Event). Happens x (Label.Did EventWord.HandleClose node.path)) is) (ap (closed_with node.serial s.handles) (sym e))
+        (HandleEffect.closes node path _ h at held (ap (λ (x : Event). Happens x (Label.Did (Deed.HandleClosed node.path))) is) (ap (closed_with node.serial s.handles) (sym e))
         (ap (λ b. ev.finish_due node b (ev.with_handles (closed_with node.serial s.handles more) s)) (sym is_due ∙ ap (λ b. not b && is_surprise_removed node.state) (sym e))))
     closed more true e is_due tasks =
         outside _ _ tt refl refl refl refl refl (NodeEffect.same refl refl) (DriverEffect.same tt refl) (RangeEffect.same refl) tasks (WorldEffect.same refl refl) (PathEffect.same refl) (WindowEffect.same refl)
-        (HandleEffect.closes node path _ h at held (ap (λ (x : Event). Happens x (Label.Did EventWord.HandleClose node.path)) is) (ap (closed_with node.serial s.handles) (sym e))
+        (HandleEffect.closes node path _ h at held (ap (λ (x : Event). Happens x (Label.Did (Deed.HandleClosed node.path))) is) (ap (closed_with node.serial s.handles) (sym e))
         (ap (λ b. ev.finish_due node b (ev.with_handles (closed_with node.serial s.handles more) s)) (sym is_due ∙ ap (λ b. not b && is_surprise_removed node.state) (sym e))))
 
-    close_handle : (more : Bool) → nat_lt 1 h.count ≡ more → Happened s event (ev.did EventWord.HandleClose node.path (ev.finish_due node (not more && is_surprise_removed node.state) (ev.with_handles (closed_with node.serial s.handles more) s)))
+    close_handle : (more : Bool) → nat_lt 1 h.count ≡ more → Happened s event (ev.did (Deed.HandleClosed node.path) (ev.finish_due node (not more && is_surprise_removed node.state) (ev.with_handles (closed_with node.serial s.handles more) s)))
     close_handle true e = closed true false e refl (CommandEffect.same refl)
     close_handle false e = by_state (is_surprise_removed node.state) refl
       where
-        by_state : (b : Bool) → is_surprise_removed node.state ≡ b → Happened s event (ev.did EventWord.HandleClose node.path (ev.finish_due node b (ev.with_handles (closed_with node.serial s.handles false) s)))
+        by_state : (b : Bool) → is_surprise_removed node.state ≡ b → Happened s event (ev.did (Deed.HandleClosed node.path) (ev.finish_due node b (ev.with_handles (closed_with node.serial s.handles false) s)))
         by_state false calm = closed false false e calm (CommandEffect.same refl)
         by_state true told = closed false true e told (CommandEffect.finishes node path at (is_SurpriseRemoved node.state told) refl)
 
@@ -225,8 +226,8 @@ module _ (s : State) (event : Event) where
       guard (node.serial == 0) _ _ _ (λ below.
       guard (not (is_started node.state)) _ _ _ (λ up.
       outside _ _ tt refl refl refl refl refl (NodeEffect.same refl refl) (DriverEffect.same tt refl) (RangeEffect.same refl) (CommandEffect.begins OpKind.Change node path at below refl)
-      (WorldEffect.changed node path reqs (Label.Did EventWord.Change node.path) at below (is_Started node.state (not_not (is_started node.state) up)) (not_not (is_in_world s.world node.born) there)
-      (ap (λ (x : Event). Happens x (Label.Did EventWord.Change node.path)) is) refl refl) (PathEffect.same refl) (WindowEffect.same refl) (HandleEffect.same refl)))))
+      (WorldEffect.changed node path reqs (Label.Did (Deed.Changed node.path)) at below (is_Started node.state (not_not (is_started node.state) up)) (not_not (is_in_world s.world node.born) there)
+      (ap (λ (x : Event). Happens x (Label.Did (Deed.Changed node.path))) is) refl refl) (PathEffect.same refl) (WindowEffect.same refl) (HandleEffect.same refl)))))
 
   -- a walk got its answer
   answered : (label : Label) (activities : List Activity) (operation : Option Operation) → IsUnasked label → joined label ≡ 0
@@ -252,7 +253,7 @@ module _ (s : State) (event : Event) where
   completes_start node minor ok =
       found (activity_at node.serial s.activities) _ _ _ (λ a at.
       guard (not (ev.waits_for minor (phase_walk a.phase))) _ _ _ (λ waits.
-      answered (Label.Did EventWord.Complete (ev.complete_what node minor ok)) _ s.operation tt refl (AnswerEffect.answers tt refl node.serial a ok at refl refl)
+      answered (Label.Did (ev.completion node minor ok)) _ s.operation tt refl (AnswerEffect.answers tt refl node.serial a ok at refl refl)
       (ActivityEffect.goes node.serial a.phase (ev.completed_phase (ev.answer_of ok) a.phase) (PhaseStep.answered a ok at refl) refl)))
 
   completes : (path : Text) (minor : Minor) (ok : Bool) → Happened s event (ev.completes s path minor ok)
@@ -260,7 +261,7 @@ module _ (s : State) (event : Event) where
       found (node_of path s.core.nodes) _ _ _ (λ node at.
       by_found (Happened s event) s.operation _ _ (λ none. completes_start node minor ok) (λ o runs.
       by_test (Happened s event) (not (ev.operation_waits minor node.serial o)) _ _ (λ not_waiting. completes_start node minor ok) (λ waits.
-      answered (Label.Did EventWord.Complete (ev.complete_what node minor ok)) s.activities _ tt refl (AnswerEffect.answered tt refl refl ok o runs refl) (ActivityEffect.same refl))))
+      answered (Label.Did (ev.completion node minor ok)) s.activities _ tt refl (AnswerEffect.answered tt refl refl ok o runs refl) (ActivityEffect.same refl))))
 
 pub event_effect : (s : State) (event : Event) → Happened s event (ev.happens s event)
 event_effect s (Event.Plug parent path hw compat reqs) = plugs s (Event.Plug parent path hw compat reqs) parent path hw compat reqs refl

@@ -16,7 +16,7 @@ use Rattle.pnp_laws.proofs.Lookups.{phase_from}
 use Rattle.pnp_model.specs.Events as ev
 
 pub beside_word : (label : Label) → IsWord label → IsBeside label
-beside_word (Label.Did word what) h = tt
+beside_word (Label.Did deed) h = tt
 beside_word (Label.Refused word reason) h = tt
 beside_word _ h = absurd h
 
@@ -55,7 +55,7 @@ answered_activities answer j a activities at k x g =
 
 -- an event gives no serial
 pub still_serial : (old new : ℕ) (label : Label) → IsWord label → new ≡ old + joined label → new ≡ old
-still_serial old new (Label.Did word what) w e = omega arith
+still_serial old new (Label.Did deed) w e = omega arith
 still_serial old new (Label.Refused word reason) w e = omega arith
 still_serial old new _ w e = absurd w
 

@@ -188,7 +188,7 @@ event_price s event good born =
 -- Runs ---------------------------------------------------------------------------------------------------------------
 
 pub word_no_join : (label : Label) → IsWord label → joined label ≡ 0
-word_no_join (Label.Did word what) h = refl
+word_no_join (Label.Did deed) h = refl
 word_no_join (Label.Refused word reason) h = refl
 word_no_join _ h = absurd h
 

@@ -82,7 +82,7 @@ reaches_kept settings rack entries s run = kept_run settings (opening rack) entr
 
 -- an event changes no node, and prints no state
 plain_word : (label : Label) → IsWord label → IsPlain label
-plain_word (Label.Did word what) h = tt
+plain_word (Label.Did deed) h = tt
 plain_word (Label.Refused word reason) h = tt
 plain_word _ h = absurd h
 

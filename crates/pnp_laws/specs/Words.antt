@@ -65,7 +65,7 @@ IsBeside _ = Unit {0}
 
 -- a word of an event
 abbrev pub IsWord : Label → Type 0
-IsWord (Label.Did word what) = Unit {0}
+IsWord (Label.Did deed) = Unit {0}
 IsWord (Label.Refused word reason) = Unit {0}
 IsWord _ = ⊥
 

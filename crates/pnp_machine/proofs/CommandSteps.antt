@@ -1,8 +1,9 @@
 -- What an operator commands, as what happens by the definition.
 use Rattle.std.proofs.Common.{◌≡◌, ℕ, ◌==◌, Bool, true, false, not, ◌&&◌, cond, find, nat_lt, IfSome, List, [], ◌∷◌, ◌++◌, Option, Some, None, Result, Ok, Err, is_some, refl, sym, ◌∙◌, ap, subst, arith, option_map}
 use Rattle.std.proofs.lemmas.Bool.Decides.{nat_tests}
-use Rattle.pnp_labels.specs.Texts.{Text, spaced}
+use Rattle.pnp_labels.specs.Texts.{Text}
 use Rattle.pnp_labels.specs.declared.event.Event.{Event}
+use Rattle.pnp_labels.specs.declared.deed.Deed.{Deed}
 use Rattle.pnp_labels.specs.declared.label.EventWord.{EventWord}
 use Rattle.pnp_labels.specs.declared.label.Label.{Label}
 use Rattle.pnp_labels.specs.declared.label.OpKind.{OpKind}
@@ -74,17 +75,17 @@ module _ (ds : Devices) (rack : List Driver) (paths : List Text) (works : List A
     more_is kind more = ap (state_of ds rack paths works operation) (more ∙ ap (λ i. tasks ++ record { kind = kind; serial = i } ∷ []) (sym n.own))
 
     pub disables : has_same path paths ≡ false → tasks' ≡ tasks ++ record { kind = Duty.Begins OpKind.Disable; serial = k } ∷ []
-        → IsDone (happens s0 (Event.Disable path)) (Label.Did EventWord.Disable what) t
+        → IsDone (happens s0 (Event.Disable path)) (Label.Did (Deed.Disabled what)) t
     disables enabled more =
-        done_of (Event.Disable path) (Label.Did EventWord.Disable what) t _
+        done_of (Event.Disable path) (Label.Did (Deed.Disabled what)) t _
         (where_some (node_of path ds.tree.nodes) n.node _ _ n.found ∙ where_false (n.node.serial == 0) _ _ (not_root n.node.serial k n.own up) ∙ where_false (has_same path paths) _ _ enabled)
-        (ap (Label.Did EventWord.Disable) (spelled ∙ path_is path k n), more_is (Duty.Begins OpKind.Disable) more)
+        (ap (λ (p : Text). Label.Did (Deed.Disabled p)) (spelled ∙ path_is path k n), more_is (Duty.Begins OpKind.Disable) more)
 
-    pub ejects : tasks' ≡ tasks ++ record { kind = Duty.Begins OpKind.Eject; serial = k } ∷ [] → IsDone (happens s0 (Event.Eject path)) (Label.Did EventWord.Eject what) t
+    pub ejects : tasks' ≡ tasks ++ record { kind = Duty.Begins OpKind.Eject; serial = k } ∷ [] → IsDone (happens s0 (Event.Eject path)) (Label.Did (Deed.Ejected what)) t
     ejects more =
-        done_of (Event.Eject path) (Label.Did EventWord.Eject what) t _
+        done_of (Event.Eject path) (Label.Did (Deed.Ejected what)) t _
         (where_some (node_of path ds.tree.nodes) n.node _ _ n.found ∙ where_false (n.node.serial == 0) _ _ (not_root n.node.serial k n.own up))
-        (ap (Label.Did EventWord.Eject) (spelled ∙ path_is path k n), more_is (Duty.Begins OpKind.Eject) more)
+        (ap (λ (p : Text). Label.Did (Deed.Ejected p)) (spelled ∙ path_is path k n), more_is (Duty.Begins OpKind.Eject) more)
 
   -- A device requires something else --------------------------------------------------------
 
@@ -130,14 +131,14 @@ module _ (ds : Devices) (rack : List Driver) (paths : List Text) (works : List A
 
         pub changes : (ds' : Devices) (tasks' : List Task) (what : Text) → is_started x.state ≡ true → what ≡ path_of (node_at k s0.core.nodes)
             → IfSome (node_at k ds.tree.nodes) (λ n. ds' ≡ record ds { world = changed n.born reqs ds.world }) → tasks' ≡ tasks ++ record { kind = Duty.Begins OpKind.Change; serial = k } ∷ []
-            → Changed (Label.Did EventWord.Change what) (state_of ds' rack paths works operation tasks')
+            → Changed (Label.Did (Deed.Changed what)) (state_of ds' rack paths works operation tasks')
         changes ds' tasks' what h spelled now more =
             let own : ds' ≡ record ds { world = changed m.node.born reqs ds.world } =
             subst (λ (o : Option Node). IfSome o (λ n. ds' ≡ record ds { world = changed n.born reqs ds.world })) m.at now in
-            done_of (Event.Change path reqs) (Label.Did EventWord.Change what) (state_of ds' rack paths works operation tasks') _
+            done_of (Event.Change path reqs) (Label.Did (Deed.Changed what)) (state_of ds' rack paths works operation tasks') _
             (where_some (node_of path ds.tree.nodes) m.node _ _ m.found ∙ where_false (not (is_in_world ds.world.devices m.node.born)) _ _ (there true e)
             ∙ where_false (m.node.serial == 0) _ _ (not_root m.node.serial k m.own up) ∙ where_false (not (is_started m.node.state)) _ _ (started true h)) (
-              ap (Label.Did EventWord.Change) (spelled ∙ path_is path k m),
+              ap (λ (p : Text). Label.Did (Deed.Changed p)) (spelled ∙ path_is path k m),
               ap (λ d. state_of d rack paths works operation tasks') own
                   ∙ ap (state_of (record ds { world = changed m.node.born reqs ds.world }) rack paths works operation) (more ∙ ap (λ i. tasks ++ record { kind = Duty.Begins OpKind.Change; serial = i } ∷ []) (sym m.own)),
             )
@@ -162,12 +163,12 @@ module _ (ds : Devices) (rack : List Driver) (paths : List Text) (works : List A
           ∙ where_false (is_some operation) _ _ idle ∙ where_true (not (is_started o.node.state)) _ _ (started_by false h)) (refl, sym is)
 
       pub opens : (ds' : Devices) (what : Text) → is_started x.state ≡ true → what ≡ path_of (node_at k s0.core.nodes) → ds' ≡ record ds { handles = opened k ds.handles }
-          → IsDone (happens s0 (Event.OpenHandle path)) (Label.Did EventWord.HandleOpen what) (state_of ds' rack paths works operation tasks)
+          → IsDone (happens s0 (Event.OpenHandle path)) (Label.Did (Deed.HandleOpened what)) (state_of ds' rack paths works operation tasks)
       opens ds' what h spelled now =
-          done_of (Event.OpenHandle path) (Label.Did EventWord.HandleOpen what) (state_of ds' rack paths works operation tasks) _
+          done_of (Event.OpenHandle path) (Label.Did (Deed.HandleOpened what)) (state_of ds' rack paths works operation tasks) _
           (where_some (node_of path ds.tree.nodes) o.node _ _ o.found ∙ where_false (o.node.serial == 0) _ _ (not_root o.node.serial k o.own up)
           ∙ where_false (is_some operation) _ _ idle ∙ where_false (not (is_started o.node.state)) _ _ (started_by true h)) (
-            ap (Label.Did EventWord.HandleOpen) (spelled ∙ path_is path k o),
+            ap (λ (p : Text). Label.Did (Deed.HandleOpened p)) (spelled ∙ path_is path k o),
             ap (λ d. state_of d rack paths works operation tasks) (now ∙ ap (λ i. record ds { handles = opened i ds.handles }) (sym o.own)),
           )
 
@@ -187,12 +188,12 @@ module _ (ds : Devices) (rack : List Driver) (paths : List Text) (works : List A
 
       pub closes : (ds' : Devices) (tasks' : List Task) (what : Text) → what ≡ path_of (node_at k s0.core.nodes) → ds' ≡ record ds { handles = closed_with k ds.handles more }
           → tasks' ≡ cond (not more && is_surprise_removed x.state) (tasks ++ record { kind = Duty.Begins OpKind.Finish; serial = k } ∷ []) tasks
-          → IsDone (happens s0 (Event.CloseHandle path)) (Label.Did EventWord.HandleClose what) (state_of ds' rack paths works operation tasks')
+          → IsDone (happens s0 (Event.CloseHandle path)) (Label.Did (Deed.HandleClosed what)) (state_of ds' rack paths works operation tasks')
       closes ds' tasks' what spelled now due =
-          done_of (Event.CloseHandle path) (Label.Did EventWord.HandleClose what) (state_of ds' rack paths works operation tasks') _
+          done_of (Event.CloseHandle path) (Label.Did (Deed.HandleClosed what)) (state_of ds' rack paths works operation tasks') _
           (where_some (node_of path ds.tree.nodes) o.node _ _ o.found
           ∙ where_some (find (is_handle_of o.node.serial) ds.handles) (record { serial = k; count = count }) _ _ (ap (λ i. find (is_handle_of i) ds.handles) o.own ∙ held ∙ some_handle k count some)) (
-            ap (Label.Did EventWord.HandleClose) (spelled ∙ path_is path k o),
+            ap (λ (p : Text). Label.Did (Deed.HandleClosed p)) (spelled ∙ path_is path k o),
             ap (λ d. state_of d rack paths works operation tasks') (now ∙ ap (λ i. record ds { handles = closed_with i ds.handles more }) (sym o.own))
                 ∙ due_is (not more && is_surprise_removed o.node.state) tasks' (due ∙ ap (λ (y : Node). cond (not more && is_surprise_removed y.state) (tasks ++ record { kind = Duty.Begins OpKind.Finish; serial = k } ∷ []) tasks) own_node),
           )
@@ -235,12 +236,15 @@ module _ (ds : Devices) (rack : List Driver) (paths : List Text) (works : List A
     same_after : ds'.relations ≡ ds.relations → after ≡ s
     same_after e = after_is ∙ ap (λ r. state_of (record ds { relations = r }) rack paths works operation tasks) e
 
-    pub relate_done : (what : Text) → what ≡ spaced (path_of (node_at i s0.core.nodes) ∷ path_of (node_at j s0.core.nodes) ∷ []) → IsRelated (Ok tt)
-        → IsDone (happens s0 (Event.Relate kind owner member)) (Label.Did EventWord.Relate what) after
-    relate_done what spelled h =
-        let paths_are : what ≡ spaced (a.node.path ∷ b.node.path ∷ []) =
-        spelled ∙ ap (λ p. spaced (p ∷ path_of (node_at j s0.core.nodes) ∷ [])) (path_is owner i a) ∙ ap (λ p. spaced (a.node.path ∷ p ∷ [])) (path_is member j b) in
-        done_of (Event.Relate kind owner member) (Label.Did EventWord.Relate what) after _ (step ∙ relates (Ok tt) h) (ap (Label.Did EventWord.Relate) paths_are, after_is)
+    -- the label, by the paths of these nodes
+    abbrev related : Text → Text → Label
+    related owner member = Label.Did (Deed.Related kind owner member)
+
+    pub relate_done : (label : Label) → label ≡ related (path_of (node_at i s0.core.nodes)) (path_of (node_at j s0.core.nodes)) → IsRelated (Ok tt)
+        → IsDone (happens s0 (Event.Relate kind owner member)) label after
+    relate_done label spelled h =
+        let label_is = spelled ∙ ap (λ p. related p (path_of (node_at j s0.core.nodes))) (path_is owner i a) ∙ ap (related a.node.path) (path_is member j b) in
+        done_of (Event.Relate kind owner member) label after _ (step ∙ relates (Ok tt) h) (label_is, after_is)
 
     refuses : (reason : Reason) → (ds'.relations ≡ ds.relations) × (two ≡ refused EventWord.Relate reason s)
         → IsDone (happens s0 (Event.Relate kind owner member)) (Label.Refused EventWord.Relate reason) after

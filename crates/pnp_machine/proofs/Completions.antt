@@ -3,12 +3,13 @@ use Rattle.std.proofs.Common.{◌≡◌, ℕ, ◌==◌, eqb, Bool, true, false, 
 use Rattle.std.specs.Option.{option_eq}
 use Rattle.pnp_labels.specs.Texts.{Text}
 use Rattle.pnp_labels.specs.declared.event.Event.{Event}
+use Rattle.pnp_labels.specs.declared.deed.Deed.{Deed}
 use Rattle.pnp_labels.specs.declared.label.EventWord.{EventWord}
 use Rattle.pnp_labels.specs.declared.label.Label.{Label}
 use Rattle.pnp_labels.specs.declared.label.Reason.{Reason}
 use Rattle.pnp_labels.specs.declared.words.Minor.{Minor}
 use Rattle.pnp_model.proofs.Guards.{where_false, where_none, where_some, where_true}
-use Rattle.pnp_model.specs.Events.{happens, refused, complete_what, completes_at, completes_start, is_number, operation_waits, completed_phase, answer_of, waits_for}
+use Rattle.pnp_model.specs.Events.{happens, refused, completion, completes_at, completes_start, is_number, operation_waits, completed_phase, answer_of, waits_for}
 use Rattle.pnp_model.specs.Keyed.{changed_first}
 use Rattle.pnp_model.specs.Machine.{phase_walk}
 use Rattle.pnp_model.specs.Records.{Node, Driver, Walk, Activity, Operation, State, Step, Task}
@@ -94,8 +95,8 @@ waits_is test (Some j) w k minor a b e true_is f same_is = f ∙ by_walk w ∙ s
     by_walk (Some w) = by_wait w w.waits
 
 -- the request of a device's path got its answer
-pub answered_done : (s : State) (k : ℕ) (n : Node) (path what : Text) (minor : Minor) (ok : Bool) (t : State) → node_of path s.core.nodes ≡ Some n → n.serial ≡ k → what ≡ complete_what n minor ok
-    → IsAnswered s k minor ok true t → IsDone (happens s (Event.Complete path minor ok)) (Label.Did EventWord.Complete what) t
-answered_done s k n path what minor ok t found own what_is h =
-    subst (λ x. IsDone x (Label.Did EventWord.Complete what) t) (sym (where_some (node_of path s.core.nodes) n _ _ found))
-    (subst (λ w. IsDone (completes_at s n minor ok) (Label.Did EventWord.Complete w) t) (sym what_is) (h n own))
+pub answered_done : (s : State) (k : ℕ) (n : Node) (path : Text) (deed : Deed) (minor : Minor) (ok : Bool) (t : State) → node_of path s.core.nodes ≡ Some n → n.serial ≡ k → deed ≡ completion n minor ok
+    → IsAnswered s k minor ok true t → IsDone (happens s (Event.Complete path minor ok)) (Label.Did deed) t
+answered_done s k n path deed minor ok t found own deed_is h =
+    subst (λ x. IsDone x (Label.Did deed) t) (sym (where_some (node_of path s.core.nodes) n _ _ found))
+    (subst (λ d. IsDone (completes_at s n minor ok) (Label.Did d) t) (sym deed_is) (h n own))

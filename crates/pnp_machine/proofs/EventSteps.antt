@@ -7,6 +7,7 @@ use Rattle.device_ids.specs.Folding.{same}
 use Rattle.pnp_labels.specs.Texts.{Text}
 use Rattle.pnp_labels.specs.declared.event.Event.{Event}
 use Rattle.pnp_labels.specs.declared.event.Rule.{Rule}
+use Rattle.pnp_labels.specs.declared.deed.Deed.{Deed}
 use Rattle.pnp_labels.specs.declared.label.EventWord.{EventWord}
 use Rattle.pnp_labels.specs.declared.label.Label.{Label}
 use Rattle.pnp_labels.specs.declared.label.Reason.{Reason}
@@ -45,9 +46,9 @@ module _ (ds : Devices) (old new : List Driver) (paths : List Text) (works : Lis
   done_by : (event : Event) (label : Label) (step : Step) → happens before event ≡ step → IsDone step label after → IsDone (happens before event) label after
   done_by event label step e h = subst (λ x. IsDone x label after) (sym e) h
 
-  pub name_given : (kind : DriverKind) (name : Text) (k : ℕ) → Named (Ok k) kind name old new → IsDone (happens before (Event.Name name kind)) (Label.Did EventWord.Name name) after
+  pub name_given : (kind : DriverKind) (name : Text) (k : ℕ) → Named (Ok k) kind name old new → IsDone (happens before (Event.Name name kind)) (Label.Did (Deed.Named name)) after
   name_given kind name k (free, place, is) =
-      done_by (Event.Name name kind) (Label.Did EventWord.Name name) _
+      done_by (Event.Name name kind) (Label.Did (Deed.Named name)) _
       (where_false (is_some (find (is_named name) old)) _ _ (ap is_some (find_from_none (is_named name) old free))
       ∙ where_false (is_none (find (is_unnamed kind) old)) _ _ (ap is_none (find_from_position (is_unnamed kind) old k some_driver place)))
       (refl, rows_are _ is)
@@ -102,13 +103,13 @@ module _ (ds : Devices) (old new : List Driver) (paths : List Text) (works : Lis
       many : (n : ℕ) → 64 ≤ n → nat_le 64 n ≡ true
       many n h = grind (arith, nat_tests)
 
-      pub teach_done : TaughtOne d k rule (Ok tt) old new → IsDone teaches (Label.Did EventWord.Teach (name_of old k)) after
+      pub teach_done : TaughtOne d k rule (Ok tt) old new → IsDone teaches (Label.Did (Deed.Taught (name_of old k))) after
       teach_done (kind, room, is) =
           let changed = changed_first_at (is_named name) (with_rule rule) old k (with_rule rule d) some_driver place (ap (with_rule rule) (sym here)) in
-          done_by (Event.Teach name rule) (Label.Did EventWord.Teach (name_of old k)) _
+          done_by (Event.Teach name rule) (Label.Did (Deed.Taught (name_of old k))) _
           (where_some (find (is_named name) old) d _ _ found ∙ where_false (not (is_scripted d.kind)) _ _ (ap not (scripted d.kind kind))
           ∙ where_false (nat_le 64 (length d.book)) _ _ (few (length d.book) room))
-          (ap (Label.Did EventWord.Teach) label_is, rows_are _ (is ∙ changed))
+          (ap (λ (p : Text). Label.Did (Deed.Taught p)) label_is, rows_are _ (is ∙ changed))
 
       pub teach_not : TaughtOne d k rule (Err TeachError.NotTeachable) old new → IsDone teaches (Label.Refused EventWord.Teach Reason.NotTeachable) after
       teach_not (kind, is) =

@@ -111,7 +111,7 @@ stacks_same s r shown h =
 
 -- what is printed where an event is taken or refused
 abbrev pub IsTakenOr : Label → Type 0
-IsTakenOr (Label.Did word what) = Unit {0}
+IsTakenOr (Label.Did deed) = Unit {0}
 IsTakenOr (Label.Refused word reason) = Unit {0}
 IsTakenOr _ = ⊥
 

@@ -6,8 +6,9 @@ use Rattle.std.specs.Result.{IsErrOf, OnOk, OnErr, IfOk}
 use Rattle.std.specs.declared.alloc.AllocError.{AllocError}
 use Rattle.std.proofs.lemmas.Bool.Decides.{nat_tests}
 use Rattle.resource_reqs.specs.Resources.{Res}
-use Rattle.pnp_labels.specs.Texts.{Text, spaced, res_text}
+use Rattle.pnp_labels.specs.Texts.{Text}
 use Rattle.pnp_labels.specs.declared.event.Event.{Event}
+use Rattle.pnp_labels.specs.declared.deed.Deed.{Deed}
 use Rattle.pnp_labels.specs.declared.label.EventWord.{EventWord}
 use Rattle.pnp_labels.specs.declared.label.Label.{Label}
 use Rattle.pnp_labels.specs.declared.label.Reason.{Reason}
@@ -38,7 +39,7 @@ module _ (ds : Devices) (rack : List Driver) (paths : List Text) (works : List A
 
   -- the step, by why it is refused
   abbrev Comes : Device → Option Reason → Step → Type 0
-  Comes d None step = step ≡ did EventWord.Window (spaced (d.path ∷ res_text res ∷ [])) (add_window d.born res s)
+  Comes d None step = step ≡ did (Deed.Windowed d.path res) (add_window d.born res s)
   Comes d (Some reason) step = step ≡ refused EventWord.Window reason s
 
   told : (d : Device) (b : Bool) (reason : Reason) (r : Option Reason) (x : Step) → Comes d r x → Comes d (cond b (Some reason) r) (if b then refused EventWord.Window reason s else x)
@@ -49,7 +50,7 @@ module _ (ds : Devices) (rack : List Driver) (paths : List Text) (works : List A
   comes path d found =
       let below = has_any_below ds d.born in
       let same = list_any (is_window_on res.kind (d.born ∷ [])) ds.windows in
-      let done : Step = did EventWord.Window (spaced (d.path ∷ res_text res ∷ [])) (add_window d.born res s) in
+      let done : Step = did (Deed.Windowed d.path res) (add_window d.born res s) in
       let fresh : Step = if same then refused EventWord.Window Reason.SameWindow s else done in
       let childless : Step = if below then refused EventWord.Window Reason.HasChildren s else fresh in
       let known : Step = if d.born == 0 then refused EventWord.Window Reason.RootStays s else childless in
@@ -74,18 +75,17 @@ module _ (ds : Devices) (rack : List Driver) (paths : List Text) (works : List A
           (sym (ap (λ (x : Step). x.label) step), stays ∙ sym (ap (λ (x : Step). x.state) step))
 
   -- taken
-  pub window_taken : (path : Text) (ds' : Devices) (own what : Text) → None ≡ window_refusal ds res (device_of path ds.world.devices) → ds' ≡ with_window ds res (device_of path ds.world.devices) None
-      → Some own ≡ option_map (λ d. d.path) (device_of path ds.world.devices) → what ≡ spaced (own ∷ res_text res ∷ [])
-      → IsDone (happens s (Event.Window path res)) (Label.Did EventWord.Window what) (with_devices ds')
-  window_taken path ds' own what = by (device_of path ds.world.devices) refl
+  pub window_taken : (path : Text) (ds' : Devices) (own : Text) → None ≡ window_refusal ds res (device_of path ds.world.devices) → ds' ≡ with_window ds res (device_of path ds.world.devices) None
+      → Some own ≡ option_map (λ d. d.path) (device_of path ds.world.devices) → IsDone (happens s (Event.Window path res)) (Label.Did (Deed.Windowed own res)) (with_devices ds')
+  window_taken path ds' own = by (device_of path ds.world.devices) refl
     where
       by : (o : Option Device) → device_of path ds.world.devices ≡ o → None ≡ window_refusal ds res o → ds' ≡ with_window ds res o None → Some own ≡ option_map (λ d. d.path) o
-          → what ≡ spaced (own ∷ res_text res ∷ []) → IsDone (happens s (Event.Window path res)) (Label.Did EventWord.Window what) (with_devices ds')
-      by None found why set spelled text = absurd (cc)
-      by (Some d) found why set spelled text =
+          → IsDone (happens s (Event.Window path res)) (Label.Did (Deed.Windowed own res)) (with_devices ds')
+      by None found why set spelled = absurd (cc)
+      by (Some d) found why set spelled =
           let step = subst (λ r. Comes d r (happens s (Event.Window path res))) (sym why) (comes path d found) in
           let same : own ≡ d.path = cc in (
-            ap (Label.Did EventWord.Window) (text ∙ ap (λ p. spaced (p ∷ res_text res ∷ [])) same) ∙ sym (ap (λ (x : Step). x.label) step),
+            ap (λ (p : Text). Label.Did (Deed.Windowed p res)) same ∙ sym (ap (λ (x : Step). x.label) step),
             ap with_devices set ∙ sym (ap (λ (x : Step). x.state) step),
           )
 

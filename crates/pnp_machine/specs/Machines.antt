@@ -8,7 +8,7 @@ use Rattle.pnp_labels.specs.declared.label.RemoveStep.{RemoveStep}
 use Rattle.pnp_labels.specs.declared.label.RemoveStep.TheVariants as removes
 use Rattle.pnp_model.specs.Machine.{Steps, IsQuiet, IsStep, operation_walk, is_born, is_waiting}
 use Rattle.pnp_model.specs.Cores.{node_at}
-use Rattle.pnp_model.specs.Events.{completed, answer_of, completes_at, complete_what}
+use Rattle.pnp_model.specs.Events.{completed, answer_of, completes_at, completion}
 use Rattle.pnp_model.specs.Tasks.{gone_child}
 use Rattle.pnp_labels.specs.declared.words.Minor.{Minor}
 use Rattle.pnp_labels.specs.declared.label.EventWord.{EventWord}
@@ -188,7 +188,7 @@ CompletesOperation false old ok done new = (done ≡ false) × (new ≡ old)
 
 -- the line of an answer to a request, and of one that nobody waited for
 abbrev pub answer_label : Node → Minor → Bool → Bool → Label
-answer_label node minor ok true = Label.Did EventWord.Complete (complete_what node minor ok)
+answer_label node minor ok true = Label.Did (completion node minor ok)
 answer_label node minor ok false = Label.Refused EventWord.Complete Reason.NoSuchRequest
 
 -- whether a request of the minor waited at the device is told, and if it did it got its answer

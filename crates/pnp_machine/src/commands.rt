@@ -1,6 +1,7 @@
-ghost use Rattle.std.specs.Prelude.{◌≡◌, [], ◌∷◌, IfOk, OnErr, IsSome};
+ghost use Rattle.std.specs.Prelude.{◌≡◌, IfOk, OnErr, IsSome};
+ghost use Rattle.pnp_labels.specs.declared.deed.Deed.TheVariants as Deed;
 ghost use Rattle.pnp_labels.specs.declared.event.Event.TheVariants as Event;
-ghost use Rattle.pnp_labels.specs.Texts.{spaced, res_text};
+ghost use Rattle.pnp_labels.specs.declared.label.Label.TheVariants as Label;
 ghost use Rattle.pnp_model.specs.Cores.{node_at, path_of, serials_of};
 ghost use Rattle.pnp_model.specs.Events.{happens};
 ghost use Rattle.devnode_tree.specs.Trees.{Ascends};
@@ -9,11 +10,10 @@ ghost use Rattle.pnp_machine.specs.Machines.{IsDone};
 use crate::events::refusal;
 use crate::listing::is_started;
 use crate::machine::Machine;
-use crate::spaced::two;
 use crate::tasks::Duty;
 use device_ids::{InstancePath, Text, WantOfMemory};
 use driver_rack::Drivers;
-use pnp_labels::{EventWord, Label, OpKind, Reason, RelKind, push_res, res_text};
+use pnp_labels::{Deed, EventWord, Label, OpKind, Reason, RelKind};
 use relations::RelateError;
 use resource_reqs::{Reqs, Res};
 use std::alloc::AllocError;
@@ -35,10 +35,10 @@ impl<R: Drivers> Machine<R> {
         if self.disabled.has(path) {
             return Ok(refusal(word, Reason::AlreadyDisabled));
         }
-        let what = self.own_path(serial)?;
+        let path = self.own_path(serial)?;
         self.tasks.make_room()?;
         self.tasks.append(Duty::Begin(OpKind::Disable), serial);
-        Ok(Label::Did { word, what })
+        Ok(Label::Did(Deed::Disabled { path }))
     }
 
     /// A path is no longer disabled, and its device is to be started.
@@ -50,13 +50,13 @@ impl<R: Drivers> Machine<R> {
         let Some(own) = self.disabled.find(path) else {
             return Ok(refusal(word, Reason::NotDisabled));
         };
-        let what = own.text(self.alloc)?;
+        let own = own.text(self.alloc)?;
         self.tasks.make_room()?;
         self.disabled.take(path);
         if let Some(serial) = self.devices.tree().find(path) {
             self.tasks.append(Duty::Start, serial);
         }
-        Ok(Label::Did { word, what })
+        Ok(Label::Did(Deed::Enabled { path: own }))
     }
 
     /// A device is to be ejected.
@@ -71,10 +71,10 @@ impl<R: Drivers> Machine<R> {
         if serial == 0 {
             return Ok(refusal(word, Reason::RootStays));
         }
-        let what = self.own_path(serial)?;
+        let path = self.own_path(serial)?;
         self.tasks.make_room()?;
         self.tasks.append(Duty::Begin(OpKind::Eject), serial);
-        Ok(Label::Did { word, what })
+        Ok(Label::Did(Deed::Ejected { path }))
     }
 
     /// A device that runs requires something else from now on.
@@ -95,11 +95,11 @@ impl<R: Drivers> Machine<R> {
         if !is_started(self.devices.tree().at(serial).state) {
             return Ok(refusal(word, Reason::NotStarted));
         }
-        let what = self.own_path(serial)?;
+        let path = self.own_path(serial)?;
         self.tasks.make_room()?;
         self.devices.require(serial, reqs);
         self.tasks.append(Duty::Begin(OpKind::Change), serial);
-        Ok(Label::Did { word, what })
+        Ok(Label::Did(Deed::Changed { path }))
     }
 
     /// The path of a node, as the tree spells it.
@@ -112,17 +112,20 @@ impl<R: Drivers> Machine<R> {
         node.path.text(self.alloc)
     }
 
-    /// The paths of two nodes.
-    fn own_paths(&self, owner: u64, member: u64) -> Result<Text, WantOfMemory>
+    /// The label of a new relation.
+    fn related(&self, kind: RelKind, owner: u64, member: u64) -> Result<Label, WantOfMemory>
         requires owner { IsSome (node_at owner self.now.core.nodes) }
         requires member { IsSome (node_at member self.now.core.nodes) }
-        ensures paths { IfOk result (λ text. text ≡ spaced (path_of (node_at owner self.now.core.nodes) ∷ path_of (node_at member self.now.core.nodes) ∷ [])) }
+        ensures label { IfOk result (λ label. label ≡ Label.Did (Deed.Related kind (path_of (node_at owner self.now.core.nodes)) (path_of (node_at member self.now.core.nodes)))) }
         ensures order { Ascends 0 (serials_of self.now.core.nodes) }
     {
         let owner = self.own_path(owner)?;
         let member = self.own_path(member)?;
-        let line = two(self.alloc, owner.bytes(), member.bytes())?;
-        Text::make(self.alloc, &line)
+        Ok(Label::Did(Deed::Related {
+            kind,
+            owner,
+            member,
+        }))
     }
 
     /// A member is related to an owner.
@@ -143,9 +146,9 @@ impl<R: Drivers> Machine<R> {
         if self.operation.is_some() {
             return Ok(refusal(word, Reason::Busy));
         }
-        let what = self.own_paths(owner, member)?;
+        let label = self.related(kind, owner, member)?;
         match self.devices.relate(kind, owner, member) {
-            Ok(()) => Ok(Label::Did { word, what }),
+            Ok(()) => Ok(label),
             Err(RelateError::SelfRelation) => Ok(refusal(word, Reason::SelfRelation)),
             Err(RelateError::SameRelation) => Ok(refusal(word, Reason::SameRelation)),
             Err(RelateError::RelationCycle) => Ok(refusal(word, Reason::RelationCycle)),
@@ -166,20 +169,8 @@ impl<R: Drivers> Machine<R> {
         if self.devices.is_in_use(&res) {
             return Ok(refusal(word, Reason::InUse));
         }
-        let text = res_text(self.alloc, &res)?;
-        let what = Text::make(self.alloc, &text)?;
         self.devices.reserve(res)?;
-        Ok(Label::Did { word, what })
-    }
-
-    /// A path as the world spells it, and a range.
-    fn path_and_range(&self, own: &InstancePath, res: &Res) -> Result<Text, WantOfMemory>
-        ensures { IfOk result (λ text. text ≡ spaced (own.now ∷ res_text res.now ∷ [])) }
-    {
-        let mut line = Vec::from_slice(self.alloc, own.bytes())?;
-        line.push(b' ')?;
-        push_res(&mut line, res)?;
-        Text::make(self.alloc, &line)
+        Ok(Label::Did(Deed::Reserved { res }))
     }
 
     /// A device of the world passes on only what lies in a range of its kind from now on.
@@ -191,10 +182,10 @@ impl<R: Drivers> Machine<R> {
         let Some(own) = self.devices.path_in_world(path) else {
             return Ok(refusal(word, Reason::NoDevice));
         };
-        let what = self.path_and_range(own, &res)?;
+        let own = own.text(self.alloc)?;
         if let Some(reason) = self.devices.set_window(path, res)? {
             return Ok(refusal(word, reason));
         }
-        Ok(Label::Did { word, what })
+        Ok(Label::Did(Deed::Windowed { path: own, res }))
     }
 }

@@ -5,14 +5,11 @@ ghost use Rattle.pnp_model.specs.Events.{happens, answer_of};
 ghost use Rattle.pnp_machine.specs.Machines.{IsDone, IsAnswered};
 
 use crate::machine::Machine;
-use crate::spaced::three;
 use crate::step_operation::list_again;
 use device_ids::{IdList, InstancePath, Text, WantOfMemory};
 use device_stack::{driver_name, shown_of};
 use driver_rack::{Drivers, NameError, TeachError};
-use pnp_labels::{
-    Answer, DriverKind, Event, EventWord, Label, Minor, Reason, Rule, minor_text, shown_text,
-};
+use pnp_labels::{Answer, Deed, DriverKind, Event, EventWord, Label, Minor, Reason, Rule};
 use resource_reqs::Reqs;
 use script_bus::{PlugError, PullError};
 use std::alloc::AllocError;
@@ -45,14 +42,14 @@ impl<R: Drivers> Machine<R> {
         ensures done { IfOk result (λ label. IsDone (happens self.old (Event.Plug parent.now path hw compat reqs)) label self.new) }
         ensures err { OnErr result (self.new ≡ self.old) }
     {
-        let what = path.text(self.alloc)?;
+        let own = path.text(self.alloc)?;
         self.tasks.make_room()?;
         let over = self.devices.node_of_device(parent);
         let word = EventWord::Plug;
         match self.devices.plug(parent, path, hw, compat, reqs) {
             Ok(_) => {
                 list_again(&mut self.tasks, over);
-                Ok(Label::Did { word, what })
+                Ok(Label::Did(Deed::Plugged { path: own }))
             }
             Err(PlugError::NoParent) => Ok(refusal(word, Reason::NoParent)),
             Err(PlugError::SameId) => Ok(refusal(word, Reason::SameId)),
@@ -70,12 +67,12 @@ impl<R: Drivers> Machine<R> {
         let Some(own) = self.devices.path_in_world(path) else {
             return Ok(refusal(word, Reason::NoDevice));
         };
-        let what = own.text(self.alloc)?;
+        let own = own.text(self.alloc)?;
         self.tasks.make_room()?;
         match self.devices.pull(path) {
             Ok(over) => {
                 list_again(&mut self.tasks, over);
-                Ok(Label::Did { word, what })
+                Ok(Label::Did(Deed::Pulled { path: own }))
             }
             Err(PullError::NoDevice) => Ok(refusal(word, Reason::NoDevice)),
             Err(PullError::RootStays) => Ok(refusal(word, Reason::RootStays)),
@@ -89,7 +86,7 @@ impl<R: Drivers> Machine<R> {
     {
         let word = EventWord::Name;
         match self.rack.name(kind, &name) {
-            Ok(_) => Ok(Label::Did { word, what: name }),
+            Ok(_) => Ok(Label::Did(Deed::Named { driver: name })),
             Err(NameError::SameName) => Ok(refusal(word, Reason::SameName)),
             Err(NameError::RackEmpty) => Ok(refusal(word, Reason::RackEmpty)),
             Err(NameError::WantOfMemory) => Err(AllocError),
@@ -102,12 +99,12 @@ impl<R: Drivers> Machine<R> {
         ensures err { OnErr result (self.new ≡ self.old) }
     {
         let word = EventWord::Teach;
-        let Some(driver) = self.rack.find(name) else {
+        let Some(number) = self.rack.find(name) else {
             return Ok(refusal(word, Reason::NoDriver));
         };
-        let what = driver_name(self.alloc, &self.rack, driver)?;
-        match self.rack.teach(driver, rule) {
-            Ok(()) => Ok(Label::Did { word, what }),
+        let driver = driver_name(self.alloc, &self.rack, number)?;
+        match self.rack.teach(number, rule) {
+            Ok(()) => Ok(Label::Did(Deed::Taught { driver })),
             Err(TeachError::NotTeachable) => Ok(refusal(word, Reason::NotTeachable)),
             Err(TeachError::BookFull) => Ok(refusal(word, Reason::BookFull)),
         }
@@ -143,11 +140,10 @@ impl<R: Drivers> Machine<R> {
         let Some(node) = tree.node(serial) else {
             unreachable!()
         };
-        let shown = shown_text(shown_of(minor, answer_of(ok)));
-        let what = three(self.alloc, node.path.bytes(), minor_text(minor), shown)?;
-        let what = Text::make(self.alloc, &what)?;
+        let path = node.path.text(self.alloc)?;
+        let shown = shown_of(minor, answer_of(ok));
         if self.answer(serial, minor, ok) {
-            Ok(Label::Did { word, what })
+            Ok(Label::Did(Deed::Completed { path, minor, shown }))
         } else {
             Ok(refusal(word, Reason::NoSuchRequest))
         }

@@ -16,7 +16,7 @@ use crate::machine::Machine;
 use crate::tasks::{Duty, Tasks};
 use device_ids::{InstancePath, WantOfMemory};
 use driver_rack::Drivers;
-use pnp_labels::{DevState, EventWord, Label, OpKind, Reason};
+use pnp_labels::{Deed, DevState, EventWord, Label, OpKind, Reason};
 
 impl Devices {
     /// How many handles to a device are open. It takes no memory.
@@ -82,9 +82,9 @@ impl<R: Drivers> Machine<R> {
         if !is_started(self.devices.tree().at(serial).state) {
             return Ok(refusal(word, Reason::NotStarted));
         }
-        let what = self.own_path(serial)?;
+        let path = self.own_path(serial)?;
         self.devices.open(serial)?;
-        Ok(Label::Did { word, what })
+        Ok(Label::Did(Deed::HandleOpened { path }))
     }
 
     /// A handle to a device is closed; where it was the last one of a device that was told that it has gone, the device is
@@ -101,11 +101,11 @@ impl<R: Drivers> Machine<R> {
         if count == 0 {
             return Ok(refusal(word, Reason::NoHandle));
         }
-        let what = self.own_path(serial)?;
+        let path = self.own_path(serial)?;
         self.tasks.make_room()?;
         let due = is_due(count, self.devices.tree().at(serial).state);
         self.devices.close(serial);
         finish_if(&mut self.tasks, serial, due);
-        Ok(Label::Did { word, what })
+        Ok(Label::Did(Deed::HandleClosed { path }))
     }
 }

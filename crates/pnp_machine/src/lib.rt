@@ -17,7 +17,6 @@ mod machine;
 mod manager;
 mod needs;
 mod operation;
-mod spaced;
 mod starts;
 mod step_operation;
 mod step_start;

@@ -15,7 +15,7 @@ use Rattle.pnp_model.specs.Handles.{is_handle_of, opened, closed_with}
 use Rattle.pnp_model.specs.Frames.{held_by}
 use Rattle.pnp_model.specs.States.{with_core, append_task, list_node, node_born, node_of, device_of, has_below, add_window, is_in_world, change_device, plug, unplug, enable_path, activity_at, set_phase, set_operation}
 use Rattle.pnp_model.specs.Machine.{phase_walk, operation_walk}
-use Rattle.pnp_labels.specs.Texts.{spaced, minor_text, shown_text, res_text, Text}
+use Rattle.pnp_labels.specs.Texts.{Text}
 use Rattle.pnp_model.specs.Records.{Node, Core, Walk, Device, Driver, Relation, Phase, State, Step, Operation, RebalanceStage, RemovalStage, SurpriseStage, FinishStage, Handle, Duty}
 use Rattle.pnp_model.specs.Records.Phase.{Starting, Removing}
 use Rattle.pnp_labels.specs.declared.words.Minor.{Minor}
@@ -29,13 +29,14 @@ use Rattle.pnp_labels.specs.declared.label.EventWord.{EventWord}
 use Rattle.pnp_labels.specs.declared.label.EventWord.TheVariants.{Plug, Pull, Name, Teach, Disable, Enable, Eject, Relate, Reserve, Complete, HandleOpen, HandleClose, Change, Window, Watch, Unwatch}
 use Rattle.pnp_labels.specs.declared.label.Reason.{Reason}
 use Rattle.pnp_labels.specs.declared.label.Reason.TheVariants.{NoParent, SameId, WorldFull, NoDevice, RootStays, SameName, RackEmpty, NoDriver, NotTeachable, BookFull, AlreadyDisabled, NotDisabled, Busy, SelfRelation, SameRelation, RelationCycle, NotStarted, InUse, NoHandle, HasChildren, SameWindow, NoSuchRequest}
+use Rattle.pnp_labels.specs.declared.deed.Deed.{Deed}
 use Rattle.pnp_labels.specs.declared.label.Label.{Label}
 
 abbrev pub refused : EventWord → Reason → State → Step
 refused word reason s = record { label = Label.Refused word reason; state = s }
 
-abbrev pub did : EventWord → Text → State → Step
-did word what s = record { label = Label.Did word what; state = s }
+abbrev pub did : Deed → State → Step
+did deed s = record { label = Label.Did deed; state = s }
 
 -- the step where something is not there, and else the one with it
 abbrev pub unless : {A : Type 0} → Option A → Step → (A → Step) → Step
@@ -52,13 +53,13 @@ plugs s parent path hw compat reqs =
     else if not (nat_le (length s.world) 4096) then refused Plug WorldFull s
     else
     let d : Device = record { born = s.next_born; parent = over.born; path = path; hw = hw; compat = compat; reqs = reqs } in
-    did Plug path (list_node (node_born over.born s.core.nodes) (plug d s)))
+    did (Deed.Plugged path) (list_node (node_born over.born s.core.nodes) (plug d s)))
 
 abbrev pub pulls : State → Text → Step
 pulls s path =
     unless (device_of path s.world) (refused Pull NoDevice s) (λ d.
     if d.born == 0 then refused Pull RootStays s
-    else did Pull d.path (list_node (node_born d.parent s.core.nodes) (unplug d.born s)))
+    else did (Deed.Pulled d.path) (list_node (node_born d.parent s.core.nodes) (unplug d.born s)))
 
 -- a node has this one as parent
 abbrev pub has_children : List Node → Option Node → Bool
@@ -71,7 +72,7 @@ sets_window s path res =
     if d.born == 0 then refused Window RootStays s
     else if has_below d.born s.world || has_children s.core.nodes (node_born d.born s.core.nodes) then refused Window HasChildren s
     else if list_any (is_window_on res.kind (d.born ∷ [])) s.windows then refused Window SameWindow s
-    else did Window (spaced (d.path ∷ res_text res ∷ [])) (add_window d.born res s))
+    else did (Deed.Windowed d.path res) (add_window d.born res s))
 
 -- drivers ---------------------------------------------------------------------
 
@@ -79,7 +80,7 @@ abbrev pub names : State → Text → DriverKind → Step
 names s name kind =
     if is_some (find (is_named name) s.core.rack) then refused Name SameName s
     else if is_none (find (is_unnamed kind) s.core.rack) then refused Name RackEmpty s
-    else did Name name (with_core (set_rack (changed_first (is_unnamed kind) (with_name name) s.core.rack) s.core) s)
+    else did (Deed.Named name) (with_core (set_rack (changed_first (is_unnamed kind) (with_name name) s.core.rack) s.core) s)
 
 abbrev pub with_rule : Rule → Driver → Driver
 with_rule rule driver = record driver { book = driver.book ++ rule ∷ [] }
@@ -90,7 +91,7 @@ teaches s name rule =
     if not (is_scripted driver.kind) then refused Teach NotTeachable s
     else if nat_le 64 (length driver.book) then refused Teach BookFull s
     else
-    did Teach (printed_name driver.name)
+    did (Deed.Taught (printed_name driver.name))
     (with_core (set_rack (changed_first (is_named name) (with_rule rule) s.core.rack) s.core) s))
 
 -- nodes -----------------------------------------------------------------------
@@ -100,7 +101,7 @@ disables s path =
     unless (node_of path s.core.nodes) (refused Disable NoDevice s) (λ node.
     if node.serial == 0 then refused Disable RootStays s
     else if has_same path s.disabled then refused Disable AlreadyDisabled s
-    else did Disable node.path (append_task (Duty.Begins OpKind.Disable) node.serial s))
+    else did (Deed.Disabled node.path) (append_task (Duty.Begins OpKind.Disable) node.serial s))
 
 abbrev pub start_node : Option Node → State → State
 start_node None s = s
@@ -109,13 +110,13 @@ start_node (Some n) s = append_task Duty.Starting n.serial s
 abbrev pub enables : State → Text → Step
 enables s path =
     unless (find (same path) s.disabled) (refused Enable NotDisabled s) (λ own.
-    did Enable own (start_node (node_of path s.core.nodes) (enable_path path s)))
+    did (Deed.Enabled own) (start_node (node_of path s.core.nodes) (enable_path path s)))
 
 abbrev pub ejects : State → Text → Step
 ejects s path =
     unless (node_of path s.core.nodes) (refused Eject NoDevice s) (λ node.
     if node.serial == 0 then refused Eject RootStays s
-    else did Eject node.path (append_task (Duty.Begins OpKind.Eject) node.serial s))
+    else did (Deed.Ejected node.path) (append_task (Duty.Begins OpKind.Eject) node.serial s))
 
 -- the device runs, and it is in the world
 abbrev pub changes : State → Text → Reqs → Step
@@ -124,7 +125,7 @@ changes s path reqs =
     if not (is_in_world s.world node.born) then refused Change NoDevice s
     else if node.serial == 0 then refused Change RootStays s
     else if not (is_started node.state) then refused Change NotStarted s
-    else did Change node.path (append_task (Duty.Begins OpKind.Change) node.serial (change_device node.born reqs s)))
+    else did (Deed.Changed node.path) (append_task (Duty.Begins OpKind.Change) node.serial (change_device node.born reqs s)))
 
 -- handles ---------------------------------------------------------------------
 
@@ -137,7 +138,7 @@ opens s path =
     if node.serial == 0 then refused HandleOpen RootStays s
     else if is_some s.operation then refused HandleOpen Busy s
     else if not (is_started node.state) then refused HandleOpen NotStarted s
-    else did HandleOpen node.path (with_handles (opened node.serial s.handles) s))
+    else did (Deed.HandleOpened node.path) (with_handles (opened node.serial s.handles) s))
 
 -- it was the last one of a device that waits to be finished
 abbrev pub finish_due : Node → Bool → State → State
@@ -150,7 +151,7 @@ closes s path =
     unless (node_of path s.core.nodes) (refused HandleClose NoDevice s) (λ node.
     unless (find (is_handle_of node.serial) s.handles) (refused HandleClose NoHandle s) (λ h.
     let more : Bool = nat_lt 1 h.count in
-    did HandleClose node.path
+    did (Deed.HandleClosed node.path)
     (finish_due node (not more && is_surprise_removed node.state) (with_handles (closed_with node.serial s.handles more) s))))
 
 -- relations and ranges --------------------------------------------------------
@@ -169,7 +170,7 @@ relates_two s kind owner member =
     else if has (dependents s.core member.serial) owner.serial then refused Relate RelationCycle s
     else if not (is_started owner.state && is_started member.state) then refused Relate NotStarted s
     else
-    did Relate (spaced (owner.path ∷ member.path ∷ []))
+    did (Deed.Related kind owner.path member.path)
     (with_core (add_relation (record { kind = kind; owner = owner.serial; member = member.serial }) s.core) s)
 
 abbrev pub relates : State → RelKind → Text → Text → Step
@@ -183,7 +184,7 @@ abbrev pub reserves : State → Res → Step
 reserves s res =
     if is_some s.operation then refused Reserve Busy s
     else if list_any (clashes res) (s.core.reserved ++ held_by s.core.nodes) then refused Reserve InUse s
-    else did Reserve (res_text res) (with_core (record s.core { reserved = s.core.reserved ++ res ∷ [] }) s)
+    else did (Deed.Reserved res) (with_core (record s.core { reserved = s.core.reserved ++ res ∷ [] }) s)
 
 -- complete --------------------------------------------------------------------
 
@@ -251,23 +252,22 @@ waits_for minor (Some w) = w.waits && same_minor w.minor minor
 abbrev pub operation_waits : Minor → ℕ → Operation → Bool
 operation_waits minor k o = is_number k (operation_at o) && waits_for minor (operation_walk o)
 
-abbrev pub complete_what : Node → Minor → Bool → Text
-complete_what node minor ok =
-    spaced (node.path ∷ minor_text minor ∷ shown_text (shown_of minor (answer_of ok)) ∷ [])
+abbrev pub completion : Node → Minor → Bool → Deed
+completion node minor ok = Deed.Completed node.path minor (shown_of minor (answer_of ok))
 
 -- the start of a device
 abbrev pub completes_start : State → Node → Minor → Bool → Step
 completes_start s node minor ok =
     unless (activity_at node.serial s.activities) (refused Complete NoSuchRequest s) (λ a.
     if not (waits_for minor (phase_walk a.phase)) then refused Complete NoSuchRequest s
-    else did Complete (complete_what node minor ok) (set_phase node.serial (completed_phase (answer_of ok) a.phase) s))
+    else did (completion node minor ok) (set_phase node.serial (completed_phase (answer_of ok) a.phase) s))
 
 -- at a node: the operation, or else a start
 abbrev pub completes_at : State → Node → Minor → Bool → Step
 completes_at s node minor ok =
     unless s.operation (completes_start s node minor ok) (λ o.
     if not (operation_waits minor node.serial o) then completes_start s node minor ok
-    else did Complete (complete_what node minor ok) (set_operation (Some (completed (answer_of ok) o)) s))
+    else did (completion node minor ok) (set_operation (Some (completed (answer_of ok) o)) s))
 
 abbrev pub completes : State → Text → Minor → Bool → Step
 completes s path minor ok =

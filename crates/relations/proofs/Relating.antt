@@ -8,7 +8,7 @@ use Rattle.pnp_model.specs.Cores.{node_at}
 use Rattle.pnp_model.specs.Records.{Node, Core, Relation, State, Step}
 use Rattle.pnp_model.specs.Trees.{dependents, is_up}
 use Rattle.pnp_model.specs.States.{with_core}
-use Rattle.pnp_labels.specs.Texts.{spaced}
+use Rattle.pnp_labels.specs.declared.deed.Deed.{Deed}
 use Rattle.pnp_labels.specs.declared.label.EventWord.{EventWord}
 use Rattle.pnp_labels.specs.declared.label.Reason.{Reason}
 use Rattle.pnp_model.proofs.Guards.{where_true, where_false}
@@ -85,7 +85,7 @@ module _ (nodes : List Node) (owner member : ℕ) (kind : RelKind) (old : List R
         abbrev last : Step
         last =
             if not (is_started o.state && is_started m.state) then refused EventWord.Relate Reason.NotStarted s
-            else did EventWord.Relate (spaced (o.path ∷ m.path ∷ [])) (with_core (add_relation (record { kind = kind; owner = o.serial; member = m.serial }) s.core) s)
+            else did (Deed.Related kind o.path m.path) (with_core (add_relation (record { kind = kind; owner = o.serial; member = m.serial }) s.core) s)
 
         past : relates_two s kind o m ≡ last
         past =
@@ -100,7 +100,7 @@ module _ (nodes : List Node) (owner member : ℕ) (kind : RelKind) (old : List R
             ap (λ (x : Core). x.relations ++ record { kind = kind; owner = o.serial; member = m.serial } ∷ []) c
             ∙ (ap (λ i. old ++ record { kind = kind; owner = i; member = m.serial } ∷ []) p ∙ (ap (λ i. old ++ record { kind = kind; owner = owner; member = i } ∷ []) q ∙ sym f)) in
             past ∙ where_false (not (is_started o.state && is_started m.state)) _ _ (ap not e)
-            ∙ ap (λ rs. did EventWord.Relate (spaced (o.path ∷ m.path ∷ [])) (with_core (record s.core { relations = rs }) s)) is
+            ∙ ap (λ rs. did (Deed.Related kind o.path m.path) (with_core (record s.core { relations = rs }) s)) is
         by_up false e (Ok done) f = absurd f
         by_up true e (Err NotStarted) f = absurd f
         by_up false e (Err NotStarted) f = (f, past ∙ where_true (not (is_started o.state && is_started m.state)) _ _ (ap not e))

@@ -6,8 +6,8 @@ use Rattle.pnp_model.specs.Removals.{is_ejecting}
 use Rattle.pnp_model.specs.States.{with_core}
 use Rattle.pnp_model.specs.Events.{refused, did, relates_two}
 use Rattle.pnp_model.specs.Trees.{is_up}
-use Rattle.pnp_labels.specs.Texts.{spaced}
 use Rattle.pnp_labels.specs.declared.words.RelKind.{RelKind}
+use Rattle.pnp_labels.specs.declared.deed.Deed.{Deed}
 use Rattle.pnp_labels.specs.declared.label.EventWord.{EventWord}
 use Rattle.pnp_labels.specs.declared.label.Reason.{Reason}
 use Rattle.devnode_tree.specs.Cores.{at_related}
@@ -18,7 +18,7 @@ use Rattle.relations.specs.declared.error.RelateError.TheVariants.{SelfRelation,
 abbrev pub Relates : State → RelKind → Node → Node → List Relation → Result (Unit {0}) RelateError → List Relation → Type 0
 Relates s kind owner member old (Ok done) new =
     relates_two s kind owner member
-    ≡ did EventWord.Relate (spaced (owner.path ∷ member.path ∷ [])) (with_core (record s.core { relations = new }) s)
+    ≡ did (Deed.Related kind owner.path member.path) (with_core (record s.core { relations = new }) s)
 Relates s kind owner member old (Err SelfRelation) new =
     (new ≡ old) × (relates_two s kind owner member ≡ refused EventWord.Relate Reason.SelfRelation s)
 Relates s kind owner member old (Err SameRelation) new =

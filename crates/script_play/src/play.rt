@@ -18,7 +18,7 @@ use script_reader::{Next, Reader};
 use std::alloc::Global;
 use std::marker::Model;
 
-/// The label of an event, and what the event said. This project's own.
+/// The label of an event, and what the event said beside it. This project's own.
 #[derive(Drop)]
 pub struct Happened {
     pub label: Label,

@@ -1,57 +1,40 @@
 use device_ids::{Text, WantOfMemory};
-use pnp_labels::{Event, Minor, RelKind};
-use resource_reqs::{Reqs, Res};
+use pnp_labels::Event;
+use resource_reqs::Reqs;
 use std::alloc::Global;
 
-/// What an event said that the tree of devices does not show, and its label only in words. This project's own.
+/// What an event said that its label does not have: paths as the script spells them, and what a device requires from now on. This
+/// project's own.
 #[derive(Drop)]
 pub enum Said {
-    /// A driver gets this name.
-    Name(Text),
-    /// These two are to be related.
+    /// The two that are to be related.
     Relate {
-        kind: RelKind,
         owner: Text,
         member: Text,
     },
-    /// This range is for nobody.
-    Reserve(Res),
-    /// A pended request is completed.
+    /// The device whose request is completed.
     Complete {
         path: Text,
-        minor: Minor,
-        ok: bool,
     },
-    /// A device is to require something else.
+    /// What a device is to require.
     Change {
-        path: Text,
         reqs: Reqs,
     },
     /// Anything else.
     Other,
 }
 
-/// What an event says.
+/// What an event says beside its label.
 pub fn said_of(alloc: Global, event: &Event) -> Result<Said, WantOfMemory> {
     match event {
-        Event::Name { name, .. } => Ok(Said::Name(name.copy(alloc)?)),
-        Event::Relate {
-            kind,
-            owner,
-            member,
-        } => Ok(Said::Relate {
-            kind: *kind,
+        Event::Relate { owner, member, .. } => Ok(Said::Relate {
             owner: owner.text(alloc)?,
             member: member.text(alloc)?,
         }),
-        Event::Reserve { res } => Ok(Said::Reserve(*res)),
-        Event::Complete { path, minor, ok } => Ok(Said::Complete {
+        Event::Complete { path, .. } => Ok(Said::Complete {
             path: path.text(alloc)?,
-            minor: *minor,
-            ok: *ok,
         }),
-        Event::Change { path, reqs } => Ok(Said::Change {
-            path: path.text(alloc)?,
+        Event::Change { reqs, .. } => Ok(Said::Change {
             reqs: reqs.copy(alloc)?,
         }),
         _ => Ok(Said::Other),

@@ -11,7 +11,7 @@ use device_ids::WantOfMemory;
 use devnode_tree::Tree;
 use driver_rack::Drivers;
 use pnp_labels::Label;
-use script_play::{Happened, Play, Said};
+use script_play::{Happened, Play};
 use std::alloc::Global;
 use view_page::Page;
 
@@ -31,23 +31,7 @@ fn draw_label(
     drawn
 }
 
-/// The label of an event is drawn.
-fn draw_said(
-    alloc: Global,
-    sketch: &mut Sketch,
-    tree: &Tree,
-    page: &mut Page,
-    label: &Label,
-    said: &Said,
-) -> Result<(), WantOfMemory>
-    ensures elements { OnOk result (page.new.elements ≡ page.old.elements) }
-    ensures marks { OnOk result (page.new.marks ≡ page.old.marks ++ asks_of label.now) }
-{
-    sketch.learn(label, said)?;
-    sketch.draw(alloc, tree, page, label)
-}
-
-/// The same of what happened, which is then let go.
+/// The same of what happened.
 fn draw_event(
     alloc: Global,
     sketch: &mut Sketch,
@@ -59,10 +43,8 @@ fn draw_event(
     ensures marks { OnOk result (page.new.marks ≡ page.old.marks ++ asks_of happened.label) }
 {
     let Happened { label, said } = happened;
-    let drawn = draw_said(alloc, sketch, tree, page, &label, &said);
-    drop(label);
     drop(said);
-    drawn
+    draw_label(alloc, sketch, tree, page, label)
 }
 
 /// All that follows by itself is drawn.

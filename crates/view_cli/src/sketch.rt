@@ -4,9 +4,8 @@ ghost use Rattle.view_trace.specs.Asks.{asks_of};
 
 use device_ids::WantOfMemory;
 use devnode_tree::Tree;
-use pnp_labels::{Label, OpKind};
+use pnp_labels::{Deed, Label, OpKind};
 use resource_reqs::Res;
-use script_play::Said;
 use std::alloc::Global;
 use std::mem;
 use view_drawings::{
@@ -89,17 +88,6 @@ impl Sketch {
         }
     }
 
-    /// What an event said is kept, if it was not refused.
-    pub fn learn(&mut self, label: &Label, said: &Said) -> Result<(), WantOfMemory> {
-        match (label, said) {
-            (Label::Did { .. }, Said::Reserve(res)) => {
-                self.reserved.push(*res)?;
-                Ok(())
-            }
-            _ => Ok(()),
-        }
-    }
-
     /// Keeps what devices hold after a commit, and what they held before.
     fn keep_change(&mut self, alloc: Global, tree: &Tree, movers: u64) -> Result<(), WantOfMemory> {
         let before = mem::replace(&mut self.before, Vec::new(alloc));
@@ -136,6 +124,10 @@ impl Sketch {
                 Ok(())
             }
             Label::Commit { movers } => self.keep_change(alloc, tree, *movers),
+            Label::Did(Deed::Reserved { res }) => {
+                self.reserved.push(*res)?;
+                Ok(())
+            }
             _ => Ok(()),
         }
     }

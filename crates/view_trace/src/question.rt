@@ -43,7 +43,7 @@ pub fn line_of(alloc: Global, label: &Label) -> Result<Vec<u8>, WantOfMemory>
 /// The class of a label's row.
 pub fn class_of(label: &Label) -> &'static [u8] {
     match label {
-        Label::Did { .. } => b"event",
+        Label::Did(_) => b"event",
         Label::Refused { .. } => b"event refused",
         Label::Asked { .. } | Label::Add { .. } => b"ask",
         Label::State { .. } => b"state",

@@ -5,7 +5,7 @@ ghost use Rattle.view_trace.specs.Asks.{asks_of};
 use crate::arrow;
 use crate::question::{Question, class_of, line_of, question_of};
 use device_ids::{Text, TextList, WantOfMemory};
-use pnp_labels::{EventWord, Label};
+use pnp_labels::{Deed, Label};
 use std::alloc::Global;
 use view_page::{Attribute, Page, Tag};
 
@@ -65,12 +65,9 @@ impl Rows {
     /// What a label says of the rows from its own on.
     fn learn(&mut self, alloc: Global, label: &Label) -> Result<(), WantOfMemory> {
         match label {
-            Label::Did {
-                word: EventWord::Name,
-                what,
-            } => {
+            Label::Did(Deed::Named { driver }) => {
                 if self.lanes.len() < MOST_LANES {
-                    self.lanes.push(what.copy(alloc)?)?;
+                    self.lanes.push(driver.copy(alloc)?)?;
                 }
             }
             Label::Begin { .. } => self.operation = true,

@@ -12,7 +12,7 @@ use crate::weave::{push_label, push_notes};
 use device_ids::WantOfMemory;
 use devnode_tree::Tree;
 use driver_rack::Drivers;
-use pnp_labels::{EventWord, Label};
+use pnp_labels::{Deed, Label, Shown};
 use script_play::{Happened, Play, Said};
 use std::alloc::Global;
 use why_notes::{Facts, notes_on};
@@ -32,29 +32,27 @@ fn tell_label(
     push_notes(alloc, text, &notes)
 }
 
-/// What an event said is kept, where a later note may have to know it.
-fn learn(alloc: Global, facts: &mut Facts, said: Said) -> Result<(), WantOfMemory> {
-    match said {
-        Said::Name(name) => facts.named(name),
-        Said::Relate {
-            kind,
-            owner,
-            member,
-        } => facts.related(kind, owner, member),
-        Said::Reserve(res) => facts.reserved(res),
-        Said::Complete { path, minor, ok } => {
-            if ok {
+/// What was done is kept, where a later note may have to know it, with what the event said of it.
+fn learn(alloc: Global, facts: &mut Facts, deed: &Deed, said: Said) -> Result<(), WantOfMemory> {
+    match (deed, said) {
+        (Deed::Named { driver }, _) => facts.named(driver.copy(alloc)?),
+        (Deed::Reserved { res }, _) => facts.reserved(*res),
+        (Deed::Related { kind, .. }, Said::Relate { owner, member }) => {
+            facts.related(*kind, owner, member)
+        }
+        (Deed::Completed { minor, shown, .. }, Said::Complete { path }) => {
+            if *shown == Shown::Ok {
                 Ok(())
             } else {
-                facts.failed(alloc, &path, minor)
+                facts.failed(alloc, &path, *minor)
             }
         }
-        Said::Change { path, reqs } => facts.changes(path, reqs),
-        Said::Other => Ok(()),
+        (Deed::Changed { path }, Said::Change { reqs }) => facts.changes(path.copy(alloc)?, reqs),
+        _ => Ok(()),
     }
 }
 
-/// What was said is kept, if it was not refused.
+/// The same of an event's label, if the event was not refused.
 fn learn_from(
     alloc: Global,
     facts: &mut Facts,
@@ -62,7 +60,7 @@ fn learn_from(
     said: Said,
 ) -> Result<(), WantOfMemory> {
     match label {
-        Label::Did { .. } => learn(alloc, facts, said),
+        Label::Did(deed) => learn(alloc, facts, deed, said),
         _ => Ok(()),
     }
 }

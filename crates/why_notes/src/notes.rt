@@ -12,7 +12,7 @@ use crate::texts::node_of;
 use crate::ways::tell_ways;
 use device_ids::{Text, WantOfMemory};
 use devnode_tree::{Node, Tree};
-use pnp_labels::{EventWord, Label, OpEnd, OpKind, Problem};
+use pnp_labels::{Deed, Label, OpEnd, OpKind, Problem};
 use resource_reqs::Reqs;
 use std::alloc::Global;
 
@@ -143,7 +143,7 @@ fn keep(alloc: Global, facts: &mut Facts, tree: &Tree, label: &Label) -> Result<
             shown,
         } => keep_asked(alloc, facts, *minor, path, driver, *shown)?,
         Label::Fits { .. } => keep_holdings(alloc, facts, tree)?,
-        Label::Did { word, .. } => facts.windows = facts.windows || *word == EventWord::Window,
+        Label::Did(Deed::Windowed { .. }) => facts.windows = true,
         _ => {}
     }
     Ok(())

@@ -53,5 +53,5 @@ returns-clause-done g c =
     let at = subst (λ (t : Tree). Some c.at.result.now ≡ node_at c.in-Some.serial t.nodes) c.tree-2.ensures c.at.ensures.node in
     changes s.devices (g.R.Drivers.rows s.rack) s.disabled.paths s.starts.works (option_map operation_of s.operation) s.tasks.tasks c.args.self.now c.self.view_is order
     c.args.reqs c.args.path.now c.in-Some.serial found (sym on ∙ c.is_in_world.ensures.born) c.if-serial-eq0.false c.at.result.now at
-    c.require.new.self c.append.new.self.tasks c.in_ok-what.what (ap (λ (n : Node). is_started n.state) (sym c.behind-tree.view_is) ∙ (sym c.is_started.ensures ∙ up)) c.in_ok-what.ensures.path c.require.ensures
+    c.require.new.self c.append.new.self.tasks c.in_ok-path.path (ap (λ (n : Node). is_started n.state) (sym c.behind-tree.view_is) ∙ (sym c.is_started.ensures ∙ up)) c.in_ok-path.ensures.path c.require.ensures
     (c.append.ensures.tasks ∙ ap (λ ts. ts ++ task_of (Duty.Begin OpKind.Change, c.in-Some.serial) ∷ []) c.in_ok-make_room.ensures.tasks)

@@ -33,8 +33,8 @@ returns-clause-done g c =
     let at = subst (λ (t : Tree). Some c.at.result.now ≡ node_at k t.nodes) c.tree-2.ensures c.at.ensures.node in
     let due = c.is_due-due.ensures ∙ ap (λ (n : Node). not (nat_lt 1 count) && is_surprise_removed n.state) c.behind-tree.view_is in
     closes s.devices (g.R.Drivers.rows s.rack) s.disabled.paths s.starts.works (option_map operation_of s.operation) s.tasks.tasks c.args.self.now c.self.view_is
-    c.own_path.ensures.order c.args.path.now k found c.at.result.now at count c.if-count-eq0.false c.handles_to-count.ensures.handle c.close.new.self c.finish_if.new.tasks.tasks c.in_ok-what.what
-    c.in_ok-what.ensures.path
+    c.own_path.ensures.order c.args.path.now k found c.at.result.now at count c.if-count-eq0.false c.handles_to-count.ensures.handle c.close.new.self c.finish_if.new.tasks.tasks c.in_ok-path.path
+    c.in_ok-path.ensures.path
     (c.close.ensures ∙ ap (λ n. record s.devices { handles = closed_with k s.devices.handles (nat_lt 1 n) }) (sym c.handles_to-count.ensures.count))
     (c.finish_if.ensures ∙ ap (λ ts. cond c.is_due-due.result (ts ++ task_of (Duty.Begin OpKind.Finish, k) ∷ []) ts) c.in_ok-make_room.ensures.tasks
     ∙ ap (λ b. cond b (s.tasks.tasks ++ task_of (Duty.Begin OpKind.Finish, k) ∷ []) s.tasks.tasks) due)

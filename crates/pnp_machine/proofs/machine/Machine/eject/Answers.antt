@@ -21,6 +21,6 @@ pub returns-clause-done : goal.returns-clause-done
 returns-clause-done g c =
     let found = subst (λ (t : Tree). Some c.in-Some.serial ≡ option_map (λ n. n.serial) (node_of c.args.path.now t.nodes)) c.tree.ensures c.in-Some.ensures in
     ejects c.self.inside.devices (g.R.Drivers.rows c.self.inside.rack) c.self.inside.disabled.paths c.self.inside.starts.works (option_map operation_of c.self.inside.operation)
-    c.self.inside.tasks.tasks c.args.self.now c.self.view_is c.own_path.ensures.order c.append.new.self.tasks c.args.path.now c.in-Some.serial found c.if-serial-eq0.false c.in_ok-what.what
-    c.in_ok-what.ensures.path
+    c.self.inside.tasks.tasks c.args.self.now c.self.view_is c.own_path.ensures.order c.append.new.self.tasks c.args.path.now c.in-Some.serial found c.if-serial-eq0.false c.in_ok-path.path
+    c.in_ok-path.ensures.path
     (c.append.ensures.tasks ∙ ap (λ ts. ts ++ task_of (Duty.Begin OpKind.Eject, c.in-Some.serial) ∷ []) c.in_ok-make_room.ensures.tasks)

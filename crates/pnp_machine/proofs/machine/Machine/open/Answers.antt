@@ -34,5 +34,5 @@ returns-clause-done g c =
     let at = subst (λ (t : Tree). Some c.at.result.now ≡ node_at c.in-Some.serial t.nodes) c.tree-2.ensures c.at.ensures.node in
     opens s.devices (g.R.Drivers.rows s.rack) s.disabled.paths s.starts.works (option_map operation_of s.operation) s.tasks.tasks c.args.self.now c.self.view_is
     c.own_path.ensures.order c.args.path.now c.in-Some.serial found c.at.result.now at
-    (idle_if s.operation (sym c.is_some.ensures ∙ c.if-is_some.false)) c.if-serial-eq0.false c.open.new.self c.in_ok-what.what
-    (ap (λ (n : Node). is_started n.state) (sym c.behind-tree.view_is) ∙ sym c.is_started.ensures ∙ c.if-not-is_started.false) c.in_ok-what.ensures.path c.in_ok-open.ensures.opened
+    (idle_if s.operation (sym c.is_some.ensures ∙ c.if-is_some.false)) c.if-serial-eq0.false c.open.new.self c.in_ok-path.path
+    (ap (λ (n : Node). is_started n.state) (sym c.behind-tree.view_is) ∙ sym c.is_started.ensures ∙ c.if-not-is_started.false) c.in_ok-path.ensures.path c.in_ok-open.ensures.opened
