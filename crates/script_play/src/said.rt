@@ -8,18 +8,11 @@ use std::alloc::Global;
 #[derive(Drop)]
 pub enum Said {
     /// The two that are to be related.
-    Relate {
-        owner: Text,
-        member: Text,
-    },
+    Relate { owner: Text, member: Text },
     /// The device whose request is completed.
-    Complete {
-        path: Text,
-    },
+    Complete { path: Text },
     /// What a device is to require.
-    Change {
-        reqs: Reqs,
-    },
+    Change { reqs: Reqs },
     /// Anything else.
     Other,
 }

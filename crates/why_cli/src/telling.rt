@@ -32,11 +32,9 @@ fn tell_label(
     push_notes(alloc, text, &notes)
 }
 
-/// What was done is kept, where a later note may have to know it, with what the event said of it.
+/// What an event said is kept, where a later note may have to know it and its label does not have it.
 fn learn(alloc: Global, facts: &mut Facts, deed: &Deed, said: Said) -> Result<(), WantOfMemory> {
     match (deed, said) {
-        (Deed::Named { driver }, _) => facts.named(driver.copy(alloc)?),
-        (Deed::Reserved { res }, _) => facts.reserved(*res),
         (Deed::Related { kind, .. }, Said::Relate { owner, member }) => {
             facts.related(*kind, owner, member)
         }
@@ -52,7 +50,7 @@ fn learn(alloc: Global, facts: &mut Facts, deed: &Deed, said: Said) -> Result<()
     }
 }
 
-/// The same of an event's label, if the event was not refused.
+/// What an event said is kept, if it was not refused.
 fn learn_from(
     alloc: Global,
     facts: &mut Facts,

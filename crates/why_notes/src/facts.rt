@@ -3,7 +3,7 @@ use device_ids::{Text, TextList, WantOfMemory};
 use inf_reader::Inf;
 use inf_sections::InfPlaces;
 use pnp_labels::{Minor, OpKind, RelKind};
-use resource_reqs::{Reqs, Res, ResList};
+use resource_reqs::{Reqs, ResList};
 use std::alloc::Global;
 
 /// Two devices that were related.
@@ -111,11 +111,6 @@ impl Facts {
         }
     }
 
-    /// A driver got a name.
-    pub fn named(&mut self, name: Text) -> Result<(), WantOfMemory> {
-        self.drivers.push(name)
-    }
-
     /// Two devices were related.
     pub fn related(
         &mut self,
@@ -129,11 +124,6 @@ impl Facts {
             member,
         })?;
         Ok(())
-    }
-
-    /// A range was reserved.
-    pub fn reserved(&mut self, res: Res) -> Result<(), WantOfMemory> {
-        self.reserved.push(res)
     }
 
     /// A device is to require something else.

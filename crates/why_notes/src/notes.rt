@@ -128,6 +128,17 @@ fn on_end(
     }
 }
 
+/// Keeps what later notes have to know of what was done.
+fn keep_deed(alloc: Global, facts: &mut Facts, deed: &Deed) -> Result<(), WantOfMemory> {
+    match deed {
+        Deed::Named { driver } => facts.drivers.push(driver.copy(alloc)?)?,
+        Deed::Reserved { res } => facts.reserved.push(*res)?,
+        Deed::Windowed { .. } => facts.windows = true,
+        _ => {}
+    }
+    Ok(())
+}
+
 /// Keeps what later notes have to know of a label.
 fn keep(alloc: Global, facts: &mut Facts, tree: &Tree, label: &Label) -> Result<(), WantOfMemory> {
     match label {
@@ -143,7 +154,7 @@ fn keep(alloc: Global, facts: &mut Facts, tree: &Tree, label: &Label) -> Result<
             shown,
         } => keep_asked(alloc, facts, *minor, path, driver, *shown)?,
         Label::Fits { .. } => keep_holdings(alloc, facts, tree)?,
-        Label::Did(Deed::Windowed { .. }) => facts.windows = true,
+        Label::Did(deed) => keep_deed(alloc, facts, deed)?,
         _ => {}
     }
     Ok(())
