@@ -3,8 +3,8 @@ use crate::words::{Minor, RelKind};
 use device_ids::Text;
 use resource_reqs::Res;
 
-/// What was done when an event was taken: one variant for each of `Event`. A path is spelled as tree, world or disabled list spell
-/// it, where the event found it. This project's own.
+/// What was done when an event was taken: one variant for each of `Event`. A path is spelled as the world, the tree or the list of
+/// disabled paths has it, and not as the event has it. This project's own.
 pub enum Deed {
     /// A device arrived.
     Plugged {

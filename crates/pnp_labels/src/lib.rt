@@ -19,5 +19,5 @@ pub use label::{EventWord, Label, NoticeKind, OpEnd, OpKind, Reason, RemoveStep,
 pub use line::{decimal, label_line, push_line, push_res, res_text};
 pub use lists::{BornList, SerialList, Stack};
 pub use states::{DevState, Problem, Verdict};
-pub use texts::{minor_text, problem_text, shown_text, state_text};
+pub use texts::{minor_text, problem_text, state_text};
 pub use words::{Answer, AskWhat, DriverKind, Minor, RelKind};
