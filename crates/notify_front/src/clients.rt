@@ -51,10 +51,8 @@ impl<R: Drivers> Desk<R> {
         if self.registrations.has(&client, device) {
             return Ok(refusal(word, Reason::SameWatch));
         }
-        let deed = Deed::Watched {
-            client: client.copy(self.alloc)?,
-            path: node.path.text(self.alloc)?,
-        };
+        let name = client.copy(self.alloc)?;
+        let own = node.path.text(self.alloc)?;
         let path = node.path.text(self.alloc)?;
         self.registrations.put(Registration {
             client,
@@ -62,7 +60,10 @@ impl<R: Drivers> Desk<R> {
             path,
             agrees,
         })?;
-        Ok(Label::Did(deed))
+        Ok(Label::Did(Deed::Watched {
+            client: name,
+            path: own,
+        }))
     }
 
     /// A client is to hear no more of a device.

@@ -49,8 +49,8 @@ returns-clause-done g c =
     let order = subst (λ (ns : List Node). Ascends 0 (serials_of ns)) c.tree-2.ensures c.at-node.ensures.tree.ascends in
     let at = subst (λ (ns : List Node). Some x ≡ node_at k ns) c.tree-2.ensures c.at-node.ensures.node in
     let path_is : c.in_ok-path.path ≡ x.path = c.in_ok-path.ensures ∙ ap (λ (n : Node). n.path) c.node.view_is in
-    let own_is : c.in_ok-2.value ≡ x.path = c.in_ok-2.ensures ∙ ap (λ (n : Node). n.path) c.node.view_is in
-    let deed : Deed.Watched c.in_ok.value c.in_ok-2.value ≡ Deed.Watched c.args.client x.path = ap (λ (n : Text). Deed.Watched n c.in_ok-2.value) c.in_ok.ensures ∙ ap (Deed.Watched c.args.client) own_is in
+    let own_is : c.in_ok-own.own ≡ x.path = c.in_ok-own.ensures ∙ ap (λ (n : Node). n.path) c.node.view_is in
+    let deed : Deed.Watched c.in_ok-name.name c.in_ok-own.own ≡ Deed.Watched c.args.client x.path = ap (λ (n : Text). Deed.Watched n c.in_ok-own.own) c.in_ok-name.ensures ∙ ap (Deed.Watched c.args.client) own_is in
     watch_done m c.self.inside.registrations c.self.inside.round c.args.self.now c.self.view_is c.args.client c.args.path.now k found (sym c.busy.ensures ∙ c.if-busy.false) order x at c.args.agrees
-    (ap (λ (n : Node). is_started n.state) (sym c.node.view_is) ∙ sym c.is_started.ensures ∙ c.if-not-is_started.false) (Deed.Watched c.in_ok.value c.in_ok-2.value) c.put.new.self (sym c.has.ensures ∙ c.if-has.false) deed
+    (ap (λ (n : Node). is_started n.state) (sym c.node.view_is) ∙ sym c.is_started.ensures ∙ c.if-not-is_started.false) (Deed.Watched c.in_ok-name.name c.in_ok-own.own) c.put.new.self (sym c.has.ensures ∙ c.if-has.false) deed
     (c.in_ok-put.ensures.put ∙ ap (λ p. put_before (comes_after k) (record { client = c.args.client; device = k; path = p; agrees = c.args.agrees }) c.self.inside.registrations) path_is)
