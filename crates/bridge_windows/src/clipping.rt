@@ -1,4 +1,4 @@
-ghost use Rattle.std.specs.Prelude.{◌≡◌, ◌↔◌, All, IfOk, IsSome, List};
+ghost use Rattle.std.specs.Prelude.{◌≡◌, ◌≢◌, ◌<◌, ◌↔◌, ◌++◌, ◌∷◌, [], All, IfOk, OnOk, IsSome, List, length};
 ghost use Rattle.resource_reqs.specs.Resources.{Res, Whole};
 ghost use Rattle.pnp_model.specs.Clips.{IsInRoom};
 ghost use Rattle.pnp_model.specs.Cores.{node_at};
@@ -39,38 +39,76 @@ fn clipped_want(want: &Want, room: Room) -> Want
     }
 }
 
+/// Appends a want to a group that has room: memory alone can be wanting.
+fn push_want(group: &mut Group, want: Want) -> Result<(), WantOfMemory>
+    requires { length group.old < 16 }
+    ensures { OnOk result (group.new ≡ group.old ++ want ∷ []) }
+{
+    match group.push(want) {
+        Ok(()) => Ok(()),
+        Err(ReqError::WantOfMemory) => Err(AllocError),
+        Err(ReqError::Full | ReqError::EmptyPart) => unreachable!(),
+    }
+}
+
+/// Appends a group that is not empty to a list that has room: memory alone can be wanting.
+fn push_group(list: &mut AltList, group: Group) -> Result<(), WantOfMemory>
+    requires room { length list.old < 16 }
+    requires some { group ≢ [] }
+    ensures { OnOk result (list.new ≡ list.old ++ group ∷ []) }
+{
+    match list.push(group) {
+        Ok(()) => Ok(()),
+        Err(ReqError::WantOfMemory) => Err(AllocError),
+        Err(ReqError::Full | ReqError::EmptyPart) => unreachable!(),
+    }
+}
+
+/// Appends a list that is not empty to requirements that have room: memory alone can be wanting.
+fn push_list(reqs: &mut Reqs, list: AltList) -> Result<(), WantOfMemory>
+    requires room { length reqs.old < 8 }
+    requires some { list ≢ [] }
+    ensures { OnOk result (reqs.new ≡ reqs.old ++ list ∷ []) }
+{
+    match reqs.push(list) {
+        Ok(()) => Ok(()),
+        Err(ReqError::WantOfMemory) => Err(AllocError),
+        Err(ReqError::Full | ReqError::EmptyPart) => unreachable!(),
+    }
+}
+
 /// Each want of a group cut to the room of its kind.
-fn clipped_group(alloc: Global, rooms: &Rooms, group: &Group) -> Result<Group, ReqError>
+fn clipped_group(alloc: Global, rooms: &Rooms, group: &Group) -> Result<Group, WantOfMemory>
     ensures { IfOk result (λ clipped. clipped ≡ group_in rooms.now group.now) }
 {
     let mut clipped = Group::new(alloc);
     for at in 0..group.len() {
         let want = group.get(at);
-        clipped.push(clipped_want(want, rooms.of(want.kind)))?;
+        push_want(&mut clipped, clipped_want(want, rooms.of(want.kind)))?;
     }
     Ok(clipped)
 }
 
 /// Each want of a list cut to the room of its kind.
-fn clipped_list(alloc: Global, rooms: &Rooms, list: &AltList) -> Result<AltList, ReqError>
+fn clipped_list(alloc: Global, rooms: &Rooms, list: &AltList) -> Result<AltList, WantOfMemory>
     ensures { IfOk result (λ clipped. clipped ≡ list_in rooms.now list.now) }
 {
     let mut clipped = AltList::new(alloc);
     for at in 0..list.len() {
         let group = clipped_group(alloc, rooms, list.get(at))?;
-        clipped.push(group)?;
+        push_group(&mut clipped, group)?;
     }
     Ok(clipped)
 }
 
 /// Each want cut to the room of its kind. A part is as long as the one that it comes from, so none is too long.
-fn clipped_reqs(alloc: Global, rooms: &Rooms, reqs: &Reqs) -> Result<Reqs, ReqError>
+fn clipped_reqs(alloc: Global, rooms: &Rooms, reqs: &Reqs) -> Result<Reqs, WantOfMemory>
     ensures { IfOk result (λ clipped. clipped ≡ clip_by (room_in rooms.now) reqs.now) }
 {
     let mut clipped = Reqs::new(alloc);
     for at in 0..reqs.len() {
         let list = clipped_list(alloc, rooms, reqs.get(at))?;
-        clipped.push(list)?;
+        push_list(&mut clipped, list)?;
     }
     Ok(clipped)
 }
@@ -93,8 +131,5 @@ pub fn clip(
     ensures whole { IfOk result (λ clipped. (holds : List Res) → Whole clipped holds ↔ (Whole reqs.now holds × All (IsInRoom (room bridges.now tree.now.nodes parent)) holds)) }
 {
     let rooms = Rooms::below(tree, bridges, parent);
-    match clipped_reqs(alloc, &rooms, reqs) {
-        Ok(clipped) => Ok(clipped),
-        Err(_) => Err(AllocError),
-    }
+    clipped_reqs(alloc, &rooms, reqs)
 }

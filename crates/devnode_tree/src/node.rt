@@ -2,7 +2,7 @@ ghost use Rattle.std.specs.Prelude.{◌≡◌, IfOk};
 ghost use Rattle.pnp_model.specs.Cores.{fresh_node};
 ghost use Rattle.pnp_model.specs.Runs.{root_node};
 
-use device_ids::{IdList, InstancePath, WantOfMemory};
+use device_ids::{IdList, InstancePath, PathError, WantOfMemory};
 use pnp_labels::{DevState, Problem, Stack};
 use resource_reqs::{Reqs, ResList};
 use std::alloc::{AllocError, Global};
@@ -63,13 +63,22 @@ impl Model for Node {
 /// The path of the root.
 const ROOT: &[u8] = b"HTREE\\ROOT\\0";
 
+/// The path of the root, which only memory can be wanting for.
+fn root_path(alloc: Global) -> Result<InstancePath, WantOfMemory>
+    ensures { IfOk result (λ path. path ≡ root_node.path) }
+{
+    match InstancePath::read(alloc, ROOT) {
+        Ok(path) => Ok(path),
+        Err(PathError::WantOfMemory) => Err(AllocError),
+        Err(PathError::Parts | PathError::BadId) => unreachable!(),
+    }
+}
+
 /// The root as it stands in a new tree.
 pub(crate) fn root(alloc: Global) -> Result<Node, WantOfMemory>
     ensures { IfOk result (λ node. node ≡ root_node) }
 {
-    let Ok(path) = InstancePath::read(alloc, ROOT) else {
-        return Err(AllocError);
-    };
+    let path = root_path(alloc)?;
     Ok(Node {
         serial: 0,
         parent: 0,

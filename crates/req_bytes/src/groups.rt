@@ -1,5 +1,5 @@
 //! The groups of a list that is being read.
-ghost use Rattle.std.specs.Prelude.{Ok, ◌≡◌, ◌≢◌, ◌≤◌, ◌<◌, ◌*◌, ◌+◌, ◌++◌, ◌∷◌, [], List, length, true, false, OnOk, IfOk};
+ghost use Rattle.std.specs.Prelude.{Ok, ◌≡◌, ◌≢◌, ◌≤◌, ◌<◌, ◌*◌, ◌+◌, ◌++◌, ◌∷◌, [], List, length, true, false, OnOk, IfOk, IsOkUnless};
 ghost use Rattle.std.specs.List.{AllByRecursion};
 ghost use Rattle.resource_reqs.specs.Resources.{Group, Want};
 ghost use Rattle.req_bytes.specs.Bytes.{put, taken, by_sort, placed, is_alternative, want_in, items_in, pieces};
@@ -7,7 +7,7 @@ ghost use Rattle.req_bytes.specs.Readings.{opened, IsOpen, Gave, Gives, WantIs};
 
 use crate::descriptor::{Sort, is_alternative, sort_of, want_in};
 use crate::error::BytesError;
-use resource_reqs::{AltList, Group, Want};
+use resource_reqs::{AltList, Group, ReqError, Want};
 use std::alloc::Global;
 use std::mem;
 
@@ -24,6 +24,33 @@ struct OpenGroups {
     last: Group,
 }
 
+/// Appends a want to a group that has room: memory alone can be wanting.
+fn push_want(group: &mut Group, want: Want) -> Result<(), BytesError>
+    requires room { length group.old < 16 }
+    ensures pushed { OnOk result (group.new ≡ group.old ++ want ∷ []) }
+    ensures memory { IsOkUnless result BytesError.WantOfMemory }
+{
+    match group.push(want) {
+        Ok(()) => Ok(()),
+        Err(ReqError::WantOfMemory) => Err(BytesError::WantOfMemory),
+        Err(ReqError::Full | ReqError::EmptyPart) => unreachable!(),
+    }
+}
+
+/// Appends a group that is not empty to a list that has room: memory alone can be wanting.
+fn push_group(groups: &mut AltList, group: Group) -> Result<(), BytesError>
+    requires room { length groups.old < 16 }
+    requires some { group ≢ [] }
+    ensures pushed { OnOk result (groups.new ≡ groups.old ++ group ∷ []) }
+    ensures memory { IsOkUnless result BytesError.WantOfMemory }
+{
+    match groups.push(group) {
+        Ok(()) => Ok(()),
+        Err(ReqError::WantOfMemory) => Err(BytesError::WantOfMemory),
+        Err(ReqError::Full | ReqError::EmptyPart) => unreachable!(),
+    }
+}
+
 /// A further want of the last group.
 #[tactic(auto, using(crate::proofs::Put::put_full, crate::proofs::Put::put_more))]
 fn add_alternative(list: u32, last: &mut Group, want: Want) -> Result<(), BytesError>
@@ -34,7 +61,7 @@ fn add_alternative(list: u32, last: &mut Group, want: Want) -> Result<(), BytesE
     if last.len() == WANTS {
         return Err(BytesError::Full { list });
     }
-    last.push(want).map_err(|_| BytesError::WantOfMemory)
+    push_want(last, want)
 }
 
 /// A group begins with a want.
@@ -49,16 +76,14 @@ fn begin_group(
     ensures is_open { OnOk result (IsOpen groups.new.whole groups.new.last) }
 {
     if groups.last.len() == 0 {
-        return groups.last.push(want).map_err(|_| BytesError::WantOfMemory);
+        return push_want(&mut groups.last, want);
     }
     if groups.whole.len() == WHOLE_GROUPS {
         return Err(BytesError::Full { list });
     }
     let last = mem::replace(&mut groups.last, Group::new(alloc));
-    if groups.whole.push(last).is_err() {
-        return Err(BytesError::WantOfMemory);
-    }
-    groups.last.push(want).map_err(|_| BytesError::WantOfMemory)
+    push_group(&mut groups.whole, last)?;
+    push_want(&mut groups.last, want)
 }
 
 /// Puts the want of a descriptor, or none, where it belongs.
@@ -119,8 +144,8 @@ fn close(groups: OpenGroups) -> Result<AltList, BytesError>
     ensures { Gives result (Ok (opened groups.whole groups.last)) }
 {
     let OpenGroups { mut whole, last } = groups;
-    if last.len() != 0 && whole.push(last).is_err() {
-        return Err(BytesError::WantOfMemory);
+    if last.len() != 0 {
+        push_group(&mut whole, last)?;
     }
     Ok(whole)
 }

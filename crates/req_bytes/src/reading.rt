@@ -1,5 +1,5 @@
 //! Requirements from their bytes.
-ghost use Rattle.std.specs.Prelude.{◌≡◌, ◌≤◌, ◌*◌, ◌+◌, ◌^◌, [], IsTrue, length, true, Some};
+ghost use Rattle.std.specs.Prelude.{◌≡◌, ◌≢◌, ◌≤◌, ◌<◌, ◌*◌, ◌+◌, ◌^◌, ◌++◌, ◌∷◌, [], IsTrue, OnOk, IsOkUnless, length, true, Some};
 ghost use Rattle.std.specs.Option.{is_some};
 ghost use Rattle.req_bytes.specs.Bytes.{lists_in, shape, closed, reqs_by, reqs_in};
 ghost use Rattle.req_bytes.specs.Readings.{Gave, Gives};
@@ -7,7 +7,7 @@ ghost use Rattle.req_bytes.specs.Readings.{Gave, Gives};
 use crate::descriptor::u32_at;
 use crate::error::BytesError;
 use crate::groups::read_items;
-use resource_reqs::{AltList, Reqs};
+use resource_reqs::{AltList, ReqError, Reqs};
 use std::alloc::Global;
 
 /// Whether so many lists are within the bytes.
@@ -40,6 +40,20 @@ fn has_shape(bytes: &[u8]) -> bool
     are_within(u32_at(bytes, 28), lists)
 }
 
+/// Appends a list that is not empty to requirements that have room: memory alone can be wanting.
+fn push_list(reqs: &mut Reqs, list: AltList) -> Result<(), BytesError>
+    requires room { length reqs.old < 8 }
+    requires some { list ≢ [] }
+    ensures pushed { OnOk result (reqs.new ≡ reqs.old ++ list ∷ []) }
+    ensures memory { IsOkUnless result BytesError.WantOfMemory }
+{
+    match reqs.push(list) {
+        Ok(()) => Ok(()),
+        Err(ReqError::WantOfMemory) => Err(BytesError::WantOfMemory),
+        Err(ReqError::Full | ReqError::EmptyPart) => unreachable!(),
+    }
+}
+
 /// A list ends.
 fn add_list(list: u32, reqs: &mut Reqs, groups: AltList) -> Result<(), BytesError>
     ensures { Gave result (closed list reqs.old groups) reqs.new }
@@ -50,10 +64,7 @@ fn add_list(list: u32, reqs: &mut Reqs, groups: AltList) -> Result<(), BytesErro
     if reqs.len() == 8 {
         return Err(BytesError::Full { list });
     }
-    if reqs.push(groups).is_err() {
-        return Err(BytesError::WantOfMemory);
-    }
-    Ok(())
+    push_list(reqs, groups)
 }
 
 /// The requirements that so many lists say, all of which are within the bytes.

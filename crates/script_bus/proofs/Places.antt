@@ -11,6 +11,7 @@ use Rattle.pnp_model.specs.Cores.{is_node, node_at, serials_of}
 use Rattle.pnp_model.specs.Keyed.{those}
 use Rattle.pnp_model.specs.Records.{Device, Node}
 use Rattle.pnp_model.specs.States.{device_born, device_of, is_in_world, node_of}
+use Rattle.pnp_model.specs.Tasks.{has_path}
 use Rattle.pnp_model.specs.Tests.{has}
 use Rattle.pnp_model.specs.Trees as trees
 use Rattle.devnode_tree.specs.Trees.{Tree, IsTree, Ascends}
@@ -95,6 +96,14 @@ own_parent : (nodes : List Node) → Ascends 0 (serials_of nodes) → option_map
 own_parent [] h root = tt
 own_parent (n ∷ nodes) h root = ((λ e. let test : (n.serial == 0) ≡ true = grind (arith, nat_tests) in let first : option_map (λ (n : Node). n.parent) (cond true (Some n) (node_at 0 nodes)) ≡ Some 0 = ap (λ b. option_map (λ (n : Node). n.parent) (cond b (Some n) (node_at 0 nodes))) (sym test) ∙ root in cc), no_zero (n.serial + 1) nodes (omega arith) h.1)
 
+some_before : {X Y : Type 0} (f : X → Y) (o : Option X) → IsSome (option_map f o) → IsSome o
+some_before f None some = some
+some_before f (Some x) some = refl
+
+none_before : {X Y : Type 0} (f : X → Y) (o : Option X) → option_map f o ≡ None → is_some o ≡ false
+none_before f None none = refl
+none_before f (Some x) none = absurd (cc)
+
 module _ {S : Type 0} (parts : HashMap ℕ shown.Device S) where
   find_devices : (p : Device → Bool) (q : Node → Bool) → ((n : Node) → p (device_at parts n) ≡ q n) → (nodes : List Node) → find p (map (device_at parts) nodes) ≡ option_map (device_at parts) (find q nodes)
   find_devices p q e nodes = find-map p (device_at parts) nodes ∙ ap (option_map (device_at parts)) (λ i. find (λ n. e n i) nodes)
@@ -104,6 +113,14 @@ module _ {S : Type 0} (parts : HashMap ℕ shown.Device S) where
 
   pub device_of_is : (path : Text) (nodes : List Node) → device_of path (map (device_at parts) nodes) ≡ option_map (device_at parts) (node_of path nodes)
   device_of_is path = find_devices (λ d. same d.path path) (λ n. same n.path path) (λ n. ap (λ t. same t path) (path_is n (get nat_eq parts n.serial)))
+
+  -- a device has its place
+  pub place_there : (born : ℕ) (nodes : List Node) → IsSome (device_born born (map (device_at parts) nodes)) → IsSome (node_at born nodes)
+  place_there born nodes there = some_before (device_at parts) (node_at born nodes) (subst (λ (o : Option Device). IsSome o) (device_born_is born nodes) there)
+
+  -- a path that no device has no place has
+  pub no_place : (path : Text) (nodes : List Node) → device_of path (map (device_at parts) nodes) ≡ None → has_path path nodes ≡ false
+  no_place path nodes none = sym (found_any (λ (n : Node). same n.path path) nodes) ∙ none_before (device_at parts) (node_of path nodes) (sym (device_of_is path nodes) ∙ none)
 
   pub in_world_is : (born : ℕ) (nodes : List Node) → is_some (node_at born nodes) ≡ is_in_world (map (device_at parts) nodes) born
   in_world_is born nodes =

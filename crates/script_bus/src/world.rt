@@ -1,6 +1,7 @@
-ghost use Rattle.std.specs.Prelude.{◌≡◌, ◌≢◌, ◌+◌, ◌<◌, ◌≤◌, ◌^◌, ◌↔◌, [], ◌∷◌, None, IfOk, IfSome, OnOk, OnErr, IsErrOf, IsSome, IsTrue, Bool, true, ℕ, Some, length, nat_eq, option_map, option_copied};
+ghost use Rattle.std.specs.Prelude.{◌≡◌, ◌≢◌, ◌+◌, ◌<◌, ◌≤◌, ◌^◌, ◌↔◌, [], ◌∷◌, None, IfOk, IfSome, OnOk, OnErr, IsErrOf, IsSome, IsTrue, Bool, true, false, ℕ, Some, length, nat_eq, option_map, option_copied};
 ghost use Rattle.std.specs.HashMap.{get};
-ghost use Rattle.pnp_model.specs.Cores.{fresh_node};
+ghost use Rattle.pnp_model.specs.Cores.{fresh_node, node_at};
+ghost use Rattle.pnp_model.specs.Tasks.{has_path};
 ghost use Rattle.pnp_model.specs.Runs.{root_device, root_node};
 ghost use Rattle.pnp_model.specs.States.{device_born, device_of, has_below, is_in_world};
 ghost use Rattle.devnode_tree.specs.Trees.{IsTree, with_node};
@@ -9,7 +10,7 @@ ghost use Rattle.script_bus.specs.Worlds.{with_device, without_device, plugged, 
 use crate::device::Device;
 use crate::error::{PlugError, PullError};
 use device_ids::{IdList, InstancePath, WantOfMemory};
-use devnode_tree::Tree;
+use devnode_tree::{JoinError, Tree};
 use resource_reqs::Reqs;
 use std::alloc::{AllocError, Global};
 use std::collections::HashMap;
@@ -269,14 +270,17 @@ fn root_part(alloc: Global, places: &Tree) -> Result<HashMap<u64, Device>, WantO
     Ok(parts)
 }
 
-/// Gives a device a place below another, and its birth number.
+/// Gives a device a place below another, and its birth number. Conditions: the parent has a place, and no place has the
+/// path; so memory alone can be wanting.
 fn place(
     alloc: Global,
     places: &mut Tree,
     parent: u64,
     path: &InstancePath,
 ) -> Result<u64, WantOfMemory>
-    requires { places.old.next < 2 ^ 63 }
+    requires room { places.old.next < 2 ^ 63 }
+    requires parent { IsSome (node_at parent places.old.nodes) }
+    requires path { has_path path.now places.old.nodes ≡ false }
     ensures born { IfOk result (λ born. born ≡ places.old.next) }
     ensures joined { OnOk result (places.new ≡ with_node (fresh_node places.old.next parent 0 path.now [] [] []) places.old) }
     ensures tree { OnOk result (IsTree places.new) }
@@ -287,7 +291,8 @@ fn place(
     let compat = IdList::new(alloc);
     match places.join(parent, 0, copy, ids, compat, Reqs::new(alloc)) {
         Ok(born) => Ok(born),
-        Err(_) => Err(AllocError),
+        Err(JoinError::WantOfMemory) => Err(AllocError),
+        Err(JoinError::NoParent | JoinError::SamePath) => unreachable!(),
     }
 }
 
