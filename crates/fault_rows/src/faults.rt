@@ -5,9 +5,9 @@ use crate::scripts::{
     CHAIN_SCRIPT, CHAIN_TEXT, FAILED_RESTART_SCRIPT, FAILED_RESTART_TEXT, ONE_DEVICE_SCRIPT,
     ONE_DEVICE_TEXT, VETO_SCRIPT, VETO_TEXT, ended_into,
 };
-use crate::told::{must, same};
 use pnp_cli::Status;
 use pnp_io::{MemFiles, MemSink};
+use rows_told::{must, same};
 use std::alloc::Global;
 use std::test::Fail;
 
