@@ -5,9 +5,9 @@ use crate::scripts::{
     CHAIN_SCRIPT, CHAIN_TEXT, FAILED_RESTART_SCRIPT, FAILED_RESTART_TEXT, ONE_DEVICE_SCRIPT,
     ONE_DEVICE_TEXT, VETO_SCRIPT, VETO_TEXT, ended_into,
 };
-use crate::told::{must, same};
 use pnp_cli::Status;
 use pnp_io::{MemFiles, MemSink};
+use rows_told::{must, same};
 use std::alloc::Global;
 use std::test::Fail;
 
@@ -60,33 +60,25 @@ const ONE_DEVICE_END: &str =
 /// What the first event led to.
 const FIRST_EVENT: &str = "event driver dev\n";
 
-/// Where this write fails the sink took all of some events, and the answer is yes; where there is none of this number, no.
-fn write_fails(alloc: Global, call: u64, both: &str) -> Result<bool, Fail> {
+/// Where this write fails, a run has this status, and the sink took this.
+fn one_write_fails(alloc: Global, call: u64, status: Status, taken: &str) -> Result<(), Fail> {
     let mut sink = MemSink::new(alloc, 4096)?;
     sink.fail_at(call)?;
-    let status = ended_into(alloc, ONE_DEVICE_SCRIPT, &mut sink)?;
-    if status == Status::Done {
-        return Ok(false);
-    }
-    must(status == Status::WriteFault, "how a run ended")?;
-    let taken = sink.taken();
-    let is_whole = taken.is_empty() || taken == FIRST_EVENT.as_bytes() || taken == both.as_bytes();
-    must(is_whole, "lines of whole events")?;
-    Ok(true)
+    let ended = ended_into(alloc, ONE_DEVICE_SCRIPT, &mut sink)?;
+    comes_to(ended, &sink, (status, taken.as_bytes()))
 }
 
-/// Whichever write fails, what the sink took ends with an event, and is a front of the output.
+/// Whichever write fails, what the sink took is what the writes before it made: the lines of each event are one write,
+/// and the end of the output another. A fourth one is not made.
 #[test]
 fn each_call_of_write_fails(rt: HostRuntime) -> Result<(), Fail> {
     let Some(both) = ONE_DEVICE_TEXT.strip_suffix(ONE_DEVICE_END) else {
         return Err(Fail::new("the end of the output"));
     };
-    for call in 1..100u64 {
-        if !write_fails(rt.alloc(), call, both)? {
-            return must(call > 2, "two writes that fail");
-        }
-    }
-    Err(Fail::new("a hundred writes"))
+    one_write_fails(rt.alloc(), 1, Status::WriteFault, "")?;
+    one_write_fails(rt.alloc(), 2, Status::WriteFault, FIRST_EVENT)?;
+    one_write_fails(rt.alloc(), 3, Status::WriteFault, both)?;
+    one_write_fails(rt.alloc(), 4, Status::Done, ONE_DEVICE_TEXT)
 }
 
 /// Of a hundred reads and a hundred writes, each takes one byte.

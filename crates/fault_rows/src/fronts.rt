@@ -3,9 +3,9 @@ ghost use Rattle.std.specs.Prelude.{◌≤◌};
 
 use crate::runs::{comes_to, ended, files_of, words_of};
 use crate::scripts::{CHAIN_SCRIPT, CHAIN_TEXT, ONE_DEVICE_SCRIPT, ended_over, named};
-use crate::told::{must, same};
 use pnp_cli::Status;
 use pnp_io::MemSink;
+use rows_told::{must, same};
 use std::alloc::Global;
 use std::test::Fail;
 

@@ -9,5 +9,3 @@ mod fronts;
 mod runs;
 #[cfg(test)]
 mod scripts;
-#[cfg(test)]
-mod told;

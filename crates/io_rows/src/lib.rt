@@ -3,5 +3,3 @@
 
 #[cfg(test)]
 mod pnp_io_calls;
-#[cfg(test)]
-mod told;

@@ -1,8 +1,8 @@
 //! Each call once with ample memory, a fault in mid-stream, and the system's own files and standard output.
-use crate::told::{must, same};
 use pnp_io::{
     Failed, Files, HostFiles, HostSink, MemFiles, MemSink, ReadError, Sink, read_all, write_all,
 };
+use rows_told::{must, same};
 use std::alloc::Global;
 use std::fs;
 use std::test::Fail;

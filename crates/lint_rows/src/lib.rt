@@ -8,6 +8,4 @@ mod lints;
 #[cfg(test)]
 mod over;
 #[cfg(test)]
-mod told;
-#[cfg(test)]
 mod warnings;

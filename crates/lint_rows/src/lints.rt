@@ -1,7 +1,7 @@
 //! A lint over files and a sink in memory, and what it has to come to.
-use crate::told::{must, same};
 use lint_cli::{Status, lint};
 use pnp_io::{MemFiles, MemSink};
+use rows_told::{must, same};
 use std::alloc::Global;
 use std::test::Fail;
 

@@ -3,5 +3,3 @@
 
 #[cfg(test)]
 mod steps;
-#[cfg(test)]
-mod told;

@@ -1,13 +1,13 @@
 ghost use Rattle.std.specs.Prelude.{◌≡◌, ◌<◌, ◌≤◌, ◌+◌, ◌^◌, true, IfOk, OnOk};
 ghost use Rattle.pnp_machine.specs.Machines.{HasFewIds};
 
-use crate::told::same;
 use device_ids::{DeviceId, IdList, InstancePath, Text, TextList, WantOfMemory};
 use driver_rack::{Drivers, Rack, Scripted};
 use inf_reader::{Inf, ModelLine, ModelLines};
 use pnp_labels::{Answer, AskWhat, DriverKind, Event, Label, Minor, Rule, label_line};
 use pnp_machine::{Manager, Moved};
 use resource_reqs::Reqs;
+use rows_told::same;
 use std::alloc::{AllocError, Global};
 use std::test::Fail;
 

@@ -1,6 +1,6 @@
 //! INFs in UTF-8, Latin-1 and UTF-16, and lines at their longest.
-use crate::compared::{must, same};
 use crate::inf_told::{MODELS, UNDER_M, bytes_give, gives, joined, told, wide, wide_models};
+use rows_told::{must, same};
 use std::alloc::{AllocError, Global};
 use std::test::Fail;
 

@@ -1,7 +1,7 @@
 //! What INFs give, as a text that a table can hold.
-use crate::compared::same;
 use device_ids::TextList;
 use inf_reader::{Inf, InfError, ModelLine, read};
+use rows_told::same;
 use std::alloc::{AllocError, Global};
 use std::test::Fail;
 

@@ -2,8 +2,6 @@
 #![tactic(auto)]
 
 #[cfg(test)]
-mod compared;
-#[cfg(test)]
 mod inf_boards;
 #[cfg(test)]
 mod inf_encodings;

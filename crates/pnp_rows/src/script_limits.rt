@@ -1,5 +1,5 @@
 //! How many parts a line may have, and how long they may be: with so many it is read, with one more it is bad.
-use crate::compared::must;
+use rows_told::must;
 use script_reader::{ScriptEnd, read_events};
 use std::alloc::{AllocError, Global};
 use std::test::Fail;

@@ -1,7 +1,7 @@
 //! Forms of the script's language, and lines that are none, with the event or the refusal that the language's
 //! description gives.
-use crate::compared::same;
 use crate::script_shown::shown;
+use rows_told::same;
 use script_reader::{Script, ScriptEnd, read_events};
 use std::alloc::{AllocError, Global};
 use std::test::Fail;

@@ -1,8 +1,8 @@
 //! A whole script with every form, in one piece and in pieces of any size.
 ghost use Rattle.std.specs.Prelude.{◌<◌};
 
-use crate::compared::{must, same};
 use crate::script_shown::shown;
+use rows_told::{must, same};
 use script_reader::{Script, ScriptEnd, read_events, read_pieces};
 use std::alloc::Global;
 use std::test::Fail;

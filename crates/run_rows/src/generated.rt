@@ -1,10 +1,10 @@
 //! Summaries of generated scripts, over racks of drivers; and the generated texts.
 use crate::runs::{Rack, ends, rack_of, words_of};
-use crate::told::must;
 use driver_rack::{Driver, TeachError};
 use pnp_cli::{Status, gen_inf, gen_script};
 use pnp_io::MemFiles;
 use pnp_labels::{Answer, Ask, AskWhat, DriverKind, Minor, Rule};
+use rows_told::must;
 use std::alloc::Global;
 use std::test::Fail;
 

@@ -11,5 +11,3 @@ mod live;
 mod runs;
 #[cfg(test)]
 mod small_scripts;
-#[cfg(test)]
-mod told;

@@ -1,8 +1,8 @@
 //! What an event led to is on the sink before more of the script is asked for.
 use crate::runs::{rack_of, words_of};
-use crate::told::must;
 use pnp_cli::{Status, run};
 use pnp_io::{Failed, Files, Sink};
+use rows_told::must;
 use std::cell::Cell;
 use std::test::Fail;
 

@@ -1,8 +1,8 @@
 //! Windows of bridges, and what they leave of requirements.
-use crate::told::must;
 use bridge_windows::{Bridges, WindowError, clip};
 use devnode_tree::Tree;
 use resource_reqs::{AltList, Group, Kind, Reqs, Res, Want};
+use rows_told::must;
 use std::alloc::Global;
 use std::test::Fail;
 

@@ -1,7 +1,7 @@
 //! Requirements written as bytes.
-use crate::told::{must, same};
 use req_bytes::{EncodeError, decode, encode};
 use resource_reqs::{AltList, Group, Kind, Reqs, Want};
+use rows_told::{must, same};
 use std::alloc::Global;
 use std::test::Fail;
 

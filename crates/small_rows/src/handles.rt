@@ -1,6 +1,6 @@
 //! Handles that are open to devices.
-use crate::told::must;
 use devnode_tree::{HandleRow, Handles};
+use rows_told::must;
 use std::alloc::Global;
 use std::test::Fail;
 

@@ -22,8 +22,6 @@ mod searches;
 #[cfg(test)]
 mod sizes;
 #[cfg(test)]
-mod told;
-#[cfg(test)]
 mod trees;
 #[cfg(test)]
 mod trials;

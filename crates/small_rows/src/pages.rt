@@ -1,5 +1,5 @@
 //! A page with each sort of content.
-use crate::told::same;
+use rows_told::same;
 use std::test::Fail;
 use view_page::{Attribute, Empty, Page, Tag};
 

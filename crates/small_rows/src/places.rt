@@ -1,6 +1,6 @@
 //! The least free place beside what is held.
-use crate::told::must;
 use range_arbiter::{Kind, Owner, RangeArbiter, Res, Want};
+use rows_told::must;
 use std::test::Fail;
 
 /// Whether a place that was looked for is this one.

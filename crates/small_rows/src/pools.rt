@@ -2,8 +2,8 @@
 ghost use Rattle.std.specs.Prelude.{◌≡◌, length, IfOk, OnErr};
 ghost use Rattle.node_pool.specs.Chains.{Stands};
 
-use crate::told::must;
 use node_pool::{Place, Pool};
+use rows_told::must;
 use std::alloc::Global;
 use std::test::Fail;
 

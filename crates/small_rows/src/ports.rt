@@ -3,8 +3,8 @@ ghost use Rattle.std.specs.Prelude.{◌≡◌, ◌≤◌, [], IsTrue, IfOk};
 ghost use Rattle.resource_reqs.specs.declared.kind.Kind.{Kind};
 ghost use Rattle.trial_journal.specs.ByKind.{of_kind};
 
-use crate::told::must;
 use resource_reqs::{Kind, Owner, Res};
+use rows_told::must;
 use std::alloc::Global;
 use std::test::Fail;
 use trial_journal::{Arbiters, Journal, Trial};

@@ -1,8 +1,8 @@
 //! Identifiers, paths, texts and wants, and the best driver of no INF.
-use crate::told::{must, same};
 use device_ids::{DeviceId, IdError, IdList, InstancePath, PathError, Text};
 use driver_rank::best;
 use resource_reqs::{Kind, Want, WantError};
+use rows_told::{must, same};
 use std::alloc::Global;
 use std::test::Fail;
 

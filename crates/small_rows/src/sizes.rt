@@ -3,12 +3,12 @@
 ghost use Rattle.std.specs.Prelude.{◌≡◌, ◌<◌, ◌+◌, ◌^◌, length, IfSome, IfOk, OnOk};
 ghost use Rattle.node_pool.specs.Chains.{Stands};
 
-use crate::told::must;
 use bridge_windows::{Bridges, clip};
 use device_ids::{IdList, InstancePath};
 use devnode_tree::Tree;
 use node_pool::{Place, Pool};
 use resource_reqs::Reqs;
+use rows_told::must;
 use std::alloc::Global;
 use std::test::Fail;
 

@@ -1,10 +1,10 @@
 //! A listing of the root, and a child of a node.
 ghost use Rattle.std.specs.Prelude.{◌<◌, ◌^◌};
 
-use crate::told::must;
 use device_ids::{IdList, InstancePath};
 use devnode_tree::Tree;
 use resource_reqs::Reqs;
+use rows_told::must;
 use script_bus::{World, difference};
 use std::alloc::Global;
 use std::test::Fail;

@@ -8,6 +8,4 @@ mod infs;
 #[cfg(test)]
 mod runs;
 #[cfg(test)]
-mod told;
-#[cfg(test)]
 mod words;

@@ -1,8 +1,8 @@
 //! A run over files and a sink in memory, and what it has to come to.
-use crate::told::{must, same};
 use driver_rack::{Driver, Scripted, Steady, Stubborn};
 use pnp_cli::{Status, run};
 use pnp_io::{MemFiles, MemSink};
+use rows_told::{must, same};
 use std::alloc::Global;
 use std::test::Fail;
 

@@ -1,8 +1,8 @@
 //! The words of the command line, and the INFs that they name.
 use crate::runs::{comes_to, ended, ends, files_of, words_of};
-use crate::told::{must, same};
 use pnp_cli::{Settings, Status, WordsError, settings};
 use pnp_io::{MemFiles, MemSink};
+use rows_told::{must, same};
 use std::alloc::{AllocError, Global};
 use std::test::Fail;
 

@@ -25,5 +25,3 @@ mod starts;
 mod surprises;
 #[cfg(test)]
 mod tables;
-#[cfg(test)]
-mod told;

@@ -1,8 +1,8 @@
 //! A script over the drivers of the program, and what it has to come to.
-use crate::told::{must, same};
 use driver_rack::Driver;
 use pnp_cli::{Status, program_drivers, run};
 use pnp_io::{MemFiles, MemSink};
+use rows_told::{must, same};
 use std::alloc::Global;
 use std::test::Fail;
 
