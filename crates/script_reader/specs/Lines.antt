@@ -210,14 +210,11 @@ window_res_of text = do
   res ← res_of text
   only_if (has_windows res.kind) res
 
-abbrev pub windowed : List ℕ → List ℕ → Option Event
-windowed path res = do
+abbrev pub window_of : List (List ℕ) → Option Event
+window_of (path ∷ res ∷ []) = do
   path ← path_of path
   res ← window_res_of res
   Some (events.Window path res)
-
-abbrev pub window_of : List (List ℕ) → Option Event
-window_of (path ∷ res ∷ []) = windowed path res
 window_of _ = None
 
 -- what the device of a path requires from now on

@@ -2,7 +2,7 @@ ghost use Rattle.std.specs.Prelude.{◌≡◌, ◌<◌, length, map, IfOk, IsTru
 ghost use Rattle.device_ids.specs.Ids.{is_path};
 ghost use Rattle.std.specs.Option.{option_map};
 ghost use Rattle.script_reader.specs.Faults.{Gives};
-ghost use Rattle.script_reader.specs.Lines.{path_of, lone_path, name_of, rule_path_of, is_answerable, rule_of, uses_of, driver_of, uses_by, teach_of, related, relate_of, res_of, reserved, reserve_of, completed, complete_of, has_windows, window_res_of, windowed, window_of, change_of, watched, watch_of, unwatch_of};
+ghost use Rattle.script_reader.specs.Lines.{path_of, lone_path, name_of, rule_path_of, is_answerable, rule_of, uses_of, driver_of, uses_by, teach_of, related, relate_of, res_of, reserved, reserve_of, completed, complete_of, has_windows, window_res_of, window_of, change_of, watched, watch_of, unwatch_of};
 ghost use Rattle.script_reader.specs.Words.{words_of};
 
 use crate::fault::LineError;
@@ -294,17 +294,6 @@ fn window_res_of(word: &[u8]) -> Option<Res>
     }
 }
 
-/// The device of a path has a window of this range.
-fn windowed(alloc: Global, path: &[u8], res: &[u8]) -> Result<Event, LineError>
-    ensures { Gives result (windowed path.now res.now) }
-{
-    let path = path_of(alloc, path)?;
-    let Some(res) = window_res_of(res) else {
-        return Err(LineError::Bad);
-    };
-    Ok(Event::Window { path, res })
-}
-
 /// `window PATH KIND:RANGE`.
 pub fn window_of(alloc: Global, words: &[&[u8]]) -> Result<Event, LineError>
     ensures { Gives result (window_of (map (λ w. w.now) words.now)) }
@@ -312,7 +301,11 @@ pub fn window_of(alloc: Global, words: &[&[u8]]) -> Result<Event, LineError>
     let [path, res] = words else {
         return Err(LineError::Bad);
     };
-    windowed(alloc, path, res)
+    let path = path_of(alloc, path)?;
+    let Some(res) = window_res_of(res) else {
+        return Err(LineError::Bad);
+    };
+    Ok(Event::Window { path, res })
 }
 
 /// `change PATH` and what the device requires from now on.
