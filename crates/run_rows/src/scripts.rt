@@ -1,28 +1,10 @@
 //! Scripts with the INF of their devices, and what is written for them.
+use crate::infs::OWN_INF;
 use crate::runs::{ended, files_of, rack_of, words_of};
 use pnp_cli::Status;
 use pnp_io::{MemFiles, MemSink};
 use std::alloc::Global;
 use std::test::Fail;
-
-/// The INF of their devices.
-pub const OWN_INF: &[u8] = br#"[Version]
-Signature="$Windows NT$"
-DriverVer=01/01/2020,1.0.0.0
-[Manufacturer]
-Own=M
-[M]
-Device=I,OWN\DEV
-Filtered=K,OWN\FIL
-[I.Services]
-AddService=dev,2,S
-[K.Services]
-AddService=dev,2,S
-[K.HW]
-AddReg=R
-[R]
-HKR,,"LowerFilters",0x00010000,"low"
-"#;
 
 /// The words and the files of a script with that INF.
 pub fn named(alloc: Global, script: &str) -> Result<(Vec<String>, MemFiles), Fail> {
