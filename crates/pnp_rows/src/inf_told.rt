@@ -219,12 +219,17 @@ pub fn wide(alloc: Global, text: &str, end: &[u8]) -> Result<Vec<u8>, AllocError
     Ok(inf)
 }
 
+/// Under `[M]` a text in UTF-16 gives these models lines.
+fn wide_gives(alloc: Global, text: &str, end: &[u8], lines: &str) -> Result<(), Fail> {
+    let inf = wide(alloc, text, end)?;
+    let want = joined(alloc, &[b"0 0\n", lines.as_bytes()])?;
+    same(&told(alloc, &inf)?, &want)
+}
+
 /// Under `[M]`, texts in UTF-16, with the models lines that they give.
 pub fn wide_models(alloc: Global, rows: &[(&str, &[u8], &str)]) -> Result<(), Fail> {
     for (text, end, lines) in rows {
-        let inf = wide(alloc, text, end)?;
-        let want = joined(alloc, &[b"0 0\n", lines.as_bytes()])?;
-        same(&told(alloc, &inf)?, &want)?;
+        wide_gives(alloc, text, end, lines)?;
     }
     Ok(())
 }
