@@ -1,0 +1,7 @@
+mod Looking
+mod Numbers
+mod Running
+mod Flat
+mod Merges
+mod Coming
+mod Reads
