@@ -5,3 +5,5 @@ mod Flat
 mod Merges
 mod Coming
 mod Reads
+mod Tries
+mod Keys

@@ -109,12 +109,17 @@ numbered_text told number = if nat_lt number (capped (length (scripts told.famil
 abbrev pub script_lines : family.Told → ℕ → List (List ℕ)
 script_lines told number = lines_of (numbered_text told number)
 
+-- the first scripts of endings
+abbrev pub scripts_of : family.Told → List Ended → List (List (List ℕ))
+scripts_of told endings = map (λ (e : Ended). script_lines told e.mark.first) endings
+
 -- The endings behind earlier ones: of each its line, how its first script differs, and its text.
+abbrev pub ending_text : family.Told → List Ended → Ended → List ℕ
+ending_text told earlier e = (ending_line (length earlier) e.mark ++ difference (scripts_of told earlier) (script_lines told e.mark.first)) ++ e.text
+
 abbrev pub endings_text : family.Told → List Ended → List Ended → List ℕ
 endings_text told earlier [] = []
-endings_text told earlier (e ∷ es) =
-    (ending_line (length earlier) e.mark ++ difference (map (λ (other : Ended). script_lines told other.mark.first) earlier) (script_lines told e.mark.first) ++ e.text)
-    ++ endings_text told (earlier ++ e ∷ []) es
+endings_text told earlier (e ∷ es) = ending_text told earlier e ++ endings_text told (earlier ++ e ∷ []) es
 
 -- The report on a tally, with the endings by their first scripts.
 abbrev pub report_text : family.Told → ℕ → ℕ → Told → List ℕ

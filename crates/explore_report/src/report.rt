@@ -1,9 +1,12 @@
 //! What is written of a tally.
-ghost use Rattle.std.specs.Prelude.{◌≡◌, ◌<◌, ◌++◌, IfOk, OnOk, length, map, codes, reverse};
+ghost use Rattle.std.specs.Prelude.{◌≡◌, ◌<◌, ◌∷◌, ◌++◌, [], IfOk, OnOk, length, map, codes, reverse};
 ghost use Rattle.std.specs.Fmt.{decimal};
 ghost use Rattle.sha2.specs.Sha256.{sha256};
+ghost use Rattle.script_family.specs.Families.{scripts};
+ghost use Rattle.script_family.specs.Counts.{capped};
 ghost use Rattle.ending_tally.specs.Steps.{told, ended};
-ghost use Rattle.explore_report.specs.Reports.{line, number_line, count_line, broken_line, broken_lines, head, endings_line, ending_line, is_blank, without_blanks, trimmed, lines_of, numbered_text, line_at, differs_at, feeds, digest_line, part_line, part_ending, part_endings, part_text};
+ghost use Rattle.explore_report.specs.Fronts.{Found, AreFrontsOf};
+ghost use Rattle.explore_report.specs.Reports.{line, number_line, count_line, broken_line, broken_lines, head, endings_line, ending_line, is_blank, without_blanks, trimmed, lines_of, numbered_text, line_at, differs_at, difference, script_lines, scripts_of, ending_text, endings_text, report_text, feeds, digest_line, part_line, part_ending, part_endings, part_text};
 
 use crate::fronts::{Fronts, Together};
 use crate::mark::push_digest_line;
@@ -204,44 +207,62 @@ fn push_differs(
     push_place(out, b"> ", lines, together.lines)
 }
 
-/// Appends, from the second ending on, how its first script differs from that of an earlier ending, the one with which it goes together
-/// longest. Condition: the fronts are those of the first scripts of the endings before.
+/// Appends how the first script of an ending differs from that of an earlier one, so far as they go together.
 fn push_difference(
     alloc: Global,
     out: &mut Vec<u8>,
     family: &ScriptFamily,
-    endings: &[&Ending],
-    at: usize,
-    fronts: &mut Fronts,
+    earlier: &[&Ending],
+    lines: &[&[u8]],
+    together: Together,
 ) -> Result<(), WantOfMemory>
-    requires { at < length endings.now }
+    requires { 0 < length earlier.now → Found (scripts_of family.now (map (λ e. ended e.now) earlier.now)) (map (λ line. line.now) lines.now) together.other together.lines }
+    ensures { OnOk result (out.new.items ≡ out.old.items ++ difference (scripts_of family.now (map (λ e. ended e.now) earlier.now)) (map (λ line. line.now) lines.now)) }
 {
-    let script = script_of(alloc, family, endings[at].mark.first)?;
-    let lines = lines_of(alloc, &script)?;
-    let together = fronts.take(alloc, at, &lines)?;
-    if at == 0 {
+    if earlier.is_empty() {
         return Ok(());
     }
-    let Some(other) = endings.get(together.other) else {
-        return Ok(());
-    };
-    let other = script_of(alloc, family, other.mark.first)?;
+    let other = script_of(alloc, family, earlier[together.other].mark.first)?;
     let others = lines_of(alloc, &other)?;
-    push_differs(out, together, &others, &lines)
+    push_differs(out, together, &others, lines)
 }
 
-/// Appends the endings from a place on.
+/// Appends the ending at a place: its line, from the second ending on how its first script differs from that of an earlier one, the one
+/// with which it goes together longest, and its text. Condition: the fronts are those of the first scripts of the endings before.
+fn push_ending_whole(
+    alloc: Global,
+    out: &mut Vec<u8>,
+    family: &ScriptFamily,
+    earlier: &[&Ending],
+    ending: &Ending,
+    fronts: &mut Fronts,
+) -> Result<(), WantOfMemory>
+    requires { AreFrontsOf (scripts_of family.now (map (λ e. ended e.now) earlier.now)) fronts.old }
+    ensures text { OnOk result (out.new.items ≡ out.old.items ++ ending_text family.now (map (λ e. ended e.now) earlier.now) (ended ending.now)) }
+    ensures fronts { OnOk result (AreFrontsOf (scripts_of family.now (map (λ e. ended e.now) earlier.now) ++ script_lines family.now ending.now.mark.first ∷ []) fronts.new) }
+{
+    push_ending(out, earlier.len(), ending.mark)?;
+    let script = script_of(alloc, family, ending.mark.first)?;
+    let lines = lines_of(alloc, &script)?;
+    let together = fronts.take(alloc, earlier.len(), &lines)?;
+    push_difference(alloc, out, family, earlier, &lines, together)?;
+    out.extend_from_slice(&ending.text)?;
+    Ok(())
+}
+
+/// Appends all endings.
 fn push_all_endings(
     alloc: Global,
     out: &mut Vec<u8>,
     family: &ScriptFamily,
     endings: &[&Ending],
-) -> Result<(), WantOfMemory> {
+) -> Result<(), WantOfMemory>
+    ensures { OnOk result (out.new.items ≡ out.old.items ++ endings_text family.now [] (map (λ e. ended e.now) endings.now)) }
+{
     let mut fronts = Fronts::new(alloc)?;
     for at in 0..endings.len() {
-        push_ending(out, at, endings[at].mark)?;
-        push_difference(alloc, out, family, endings, at, &mut fronts)?;
-        out.extend_from_slice(&endings[at].text)?;
+        let earlier = &endings[..at];
+        push_ending_whole(alloc, out, family, earlier, endings[at], &mut fronts)?;
     }
     Ok(())
 }
@@ -260,6 +281,7 @@ pub(crate) fn report(
     never: usize,
     tally: &Tally,
 ) -> Result<Vec<u8>, WantOfMemory>
+    ensures { IfOk result (λ text. text.items ≡ report_text family.now (capped (length (scripts family.now.family))) never (told tally.now)) }
 {
     let mut out = Vec::new(alloc);
     push_head(&mut out, family.count(), never, tally)?;
