@@ -10,6 +10,15 @@ abbrev pub places_from : ℕ → List Bool → List ℕ
 places_from at [] = []
 places_from at (came ∷ more) = cond came (at ∷ places_from (suc at) more) (places_from (suc at) more)
 
+add_zero : (n : ℕ) → n + zero ≡ n
+add_zero n = omega arith
+
+add_suc : (n k : ℕ) → n + suc k ≡ suc n + k
+add_suc n k = omega arith
+
+pub zero_add : (n : ℕ) → 0 + n ≡ n
+zero_add n = omega arith
+
 -- one more came
 pub place_more : (came : List Bool) (at k : ℕ) → get_or came k true ≡ false → IsPermutation ((at + k) ∷ places_from at came) (places_from at (set came k true))
 place_more [] at k no = absurd (true_not_false no)
@@ -17,14 +26,14 @@ place_more [] at k no = absurd (true_not_false no)
     true_not_false : true ≡ false → ⊥
     true_not_false e = cc
 place_more (c ∷ came) at zero no =
-    subst (λ n. IsPermutation (n ∷ places_from at (c ∷ came)) (at ∷ places_from (suc at) came)) (omega arith)
+    subst (λ n. IsPermutation (n ∷ places_from at (c ∷ came)) (at ∷ places_from (suc at) came)) (sym (add_zero at))
     (subst (λ b. IsPermutation (at ∷ cond b (at ∷ places_from (suc at) came) (places_from (suc at) came)) (at ∷ places_from (suc at) came)) (sym no) (IsPermutation-refl _))
 place_more (true ∷ came) at (suc k) no =
     let here : IsPermutation ((suc at + k) ∷ places_from (suc at) came) (places_from (suc at) (set came k true)) = place_more came (suc at) k no in
-    subst (λ n. IsPermutation (n ∷ (at ∷ places_from (suc at) came)) (at ∷ places_from (suc at) (set came k true))) (omega arith)
+    subst (λ n. IsPermutation (n ∷ (at ∷ places_from (suc at) came)) (at ∷ places_from (suc at) (set came k true))) (sym (add_suc at k))
     (IsPermutation-trans _ _ _ (IsPermutation-sym _ _ (IsPermutation-middle (at ∷ []) (suc at + k) (places_from (suc at) came))) (IsPermutation-cons at _ _ here))
 place_more (false ∷ came) at (suc k) no =
-    subst (λ n. IsPermutation (n ∷ places_from (suc at) came) (places_from (suc at) (set came k true))) (omega arith) (place_more came (suc at) k no)
+    subst (λ n. IsPermutation (n ∷ places_from (suc at) came) (places_from (suc at) (set came k true))) (sym (add_suc at k)) (place_more came (suc at) k no)
 
 -- none came
 pub places_none : (n at : ℕ) → places_from at (replicate n false) ≡ []
@@ -33,9 +42,9 @@ places_none (suc n) at = places_none n (suc at)
 
 -- all came
 places_last : (came : List Bool) (at : ℕ) → places_from at (came ++ true ∷ []) ≡ places_from at came ++ (at + length came) ∷ []
-places_last [] at = ap (λ n. n ∷ []) (omega arith)
-places_last (true ∷ came) at = ap (λ l. at ∷ l) (places_last came (suc at) ∙ ap (λ n. places_from (suc at) came ++ n ∷ []) (omega arith))
-places_last (false ∷ came) at = places_last came (suc at) ∙ ap (λ n. places_from (suc at) came ++ n ∷ []) (omega arith)
+places_last [] at = ap (λ n. n ∷ []) (sym (add_zero at))
+places_last (true ∷ came) at = ap (λ l. at ∷ l) (places_last came (suc at) ∙ ap (λ n. places_from (suc at) came ++ n ∷ []) (sym (add_suc at (length came))))
+places_last (false ∷ came) at = places_last came (suc at) ∙ ap (λ n. places_from (suc at) came ++ n ∷ []) (sym (add_suc at (length came)))
 
 trues_last : (n : ℕ) → replicate (suc n) true ≡ replicate n true ++ true ∷ []
 trues_last zero = refl
@@ -50,7 +59,7 @@ places_all zero = refl
 places_all (suc n) =
     ap (places_from 0) (trues_last n) ∙ places_last (replicate n true) 0
     ∙ ap (λ l. l ++ (0 + length (replicate n true)) ∷ []) (places_all n)
-    ∙ ap (λ m. below n ++ m ∷ []) (omega (arith, length_trues n))
+    ∙ ap (λ m. below n ++ m ∷ []) (zero_add (length (replicate n true)) ∙ length_trues n)
 
 all_true : (came : List Bool) → list_all (λ c. c) came ≡ true → came ≡ replicate (length came) true
 all_true [] h = refl

@@ -4,6 +4,6 @@ mod Running
 mod Flat
 mod Merges
 mod Coming
-mod Reads
+mod PartsRead
 mod Tries
 mod Keys

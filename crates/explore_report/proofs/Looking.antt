@@ -1,5 +1,5 @@
 -- Patterns that lines are held against.
-use Rattle.std.proofs.Common.{◌≡◌, ℕ, ◌+◌, ◌<◌, ◌≤◌, Bool, true, false, not, ◌||◌, List, [], ◌∷◌, ◌++◌, length, map, set, get_or, replicate, refl, sym, ap, ◌∙◌, arith, ⊎_elim}
+use Rattle.std.proofs.Common.{◌≡◌, ℕ, zero, suc, ◌+◌, ◌<◌, ◌≤◌, Bool, true, false, not, ◌||◌, List, [], ◌∷◌, ◌++◌, length, map, set, get_or, replicate, refl, sym, ap, ◌∙◌, arith, ⊎_elim}
 use Rattle.std.specs.List.{list_any}
 use Rattle.std.proofs.lemmas.Bool.{cases_lt}
 use Rattle.std.proofs.lemmas.List.{get_or-set_same, get_or-set_other, get_or-map, length-map, length-set, same_lists}
@@ -44,12 +44,13 @@ has_line_more lines line pattern = list_any-append (fits pattern) lines (line �
 
 get_at : (xs : List Bool) (k : ℕ) (d e : Bool) → k < length xs → get_or xs k d ≡ get_or xs k e
 get_at [] k d e l = absurd (omega (arith, l))
-get_at (x ∷ xs) k d e l = elim k as (λ k. k < length (x ∷ xs) → get_or (x ∷ xs) k d ≡ get_or (x ∷ xs) k e) [ zero ↦ λ l. refl | suc k ↦ λ l. get_at xs k d e (omega (arith, l)) ] l
+get_at (x ∷ xs) zero d e l = refl
+get_at (x ∷ xs) (suc k) d e l = get_at xs k d e (omega (arith, l))
 
 pub looked_all : (patterns : List (List (List ℕ))) (line : List ℕ) (first now : List Bool) (at : ℕ) → length patterns ≤ at → length first ≡ length patterns → Looked patterns line first now at
     → (lines : List (List ℕ)) → first ≡ map (has_line lines) patterns → now ≡ map (has_line (lines ++ line ∷ [])) patterns
 looked_all patterns line first now at over few h lines is =
-    same_lists now (map (has_line (lines ++ line ∷ [])) patterns) (h.few ∙ few ∙ sym (length-map (has_line (lines ++ line ∷ [])) patterns))
+    same_lists now (map (has_line (lines ++ line ∷ [])) patterns) (h.few ∙ few ∙ sym (length-map patterns (has_line (lines ++ line ∷ []))))
     (λ k d l.
     let m : k < length patterns = omega (arith, l, h.few, few) in
     get_at now k d false l
@@ -65,7 +66,7 @@ fits_none [] = refl
 fits_none (p ∷ patterns) = ap (λ (fs : List Bool). false ∷ fs) (fits_none patterns)
 
 pub fits_cleared : (patterns : List (List (List ℕ))) (lines : List (List ℕ)) (fitted : List Bool) → fitted ≡ map (has_line lines) patterns → replicate (length fitted) false ≡ map (has_line []) patterns
-fits_cleared patterns lines fitted is = ap (λ n. replicate n false) (ap (λ (fs : List Bool). length fs) is ∙ length-map (has_line lines) patterns) ∙ fits_none patterns
+fits_cleared patterns lines fitted is = ap (λ n. replicate n false) (ap (λ (fs : List Bool). length fs) is ∙ length-map patterns (has_line lines)) ∙ fits_none patterns
 
 map_twice : {A B C : Type 0} (g : B → C) (f : A → B) (xs : List A) → map g (map f xs) ≡ map (λ x. g (f x)) xs
 map_twice g f [] = refl

@@ -19,6 +19,12 @@ use Rattle.explore_report.proofs.Flat.{IsPermutation-flat_map}
 
 -- ---- runs in another order
 
+-- runs in another order, of these numbers
+pub record Turned (Is : ℕ → Run → Type 0) (runs : List Run) (numbers : List ℕ) : Type 0 where
+  pub others : List Run
+  pub are : AreRuns Is numbers others
+  pub turn : IsPermutation runs others
+
 module _ (Is : ℕ → Run → Type 0) where
   same_length : (numbers : List ℕ) (runs : List Run) → AreRuns Is numbers runs → length numbers ≡ length runs
   same_length [] [] h = refl
@@ -49,14 +55,9 @@ module _ (Is : ℕ → Run → Type 0) where
       (run_put (n ∷ numbers) (r ∷ runs) i (get_or (n ∷ numbers) j n) (get_or (r ∷ runs) j r) h (run_at (n ∷ numbers) (r ∷ runs) j n r h b))
       (run_at (n ∷ numbers) (r ∷ runs) i n r h a)
 
-  pub record Turned (runs : List Run) (numbers : List ℕ) : Type 0 where
-    pub others : List Run
-    pub are : AreRuns Is numbers others
-    pub turn : IsPermutation runs others
-
-  pub runs_turned : (runs : List Run) (numbers others : List ℕ) → AreRuns Is numbers runs → IsPermutation numbers others → Turned runs others
+  pub runs_turned : (runs : List Run) (numbers others : List ℕ) → AreRuns Is numbers runs → IsPermutation numbers others → Turned Is runs others
   runs_turned runs numbers others h turn =
-      IsPermutation-keeps numbers (Turned runs) (record { others = runs; are = h; turn = IsPermutation-refl runs })
+      IsPermutation-keeps numbers (Turned Is runs) (record { others = runs; are = h; turn = IsPermutation-refl runs })
       (λ l i j a b k.
       let there = same_length l k.others k.are in
       record {
@@ -74,13 +75,14 @@ module _ (Is : ℕ → Run → Type 0) where
 
 -- ---- the runs of all parts
 
-module _ (shows : List ℕ → List (List ℕ) → List ℕ → Type 0) (told : family.Told) (e : Exploration) (n : ℕ) where
-  record Gathered (reads : List ReadPart) : Type 0 where
-    pub runs : List (List Run)
-    pub tallies : AreTallies (few_of e.expected) runs (map (λ (r : ReadPart). r.told) reads)
-    pub are : AreRuns (IsRun shows told e.expected e.exact) (flat_map (λ (r : ReadPart). numbers_of r.part n) reads) (flat_map (λ (r : List Run). r) runs)
+-- the runs of these parts, one after another
+record Gathered (shows : List ℕ → List (List ℕ) → List ℕ → Type 0) (told : family.Told) (e : Exploration) (n : ℕ) (reads : List ReadPart) : Type 0 where
+  pub runs : List (List Run)
+  pub tallies : AreTallies (few_of e.expected) runs (map (λ (r : ReadPart). r.told) reads)
+  pub are : AreRuns (IsRun shows told e.expected e.exact) (flat_map (λ (r : ReadPart). numbers_of r.part n) reads) (flat_map (λ (r : List Run). r) runs)
 
-  gathered : (reads : List ReadPart) → AreOfRuns shows told e n reads → Gathered reads
+module _ (shows : List ℕ → List (List ℕ) → List ℕ → Type 0) (told : family.Told) (e : Exploration) (n : ℕ) where
+  gathered : (reads : List ReadPart) → AreOfRuns shows told e n reads → Gathered shows told e n reads
   gathered [] h = record { runs = []; tallies = tt; are = tt }
   gathered (r ∷ reads) h =
       let rest = gathered reads h.1 in

@@ -5,7 +5,7 @@ use Rattle.std.proofs.lemmas.Bool.{cases_lt, eq-eqb}
 use Rattle.std.proofs.lemmas.Bool.Decides.{nat_tests}
 use Rattle.std.proofs.lemmas.List.Elements.{filter-append}
 use Rattle.std.proofs.lemmas.Nat.{mod_below}
-use Rattle.std.proofs.Math.Nat.{mod-add-div', add-mul-mod_self_right, add-mod_right}
+use Rattle.std.proofs.Math.Nat.{mod-add-div', mod-eq_of_lt, add-mul-mod_self_right, add-mod_right}
 use Rattle.script_family.specs.Laws.{below, part_of}
 
 eq_false : (a b : ℕ) → (a ≡ b → ⊥) → (a == b) ≡ false
@@ -24,7 +24,7 @@ not_of parts part n isnt =
     ∙ append-nil (part_of parts part n)
 
 small_mod : (n parts : ℕ) → n < parts → n % parts ≡ n
-small_mod n parts l = omega (arith, l, mod_below n parts (omega arith))
+small_mod n parts l = mod-eq_of_lt l
 
 -- before the first number of a part there is none
 pub none_before : (parts part n : ℕ) → part < parts → n ≤ part → part_of parts part n ≡ []
@@ -58,12 +58,18 @@ apart parts n k some few same =
     (λ (l : parts ≤ r + k). omega (arith, some, few, small, l, shifted parts n k, same, wrapped parts (r + k) l, small_mod (r + k - parts) parts (omega (arith, small, few, l))))
     (cases_lt (r + k) parts)
 
+add_zero : (n : ℕ) → n + zero ≡ n
+add_zero n = omega arith
+
+add_suc : (n k : ℕ) → n + suc k ≡ suc (n + k)
+add_suc n k = omega arith
+
 -- up to the next number of a part
 pub up_to_next : (parts n k m : ℕ) → m ≡ n + k → k < parts → part_of parts (n % parts) (suc m) ≡ part_of parts (n % parts) n ++ n ∷ []
-up_to_next parts n zero m is few = ap (λ x. part_of parts (n % parts) (suc x)) (is ∙ omega arith) ∙ more_of parts (n % parts) n refl
+up_to_next parts n zero m is few = ap (λ x. part_of parts (n % parts) (suc x)) (is ∙ add_zero n) ∙ more_of parts (n % parts) n refl
 up_to_next parts n (suc k) m is few =
-    ap (λ x. part_of parts (n % parts) (suc x)) (is ∙ omega arith)
-    ∙ not_of parts (n % parts) (suc (n + k)) (λ e. apart parts n (suc k) (omega arith) few (ap (λ x. x % parts) (omega arith) ∙ e))
+    ap (λ x. part_of parts (n % parts) (suc x)) (is ∙ add_suc n k)
+    ∙ not_of parts (n % parts) (suc (n + k)) (λ e. apart parts n (suc k) (omega arith) few (ap (λ x. x % parts) (add_suc n k) ∙ e))
     ∙ up_to_next parts n k (n + k) refl (omega arith)
 
 pub next_of_part : (parts n : ℕ) → (n + parts) % parts ≡ n % parts

@@ -1,5 +1,5 @@
 -- The fronts of scripts, as a tree of numbers: a longer front is found by the number of the front without its last line, and this line.
-use Rattle.std.proofs.Common.{◌≡◌, ℕ, zero, suc, ◌+◌, ◌<◌, ◌≤◌, Bool, true, false, cond, ◌==◌, List, [], ◌∷◌, ◌++◌, length, map, take, drop, get_or, Option, Some, None, refl, sym, ap, subst, ◌∙◌, arith, ⊎_elim, nat_le}
+use Rattle.std.proofs.Common.{◌≡◌, ℕ, zero, suc, ◌+◌, ◌<◌, ◌≤◌, Bool, true, false, cond, ◌==◌, ◌&&◌, List, [], ◌∷◌, ◌++◌, length, map, take, drop, get_or, Option, Some, None, refl, sym, ap, subst, ◌∙◌, arith, ⊎_elim, nat_le}
 use Rattle.std.specs.List.{list_all}
 use Rattle.std.specs.Str.{bytes_eq}
 use Rattle.std.specs.Cmp.Lexicographic.{bytes_decides}
@@ -16,19 +16,19 @@ all_at_most (n ∷ ns) m h = and_both (nat_le n m) (list_all (λ n. nat_le n m) 
   where
     at_most : (n m : ℕ) → n ≤ m → nat_le n m ≡ true
     at_most n m l = grind (arith, nat_tests)
-    and_both : (a b : Bool) → a ≡ true → b ≡ true → cond a b false ≡ true
+    and_both : (a b : Bool) → a ≡ true → b ≡ true → (a && b) ≡ true
     and_both true b e h = h
     and_both false b e h = e
 
 some_more : (ns : List ℕ) (m k : ℕ) → k < length ns → m < get_or ns k 0 → list_all (λ n. nat_le n m) ns ≡ false
 some_more [] m k l h = absurd (omega (arith, l))
-some_more (n ∷ ns) m zero l h = ap (λ b. cond b (list_all (λ n. nat_le n m) ns) false) (more n m h)
+some_more (n ∷ ns) m zero l h = ap (λ b. b && list_all (λ n. nat_le n m) ns) (more n m h)
   where
     more : (n m : ℕ) → m < n → nat_le n m ≡ false
     more n m l = grind (arith, nat_tests)
 some_more (n ∷ ns) m (suc k) l h = and_no (nat_le n m) (list_all (λ n. nat_le n m) ns) (some_more ns m k (omega (arith, l)) h)
   where
-    and_no : (a b : Bool) → b ≡ false → cond a b false ≡ false
+    and_no : (a b : Bool) → b ≡ false → (a && b) ≡ false
     and_no true b e = e
     and_no false b e = refl
 
@@ -72,20 +72,20 @@ pub reach_alike : (n : ℕ) (script lines : Lines) → n ≤ together script lin
 reach_alike zero script lines h = refl
 reach_alike (suc n) [] lines h = absurd (omega (arith, h))
 reach_alike (suc n) (s ∷ script) [] h = absurd (omega (arith, h))
-reach_alike (suc n) (s ∷ script) (line ∷ lines) h = by_test (bytes_eq s line) refl h
+reach_alike (suc n) (s ∷ script) (line ∷ lines) h = by_test (bytes_eq s line) refl h (λ l. reach_alike n script lines l)
   where
-    by_test : (b : Bool) → bytes_eq s line ≡ b → suc n ≤ cond b (suc (together script lines)) 0 → Alike (suc n) (s ∷ script) (line ∷ lines)
-    by_test true e h = λ i. (bytes_decides s line).0 e i ∷ reach_alike n script lines (omega (arith, h)) i
-    by_test false e h = absurd (omega (arith, h))
+    by_test : (b : Bool) → bytes_eq s line ≡ b → suc n ≤ cond b (suc (together script lines)) 0 → (n ≤ together script lines → Alike n script lines) → Alike (suc n) (s ∷ script) (line ∷ lines)
+    by_test true e h rest = λ i. (bytes_decides s line).0 e i ∷ rest (omega (arith, h)) i
+    by_test false e h rest = absurd (omega (arith, h))
 
 pub together_within : (script lines : Lines) → together script lines ≤ length lines
 together_within [] lines = omega arith
 together_within (s ∷ script) [] = omega arith
-together_within (s ∷ script) (line ∷ lines) = by_test (bytes_eq s line)
+together_within (s ∷ script) (line ∷ lines) = by_test (bytes_eq s line) (together_within script lines)
   where
-    by_test : (b : Bool) → cond b (suc (together script lines)) 0 ≤ length (line ∷ lines)
-    by_test true = omega (arith, together_within script lines)
-    by_test false = omega arith
+    by_test : (b : Bool) → together script lines ≤ length lines → cond b (suc (together script lines)) 0 ≤ length (line ∷ lines)
+    by_test true rest = omega (arith, rest)
+    by_test false rest = omega arith
 
 -- ---- the tree
 
@@ -102,11 +102,12 @@ onward_split (Some mid) next g h = (mid, refl, h)
 
 pub walk_append : (E : Edges) (at : ℕ) (front more : Lines) → walk E at (front ++ more) ≡ onward (walk E at front) (λ mid. walk E mid more)
 walk_append E at [] more = refl
-walk_append E at (line ∷ front) more = by_step (E at line)
+walk_append E at (line ∷ front) more = by_step (E at line) (λ next. walk_append E next front more)
   where
-    by_step : (o : Option ℕ) → onward o (λ next. walk E next (front ++ more)) ≡ onward (onward o (λ next. walk E next front)) (λ mid. walk E mid more)
-    by_step None = refl
-    by_step (Some next) = walk_append E next front more
+    by_step : (o : Option ℕ) → ((next : ℕ) → walk E next (front ++ more) ≡ onward (walk E next front) (λ mid. walk E mid more))
+        → onward o (λ next. walk E next (front ++ more)) ≡ onward (onward o (λ next. walk E next front)) (λ mid. walk E mid more)
+    by_step None rest = refl
+    by_step (Some next) rest = rest next
 
 pub walk_path : (E : Edges) (path : ℕ → Lines) (many at : ℕ) (lines : Lines) (end : ℕ) → IsTree E path many → at < many → walk E at lines ≡ Some end → (end < many) × (path end ≡ path at ++ lines)
 walk_path E path many at [] end tree l h =
@@ -266,34 +267,37 @@ edge_cases E new at line next p f l g P h hits misses = by_test (p.hit f l) refl
         hits same.0 same.1 (some_is g next (sym h ∙ p.is f l ∙ ap (λ b. cond b (Some next) (E f l)) e))
     by_test false e = misses (sym (ap (λ b. cond b (Some next) (E f l)) e) ∙ sym (p.is f l) ∙ h)
 
+abbrev path_with : ℕ → (ℕ → Lines) → Lines → ℕ → Lines
+path_with many path longer g = cond (g == many) longer (path g)
+
 pub growing_more : (E new : Edges) (first : List ℕ) (scripts : List Lines) (script : Lines) (at n : ℕ) → n < length script
     → Puts E new at (get_or script n []) (length first) → Growing E first scripts script at n → Growing new (first ++ length scripts ∷ []) scripts script (length first) (n + 1)
 growing_more E new first scripts script at n l p h = record {
-  path = path;
+  path = path_with (length first) h.path (h.path at ++ get_or script n [] ∷ []);
   tree = record {
     root = old 0 h.tree.some ∙ h.tree.root;
     some = omega (arith, size);
     edge = λ f line g e.
-        edge_cases E new at (get_or script n []) many p f line g ((f < length (first ++ length scripts ∷ [])) × (g < length (first ++ length scripts ∷ [])) × (path g ≡ path f ++ line ∷ [])) e
+        edge_cases E new at (get_or script n []) (length first) p f line g ((f < length (first ++ length scripts ∷ [])) × (g < length (first ++ length scripts ∷ [])) × (path_with (length first) h.path (h.path at ++ get_or script n [] ∷ []) g ≡ path_with (length first) h.path (h.path at ++ get_or script n [] ∷ []) f ++ line ∷ [])) e
         (λ is_at is_line is_next. (
           omega (arith, size, is_at, reached.0),
           omega (arith, size, is_next),
-          ap path is_next ∙ at_new ∙ ap (λ x. h.path at ++ x ∷ []) (sym is_line) ∙ ap (λ ls. ls ++ line ∷ []) (sym (ap path is_at ∙ old at reached.0)),
+          ap (path_with (length first) h.path (h.path at ++ get_or script n [] ∷ [])) is_next ∙ at_new ∙ ap (λ x. h.path at ++ x ∷ []) (sym is_line) ∙ ap (λ ls. ls ++ line ∷ []) (sym (ap (path_with (length first) h.path (h.path at ++ get_or script n [] ∷ [])) is_at ∙ old at reached.0)),
         ))
         (λ before.
         let k = h.tree.edge f line g before in
         (omega (arith, size, k.0), omega (arith, size, k.1), old g k.1 ∙ k.2 ∙ ap (λ ls. ls ++ line ∷ []) (sym (old f k.0))));
   };
   firsts = λ g lt. ⊎_elim
-      (λ (less : g < many).
+      (λ (less : g < (length first)).
       subst (λ ls. IsFirst (scripts ++ script ∷ []) ls (get_or (first ++ length scripts ∷ []) g 0)) (sym (old g less))
       (subst (λ m. IsFirst (scripts ++ script ∷ []) (h.path g) m) (sym (got_before first (length scripts) 0 g less)) (h.firsts g less)))
-      (λ (not : many ≤ g).
-      let same : many ≡ g = omega (arith, not, lt, size) in
-      subst (λ m. IsFirst (scripts ++ script ∷ []) (path m) (get_or (first ++ length scripts ∷ []) m 0)) same
-      (subst (λ ls. IsFirst (scripts ++ script ∷ []) ls (get_or (first ++ length scripts ∷ []) many 0)) (sym (at_new ∙ front_is))
+      (λ (not : (length first) ≤ g).
+      let same : (length first) ≡ g = omega (arith, not, lt, size) in
+      subst (λ m. IsFirst (scripts ++ script ∷ []) (path_with (length first) h.path (h.path at ++ get_or script n [] ∷ []) m) (get_or (first ++ length scripts ∷ []) m 0)) same
+      (subst (λ ls. IsFirst (scripts ++ script ∷ []) ls (get_or (first ++ length scripts ∷ []) (length first) 0)) (sym (at_new ∙ front_is))
       (subst (λ m. IsFirst (scripts ++ script ∷ []) (take (suc n) script) m) (sym (got_last first (length scripts) 0)) is_first)))
-      (cases_lt g many);
+      (cases_lt g (length first));
   all = λ k m kl.
       let there = h.all k m kl in
       (there.0, walk_kept E new kept 0 (take m (get_or scripts k [])) there.0 there.1);
@@ -304,13 +308,11 @@ growing_more E new first scripts script at n l p h = record {
         ∙ ap (walk new 0) (take_one_more script n l)
         ∙ walk_append new 0 (take n script) (get_or script n [] ∷ [])
         ∙ ap (λ o. onward o (λ mid. walk new mid (get_or script n [] ∷ []))) (walk_kept E new kept 0 (take n script) at h.longest.leads)
-        ∙ ap (λ o. onward o (λ next. walk new next [])) (p.is at (get_or script n []) ∙ ap (λ b. cond b (Some many) (E at (get_or script n []))) p.here);
-    over = λ more. no_edge (get_or script (n + 1) []) (new many (get_or script (n + 1) [])) refl;
+        ∙ ap (λ o. onward o (λ next. walk new next [])) (p.is at (get_or script n []) ∙ ap (λ b. cond b (Some (length first)) (E at (get_or script n []))) p.here);
+    over = λ more. no_edge (get_or script (n + 1) []) (new (length first) (get_or script (n + 1) [])) refl;
   };
 }
   where
-    many : ℕ
-    many = length first
     size : length (first ++ length scripts ∷ []) ≡ suc (length first)
     size = one_longer first (length scripts)
     one_more : (n : ℕ) → n + 1 ≡ suc n
@@ -319,13 +321,11 @@ growing_more E new first scripts script at n l p h = record {
     none = h.longest.over l
     kept : (f : ℕ) (l : List ℕ) (g : ℕ) → E f l ≡ Some g → new f l ≡ Some g
     kept = puts_kept E new at (get_or script n []) (length first) p none
-    path : ℕ → Lines
-    path g = cond (g == length first) (h.path at ++ get_or script n [] ∷ []) (h.path g)
     reached : (at < length first) × (h.path at ≡ h.path 0 ++ take n script)
     reached = walk_path E h.path (length first) 0 (take n script) at h.tree h.tree.some h.longest.leads
-    old : (g : ℕ) → g < length first → path g ≡ h.path g
+    old : (g : ℕ) → g < length first → path_with (length first) h.path (h.path at ++ get_or script n [] ∷ []) g ≡ h.path g
     old g lt = ap (λ b. cond b (h.path at ++ get_or script n [] ∷ []) (h.path g)) (eq_no g (length first) (λ e. omega (arith, e, lt)))
-    at_new : path (length first) ≡ h.path at ++ get_or script n [] ∷ []
+    at_new : path_with (length first) h.path (h.path at ++ get_or script n [] ∷ []) (length first) ≡ h.path at ++ get_or script n [] ∷ []
     at_new = ap (λ b. cond b (h.path at ++ get_or script n [] ∷ []) (h.path (length first))) (eq_yes (length first))
     front_is : h.path at ++ get_or script n [] ∷ [] ≡ take (suc n) script
     front_is = ap (λ ls. ls ++ get_or script n [] ∷ []) (reached.1 ∙ ap (λ ls. ls ++ take n script) h.tree.root) ∙ sym (take_one_more script n l)

@@ -1,5 +1,5 @@
 -- What is found, and what is answered.
-use Rattle.std.specs.Prelude.{ℕ, ◌≡◌, ◌^◌, Bool, true, false, ◌==◌, ◌||◌, ◌&&◌, nat_lt, if◌then◌else◌, List, map, length, Option, Some, None}
+use Rattle.std.specs.Prelude.{ℕ, ◌≡◌, ◌-◌, ◌^◌, Bool, true, false, ◌==◌, ◌||◌, ◌&&◌, nat_lt, if◌then◌else◌, List, map, length, Option, Some, None}
 use Rattle.std.specs.List.{list_any, AllByRecursion}
 use Rattle.std.specs.FinMap.{len}
 use Rattle.script_family.specs.Families.{scripts}
@@ -30,7 +30,7 @@ is_broken most told = are_many most (len told.endings) || list_any (λ mark. nat
 
 -- these are all scripts, whose number is told
 abbrev pub is_all : ℕ → ℕ → Bool
-is_all below count = (below == count) && nat_lt count (2 ^ 64 - 1)
+is_all n count = (n == count) && nat_lt count (2 ^ 64 - 1)
 
 abbrev pub found_by : Bool → Bool → Found
 found_by broken all = if broken then Broken else if all then Holds else NotAll

@@ -79,7 +79,7 @@ numbers_of part n = part_of part.of (part.number - 1) n
 pub record IsSeen (shows : List (List ℕ) → List ℕ → Type 0) (expected : Expected) (seen : Seen) (text : List ℕ) : Type 0 where
   pub lines : List (List ℕ)
   pub shown : shows lines text
-  pub seen : HasSeen expected lines seen
+  pub looked : HasSeen expected lines seen
 
 -- the script of a number was run, and what it comes to was added to a tally
 pub record HasRun (shows : List ℕ → List (List ℕ) → List ℕ → Type 0) (family : Told) (expected : Expected) (exact : Bool) (number : ℕ) (old new : tallies.Told) : Type 0 where

@@ -1,5 +1,5 @@
 //! The mark of an exploration, by which parts of the same one are known.
-ghost use Rattle.std.specs.Prelude.{◌≡◌, ◌++◌, IfOk, OnOk};
+ghost use Rattle.std.specs.Prelude.{◌≡◌, ◌<◌, ◌++◌, IfOk, OnOk};
 ghost use Rattle.sha2.specs.Sha256.{sha256};
 ghost use Rattle.explore_report.specs.Reports.{glyph, hexadecimal, digest_line};
 ghost use Rattle.explore_report.specs.Marks.{inf_lines, pattern_lines, words_text, mark_text};

@@ -59,7 +59,7 @@ fn merge_one<F: Files>(
     came: &mut Vec<bool>,
     tally: &mut Tally,
 ) -> Result<(), ReportError>
-    ensures merged { OnOk result (HasMerged (F.contents files.old) name.now of.entry.mark.now of.entry.count (length of.entry.expected.now.never.items) came.old.items came.new.items (told tally.old) (told tally.new)) }
+    ensures merged { OnOk result (HasMerged (F.contents files.old) of.entry.mark.now of.entry.count (length of.entry.expected.now.never.items) name.now came.old.items came.new.items (told tally.old) (told tally.new)) }
     ensures same { F.contents files.new ≡ F.contents files.old }
 {
     let PartRead { part, tally: own } = read_named(alloc, name, of, files)?;

@@ -103,6 +103,7 @@ impl<R: Drivers> Play<R> {
     pub fn event(&mut self) -> Result<Option<Happened>, WantOfMemory>
         requires { IsFrontQuiet (told_of self.old.desk) (front_of self.old.desk) }
         ensures came { IfOk result (λ happened. Came happened self.old self.new) }
+        ensures settings { OnOk result (told_of self.new.desk ≡ told_of self.old.desk) }
         ensures played { IfOk result (λ happened. (start : Playing) (labels : List Label) → Played start labels self.old → EventTold start labels happened self.new) }
     {
         match self.reader.next_event()? {

@@ -1,6 +1,6 @@
 use Rattle.std.proofs.Common.{◌≡◌, length, take}
 use Rattle.ending_tally.specs.Steps.{told}
-use Rattle.explore_report.proofs.Reads.{SoFar}
+use Rattle.explore_report.proofs.PartsRead.{SoFar}
 use Rattle.explore_report.proofs.merging.merge_parts.Given as goal
 
 abbrev pub invariant-loop-at : goal.invariant-loop-at

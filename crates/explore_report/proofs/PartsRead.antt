@@ -11,7 +11,7 @@ use Rattle.explore_report.specs.declared.expected.Expected.{Expected}
 use Rattle.explore_report.specs.declared.parts.Part.{Part}
 use Rattle.explore_report.specs.Expectations.{few_of}
 use Rattle.explore_report.specs.Merging.{ReadPart, IsReadFrom, AreReadFrom, AreAllParts, AreTallies, IsMergedOf, AreMerged, HasMerged}
-use Rattle.explore_report.proofs.Coming.{places_from, place_more, places_none, all_came}
+use Rattle.explore_report.proofs.Coming.{places_from, place_more, places_none, all_came, zero_add}
 
 -- what was read of the parts of these names, and put together
 pub record SoFar (contents : Option (List ℕ → Option (List ℕ))) (mark : List ℕ) (count : ℕ) (expected : Expected) (many : ℕ) (names : List (List ℕ)) (came : List Bool) (told : Told) : Type 0 where
@@ -87,7 +87,7 @@ so_far_more contents mark count expected many names more name came now old new f
           (IsPermutation-trans _ _ _ (IsPermutation-to_front (map number parts) (number put.read.part))
           (IsPermutation-trans _ _ _ (IsPermutation-cons (number put.read.part) _ _ h.each)
           (subst (λ l. IsPermutation (number put.read.part ∷ places_from 0 came) (places_from 0 l)) (sym put.come.noted)
-          (subst (λ n. IsPermutation (n ∷ places_from 0 came) (places_from 0 (set came (number put.read.part) true))) (omega arith) (place_more came 0 (number put.read.part) put.come.first)))));
+          (subst (λ n. IsPermutation (n ∷ places_from 0 came) (places_from 0 (set came (number put.read.part) true))) (zero_add (number put.read.part)) (place_more came 0 (number put.read.part) put.come.first)))));
       merged = subst (λ ts. IsMergedOf (few_of expected) ts new) (sym (map_push (λ (r : ReadPart). r.told) h.reads put.read))
           (merged_last (few_of expected) (map (λ (r : ReadPart). r.told) h.reads) put.read.told old new (put.merged (few_of expected)) h.merged);
     }
