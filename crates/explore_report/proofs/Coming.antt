@@ -21,19 +21,19 @@ zero_add n = omega arith
 
 -- one more came
 pub place_more : (came : List Bool) (at k : ℕ) → get_or came k true ≡ false → IsPermutation ((at + k) ∷ places_from at came) (places_from at (set came k true))
-place_more [] at k no = absurd (true_not_false no)
+place_more [] at k isnt = absurd (true_not_false isnt)
   where
     true_not_false : true ≡ false → ⊥
     true_not_false e = cc
-place_more (c ∷ came) at zero no =
+place_more (c ∷ came) at zero isnt =
     subst (λ n. IsPermutation (n ∷ places_from at (c ∷ came)) (at ∷ places_from (suc at) came)) (sym (add_zero at))
-    (subst (λ b. IsPermutation (at ∷ cond b (at ∷ places_from (suc at) came) (places_from (suc at) came)) (at ∷ places_from (suc at) came)) (sym no) (IsPermutation-refl _))
-place_more (true ∷ came) at (suc k) no =
-    let here : IsPermutation ((suc at + k) ∷ places_from (suc at) came) (places_from (suc at) (set came k true)) = place_more came (suc at) k no in
+    (subst (λ b. IsPermutation (at ∷ cond b (at ∷ places_from (suc at) came) (places_from (suc at) came)) (at ∷ places_from (suc at) came)) (sym isnt) (IsPermutation-refl _))
+place_more (true ∷ came) at (suc k) isnt =
+    let here : IsPermutation ((suc at + k) ∷ places_from (suc at) came) (places_from (suc at) (set came k true)) = place_more came (suc at) k isnt in
     subst (λ n. IsPermutation (n ∷ (at ∷ places_from (suc at) came)) (at ∷ places_from (suc at) (set came k true))) (sym (add_suc at k))
     (IsPermutation-trans _ _ _ (IsPermutation-sym _ _ (IsPermutation-middle (at ∷ []) (suc at + k) (places_from (suc at) came))) (IsPermutation-cons at _ _ here))
-place_more (false ∷ came) at (suc k) no =
-    subst (λ n. IsPermutation (n ∷ places_from (suc at) came) (places_from (suc at) (set came k true))) (sym (add_suc at k)) (place_more came (suc at) k no)
+place_more (false ∷ came) at (suc k) isnt =
+    subst (λ n. IsPermutation (n ∷ places_from (suc at) came) (places_from (suc at) (set came k true))) (sym (add_suc at k)) (place_more came (suc at) k isnt)
 
 -- none came
 pub places_none : (n at : ℕ) → places_from at (replicate n false) ≡ []

@@ -5,7 +5,7 @@ use Rattle.std.specs.Ordering.{is_eq, nat_cmp}
 use Rattle.std.specs.Cmp.{eq_by_cmp_equiv}
 use Rattle.std.specs.Cmp.Lexicographic.{slice_cmp, bytes_decides, nat_list_cmp_total, nat_list_eq_equiv}
 use Rattle.std.specs.Str.{bytes_eq}
-use Rattle.std.specs.BTreeMap.{BTreeMap, UpdatesBy, get_by}
+use Rattle.std.specs.BTreeMap.{BTreeMap, UpdatesBy, get_by, is_at}
 use Rattle.std.specs.Map.{lookup, IsKeyTest, AreApart, KeepsOthers}
 use Rattle.std.specs.declared.vec.Vec.{Vec}
 use Rattle.std.specs.declared.alloc.Global.{Global}
@@ -106,3 +106,13 @@ edge_put front line key next m n small is put = record {
 pub edge_found : (front : ℕ) (line key : List ℕ) (m : Kept) → front < 2 ^ 64 → key ≡ key_of front line → by_key m key ≡ edges_of m front line
 edge_found front line key m small is =
     ap (by_key m) is ∙ ap (λ b. cond b (by_key m (key_of front line)) None) (sym (lt_true front small))
+
+none_both : (b : Bool) (o : Option ℕ) → cond b o o ≡ o
+none_both true o = refl
+none_both false o = refl
+
+-- none is kept
+pub no_edges : (m : Kept) → m.entries ≡ [] → (f : ℕ) (l : List ℕ) → edges_of m f l ≡ None
+no_edges m none f l =
+    ap (λ es. cond (nat_lt f (2 ^ 64)) (lookup (is_at (λ (k : Vec ℕ Global). slice_cmp nat_cmp (key_of f l) k.items)) es) None) none
+    ∙ none_both (nat_lt f (2 ^ 64)) None

@@ -7,3 +7,4 @@ mod Coming
 mod PartsRead
 mod Tries
 mod Keys
+mod Appending

@@ -1,11 +1,14 @@
 -- The fronts of scripts, as a tree of numbers: a longer front is found by the number of the front without its last line, and this line.
-use Rattle.std.proofs.Common.{◌≡◌, ℕ, zero, suc, ◌+◌, ◌<◌, ◌≤◌, Bool, true, false, cond, ◌==◌, ◌&&◌, List, [], ◌∷◌, ◌++◌, length, map, take, drop, get_or, Option, Some, None, refl, sym, ap, subst, ◌∙◌, arith, ⊎_elim, nat_le}
+use Rattle.std.proofs.Common.{◌≡◌, ℕ, zero, suc, ◌+◌, ◌<◌, ◌≤◌, Bool, true, false, cond, ◌==◌, ◌&&◌, List, [], ◌∷◌, ◌++◌, length, map, take, drop, get_or, Option, Some, None, refl, sym, ap, subst, ◌∙◌, arith, ⊎_elim, nat_le, unwrap_or, slice_get, Bor}
 use Rattle.std.specs.List.{list_all}
 use Rattle.std.specs.Str.{bytes_eq}
 use Rattle.std.specs.Cmp.Lexicographic.{bytes_decides}
 use Rattle.std.proofs.lemmas.Bool.{cases_Bool, cases_lt}
 use Rattle.std.proofs.lemmas.Bool.Decides.{nat_tests}
-use Rattle.explore_report.specs.Reports.{together, place_of_greatest}
+use Rattle.script_family.specs.Reads as family
+use Rattle.ending_tally.specs.declared.tally.Ending.{Ending}
+use Rattle.ending_tally.specs.Steps.{ended}
+use Rattle.explore_report.specs.Reports.{together, place_of_greatest, difference, differs_at, script_lines, scripts_of}
 use Rattle.explore_report.specs.Fronts.{Lines, Edges, onward, walk, IsTree, IsFirst, HasFronts, IsLongest, Found, Growing, Puts}
 
 -- ---- the place of the greatest
@@ -48,11 +51,11 @@ Alike n script lines = take n script ≡ take n lines
 same_line : (a b : List ℕ) → a ≡ b → bytes_eq a b ≡ true
 same_line a b e = (bytes_decides a b).1 e
 
-head_is : (a b : List ℕ) (as bs : Lines) → a ∷ as ≡ b ∷ bs → a ≡ b
-head_is a b as bs e = cc
+head_is : (a b : List ℕ) (xs ys : Lines) → a ∷ xs ≡ b ∷ ys → a ≡ b
+head_is a b xs ys e = cc
 
-tail_is : (a b : List ℕ) (as bs : Lines) → a ∷ as ≡ b ∷ bs → as ≡ bs
-tail_is a b as bs e = cc
+tail_is : (a b : List ℕ) (xs ys : Lines) → a ∷ xs ≡ b ∷ ys → xs ≡ ys
+tail_is a b xs ys e = cc
 
 nil_not_cons : (b : List ℕ) (bs : Lines) → [] ≡ b ∷ bs → ⊥
 nil_not_cons b bs e = cc
@@ -390,3 +393,37 @@ no_fronts E empty = record {
   all = λ k n l. absurd (omega (arith, l));
   begin = λ e. (refl, refl);
 }
+
+-- one line further
+pub walk_more : (E : Edges) (lines : Lines) (at n next : ℕ) → n < length lines → walk E 0 (take n lines) ≡ Some at → E at (get_or lines n []) ≡ Some next → walk E 0 (take (n + 1) lines) ≡ Some next
+walk_more E lines at n next l leads step =
+    ap (λ m. walk E 0 (take m lines)) (plus_one n)
+    ∙ ap (walk E 0) (take_one_more lines n l)
+    ∙ walk_append E 0 (take n lines) (get_or lines n [] ∷ [])
+    ∙ ap (λ o. onward o (λ mid. walk E mid (get_or lines n [] ∷ []))) leads
+    ∙ ap (λ o. onward o (λ after. walk E after [])) step
+  where
+    plus_one : (n : ℕ) → n + 1 ≡ suc n
+    plus_one n = omega arith
+
+pub got_or : (xs : List ℕ) (i : ℕ) → unwrap_or (slice_get xs i) 0 ≡ get_or xs i 0
+got_or [] i = refl
+got_or (x ∷ xs) zero = refl
+got_or (x ∷ xs) (suc i) = got_or xs i
+
+-- the difference that is told
+pub differs_is : (scripts : List Lines) (lines : Lines) (place n : ℕ) → 0 < length scripts → Found scripts lines place n → differs_at (get_or scripts place []) place lines n ≡ difference scripts lines
+differs_is [] lines place n some h = absurd (omega (arith, some))
+differs_is (x ∷ xs) lines place n some h =
+    ap (λ m. differs_at (get_or (x ∷ xs) place []) place lines m) h.lines_are
+    ∙ ap (λ p. differs_at (get_or (x ∷ xs) p []) p lines (together (get_or (x ∷ xs) p []) lines)) h.place_is
+
+pub script_at : (told : family.Told) (earlier : List (Bor Ending)) (place : ℕ) (e d : Bor Ending) → place < length earlier → e ≡ get_or earlier place d
+    → script_lines told e.now.mark.first ≡ get_or (scripts_of told (map (λ (x : Bor Ending). ended x.now) earlier)) place []
+script_at told [] place e d l is = absurd (omega (arith, l))
+script_at told (x ∷ earlier) zero e d l is = ap (λ (y : Bor Ending). script_lines told y.now.mark.first) is
+script_at told (x ∷ earlier) (suc place) e d l is = script_at told earlier place e d (omega (arith, l)) is
+
+pub scripts_many : (told : family.Told) (earlier : List (Bor Ending)) → length (scripts_of told (map (λ (x : Bor Ending). ended x.now) earlier)) ≡ length earlier
+scripts_many told [] = refl
+scripts_many told (x ∷ earlier) = ap suc (scripts_many told earlier)
