@@ -54,7 +54,8 @@ fn explore_over<F: Files, P: Progress>(
 ) -> Result<Answer, ReportError>
     requires few { length infs.read.items ≤ 64 }
     requires within { IsWithin exploration.now }
-    ensures { IfOk result (λ a. IsExploredOver (F.contents files.old) digest.now family.now exploration.now infs.read.items infs.digests.items a.text.items a.status) }
+    ensures told { IfOk result (λ a. is_told a.status ≡ true) }
+    ensures explored { IfOk result (λ a. IsExploredOver (F.contents files.old) digest.now family.now exploration.now infs.read.items infs.digests.items a.text.items a.status) }
 {
     let Infs { read, digests } = infs;
     let mut player = Player::new(alloc, read, exploration.budget)?;
@@ -93,7 +94,8 @@ fn explore_scripts<F: Files, P: Progress>(
     progress: &mut P,
 ) -> Result<Answer, ReportError>
     requires { IsWithin exploration.now }
-    ensures { IfOk result (λ a. IfSome (F.contents files.old) (λ told. IsExplored told digest.now family.now exploration.now a.text.items a.status ⊎ TellsRefusal told exploration.now a.text.items a.status)) }
+    ensures told { IfOk result (λ a. is_told a.status ≡ true) }
+    ensures answered { IfOk result (λ a. IfSome (F.contents files.old) (λ told. IsExplored told digest.now family.now exploration.now a.text.items a.status ⊎ TellsRefusal told exploration.now a.text.items a.status)) }
 {
     match read_infs(alloc, files, &exploration.infs) {
         Ok(infs) => explore_over(alloc, family, digest, exploration, infs, files, progress),
@@ -114,7 +116,8 @@ fn answer_family<F: Files, P: Progress>(
     progress: &mut P,
 ) -> Result<Answer, ReportError>
     requires { IsTask task.now }
-    ensures { IfOk result (λ a. IfSome (F.contents files.old) (λ told. IsAnswered told digest.now family.now task.now a.text.items a.status)) }
+    ensures told { IfOk result (λ a. is_told a.status ≡ true) }
+    ensures answered { IfOk result (λ a. IfSome (F.contents files.old) (λ told. IsAnswered told digest.now family.now task.now a.text.items a.status)) }
 {
     let text = match task {
         Task::Explore(exploration) => {
@@ -151,7 +154,8 @@ fn answer_text<F: Files, P: Progress>(
     progress: &mut P,
 ) -> Result<Answer, ReportError>
     requires { IsTask task.now }
-    ensures { IfOk result (λ a. IfSome (F.contents files.old) (λ told. IsBytesOutput told text.items task.now a.text.items a.status)) }
+    ensures told { IfOk result (λ a. is_told a.status ≡ true) }
+    ensures answered { IfOk result (λ a. IfSome (F.contents files.old) (λ told. IsBytesOutput told text.items task.now a.text.items a.status)) }
 {
     let digest = Sha256::digest(&text);
     match ScriptFamily::read(alloc, text) {
@@ -170,7 +174,8 @@ fn look<F: Files, P: Progress>(
     progress: &mut P,
 ) -> Result<Answer, ReportError>
     requires { IsTask words.now.task }
-    ensures { IfOk result (λ a. IfSome (F.contents files.old) (λ told. IsOutput told words.now a.text.items a.status)) }
+    ensures told { IfOk result (λ a. is_told a.status ≡ true) }
+    ensures answered { IfOk result (λ a. IfSome (F.contents files.old) (λ told. IsOutput told words.now a.text.items a.status)) }
 {
     let text = read_all(alloc, files, words.family.bytes(), LIMIT)?;
     answer_text(alloc, text, &words.task, files, progress)

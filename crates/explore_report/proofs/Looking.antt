@@ -100,7 +100,7 @@ nothing_seen expected lines others seen never always h = record {
 
 -- ---- patterns that are read one after another
 
-taken_more : {X : Type 0} (xs : List X) (n : ℕ) (d : X) → n < length xs → take (n + 1) xs ≡ take n xs ++ get_or xs n d ∷ []
+pub taken_more : {X : Type 0} (xs : List X) (n : ℕ) (d : X) → n < length xs → take (n + 1) xs ≡ take n xs ++ get_or xs n d ∷ []
 taken_more xs n d l = ap (λ m. take m xs) (plus_one n) ∙ taken_suc xs n d l
   where
     plus_one : (n : ℕ) → n + 1 ≡ suc n

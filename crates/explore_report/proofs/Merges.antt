@@ -1,5 +1,5 @@
 -- All parts together are the whole.
-use Rattle.std.proofs.Common.{◌≡◌, ℕ, zero, suc, ◌-◌, ◌<◌, List, [], ◌∷◌, ◌++◌, length, map, get_or, set, refl, sym, ap, subst, ◌∙◌, arith}
+use Rattle.std.proofs.Common.{◌≡◌, ℕ, zero, suc, ◌-◌, ◌<◌, List, [], ◌∷◌, ◌++◌, length, map, get_or, set, refl, sym, ap, subst, ◌∙◌, arith, Option, Result, Ok, Err, IfOk}
 use Rattle.std.specs.List.{flat_map, swap, AllByRecursion}
 use Rattle.std.specs.List.Sorted.{IsPermutation}
 use Rattle.std.proofs.lemmas.List.Sorted.{IsPermutation-refl, IsPermutation-trans, IsPermutation-swap, IsPermutation-keeps}
@@ -11,10 +11,11 @@ use Rattle.ending_tally.proofs.Turns.{order_does_not_matter}
 use Rattle.explore_report.specs.declared.expected.Expected.{Expected}
 use Rattle.explore_report.specs.declared.parts.Part.{Part}
 use Rattle.explore_report.specs.declared.parts.Exploration.{Exploration}
+use Rattle.explore_report.specs.declared.told.Report.{Report}
 use Rattle.explore_report.specs.Expectations.{few_of}
 use Rattle.explore_report.specs.Scripts.{IsRun, AreRuns, IsTallyOf, numbers_of}
 use Rattle.explore_report.specs.Merging.{ReadPart, AreAllParts, AreTallies, IsMergedOf}
-use Rattle.explore_report.specs.Answers.{AreOfRuns}
+use Rattle.explore_report.specs.Answers.{AreOfRuns, IsMergedReport, TellsMerged}
 use Rattle.explore_report.proofs.Flat.{IsPermutation-flat_map}
 
 -- ---- runs in another order
@@ -117,3 +118,18 @@ module _ (shows : List ℕ → List (List ℕ) → List ℕ → Type 0) (told : 
         are = turned.are;
         tally = order_does_not_matter (few_of e.expected) (flat_map (λ (r : List Run). r) all_runs.runs) turned.others whole turned.turn (merged all_runs.runs all_runs.tallies);
       }
+
+pub if_ok_weaker : {A E : Type 0} (r : Result A E) (P Q : A → Type 0) → ((x : A) → P x → Q x) → IfOk r P → IfOk r Q
+if_ok_weaker (Ok x) P Q weaker h = weaker x h
+if_ok_weaker (Err e) P Q weaker h = tt
+
+pub tells_merged : (shows : List ℕ → List (List ℕ) → List ℕ → Type 0) (contents : Option (List ℕ → Option (List ℕ))) (told : family.Told) (e : Exploration) (n : ℕ) (mark : List ℕ) (names : List (List ℕ)) (r : Report) → 0 < length names
+    → IsMergedReport contents told e n mark names r → TellsMerged shows contents told e n mark names r
+tells_merged shows contents told e n mark names r some h = record {
+  told = h.told;
+  reads = h.merged.reads;
+  are = h.merged.are;
+  all = h.merged.all;
+  tally = whole_of_parts shows told e n (length names) h.merged.reads h.told some h.merged.all h.merged.merged;
+  report = h.report;
+}

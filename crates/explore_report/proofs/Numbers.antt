@@ -5,7 +5,7 @@ use Rattle.std.proofs.lemmas.Bool.{cases_lt, eq-eqb}
 use Rattle.std.proofs.lemmas.Bool.Decides.{nat_tests}
 use Rattle.std.proofs.lemmas.List.Elements.{filter-append}
 use Rattle.std.proofs.lemmas.Nat.{mod_below}
-use Rattle.std.proofs.Math.Nat.{mod-add-div', mod-eq_of_lt, add-mul-mod_self_right, add-mod_right}
+use Rattle.std.proofs.Math.Nat.{mod-add-div', mod-eq_of_lt, mod-one, add-mul-mod_self_right, add-mod_right}
 use Rattle.script_family.specs.Laws.{below, part_of}
 
 eq_false : (a b : ℕ) → (a ≡ b → ⊥) → (a == b) ≡ false
@@ -74,3 +74,8 @@ up_to_next parts n (suc k) m is few =
 
 pub next_of_part : (parts n : ℕ) → (n + parts) % parts ≡ n % parts
 next_of_part parts n = add-mod_right n parts
+
+-- one part has all
+pub all_of_one : (n : ℕ) → part_of 1 0 n ≡ below n
+all_of_one zero = refl
+all_of_one (suc n) = more_of 1 0 n (mod-one n) ∙ ap (λ l. l ++ n ∷ []) (all_of_one n)

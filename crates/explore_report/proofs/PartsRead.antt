@@ -2,7 +2,7 @@
 use Rattle.std.proofs.Common.{◌≡◌, ℕ, zero, suc, ◌+◌, ◌-◌, ◌<◌, Bool, true, false, List, [], ◌∷◌, ◌++◌, append-nil, append_assoc, length, map, get_or, set, replicate, Option, refl, sym, ap, subst, ◌∙◌, arith}
 use Rattle.std.specs.List.{flat_map, list_all, AllByRecursion}
 use Rattle.std.specs.List.Sorted.{IsPermutation}
-use Rattle.std.proofs.lemmas.List.{map_push}
+use Rattle.std.proofs.lemmas.List.{map_push, length-set}
 use Rattle.std.proofs.lemmas.List.Concat.{flat_map-append}
 use Rattle.std.proofs.lemmas.List.Sorted.{IsPermutation-refl, IsPermutation-trans, IsPermutation-cons, IsPermutation-to_front}
 use Rattle.script_family.specs.Laws.{below}
@@ -100,3 +100,13 @@ so_far_all contents mark count expected names came told few all h = record {
   all = record { of = h.of; each = subst (IsPermutation _) (all_came came (length names) few all) h.each };
   merged = h.merged;
 }
+
+pub few_at_first : (came : List Bool) (n : ℕ) → came ≡ replicate n false → length came ≡ n
+few_at_first came n is = ap (λ (l : List Bool). length l) is ∙ many n
+  where
+    many : (n : ℕ) → length (replicate n false) ≡ n
+    many zero = refl
+    many (suc n) = ap suc (many n)
+
+pub few_kept : (came now : List Bool) (k : ℕ) (b : Bool) → now ≡ set came k b → length now ≡ length came
+few_kept came now k b is = ap (λ (l : List Bool). length l) is ∙ length-set came k b

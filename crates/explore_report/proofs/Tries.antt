@@ -1,5 +1,5 @@
 -- The fronts of scripts, as a tree of numbers: a longer front is found by the number of the front without its last line, and this line.
-use Rattle.std.proofs.Common.{◌≡◌, ℕ, zero, suc, ◌+◌, ◌<◌, ◌≤◌, Bool, true, false, cond, ◌==◌, ◌&&◌, List, [], ◌∷◌, ◌++◌, length, map, take, drop, get_or, Option, Some, None, refl, sym, ap, subst, ◌∙◌, arith, ⊎_elim, nat_le, unwrap_or, slice_get, Bor}
+use Rattle.std.proofs.Common.{◌≡◌, ℕ, zero, suc, ◌+◌, ◌<◌, ◌≤◌, Bool, true, false, cond, ◌==◌, ◌&&◌, List, [], ◌∷◌, ◌++◌, length, map, take, drop, get_or, Option, Some, None, refl, sym, ap, subst, ◌∙◌, arith, ⊎_elim, nat_le, Bor}
 use Rattle.std.specs.List.{list_all}
 use Rattle.std.specs.Str.{bytes_eq}
 use Rattle.std.specs.Cmp.Lexicographic.{bytes_decides}
@@ -358,7 +358,7 @@ split_at zero lines = refl
 split_at (suc m) [] = refl
 split_at (suc m) (line ∷ lines) = ap (λ ls. line ∷ ls) (split_at m lines)
 
-taken_all : (n : ℕ) (lines : Lines) → length lines ≤ n → take n lines ≡ lines
+pub taken_all : (n : ℕ) (lines : Lines) → length lines ≤ n → take n lines ≡ lines
 taken_all zero [] l = refl
 taken_all zero (line ∷ lines) l = absurd (omega (arith, l))
 taken_all (suc n) [] l = refl
@@ -405,11 +405,6 @@ walk_more E lines at n next l leads step =
   where
     plus_one : (n : ℕ) → n + 1 ≡ suc n
     plus_one n = omega arith
-
-pub got_or : (xs : List ℕ) (i : ℕ) → unwrap_or (slice_get xs i) 0 ≡ get_or xs i 0
-got_or [] i = refl
-got_or (x ∷ xs) zero = refl
-got_or (x ∷ xs) (suc i) = got_or xs i
 
 -- the difference that is told
 pub differs_is : (scripts : List Lines) (lines : Lines) (place n : ℕ) → 0 < length scripts → Found scripts lines place n → differs_at (get_or scripts place []) place lines n ≡ difference scripts lines

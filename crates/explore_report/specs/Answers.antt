@@ -17,7 +17,7 @@ use Rattle.explore_report.specs.declared.told.Found.{Found}
 use Rattle.explore_report.specs.declared.told.Found.TheVariants.{Holds, Broken, NotAll}
 use Rattle.explore_report.specs.Scripts.{IsTallyOf, numbers_of}
 use Rattle.explore_report.specs.Reports.{report_text, part_text}
-use Rattle.explore_report.specs.Merging.{ReadPart, AreReadFrom, AreAllParts}
+use Rattle.explore_report.specs.Merging.{ReadPart, AreReadFrom, AreAllParts, AreMerged}
 
 -- there are more endings than there may be
 abbrev pub are_many : Option ℕ → ℕ → Bool
@@ -60,6 +60,12 @@ pub record TellsPart (shows : List ℕ → List (List ℕ) → List ℕ → Type
   pub told : tallies.Told
   pub tally : IsTallyOf shows family e.expected e.exact (numbers_of part n) told
   pub report : IsPartReport family e n mark part told r
+
+-- A report on what the parts in these files come to, which hold just what is written of all parts, each once.
+pub record IsMergedReport (contents : Option (List ℕ → Option (List ℕ))) (family : Told) (e : Exploration) (n : ℕ) (mark : List ℕ) (names : List (List ℕ)) (r : Report) : Type 0 where
+  pub told : tallies.Told
+  pub merged : AreMerged contents mark (count_of family) e.expected names told
+  pub report : IsWholeReport family e n told r
 
 -- each of these is a tally of the runs of the scripts of its part
 abbrev pub AreOfRuns : (List ℕ → List (List ℕ) → List ℕ → Type 0) → Told → Exploration → ℕ → List ReadPart → Type 0

@@ -50,11 +50,11 @@ pub record IsTallyOf (shows : List ℕ → List (List ℕ) → List ℕ → Type
 abbrev pub IsPart : parts.Part → Type 0
 IsPart part = (1 ≤ part.number) × (part.number ≤ part.of)
 
--- where a part is run, it is one of so many
+-- where a part is run, it is one of so many; some parts are put together, and not too many
 abbrev pub IsShare : Share → Type 0
 IsShare (Part part) = IsPart part
 IsShare Whole = Unit {0}
-IsShare (Merged names) = length names < 2 ^ 32
+IsShare (Merged names) = (0 < length names) × (length names < 2 ^ 32)
 
 -- words of at most 64 INFs, a budget of at most 1,000,000, and a part that is one of so many
 pub record IsWithin (e : Exploration) : Type 0 where

@@ -5,10 +5,10 @@ ghost use Rattle.script_family.specs.Families.{scripts};
 ghost use Rattle.script_family.specs.Counts.{capped};
 ghost use Rattle.ending_tally.specs.Steps.{told};
 ghost use Rattle.explore_report.specs.declared.error.ReportError.TheVariants.{BadWords};
-ghost use Rattle.explore_report.specs.Scripts.{IsTallyOf, IsPart, IsShare, numbers_of, script_text, below_of};
+ghost use Rattle.explore_report.specs.Scripts.{IsPart, IsShare, script_text, below_of};
 ghost use Rattle.explore_report.specs.Reports.{count_line};
 ghost use Rattle.explore_report.specs.Marks.{mark_text};
-ghost use Rattle.explore_report.specs.Answers.{is_all, found_by, are_many, is_broken, count_of, IsWholeReport, IsPartReport, IsReport};
+ghost use Rattle.explore_report.specs.Answers.{is_all, found_by, are_many, is_broken, count_of, IsWholeReport, IsPartReport, TellsWhole, TellsPart, IsMergedReport, IsReport};
 ghost use Rattle.explore_report.specs.Merging.{AreMerged};
 
 use crate::error::ReportError;
@@ -41,9 +41,6 @@ pub struct Report {
     pub text: Vec<u8>,
     pub found: Found,
 }
-
-/// The one part that has all.
-const WHOLE: Part = Part { number: 1, of: 1 };
 
 /// Whether the scripts below a bound are all of a count, which is exact where it is no greater than all that are told apart.
 fn is_all(below: u64, count: u64) -> bool
@@ -153,27 +150,64 @@ pub fn tell_script(family: &ScriptFamily, number: u64) -> Result<Vec<u8>, Report
     Ok(text)
 }
 
-/// What the scripts of a part come to, before it is written.
+/// The report on all scripts below the bound, which are run here.
+fn explore_whole<R: Runs, P: Progress>(
+    alloc: Global,
+    asked: Asked,
+    runs: &mut R,
+    progress: &mut P,
+) -> Result<Report, ReportError>
+    requires { asked.below ≤ capped (length (scripts asked.family.now.family)) }
+    ensures { IfOk result (λ r. TellsWhole (R.shows runs.old) asked.entry.family.now asked.entry.exploration.now asked.entry.below r) }
+{
+    let Asked {
+        family,
+        below,
+        exploration,
+        ..
+    } = asked;
+    let all = Part { number: 1, of: 1 };
+    let tally = run_part(alloc, family, all, below, exploration, runs, progress)?;
+    let report = tell_whole(alloc, asked, &tally)?;
+    Ok(report)
+}
+
+/// The report on the scripts of a part, which are run here.
 fn explore_part<R: Runs, P: Progress>(
     alloc: Global,
     asked: Asked,
     part: Part,
     runs: &mut R,
     progress: &mut P,
-) -> Result<Tally, WantOfMemory>
+) -> Result<Report, ReportError>
     requires below { asked.below ≤ capped (length (scripts asked.family.now.family)) }
     requires part { IsPart part }
-    ensures { IfOk result (λ tally. IsTallyOf (R.shows runs.old) asked.entry.family.now asked.entry.exploration.now.expected asked.entry.exploration.now.exact (numbers_of part asked.entry.below) (told tally)) }
+    ensures { IfOk result (λ r. TellsPart (R.shows runs.old) asked.entry.family.now asked.entry.exploration.now asked.entry.below asked.entry.mark.now part r) }
 {
-    run_part(
-        alloc,
-        asked.family,
-        part,
-        asked.below,
-        asked.exploration,
-        runs,
-        progress,
-    )
+    let Asked {
+        family,
+        below,
+        exploration,
+        ..
+    } = asked;
+    let tally = run_part(alloc, family, part, below, exploration, runs, progress)?;
+    let report = tell_part(alloc, asked, part, &tally)?;
+    Ok(report)
+}
+
+/// The report on what the parts in these files came to.
+fn explore_merged<F: Files>(
+    alloc: Global,
+    asked: Asked,
+    names: &TextList,
+    files: &mut F,
+) -> Result<Report, ReportError>
+    requires { length names.now < 2 ^ 32 }
+    ensures { IfOk result (λ r. IsMergedReport (F.contents files.old) asked.entry.family.now asked.entry.exploration.now asked.entry.below asked.entry.mark.now names.now r) }
+{
+    let tally = merge(alloc, asked, names, files)?;
+    let report = tell_whole(alloc, asked, &tally)?;
+    Ok(report)
 }
 
 /// The same as `explore_family`, of what is asked.
@@ -188,21 +222,11 @@ fn explore_asked<R: Runs, F: Files, P: Progress>(
     requires share { IsShare asked.exploration.now.share }
     ensures { IfOk result (λ r. IsReport (R.shows runs.old) (F.contents files.old) asked.entry.family.now asked.entry.exploration.now asked.entry.below asked.entry.mark.now asked.entry.exploration.now.share r) }
 {
-    let report = match &asked.exploration.share {
-        Share::Whole => {
-            let tally = explore_part(alloc, asked, WHOLE, runs, progress)?;
-            tell_whole(alloc, asked, &tally)?
-        }
-        Share::Part(part) => {
-            let tally = explore_part(alloc, asked, *part, runs, progress)?;
-            tell_part(alloc, asked, *part, &tally)?
-        }
-        Share::Merged(names) => {
-            let tally = merge(alloc, asked, names, files)?;
-            tell_whole(alloc, asked, &tally)?
-        }
-    };
-    Ok(report)
+    match &asked.exploration.share {
+        Share::Whole => explore_whole(alloc, asked, runs, progress),
+        Share::Part(part) => explore_part(alloc, asked, *part, runs, progress),
+        Share::Merged(names) => explore_merged(alloc, asked, names, files),
+    }
 }
 
 /// What is asked of the scripts of a family: they are run by what is given, or the parts that the words name are read. The digests are

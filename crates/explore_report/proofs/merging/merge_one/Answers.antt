@@ -1,14 +1,12 @@
-use Rattle.std.proofs.Common.{rules}
 use Rattle.ending_tally.specs.Steps.{told}
-use Rattle.explore_report.specs.Scripts.{IsPart}
 use Rattle.explore_report.proofs.merging.merge_one.Goals as goal
 
 pub returns-clause-merged : goal.returns-clause-merged
 returns-clause-merged g c =
-    let part : IsPart c.in_ok-part.part = search rules in
+    let read = c.in_ok-part.field-0 in
     record {
-      read = record { part = c.in_ok-part.part; told = told c.in_ok-part.own };
-      from = record { part = part; written = search rules };
+      read = record { part = read.part; told = told read.tally };
+      from = record { part = c.in_ok-part.ensures.part; written = c.in_ok-part.ensures.written };
       come = c.comes.ensures.new c.if-not-comes.false;
       merged = c.in_ok-merge.ensures;
     }

@@ -1,7 +1,7 @@
-use Rattle.std.proofs.Common.{◌≡◌, ◌<◌, ◌+◌, ◌++◌, ◌∷◌, ℕ, List, [], ◌∙◌, length, map, get_or, sym, ap, subst, arith, Bor, unwrap_or, slice_get}
+use Rattle.std.proofs.Common.{◌≡◌, ◌<◌, ◌+◌, ◌++◌, ◌∷◌, ℕ, List, [], ◌∙◌, length, map, get_or, sym, ap, subst, arith, Bor, unwrap_or}
 use Rattle.std.proofs.lemmas.List.{get_or-map, length-map}
 use Rattle.explore_report.specs.Fronts.{edges_of, Growing, Found, Puts}
-use Rattle.explore_report.proofs.Tries.{growing_more, growing_ends, longest_found, got_or}
+use Rattle.explore_report.proofs.Tries.{growing_more, growing_ends, longest_found}
 use Rattle.explore_report.proofs.fronts.Fronts.take.Goals as goal
 
 pub loop-place-preserved : goal.loop-place-preserved
@@ -25,7 +25,7 @@ returns c =
     let script = map (λ (line : Bor (List ℕ)). line.now) lines in
     let size = length-map lines (λ (line : Bor (List ℕ)). line.now) in
     let other : c.unwrap_or-other.result ≡ get_or c.args.self.now.first.items c.in_ok-longest.longest 0 =
-    c.unwrap_or-other.ensures ∙ ap (λ o. unwrap_or o 0) (c.copied.ensures ∙ c.get.ensures.lookup ∙ ap (λ xs. slice_get xs c.in_ok-longest.longest) c.deref.ensures.value) ∙ got_or c.args.self.now.first.items c.in_ok-longest.longest in
+    c.unwrap_or-other.ensures ∙ ap (λ o. unwrap_or o 0) c.copied.ensures ∙ c.get.ensures.lookup.4 (omega arith) 0 ∙ ap (λ xs. get_or xs c.in_ok-longest.longest 0) c.deref.ensures.value in
     record {
       fronts = λ scripts few old.
           growing_ends (edges_of c.loop-place.self.longer) c.loop-place.self.first.items scripts script c.loop-place.front c.loop-place.place (omega (arith, c.loop-place-test.false, size)) (c.loop-place.invariant scripts few old);
