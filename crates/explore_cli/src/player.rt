@@ -82,6 +82,13 @@ fn see_all<R: Drivers>(
     }
 }
 
+/// The drivers of the program as they are at first.
+fn first_rack(alloc: Global) -> Result<Rack<ProgramDriver>, WantOfMemory>
+    ensures { IfOk result (λ rack. rack ≡ program_rack) }
+{
+    Rack::make(alloc, program_drivers(alloc)?)
+}
+
 /// A run that is put on one script after another.
 #[derive(Drop)]
 pub(crate) struct Player {
@@ -108,7 +115,7 @@ impl Player {
         requires budget { budget ≤ 1000000 }
         ensures { IfOk result (λ player. told_of player.play.desk ≡ settings_of infs.items budget) }
     {
-        let rack = Rack::make(alloc, program_drivers(alloc)?)?;
+        let rack = first_rack(alloc)?;
         match Manager::new(alloc, infs, rack, budget) {
             Ok(manager) => Player::over(alloc, manager),
             Err(error) => Err(error),
@@ -121,7 +128,7 @@ impl Player {
         ensures begins { OnOk result (Begins (opening_desk (record self.old.play.desk.manager { events = 0; state = opening program_rack })) script.now self.new.play) }
         ensures none { OnOk result (Played self.new.play [] self.new.play) }
     {
-        let mut rack = Rack::make(self.alloc, program_drivers(self.alloc)?)?;
+        let mut rack = first_rack(self.alloc)?;
         self.play.restart(&mut rack, script)
     }
 }

@@ -50,6 +50,6 @@ returns-then-all g c =
     let names = c.args.names.now in
     let inv = c.loop-at.invariant in
     let all : list_all (λ (b : Bool). b) c.loop-at.came.items ≡ true =
-    sym (all_from_yields_List (λ (b : Bool). b) _ _ _ c.all.ensures.ran (YieldsList-from_slice _ c.iter.ensures.rest) (λ x b q k. search (rules, tests)) ∙ ap (list_all (λ (b : Bool). b)) c.deref.ensures.value) ∙ c.if-all.true in
+    sym (all_from_yields_List (λ (b : Bool). b) _ _ c.all.result c.all.ensures.ran (YieldsList-from_slice _ c.iter.ensures.rest) (λ x b q k. search (rules, tests)) ∙ ap (list_all (λ (b : Bool). b)) c.deref.ensures.value) ∙ c.if-all.true in
     so_far_all contents c.args.of.mark.now c.args.of.count expected names c.loop-at.came.items (told c.loop-at.tally) inv.few all
     (subst (λ ns. SoFar contents c.args.of.mark.now c.args.of.count expected (length names) ns c.loop-at.came.items (told c.loop-at.tally)) (taken_all c.loop-at.at names (omega (arith, c.len-at-end.ensures, c.loop-at-test.false))) inv.merged)
