@@ -72,6 +72,7 @@ read_stop o now names at name old error l is same few h k = by_case o h (subst (
     by_error told infs.ReadFault h k = tt
     by_error told infs.TooLarge h k = tt
     by_error told infs.WantOfMemory h k = tt
+
     by_case : (o : Option (List ℕ → Option (List ℕ))) → IfSome o (λ told. AreInfs told (take at names) old.read.items old.digests.items) → IfSome o (λ told. RefusedAs told name (length old.read.items + 1) error)
         → IfSome o (λ told. RefusedIn told names error)
     by_case None h k = tt

@@ -13,8 +13,8 @@ use crate::player::Player;
 use crate::status::Status;
 use device_ids::WantOfMemory;
 use explore_report::{
-    Exploration, Found, Progress, Report, ReportError, Task, Words, explore_family, tell_count, tell_script,
-    words_of,
+    Exploration, Found, Progress, Report, ReportError, Task, Words, explore_family, tell_count,
+    tell_script, words_of,
 };
 use inf_reader::InfError;
 use pnp_cli::{InfsError, LIMIT, refusal_line};
