@@ -18,5 +18,5 @@ returns g c =
       is = subst (λ ds. IsReport (Shows (settings_of c.args.infs.read.items e.budget)) contents family e (below_of family e) (sha256 (mark_text c.args.digest.now ds e)) e.share report) c.deref.ensures.value
           (subst (λ s. IsReport (Shows s) contents family e (below_of family e) (sha256 (mark_text c.args.digest.now c.deref.result.now e)) e.share report) c.in_ok-player.ensures c.in_ok-text.ensures);
       text_is = refl;
-      status_is = c.status_of.ensures;
+      status_is = c.status_of-status.ensures;
     }
