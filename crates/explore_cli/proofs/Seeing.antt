@@ -13,7 +13,7 @@ use Rattle.pnp_cli.specs.Outputs.{Plays}
 use Rattle.pnp_cli.specs.Racks.{program_rack}
 use Rattle.notify_front.proofs.FrontLeft.{front_steps_left}
 use Rattle.script_play.specs.declared.play.Happened.{Happened}
-use Rattle.script_play.specs.Playing.{Playing, Played, Ended, Begins, Came, Stepped, StepTold, EventTold, left_of}
+use Rattle.script_play.specs.Playing.{Playing, Played, Begins, Stepped, StepTold, EventTold, left_of}
 use Rattle.script_play.proofs.Plays.{fewer_left}
 use Rattle.explore_report.specs.declared.expected.Expected.{Expected}
 use Rattle.explore_report.specs.declared.expected.Seen.{Seen}

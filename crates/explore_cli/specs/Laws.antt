@@ -2,7 +2,6 @@
 use Rattle.std.specs.Prelude.{ℕ, ◌≡◌, List, map}
 use Rattle.std.proofs.Common.{sym, ap, ◌∙◌}
 use Rattle.pnp_labels.specs.Texts.{label_line}
-use Rattle.pnp_labels.specs.declared.label.Label.{Label}
 use Rattle.pnp_model.specs.Endings.{ending, joined}
 use Rattle.pnp_model.specs.Records.{Settings}
 use Rattle.pnp_model.specs.Runs.{opening}

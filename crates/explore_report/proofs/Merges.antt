@@ -6,9 +6,8 @@ use Rattle.std.proofs.lemmas.List.Sorted.{IsPermutation-refl, IsPermutation-tran
 use Rattle.script_family.specs.Laws.{below, part_of}
 use Rattle.script_family.specs.Reads as family
 use Rattle.script_family.proofs.Sharing.{parts_are_all}
-use Rattle.ending_tally.specs.Tallies.{Run, Told, IsTally}
+use Rattle.ending_tally.specs.Tallies.{Run, Told}
 use Rattle.ending_tally.proofs.Turns.{order_does_not_matter}
-use Rattle.explore_report.specs.declared.expected.Expected.{Expected}
 use Rattle.explore_report.specs.declared.parts.Part.{Part}
 use Rattle.explore_report.specs.declared.parts.Exploration.{Exploration}
 use Rattle.explore_report.specs.declared.told.Report.{Report}

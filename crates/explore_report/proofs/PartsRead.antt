@@ -1,16 +1,15 @@
 -- The parts of names, read one after another.
-use Rattle.std.proofs.Common.{◌≡◌, ℕ, zero, suc, ◌+◌, ◌-◌, ◌<◌, Bool, true, false, List, [], ◌∷◌, ◌++◌, append-nil, append_assoc, length, map, get_or, set, replicate, Option, refl, sym, ap, subst, ◌∙◌, arith}
+use Rattle.std.proofs.Common.{◌≡◌, ℕ, zero, suc, ◌-◌, Bool, true, false, List, [], ◌∷◌, ◌++◌, append-nil, length, map, set, replicate, Option, refl, sym, ap, subst, ◌∙◌}
 use Rattle.std.specs.List.{flat_map, list_all, AllByRecursion}
 use Rattle.std.specs.List.Sorted.{IsPermutation}
 use Rattle.std.proofs.lemmas.List.{map_push, length-set}
 use Rattle.std.proofs.lemmas.List.Concat.{flat_map-append}
 use Rattle.std.proofs.lemmas.List.Sorted.{IsPermutation-refl, IsPermutation-trans, IsPermutation-cons, IsPermutation-to_front}
-use Rattle.script_family.specs.Laws.{below}
 use Rattle.ending_tally.specs.Tallies.{Run, Told, IsTally}
 use Rattle.explore_report.specs.declared.expected.Expected.{Expected}
 use Rattle.explore_report.specs.declared.parts.Part.{Part}
 use Rattle.explore_report.specs.Expectations.{few_of}
-use Rattle.explore_report.specs.Merging.{ReadPart, IsReadFrom, AreReadFrom, AreAllParts, AreTallies, IsMergedOf, AreMerged, HasMerged}
+use Rattle.explore_report.specs.Merging.{ReadPart, IsReadFrom, AreReadFrom, AreTallies, IsMergedOf, AreMerged, HasMerged}
 use Rattle.explore_report.proofs.Coming.{places_from, place_more, places_none, all_came, zero_add}
 
 -- what was read of the parts of these names, and put together

@@ -1,5 +1,5 @@
 -- What is found, and what is answered.
-use Rattle.std.specs.Prelude.{ℕ, ◌≡◌, ◌-◌, ◌^◌, Bool, true, false, ◌==◌, ◌||◌, ◌&&◌, nat_lt, if◌then◌else◌, List, map, length, Option, Some, None}
+use Rattle.std.specs.Prelude.{ℕ, ◌≡◌, ◌-◌, ◌^◌, Bool, false, ◌==◌, ◌||◌, ◌&&◌, nat_lt, if◌then◌else◌, List, map, length, Option, Some, None}
 use Rattle.std.specs.List.{list_any, AllByRecursion}
 use Rattle.std.specs.FinMap.{len}
 use Rattle.script_family.specs.Families.{scripts}

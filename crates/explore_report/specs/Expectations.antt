@@ -1,5 +1,5 @@
 -- What is expected of the trace of each script, and whether a trace breaks it.
-use Rattle.std.specs.Prelude.{ℕ, ◌+◌, ◌≡◌, Bool, not, List, [], ◌++◌, map, length}
+use Rattle.std.specs.Prelude.{ℕ, ◌+◌, ◌≡◌, Bool, not, List, ◌++◌, map, length}
 use Rattle.std.specs.List.{list_any}
 use Rattle.ending_tally.specs.Patterns.{fits}
 use Rattle.explore_report.specs.declared.expected.Expected.{Expected}

@@ -1,5 +1,5 @@
 -- The text of whose digest the mark of an exploration is made: all that a part depends on.
-use Rattle.std.specs.Prelude.{ℕ, Bool, if◌then◌else◌, List, ◌++◌, codes}
+use Rattle.std.specs.Prelude.{ℕ, if◌then◌else◌, List, ◌++◌, codes}
 use Rattle.std.specs.List.{flat_map}
 use Rattle.sha2.specs.Sha256.{sha256}
 use Rattle.explore_report.specs.declared.parts.Exploration.{Exploration}

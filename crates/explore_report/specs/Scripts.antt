@@ -2,7 +2,7 @@
 use Rattle.std.specs.Prelude.{ℕ, ◌-◌, ◌≡◌, ◌≤◌, Bool, List, [], ◌∷◌, ◌++◌, ◌<◌, ◌^◌, min, length, get_or, if◌then◌else◌}
 use Rattle.script_family.specs.Families.{scripts}
 use Rattle.script_family.specs.Counts.{capped}
-use Rattle.script_family.specs.Laws.{below, part_of}
+use Rattle.script_family.specs.Laws.{part_of}
 use Rattle.script_family.specs.Reads.{Told}
 use Rattle.script_family.specs.Texts.{text_of}
 use Rattle.ending_tally.specs.Plain.{plain}

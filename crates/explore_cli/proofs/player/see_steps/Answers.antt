@@ -1,4 +1,4 @@
-use Rattle.std.proofs.Common.{refl, ◌∙◌}
+use Rattle.std.proofs.Common.{◌∙◌}
 use Rattle.explore_cli.proofs.Seeing.{fewer_steps, reading_same, stepped_still, saw_step, saw_still}
 use Rattle.explore_cli.proofs.player.see_steps.Goals as goal
 

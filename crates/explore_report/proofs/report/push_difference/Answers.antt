@@ -1,4 +1,4 @@
-use Rattle.std.proofs.Common.{◌≡◌, ◌<◌, ◌++◌, [], ℕ, List, ◌∙◌, length, map, get_or, sym, ap, arith, refl, rules, tests, Bor}
+use Rattle.std.proofs.Common.{◌≡◌, ◌<◌, ◌++◌, [], ℕ, List, ◌∙◌, length, map, get_or, ap, arith, refl, rules, tests, Bor}
 use Rattle.std.proofs.lemmas.Result.{on_ok_weaker}
 use Rattle.ending_tally.specs.declared.tally.Ending.{Ending}
 use Rattle.ending_tally.specs.Steps.{ended}

@@ -1,4 +1,4 @@
-use Rattle.std.proofs.Common.{◌≡◌, ◌<◌, ◌++◌, ◌∷◌, [], ℕ, List, ◌∙◌, length, map, sym, ap, subst, arith, Bor}
+use Rattle.std.proofs.Common.{◌≡◌, ◌++◌, ◌∷◌, [], ℕ, List, ◌∙◌, map, sym, ap, subst, arith, Bor}
 use Rattle.ending_tally.specs.declared.tally.Ending.{Ending}
 use Rattle.ending_tally.specs.Steps.{ended}
 use Rattle.explore_report.specs.Fronts.{Found, AreFrontsOf}

@@ -1,6 +1,5 @@
 use Rattle.std.proofs.Common.{List, ℕ, refl, sym, ap, subst, ◌∙◌}
 use Rattle.std.proofs.lemmas.Result.{on_ok_weaker}
-use Rattle.ending_tally.specs.Tallies.{Run}
 use Rattle.explore_report.specs.Scripts.{kind_of, script_text}
 use Rattle.explore_report.proofs.runs.run_one.Goals as goal
 

@@ -1,4 +1,4 @@
-use Rattle.std.proofs.Common.{◌≡◌, ◌<◌, ◌≤◌, ℕ, List, [], ◌∙◌, length, map, get_or, sym, ap, arith, None, Some, Bor}
+use Rattle.std.proofs.Common.{ℕ, List, [], ◌∙◌, map, sym, ap, arith, Bor}
 use Rattle.std.proofs.lemmas.List.{get_or-map, length-map}
 use Rattle.explore_report.specs.Fronts.{edges_of}
 use Rattle.explore_report.proofs.Tries.{walk_more}
