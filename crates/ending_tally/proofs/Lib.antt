@@ -1,0 +1,9 @@
+pub mod Orders
+pub mod Marks
+pub mod Turns
+pub mod Maps
+pub mod Adding
+pub mod Sorting
+pub mod Texts
+pub mod Trees
+pub mod Lines

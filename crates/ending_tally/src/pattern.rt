@@ -1,8 +1,8 @@
 //! A pattern of words.
 ghost use Rattle.std.specs.Prelude.{◌≡◌, IfOk, MatchOption, map};
-ghost use Rattle.ending_tally.specs.Patterns.{words_of, word_fits, IsPattern};
+ghost use Rattle.ending_tally.specs.Patterns.{words_of, word_fits, begins_with, fits, IsPattern};
 
-use crate::words::words_of;
+use crate::words::{copied, words_of};
 use device_ids::WantOfMemory;
 use std::alloc::Global;
 use std::marker::Model;
@@ -25,22 +25,28 @@ impl Model for Pattern {
     ghost view = { λ p. map (λ w. w.items) p.words.items };
 }
 
-/// Copies of words.
-fn copied(alloc: Global, found: &[&[u8]]) -> Result<Vec<Vec<u8>>, WantOfMemory>
-    ensures { IfOk result (λ words. map (λ w. w.items) words.items ≡ map (λ w. w.now) found.now) }
-{
-    let mut words = Vec::new(alloc);
-    for word in found {
-        words.push(Vec::from_slice(alloc, word)?)?;
-    }
-    Ok(words)
-}
-
 /// Whether a word of a pattern is a star, or the word.
 fn word_fits(pattern: &[u8], word: &[u8]) -> bool
     ensures { result ≡ word_fits pattern.now word.now }
 {
     pattern == b"*".as_slice() || pattern == word
+}
+
+/// Whether the first of these words are those of a pattern, one by one.
+fn begins_with(pattern: &[Vec<u8>], words: &[&[u8]]) -> bool
+    ensures { result ≡ begins_with (map (λ w. w.items) pattern.now) (map (λ w. w.now) words.now) }
+{
+    let mut rest = words;
+    for word in pattern {
+        let [first, more @ ..] = rest else {
+            return false;
+        };
+        if !word_fits(word, first) {
+            return false;
+        }
+        rest = more;
+    }
+    true
 }
 
 impl Pattern {
@@ -57,18 +63,10 @@ impl Pattern {
     }
 
     /// Whether the first words of a line are those of the pattern, one by one. Cost: the length of the line.
-    pub fn fits(&self, line: &[u8]) -> Result<bool, WantOfMemory> {
+    pub fn fits(&self, line: &[u8]) -> Result<bool, WantOfMemory>
+        ensures { IfOk result (λ found. found ≡ fits self.now line.now) }
+    {
         let words = words_of(self.alloc, line)?;
-        let mut rest = words.as_slice();
-        for pattern in &self.words {
-            let [word, more @ ..] = rest else {
-                return Ok(false);
-            };
-            if !word_fits(pattern, word) {
-                return Ok(false);
-            }
-            rest = more;
-        }
-        Ok(true)
+        Ok(begins_with(&self.words, &words))
     }
 }

@@ -20,3 +20,14 @@ pub(crate) fn words_of(alloc: Global, line: &[u8]) -> Result<Vec<&[u8]>, WantOfM
         .filter(|part| !part.is_empty())
         .collect(alloc)
 }
+
+/// Copies of texts.
+pub(crate) fn copied(alloc: Global, found: &[&[u8]]) -> Result<Vec<Vec<u8>>, WantOfMemory>
+    ensures { IfOk result (λ words. map (λ w. w.items) words.items ≡ map (λ w. w.now) found.now) }
+{
+    let mut words = Vec::new(alloc);
+    for word in found {
+        words.push(Vec::from_slice(alloc, word)?)?;
+    }
+    Ok(words)
+}

@@ -1,7 +1,15 @@
 //! Scripts are run one after another, each over the drivers of the program as they are at first.
-ghost use Rattle.std.specs.Prelude.{◌≡◌, ◌≤◌, OnOk, length};
-ghost use Rattle.notify_front.specs.Desks.{IsAtStart, front_of, told_of};
+ghost use Rattle.std.specs.Prelude.{◌≡◌, ◌≤◌, ◌∷◌, ◌++◌, [], ℕ, List, IfOk, OnOk, length};
+ghost use Rattle.pnp_labels.specs.Texts.{label_line};
+ghost use Rattle.pnp_model.specs.Runs.{opening};
+ghost use Rattle.start_sequence.specs.Begins.{settings_of};
+ghost use Rattle.notify_front.specs.Desks.{IsAtStart, opening_desk, front_of, told_of};
 ghost use Rattle.notify_front.specs.Fronts.{IsFrontQuiet};
+ghost use Rattle.pnp_machine.specs.Managers.{settings};
+ghost use Rattle.pnp_cli.specs.Racks.{program_rack};
+ghost use Rattle.script_play.specs.Playing.{Playing, Begins, Played};
+ghost use Rattle.explore_report.specs.Expectations.{HasSeen};
+ghost use Rattle.explore_cli.specs.Playing.{Shows, SawPlayed, SawEnded};
 
 use device_ids::WantOfMemory;
 use driver_rack::{Drivers, Rack};
@@ -15,14 +23,20 @@ use script_play::{Happened, Play};
 use std::alloc::Global;
 
 /// A label is looked at, and then let go.
-fn see(seen: &mut Seen, expected: &Expected, label: Label) -> Result<(), WantOfMemory> {
+fn see(seen: &mut Seen, expected: &Expected, label: Label) -> Result<(), WantOfMemory>
+    requires { (lines : List (List ℕ)) × HasSeen expected.now lines seen.old }
+    ensures { OnOk result ((lines : List (List ℕ)) → HasSeen expected.now lines seen.old → HasSeen expected.now (lines ++ label_line label ∷ []) seen.new) }
+{
     let looked = seen.see(expected, &label);
     drop(label);
     looked
 }
 
 /// The same of what happened.
-fn see_event(seen: &mut Seen, expected: &Expected, happened: Happened) -> Result<(), WantOfMemory> {
+fn see_event(seen: &mut Seen, expected: &Expected, happened: Happened) -> Result<(), WantOfMemory>
+    requires { (lines : List (List ℕ)) × HasSeen expected.now lines seen.old }
+    ensures { OnOk result ((lines : List (List ℕ)) → HasSeen expected.now lines seen.old → HasSeen expected.now (lines ++ label_line happened.label ∷ []) seen.new) }
+{
     let Happened { label, said } = happened;
     drop(said);
     see(seen, expected, label)
@@ -34,8 +48,12 @@ fn see_steps<R: Drivers>(
     seen: &mut Seen,
     expected: &Expected,
 ) -> Result<(), WantOfMemory>
+    requires { (lines : List (List ℕ)) × HasSeen expected.now lines seen.old }
     ensures quiet { OnOk result (IsFrontQuiet (told_of play.new.desk) (front_of play.new.desk)) }
     ensures reading { OnOk result (play.new.reading ≡ play.old.reading) }
+    ensures settings { OnOk result (told_of play.new.desk ≡ told_of play.old.desk) }
+    ensures saw { OnOk result ((start : Playing) → SawPlayed start expected.now play.old seen.old → SawPlayed start expected.now play.new seen.new) }
+    ensures seen { OnOk result ((lines : List (List ℕ)) × HasSeen expected.now lines seen.new) }
 {
     'steps: loop {
         match play.step()? {
@@ -50,7 +68,11 @@ fn see_all<R: Drivers>(
     play: &mut Play<R>,
     seen: &mut Seen,
     expected: &Expected,
-) -> Result<(), WantOfMemory> {
+) -> Result<(), WantOfMemory>
+    requires { (lines : List (List ℕ)) × HasSeen expected.now lines seen.old }
+    ensures settings { OnOk result (told_of play.new.desk ≡ told_of play.old.desk) }
+    ensures saw { OnOk result ((start : Playing) → SawPlayed start expected.now play.old seen.old → SawEnded start expected.now play.new seen.new) }
+{
     'events: loop {
         see_steps(play, seen, expected)?;
         match play.event()? {
@@ -58,6 +80,13 @@ fn see_all<R: Drivers>(
             None => return Ok(()),
         }
     }
+}
+
+/// The drivers of the program as they are at first.
+fn first_rack(alloc: Global) -> Result<Rack<ProgramDriver>, WantOfMemory>
+    ensures { IfOk result (λ rack. rack ≡ program_rack) }
+{
+    Rack::make(alloc, program_drivers(alloc)?)
 }
 
 /// A run that is put on one script after another.
@@ -71,6 +100,7 @@ impl Player {
     /// A run over a manager to which nothing happened.
     fn over(alloc: Global, manager: Manager<Rack<ProgramDriver>>) -> Result<Player, WantOfMemory>
         requires { IsAtStart manager }
+        ensures { IfOk result (λ player. told_of player.play.desk ≡ settings manager) }
     {
         let front = Front::new(alloc, manager);
         match Play::new(alloc, front, b"") {
@@ -83,8 +113,9 @@ impl Player {
     pub(crate) fn new(alloc: Global, infs: Vec<Inf>, budget: u64) -> Result<Player, WantOfMemory>
         requires infs { length infs.items ≤ 64 }
         requires budget { budget ≤ 1000000 }
+        ensures { IfOk result (λ player. told_of player.play.desk ≡ settings_of infs.items budget) }
     {
-        let rack = Rack::make(alloc, program_drivers(alloc)?)?;
+        let rack = first_rack(alloc)?;
         match Manager::new(alloc, infs, rack, budget) {
             Ok(manager) => Player::over(alloc, manager),
             Err(error) => Err(error),
@@ -94,13 +125,20 @@ impl Player {
     /// The run is put on a script, over the drivers of the program as they are at first.
     fn restart(&mut self, script: &[u8]) -> Result<(), WantOfMemory>
         requires { length script.now ≤ 16777216 }
+        ensures begins { OnOk result (Begins (opening_desk (record self.old.play.desk.manager { events = 0; state = opening program_rack })) script.now self.new.play) }
+        ensures none { OnOk result (Played self.new.play [] self.new.play) }
     {
-        let mut rack = Rack::make(self.alloc, program_drivers(self.alloc)?)?;
+        let mut rack = first_rack(self.alloc)?;
         self.play.restart(&mut rack, script)
     }
 }
 
 impl Runs for Player {
+    ghost use Rattle.notify_front.specs.Desks.{told_of};
+    ghost use Rattle.explore_cli.specs.Playing.{Shows};
+
+    ghost shows = { λ player. Shows (told_of player.play.desk) };
+
     fn run(
         &mut self,
         script: &[u8],
@@ -111,4 +149,8 @@ impl Runs for Player {
         see_all(&mut self.play, seen, expected)?;
         self.play.ending()
     }
+
+    ghost use Rattle.explore_cli.specs.Laws.{one_run};
+
+    ghost one = { λ player. one_run (told_of player.play.desk) };
 }

@@ -1,9 +1,10 @@
 //! Which of the endings before has a first script that goes longest together with another one.
-ghost use Rattle.std.specs.Prelude.{◌≤◌, IfOk, length};
+ghost use Rattle.std.specs.Prelude.{◌≡◌, ◌++◌, ◌∷◌, [], IfOk, map, length};
+ghost use Rattle.explore_report.specs.Fronts.{key_of, edges_of, Puts, IsLongest, AreFrontsOf, HasTaken};
 
 use device_ids::WantOfMemory;
 use std::alloc::{AllocError, Global};
-use std::collections::HashMap;
+use std::collections::BTreeMap;
 
 /// How far two scripts go together.
 #[derive(Clone, Copy, PartialEq, Eq)]
@@ -18,13 +19,15 @@ pub(crate) struct Together {
 #[derive(Drop)]
 pub(crate) struct Fronts {
     /// The number of a front, by the number of the front without its last line, and this line.
-    longer: HashMap<Vec<u8>, usize>,
+    longer: BTreeMap<Vec<u8>, usize>,
     /// For each front the place of the first ending whose script begins with it.
     first: Vec<usize>,
 }
 
 /// What the number of a longer front is found by.
-fn key(alloc: Global, front: usize, line: &[u8]) -> Result<Vec<u8>, WantOfMemory> {
+fn key(alloc: Global, front: usize, line: &[u8]) -> Result<Vec<u8>, WantOfMemory>
+    ensures { IfOk result (λ key. key.items ≡ key_of front line.now) }
+{
     let mut key = Vec::from_slice(alloc, &(front as u64).to_le_bytes())?;
     key.extend_from_slice(line)?;
     Ok(key)
@@ -32,11 +35,13 @@ fn key(alloc: Global, front: usize, line: &[u8]) -> Result<Vec<u8>, WantOfMemory
 
 impl Fronts {
     /// The empty front alone, of the first ending.
-    pub(crate) fn new(alloc: Global) -> Result<Fronts, WantOfMemory> {
+    pub(crate) fn new(alloc: Global) -> Result<Fronts, WantOfMemory>
+        ensures { IfOk result (AreFrontsOf []) }
+    {
         let mut first = Vec::new(alloc);
         first.push(0)?;
         Ok(Fronts {
-            longer: HashMap::new(alloc),
+            longer: BTreeMap::new(alloc),
             first,
         })
     }
@@ -47,19 +52,25 @@ impl Fronts {
         alloc: Global,
         front: usize,
         line: &[u8],
-    ) -> Result<Option<usize>, WantOfMemory> {
+    ) -> Result<Option<usize>, WantOfMemory>
+        ensures { IfOk result (λ next. next ≡ edges_of self.now.longer front line.now) }
+    {
         let key = key(alloc, front, line)?;
         Ok(self.longer.get(&key).copied())
     }
 
-    /// One more front.
+    /// One more front, of the ending at a place.
     fn add(
         &mut self,
         alloc: Global,
         at: usize,
         front: usize,
         line: &[u8],
-    ) -> Result<usize, AllocError> {
+    ) -> Result<usize, AllocError>
+        ensures number { IfOk result (λ next. next ≡ length self.old.first.items) }
+        ensures first { IfOk result (λ _. self.new.first.items ≡ self.old.first.items ++ at ∷ []) }
+        ensures longer { IfOk result (λ _. Puts (edges_of self.old.longer) (edges_of self.new.longer) front line.now (length self.old.first.items)) }
+    {
         let number = self.first.len();
         self.longer.insert(key(alloc, front, line)?, number)?;
         self.first.push(at)?;
@@ -68,7 +79,7 @@ impl Fronts {
 
     /// The longest front of these lines that there is, by its number, and how many lines it has.
     fn longest(&self, alloc: Global, lines: &[&[u8]]) -> Result<(usize, usize), WantOfMemory>
-        ensures { IfOk result (λ r. r.1 ≤ length lines.now) }
+        ensures { IfOk result (λ r. IsLongest (edges_of self.now.longer) (map (λ line. line.now) lines.now) r.0 r.1) }
     {
         let mut front = 0;
         for at in 0..lines.len() {
@@ -81,18 +92,20 @@ impl Fronts {
     }
 
     /// Takes the script of the ending at a place, line by line, and answers how far it goes together with one that was taken before:
-    /// the longest way, and the first of these. Cost: the bytes of the script.
+    /// the longest way, and the first of these. Cost: the bytes of the script, for each of a logarithm of fronts.
     pub(crate) fn take(
         &mut self,
         alloc: Global,
         at: usize,
         lines: &[&[u8]],
-    ) -> Result<Together, WantOfMemory> {
+    ) -> Result<Together, WantOfMemory>
+        ensures { IfOk result (HasTaken at (map (λ line. line.now) lines.now) self.old self.new) }
+    {
         let (longest, together) = self.longest(alloc, lines)?;
         let other = self.first.get(longest).copied().unwrap_or(0);
         let mut front = longest;
-        for line in &lines[together..] {
-            front = self.add(alloc, at, front, *line)?;
+        for place in together..lines.len() {
+            front = self.add(alloc, at, front, lines[place])?;
         }
         Ok(Together {
             other,

@@ -1,16 +1,16 @@
-//! A part is read again: what it tells of its scripts, if it is a part of this exploration, and as it was written.
+//! A part is read again: what it tells of its scripts, if it is a part of this exploration, and as it is written.
+ghost use Rattle.std.specs.Prelude.{◌≡◌, IfOk, IfSome, length, true};
+ghost use Rattle.ending_tally.specs.Steps.{told};
+ghost use Rattle.explore_report.specs.Scripts.{IsPart};
+ghost use Rattle.explore_report.specs.Reports.{part_text};
+
 use crate::expected::Expected;
-use crate::mark::push_digest;
 use crate::parts::Part;
-use crate::report::{push_count, push_part};
+use crate::report::part_report;
 use crate::words::{number_of, part_of};
 use device_ids::{WantOfMemory, split_once};
 use ending_tally::{Mark, Tally, plain_ending};
-use sha2::{Digest, Sha256};
 use std::alloc::Global;
-
-/// How many bytes the last line of a part has: a word, a blank, 64 digits and a line feed.
-const SUM: usize = 69;
 
 /// What a part is to be of.
 #[derive(Clone, Copy)]
@@ -62,47 +62,12 @@ pub(crate) fn scripts_in(part: Part, below: u64) -> u64 {
     }
 }
 
-/// The text before the last line, where this one has the digest of it.
-fn unsealed(alloc: Global, text: &[u8]) -> Result<Option<&[u8]>, WantOfMemory> {
-    if text.len() < SUM {
-        return Ok(None);
-    }
-    let front = &text[..text.len() - SUM];
-    let mut sum = Vec::from_slice(alloc, b"sum ")?;
-    push_digest(&mut sum, &Sha256::digest(front))?;
-    sum.push(b'\n')?;
-    if sum.as_slice() == &text[text.len() - SUM..] {
-        Ok(Some(front))
-    } else {
-        Ok(None)
-    }
-}
-
-/// Which part the first line names, where it is one of this exploration.
-fn part_named(alloc: Global, line: &[u8], mark: &[u8; 32]) -> Result<Option<Part>, WantOfMemory> {
-    let Some(part) = named(line) else {
-        return Ok(None);
-    };
-    let mut wanted = Vec::new(alloc);
-    push_part(&mut wanted, part, mark)?;
-    match wanted.as_slice() {
-        [wanted @ .., _] if wanted == line => Ok(Some(part)),
-        _ => Ok(None),
-    }
-}
-
 /// The part that a line `part I/N MARK` names.
-fn named(line: &[u8]) -> Option<Part> {
+fn named(line: &[u8]) -> Option<Part>
+    ensures { IfSome result IsPart }
+{
     let (part, _) = split_once(line.strip_prefix(b"part ".as_slice())?, b' ')?;
     part_of(part)
-}
-
-/// Whether the next line tells this count of scripts.
-fn tells_count(alloc: Global, lines: &mut Lines, count: u64) -> Result<bool, WantOfMemory> {
-    let mut wanted = Vec::new(alloc);
-    push_count(&mut wanted, count)?;
-    let line = lines.take(1);
-    Ok(line == Some(wanted.as_slice()))
 }
 
 /// What a line tells of an expectation, behind its word and number.
@@ -135,7 +100,7 @@ fn ending_of(line: &[u8]) -> Option<(u64, u64)> {
 
 /// Reads what is told of the expectations; whether all of it stands there.
 fn read_broken(lines: &mut Lines, expected: &Expected, tally: &mut Tally) -> bool {
-    for at in 0..expected.len() {
+    for at in 0..expected.never() + expected.always() {
         let Some(line) = lines.next() else {
             return false;
         };
@@ -211,7 +176,7 @@ fn read_endings(
     Ok(Some(scripts))
 }
 
-/// Reads what stands behind the first line.
+/// Reads what stands behind the first line, up to the last one; whether it is what a part tells.
 fn read_tally(
     alloc: Global,
     lines: &mut Lines,
@@ -219,9 +184,7 @@ fn read_tally(
     of: Of,
     tally: &mut Tally,
 ) -> Result<bool, WantOfMemory> {
-    if !tells_count(alloc, lines, of.count)? {
-        return Ok(false);
-    }
+    let _ = lines.next();
     let run = lines.number(b"run ");
     if run != Some(scripts_in(part, of.below)) {
         return Ok(false);
@@ -231,28 +194,58 @@ fn read_tally(
     }
     let scripts = read_endings(alloc, lines, part, of, tally)?;
     tally.add_scripts(run.unwrap_or(0));
-    Ok(scripts == run && lines.rest.is_empty())
+    Ok(scripts == run)
 }
 
-/// Which part a text is, where it is one of this exploration and as it was written; what it tells is put into the tally. Cost: its bytes.
+/// What a part tells. This project's own.
+#[derive(Drop)]
+pub(crate) struct PartRead {
+    pub(crate) part: Part,
+    pub(crate) tally: Tally,
+}
+
+/// Whether a text is just what is written of what was read from it.
+fn is_written(
+    alloc: Global,
+    text: &[u8],
+    of: Of,
+    part: Part,
+    tally: &Tally,
+) -> Result<bool, WantOfMemory>
+    ensures { IfOk result (λ is. is ≡ true → text.now ≡ part_text part of.entry.mark.now of.entry.count (length of.entry.expected.now.never.items) (told tally.now)) }
+{
+    let written = part_report(
+        alloc,
+        of.count,
+        part,
+        of.mark,
+        of.expected.never(),
+        tally,
+    )?;
+    Ok(written.as_slice() == text)
+}
+
+/// What a text tells, where it is a part of this exploration, and just as it is written. Cost: its bytes.
 pub(crate) fn read_part(
     alloc: Global,
     text: &[u8],
     of: Of,
-    tally: &mut Tally,
-) -> Result<Option<Part>, WantOfMemory> {
-    let Some(front) = unsealed(alloc, text)? else {
-        return Ok(None);
-    };
-    let mut lines = Lines { rest: front };
+) -> Result<Option<PartRead>, WantOfMemory>
+    ensures part { IfOk result (λ found. IfSome found (λ read. IsPart read.part)) }
+    ensures written { IfOk result (λ found. IfSome found (λ read. text.now ≡ part_text read.part of.entry.mark.now of.entry.count (length of.entry.expected.now.never.items) (told read.tally))) }
+{
+    let mut lines = Lines { rest: text };
     let Some(first) = lines.next() else {
         return Ok(None);
     };
-    let Some(part) = part_named(alloc, first, of.mark)? else {
+    let Some(part) = named(first) else {
         return Ok(None);
     };
-    if read_tally(alloc, &mut lines, part, of, tally)? {
-        Ok(Some(part))
+    let mut tally = Tally::new(alloc, of.expected.never() + of.expected.always())?;
+    if read_tally(alloc, &mut lines, part, of, &mut tally)?
+        && is_written(alloc, text, of, part, &tally)?
+    {
+        Ok(Some(PartRead { part, tally }))
     } else {
         Ok(None)
     }

@@ -1,4 +1,7 @@
 //! The words of the command line, read by one simple command.
+ghost use Rattle.std.specs.Prelude.{◌≤◌, IfOk, IfSome, length};
+ghost use Rattle.explore_report.specs.Scripts.{IsPart, IsShare, IsWithin, IsTask};
+
 use crate::error::ReportError;
 use crate::expected::Expected;
 use crate::parts::{Exploration, Part, Share, Task, Words};
@@ -108,7 +111,9 @@ pub(crate) fn number_of(text: &[u8]) -> Option<u64> {
 }
 
 /// A number from 1 to this one.
-fn within(most: u64, text: &[u8]) -> Option<u64> {
+fn within(most: u64, text: &[u8]) -> Option<u64>
+    ensures { IfSome result (λ number. (1 ≤ number) × (number ≤ most)) }
+{
     match number_of(text) {
         Some(number) => {
             if 1 <= number && number <= most {
@@ -122,7 +127,9 @@ fn within(most: u64, text: &[u8]) -> Option<u64> {
 }
 
 /// The number of an option, from 1 to this one; none where the option is not there.
-fn option_number(found: &ArgMatches, name: &str, most: u64) -> Result<Option<u64>, ReportError> {
+fn option_number(found: &ArgMatches, name: &str, most: u64) -> Result<Option<u64>, ReportError>
+    ensures { IfOk result (λ found. IfSome found (λ number. (1 ≤ number) × (number ≤ most))) }
+{
     match found.get_str(name) {
         None => Ok(None),
         Some(text) => match within(most, text.as_bytes()) {
@@ -138,7 +145,9 @@ fn texts(
     found: &ArgMatches,
     name: &str,
     most: usize,
-) -> Result<TextList, ReportError> {
+) -> Result<TextList, ReportError>
+    ensures { IfOk result (λ texts. length texts ≤ most) }
+{
     let mut all = TextList::new(alloc);
     let Some(texts) = found.get_strs(name) else {
         return Ok(all);
@@ -153,7 +162,9 @@ fn texts(
 }
 
 /// The part that `I/N` writes.
-pub(crate) fn part_of(text: &[u8]) -> Option<Part> {
+pub(crate) fn part_of(text: &[u8]) -> Option<Part>
+    ensures { IfSome result IsPart }
+{
     let (number, of) = split_once(text, b'/')?;
     let of = within(MOST_PARTS as u64, of)?;
     let number = within(of, number)?;
@@ -161,7 +172,9 @@ pub(crate) fn part_of(text: &[u8]) -> Option<Part> {
 }
 
 /// Which scripts are run.
-fn share(alloc: Global, found: &ArgMatches) -> Result<Share, ReportError> {
+fn share(alloc: Global, found: &ArgMatches) -> Result<Share, ReportError>
+    ensures { IfOk result IsShare }
+{
     let from = texts(alloc, found, "from", MOST_PARTS)?;
     match (found.get_str("part"), from.len()) {
         (None, 0) => Ok(Share::Whole),
@@ -175,7 +188,9 @@ fn share(alloc: Global, found: &ArgMatches) -> Result<Share, ReportError> {
 }
 
 /// What is to be found out.
-fn exploration(alloc: Global, found: &ArgMatches) -> Result<Exploration, ReportError> {
+fn exploration(alloc: Global, found: &ArgMatches) -> Result<Exploration, ReportError>
+    ensures { IfOk result IsWithin }
+{
     let budget = option_number(found, "budget", MOST_BUDGET)?.unwrap_or(BUDGET);
     let endings = option_number(found, "endings", u64::MAX)?;
     let first = option_number(found, "first", u64::MAX)?.unwrap_or(FIRST);
@@ -214,7 +229,9 @@ fn is_plain(found: &ArgMatches) -> bool {
 }
 
 /// What is asked.
-fn task(alloc: Global, found: &ArgMatches) -> Result<Task, ReportError> {
+fn task(alloc: Global, found: &ArgMatches) -> Result<Task, ReportError>
+    ensures { IfOk result IsTask }
+{
     let script = option_number(found, "script", u64::MAX)?;
     match (found.get_flag("count"), script) {
         (false, None) => Ok(Task::Explore(exploration(alloc, found)?)),
@@ -227,7 +244,9 @@ fn task(alloc: Global, found: &ArgMatches) -> Result<Task, ReportError> {
 /// What the words say, of which the first is the program's name, and is not looked at:
 /// `[--budget N] [--never W].. [--always W].. [--endings N] [--exact] [--first N] [--part I/N] FAMILY [INF ..]`, or with `--from PART ..` in place of
 /// `--part`, or `--script N FAMILY`, or `--count FAMILY`. Other words are refused.
-pub fn words_of(alloc: Global, words: &[String]) -> Result<Words, ReportError> {
+pub fn words_of(alloc: Global, words: &[String]) -> Result<Words, ReportError>
+    ensures { IfOk result (λ words. IsTask words.task) }
+{
     if words.is_empty() {
         return Err(ReportError::BadWords);
     }

@@ -1,7 +1,6 @@
 -- What an event does to the names of a rack that tells one answer.
 use Rattle.std.proofs.Common.{◌≡◌, Bool, true, false, not, List, [], ◌∷◌, map, length, Option, Some, None, is_some, Result, Ok, Err, IfOk, OnOk, option_map, cond, refl, sym, ap, ◌∙◌, subst, ◌+◌}
-use Rattle.std.specs.Prelude.{find, is_none, nat_le}
-use Rattle.std.specs.declared.alloc.AllocError.{AllocError}
+use Rattle.std.specs.Prelude.{find, is_none, nat_le, OnErr}
 use Rattle.pnp_labels.specs.Texts.{Text}
 use Rattle.pnp_labels.specs.declared.event.Event.{Event}
 use Rattle.pnp_labels.specs.declared.event.Rule.{Rule}
@@ -22,7 +21,8 @@ use Rattle.pnp_machine.specs.Machines.{IsDone}
 use Rattle.pnp_machine.specs.Managers.{Manager}
 use Rattle.free_run.specs.declared.told.ToldRacks.{ToldRacks}
 use Rattle.free_run.specs.FreeRuns.{Free, HasHappened}
-use Rattle.free_run.specs.Racks.{named_by, named, named_in}
+use Rattle.free_run.specs.declared.racks.Naming.{Naming}
+use Rattle.free_run.specs.Racks.{named_by, named, named_in, named_all}
 use Rattle.free_run.specs.ToldRacks.{AreTold}
 
 -- A name ------------------------------------------------------------------------------------
@@ -123,16 +123,16 @@ told_so : (answer : Answer) (s new : State) (event : Event) (old racks : List Dr
 told_so answer s new event old racks so done hears =
     hears ∙ ap (named_in event) so ∙ sym (told_after answer s event) ∙ ap (λ (x : State). told answer x.core.rack) (sym done)
 
--- the racks that heard of the event
-pub told_on : (s new : State) (event : Event) (old racks : ToldRacks) → AreTold s.core.rack old → racks.ok ≡ named_in event old.ok → racks.fail ≡ named_in event old.fail → racks.pend ≡ named_in event old.pend
-    → (result : Result Label AllocError) → IfOk result (λ label. IsDone (happens s event) label new) → OnOk result (AreTold new.core.rack racks)
-told_on s new event old racks so ok fail pend (Ok label) done =
+-- the racks whose drivers get the name of the event, if it gives one
+pub told_on : (s new : State) (event : Event) (namings : List Naming) (old racks : ToldRacks) → AreTold s.core.rack old → new ≡ (happens s event).state → ((rack : List Driver) → named_all namings rack ≡ named_in event rack)
+    → named_all racks.late.items racks.ok ≡ named_all namings (named_all old.late.items old.ok) → named_all racks.late.items racks.fail ≡ named_all namings (named_all old.late.items old.fail)
+    → named_all racks.late.items racks.pend ≡ named_all namings (named_all old.late.items old.pend) → AreTold new.core.rack racks
+told_on s new event namings old racks so done gives ok fail pend =
     record {
-      ok = told_so Answer.Ok s new event old.ok racks.ok so.ok done.1 ok;
-      fail = told_so Answer.Fail s new event old.fail racks.fail so.fail done.1 fail;
-      pend = told_so Answer.Pend s new event old.pend racks.pend so.pend done.1 pend;
+      ok = told_so Answer.Ok s new event _ _ so.ok done (ok ∙ gives (named_all old.late.items old.ok));
+      fail = told_so Answer.Fail s new event _ _ so.fail done (fail ∙ gives (named_all old.late.items old.fail));
+      pend = told_so Answer.Pend s new event _ _ so.pend done (pend ∙ gives (named_all old.late.items old.pend));
     }
-told_on s new event old racks so ok fail pend (Err refused) done = tt
 
 -- The run -----------------------------------------------------------------------------------
 
@@ -140,8 +140,18 @@ abbrev free_of : Manager → Free
 free_of m = record { infs = m.infs; budget = m.budget; events = m.events; state = m.state }
 
 -- what the event does to the manager it does to the run
-pub happened : (before after : Manager) (f : Free) (event : Event) (label : Label) → free_of before ≡ f → IsDone (happens before.state event) label after.state
+happened : (before after : Manager) (f : Free) (event : Event) (label : Label) → free_of before ≡ f → IsDone (happens before.state event) label after.state
     → after ≡ record before { events = before.events + 1; state = after.state } → HasHappened (happens f.state event) f (free_of after) label
 happened before after f event label is done count =
     subst (λ (x : Free). HasHappened (happens x.state event) x (free_of after) label) is
     (done.0, ap free_of count ∙ ap (λ (s : State). record { infs = before.infs; budget = before.budget; events = before.events + 1; state = s }) done.1)
+
+pub happened_on : {E : Type 0} (before after : Manager) (f : Free) (event : Event) (r : Result Label E) → free_of before ≡ f → IfOk r (λ label. IsDone (happens before.state event) label after.state)
+    → OnOk r (after ≡ record before { events = before.events + 1; state = after.state }) → IfOk r (λ label. HasHappened (happens f.state event) f (free_of after) label)
+happened_on before after f event (Ok label) is done count = happened before after f event label is done count
+happened_on before after f event (Err refused) is done count = tt
+
+-- what is as before of the manager is as before of the run
+pub as_before : {E : Type 0} (before after : Manager) (f : Free) (r : Result Label E) → free_of before ≡ f → OnErr r (after ≡ before) → OnErr r (free_of after ≡ f)
+as_before before after f (Ok label) is same = tt
+as_before before after f (Err refused) is same = ap free_of same ∙ is

@@ -1,3 +1,4 @@
 mod Tellers
 mod Events
 mod Steps
+mod Names

@@ -67,6 +67,13 @@ is_named_so (Err RackEmpty) kind name old new other (fresh, none, is) =
     is ∙ sym (changed_first_none (is_unnamed kind) (with_name name) old none) ∙ ap (named_by name kind old) (sym (find_from_none (is_named name) old fresh))
 is_named_so (Err WantOfMemory) kind name old new other h = absurd (other refl)
 
+-- and where memory was wanting nothing was done
+pub is_kept_so : (result : Result ℕ NameError) (kind : DriverKind) (name : Text) (old new : List Driver) → result ≡ Err NameError.WantOfMemory → Named result kind name old new → new ≡ old
+is_kept_so (Ok k) kind name old new e h = absurd (cc)
+is_kept_so (Err SameName) kind name old new e h = absurd (cc)
+is_kept_so (Err RackEmpty) kind name old new e h = absurd (cc)
+is_kept_so (Err WantOfMemory) kind name old new e (fresh, at, is) = is
+
 -- The beginning -----------------------------------------------------------------------------
 
 made : (book : DriverKind → List Rule) (kinds : List DriverKind) → map (λ (d : FreeDriver). unnamed d.kind d.rules) (map (λ kind. record { kind = kind; rules = book kind }) kinds) ≡ map (λ kind. unnamed kind (book kind)) kinds

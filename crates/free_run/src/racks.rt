@@ -1,6 +1,7 @@
-ghost use Rattle.std.specs.Prelude.{◌≡◌, ◌<◌, ◌^◌, IfOk, OnOk, length, map};
+ghost use Rattle.std.specs.Prelude.{◌≡◌, ◌<◌, ◌^◌, IfOk, OnOk, OnErr, List, length, map};
+ghost use Rattle.pnp_model.specs.Records.{Driver as Row};
 ghost use Rattle.free_model.specs.Frees.{new_driver, told};
-ghost use Rattle.free_run.specs.Racks.{named, named_in};
+ghost use Rattle.free_run.specs.Racks.{named, named_in, named_all, list_of};
 
 use crate::driver::FreeDriver;
 use device_ids::{Text, WantOfMemory};
@@ -39,25 +40,36 @@ pub(crate) fn told_rack(
     Rack::make(alloc, drivers)
 }
 
-/// Gives a name to the first driver of the kind that has none; where there is none, or a driver has the name, nothing
-/// changes.
-fn give_name(rack: &mut Rack<FreeDriver>, kind: DriverKind, name: &Text) -> Result<(), WantOfMemory>
-    ensures { OnOk result (rack.new ≡ named name.now kind rack.old) }
+/// A name that the first driver of a kind gets that has none. This project's own.
+#[derive(Drop)]
+pub(crate) struct Naming {
+    name: Text,
+    kind: DriverKind,
+}
+
+/// The name that an event gives, if it gives one.
+pub(crate) fn naming_of(alloc: Global, event: &Event) -> Result<Option<Naming>, WantOfMemory>
+    ensures { IfOk result (λ naming. (rack : List Row) → named_all (list_of naming) rack ≡ named_in event.now rack) }
 {
-    match rack.name(kind, name) {
+    match event {
+        Event::Name { name, kind } => {
+            let name = name.copy(alloc)?;
+            Ok(Some(Naming { name, kind: *kind }))
+        }
+        _ => Ok(None),
+    }
+}
+
+/// Gives a name; where no driver of the kind is without one, or a driver has the name, nothing changes. After want of memory the
+/// rack is as before.
+pub(crate) fn give(rack: &mut Rack<FreeDriver>, naming: &Naming) -> Result<(), WantOfMemory>
+    ensures named { OnOk result (rack.new ≡ named naming.now.name naming.now.kind rack.old) }
+    ensures err { OnErr result (rack.new ≡ rack.old) }
+{
+    match rack.name(naming.kind, &naming.name) {
         Ok(_) => Ok(()),
         Err(NameError::SameName) => Ok(()),
         Err(NameError::RackEmpty) => Ok(()),
         Err(NameError::WantOfMemory) => Err(AllocError),
-    }
-}
-
-/// Where an event gives a name, the same driver of this rack gets it too.
-pub(crate) fn name_too(rack: &mut Rack<FreeDriver>, event: &Event) -> Result<(), WantOfMemory>
-    ensures { OnOk result (rack.new ≡ named_in event.now rack.old) }
-{
-    match event {
-        Event::Name { name, kind } => give_name(rack, *kind, name),
-        _ => Ok(()),
     }
 }

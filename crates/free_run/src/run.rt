@@ -72,26 +72,16 @@ impl FreeRun {
     }
 
     /// An event happens, at a quiet state: exactly what the machine's definition says. Conditions: the state is quiet, the event has at
-    /// most 64 IDs of each sort, and fewer than 2^24 events happened before. After want of memory the run is gone. Cost: as `Manager::apply`.
-    pub fn apply(self, event: Event) -> Result<(FreeRun, Label), WantOfMemory>
-        requires quiet { IsQuiet (settings self) self.state }
+    /// most 64 IDs of each sort, and fewer than 2^24 events happened before. After want of memory all is as before. Cost: as
+    /// `Manager::apply`, and for a name four times the look-up.
+    pub fn apply(&mut self, event: Event) -> Result<Label, WantOfMemory>
+        requires quiet { IsQuiet (settings self.old) self.old.state }
         requires ids { HasFewIds event }
-        requires events { self.events < 2 ^ 24 }
-        ensures { IfOk result (λ r. HasHappened (happens self.state event) self r.0 r.1) }
+        requires events { self.old.events < 2 ^ 24 }
+        ensures happened { IfOk result (λ label. HasHappened (happens self.old.state event) self.old self.new label) }
+        ensures err { OnErr result (self.new ≡ self.old) }
     {
-        let FreeRun {
-            mut manager,
-            mut told,
-        } = self;
-        match told.apply(event, &mut manager) {
-            Ok(label) => Ok((FreeRun { manager, told }, label)),
-            // by `?` the whole machine would be let go here, part by part, which makes a long proof
-            Err(refused) => {
-                drop(manager);
-                drop(told);
-                Err(refused)
-            }
-        }
+        self.told.apply(event, &mut self.manager)
     }
 
     /// The step where all drivers that are asked answer so, exactly as the machine's definition says; none exactly where no step is next,

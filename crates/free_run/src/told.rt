@@ -1,4 +1,4 @@
-ghost use Rattle.std.specs.Prelude.{◌≡◌, ◌<◌, ◌+◌, ◌^◌, IfOk, OnOk, OnErr, length, map};
+ghost use Rattle.std.specs.Prelude.{◌≡◌, ◌<◌, ◌+◌, ◌^◌, [], IfOk, OnOk, OnErr, length, map, vec_len, vec_capacity};
 ghost use Rattle.pnp_model.specs.Events.{happens};
 ghost use Rattle.pnp_model.specs.Machine.{IsQuiet};
 ghost use Rattle.start_sequence.specs.Begins.{settings_of};
@@ -6,11 +6,11 @@ ghost use Rattle.free_model.specs.Frees.{new_driver};
 ghost use Rattle.pnp_machine.specs.Machines.{HasFewIds, IsDone};
 ghost use Rattle.pnp_machine.specs.Managers.{settings};
 ghost use Rattle.free_run.specs.FreeRuns.{MovesBy};
-ghost use Rattle.free_run.specs.Racks.{named_in};
-ghost use Rattle.free_run.specs.ToldRacks.{AreTold, IsTold, MovesTold};
+ghost use Rattle.free_run.specs.Racks.{named_all, list_of};
+ghost use Rattle.free_run.specs.ToldRacks.{AreAlike, AreTold, AreUp, IsTold, MovesTold};
 
 use crate::driver::FreeDriver;
-use crate::racks::{name_too, told_rack};
+use crate::racks::{Naming, give, naming_of, told_rack};
 use device_ids::WantOfMemory;
 use driver_rack::Rack;
 use pnp_labels::{Answer, DriverKind, Event, Label};
@@ -43,6 +43,8 @@ pub(crate) struct ToldRacks {
     ok: Rack<FreeDriver>,
     fail: Rack<FreeDriver>,
     pend: Rack<FreeDriver>,
+    /// Names that their drivers are still to get: memory was wanting when they were given.
+    late: Vec<Naming>,
 }
 
 impl Drop for ToldRacks {
@@ -51,6 +53,7 @@ impl Drop for ToldRacks {
             ok: _,
             fail: _,
             pend: _,
+            late: _,
         } = self;
     }
 }
@@ -65,21 +68,51 @@ impl ToldRacks {
             ok: told_rack(alloc, kinds, Answer::Ok)?,
             fail: told_rack(alloc, kinds, Answer::Fail)?,
             pend: told_rack(alloc, kinds, Answer::Pend)?,
+            late: Vec::new(alloc),
         })
     }
 
-    /// Where an event gives a driver a name, those of the same number get it too.
-    fn hear(&mut self, event: &Event) -> Result<(), WantOfMemory>
-        ensures ok { OnOk result (self.new.ok ≡ named_in event.now self.old.ok) }
-        ensures fail { OnOk result (self.new.fail ≡ named_in event.now self.old.fail) }
-        ensures pend { OnOk result (self.new.pend ≡ named_in event.now self.old.pend) }
+    /// The first name that is late is given in each rack. Where memory is wanting it stays late.
+    fn give_first(&mut self) -> Result<(), WantOfMemory>
+        requires some { 0 < vec_len self.old.late }
+        ensures alike { AreAlike self.old self.new }
+        ensures fewer { OnOk result (vec_len self.new.late < vec_len self.old.late) }
     {
-        name_too(&mut self.ok, event)?;
-        name_too(&mut self.fail, event)?;
-        name_too(&mut self.pend, event)
+        let first = &self.late[0];
+        give(&mut self.ok, first)?;
+        give(&mut self.fail, first)?;
+        give(&mut self.pend, first)?;
+        self.late.remove(0);
+        Ok(())
     }
 
-    /// An event happens to the machine, at a quiet state, and the racks hear of it. Conditions: as `Manager::apply`.
+    /// The drivers get the names that are late.
+    fn catch_up(&mut self) -> Result<(), WantOfMemory>
+        ensures alike { AreAlike self.old self.new }
+        ensures none { OnOk result (self.new.late.items ≡ []) }
+    {
+        'names: while !self.late.is_empty() {
+            self.give_first()?;
+        }
+        Ok(())
+    }
+
+    /// A name is given from now on; where memory is wanting for it, it is late. Condition: there is room for one more.
+    fn hear(&mut self, naming: Option<Naming>)
+        requires room { vec_len self.old.late < vec_capacity self.old.late }
+        ensures ok { named_all self.new.late.items self.new.ok ≡ named_all (list_of naming) (named_all self.old.late.items self.old.ok) }
+        ensures fail { named_all self.new.late.items self.new.fail ≡ named_all (list_of naming) (named_all self.old.late.items self.old.fail) }
+        ensures pend { named_all self.new.late.items self.new.pend ≡ named_all (list_of naming) (named_all self.old.late.items self.old.pend) }
+    {
+        let Some(naming) = naming else {
+            return;
+        };
+        let _ = self.late.push(naming);
+        let _ = self.catch_up();
+    }
+
+    /// An event happens to the machine, at a quiet state, and the racks hear of it. Conditions: as `Manager::apply`. After want of
+    /// memory the machine is as before.
     pub(crate) fn apply(
         &mut self,
         event: Event,
@@ -91,14 +124,38 @@ impl ToldRacks {
         requires events { manager.old.events < 2 ^ 24 }
         ensures done { IfOk result (λ label. IsDone (happens manager.old.state event) label manager.new.state) }
         ensures count { OnOk result (manager.new ≡ record manager.old { events = manager.old.events + 1; state = manager.new.state }) }
-        ensures told { OnOk result (AreTold manager.new.state.core.rack self.new) }
+        ensures told { AreTold manager.new.state.core.rack self.new }
+        ensures err { OnErr result (manager.new ≡ manager.old) }
     {
-        self.hear(&event)?;
-        manager.apply(event)
+        let alloc = *self.late.allocator();
+        let naming = naming_of(alloc, &event)?;
+        self.late.reserve(1)?;
+        let label = manager.apply(event)?;
+        self.hear(naming);
+        Ok(label)
+    }
+
+    /// The step of the machine where all drivers that are asked answer so, where no name is late.
+    fn step_up(
+        &mut self,
+        answer: Answer,
+        manager: &mut Manager<Rack<FreeDriver>>,
+    ) -> Result<Option<Label>, WantOfMemory>
+        requires { AreUp manager.old.state.core.rack self.old }
+        ensures moves { IfOk result (λ label. MovesBy answer (settings_of manager.old.infs manager.old.budget) manager.old.state label manager.new.state) }
+        ensures same { manager.new ≡ record manager.old { state = manager.new.state } }
+        ensures told { AreUp manager.new.state.core.rack self.new }
+        ensures err { OnErr result (manager.new ≡ manager.old) }
+    {
+        match answer {
+            Answer::Ok => step_over(manager, &mut self.ok),
+            Answer::Fail => step_over(manager, &mut self.fail),
+            Answer::Pend => step_over(manager, &mut self.pend),
+        }
     }
 
     /// The step of the machine where all drivers that are asked answer so; none exactly where none is next. All drivers
-    /// stay as they are. After want of memory all is as before.
+    /// stay as they are. After want of memory the machine is as before.
     pub(crate) fn step(
         &mut self,
         answer: Answer,
@@ -110,10 +167,7 @@ impl ToldRacks {
         ensures told { AreTold manager.new.state.core.rack self.new }
         ensures err { OnErr result (manager.new ≡ manager.old) }
     {
-        match answer {
-            Answer::Ok => step_over(manager, &mut self.ok),
-            Answer::Fail => step_over(manager, &mut self.fail),
-            Answer::Pend => step_over(manager, &mut self.pend),
-        }
+        self.catch_up()?;
+        self.step_up(answer, manager)
     }
 }

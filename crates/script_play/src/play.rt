@@ -90,6 +90,7 @@ impl<R: Drivers> Play<R> {
     /// memory all is as before. Cost: that of the front's step.
     pub fn step(&mut self) -> Result<Option<Label>, WantOfMemory>
         ensures moves { IfOk result (λ label. Stepped label self.old self.new) }
+        ensures settings { OnOk result (told_of self.new.desk ≡ told_of self.old.desk) }
         ensures played { IfOk result (λ label. (start : Playing) (labels : List Label) → Played start labels self.old → StepTold start labels label self.new) }
     {
         match self.front.step()? {
@@ -103,6 +104,7 @@ impl<R: Drivers> Play<R> {
     pub fn event(&mut self) -> Result<Option<Happened>, WantOfMemory>
         requires { IsFrontQuiet (told_of self.old.desk) (front_of self.old.desk) }
         ensures came { IfOk result (λ happened. Came happened self.old self.new) }
+        ensures settings { OnOk result (told_of self.new.desk ≡ told_of self.old.desk) }
         ensures played { IfOk result (λ happened. (start : Playing) (labels : List Label) → Played start labels self.old → EventTold start labels happened self.new) }
     {
         match self.reader.next_event()? {

@@ -17,11 +17,11 @@ front_by false rest line e = λ more is. let bad : false ≡ true = (starts_is D
 before_feed : (line : Text) → take (length (line ++ 10 ∷ []) - 1) (line ++ 10 ∷ []) ≡ line
 before_feed line = take_at line (10 ∷ []) (length (line ++ 10 ∷ []) - 1) (omega (arith, length-append line (10 ∷ [])))
 
-pub not_standing : (rest line text : Text) → line ≡ text ++ 10 ∷ [] → IfFront false rest line → has_feed (take (length line - 1) line) ≡ false → IfStands None rest text
-not_standing rest line text is front clear = (
-  sym (ap has_feed (ap (λ (t : Text). take (length t - 1) t) is ∙ before_feed text)) ∙ clear,
-  λ more here. front more (here ∙ sym (append_assoc text (10 ∷ []) more) ∙ ap (λ (t : Text). t ++ more) (sym is)),
-)
+pub feed_inside : (line text : Text) (inside : Bool) → line ≡ text ++ 10 ∷ [] → inside ≡ has_feed (take (length line - 1) line) → inside ≡ has_feed text
+feed_inside line text inside is e = e ∙ ap has_feed (ap (λ (t : Text). take (length t - 1) t) is ∙ before_feed text)
+
+pub not_standing : (rest line text : Text) → line ≡ text ++ 10 ∷ [] → IfFront false rest line → IfStands None rest text
+not_standing rest line text is front = λ more here. front more (here ∙ sym (append_assoc text (10 ∷ []) more) ∙ ap (λ (t : Text). t ++ more) (sym is))
 
 pub behind : (rest line text : Text) (size : ℕ) → IfFront true rest line → line ≡ text ++ 10 ∷ [] → size ≡ length line → rest ≡ text ++ 10 ∷ drop size rest
 behind rest line text size front is same =

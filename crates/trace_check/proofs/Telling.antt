@@ -1,5 +1,5 @@
 -- What a line tells by its last letter.
-use Rattle.std.proofs.Common.{ℕ, ◌≡◌, Bool, true, false, [], ◌∷◌, ◌++◌, Some, None, refl, sym, ap, ◌∙◌, if◌then◌else◌, append_assoc, append-nil}
+use Rattle.std.proofs.Common.{ℕ, ◌≡◌, Bool, true, false, [], ◌∷◌, ◌++◌, Some, None, refl, sym, ap, ◌∙◌, if◌then◌else◌, append_assoc, append-nil, ◌⊎◌, inl, inr}
 use Rattle.std.specs.Prelude.{◌==◌, ◌||◌, codes}
 use Rattle.pnp_labels.specs.Texts.{Text, label_line, spaced, minor_text, shown_text, ok_text}
 use Rattle.pnp_labels.specs.declared.words.Answer.{Answer}
@@ -16,6 +16,7 @@ use Rattle.free_model.proofs.Lines.{or_false}
 use Rattle.free_model.proofs.Ways.{KinLabel, one, asks, adds, said}
 use Rattle.free_model.proofs.OneVerdict.{kin_steps}
 use Rattle.trace_check.specs.Letters.{answer_by, answer_from, answer_of}
+use Rattle.trace_check.specs.Turns.{NoneStands}
 
 -- A line and what it tells ----------------------------------------------------------------
 
@@ -122,7 +123,14 @@ by_kin p q a b rest (adds path name) reads clear not more is =
     let same : said p ≡ said q = ap said told ∙ said_tells q in
     not more (is ∙ ap (λ (x : Bool). label_line (Label.Add path name x) ++ 10 ∷ more) (sym same))
 
--- where the line of the step whose answer is read is not at the front, no other step's is
-pub no_other : (told : Settings) (s : State) (p : Answer) (a : Label) (x : State) (rest : Text) → answer_of rest ≡ Some p → StepsBy p told s a x → has_feed (label_line a) ≡ false
+-- where no line of its ask is at the front, none of a kin label is
+none_by_kin : (p q : Answer) (a b : Label) (rest : Text) → KinLabel p q a b → NoneStands a rest → ((more : Text) → rest ≡ label_line a ++ 10 ∷ more → ⊥) → (more : Text) → rest ≡ label_line b ++ 10 ∷ more → ⊥
+none_by_kin p q a b rest (one l) none not more is = not more is
+none_by_kin p q a b rest (asks minor path name) none not more is = none q more (is ∙ sym (append_assoc (label_line (Label.Asked minor path name (shown_of minor q))) (10 ∷ []) more))
+none_by_kin p q a b rest (adds path name) none not more is = none (said q) more (is ∙ sym (append_assoc (label_line (Label.Add path name (said q))) (10 ∷ []) more))
+
+-- where the line of the step whose answer is read is not at the front, and has no LF or no line of its ask is, no other step's is
+pub no_other : (told : Settings) (s : State) (p : Answer) (a : Label) (x : State) (rest : Text) → answer_of rest ≡ Some p → StepsBy p told s a x → (has_feed (label_line a) ≡ false) ⊎ NoneStands a rest
     → ((more : Text) → rest ≡ label_line a ++ 10 ∷ more → ⊥) → (b : Label) (y : State) (more : Text) → FreeSteps told s b y → rest ≡ label_line b ++ 10 ∷ more → ⊥
-no_other told s p a x rest reads steps clear not b y more (q, other) is = by_kin p q a b rest (kin_steps told s p q a b x y steps other) reads clear not more is
+no_other told s p a x rest reads steps (inl clear) not b y more (q, other) is = by_kin p q a b rest (kin_steps told s p q a b x y steps other) reads clear not more is
+no_other told s p a x rest reads steps (inr none) not b y more (q, other) is = none_by_kin p q a b rest (kin_steps told s p q a b x y steps other) none not more is

@@ -1,5 +1,5 @@
 -- What a turn finds, from what the run, the reader and the comparison say.
-use Rattle.std.proofs.Common.{ℕ, ◌+◌, ◌<◌, ◌≤◌, ◌≡◌, true, false, inl, inr, Some, None, Result, Ok, Err, IfOk, List, [], ◌∷◌, ◌++◌, drop, length, refl, sym, ap, ◌∙◌, subst, arith, append-nil, length-append}
+use Rattle.std.proofs.Common.{ℕ, ◌+◌, ◌<◌, ◌≤◌, ◌≡◌, true, false, inl, inr, Some, None, Result, Ok, Err, IfOk, List, [], ◌∷◌, ◌++◌, drop, length, refl, sym, ap, ◌∙◌, subst, arith, append-nil, length-append, ◌⊎◌}
 use Rattle.pnp_labels.specs.Texts.{Text, label_line}
 use Rattle.pnp_labels.specs.declared.event.Event.{Event}
 use Rattle.pnp_labels.specs.declared.words.Answer.{Answer}
@@ -13,8 +13,9 @@ use Rattle.script_reader.specs.Answers.{Answers}
 use Rattle.script_reader.specs.Reading.{Reading, Moves}
 use Rattle.script_reader.specs.Script.{Trace, gives, ends, stops, trace}
 use Rattle.script_reader.specs.declared.next.Next.{Next}
-use Rattle.free_model.specs.Frees.{free_opening}
-use Rattle.free_model.specs.Checks.{Place, Runs, Allows, IsOfMachine, IsChecked, beginning}
+use Rattle.pnp_labels.specs.declared.label.Label.{Label}
+use Rattle.free_model.specs.Frees.{StepsBy, free_opening}
+use Rattle.free_model.specs.Checks.{Place, Runs, Allows, IsOfMachine, IsChecked, beginning, has_feed}
 use Rattle.free_model.proofs.OneVerdict.{no_step}
 use Rattle.free_run.specs.FreeRuns.{Free, settings}
 use Rattle.trace_check.specs.declared.check.Checked.{Checked}
@@ -22,7 +23,7 @@ use Rattle.trace_check.specs.declared.step.Found.{Found}
 use Rattle.trace_check.specs.declared.turn.Turn.{Turn}
 use Rattle.trace_check.specs.Letters.{answer_of}
 use Rattle.trace_check.specs.Verdicts.{verdict}
-use Rattle.trace_check.specs.Turns.{IfFront, IfStands, HasStepped, HasPrinted, IsTaken, Tells, FindsStep, Finds, GoesOn, HasRoom, IsTurn, place}
+use Rattle.trace_check.specs.Turns.{IfFront, IfStands, NoneStands, HasPrinted, IsTaken, Tells, FindsStep, Finds, GoesOn, HasRoom, IsTurn, place}
 use Rattle.trace_check.proofs.Fronts.{is_standing, not_in_front}
 use Rattle.trace_check.proofs.Telling.{none_left, no_other}
 use Rattle.trace_check.proofs.Verdicts.{tells_all, tells_on, tells_none, none_at_rest}
@@ -56,20 +57,20 @@ client_refused told s event rest lines quiet not number script =
 
 -- A step ----------------------------------------------------------------------------------
 
-pub step_taken : (told : Settings) (answer : Answer) (s new : State) (line rest : Text) (count lines : ℕ) → HasStepped answer told s line new
+pub step_taken : (told : Settings) (answer : Answer) (s new : State) (label : Label) (line rest : Text) (count lines : ℕ) → StepsBy answer told s label new → line ≡ label_line label ++ 10 ∷ []
     → ((text : Text) → line ≡ text ++ 10 ∷ [] → IfStands (Some count) rest text) → FindsStep (Found.Line count) told s new rest lines
-step_taken told answer s new line rest count lines (label, steps, is) stands = λ script.
+step_taken told answer s new label line rest count lines steps is stands = λ script.
     let (front, size) = stands (label_line label) is in
     record { line = label_line label; allows = inl (label, new, (answer, steps), refl, refl); front = front; size = size }
 
-pub step_refused : (told : Settings) (answer : Answer) (s new : State) (line rest : Text) (lines : ℕ) → answer_of rest ≡ Some answer → HasStepped answer told s line new
-    → ((text : Text) → line ≡ text ++ 10 ∷ [] → IfStands None rest text) → FindsStep (Found.Over (Checked.No (lines + 1))) told s new rest lines
-step_refused told answer s new line rest lines reads (label, steps, is) stands = λ script. tells_none told s script rest lines (nothing script (stands (label_line label) is))
+pub step_refused : (told : Settings) (answer : Answer) (s new : State) (label : Label) (line rest : Text) (lines : ℕ) → answer_of rest ≡ Some answer → StepsBy answer told s label new → line ≡ label_line label ++ 10 ∷ []
+    → ((text : Text) → line ≡ text ++ 10 ∷ [] → IfStands None rest text) → (has_feed (label_line label) ≡ false) ⊎ NoneStands label rest → FindsStep (Found.Over (Checked.No (lines + 1))) told s new rest lines
+step_refused told answer s new label line rest lines reads steps is stands sole = λ script. tells_none told s script rest lines (nothing script)
   where
-    nothing : (script : Trace) → IfStands None rest (label_line label) → (other more : Text) (next : Place) → rest ≡ other ++ 10 ∷ more → Allows told (Runs s script) other next → ⊥
-    nothing script (clear, not) other more next here (inl (b, there, free, same, _)) =
-        no_other told s answer label new rest reads steps clear not b there more free (here ∙ ap (λ (t : Text). t ++ 10 ∷ more) same)
-    nothing script stands other more next here (inr (quiet, _)) = no_step told s label new quiet (answer, steps)
+    nothing : (script : Trace) → (other more : Text) (next : Place) → rest ≡ other ++ 10 ∷ more → Allows told (Runs s script) other next → ⊥
+    nothing script other more next here (inl (b, there, free, same, _)) =
+        no_other told s answer label new rest reads steps sole (stands (label_line label) is) b there more free (here ∙ ap (λ (t : Text). t ++ 10 ∷ more) same)
+    nothing script other more next here (inr (quiet, _)) = no_step told s label new quiet (answer, steps)
 
 pub line_refused : (told : Settings) (s : State) (script : Trace) (rest : Text) (lines : ℕ) → answer_of rest ≡ None → Tells (Checked.No (lines + 1)) told (Runs s script) rest lines
 line_refused told s script rest lines none = tells_none told s script rest lines (λ line more next here allows. none_left 0 line more (sym (ap answer_of here) ∙ none))

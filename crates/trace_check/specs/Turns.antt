@@ -5,9 +5,10 @@ use Rattle.pnp_labels.specs.declared.label.Label.{Label}
 use Rattle.pnp_labels.specs.declared.words.Answer.{Answer}
 use Rattle.pnp_model.specs.Records.{State, Settings, Step}
 use Rattle.pnp_model.specs.Machine.{IsQuiet}
+use Rattle.pnp_model.specs.Walks.{shown_of}
 use Rattle.script_reader.specs.Reading.{Reading}
 use Rattle.script_reader.specs.Script.{Trace, trace}
-use Rattle.free_model.specs.Checks.{Place, Runs, Ends, Allows, IsYes, IsNo, has_feed, end_bytes}
+use Rattle.free_model.specs.Checks.{Place, Runs, Ends, Allows, IsYes, IsNo, end_bytes}
 use Rattle.free_model.specs.Frees.{StepsBy}
 use Rattle.free_run.specs.FreeRuns.{Free, settings}
 use Rattle.trace_check.specs.declared.check.Checked.{Checked}
@@ -19,10 +20,16 @@ abbrev pub IfFront : Bool → Text → Text → Type 0
 IfFront true rest line = rest ≡ line ++ drop (length line) rest
 IfFront false rest line = (more : Text) → rest ≡ line ++ more → ⊥
 
--- a line, with its LF, is at the front and has so many bytes; or it is not, and there is no other LF in it
+-- a line, with its LF, is at the front and has so many bytes; or it is not
 abbrev pub IfStands : Option ℕ → Text → Text → Type 0
 IfStands (Some count) rest line = (rest ≡ line ++ 10 ∷ drop count rest) × (count ≡ length line + 1)
-IfStands None rest line = (has_feed line ≡ false) × ((more : Text) → rest ≡ line ++ 10 ∷ more → ⊥)
+IfStands None rest line = (more : Text) → rest ≡ line ++ 10 ∷ more → ⊥
+
+-- no line of the ask of this label is at the front, whatever the answer
+abbrev pub NoneStands : Label → Text → Type 0
+NoneStands (Label.Asked minor path driver shown) rest = (answer : Answer) → IfFront false rest (label_line (Label.Asked minor path driver (shown_of minor answer)) ++ 10 ∷ [])
+NoneStands (Label.Add path driver ok) rest = (ok : Bool) → IfFront false rest (label_line (Label.Add path driver ok) ++ 10 ∷ [])
+NoneStands _ rest = Unit {0}
 
 -- a step was made, and this is its line with its LF
 abbrev pub HasStepped : Answer → Settings → State → Text → State → Type 0

@@ -1,6 +1,7 @@
 //! Whether a printed output is a run of the machine for a script, whatever its drivers answered.
 #![tactic(auto)]
 
+mod asks;
 mod check;
 mod due;
 mod front;

@@ -1,17 +1,16 @@
 //! The step that is next against the next line of the trace.
-ghost use Rattle.std.specs.Prelude.{◌≡◌, ◌+◌, ◌<◌, ◌^◌, IfOk, MatchOption, length};
-ghost use Rattle.pnp_model.specs.Machine.{IsQuiet};
+ghost use Rattle.std.specs.Prelude.{◌≡◌, ◌+◌, ◌<◌, ◌^◌, IfOk, length};
 ghost use Rattle.free_run.specs.FreeRuns.{settings};
-ghost use Rattle.trace_check.specs.Turns.{FindsStep, HasStepped};
+ghost use Rattle.trace_check.specs.Turns.{FindsStep};
 
+use crate::asks::could_be_other;
 use crate::check::Checked;
 use crate::front::standing;
 use crate::letters::answer_of;
-use crate::lines::line_of;
 use device_ids::WantOfMemory;
 use free_run::FreeRun;
-use pnp_labels::Answer;
-use std::alloc::Global;
+use pnp_labels::label_line;
+use std::alloc::{AllocError, Global};
 
 /// What the step finds that is next.
 #[derive(Clone, Copy)]
@@ -24,24 +23,8 @@ pub(crate) enum Found {
     Quiet,
 }
 
-/// The step where all drivers that are asked answer so, and its line; none where no step is next.
-fn step_line(
-    alloc: Global,
-    run: &mut FreeRun,
-    answer: Answer,
-) -> Result<Option<Vec<u8>>, WantOfMemory>
-    ensures steps { IfOk result (λ line. MatchOption line (IsQuiet (settings run.old) run.old.state × (run.new.state ≡ run.old.state))
-        (λ line. HasStepped answer (settings run.old) run.old.state line.items run.new.state)) }
-    ensures same { run.new ≡ record run.old { state = run.new.state } }
-{
-    let Some(label) = run.step(answer)? else {
-        return Ok(None);
-    };
-    let line = line_of(alloc, label)?;
-    Ok(Some(line))
-}
-
-/// The step where the drivers answer as the next line tells, and whether this line is its own.
+/// The step where the drivers answer as the next line tells, and whether this line is its own. Where its line has an LF inside and
+/// stands there with another answer, which no script brings about, the answer is want of memory: the step cannot be taken back.
 pub(crate) fn take_step(
     alloc: Global,
     run: &mut FreeRun,
@@ -56,11 +39,15 @@ pub(crate) fn take_step(
     let Some(answer) = answer_of(rest) else {
         return Ok(Found::Over(not));
     };
-    let Some(line) = step_line(alloc, run, answer)? else {
+    let Some(label) = run.step(answer)? else {
         return Ok(Found::Quiet);
     };
-    match standing(rest, &line)? {
-        Some(count) => Ok(Found::Line(count)),
-        None => Ok(Found::Over(not)),
+    let line = label_line(alloc, &label)?;
+    if let Some(count) = standing(rest, &line) {
+        return Ok(Found::Line(count));
     }
+    if could_be_other(alloc, rest, &label, &line)? {
+        return Err(AllocError);
+    }
+    Ok(Found::Over(not))
 }

@@ -36,24 +36,18 @@ fn is_of_machine(event: &Event) -> bool
     !matches!(event, Event::Watch { .. } | Event::Unwatch { .. })
 }
 
-/// An event happens, at a quiet state, and this is its line. After want of memory the run is gone, as after each function here.
-fn event_line(alloc: Global, run: FreeRun, event: Event) -> Result<(FreeRun, Vec<u8>), WantOfMemory>
-    requires quiet { IsQuiet (settings run) run.state }
+/// An event happens, at a quiet state, and this is its line.
+fn event_line(alloc: Global, run: &mut FreeRun, event: Event) -> Result<Vec<u8>, WantOfMemory>
+    requires quiet { IsQuiet (settings run.old) run.old.state }
     requires ids { HasFewIds event }
-    requires events { run.events < 2 ^ 24 }
-    ensures { IfOk result (λ r. HasPrinted (happens run.state event) run r.0 r.1.items) }
+    requires events { run.old.events < 2 ^ 24 }
+    ensures { IfOk result (λ line. HasPrinted (happens run.old.state event) run.old run.new line.items) }
 {
-    let (run, label) = run.apply(event)?;
-    match line_of(alloc, label) {
-        Ok(line) => Ok((run, line)),
-        Err(refused) => {
-            drop(run);
-            Err(refused)
-        }
-    }
+    let label = run.apply(event)?;
+    line_of(alloc, label)
 }
 
-/// The line of an event, at a quiet state.
+/// The line of an event, at a quiet state. After want of memory the run is gone, as after each function below.
 fn take_event(
     alloc: Global,
     run: FreeRun,
@@ -74,7 +68,14 @@ fn take_event(
         drop(run);
         return Ok(Turn::Over(Checked::No { line: lines + 1 }));
     }
-    let (run, line) = event_line(alloc, run, event)?;
+    let mut run = run;
+    let line = match event_line(alloc, &mut run, event) {
+        Ok(line) => line,
+        Err(refused) => {
+            drop(run);
+            return Err(refused);
+        }
+    };
     if begins_with(rest, &line) {
         Ok(Turn::Line {
             run,

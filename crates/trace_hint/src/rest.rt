@@ -37,21 +37,14 @@ fn has_few_ids(event: &Event) -> bool
 }
 
 /// An event happens, at a quiet state, and this is its line.
-fn event_line(alloc: Global, run: FreeRun, event: Event) -> Result<(FreeRun, Vec<u8>), WantOfMemory>
-    requires quiet { IsQuiet (settings run) run.state }
+fn event_line(alloc: Global, run: &mut FreeRun, event: Event) -> Result<Vec<u8>, WantOfMemory>
+    requires quiet { IsQuiet (settings run.old) run.old.state }
     requires ids { HasFewIds event }
-    requires events { run.events < 2 ^ 24 }
-    ensures { IfOk result (λ r. HasPrinted (happens run.state event) run r.0 r.1.items) }
+    requires events { run.old.events < 2 ^ 24 }
+    ensures { IfOk result (λ line. HasPrinted (happens run.old.state event) run.old run.new line.items) }
 {
-    let (run, label) = run.apply(event)?;
-    match label_line(alloc, &label) {
-        Ok(line) => Ok((run, line)),
-        // by `?` the whole machine would be let go here, part by part, which makes a long proof
-        Err(refused) => {
-            drop(run);
-            Err(refused)
-        }
-    }
+    let label = run.apply(event)?;
+    label_line(alloc, &label)
 }
 
 /// The line of an event, at a quiet state.
@@ -75,11 +68,18 @@ fn event_move(
         drop(run);
         return Err(AllocError);
     }
-    let (run, line) = event_line(alloc, run, event)?;
-    Ok(Move::Line {
-        line,
-        spot: Spot::Runs { run, reader },
-    })
+    let mut run = run;
+    match event_line(alloc, &mut run, event) {
+        Ok(line) => Ok(Move::Line {
+            line,
+            spot: Spot::Runs { run, reader },
+        }),
+        // by `?` the whole machine would be let go here, part by part, which makes a long proof
+        Err(refused) => {
+            drop(run);
+            Err(refused)
+        }
+    }
 }
 
 /// The line that tells of a bad line, with its LF. Cost: its length.

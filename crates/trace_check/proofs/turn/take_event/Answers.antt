@@ -15,12 +15,12 @@ pub returns-then-begins_with-clause-finds : goal.returns-then-begins_with-clause
 returns-then-begins_with-clause-finds c =
     let own : IsOfMachine c.args.event = subst (λ (b : Bool). IfOfMachine b c.args.event) c.if-not-is_of_machine.false c.is_of_machine.ensures in
     let front : IfFront true c.args.rest.now c.deref.result.now = subst (λ (b : Bool). IfFront b c.args.rest.now c.deref.result.now) c.if-begins_with.true c.begins_with.ensures in
-    let size : c.len.result ≡ length c.in_ok-run.line.items = c.len.ensures ∙ c.in_ok-run.line.ok.0 in
-    event_taken (settings c.args.run) c.args.run c.in_ok-run.run' c.args.event c.in_ok-run.line.items c.args.rest.now c.len.result c.requires.quiet own c.in_ok-run.ensures
+    let size : c.len.result ≡ length c.in-Ok.line.items = c.len.ensures ∙ c.in-Ok.line.ok.0 in
+    event_taken (settings c.args.run) c.args.run c.event_line.new.run c.args.event c.in-Ok.line.items c.args.rest.now c.len.result c.requires.quiet own c.in-Ok.ensures
     (subst (IfFront true c.args.rest.now) c.deref.ensures.value front) size
 
 pub returns-clause-finds : goal.returns-clause-finds
 returns-clause-finds c =
     let front : IfFront false c.args.rest.now c.deref.result.now = subst (λ (b : Bool). IfFront b c.args.rest.now c.deref.result.now) c.if-begins_with.false c.begins_with.ensures in
-    event_refused (settings c.args.run) c.args.run c.in_ok-run.run' c.args.event c.in_ok-run.line.items c.args.rest.now c.args.lines c.requires.quiet c.in_ok-run.ensures
+    event_refused (settings c.args.run) c.args.run c.event_line.new.run c.args.event c.in-Ok.line.items c.args.rest.now c.args.lines c.requires.quiet c.in-Ok.ensures
     (subst (IfFront false c.args.rest.now) c.deref.ensures.value front)

@@ -1,5 +1,0 @@
-use Rattle.std.proofs.Common.{◌≡◌, map, take}
-use Rattle.ending_tally.proofs.pattern.copied.Given as goal
-
-abbrev pub invariant-loop-word : goal.invariant-loop-word
-invariant-loop-word l = map (λ w. w.items) l.words.items ≡ map (λ w. w.now) (take l.word-index l.found)

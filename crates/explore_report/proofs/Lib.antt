@@ -1,0 +1,10 @@
+mod Looking
+mod Numbers
+mod Running
+mod Flat
+mod Merges
+mod Coming
+mod PartsRead
+mod Tries
+mod Keys
+mod Appending
