@@ -1,4 +1,1 @@
 mod Seeing
-mod Infs
-mod Reading
-mod Outputs

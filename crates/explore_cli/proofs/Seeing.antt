@@ -44,7 +44,7 @@ saw_more : (start old new : Playing) (expected : Expected) (seen after : Seen) (
 saw_more start old new expected seen after label plays looks h = record {
   labels = h.labels ++ label ∷ [];
   played = plays h.labels h.played;
-  seen = subst (λ (ls : List (List ℕ)). HasSeen expected ls after) (sym (map_push label_line h.labels label)) (looks (map label_line h.labels) h.seen);
+  looked = subst (λ (ls : List (List ℕ)). HasSeen expected ls after) (sym (map_push label_line h.labels label)) (looks (map label_line h.labels) h.looked);
 }
 
 pub saw_step : (start old new : Playing) (expected : Expected) (seen after : Seen) (o : Option Label) (label : Label) → o ≡ Some label
@@ -68,7 +68,7 @@ pub saw_still : (start old new : Playing) (expected : Expected) (seen : Seen) (o
 saw_still start old new expected seen o is told h = record {
   labels = h.labels;
   played = subst (λ (x : Option Label). StepTold start h.labels x new) is (told h.labels h.played);
-  seen = h.seen;
+  looked = h.looked;
 }
 
 -- the script was over
@@ -78,12 +78,12 @@ pub saw_end : (start old new : Playing) (expected : Expected) (seen : Seen) (o :
 saw_end start old new expected seen o is told h = record {
   labels = h.labels;
   ended = subst (λ (x : Option Happened). EventTold start h.labels x new) is (told h.labels h.played);
-  seen = h.seen;
+  looked = h.looked;
 }
 
 -- the lines that were seen
 pub lines_seen : (start now : Playing) (expected : Expected) (seen : Seen) → SawPlayed start expected now seen → (lines : List (List ℕ)) × HasSeen expected lines seen
-lines_seen start now expected seen h = (map label_line h.labels, h.seen)
+lines_seen start now expected seen h = (map label_line h.labels, h.looked)
 
 -- ---- the run of a script
 
@@ -100,7 +100,7 @@ run_is m script start now expected seen text begins h is = record {
     told = refl;
     ending = is;
   };
-  looked = h.seen;
+  looked = h.looked;
 }
 
 pub if_ok_weaker : {A E : Type 0} (r : Result A E) (P Q : A → Type 0) → ((x : A) → P x → Q x) → IfOk r P → IfOk r Q

@@ -1,3 +1,4 @@
+pub mod Errors
 pub mod Playing
 pub mod Laws
 pub mod Explored

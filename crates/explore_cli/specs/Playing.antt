@@ -28,10 +28,10 @@ pub record Shows (settings : Settings) (script : List â„•) (lines : List (List â
 pub record SawPlayed (start : Playing) (expected : Expected) (now : Playing) (seen : Seen) : Type 0 where
   pub labels : List Label
   pub played : Played start labels now
-  pub seen : HasSeen expected (map label_line labels) seen
+  pub looked : HasSeen expected (map label_line labels) seen
 
 -- these were all labels of the run, and their lines were looked at
 pub record SawEnded (start : Playing) (expected : Expected) (now : Playing) (seen : Seen) : Type 0 where
   pub labels : List Label
   pub ended : Ended start labels now
-  pub seen : HasSeen expected (map label_line labels) seen
+  pub looked : HasSeen expected (map label_line labels) seen

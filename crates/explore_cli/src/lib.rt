@@ -2,11 +2,12 @@
 //! all scripts.
 #![tactic(auto)]
 
+mod error;
 mod files;
 mod player;
 mod program;
 mod status;
 
-pub use explore_report::{Progress, Words, words_of};
-pub use program::{explore, explore_words};
+pub use explore_report::Progress;
+pub use program::explore;
 pub use status::Status;

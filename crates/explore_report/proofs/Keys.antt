@@ -99,6 +99,7 @@ edge_put front line key next m n small is put = record {
   where
     put_ : UpdatesBy (λ (x y : Vec ℕ Global). slice_cmp nat_cmp x.items y.items) (λ (k : Vec ℕ Global). slice_cmp nat_cmp (key_of front line) k.items) m n (Some next)
     put_ = subst (λ (bs : List ℕ). UpdatesBy (λ (x y : Vec ℕ Global). slice_cmp nat_cmp x.items y.items) (λ (k : Vec ℕ Global). slice_cmp nat_cmp bs k.items) m n (Some next)) is put
+
     by_test : (f : ℕ) (l : List ℕ) (b : Bool) → cond b (by_key n (key_of f l)) None ≡ cond (cond b (bytes_eq (key_of front line) (key_of f l)) false) (Some next) (cond b (by_key m (key_of f l)) None)
     by_test f l true = by_key-updates (key_of front line) m n (Some next) put_ (key_of f l)
     by_test f l false = refl

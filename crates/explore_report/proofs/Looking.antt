@@ -105,6 +105,7 @@ taken_more xs n d l = ap (λ m. take m xs) (plus_one n) ∙ taken_suc xs n d l
   where
     plus_one : (n : ℕ) → n + 1 ≡ suc n
     plus_one n = omega arith
+
     taken_suc : {X : Type 0} (xs : List X) (n : ℕ) (d : X) → n < length xs → take (suc n) xs ≡ take n xs ++ get_or xs n d ∷ []
     taken_suc [] n d l = absurd (omega (arith, l))
     taken_suc (x ∷ xs) zero d l = refl

@@ -24,6 +24,7 @@ part_grows parts n below new l few some is =
   where
     to_suc : (n below new parts : ℕ) → n < below → below ≤ 2 ^ 64 - 1 → 0 < parts → new ≡ min (n + parts) (2 ^ 64 - 1) → min new below ≡ suc (n + (min new below - n - 1))
     to_suc n below new parts l few some is = omega (arith, l, few, some, is)
+
     at_most : (n below : ℕ) → n < below → n ≡ min n below
     at_most n below l = omega (arith, l)
 

@@ -19,6 +19,7 @@ all_at_most (n ∷ ns) m h = and_both (nat_le n m) (list_all (λ n. nat_le n m) 
   where
     at_most : (n m : ℕ) → n ≤ m → nat_le n m ≡ true
     at_most n m l = grind (arith, nat_tests)
+
     and_both : (a b : Bool) → a ≡ true → b ≡ true → (a && b) ≡ true
     and_both true b e h = h
     and_both false b e h = e
@@ -186,6 +187,7 @@ longest_found E first scripts lines at n some h longest =
     got [] k l = absurd (omega (arith, l))
     got (s ∷ scripts) zero l = refl
     got (s ∷ scripts) (suc k) l = got scripts k (omega (arith, l))
+
     length_mapped : (scripts : List Lines) → length (map (λ other. together other lines) scripts) ≡ length scripts
     length_mapped [] = refl
     length_mapped (s ∷ scripts) = ap suc (length_mapped scripts)
@@ -318,22 +320,31 @@ growing_more E new first scripts script at n l p h = record {
   where
     size : length (first ++ length scripts ∷ []) ≡ suc (length first)
     size = one_longer first (length scripts)
+
     one_more : (n : ℕ) → n + 1 ≡ suc n
     one_more n = omega arith
+
     none : E at (get_or script n []) ≡ None
     none = h.longest.over l
+
     kept : (f : ℕ) (l : List ℕ) (g : ℕ) → E f l ≡ Some g → new f l ≡ Some g
     kept = puts_kept E new at (get_or script n []) (length first) p none
+
     reached : (at < length first) × (h.path at ≡ h.path 0 ++ take n script)
     reached = walk_path E h.path (length first) 0 (take n script) at h.tree h.tree.some h.longest.leads
+
     old : (g : ℕ) → g < length first → path_with (length first) h.path (h.path at ++ get_or script n [] ∷ []) g ≡ h.path g
     old g lt = ap (λ b. cond b (h.path at ++ get_or script n [] ∷ []) (h.path g)) (eq_no g (length first) (λ e. omega (arith, e, lt)))
+
     at_new : path_with (length first) h.path (h.path at ++ get_or script n [] ∷ []) (length first) ≡ h.path at ++ get_or script n [] ∷ []
     at_new = ap (λ b. cond b (h.path at ++ get_or script n [] ∷ []) (h.path (length first))) (eq_yes (length first))
+
     front_is : h.path at ++ get_or script n [] ∷ [] ≡ take (suc n) script
     front_is = ap (λ ls. ls ++ get_or script n [] ∷ []) (reached.1 ∙ ap (λ ls. ls ++ take n script) h.tree.root) ∙ sym (take_one_more script n l)
+
     taken : length (take (suc n) script) ≡ suc n
     taken = length_taken script (suc n) (omega (arith, l))
+
     is_first : IsFirst (scripts ++ script ∷ []) (take (suc n) script) (length scripts)
     is_first = record {
       there = omega (arith, one_longer scripts script);
@@ -346,6 +357,7 @@ growing_more E new first scripts script at n l p h = record {
           ∙ ap (walk E 0) (sym (take_one_more script n l)) ∙ ap (walk E 0) (sym same) ∙ there.1 in
           none_not_some there.0 (ap (λ o. onward o (λ next. walk E next [])) (sym none) ∙ ends);
     }
+
     no_edge : (line : List ℕ) (o : Option ℕ) → new (length first) line ≡ o → new (length first) line ≡ None
     no_edge line None e = e
     no_edge line (Some g) e =

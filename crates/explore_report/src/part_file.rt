@@ -214,14 +214,7 @@ fn is_written(
 ) -> Result<bool, WantOfMemory>
     ensures { IfOk result (λ is. is ≡ true → text.now ≡ part_text part of.entry.mark.now of.entry.count (length of.entry.expected.now.never.items) (told tally.now)) }
 {
-    let written = part_report(
-        alloc,
-        of.count,
-        part,
-        of.mark,
-        of.expected.never(),
-        tally,
-    )?;
+    let written = part_report(alloc, of.count, part, of.mark, of.expected.never(), tally)?;
     Ok(written.as_slice() == text)
 }
 

@@ -82,12 +82,7 @@ fn push_all_broken(out: &mut Vec<u8>, word: &[u8], broken: &[Mark]) -> Result<()
 }
 
 /// Appends the lines on the scripts that were run and on the expectations, of which so many are of lines that are not to come.
-fn push_head(
-    out: &mut Vec<u8>,
-    count: u64,
-    never: usize,
-    tally: &Tally,
-) -> Result<(), WantOfMemory>
+fn push_head(out: &mut Vec<u8>, count: u64, never: usize, tally: &Tally) -> Result<(), WantOfMemory>
     ensures { OnOk result (out.new.items ≡ out.old.items ++ head count never (told tally.now)) }
 {
     push_count(out, count)?;

@@ -1,6 +1,4 @@
 //! What a search answers, and after how many tries.
-ghost use Rattle.std.specs.Prelude.{◌≤◌};
-
 use assign_search::{Found, Mover, Plan, answer};
 use resource_reqs::{AltList, Group, Kind, Reqs, Want};
 use std::alloc::{AllocError, Global};
@@ -25,20 +23,13 @@ fn reqs(alloc: Global, ranges: &[(u64, u64)]) -> Result<Reqs, Fail> {
     Ok(reqs)
 }
 
-/// The answer for movers, where nothing is held. The arbiters are let go here alone.
-fn found_over_none(alloc: Global, movers: &[Mover<'_>], budget: u64) -> Result<Found, AllocError>
-    requires { budget ≤ 1000000 }
-{
-    let mut arbiters = Arbiters::new(alloc)?;
-    answer(alloc, &mut arbiters, movers, budget)
-}
-
-/// The same, for a budget that may be.
+/// The answer for movers, where nothing is held.
 fn found_for(alloc: Global, movers: &[Mover<'_>], budget: u64) -> Result<Found, Fail> {
     if budget > 1_000_000 {
         return Err(Fail::new("the budget"));
     }
-    Ok(found_over_none(alloc, movers, budget)?)
+    let mut arbiters = Arbiters::new(alloc)?;
+    Ok(answer(alloc, &mut arbiters, movers, budget)?)
 }
 
 /// The answer for movers of these needs, where nothing is held.

@@ -61,8 +61,8 @@ fn holder(arbiters: &Arbiters) -> Option<u64> {
 /// The device that holds interrupt 5 alone, after a trial on it while the first device holds it.
 fn holder_after(alloc: Global, keep: bool) -> Result<Option<u64>, Fail> {
     let (held, other) = (interrupt(5)?, interrupt(6)?);
-    let journal = Journal::with_room(alloc, 3)?;
     let mut arbiters = first_holds(alloc, held)?;
+    let journal = Journal::with_room(alloc, 3)?;
     handed_over(&mut arbiters, journal, held, other, keep);
     Ok(holder(&arbiters))
 }
@@ -108,16 +108,12 @@ fn told_by_a_trial(
     Ok((first, second, third))
 }
 
-/// The same over arbiters to which nothing was put, which are let go here alone.
-fn told_over_none(alloc: Global, ports: Res, want: &Want) -> Result<(Told, Told, Told), Fail> {
-    let mut arbiters = Arbiters::new(alloc)?;
-    told_by_a_trial(alloc, &mut arbiters, ports, want)
-}
-
 #[test]
 fn a_trial_tells_its_changes(rt: HostRuntime) -> Result<(), Fail> {
     let want = Want::make(Kind::Port, 0x10, 0x2f, 8, 8, false)?;
-    match told_over_none(rt.alloc(), some_ports()?, &want)? {
+    let mut arbiters = Arbiters::new(rt.alloc())?;
+    let told = told_by_a_trial(rt.alloc(), &mut arbiters, some_ports()?, &want)?;
+    match told {
         ((0, Some(0x10)), (1, Some(0x18)), (0, Some(0x10))) => Ok(()),
         _ => Err(Fail::new("what a trial tells")),
     }

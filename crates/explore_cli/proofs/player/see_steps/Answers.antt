@@ -11,8 +11,8 @@ steps-preserved g c = record {
   settings = c.in_ok-label.ensures.settings ∙ c.steps.invariant.settings;
   saw = λ start h.
       saw_step start c.steps.play c.step.new.self c.args.expected.now c.steps.seen c.see.new.seen c.in_ok-label.field-0 c.in-Some.label c.in-Some.is
-      (c.in_ok-label.ensures.played start) c.in_ok-see.ensures (c.steps.invariant.saw start h);
-  seen = (_, c.in_ok-see.ensures c.steps.invariant.seen.0 c.steps.invariant.seen.1);
+      (c.in_ok-label.ensures.played start) c.in_ok-see-in-Some.ensures (c.steps.invariant.saw start h);
+  seen = (_, c.in_ok-see-in-Some.ensures c.steps.invariant.seen.0 c.steps.invariant.seen.1);
 }
 
 pub returns-in-None-clause-quiet : goal.returns-in-None-clause-quiet

@@ -10,7 +10,7 @@ see_all-requires c = ([], c.requires.cleared)
 pub returns-clause-shown : goal.returns-clause-shown
 returns-clause-shown c = if_ok_weaker c.ending.result _ _ (λ text is.
     run_is c.args.self.now.play.desk.manager c.args.script.now c.restart.new.self.play c.see_all.new.play c.args.expected.now c.see_all.new.seen text.items c.in_ok-restart.ensures.begins
-    (c.in_ok-see_all.ensures.saw c.restart.new.self.play (record { labels = []; played = c.in_ok-restart.ensures.none; seen = c.requires.cleared })) is)
+    (c.in_ok-see_all.ensures.saw c.restart.new.self.play (record { labels = []; played = c.in_ok-restart.ensures.none; looked = c.requires.cleared })) is)
     c.ending.ensures
 
 pub returns-clause-same : goal.returns-clause-same
