@@ -1,8 +1,9 @@
 -- What a check answers, by what the files hold.
-use Rattle.std.specs.Prelude.{ℕ, ◌≡◌, true, List, ◌∷◌, ◌++◌, Option, Some, None, Ok, replicate, map, Vec}
+use Rattle.std.specs.Prelude.{ℕ, ◌≡◌, Bool, true, false, List, ◌∷◌, ◌++◌, Option, Some, None, Ok, replicate, map, Vec}
 use Rattle.std.specs.Global.{Global}
 use Rattle.inf_reader.specs.declared.parts.Inf.{Inf}
 use Rattle.inf_reader.specs.Meaning.{inf}
+use Rattle.pnp_io.specs.Outside.{Rose}
 use Rattle.pnp_labels.specs.Texts.{Text}
 use Rattle.pnp_labels.specs.declared.words.DriverKind.{DriverKind}
 use Rattle.pnp_labels.specs.declared.words.DriverKind.TheVariants.{Scripted, Steady, Stubborn}
@@ -25,6 +26,26 @@ texts lines = map (λ line. line.items) lines
 abbrev pub HoldAll : Option (List ℕ → Option (List ℕ)) → List Text → List Text → Type 0
 HoldAll None names all = Unit {0}
 HoldAll (Some told) names all = map (λ name. told name) names ≡ map (λ bytes. Some bytes) all
+
+-- the count of some file rose
+pub record SomeRose (old new : Text → ℕ) : Type 0 where
+  pub name : Text
+  pub rose : Rose (old name) (new name)
+
+-- the answers after which all was written
+abbrev pub is_written : Status → Bool
+is_written Status.Done = true
+is_written Status.BadInf = true
+is_written Status.NotARun = true
+is_written _ = false
+
+-- the answers after which nothing was written
+abbrev pub is_unwritten : Status → Bool
+is_unwritten Status.BadWords = true
+is_unwritten Status.ReadFault = true
+is_unwritten Status.WantOfMemory = true
+is_unwritten Status.TooLarge = true
+is_unwritten _ = false
 
 abbrev pub status_of : Seen → Status
 status_of Seen.Yes = Status.Done

@@ -1,5 +1,5 @@
 use inf_reader::InfError;
-use pnp_io::{Failed, ReadError};
+use pnp_io::ReadError;
 use std::alloc::AllocError;
 
 /// Why a check came to no verdict.
@@ -7,7 +7,6 @@ use std::alloc::AllocError;
 pub(crate) enum CheckError {
     BadWords,
     ReadFault,
-    WriteFault,
     WantOfMemory,
     TooLarge,
     /// The INF of this number, counted from 1, is refused.
@@ -37,16 +36,5 @@ impl From<ReadError> for CheckError {
             ReadError::TooLarge => CheckError::TooLarge,
             ReadError::WantOfMemory => CheckError::WantOfMemory,
         }
-    }
-}
-
-impl From<Failed> for CheckError {
-    ghost use Rattle.std.specs.Prelude.{◌≡◌};
-    ghost use Rattle.check_cli.specs.declared.error.CheckError.TheVariants.{WriteFault};
-
-    ghost from_gives = { λ _ e. e ≡ WriteFault };
-
-    fn from(_: Failed) -> Self {
-        CheckError::WriteFault
     }
 }

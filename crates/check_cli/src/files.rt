@@ -1,7 +1,8 @@
 //! The files that the words name.
-ghost use Rattle.std.specs.Prelude.{◌≡◌, ◌≤◌, ◌++◌, ◌∷◌, [], IfOk, OnOk, length};
-ghost use Rattle.pnp_io.specs.Outside.{Holds};
-ghost use Rattle.check_cli.specs.Checks.{HoldAll, texts};
+ghost use Rattle.std.specs.Prelude.{◌≡◌, ◌≤◌, ◌++◌, ◌∷◌, [], ℕ, List, IfOk, OnOk, IsErrOf, length};
+ghost use Rattle.pnp_io.specs.Outside.{Holds, Rose};
+ghost use Rattle.check_cli.specs.declared.error.CheckError.TheVariants.{ReadFault};
+ghost use Rattle.check_cli.specs.Checks.{HoldAll, SomeRose, texts};
 
 use crate::error::CheckError;
 use inf_reader::{InfError, read};
@@ -19,6 +20,8 @@ pub(crate) fn read_file<F: Files>(
 ) -> Result<Vec<u8>, CheckError>
     ensures holds { IfOk result (λ bytes. Holds (F.contents files.old) name.now bytes.items) }
     ensures within { IfOk result (λ bytes. length bytes.items ≤ 16777216) }
+    ensures failed { IsErrOf result ReadFault → Rose (F.faults files.old name.now) (F.faults files.new name.now) }
+    ensures counts { (other : List ℕ) → F.faults files.old other ≤ F.faults files.new other }
     ensures same { F.contents files.new ≡ F.contents files.old }
 {
     let bytes = read_all(alloc, files, name, LIMIT)?;
@@ -33,6 +36,8 @@ fn read_inf<F: Files>(
     name: &[u8],
 ) -> Result<Vec<u8>, CheckError>
     ensures holds { IfOk result (λ bytes. Holds (F.contents files.old) name.now bytes.items) }
+    ensures failed { IsErrOf result ReadFault → Rose (F.faults files.old name.now) (F.faults files.new name.now) }
+    ensures counts { (other : List ℕ) → F.faults files.old other ≤ F.faults files.new other }
     ensures same { F.contents files.new ≡ F.contents files.old }
 {
     let bytes = read_file(alloc, files, name)?;
@@ -52,12 +57,15 @@ fn keep(infs: &mut Vec<Vec<u8>>, bytes: Vec<u8>) -> Result<(), AllocError>
 }
 
 /// Reads the INFs of these names, each of which is checked before the next one is read.
+#[tactic(auto, using(crate::proofs::Faults::rose_behind))]
 pub(crate) fn read_infs<F: Files>(
     alloc: Global,
     files: &mut F,
     names: &[Vec<u8>],
 ) -> Result<Vec<Vec<u8>>, CheckError>
     ensures hold { IfOk result (λ infs. HoldAll (F.contents files.old) (texts names.now) (texts infs.items)) }
+    ensures failed { IsErrOf result ReadFault → SomeRose (F.faults files.old) (F.faults files.new) }
+    ensures counts { (other : List ℕ) → F.faults files.old other ≤ F.faults files.new other }
     ensures same { F.contents files.new ≡ F.contents files.old }
 {
     let mut infs = Vec::new(alloc);

@@ -5,8 +5,8 @@ use Rattle.check_cli.specs.declared.status.Status.{Status}
 use Rattle.check_cli.proofs.Saying.{says_named, seen_of}
 use Rattle.check_cli.proofs.checks.look_named.Goals as goal
 
-pub returns : goal.returns
-returns g c =
+pub returns-clause-says : goal.returns-clause-says
+returns-clause-says g c =
     let is : IsSeenOf c.in_ok-infs.infs.items c.in_ok-trace.trace.items c.in_ok-script.script.items c.args.budget c.in_ok-seen.seen =
     seen_of c.in_ok-infs.infs.items c.deref-2.result.now c.in_ok-script.script.items c.deref.result.now c.in_ok-trace.trace.items c.deref-4.result.now c.deref-3.result.now c.args.budget c.in_ok-seen.seen
     c.deref-2.ensures.value c.deref.ensures.value c.deref-4.ensures.value (c.deref-3.ensures.value ∙ c.in_ok-kinds.ensures.kinds) c.in_ok-seen.ensures
