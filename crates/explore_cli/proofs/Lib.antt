@@ -1,1 +1,4 @@
 mod Seeing
+mod Infs
+mod Reading
+mod Outputs

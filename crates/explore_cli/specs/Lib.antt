@@ -1,4 +1,3 @@
-pub mod Errors
 pub mod Playing
 pub mod Laws
 pub mod Explored

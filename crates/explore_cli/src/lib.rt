@@ -2,12 +2,11 @@
 //! all scripts.
 #![tactic(auto)]
 
-mod error;
 mod files;
 mod player;
 mod program;
 mod status;
 
-pub use explore_report::Progress;
-pub use program::explore;
+pub use explore_report::{Progress, Words, words_of};
+pub use program::{explore, explore_words};
 pub use status::Status;

@@ -1,14 +1,19 @@
-use Rattle.std.proofs.Common.{refl, subst}
+use Rattle.std.proofs.Common.{refl, subst, ap, ◌∙◌}
 use Rattle.sha2.specs.Sha256.{sha256}
 use Rattle.start_sequence.specs.Begins.{settings_of}
 use Rattle.explore_report.specs.Scripts.{below_of}
 use Rattle.explore_report.specs.Marks.{mark_text}
 use Rattle.explore_report.specs.Answers.{IsReport}
 use Rattle.explore_cli.specs.Playing.{Shows}
+use Rattle.explore_cli.specs.Explored.{is_told}
+use Rattle.explore_cli.proofs.Outputs.{all_told}
 use Rattle.explore_cli.proofs.program.explore_over.Goals as goal
 
-pub returns : goal.returns
-returns g c =
+pub returns-clause-told : goal.returns-clause-told
+returns-clause-told g c = ap is_told c.status_of-status.ensures ∙ all_told c.in_ok-text.field-0.found
+
+pub returns-clause-explored : goal.returns-clause-explored
+returns-clause-explored g c =
     let contents = g.F.Files.contents c.args.files.now in
     let family = c.args.family.now in
     let e = c.args.exploration.now in
