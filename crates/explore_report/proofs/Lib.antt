@@ -8,3 +8,4 @@ mod PartsRead
 mod Tries
 mod Keys
 mod Appending
+mod OneRun

@@ -6,3 +6,4 @@ pub mod Fronts
 pub mod Marks
 pub mod Merging
 pub mod Answers
+pub mod Laws

@@ -5,6 +5,7 @@
 mod error;
 mod expected;
 mod fronts;
+mod laws;
 mod mark;
 mod merging;
 mod part_file;
@@ -16,6 +17,7 @@ mod words;
 
 pub use error::ReportError;
 pub use expected::{Expected, Seen};
+pub use laws::parts_tell_the_whole;
 pub use parts::{Exploration, Part, Share, Task, Words};
 pub use runs::{Progress, Runs};
 pub use told::{Found, Report, explore_family, tell_count, tell_script};
