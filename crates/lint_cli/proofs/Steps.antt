@@ -12,7 +12,7 @@ use Rattle.inf_reader.specs.declared.parts.InfError.{InfError}
 use Rattle.lint_cli.specs.Reports.{bad_text, script_text, inf_text, IsFront}
 use Rattle.lint_cli.specs.Warnings.{Known, known_of, warnings_text}
 use Rattle.inf_reader.specs.Meaning.{inf}
-use Rattle.lint_cli.specs.Lints.{is_bad_file, is_bad_set, is_bad_by, bad_infs, is_bad_script, is_bad_inf, is_large, some_large, is_too_large, is_decided, is_reported, answer_by, Answers, IsTextBy, WroteBy, Sizes, AddsInf, AddsFile, AddsInfs, IsText, SomeRose}
+use Rattle.lint_cli.specs.Lints.{is_bad_file, is_bad_set, is_bad_by, bad_infs, is_bad_script, is_bad_inf, is_large, some_large, is_too_large, is_reported, answer_by, Answers, IsTextBy, WroteBy, Sizes, AddsInf, AddsFile, AddsInfs, IsText, SomeRose}
 use Rattle.lint_cli.specs.declared.status.Status.{Status}
 use Rattle.lint_cli.specs.declared.words.Options.{Options}
 use Rattle.std.proofs.lemmas.Bool.Decides.{nat_tests}

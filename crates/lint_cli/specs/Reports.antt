@@ -38,6 +38,10 @@ error_head file line = place_text file line ++ codes "error: "
 abbrev pub warning_head : Text → ℕ → Text
 warning_head file line = place_text file line ++ codes "warning: "
 
+-- `"WORD" CAUSE`
+abbrev pub fault_words : Fault → Text
+fault_words f = quoted f.word ++ cause_text f.cause
+
 abbrev pub fault_text : Fault → Text
 fault_text f = quoted f.word ++ (cause_text f.cause ++ 10 ∷ [])
 

@@ -17,4 +17,5 @@ mod warnings;
 mod words;
 
 pub use lints::lint;
+pub use report::fault_words;
 pub use status::Status;

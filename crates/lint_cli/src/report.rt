@@ -2,7 +2,7 @@
 ghost use Rattle.std.specs.Prelude.{◌≡◌, ◌++◌, IfOk, OnOk};
 ghost use Rattle.script_lint.specs.Faults.{seen};
 ghost use Rattle.script_lint.specs.Script.{told};
-ghost use Rattle.lint_cli.specs.Reports.{fault_text, bad_text, bad_texts, is_space, opens_inf, is_marked, hint_text, script_text};
+ghost use Rattle.lint_cli.specs.Reports.{fault_words, fault_text, bad_text, bad_texts, is_space, opens_inf, is_marked, hint_text, script_text};
 ghost use Rattle.lint_cli.specs.Lints.{is_bad_script};
 
 use crate::causes::cause_text;
@@ -18,6 +18,16 @@ fn push_fault(alloc: Global, out: &mut Vec<u8>, fault: &LineFault) -> Result<(),
     out.extend_from_slice(cause_text(fault.cause))?;
     out.push(b'\n')?;
     Ok(())
+}
+
+/// What is told of a fault: the word it is true of between quotes, and the cause. Cost: the length, of at most 80 bytes of the word.
+pub fn fault_words(alloc: Global, fault: &LineFault) -> Result<Vec<u8>, AllocError>
+    ensures { IfOk result (λ text. text.items ≡ fault_words (seen fault.now)) }
+{
+    let mut text = Vec::new(alloc);
+    push_quoted(alloc, &mut text, fault.word)?;
+    text.extend_from_slice(cause_text(fault.cause))?;
+    Ok(text)
 }
 
 /// Appends the line of a bad line.

@@ -1,5 +1,5 @@
 //! Texts of files as they are printed.
-ghost use Rattle.std.specs.Prelude.{◌≡◌, ◌++◌, OnOk, IfOk, map, take};
+ghost use Rattle.std.specs.Prelude.{◌≡◌, ◌++◌, OnOk, IfOk, map};
 ghost use Rattle.lint_cli.specs.Reports.{shown_byte, shown, quoted, name_byte, shown_name, place_text, error_head, warning_head};
 
 use pnp_labels::decimal;

@@ -1,5 +1,5 @@
 //! Files and a sink that fail, and a file in UTF-16.
-use crate::lints::ends;
+use crate::lints::{ends, gives};
 use lint_cli::Status;
 use pnp_io::MemFiles;
 use std::alloc::Global;
@@ -13,6 +13,26 @@ fn reads_and_writes_that_fail(rt: HostRuntime) -> Result<(), Fail> {
     files.add(b"i", b"[Version]\nSignature=$Chicago$\n")?;
     let front = "s:1: error: \"Driver\" is no keyword; keyw";
     ends(rt.alloc(), &mut files, 40, Status::WriteFault, front)
+}
+
+// A wrong body that it shows: the first fault told again in place of each further one (`push_others`).
+#[test]
+fn faults_behind_the_first(rt: HostRuntime) -> Result<(), Fail> {
+    let inf = "[Manufacturer
+Own = M
+[M]
+A = I, OWN\\A
+[I]
+FeatureScore = 300
+[J
+FeatureScore = 0x100
+";
+    let text = "i:3: error: a header has no ]: \"[Manufacturer\"
+i:8: error: FeatureScore is no number up to 255: \"FeatureScore = 300\"
+i:9: error: a header has no ]: \"[J\"
+i:10: error: FeatureScore is no number up to 255: \"FeatureScore = 0x100\"
+";
+    gives(rt.alloc(), inf, Status::Found, text)
 }
 
 /// The text in UTF-16LE.

@@ -54,6 +54,7 @@ i:4: warning: there is no models section [Models], and [Models.NTx86] [models.nt
     gives(rt.alloc(), inf, Status::Clean, text)
 }
 
+// A wrong body that it shows: a section that is not there told one line early (`push_absent`).
 #[test]
 fn a_service_under_another_name(rt: HostRuntime) -> Result<(), Fail> {
     let inf = "[Manufacturer]
@@ -75,6 +76,7 @@ i:7: warning: there is no section [J.Services], which gives the driver
     gives(rt.alloc(), inf, Status::Clean, text)
 }
 
+// Wrong bodies that it shows: odd flags taken for those of a driver (`is_function_driver`); a warning one line early (`push_no_driver`).
 #[test]
 fn services_without_the_flag(rt: HostRuntime) -> Result<(), Fail> {
     let inf = "[Manufacturer]
@@ -141,4 +143,25 @@ fn a_refused_inf_has_no_warnings(rt: HostRuntime) -> Result<(), Fail> {
     let inf = "[Manufacturer]\nOwn = M\n[I]\nFeatureScore = 300\n";
     let text = "i:6: error: FeatureScore is no number up to 255: \"FeatureScore = 300\"\n";
     gives(rt.alloc(), inf, Status::Found, text)
+}
+
+// Wrong bodies that it shows: `[NAME.NT]` taken before `[NAME.NTamd64]` (`install_name` of inf_sections); the section without a decoration
+// before both.
+#[test]
+fn the_install_section_that_is_taken(rt: HostRuntime) -> Result<(), Fail> {
+    let inf = "[Manufacturer]
+Own = M
+[M]
+A = I, OWN\\A
+[I]
+[I.NT]
+[I.NTamd64]
+[I.Services]
+AddService = bare, 0, Svc
+[I.NT.Services]
+AddService = other, 0, Svc
+[I.NTamd64.Services]
+AddService = dev, 2, Svc
+";
+    gives(rt.alloc(), inf, Status::Clean, "")
 }

@@ -7,7 +7,7 @@ use Rattle.notify_front.specs.Fronts.{opening_front}
 use Rattle.notify_front.specs.Desks.{Desk, front_of, told_of, opening_desk}
 use Rattle.script_reader.specs.Script.{Trace}
 use Rattle.pnp_cli.specs.Contents.{events_of}
-use Rattle.pnp_cli.specs.Outputs.{bad_text, end_text, text_of, written}
+use Rattle.pnp_cli.specs.Outputs.{end_text, text_of, written}
 use Rattle.pnp_cli.specs.Pieces.{line_of_bad, answer_by}
 use Rattle.pnp_cli.specs.declared.status.Status.{Status}
 use Rattle.script_play.specs.Playing.{Playing, Played, Begins, Stepped, StepTold, EventTold, left_of}
@@ -17,7 +17,7 @@ use Rattle.notify_front.proofs.FrontLeft.{front_steps_left}
 use Rattle.why_cli.specs.Woven.{HasNotes}
 use Rattle.why_cli.specs.Explained.{Writing, Written, IsExplanation, ExplainsPlay}
 use Rattle.why_cli.specs.declared.explained.Explained.{Explained}
-use Rattle.why_cli.proofs.Weaving.{notes_none}
+use Rattle.why_cli.proofs.Weaving.{notes_none, notes_bad}
 
 -- nothing was told yet
 pub writing_none : (p : Playing) (text : Text) → text ≡ [] → Played p [] p → Writing p text p
@@ -65,22 +65,23 @@ pub written_by : (start old new : Playing) (text : Text) (o : Option Happened) �
 written_by start old new text o is ended w =
     record { labels = w.labels; ended = subst (λ (x : Option Happened). EventTold start w.labels x new) is (ended w.labels w.played); notes = w.notes }
 
--- behind all labels comes the end of the output
-pub explained_by : (start now : Playing) (text all : Text) (bad : Option ℕ) (status : Status) → Written start text now → bad ≡ now.bad
-    → all ≡ (text ++ line_of_bad bad) ++ end_text now.desk.manager.state → status ≡ answer_by bad → ExplainsPlay start all status
-explained_by start now text all bad status h same is answer =
+-- behind all labels comes the line of a bad line, with its note, and the end of the output
+pub explained_by : (start now : Playing) (text with_bad noted all : Text) (bad : Option ℕ) (status : Status) → Written start text now → bad ≡ now.bad
+    → with_bad ≡ text ++ line_of_bad bad → ((lines : Text) → HasNotes lines with_bad → HasNotes lines noted)
+    → all ≡ noted ++ end_text now.desk.manager.state → status ≡ answer_by bad → ExplainsPlay start all status
+explained_by start now text with_bad noted all bad status h same is notes is_all answer =
     record {
       output = written (left_of start) h.labels now.desk.manager.state;
       prints = (h.labels, front_of now.desk, h.ended.plays, refl);
       woven = record {
-        lines = text_of h.labels;
-        woven = text;
-        rest = bad_text (left_of start) ++ end_text now.desk.manager.state;
-        notes = h.notes;
-        without = refl;
-        all =
-            is ∙ append_assoc text (line_of_bad bad) (end_text now.desk.manager.state)
-            ∙ ap (λ (x : Text). text ++ (x ++ end_text now.desk.manager.state)) (ap line_of_bad same ∙ sym h.ended.bad);
+        lines = text_of h.labels ++ line_of_bad bad;
+        woven = noted;
+        rest = end_text now.desk.manager.state;
+        notes = notes (text_of h.labels ++ line_of_bad bad) (notes_bad (text_of h.labels) text with_bad bad is h.notes);
+        without =
+            ap (λ (x : Text). text_of h.labels ++ (x ++ end_text now.desk.manager.state)) (h.ended.bad ∙ ap line_of_bad (sym same))
+            ∙ sym (append_assoc (text_of h.labels) (line_of_bad bad) (end_text now.desk.manager.state));
+        all = is_all;
       };
       answer = h.ended.answer ∙ ap answer_by (sym same) ∙ sym answer;
     }

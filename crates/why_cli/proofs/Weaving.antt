@@ -1,5 +1,5 @@
 -- Notes are put between the lines of a text.
-use Rattle.std.proofs.Common.{◌≡◌, ◌≢◌, ℕ, Bool, true, false, List, [], ◌∷◌, ◌++◌, map, refl, sym, ◌∙◌, ap, subst, append-nil, cond, nat_eq, arith}
+use Rattle.std.proofs.Common.{◌≡◌, ◌≢◌, ℕ, Bool, true, false, List, [], ◌∷◌, ◌++◌, Option, Some, None, map, refl, sym, ◌∙◌, ap, subst, append_assoc, append-nil, cond, nat_eq, arith}
 use Rattle.std.specs.List.{AllByRecursion}
 use Rattle.std.specs.Prelude.{codes}
 use Rattle.std.specs.Fmt.{decimal}
@@ -7,9 +7,10 @@ use Rattle.inf_reader.specs.declared.parts.InfError.{InfError}
 use Rattle.pnp_cli.specs.Infs.{error_at, error_number, refusal_line}
 use Rattle.pnp_labels.specs.Texts.{Text, label_line}
 use Rattle.pnp_labels.specs.declared.label.Label.{Label}
-use Rattle.pnp_cli.specs.Outputs.{text_of}
+use Rattle.pnp_cli.specs.Outputs.{text_of, error_line}
+use Rattle.pnp_cli.specs.Pieces.{line_of_bad}
 use Rattle.pnp_cli.proofs.Telling.{text_append}
-use Rattle.why_cli.specs.Woven.{Piece, HasNotes, IsWoven, note_line, shown}
+use Rattle.why_cli.specs.Woven.{Piece, HasNotes, IsWoven, note_line, note_lines, shown}
 
 -- nothing was written
 pub notes_none : HasNotes [] []
@@ -37,6 +38,13 @@ notes_note lines old new note is h =
       all = is ∙ ap (λ (x : Text). x ++ note_line (map shown note)) h.all;
     }
 
+-- lines of a note are
+pub notes_more : (lines old new : Text) (notes : List Text) → new ≡ old ++ note_lines notes → HasNotes lines old → HasNotes lines new
+notes_more lines old new [] is h = subst (λ (x : Text). HasNotes lines x) (sym (is ∙ append-nil old)) h
+notes_more lines old new (note ∷ notes) is h =
+    notes_more lines (old ++ note_line (map shown note)) new notes (is ∙ sym (append_assoc old (note_line (map shown note)) (note_lines notes)))
+    (notes_note lines old (old ++ note_line (map shown note)) note refl h)
+
 -- a line of a label is
 pub notes_label : (labels : List Label) (old new : Text) (label : Label) → new ≡ old ++ (label_line label ++ 10 ∷ []) → HasNotes (text_of labels) old → HasNotes (text_of (labels ++ label ∷ [])) new
 notes_label labels old new label is h =
@@ -45,6 +53,17 @@ notes_label labels old new label is h =
       notes = h.notes;
       without = text_append labels (label ∷ []) ∙ ap (λ (x : Text). x ++ (label_line label ++ 10 ∷ [])) h.without;
       all = is ∙ ap (λ (x : Text). x ++ (label_line label ++ 10 ∷ [])) h.all;
+    }
+
+-- the line that tells of a bad line is
+pub notes_bad : (lines old new : Text) (bad : Option ℕ) → new ≡ old ++ line_of_bad bad → HasNotes lines old → HasNotes (lines ++ line_of_bad bad) new
+notes_bad lines old new None is h = subst (λ (x : Text). HasNotes x new) (sym (append-nil lines)) (subst (λ (x : Text). HasNotes lines x) (sym (is ∙ append-nil old)) h)
+notes_bad lines old new (Some number) is h =
+    record {
+      pieces = Piece.Line (codes "script error line " ++ decimal number) ∷ h.pieces;
+      notes = h.notes;
+      without = ap (λ (x : Text). x ++ error_line number) h.without;
+      all = is ∙ ap (λ (x : Text). x ++ error_line number) h.all;
     }
 
 -- a text whose lines and notes are all that there is

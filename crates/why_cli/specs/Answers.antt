@@ -1,5 +1,6 @@
 -- What is written and answered, by the words and by the contents of the files as they are told.
-use Rattle.std.specs.Prelude.{◌≡◌, ◌⊎◌, ℕ, Bool, true, false, List, Option, Some, None, IfSome, Result, Ok, Err}
+use Rattle.std.specs.Prelude.{◌≡◌, ◌⊎◌, ℕ, Bool, true, false, List, [], ◌∷◌, Option, Some, None, IfSome, Result, Ok, Err, codes, if◌then◌else◌}
+use Rattle.std.specs.Str.{bytes_eq}
 use Rattle.pnp_io.specs.Outside.{Appends, AppendsFront}
 use Rattle.pnp_io.specs.declared.whole.ReadError.{ReadError}
 use Rattle.pnp_io.specs.declared.whole.ReadError.TheVariants as reads
@@ -15,6 +16,24 @@ use Rattle.pnp_cli.specs.declared.parts.Settings.{Settings}
 use Rattle.pnp_cli.specs.declared.status.Status.{Status}
 use Rattle.why_cli.specs.Woven.{IsWoven}
 use Rattle.why_cli.specs.declared.explained.Explained.{Explained}
+
+-- the word of the option for lines
+abbrev pub is_lines : Text → Bool
+is_lines word = bytes_eq word (codes "--lines")
+
+abbrev pub opens_with_lines : List Text → Bool
+opens_with_lines [] = false
+opens_with_lines (word ∷ words) = is_lines word
+
+-- the option stands first behind the program's name
+abbrev pub asks_for_lines : List Text → Bool
+asks_for_lines [] = false
+asks_for_lines (program ∷ words) = opens_with_lines words
+
+-- The words as those of `run`: without the option for lines, which then takes the place of the program's name, as that means nothing.
+abbrev pub plain_words : List Text → List Text
+plain_words [] = []
+plain_words (program ∷ words) = if opens_with_lines words then words else program ∷ words
 
 -- the script that settings name, where no trace is to be checked
 abbrev pub plain_script : Option Text → Option Text → Option Text

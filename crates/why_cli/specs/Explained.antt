@@ -1,5 +1,5 @@
 -- The text for a play of a script: its labels with notes, and the end of the output.
-use Rattle.std.specs.Prelude.{◌≡◌, List}
+use Rattle.std.specs.Prelude.{◌≡◌, List, Bool, true, false}
 use Rattle.pnp_labels.specs.Texts.{Text}
 use Rattle.pnp_labels.specs.declared.label.Label.{Label}
 use Rattle.pnp_model.specs.Records.{Settings}
@@ -11,6 +11,11 @@ use Rattle.pnp_cli.specs.Contents.{answer_of}
 use Rattle.pnp_cli.specs.declared.status.Status.{Status}
 use Rattle.script_play.specs.Playing.{Playing, Played, Ended, left_of}
 use Rattle.why_cli.specs.Woven.{HasNotes, IsWoven}
+
+-- the event was refused, and so nothing of what it said came to be
+abbrev pub is_refused : Label → Bool
+is_refused (Label.Refused word reason) = true
+is_refused _ = false
 
 -- the labels so far were written, with notes
 pub record Writing (start : Playing) (text : Text) (now : Playing) : Type 0 where

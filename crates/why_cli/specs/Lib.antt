@@ -1,3 +1,4 @@
 pub mod Woven
 pub mod Explained
 pub mod Answers
+pub mod Refusals

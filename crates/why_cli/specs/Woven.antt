@@ -1,6 +1,6 @@
 -- A text with notes between its lines.
-use Rattle.std.specs.Prelude.{ℕ, ◌≡◌, ◌==◌, List, [], ◌∷◌, ◌++◌, codes, ◌≢◌, if◌then◌else◌}
-use Rattle.std.specs.List.{AllByRecursion}
+use Rattle.std.specs.Prelude.{ℕ, ◌≡◌, ◌==◌, List, [], ◌∷◌, ◌++◌, codes, map, ◌≢◌, if◌then◌else◌}
+use Rattle.std.specs.List.{AllByRecursion, flat_map}
 use Rattle.pnp_labels.specs.Texts.{Text}
 
 -- whole lines of a text, or a line of a note, without the line feed at the end
@@ -8,9 +8,17 @@ pub data Piece : Type 0 where
   Line : (words : Text) → Piece
   Note : (words : Text) → Piece
 
+-- a byte of a note as it is written
+abbrev pub shown : ℕ → ℕ
+shown byte = if byte == 10 then 63 else byte
+
 -- a line of a note begins with a number sign and a blank
 abbrev pub note_line : Text → Text
 note_line words = codes "# " ++ (words ++ 10 ∷ [])
+
+-- the lines of a note, in order
+abbrev pub note_lines : List Text → Text
+note_lines notes = flat_map (λ note. note_line (map shown note)) notes
 
 -- no line ends within a line of a note
 abbrev pub AreNotes : List Piece → Type 0
@@ -46,7 +54,3 @@ pub record IsWoven (output text : Text) : Type 0 where
   pub notes : HasNotes lines woven
   pub without : output ≡ lines ++ rest
   pub all : text ≡ woven ++ rest
-
--- a byte of a note as it is written
-abbrev pub shown : ℕ → ℕ
-shown byte = if byte == 10 then 63 else byte

@@ -11,7 +11,9 @@ ghost use Rattle.pnp_model.specs.Runs.{opening};
 ghost use Rattle.script_play.specs.Playing.{Played};
 ghost use Rattle.why_cli.specs.Explained.{IsExplanation, ExplainsPlay};
 
-use crate::telling::tell_all;
+use crate::bad_line::push_bad_note;
+use crate::script_lines::ScriptLines;
+use crate::telling::{Telling, tell_all};
 use device_ids::{TextList, WantOfMemory};
 use driver_rack::Drivers;
 use inf_reader::Inf;
@@ -22,7 +24,7 @@ use pnp_labels::decimal;
 use pnp_machine::Manager;
 use script_play::Play;
 use std::alloc::Global;
-use why_notes::{Facts, copied_infs};
+use why_facts::{Facts, Sources, copied_infs};
 
 /// A text that is to be written, and the answer.
 #[derive(Drop)]
@@ -66,15 +68,17 @@ fn answer(bad: Option<u64>) -> Status
 fn explain_play<R: Drivers>(
     alloc: Global,
     play: &mut Play<R>,
-    facts: &mut Facts,
+    script: &[u8],
+    telling: &mut Telling,
 ) -> Result<Explained, WantOfMemory>
     requires { Played play.old [] play.old }
     ensures { IfOk result (λ e. ExplainsPlay play.old e.text.items e.status) }
 {
     let mut text = Vec::new(alloc);
-    tell_all(alloc, play, facts, &mut text)?;
+    tell_all(alloc, play, telling, &mut text)?;
     let bad = play.bad_line();
     push_bad(alloc, &mut text, bad)?;
+    push_bad_note(alloc, &mut text, script, bad)?;
     text.extend_from_slice(&play.ending()?)?;
     let status = answer(bad);
     Ok(Explained { text, status })
@@ -86,7 +90,7 @@ fn explain_machine<R: Drivers>(
     alloc: Global,
     manager: Manager<R>,
     script: &[u8],
-    facts: &mut Facts,
+    telling: &mut Telling,
 ) -> Result<Explained, WantOfMemory>
     requires start { IsAtStart manager }
     requires small { length script.now ≤ 16777216 }
@@ -94,7 +98,7 @@ fn explain_machine<R: Drivers>(
 {
     let front = Front::new(alloc, manager);
     match Play::new(alloc, front, script) {
-        Ok(mut play) => explain_play(alloc, &mut play, facts),
+        Ok(mut play) => explain_play(alloc, &mut play, script, telling),
         Err(error) => Err(error),
     }
 }
@@ -106,7 +110,7 @@ fn explain_infs<R: Drivers>(
     infs: Vec<Inf>,
     budget: u64,
     rack: R,
-    facts: &mut Facts,
+    telling: &mut Telling,
 ) -> Result<Explained, WantOfMemory>
     requires infs { length infs.items ≤ 64 }
     requires budget { budget ≤ 1000000 }
@@ -114,7 +118,7 @@ fn explain_infs<R: Drivers>(
     ensures { IfOk result (λ e. IsExplanation (machine infs.items budget) (opening_front (opening (R.rows rack))) (events_of script.now) e.text.items e.status) }
 {
     match Manager::new(alloc, infs, rack, budget) {
-        Ok(manager) => explain_machine(alloc, manager, script, facts),
+        Ok(manager) => explain_machine(alloc, manager, script, telling),
         Err(error) => Err(error),
     }
 }
@@ -136,9 +140,16 @@ fn first_facts(
     places: Vec<InfPlaces>,
     budget: u64,
 ) -> Result<Facts, WantOfMemory> {
-    let own_names = copied_names(alloc, names)?;
+    let names = copied_names(alloc, names)?;
     match copied_infs(alloc, infs) {
-        Ok(own) => Ok(Facts::new(alloc, own, own_names, places, budget)),
+        Ok(infs) => {
+            let sources = Sources {
+                infs,
+                names,
+                places,
+            };
+            Ok(Facts::new(alloc, sources, budget))
+        }
         Err(error) => Err(error),
     }
 }
@@ -151,6 +162,7 @@ pub fn explain<R: Drivers>(
     names: &TextList,
     places: Vec<InfPlaces>,
     budget: u64,
+    all_lines: bool,
     rack: R,
 ) -> Result<Explained, WantOfMemory>
     requires infs { length infs.items ≤ 64 }
@@ -159,7 +171,15 @@ pub fn explain<R: Drivers>(
     ensures { IfOk result (λ e. IsExplanation (machine infs.items budget) (opening_front (opening (R.rows rack))) (events_of script.now) e.text.items e.status) }
 {
     match first_facts(alloc, &infs, names, places, budget) {
-        Ok(mut facts) => explain_infs(alloc, script, infs, budget, rack, &mut facts),
+        Ok(facts) => {
+            let lines = ScriptLines::new(script);
+            let mut telling = Telling {
+                facts,
+                lines,
+                all_lines,
+            };
+            explain_infs(alloc, script, infs, budget, rack, &mut telling)
+        }
         Err(error) => Err(error),
     }
 }

@@ -7,7 +7,7 @@ ghost use Rattle.pnp_cli.specs.Infs.{infs_in, limit, SomeRose};
 ghost use Rattle.pnp_cli.specs.Limits.{IsWithin};
 ghost use Rattle.pnp_cli.specs.Runs.{named, status_by, Decides, IsOutput, IsOutputBy, Wrote, Given, Untouched};
 ghost use Rattle.pnp_cli.specs.declared.status.Status.{Status};
-ghost use Rattle.why_cli.specs.Answers.{Explains, IsWhy, IsTooLarge, IsTooLargeFor, WroteOut, WroteSome, script_of, script_named, is_told};
+ghost use Rattle.why_cli.specs.Answers.{Explains, IsWhy, IsTooLarge, IsTooLargeFor, WroteOut, WroteSome, is_lines, opens_with_lines, asks_for_lines, plain_words, script_of, script_named, is_told};
 
 use crate::explained::{Explained, explain};
 use crate::refusal::explain_refusal;
@@ -52,6 +52,7 @@ fn explain_script<R: Drivers, F: Files>(
     infs: Vec<Inf>,
     names: &TextList,
     budget: u64,
+    all_lines: bool,
     rack: R,
     files: &mut F,
 ) -> Result<Explained, ReadError>
@@ -64,7 +65,7 @@ fn explain_script<R: Drivers, F: Files>(
 {
     let script = read_all(alloc, files, name, LIMIT)?;
     let places = all_places(alloc, files, names)?;
-    let explained = explain(alloc, &script, infs, names, places, budget, rack)?;
+    let explained = explain(alloc, &script, infs, names, places, budget, all_lines, rack)?;
     Ok(explained)
 }
 
@@ -74,6 +75,7 @@ fn explain_named<R: Drivers, F: Files>(
     name: &[u8],
     infs: &TextList,
     budget: u64,
+    all_lines: bool,
     rack: R,
     files: &mut F,
 ) -> Result<Explained, ReadError>
@@ -85,7 +87,7 @@ fn explain_named<R: Drivers, F: Files>(
     ensures failed { IsErrOf result ReadFault → SomeRose (F.faults files.old) (F.faults files.new) (infs.now ++ name.now ∷ []) }
 {
     match read_infs(alloc, files, infs) {
-        Ok(taken) => explain_script(alloc, name, taken, infs, budget, rack, files),
+        Ok(taken) => explain_script(alloc, name, taken, infs, budget, all_lines, rack, files),
         Err(InfsError::Refused(number, error)) => {
             let explained = explain_refusal(alloc, number, error, infs)?;
             Ok(explained)
@@ -118,6 +120,7 @@ fn why_named<R: Drivers, F: Files, K: Sink>(
     name: &[u8],
     infs: &TextList,
     budget: u64,
+    all_lines: bool,
     rack: R,
     files: &mut F,
     sink: &mut K,
@@ -132,7 +135,7 @@ fn why_named<R: Drivers, F: Files, K: Sink>(
     ensures write_fault { result ≡ Status.WriteFault → Rose (K.faults sink.old) (K.faults sink.new) }
     ensures too_large { result ≡ Status.TooLarge → IfSome (F.contents files.old) (λ told. IsTooLarge (infs_in told infs.now) (told name.now)) }
 {
-    let explained = explain_named(alloc, name, infs, budget, rack, files);
+    let explained = explain_named(alloc, name, infs, budget, all_lines, rack, files);
     write_out(explained, sink)
 }
 
@@ -141,6 +144,7 @@ fn why_drivers<D: Driver, F: Files, K: Sink>(
     alloc: Global,
     settings: &Settings,
     name: &[u8],
+    all_lines: bool,
     drivers: Vec<D>,
     files: &mut F,
     sink: &mut K,
@@ -163,6 +167,7 @@ fn why_drivers<D: Driver, F: Files, K: Sink>(
             name,
             &settings.infs,
             settings.budget,
+            all_lines,
             rack,
             files,
             sink,
@@ -175,6 +180,7 @@ fn why_drivers<D: Driver, F: Files, K: Sink>(
 fn why_settings<D: Driver, F: Files, K: Sink>(
     alloc: Global,
     settings: &Settings,
+    all_lines: bool,
     drivers: Vec<D>,
     files: &mut F,
     sink: &mut K,
@@ -194,20 +200,66 @@ fn why_settings<D: Driver, F: Files, K: Sink>(
     match &settings.check {
         Some(_) => Status::BadWords,
         None => match &settings.script {
-            Some(name) => why_drivers(alloc, settings, name.bytes(), drivers, files, sink),
+            Some(name) => why_drivers(
+                alloc,
+                settings,
+                name.bytes(),
+                all_lines,
+                drivers,
+                files,
+                sink,
+            ),
             None => Status::BadWords,
         },
     }
 }
 
-/// Reads the words `[--budget N] SCRIPT [INF ..]`, the INFs and the script that they name, runs it over these drivers, and writes
-/// the output of `run` with notes between its lines, each of which is a whole line that begins with `# `; where an INF is refused, the
-/// line that tells it, and a note. Words that name no script, and those with `--check`, are refused. All is read before anything is
-/// written. The condition is that there are fewer than 2^32 drivers. Each status comes as its clauses say. It always returns. Cost: that
-/// of `run`, and that of the notes. This project's own.
-pub fn why<D: Driver, F: Files, K: Sink>(
+/// Whether a word is the option for the lines of the script.
+fn is_lines(word: &str) -> bool
+    ensures { result ≡ is_lines word.now }
+{
+    word.as_bytes() == b"--lines".as_slice()
+}
+
+/// Whether the option for lines stands first.
+fn opens_with_lines(words: &[String]) -> bool
+    ensures { result ≡ opens_with_lines (texts words.now) }
+{
+    match words {
+        [] => false,
+        [word, ..] => is_lines(word.as_str()),
+    }
+}
+
+/// Whether the line of the script is to be told at each event: the option stands first behind the program's name.
+fn asks_for_lines(words: &[String]) -> bool
+    ensures { result ≡ asks_for_lines (texts words.now) }
+{
+    match words {
+        [] => false,
+        [_, behind @ ..] => opens_with_lines(behind),
+    }
+}
+
+/// The words as those of `run`: without the option for lines, which then takes the place of the program's name.
+fn plain_words(words: &[String]) -> &[String]
+    ensures { texts result.now ≡ plain_words (texts words.now) }
+{
+    match words {
+        [] => words,
+        [_, behind @ ..] => if opens_with_lines(behind) {
+            behind
+        } else {
+            words
+        },
+    }
+}
+
+/// The same as `why` of words without the option for lines.
+fn why_words<D: Driver, F: Files, K: Sink>(
     alloc: Global,
     words: &[String],
+    all_lines: bool,
     drivers: Vec<D>,
     files: &mut F,
     sink: &mut K,
@@ -226,6 +278,34 @@ pub fn why<D: Driver, F: Files, K: Sink>(
     match settings(alloc, words) {
         Err(WordsError::BadWords) => Status::BadWords,
         Err(WordsError::WantOfMemory) => Status::WantOfMemory,
-        Ok(settings) => why_settings(alloc, &settings, drivers, files, sink),
+        Ok(settings) => why_settings(alloc, &settings, all_lines, drivers, files, sink),
     }
+}
+
+/// Reads the words `[--lines] [--budget N] SCRIPT [INF ..]`, the INFs and the script that they name, runs it over these drivers, and writes
+/// the output of `run` with notes between its lines, each of which is a whole line that begins with `# `; where an INF is refused, the
+/// line that tells it, and a note. Words that name no script, and those with `--check`, are refused. All is read before anything is
+/// written. The condition is that there are fewer than 2^32 drivers. Each status comes as its clauses say. It always returns. Cost: that
+/// of `run`, and that of the notes. This project's own.
+pub fn why<D: Driver, F: Files, K: Sink>(
+    alloc: Global,
+    words: &[String],
+    drivers: Vec<D>,
+    files: &mut F,
+    sink: &mut K,
+) -> Status
+    requires { length drivers.items < 2 ^ 32 }
+    ensures bad_words { result ≡ Status.BadWords → script_of (settings_of (plain_words (texts words.now))) ≡ None }
+    ensures refused { script_of (settings_of (plain_words (texts words.now))) ≡ None → (result ≡ Status.BadWords) ⊎ (result ≡ Status.WantOfMemory) }
+    ensures untouched { script_of (settings_of (plain_words (texts words.now))) ≡ None → Untouched F.contents F.faults K.taken K.faults files.old files.new sink.old sink.new }
+    ensures decided { is_told result ≡ true → Given (plain_words (texts words.now)) (F.contents files.old) (λ s told. Decides (map (λ d. unnamed (D.kind_of d) (D.book d)) drivers.items) told s result) }
+    ensures whole { is_told result ≡ true → Given (plain_words (texts words.now)) (F.contents files.old) (λ s told. Wrote (Explains (IsOutput (map (λ d. unnamed (D.kind_of d) (D.book d)) drivers.items) told s)) (K.taken sink.old) (K.taken sink.new)) }
+    ensures front { Given (plain_words (texts words.now)) (F.contents files.old) (λ s told. WroteSome (Explains (IsOutput (map (λ d. unnamed (D.kind_of d) (D.book d)) drivers.items) told s)) (K.taken sink.old) (K.taken sink.new)) }
+    ensures read_fault { result ≡ Status.ReadFault → IfSome (settings_of (plain_words (texts words.now))) (λ s. SomeRose (F.faults files.old) (F.faults files.new) (named s)) }
+    ensures write_fault { result ≡ Status.WriteFault → Rose (K.faults sink.old) (K.faults sink.new) }
+    ensures too_large { result ≡ Status.TooLarge → Given (plain_words (texts words.now)) (F.contents files.old) (λ s told. IsTooLargeFor told s) }
+{
+    let plain = plain_words(words);
+    let all_lines = asks_for_lines(words);
+    why_words(alloc, plain, all_lines, drivers, files, sink)
 }

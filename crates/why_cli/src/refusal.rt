@@ -1,7 +1,9 @@
 //! The text for an INF that is refused.
-ghost use Rattle.std.specs.Prelude.{◌≡◌, IfOk};
+ghost use Rattle.std.specs.Prelude.{◌≡◌, ◌++◌, ◌∷◌, [], IfOk};
+ghost use Rattle.pnp_labels.specs.Texts.{Text};
 ghost use Rattle.pnp_cli.specs.Infs.{refusal_line};
 ghost use Rattle.pnp_cli.specs.declared.status.Status.{Status};
+ghost use Rattle.why_cli.specs.Refusals.{refusal_words};
 ghost use Rattle.why_cli.specs.Woven.{IsWoven};
 
 use crate::explained::Explained;
@@ -10,10 +12,12 @@ use device_ids::{TextList, WantOfMemory};
 use inf_reader::InfError;
 use pnp_cli::{Status, refusal_line};
 use std::alloc::Global;
-use why_notes::Lines;
+use why_facts::Lines;
 
 /// Why an INF is refused, in words.
-fn refusal_words(error: InfError) -> &'static [u8] {
+fn refusal_words(error: InfError) -> &'static [u8]
+    ensures { result.now ≡ refusal_words error }
+{
     match error {
         InfError::NoSignature => { b"[Version] has no Signature of $Windows NT$ or $CHICAGO$." }
         InfError::OpenHeader { .. } => b"A header has no ].",
@@ -32,7 +36,9 @@ fn refusal_note(
     number: u64,
     error: InfError,
     names: &TextList,
-) -> Result<Lines, WantOfMemory> {
+) -> Result<Lines, WantOfMemory>
+    ensures { IfOk result (λ notes. (front : Text) × (notes.lines ≡ (front ++ refusal_words error) ∷ [])) }
+{
     let mut notes = Lines::new(alloc);
     if 0 < number && number <= names.len() {
         notes.add(names.get(number - 1).bytes())?;

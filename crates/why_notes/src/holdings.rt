@@ -1,24 +1,42 @@
 //! Notes on what moved.
-use crate::facts::{Facts, Holding};
-use crate::lines::Lines;
-use crate::texts::held_text;
+ghost use Rattle.std.specs.Prelude.{◌≡◌, OnOk, if◌then◌else◌};
+ghost use Rattle.std.specs.Str.{bytes_eq};
+ghost use Rattle.why_notes.specs.Moving.{moved};
+
 use device_ids::WantOfMemory;
 use devnode_tree::{Node, Tree};
+use pnp_labels::res_text;
+use resource_reqs::ResList;
 use std::alloc::Global;
+use why_facts::{Holding, Lines};
 
-/// At `fits`: what all devices hold is kept, so that what moves can be told.
-pub fn keep_holdings(alloc: Global, facts: &mut Facts, tree: &Tree) -> Result<(), WantOfMemory> {
-    let mut before = Vec::new(alloc);
+/// Resources between commas; `nothing` where there is none.
+fn held_text(alloc: Global, held: &ResList) -> Result<Vec<u8>, WantOfMemory> {
+    let mut text = Vec::new(alloc);
+    for at in 0..held.len() {
+        if at > 0 {
+            text.extend_from_slice(b", ")?;
+        }
+        text.extend_from_slice(&res_text(alloc, held.get(at))?)?;
+    }
+    if text.is_empty() {
+        text.extend_from_slice(b"nothing")?;
+    }
+    Ok(text)
+}
+
+/// What all devices hold.
+pub fn holdings(alloc: Global, tree: &Tree) -> Result<Vec<Holding>, WantOfMemory> {
+    let mut all = Vec::new(alloc);
     for at in 0..tree.len() {
         if let Some(node) = tree.get(at) {
-            before.push(Holding {
+            all.push(Holding {
                 serial: node.serial,
                 held: node.holds.copy(alloc)?,
             })?;
         }
     }
-    facts.before = before;
-    Ok(())
+    Ok(all)
 }
 
 /// Tells what a device holds and what it held, where that is not the same.
@@ -28,7 +46,9 @@ fn tell_change(
     old: &[u8],
     new: &[u8],
     lines: &mut Lines,
-) -> Result<(), WantOfMemory> {
+) -> Result<(), WantOfMemory>
+    ensures { OnOk result (lines.new ≡ (if bytes_eq old.now new.now then lines.old else moved path.now old.now new.now lines.old)) }
+{
     if old == new {
         return Ok(());
     }
@@ -54,13 +74,13 @@ fn tell_moved(
 /// At `commit`: the new holdings of those that moved.
 pub fn on_commit(
     alloc: Global,
-    facts: &Facts,
+    before: &[Holding],
     tree: &Tree,
     lines: &mut Lines,
 ) -> Result<(), WantOfMemory> {
     for at in 0..tree.len() {
-        if let (Some(before), Some(node)) = (facts.before.get(at), tree.get(at)) {
-            tell_moved(alloc, before, node, lines)?;
+        if let (Some(old), Some(node)) = (before.get(at), tree.get(at)) {
+            tell_moved(alloc, old, node, lines)?;
         }
     }
     Ok(())

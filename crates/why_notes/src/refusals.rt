@@ -1,11 +1,12 @@
 //! Notes on who refused.
-use crate::facts::{AskedDriver, Facts};
-use crate::lines::Lines;
-use crate::texts::node_of;
+ghost use Rattle.std.specs.Prelude.{◌≡◌, None, option_copied};
+ghost use Rattle.why_notes.specs.Refusing.{later, last_of};
+
 use device_ids::{Text, WantOfMemory};
 use devnode_tree::Tree;
 use pnp_labels::{DevState, Minor, Shown, minor_text};
 use std::alloc::Global;
+use why_facts::{AskedDriver, Facts, Lines, node_of};
 
 /// A driver was asked: what it answered is kept, where a note may want it.
 pub fn keep_asked(
@@ -30,24 +31,39 @@ pub fn keep_asked(
 }
 
 /// The last refusal of a device's drivers.
-fn last_of<'a>(facts: &'a Facts, path: &Text) -> Option<&'a AskedDriver> {
+fn last_of<'a>(refused: &'a [AskedDriver], path: &Text) -> Option<&'a AskedDriver>
+    ensures { option_copied result ≡ last_of path.now refused.now }
+{
     let mut last = None;
-    for asked in &facts.refused {
-        if asked.path.same(path) {
-            last = Some(asked);
-        }
+    for at in 0..refused.len() {
+        last = later(last, &refused[at], path);
     }
     last
+}
+
+/// This one, if it is of the path, and else the one before.
+fn later<'a>(
+    last: Option<&'a AskedDriver>,
+    asked: &'a AskedDriver,
+    path: &Text,
+) -> Option<&'a AskedDriver>
+    ensures { option_copied result ≡ later path.now (option_copied last.entry) asked.now }
+{
+    if asked.path.same(path) {
+        Some(asked)
+    } else {
+        last
+    }
 }
 
 /// At `end .. veto Q`: the driver that refused and what it was asked; or that the device did by itself.
 pub fn on_veto(
     alloc: Global,
-    facts: &Facts,
+    refused: &[AskedDriver],
     path: &Text,
     lines: &mut Lines,
 ) -> Result<(), WantOfMemory> {
-    match last_of(facts, path) {
+    match last_of(refused, path) {
         Some(asked) => {
             lines.add_three(b"The driver ", asked.driver.bytes(), b" of ")?;
             lines.add_three(path.bytes(), b" failed ", minor_text(asked.minor))?;
@@ -66,11 +82,11 @@ pub fn on_veto(
 /// At `problem P 10`: the driver that failed the start.
 pub fn on_failed_start(
     alloc: Global,
-    facts: &Facts,
+    refused: &[AskedDriver],
     path: &Text,
     lines: &mut Lines,
 ) -> Result<(), WantOfMemory> {
-    let Some(asked) = last_of(facts, path) else {
+    let Some(asked) = last_of(refused, path) else {
         return Ok(());
     };
     let minor = minor_text(asked.minor);
@@ -79,8 +95,8 @@ pub fn on_failed_start(
 }
 
 /// Whether a driver would not stop since the operation began.
-fn has_stayer(facts: &Facts) -> bool {
-    for asked in &facts.refused {
+fn has_stayer(refused: &[AskedDriver]) -> bool {
+    for asked in refused {
         if asked.minor == Minor::QueryStop {
             return true;
         }
@@ -89,8 +105,12 @@ fn has_stayer(facts: &Facts) -> bool {
 }
 
 /// At a `nofit` of a rebalance in which nobody refused.
-pub fn tell_agreed(alloc: Global, facts: &Facts, lines: &mut Lines) -> Result<(), WantOfMemory> {
-    if has_stayer(facts) {
+pub fn tell_agreed(
+    alloc: Global,
+    refused: &[AskedDriver],
+    lines: &mut Lines,
+) -> Result<(), WantOfMemory> {
+    if has_stayer(refused) {
         return Ok(());
     }
     lines.say(
@@ -100,8 +120,12 @@ pub fn tell_agreed(alloc: Global, facts: &Facts, lines: &mut Lines) -> Result<()
 }
 
 /// At a `nofit` or a `refused` of an operation: the drivers that would not stop.
-pub fn tell_stayers(alloc: Global, facts: &Facts, lines: &mut Lines) -> Result<(), WantOfMemory> {
-    for asked in &facts.refused {
+pub fn tell_stayers(
+    alloc: Global,
+    refused: &[AskedDriver],
+    lines: &mut Lines,
+) -> Result<(), WantOfMemory> {
+    for asked in refused {
         if asked.minor == Minor::QueryStop {
             lines.add_three(
                 asked.path.bytes(),

@@ -1,11 +1,9 @@
 //! Notes on devices that lost their drivers with another one.
-use crate::facts::{Facts, Relation};
-use crate::lines::Lines;
-use crate::texts::node_of;
 use device_ids::{Text, WantOfMemory};
 use devnode_tree::Tree;
 use pnp_labels::{DevState, RelKind};
 use std::alloc::Global;
+use why_facts::{Lines, Relation, node_of};
 
 /// Whether a device of the path works.
 fn works(alloc: Global, tree: &Tree, path: &Text) -> Result<bool, WantOfMemory> {
@@ -37,13 +35,13 @@ fn tell_relation(
 /// At `problem P 47` and `problem P held`: the relations by which the device lost its drivers.
 pub fn on_held(
     alloc: Global,
-    facts: &Facts,
+    relations: &[Relation],
     tree: &Tree,
     path: &Text,
     lines: &mut Lines,
 ) -> Result<(), WantOfMemory> {
     let mut told = false;
-    for relation in &facts.relations {
+    for relation in relations {
         if relation.member.same(path) && !works(alloc, tree, &relation.owner)? {
             tell_relation(alloc, relation, lines)?;
             told = true;

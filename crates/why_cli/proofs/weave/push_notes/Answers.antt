@@ -1,5 +1,12 @@
-use Rattle.why_cli.proofs.Weaving.{notes_note}
+use Rattle.std.proofs.Common.{◌∙◌, ◌++◌, ap}
+use Rattle.why_cli.specs.Woven.{note_lines}
+use Rattle.why_cli.proofs.Weaving.{notes_more}
 use Rattle.why_cli.proofs.weave.push_notes.Goals as goal
 
-pub notes-preserved : goal.notes-preserved
-notes-preserved c = λ lines has. notes_note lines c.notes.text.items c.push_note.new.text.items _ c.in_ok-push_note.ensures (c.notes.invariant lines has)
+pub returns-clause-behind : goal.returns-clause-behind
+returns-clause-behind c = c.in_ok-push_all.ensures ∙ ap (λ x. c.args.text.now.items ++ note_lines x) c.all.ensures
+
+pub returns-clause-notes : goal.returns-clause-notes
+returns-clause-notes c = λ lines has.
+    notes_more lines c.args.text.now.items c.push_all.new.text.items c.args.notes.now.lines
+    (c.in_ok-push_all.ensures ∙ ap (λ x. c.args.text.now.items ++ note_lines x) c.all.ensures) has
