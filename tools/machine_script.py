@@ -8,8 +8,9 @@ from dataclasses import dataclass, field
 MOST_GROUPS = 16
 MOST_IDS = 64
 MOST_LINE = 4096
-# How many scripted drivers the program has; the last of them serves for all that are beyond.
-MOST_DRIVERS = 128
+# How many scripted drivers the program has, and how many steady ones; the last name serves for all that are beyond.
+MOST_SCRIPTED = 128
+MOST_DRIVERS = MOST_SCRIPTED + 32
 ROOT = r"HTREE\ROOT\0"
 
 
@@ -188,6 +189,14 @@ def name_drivers(devices):
     return [*names[: MOST_DRIVERS - 1], "other"]
 
 
+def driver_lines(devices):
+    """Returns the lines that name drivers: scripted ones, and steady ones beyond those, of drivers that are not taught."""
+    names = name_drivers(devices)
+    taught = {it.driver.lower() for it in devices if it.fails}
+    over = [it for it in names if it.lower() not in taught][max(MOST_SCRIPTED - len(taught), 0) :]
+    return [f"driver {it} {'steady' if it in over else 'scripted'}" for it in names]
+
+
 def lines_of_device(device):
     """Returns the lines of the script for a device."""
     lines = [f"# {plain(it)}" for it in [device.title, *device.notes]]
@@ -200,7 +209,7 @@ def lines_of_device(device):
 def script_of(heading, reserved, devices):
     """Returns the text of the script. reserved: pairs of a name and a resource."""
     lines = [f"# {plain(it)}" for it in heading]
-    lines += [f"driver {it} scripted" for it in name_drivers(devices)]
+    lines += driver_lines(devices)
     for name, it in reserved:
         lines += [f"# {plain(name)}", f"reserve {it.place()}"]
     for device in devices:
