@@ -388,6 +388,19 @@ class Install:
                     into += [name for name in it.values[4:] if name]
 
 
+def windows_rank(rank):
+    """Returns a rank in Windows' digits, those of signatures 00. Where the line's ID is not its first, the last three are not told."""
+    at, line_at = divmod(rank % 0x1000, 8)
+    return f"{rank // 0x1000:05x}" + ("???" if line_at else f"{at:03x}")
+
+
+def own_rank(digits):
+    """Returns the rank here of Windows' eight digits, or None where they do not tell it: of a compatible ID of a line, and of a device's ID behind its 64th."""
+    number = int(digits, 16) & 0xFFFFFF
+    at = number % 0x1000
+    return None if number & 0x1000 or at >= 64 else number - at + 8 * at
+
+
 class Match:
     """A models line that matches a device."""
 
@@ -401,8 +414,8 @@ class Match:
         return (self.rank, -self.inf.date, -self.inf.version, self.number, self.entry.line)
 
     def windows_rank(self):
-        """Returns the rank in Windows' digits, without the signature's; of another than the first ID of a line the last three are not told."""
-        return f"{self.install.score:04x}{self.type}{self.device_at:03x}" if self.line_at == 0 else f"{self.install.score:04x}{self.type}???"
+        """Returns the rank in Windows' digits, without the signature's."""
+        return windows_rank(self.rank)
 
 
 class Reading:

@@ -8,8 +8,9 @@ from dataclasses import dataclass, field
 MOST_GROUPS = 16
 MOST_IDS = 64
 MOST_LINE = 4096
-# How many scripted drivers the program has; the last of them serves for all that are beyond.
-MOST_DRIVERS = 128
+# How many scripted drivers the program has, and how many steady ones; the last name serves for all that are beyond.
+MOST_SCRIPTED = 128
+MOST_DRIVERS = MOST_SCRIPTED + 32
 ROOT = r"HTREE\ROOT\0"
 
 
@@ -42,8 +43,26 @@ class Resource:
 
 
 @dataclass
+class Model:
+    """A models line: the name that people see, its IDs, and the drivers and the score that it gives. Of two with one rank the greater age is taken. The note is a comment."""
+
+    title: str
+    ids: list
+    driver: str
+    lower: list = field(default_factory=list)
+    upper: list = field(default_factory=list)
+    score: int = 255
+    age: tuple = ()
+    note: str = ""
+
+    def key(self):
+        """Returns what is written of it, but for title and note."""
+        return tuple(it.lower() for part in (self.ids, [self.driver], self.lower, ["|"], self.upper, [str(self.score)]) for it in part)
+
+
+@dataclass
 class Device:
-    """A device: its parent's path, the two parts of its own, its IDs, what it has, its driver's name, and a bridge's windows."""
+    """A device: its parent's path, the two parts of its own, its IDs, what it has, its drivers' names, and a bridge's windows. A driver may fail a request, the device be disabled, or its driver have no namesake."""
 
     title: str
     parent: str
@@ -56,10 +75,24 @@ class Device:
     resources: list = field(default_factory=list)
     notes: list = field(default_factory=list)
     windows: list = field(default_factory=list)
+    lower: list = field(default_factory=list)
+    upper: list = field(default_factory=list)
+    models: list = None
+    fails: str = ""
+    is_disabled: bool = False
+    is_unnamed: bool = False
 
     @property
     def path(self):
         return f"{self.name}\\{self.instance}"
+
+    def lines_of_inf(self):
+        """Returns its models lines: without others one of its own."""
+        return [Model(self.title, [self.model], self.driver, self.lower, self.upper)] if self.models is None else self.models
+
+    def drivers(self):
+        """Returns the drivers that are to have a name, from the bottom to the top."""
+        return [*self.lower, *([] if self.is_unnamed or not self.driver else [self.driver]), *self.upper]
 
     def line(self):
         """Returns the line of the script, with fewer IDs where all would make it too long."""
@@ -80,8 +113,8 @@ def is_id(text):
 
 
 def plain(text):
-    """Returns the text as one line of printable ASCII."""
-    return re.sub(r"[^ -~]", "?", text)
+    """Returns the text as one line of printable ASCII, of which the language and an INF take no more than a part."""
+    return re.sub(r"[^ -~]", "?", text)[: MOST_LINE // 2]
 
 
 def driver_name(text):
@@ -146,24 +179,41 @@ def set_windows(devices):
 
 def name_drivers(devices):
     """Gives all beyond the most drivers one in common, and returns the names, each once."""
-    names = list(dict.fromkeys(it.driver.lower() for it in devices))
-    if len(names) > MOST_DRIVERS:
-        kept = set(names[: MOST_DRIVERS - 1])
-        for it in devices:
-            it.driver = it.driver if it.driver.lower() in kept else "other"
-    return list({it.driver.lower(): it.driver for it in devices}.values())
+    names = list({name.lower(): name for it in devices for name in it.drivers()}.values())
+    if len(names) <= MOST_DRIVERS:
+        return names
+    common = {it.lower(): "other" for it in names[MOST_DRIVERS - 1 :]}
+    for it in [*devices, *(model for device in devices for model in device.models or [])]:
+        it.driver = common.get(it.driver.lower(), it.driver)
+        it.lower, it.upper = ([common.get(name.lower(), name) for name in names] for names in (it.lower, it.upper))
+    return [*names[: MOST_DRIVERS - 1], "other"]
+
+
+def driver_lines(devices):
+    """Returns the lines that name drivers: scripted ones, and steady ones beyond those, of drivers that are not taught."""
+    names = name_drivers(devices)
+    taught = {it.driver.lower() for it in devices if it.fails}
+    over = [it for it in names if it.lower() not in taught][max(MOST_SCRIPTED - len(taught), 0) :]
+    return [f"driver {it} {'steady' if it in over else 'scripted'}" for it in names]
+
+
+def lines_of_device(device):
+    """Returns the lines of the script for a device."""
+    lines = [f"# {plain(it)}" for it in [device.title, *device.notes]]
+    lines += [f"teach {device.driver} {device.fails} {device.path} fail"] * bool(device.fails)
+    lines.append(device.line())
+    lines += [f"window {device.path} {it.place()}" for it in device.windows]
+    return lines + [f"disable {device.path}"] * device.is_disabled
 
 
 def script_of(heading, reserved, devices):
     """Returns the text of the script. reserved: pairs of a name and a resource."""
     lines = [f"# {plain(it)}" for it in heading]
-    lines += [f"driver {it} scripted" for it in name_drivers(devices)]
+    lines += driver_lines(devices)
     for name, it in reserved:
         lines += [f"# {plain(name)}", f"reserve {it.place()}"]
     for device in devices:
-        lines += [f"# {plain(it)}" for it in [device.title, *device.notes]]
-        lines.append(device.line())
-        lines += [f"window {device.path} {it.place()}" for it in device.windows]
+        lines += lines_of_device(device)
     return "\n".join([*lines, ""])
 
 
@@ -173,14 +223,28 @@ def quoted(text):
     return '"' + text.replace('"', '""') + '"' if re.search(r'[;,=" ]|\\$', text) else text
 
 
+def install_of(number, model):
+    """Returns the sections that a models line names."""
+    lines = ["", f"[Install_{number}]"] + [f"FeatureScore = {model.score:#04x}"] * (model.score != 255)
+    if model.lower or model.upper:
+        lines += [f"[Install_{number}.HW]", f"AddReg = Filters_{number}", f"[Filters_{number}]"]
+        for name, filters in (("LowerFilters", model.lower), ("UpperFilters", model.upper)):
+            lines += [f'HKR,,"{name}",0x00010000,' + ",".join(f'"{it}"' for it in filters)] * bool(filters)
+    return [*lines, f"[Install_{number}.Services]", f"AddService = {model.driver}, 0x00000002, Service"]
+
+
 def inf_of(heading, devices):
     """Returns the text of an INF with a models line, and a service, for each model of device."""
-    models = list({it.model.lower(): it for it in devices}.values())
+    models = list({it.key(): it for device in devices for it in device.lines_of_inf()}.values())
+    # (of one rank the line that stands first is taken)
+    models.sort(key=lambda it: it.age, reverse=True)
     lines = [f"; {plain(it)}" for it in heading]
     lines += ["[Version]", 'Signature = "$Windows NT$"', "DriverVer = 01/01/2024,1.0.0.0", "", "[Manufacturer]", '"Imported" = Models,NTamd64', "", "[Models.NTamd64]"]
-    lines += [f'{quoted(plain(it.title) + " ")} = Install_{number}, {quoted(it.model)}' for number, it in enumerate(models, 1)]
     for number, it in enumerate(models, 1):
-        lines += ["", f"[Install_{number}]", f"[Install_{number}.Services]", f"AddService = {it.driver}, 0x00000002, Service"]
+        lines += [f"; {plain(it.note)}"] * bool(it.note)
+        lines.append(f'{quoted(plain(it.title) + " ")} = Install_{number}, {", ".join(map(quoted, it.ids))}')
+    for number, it in enumerate(models, 1):
+        lines += install_of(number, it)
     return "\n".join([*lines, "", "[Service]", "ServiceType = 1", ""])
 
 
