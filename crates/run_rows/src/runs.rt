@@ -42,7 +42,7 @@ pub fn rack_of(alloc: Global, scripted: u32, steady: u32, stubborn: u32) -> Resu
     Ok(rack)
 }
 
-/// The status of a run over fewer than eight drivers; the test fails where there are more.
+/// The status of a run over fewer than 200 drivers; the test fails where there are more.
 pub fn ended(
     alloc: Global,
     words: &[String],
@@ -50,8 +50,8 @@ pub fn ended(
     files: &mut MemFiles,
     sink: &mut MemSink,
 ) -> Result<Status, Fail> {
-    if rack.len() >= 8 {
-        return Err(Fail::new("eight drivers or more"));
+    if rack.len() >= 200 {
+        return Err(Fail::new("200 drivers or more"));
     }
     Ok(run(alloc, words, rack, files, sink))
 }
@@ -70,7 +70,7 @@ pub fn ends(
     files: &mut MemFiles,
     want: (Status, &[u8]),
 ) -> Result<(), Fail> {
-    let mut sink = MemSink::new(alloc, 4096)?;
+    let mut sink = MemSink::new(alloc, 8192)?;
     let status = ended(alloc, words, rack, files, &mut sink)?;
     comes_to(status, &sink, want)
 }

@@ -1,6 +1,6 @@
 //! Scripts in which devices stop so that another can have what it needs: what is written.
 use crate::infs::OWN_INF;
-use crate::runs::Row;
+use crate::rows::Row;
 use pnp_cli::Status;
 
 /// One device moves.

@@ -1,6 +1,6 @@
 //! Scripts in which a running device is to have other resources: what is written.
 use crate::infs::OWN_INF;
-use crate::runs::Row;
+use crate::rows::Row;
 use pnp_cli::Status;
 
 /// It gets another interrupt.

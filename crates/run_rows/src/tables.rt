@@ -1,5 +1,5 @@
 //! All tables of scripts: each writes its text, and each text is one of the machine.
-use crate::runs::{Row, checks, writes};
+use crate::rows::{Row, checks, writes};
 use crate::{changes, clients, needs, rebalances, removals, starts, surprises};
 use std::alloc::Global;
 use std::test::Fail;

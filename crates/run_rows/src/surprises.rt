@@ -1,6 +1,6 @@
 //! Scripts in which devices are pulled: what is written.
 use crate::infs::OWN_INF;
-use crate::runs::Row;
+use crate::rows::Row;
 use pnp_cli::Status;
 
 /// A device goes while its start is outstanding.

@@ -1,7 +1,7 @@
 //! A board with seven devices, whose script and INF come in pieces.
 ghost use Rattle.std.specs.Prelude.{◌≤◌};
 
-use crate::runs::{ends, files_of, words_of};
+use crate::rows::{comes, files_for, words_for};
 use pnp_cli::Status;
 use std::alloc::Global;
 use std::test::Fail;
@@ -163,12 +163,12 @@ const READS: u64 = 2000;
 fn in_pieces(alloc: Global, most: u64) -> Result<(), Fail>
     requires { 1 ≤ most }
 {
-    let words = words_of(alloc, &[], 1)?;
-    let mut files = files_of(alloc, SCRIPT.as_bytes(), &[INF])?;
+    let words = words_for(alloc, &[], 1)?;
+    let mut files = files_for(alloc, SCRIPT.as_bytes(), &[INF])?;
     for call in 1..READS + 1 {
         files.short_at(call, most)?;
     }
-    ends(alloc, &words, &mut files, (Status::Done, TEXT.as_bytes()))
+    comes(alloc, &words, &mut files, (Status::Done, TEXT.as_bytes()))
 }
 
 #[test]

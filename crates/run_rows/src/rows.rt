@@ -1,8 +1,7 @@
 //! A script over the drivers of the program, and what it has to come to.
-use driver_rack::Driver;
-use pnp_cli::{Status, program_drivers, run};
-use pnp_io::{MemFiles, MemSink};
-use rows_told::{must, same};
+use crate::runs::{Rack, ends};
+use pnp_cli::{Status, program_drivers};
+use pnp_io::MemFiles;
 use std::alloc::Global;
 use std::test::Fail;
 
@@ -19,7 +18,7 @@ pub struct Row {
 const NAMES: [&str; 2] = ["1", "2"];
 
 /// The words `pnpmgr`, these, and the names of a script and so many INFs.
-pub fn words_of(alloc: Global, first: &[&str], infs: usize) -> Result<Vec<String>, Fail> {
+pub fn words_for(alloc: Global, first: &[&str], infs: usize) -> Result<Vec<String>, Fail> {
     let mut words = Vec::new(alloc);
     words.push(String::from_str(alloc, "pnpmgr")?)?;
     for word in first {
@@ -33,7 +32,7 @@ pub fn words_of(alloc: Global, first: &[&str], infs: usize) -> Result<Vec<String
 }
 
 /// A script and its INFs under those names.
-pub fn files_of(alloc: Global, script: &[u8], infs: &[&[u8]]) -> Result<MemFiles, Fail> {
+pub fn files_for(alloc: Global, script: &[u8], infs: &[&[u8]]) -> Result<MemFiles, Fail> {
     let mut files = MemFiles::new(alloc);
     files.add(b"s", script)?;
     for (name, inf) in NAMES.iter().zip(infs) {
@@ -43,53 +42,36 @@ pub fn files_of(alloc: Global, script: &[u8], infs: &[&[u8]]) -> Result<MemFiles
 }
 
 /// The drivers of the program, each in a box.
-fn program_rack(alloc: Global) -> Result<Vec<Box<dyn Driver>>, Fail> {
-    let mut rack: Vec<Box<dyn Driver>> = Vec::new(alloc);
+fn program_rack(alloc: Global) -> Result<Rack, Fail> {
+    let mut rack: Rack = Vec::new(alloc);
     for driver in program_drivers(alloc)? {
         rack.push(Box::new(alloc, driver)?)?;
     }
     Ok(rack)
 }
 
-/// The status of a run over those drivers.
-fn ended(
-    alloc: Global,
-    words: &[String],
-    files: &mut MemFiles,
-    sink: &mut MemSink,
-) -> Result<Status, Fail> {
-    let rack = program_rack(alloc)?;
-    if rack.len() >= 200 {
-        return Err(Fail::new("200 drivers or more"));
-    }
-    Ok(run(alloc, words, rack, files, sink))
-}
-
-/// With these words and files a run ends with this status, and its sink took this.
-pub fn ends(
+/// With these words and files a run over those drivers ends with this status, and its sink took this.
+pub fn comes(
     alloc: Global,
     words: &[String],
     files: &mut MemFiles,
     want: (Status, &[u8]),
 ) -> Result<(), Fail> {
-    let mut sink = MemSink::new(alloc, 8192)?;
-    let status = ended(alloc, words, files, &mut sink)?;
-    must(status == want.0, "how a run ended")?;
-    same(sink.taken(), want.1)
+    ends(alloc, words, program_rack(alloc)?, files, want)
 }
 
 /// A script writes its text.
 pub fn writes(alloc: Global, row: &Row) -> Result<(), Fail> {
-    let words = words_of(alloc, row.words, row.infs.len())?;
-    let mut files = files_of(alloc, row.script.as_bytes(), row.infs)?;
-    ends(alloc, &words, &mut files, (row.status, row.text.as_bytes()))
+    let words = words_for(alloc, row.words, row.infs.len())?;
+    let mut files = files_for(alloc, row.script.as_bytes(), row.infs)?;
+    comes(alloc, &words, &mut files, (row.status, row.text.as_bytes()))
 }
 
 /// The text of a script, as a trace that is checked, is a run of it.
 pub fn checks(alloc: Global, row: &Row) -> Result<(), Fail> {
-    let mut words = words_of(alloc, row.words, row.infs.len())?;
+    let mut words = words_for(alloc, row.words, row.infs.len())?;
     words.push(String::from_str(alloc, "--check=t")?)?;
-    let mut files = files_of(alloc, row.script.as_bytes(), row.infs)?;
+    let mut files = files_for(alloc, row.script.as_bytes(), row.infs)?;
     files.add(b"t", row.text.as_bytes())?;
-    ends(alloc, &words, &mut files, (Status::Done, b"yes\n"))
+    comes(alloc, &words, &mut files, (Status::Done, b"yes\n"))
 }

@@ -1,6 +1,6 @@
 //! Scripts in which devices join and start, or do not: what is written.
 use crate::infs::OWN_INF;
-use crate::runs::Row;
+use crate::rows::Row;
 use pnp_cli::Status;
 
 /// No line.

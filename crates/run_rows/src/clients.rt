@@ -1,6 +1,6 @@
 //! Scripts in which clients are registered on a device: what is written.
 use crate::infs::OWN_INF;
-use crate::runs::Row;
+use crate::rows::Row;
 use pnp_cli::Status;
 
 /// A client refuses, so a disable does not begin; it cannot be registered twice.

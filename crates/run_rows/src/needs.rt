@@ -1,6 +1,6 @@
 //! Scripts in which devices need resources, and nothing moves: what is written.
 use crate::infs::OWN_INF;
-use crate::runs::Row;
+use crate::rows::Row;
 use pnp_cli::Status;
 
 /// The search may try one prefix, and needs two.

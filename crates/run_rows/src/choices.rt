@@ -1,6 +1,6 @@
 //! Of two INFs the best match gives the driver.
 use crate::infs::{HIGH_INF, LATE_INF, NEW_INF, OLD_INF};
-use crate::runs::{ends, files_of, words_of};
+use crate::rows::{comes, files_for, words_for};
 use pnp_cli::Status;
 use std::alloc::Global;
 use std::test::Fail;
@@ -47,9 +47,9 @@ fn chooses(alloc: Global, infs: &[&[u8]], service: &str) -> Result<(), Fail> {
         map\n\
         outstanding\n"
     )?;
-    let words = words_of(alloc, &[], infs.len())?;
-    let mut files = files_of(alloc, SCRIPT.as_bytes(), infs)?;
-    ends(alloc, &words, &mut files, (Status::Done, text.as_bytes()))
+    let words = words_for(alloc, &[], infs.len())?;
+    let mut files = files_for(alloc, SCRIPT.as_bytes(), infs)?;
+    comes(alloc, &words, &mut files, (Status::Done, text.as_bytes()))
 }
 
 /// A match of the hardware ID, a later date, and a higher version, which an INF in UTF-16 has too.
