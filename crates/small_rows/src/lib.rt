@@ -6,6 +6,8 @@ mod bridges;
 #[cfg(test)]
 mod bytes;
 #[cfg(test)]
+mod files;
+#[cfg(test)]
 mod handles;
 #[cfg(test)]
 mod pages;

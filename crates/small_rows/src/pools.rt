@@ -50,13 +50,20 @@ fn one_node(alloc: Global) -> Result<Pool<u64>, Fail>
     Ok(pool)
 }
 
-#[test]
-fn a_pool_of_one_node(rt: HostRuntime) -> Result<(), Fail> {
-    let mut pool = one_node(rt.alloc())?;
+/// A value is put in and taken out twice, and room for one is left.
+fn twice_in_and_out(pool: &mut Pool<u64>) -> Result<(), Fail>
+    requires { length pool.old.chains ≡ 1 }
+{
     must(pool.spare() == 1, "room at the begin")?;
-    in_and_out(&mut pool, 7)?;
-    in_and_out(&mut pool, 8)?;
+    in_and_out(pool, 7)?;
+    in_and_out(pool, 8)?;
     pool.reserve(1)?;
     must(pool.spare() == 1, "room at the end")?;
     must(pool.first(0).is_none(), "a value that is left")
+}
+
+#[test]
+fn a_pool_of_one_node(rt: HostRuntime) -> Result<(), Fail> {
+    let mut pool = one_node(rt.alloc())?;
+    twice_in_and_out(&mut pool)
 }

@@ -102,6 +102,19 @@ fn writes_to_a_sink_in_memory(rt: HostRuntime) -> Result<(), Fail> {
 
 const TEXT: &[u8] = b"driver dev steady\nplug HTREE\\ROOT\\0 OWN\\DEV 1\n";
 
+/// Neither a file that is missing nor one whose name is no text is read.
+fn lacks_files(files: &mut impl Files) -> Result<(), Fail> {
+    let mut buffer = [0u8; 4];
+    must(
+        files.read(b"missing.script", 0, &mut buffer).is_err(),
+        "a file that is missing",
+    )?;
+    must(
+        files.read(b"\xFF", 0, &mut buffer).is_err(),
+        "a name that is no text",
+    )
+}
+
 /// A file of the system is read whole, from within, and from its front.
 fn reads_a_file(alloc: Global, files: &mut impl Files) -> Result<(), Fail> {
     same(&read_all(alloc, files, b"small.script", 100)?, TEXT)?;
@@ -120,15 +133,7 @@ fn reads_the_files_of_the_system(rt: HostRuntime) -> Result<(), Fail> {
     let removed = fs::remove_file(&rt, "small.script");
     read?;
     removed?;
-    let mut buffer = [0u8; 4];
-    must(
-        files.read(b"missing.script", 0, &mut buffer).is_err(),
-        "a file that is missing",
-    )?;
-    must(
-        files.read(b"\xFF", 0, &mut buffer).is_err(),
-        "a name that is no text",
-    )
+    lacks_files(&mut files)
 }
 
 #[test]
