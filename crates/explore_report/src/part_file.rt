@@ -70,32 +70,34 @@ fn named(line: &[u8]) -> Option<Part>
     part_of(part)
 }
 
+/// What `C first N` tells: how many scripts, and the number of the first, from 0.
+fn mark_in(told: &[u8]) -> Option<Mark> {
+    let (scripts, told) = split_once(told, b' ')?;
+    let first = number_of(told.strip_prefix(b"first ".as_slice())?)?;
+    Some(Mark {
+        scripts: number_of(scripts)?,
+        first: first.checked_sub(1)?,
+    })
+}
+
 /// What a line tells of an expectation, behind its word and number.
 fn broken_of(line: &[u8]) -> Option<Mark> {
     let (_, told) = split_once(line, b' ')?;
     let (_, told) = split_once(told, b' ')?;
     let told = told.strip_prefix(b"broken by ".as_slice())?;
-    match split_once(told, b' ') {
-        None => match number_of(told)? {
-            0 => Some(Mark {
-                scripts: 0,
-                first: 0,
-            }),
-            _ => None,
-        },
-        Some((scripts, told)) => Some(Mark {
-            scripts: number_of(scripts)?,
-            first: number_of(told.strip_prefix(b"first ".as_slice())?)?.checked_sub(1)?,
-        }),
+    if number_of(told) == Some(0) {
+        return Some(Mark {
+            scripts: 0,
+            first: 0,
+        });
     }
+    mark_in(told)
 }
 
-/// What a line `ending J scripts C first N` tells: how many scripts, and the number of the first, from 0.
-fn ending_of(line: &[u8]) -> Option<(u64, u64)> {
+/// What a line `ending J scripts C first N` tells.
+fn ending_of(line: &[u8]) -> Option<Mark> {
     let (_, told) = split_once(line.strip_prefix(b"ending ".as_slice())?, b' ')?;
-    let (scripts, told) = split_once(told.strip_prefix(b"scripts ".as_slice())?, b' ')?;
-    let first = number_of(told.strip_prefix(b"first ".as_slice())?)?;
-    Some((number_of(scripts)?, first.checked_sub(1)?))
+    mark_in(told.strip_prefix(b"scripts ".as_slice())?)
 }
 
 /// Reads what is told of the expectations; whether all of it stands there.
@@ -125,27 +127,26 @@ fn read_ending(
     of: Of,
     tally: &mut Tally,
 ) -> Result<Option<u64>, WantOfMemory> {
-    let Some((scripts, first)) = told_ending(lines) else {
+    let Some(mark) = told_ending(lines) else {
         return Ok(None);
     };
-    if scripts == 0 || !has(part, of.below, first) {
+    if mark.scripts == 0 || !has(part, of.below, mark.first) {
         return Ok(None);
     }
     let Some(text) = told_text(lines) else {
         return Ok(None);
     };
-    let mark = Mark { scripts, first };
     if of.exact {
         tally.add_ending(text, mark, text)?;
     } else {
         let plain = plain_ending(alloc, text)?;
         tally.add_ending(&plain, mark, text)?;
     }
-    Ok(Some(scripts))
+    Ok(Some(mark.scripts))
 }
 
 /// What the next line tells of an ending.
-fn told_ending(lines: &mut Lines) -> Option<(u64, u64)> {
+fn told_ending(lines: &mut Lines) -> Option<Mark> {
     ending_of(lines.next()?)
 }
 

@@ -28,53 +28,35 @@ const MOST_BUDGET: u64 = 1_000_000;
 /// How many scripts are run at most where the words do not say: this project's own.
 const FIRST: u64 = 1_000_000;
 
-/// The options that say what is expected of the scripts.
-fn expectations<'a>(alloc: Global, command: Command<'a>) -> Result<Command<'a>, WantOfMemory> {
-    let never = Arg::new(alloc, "never")
-        .long("never")
-        .action(ArgAction::Append);
-    let always = Arg::new(alloc, "always")
-        .long("always")
-        .action(ArgAction::Append);
-    let endings = Arg::new(alloc, "endings").long("endings");
-    let exact = Arg::new(alloc, "exact")
-        .long("exact")
-        .action(ArgAction::SetTrue);
-    let with_never = command.arg(never)?;
-    let with_always = with_never.arg(always)?;
-    let with_endings = with_always.arg(endings)?;
-    with_endings.arg(exact)
-}
+/// The options, and what each does with its value, or that it is a flag.
+const OPTIONS: [(&str, ArgAction); 10] = [
+    ("budget", ArgAction::Set),
+    ("never", ArgAction::Append),
+    ("always", ArgAction::Append),
+    ("endings", ArgAction::Set),
+    ("exact", ArgAction::SetTrue),
+    ("first", ArgAction::Set),
+    ("part", ArgAction::Set),
+    ("from", ArgAction::Append),
+    ("script", ArgAction::Set),
+    ("count", ArgAction::SetTrue),
+];
 
-/// The options that say which scripts are looked at.
-fn shares<'a>(alloc: Global, command: Command<'a>) -> Result<Command<'a>, WantOfMemory> {
-    let first = Arg::new(alloc, "first").long("first");
-    let part = Arg::new(alloc, "part").long("part");
-    let from = Arg::new(alloc, "from")
-        .long("from")
-        .action(ArgAction::Append);
-    let script = Arg::new(alloc, "script").long("script");
-    let count = Arg::new(alloc, "count")
-        .long("count")
-        .action(ArgAction::SetTrue);
-    let with_first = command.arg(first)?;
-    let with_part = with_first.arg(part)?;
-    let with_from = with_part.arg(from)?;
-    let with_script = with_from.arg(script)?;
-    with_script.arg(count)
+/// The command with the options.
+fn with_options<'a>(alloc: Global, command: Command<'a>) -> Result<Command<'a>, WantOfMemory> {
+    let mut command = command;
+    for (name, action) in OPTIONS {
+        command = command.arg(Arg::new(alloc, name).long(name).action(action))?;
+    }
+    Ok(command)
 }
 
 /// The command: options, one word for the family, and then any number of words for INFs.
 fn command<'a>(alloc: Global) -> Result<Command<'a>, WantOfMemory> {
     let plain = Command::new(alloc, "pnpexplore").disable_help_flag(true);
-    let budget = Arg::new(alloc, "budget").long("budget");
-    let family = Arg::new(alloc, "family");
-    let inf = Arg::new(alloc, "inf").action(ArgAction::Append);
-    let with_budget = plain.arg(budget)?;
-    let with_expectations = expectations(alloc, with_budget)?;
-    let with_shares = shares(alloc, with_expectations)?;
-    let with_family = with_shares.arg(family)?;
-    with_family.arg(inf)
+    with_options(alloc, plain)?
+        .arg(Arg::new(alloc, "family"))?
+        .arg(Arg::new(alloc, "inf").action(ArgAction::Append))
 }
 
 /// What the command finds in the words.
@@ -241,6 +223,18 @@ fn task(alloc: Global, found: &ArgMatches) -> Result<Task, ReportError>
     }
 }
 
+/// What was found says.
+fn words_in(alloc: Global, found: &ArgMatches) -> Result<Words, ReportError>
+    ensures { IfOk result (λ words. IsTask words.task) }
+{
+    let Some(name) = found.get_str("family") else {
+        return Err(ReportError::BadWords);
+    };
+    let family = Text::make(alloc, name.as_bytes())?;
+    let task = task(alloc, found)?;
+    Ok(Words { family, task })
+}
+
 /// What the words say, of which the first is the program's name, and is not looked at:
 /// `[--budget N] [--never W].. [--always W].. [--endings N] [--exact] [--first N] [--part I/N] FAMILY [INF ..]`, or with `--from PART ..` in place of
 /// `--part`, or `--script N FAMILY`, or `--count FAMILY`. Other words are refused.
@@ -251,10 +245,5 @@ pub fn words_of(alloc: Global, words: &[String]) -> Result<Words, ReportError>
         return Err(ReportError::BadWords);
     }
     let found = matches(alloc, words)?;
-    let Some(name) = found.get_str("family") else {
-        return Err(ReportError::BadWords);
-    };
-    let family = Text::make(alloc, name.as_bytes())?;
-    let task = task(alloc, &found)?;
-    Ok(Words { family, task })
+    words_in(alloc, &found)
 }
