@@ -1,4 +1,3 @@
-pub mod HexBytes
 pub mod Looking
 pub mod Ranges
 pub mod Exact

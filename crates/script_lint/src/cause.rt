@@ -1,6 +1,6 @@
 /// Why a line of a script is bad. Beside it stands a text of the line, the word or the part of a word that it is true of.
 /// This project's own.
-#[derive(Clone, Copy, Debug, PartialEq, Eq)]
+#[derive(Clone, Copy, PartialEq, Eq)]
 pub enum Cause {
     /// The line, which is named whole, has more than 4,096 bytes before its line feed.
     LongLine,

@@ -9,7 +9,6 @@ mod lines;
 mod needs;
 mod numbers;
 mod script;
-mod tables;
 mod wants;
 mod words;
 

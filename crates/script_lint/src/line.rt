@@ -1,6 +1,5 @@
 ghost use Rattle.std.specs.Prelude.{◌≡◌, IfOk, map, not};
 ghost use Rattle.std.specs.Option.{option_map, is_some};
-ghost use Rattle.std.specs.Str.Lines.{strip_carriage_return};
 ghost use Rattle.script_reader.specs.Script.{is_comment};
 ghost use Rattle.script_lint.specs.Faults.{seen};
 ghost use Rattle.script_lint.specs.Lines.{fault_by, event_fault};
@@ -12,9 +11,9 @@ use crate::lines::{
     alone_fault, change_fault, complete_fault, driver_fault, plug_fault, relate_fault,
     reserve_fault, teach_fault, unwatch_fault, watch_fault, window_fault,
 };
-use crate::tables::keyword_of;
 use crate::words::words;
 use pnp_labels::EventWord;
+use script_reader::{keyword_of, without_return};
 use std::alloc::{AllocError, Global};
 
 /// The most bytes of a line before its LF.
@@ -87,20 +86,6 @@ fn words_fault<'a>(alloc: Global, words: &[&'a [u8]]) -> Result<Option<LineFault
         return Ok(None);
     }
     event_fault(alloc, word, more)
-}
-
-/// The line without a CR at its end.
-fn without_return(line: &[u8]) -> &[u8]
-    ensures { result.now ≡ strip_carriage_return line.now }
-{
-    if line.is_empty() {
-        return line;
-    }
-    let last = line.len() - 1;
-    if line[last] == b'\r' {
-        return &line[..last];
-    }
-    line
 }
 
 /// What of the line is read; `ended` says that an LF stood behind it.

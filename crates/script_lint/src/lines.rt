@@ -2,25 +2,20 @@
 ghost use Rattle.std.specs.Prelude.{◌≡◌, ◌<◌, ◌⊎◌, length, map, IfOk, Some, None, true, not};
 ghost use Rattle.std.specs.Option.{option_map, is_some};
 ghost use Rattle.device_ids.specs.Ids.{is_path, joined};
-ghost use Rattle.script_reader.specs.Lines.{is_answerable, uses_of, has_windows, rule_path_of};
+ghost use Rattle.script_reader.specs.Lines.{rule_path_of};
 ghost use Rattle.script_lint.specs.Faults.{seen};
 ghost use Rattle.script_lint.specs.Lines.{count_fault, path_fault, alone_fault, named_fault, driver_fault, rule_fault, uses_fault, teach_fault, related_fault, relate_fault, res_fault, reserve_fault, completed_fault, complete_fault, window_res_fault, windowed_fault, window_fault, watched_fault, watch_fault, unwatched_fault, unwatch_fault, plugged_fault, plug_fault, change_fault};
 
 use crate::cause::Cause;
 use crate::fault::LineFault;
 use crate::needs::{attributes_fault, needs_fault};
-use crate::numbers::{number_of, range_cause, range_in};
-use crate::tables::{
-    agrees_of, answer_of, ask_of, driver_kind_of, kind_of, minor_of, ok_of, rel_kind_of,
-};
-use crate::words::is_name;
+use crate::numbers::range_cause;
 use device_ids::{InstancePath, PathError, is_legal, split_once};
-use pnp_labels::{Answer, AskWhat};
-use resource_reqs::Kind;
+use script_reader::{
+    agrees_of, answer_of, ask_of, driver_kind_of, has_windows, is_answerable, is_name, kind_of,
+    minor_of, ok_of, range_in, rel_kind_of, uses_of,
+};
 use std::alloc::{AllocError, Global};
-
-/// The greatest number of uses of a rule.
-const MOST_USES: u64 = 1_000_000;
 
 /// That there are fewer words than these, or that this one is too many.
 fn count_fault<'a>(keyword: &'a [u8], n: usize, words: &[&'a [u8]]) -> LineFault<'a>
@@ -106,19 +101,6 @@ pub fn driver_fault<'a>(keyword: &'a [u8], words: &[&'a [u8]]) -> Option<LineFau
     named_fault(name, kind)
 }
 
-/// Whether what is asked may be answered so.
-fn is_answerable(what: AskWhat, answer: Answer) -> bool
-    ensures { result ≡ is_answerable what answer }
-{
-    match what {
-        AskWhat::Add => match answer {
-            Answer::Pend => false,
-            _ => true,
-        },
-        AskWhat::Irp(_) => true,
-    }
-}
-
 /// What is wrong with the path of a rule, which may be a star.
 fn rule_path_is_bad(alloc: Global, path: &[u8]) -> Result<bool, AllocError>
     ensures { IfOk result (λ b. b ≡ not (is_some (rule_path_of path.now))) }
@@ -164,18 +146,6 @@ fn rule_fault<'a>(
         cause: Cause::AddPended,
         word: answer,
     }))
-}
-
-/// How often a rule is given.
-fn uses_of(word: &[u8]) -> Option<u64>
-    ensures { result ≡ uses_of word.now }
-{
-    let uses = number_of(word)?;
-    if 1 <= uses && uses <= MOST_USES {
-        Some(uses)
-    } else {
-        None
-    }
 }
 
 /// What is wrong with the words behind a rule.
@@ -340,16 +310,6 @@ pub fn complete_fault<'a>(
         return Ok(Some(count_fault(keyword, 3, words)));
     };
     completed_fault(alloc, path, minor, ok)
-}
-
-/// Whether a bridge has windows of the kind.
-fn has_windows(kind: Kind) -> bool
-    ensures { result ≡ has_windows kind }
-{
-    match kind {
-        Kind::Port | Kind::Mem => true,
-        _ => false,
-    }
 }
 
 /// What is wrong with the range of a window.

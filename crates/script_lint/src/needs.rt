@@ -1,7 +1,6 @@
 //! What is wrong with the attributes of `plug` and `change`.
 ghost use Rattle.std.specs.Prelude.{◌≡◌, map, IfOk, ◌∷◌, [], length, slice_index_or};
 ghost use Rattle.std.specs.Option.{option_map};
-ghost use Rattle.script_reader.specs.Lines.{value_at, values, is_need, is_attribute};
 ghost use Rattle.script_lint.specs.Faults.{seen, fault, each_fault, all_fault};
 ghost use Rattle.script_lint.specs.declared.cause.Cause.{Cause};
 ghost use Rattle.script_lint.specs.Wants.{list_fault};
@@ -11,56 +10,11 @@ use crate::bytes::bytes_fault;
 use crate::cause::Cause;
 use crate::fault::LineFault;
 use crate::wants::{ids_fault, list_fault};
+use script_reader::{is_attribute, is_need, values};
 use std::alloc::{AllocError, Global};
 
 /// The most attributes `need`.
 const MOST_NEEDS: usize = 8;
-
-/// What follows the attribute's name, where the word is one of that name.
-fn value_at<'a>(name: &[u8], word: &'a [u8]) -> Option<&'a [u8]>
-    ensures { option_map (λ x. x.now) result ≡ value_at name.now word.now }
-{
-    word.strip_prefix(name)
-}
-
-/// The values of the attributes of this name, in order.
-fn values<'a>(alloc: Global, name: &[u8], words: &[&'a [u8]]) -> Result<Vec<&'a [u8]>, AllocError>
-    ensures { IfOk result (λ v. map (λ x. x.now) v.items ≡ values name.now (map (λ w. w.now) words.now)) }
-{
-    let mut found = Vec::new(alloc);
-    for word in words {
-        if let Some(value) = value_at(name, word) {
-            found.push(value)?;
-        }
-    }
-    Ok(found)
-}
-
-/// Whether the word says what the device requires.
-fn is_need(word: &[u8]) -> bool
-    ensures { result ≡ is_need word.now }
-{
-    if let Some(_) = value_at(b"need=", word) {
-        return true;
-    }
-    match value_at(b"reqs=", word) {
-        Some(_) => true,
-        None => false,
-    }
-}
-
-/// Whether the word is an attribute of `plug`.
-fn is_attribute(word: &[u8]) -> bool
-    ensures { result ≡ is_attribute word.now }
-{
-    if let Some(_) = value_at(b"hw=", word) {
-        return true;
-    }
-    if let Some(_) = value_at(b"compat=", word) {
-        return true;
-    }
-    is_need(word)
-}
 
 /// The first word that is no attribute.
 fn no_attribute<'a>(words: &[&'a [u8]]) -> Option<LineFault<'a>>
@@ -147,6 +101,24 @@ fn bytes_alone_fault<'a>(
     }
 }
 
+/// What is wrong with the values of `reqs` and of `need`.
+fn reqs_from_fault<'a>(
+    alloc: Global,
+    bytes: &[&'a [u8]],
+    lists: &[&'a [u8]],
+) -> Result<Option<LineFault<'a>>, AllocError>
+    ensures { IfOk result (λ f. option_map seen f ≡ reqs_from_fault (map (λ w. w.now) bytes.now) (map (λ w. w.now) lists.now)) }
+{
+    match bytes {
+        [] => lists_fault(alloc, lists),
+        [text] => bytes_alone_fault(alloc, text, lists),
+        [_, second, ..] => Ok(Some(LineFault {
+            cause: Cause::Twice,
+            word: second,
+        })),
+    }
+}
+
 /// What is wrong with what the device requires.
 fn reqs_fault<'a>(
     alloc: Global,
@@ -156,14 +128,7 @@ fn reqs_fault<'a>(
 {
     let lists = values(alloc, b"need=", attributes)?;
     let bytes = values(alloc, b"reqs=", attributes)?;
-    match bytes.as_slice() {
-        [] => lists_fault(alloc, &lists),
-        [text] => bytes_alone_fault(alloc, text, &lists),
-        [_, second, ..] => Ok(Some(LineFault {
-            cause: Cause::Twice,
-            word: second,
-        })),
-    }
+    reqs_from_fault(alloc, &bytes, &lists)
 }
 
 /// What is wrong with the attributes of `plug`.

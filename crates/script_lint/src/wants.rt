@@ -1,16 +1,15 @@
 //! What is wrong with wants, groups, lists of groups, and lists of identifiers.
 ghost use Rattle.std.specs.Prelude.{◌≡◌, ◌<◌, ◌+◌, ◌^◌, IfOk, None};
 ghost use Rattle.std.specs.Option.{option_map};
-ghost use Rattle.script_reader.specs.Wants.{tail_at, shared_of, number_or_one, want_from};
 ghost use Rattle.script_lint.specs.Faults.{seen};
 ghost use Rattle.script_lint.specs.Wants.{tail_cause, size_cause, sized_by_fault, sized_fault, counted_fault, form_fault, want_fault, group_fault, list_fault, empty_or_not, id_fault, ids_fault};
 
 use crate::cause::Cause;
 use crate::fault::LineFault;
-use crate::numbers::{number_cause, number_of, range_cause, range_in};
-use crate::tables::kind_of;
+use crate::numbers::{number_cause, range_cause};
 use device_ids::{cut, is_legal, split_once};
-use resource_reqs::{Kind, Want};
+use resource_reqs::Kind;
+use script_reader::{kind_of, number_or_one, range_in, shared_of, tail_at, want_from};
 use std::alloc::{AllocError, Global};
 
 /// The most identifiers of an attribute.
@@ -18,49 +17,6 @@ const MOST_IDS: usize = 64;
 
 /// The most wants of a group, and groups of a list.
 const MOST_PARTS: usize = 16;
-
-/// The text without its tail, and the tail behind the first such byte.
-fn tail_at(text: &[u8], at: u8) -> (&[u8], Option<&[u8]>)
-    ensures { (result.0.now, option_map (λ x. x.now) result.1) ≡ tail_at at text.now }
-{
-    match split_once(text, at) {
-        Some((front, tail)) => (front, Some(tail)),
-        None => (text, None),
-    }
-}
-
-/// Whether the tail is the word for sharing; none where it is another.
-fn shared_of(tail: Option<&[u8]>) -> Option<bool>
-    ensures { result ≡ shared_of (option_map (λ x. x.now) tail.entry) }
-{
-    let Some(text) = tail else {
-        return Some(false);
-    };
-    if text == b"shared".as_slice() {
-        return Some(true);
-    }
-    None
-}
-
-/// The number that the tail is, and 1 where there is none.
-fn number_or_one(tail: Option<&[u8]>) -> Option<u64>
-    ensures { result ≡ number_or_one (option_map (λ x. x.now) tail.entry) }
-{
-    match tail {
-        Some(text) => number_of(text),
-        None => Some(1),
-    }
-}
-
-/// The want of these numbers, if it is one.
-fn want_from(kind: Kind, range: (u64, u64), len: u64, align: u64, shared: bool) -> Option<Want>
-    ensures { result ≡ want_from kind range len align shared }
-{
-    match Want::make(kind, range.0, range.1, len, align, shared) {
-        Ok(want) => Some(want),
-        Err(_) => None,
-    }
-}
 
 /// Why a tail is no number.
 fn tail_cause(tail: Option<&[u8]>) -> Cause

@@ -1,18 +1,8 @@
 ghost use Rattle.std.specs.Prelude.{◌≡◌, map, IfOk};
-ghost use Rattle.std.specs.List.{list_all};
-ghost use Rattle.script_reader.specs.Words.{is_blank, words_of, is_name, is_name_byte};
+ghost use Rattle.script_reader.specs.Words.{words_of};
 
+use script_reader::is_blank;
 use std::alloc::{AllocError, Global};
-
-/// The most bytes of a name.
-const LONGEST_NAME: usize = 64;
-
-/// Whether the byte stands between words.
-fn is_blank(byte: u8) -> bool
-    ensures { result ≡ is_blank byte }
-{
-    byte == b' ' || byte == b'\t'
-}
 
 /// The words of a line.
 pub fn words(alloc: Global, line: &[u8]) -> Result<Vec<&[u8]>, AllocError>
@@ -21,28 +11,4 @@ pub fn words(alloc: Global, line: &[u8]) -> Result<Vec<&[u8]>, AllocError>
     line.split(|byte| is_blank(*byte))
         .filter(|part| !part.is_empty())
         .collect(alloc)
-}
-
-/// Whether the byte is one of a name.
-fn is_name_byte(byte: u8) -> bool
-    ensures { result ≡ is_name_byte byte }
-{
-    byte.is_ascii_alphanumeric() || byte == b'_' || byte == b'-' || byte == b'.'
-}
-
-/// Whether each byte is one of a name.
-fn are_name_bytes(word: &[u8]) -> bool
-    ensures { result ≡ list_all is_name_byte word.now }
-{
-    word.iter().all(|byte| is_name_byte(*byte))
-}
-
-/// Whether the word is a name: 1 to 64 letters, digits and marks.
-pub fn is_name(word: &[u8]) -> bool
-    ensures { result ≡ is_name word.now }
-{
-    if word.is_empty() || word.len() > LONGEST_NAME {
-        return false;
-    }
-    are_name_bytes(word)
 }

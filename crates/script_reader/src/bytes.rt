@@ -1,13 +1,14 @@
 //! Requirements as the hexadecimal digits of their bytes.
-ghost use Rattle.std.specs.Prelude.{◌≡◌};
+ghost use Rattle.std.specs.Prelude.{◌≡◌, IfOk};
+ghost use Rattle.std.specs.Option.{option_map};
 ghost use Rattle.script_reader.specs.Bytes.{hex_byte, hex_pair, hex_bytes, reqs_by_bytes};
-ghost use Rattle.script_reader.specs.Faults.{Gives, GivesBytes};
+ghost use Rattle.script_reader.specs.Faults.{Gives};
 
 use crate::fault::LineError;
 use crate::numbers::digit_of;
 use req_bytes::{BytesError, decode};
 use resource_reqs::Reqs;
-use std::alloc::Global;
+use std::alloc::{AllocError, Global};
 
 /// The number below 256 that two hexadecimal digits spell.
 fn hex_byte(high: u8, low: u8) -> Option<u8>
@@ -28,25 +29,25 @@ fn hex_pair(pair: &[u8]) -> Option<u8>
     hex_byte(*high, *low)
 }
 
-/// The bytes of hexadecimal digits, two for each.
+/// The bytes of hexadecimal digits, two for each; none where a digit is none, or has no partner. Cost: the digits.
 #[tactic(auto, using(crate::proofs::HexBytes::front_none, crate::proofs::HexBytes::goes_on, crate::proofs::HexBytes::no_byte, crate::proofs::HexBytes::all_read, crate::proofs::HexBytes::one_left))]
-fn hex_bytes(alloc: Global, text: &[u8]) -> Result<Vec<u8>, LineError>
-    ensures { GivesBytes result (hex_bytes text.now) }
+pub fn hex_bytes(alloc: Global, text: &[u8]) -> Result<Option<Vec<u8>>, AllocError>
+    ensures { IfOk result (λ bytes. option_map (λ b. b.items) bytes ≡ hex_bytes text.now) }
 {
     let mut bytes = Vec::new(alloc);
     let mut rest = text;
     for _ in 0..text.len() / 2 {
         let (pair, more) = rest.split_at(2);
         let Some(byte) = hex_pair(pair) else {
-            return Err(LineError::Bad);
+            return Ok(None);
         };
         bytes.push(byte)?;
         rest = more;
     }
     if rest.is_empty() {
-        Ok(bytes)
+        Ok(Some(bytes))
     } else {
-        Err(LineError::Bad)
+        Ok(None)
     }
 }
 
@@ -54,7 +55,9 @@ fn hex_bytes(alloc: Global, text: &[u8]) -> Result<Vec<u8>, LineError>
 pub fn reqs_by_bytes(alloc: Global, text: &[u8]) -> Result<Reqs, LineError>
     ensures { Gives result (reqs_by_bytes text.now) }
 {
-    let bytes = hex_bytes(alloc, text)?;
+    let Some(bytes) = hex_bytes(alloc, text)? else {
+        return Err(LineError::Bad);
+    };
     match decode(alloc, &bytes) {
         Ok(reqs) => Ok(reqs),
         Err(BytesError::WantOfMemory) => Err(LineError::WantOfMemory),

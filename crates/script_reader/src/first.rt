@@ -27,7 +27,7 @@ fn has_no_event(line: &[u8]) -> bool
 }
 
 /// The line without a CR at its end.
-fn without_return(line: &[u8]) -> &[u8]
+pub fn without_return(line: &[u8]) -> &[u8]
     ensures { result.now ≡ strip_carriage_return line.now }
 {
     if line.is_empty() {

@@ -1,4 +1,4 @@
-ghost use Rattle.std.specs.Prelude.{◌≡◌, ◌<◌, length, map, IfOk, IsTrue, Some, None, true};
+ghost use Rattle.std.specs.Prelude.{◌≡◌, ◌<◌, ◌∷◌, length, map, IfOk, IsTrue, Some, None, true};
 ghost use Rattle.device_ids.specs.Ids.{is_path};
 ghost use Rattle.std.specs.Option.{option_map};
 ghost use Rattle.script_reader.specs.Faults.{Gives};
@@ -112,7 +112,7 @@ fn rule_path_of(alloc: Global, word: &[u8]) -> Result<Option<InstancePath>, Line
 }
 
 /// Whether what is asked may be answered so: only a request may be left unanswered.
-fn is_answerable(what: AskWhat, answer: Answer) -> bool
+pub fn is_answerable(what: AskWhat, answer: Answer) -> bool
     ensures { result ≡ is_answerable what answer }
 {
     match what {
@@ -153,7 +153,7 @@ fn rule_of(
 }
 
 /// The number of uses of a rule.
-fn uses_of(word: &[u8]) -> Option<u32>
+pub fn uses_of(word: &[u8]) -> Option<u32>
     ensures { result ≡ uses_of word.now }
 {
     let uses = number_of(word)?;
@@ -177,6 +177,25 @@ fn uses_by(words: &[&[u8]]) -> Option<Option<u32>>
     }
 }
 
+/// The driver of this name learns the rule of these words.
+fn taught(
+    alloc: Global,
+    name: &[u8],
+    ask: &[u8],
+    path: &[u8],
+    answer: &[u8],
+    uses: &[&[u8]],
+) -> Result<Event, LineError>
+    ensures { Gives result (teach_of (name.now ∷ (ask.now ∷ (path.now ∷ (answer.now ∷ map (λ w. w.now) uses.now))))) }
+{
+    let name = name_of(alloc, name)?;
+    let Some(uses) = uses_by(uses) else {
+        return Err(LineError::Bad);
+    };
+    let rule = rule_of(alloc, ask, path, answer, uses)?;
+    Ok(Event::Teach { name, rule })
+}
+
 /// `teach NAME ASK PATH ANSWER` and, if wanted, `N`.
 pub fn teach_of(alloc: Global, words: &[&[u8]]) -> Result<Event, LineError>
     ensures { Gives result (teach_of (map (λ w. w.now) words.now)) }
@@ -184,12 +203,7 @@ pub fn teach_of(alloc: Global, words: &[&[u8]]) -> Result<Event, LineError>
     let [name, ask, path, answer, uses @ ..] = words else {
         return Err(LineError::Bad);
     };
-    let name = name_of(alloc, name)?;
-    let Some(uses) = uses_by(uses) else {
-        return Err(LineError::Bad);
-    };
-    let rule = rule_of(alloc, ask, path, answer, uses)?;
-    Ok(Event::Teach { name, rule })
+    taught(alloc, name, ask, path, answer, uses)
 }
 
 /// The relation that the words name.
@@ -273,7 +287,7 @@ pub fn complete_of(alloc: Global, words: &[&[u8]]) -> Result<Event, LineError>
 }
 
 /// Whether a bridge has windows of the kind: it has them of ports and of memory.
-fn has_windows(kind: Kind) -> bool
+pub fn has_windows(kind: Kind) -> bool
     ensures { result ≡ has_windows kind }
 {
     match kind {

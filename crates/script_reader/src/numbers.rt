@@ -51,7 +51,7 @@ pub fn number_of(text: &[u8]) -> Option<u64>
 }
 
 /// The least and the greatest number of the range that the text is.
-fn range_of(text: &[u8]) -> Option<(u64, u64)>
+pub fn range_of(text: &[u8]) -> Option<(u64, u64)>
     ensures is { result ≡ range_of text.now }
     ensures ordered { IfSome result (λ range. range.0 ≤ range.1) }
 {

@@ -13,7 +13,7 @@ use resource_reqs::Reqs;
 use std::alloc::{AllocError, Global};
 
 /// Whether the word is an attribute of `plug`.
-fn is_attribute(word: &[u8]) -> bool
+pub fn is_attribute(word: &[u8]) -> bool
     ensures { result ≡ is_attribute word.now }
 {
     if let Some(_) = value_at(b"hw=", word) {
@@ -104,6 +104,23 @@ fn plugged(
     })
 }
 
+/// The device of these words arrives below the parent.
+fn arrived(
+    alloc: Global,
+    parent: &[u8],
+    device: &[u8],
+    instance: &[u8],
+    attributes: &[&[u8]],
+) -> Result<Event, LineError>
+    ensures { Gives result (plug_of (parent.now ∷ (device.now ∷ (instance.now ∷ map (λ w. w.now) attributes.now)))) }
+{
+    let parent = path_of(alloc, parent)?;
+    let device = id_of(alloc, device)?;
+    let instance = id_of(alloc, instance)?;
+    let path = InstancePath::join(alloc, &device, &instance)?;
+    plugged(alloc, parent, &device, path, attributes)
+}
+
 /// `plug PARENT DEVICE INSTANCE` and attributes.
 pub fn plug_of(alloc: Global, words: &[&[u8]]) -> Result<Event, LineError>
     ensures { Gives result (plug_of (map (λ w. w.now) words.now)) }
@@ -111,9 +128,5 @@ pub fn plug_of(alloc: Global, words: &[&[u8]]) -> Result<Event, LineError>
     let [parent, device, instance, attributes @ ..] = words else {
         return Err(LineError::Bad);
     };
-    let parent = path_of(alloc, parent)?;
-    let device = id_of(alloc, device)?;
-    let instance = id_of(alloc, instance)?;
-    let path = InstancePath::join(alloc, &device, &instance)?;
-    plugged(alloc, parent, &device, path, attributes)
+    arrived(alloc, parent, device, instance, attributes)
 }

@@ -14,7 +14,7 @@ use std::alloc::Global;
 const MOST_IDS: usize = 64;
 
 /// The text without its tail, and the tail behind the first such byte.
-fn tail_at(text: &[u8], at: u8) -> (&[u8], Option<&[u8]>)
+pub fn tail_at(text: &[u8], at: u8) -> (&[u8], Option<&[u8]>)
     ensures { (result.0.now, option_map (λ x. x.now) result.1) ≡ tail_at at text.now }
 {
     match split_once(text, at) {
@@ -24,7 +24,7 @@ fn tail_at(text: &[u8], at: u8) -> (&[u8], Option<&[u8]>)
 }
 
 /// Whether the tail is the word for sharing; none where it is another.
-fn shared_of(tail: Option<&[u8]>) -> Option<bool>
+pub fn shared_of(tail: Option<&[u8]>) -> Option<bool>
     ensures { result ≡ shared_of (option_map (λ x. x.now) tail.entry) }
 {
     let Some(text) = tail else {
@@ -37,7 +37,7 @@ fn shared_of(tail: Option<&[u8]>) -> Option<bool>
 }
 
 /// The number that the tail is, and 1 where there is none.
-fn number_or_one(tail: Option<&[u8]>) -> Option<u64>
+pub fn number_or_one(tail: Option<&[u8]>) -> Option<u64>
     ensures { result ≡ number_or_one (option_map (λ x. x.now) tail.entry) }
 {
     match tail {
@@ -47,7 +47,7 @@ fn number_or_one(tail: Option<&[u8]>) -> Option<u64>
 }
 
 /// The want of these numbers, if it is one.
-fn want_from(kind: Kind, range: (u64, u64), len: u64, align: u64, shared: bool) -> Option<Want>
+pub fn want_from(kind: Kind, range: (u64, u64), len: u64, align: u64, shared: bool) -> Option<Want>
     ensures { result ≡ want_from kind range len align shared }
 {
     match Want::make(kind, range.0, range.1, len, align, shared) {
