@@ -1,6 +1,6 @@
 //! Traces that are checked against a script, whatever the drivers answer.
 use crate::infs::OWN_INF;
-use crate::runs::{comes_to, ended, ends, files_of, rack_of, words_of};
+use crate::runs::{comes_to, ended, ends, files_of, rack_of};
 use pnp_cli::Status;
 use pnp_io::MemSink;
 use std::alloc::Global;
@@ -63,13 +63,15 @@ const ROWS: [(&[u8], &[u8], Status, &[u8]); 10] = [
     ),
 ];
 
+/// The trace `t` is checked against the script `s` with the INF `1`.
+const WORDS: [&str; 5] = ["pnpmgr", "--check", "t", "s", "1"];
+
 /// The files with which the trace `t` is checked against the script `s` with the INF `1`, over a Scripted driver, a Steady one and a
 /// Stubborn one, come to this.
 fn checks(alloc: Global, named: &[(&str, &[u8])], want: (Status, &[u8])) -> Result<(), Fail> {
-    let words = words_of(alloc, &["pnpmgr", "--check", "t", "s", "1"])?;
     let mut files = files_of(alloc, named)?;
     let rack = rack_of(alloc, 1, 1, 1)?;
-    ends(alloc, &words, rack, &mut files, want)
+    ends(alloc, &WORDS, rack, &mut files, want)
 }
 
 #[test]
@@ -108,12 +110,11 @@ fn lacking_files(rt: HostRuntime) -> Result<(), Fail> {
 #[test]
 fn each_read_fails(rt: HostRuntime) -> Result<(), Fail> {
     let alloc = rt.alloc();
-    let words = words_of(alloc, &["pnpmgr", "--check", "t", "s", "1"])?;
     for call in 1..7 {
         let mut files = files_of(alloc, &[("s", b"#\n"), ("t", BARE_END), ("1", OWN_INF)])?;
         files.fail_at(call)?;
         let want: (Status, &[u8]) = (Status::ReadFault, b"");
-        ends(alloc, &words, Vec::new(alloc), &mut files, want)?;
+        ends(alloc, &WORDS, Vec::new(alloc), &mut files, want)?;
     }
     Ok(())
 }
@@ -130,9 +131,9 @@ fn a_large_trace(rt: HostRuntime) -> Result<(), Fail> {
 #[test]
 fn a_verdict_that_is_not_written(rt: HostRuntime) -> Result<(), Fail> {
     let alloc = rt.alloc();
-    let words = words_of(alloc, &["pnpmgr", "--check", "t", "s"])?;
     let mut files = files_of(alloc, &[("s", b""), ("t", b"")])?;
     let mut sink = MemSink::new(alloc, 8)?;
+    let words = ["pnpmgr", "--check", "t", "s"];
     let answer = ended(alloc, &words, Vec::new(alloc), &mut files, &mut sink)?;
     comes_to(answer, &sink, (Status::WriteFault, b"no line "))
 }

@@ -52,19 +52,20 @@ fn chooses(alloc: Global, infs: &[&[u8]], service: &str) -> Result<(), Fail> {
     comes(alloc, &words, &mut files, (Status::Done, text.as_bytes()))
 }
 
+/// Two INFs, and the service.
+const PAIRS: &[(&[u8], &[u8], &str)] = &[
+    (NEW_INF, OLD_INF, "old"),
+    (OLD_INF, LATE_INF, "late"),
+    (LATE_INF, HIGH_INF, "high"),
+];
+
 /// A match of the hardware ID, a later date, and a higher version, which an INF in UTF-16 has too.
 #[test]
 fn the_best_driver(rt: HostRuntime) -> Result<(), Fail> {
     let alloc = rt.alloc();
     let wide = in_utf16(alloc, HIGH_INF)?;
-    let infs: [(&[u8], &[u8], &str); 4] = [
-        (NEW_INF, OLD_INF, "old"),
-        (OLD_INF, LATE_INF, "late"),
-        (LATE_INF, HIGH_INF, "high"),
-        (LATE_INF, &wide, "high"),
-    ];
-    for (first, second, service) in infs {
-        chooses(alloc, &[first, second], service)?;
+    for (first, second, service) in PAIRS {
+        chooses(alloc, &[*first, *second], service)?;
     }
-    Ok(())
+    chooses(alloc, &[LATE_INF, &wide], "high")
 }

@@ -1,6 +1,6 @@
 //! Memory or writes that are refused on the way: the status says so, and what was written is a front of the output. The
 //! first test is for runs in which one allocation fails (`rt try --test --fail-alloc N`).
-use crate::runs::{comes_to, ended, files_of, words_of};
+use crate::runs::{comes_to, ended, files_of};
 use crate::scripts::{
     CHAIN_SCRIPT, CHAIN_TEXT, FAILED_RESTART_SCRIPT, FAILED_RESTART_TEXT, ONE_DEVICE_SCRIPT,
     ONE_DEVICE_TEXT, VETO_SCRIPT, VETO_TEXT, ended_into,
@@ -90,16 +90,14 @@ fn take_one_byte(files: &mut MemFiles, sink: &mut MemSink) -> Result<(), Fail> {
     Ok(())
 }
 
+/// The words of a script without an INF.
+const BARE: [&str; 2] = ["pnpmgr", "s"];
+
 /// The files with which the script `s` is run over no driver, and what is written byte by byte.
-fn in_parts(
-    alloc: Global,
-    words: &[String],
-    files: &mut MemFiles,
-    want: &[u8],
-) -> Result<(), Fail> {
+fn in_parts(alloc: Global, files: &mut MemFiles, want: &[u8]) -> Result<(), Fail> {
     let mut sink = MemSink::new(alloc, 4096)?;
     take_one_byte(files, &mut sink)?;
-    let status = ended(alloc, words, Vec::new(alloc), files, &mut sink)?;
+    let status = ended(alloc, &BARE, Vec::new(alloc), files, &mut sink)?;
     comes_to(status, &sink, (Status::Done, want))
 }
 
@@ -107,12 +105,11 @@ fn in_parts(
 #[test]
 fn one_byte_at_a_time(rt: HostRuntime) -> Result<(), Fail> {
     let alloc = rt.alloc();
-    let words = words_of(alloc, &["pnpmgr", "s"])?;
     let mut files = files_of(alloc, &[("s", ONE_DEVICE_SCRIPT.as_bytes())])?;
     let mut whole = MemSink::new(alloc, 4096)?;
-    let status = ended(alloc, &words, Vec::new(alloc), &mut files, &mut whole)?;
+    let status = ended(alloc, &BARE, Vec::new(alloc), &mut files, &mut whole)?;
     must(status == Status::Done, "how a run ended")?;
-    in_parts(alloc, &words, &mut files, whole.taken())
+    in_parts(alloc, &mut files, whole.taken())
 }
 
 /// The script of one device, where the sink has room for so many bytes and a call of write fails: what it took.

@@ -1,10 +1,10 @@
 //! Files and sinks that fail on the way of a run: what was written is a front of the output.
 ghost use Rattle.std.specs.Prelude.{◌≤◌};
 
-use crate::runs::{comes_to, ended, files_of, words_of};
-use crate::scripts::{CHAIN_SCRIPT, CHAIN_TEXT, ONE_DEVICE_SCRIPT, ended_over, named};
+use crate::runs::{comes_to, ended, files_of};
+use crate::scripts::{CHAIN_SCRIPT, CHAIN_TEXT, NAMED, ONE_DEVICE_SCRIPT, ended_over, named};
 use pnp_cli::Status;
-use pnp_io::MemSink;
+use pnp_io::{MemFiles, MemSink};
 use rows_told::{must, same};
 use std::alloc::Global;
 use std::test::Fail;
@@ -16,10 +16,9 @@ fn leaves_a_front(
     named: &[(&str, &[u8])],
     want: (Status, &[u8]),
 ) -> Result<(), Fail> {
-    let words = words_of(alloc, words)?;
     let mut files = files_of(alloc, named)?;
     let mut sink = MemSink::new(alloc, 8)?;
-    let answer = ended(alloc, &words, Vec::new(alloc), &mut files, &mut sink)?;
+    let answer = ended(alloc, words, Vec::new(alloc), &mut files, &mut sink)?;
     comes_to(answer, &sink, want)
 }
 
@@ -37,14 +36,22 @@ fn faults_leave_a_front(rt: HostRuntime) -> Result<(), Fail> {
     )
 }
 
-/// Where a read or a write of this number fails, what the sink took is a front of the output, and the answer is yes; where there is none of this
-/// number the whole is there, and the answer is no.
-fn call_fails(alloc: Global, read: u64, write: u64, fault: Status) -> Result<bool, Fail> {
-    let (words, mut files) = named(alloc, CHAIN_SCRIPT)?;
+/// The files of a rebalance, of which the read of this number fails.
+fn failing_files(alloc: Global, read: u64) -> Result<MemFiles, Fail> {
+    let mut files = named(alloc, CHAIN_SCRIPT)?;
     files.fail_at(read)?;
+    Ok(files)
+}
+
+/// A sink of which the write of this number fails.
+fn failing_sink(alloc: Global, write: u64) -> Result<MemSink, Fail> {
     let mut sink = MemSink::new(alloc, 4096)?;
     sink.fail_at(write)?;
-    let status = ended_over(alloc, &words, &mut files, &mut sink)?;
+    Ok(sink)
+}
+
+/// Whether a run ended with a fault, and what the sink took is a front of the output; else the whole is there.
+fn has_failed(status: Status, fault: Status, sink: &MemSink) -> Result<bool, Fail> {
     if status == Status::Done {
         same(sink.taken(), CHAIN_TEXT.as_bytes())?;
         return Ok(false);
@@ -53,6 +60,15 @@ fn call_fails(alloc: Global, read: u64, write: u64, fault: Status) -> Result<boo
     let is_front = CHAIN_TEXT.as_bytes().starts_with(sink.taken());
     must(is_front, "a front of the output")?;
     Ok(true)
+}
+
+/// Where a read or a write of this number fails, what the sink took is a front of the output, and the answer is yes; where there is none of this
+/// number the whole is there, and the answer is no.
+fn call_fails(alloc: Global, read: u64, write: u64, fault: Status) -> Result<bool, Fail> {
+    let mut files = failing_files(alloc, read)?;
+    let mut sink = failing_sink(alloc, write)?;
+    let status = ended_over(alloc, &NAMED, &mut files, &mut sink)?;
+    has_failed(status, fault, &sink)
 }
 
 /// More reads or writes than a run makes. No call has the number 0.
@@ -80,16 +96,23 @@ fn each_read_of_a_rebalance_fails(rt: HostRuntime) -> Result<(), Fail> {
     Err(Fail::new("a hundred reads"))
 }
 
+/// A script of which the first read gives so many bytes, and the second one fails.
+fn breaking_off(alloc: Global, most: u64) -> Result<MemFiles, Fail>
+    requires { 1 ≤ most }
+{
+    let mut files = files_of(alloc, &[("s", ONE_DEVICE_SCRIPT.as_bytes())])?;
+    files.short_at(1, most)?;
+    files.fail_at(2)?;
+    Ok(files)
+}
+
 /// The first read of a script gives so many bytes, and the second one fails: what was written.
 fn the_second_read_fails(alloc: Global, most: u64, text: &str) -> Result<(), Fail>
     requires { 1 ≤ most }
 {
-    let words = words_of(alloc, &["pnpmgr", "s"])?;
-    let mut files = files_of(alloc, &[("s", ONE_DEVICE_SCRIPT.as_bytes())])?;
-    files.short_at(1, most)?;
-    files.fail_at(2)?;
+    let mut files = breaking_off(alloc, most)?;
     let mut sink = MemSink::new(alloc, 4096)?;
-    let status = ended_over(alloc, &words, &mut files, &mut sink)?;
+    let status = ended_over(alloc, &["pnpmgr", "s"], &mut files, &mut sink)?;
     comes_to(status, &sink, (Status::ReadFault, text.as_bytes()))
 }
 

@@ -1,5 +1,5 @@
 //! Summaries of generated scripts, over racks of drivers; and the generated texts.
-use crate::runs::{Rack, ends, rack_of, words_of};
+use crate::runs::{Rack, ends, rack_of};
 use driver_rack::{Driver, TeachError};
 use pnp_cli::{Status, gen_inf, gen_script};
 use pnp_io::MemFiles;
@@ -40,9 +40,14 @@ impl Driver for Unwilling {
 
 /// `--gen` with this number over a rack writes this summary.
 fn sums_up(alloc: Global, rack: Rack, n: &str, text: &[u8]) -> Result<(), Fail> {
-    let words = words_of(alloc, &["pnpmgr", "--gen", n])?;
     let mut files = MemFiles::new(alloc);
-    ends(alloc, &words, rack, &mut files, (Status::Done, text))
+    ends(
+        alloc,
+        &["pnpmgr", "--gen", n],
+        rack,
+        &mut files,
+        (Status::Done, text),
+    )
 }
 
 /// How many Steady drivers, how many devices, and the summary: no driver; one device; fifty, of which the last needs the ports of the
@@ -65,13 +70,19 @@ const SUMMARIES: [(u32, &str, &[u8]); 3] = [
     ),
 ];
 
-/// Those; and one driver for the bus, while that of the device fails its start.
 #[test]
 fn summaries(rt: HostRuntime) -> Result<(), Fail> {
     let alloc = rt.alloc();
     for (drivers, n, text) in SUMMARIES {
         sums_up(alloc, rack_of(alloc, 0, drivers, 0)?, n, text)?;
     }
+    Ok(())
+}
+
+/// One driver for the bus, while that of the device fails its start.
+#[test]
+fn a_driver_that_fails_its_start(rt: HostRuntime) -> Result<(), Fail> {
+    let alloc = rt.alloc();
     let mut rack = rack_of(alloc, 0, 1, 0)?;
     rack.push(Box::new(alloc, Unwilling {})?)?;
     let failed = b"devices 1\nsteps 22\nstarted 1\nproblem12 0\nmoved 0\n";

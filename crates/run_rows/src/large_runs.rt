@@ -1,6 +1,6 @@
 //! Scripts at a limit and large ones, and what is written for them, byte for byte. Scripts and outputs are put together from texts that differ in
 //! their numbers alone.
-use crate::runs::{comes_to, ended, files_of, rack_of, words_of};
+use crate::runs::{comes_to, ended, files_of, rack_of};
 use pnp_cli::Status;
 use pnp_io::MemSink;
 use std::alloc::{AllocError, Global};
@@ -360,7 +360,7 @@ const ROOM: u64 = 12_000_000;
 
 /// A script over a Scripted driver and a Steady one ends so, and this is written.
 fn writes(alloc: Global, budget: &str, script: &[u8], want: (Status, &[u8])) -> Result<(), Fail> {
-    let words = words_of(alloc, &["pnpmgr", "--budget", budget, "s", "inf"])?;
+    let words = ["pnpmgr", "--budget", budget, "s", "inf"];
     let mut files = files_of(alloc, &[("s", script), ("inf", INF)])?;
     let mut sink = MemSink::new(alloc, ROOM)?;
     let rack = rack_of(alloc, 1, 1, 0)?;

@@ -18,15 +18,19 @@ pub struct Row {
 const NAMES: [&str; 2] = ["1", "2"];
 
 /// The words `pnpmgr`, these, and the names of a script and so many INFs.
-pub fn words_for(alloc: Global, first: &[&str], infs: usize) -> Result<Vec<String>, Fail> {
+pub fn words_for(
+    alloc: Global,
+    first: &[&'static str],
+    infs: usize,
+) -> Result<Vec<&'static str>, Fail> {
     let mut words = Vec::new(alloc);
-    words.push(String::from_str(alloc, "pnpmgr")?)?;
+    words.push("pnpmgr")?;
     for word in first {
-        words.push(String::from_str(alloc, word)?)?;
+        words.push(*word)?;
     }
-    words.push(String::from_str(alloc, "s")?)?;
+    words.push("s")?;
     for name in NAMES.iter().take(infs) {
-        words.push(String::from_str(alloc, name)?)?;
+        words.push(*name)?;
     }
     Ok(words)
 }
@@ -53,7 +57,7 @@ fn program_rack(alloc: Global) -> Result<Rack, Fail> {
 /// With these words and files a run over those drivers ends with this status, and its sink took this.
 pub fn comes(
     alloc: Global,
-    words: &[String],
+    words: &[&str],
     files: &mut MemFiles,
     want: (Status, &[u8]),
 ) -> Result<(), Fail> {
@@ -70,7 +74,7 @@ pub fn writes(alloc: Global, row: &Row) -> Result<(), Fail> {
 /// The text of a script, as a trace that is checked, is a run of it.
 pub fn checks(alloc: Global, row: &Row) -> Result<(), Fail> {
     let mut words = words_for(alloc, row.words, row.infs.len())?;
-    words.push(String::from_str(alloc, "--check=t")?)?;
+    words.push("--check=t")?;
     let mut files = files_for(alloc, row.script.as_bytes(), row.infs)?;
     files.add(b"t", row.text.as_bytes())?;
     comes(alloc, &words, &mut files, (Status::Done, b"yes\n"))

@@ -42,10 +42,10 @@ pub fn rack_of(alloc: Global, scripted: u32, steady: u32, stubborn: u32) -> Resu
     Ok(rack)
 }
 
-/// The status of a run over fewer than 200 drivers; the test fails where there are more.
+/// The status of a run with these words over fewer than 200 drivers; the test fails where there are more.
 pub fn ended(
     alloc: Global,
-    words: &[String],
+    words: &[&str],
     rack: Rack,
     files: &mut MemFiles,
     sink: &mut MemSink,
@@ -53,7 +53,8 @@ pub fn ended(
     if rack.len() >= 200 {
         return Err(Fail::new("200 drivers or more"));
     }
-    Ok(run(alloc, words, rack, files, sink))
+    let words = words_of(alloc, words)?;
+    Ok(run(alloc, &words, rack, files, sink))
 }
 
 /// A run ended with this status, and its sink took these bytes.
@@ -65,7 +66,7 @@ pub fn comes_to(status: Status, sink: &MemSink, want: (Status, &[u8])) -> Result
 /// Such a run ends with this status, and its sink, which has room for all that is written, took these bytes.
 pub fn ends(
     alloc: Global,
-    words: &[String],
+    words: &[&str],
     rack: Rack,
     files: &mut MemFiles,
     want: (Status, &[u8]),

@@ -1,22 +1,23 @@
 //! Scripts with the INF of their devices, and what is written for them.
 use crate::infs::OWN_INF;
-use crate::runs::{ended, files_of, rack_of, words_of};
+use crate::runs::{ended, files_of, rack_of};
 use pnp_cli::Status;
 use pnp_io::{MemFiles, MemSink};
 use std::alloc::Global;
 use std::test::Fail;
 
-/// The words and the files of a script with that INF.
-pub fn named(alloc: Global, script: &str) -> Result<(Vec<String>, MemFiles), Fail> {
-    let words = words_of(alloc, &["pnpmgr", "s", "1"])?;
-    let files = files_of(alloc, &[("s", script.as_bytes()), ("1", OWN_INF)])?;
-    Ok((words, files))
+/// The words of a script with an INF.
+pub const NAMED: [&str; 3] = ["pnpmgr", "s", "1"];
+
+/// The files of a script with that INF.
+pub fn named(alloc: Global, script: &str) -> Result<MemFiles, Fail> {
+    files_of(alloc, &[("s", script.as_bytes()), ("1", OWN_INF)])
 }
 
 /// The status of such a run over these files, with two Scripted drivers, four Steady ones and a Stubborn one.
 pub fn ended_over(
     alloc: Global,
-    words: &[String],
+    words: &[&str],
     files: &mut MemFiles,
     sink: &mut MemSink,
 ) -> Result<Status, Fail> {
@@ -26,8 +27,8 @@ pub fn ended_over(
 
 /// The status of a script with that INF.
 pub fn ended_into(alloc: Global, script: &str, sink: &mut MemSink) -> Result<Status, Fail> {
-    let (words, mut files) = named(alloc, script)?;
-    ended_over(alloc, &words, &mut files, sink)
+    let mut files = named(alloc, script)?;
+    ended_over(alloc, &NAMED, &mut files, sink)
 }
 
 /// One device starts.

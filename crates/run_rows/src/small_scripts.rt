@@ -1,5 +1,5 @@
 //! Small scripts, read without an INF.
-use crate::runs::{ends, files_of, rack_of, words_of};
+use crate::runs::{ends, files_of, rack_of};
 use pnp_cli::Status;
 use std::alloc::Global;
 use std::test::Fail;
@@ -32,11 +32,10 @@ const ROWS: [(&[u8], Status, &[u8]); 4] = [
 #[test]
 fn small_scripts(rt: HostRuntime) -> Result<(), Fail> {
     let alloc = rt.alloc();
-    let words = words_of(alloc, &["pnpmgr", "s"])?;
     for (script, status, text) in ROWS {
         let mut files = files_of(alloc, &[("s", script)])?;
         let rack = rack_of(alloc, 1, 1, 1)?;
-        ends(alloc, &words, rack, &mut files, (status, text))?;
+        ends(alloc, &["pnpmgr", "s"], rack, &mut files, (status, text))?;
     }
     Ok(())
 }

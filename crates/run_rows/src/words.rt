@@ -60,18 +60,22 @@ const GOOD: [(&[&str], &[u8]); 16] = [
     (&["pnpmgr", "s", "--", "--check"], b"s --check 20000"),
 ];
 
+/// Words say this.
+fn are_taken(alloc: Global, texts: &[&str], want: &[u8]) -> Result<(), Fail> {
+    let words = words_of(alloc, texts)?;
+    match settings(alloc, &words) {
+        Ok(settings) => {
+            let said = said(alloc, &settings)?;
+            same(said.as_slice(), want)
+        }
+        Err(_) => Err(Fail::new("words that are refused")),
+    }
+}
+
 #[test]
 fn good_words(rt: HostRuntime) -> Result<(), Fail> {
-    let alloc = rt.alloc();
     for (texts, want) in GOOD {
-        let words = words_of(alloc, texts)?;
-        match settings(alloc, &words) {
-            Ok(settings) => {
-                let said = said(alloc, &settings)?;
-                same(said.as_slice(), want)?;
-            }
-            Err(_) => return Err(Fail::new("words that are refused")),
-        }
+        are_taken(rt.alloc(), texts, want)?;
     }
     Ok(())
 }
@@ -112,23 +116,27 @@ const BAD: [&[&str]; 33] = [
     &["pnpmgr", "s", "-i"],
 ];
 
+/// Words are no settings.
+fn are_refused(alloc: Global, texts: &[&str]) -> Result<(), Fail> {
+    let words = words_of(alloc, texts)?;
+    match settings(alloc, &words) {
+        Ok(_) => Err(Fail::new("words that are taken")),
+        Err(error) => must(error == WordsError::BadWords, "why words are refused"),
+    }
+}
+
+/// With such words nothing is written.
+fn end_at_once(alloc: Global, texts: &[&str]) -> Result<(), Fail> {
+    let mut files = MemFiles::new(alloc);
+    let want: (Status, &[u8]) = (Status::BadWords, b"");
+    ends(alloc, texts, Vec::new(alloc), &mut files, want)
+}
+
 #[test]
 fn bad_words(rt: HostRuntime) -> Result<(), Fail> {
-    let alloc = rt.alloc();
     for texts in BAD {
-        let words = words_of(alloc, texts)?;
-        match settings(alloc, &words) {
-            Ok(_) => return Err(Fail::new("words that are taken")),
-            Err(error) => must(error == WordsError::BadWords, "why words are refused")?,
-        }
-        let mut files = MemFiles::new(alloc);
-        ends(
-            alloc,
-            &words,
-            Vec::new(alloc),
-            &mut files,
-            (Status::BadWords, b""),
-        )?;
+        are_refused(rt.alloc(), texts)?;
+        end_at_once(rt.alloc(), texts)?;
     }
     Ok(())
 }
@@ -153,10 +161,9 @@ const GOOD_INF: &[u8] = b"[Version]\nSignature=$Chicago$\n";
 
 /// The script `s` with the INFs `1` to `3` ends with this status and writes this.
 fn answers(alloc: Global, files: &mut MemFiles, status: Status, text: &str) -> Result<(), Fail> {
-    let words = words_of(alloc, &["pnpmgr", "s", "1", "2", "3"])?;
     ends(
         alloc,
-        &words,
+        &["pnpmgr", "s", "1", "2", "3"],
         Vec::new(alloc),
         files,
         (status, text.as_bytes()),
@@ -306,9 +313,14 @@ fn a_line_without_end(rt: HostRuntime) -> Result<(), Fail> {
 #[test]
 fn a_refusal_that_is_not_written(rt: HostRuntime) -> Result<(), Fail> {
     let alloc = rt.alloc();
-    let words = words_of(alloc, &["pnpmgr", "s", "1"])?;
     let mut files = files_of(alloc, &[("1", b"")])?;
     let mut sink = MemSink::new(alloc, 9)?;
-    let answer = ended(alloc, &words, Vec::new(alloc), &mut files, &mut sink)?;
+    let answer = ended(
+        alloc,
+        &["pnpmgr", "s", "1"],
+        Vec::new(alloc),
+        &mut files,
+        &mut sink,
+    )?;
     comes_to(answer, &sink, (Status::WriteFault, b"inf 1 err"))
 }

@@ -98,6 +98,7 @@ pub fn allowed_at(
     ensures { IfOk result (λ allowed. (read : List Inf) → AreRead infs.now read
         → AllowedAt (settings_of read budget) (beginning kinds.now (scripts.trace true 0 script.now)) trace.now before (map (λ l. l.items) allowed.items)) }
 {
+    let mut lines = Vec::new(alloc);
     let ok = line_by(
         alloc,
         script,
@@ -108,6 +109,7 @@ pub fn allowed_at(
         before,
         Answer::Ok,
     )?;
+    add_line(&mut lines, ok)?;
     let fail = line_by(
         alloc,
         script,
@@ -118,6 +120,7 @@ pub fn allowed_at(
         before,
         Answer::Fail,
     )?;
+    add_line(&mut lines, fail)?;
     let pend = line_by(
         alloc,
         script,
@@ -128,9 +131,6 @@ pub fn allowed_at(
         before,
         Answer::Pend,
     )?;
-    let mut lines = Vec::new(alloc);
-    add_line(&mut lines, ok)?;
-    add_line(&mut lines, fail)?;
     add_line(&mut lines, pend)?;
     Ok(lines)
 }

@@ -12,7 +12,7 @@ ghost use Rattle.trace_hint.specs.Spots.{IfFewIds, IsEventMove, IsMove};
 use crate::spot::{Move, Spot, end_move};
 use device_ids::WantOfMemory;
 use free_run::FreeRun;
-use pnp_labels::{Answer, Event, decimal, label_line};
+use pnp_labels::{Answer, Event, label_line, push_decimal};
 use script_reader::{Next, Reader};
 use std::alloc::{AllocError, Global};
 
@@ -87,7 +87,7 @@ fn bad_line(alloc: Global, number: u64) -> Result<Vec<u8>, WantOfMemory>
     ensures { IfOk result (λ line. line.items ≡ bad_line number ++ 10 ∷ []) }
 {
     let mut line = Vec::from_slice(alloc, b"script error line ")?;
-    line.extend_from_slice(decimal(alloc, number)?.as_bytes())?;
+    push_decimal(&mut line, number)?;
     line.push(b'\n')?;
     Ok(line)
 }
