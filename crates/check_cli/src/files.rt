@@ -1,8 +1,9 @@
 //! The files that the words name.
-ghost use Rattle.std.specs.Prelude.{◌≡◌, ◌≤◌, ◌++◌, ◌∷◌, [], ℕ, List, IfOk, OnOk, IsErrOf, length};
+ghost use Rattle.std.specs.Prelude.{◌≡◌, ◌≤◌, ◌++◌, ◌∷◌, [], ℕ, List, All, IfOk, OnOk, IsErrOf, length};
 ghost use Rattle.pnp_io.specs.Outside.{Holds, Rose};
 ghost use Rattle.check_cli.specs.declared.error.CheckError.TheVariants.{ReadFault};
 ghost use Rattle.check_cli.specs.Checks.{HoldAll, SomeRose, texts};
+ghost use Rattle.trace_hint.specs.Hints.{IsInf};
 
 use crate::error::CheckError;
 use inf_reader::{InfError, read};
@@ -36,6 +37,7 @@ fn read_inf<F: Files>(
     name: &[u8],
 ) -> Result<Vec<u8>, CheckError>
     ensures holds { IfOk result (λ bytes. Holds (F.contents files.old) name.now bytes.items) }
+    ensures accepted { IfOk result (λ bytes. IsInf bytes.items) }
     ensures failed { IsErrOf result ReadFault → Rose (F.faults files.old name.now) (F.faults files.new name.now) }
     ensures counts { (other : List ℕ) → F.faults files.old other ≤ F.faults files.new other }
     ensures same { F.contents files.new ≡ F.contents files.old }
@@ -64,6 +66,7 @@ pub(crate) fn read_infs<F: Files>(
     names: &[Vec<u8>],
 ) -> Result<Vec<Vec<u8>>, CheckError>
     ensures hold { IfOk result (λ infs. HoldAll (F.contents files.old) (texts names.now) (texts infs.items)) }
+    ensures accepted { IfOk result (λ infs. All (λ bytes. IsInf bytes.items) infs.items) }
     ensures failed { IsErrOf result ReadFault → SomeRose (F.faults files.old) (F.faults files.new) }
     ensures counts { (other : List ℕ) → F.faults files.old other ≤ F.faults files.new other }
     ensures same { F.contents files.new ≡ F.contents files.old }

@@ -25,6 +25,33 @@ AddService = dev, 2, Svc
 }
 
 #[test]
+fn the_decoration_of_this_machine_before_nt(rt: HostRuntime) -> Result<(), Fail> {
+    let inf = "[Manufacturer]
+Own = M, NT, NTamd64
+[M.NT]
+A = I, OWN\\A
+[M.NTamd64]
+A = I, OWN\\A
+B = J, OWN\\B
+[I.Services]
+AddService = dev, 2, Svc
+[J.Services]
+AddService = low, 2, Svc
+[Manufacturer]
+Other = N, NT, NTamd64.10.0
+[N.NT]
+A = I, OWN\\C
+[N.NTamd64.10.0]
+A = I, OWN\\C
+";
+    let text =
+        "i:4: warning: [M.NTamd64] is read, and not [M.NT]: of the decorations NTamd64 is taken, else the first that begins with NTamd64., else NT
+i:15: warning: [N.NTamd64.10.0] is read, and not [N.NT]: of the decorations NTamd64 is taken, else the first that begins with NTamd64., else NT
+";
+    gives(rt.alloc(), inf, Status::Clean, text)
+}
+
+#[test]
 fn sections_of_other_machines(rt: HostRuntime) -> Result<(), Fail> {
     let inf = "[Manufacturer]
 Own = M, NTamd64, NTarm64

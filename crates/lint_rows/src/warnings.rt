@@ -100,6 +100,90 @@ i:11: warning: \"large\" is no function driver: its flags have not the bit 2
 }
 
 #[test]
+fn flags_with_and_without_the_bit(rt: HostRuntime) -> Result<(), Fail> {
+    let inf = "[Manufacturer]
+Own = M
+[M]
+A = I, OWN\\A
+B = J, OWN\\B
+C = K, OWN\\C
+D = L, OWN\\D
+[I.Services]
+AddService = one, 1, Svc
+AddService = five, 0x5, Svc
+AddService = four, 4, Svc
+AddService = none, 0, Svc
+[J.Services]
+AddService = one, 1, Svc
+AddService = dev, 3, Svc
+[K.Services]
+AddService = low, 0xFFFFFFFD, Svc
+AddService = dev, 6, Svc
+[L.Services]
+AddService = word, 2x, Svc
+AddService = below, -2, Svc
+AddService = high, 4294967298, Svc
+";
+    let text =
+        "i:6: warning: \"OWN\\A\" gets no driver: its models line has no service, which an AddService with the flag 2 gives (problem 28)
+i:9: warning: \"OWN\\D\" gets no driver: its models line has no service, which an AddService with the flag 2 gives (problem 28)
+i:11: warning: \"one\" is no function driver: its flags have not the bit 2
+i:12: warning: \"five\" is no function driver: its flags have not the bit 2
+i:13: warning: \"four\" is no function driver: its flags have not the bit 2
+i:14: warning: \"none\" is no function driver: its flags have not the bit 2
+i:22: warning: \"word\" is no function driver: its flags have not the bit 2
+i:23: warning: \"below\" is no function driver: its flags have not the bit 2
+i:24: warning: \"high\" is no function driver: its flags have not the bit 2
+";
+    gives(rt.alloc(), inf, Status::Clean, text)
+}
+
+#[test]
+fn the_install_section_of_this_machine_before_nt(rt: HostRuntime) -> Result<(), Fail> {
+    let inf = "[Manufacturer]
+Own = M
+[M]
+A = I, OWN\\DEV
+[I]
+[I.Services]
+AddService = dev, 2, Svc
+[I.NT]
+[I.NT.Services]
+AddService = nt, , Svc
+[I.NTamd64]
+[I.NTamd64.Services]
+AddService = own, 1, Svc
+";
+    let text =
+        "i:6: warning: \"OWN\\DEV\" gets no driver: its models line has no service, which an AddService with the flag 2 gives (problem 28)
+i:15: warning: \"own\" is no function driver: its flags have not the bit 2
+";
+    gives(rt.alloc(), inf, Status::Clean, text)
+}
+
+#[test]
+fn faults_that_are_told_one_after_another(rt: HostRuntime) -> Result<(), Fail> {
+    let inf = "DriverVer = 13/13/2000
+[Manufacturer]
+Own = M
+[M]
+[Open
+A = I, OWN\\DEV
+[I]
+FeatureScore = 300
+[J]
+FeatureScore = 0x100
+";
+    let text =
+        "i:3: error: DriverVer is no date MM/DD/YYYY, or the version behind it is none: \"DriverVer = 13/13/2000\"
+i:7: error: a header has no ]: \"[Open\"
+i:10: error: FeatureScore is no number up to 255: \"FeatureScore = 300\"
+i:12: error: FeatureScore is no number up to 255: \"FeatureScore = 0x100\"
+";
+    gives(rt.alloc(), inf, Status::Found, text)
+}
+
+#[test]
 fn a_line_that_matches_nothing(rt: HostRuntime) -> Result<(), Fail> {
     let inf = "[Manufacturer]
 Own = M

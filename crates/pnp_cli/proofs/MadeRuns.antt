@@ -1,7 +1,7 @@
 -- What the summary of a run over a generated script says.
-use Rattle.std.proofs.Common.{◌≡◌, ℕ, refl, Option, List, [], ◌∷◌, ◌++◌, ◌≤◌, length, Some, Result, Ok, Err, IfOk, Vec, sym, ◌∙◌, subst, append_assoc, ap, arith}
+use Rattle.std.proofs.Common.{◌≡◌, inl, inr, ℕ, refl, Option, List, [], ◌∷◌, ◌++◌, ◌≤◌, length, Some, Result, Ok, Err, IfOk, Vec, sym, ◌∙◌, subst, append_assoc, ap, arith}
 use Rattle.std.specs.Global.{Global}
-use Rattle.pnp_io.specs.Outside.{AppendsFront}
+use Rattle.pnp_io.specs.Outside.{AppendsFront, Rose}
 use Rattle.pnp_labels.specs.Texts.{Text}
 use Rattle.pnp_model.specs.Records.{Driver}
 use Rattle.pnp_model.specs.Runs.{opening}
@@ -11,15 +11,18 @@ use Rattle.inf_reader.specs.Meaning.{Gives, inf}
 use Rattle.pnp_machine.specs.Managers.{Manager, settings}
 use Rattle.notify_front.specs.Desks.{Desk, front_of, told_of}
 use Rattle.notify_front.specs.Fronts.{opening_front}
-use Rattle.pnp_cli.specs.Contents.{events_of}
+use Rattle.pnp_cli.specs.Contents.{events_of, script_status}
 use Rattle.pnp_cli.specs.Generated.{gen_script, gen_inf}
 use Rattle.pnp_cli.specs.Outputs.{Shows}
 use Rattle.pnp_cli.specs.Pieces.{Ran}
 use Rattle.pnp_cli.specs.Runs.{IsSummary, IsSummaryBy, WroteFront, machine}
 use Rattle.pnp_cli.specs.Summaries.{Counted, summary}
+use Rattle.pnp_cli.specs.declared.status.Status.{Status}
 use Rattle.pnp_cli.specs.declared.tally.Tally.{Tally}
+use Rattle.pnp_cli.specs.declared.turn.PieceError.{PieceError}
 use Rattle.pnp_cli.proofs.Fronts.{none_is_front}
 use Rattle.pnp_cli.proofs.GeneratedInf.{generated_inf}
+use Rattle.pnp_cli.proofs.GeneratedLaws.{generated_script}
 use Rattle.pnp_cli.proofs.OneOutput.{shows_one}
 
 -- the run of a file that is there
@@ -87,3 +90,15 @@ inf_wants error bytes is gives = refused error (generated_inf.1) (subst (λ (x :
     refused (InfError.LineTooLong line) taken h = absurd (let other = sym taken ∙ h in cc)
     refused (InfError.BadDate line) taken h = absurd (let other = sym taken ∙ h in cc)
     refused (InfError.BadScore line) taken h = absurd (let other = sym taken ∙ h in cc)
+
+never_rose : Rose 0 0 → ⊥
+never_rose (inl rose) = omega (arith, rose)
+never_rose (inr full) = omega (arith, full)
+
+-- a run from lent bytes into a sink that keeps nothing ends for want of memory alone
+pub run_wants : (n : ℕ) (error : PieceError) → n ≤ 400 → (error ≡ PieceError.TooLarge → script_status (Some (gen_script n)) ≡ Some Status.TooLarge) → (error ≡ PieceError.ReadFault → Rose 0 0)
+    → (error ≡ PieceError.WriteFault → Rose 0 0) → error ≡ PieceError.WantOfMemory
+run_wants n PieceError.ReadFault few large read write = let rose = read refl in absurd (never_rose rose)
+run_wants n PieceError.WriteFault few large read write = let rose = write refl in absurd (never_rose rose)
+run_wants n PieceError.TooLarge few large read write = let two = sym (generated_script n few) ∙ large refl in absurd (cc)
+run_wants n PieceError.WantOfMemory few large read write = refl

@@ -13,12 +13,14 @@ ghost use Rattle.pnp_cli.specs.Outputs.{Shows};
 ghost use Rattle.pnp_cli.specs.Runs.{IsSummary, Wrote, WroteFront};
 ghost use Rattle.pnp_cli.specs.Summaries.{Counted, summary};
 ghost use Rattle.pnp_cli.specs.Turns.{Awaits};
+ghost use Rattle.pnp_cli.specs.declared.turn.PieceError.{PieceError};
 
 use crate::generated::{gen_inf, gen_script};
 use crate::pieces::run_pieces;
 use crate::status::Status;
 use crate::summary::summary;
 use crate::tally::Tally;
+use crate::turn::PieceError;
 use device_ids::WantOfMemory;
 use driver_rack::Drivers;
 use inf_reader::{Inf, InfError, read};
@@ -57,6 +59,16 @@ fn made_infs(alloc: Global) -> Result<Vec<Inf>, WantOfMemory>
     Ok(infs)
 }
 
+/// Why a run from lent bytes into a sink that keeps nothing ended, which is want of memory alone.
+fn run_memory(error: PieceError) -> WantOfMemory
+    requires { error ≡ PieceError.WantOfMemory }
+{
+    match error {
+        PieceError::WantOfMemory => AllocError,
+        _ => unreachable!(),
+    }
+}
+
 /// Runs the generated script, which has no bad line and is not too large, over a front to which nothing happened, and counts the labels.
 /// Nothing is written.
 fn run_generated<R: Drivers>(
@@ -75,7 +87,7 @@ fn run_generated<R: Drivers>(
     let mut tally = Tally { steps: 0, moved: 0 };
     match run_pieces(alloc, front, &mut files, b"", &mut sink, &mut tally) {
         Ok(_) => Ok(tally),
-        Err(_) => Err(AllocError),
+        Err(error) => Err(run_memory(error)),
     }
 }
 

@@ -3,5 +3,5 @@ mod Fronts
 mod Verdicts
 mod Dues
 mod Asking
-mod FewIds
+pub mod FewIds
 mod Turning

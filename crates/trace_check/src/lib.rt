@@ -11,3 +11,4 @@ mod step;
 mod turn;
 
 pub use check::{Checked, check_trace};
+pub use letters::answer_of;

@@ -21,7 +21,8 @@ use Rattle.script_reader.specs.Script.{Trace, gives, ends, stops, trace}
 use Rattle.script_reader.specs.declared.next.Next.{Next}
 use Rattle.free_model.specs.Checks.{Place, Runs, Ends, AllowsAtRest, AllowsFirst, has_feed, end_bytes, bad_line}
 use Rattle.free_model.proofs.OneVerdict.{no_step}
-use Rattle.free_run.specs.FreeRuns.{Free, settings}
+use Rattle.free_run.specs.FreeRuns.{Free, HasFewIds, settings}
+use Rattle.trace_check.proofs.FewIds.{few_ids}
 use Rattle.trace_check.specs.Turns.{IfFront}
 use Rattle.trace_hint.specs.declared.spot.Spot.{Spot}
 use Rattle.trace_hint.specs.declared.spot.Move.{Move}
@@ -146,6 +147,14 @@ event_move answer run old new event (Move.Line line spot) quiet finished room (m
 event_move answer run old new event Move.Nothing quiet finished room (moves, less) not =
     subst (λ (t : Trace). AllowsNone (settings run) (Runs run.state t)) (sym (event_here old new event finished moves))
     (none_quiet (settings run) run.state (gives new.line event (trace true new.passed new.rest)) quiet (λ line next allows. not allows.0))
+
+-- an event of a script has few identifiers
+pub few_here : (old new : Reading) (event : Event) → old.finished ≡ true → Answers (Next.Event event) old new → HasFewIds event
+few_here old new event finished (moves, less) = few_ids true old.passed old.rest new.line event (trace true new.passed new.rest) (event_here old new event finished moves)
+
+-- a reader that was finished needs no more
+pub never_more : (old new : Reading) → old.finished ≡ true → Answers Next.NeedMore old new → ⊥
+never_more old new finished (moves, _, waits, _) = let bad : true ≡ false = sym (moves.finished ∙ finished) ∙ waits.open_ in absurd (cc)
 
 pub event_moves : {E : Type 0} (r : Result Move E) (answer : Answer) (run : Free) (old new : Reading) (event : Event) → IsQuiet (settings run) run.state → old.finished ≡ true
     → run.events + length old.rest ≤ 2 ^ 24 → Answers (Next.Event event) old new → IfOk r (λ next. IsEventMove run new event next)

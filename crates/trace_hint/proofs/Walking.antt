@@ -7,6 +7,7 @@ use Rattle.std.specs.Option.{option_map}
 use Rattle.start_sequence.specs.Begins.{settings_of}
 use Rattle.inf_reader.specs.declared.parts.Inf.{Inf}
 use Rattle.inf_reader.specs.declared.parts.InfError.{InfError}
+use Rattle.inf_reader.specs.Meaning.{Gives, inf}
 use Rattle.pnp_labels.specs.Texts.{Text, label_line}
 use Rattle.pnp_labels.specs.declared.label.Label.{Label}
 use Rattle.pnp_labels.specs.declared.words.Answer.{Answer}
@@ -21,7 +22,7 @@ use Rattle.trace_check.specs.Turns.{IfFront, IsTaken}
 use Rattle.free_run.specs.FreeRuns.{settings}
 use Rattle.trace_hint.specs.declared.spot.Spot.{Spot}
 use Rattle.trace_hint.specs.Spots.{place, IsOf, AllowsBy, Leads}
-use Rattle.trace_hint.specs.Hints.{AreRead, IsReached, Arrives, NextBy, LineBy, list_of, AreAllowed, AllowedAt, Stops}
+use Rattle.trace_hint.specs.Hints.{AreRead, IsInf, IsReached, Arrives, NextBy, LineBy, list_of, AreAllowed, AllowedAt, Stops}
 
 -- A line ----------------------------------------------------------------------------------
 
@@ -151,6 +152,18 @@ one_read (x ∷ a) [] e = absurd (cc)
 one_read (x ∷ a) (y ∷ b) e = let rest : a ≡ b = one_read a b (cc) in cc
 
 -- The whole -------------------------------------------------------------------------------
+
+-- an INF that is accepted is refused for want of memory alone
+pub memory_alone : (error : InfError) (bytes : Text) → IsInf bytes → Gives (Err error) (inf bytes) → error ≡ InfError.WantOfMemory
+memory_alone error bytes is told = refused error is.accepted told
+  where
+    refused : (e : InfError) → inf bytes ≡ Ok is.read → Gives (Err e) (inf bytes) → e ≡ InfError.WantOfMemory
+    refused InfError.WantOfMemory taken h = refl
+    refused InfError.NoSignature taken h = absurd (let other = sym taken ∙ h in cc)
+    refused (InfError.OpenHeader line) taken h = absurd (let other = sym taken ∙ h in cc)
+    refused (InfError.LineTooLong line) taken h = absurd (let other = sym taken ∙ h in cc)
+    refused (InfError.BadDate line) taken h = absurd (let other = sym taken ∙ h in cc)
+    refused (InfError.BadScore line) taken h = absurd (let other = sym taken ∙ h in cc)
 
 abbrev text_of : Vec ℕ Global → Text
 text_of line = line.items

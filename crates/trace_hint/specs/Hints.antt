@@ -1,5 +1,5 @@
 -- What is allowed after so many lines of a trace.
-use Rattle.std.specs.Prelude.{ℕ, ◌+◌, ◌≡◌, ◌↔◌, List, [], ◌∷◌, ◌++◌, Option, Some, None, Ok, length, map, Contains, Vec}
+use Rattle.std.specs.Prelude.{ℕ, ◌+◌, ◌≡◌, ◌≤◌, ◌↔◌, List, [], ◌∷◌, ◌++◌, Option, Some, None, Ok, length, map, Contains, Vec}
 use Rattle.std.specs.Global.{Global}
 use Rattle.inf_reader.specs.declared.parts.Inf.{Inf}
 use Rattle.inf_reader.specs.Meaning.{inf}
@@ -10,6 +10,12 @@ use Rattle.pnp_model.specs.Records.{Settings}
 use Rattle.free_model.specs.Checks.{Place, Allows, Follow, IsStuck, IsYes}
 use Rattle.trace_hint.specs.Spots.{AllowsBy, AllowsNone}
 use Rattle.trace_hint.specs.declared.allowed.Seen.{Seen}
+
+-- an INF that is accepted, of a size that is read
+pub record IsInf (bytes : Text) : Type 0 where
+  pub read : Inf
+  pub accepted : inf bytes ≡ Ok read
+  pub size : length bytes ≤ 16777216
 
 -- the INFs of these files
 abbrev pub AreRead : List (Vec ℕ Global) → List Inf → Type 0

@@ -1,5 +1,5 @@
 -- Where a walk along a trace stands, and what may come next there.
-use Rattle.std.specs.Prelude.{ℕ, ◌+◌, ◌≡◌, ◌≤◌, ◌^◌, ◌⊎◌, Bool, true, false, [], ◌∷◌, ◌++◌, length, drop}
+use Rattle.std.specs.Prelude.{ℕ, ◌+◌, ◌≡◌, ◌≤◌, ◌^◌, ◌⊎◌, true, [], ◌∷◌, ◌++◌, length, drop}
 use Rattle.pnp_labels.specs.Texts.{Text, label_line}
 use Rattle.pnp_labels.specs.declared.event.Event.{Event}
 use Rattle.pnp_labels.specs.declared.label.Label.{Label}
@@ -11,13 +11,9 @@ use Rattle.script_reader.specs.Reading.{Reading}
 use Rattle.script_reader.specs.Script.{trace}
 use Rattle.free_model.specs.Frees.{StepsBy}
 use Rattle.free_model.specs.Checks.{Place, Runs, Ends, Allows, AllowsAtRest, AllowsFirst, IsOfMachine}
-use Rattle.free_run.specs.FreeRuns.{Free, HasFewIds, settings}
+use Rattle.free_run.specs.FreeRuns.{Free, settings}
 use Rattle.trace_hint.specs.declared.spot.Spot.{Spot}
 use Rattle.trace_hint.specs.declared.spot.Move.{Move}
-
-abbrev pub IfFewIds : Bool → Event → Type 0
-IfFewIds true event = HasFewIds event
-IfFewIds false event = Unit {0}
 
 abbrev pub place : Spot → Place
 place (Spot.Runs run reader) = Runs run.state (trace true reader.passed reader.rest)

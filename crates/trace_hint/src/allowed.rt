@@ -1,9 +1,9 @@
-ghost use Rattle.std.specs.Prelude.{◌≡◌, ◌≤◌, ◌<◌, ◌-◌, ◌^◌, true, ◌++◌, IfOk, OnOk, List, length, map, option_map};
+ghost use Rattle.std.specs.Prelude.{◌≡◌, ◌≤◌, ◌<◌, ◌-◌, ◌^◌, true, ◌++◌, All, IfOk, OnOk, List, length, map, option_map};
 ghost use Rattle.inf_reader.specs.declared.parts.Inf.{Inf};
 ghost use Rattle.start_sequence.specs.Begins.{settings_of};
 ghost use Rattle.script_reader.specs.Script as scripts;
 ghost use Rattle.free_model.specs.Checks.{beginning};
-ghost use Rattle.trace_hint.specs.Hints.{AllowedAt, AreRead, IsSeen, LineBy, NextBy, list_of};
+ghost use Rattle.trace_hint.specs.Hints.{AllowedAt, AreRead, IsInf, IsSeen, LineBy, NextBy, list_of};
 ghost use Rattle.trace_hint.specs.Spots.{IsOf, IsReady, place};
 ghost use Rattle.pnp_model.specs.Records.{Settings};
 
@@ -55,6 +55,7 @@ fn line_by(
 ) -> Result<Option<Vec<u8>>, WantOfMemory>
     requires script { length script.now ≤ 16777216 }
     requires infs { length infs.now ≤ 64 }
+    requires accepted { All (λ bytes. IsInf bytes.items) infs.now }
     requires kinds { length kinds.now < 2 ^ 32 }
     requires budget { budget ≤ 1000000 }
     ensures { IfOk result (λ line. (read : List Inf) → AreRead infs.now read
@@ -80,8 +81,8 @@ fn add_line(lines: &mut Vec<Vec<u8>>, line: Option<Vec<u8>>) -> Result<(), WantO
 
 /// The lines, without LFs, that are allowed after so many lines of a trace, which are allowed one after another: one, or the lines of an
 /// ask with its answers, or none where nothing more is due, or where the script has a line of clients. A line is among them exactly where
-/// the definition allows it there. Conditions: those of `check_trace`; the INFs are given by their bytes, and each was read
-/// (`read_infs`). This project's own. Cost: three times that of the run up to there.
+/// the definition allows it there. Conditions: those of `check_trace`; the INFs are given by their bytes, of which
+/// each has at most 16,777,216 and is accepted. This project's own. Cost: three times that of the run up to there.
 pub fn allowed_at(
     alloc: Global,
     script: &[u8],
@@ -93,6 +94,7 @@ pub fn allowed_at(
 ) -> Result<Vec<Vec<u8>>, WantOfMemory>
     requires script { length script.now ≤ 16777216 }
     requires infs { length infs.now ≤ 64 }
+    requires accepted { All (λ bytes. IsInf bytes.items) infs.now }
     requires kinds { length kinds.now < 2 ^ 32 }
     requires budget { budget ≤ 1000000 }
     ensures { IfOk result (λ allowed. (read : List Inf) → AreRead infs.now read
@@ -147,6 +149,7 @@ pub fn look_at(
 ) -> Result<Seen, WantOfMemory>
     requires script { length script.now ≤ 16777216 }
     requires infs { length infs.now ≤ 64 }
+    requires accepted { All (λ bytes. IsInf bytes.items) infs.now }
     requires kinds { length kinds.now < 2 ^ 32 }
     requires budget { budget ≤ 1000000 }
     ensures { IfOk result (λ seen. (read : List Inf) → AreRead infs.now read

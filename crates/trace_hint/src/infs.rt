@@ -1,31 +1,38 @@
 //! The INFs of a run, read again for each walk.
-ghost use Rattle.std.specs.Prelude.{◌≡◌, IfOk, Ok, length};
+ghost use Rattle.std.specs.Prelude.{◌≡◌, All, IfOk, Ok, length};
 ghost use Rattle.inf_reader.specs.Meaning.{inf};
-ghost use Rattle.trace_hint.specs.Hints.{AreRead};
+ghost use Rattle.inf_reader.specs.declared.parts.InfError.{InfError};
+ghost use Rattle.trace_hint.specs.Hints.{AreRead, IsInf};
 
 use device_ids::WantOfMemory;
-use inf_reader::{Inf, read};
+use inf_reader::{Inf, InfError, read};
 use std::alloc::{AllocError, Global};
 
-/// The most bytes that an INF may have: this project's own.
-const LIMIT: usize = 16_777_216;
-
-/// The INF of these bytes; one that is refused, or too large, is want of memory here.
-fn read_inf(alloc: Global, bytes: &[u8]) -> Result<Inf, WantOfMemory>
-    ensures { IfOk result (λ read. inf bytes.now ≡ Ok read) }
+/// An INF that can be refused for want of memory alone.
+fn inf_memory(error: InfError) -> WantOfMemory
+    requires { error ≡ InfError.WantOfMemory }
 {
-    if bytes.len() > LIMIT {
-        return Err(AllocError);
-    }
-    match read(alloc, bytes) {
-        Ok(read) => Ok(read),
-        Err(_) => Err(AllocError),
+    match error {
+        InfError::WantOfMemory => AllocError,
+        _ => unreachable!(),
     }
 }
 
-/// The INFs of these files, in their order. That each is read was seen before: one that is refused is want of memory here.
+/// The INF of these bytes, which is accepted.
+fn read_inf(alloc: Global, bytes: &[u8]) -> Result<Inf, WantOfMemory>
+    requires { IsInf bytes.now }
+    ensures { IfOk result (λ read. inf bytes.now ≡ Ok read) }
+{
+    match read(alloc, bytes) {
+        Ok(read) => Ok(read),
+        Err(error) => Err(inf_memory(error)),
+    }
+}
+
+/// The INFs of these files, in their order. Condition: each has at most 16,777,216 bytes and is accepted.
 /// Cost: as `inf_reader::read` for each.
 pub fn read_infs(alloc: Global, files: &[Vec<u8>]) -> Result<Vec<Inf>, WantOfMemory>
+    requires accepted { All (λ bytes. IsInf bytes.items) files.now }
     ensures read { IfOk result (λ infs. AreRead files.now infs.items) }
     ensures each { IfOk result (λ infs. length infs.items ≡ length files.now) }
 {

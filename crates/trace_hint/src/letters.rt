@@ -1,22 +1,18 @@
 //! What the next line of a trace tells.
+ghost use Rattle.std.specs.Prelude.{◌≡◌, IfSome};
+ghost use Rattle.trace_check.specs.Letters.{answer_of};
 ghost use Rattle.trace_check.specs.Turns.{IfFront};
 
 use pnp_labels::Answer;
+use trace_check::answer_of;
 
-/// The answer that the first line tells by its last letter, as the check of traces takes it: the words are ok, fail, pend and
-/// violation.
-pub(crate) fn answer_in(rest: &[u8]) -> Answer {
-    let mut letter = b'k';
-    for byte in rest {
-        if *byte == b'\n' {
-            break;
-        }
-        letter = *byte;
-    }
-    match letter {
-        b'l' | b'n' => Answer::Fail,
-        b'd' => Answer::Pend,
-        _ => Answer::Ok,
+/// The answer that the first line tells, as the check of traces reads it; ok where no line is there.
+pub(crate) fn answer_in(rest: &[u8]) -> Answer
+    ensures { IfSome (answer_of rest.now) (λ answer. result ≡ answer) }
+{
+    match answer_of(rest) {
+        Some(answer) => answer,
+        None => Answer::Ok,
     }
 }
 

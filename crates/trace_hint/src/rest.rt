@@ -7,33 +7,20 @@ ghost use Rattle.free_model.specs.Checks.{Runs, bad_line};
 ghost use Rattle.free_run.specs.FreeRuns.{HasFewIds, settings};
 ghost use Rattle.trace_check.specs.Clients.{IfOfMachine};
 ghost use Rattle.trace_check.specs.Turns.{HasPrinted};
-ghost use Rattle.trace_hint.specs.Spots.{IfFewIds, IsEventMove, IsMove};
+ghost use Rattle.trace_hint.specs.Spots.{IsEventMove, IsMove};
 
 use crate::spot::{Move, Spot, end_move};
 use device_ids::WantOfMemory;
 use free_run::FreeRun;
 use pnp_labels::{Answer, Event, label_line, push_decimal};
 use script_reader::{Next, Reader};
-use std::alloc::{AllocError, Global};
-
-/// The most IDs of each sort that a device has: this project's own.
-const MOST_IDS: u64 = 64;
+use std::alloc::Global;
 
 /// Whether it happens to the machine itself, and not to a client.
 fn is_of_machine(event: &Event) -> bool
     ensures { IfOfMachine result event.now }
 {
     !matches!(event, Event::Watch { .. } | Event::Unwatch { .. })
-}
-
-/// Whether the event has at most 64 IDs of each sort, as each event of a script has.
-fn has_few_ids(event: &Event) -> bool
-    ensures { IfFewIds result event.now }
-{
-    match event {
-        Event::Plug { hw, compat, .. } => hw.len() <= MOST_IDS && compat.len() <= MOST_IDS,
-        _ => true,
-    }
 }
 
 /// An event happens, at a quiet state, and this is its line.
@@ -55,6 +42,7 @@ fn event_move(
     event: Event,
 ) -> Result<Move, WantOfMemory>
     requires quiet { IsQuiet (settings run) run.state }
+    requires ids { HasFewIds event }
     requires events { run.events < 2 ^ 24 }
     ensures { IfOk result (λ next. IsEventMove run reader event next) }
 {
@@ -62,11 +50,6 @@ fn event_move(
         drop(event);
         drop(run);
         return Ok(Move::Nothing);
-    }
-    if !has_few_ids(&event) {
-        drop(event);
-        drop(run);
-        return Err(AllocError);
     }
     let mut run = run;
     match event_line(alloc, &mut run, event) {
@@ -140,10 +123,7 @@ pub(crate) fn rest_move(
             next
         }
         // a reader that was finished needs no more
-        Ok(Next::NeedMore) => {
-            drop(run);
-            Err(AllocError)
-        }
+        Ok(Next::NeedMore) => unreachable!(),
         Err(refused) => {
             drop(run);
             Err(refused)

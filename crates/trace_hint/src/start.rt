@@ -1,11 +1,11 @@
 //! Where each walk begins.
-ghost use Rattle.std.specs.Prelude.{◌≡◌, ◌≤◌, ◌<◌, ◌^◌, true, IfOk, List, length};
+ghost use Rattle.std.specs.Prelude.{◌≡◌, ◌≤◌, ◌<◌, ◌^◌, true, All, IfOk, List, length};
 ghost use Rattle.inf_reader.specs.declared.parts.Inf.{Inf};
 ghost use Rattle.start_sequence.specs.Begins.{settings_of};
 ghost use Rattle.script_reader.specs.Script as scripts;
 ghost use Rattle.free_model.specs.Checks.{beginning};
 ghost use Rattle.trace_hint.specs.Spots.{IsOf, IsReady, place};
-ghost use Rattle.trace_hint.specs.Hints.{AreRead};
+ghost use Rattle.trace_hint.specs.Hints.{AreRead, IsInf};
 
 use crate::infs::read_infs;
 use crate::spot::Spot;
@@ -25,6 +25,7 @@ pub(crate) fn start(
 ) -> Result<Spot, WantOfMemory>
     requires script { length script.now ≤ 16777216 }
     requires infs { length infs.now ≤ 64 }
+    requires accepted { All (λ bytes. IsInf bytes.items) infs.now }
     requires kinds { length kinds.now < 2 ^ 32 }
     requires budget { budget ≤ 1000000 }
     ensures begins { IfOk result (λ spot. (read : List Inf) → AreRead infs.now read

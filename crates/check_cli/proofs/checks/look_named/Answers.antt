@@ -1,9 +1,14 @@
-use Rattle.std.proofs.Common.{ℕ, ◌≡◌, ◌∙◌, List, Option, sym, subst}
+use Rattle.std.proofs.Common.{ℕ, ◌≡◌, ◌∙◌, List, Option, All, Vec, Global, sym, subst}
 use Rattle.pnp_io.specs.Outside.{Holds}
 use Rattle.check_cli.specs.Checks.{IsSeenOf, SaysNamed, texts}
 use Rattle.check_cli.specs.declared.status.Status.{Status}
+use Rattle.trace_hint.specs.Hints.{IsInf}
 use Rattle.check_cli.proofs.Saying.{says_named, seen_of}
 use Rattle.check_cli.proofs.checks.look_named.Goals as goal
+
+pub look_at-requires-clause-accepted : goal.look_at-requires-clause-accepted
+look_at-requires-clause-accepted g c =
+    subst (λ (l : List (Vec ℕ Global)). All (λ bytes. IsInf bytes.items) l) (sym c.deref-2.ensures.value) c.in_ok-infs.ensures.accepted
 
 pub returns-clause-says : goal.returns-clause-says
 returns-clause-says g c =

@@ -2,8 +2,18 @@ use Rattle.std.proofs.Common.{subst}
 use Rattle.script_reader.specs.Answers.{Answers}
 use Rattle.script_reader.specs.declared.next.Next.{Next}
 use Rattle.free_run.specs.FreeRuns.{settings}
-use Rattle.trace_hint.proofs.Spotting.{event_moves, bad_reads, over_reads}
+use Rattle.trace_hint.proofs.Spotting.{event_moves, few_here, never_more, bad_reads, over_reads}
 use Rattle.trace_hint.proofs.rest.rest_move.Goals as goal
+
+pub event_move-requires-clause-ids : goal.event_move-requires-clause-ids
+event_move-requires-clause-ids c =
+    few_here c.args.reader c.next_event.new.self c.in-Ok-Event.event c.requires.finished
+    (subst (λ (n : Next). Answers n c.args.reader c.next_event.new.self) c.in-Ok-Event.field-0-is c.in-Ok-Event.ensures.answers)
+
+pub unreachable-requires : goal.unreachable-requires
+unreachable-requires c =
+    never_more c.args.reader c.next_event.new.self c.requires.finished
+    (subst (λ (n : Next). Answers n c.args.reader c.next_event.new.self) c.in-Ok-NeedMore.field-0-is c.in-Ok-NeedMore.ensures.answers)
 
 pub returns-in-Ok-Event : goal.returns-in-Ok-Event
 returns-in-Ok-Event c =
