@@ -16,7 +16,7 @@ fn answer_by(letter: u8) -> Answer
 }
 
 /// The answer that the first line tells by its last letter, if a line is there: of an ask it is the one that the driver gave, of which
-/// violation counts as fail. None where no LF is left. This project's own. Cost: the length of the line.
+/// violation counts as fail. No answer where no LF is left. This project's own. Cost: the length of the line.
 pub fn answer_of(rest: &[u8]) -> Option<Answer>
     ensures { result ≡ answer_of rest.now }
 {
