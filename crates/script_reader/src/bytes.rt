@@ -30,7 +30,6 @@ fn hex_pair(pair: &[u8]) -> Option<u8>
 }
 
 /// The bytes of hexadecimal digits, two for each; none where a digit is none, or has no partner. Cost: the digits.
-#[tactic(auto, using(crate::proofs::HexBytes::front_none, crate::proofs::HexBytes::goes_on, crate::proofs::HexBytes::no_byte, crate::proofs::HexBytes::all_read, crate::proofs::HexBytes::one_left))]
 pub fn hex_bytes(alloc: Global, text: &[u8]) -> Result<Option<Vec<u8>>, AllocError>
     ensures { IfOk result (λ bytes. option_map (λ b. b.items) bytes ≡ hex_bytes text.now) }
 {

@@ -203,7 +203,6 @@ impl Reader {
     /// called; `End` exactly where `finish` was called and nothing is left; `Bad` at the first line outside the
     /// grammar, which each later call answers again. After want of memory the reader is as before. Cost: the
     /// bytes of the lines passed, and of the line that is not whole.
-    #[tactic(auto, using(crate::proofs::Moving::gives_event))]
     pub fn next_event(&mut self) -> Result<Next, WantOfMemory>
         ensures answers { IfOk result (λ next. Answers next self.old self.new) }
         ensures reads { IfOk result (λ next. (all : List ℕ) (events : List Line)
