@@ -10,6 +10,4 @@ mod rows;
 #[cfg(test)]
 mod runs;
 #[cfg(test)]
-mod told;
-#[cfg(test)]
 mod words;

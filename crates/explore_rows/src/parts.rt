@@ -1,9 +1,9 @@
 //! Parts: put together they come to what one run comes to, and what is no part of this exploration is refused.
 use crate::rows::{OWN_INF, PULLED, PULLED_REPORT};
 use crate::runs::{ends, files_of, written};
-use crate::told::must;
 use explore_cli::Status;
 use pnp_io::MemFiles;
+use rows_told::must;
 use std::alloc::Global;
 use std::test::Fail;
 
@@ -111,7 +111,7 @@ fn changed(rt: HostRuntime) -> Result<(), Fail> {
 }
 
 /// Words with which these parts are not all parts, each once, of one exploration.
-const OTHERS: [&[&str]; 12] = [
+const OTHERS: &[&[&str]] = &[
     &["p", "--from", "one", "pulled", "own"],
     &["p", "--from", "two", "pulled", "own"],
     &["p", "--from", "one", "--from", "one", "pulled", "own"],

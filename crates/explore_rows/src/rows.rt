@@ -1,8 +1,8 @@
 //! Families, and what their scripts come to.
 use crate::runs::{Last, NOTHING, ends, files_of, words_of};
-use crate::told::must;
 use explore_cli::{Status, explore};
 use pnp_io::MemSink;
+use rows_told::must;
 use std::alloc::Global;
 use std::test::Fail;
 
@@ -144,7 +144,7 @@ complete OWN\DEV\1 START_DEVICE ok
 ";
 
 /// Words, and the status and the bytes that they come to.
-const ROWS: [(&[&str], Status, &[u8]); 15] = [
+const ROWS: &[(&[&str], Status, &[u8])] = &[
     (&["p", "empty"], Status::Done, EMPTY_REPORT),
     (&["p", "pulled", "own"], Status::Done, PULLED_REPORT),
     (
@@ -214,7 +214,7 @@ const ROWS: [(&[&str], Status, &[u8]); 15] = [
 ];
 
 /// The files that the rows name.
-const FILES: [(&str, &[u8]); 6] = [
+const FILES: &[(&str, &[u8])] = &[
     ("empty", b""),
     ("pulled", PULLED),
     ("arrivals", ARRIVALS),
@@ -226,9 +226,9 @@ const FILES: [(&str, &[u8]); 6] = [
 #[test]
 fn each_row(rt: HostRuntime) -> Result<(), Fail> {
     let alloc = rt.alloc();
-    let mut files = files_of(alloc, &FILES)?;
+    let mut files = files_of(alloc, FILES)?;
     for (texts, status, text) in ROWS {
-        ends(alloc, texts, &mut files, (status, text))?;
+        ends(alloc, texts, &mut files, (*status, *text))?;
     }
     Ok(())
 }
@@ -237,7 +237,7 @@ fn each_row(rt: HostRuntime) -> Result<(), Fail> {
 #[test]
 fn progress(rt: HostRuntime) -> Result<(), Fail> {
     let alloc = rt.alloc();
-    let mut files = files_of(alloc, &FILES)?;
+    let mut files = files_of(alloc, FILES)?;
     let words = words_of(alloc, &["p", "pulled", "own"])?;
     let mut sink = MemSink::new(alloc, 4096)?;
     let mut last: Last = NOTHING;

@@ -1,7 +1,7 @@
 //! An exploration over files and a sink in memory, and what it has to come to.
-use crate::told::{must, same};
 use explore_cli::{Progress, Status, explore};
 use pnp_io::{MemFiles, MemSink};
+use rows_told::{must, same};
 use std::alloc::Global;
 use std::test::Fail;
 
@@ -52,6 +52,19 @@ pub fn comes_to(status: Status, sink: &MemSink, want: (Status, &[u8])) -> Result
     same(sink.taken(), want.1)
 }
 
+/// With a sink of so much room it ends with this status, and the sink took these bytes.
+pub fn ends_with(
+    alloc: Global,
+    words: &[String],
+    files: &mut MemFiles,
+    room: u64,
+    want: (Status, &[u8]),
+) -> Result<(), Fail> {
+    let mut sink = MemSink::new(alloc, room)?;
+    let status = ended(alloc, words, files, &mut sink);
+    comes_to(status, &sink, want)
+}
+
 /// It ends with this status, and its sink, which has room for all that is written, took these bytes.
 pub fn ends(
     alloc: Global,
@@ -60,9 +73,7 @@ pub fn ends(
     want: (Status, &[u8]),
 ) -> Result<(), Fail> {
     let words = words_of(alloc, texts)?;
-    let mut sink = MemSink::new(alloc, 4096)?;
-    let status = ended(alloc, &words, files, &mut sink);
-    comes_to(status, &sink, want)
+    ends_with(alloc, &words, files, 4096, want)
 }
 
 /// What an exploration with this status writes.

@@ -3,7 +3,7 @@ use crate::runs::{ends, files_of};
 use explore_cli::Status;
 use std::test::Fail;
 
-const BAD: [&[&str]; 34] = [
+const BAD: &[&[&str]] = &[
     &[],
     &["p"],
     &["p", "--count"],

@@ -77,25 +77,33 @@ fn finds(alloc: Global, needs: &[&[(u64, u64)]], budget: u64) -> Result<(), Fail
     }
 }
 
-/// One device that needs an interrupt of two and then one of them.
-const ONE: [&[(u64, u64)]; 1] = [&[(5, 6), (5, 5)]];
+/// So many tries are not enough, and with one more interrupt 6 is found, and then 5.
+fn finds_behind(alloc: Global, needs: &[&[(u64, u64)]], tries: u32) -> Result<(), Fail> {
+    spends(alloc, needs, tries as u64)?;
+    finds(alloc, needs, tries as u64 + 1)
+}
 
-/// Two devices, of which the second needs one of the first one's two.
-const TWO: [&[(u64, u64)]; 2] = [&[(5, 6)], &[(5, 5)]];
-
-/// Three devices for two interrupts.
-const THREE: [&[(u64, u64)]; 3] = [&[(5, 6)], &[(5, 6)], &[(5, 6)]];
-
-#[test]
-fn tries_are_counted(rt: HostRuntime) -> Result<(), Fail> {
-    let alloc = rt.alloc();
-    spends(alloc, &ONE, 3)?;
-    finds(alloc, &ONE, 4)?;
-    spends(alloc, &TWO, 4)?;
-    finds(alloc, &TWO, 5)?;
-    spends(alloc, &THREE, 6)?;
-    match answered(alloc, &THREE, 7)? {
+/// So many tries are not enough, and with one more it is seen that there is no assignment.
+fn fits_not(alloc: Global, needs: &[&[(u64, u64)]], tries: u32) -> Result<(), Fail> {
+    spends(alloc, needs, tries as u64)?;
+    match answered(alloc, needs, tries as u64 + 1)? {
         Found::NoFit => Ok(()),
         _ => Err(Fail::new("three devices for two interrupts")),
     }
+}
+
+/// One device that needs an interrupt of two and then one of them.
+const ONE: &[&[(u64, u64)]] = &[&[(5, 6), (5, 5)]];
+
+/// Two devices, of which the second needs one of the first one's two.
+const TWO: &[&[(u64, u64)]] = &[&[(5, 6)], &[(5, 5)]];
+
+/// Three devices for two interrupts.
+const THREE: &[&[(u64, u64)]] = &[&[(5, 6)], &[(5, 6)], &[(5, 6)]];
+
+#[test]
+fn tries_are_counted(rt: HostRuntime) -> Result<(), Fail> {
+    finds_behind(rt.alloc(), ONE, 3)?;
+    finds_behind(rt.alloc(), TWO, 4)?;
+    fits_not(rt.alloc(), THREE, 6)
 }
