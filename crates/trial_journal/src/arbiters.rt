@@ -14,24 +14,13 @@ use std::marker::Model;
 /// The arbiters of ports, interrupts, memory, DMA channels and bus numbers, each of which holds pairs of an
 /// owner and a resource (this project's own; the driver kit, "Arbiter Interface"). A contract sees one for each
 /// kind: its kind, its list of pairs and `spare`.
+#[derive(Drop)]
 pub struct Arbiters {
     ports: RangeArbiter,
     irqs: NumberArbiter,
     memory: RangeArbiter,
     channels: NumberArbiter,
     buses: NumberArbiter,
-}
-
-impl Drop for Arbiters {
-    fn drop(self) {
-        let Arbiters {
-            ports: _,
-            irqs: _,
-            memory: _,
-            channels: _,
-            buses: _,
-        } = self;
-    }
 }
 
 impl Model for Arbiters {
