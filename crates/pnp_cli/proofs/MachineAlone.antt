@@ -1,7 +1,7 @@
 -- Without lines of clients the front does what the machine does alone, and its output is the machine's.
-use Rattle.std.proofs.Common.{◌≡◌, ℕ, List, [], ◌∷◌, ◌++◌, map, Option, Some, None, refl, sym, ◌∙◌, ap, ap₂, subst, append_assoc}
+use Rattle.std.proofs.Common.{◌≡◌, ℕ, List, [], ◌∷◌, ◌++◌, Option, Some, None, refl, sym, ◌∙◌, ap, ap₂, subst, append_assoc}
 use Rattle.std.specs.Prelude.{option_map}
-use Rattle.pnp_labels.specs.Texts.{Text, label_line}
+use Rattle.pnp_labels.specs.Texts.{Text}
 use Rattle.pnp_labels.specs.declared.event.Event.{Event}
 use Rattle.pnp_labels.specs.declared.label.Label.{Label}
 use Rattle.pnp_labels.specs.declared.label.OpKind.{OpKind}
@@ -12,7 +12,6 @@ use Rattle.pnp_model.specs.Events.{happens}
 use Rattle.script_reader.specs.Script.{Trace, gives, waits, ends, stops}
 use Rattle.notify_front.specs.Fronts as fr
 use Rattle.notify_front.specs.Fronts.{Front, FrontEntry, FrontStep, FrontSteps, Hand, IsFrontQuiet, IsFrontStep, Registration, front_next, front_printed, machine_next, on_each, on_set, opening_front}
-use Rattle.notify_front.specs.Desks.{IsFrontDone}
 use Rattle.notify_front.proofs.Runs.{lifted_step}
 use Rattle.free_model.specs.Checks.{IsOfMachine}
 use Rattle.free_model.specs.Outputs as alone

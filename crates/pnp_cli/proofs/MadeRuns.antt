@@ -9,28 +9,18 @@ use Rattle.inf_reader.specs.declared.parts.Inf.{Inf}
 use Rattle.inf_reader.specs.declared.parts.InfError.{InfError}
 use Rattle.inf_reader.specs.Meaning.{Gives, inf}
 use Rattle.pnp_machine.specs.Managers.{Manager, settings}
-use Rattle.notify_front.specs.Desks.{Desk, front_of, told_of}
 use Rattle.notify_front.specs.Fronts.{opening_front}
 use Rattle.pnp_cli.specs.Contents.{events_of, script_status}
 use Rattle.pnp_cli.specs.Generated.{gen_script, gen_inf}
 use Rattle.pnp_cli.specs.Outputs.{Shows}
-use Rattle.pnp_cli.specs.Pieces.{Ran}
 use Rattle.pnp_cli.specs.Runs.{IsSummary, IsSummaryBy, WroteFront, machine}
-use Rattle.pnp_cli.specs.Summaries.{Counted, summary}
+use Rattle.pnp_cli.specs.Summaries.{summary}
 use Rattle.pnp_cli.specs.declared.status.Status.{Status}
-use Rattle.pnp_cli.specs.declared.tally.Tally.{Tally}
 use Rattle.pnp_cli.specs.declared.turn.PieceError.{PieceError}
 use Rattle.pnp_cli.proofs.Fronts.{none_is_front}
 use Rattle.pnp_cli.proofs.GeneratedInf.{generated_inf}
 use Rattle.pnp_cli.proofs.GeneratedLaws.{generated_script}
 use Rattle.pnp_cli.proofs.OneOutput.{shows_one}
-
--- the run of a file that is there
-pub counted_file : (d d' : Desk) (bad : Option ℕ) (script : List ℕ) (old new : Option Text) (tally : Tally)
-    → Ran bad d (Some script) old (record { steps = 0; moved = 0 }) d' new tally → Counted (told_of d) (front_of d) (events_of script) tally (front_of d')
-counted_file d d' bad script old new tally h =
-    let same : h.script ≡ script = let there = h.there in cc in
-    subst (λ (x : List ℕ). Counted (told_of d) (front_of d) (events_of x) tally (front_of d')) same (record { labels = h.labels; plays = h.plays; counted = h.told.counted })
 
 -- over the machine that is told the generated INF
 pub sums_up : (rack : List Driver) (budget n : ℕ) (read : Inf) (infs : List Inf) (m : Manager) (text : Text) → inf gen_inf ≡ Ok read → infs ≡ read ∷ []

@@ -1,5 +1,5 @@
 -- What is written for a script is a trace to which the check answers `yes`.
-use Rattle.std.proofs.Common.{◌≡◌, ◌≤◌, inl, inr, ℕ, Bool, cond, List, [], ◌∷◌, ◌++◌, Option, Some, None, Result, Ok, Err, length, map, refl, sym, ◌∙◌, ap, subst}
+use Rattle.std.proofs.Common.{◌≡◌, ◌≤◌, inl, inr, ℕ, Bool, cond, List, [], ◌∷◌, Option, Some, None, Result, Ok, Err, length, map, refl, sym, ◌∙◌, ap, subst}
 use Rattle.std.proofs.lemmas.Bool.{le-leb}
 use Rattle.pnp_labels.specs.Texts.{Text}
 use Rattle.pnp_labels.specs.declared.words.DriverKind.{DriverKind}
@@ -10,15 +10,15 @@ use Rattle.pnp_model.specs.Runs.{opening}
 use Rattle.inf_reader.specs.declared.parts.Inf.{Inf}
 use Rattle.script_reader.specs.Script.{Trace, gives, waits, ends, stops}
 use Rattle.notify_front.specs.Fronts.{opening_front}
-use Rattle.free_model.specs.Checks.{Follow, IsChecked, Place, Runs, Ends, Verdict, Yes, beginning}
+use Rattle.free_model.specs.Checks.{Follow, IsChecked, Place, Runs, Ends, Yes, beginning}
 use Rattle.free_model.specs.Frees.{free_opening}
 use Rattle.free_model.proofs.Outs.{each_output}
 use Rattle.pnp_cli.specs.Contents.{events_of}
-use Rattle.pnp_cli.specs.Checks.{ComesTo, Outcome, ShowsOutcome, file_in, verdict_line}
+use Rattle.pnp_cli.specs.Checks.{ComesTo, file_in, verdict_line}
 use Rattle.pnp_cli.specs.Infs.{infs_in, limit}
 use Rattle.pnp_cli.specs.Lawful.{OfOutput}
-use Rattle.pnp_cli.specs.Outputs.{HasNoClients, Prints, Report, Shows, written}
-use Rattle.pnp_cli.specs.OwnTraces.{ChecksOutput, ChecksYes, IsUntaught, NoClientsLaw, OwnCheckLaw, OwnTraceLaw}
+use Rattle.pnp_cli.specs.Outputs.{HasNoClients, Prints, Report, Shows}
+use Rattle.pnp_cli.specs.OwnTraces.{ChecksYes, IsUntaught, NoClientsLaw, OwnCheckLaw, OwnTraceLaw}
 use Rattle.pnp_cli.specs.Runs.{IsOutput, IsOutputBy, IsOutputFor, IsOutputWith, IsScriptOutput, IsVerdict, machine}
 use Rattle.pnp_cli.specs.declared.infs.InfsError.{InfsError}
 use Rattle.pnp_cli.specs.declared.parts.Settings.{Settings}

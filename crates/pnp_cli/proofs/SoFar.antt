@@ -1,5 +1,5 @@
 -- Where memory runs out, what was done before is written.
-use Rattle.std.proofs.Common.{◌≡◌, ℕ, inl, inr, List, [], ◌∷◌, ◌++◌, Option, Result, Ok, Err, IfOk, OnErr, IsErr, IsErrOf, refl, sym, ◌∙◌, ap, subst, append_assoc, append-nil}
+use Rattle.std.proofs.Common.{◌≡◌, inl, inr, List, [], ◌∷◌, ◌++◌, Option, Result, Ok, Err, IfOk, OnErr, IsErr, IsErrOf, refl, sym, ◌∙◌, ap, subst, append_assoc, append-nil}
 use Rattle.std.specs.declared.alloc.AllocError.{AllocError}
 use Rattle.std.specs.Result.{IsErrAnd}
 use Rattle.pnp_cli.specs.declared.turn.WriteError.{WriteError}
