@@ -102,6 +102,11 @@ laws_of told f g rack entries entry run goes =
       declines = λ label is. declined_after told rack entries f label g run (subst (λ (x : FrontEntry). FrontGoes told f x g) is goes);
     }
 
+-- the same of a call, which may be refused for want of memory
+pub laws_after : {E : Type 0} (r : Result Moved E) (told : Settings) (f g : Front) → IfOk r (λ moved. FrontLawsOf told f g)
+laws_after (Ok moved) told f g = laws_of told f g
+laws_after (Err refused) told f g = tt
+
 -- what is at hand fits the machine's state
 pub fits_of : (told : Settings) (n : ℕ) (f : Front) → IsOfFrontRun told n f → Fits f.state f.hand
 fits_of told n f h = (reached_kept told h.rack h.entries f h.reaches).fits
