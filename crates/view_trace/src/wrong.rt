@@ -92,6 +92,17 @@ impl WrongRows {
         }
     }
 
+    /// Draws what stands behind the list, if anything does.
+    fn draw_note(&self, page: &mut Page) -> Result<(), WantOfMemory>
+        ensures elements { OnOk result (page.new.elements ≡ page.old.elements) }
+        ensures marks { OnOk result (page.new.marks ≡ page.old.marks) }
+    {
+        match self.words() {
+            Some(words) => page.element(Tag::P, &[(Attribute::Class, b"note")], words),
+            None => Ok(()),
+        }
+    }
+
     /// Draws the list, with a link to each of its rows.
     pub fn draw(&self, alloc: Global, page: &mut Page) -> Result<(), WantOfMemory>
         ensures elements { OnOk result (page.new.elements ≡ page.old.elements) }
@@ -100,9 +111,7 @@ impl WrongRows {
         page.open(Tag::Section, &[(Attribute::Class, b"wrong")])?;
         page.element(Tag::H2, &[], b"What went wrong")?;
         self.draw_rows(alloc, page)?;
-        if let Some(words) = self.words() {
-            page.element(Tag::P, &[(Attribute::Class, b"note")], words)?;
-        }
+        self.draw_note(page)?;
         page.close()
     }
 }
