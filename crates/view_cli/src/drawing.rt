@@ -3,35 +3,18 @@ ghost use Rattle.std.specs.Prelude.{◌≡◌, ◌++◌, OnOk};
 ghost use Rattle.notify_front.specs.Fronts.{IsFrontQuiet};
 ghost use Rattle.notify_front.specs.Desks.{front_of, told_of};
 ghost use Rattle.script_play.specs.Playing.{Playing};
-ghost use Rattle.view_trace.specs.Asks.{asks_of};
+ghost use Rattle.view_trace.specs.Asks.{asks, asks_of};
 ghost use Rattle.view_cli.specs.Viewed.{Drawing, Drawn};
 
 use crate::sketch::Sketch;
 use device_ids::WantOfMemory;
 use devnode_tree::Tree;
 use driver_rack::Drivers;
-use pnp_labels::Label;
 use script_play::{Happened, Play};
 use std::alloc::Global;
 use view_page::Page;
 
-/// A label is drawn, and then let go.
-fn draw_label(
-    alloc: Global,
-    sketch: &mut Sketch,
-    tree: &Tree,
-    page: &mut Page,
-    label: Label,
-) -> Result<(), WantOfMemory>
-    ensures elements { OnOk result (page.new.elements ≡ page.old.elements) }
-    ensures marks { OnOk result (page.new.marks ≡ page.old.marks ++ asks_of label) }
-{
-    let drawn = sketch.draw(alloc, tree, page, &label);
-    drop(label);
-    drawn
-}
-
-/// The same of what happened.
+/// What happened is drawn.
 fn draw_event(
     alloc: Global,
     sketch: &mut Sketch,
@@ -40,11 +23,11 @@ fn draw_event(
     happened: Happened,
 ) -> Result<(), WantOfMemory>
     ensures elements { OnOk result (page.new.elements ≡ page.old.elements) }
-    ensures marks { OnOk result (page.new.marks ≡ page.old.marks ++ asks_of happened.label) }
+    ensures marks { OnOk result (page.new.marks ++ asks sketch.new.rows ≡ (page.old.marks ++ asks sketch.old.rows) ++ asks_of happened.label) }
 {
     let Happened { label, said } = happened;
     drop(said);
-    draw_label(alloc, sketch, tree, page, label)
+    sketch.draw(alloc, tree, page, label)
 }
 
 /// All that follows by itself is drawn.
@@ -54,14 +37,14 @@ fn draw_steps<R: Drivers>(
     sketch: &mut Sketch,
     page: &mut Page,
 ) -> Result<(), WantOfMemory>
-    ensures drawing { OnOk result ((start : Playing) → Drawing start page.old.marks play.old → Drawing start page.new.marks play.new) }
+    ensures drawing { OnOk result ((start : Playing) → Drawing start (page.old.marks ++ asks sketch.old.rows) play.old → Drawing start (page.new.marks ++ asks sketch.new.rows) play.new) }
     ensures elements { OnOk result (page.new.elements ≡ page.old.elements) }
     ensures quiet { OnOk result (IsFrontQuiet (told_of play.new.desk) (front_of play.new.desk)) }
     ensures reading { OnOk result (play.new.reading ≡ play.old.reading) }
 {
     'steps: loop {
         match play.step()? {
-            Some(label) => draw_label(alloc, sketch, play.tree(), page, label)?,
+            Some(label) => sketch.draw(alloc, play.tree(), page, label)?,
             None => return Ok(()),
         }
     }
@@ -74,7 +57,7 @@ pub fn draw_all<R: Drivers>(
     sketch: &mut Sketch,
     page: &mut Page,
 ) -> Result<(), WantOfMemory>
-    ensures drawn { OnOk result ((start : Playing) → Drawing start page.old.marks play.old → Drawn start page.new.marks play.new) }
+    ensures drawn { OnOk result ((start : Playing) → Drawing start (page.old.marks ++ asks sketch.old.rows) play.old → Drawn start (page.new.marks ++ asks sketch.new.rows) play.new) }
     ensures elements { OnOk result (page.new.elements ≡ page.old.elements) }
 {
     'events: loop {

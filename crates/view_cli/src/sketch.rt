@@ -1,6 +1,6 @@
 //! What is drawn of a run: its rows, and behind them the state diagram, the changes of the resource map, the tree and the map.
 ghost use Rattle.std.specs.Prelude.{◌≡◌, ◌++◌, ◌∷◌, [], OnOk};
-ghost use Rattle.view_trace.specs.Asks.{asks_of};
+ghost use Rattle.view_trace.specs.Asks.{asks, asks_of};
 
 use device_ids::WantOfMemory;
 use devnode_tree::Tree;
@@ -9,7 +9,8 @@ use resource_reqs::Res;
 use std::alloc::Global;
 use std::mem;
 use view_drawings::{
-    DriverNames, Holding, RunRows, device_tree, holdings, map_change, resource_map, state_diagram,
+    DriverNames, Holding, RunRows, device_tree, holdings, map_change, resource_map, resource_table,
+    state_diagram,
 };
 use view_page::{Attribute, Page, Tag};
 use view_trace::Rows;
@@ -17,7 +18,7 @@ use view_trace::Rows;
 /// No more commits than these are drawn.
 const MOST_CHANGES: usize = 32;
 
-/// A map with more holdings than these is not drawn.
+/// A map with more holdings than these is a table, and a commit with more is not drawn.
 const MOST_HELD: usize = 512;
 
 /// What devices held before and after a commit.
@@ -44,9 +45,8 @@ impl Change {
     }
 }
 
-/// What was drawn of a run, and what of it is drawn behind its rows. This project's own.
-pub struct Sketch {
-    rows: Rows,
+/// What of a run is drawn behind its rows. This project's own.
+struct Kept {
     used: RunRows,
     names: DriverNames,
     reserved: Vec<Res>,
@@ -54,16 +54,27 @@ pub struct Sketch {
     changes: Vec<Change>,
 }
 
-impl Drop for Sketch {
+impl Drop for Kept {
     fn drop(self) {
-        let Sketch {
-            rows: _,
+        let Kept {
             used: _,
             names: _,
             reserved: _,
             before: _,
             changes: _,
         } = self;
+    }
+}
+
+/// What was drawn of a run, and what of it is drawn behind its rows. This project's own.
+pub struct Sketch {
+    rows: Rows,
+    kept: Kept,
+}
+
+impl Drop for Sketch {
+    fn drop(self) {
+        let Sketch { rows: _, kept: _ } = self;
     }
 }
 
@@ -75,11 +86,9 @@ fn say(page: &mut Page, words: &[u8]) -> Result<(), WantOfMemory>
     page.element(Tag::P, &[(Attribute::Class, b"note")], words)
 }
 
-impl Sketch {
-    /// Nothing was drawn yet. It takes no memory.
-    pub fn new(alloc: Global) -> Sketch {
-        Sketch {
-            rows: Rows::new(alloc),
+impl Kept {
+    fn new(alloc: Global) -> Kept {
+        Kept {
             used: RunRows::new(alloc),
             names: DriverNames::new(alloc),
             reserved: Vec::new(alloc),
@@ -132,30 +141,6 @@ impl Sketch {
         }
     }
 
-    /// Draws the row of a label. The tree is that behind the label.
-    pub fn draw(
-        &mut self,
-        alloc: Global,
-        tree: &Tree,
-        page: &mut Page,
-        label: &Label,
-    ) -> Result<(), WantOfMemory>
-        ensures elements { OnOk result (page.new.elements ≡ page.old.elements) }
-        ensures marks { OnOk result (page.new.marks ≡ page.old.marks ++ asks_of label.now) }
-    {
-        self.keep(alloc, tree, label)?;
-        self.rows.draw(alloc, page, label)
-    }
-
-    /// Ends the rows. Condition: they are open, as `begin` leaves them.
-    pub fn end_rows(&self, page: &mut Page) -> Result<(), WantOfMemory>
-        requires { page.old.elements ≡ Tag.Ol ∷ Tag.Div ∷ Tag.Section ∷ Tag.Body ∷ [] }
-        ensures elements { OnOk result (page.new.elements ≡ Tag.Body ∷ []) }
-        ensures marks { OnOk result (page.new.marks ≡ page.old.marks) }
-    {
-        self.rows.end(page)
-    }
-
     /// Draws the changes of the map.
     fn draw_changes(&self, alloc: Global, page: &mut Page) -> Result<(), WantOfMemory>
         ensures elements { OnOk result (page.new.elements ≡ page.old.elements) }
@@ -186,15 +171,12 @@ impl Sketch {
         if held.len() <= MOST_HELD {
             resource_map(alloc, page, b"Resource map at the end", &held)
         } else {
-            say(
-                page,
-                b"More than 512 ranges are held: the map is not drawn.",
-            )
+            resource_table(alloc, page, b"Resources at the end", &held)
         }
     }
 
     /// Draws what stands behind the rows. The tree is that at the end.
-    pub fn draw_rest(&self, alloc: Global, tree: &Tree, page: &mut Page) -> Result<(), WantOfMemory>
+    fn draw_rest(&self, alloc: Global, tree: &Tree, page: &mut Page) -> Result<(), WantOfMemory>
         ensures elements { OnOk result (page.new.elements ≡ page.old.elements) }
         ensures marks { OnOk result (page.new.marks ≡ page.old.marks) }
     {
@@ -207,5 +189,49 @@ impl Sketch {
         self.draw_changes(alloc, page)?;
         device_tree(alloc, page, b"Device tree at the end", tree, &self.names)?;
         self.draw_map(alloc, tree, page)
+    }
+}
+
+impl Sketch {
+    /// Nothing was drawn yet. It takes no memory.
+    pub fn new(alloc: Global) -> Sketch
+        ensures { result.rows ≡ [] }
+    {
+        Sketch {
+            rows: Rows::new(alloc),
+            kept: Kept::new(alloc),
+        }
+    }
+
+    /// Draws a label, or keeps it until the rest of its event is there. The tree is that behind the label.
+    pub fn draw(
+        &mut self,
+        alloc: Global,
+        tree: &Tree,
+        page: &mut Page,
+        label: Label,
+    ) -> Result<(), WantOfMemory>
+        ensures elements { OnOk result (page.new.elements ≡ page.old.elements) }
+        ensures marks { OnOk result (page.new.marks ++ asks self.new.rows ≡ (page.old.marks ++ asks self.old.rows) ++ asks_of label) }
+    {
+        self.kept.keep(alloc, tree, &label)?;
+        self.rows.draw(alloc, page, label)
+    }
+
+    /// Ends the rows. Condition: they are open, as `begin` leaves them.
+    pub fn end_rows(&mut self, alloc: Global, page: &mut Page) -> Result<(), WantOfMemory>
+        requires { page.old.elements ≡ Tag.Ol ∷ Tag.Div ∷ Tag.Section ∷ Tag.Body ∷ [] }
+        ensures elements { OnOk result (page.new.elements ≡ Tag.Body ∷ []) }
+        ensures marks { OnOk result (page.new.marks ≡ page.old.marks ++ asks self.old.rows) }
+    {
+        self.rows.end(alloc, page)
+    }
+
+    /// Draws what stands behind the rows. The tree is that at the end.
+    pub fn draw_rest(&self, alloc: Global, tree: &Tree, page: &mut Page) -> Result<(), WantOfMemory>
+        ensures elements { OnOk result (page.new.elements ≡ page.old.elements) }
+        ensures marks { OnOk result (page.new.marks ≡ page.old.marks) }
+    {
+        self.kept.draw_rest(alloc, tree, page)
     }
 }

@@ -64,15 +64,46 @@ fn draw_bad(alloc: Global, bad: Option<u64>, page: &mut Page) -> Result<(), Want
     page.element(Tag::P, &[(Attribute::Class, b"bad")], words.as_bytes())
 }
 
+/// Where in the end of the output that stands which no drawing shows: what is outstanding, and open handles; its length, where there is
+/// nothing of these.
+fn place_of_rest(ending: &[u8]) -> usize
+    ensures { result ≤ length ending.now }
+{
+    for at in 0..ending.len() {
+        if ending[at..].starts_with(b"\noutstanding\n") && ending.len() - at > 13 {
+            return at + 1;
+        }
+    }
+    ending.len()
+}
+
+/// The part of the end of the output that is drawn above it too, folded.
+fn draw_drawn(ending: &[u8], page: &mut Page) -> Result<(), WantOfMemory>
+    ensures elements { OnOk result (page.new.elements ≡ page.old.elements) }
+    ensures marks { OnOk result (page.new.marks ≡ page.old.marks) }
+{
+    page.open(Tag::Details, &[(Attribute::Class, b"ending")])?;
+    page.element(
+        Tag::Summary,
+        &[],
+        b"The end of the output, as it is printed",
+    )?;
+    page.element(Tag::Pre, &[(Attribute::Tabindex, b"0")], ending)?;
+    page.close()
+}
+
 /// The end of the output.
 fn draw_ending(ending: &[u8], page: &mut Page) -> Result<(), WantOfMemory>
     ensures elements { OnOk result (page.new.elements ≡ page.old.elements) }
     ensures marks { OnOk result (page.new.marks ≡ page.old.marks) }
 {
-    page.open(Tag::Section, &[])?;
-    page.element(Tag::H2, &[], b"The end of the output")?;
-    page.element(Tag::Pre, &[(Attribute::Tabindex, b"0")], ending)?;
-    page.close()
+    let at = place_of_rest(ending);
+    draw_drawn(&ending[..at], page)?;
+    if at == ending.len() {
+        return Ok(());
+    }
+    page.element(Tag::H2, &[], b"Outstanding at the end")?;
+    page.element(Tag::Pre, &[(Attribute::Tabindex, b"0")], &ending[at..])
 }
 
 /// All of a play is drawn, and then the end of the output.
@@ -90,9 +121,9 @@ fn draw_play<R: Drivers>(
     ensures elements { IfOk result (λ status. page.new.elements ≡ []) }
 {
     let mut sketch = Sketch::new(alloc);
-    begin(alloc, page, title, STYLE)?;
+    begin(page, title, STYLE)?;
     draw_all(alloc, play, &mut sketch, page)?;
-    sketch.end_rows(page)?;
+    sketch.end_rows(alloc, page)?;
     let bad = play.bad_line();
     draw_bad(alloc, bad, page)?;
     sketch.draw_rest(alloc, play.tree(), page)?;

@@ -33,6 +33,16 @@ impl Bar<'_> {
             .binary_search_by_key(&key, |other| other.key())
             .is_err()
     }
+
+    /// Whether something of a kind is held.
+    fn has_kind(&self, kind: Kind) -> bool {
+        for holding in self.holdings {
+            if holding.res.kind == kind {
+                return true;
+            }
+        }
+        false
+    }
 }
 
 /// How high a lane of blocks is, in pixels.
@@ -359,7 +369,7 @@ fn draw_frame(
     page.close()
 }
 
-/// The bars of a kind and the table of their blocks; a word where nothing of the kind is held.
+/// The bars of a kind and the table of their blocks; nothing where nothing of the kind is held.
 fn draw_kind(
     alloc: Global,
     page: &mut Page,
@@ -370,15 +380,32 @@ fn draw_kind(
     ensures elements { OnOk result (page.new.elements ≡ page.old.elements) }
     ensures marks { OnOk result (page.new.marks ≡ page.old.marks) }
 {
-    worded(page, Tag::P, b"map-kind", kind_text(kind))?;
     if scale.stretches.is_empty() {
-        return worded(page, Tag::P, b"map-none", b"none is held");
+        return Ok(());
     }
+    worded(page, Tag::P, b"map-kind", kind_text(kind))?;
     draw_frame(alloc, page, kind, scale, bars)?;
     draw_legend(alloc, page, kind, bars)
 }
 
-/// The five kinds, and the words on the scale.
+/// The table of what is held of a kind, if anything is.
+fn draw_table(
+    alloc: Global,
+    page: &mut Page,
+    kind: Kind,
+    bars: &[Bar<'_>],
+) -> Result<(), WantOfMemory>
+    ensures elements { OnOk result (page.new.elements ≡ page.old.elements) }
+    ensures marks { OnOk result (page.new.marks ≡ page.old.marks) }
+{
+    if !bars.iter().any(|bar| bar.has_kind(kind)) {
+        return Ok(());
+    }
+    worded(page, Tag::P, b"map-kind", kind_text(kind))?;
+    draw_legend(alloc, page, kind, bars)
+}
+
+/// The kinds of which something is held, and the words on the scale.
 fn draw_kinds(
     alloc: Global,
     page: &mut Page,
@@ -396,12 +423,12 @@ fn draw_kinds(
         let scale = scale_of(alloc, *kind, one, other)?;
         draw_kind(alloc, page, *kind, bars, &scale)?;
     }
-    worded(
-        page,
-        Tag::P,
-        b"map-note",
-        b"Not to scale: a block is a little wider with each doubling of its size, and free numbers between blocks are cut to a zigzag.",
-    )?;
+    let note: &[u8] = if one.is_empty() && other.is_empty() {
+        b"Nothing is held."
+    } else {
+        b"Not to scale: a block is a little wider with each doubling of its size, and free numbers between blocks are cut to a zigzag."
+    };
+    worded(page, Tag::P, b"map-note", note)?;
     page.close()
 }
 
@@ -459,4 +486,31 @@ pub fn map_change(
         },
     ];
     draw_kinds(alloc, page, title, before, after, &bars)
+}
+
+/// Draws what is held as tables alone, one for each kind, with a title: where there is too much for bars. Conditions and result as for
+/// `resource_map`. Cost: their number times its logarithm.
+pub fn resource_table(
+    alloc: Global,
+    page: &mut Page,
+    title: &[u8],
+    holdings: &[Holding],
+) -> Result<(), WantOfMemory>
+    ensures elements { OnOk result (page.new.elements ≡ page.old.elements) }
+    ensures marks { OnOk result (page.new.marks ≡ page.old.marks) }
+{
+    let bars = [Bar {
+        name: b"",
+        sign: b"",
+        moved: b"",
+        has_kept: true,
+        holdings,
+        others: holdings,
+    }];
+    page.open(Tag::Figure, &[(Attribute::Class, b"drawing")])?;
+    worded(page, Tag::Figcaption, b"drawing-title", title)?;
+    'kinds: for kind in &KINDS {
+        draw_table(alloc, page, *kind, &bars)?;
+    }
+    page.close()
 }

@@ -16,7 +16,7 @@ mod style;
 mod tree;
 mod used;
 
-pub use bars::{map_change, resource_map};
+pub use bars::{map_change, resource_map, resource_table};
 pub use device_ids::WantOfMemory;
 pub use diagram::state_diagram;
 pub use holding::{Holding, holdings};

@@ -1,6 +1,6 @@
 -- What a page is: every tag closed in order, every text escaped, and the marks that its arrows carry.
 use Rattle.std.specs.Prelude.{◌≡◌, ◌==◌, ◌||◌, ℕ, List, [], ◌∷◌, ◌++◌, codes, nat_lt, if◌then◌else◌}
-use Rattle.view_page.specs.Words.{Text, tag_text, empty_text, attribute_text}
+use Rattle.view_page.specs.Words.{Text, tag_text, empty_text, attribute_text, attribute_front}
 use Rattle.view_page.specs.declared.words.Tag.{Tag}
 use Rattle.view_page.specs.declared.words.Empty.{Empty}
 use Rattle.view_page.specs.declared.words.Attribute.{Attribute}
@@ -26,9 +26,13 @@ escaped (byte ∷ bytes) = escaped_byte byte ++ escaped bytes
 abbrev pub valued : Text → Text → Text
 valued name value = 32 ∷ name ++ 61 ∷ 34 ∷ escaped value ++ 34 ∷ []
 
+-- an attribute with its value, behind what stands before it
+abbrev pub attribute : Attribute × Text → Text
+attribute one = 32 ∷ attribute_text one.0 ++ 61 ∷ 34 ∷ attribute_front one.0 ++ escaped one.1 ++ 34 ∷ []
+
 abbrev pub attributes_text : List (Attribute × Text) → Text
 attributes_text [] = []
-attributes_text (one ∷ others) = valued (attribute_text one.0) one.1 ++ attributes_text others
+attributes_text (one ∷ others) = attribute one ++ attributes_text others
 
 -- <name attributes>
 abbrev pub open_tag : Tag → List (Attribute × Text) → Text

@@ -1,5 +1,5 @@
 -- The words of a page: its elements, and the names of their attributes.
-use Rattle.std.specs.Prelude.{ℕ, List, codes}
+use Rattle.std.specs.Prelude.{ℕ, List, [], codes}
 use Rattle.view_page.specs.declared.words.Tag.{Tag}
 use Rattle.view_page.specs.declared.words.Empty.{Empty}
 use Rattle.view_page.specs.declared.words.Attribute.{Attribute}
@@ -52,6 +52,7 @@ tag_text Tag.Marker = codes "marker"
 tag_text Tag.Desc = codes "desc"
 tag_text Tag.Text = codes "text"
 tag_text Tag.Tspan = codes "tspan"
+tag_text Tag.A = codes "a"
 
 abbrev pub empty_text : Empty → Text
 empty_text Empty.Meta = codes "meta"
@@ -120,3 +121,9 @@ attribute_text Attribute.Open = codes "open"
 attribute_text Attribute.Tabindex = codes "tabindex"
 attribute_text Attribute.Start = codes "start"
 attribute_text Attribute.Value = codes "value"
+attribute_text Attribute.Fragment = codes "href"
+
+-- what stands before its value: a link leads to a place of the same page
+abbrev pub attribute_front : Attribute → Text
+attribute_front Attribute.Fragment = codes "#"
+attribute_front _ = []

@@ -1,6 +1,6 @@
 //! A page as it is written.
-ghost use Rattle.std.specs.Prelude.{◌≡◌, ◌++◌, ◌∷◌, [], List, IfOk, OnOk, OnErr};
-ghost use Rattle.view_page.specs.Pages.{IsPage};
+ghost use Rattle.std.specs.Prelude.{◌≡◌, ◌++◌, ◌∷◌, [], List, IfOk, OnOk, OnErr, map};
+ghost use Rattle.view_page.specs.Pages.{IsPage, arrow_tag, empty_tag, escaped, open_tag, page_end, page_front};
 ghost use Rattle.view_page.specs.declared.words.Tag.{Tag as Tags};
 
 use crate::escape::{WantOfMemory, push_escaped};
@@ -35,6 +35,7 @@ impl Page {
     pub fn new(alloc: Global) -> Result<Page, WantOfMemory>
         ensures elements { IfOk result (λ p. p.elements ≡ []) }
         ensures marks { IfOk result (λ p. p.marks ≡ []) }
+        ensures text { IfOk result (λ p. p.text ≡ page_front) }
     {
         let text = Vec::from_slice(alloc, b"<!DOCTYPE html>\n<html lang=\"en\">\n")?;
         Ok(Page {
@@ -49,6 +50,7 @@ impl Page {
     pub fn open(&mut self, tag: Tag, attributes: &[(Attribute, &[u8])]) -> Result<(), WantOfMemory>
         ensures elements { OnOk result (self.new.elements ≡ tag ∷ self.old.elements) }
         ensures marks { OnOk result (self.new.marks ≡ self.old.marks) }
+        ensures text { OnOk result (self.new.text ≡ self.old.text ++ open_tag tag (map (λ a. (a.0, a.1.now)) attributes.now)) }
         ensures err { OnErr result (self.new ≡ self.old) }
     {
         let piece = open_tag(self.alloc, tag, attributes)?;
@@ -80,6 +82,7 @@ impl Page {
     pub fn words(&mut self, words: &[u8]) -> Result<(), WantOfMemory>
         ensures elements { OnOk result (self.new.elements ≡ self.old.elements) }
         ensures marks { OnOk result (self.new.marks ≡ self.old.marks) }
+        ensures text { OnOk result (self.new.text ≡ self.old.text ++ escaped words.now) }
         ensures err { OnErr result (self.new ≡ self.old) }
     {
         let mut piece = Vec::new(self.alloc);
@@ -96,6 +99,7 @@ impl Page {
     ) -> Result<(), WantOfMemory>
         ensures elements { OnOk result (self.new.elements ≡ self.old.elements) }
         ensures marks { OnOk result (self.new.marks ≡ self.old.marks) }
+        ensures text { OnOk result (self.new.text ≡ self.old.text ++ empty_tag name (map (λ a. (a.0, a.1.now)) attributes.now)) }
         ensures err { OnErr result (self.new ≡ self.old) }
     {
         let piece = empty_tag(self.alloc, name, attributes)?;
@@ -111,6 +115,7 @@ impl Page {
     ) -> Result<(), WantOfMemory>
         ensures elements { OnOk result (self.new.elements ≡ self.old.elements) }
         ensures marks { OnOk result (self.new.marks ≡ self.old.marks ++ mark.now ∷ []) }
+        ensures text { OnOk result (self.new.text ≡ self.old.text ++ arrow_tag mark.now (map (λ a. (a.0, a.1.now)) attributes.now)) }
         ensures err { OnErr result (self.new ≡ self.old) }
     {
         let piece = arrow_tag(self.alloc, mark, attributes)?;
@@ -128,7 +133,8 @@ impl Page {
     /// The bytes of the page. Condition: no element in html is open.
     pub fn finish(self) -> Result<Vec<u8>, WantOfMemory>
         requires { self.elements ≡ [] }
-        ensures { IfOk result (λ bytes. IsPage self.marks bytes.items) }
+        ensures page { IfOk result (λ bytes. IsPage self.marks bytes.items) }
+        ensures text { IfOk result (λ bytes. bytes.items ≡ self.text ++ page_end) }
     {
         let mut text = self.text;
         text.extend_from_slice(b"</html>\n")?;

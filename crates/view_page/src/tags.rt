@@ -1,9 +1,9 @@
 //! Tags with their attributes.
 ghost use Rattle.std.specs.Prelude.{◌≡◌, ◌++◌, IfOk, OnOk, map};
-ghost use Rattle.view_page.specs.Pages.{arrow_tag, attributes_text, close_tag, empty_tag, open_tag, valued};
+ghost use Rattle.view_page.specs.Pages.{arrow_tag, attribute, attributes_text, close_tag, empty_tag, open_tag, valued};
 
 use crate::escape::{WantOfMemory, push_escaped};
-use crate::words::{Attribute, Empty, Tag, attribute_text, empty_text, tag_text};
+use crate::words::{Attribute, Empty, Tag, attribute_front, attribute_text, empty_text, tag_text};
 use std::alloc::Global;
 
 /// Appends a name with its value in quotation marks.
@@ -18,6 +18,19 @@ fn push_valued(text: &mut Vec<u8>, name: &[u8], value: &[u8]) -> Result<(), Want
     Ok(())
 }
 
+/// Appends an attribute with its value.
+fn push_attribute(text: &mut Vec<u8>, name: Attribute, value: &[u8]) -> Result<(), WantOfMemory>
+    ensures { OnOk result (text.new.items ≡ text.old.items ++ attribute (name, value.now)) }
+{
+    text.push(b' ')?;
+    text.extend_from_slice(attribute_text(name))?;
+    text.extend_from_slice(b"=\"")?;
+    text.extend_from_slice(attribute_front(name))?;
+    push_escaped(text, value)?;
+    text.push(b'"')?;
+    Ok(())
+}
+
 /// Appends names with their values.
 fn push_attributes(
     text: &mut Vec<u8>,
@@ -26,7 +39,7 @@ fn push_attributes(
     ensures { OnOk result (text.new.items ≡ text.old.items ++ attributes_text (map (λ a. (a.0, a.1.now)) attributes.now)) }
 {
     for attribute in attributes {
-        push_valued(text, attribute_text(attribute.0), attribute.1)?;
+        push_attribute(text, attribute.0, attribute.1)?;
     }
     Ok(())
 }

@@ -1,6 +1,6 @@
 //! The words of a page: its elements, and the names of their attributes.
 ghost use Rattle.std.specs.Prelude.{◌≡◌};
-ghost use Rattle.view_page.specs.Words.{tag_text, empty_text, attribute_text};
+ghost use Rattle.view_page.specs.Words.{tag_text, empty_text, attribute_text, attribute_front};
 
 /// An element with content, of HTML or of SVG.
 #[derive(Clone, Copy, Debug, PartialEq, Eq)]
@@ -48,6 +48,7 @@ pub enum Tag {
     Desc,
     Text,
     Tspan,
+    A,
 }
 
 /// The name of an element with content.
@@ -98,6 +99,7 @@ pub fn tag_text(tag: Tag) -> &'static [u8]
         Tag::Desc => b"desc",
         Tag::Text => b"text",
         Tag::Tspan => b"tspan",
+        Tag::A => b"a",
     }
 }
 
@@ -192,6 +194,8 @@ pub enum Attribute {
     Tabindex,
     Start,
     Value,
+    /// A link to an element of the same page, by its `Id`: a `#` stands before the value.
+    Fragment,
 }
 
 /// The name of an attribute as it is written.
@@ -252,5 +256,16 @@ pub fn attribute_text(name: Attribute) -> &'static [u8]
         Attribute::Tabindex => b"tabindex",
         Attribute::Start => b"start",
         Attribute::Value => b"value",
+        Attribute::Fragment => b"href",
+    }
+}
+
+/// What stands before the value of an attribute: a link leads to a place of the same page, and nowhere else.
+pub fn attribute_front(name: Attribute) -> &'static [u8]
+    ensures { result.now ≡ attribute_front name }
+{
+    match name {
+        Attribute::Fragment => b"#",
+        _ => b"",
     }
 }

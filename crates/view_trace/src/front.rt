@@ -5,7 +5,6 @@ use crate::arrow;
 use crate::style::style;
 use device_ids::WantOfMemory;
 use pnp_labels::Shown;
-use std::alloc::Global;
 use view_page::{Attribute, Empty, Page, Tag};
 
 /// The head of the page. `style` is the style of what else the page has: it has no character that is escaped.
@@ -31,16 +30,15 @@ fn head(page: &mut Page, title: &[u8], more: &[u8]) -> Result<(), WantOfMemory>
 }
 
 /// An arrow of the legend, with what it means.
-fn sample(alloc: Global, page: &mut Page, shown: Shown, meaning: &[u8]) -> Result<(), WantOfMemory>
+fn sample(page: &mut Page, shown: Shown, meaning: &[u8]) -> Result<(), WantOfMemory>
     ensures elements { OnOk result (page.new.elements ≡ page.old.elements) }
     ensures marks { OnOk result (page.new.marks ≡ page.old.marks) }
 {
-    let path = arrow::path_of(alloc, 1, shown)?;
     page.open(Tag::Li, &[])?;
     page.open(
         Tag::Svg,
         &[
-            (Attribute::ViewBox, b"100 0 80 24"),
+            (Attribute::ViewBox, b"-48 0 60 24"),
             (Attribute::AriaHidden, b"true"),
         ],
     )?;
@@ -48,7 +46,7 @@ fn sample(alloc: Global, page: &mut Page, shown: Shown, meaning: &[u8]) -> Resul
         Empty::Path,
         &[
             (Attribute::Class, arrow::class_of(shown)),
-            (Attribute::D, path.as_bytes()),
+            (Attribute::D, arrow::path_of(shown)),
         ],
     )?;
     page.close()?;
@@ -57,20 +55,20 @@ fn sample(alloc: Global, page: &mut Page, shown: Shown, meaning: &[u8]) -> Resul
 }
 
 /// What the arrows mean.
-fn legend(alloc: Global, page: &mut Page) -> Result<(), WantOfMemory>
+fn legend(page: &mut Page) -> Result<(), WantOfMemory>
     ensures elements { OnOk result (page.new.elements ≡ page.old.elements) }
     ensures marks { OnOk result (page.new.marks ≡ page.old.marks) }
 {
     page.open(Tag::Ul, &[(Attribute::Class, b"legend")])?;
-    sample(alloc, page, Shown::Ok, b"succeeded")?;
-    sample(alloc, page, Shown::Fail, b"failed")?;
-    sample(alloc, page, Shown::Pend, b"pending")?;
-    sample(alloc, page, Shown::Violation, b"failed where it must not")?;
+    sample(page, Shown::Ok, b"succeeded")?;
+    sample(page, Shown::Fail, b"failed")?;
+    sample(page, Shown::Pend, b"pending")?;
+    sample(page, Shown::Violation, b"failed where it must not")?;
     page.close()
 }
 
 /// The heading of the page.
-fn heading(alloc: Global, page: &mut Page, title: &[u8]) -> Result<(), WantOfMemory>
+fn heading(page: &mut Page, title: &[u8]) -> Result<(), WantOfMemory>
     ensures elements { OnOk result (page.new.elements ≡ page.old.elements) }
     ensures marks { OnOk result (page.new.marks ≡ page.old.marks) }
 {
@@ -79,21 +77,21 @@ fn heading(alloc: Global, page: &mut Page, title: &[u8]) -> Result<(), WantOfMem
     page.element(
         Tag::P,
         &[],
-        b"Each row is a line of the trace. An arrow goes from the manager to the driver that it asked.",
+        b"Each row is a line of the trace. An arrow goes from the manager to the driver that it asked. The page with #row-12 behind its name opens at row 12.",
     )?;
-    legend(alloc, page)?;
+    legend(page)?;
     page.close()
 }
 
 /// Begins a page with its head, its heading, and the place of the rows.
-pub fn begin(alloc: Global, page: &mut Page, title: &[u8], more: &[u8]) -> Result<(), WantOfMemory>
+pub fn begin(page: &mut Page, title: &[u8], more: &[u8]) -> Result<(), WantOfMemory>
     requires { page.old.elements ≡ [] }
     ensures elements { OnOk result (page.new.elements ≡ Tag.Ol ∷ Tag.Div ∷ Tag.Section ∷ Tag.Body ∷ []) }
     ensures marks { OnOk result (page.new.marks ≡ page.old.marks) }
 {
     head(page, title, more)?;
     page.open(Tag::Body, &[])?;
-    heading(alloc, page, title)?;
+    heading(page, title)?;
     page.open(
         Tag::Section,
         &[(Attribute::Class, b"run"), (Attribute::Tabindex, b"0")],

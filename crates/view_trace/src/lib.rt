@@ -1,11 +1,15 @@
-//! The trace of a run, drawn row by row beside a sequence diagram: one arrow for each ask.
+//! The trace of a run, drawn row by row beside a sequence diagram: one arrow for each ask; and what went wrong in it.
 #![tactic(auto)]
 
 mod arrow;
 mod front;
+mod lanes;
+mod pends;
 mod question;
 mod rows;
 mod style;
+mod trouble;
+mod wrong;
 
 pub use front::{begin, begin_plain};
 pub use rows::Rows;

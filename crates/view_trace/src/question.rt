@@ -4,7 +4,7 @@ ghost use Rattle.pnp_labels.specs.Texts.{label_line};
 ghost use Rattle.view_trace.specs.Asks.{is_ask};
 
 use device_ids::{Text, WantOfMemory};
-use pnp_labels::{Label, Shown, label_line};
+use pnp_labels::{Deed, Label, Shown, label_line};
 use std::alloc::Global;
 
 /// A question to a driver, and what it answered.
@@ -40,16 +40,33 @@ pub fn line_of(alloc: Global, label: &Label) -> Result<Vec<u8>, WantOfMemory>
     Ok(line)
 }
 
+/// Whether the rows of an event begin with a label.
+pub fn is_event(label: &Label) -> bool {
+    matches!(label, Label::Did(_) | Label::Refused { .. })
+}
+
 /// The class of a label's row.
 pub fn class_of(label: &Label) -> &'static [u8] {
     match label {
+        Label::Did(Deed::Completed { .. }) => b"event completion",
         Label::Did(_) => b"event",
         Label::Refused { .. } => b"event refused",
         Label::Asked { .. } | Label::Add { .. } => b"ask",
         Label::State { .. } => b"state",
         Label::Begin { .. } | Label::Commit { .. } | Label::End { .. } => b"operation",
-        Label::Trouble { .. } | Label::NoFit { .. } | Label::Spent { .. } => b"trouble",
-        Label::Notice { .. } | Label::Declined { .. } => b"notice",
+        Label::Trouble { .. }
+        | Label::NoFit { .. }
+        | Label::Spent { .. }
+        | Label::Declined { .. } => b"trouble",
+        Label::Notice { .. } => b"notice",
         _ => b"step",
+    }
+}
+
+/// The class of the rows of an event that begin with a label, where there are further ones.
+pub fn fold_class_of(label: &Label) -> &'static [u8] {
+    match label {
+        Label::Did(Deed::Completed { .. }) => b"fold completion",
+        _ => b"fold",
     }
 }
