@@ -10,7 +10,7 @@ use Rattle.pnp_model.specs.Laws.{HoldsWhole}
 use Rattle.pnp_model.specs.Cores.{node_at}
 use Rattle.pnp_model.specs.Trees.{children, is_child, hangs_on}
 use Rattle.pnp_model.specs.Frames.{first_node}
-use Rattle.pnp_model.specs.Records.{Node, Core, State, Operation}
+use Rattle.pnp_model.specs.Records.{Node, Core, State, Job}
 use Rattle.pnp_laws.specs.Kept.{Ascending, Each, Within, OperationFits, is_calm, at_head, is_removable, settling_state, emptied_state}
 use Rattle.pnp_laws.proofs.Lists.{HeadIs, head_found, head_has}
 use Rattle.pnp_laws.proofs.Lookups.{none_below, found_self, own_serial}
@@ -25,9 +25,9 @@ pub own_there : (nodes : List Node) (k serial : ℕ) (node : Node) → Some node
 own_there nodes k serial node at own = ap (λ j. is_some (node_at j nodes)) own ∙ ap is_some (found_self k nodes node (sym at))
 
 -- what a state of a run keeps of the operation that runs
-pub running : (s : State) (o : Operation) → Kept s → s.operation ≡ Some o → StageKept (Some o) s.core × OperationFits (Some o) s.core.nodes
+pub running : (s : State) (o : Job) → Kept s → s.operation ≡ Some o → StageKept (Some o) s.core × OperationFits (Some o) s.core.nodes
 running s o kept is =
-    (subst (λ (x : Option Operation). StageKept x s.core) is kept.stands.stage, subst (λ (x : Option Operation). OperationFits x s.core.nodes) is kept.good.fits)
+    (subst (λ (x : Option Job). StageKept x s.core) is kept.stands.stage, subst (λ (x : Option Job). OperationFits x s.core.nodes) is kept.good.fits)
 
 -- what is next is there
 pub first_there : (todo : List ℕ) (nodes : List Node) → Goes todo nodes → IsSome (first_node nodes todo)
