@@ -74,11 +74,11 @@ of_acts c t j b handles n Course.Surprising =
 of_acts c t j b handles n Course.Finishing =
     mapped (λ m. Does m) (finishes.acts (set_rack t c) j handles j.stage n) ∙ of_finish c t j handles j.stage n ∙ sym (mapped (λ m. Does m) (finishes.acts c j handles j.stage n))
 
-of_job : (c : Core) (t : List Driver) (j : Job) (b : Bool) (handles : List Handle) (w : Option Walk) (n : Option Node) → is_none (job_step (set_rack t c) j b handles w n) ≡ is_none (job_step c j b handles w n)
-of_job c t j b handles None n = of_acts c t j b handles n (course_of j.kind)
-of_job c t j b handles (Some w) None = refl
-of_job c t j b handles (Some w) (Some node) =
-    let next = after_end c j b node (is_bad w) (course_of j.kind) in
+of_job : (c : Core) (t : List Driver) (j : Job) (course : Course) (b : Bool) (handles : List Handle) (w : Option Walk) (n : Option Node) → is_none (job_step (set_rack t c) j course b handles w n) ≡ is_none (job_step c j course b handles w n)
+of_job c t j course b handles None n = of_acts c t j b handles n course
+of_job c t j course b handles (Some w) None = refl
+of_job c t j course b handles (Some w) (Some node) =
+    let next = after_end c j b node (is_bad w) course in
     mapped (λ m. Does m) (walks (set_rack t c) j node w next) ∙ of_walk c t j node w next ∙ sym (mapped (λ m. Does m) (walks c j node w next))
 
 of_operation : (s : State) (t : List Driver) (j : Job) (waits : Bool) → is_none (operation_next (with_rack t s) j waits) ≡ is_none (operation_next s j waits)
@@ -86,8 +86,8 @@ of_operation s t j true = refl
 of_operation s t j false =
     let back = is_back s j (course_of j.kind) in
     let first = first_node s.core.nodes j.todo in
-    mapped (doing_map (job_lifted (with_rack t s))) (job_step (set_rack t s.core) j back s.handles j.walk first)
-    ∙ of_job s.core t j back s.handles j.walk first ∙ sym (mapped (doing_map (job_lifted s)) (job_step s.core j back s.handles j.walk first))
+    mapped (doing_map (job_lifted (with_rack t s))) (job_step (set_rack t s.core) j (course_of j.kind) back s.handles j.walk first)
+    ∙ of_job s.core t j (course_of j.kind) back s.handles j.walk first ∙ sym (mapped (doing_map (job_lifted s)) (job_step s.core j (course_of j.kind) back s.handles j.walk first))
 
 of_activity : (s : State) (t : List Driver) (a : Activity) (o : Option Node) → is_none (activity_next (with_rack t s) a o) ≡ is_none (activity_next s a o)
 of_activity s t a None = refl

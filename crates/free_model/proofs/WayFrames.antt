@@ -169,7 +169,7 @@ way_acts c j in_world handles n Course.Removing t e = way_removal c handles j j.
 way_acts c j in_world handles n Course.Surprising t e = way_surprise c handles j in_world j.stage n t e
 way_acts c j in_world handles n Course.Finishing t e = way_finish c handles j j.stage n t e
 
-pub way_job : (c : Core) (j : Job) (in_world : Bool) (handles : List Handle) (w : Option Walk) (n : Option Node) → Forks (job_query c handles j w n) c (λ (x : Core). job_step x j in_world handles w n)
+pub way_job : (c : Core) (j : Job) (in_world : Bool) (handles : List Handle) (w : Option Walk) (n : Option Node) → Forks (job_query c handles j w n) c (λ (x : Core). job_step x j (course_of j.kind) in_world handles w n)
 way_job c j in_world handles None n t e = way_acts c j in_world handles n (course_of j.kind) t e
 way_job c j in_world handles (Some w) None t e = rests
 way_job c j in_world handles (Some w) (Some node) t e = walked c t e j node w (after_end c j in_world node (is_bad w) (course_of j.kind)) (has_ended w (length node.stack))

@@ -135,17 +135,17 @@ course_acts Course.Removing s o back own fits kept = mapped (λ m. Does m) (rm.a
 course_acts Course.Surprising s o back own fits kept = mapped (λ m. Does m) (su.acts s.core o back s.handles o.stage (first_node s.core.nodes o.todo)) (surprise_acts s o back o.stage own fits.ends kept.1)
 course_acts Course.Finishing s o back own fits kept = mapped (λ m. Does m) (fi.acts s.core o s.handles o.stage (first_node s.core.nodes o.todo)) (finish_acts s o o.stage own fits.one kept.1)
 
-job_goes : (s : State) (o : Job) (back : Bool) (walk : Option Walk) → IsOwn walk (asked_in (course_of o.kind) o.stage) → JobFits (course_of o.kind) o s.core.nodes → JobKept (course_of o.kind) o s.core → IsSome (ma.job_step s.core o back s.handles walk (first_node s.core.nodes o.todo))
+job_goes : (s : State) (o : Job) (back : Bool) (walk : Option Walk) → IsOwn walk (asked_in (course_of o.kind) o.stage) → JobFits (course_of o.kind) o s.core.nodes → JobKept (course_of o.kind) o s.core → IsSome (ma.job_step s.core o (course_of o.kind) back s.handles walk (first_node s.core.nodes o.todo))
 job_goes s o back None own fits kept = course_acts (course_of o.kind) s o back (sym own) fits kept
 job_goes s o back (Some w) own fits kept =
     let h = course_walks (course_of o.kind) s o back w.minor (sym own) kept in
     let node = h.0.0 in
     let next = walks_some s.core o node w (ma.after_end s.core o back node (is_bad w) (course_of o.kind)) (h.1 node (is_bad w)) in
-    (Does next.0, ap (ma.job_step s.core o back s.handles (Some w)) h.0.1 ∙ ap (option_map (λ m. Does m)) next.1)
+    (Does next.0, ap (ma.job_step s.core o (course_of o.kind) back s.handles (Some w)) h.0.1 ∙ ap (option_map (λ m. Does m)) next.1)
 
 pub operation_goes : (s : State) (o : Job) → OperationFits (Some o) s.core.nodes → StageKept (Some o) s.core → IsSome (ma.operation_next s o false)
 operation_goes s o fits kept =
-    mapped (doing_map (ma.job_lifted s)) (ma.job_step s.core o (ma.is_back s o (course_of o.kind)) s.handles o.walk (first_node s.core.nodes o.todo))
+    mapped (doing_map (ma.job_lifted s)) (ma.job_step s.core o (course_of o.kind) (ma.is_back s o (course_of o.kind)) s.handles o.walk (first_node s.core.nodes o.todo))
     (job_goes s o (ma.is_back s o (course_of o.kind)) o.walk (fits_own (course_of o.kind) o s.core.nodes fits) fits kept)
 
 -- A state rests, or something is next -----------------------------------------------------------------

@@ -288,7 +288,7 @@ module _ (budget : ℕ) (s : State) where
   acts_in o Course.Surprising n course none first = surprise_acts o none course o.stage n refl first
   acts_in o Course.Finishing n course none first = finish_acts o none course o.stage n refl first
 
-  job_step : (o : Job) (w : Option Walk) (n : Option Node) → o.walk ≡ w → first_node s.core.nodes o.todo ≡ n → ma.is_waiting w ≡ false → StepsBy budget s o (ma.job_step s.core o (ma.is_back s o (course_of o.kind)) s.handles w n)
+  job_step : (o : Job) (w : Option Walk) (n : Option Node) → o.walk ≡ w → first_node s.core.nodes o.todo ≡ n → ma.is_waiting w ≡ false → StepsBy budget s o (ma.job_step s.core o (course_of o.kind) (ma.is_back s o (course_of o.kind)) s.handles w n)
   job_step o None n walk first waits = acts_in o (course_of o.kind) n refl walk first
   job_step o (Some w) None walk first waits = tt
   job_step o (Some w) (Some node) walk first waits = walks_on o o (Turn.same o) node w first walk waits (ma.after_end s.core o (ma.is_back s o (course_of o.kind)) node (is_bad w) (course_of o.kind)) refl

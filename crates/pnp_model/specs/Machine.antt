@@ -78,12 +78,12 @@ acts c j in_world handles n Course.Removing = option_map (λ m. Does m) (removal
 acts c j in_world handles n Course.Surprising = option_map (λ m. Does m) (surprises.acts c j in_world handles j.stage n)
 acts c j in_world handles n Course.Finishing = option_map (λ m. Does m) (finishes.acts c j handles j.stage n)
 
--- the device that is next stands first; without it no request goes on
-abbrev pub job_step : Core → Job → Bool → List Handle → Option Walk → Option Node → Option (Doing JobMove)
-job_step c j in_world handles None n = acts c j in_world handles n (course_of j.kind)
-job_step c j in_world handles (Some w) None = None
-job_step c j in_world handles (Some w) (Some node) =
-    option_map (λ m. Does m) (walks c j node w (after_end c j in_world node (is_bad w) (course_of j.kind)))
+-- the next step of an operation that goes so; the device that is next stands first, and without it no request goes on
+abbrev pub job_step : Core → Job → Course → Bool → List Handle → Option Walk → Option Node → Option (Doing JobMove)
+job_step c j course in_world handles None n = acts c j in_world handles n course
+job_step c j course in_world handles (Some w) None = None
+job_step c j course in_world handles (Some w) (Some node) =
+    option_map (λ m. Does m) (walks c j node w (after_end c j in_world node (is_bad w) course))
 
 abbrev pub is_born : List Device → Option Node → Bool
 is_born world None = false
@@ -100,7 +100,7 @@ abbrev pub operation_next : State → Job → Bool → Option (Doing Step)
 operation_next s j true = None
 operation_next s j false =
     option_map (doing_map (job_lifted s))
-    (job_step s.core j (is_back s j (course_of j.kind)) s.handles j.walk (first_node s.core.nodes j.todo))
+    (job_step s.core j (course_of j.kind) (is_back s j (course_of j.kind)) s.handles j.walk (first_node s.core.nodes j.todo))
 
 -- an activity has a node; without one there is no step
 abbrev pub activity_next : State → Activity → Option Node → Option (Doing Step)
