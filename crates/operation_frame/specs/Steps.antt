@@ -2,7 +2,9 @@
 use Rattle.std.specs.Prelude.{◌≡◌, Bool, true, false, List, Option, Some, None, Ok, Err, Result}
 use Rattle.pnp_labels.specs.declared.label.Label.{Label}
 use Rattle.pnp_model.specs.Frames.{Move}
-use Rattle.pnp_model.specs.Records.{Node, Core, Relation}
+use Rattle.pnp_model.specs.Machine.{is_waiting}
+use Rattle.pnp_model.specs.Events.{answer_of, completed}
+use Rattle.pnp_model.specs.Records.{Node, Core, Relation, Job}
 use Rattle.devnode_tree.specs.Cores.{at_nodes, at_related}
 use Rattle.device_stack.specs.declared.walk.NoSuchRequest.{NoSuchRequest}
 
@@ -34,3 +36,7 @@ Completes true (Ok done) old further new = new ≡ further
 Completes false (Err refused) old further new = new ≡ old
 Completes true (Err refused) old further new = ⊥
 Completes false (Ok done) old further new = ⊥
+
+-- an operation whose request waits goes on with the answer of the driver; any other refuses, and stays
+abbrev pub Completed : Result (Unit {0}) NoSuchRequest → Job → Bool → Job → Type 0
+Completed result old ok new = Completes (is_waiting old.walk) result old (completed (answer_of ok) old) new
