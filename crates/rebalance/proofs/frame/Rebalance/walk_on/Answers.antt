@@ -1,9 +1,10 @@
-use Rattle.std.proofs.Common.{◌∙◌, slice_get, ap, sym}
+use Rattle.std.proofs.Common.{◌≡◌, ◌∙◌, Option, Some, is_some, option_map, slice_get, ap, sym, subst}
 use Rattle.pnp_model.specs.Cores.{node_at}
-use Rattle.pnp_model.specs.Records.{Rebalance}
-use Rattle.rebalance.specs.Stages.{stage_of}
-use Rattle.rebalance.specs.Parts.{is_walking}
+use Rattle.pnp_model.specs.Records.{Course, Job, Walk}
+use Rattle.pnp_labels.specs.declared.words.Minor.{Minor}
+use Rattle.pnp_laws.specs.Kept.{IsOwn, asked_in}
 use Rattle.operation_frame.proofs.Requests.{on_err, ended_path, ended_same}
+use Rattle.rebalance.proofs.Moving.{walk_is}
 use Rattle.rebalance.proofs.Stepping.{goes_on, ends_so}
 use Rattle.rebalance.proofs.frame.Rebalance.walk_on.Goals as goal
 
@@ -13,15 +14,3 @@ end_request-requires-clause-path g c = ended_path (node_at c.first-serial.result
 pub returns-in_err-label-in-Ended-clause-rack : goal.returns-in_err-label-in-Ended-clause-rack
 returns-in_err-label-in-Ended-clause-rack g c =
     on_err _ c.from_residual-in_err-label-in-Ended.result (ended_same (node_at c.first-serial.result c.args.tree.now.nodes) _ _ _ _ c.in-Ended.path c.in-Ended.refused (rw c.in-Ended.is at c.in_ok-label.ensures.passed)).0
-
-pub returns-in-On-clause-rebalances : goal.returns-in-On-clause-rebalances
-returns-in-On-clause-rebalances g c budget =
-    goes_on c.args.tree.now.nodes (g.R.Drivers.rows c.args.rack.now) (g.R.Drivers.rows c.pass_on.new.rack) c.args.self.now c.first-serial.result c.self.inside.stage c.self.inside.walk.walk c.pass_on.new.walk.walk
-    (ap (λ (r : Rebalance). slice_get r.todo 0) (sym c.self.view_is) ∙ c.first-serial.ensures) (sym (ap (λ (r : Rebalance). r.stage) c.self.view_is)) (ap (λ (r : Rebalance). is_walking r.stage) c.self.view_is ∙ c.requires.walking) c.in-On.label _ budget (rw c.in-On.is at c.in_ok-label.ensures.passed)
-    (ap (λ (r : Rebalance). record r { stage = stage_of c.self.inside.stage c.pass_on.new.walk.walk }) c.self.view_is)
-
-pub returns-in_ok-label-in-Ended-clause-rebalances : goal.returns-in_ok-label-in-Ended-clause-rebalances
-returns-in_ok-label-in-Ended-clause-rebalances g c budget =
-    ends_so c.args.tree.now.nodes (g.R.Drivers.rows c.args.rack.now) (g.R.Drivers.rows c.pass_on.new.rack) c.args.self.now c.first-serial.result c.self.inside.stage c.self.inside.walk.walk c.pass_on.new.walk.walk
-    (ap (λ (r : Rebalance). slice_get r.todo 0) (sym c.self.view_is) ∙ c.first-serial.ensures) (sym (ap (λ (r : Rebalance). r.stage) c.self.view_is)) (ap (λ (r : Rebalance). is_walking r.stage) c.self.view_is ∙ c.requires.walking) c.in_ok-label-in-Ended.label c.end_request.new.self budget c.in-Ended.path c.in-Ended.refused c.end_request.new.tree.nodes (rw c.in-Ended.is at c.in_ok-label.ensures.passed)
-    c.in_ok-label-in-Ended.ensures.ended
