@@ -97,12 +97,13 @@ module _ (s : State) (run : IsOfRun s) (o : Job) (runs : s.operation ≡ Some o)
       let at = (head_found s.core.nodes o.todo h.node h.first).1 in
       stripped.0.no_root ((reaches_born one.told one.rack one.entries old one.reaches).first h.node.serial h.node at (sym own ∙ zero))
 
-  pub removal_allowed : (in_world : Bool) (settled : Option Text) → settled ≡ settled_path o s.core.nodes → (next : Option (Doing JobMove)) → next ≡ job_step s.core o Course.Removing in_world s.handles o.walk (first_node s.core.nodes o.todo) → IsAllowed settled s.disabled next
-  removal_allowed in_world settled set next is =
+  pub removal_allowed : (in_world : Bool) (settled : Option Text) → settled ≡ settled_path o s.core.nodes
+      → IsAllowed settled s.disabled (job_step s.core o Course.Removing in_world s.handles o.walk (first_node s.core.nodes o.todo))
+  removal_allowed in_world settled set =
       record {
-        root = λ m path born e b. let h = ejects s.core o s.handles in_world m (sym is ∙ e) path born b in settled_born m born h (h.ejects path born b);
+        root = λ m path born e b. let h = ejects s.core o s.handles in_world m e path born b in settled_born m born h (h.ejects path born b);
         new = λ m path e b.
-        let h = disables s.core o s.handles in_world m (sym is ∙ e) path b in
+        let h = disables s.core o s.handles in_world m e path b in
         let own = h.disables path b in
         let found = set ∙ settled_is s.core o m.beside h own.1 in
         let one = one_rack s run in
@@ -156,6 +157,14 @@ module _ (ds : Devices) (rack : List Driver) (disabled : List Text) (works : Lis
         let one = one_rack s run in
         let goes = finish_goes one.told one.rack one.entries (with_rack one.here s) one.reaches j (runs j is) course in
         subst (λ (x : State). finish.HasCurrent x.core.nodes j j.stage × finish.LeavesStripped x.core.nodes j j.stage) (sym is) (goes.0, goes.1)
+
+  -- What the machine may do beside it ---------------------------------------------------------
+
+  pub removal_allows : IsOfRun s → (j : Job) → was j ≡ s → course_of j.kind ≡ Course.Removing → (in_world : Bool) (settled : Option Text) → settled ≡ settled_path j ds.tree.nodes → IsAllowed settled disabled (step_of Course.Removing ds rack in_world j)
+  removal_allows run j is course in_world settled set = removal_allowed (was j) (subst (λ (x : State). IsOfRun x) (sym is) run) j refl course in_world settled set
+
+  pub other_allows : (j : Job) (course : Course) → (course ≡ Course.Rebalancing → ⊥) → (course ≡ Course.Removing → ⊥) → (in_world : Bool) (settled : Option Text) → IsAllowed settled disabled (step_of course ds rack in_world j)
+  other_allows j course a b in_world settled = other_allowed (was j) j course a b in_world settled
 
   -- The steps -----------------------------------------------------------------------------
 
