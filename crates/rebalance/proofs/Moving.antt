@@ -1,27 +1,24 @@
 -- Where a rebalance stands next.
-use Rattle.std.proofs.Common.{◌≡◌, ℕ, Bool, true, false, ◌&&◌, List, [], ◌∷◌, drop, is_some, is_none, slice_get, Option, Some, None, Result, Ok, Err, option_map, if◌then◌else◌, refl, sym, ap, ◌∙◌}
+use Rattle.std.proofs.Common.{◌≡◌, ℕ, Bool, true, false, ◌&&◌, List, [], ◌∷◌, drop, is_some, is_none, slice_get, Option, Some, None, option_map, if◌then◌else◌, refl, sym, ap, ◌∙◌}
 use Rattle.pnp_labels.specs.Texts.{Text}
 use Rattle.pnp_labels.specs.declared.label.Label.{Label}
+use Rattle.pnp_labels.specs.declared.words.Answer.{Answer}
 use Rattle.pnp_labels.specs.declared.words.Minor.{Minor}
 use Rattle.resource_reqs.specs.Resources.{Reqs}
 use Rattle.pnp_model.specs.Keyed.{changed_first, those}
 use Rattle.pnp_model.specs.Cores.{is_node, node_at, with_state}
-use Rattle.pnp_model.specs.Events.{answer_of}
 use Rattle.pnp_model.specs.Frames.{rest}
 use Rattle.pnp_model.specs.Jobs.{begins, stands, each_gets}
 use Rattle.pnp_model.specs.Records as Records
 use Rattle.pnp_model.specs.Records.{Node, Core, Walk, Job, Course}
-use Rattle.pnp_model.specs.Walks.{state_after}
+use Rattle.pnp_model.specs.Walks.{after, state_after}
 use Rattle.pnp_model.specs.Rebalances.{after_end, after_restart, answers, ask_on, cancel_on, cancelled, has_refused, is_not_above, restart_on, startable, stop_on}
 use Rattle.pnp_laws.specs.Kept.{IsOwn, asked_in}
-use Rattle.pnp_laws.proofs.FitsBy.{after_minor}
 use Rattle.pnp_laws.proofs.Lookups.{own_serial}
 use Rattle.devnode_tree.specs.Cores.{at_nodes}
 use Rattle.operation_frame.specs.Steps.{StandsAfter}
 use Rattle.operation_frame.specs.Walks.{EndsFor, WalksFor}
 use Rattle.operation_frame.specs.declared.walking.Walked.TheVariants.{On}
-use Rattle.device_stack.specs.Waiting.{CompletesWalk}
-use Rattle.device_stack.specs.declared.walk.NoSuchRequest.{NoSuchRequest}
 use Rattle.rebalance.specs.Stages.{stage_of, walk_at}
 use Rattle.rebalance.specs.declared.frame.Stage.{Stage}
 use Rattle.rebalance.specs.declared.frame.Stage.TheVariants.{Asking, TakingBack, Searching, Cancelling, Stuck, Stopping, Committing, Restarting, Failed, Ending}
@@ -138,27 +135,26 @@ no_remove Records.Stage.Restarting minor h e = cc
 no_remove _ minor h e = cc
 
 -- it is there where the stage has one
-pub walk_is : (s : Stage) (w : Walk) → is_some (walk_at s w) ≡ true → walk_at s w ≡ Some w
-walk_is s w h = by (asked_in Course.Rebalancing (stage_of s)) h
+pub walk_is : (s : Stage) (w v : Walk) → is_some (walk_at s w) ≡ true → walk_at s v ≡ Some v
+walk_is s w v h = by (asked_in Course.Rebalancing (stage_of s)) h
   where
-    by : (asked : Option Minor) → is_some (option_map (λ minor. w) asked) ≡ true → option_map (λ minor. w) asked ≡ Some w
+    by : (asked : Option Minor) → is_some (option_map (λ minor. w) asked) ≡ true → option_map (λ minor. v) asked ≡ Some v
     by None h = absurd (cc)
     by (Some minor) h = refl
 
--- and stays so
-pub own_on : (asked : Option Minor) (w w' : Walk) → w'.minor ≡ w.minor → IsOwn (option_map (λ minor. w) asked) asked → IsOwn (option_map (λ minor. w') asked) asked
-own_on None w w' same own = refl
-own_on (Some minor) w w' same own = ap (λ (m : Minor). Some m) same ∙ own
+-- a driver that is asked leaves it
+after_minor : (w : Walk) (answer : Answer) → (after w answer).minor ≡ w.minor
+after_minor w Answer.Ok = refl
+after_minor w Answer.Fail = refl
+after_minor w Answer.Pend = refl
 
 pub walked_minor : (x : Option Node) (c c' : Core) (w w' : Walk) (label : Label) → WalksFor x c w (On label) c' w' → w'.minor ≡ w.minor
 walked_minor None c c' w w' label h = absurd h
 walked_minor (Some n) c c' w w' label h = ap (λ (v : Walk). v.minor) h.3 ∙ after_minor w _
 
-pub completed_minor : (b : Bool) (result : Result (Unit {0}) NoSuchRequest) (w w' : Walk) (ok : Bool) → CompletesWalk b result w ok w' → w'.minor ≡ w.minor
-completed_minor true (Ok done) w w' ok h = ap (λ (v : Walk). v.minor) h ∙ after_minor w (answer_of ok)
-completed_minor false (Err refused) w w' ok h = ap (λ (v : Walk). v.minor) h
-completed_minor true (Err refused) w w' ok h = absurd h
-completed_minor false (Ok done) w w' ok h = absurd h
+pub own_on : (asked : Option Minor) (w w' : Walk) → w'.minor ≡ w.minor → IsOwn (option_map (λ minor. w) asked) asked → IsOwn (option_map (λ minor. w') asked) asked
+own_on None w w' same own = refl
+own_on (Some minor) w w' same own = ap (λ (m : Minor). Some m) same ∙ own
 
 -- which stage is left
 

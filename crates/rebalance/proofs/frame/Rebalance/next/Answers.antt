@@ -2,8 +2,6 @@ use Rattle.std.proofs.Common.{◌∙◌, ap, sym, refl, subst}
 use Rattle.pnp_model.specs.Frames.{first_node}
 use Rattle.pnp_model.specs.Rebalances.{failed, close}
 use Rattle.pnp_model.specs.Records.{Job}
-use Rattle.pnp_laws.proofs.FitsBy.{by_kind}
-use Rattle.pnp_laws.specs.Kept.{kind_by}
 use Rattle.rebalance.specs.declared.frame.Stage.TheVariants as stages
 use Rattle.rebalance.specs.declared.next.RebalanceStep.TheVariants as steps
 use Rattle.operation_frame.specs.Steps.{MovesFor}
