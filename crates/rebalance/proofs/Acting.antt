@@ -1,5 +1,5 @@
 -- The steps without a request are those of the machine.
-use Rattle.std.proofs.Common.{◌≡◌, ℕ, Bool, true, false, List, [], length, map, reverse, slice_get, Option, Some, None, if◌then◌else◌, is_some, refl, sym, ap, ◌∙◌, subst}
+use Rattle.std.proofs.Common.{◌≡◌, ℕ, true, false, List, [], length, map, reverse, slice_get, Option, Some, None, if◌then◌else◌, is_some, refl, sym, ap, ◌∙◌, subst}
 use Rattle.resource_reqs.specs.Resources.{Res, Reqs}
 use Rattle.resource_reqs.specs.Spelling.Answer.{assignment, no_fit, spent}
 use Rattle.pnp_labels.specs.Texts.{Text}

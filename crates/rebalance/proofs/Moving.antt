@@ -101,7 +101,7 @@ module _ (nodes : List Node) (k : ℕ) (r r' : Job) (refused : Bool) where
   stands_taken e f =
       stands_when
       (λ n own c is. ap (after_end c r n refused) e ∙ (ap (λ (ns : List Node). Some (ask_on r (those (is_not_above ns n.serial) (rest r.todo)))) is
-          ∙ (ap (λ i. Some (ask_on r (those (is_not_above nodes i) (rest r.todo)))) own ∙ ap (λ (x : Job). Some x) (sym f))))
+      ∙ (ap (λ i. Some (ask_on r (those (is_not_above nodes i) (rest r.todo)))) own ∙ ap (λ (x : Job). Some x) (sym f))))
 
   pub stands_cancelled : r.stage ≡ Records.Stage.Cancelling → r' ≡ cancel_on r (rest r.todo) → StandsAfter Course.Rebalancing (node_at k nodes) nodes r false refused r'
   stands_cancelled e f = stands_when (λ n own c is. ap (after_end c r n refused) e ∙ ap (λ (x : Job). Some x) (sym f))

@@ -54,12 +54,7 @@ impl Rebalance {
     }
 
     /// The device that is next has answered whether it may stop.
-    fn take_answer(
-        &mut self,
-        alloc: Global,
-        serial: u64,
-        refused: bool,
-    ) -> Result<(), WantOfMemory>
+    fn take_answer(&mut self, alloc: Global, serial: u64, refused: bool) -> Result<(), WantOfMemory>
         ensures answered { OnOk result ((n : Node) → n.serial ≡ serial → self.new ≡ answers self.old n refused) }
         ensures err { OnErr result (self.new ≡ self.old) }
     {

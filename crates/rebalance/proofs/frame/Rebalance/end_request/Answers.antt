@@ -1,8 +1,8 @@
-use Rattle.std.proofs.Common.{◌≡◌, ◌∙◌, Some, ap, subst, sym}
+use Rattle.std.proofs.Common.{◌∙◌, Some, ap, subst, sym}
 use Rattle.pnp_labels.specs.declared.words.Minor.{Minor}
 use Rattle.pnp_model.specs.Cores.{node_at}
-use Rattle.pnp_model.specs.Records.{Course, Job}
-use Rattle.pnp_laws.specs.Kept.{IsOwn, asked_in}
+use Rattle.pnp_model.specs.Records.{Job}
+use Rattle.pnp_laws.specs.Kept.{IsOwn}
 use Rattle.operation_frame.specs.Walks.{EndsFor}
 use Rattle.rebalance.specs.Stages.{stage_of}
 use Rattle.rebalance.proofs.Moving.{only_restarting, own_start, stands_answered, stands_cancelled, stands_restarted, stands_stopped, stands_taken}

@@ -1,4 +1,4 @@
-use Rattle.std.proofs.Common.{◌∙◌, ap, sym, refl, subst}
+use Rattle.std.proofs.Common.{ap, refl}
 use Rattle.pnp_model.specs.Frames.{first_node}
 use Rattle.pnp_model.specs.Rebalances.{failed, close}
 use Rattle.pnp_model.specs.Records.{Job}
@@ -7,10 +7,8 @@ use Rattle.rebalance.specs.declared.next.RebalanceStep.TheVariants as steps
 use Rattle.operation_frame.specs.Steps.{MovesFor}
 use Rattle.operation_frame.proofs.Requests.{ok_then}
 use Rattle.rebalance.specs.Steps.{Moved}
-use Rattle.rebalance.specs.Parts.{Moves, Searched}
+use Rattle.rebalance.specs.Parts.{Moves}
 use Rattle.rebalance.proofs.Acting.{acted, fails}
-use Rattle.rebalance.proofs.Moving.{only_walking}
-use Rattle.rebalance.proofs.Stepping.{next_there}
 use Rattle.rebalance.proofs.frame.Rebalance.next.Goals as goal
 
 pub returns-in_ok-label-in-Searching-clause-rebalances : goal.returns-in_ok-label-in-Searching-clause-rebalances

@@ -1,4 +1,4 @@
-use Rattle.std.proofs.Common.{◌≡◌, ◌∙◌, [], Option, Some, is_some, option_map, slice_get, ap, sym, subst}
+use Rattle.std.proofs.Common.{◌∙◌, [], Option, Some, is_some, option_map, slice_get, ap, sym, subst}
 use Rattle.pnp_labels.specs.declared.words.Minor.{Minor}
 use Rattle.pnp_model.specs.Cores.{core_of, node_at}
 use Rattle.pnp_model.specs.Records.{Course, Job, Walk}
