@@ -1,18 +1,17 @@
 -- Where a rebalance stands next.
-use Rattle.std.proofs.Common.{◌≡◌, ℕ, Bool, true, false, ◌&&◌, List, [], ◌∷◌, drop, is_some, is_none, slice_get, Option, Some, None, option_map, if◌then◌else◌, refl, sym, ap, ◌∙◌}
+use Rattle.std.proofs.Common.{◌≡◌, ℕ, Bool, true, false, List, [], ◌∷◌, is_some, Option, Some, None, option_map, if◌then◌else◌, refl, sym, ap, ◌∙◌}
 use Rattle.pnp_labels.specs.Texts.{Text}
 use Rattle.pnp_labels.specs.declared.label.Label.{Label}
 use Rattle.pnp_labels.specs.declared.words.Answer.{Answer}
 use Rattle.pnp_labels.specs.declared.words.Minor.{Minor}
-use Rattle.resource_reqs.specs.Resources.{Reqs}
 use Rattle.pnp_model.specs.Keyed.{changed_first, those}
 use Rattle.pnp_model.specs.Cores.{is_node, node_at, with_state}
 use Rattle.pnp_model.specs.Frames.{rest}
-use Rattle.pnp_model.specs.Jobs.{begins, stands, each_gets}
+use Rattle.pnp_model.specs.Jobs.{stands, each_gets}
 use Rattle.pnp_model.specs.Records as Records
 use Rattle.pnp_model.specs.Records.{Node, Core, Walk, Job, Course}
 use Rattle.pnp_model.specs.Walks.{after, state_after}
-use Rattle.pnp_model.specs.Rebalances.{after_end, after_restart, answers, ask_on, cancel_on, cancelled, has_refused, is_not_above, restart_on, startable, stop_on}
+use Rattle.pnp_model.specs.Rebalances.{after_end, after_restart, answers, ask_on, cancel_on, cancelled, has_refused, is_not_above, restart_on, stop_on}
 use Rattle.pnp_laws.specs.Kept.{IsOwn, asked_in}
 use Rattle.pnp_laws.proofs.Lookups.{own_serial}
 use Rattle.devnode_tree.specs.Cores.{at_nodes}
@@ -22,67 +21,19 @@ use Rattle.operation_frame.specs.declared.walking.Walked.TheVariants.{On}
 use Rattle.rebalance.specs.Stages.{stage_of, walk_at}
 use Rattle.rebalance.specs.declared.frame.Stage.{Stage}
 use Rattle.rebalance.specs.declared.frame.Stage.TheVariants.{Asking, TakingBack, Searching, Cancelling, Stuck, Stopping, Committing, Restarting, Failed, Ending}
-use Rattle.rebalance.proofs.Taking.{drop_first}
 
 -- Each of these gets a request ---------------------------------------------------------------
 
 module _ (minor : Minor) (stage : Records.Stage) (r : Job) where
-  pub gets_first : (todo : List ℕ) (over : Job) → is_some (slice_get todo 0) ≡ true → begins r todo stage minor ≡ each_gets minor stage r todo over
-  gets_first [] over h = absurd (cc)
-  gets_first (k ∷ ks) over h = refl
-
-  pub gets_none : (todo : List ℕ) (over : Records.Stage) → is_some (slice_get todo 0) ≡ false → stands r todo over ≡ each_gets minor stage r todo (stands r [] over)
-  gets_none [] over h = refl
-  gets_none (k ∷ ks) over h = absurd (cc)
-
   -- what was to do before is not read, nor how it stood
   pub gets_same : (t todo : List ℕ) (was : Records.Stage) (walk : Option Walk) (over : Job) → each_gets minor stage (record r { todo = t; stage = was; walk = walk }) todo over ≡ each_gets minor stage r todo over
   gets_same t [] was walk over = refl
   gets_same t (k ∷ ks) was walk over = refl
 
--- without a search nobody is asked for anything
-pub none_asked : (wanted : Option Reqs) → asked_in Course.Rebalancing (cancelled wanted) ≡ None
-none_asked None = refl
-none_asked (Some wanted) = refl
-
 pub ask_same : (r : Job) (t todo : List ℕ) (was : Records.Stage) (walk : Option Walk) → ask_on (record r { todo = t; stage = was; walk = walk }) todo ≡ ask_on r todo
 ask_same r t todo was walk =
     gets_same Minor.QueryStop Records.Stage.Asking r t todo was walk (if has_refused r then cancel_on (record r { todo = t; stage = was; walk = walk }) r.agreed else stands r [] Records.Stage.Searching)
     ∙ ap (λ (x : Job). each_gets Minor.QueryStop Records.Stage.Asking r todo (if has_refused r then x else stands r [] Records.Stage.Searching)) (gets_same Minor.CancelStop Records.Stage.Cancelling r t r.agreed was walk (stands r [] (cancelled r.wanted)))
-
--- who is asked next, or nobody
-pub asks_refused : (r : Job) (todo : List ℕ) → is_none (slice_get todo 0) ≡ true → has_refused r ≡ true → cancel_on r r.agreed ≡ ask_on r todo
-asks_refused r [] h e = ap (λ b. if b then cancel_on r r.agreed else stands r [] Records.Stage.Searching) (sym e)
-asks_refused r (k ∷ ks) h e = absurd (cc)
-
-pub asks_others : (r : Job) (todo : List ℕ) → (is_none (slice_get todo 0) && has_refused r) ≡ false → each_gets Minor.QueryStop Records.Stage.Asking r todo (stands r [] Records.Stage.Searching) ≡ ask_on r todo
-asks_others r [] h = ap (λ b. if b then cancel_on r r.agreed else stands r [] Records.Stage.Searching) (sym h)
-asks_others r (k ∷ ks) h = refl
-
-pub asks_second : (r : Job) (t : List ℕ) → is_some (slice_get r.todo 1) ≡ true → t ≡ drop 1 r.todo → begins r t Records.Stage.Asking Minor.QueryStop ≡ ask_on r (rest r.todo)
-asks_second r t h e = by r.todo h (e ∙ drop_first r.todo)
-  where
-    by : (todo : List ℕ) → is_some (slice_get todo 1) ≡ true → t ≡ rest todo → begins r t Records.Stage.Asking Minor.QueryStop ≡ ask_on r (rest todo)
-    by [] h e = absurd (cc)
-    by (j ∷ []) h e = absurd (cc)
-    by (j ∷ k ∷ ks) h e = ap (λ l. begins r l Records.Stage.Asking Minor.QueryStop) e
-
--- the one that was asked was the last
-pub none_second : (todo : List ℕ) → is_some (slice_get todo 1) ≡ false → rest todo ≡ []
-none_second [] h = refl
-none_second (j ∷ []) h = refl
-none_second (j ∷ k ∷ ks) h = absurd (cc)
-
--- with the next one done
-module _ (r : Job) (t : List ℕ) (e : t ≡ drop 1 r.todo) where
-  pub cancels_rest : cancel_on (record r { todo = t }) t ≡ cancel_on r (rest r.todo)
-  cancels_rest = gets_same Minor.CancelStop Records.Stage.Cancelling r t t r.stage r.walk (stands r [] (cancelled r.wanted)) ∙ ap (cancel_on r) (e ∙ drop_first r.todo)
-
-  pub stops_rest : stop_on (record r { todo = t }) t ≡ stop_on r (rest r.todo)
-  stops_rest = gets_same Minor.Stop Records.Stage.Stopping r t t r.stage r.walk (stands r [] Records.Stage.Committing) ∙ ap (stop_on r) (e ∙ drop_first r.todo)
-
-  pub restarts_rest : (nodes : List Node) → restart_on nodes (record r { todo = t }) t ≡ restart_on nodes r (rest r.todo)
-  restarts_rest nodes = gets_same Minor.Start Records.Stage.Restarting r t (startable nodes t) r.stage r.walk (stands r [] Records.Stage.Ending) ∙ ap (restart_on nodes r) (e ∙ drop_first r.todo)
 
 -- The request of a stage has ended -----------------------------------------------------------
 

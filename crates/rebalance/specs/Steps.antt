@@ -7,7 +7,6 @@ use Rattle.pnp_model.specs.Records.Doing.{Does, Searches}
 use Rattle.pnp_model.specs.Cores.{set_rack}
 use Rattle.pnp_model.specs.Jobs.{JobMove, Beside}
 use Rattle.pnp_model.specs.Machine.{job_step}
-use Rattle.pnp_model.specs.Rebalances.{acts}
 use Rattle.devnode_tree.specs.Cores.{at_nodes}
 use Rattle.trial_journal.specs.ByKind.{Arbiters}
 use Rattle.device_holdings.specs.Mirrors.{Mirrors}
@@ -31,13 +30,7 @@ MovedBy budget (Some (Does m)) step core r = Moved m step core r
 MovedBy budget (Some (Searches problem by_answer)) step core r =
     (found : Found) × IsAnswer problem.fixed problem.movers budget found × Moved (by_answer found) step core r
 
--- the step without a request, where the arbiters mirror what is reserved
-abbrev pub Acts : List Node → Arbiters → Job → ℕ → RebalanceStep → List Node → Job → Type 0
-Acts nodes arbiters r budget step nodes' r' =
-    (around : Core) → Mirrors around.reserved nodes arbiters
-    → MovedBy budget (acts (at_nodes nodes around) r r.stage (first_node nodes r.todo)) step (at_nodes nodes' around) r'
-
--- the step of the rebalance, whatever else there is
+-- the step of the rebalance, whatever else there is, where the arbiters mirror what is reserved
 abbrev pub Rebalances : List Node → Arbiters → List Driver → Job → ℕ → RebalanceStep → List Node → List Driver → Job → Type 0
 Rebalances nodes arbiters rack r budget step nodes' rack' r' =
     (around : Core) (in_world : Bool) (handles : List Handle) → Mirrors around.reserved nodes arbiters
