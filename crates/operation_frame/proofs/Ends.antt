@@ -1,14 +1,14 @@
 -- A step of a request and its end are steps of the machine, whatever the operation is.
-use Rattle.std.proofs.Common.{◌≡◌, ℕ, Bool, true, false, List, Option, Some, None, length, option_map, if◌then◌else◌, refl, sym, ap, ◌∙◌, subst}
+use Rattle.std.proofs.Common.{◌≡◌, ℕ, Bool, List, Option, Some, None, option_map, if◌then◌else◌, refl, sym, ap, ◌∙◌, subst}
 use Rattle.pnp_labels.specs.Texts.{Text}
 use Rattle.pnp_labels.specs.declared.label.Label.{Label}
 use Rattle.pnp_labels.specs.declared.words.Minor.{Minor}
 use Rattle.pnp_labels.specs.declared.words.Minor.TheVariants.{Start, QueryRemove, Remove, CancelRemove, Stop, QueryStop, CancelStop, SurpriseRemoval}
 use Rattle.pnp_labels.specs.declared.states.DevState.TheVariants.{NoStack}
 use Rattle.pnp_model.specs.Keyed.{changed_first}
-use Rattle.pnp_model.specs.Walks.{is_bad, has_ended, state_after}
+use Rattle.pnp_model.specs.Walks.{is_bad, state_after}
 use Rattle.pnp_model.specs.Cores.{is_node, node_at, set_state, set_rack, bare, forget}
-use Rattle.pnp_model.specs.Frames.{Move, asked, state_label, ended}
+use Rattle.pnp_model.specs.Frames.{asked, state_label, ended}
 use Rattle.pnp_model.specs.Jobs.{JobMove, Beside, asks, ends}
 use Rattle.pnp_model.specs.Machine.{after_end, job_step}
 use Rattle.pnp_model.specs.Records.{Node, Core, Driver, Handle, Relation, Walk, Job, Course, Doing}

@@ -12,6 +12,11 @@ use Rattle.devnode_tree.specs.Cores.{at_related}
 use Rattle.operation_frame.specs.declared.walking.Walked.{Walked}
 use Rattle.operation_frame.specs.declared.walking.Walked.TheVariants.{On, Ended}
 
+-- the request, where one is on its way
+abbrev pub walk_if : Bool → Walk → Option Walk
+walk_if true w = Some w
+walk_if false w = None
+
 -- the next driver was asked, or the request has ended
 abbrev pub WalksFor : Option Node → Core → Walk → Walked → Core → Walk → Type 0
 WalksFor None c w went c' w' = ⊥

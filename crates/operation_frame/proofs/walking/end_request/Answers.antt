@@ -18,8 +18,8 @@ pub returns-in_default : goal.returns-in_default
 returns-in_default c =
     record {
       ended =
-        ended_alone (node_at c.args.device.serial c.args.tree.now.nodes) c.args.minor c.args.refused c.args.device.path c.args.tree.now.nodes c.end_walk.new.tree.nodes c.args.relations.now c.end_walk.result c.in_default.not-Remove
-        c.requires.path c.end_walk.ensures.ended;
+          ended_alone (node_at c.args.device.serial c.args.tree.now.nodes) c.args.minor c.args.refused c.args.device.path c.args.tree.now.nodes c.end_walk.new.tree.nodes c.args.relations.now c.end_walk.result c.in_default.not-Remove
+          c.requires.path c.end_walk.ensures.ended;
       next = c.end_walk.ensures.next;
       mirrors = c.end_walk.ensures.mirrors c.args.arbiters.now;
     }
