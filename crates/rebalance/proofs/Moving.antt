@@ -20,7 +20,7 @@ use Rattle.operation_frame.specs.Walks.{EndsFor, WalksFor}
 use Rattle.operation_frame.specs.declared.walking.Walked.TheVariants.{On}
 use Rattle.rebalance.specs.Stages.{stage_of, walk_at}
 use Rattle.rebalance.specs.declared.frame.Stage.{Stage}
-use Rattle.rebalance.specs.declared.frame.Stage.TheVariants.{Asking, TakingBack, Searching, Cancelling, Stuck, Stopping, Committing, Restarting, Failed, Ending}
+use Rattle.rebalance.specs.declared.frame.Stage.TheVariants.{Asking, TakingBack, Cancelling, Stopping, Restarting}
 
 -- Each of these gets a request ---------------------------------------------------------------
 
@@ -108,7 +108,6 @@ own_on None w w' same own = refl
 own_on (Some minor) w w' same own = ap (λ (m : Minor). Some m) same ∙ own
 
 -- which stage is left
-
 pub only_restarting : (s : Stage) (w : Walk) (minor : Minor) → (s ≡ Asking → ⊥) → (s ≡ TakingBack → ⊥) → (s ≡ Cancelling → ⊥) → (s ≡ Stopping → ⊥) → IsOwn (walk_at s w) (Some minor) → s ≡ Restarting
 only_restarting Asking w minor a b c d h = absurd (a refl)
 only_restarting TakingBack w minor a b c d h = absurd (b refl)
@@ -116,11 +115,3 @@ only_restarting Cancelling w minor a b c d h = absurd (c refl)
 only_restarting Stopping w minor a b c d h = absurd (d refl)
 only_restarting Restarting w minor a b c d h = refl
 only_restarting _ w minor a b c d h = absurd (cc)
-
-pub only_walking : (s : Stage) (w : Walk) → (s ≡ Searching → ⊥) → (s ≡ Stuck → ⊥) → (s ≡ Committing → ⊥) → (s ≡ Failed → ⊥) → (s ≡ Ending → ⊥) → is_some (walk_at s w) ≡ true
-only_walking Searching w a b c d e = absurd (a refl)
-only_walking Stuck w a b c d e = absurd (b refl)
-only_walking Committing w a b c d e = absurd (c refl)
-only_walking Failed w a b c d e = absurd (d refl)
-only_walking Ending w a b c d e = absurd (e refl)
-only_walking _ w a b c d e = refl

@@ -1,12 +1,12 @@
 -- A step of the request of the device that is next is the step of the machine.
-use Rattle.std.proofs.Common.{◌≡◌, ℕ, Bool, true, false, List, Option, Some, None, IsSome, is_some, option_map, slice_get, sym, ap, ◌∙◌, subst}
+use Rattle.std.proofs.Common.{◌≡◌, ℕ, Bool, false, List, Option, Some, None, option_map, slice_get, sym, ap, ◌∙◌, subst}
 use Rattle.pnp_labels.specs.Texts.{Text}
 use Rattle.pnp_labels.specs.declared.label.Label.{Label}
 use Rattle.pnp_labels.specs.declared.words.Minor.{Minor}
 use Rattle.pnp_model.specs.Cores.{node_at, set_rack}
 use Rattle.pnp_model.specs.Frames.{first_node}
 use Rattle.pnp_model.specs.Machine.{job_step}
-use Rattle.pnp_model.specs.Records.{Node, Core, Driver, Walk, Handle, Job, Course, Stage}
+use Rattle.pnp_model.specs.Records.{Node, Core, Driver, Walk, Handle, Job, Course}
 use Rattle.pnp_laws.specs.Kept.{IsOwn, asked_in}
 use Rattle.devnode_tree.specs.Cores.{at_nodes}
 use Rattle.operation_frame.specs.Nodes.{PathIs}
@@ -15,14 +15,9 @@ use Rattle.operation_frame.specs.Walks.{EndsFor, WalksFor}
 use Rattle.operation_frame.specs.declared.walking.Walked.TheVariants.{On, Ended}
 use Rattle.operation_frame.proofs.Queues.{first_is}
 use Rattle.operation_frame.proofs.Ends as requests
-use Rattle.rebalance.specs.Steps.{HasNext, MovedBy}
+use Rattle.rebalance.specs.Steps.{MovedBy}
 use Rattle.rebalance.specs.declared.next.RebalanceStep.TheVariants as steps
 use Rattle.rebalance.proofs.Moving.{no_remove}
-
--- while a request is on its way its device is there
-pub next_there : (first : Option Node) (walk : Option Walk) (stage : Stage) → is_some walk ≡ true → HasNext first walk stage → IsSome first
-next_there first (Some w) stage walking there = there
-next_there first None stage walking there = absurd (cc)
 
 module _ (nodes : List Node) (rack rack' : List Driver) (r : Job) (k : ℕ) (w w' : Walk) (first : slice_get r.todo 0 ≡ Some k) (walk : r.walk ≡ Some w) (label : Label) (r' : Job) (budget : ℕ) where
   -- the step of the machine, with the device that is next
