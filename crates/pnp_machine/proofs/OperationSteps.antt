@@ -1,5 +1,5 @@
 -- A step of the operation that runs: what it needs, and that it is the machine's step.
-use Rattle.std.proofs.Common.{◌≡◌, ◌≢◌, ℕ, Bool, false, List, Option, Some, None, Result, Ok, Err, IfOk, OnErr, IfSome, refl, sym, ◌∙◌, ap, subst}
+use Rattle.std.proofs.Common.{◌≡◌, ◌≢◌, ℕ, Bool, false, List, Option, Some, None, Result, Ok, Err, IfOk, OnErr, IfSome, option_map, refl, sym, ◌∙◌, ap, subst}
 use Rattle.std.specs.declared.alloc.AllocError.{AllocError}
 use Rattle.inf_reader.specs.declared.parts.Inf.{Inf}
 use Rattle.pnp_labels.specs.Texts.{Text}
@@ -29,14 +29,16 @@ use Rattle.free_model.specs.Frees.{with_rack}
 use Rattle.pnp_machine.specs.Devices.{Devices}
 use Rattle.pnp_machine.specs.Machines.{state_of, beside, beside_made, label_of, IsLabelOf, IsNoRoot, IsNew, IsNewPath, IsDoing, IsTurn, settled_path}
 use Rattle.pnp_machine.specs.Managers.{IsOfRun}
+use Rattle.pnp_machine.specs.Operations.{operation_of}
+use Rattle.pnp_machine.specs.declared.operation.Operation.{Operation}
 use Rattle.pnp_machine.specs.Doings.{Rebalances, Removes, StaysBeside, core_with, step_of}
 use Rattle.pnp_machine.specs.Rebalanced.{beside_rebalance, rebalance_label}
 use Rattle.pnp_machine.specs.declared.turn.Turn.TheVariants as turns
 use Rattle.pnp_machine.proofs.ButBooks.{one_rack}
 use Rattle.pnp_machine.proofs.Fresh.{settles_new}
 use Rattle.pnp_machine.proofs.Givens.{alone, operation_goes, removal_goes, surprise_goes, finish_goes}
-use Rattle.pnp_machine.proofs.JobSteps.{Disables, none_back, rebalance_done, remove_done}
-use Rattle.pnp_machine.proofs.Settling.{IsPlain, Settles, disables, ejects, not_disabled, not_ejected, other_plain, settled_is}
+use Rattle.pnp_machine.proofs.JobSteps.{none_back, rebalance_done, remove_done}
+use Rattle.pnp_machine.proofs.Settling.{Settles, disables, ejects, not_disabled, not_ejected, other_plain, settled_is}
 use Rattle.pnp_machine.proofs.Turns.{operate_moves}
 
 -- What a step needs -----------------------------------------------------------------------
@@ -52,6 +54,17 @@ awake_is s j (other, runs, awake) is =
 -- what is printed and what is there then are told by equal ones
 pub told_by : (settings : Settings) (s : State) (label label' : Label) (t t' : State) → label ≡ label' → t ≡ t' → Steps settings s label' t' → Steps settings s label t
 told_by settings s label label' t t' l e h = subst (λ x. Steps settings s x t) (sym l) (subst (λ x. Steps settings s label' x) (sym e) h)
+
+-- the state by its parts, where this operation runs
+pub was_is : (ds : Devices) (rack : List Driver) (disabled : List Text) (works : List Activity) (tasks : List Task) (s : State) (o : Option Operation) (p : Operation)
+    → state_of ds rack disabled works (option_map operation_of o) tasks ≡ s → o ≡ Some p → state_of ds rack disabled works (Some (operation_of p)) tasks ≡ s
+was_is ds rack disabled works tasks s o p is runs = ap (λ x. state_of ds rack disabled works (option_map operation_of x) tasks) (sym runs) ∙ is
+
+-- room that was made leaves paths, starts and tasks
+pub room_made : (f : State → State) (ds : Devices) (rack : List Driver) (j : Job) (paths paths' : List Text) (works works' : List Activity) (tasks tasks' : List Task) → paths ≡ paths' → works ≡ works' → tasks ≡ tasks'
+    → f (state_of ds rack paths works (Some j) tasks) ≡ f (state_of ds rack paths' works' (Some j) tasks')
+room_made f ds rack j paths paths' works works' tasks tasks' a b c =
+    ap (λ x. f (state_of ds rack x works (Some j) tasks)) a ∙ ap (λ x. f (state_of ds rack paths' x (Some j) tasks)) b ∙ ap (λ x. f (state_of ds rack paths' works' (Some j) x)) c
 
 -- while it runs no device starts
 pub none_starts : (s : State) → IsOfRun s → (j : Job) → s.operation ≡ Some j → (k : ℕ) (works : List Activity) → works ≡ s.activities → activity_at k works ≡ None

@@ -1,11 +1,11 @@
-use Rattle.std.proofs.Common.{◌∙◌, Some, None, IfOk, refl, sym, ap, subst, option_map}
+use Rattle.std.proofs.Common.{◌∙◌, Some, None, IfOk, sym, ap, subst, option_map}
 use Rattle.pnp_model.specs.Machine.{is_back}
 use Rattle.pnp_model.specs.Records.{Course, State}
 use Rattle.start_sequence.specs.Begins.{settings_of}
-use Rattle.pnp_machine.specs.Machines.{state_of, beside_made, IsNew}
+use Rattle.pnp_machine.specs.Machines.{beside_made, IsNew}
 use Rattle.pnp_machine.specs.Operations.{operation_of}
 use Rattle.pnp_machine.specs.Rebalanced.{beside_rebalance, rebalance_label}
-use Rattle.pnp_machine.proofs.OperationSteps.{none_starts, rebalance_needs, removal_needs, surprise_needs, finish_needs, removal_allows, other_allows, removal_back, removes_root, removes_new, removes_move, rebalance_moves, stays, told_by}
+use Rattle.pnp_machine.proofs.OperationSteps.{none_starts, rebalance_needs, removal_needs, surprise_needs, finish_needs, removal_allows, other_allows, removal_back, removes_root, removes_new, removes_move, rebalance_moves, room_made, stays, told_by, was_is}
 use Rattle.pnp_machine.proofs.machine.Machine.operate.Goals as goal
 use Rattle.pnp_machine.proofs.machine.Machine.operate.Goals.{in-Some-Rebalancing+in_ok-step-in-Some-Rebalancing, in-Some-Removing+in_ok-settled-in-Some-Removing, in-Some-Surprising, in-Some-Finishing}
 
@@ -13,8 +13,7 @@ pub rebalance-requires-clause-there : goal.rebalance-requires-clause-there
 rebalance-requires-clause-there g c =
     let s = c.self.inside in
     let rack = g.R.Drivers.rows s.rack in
-    let is = ap (λ x. state_of s.devices rack s.disabled.paths s.starts.works (option_map operation_of x) s.tasks.tasks) (sym (c.in-Some-Rebalancing.is ∙ ap Some c.in-Some-Rebalancing.field-0-is)) ∙ c.self.view_is in
-    (rebalance_needs s.devices rack s.disabled.paths s.starts.works s.tasks.tasks c.args.self.now c.requires.run c.in-Some-Rebalancing.rebalance is c.requires.turn)
+    (rebalance_needs s.devices rack s.disabled.paths s.starts.works s.tasks.tasks c.args.self.now c.requires.run c.in-Some-Rebalancing.rebalance (was_is s.devices rack s.disabled.paths s.starts.works s.tasks.tasks c.args.self.now _ _ c.self.view_is (c.in-Some-Rebalancing.is ∙ ap Some c.in-Some-Rebalancing.field-0-is)) c.requires.turn)
 
 pub apply_rebalance-requires-clause-new : goal.apply_rebalance-requires-clause-new
 apply_rebalance-requires-clause-new g c =
@@ -26,125 +25,106 @@ pub remove-moved-requires-clause-there : goal.remove-moved-requires-clause-there
 remove-moved-requires-clause-there g c =
     let s = c.self.inside in
     let rack = g.R.Drivers.rows s.rack in
-    let is = ap (λ x. state_of s.devices rack s.disabled.paths s.starts.works (option_map operation_of x) s.tasks.tasks) (sym (c.in-Some-Removing.is ∙ ap Some c.in-Some-Removing.field-0-is)) ∙ c.self.view_is in
-    (removal_needs s.devices rack s.disabled.paths s.starts.works s.tasks.tasks c.args.self.now c.requires.run c.in-Some-Removing.removal is c.in_ok-settled-in-Some-Removing.ensures.course).0
+    (removal_needs s.devices rack s.disabled.paths s.starts.works s.tasks.tasks c.args.self.now c.requires.run c.in-Some-Removing.removal (was_is s.devices rack s.disabled.paths s.starts.works s.tasks.tasks c.args.self.now _ _ c.self.view_is (c.in-Some-Removing.is ∙ ap Some c.in-Some-Removing.field-0-is)) c.in_ok-settled-in-Some-Removing.ensures.course).0
 
 pub remove-moved-requires-clause-settles : goal.remove-moved-requires-clause-settles
 remove-moved-requires-clause-settles g c =
     let s = c.self.inside in
     let rack = g.R.Drivers.rows s.rack in
-    let is = ap (λ x. state_of s.devices rack s.disabled.paths s.starts.works (option_map operation_of x) s.tasks.tasks) (sym (c.in-Some-Removing.is ∙ ap Some c.in-Some-Removing.field-0-is)) ∙ c.self.view_is in
-    (removal_needs s.devices rack s.disabled.paths s.starts.works s.tasks.tasks c.args.self.now c.requires.run c.in-Some-Removing.removal is c.in_ok-settled-in-Some-Removing.ensures.course).1
+    (removal_needs s.devices rack s.disabled.paths s.starts.works s.tasks.tasks c.args.self.now c.requires.run c.in-Some-Removing.removal (was_is s.devices rack s.disabled.paths s.starts.works s.tasks.tasks c.args.self.now _ _ c.self.view_is (c.in-Some-Removing.is ∙ ap Some c.in-Some-Removing.field-0-is)) c.in_ok-settled-in-Some-Removing.ensures.course).1
 
 pub surprise-moved-requires-clause-there : goal.surprise-moved-requires-clause-there
 surprise-moved-requires-clause-there g c =
     let s = c.self.inside in
     let rack = g.R.Drivers.rows s.rack in
-    let is = ap (λ x. state_of s.devices rack s.disabled.paths s.starts.works (option_map operation_of x) s.tasks.tasks) (sym (c.in-Some-Surprising.is ∙ ap Some c.in-Some-Surprising.field-0-is)) ∙ c.self.view_is in
-    (surprise_needs s.devices rack s.disabled.paths s.starts.works s.tasks.tasks c.args.self.now c.requires.run c.in-Some-Surprising.surprise is c.is_target_in_world-in_world.ensures.course).0
+    (surprise_needs s.devices rack s.disabled.paths s.starts.works s.tasks.tasks c.args.self.now c.requires.run c.in-Some-Surprising.surprise (was_is s.devices rack s.disabled.paths s.starts.works s.tasks.tasks c.args.self.now _ _ c.self.view_is (c.in-Some-Surprising.is ∙ ap Some c.in-Some-Surprising.field-0-is)) c.is_target_in_world-in_world.ensures.course).0
 
 pub surprise-moved-requires-clause-direct : goal.surprise-moved-requires-clause-direct
 surprise-moved-requires-clause-direct g c =
     let s = c.self.inside in
     let rack = g.R.Drivers.rows s.rack in
-    let is = ap (λ x. state_of s.devices rack s.disabled.paths s.starts.works (option_map operation_of x) s.tasks.tasks) (sym (c.in-Some-Surprising.is ∙ ap Some c.in-Some-Surprising.field-0-is)) ∙ c.self.view_is in
-    (surprise_needs s.devices rack s.disabled.paths s.starts.works s.tasks.tasks c.args.self.now c.requires.run c.in-Some-Surprising.surprise is c.is_target_in_world-in_world.ensures.course).1
+    (surprise_needs s.devices rack s.disabled.paths s.starts.works s.tasks.tasks c.args.self.now c.requires.run c.in-Some-Surprising.surprise (was_is s.devices rack s.disabled.paths s.starts.works s.tasks.tasks c.args.self.now _ _ c.self.view_is (c.in-Some-Surprising.is ∙ ap Some c.in-Some-Surprising.field-0-is)) c.is_target_in_world-in_world.ensures.course).1
 
 pub surprise-moved-requires-clause-settles : goal.surprise-moved-requires-clause-settles
 surprise-moved-requires-clause-settles g c =
     let s = c.self.inside in
     let rack = g.R.Drivers.rows s.rack in
-    let is = ap (λ x. state_of s.devices rack s.disabled.paths s.starts.works (option_map operation_of x) s.tasks.tasks) (sym (c.in-Some-Surprising.is ∙ ap Some c.in-Some-Surprising.field-0-is)) ∙ c.self.view_is in
-    (surprise_needs s.devices rack s.disabled.paths s.starts.works s.tasks.tasks c.args.self.now c.requires.run c.in-Some-Surprising.surprise is c.is_target_in_world-in_world.ensures.course).2
+    (surprise_needs s.devices rack s.disabled.paths s.starts.works s.tasks.tasks c.args.self.now c.requires.run c.in-Some-Surprising.surprise (was_is s.devices rack s.disabled.paths s.starts.works s.tasks.tasks c.args.self.now _ _ c.self.view_is (c.in-Some-Surprising.is ∙ ap Some c.in-Some-Surprising.field-0-is)) c.is_target_in_world-in_world.ensures.course).2
 
 pub finish-moved-requires-clause-there : goal.finish-moved-requires-clause-there
 finish-moved-requires-clause-there g c =
     let s = c.self.inside in
     let rack = g.R.Drivers.rows s.rack in
-    let is = ap (λ x. state_of s.devices rack s.disabled.paths s.starts.works (option_map operation_of x) s.tasks.tasks) (sym (c.in-Some-Finishing.is ∙ ap Some c.in-Some-Finishing.field-0-is)) ∙ c.self.view_is in
-    (finish_needs s.devices rack s.disabled.paths s.starts.works s.tasks.tasks c.args.self.now c.requires.run c.in-Some-Finishing.finish is c.is_current_in_world-in_world.ensures.course).0
+    (finish_needs s.devices rack s.disabled.paths s.starts.works s.tasks.tasks c.args.self.now c.requires.run c.in-Some-Finishing.finish (was_is s.devices rack s.disabled.paths s.starts.works s.tasks.tasks c.args.self.now _ _ c.self.view_is (c.in-Some-Finishing.is ∙ ap Some c.in-Some-Finishing.field-0-is)) c.is_current_in_world-in_world.ensures.course).0
 
 pub finish-moved-requires-clause-leaves : goal.finish-moved-requires-clause-leaves
 finish-moved-requires-clause-leaves g c =
     let s = c.self.inside in
     let rack = g.R.Drivers.rows s.rack in
-    let is = ap (λ x. state_of s.devices rack s.disabled.paths s.starts.works (option_map operation_of x) s.tasks.tasks) (sym (c.in-Some-Finishing.is ∙ ap Some c.in-Some-Finishing.field-0-is)) ∙ c.self.view_is in
-    (finish_needs s.devices rack s.disabled.paths s.starts.works s.tasks.tasks c.args.self.now c.requires.run c.in-Some-Finishing.finish is c.is_current_in_world-in_world.ensures.course).1
+    (finish_needs s.devices rack s.disabled.paths s.starts.works s.tasks.tasks c.args.self.now c.requires.run c.in-Some-Finishing.finish (was_is s.devices rack s.disabled.paths s.starts.works s.tasks.tasks c.args.self.now _ _ c.self.view_is (c.in-Some-Finishing.is ∙ ap Some c.in-Some-Finishing.field-0-is)) c.is_current_in_world-in_world.ensures.course).1
 
 pub after_step-requires-clause-root : goal.after_step-requires-clause-root
 after_step-requires-clause-root g c =
     let s = c.self.inside in
     let rack = g.R.Drivers.rows s.rack in
     let later = g.R.Drivers.rows c.remove-moved.new.rack in
-    let moved = c.remove-moved.result in
     let o = c.in-Some-Removing.removal in
     let o2 = c.remove-moved.new.removal in
-    let settled = c.in_ok-settled-in-Some-Removing.settled in
-    let is = ap (λ x. state_of s.devices rack s.disabled.paths s.starts.works (option_map operation_of x) s.tasks.tasks) (sym (c.in-Some-Removing.is ∙ ap Some c.in-Some-Removing.field-0-is)) ∙ c.self.view_is in
-    removes_root s.devices rack s.disabled.paths s.starts.works s.tasks.tasks c.args.self.now c.remove-moved.new.self later o o2 is Course.Removing (is_back c.args.self.now o Course.Removing) settled (removal_allows s.devices rack s.disabled.paths s.starts.works s.tasks.tasks c.args.self.now c.requires.run o is c.in_ok-settled-in-Some-Removing.ensures.course (is_back c.args.self.now o Course.Removing) settled c.in_ok-settled-in-Some-Removing.ensures.path) moved (removal_back s.devices rack s.disabled.paths s.starts.works s.tasks.tasks c.args.self.now c.remove-moved.new.self later o o2 (is_back c.args.self.now o Course.Removing) moved c.remove-moved.ensures.removes)
+    let is = was_is s.devices rack s.disabled.paths s.starts.works s.tasks.tasks c.args.self.now _ _ c.self.view_is (c.in-Some-Removing.is ∙ ap Some c.in-Some-Removing.field-0-is) in
+    removes_root s.devices rack s.disabled.paths s.starts.works s.tasks.tasks c.args.self.now c.remove-moved.new.self later o o2 is Course.Removing (is_back c.args.self.now o Course.Removing) c.in_ok-settled-in-Some-Removing.settled (removal_allows s.devices rack s.disabled.paths s.starts.works s.tasks.tasks c.args.self.now c.requires.run o is c.in_ok-settled-in-Some-Removing.ensures.course (is_back c.args.self.now o Course.Removing) c.in_ok-settled-in-Some-Removing.settled c.in_ok-settled-in-Some-Removing.ensures.path) c.remove-moved.result (removal_back s.devices rack s.disabled.paths s.starts.works s.tasks.tasks c.args.self.now c.remove-moved.new.self later o o2 (is_back c.args.self.now o Course.Removing) c.remove-moved.result c.remove-moved.ensures.removes)
 
 pub after_step-requires-clause-new : goal.after_step-requires-clause-new
 after_step-requires-clause-new g c =
     let s = c.self.inside in
     let rack = g.R.Drivers.rows s.rack in
     let later = g.R.Drivers.rows c.remove-moved.new.rack in
-    let moved = c.remove-moved.result in
     let o = c.in-Some-Removing.removal in
     let o2 = c.remove-moved.new.removal in
-    let settled = c.in_ok-settled-in-Some-Removing.settled in
-    let is = ap (λ x. state_of s.devices rack s.disabled.paths s.starts.works (option_map operation_of x) s.tasks.tasks) (sym (c.in-Some-Removing.is ∙ ap Some c.in-Some-Removing.field-0-is)) ∙ c.self.view_is in
-    subst (λ p. IfOk moved (λ step. IsNew step settled p)) (sym c.in_ok-make_room-2.ensures.paths)
-    (removes_new s.devices rack s.disabled.paths s.starts.works s.tasks.tasks c.args.self.now c.remove-moved.new.self later o o2 is Course.Removing (is_back c.args.self.now o Course.Removing) settled (removal_allows s.devices rack s.disabled.paths s.starts.works s.tasks.tasks c.args.self.now c.requires.run o is c.in_ok-settled-in-Some-Removing.ensures.course (is_back c.args.self.now o Course.Removing) settled c.in_ok-settled-in-Some-Removing.ensures.path) moved (removal_back s.devices rack s.disabled.paths s.starts.works s.tasks.tasks c.args.self.now c.remove-moved.new.self later o o2 (is_back c.args.self.now o Course.Removing) moved c.remove-moved.ensures.removes))
+    let is = was_is s.devices rack s.disabled.paths s.starts.works s.tasks.tasks c.args.self.now _ _ c.self.view_is (c.in-Some-Removing.is ∙ ap Some c.in-Some-Removing.field-0-is) in
+    subst (λ p. IfOk c.remove-moved.result (λ step. IsNew step c.in_ok-settled-in-Some-Removing.settled p)) (sym c.in_ok-make_room-2.ensures.paths)
+    (removes_new s.devices rack s.disabled.paths s.starts.works s.tasks.tasks c.args.self.now c.remove-moved.new.self later o o2 is Course.Removing (is_back c.args.self.now o Course.Removing) c.in_ok-settled-in-Some-Removing.settled (removal_allows s.devices rack s.disabled.paths s.starts.works s.tasks.tasks c.args.self.now c.requires.run o is c.in_ok-settled-in-Some-Removing.ensures.course (is_back c.args.self.now o Course.Removing) c.in_ok-settled-in-Some-Removing.settled c.in_ok-settled-in-Some-Removing.ensures.path) c.remove-moved.result (removal_back s.devices rack s.disabled.paths s.starts.works s.tasks.tasks c.args.self.now c.remove-moved.new.self later o o2 (is_back c.args.self.now o Course.Removing) c.remove-moved.result c.remove-moved.ensures.removes))
 
 pub after_step-in-Some-Surprising-requires-clause-root : goal.after_step-in-Some-Surprising-requires-clause-root
 after_step-in-Some-Surprising-requires-clause-root g c =
     let s = c.self.inside in
     let rack = g.R.Drivers.rows s.rack in
     let later = g.R.Drivers.rows c.surprise-moved.new.rack in
-    let moved = c.surprise-moved.result in
     let o = c.in-Some-Surprising.surprise in
     let o2 = c.surprise-moved.new.surprise in
-    let settled = None in
-    let is = ap (λ x. state_of s.devices rack s.disabled.paths s.starts.works (option_map operation_of x) s.tasks.tasks) (sym (c.in-Some-Surprising.is ∙ ap Some c.in-Some-Surprising.field-0-is)) ∙ c.self.view_is in
-    removes_root s.devices rack s.disabled.paths s.starts.works s.tasks.tasks c.args.self.now c.surprise-moved.new.self later o o2 is Course.Surprising c.is_target_in_world-in_world.result settled (other_allows s.devices rack s.disabled.paths s.starts.works s.tasks.tasks c.args.self.now o Course.Surprising (λ e. absurd (cc)) (λ e. absurd (cc)) c.is_target_in_world-in_world.result settled) moved c.surprise-moved.ensures.removes
+    let is = was_is s.devices rack s.disabled.paths s.starts.works s.tasks.tasks c.args.self.now _ _ c.self.view_is (c.in-Some-Surprising.is ∙ ap Some c.in-Some-Surprising.field-0-is) in
+    removes_root s.devices rack s.disabled.paths s.starts.works s.tasks.tasks c.args.self.now c.surprise-moved.new.self later o o2 is Course.Surprising c.is_target_in_world-in_world.result None (other_allows s.devices rack s.disabled.paths s.starts.works s.tasks.tasks c.args.self.now o Course.Surprising (λ e. cc) (λ e. cc) c.is_target_in_world-in_world.result None) c.surprise-moved.result c.surprise-moved.ensures.removes
 
 pub after_step-in-Some-Surprising-requires-clause-new : goal.after_step-in-Some-Surprising-requires-clause-new
 after_step-in-Some-Surprising-requires-clause-new g c =
     let s = c.self.inside in
     let rack = g.R.Drivers.rows s.rack in
     let later = g.R.Drivers.rows c.surprise-moved.new.rack in
-    let moved = c.surprise-moved.result in
     let o = c.in-Some-Surprising.surprise in
     let o2 = c.surprise-moved.new.surprise in
-    let settled = None in
-    let is = ap (λ x. state_of s.devices rack s.disabled.paths s.starts.works (option_map operation_of x) s.tasks.tasks) (sym (c.in-Some-Surprising.is ∙ ap Some c.in-Some-Surprising.field-0-is)) ∙ c.self.view_is in
-    subst (λ p. IfOk moved (λ step. IsNew step settled p)) (sym c.in_ok-make_room-2.ensures.paths)
-    (removes_new s.devices rack s.disabled.paths s.starts.works s.tasks.tasks c.args.self.now c.surprise-moved.new.self later o o2 is Course.Surprising c.is_target_in_world-in_world.result settled (other_allows s.devices rack s.disabled.paths s.starts.works s.tasks.tasks c.args.self.now o Course.Surprising (λ e. absurd (cc)) (λ e. absurd (cc)) c.is_target_in_world-in_world.result settled) moved c.surprise-moved.ensures.removes)
+    let is = was_is s.devices rack s.disabled.paths s.starts.works s.tasks.tasks c.args.self.now _ _ c.self.view_is (c.in-Some-Surprising.is ∙ ap Some c.in-Some-Surprising.field-0-is) in
+    subst (λ p. IfOk c.surprise-moved.result (λ step. IsNew step None p)) (sym c.in_ok-make_room-2.ensures.paths)
+    (removes_new s.devices rack s.disabled.paths s.starts.works s.tasks.tasks c.args.self.now c.surprise-moved.new.self later o o2 is Course.Surprising c.is_target_in_world-in_world.result None (other_allows s.devices rack s.disabled.paths s.starts.works s.tasks.tasks c.args.self.now o Course.Surprising (λ e. cc) (λ e. cc) c.is_target_in_world-in_world.result None) c.surprise-moved.result c.surprise-moved.ensures.removes)
 
 pub after_step-in-Some-Finishing-requires-clause-root : goal.after_step-in-Some-Finishing-requires-clause-root
 after_step-in-Some-Finishing-requires-clause-root g c =
     let s = c.self.inside in
     let rack = g.R.Drivers.rows s.rack in
     let later = g.R.Drivers.rows c.finish-moved.new.rack in
-    let moved = c.finish-moved.result in
     let o = c.in-Some-Finishing.finish in
     let o2 = c.finish-moved.new.finish in
-    let settled = None in
-    let is = ap (λ x. state_of s.devices rack s.disabled.paths s.starts.works (option_map operation_of x) s.tasks.tasks) (sym (c.in-Some-Finishing.is ∙ ap Some c.in-Some-Finishing.field-0-is)) ∙ c.self.view_is in
-    removes_root s.devices rack s.disabled.paths s.starts.works s.tasks.tasks c.args.self.now c.finish-moved.new.self later o o2 is Course.Finishing c.is_current_in_world-in_world.result settled (other_allows s.devices rack s.disabled.paths s.starts.works s.tasks.tasks c.args.self.now o Course.Finishing (λ e. absurd (cc)) (λ e. absurd (cc)) c.is_current_in_world-in_world.result settled) moved c.finish-moved.ensures.removes
+    let is = was_is s.devices rack s.disabled.paths s.starts.works s.tasks.tasks c.args.self.now _ _ c.self.view_is (c.in-Some-Finishing.is ∙ ap Some c.in-Some-Finishing.field-0-is) in
+    removes_root s.devices rack s.disabled.paths s.starts.works s.tasks.tasks c.args.self.now c.finish-moved.new.self later o o2 is Course.Finishing c.is_current_in_world-in_world.result None (other_allows s.devices rack s.disabled.paths s.starts.works s.tasks.tasks c.args.self.now o Course.Finishing (λ e. cc) (λ e. cc) c.is_current_in_world-in_world.result None) c.finish-moved.result c.finish-moved.ensures.removes
 
 pub after_step-in-Some-Finishing-requires-clause-new : goal.after_step-in-Some-Finishing-requires-clause-new
 after_step-in-Some-Finishing-requires-clause-new g c =
     let s = c.self.inside in
     let rack = g.R.Drivers.rows s.rack in
     let later = g.R.Drivers.rows c.finish-moved.new.rack in
-    let moved = c.finish-moved.result in
     let o = c.in-Some-Finishing.finish in
     let o2 = c.finish-moved.new.finish in
-    let settled = None in
-    let is = ap (λ x. state_of s.devices rack s.disabled.paths s.starts.works (option_map operation_of x) s.tasks.tasks) (sym (c.in-Some-Finishing.is ∙ ap Some c.in-Some-Finishing.field-0-is)) ∙ c.self.view_is in
-    subst (λ p. IfOk moved (λ step. IsNew step settled p)) (sym c.in_ok-make_room-2.ensures.paths)
-    (removes_new s.devices rack s.disabled.paths s.starts.works s.tasks.tasks c.args.self.now c.finish-moved.new.self later o o2 is Course.Finishing c.is_current_in_world-in_world.result settled (other_allows s.devices rack s.disabled.paths s.starts.works s.tasks.tasks c.args.self.now o Course.Finishing (λ e. absurd (cc)) (λ e. absurd (cc)) c.is_current_in_world-in_world.result settled) moved c.finish-moved.ensures.removes)
+    let is = was_is s.devices rack s.disabled.paths s.starts.works s.tasks.tasks c.args.self.now _ _ c.self.view_is (c.in-Some-Finishing.is ∙ ap Some c.in-Some-Finishing.field-0-is) in
+    subst (λ p. IfOk c.finish-moved.result (λ step. IsNew step None p)) (sym c.in_ok-make_room-2.ensures.paths)
+    (removes_new s.devices rack s.disabled.paths s.starts.works s.tasks.tasks c.args.self.now c.finish-moved.new.self later o o2 is Course.Finishing c.is_current_in_world-in_world.result None (other_allows s.devices rack s.disabled.paths s.starts.works s.tasks.tasks c.args.self.now o Course.Finishing (λ e. cc) (λ e. cc) c.is_current_in_world-in_world.result None) c.finish-moved.result c.finish-moved.ensures.removes)
 
 pub returns-clause-done : goal.returns-clause-done
 returns-clause-done g c =
@@ -157,12 +137,10 @@ returns-clause-done g c =
           let step = w.in_ok-step-in-Some-Rebalancing.step in
           let r = w.operation-in-Rebalancing-1.given.0.0 in
           let r2 = w.rebalance.new.rebalance in
-          let is = ap (λ x. state_of s.devices rack s.disabled.paths s.starts.works (option_map operation_of x) s.tasks.tasks) (sym (c.operation-in-Some-1.given.1 ∙ ap Some w.operation-in-Rebalancing-1.given.1)) ∙ c.self.view_is in
+          let is = was_is s.devices rack s.disabled.paths s.starts.works s.tasks.tasks c.args.self.now _ _ c.self.view_is (c.operation-in-Some-1.given.1 ∙ ap Some w.operation-in-Rebalancing-1.given.1) in
           let done = w.apply_rebalance.ensures.state ds later c.make_room-2.new.self.paths
-          ∙ ap (λ i. beside_rebalance step i (state_of ds later c.make_room-2.new.self.paths c.make_room.new.self.works (Some r2) c.make_room-3.new.self.tasks)) w.target-target.ensures
-          ∙ ap (λ x. beside_rebalance step r2.target (state_of ds later x c.make_room.new.self.works (Some r2) c.make_room-3.new.self.tasks)) c.in_ok-make_room-2.ensures.paths
-          ∙ ap (λ x. beside_rebalance step r2.target (state_of ds later s.disabled.paths x (Some r2) c.make_room-3.new.self.tasks)) c.in_ok-make_room.ensures.same
-          ∙ ap (λ x. beside_rebalance step r2.target (state_of ds later s.disabled.paths s.starts.works (Some r2) x)) c.in_ok-make_room-3.ensures.tasks in
+          ∙ ap (λ i. beside_rebalance step i _) w.target-target.ensures
+          ∙ room_made (λ x. beside_rebalance step r2.target x) ds later r2 _ _ _ _ _ _ c.in_ok-make_room-2.ensures.paths c.in_ok-make_room.ensures.same c.in_ok-make_room-3.ensures.tasks in
           let moves = rebalance_moves s.devices rack s.disabled.paths s.starts.works s.tasks.tasks c.args.self.now ds later r r2 infs c.args.budget step is w.rebalance.ensures.course c.requires.turn w.in_ok-step-in-Some-Rebalancing.ensures.rebalances in
           told_by (settings_of infs c.args.budget) c.args.self.now w.apply_rebalance.result (rebalance_label step) _ _ w.apply_rebalance.ensures.label done moves))
       | in-Some-Removing+in_ok-settled-in-Some-Removing w ↦ rw w.result-is (rw w.self-inside-is (
@@ -172,16 +150,12 @@ returns-clause-done g c =
           let o = w.operation-in-Removing-1.given.0.0 in
           let o2 = w.remove-moved.new.removal in
           let settled = w.in_ok-settled-in-Some-Removing.settled in
-          let is = ap (λ x. state_of s.devices rack s.disabled.paths s.starts.works (option_map operation_of x) s.tasks.tasks) (sym (c.operation-in-Some-1.given.1 ∙ ap Some w.operation-in-Removing-1.given.1)) ∙ c.self.view_is in
+          let is = was_is s.devices rack s.disabled.paths s.starts.works s.tasks.tasks c.args.self.now _ _ c.self.view_is (c.operation-in-Some-1.given.1 ∙ ap Some w.operation-in-Removing-1.given.1) in
           let in_world = is_back c.args.self.now o Course.Removing in
-          let of = w.in_ok-settled-in-Some-Removing.ensures.course in
-          let allowed = removal_allows s.devices rack s.disabled.paths s.starts.works s.tasks.tasks c.args.self.now c.requires.run o is of in_world settled w.in_ok-settled-in-Some-Removing.ensures.path in
+          let allowed = removal_allows s.devices rack s.disabled.paths s.starts.works s.tasks.tasks c.args.self.now c.requires.run o is w.in_ok-settled-in-Some-Removing.ensures.course in_world settled w.in_ok-settled-in-Some-Removing.ensures.path in
           let made = removal_back s.devices rack s.disabled.paths s.starts.works s.tasks.tasks c.args.self.now ds later o o2 in_world moved w.remove-moved.ensures.removes in
-          let done = w.after_step.ensures.state later c.make_room.new.self.works
-          ∙ ap (λ x. beside_made moved settled (state_of ds later x c.make_room.new.self.works (Some o2) c.make_room-3.new.self.tasks)) c.in_ok-make_room-2.ensures.paths
-          ∙ ap (λ x. beside_made moved settled (state_of ds later s.disabled.paths x (Some o2) c.make_room-3.new.self.tasks)) c.in_ok-make_room.ensures.same
-          ∙ ap (λ x. beside_made moved settled (state_of ds later s.disabled.paths s.starts.works (Some o2) x)) c.in_ok-make_room-3.ensures.tasks in
-          removes_move s.devices rack s.disabled.paths s.starts.works s.tasks.tasks c.args.self.now ds later o o2 is Course.Removing in_world settled allowed moved made c.args.budget w.after_step.result _ w.after_step.ensures.label done of (ap (λ (x : State). is_back x o Course.Removing) (sym is)) c.requires.turn))
+          let done = w.after_step.ensures.state later c.make_room.new.self.works ∙ room_made (λ x. beside_made moved settled x) ds later o2 _ _ _ _ _ _ c.in_ok-make_room-2.ensures.paths c.in_ok-make_room.ensures.same c.in_ok-make_room-3.ensures.tasks in
+          removes_move s.devices rack s.disabled.paths s.starts.works s.tasks.tasks c.args.self.now ds later o o2 is Course.Removing in_world settled allowed moved made c.args.budget w.after_step.result _ w.after_step.ensures.label done w.in_ok-settled-in-Some-Removing.ensures.course (ap (λ (x : State). is_back x o Course.Removing) (sym is)) c.requires.turn))
       | in-Some-Surprising w ↦ rw w.result-is (rw w.self-inside-is (
           let later = g.R.Drivers.rows w.surprise-moved.new.rack in
           let ds = w.surprise-moved.new.self in
@@ -189,16 +163,12 @@ returns-clause-done g c =
           let o = w.operation-in-Surprising-1.given.0.0 in
           let o2 = w.surprise-moved.new.surprise in
           let settled = None in
-          let is = ap (λ x. state_of s.devices rack s.disabled.paths s.starts.works (option_map operation_of x) s.tasks.tasks) (sym (c.operation-in-Some-1.given.1 ∙ ap Some w.operation-in-Surprising-1.given.1)) ∙ c.self.view_is in
+          let is = was_is s.devices rack s.disabled.paths s.starts.works s.tasks.tasks c.args.self.now _ _ c.self.view_is (c.operation-in-Some-1.given.1 ∙ ap Some w.operation-in-Surprising-1.given.1) in
           let in_world = w.is_target_in_world-in_world.result in
-          let of = w.is_target_in_world-in_world.ensures.course in
-          let allowed = other_allows s.devices rack s.disabled.paths s.starts.works s.tasks.tasks c.args.self.now o Course.Surprising (λ e. absurd (cc)) (λ e. absurd (cc)) in_world settled in
+          let allowed = other_allows s.devices rack s.disabled.paths s.starts.works s.tasks.tasks c.args.self.now o Course.Surprising (λ e. cc) (λ e. cc) in_world settled in
           let made = w.surprise-moved.ensures.removes in
-          let done = w.after_step-in-Some-Surprising.ensures.state later c.make_room.new.self.works
-          ∙ ap (λ x. beside_made moved settled (state_of ds later x c.make_room.new.self.works (Some o2) c.make_room-3.new.self.tasks)) c.in_ok-make_room-2.ensures.paths
-          ∙ ap (λ x. beside_made moved settled (state_of ds later s.disabled.paths x (Some o2) c.make_room-3.new.self.tasks)) c.in_ok-make_room.ensures.same
-          ∙ ap (λ x. beside_made moved settled (state_of ds later s.disabled.paths s.starts.works (Some o2) x)) c.in_ok-make_room-3.ensures.tasks in
-          removes_move s.devices rack s.disabled.paths s.starts.works s.tasks.tasks c.args.self.now ds later o o2 is Course.Surprising in_world settled allowed moved made c.args.budget w.after_step-in-Some-Surprising.result _ w.after_step-in-Some-Surprising.ensures.label done of w.is_target_in_world-in_world.ensures.born c.requires.turn))
+          let done = w.after_step-in-Some-Surprising.ensures.state later c.make_room.new.self.works ∙ room_made (λ x. beside_made moved settled x) ds later o2 _ _ _ _ _ _ c.in_ok-make_room-2.ensures.paths c.in_ok-make_room.ensures.same c.in_ok-make_room-3.ensures.tasks in
+          removes_move s.devices rack s.disabled.paths s.starts.works s.tasks.tasks c.args.self.now ds later o o2 is Course.Surprising in_world settled allowed moved made c.args.budget w.after_step-in-Some-Surprising.result _ w.after_step-in-Some-Surprising.ensures.label done w.is_target_in_world-in_world.ensures.course w.is_target_in_world-in_world.ensures.born c.requires.turn))
       | in-Some-Finishing w ↦ rw w.result-is (rw w.self-inside-is (
           let later = g.R.Drivers.rows w.finish-moved.new.rack in
           let ds = w.finish-moved.new.self in
@@ -206,16 +176,12 @@ returns-clause-done g c =
           let o = w.operation-in-Finishing-1.given.0.0 in
           let o2 = w.finish-moved.new.finish in
           let settled = None in
-          let is = ap (λ x. state_of s.devices rack s.disabled.paths s.starts.works (option_map operation_of x) s.tasks.tasks) (sym (c.operation-in-Some-1.given.1 ∙ ap Some w.operation-in-Finishing-1.given.1)) ∙ c.self.view_is in
+          let is = was_is s.devices rack s.disabled.paths s.starts.works s.tasks.tasks c.args.self.now _ _ c.self.view_is (c.operation-in-Some-1.given.1 ∙ ap Some w.operation-in-Finishing-1.given.1) in
           let in_world = w.is_current_in_world-in_world.result in
-          let of = w.is_current_in_world-in_world.ensures.course in
-          let allowed = other_allows s.devices rack s.disabled.paths s.starts.works s.tasks.tasks c.args.self.now o Course.Finishing (λ e. absurd (cc)) (λ e. absurd (cc)) in_world settled in
+          let allowed = other_allows s.devices rack s.disabled.paths s.starts.works s.tasks.tasks c.args.self.now o Course.Finishing (λ e. cc) (λ e. cc) in_world settled in
           let made = w.finish-moved.ensures.removes in
-          let done = w.after_step-in-Some-Finishing.ensures.state later c.make_room.new.self.works
-          ∙ ap (λ x. beside_made moved settled (state_of ds later x c.make_room.new.self.works (Some o2) c.make_room-3.new.self.tasks)) c.in_ok-make_room-2.ensures.paths
-          ∙ ap (λ x. beside_made moved settled (state_of ds later s.disabled.paths x (Some o2) c.make_room-3.new.self.tasks)) c.in_ok-make_room.ensures.same
-          ∙ ap (λ x. beside_made moved settled (state_of ds later s.disabled.paths s.starts.works (Some o2) x)) c.in_ok-make_room-3.ensures.tasks in
-          removes_move s.devices rack s.disabled.paths s.starts.works s.tasks.tasks c.args.self.now ds later o o2 is Course.Finishing in_world settled allowed moved made c.args.budget w.after_step-in-Some-Finishing.result _ w.after_step-in-Some-Finishing.ensures.label done of w.is_current_in_world-in_world.ensures.born c.requires.turn))
+          let done = w.after_step-in-Some-Finishing.ensures.state later c.make_room.new.self.works ∙ room_made (λ x. beside_made moved settled x) ds later o2 _ _ _ _ _ _ c.in_ok-make_room-2.ensures.paths c.in_ok-make_room.ensures.same c.in_ok-make_room-3.ensures.tasks in
+          removes_move s.devices rack s.disabled.paths s.starts.works s.tasks.tasks c.args.self.now ds later o o2 is Course.Finishing in_world settled allowed moved made c.args.budget w.after_step-in-Some-Finishing.result _ w.after_step-in-Some-Finishing.ensures.label done w.is_current_in_world-in_world.ensures.course w.is_current_in_world-in_world.ensures.born c.requires.turn))
     ]
 
 pub returns-clause-err : goal.returns-clause-err
@@ -231,15 +197,11 @@ returns-clause-err g c =
           let o = w.operation-in-Removing-1.given.0.0 in
           let o2 = w.remove-moved.new.removal in
           let settled = w.in_ok-settled-in-Some-Removing.settled in
-          let is = ap (λ x. state_of s.devices rack s.disabled.paths s.starts.works (option_map operation_of x) s.tasks.tasks) (sym (c.operation-in-Some-1.given.1 ∙ ap Some w.operation-in-Removing-1.given.1)) ∙ c.self.view_is in
+          let is = was_is s.devices rack s.disabled.paths s.starts.works s.tasks.tasks c.args.self.now _ _ c.self.view_is (c.operation-in-Some-1.given.1 ∙ ap Some w.operation-in-Removing-1.given.1) in
           let in_world = is_back c.args.self.now o Course.Removing in
-          let of = w.in_ok-settled-in-Some-Removing.ensures.course in
-          let allowed = removal_allows s.devices rack s.disabled.paths s.starts.works s.tasks.tasks c.args.self.now c.requires.run o is of in_world settled w.in_ok-settled-in-Some-Removing.ensures.path in
+          let allowed = removal_allows s.devices rack s.disabled.paths s.starts.works s.tasks.tasks c.args.self.now c.requires.run o is w.in_ok-settled-in-Some-Removing.ensures.course in_world settled w.in_ok-settled-in-Some-Removing.ensures.path in
           let made = removal_back s.devices rack s.disabled.paths s.starts.works s.tasks.tasks c.args.self.now ds later o o2 in_world moved w.remove-moved.ensures.removes in
-          let done = w.after_step.ensures.state later c.make_room.new.self.works
-          ∙ ap (λ x. beside_made moved settled (state_of ds later x c.make_room.new.self.works (Some o2) c.make_room-3.new.self.tasks)) c.in_ok-make_room-2.ensures.paths
-          ∙ ap (λ x. beside_made moved settled (state_of ds later s.disabled.paths x (Some o2) c.make_room-3.new.self.tasks)) c.in_ok-make_room.ensures.same
-          ∙ ap (λ x. beside_made moved settled (state_of ds later s.disabled.paths s.starts.works (Some o2) x)) c.in_ok-make_room-3.ensures.tasks in
+          let done = w.after_step.ensures.state later c.make_room.new.self.works ∙ room_made (λ x. beside_made moved settled x) ds later o2 _ _ _ _ _ _ c.in_ok-make_room-2.ensures.paths c.in_ok-make_room.ensures.same c.in_ok-make_room-3.ensures.tasks in
           stays s.devices rack s.disabled.paths s.starts.works s.tasks.tasks c.args.self.now ds later o o2 is Course.Removing in_world settled allowed moved made c.args.budget w.after_step.result _ w.after_step.ensures.label done w.remove-moved.ensures.err w.remove-moved.ensures.rack w.remove-moved.ensures.removal))
       | in-Some-Surprising w ↦ rw w.result-is (rw w.self-inside-is (
           let later = g.R.Drivers.rows w.surprise-moved.new.rack in
@@ -248,15 +210,11 @@ returns-clause-err g c =
           let o = w.operation-in-Surprising-1.given.0.0 in
           let o2 = w.surprise-moved.new.surprise in
           let settled = None in
-          let is = ap (λ x. state_of s.devices rack s.disabled.paths s.starts.works (option_map operation_of x) s.tasks.tasks) (sym (c.operation-in-Some-1.given.1 ∙ ap Some w.operation-in-Surprising-1.given.1)) ∙ c.self.view_is in
+          let is = was_is s.devices rack s.disabled.paths s.starts.works s.tasks.tasks c.args.self.now _ _ c.self.view_is (c.operation-in-Some-1.given.1 ∙ ap Some w.operation-in-Surprising-1.given.1) in
           let in_world = w.is_target_in_world-in_world.result in
-          let of = w.is_target_in_world-in_world.ensures.course in
-          let allowed = other_allows s.devices rack s.disabled.paths s.starts.works s.tasks.tasks c.args.self.now o Course.Surprising (λ e. absurd (cc)) (λ e. absurd (cc)) in_world settled in
+          let allowed = other_allows s.devices rack s.disabled.paths s.starts.works s.tasks.tasks c.args.self.now o Course.Surprising (λ e. cc) (λ e. cc) in_world settled in
           let made = w.surprise-moved.ensures.removes in
-          let done = w.after_step-in-Some-Surprising.ensures.state later c.make_room.new.self.works
-          ∙ ap (λ x. beside_made moved settled (state_of ds later x c.make_room.new.self.works (Some o2) c.make_room-3.new.self.tasks)) c.in_ok-make_room-2.ensures.paths
-          ∙ ap (λ x. beside_made moved settled (state_of ds later s.disabled.paths x (Some o2) c.make_room-3.new.self.tasks)) c.in_ok-make_room.ensures.same
-          ∙ ap (λ x. beside_made moved settled (state_of ds later s.disabled.paths s.starts.works (Some o2) x)) c.in_ok-make_room-3.ensures.tasks in
+          let done = w.after_step-in-Some-Surprising.ensures.state later c.make_room.new.self.works ∙ room_made (λ x. beside_made moved settled x) ds later o2 _ _ _ _ _ _ c.in_ok-make_room-2.ensures.paths c.in_ok-make_room.ensures.same c.in_ok-make_room-3.ensures.tasks in
           stays s.devices rack s.disabled.paths s.starts.works s.tasks.tasks c.args.self.now ds later o o2 is Course.Surprising in_world settled allowed moved made c.args.budget w.after_step-in-Some-Surprising.result _ w.after_step-in-Some-Surprising.ensures.label done w.surprise-moved.ensures.err w.surprise-moved.ensures.rack w.surprise-moved.ensures.surprise))
       | in-Some-Finishing w ↦ rw w.result-is (rw w.self-inside-is (
           let later = g.R.Drivers.rows w.finish-moved.new.rack in
@@ -265,14 +223,10 @@ returns-clause-err g c =
           let o = w.operation-in-Finishing-1.given.0.0 in
           let o2 = w.finish-moved.new.finish in
           let settled = None in
-          let is = ap (λ x. state_of s.devices rack s.disabled.paths s.starts.works (option_map operation_of x) s.tasks.tasks) (sym (c.operation-in-Some-1.given.1 ∙ ap Some w.operation-in-Finishing-1.given.1)) ∙ c.self.view_is in
+          let is = was_is s.devices rack s.disabled.paths s.starts.works s.tasks.tasks c.args.self.now _ _ c.self.view_is (c.operation-in-Some-1.given.1 ∙ ap Some w.operation-in-Finishing-1.given.1) in
           let in_world = w.is_current_in_world-in_world.result in
-          let of = w.is_current_in_world-in_world.ensures.course in
-          let allowed = other_allows s.devices rack s.disabled.paths s.starts.works s.tasks.tasks c.args.self.now o Course.Finishing (λ e. absurd (cc)) (λ e. absurd (cc)) in_world settled in
+          let allowed = other_allows s.devices rack s.disabled.paths s.starts.works s.tasks.tasks c.args.self.now o Course.Finishing (λ e. cc) (λ e. cc) in_world settled in
           let made = w.finish-moved.ensures.removes in
-          let done = w.after_step-in-Some-Finishing.ensures.state later c.make_room.new.self.works
-          ∙ ap (λ x. beside_made moved settled (state_of ds later x c.make_room.new.self.works (Some o2) c.make_room-3.new.self.tasks)) c.in_ok-make_room-2.ensures.paths
-          ∙ ap (λ x. beside_made moved settled (state_of ds later s.disabled.paths x (Some o2) c.make_room-3.new.self.tasks)) c.in_ok-make_room.ensures.same
-          ∙ ap (λ x. beside_made moved settled (state_of ds later s.disabled.paths s.starts.works (Some o2) x)) c.in_ok-make_room-3.ensures.tasks in
+          let done = w.after_step-in-Some-Finishing.ensures.state later c.make_room.new.self.works ∙ room_made (λ x. beside_made moved settled x) ds later o2 _ _ _ _ _ _ c.in_ok-make_room-2.ensures.paths c.in_ok-make_room.ensures.same c.in_ok-make_room-3.ensures.tasks in
           stays s.devices rack s.disabled.paths s.starts.works s.tasks.tasks c.args.self.now ds later o o2 is Course.Finishing in_world settled allowed moved made c.args.budget w.after_step-in-Some-Finishing.result _ w.after_step-in-Some-Finishing.ensures.label done w.finish-moved.ensures.err w.finish-moved.ensures.rack w.finish-moved.ensures.finish))
     ]
