@@ -7,7 +7,7 @@ use Rattle.pnp_labels.specs.declared.states.DevState.{DevState}
 use Rattle.pnp_labels.specs.declared.states.DevState.TheVariants.{NoStack, NotStarted, Started, StopPending, Stopped, RemovePending, SurpriseRemoved}
 use Rattle.pnp_model.specs.Cores.{node_at}
 use Rattle.pnp_model.specs.Rebalances.{begun_change}
-use Rattle.pnp_model.specs.Records.{Core, Device, Job, Node, State}
+use Rattle.pnp_model.specs.Records.{Core, Device, Job, Node, Relation, State}
 use Rattle.pnp_model.specs.Records.Duty.{Begins}
 use Rattle.pnp_model.specs.Surprises.{begun_surprise}
 use Rattle.pnp_model.specs.Finishes.{begun_finish}
@@ -23,6 +23,11 @@ use Rattle.pnp_laws.proofs.Lookups.{own_serial}
 use Rattle.operation_frame.specs.Steps.{BegunFor}
 use Rattle.surprise_remove.specs.Ready.{is_ready_at}
 use Rattle.pnp_machine.specs.Machines.{IsDone, DoneFor, can_rebalance, is_disabled, is_disabled_node}
+
+-- where the begin reads the device alone
+pub any_relations : (kind : OpKind) (begun : Node → Job) (o : Option Node) (nodes : List Node) (rs rs' : List Relation) (line : Label) (j : Job) → BegunFor kind (λ c n. begun n) o nodes rs line j → BegunFor kind (λ c n. begun n) o nodes rs' line j
+any_relations kind begun None nodes rs rs' line j h = absurd h
+any_relations kind begun (Some n) nodes rs rs' line j h = h
 
 module _ (s t : State) (label line : Label) (own : label ≡ line) where
   pub job_begun : (kind : OpKind) (begun : Core → Node → Job) (j : Job) (o : Option Node) → BegunFor kind begun o s.core.nodes s.core.relations line j → t ≡ set_operation (Some j) (drop_task s)

@@ -142,16 +142,16 @@ module _ (settings : Settings) (rack : List Driver) (entries : List Entry) (s : 
 
   -- a removal can take its step, and what it settles may leave
   pub removal_goes : (o : Job) → s.operation ≡ Some o → course_of o.kind ≡ Course.Removing → HasNext s.core.nodes o o.stage × query.SettlesStripped s.core.nodes o o.stage
-  removal_goes o runs course = removal_ready s o (reaches_kept settings rack entries s run) (all_hold_whole settings rack entries s run) runs course
+  removal_goes o runs course = removal_ready s o course (reaches_kept settings rack entries s run) (all_hold_whole settings rack entries s run) runs
 
   -- likewise a surprise removal, where what depends on the device directly tells whether it stays behind
   pub surprise_goes : (o : Job) → s.operation ≡ Some o → course_of o.kind ≡ Course.Surprising
       → HasNext s.core.nodes o o.stage × surprise.DirectSays s.core.nodes s.core.relations o o.stage × surprise.SettlesStripped s.core.nodes s.core.relations o s.handles o.stage
-  surprise_goes o runs course = surprise_ready s o s.handles (reaches_kept settings rack entries s run) (all_hold_whole settings rack entries s run) runs course
+  surprise_goes o runs course = surprise_ready s o s.handles course (reaches_kept settings rack entries s run) (all_hold_whole settings rack entries s run) runs
 
   -- and the end of surprise removals
   pub finish_goes : (f : Job) → s.operation ≡ Some f → course_of f.kind ≡ Course.Finishing → finish.HasCurrent s.core.nodes f f.stage × finish.LeavesStripped s.core.nodes f f.stage
-  finish_goes f runs course = finish_ready s f (reaches_kept settings rack entries s run) (all_hold_whole settings rack entries s run) runs course
+  finish_goes f runs course = finish_ready s f course (reaches_kept settings rack entries s run) (all_hold_whole settings rack entries s run) runs
 
   -- the device of a start is there, and not the root
   pub start_there : (k : ℕ) (a : Activity) → activity_at k s.activities ≡ Some a → (n : Node) × (node_at k s.core.nodes ≡ Some n) × (k ≢ 0) × Fits a.phase n.state

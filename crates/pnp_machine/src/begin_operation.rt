@@ -1,9 +1,10 @@
-ghost use Rattle.std.specs.Prelude.{◌≡◌, [], IfOk, OnErr, Some, IsSome};
+ghost use Rattle.std.specs.Prelude.{◌≡◌, [], IfOk, OnErr, Some, IsSome, true};
 ghost use Rattle.pnp_model.specs.Cores.{node_at};
 ghost use Rattle.pnp_model.specs.Rebalances.{begun_rebalance};
 ghost use Rattle.pnp_model.specs.Records.Duty.{Begins};
 ghost use Rattle.pnp_model.specs.Finishes.{begun_finish};
 ghost use Rattle.pnp_model.specs.Handles.{was_told};
+ghost use Rattle.pnp_model.specs.Machine.{is_in_order};
 ghost use Rattle.pnp_model.specs.Removals.{begun_removal};
 ghost use Rattle.pnp_model.specs.Surprises.{begun_surprise};
 ghost use Rattle.pnp_model.specs.Tasks.{begin, begin_step, change_task, skip};
@@ -99,7 +100,8 @@ impl<R: Drivers> Machine<R> {
 
     /// The removal of a device begins.
     fn begin_removal(&mut self, kind: OpKind, serial: u64) -> Result<Label, WantOfMemory>
-        requires { IsSome (node_at serial self.old.core.nodes) }
+        requires there { IsSome (node_at serial self.old.core.nodes) }
+        requires order { is_in_order kind ≡ true }
         ensures done { IfOk result (λ label. DoneFor (node_at serial self.old.core.nodes) (λ n. begin self.old kind n (begun_removal self.old.core kind n)) label self.new) }
         ensures err { OnErr result (self.new ≡ self.old) }
     {

@@ -1,9 +1,9 @@
-ghost use Rattle.std.specs.Prelude.{◌≡◌, ◌≤◌, ℕ, IfOk, IfSome, OnErr, IsSome, List, Some, None, false, length};
+ghost use Rattle.std.specs.Prelude.{◌≡◌, ◌≤◌, ℕ, IfOk, IfSome, OnErr, IsSome, List, [], Some, None, true, false, length};
 ghost use Rattle.devnode_tree.specs.Trees.{IsTree};
 ghost use Rattle.pnp_model.specs.Cores.{node_at};
 ghost use Rattle.pnp_model.specs.Frames.{first_node};
 ghost use Rattle.pnp_model.specs.Handles.{was_told};
-ghost use Rattle.pnp_model.specs.Machine.{phase_walk, is_waiting, is_born};
+ghost use Rattle.pnp_model.specs.Machine.{phase_walk, is_in_order, is_waiting, is_born};
 ghost use Rattle.pnp_model.specs.Finishes.{begun_finish};
 ghost use Rattle.pnp_model.specs.Records.{Course, Driver, State, course_of};
 ghost use Rattle.pnp_model.specs.Removals.{begun_removal};
@@ -126,7 +126,8 @@ impl Devices {
         kind: OpKind,
         serial: u64,
     ) -> Result<(Label, Removal), WantOfMemory>
-        requires { IsSome (node_at serial self.now.tree.nodes) }
+        requires there { IsSome (node_at serial self.now.tree.nodes) }
+        requires order { is_in_order kind ≡ true }
         ensures { IfOk result (λ begun. JobBegun kind (λ c n. begun_removal c kind n) (node_at serial self.now.tree.nodes) self.now.tree.nodes self.now.relations begun.0 begun.1) }
     {
         Removal::begin(alloc, &self.tree, &self.relations, kind, serial)
@@ -234,7 +235,7 @@ impl Devices {
         serial: u64,
     ) -> Result<(Label, Finish), WantOfMemory>
         requires { IsSome (node_at serial self.now.tree.nodes) }
-        ensures { IfOk result (λ begun. JobBegun OpKind.Finish (λ c n. begun_finish n) (node_at serial self.now.tree.nodes) self.now.tree.nodes self.now.relations begun.0 begun.1) }
+        ensures { IfOk result (λ begun. JobBegun OpKind.Finish (λ c n. begun_finish n) (node_at serial self.now.tree.nodes) self.now.tree.nodes [] begun.0 begun.1) }
     {
         Finish::begin(alloc, &self.tree, serial)
     }
