@@ -23,7 +23,7 @@ use Rattle.pnp_model.specs.Tests.{has, has_same, is_eject}
 use Rattle.pnp_model.specs.Trees.{leaving}
 use Rattle.pnp_laws.specs.Words.{IsWord}
 use Rattle.pnp_laws.specs.Effects.{BeginsFor, OpEffect, PathEffect, Turn, begun}
-use Rattle.pnp_laws.specs.Kept.{Ascending, Distinct, IsGood, OperationFits}
+use Rattle.pnp_laws.specs.Kept.{Ascending, Distinct, IsGood, JobFits, OperationFits}
 use Rattle.pnp_laws.specs.Reached.{IsReached}
 use Rattle.pnp_laws.proofs.EffectsOf.{effect_goes}
 use Rattle.pnp_laws.proofs.EffectsOfEvents.{event_effect}
@@ -34,7 +34,6 @@ use Rattle.pnp_laws.proofs.Lists.{HeadIs, head_found, head_has, rest_not, rest_w
 use Rattle.pnp_laws.proofs.Lookups.{left_from, node_from, some_same}
 use Rattle.pnp_laws.proofs.Reached.{reached_is_good}
 use Rattle.pnp_laws.proofs.Reaching.{kept}
-use Rattle.pnp_laws.proofs.FitsBy.{fits_by}
 use Rattle.pnp_laws.proofs.Stages.{OperationStep, RemovalAct, RemovalStep, operation_step, own_step}
 use Rattle.pnp_laws.proofs.Turns.{turn_fits}
 use Rattle.pnp_model.specs.Events as ev
@@ -195,7 +194,7 @@ disable_fresh settings s step o good runs disable goes h =
     let later = turn_fits s good.stacks good.serials o taken.now taken.turn fits in
     let kind : taken.now.kind ≡ o.kind = turn_kind s o taken.now taken.turn in
     let still = ap course_of kind ∙ course in
-    operation_fresh s taken.now step good.serials still (fits_by Course.Removing taken.now s.core.nodes still later).todo (turn_fresh s o taken.now taken.turn course fresh) (own_step s taken.now step later taken.is)
+    operation_fresh s taken.now step good.serials still (subst (λ (x : Course). JobFits x taken.now s.core.nodes) still later).todo (turn_fresh s o taken.now taken.turn course fresh) (own_step s taken.now step later taken.is)
   where
     turn_kind : (s : State) (o p : Job) → Turn s o p → p.kind ≡ o.kind
     turn_kind s _ _ (Turn.same o) = refl

@@ -15,12 +15,11 @@ use Rattle.pnp_model.specs.Rebalances.{reqs_after}
 use Rattle.pnp_model.specs.Runs.{Entry, Goes, printed}
 use Rattle.pnp_model.specs.States.{activity_at}
 use Rattle.pnp_model.specs.Tests.{is_surprise_removed}
-use Rattle.pnp_laws.specs.Kept.{Alone, Ascending, Fits, IsGood, TargetFits, is_idle}
+use Rattle.pnp_laws.specs.Kept.{Alone, Ascending, Fits, IsGood, JobFits, OperationFits, RebalanceKeeps, TargetFits, is_idle}
 use Rattle.pnp_laws.specs.Quiet.{RestsWith}
 use Rattle.pnp_laws.specs.Reached.{IsReached}
 use Rattle.pnp_laws.proofs.EffectViews.{Origin, origin}
 use Rattle.pnp_laws.proofs.EffectsOf.{effect_goes}
-use Rattle.pnp_laws.proofs.FitsBy.{rebalance_fits}
 use Rattle.pnp_laws.proofs.Lookups.{own_serial}
 use Rattle.pnp_laws.proofs.Reached.{reached_is_good}
 use Rattle.pnp_laws.proofs.Reaching.{kept}
@@ -64,7 +63,8 @@ needs_from s label t _ good h (Origin.stacks n d ds name at acts prints) = h n a
 needs_from s label t _ good h (Origin.assigned n phase plan at acts search part now) = h n at
 needs_from s label t _ good h (Origin.stripped n w at request prints) = h n at
 needs_from s label t _ good h (Origin.commits r n runs course is at) =
-    needs_committed r n s.core.nodes r.wanted refl (rebalance_fits s r good runs course).waits at ∙ h n at
+    let fits : RebalanceKeeps r r.stage s.core.nodes = subst (λ (x : Course). JobFits x r s.core.nodes) course (subst (λ (o : Option Job). OperationFits o s.core.nodes) runs good.fits) in
+    needs_committed r n s.core.nodes r.wanted refl fits.waits at ∙ h n at
 -- what joins is not the root
 needs_from s label t _ good h (Origin.joins node d below gone own) = absurd (let begun = good.begun in omega arith)
 
