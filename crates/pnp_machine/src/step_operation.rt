@@ -1,9 +1,11 @@
 ghost use Rattle.std.specs.Prelude.{◌≡◌, ◌<◌, ◌≤◌, IfOk, OnErr, List, None, option_map};
 ghost use Rattle.inf_reader.specs.declared.parts.Inf.{Inf};
+ghost use Rattle.pnp_labels.specs.Texts.{Text};
 ghost use Rattle.pnp_model.specs.Machine.{Steps};
 ghost use Rattle.pnp_model.specs.Records.{Activity, Driver};
 ghost use Rattle.pnp_model.specs.States.{activity_at};
 ghost use Rattle.start_sequence.specs.Begins.{settings_of};
+ghost use Rattle.pnp_machine.specs.Devices as parts;
 ghost use Rattle.pnp_machine.specs.Machines.{IsTurn, state_of, beside, beside_made, label_of, IsLabelOf, IsNoRoot, IsNew, tasks_over};
 ghost use Rattle.pnp_machine.specs.Managers.{IsOfRun};
 ghost use Rattle.pnp_machine.specs.Operations.{operation_of};
@@ -120,7 +122,7 @@ fn apply_rebalance(
     requires tasks { 0 < tasks.old.room }
     requires new { activity_at target starts.old.works ≡ None }
     ensures label { result ≡ rebalance_label step }
-    ensures state { (devices : Devices) (rack : List Driver) (disabled : List Text) → state_of devices rack disabled starts.new.works (option_map operation_of operation.new) tasks.new.tasks ≡ beside_rebalance step target (state_of devices rack disabled starts.old.works (option_map operation_of operation.old) tasks.old.tasks) }
+    ensures state { (devices : parts.Devices) (rack : List Driver) (disabled : List Text) → state_of devices rack disabled starts.new.works (option_map operation_of operation.new) tasks.new.tasks ≡ beside_rebalance step target (state_of devices rack disabled starts.old.works (option_map operation_of operation.old) tasks.old.tasks) }
 {
     match step {
         RebalanceStep::Did(label) => label,
