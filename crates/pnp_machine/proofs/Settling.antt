@@ -165,7 +165,7 @@ module _ (c : Core) (o : Job) (handles : List Handle) where
   finish_acts Stage.Holding None m e = absurd (cc)
   finish_acts _ n m e = absurd (cc)
 
-  other_plain : (course : Course) → (course ≡ Course.Rebalancing → ⊥) → (course ≡ Course.Removing → ⊥) → (in_world : Bool) (walk : Option Walk) (n : Option Node) (m : JobMove)
+  pub other_plain : (course : Course) → (course ≡ Course.Rebalancing → ⊥) → (course ≡ Course.Removing → ⊥) → (in_world : Bool) (walk : Option Walk) (n : Option Node) (m : JobMove)
       → job_step c o course in_world handles walk n ≡ Some (Does m) → IsPlain m.beside
   other_plain course a b in_world (Some w) None m e = absurd (cc)
   other_plain course a b in_world (Some w) (Some node) m e = walks_plain c o node w (after_end c o in_world node (is_bad w) course) m (does_is _ m e)
