@@ -175,11 +175,18 @@ j:1: warning: the file looks like UTF-16 with the higher byte first, which is no
     )
 }
 
+/// Words that are none of a lint's.
+const REFUSED: &[&[&str]] = &[
+    &["--inf", "--all"],
+    &["--strict", "--none"],
+    &["s", "--all"],
+];
+
 #[test]
 fn words_that_are_refused(rt: HostRuntime) -> Result<(), Fail> {
     let mut files = MemFiles::new(rt.alloc());
-    for behind in [["--inf", "--all"], ["--strict", "--none"], ["s", "--all"]] {
-        ends_by(rt.alloc(), &behind, &mut files, 64, Status::BadWords, "")?;
+    for behind in REFUSED {
+        ends_by(rt.alloc(), behind, &mut files, 64, Status::BadWords, "")?;
     }
     Ok(())
 }

@@ -1,5 +1,5 @@
 //! What INFs give, as a text that a table can hold.
-use device_ids::TextList;
+use device_ids::{Text, TextList};
 use inf_reader::{Inf, InfError, ModelLine, read};
 use rows_told::same;
 use std::alloc::{AllocError, Global};
@@ -15,45 +15,49 @@ pub const MODELS: &str = "[Version]\nSignature=\"$Windows NT$\"\n[Manufacturer]\
 fn put_texts(out: &mut Vec<u8>, word: &[u8], texts: &TextList) -> Result<(), AllocError> {
     out.extend_from_slice(word)?;
     for at in 0..texts.len() {
-        out.push(b'|')?;
+        out.extend_from_slice(b"|")?;
         out.extend_from_slice(texts.get(at).bytes())?;
     }
     Ok(())
 }
 
-/// Adds a number's digits.
-fn put_number(alloc: Global, out: &mut Vec<u8>, number: u64) -> Result<(), AllocError> {
-    let text = number.to_string(alloc)?;
-    out.extend_from_slice(text.as_bytes())
+/// Adds the digits of two numbers, and what ends them.
+fn put_numbers(
+    alloc: Global,
+    out: &mut Vec<u8>,
+    (first, second): (u64, u64),
+    end: &[u8],
+) -> Result<(), AllocError> {
+    let text = format!(in alloc; "{first} {second}")?;
+    out.extend_from_slice(text.as_bytes())?;
+    out.extend_from_slice(end)
+}
+
+/// Adds the service of a models line.
+fn put_service(out: &mut Vec<u8>, service: &Option<Text>) -> Result<(), AllocError> {
+    match service {
+        Some(service) => {
+            out.extend_from_slice(b"=")?;
+            out.extend_from_slice(service.bytes())
+        }
+        None => out.extend_from_slice(b"-"),
+    }
 }
 
 /// Adds a models line: its number, score, service, IDs and filters.
 fn put_line(alloc: Global, out: &mut Vec<u8>, line: &ModelLine) -> Result<(), AllocError> {
-    put_number(alloc, out, line.line as u64)?;
-    out.push(b' ')?;
-    put_number(alloc, out, line.score as u64)?;
-    out.push(b' ')?;
-    match &line.service {
-        Some(service) => {
-            out.push(b'=')?;
-            out.extend_from_slice(service.bytes())?;
-        }
-        None => out.push(b'-')?,
-    }
+    put_numbers(alloc, out, (line.line as u64, line.score as u64), b" ")?;
+    put_service(out, &line.service)?;
     put_texts(out, b" ids", &line.ids)?;
     put_texts(out, b" lower", &line.lower)?;
     put_texts(out, b" upper", &line.upper)?;
-    out.push(b'\n')?;
-    Ok(())
+    out.extend_from_slice(b"\n")
 }
 
 /// The text of what an INF gives: date and version, and then its models lines.
 fn text_of(alloc: Global, inf: &Inf) -> Result<Vec<u8>, AllocError> {
     let mut out = Vec::new(alloc);
-    put_number(alloc, &mut out, inf.date as u64)?;
-    out.push(b' ')?;
-    put_number(alloc, &mut out, inf.version)?;
-    out.push(b'\n')?;
+    put_numbers(alloc, &mut out, (inf.date as u64, inf.version), b"\n")?;
     for at in 0..inf.lines.len() {
         put_line(alloc, &mut out, inf.lines.get(at))?;
     }
@@ -71,10 +75,7 @@ fn text_of_refusal(alloc: Global, error: InfError) -> Result<Vec<u8>, AllocError
         InfError::WantOfMemory => (6, 0),
     };
     let mut out = Vec::from_slice(alloc, b"refused ")?;
-    put_number(alloc, &mut out, number)?;
-    out.push(b' ')?;
-    put_number(alloc, &mut out, line as u64)?;
-    out.push(b'\n')?;
+    put_numbers(alloc, &mut out, (number, line as u64), b"\n")?;
     Ok(out)
 }
 

@@ -50,8 +50,7 @@ fn put_rest(text: &mut Vec<u8>, row: &Row, more: u32) -> Result<(), AllocError> 
     put_parts(text, between, part, most.saturating_sub(1))?;
     put_parts(text, between, part, more)?;
     text.extend_from_slice(end)?;
-    text.push(b'\n')?;
-    Ok(())
+    text.extend_from_slice(b"\n")
 }
 
 /// The line with that many parts, or with more.
@@ -68,16 +67,21 @@ fn ends(alloc: Global, row: &Row, more: u32) -> Result<ScriptEnd, Fail> {
     Ok(script.ends)
 }
 
+/// The line of a row is read with as many parts as it may have, and not with one more.
+fn has_limit(alloc: Global, row: &Row) -> Result<(), Fail> {
+    let most = ends(alloc, row, 0)?;
+    must(matches!(most, ScriptEnd::End), "a line at its limit")?;
+    let above = ends(alloc, row, 1)?;
+    must(
+        matches!(above, ScriptEnd::Bad { line: 1 }),
+        "a line above its limit",
+    )
+}
+
 #[test]
 fn limits(rt: HostRuntime) -> Result<(), Fail> {
     for row in ROWS {
-        let most = ends(rt.alloc(), row, 0)?;
-        must(matches!(most, ScriptEnd::End), "a line at its limit")?;
-        let above = ends(rt.alloc(), row, 1)?;
-        must(
-            matches!(above, ScriptEnd::Bad { line: 1 }),
-            "a line above its limit",
-        )?;
+        has_limit(rt.alloc(), row)?;
     }
     Ok(())
 }

@@ -20,7 +20,7 @@ fn told_by(alloc: Global, script: &Script) -> Result<Vec<u8>, AllocError> {
 /// What a line of its own is read as: its event, `none` without one, or `bad`.
 fn told(alloc: Global, line: &[u8]) -> Result<Vec<u8>, Fail> {
     let mut text = Vec::from_slice(alloc, line)?;
-    text.push(b'\n')?;
+    text.extend_from_slice(b"\n")?;
     let script = read_events(alloc, &text)?;
     Ok(told_by(alloc, &script)?)
 }

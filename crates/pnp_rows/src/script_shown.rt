@@ -1,13 +1,12 @@
 //! An event as a line of text, so that a table can say which event is meant.
 use device_ids::IdList;
 use pnp_labels::{Event, Rule};
-use resource_reqs::{AltList, Reqs, Res};
+use resource_reqs::{AltList, Group, Reqs, Res, Want};
 use std::alloc::{AllocError, Global};
 
 fn put(text: &mut Vec<u8>, word: &[u8]) -> Result<(), AllocError> {
     text.extend_from_slice(word)?;
-    text.push(b' ')?;
-    Ok(())
+    text.extend_from_slice(b" ")
 }
 
 fn put_words(text: &mut Vec<u8>, words: &[&[u8]]) -> Result<(), AllocError> {
@@ -25,19 +24,26 @@ fn put_ids(text: &mut Vec<u8>, name: &[u8], ids: &IdList) -> Result<(), AllocErr
     Ok(())
 }
 
+fn put_want(alloc: Global, text: &mut Vec<u8>, want: &Want) -> Result<(), AllocError> {
+    let shown = format!(in alloc;
+        "{:?} {}-{} {} {} {}",
+        want.kind, want.min, want.max, want.len, want.align, want.shared
+    )?;
+    put(text, shown.as_bytes())
+}
+
+fn put_group(alloc: Global, text: &mut Vec<u8>, group: &Group) -> Result<(), AllocError> {
+    put(text, b"group")?;
+    for place in 0..group.len() {
+        put_want(alloc, text, group.get(place))?;
+    }
+    Ok(())
+}
+
 fn put_list(alloc: Global, text: &mut Vec<u8>, list: &AltList) -> Result<(), AllocError> {
     put(text, b"list")?;
     for at in 0..list.len() {
-        put(text, b"group")?;
-        let group = list.get(at);
-        for place in 0..group.len() {
-            let want = group.get(place);
-            let shown = format!(in alloc;
-                "{:?} {}-{} {} {} {}",
-                want.kind, want.min, want.max, want.len, want.align, want.shared
-            )?;
-            put(text, shown.as_bytes())?;
-        }
+        put_group(alloc, text, list.get(at))?;
     }
     Ok(())
 }
@@ -55,24 +61,18 @@ fn put_res(alloc: Global, text: &mut Vec<u8>, res: &Res) -> Result<(), AllocErro
 }
 
 fn put_rule(alloc: Global, text: &mut Vec<u8>, rule: &Rule) -> Result<(), AllocError> {
-    let shown = format!(in alloc; "{:?}", rule.what)?;
-    put(text, shown.as_bytes())?;
-    match &rule.path {
-        Some(path) => put(text, path.bytes())?,
-        None => put(text, b"*")?,
-    }
+    put(text, format!(in alloc; "{:?}", rule.what)?.as_bytes())?;
+    let path = match &rule.path {
+        Some(path) => path.bytes(),
+        None => b"*",
+    };
+    put(text, path)?;
     let shown = format!(in alloc; "{:?} {:?}", rule.answer, rule.uses)?;
     put(text, shown.as_bytes())
 }
 
-fn put_operation(text: &mut Vec<u8>, event: &Event) -> Result<(), AllocError> {
+fn put_client(text: &mut Vec<u8>, event: &Event) -> Result<(), AllocError> {
     match event {
-        Event::Pull { path } => put_words(text, &[b"Pull", path.bytes()]),
-        Event::Disable { path } => put_words(text, &[b"Disable", path.bytes()]),
-        Event::Enable { path } => put_words(text, &[b"Enable", path.bytes()]),
-        Event::Eject { path } => put_words(text, &[b"Eject", path.bytes()]),
-        Event::OpenHandle { path } => put_words(text, &[b"OpenHandle", path.bytes()]),
-        Event::CloseHandle { path } => put_words(text, &[b"CloseHandle", path.bytes()]),
         Event::Watch {
             client,
             path,
@@ -90,6 +90,19 @@ fn put_operation(text: &mut Vec<u8>, event: &Event) -> Result<(), AllocError> {
         }
         _ => Ok(()),
     }
+}
+
+fn put_operation(text: &mut Vec<u8>, event: &Event) -> Result<(), AllocError> {
+    let (word, path) = match event {
+        Event::Pull { path } => ("Pull", path),
+        Event::Disable { path } => ("Disable", path),
+        Event::Enable { path } => ("Enable", path),
+        Event::Eject { path } => ("Eject", path),
+        Event::OpenHandle { path } => ("OpenHandle", path),
+        Event::CloseHandle { path } => ("CloseHandle", path),
+        _ => return put_client(text, event),
+    };
+    put_words(text, &[word.as_bytes(), path.bytes()])
 }
 
 fn put_plug(alloc: Global, text: &mut Vec<u8>, event: &Event) -> Result<(), AllocError> {

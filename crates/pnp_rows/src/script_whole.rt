@@ -3,7 +3,7 @@ ghost use Rattle.std.specs.Prelude.{◌<◌};
 
 use crate::script_shown::shown;
 use rows_told::{must, same};
-use script_reader::{Script, ScriptEnd, read_events, read_pieces};
+use script_reader::{Line, Script, ScriptEnd, read_events, read_pieces};
 use std::alloc::Global;
 use std::test::Fail;
 
@@ -54,22 +54,32 @@ const EVENTS: &[(u64, &[u8])] = &[
     (21, b"Unwatch ed own\\dev\\1 "),
 ];
 
+/// A line is that of the table, with its number and its event.
+fn is_line(alloc: Global, line: &Line, (number, text): &(u64, &[u8])) -> Result<(), Fail> {
+    must(line.line == *number, "the line of an event")?;
+    same(&shown(alloc, &line.event)?, text)
+}
+
+/// The lines are those of the table.
+fn are_lines(alloc: Global, lines: &[Line], events: &[(u64, &[u8])]) -> Result<(), Fail> {
+    must(lines.len() == events.len(), "how many events")?;
+    let mut at = 0;
+    for line in lines {
+        let Some(event) = events.get(at) else {
+            break;
+        };
+        is_line(alloc, line, event)?;
+        at += 1;
+    }
+    Ok(())
+}
+
 fn gives_each(alloc: Global, script: &Script) -> Result<(), Fail> {
     must(
         matches!(script.ends, ScriptEnd::Bad { line: 22 }),
         "the end of the script",
     )?;
-    must(script.lines.len() == EVENTS.len(), "how many events")?;
-    let mut at = 0;
-    for line in &script.lines {
-        let Some((number, text)) = EVENTS.get(at) else {
-            break;
-        };
-        must(line.line == *number, "the line of an event")?;
-        same(&shown(alloc, &line.event)?, text)?;
-        at += 1;
-    }
-    Ok(())
+    are_lines(alloc, &script.lines, EVENTS)
 }
 
 /// The script gives each form, in pieces of this size.

@@ -8,7 +8,7 @@ use Rattle.std.specs.Ordering.{nat_cmp}
 use Rattle.std.proofs.lemmas.Bool.{cases_eq}
 use Rattle.std.proofs.lemmas.Bool.Decides.{nat_tests}
 use Rattle.std.proofs.lemmas.List.{take_more}
-use Rattle.std.proofs.lemmas.List.Sums.{sum_by_push}
+use Rattle.std.proofs.lemmas.List.Sums.{sum_by_push, sum_by_more, sum_by_more_le, sum_by-take-le}
 use Rattle.std.proofs.lemmas.List.Sorted.{sum_by_pushed, sum_by_popped}
 use Rattle.pnp_model.specs.Keyed.{without_first, those}
 use Rattle.pnp_model.specs.Tests.{has}
@@ -29,7 +29,53 @@ use Rattle.relations.proofs.Counting.{one_if, count-cons, number_none, has_some,
 
 -- Small steps of the queue ---------------------------------------------------------------
 
+-- how often a serial stands in one place more
+number_more : (serials : List ℕ) (i k d : ℕ) → i < length serials → k ≡ get_or serials i d → (q : ℕ) → number q (take (i + 1) serials) ≡ number q (take i serials) + number q (k ∷ [])
+number_more serials i k d lt is q =
+    let more = sum_by_more (λ j. cond (j == q) 1 0) serials i d lt ∙ ap (λ x. number q (take i serials) + one_if (x == q)) (sym is) in
+    let one : number q (k ∷ []) ≡ one_if (k == q) = let all = count-cons (λ j. j == q) k [] in grind (arith, nat_tests) in
+    more ∙ ap (λ x. number q (take i serials) + x) (sym one)
+
+-- of so many edges two parts go away, one behind the other
+freed_twice : (o : Option ℕ) (a b both all : ℕ) → both ≡ a + b → both ≤ all → IfSome o (λ n. all ≤ n) → freed o a + freed (option_map (λ n. n - a) o) b ≡ freed o both
+freed_twice None a b both all sum within enough = refl
+freed_twice (Some n) a b both all sum within enough = grind (arith, nat_tests)
+
 module _ {S : Type 0} where
+  -- an edge more may go away
+  pub has_edge_left : (counts old : HashMap ℕ ℕ S) (serials : List ℕ) (i k d : ℕ) → i < length serials → k ≡ get_or serials i d
+      → ((q : ℕ) → IfSome (get nat_eq counts q) (λ n. number q serials ≤ n)) → IsLowered counts old (take i serials) → IfSome (get nat_eq old k) (λ n. 0 < n)
+  has_edge_left counts old serials i k d lt is enough had = subst (λ (o : Option ℕ). IfSome o (λ n. 0 < n)) (sym (had k)) (by (get nat_eq counts k) (enough k))
+    where
+      by : (o : Option ℕ) → IfSome o (λ n. number k serials ≤ n) → IfSome (option_map (λ n. n - number k (take i serials)) o) (λ n. 0 < n)
+      by None e = tt
+      by (Some n) e =
+          let within = sum_by_more_le (λ j. cond (j == k) 1 0) serials i d lt in
+          let one : one_if (get_or serials i d == k) ≡ 1 = grind (arith, nat_tests) in
+          omega arith
+
+  -- an edge more is gone
+  pub lowered_more : (counts old new : HashMap ℕ ℕ S) (serials : List ℕ) (i k d : ℕ) → i < length serials → k ≡ get_or serials i d
+      → IsLowered counts old (take i serials) → IsLowered old new (k ∷ []) → IsLowered counts new (take (i + 1) serials)
+  lowered_more counts old new serials i k d lt is had now q =
+      now q ∙ (ap (option_map (λ n. n - number q (k ∷ []))) (had q) ∙ by (get nat_eq counts q) (number q (take i serials)) (number q (k ∷ [])) (number q (take (i + 1) serials)) (number_more serials i k d lt is q))
+    where
+      by : (o : Option ℕ) (a b both : ℕ) → both ≡ a + b → option_map (λ n. n - b) (option_map (λ n. n - a) o) ≡ option_map (λ n. n - both) o
+      by None a b both sum = refl
+      by (Some n) a b both sum = ap Some (omega arith)
+
+  pub joined_more : (counts old : HashMap ℕ ℕ S) (first second third serials : List ℕ) (i k d : ℕ) → i < length serials → k ≡ get_or serials i d
+      → ((q : ℕ) → IfSome (get nat_eq counts q) (λ n. number q serials ≤ n)) → IsLowered counts old (take i serials)
+      → Joins counts first second (take i serials) → Joins old second third (k ∷ []) → Joins counts first third (take (i + 1) serials)
+  joined_more counts old first second third serials i k d lt is enough had before now q =
+      let own = get nat_eq counts q in
+      let within = sum_by-take-le (λ j. cond (j == q) 1 0) serials (i + 1) in
+      let twice = freed_twice own (number q (take i serials)) (number q (k ∷ [])) (number q (take (i + 1) serials)) (number q serials) (number_more serials i k d lt is q) within (enough q) in
+      let here = ap (λ (o : Option ℕ). freed o (number q (k ∷ []))) (had q) in
+      let then = now q in
+      let at_first = before q in
+      omega arith
+
   pub release_joins : (counts : HashMap ℕ ℕ S) (k n : ℕ) (old new : List ℕ) → Some n ≡ get nat_eq counts k → 0 < n → n - 1 ≡ 0 → IsPermutation (k ∷ old) new → Joins counts old new (k ∷ [])
   release_joins counts k n old new at some last moved q =
       let push = sum_by_pushed (λ j. cond (j == q) 1 0) k old new moved in
